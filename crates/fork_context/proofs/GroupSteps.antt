@@ -1,0 +1,101 @@
+-- The pairs of groups and places, group after group.
+use Rattle.std.proofs.Common.{◌≡◌, ℕ, zero, suc, ◌+◌, ◌<◌, ◌≤◌, Bool, true, false, List, [], ◌∷◌, ◌++◌, length, map, Vec, refl, ap, arith, sym, ◌∙◌, subst, take, get_or, append_assoc, cond, add-one}
+use Rattle.std.specs.Prelude.{All, nat_lt, ◌==◌, slice_get}
+use Rattle.std.proofs.lemmas.List.{take_more, append-nil}
+use Rattle.std.proofs.lemmas.List.Elements.{All-append, All-nil, All-filter}
+use Rattle.fork_model.specs.Table.{most_targets}
+use Rattle.fork_model.specs.Groups.{numbers_below, with_q, falling, is_value, places_of, groups_of, in_group, numbered_from}
+use Rattle.fork_rank.specs.Grouping.{lists_of}
+
+in_group-append : (group : ℕ) (xs ys : List ℕ) → in_group group (xs ++ ys) ≡ in_group group xs ++ in_group group ys
+in_group-append group [] ys = refl
+in_group-append group (x ∷ xs) ys = ap (λ rest. (group, x) ∷ rest) (in_group-append group xs ys)
+
+-- one more place of the group
+pub in_group_more : (group : ℕ) (places : List ℕ) (i : ℕ) → i < length places
+    → in_group group (take (i + 1) places) ≡ in_group group (take i places) ++ (group, get_or places i 0) ∷ []
+in_group_more group places i lt =
+    ap (in_group group) (take_more places i 0 lt) ∙ in_group-append group (take i places) (get_or places i 0 ∷ [])
+
+-- one more group
+numbered_from_more : {A : Type 0} (k : ℕ) (groups : List (Vec ℕ A)) (i : ℕ) (places : Vec ℕ A) → i < length groups → places ≡ get_or groups i places
+    → numbered_from k (take (suc i) (lists_of groups)) ≡ numbered_from k (take i (lists_of groups)) ++ in_group (k + i) places.items
+numbered_from_more k [] i places lt is = absurd (omega arith)
+numbered_from_more {A = A} k (x ∷ groups) zero places lt is =
+    let e : x ≡ places = sym is in
+    let n : k + 0 ≡ k = omega arith in
+    append-nil (in_group k x.items) ∙ ap (λ (v : Vec ℕ A). in_group k v.items) e ∙ ap (λ m. in_group m places.items) (sym n)
+numbered_from_more k (x ∷ groups) (suc i) places lt is =
+    let rest : numbered_from (suc k) (take (suc i) (lists_of groups)) ≡ numbered_from (suc k) (take i (lists_of groups)) ++ in_group (suc k + i) places.items =
+    numbered_from_more (suc k) groups i places (omega arith) is in
+    let n : suc k + i ≡ k + suc i = omega arith in
+    ap (λ more. in_group k x.items ++ more) (rest ∙ ap (λ m. numbered_from (suc k) (take i (lists_of groups)) ++ in_group m places.items) n)
+    ∙ sym (append_assoc (in_group k x.items) (numbered_from (suc k) (take i (lists_of groups))) (in_group (k + suc i) places.items))
+
+pub numbered_more : {A : Type 0} (groups : List (Vec ℕ A)) (i : ℕ) (places : Vec ℕ A) → i < length groups → places ≡ get_or groups i places
+    → numbered_from 0 (take (i + 1) (lists_of groups)) ≡ numbered_from 0 (take i (lists_of groups)) ++ in_group i places.items
+numbered_more groups i places lt is =
+    let n : 0 + i ≡ i = omega arith in
+    ap (λ m. numbered_from 0 (take m (lists_of groups))) (add-one i) ∙ numbered_from_more 0 groups i places lt is ∙ ap (λ m. numbered_from 0 (take i (lists_of groups)) ++ in_group m places.items) n
+
+-- there are no more groups than places
+length-with_q : (q : ℕ) (qs : List ℕ) → length (with_q q qs) ≤ length qs + 1
+length-with_q q [] = omega arith
+length-with_q q (o ∷ os) = go (q == o) (nat_lt o q) (length-with_q q os)
+  where
+    go : (same less : Bool) → length (with_q q os) ≤ length os + 1
+        → length (cond same (o ∷ os) (cond less (q ∷ o ∷ os) (o ∷ with_q q os))) ≤ suc (length os) + 1
+    go true less few = omega arith
+    go false true few = omega arith
+    go false false few = let all : suc (length (with_q q os)) ≤ suc (length os) + 1 = omega arith in all
+
+length-falling : (qs : List ℕ) → length (falling qs) ≤ length qs
+length-falling [] = omega arith
+length-falling (q ∷ qs) =
+    let one : length (with_q q (falling qs)) ≤ length (falling qs) + 1 = length-with_q q (falling qs) in
+    let rest : length (falling qs) ≤ length qs = length-falling qs in
+    let all : length (with_q q (falling qs)) ≤ suc (length qs) = omega arith in
+    all
+
+length-map : {X Y : Type 0} (f : X → Y) (xs : List X) → length (map f xs) ≡ length xs
+length-map f [] = refl
+length-map f (x ∷ xs) = ap suc (length-map f xs)
+
+pub groups_few : {A : Type 0} (qs : List ℕ) (groups : List (Vec ℕ A)) → lists_of groups ≡ groups_of qs → length groups ≤ length qs
+groups_few qs groups is =
+    let lists : length (lists_of groups) ≡ length groups = length-map _ groups in
+    let values : length (map (places_of qs) (falling qs)) ≡ length (falling qs) = length-map _ (falling qs) in
+    let few : length (falling qs) ≤ length qs = length-falling qs in
+    let same : length (lists_of groups) ≡ length (map (places_of qs) (falling qs)) = ap length is in
+    omega arith
+
+-- each place stands in the list
+All-below : (n m : ℕ) → n ≤ m → All (λ k. k < m) (numbers_below n)
+All-below zero m le = All-nil (λ k. k < m)
+All-below (suc n) m le =
+    All-append (λ k. k < m) (numbers_below n) (n ∷ []) (All-below n m (omega arith)) (one m n (omega arith))
+  where
+    one : (m n : ℕ) → n < m → All (λ k. k < m) (n ∷ [])
+    one m n lt zero d h = lt
+    one m n lt (suc k) d h = absurd (omega arith)
+
+All-places : (qs : List ℕ) (m q : ℕ) → length qs ≤ m → All (λ k. k < m) (places_of qs q)
+All-places qs m q le =
+    All-filter (λ place. is_value q (slice_get qs place)) (λ k. k < m) (numbers_below (length qs)) (All-below (length qs) m le)
+
+All-group : {A : Type 0} (qs values : List ℕ) (groups : List (Vec ℕ A)) (i : ℕ) (places : Vec ℕ A) → length qs ≤ most_targets
+    → lists_of groups ≡ map (places_of qs) values → i < length groups → places ≡ get_or groups i places → All (λ k. k < most_targets) places.items
+All-group qs values [] i places few is lt at = absurd (omega arith)
+All-group qs [] (x ∷ groups) i places few is lt at = absurd cc
+All-group {A = A} qs (q ∷ values) (x ∷ groups) zero places few is lt at =
+    let here : x.items ≡ places_of qs q = cc in
+    let same : places_of qs q ≡ places.items = sym here ∙ ap (λ (v : Vec ℕ A). v.items) (sym at) in
+    let P : List ℕ → Type 0 = λ xs. All (λ k. k < most_targets) xs in
+    subst P same (All-places qs most_targets q few)
+All-group qs (q ∷ values) (x ∷ groups) (suc i) places few is lt at =
+    let rest : lists_of groups ≡ map (places_of qs) values = cc in
+    All-group qs values groups i places few rest (omega arith) at
+
+pub group_within : {A : Type 0} (qs : List ℕ) (groups : List (Vec ℕ A)) (i : ℕ) (places : Vec ℕ A) → length qs ≤ most_targets
+    → lists_of groups ≡ groups_of qs → i < length groups → places ≡ get_or groups i places → All (λ k. k < most_targets) places.items
+group_within qs groups i places few is lt at = All-group qs (falling qs) groups i places few is lt at

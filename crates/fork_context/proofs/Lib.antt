@@ -1,0 +1,10 @@
+pub mod BestSteps
+pub mod NumberSteps
+pub mod GroupSteps
+pub mod KeySteps
+pub mod OpeningSteps
+pub mod SoundSteps
+pub mod PlainContacts
+pub mod PlainLists
+pub mod PlainStep
+pub mod PlainWaiting

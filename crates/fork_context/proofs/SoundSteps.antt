@@ -1,0 +1,31 @@
+-- A context that takes an event keeps its bounds.
+use Rattle.std.proofs.Common.{◌≡◌, ◌≤◌, ◌*◌, ◌+◌, ℕ, suc, Bool, false, length, arith, subst}
+use Rattle.std.specs.Prelude.{if◌then◌else◌}
+use Rattle.fork_model.specs.Table.{Table, most_targets}
+use Rattle.fork_model.specs.Event.{Event}
+use Rattle.fork_model.specs.Step.{next}
+use Rattle.fork_model.specs.Core.{Core, most_strays, is_full, core_next}
+use Rattle.fork_model.specs.Steps.{progress, IsWithin}
+use Rattle.fork_model.proofs.StepLemmas.{positions_bounded, progress_bounded}
+use Rattle.fork_model.proofs.ContactLemmas.{targets_bounded}
+use Rattle.fork_context.specs.Sound.{IsSound}
+
+within_next : (core : Core) (event : Event) → is_full core event ≡ false → IsWithin core → IsWithin (core_next core event)
+within_next core event open_yet within =
+    let P : Bool → Type 0 = λ full. IsWithin (if full then core else core_next core event) in
+    subst P open_yet (positions_bounded core event within)
+
+pub sound_next : (core : Core) (event : Event) → is_full core event ≡ false → IsSound core.table core.taken
+    → IsSound (next core.table event core.taken) (suc core.taken)
+sound_next core event open_yet sound = record {
+  few = targets_bounded core.table event core.taken sound.few;
+  within = within_next core event open_yet sound.within;
+}
+
+-- a position is small
+pub taken_small : (table : Table) (taken : ℕ) → IsSound table taken → taken ≤ 5121
+taken_small table taken sound =
+    let bound : progress table ≤ 4 * length table.rows + 1 = progress_bounded table in
+    let few : length table.rows ≤ most_targets = sound.few in
+    let within : taken ≤ most_strays + progress table = sound.within in
+    omega arith

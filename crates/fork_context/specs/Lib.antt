@@ -1,0 +1,14 @@
+pub mod KindView
+pub mod EventView
+pub mod StateView
+pub mod Inside
+pub mod RowShown
+pub mod ReplyView
+pub mod Refusals
+pub mod Best
+pub mod MarkView
+pub mod OpeningRow
+pub mod LeftView
+pub mod Sound
+pub mod FateView
+pub mod PlainTaking

@@ -1,0 +1,237 @@
+//! The response context of one request.
+ghost use Rattle.std.specs.Prelude.{◌≡◌, ◌≤◌, ◌↔◌, [], true, false, length, slice_get, IsTrue, IsErrOf, IsErrAnd, IfOk, IfErr, OnOk, OnErr, IsSome, IfSome};
+ghost use Rattle.std.specs.Option.{option_map, option_copied, option_and_then};
+ghost use Rattle.fork_model.specs.Table.{most_targets, is_finished, is_succeeded};
+ghost use Rattle.fork_model.specs.Choice.{IsChoice};
+ghost use Rattle.fork_model.specs.Core.{opening_core, core_next, is_full};
+ghost use Rattle.fork_model.specs.Reply.{IsReply};
+ghost use Rattle.fork_model.specs.Step.{next};
+ghost use Rattle.fork_context.specs.EventView.{event_of};
+ghost use Rattle.fork_context.specs.KindView.{kind_of};
+ghost use Rattle.fork_context.specs.LeftView.{left_of};
+ghost use Rattle.fork_context.specs.Refusals.{IsTooMany, HasTwice, IsFull, returned};
+ghost use Rattle.fork_context.specs.ReplyView.{choice_of};
+ghost use Rattle.fork_context.specs.RowShown.{row_shown};
+
+use crate::event::{Event, Offer, Target};
+use crate::kind::Kind;
+use crate::plain::choice::choice;
+use crate::plain::opening::{has_twice, opening};
+use crate::plain::reply::reply;
+use crate::plain::step::{is_stray, next};
+use crate::reply::{Choice, Reply};
+use crate::row::RowView;
+use crate::table::Table;
+use fork_rank::{MOST_TARGETS, Rules};
+use std::alloc::{AllocError, Allocator, Global};
+use std::marker::Model;
+use thiserror::Error;
+
+/// From so many events on, one that would change nothing is refused.
+const MOST_STRAYS: u32 = 4096;
+
+/// Why a context is not made, in the order in which the causes are looked for.
+#[derive(Clone, Copy, PartialEq, Eq, Debug, Error)]
+pub enum NewFault {
+    /// There is no target.
+    #[error("there is no target")]
+    NoTargets,
+    /// There are more than 256 targets.
+    #[error("there are more than 256 targets")]
+    TooMany,
+    /// Two targets have one key.
+    #[error("two targets have one key")]
+    Twice,
+    /// A growth was refused.
+    #[error("out of memory")]
+    NoMemory,
+}
+
+/// Why an event is not taken; it comes back.
+#[derive(Drop, Error)]
+#[derive_where(Debug)]
+pub enum PostError<A: Allocator = Global> {
+    /// 4,096 or more events were taken, and this one would change nothing.
+    #[error("no more events are taken that change nothing")]
+    Full(Event<A>),
+    /// A growth was refused.
+    #[error("out of memory")]
+    NoMemory(Event<A>),
+}
+
+/// The response context of a forked request: its table, and how many events it has taken.
+#[derive(Drop)]
+pub struct Context<A: Allocator + Clone = Global> {
+    table: Table<A>,
+    taken: u32,
+    alloc: A,
+}
+
+impl<A: Allocator + Clone> Model for Context<A> {
+    ghost use Rattle.fork_model.specs.Core.{Core};
+    ghost use Rattle.fork_context.specs.Sound.{IsSound};
+
+    ghost Value = { Core };
+
+    ghost view = { λ c. record { table = c.table; taken = c.taken } };
+
+    ghost invariant = { λ c. IsSound c.table c.taken };
+}
+
+impl<A: Allocator + Clone> Context<A> {
+    /// The context of a request of this kind to these targets, under these rules: the first group is tried at once
+    /// (RFC 3261 section 16.6).
+    ///
+    /// # Errors
+    ///
+    /// Where there is no target, more than 256, or one key twice, in this order; else only where the allocator
+    /// refuses.
+    pub fn new(
+        alloc: A,
+        kind: Kind,
+        rules: Rules,
+        targets: Vec<Target<A>, A>,
+    ) -> Result<Self, NewFault>
+        ensures none { IsErrOf result NewFault.NoTargets ↔ (targets.items ≡ []) }
+        ensures many { IsErrOf result NewFault.TooMany ↔ IsTooMany targets.items }
+        ensures twice { IsErrOf result NewFault.Twice ↔ ((length targets.items ≤ most_targets) × HasTwice targets.items) }
+        ensures opened { IfOk result (λ context. context ≡ opening_core (kind_of kind) rules targets.items) }
+    {
+        if targets.is_empty() {
+            return Err(NewFault::NoTargets);
+        }
+        if targets.len() > MOST_TARGETS as usize {
+            return Err(NewFault::TooMany);
+        }
+        if has_twice(&targets) {
+            return Err(NewFault::Twice);
+        }
+        let Ok(table) = opening(&alloc, kind, rules, &targets) else {
+            return Err(NewFault::NoMemory);
+        };
+        Ok(Context {
+            table,
+            taken: 0,
+            alloc,
+        })
+    }
+
+    /// Takes an event: changes the table by it, and answers what is to be sent (RFC 3261 sections 9 and 16.7 to 16.10).
+    ///
+    /// # Errors
+    ///
+    /// `Full` exactly where `is_full` says so: 4,096 events or more were taken, and this one would change nothing. Else
+    /// `NoMemory`, only where the allocator refuses. Either way the event comes back, and the context is as it was.
+    pub fn post(&mut self, event: Event<A>) -> Result<Reply<A>, PostError<A>>
+        ensures next { OnOk result (self.new ≡ core_next self.old (event_of event)) }
+        ensures reply { IfOk result (IsReply self.old.table (event_of event) self.old.taken) }
+        ensures full { IsErrAnd result IsFull ↔ IsTrue (is_full self.old (event_of event)) }
+        ensures returned { IfErr result (λ error. returned error ≡ event) }
+        ensures err { OnErr result (self.new ≡ self.old) }
+    {
+        if self.is_full(&event) {
+            return Err(PostError::Full(event));
+        }
+        let Ok((table, reply)) = self.step(&event) else {
+            return Err(PostError::NoMemory(event));
+        };
+        self.table = table;
+        self.taken += 1;
+        Ok(reply)
+    }
+
+    /// The table after the event, and the reply to it.
+    fn step(&self, event: &Event<A>) -> Result<(Table<A>, Reply<A>), AllocError>
+        ensures table { IfOk result (λ stepped. stepped.0 ≡ next self.now.table (event_of event.now) self.now.taken) }
+        ensures reply { IfOk result (λ stepped. IsReply self.now.table (event_of event.now) self.now.taken stepped.1) }
+    {
+        let table = next(&self.alloc, &self.table, event, self.taken)?;
+        let reply = reply(&self.alloc, &self.table, event, self.taken, &table)?;
+        Ok((table, reply))
+    }
+
+    /// Whether `post` would refuse the event as one too many that changes nothing.
+    pub fn is_full(&self, event: &Event<A>) -> bool
+        ensures { result ≡ is_full self.now (event_of event.now) }
+    {
+        self.taken >= MOST_STRAYS && is_stray(&self.table, event)
+    }
+
+    /// Whether every branch has ended.
+    pub fn finished(&self) -> bool
+        ensures { result ≡ is_finished self.now.table.rows }
+    {
+        self.table.finished()
+    }
+
+    /// Whether a branch was answered with a 2xx.
+    pub fn succeeded(&self) -> bool
+        ensures { result ≡ is_succeeded self.now.table.rows }
+    {
+        self.table.succeeded()
+    }
+
+    /// Whether no further group starts.
+    pub fn closed(&self) -> bool
+        ensures { result ≡ self.now.table.closed }
+    {
+        self.table.closed()
+    }
+
+    /// How many rows there are, at most 256.
+    pub fn count(&self) -> u16
+        ensures value { result ≡ length self.now.table.rows }
+        ensures range { result ≤ most_targets }
+    {
+        self.table.count() as u16
+    }
+
+    /// What is forked.
+    pub fn kind(&self) -> Kind
+        ensures { kind_of result ≡ self.now.table.kind }
+    {
+        self.table.kind()
+    }
+
+    /// The rules that it was made with.
+    pub fn rules(&self) -> Rules
+        ensures { result ≡ self.now.table.rules }
+    {
+        self.table.rules()
+    }
+
+    /// What identifies the target of row n.
+    pub fn key(&self, n: u16) -> Option<&[u8]>
+        ensures { option_copied result ≡ option_map (λ row. row.key) (slice_get self.now.table.rows n) }
+    {
+        Some(self.table.row(n)?.key())
+    }
+
+    /// Row n as a caller sees it.
+    pub fn look(&self, n: u16) -> Option<RowView>
+        ensures { result ≡ option_map (row_shown n) (slice_get self.now.table.rows n) }
+    {
+        Some(self.table.row(n)?.shown(n))
+    }
+
+    /// The contacts that are left of the 3xx that row n was answered with, for the caller to try itself; None where
+    /// the row has stored no such answer.
+    pub fn left(&self, n: u16) -> Option<&[Offer<A>]>
+        ensures { option_copied result ≡ option_and_then left_of (slice_get self.now.table.rows n) }
+    {
+        self.table.row(n)?.left()
+    }
+
+    /// Which answer goes up, once every branch has ended and none was answered with a 2xx (RFC 3261 section 16.7 step
+    /// 6); the same as went up with the event that ended the last branch.
+    pub fn choice(&self) -> Option<Choice>
+        ensures due { IsSome result ↔ ((is_finished self.now.table.rows ≡ true) × (is_succeeded self.now.table.rows ≡ false)) }
+        ensures value { IfSome result (λ choice. IsChoice self.now.table.rules self.now.table.rows (choice_of choice)) }
+    {
+        if self.finished() && !self.succeeded() {
+            Some(choice(&self.table))
+        } else {
+            None
+        }
+    }
+}

@@ -1,0 +1,153 @@
+//! What may happen to a fork.
+ghost use Rattle.std.specs.Prelude.{◌≡◌, ◌++◌, ◌∷◌, [], OnOk, OnErr};
+ghost use Rattle.std.specs.Option.{option_map, option_copied};
+
+use fork_rank::{Challenge, RingStatus, Status};
+use std::alloc::{AllocFailed, Allocator, Global};
+use std::marker::Model;
+
+/// Where a request may be sent. Two targets are the same where their keys are equal; q is in thousandths,
+/// 0 to 1000 (RFC 3261 section 16.5).
+#[derive(Drop)]
+#[derive_where(Debug)]
+pub struct Target<A: Allocator = Global> {
+    pub(crate) key: Vec<u8, A>,
+    pub(crate) q: u16,
+}
+
+impl<A: Allocator> Model for Target<A> {
+    ghost use Rattle.fork_model.specs.History as spec;
+
+    ghost Value = { spec.Target };
+
+    ghost view = { λ t. record { key = t.key.items; q = t.q } };
+}
+
+impl<A: Allocator> Target<A> {
+    /// The target of this key, tried at this q.
+    pub fn new(key: Vec<u8, A>, q: u16) -> Self
+        ensures { result ≡ record { key = key.items; q = q } }
+    {
+        Target { key, q }
+    }
+
+    /// What identifies it.
+    pub fn key(&self) -> &[u8]
+        ensures { result.now ≡ self.now.key }
+    {
+        &self.key
+    }
+
+    /// Its q in thousandths.
+    pub fn q(&self) -> u16
+        ensures { result ≡ self.now.q }
+    {
+        self.q
+    }
+}
+
+/// A contact of a 3xx as it came: its text, its q in thousandths, and a key where the proxy may try it.
+#[derive(Drop)]
+#[derive_where(Debug)]
+pub struct Offer<A: Allocator = Global> {
+    pub(crate) text: Vec<u8, A>,
+    pub(crate) q: u16,
+    pub(crate) key: Option<Vec<u8, A>>,
+}
+
+impl<A: Allocator> Model for Offer<A> {
+    ghost use Rattle.fork_model.specs.Table as spec;
+    ghost use Rattle.std.specs.Option.{option_map};
+
+    ghost Value = { spec.Offer };
+
+    ghost view = { λ o. record { text = o.text.items; q = o.q; key = option_map (λ v. v.items) o.key } };
+}
+
+impl<A: Allocator> Offer<A> {
+    /// A contact with this text and q; the key is that of the target it names, or None where the proxy
+    /// cannot try it.
+    pub fn new(text: Vec<u8, A>, q: u16, key: Option<Vec<u8, A>>) -> Self
+        ensures { result ≡ record { text = text.items; q = q; key = option_map (λ v. v.items) key } }
+    {
+        Offer { text, q, key }
+    }
+
+    /// The contact as it came.
+    pub fn text(&self) -> &[u8]
+        ensures { result.now ≡ self.now.text }
+    {
+        &self.text
+    }
+}
+
+/// A final response, with what the fork needs of it: its contacts, which count where it is a 3xx, and its
+/// challenges, which count where it is a 401 or a 407.
+#[derive(Drop)]
+#[derive_where(Debug)]
+pub struct Answer<A: Allocator = Global> {
+    pub(crate) status: Status,
+    pub(crate) offers: Vec<Offer<A>, A>,
+    #[derive_where(skip)]
+    pub(crate) challenges: Vec<Challenge<A>, A>,
+}
+
+impl<A: Allocator> Model for Answer<A> {
+    ghost use Rattle.fork_model.specs.Event as spec;
+
+    ghost Value = { spec.FinalAnswer };
+
+    ghost view = { λ a. record { status = a.status; offers = a.offers.items; challenges = a.challenges.items } };
+}
+
+impl<A: Allocator> Answer<A> {
+    /// The answer of this status, with these contacts and challenges in the order of the message.
+    pub fn new(status: Status, offers: Vec<Offer<A>, A>, challenges: Vec<Challenge<A>, A>) -> Self
+        ensures { result ≡ record { status = status; offers = offers.items; challenges = challenges.items } }
+    {
+        Answer {
+            status,
+            offers,
+            challenges,
+        }
+    }
+
+    /// Adds a contact behind the others.
+    ///
+    /// # Errors
+    ///
+    /// Only where the allocator refuses; then the answer is as it was.
+    pub fn push_offer(&mut self, offer: Offer<A>) -> Result<(), AllocFailed<Offer<A>>>
+        ensures ok { OnOk result (self.new ≡ record self.old { offers = self.old.offers ++ offer ∷ [] }) }
+        ensures err { OnErr result (self.new ≡ self.old) }
+    {
+        self.offers.push(offer)
+    }
+
+    /// Its status.
+    pub fn status(&self) -> Status
+        ensures { result ≡ self.now.status }
+    {
+        self.status
+    }
+}
+
+/// What may happen to a fork; the number names a row (RFC 3261 sections 9 and 16.7 to 16.10).
+#[derive(Drop)]
+#[derive_where(Debug)]
+pub enum Event<A: Allocator = Global> {
+    /// A provisional response came from the branch.
+    Ring(u16, RingStatus),
+    /// A final response came from the branch.
+    Answer(u16, Answer<A>),
+    /// The branch's client transaction has had no final response in time.
+    Timeout(u16),
+    /// The branch's request could not be sent.
+    Fault(u16),
+    /// The branch's timer C fired.
+    TimerC(u16),
+    /// The wait for a final response of a cancelled branch is over.
+    GiveUp(u16),
+    /// The caller cancels its request.
+    Cancel,
+}

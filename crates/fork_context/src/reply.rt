@@ -1,0 +1,80 @@
+//! What is answered to an event.
+ghost use Rattle.std.specs.Prelude.{◌≡◌};
+ghost use Rattle.fork_context.specs.ReplyView.{up_of};
+
+use std::alloc::{Allocator, Global};
+use std::marker::Model;
+
+/// Which answer goes up once every branch has ended and none was answered with a 2xx (RFC 3261 section 16.7
+/// step 6).
+#[derive(Clone, Copy, PartialEq, Eq, Debug)]
+pub enum Choice {
+    /// The answer stored in this row.
+    Stored(u16),
+    /// A 500 in place of the 503 stored in this row, which none other ranks before.
+    Only503(u16),
+    /// A 408: nothing is stored.
+    NoAnswer408,
+}
+
+/// What goes up to the caller.
+#[derive(Clone, Copy, PartialEq, Eq, Debug)]
+pub enum Up {
+    Nothing,
+    /// The provisional answer of this row.
+    Provisional(u16),
+    /// The 2xx of this row.
+    Success(u16),
+    /// The final answer.
+    Final(Choice),
+}
+
+/// The reply to an event: its position in the history, the rows that the request is to be sent to and
+/// those that are to get a CANCEL, by rising number, and what goes up.
+#[derive(Drop)]
+#[derive_where(Debug)]
+pub struct Reply<A: Allocator = Global> {
+    pub(crate) at: u32,
+    pub(crate) started: Vec<u16, A>,
+    pub(crate) cancelled: Vec<u16, A>,
+    pub(crate) up: Up,
+}
+
+impl<A: Allocator> Model for Reply<A> {
+    ghost use Rattle.fork_model.specs.Reply as spec;
+    ghost use Rattle.fork_context.specs.ReplyView.{up_of};
+
+    ghost Value = { spec.Reply };
+
+    ghost view = { λ r. record { at = r.at; started = r.started.items; cancelled = r.cancelled.items; up = up_of r.up } };
+}
+
+impl<A: Allocator> Reply<A> {
+    /// The event's position in the history, from 0.
+    pub fn at(&self) -> u32
+        ensures { result ≡ self.now.at }
+    {
+        self.at
+    }
+
+    /// The rows that are tried from now on, by rising number.
+    pub fn started(&self) -> &[u16]
+        ensures { result.now ≡ self.now.started }
+    {
+        &self.started
+    }
+
+    /// The rows that are cancelled from now on, by rising number.
+    pub fn cancelled(&self) -> &[u16]
+        ensures { result.now ≡ self.now.cancelled }
+    {
+        &self.cancelled
+    }
+
+    /// What goes up.
+    pub fn up(&self) -> Up
+        ensures { up_of result ≡ self.now.up }
+    {
+        self.up
+    }
+}

@@ -1,0 +1,18 @@
+use Rattle.std.proofs.Common.{suc, length}
+use Rattle.fork_model.specs.Table.{Table}
+use Rattle.fork_model.specs.Step.{next}
+use Rattle.fork_model.specs.History.{table}
+use Rattle.fork_model.proofs.Arrivals.{next_arrivals, history_of_arrivals}
+use Rattle.fork_model.proofs.ComputedReplies.{reply_to, reply_to_is}
+use Rattle.fork_model.proofs.OneReplyLemmas.{one_choice, one_reply}
+use Rattle.fork_model.proofs.replies.each_event_has_one_reply.Goals as goal
+
+pub returns-clause-some : goal.returns-clause-some
+returns-clause-some c t event at = (reply_to t event at, reply_to_is t event at)
+
+pub returns-clause-one : goal.returns-clause-one
+returns-clause-one c kind rules targets events event a b x y =
+    let t : Table = table kind rules targets events in
+    let new : Table = next t event (length events) in
+    one_reply t event (length events)
+    (one_choice new.rules new.rows (suc (length events)) (next_arrivals t event (length events) (history_of_arrivals kind rules targets events))) a b x y

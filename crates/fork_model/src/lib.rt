@@ -1,0 +1,69 @@
+//! What a fork is: the definitions that every contract of the fork core cites, and laws over them.
+//!
+//! The definitions stand in `specs/`. The functions here have nothing to run: the contract of each is a law that
+//! holds of every fork, or a worked history.
+#![tactic(auto)]
+
+mod headline;
+mod order;
+mod replies;
+mod series;
+mod steps;
+mod worked;
+
+pub use headline::{
+    exactly_one_final, exactly_one_final_of_context, final_at_the_end, finished_stays,
+    opening_is_unfinished,
+};
+pub use order::{first_can_be_kept, order_is_strict_and_total};
+pub use replies::{arrivals_differ, each_event_has_one_reply, each_history_has_one_choice};
+pub use series::{groups_start_whole, groups_wait_in_series, one_group_starts_at_a_time};
+pub use steps::{
+    branches_go_on, events_make_progress, positions_are_bounded, rows_keep_their_numbers,
+    targets_are_bounded,
+};
+pub use worked::{worked_choices, worked_closings, worked_contacts, worked_series, worked_strays};
+
+#[cfg(test)]
+mod tests {
+    use super::*;
+
+    #[test]
+    fn laws_can_be_called() {
+        order_is_strict_and_total();
+        first_can_be_kept();
+        opening_is_unfinished();
+        exactly_one_final();
+        final_at_the_end();
+        finished_stays();
+        exactly_one_final_of_context();
+        arrivals_differ();
+        each_history_has_one_choice();
+        each_event_has_one_reply();
+    }
+
+    #[test]
+    fn laws_of_steps_can_be_called() {
+        rows_keep_their_numbers();
+        branches_go_on();
+        events_make_progress();
+        targets_are_bounded();
+        positions_are_bounded();
+    }
+
+    #[test]
+    fn laws_of_series_can_be_called() {
+        groups_wait_in_series();
+        one_group_starts_at_a_time();
+        groups_start_whole();
+    }
+
+    #[test]
+    fn worked_histories_can_be_called() {
+        worked_choices();
+        worked_closings();
+        worked_series();
+        worked_contacts();
+        worked_strays();
+    }
+}

@@ -1,0 +1,10 @@
+pub mod Pieces
+pub mod Contacts
+pub mod Rows
+pub mod Outcomes
+pub mod PreferredLists
+pub mod Printing
+pub mod Refusing
+pub mod NumberLaws
+pub mod LineLaws
+pub mod SpelledLines

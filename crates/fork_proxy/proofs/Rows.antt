@@ -1,0 +1,29 @@
+-- Counting and listing rows, one row at a time.
+use Rattle.std.proofs.Common.{◌≡◌, ℕ, suc, ◌+◌, ◌<◌, Bool, true, false, cond, List, [], ◌∷◌, ◌++◌, length, take, sym, ap, ◌∙◌, arith, append-nil}
+use Rattle.std.specs.Prelude.{slice_get, count_by, filter}
+use Rattle.std.proofs.lemmas.Option.{slice_get-get_or}
+use Rattle.std.proofs.lemmas.List.Sums.{count_by_more_yes, count_by_more_no}
+use Rattle.std.proofs.lemmas.List.Elements.{filter-append}
+use Rattle.fork_model.specs.Table.{State, Row, is_row}
+use Rattle.fork_model.specs.Groups.{numbers_below}
+
+pub counted_yes : (test : State → Bool) (rows : List Row) (n : ℕ) → n < length rows → is_row test (slice_get rows n) ≡ true → count_by (λ row. test row.state) (take (n + 1) rows) ≡ count_by (λ row. test row.state) (take n rows) + 1
+counted_yes test [] n lt e = absurd (omega arith)
+counted_yes test (row ∷ rows) n lt e =
+    count_by_more_yes (λ r. test r.state) (row ∷ rows) n row lt (sym (ap (is_row test) (slice_get-get_or (row ∷ rows) n row lt)) ∙ e)
+
+pub counted_no : (test : State → Bool) (rows : List Row) (n : ℕ) → n < length rows → is_row test (slice_get rows n) ≡ false → count_by (λ row. test row.state) (take (n + 1) rows) ≡ count_by (λ row. test row.state) (take n rows)
+counted_no test [] n lt e = absurd (omega arith)
+counted_no test (row ∷ rows) n lt e =
+    count_by_more_no (λ r. test r.state) (row ∷ rows) n row lt (sym (ap (is_row test) (slice_get-get_or (row ∷ rows) n row lt)) ∙ e)
+
+pub numbers_below-more : (n : ℕ) → numbers_below (n + 1) ≡ numbers_below n ++ n ∷ []
+numbers_below-more n = let e : n + 1 ≡ suc n = omega arith in ap numbers_below e
+
+pub listed_yes : (p : ℕ → Bool) (n : ℕ) → p n ≡ true → filter p (numbers_below (n + 1)) ≡ filter p (numbers_below n) ++ n ∷ []
+listed_yes p n e =
+    ap (filter p) (numbers_below-more n) ∙ filter-append p (numbers_below n) (n ∷ []) ∙ ap (λ t. filter p (numbers_below n) ++ cond t (n ∷ []) []) e
+
+pub listed_no : (p : ℕ → Bool) (n : ℕ) → p n ≡ false → filter p (numbers_below (n + 1)) ≡ filter p (numbers_below n)
+listed_no p n e =
+    ap (filter p) (numbers_below-more n) ∙ filter-append p (numbers_below n) (n ∷ []) ∙ ap (λ t. filter p (numbers_below n) ++ cond t (n ∷ []) []) e ∙ append-nil (filter p (numbers_below n))

@@ -1,0 +1,393 @@
+//! Scripts, and what their replay prints.
+use crate::fault::{Fault, ProgFault};
+use crate::input::read_input;
+use crate::replay::{MOST_TEXT, replay_text};
+use fork_context::NewFault;
+use std::alloc::Global;
+use std::process::Abort;
+use std::test::Fail;
+
+/// The output of a script that is replayed.
+fn printed(rt: &(impl Abort + Alloc<A = Global>), script: &[u8]) -> Result<Vec<u8>, Fail> {
+    let mut out = Vec::new(rt.alloc());
+    assert_eq!(rt; replay_text(rt.alloc(), script, &mut out)?, 0);
+    Ok(out)
+}
+
+/// The fault of a script that is refused, which leaves the output as it was.
+fn refused(rt: &(impl Abort + Alloc<A = Global>), script: &[u8]) -> Result<ProgFault, Fail> {
+    let mut out = b"before".to_vec(rt.alloc())?;
+    match replay_text(rt.alloc(), script, &mut out) {
+        Ok(_) => Err(Fail::from("it was replayed")),
+        Err(fault) => {
+            assert!(rt; out.as_slice() == b"before".as_slice());
+            Ok(fault)
+        }
+    }
+}
+
+fn check_all(rt: &(impl Abort + Alloc<A = Global>), table: &[(&str, &str)]) -> Result<(), Fail> {
+    for (script, expected) in table {
+        let out = printed(rt, script.as_bytes())?;
+        assert!(rt;
+            out.as_slice() == expected.as_bytes(),
+            "of {script:?}: {out:?}"
+        );
+    }
+    Ok(())
+}
+
+/// Which answer goes up.
+const BEST: [(&str, &str); 9] = [
+    (
+        "kind INVITE\ntarget 1000 a\nanswer 0 404\n",
+        "opening start 0\n0 start - cancel - up final 404 0\nfinal 404 0\n",
+    ),
+    (
+        "kind INVITE\ntarget 1000 a\ntarget 1000 b\nanswer 0 486\nanswer 1 404\n",
+        "opening start 0,1\n0 start - cancel - up -\n1 start - cancel - up final 486 0\nfinal 486 0\n",
+    ),
+    (
+        "kind INVITE\ntarget 1000 a\ntarget 1000 b\nanswer 0 503\nanswer 1 503\n",
+        "opening start 0,1\n0 start - cancel - up -\n1 start - cancel - up final 500 0\nfinal 500 0\n",
+    ),
+    (
+        "kind INVITE\ntarget 1000 a\ntarget 1000 b\nanswer 0 503\nanswer 1 501\n",
+        "opening start 0,1\n0 start - cancel - up -\n1 start - cancel - up final 501 1\nfinal 501 1\n",
+    ),
+    (
+        "kind INVITE\ntarget 1000 a\nfault 0\n",
+        "opening start 0\n0 start - cancel - up final 500 0\nfinal 500 0\n",
+    ),
+    (
+        "kind INVITE\ntarget 1000 a\ntarget 1000 b\nfault 0\nanswer 1 404\n",
+        "opening start 0,1\n0 start - cancel - up -\n1 start - cancel - up final 404 1\nfinal 404 1\n",
+    ),
+    (
+        "kind INVITE\nprefer 404,486\ntarget 1000 a\ntarget 1000 b\nanswer 0 407\nanswer 1 404\n",
+        "opening start 0,1\n0 start - cancel - up -\n1 start - cancel - up final 404 1\nfinal 404 1\n",
+    ),
+    (
+        "kind INVITE\nprefer -\ndepth 256\ntarget 1000 a\ntarget 1000 b\nanswer 0 404\nanswer 1 407\n",
+        "opening start 0,1\n0 start - cancel - up -\n1 start - cancel - up final 404 0\nfinal 404 0\n",
+    ),
+    (
+        "kind INVITE\ntarget 1000 a\ntarget 500 b\nanswer 1 404\ngiveup 0\nanswer 9 404\nanswer 0 404\nanswer 0 486\nanswer 1 486\n",
+        "opening start 0\n0 start - cancel - up -\n1 start - cancel - up -\n2 start - cancel - up -\n3 start 1 cancel - up -\n4 start - cancel - up -\n5 start - cancel - up final 404 0\nfinal 404 0\n",
+    ),
+];
+
+/// A 6xx, a 2xx and a CANCEL close the fork; branches that are cancelled.
+const CLOSING: [(&str, &str); 12] = [
+    (
+        "kind INVITE\ntarget 1000 a\ntarget 1000 b\ntarget 1000 c\nring 2 180\nanswer 0 401\nanswer 1 603\nanswer 2 487\n",
+        "opening start 0,1,2\n0 start - cancel - up provisional 2\n1 start - cancel - up -\n2 start - cancel 2 up -\n3 start - cancel - up final 603 1\nfinal 603 1\n",
+    ),
+    (
+        "kind INVITE\ntarget 1000 a\ntarget 1000 b\nring 1 180\nanswer 0 603\nanswer 1 200\n",
+        "opening start 0,1\n0 start - cancel - up provisional 1\n1 start - cancel 1 up -\n2 start - cancel - up success 1\nsucceeded\n",
+    ),
+    (
+        "kind INVITE\ntarget 1000 a\nring 0 180\ncancel\ngiveup 0\n",
+        "opening start 0\n0 start - cancel - up provisional 0\n1 start - cancel 0 up -\n2 start - cancel - up final 408 -\nfinal 408 -\n",
+    ),
+    (
+        "kind INVITE\ntarget 1000 a\ntarget 500 b\nanswer 0 404\ntimeout 1\n",
+        "opening start 0\n0 start 1 cancel - up -\n1 start - cancel - up final 404 0\nfinal 404 0\n",
+    ),
+    (
+        "kind INVITE\ntarget 1000 a\ntarget 500 b\nanswer 0 603\n",
+        "opening start 0\n0 start - cancel - up final 603 0\nfinal 603 0\n",
+    ),
+    (
+        "kind INVITE\ntarget 1000 a\ncancel\nring 0 180\nanswer 0 487\n",
+        "opening start 0\n0 start - cancel - up -\n1 start - cancel 0 up provisional 0\n2 start - cancel - up final 487 0\nfinal 487 0\n",
+    ),
+    (
+        "kind INVITE\ntarget 1000 a\ntimerc 0\n",
+        "opening start 0\n0 start - cancel - up final 408 0\nfinal 408 0\n",
+    ),
+    (
+        "kind INVITE\ntarget 1000 a\nring 0 180\ntimerc 0\n",
+        "opening start 0\n0 start - cancel - up provisional 0\n1 start - cancel 0 up -\nunfinished 1\n",
+    ),
+    (
+        "kind INVITE\ntarget 1000 a\nring 0 100\n",
+        "opening start 0\n0 start - cancel - up -\nunfinished 1\n",
+    ),
+    (
+        "kind OTHER\ntarget 1000 a\ntarget 1000 b\ncancel\nanswer 0 200\nanswer 1 200\n",
+        "opening start 0,1\n0 start - cancel - up -\n1 start - cancel - up success 0\n2 start - cancel - up -\nsucceeded\n",
+    ),
+    (
+        "kind INVITE\ntarget 1000 a\ntarget 1000 b\nanswer 0 200\nanswer 1 200\nanswer 1 200\n",
+        "opening start 0,1\n0 start - cancel - up success 0\n1 start - cancel - up success 1\n2 start - cancel - up success 1\nsucceeded\n",
+    ),
+    (
+        "kind INVITE\ntarget 1000 a\ntarget 500 b\n",
+        "opening start 0\nunfinished 2\n",
+    ),
+];
+
+/// The contacts of a 3xx.
+const CONTACTS: [(&str, &str); 7] = [
+    (
+        "kind INVITE\ntarget 1000 a\nanswer 0 302\ncontact 1000 b\ncontact 1000 c\nanswer 1 404\ntimeout 2\n",
+        "opening start 0\n0 start 1,2 cancel - up -\n1 start - cancel - up -\n2 start - cancel - up final 404 1\nfinal 404 1\n",
+    ),
+    (
+        "kind INVITE\ntarget 1000 a\nanswer 0 302\ncontact 1000 b\nother 1000 <tel:+1555>\nanswer 1 486\n",
+        "opening start 0\n0 start 1 cancel - up -\n1 start - cancel - up final 302 0\nfinal 302 0\n",
+    ),
+    (
+        "kind INVITE\ntarget 1000 a\nanswer 0 302\ncontact 1000 a\n",
+        "opening start 0\n0 start - cancel - up final 408 -\nfinal 408 -\n",
+    ),
+    (
+        "kind INVITE\ntarget 1000 a\nanswer 0 302\n",
+        "opening start 0\n0 start - cancel - up final 302 0\nfinal 302 0\n",
+    ),
+    (
+        "kind INVITE\ntarget 1000 a\ntarget 500 b\nanswer 0 302\ncontact 1000 c\nanswer 2 404\ntimeout 1\n",
+        "opening start 0\n0 start 2 cancel - up -\n1 start 1 cancel - up -\n2 start - cancel - up final 404 2\nfinal 404 2\n",
+    ),
+    (
+        "kind INVITE\ndepth 0\ntarget 1000 a\nanswer 0 302\ncontact 1000 b\n",
+        "opening start 0\n0 start - cancel - up final 302 0\nfinal 302 0\n",
+    ),
+    (
+        "kind INVITE\ndepth 1\ntarget 1000 a\nanswer 0 302\ncontact 1000 b\nanswer 1 302\ncontact 1000 c\n",
+        "opening start 0\n0 start 1 cancel - up -\n1 start - cancel - up final 302 1\nfinal 302 1\n",
+    ),
+];
+
+/// Scripts with the number of their first malformed line.
+const MALFORMED: [(&str, u32); 52] = [
+    ("", 1),
+    ("\n", 1),
+    ("kind INVITE", 1),
+    ("kind INVITE\r\n", 1),
+    ("kind\tINVITE\n", 1),
+    ("kind  INVITE\n", 1),
+    ("kind INVITE \n", 1),
+    ("kind invite\n", 1),
+    ("kind BYE\n", 1),
+    ("target 1000 a\n", 1),
+    ("kind INVITE\nkind INVITE\n", 2),
+    ("kind INVITE\ntarget 01000 a\n", 2),
+    ("kind INVITE\ntarget 1001 a\n", 2),
+    ("kind INVITE\ntarget 1000 a b\n", 2),
+    ("kind INVITE\ntarget 1000 \n", 2),
+    ("kind INVITE\ntarget 1000\n", 2),
+    (
+        "kind INVITE\ntarget 1000 nnnnnnnnnnnnnnnnnnnnnnnnnnnnnnnnnnnnnnnnnnnnnnnnnnnnnnnnnnnnnnnnn\n",
+        2,
+    ),
+    ("kind INVITE\ntarget 1000 a\nanswer 0 404", 3),
+    ("kind INVITE\ntarget 1000 a\nanswer 00 404\n", 3),
+    ("kind INVITE\ntarget 1000 a\nanswer 0 199\n", 3),
+    ("kind INVITE\ntarget 1000 a\nanswer 0 700\n", 3),
+    ("kind INVITE\ntarget 1000 a\nanswer 65536 404\n", 3),
+    ("kind INVITE\ntarget 1000 a\nanswer 0 404 \n", 3),
+    ("kind INVITE\ntarget 1000 a\nring 0 99\n", 3),
+    ("kind INVITE\ntarget 1000 a\nring 0 200\n", 3),
+    ("kind INVITE\ntarget 1000 a\nring 0 +180\n", 3),
+    ("kind INVITE\ntarget 1000 a\ntimeout\n", 3),
+    ("kind INVITE\ntarget 1000 a\ntimeout a\n", 3),
+    ("kind INVITE\ntarget 1000 a\ncancel 0\n", 3),
+    ("kind INVITE\ntarget 1000 a\n\0\n", 3),
+    ("kind INVITE\ntarget 1000 a\n\n", 3),
+    ("kind INVITE\ntarget 1000 a\nworker\n", 3),
+    ("kind INVITE\ntarget 1000 a\ncontact 1000 b\n", 3),
+    ("kind INVITE\ntarget 1000 a\ncancel\ncontact 1000 b\n", 4),
+    ("kind INVITE\ntarget 1000 a\ncancel\ntarget 1000 b\n", 4),
+    (
+        "kind INVITE\ntarget 1000 a\nanswer 0 401\nchallenge W Digest\n",
+        4,
+    ),
+    ("kind INVITE\ntarget 1000 a\nanswer 0 302\nother 1000 \n", 4),
+    (
+        "kind INVITE\ntarget 1000 a\nanswer 0 302\nother 1000 \x01\n",
+        4,
+    ),
+    ("kind INVITE\nprefer 404\nprefer 404\n", 3),
+    ("kind INVITE\ndepth 1\nprefer 404\n", 3),
+    ("kind INVITE\ndepth 1\ndepth 1\n", 3),
+    ("kind INVITE\ntarget 1000 a\nprefer 404\n", 3),
+    ("kind INVITE\nprefer\n", 2),
+    ("kind INVITE\nprefer \n", 2),
+    ("kind INVITE\nprefer 404,\n", 2),
+    ("kind INVITE\nprefer 486,404\n", 2),
+    ("kind INVITE\nprefer 404,404\n", 2),
+    ("kind INVITE\nprefer 399\n", 2),
+    ("kind INVITE\nprefer 500\n", 2),
+    (
+        "kind INVITE\nprefer 400,401,402,403,404,405,406,407,408,409,410,411,412,413,414,415,416\n",
+        2,
+    ),
+    ("kind INVITE\ndepth 257\n", 2),
+    ("kind INVITE\ndepth 00\n", 2),
+];
+
+#[test]
+fn best_answers_go_up(rt: HostRuntime) -> Result<(), Fail> {
+    check_all(&rt, &BEST)
+}
+
+#[test]
+fn closed_forks_cancel(rt: HostRuntime) -> Result<(), Fail> {
+    check_all(&rt, &CLOSING)
+}
+
+#[test]
+fn contacts_are_taken(rt: HostRuntime) -> Result<(), Fail> {
+    check_all(&rt, &CONTACTS)
+}
+
+#[test]
+fn malformed_lines_are_counted(rt: HostRuntime) -> Result<(), Fail> {
+    for (script, line) in MALFORMED {
+        assert_eq!(rt;
+            refused(&rt, script.as_bytes())?,
+            ProgFault::Line(line),
+            "of {script:?}"
+        );
+    }
+    Ok(())
+}
+
+/// So many bytes that are no script.
+fn filled(alloc: Global, count: usize) -> Result<Vec<u8>, Fail> {
+    Ok(vec![in alloc; b'x'; count]?)
+}
+
+/// Adds a line many times.
+fn repeat(script: &mut Vec<u8>, line: &[u8], count: u32) -> Result<(), Fail> {
+    for _ in 0..count {
+        script.extend_from_slice(line)?;
+    }
+    Ok(())
+}
+
+/// A script of this many targets.
+fn many_targets(rt: &(impl Abort + Alloc<A = Global>), count: u32) -> Result<Vec<u8>, Fail> {
+    let mut script = b"kind INVITE\n".to_vec(rt.alloc())?;
+    for n in 0..count {
+        script.extend_from_slice(format!(in rt.alloc(); "target 1000 t{n}\n")?.as_bytes())?;
+    }
+    Ok(script)
+}
+
+#[test]
+fn strays_fill_the_history(rt: HostRuntime) -> Result<(), Fail> {
+    let mut rings = b"kind INVITE\ntarget 1000 a\n".to_vec(rt.alloc())?;
+    repeat(&mut rings, b"ring 0 180\n", 4097)?;
+    rings.extend_from_slice(b"answer 0 404\n")?;
+    let out = printed(&rt, &rings)?;
+    let end =
+        b"\n4095 start - cancel - up provisional 0\nfull\n4096 start - cancel - up final 404 0\nfinal 404 0\n";
+    assert!(rt; out.as_slice().ends_with(end));
+
+    let mut answers = b"kind INVITE\ntarget 1000 a\ntarget 1000 b\n".to_vec(rt.alloc())?;
+    repeat(&mut answers, b"answer 0 404\n", 4096)?;
+    answers.extend_from_slice(b"answer 0 486\nanswer 1 404\n")?;
+    let out = printed(&rt, &answers)?;
+    let end =
+        b"\n4095 start - cancel - up -\nfull\n4096 start - cancel - up final 404 0\nfinal 404 0\n";
+    assert!(rt; out.as_slice().ends_with(end));
+    Ok(())
+}
+
+#[test]
+fn targets_are_limited(rt: HostRuntime) -> Result<(), Fail> {
+    assert_eq!(rt;
+        refused(&rt, b"kind INVITE\n")?,
+        ProgFault::New(NewFault::NoTargets)
+    );
+    assert_eq!(rt;
+        refused(&rt, &many_targets(&rt, 257)?)?,
+        ProgFault::New(NewFault::TooMany)
+    );
+    let twice = b"kind INVITE\ntarget 1000 a\ntarget 500 a\n";
+    assert_eq!(rt; refused(&rt, twice)?, ProgFault::New(NewFault::Twice));
+    assert!(rt;
+        printed(&rt, &many_targets(&rt, 256)?)?
+            .as_slice()
+            .ends_with(b",254,255\nunfinished 256\n")
+    );
+
+    let mut script = many_targets(&rt, 255)?;
+    script.extend_from_slice(b"answer 0 302\ncontact 1000 x\ncontact 1000 y\n")?;
+    let out = printed(&rt, &script)?;
+    assert!(rt;
+        out.as_slice()
+            .ends_with(b",254\n0 start 255 cancel - up -\nunfinished 255\n")
+    );
+    Ok(())
+}
+
+#[test]
+fn long_texts_are_refused(rt: HostRuntime) -> Result<(), Fail> {
+    assert_eq!(rt;
+        refused(&rt, &filled(rt.alloc(), MOST_TEXT + 1)?)?,
+        ProgFault::TooLong
+    );
+    assert_eq!(rt;
+        refused(&rt, &filled(rt.alloc(), MOST_TEXT)?)?,
+        ProgFault::Line(1)
+    );
+    Ok(())
+}
+
+#[test]
+fn faults_have_texts(rt: HostRuntime) -> Result<(), Fail> {
+    let table = [
+        (
+            Fault::Usage,
+            2,
+            "usage: forkproxy [replay | drive | check | serve TURNS]",
+        ),
+        (Fault::Read, 5, "read fault"),
+        (Fault::Write, 5, "write fault"),
+        (Fault::Text(ProgFault::NoMemory), 3, "want of memory"),
+        (Fault::Text(ProgFault::TooLong), 1, "too long"),
+        (Fault::Text(ProgFault::Line(12)), 1, "line 12: malformed"),
+        (
+            Fault::Text(ProgFault::New(NewFault::NoTargets)),
+            1,
+            "setup: NoTargets",
+        ),
+        (
+            Fault::Text(ProgFault::New(NewFault::TooMany)),
+            1,
+            "setup: TooMany",
+        ),
+        (
+            Fault::Text(ProgFault::New(NewFault::Twice)),
+            1,
+            "setup: Twice",
+        ),
+    ];
+    for (fault, status, text) in table {
+        assert_eq!(rt; fault.status(), status);
+        assert_eq!(rt; format!(in rt.alloc(); "{fault}")?.as_str(), text);
+    }
+    Ok(())
+}
+
+#[test]
+fn input_is_read_whole(rt: HostRuntime) -> Result<(), Fail> {
+    let text = filled(rt.alloc(), 100_000)?;
+    let whole = match read_input(rt.alloc(), &mut text.as_slice()) {
+        Ok(whole) => whole,
+        Err(_) => return Err(Fail::from("it was not read")),
+    };
+    assert!(rt; whole.as_slice() == text.as_slice());
+    let more = filled(rt.alloc(), MOST_TEXT + 2)?;
+    let most = match read_input(rt.alloc(), &mut more.as_slice()) {
+        Ok(most) => most,
+        Err(_) => return Err(Fail::from("it was not read")),
+    };
+    assert_eq!(rt; most.len(), MOST_TEXT + 1);
+    Ok(())
+}

@@ -1,0 +1,5 @@
+pub mod FallingValues
+pub mod Grouped
+pub mod Members
+pub mod Places
+pub mod Preference

@@ -1,0 +1,4 @@
+pub mod Preferred
+pub mod Padding
+pub mod PreferredFields
+pub mod Grouping

@@ -1,0 +1,20 @@
+//! How stored answers rank: statuses, the rules an operator may set, ranks, groups by q, and challenges.
+#![tactic(auto)]
+
+mod challenge;
+mod grouping;
+mod preferred;
+mod rank;
+mod ring_status;
+mod rules;
+mod status;
+#[cfg(test)]
+mod tests;
+
+pub use challenge::Challenge;
+pub use grouping::groups;
+pub use preferred::{MOST_PREFERRED, Preferred};
+pub use rank::{Rank, before, compare, ranks_before};
+pub use ring_status::RingStatus;
+pub use rules::{MOST_TARGETS, Rules};
+pub use status::Status;

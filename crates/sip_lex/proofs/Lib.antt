@@ -1,0 +1,9 @@
+pub mod Cuts
+pub mod Lines
+pub mod Numbers
+pub mod OutsideSplits
+pub mod Places
+pub mod Splits
+pub mod Trims
+pub mod Quotes
+pub mod Shelters

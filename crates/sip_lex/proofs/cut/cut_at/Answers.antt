@@ -1,0 +1,12 @@
+use Rattle.std.proofs.Common.{ℕ, List, Option, ◌≡◌, ◌++◌, sym, subst}
+use Rattle.sip_lex.specs.Cut.{behind, Lacks}
+use Rattle.sip_lex.proofs.Cuts.{cut_joins, cut_lacks}
+use Rattle.sip_lex.proofs.cut.cut_at.Goals as goal
+
+pub returns-clause-whole : goal.returns-clause-whole
+returns-clause-whole c =
+    subst (λ (r : List ℕ × Option (List ℕ)). c.args.text.now ≡ r.0 ++ behind c.args.mark r.1) (sym c.cut_by_mark.ensures.value) (cut_joins c.args.mark c.args.text.now)
+
+pub returns-clause-front : goal.returns-clause-front
+returns-clause-front c =
+    subst (λ (r : List ℕ × Option (List ℕ)). Lacks c.args.mark r.0) (sym c.cut_by_mark.ensures.value) (cut_lacks c.args.mark c.args.text.now)

@@ -1,0 +1,13 @@
+use Rattle.std.proofs.Common.{sym, ap, ◌∙◌}
+use Rattle.std.proofs.lemmas.List.{take_rest}
+use Rattle.sip_lex.specs.Cut.{is}
+use Rattle.sip_lex.proofs.Cuts.{cut-position, cut_at}
+use Rattle.sip_lex.proofs.cut.cut_by_mark.Goals as goal
+
+pub returns-in-None-clause-value : goal.returns-in-None-clause-value
+returns-in-None-clause-value c = sym (cut-position (is c.args.mark) c.args.text.now ∙ ap (λ i. cut_at i c.args.text.now) (sym c.in-None.ensures.value))
+
+pub returns-in-Some-clause-value : goal.returns-in-Some-clause-value
+returns-in-Some-clause-value c =
+    let e = cut-position (is c.args.mark) c.args.text.now ∙ ap (λ i. cut_at i c.args.text.now) (sym c.in-Some.ensures.value) in
+    rw take_rest (sym e)

@@ -1,0 +1,7 @@
+use Rattle.std.proofs.Common.{◌≡◌, fold, take}
+use Rattle.sip_lex.specs.declared.sheltered.Place.TheVariants.{Plain}
+use Rattle.sip_lex.specs.Sheltered.{place_after}
+use Rattle.sip_lex.proofs.sheltered.is_closed.Given as goal
+
+abbrev pub invariant-loop-byte : goal.invariant-loop-byte
+invariant-loop-byte l = l.place ≡ fold (place_after l.shelter) Plain (take l.byte-index l.text)

@@ -1,0 +1,9 @@
+pub mod Bytes
+pub mod Cut
+pub mod Hex
+pub mod Line
+pub mod Number
+pub mod Outside
+pub mod Pieces
+pub mod Quoted
+pub mod Sheltered

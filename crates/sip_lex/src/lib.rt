@@ -1,0 +1,26 @@
+//! The lexical base of SIP texts (RFC 3261 section 25.1).
+//!
+//! Classes of bytes, cutting a text in two at its first mark, lines, space at the ends of a text,
+//! decimal and hexadecimal numbers, quoted text, and marks that quotes and angle brackets shelter.
+//! No function but `lowered` takes memory.
+#![tactic(auto)]
+
+mod bytes;
+mod cut;
+mod hex;
+mod line;
+mod number;
+mod quoted;
+mod sheltered;
+mod space;
+#[cfg(test)]
+mod tests;
+
+pub use bytes::{are_digits, is_space, is_token, lowered};
+pub use cut::{cut_at, cut_at_space};
+pub use hex::{hex_digit, hex_value};
+pub use line::first_line;
+pub use number::{read_number, read_plain_number};
+pub use quoted::cut_quoted;
+pub use sheltered::{Shelter, cut_outside, is_closed};
+pub use space::{trim, trim_end, trim_start};

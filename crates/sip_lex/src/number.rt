@@ -1,0 +1,51 @@
+//! Decimal numbers of bounded value.
+
+ghost use Rattle.std.specs.Prelude.{◌≡◌, ◌^◌};
+ghost use Rattle.sip_lex.specs.Number.{below, number, number_within, plain_number_within, with_digit};
+
+use crate::bytes::are_digits;
+
+/// A number with one more digit, where it fits 64 bits.
+fn with_digit(n: u64, digit: u8) -> Option<u64>
+    ensures { result ≡ below (2 ^ 64) (with_digit n digit) }
+{
+    n.checked_mul(10)?
+        .checked_add(u64::from(digit.saturating_sub(b'0')))
+}
+
+/// The number that digits spell, where it fits 64 bits.
+fn number_of(digits: &[u8]) -> Option<u64>
+    ensures { result ≡ below (2 ^ 64) (number digits.now) }
+{
+    let mut n = 0;
+    for digit in digits {
+        let Some(longer) = with_digit(n, *digit) else {
+            return None;
+        };
+        n = longer;
+    }
+    Some(n)
+}
+
+/// The number that one or more decimal digits spell, where it is at most `limit`.
+///
+/// Leading zeros are allowed, and so is any number of digits.
+pub fn read_number(digits: &[u8], limit: u64) -> Option<u64>
+    ensures { result ≡ number_within limit digits.now }
+{
+    if digits.is_empty() || !are_digits(digits) {
+        return None;
+    }
+    let n = number_of(digits)?;
+    (n <= limit).then_some(n)
+}
+
+/// The same of digits without a leading zero, but for the one digit `0`.
+pub fn read_plain_number(digits: &[u8], limit: u64) -> Option<u64>
+    ensures { result ≡ plain_number_within limit digits.now }
+{
+    match digits {
+        [b'0', _, ..] => None,
+        _ => read_number(digits, limit),
+    }
+}

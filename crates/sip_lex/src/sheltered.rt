@@ -1,0 +1,100 @@
+//! Marks outside quotes and angle brackets.
+
+ghost use Rattle.std.specs.Prelude.{◌≡◌, ◌≤◌, ◌<◌, ◌++◌, length, IfSome, OnSome};
+ghost use Rattle.std.specs.Option.{option_copied};
+ghost use Rattle.sip_lex.specs.declared.sheltered.Place.TheVariants.{Plain};
+ghost use Rattle.sip_lex.specs.Cut.{behind, seen_cut};
+ghost use Rattle.sip_lex.specs.Sheltered.{LacksOutside, cut_outside, end_place, is_closed, is_plain, outside_len, place_after};
+
+/// What shelters a mark: a quoted text, in which a backslash takes the next byte with it, or also a
+/// text in angle brackets, in which a quote is a byte as any other.
+#[derive(Clone, Copy, Debug, PartialEq, Eq)]
+pub enum Shelter {
+    Quotes,
+    QuotesAndAngles,
+}
+
+/// Where in a text a byte stands.
+#[derive(Clone, Copy, Debug, PartialEq, Eq)]
+pub enum Place {
+    Plain,
+    Quoted,
+    Escaped,
+    Angled,
+}
+
+impl Place {
+    fn is_plain(self) -> bool
+        ensures { result ≡ is_plain self }
+    {
+        match self {
+            Place::Plain => true,
+            Place::Quoted | Place::Escaped | Place::Angled => false,
+        }
+    }
+
+    /// Where the byte behind this one stands.
+    fn after(self, shelter: Shelter, byte: u8) -> Place
+        ensures { result ≡ place_after shelter self byte }
+    {
+        match self {
+            Place::Plain if byte == b'"' => Place::Quoted,
+            Place::Plain if byte == b'<' && shelter == Shelter::QuotesAndAngles => Place::Angled,
+            Place::Quoted if byte == b'\\' => Place::Escaped,
+            Place::Quoted if byte == b'"' => Place::Plain,
+            Place::Escaped => Place::Quoted,
+            Place::Angled if byte == b'>' => Place::Plain,
+            _ => self,
+        }
+    }
+}
+
+/// How many bytes stand before the first mark outside.
+fn outside_len(text: &[u8], mark: u8, shelter: Shelter) -> usize
+    ensures value { result ≡ outside_len shelter mark Plain text.now }
+    ensures within { result ≤ length text.now }
+{
+    let mut place = Place::Plain;
+    for (i, byte) in text.iter().enumerate() {
+        if place.is_plain() && *byte == mark {
+            return i;
+        }
+        place = place.after(shelter, *byte);
+    }
+    text.len()
+}
+
+fn split_outside(text: &[u8], mark: u8, shelter: Shelter) -> (&[u8], Option<&[u8]>)
+    ensures value { seen_cut result ≡ cut_outside shelter mark Plain text.now }
+    ensures shorter { IfSome result.1 (λ after. length after.now < length text.now) }
+{
+    let (front, rest) = text.split_at(outside_len(text, mark, shelter));
+    match rest {
+        [] => (front, None),
+        [_, after @ ..] => (front, Some(after)),
+    }
+}
+
+/// What stands before the first `mark` outside the shelter, and what stands after it, if there is
+/// one. The mark is tested before it opens a quote or bracket, so `<` and `"` are marks too.
+pub fn cut_outside(text: &[u8], mark: u8, shelter: Shelter) -> (&[u8], Option<&[u8]>)
+    ensures value { seen_cut result ≡ cut_outside shelter mark Plain text.now }
+    ensures whole { text.now ≡ result.0.now ++ behind mark (option_copied result.1) }
+    ensures front { LacksOutside shelter mark Plain result.0.now }
+    ensures outside { OnSome result.1
+        (end_place shelter Plain result.0.now ≡ Plain) }
+    ensures shorter { IfSome result.1 (λ after. length after.now < length text.now) }
+{
+    split_outside(text, mark, shelter)
+}
+
+/// Whether each quote and bracket that opens in a text is closed in it.
+pub fn is_closed(text: &[u8], shelter: Shelter) -> bool
+    ensures { result ≡ is_closed shelter text.now }
+{
+    let mut place = Place::Plain;
+    for byte in text {
+        place = place.after(shelter, *byte);
+    }
+    place.is_plain()
+}

@@ -1,0 +1,32 @@
+-- What was read where reading answered.
+use Rattle.std.proofs.Common.{◌≡◌, ◌∙◌, ℕ, true, cond, List, Option, Some, None, Result, Ok, Err, ap, sym}
+use Rattle.std.proofs.lemmas.Bool.{cond-true}
+use Rattle.sip_lex.specs.Line.{line_at}
+use Rattle.sip_lex.specs.Pieces.{pieces}
+use Rattle.sip_text.specs.declared.needed.Needed.{Needed}
+use Rattle.sip_text.specs.Fields.{cseq_fits, missing, said_length}
+use Rattle.sip_text.specs.Message.{after_headers, after_line, after_start, body_at, checked, if_present, read_at}
+use Rattle.sip_text.specs.Heads.{or_bad}
+use Rattle.sip_text.specs.Reading.{BadCSeq, Fault, Headers, headers_at, skip, start_of}
+use Rattle.sip_text.specs.Text.{HeaderText, StartText}
+use Rattle.sip_text.proofs.Joins.{join_pieces}
+
+abbrev there : Headers → Option Headers
+there x = Some x
+
+pub some_headers : (o : Option Headers) (x : Headers) → or_bad o ≡ Ok x → o ≡ Some x
+some_headers None x e = absurd cc
+some_headers (Some y) x e = let same : y ≡ x = cc in ap there same
+
+checked_is : (s : StartText) (hs : List HeaderText) (rest : List ℕ) → missing hs ≡ None → cseq_fits s hs ≡ true → checked s hs rest ≡ body_at s hs rest (said_length hs)
+unfolding checked
+checked_is s hs rest needed fits = ap (λ (x : Option Needed). if_present x (cond (cseq_fits s hs) (body_at s hs rest (said_length hs)) (Err BadCSeq))) needed ∙ cond-true _ _ _ fits
+
+pub all_read : (text line rest behind : List ℕ) (s : StartText) (hs : List HeaderText) → Some (line, rest) ≡ line_at (skip text) → start_of line ≡ Ok s → or_bad (headers_at rest) ≡ Ok (hs, pieces 10 behind) → missing hs ≡ None → cseq_fits s hs ≡ true → read_at text ≡ body_at s hs behind (said_length hs)
+unfolding read_at
+all_read text line rest behind s hs at start headers needed fits =
+    ap after_line (sym at)
+    ∙ ap (λ (x : Result StartText Fault). after_start x rest) start
+    ∙ ap (after_headers s) (some_headers (headers_at rest) (hs, pieces 10 behind) headers)
+    ∙ ap (checked s hs) (join_pieces behind)
+    ∙ checked_is s hs behind needed fits

@@ -1,0 +1,17 @@
+pub mod Gaps
+pub mod Good
+pub mod Groups
+pub mod Grown
+pub mod Heads
+pub mod Joins
+pub mod Public
+pub mod Size
+pub mod Spelled
+pub mod StartAgain
+pub mod StartLines
+pub mod Steps
+pub mod Tails
+pub mod TextLines
+pub mod Tags
+pub mod Whole
+pub mod Zeroed

@@ -1,0 +1,18 @@
+-- What reading answered, by the relation.
+use Rattle.std.proofs.Common.{◌≡◌, ℕ, List, Result, Ok, Err, sym, subst, ◌∙◌}
+use Rattle.std.specs.Prelude.{IfOk}
+use Rattle.sip_text.specs.declared.fault.ReadFault.{ReadFault}
+use Rattle.sip_text.specs.Fault.{FailsAs, Gives, fault_seen}
+use Rattle.sip_text.specs.Grammar.{IsText}
+use Rattle.sip_text.specs.Message.{read_at}
+use Rattle.sip_text.specs.Reading.{Fault}
+use Rattle.sip_text.specs.Text.{MessageText}
+use Rattle.sip_text.proofs.Whole.{text_found, text_read}
+
+pub is_found : {A : Type 0} (text : List ℕ) (r : Result MessageText (ReadFault A)) → Gives (λ m. m) r (read_at text) → IfOk r (λ m. IsText text m)
+is_found text (Ok m) e = text_found text m e
+is_found text (Err f) e = tt
+
+pub is_only : {A : Type 0} (text : List ℕ) (r : Result MessageText (ReadFault A)) → Gives (λ m. m) r (read_at text) → (m : MessageText) → IsText text m → Gives (λ m. m) r (Ok m)
+is_only text (Ok x) e m t = sym (text_read text m t) ∙ e
+is_only text (Err f) e m t = subst (λ (r : Result MessageText Fault). FailsAs (fault_seen f) r) (text_read text m t) e

@@ -1,0 +1,73 @@
+-- The lines of a text up to the empty one, by the whole text.
+use Rattle.std.proofs.Common.{◌≡◌, ◌≢◌, ℕ, zero, suc, ◌+◌, ◌<◌, List, [], ◌∷◌, ◌++◌, length, Option, Some, None, refl, sym, ap, subst, ◌∙◌, arith, append_assoc}
+use Rattle.std.specs.List.{flat_map, AllByRecursion}
+use Rattle.std.proofs.lemmas.List.{length-append}
+use Rattle.sip_lex.specs.Line.{IsLine, ended, line_at}
+use Rattle.sip_lex.specs.Pieces.{pieces}
+use Rattle.sip_lex.proofs.Lines.{TakesLine, line_at-again, line_at-takes}
+use Rattle.sip_text.specs.Grammar.{IsFull}
+use Rattle.sip_text.specs.Reading.{Lines, lines_at, lines_from, with_line}
+use Rattle.sip_text.proofs.Good.{found, some_is}
+use Rattle.sip_text.proofs.Tails.{Front, lines_at-line, lines_front}
+
+-- ---- what is spelled so is read
+
+empty_line : IsLine []
+empty_line = record { no_cr = tt; no_lf = tt }
+
+add_full : (line : List ℕ) (later : Option Lines) (behind : List (List ℕ)) → (line ≢ []) → lines_from (Some line) later behind ≡ with_line line later
+add_full [] later behind full = absurd (full refl)
+add_full (b ∷ bs) later behind full = refl
+
+pub lines_again : (lines : List (List ℕ)) (rest : List ℕ) → AllByRecursion IsFull lines → lines_at (pieces 10 (flat_map ended lines ++ (ended [] ++ rest))) ≡ Some (lines, pieces 10 rest)
+lines_again [] rest h = lines_at-line (ended [] ++ rest) ∙ ap lines_front (line_at-again [] rest empty_line)
+lines_again (line ∷ lines) rest h =
+    let tail = flat_map ended lines ++ (ended [] ++ rest) in
+    let whole : flat_map ended (line ∷ lines) ++ (ended [] ++ rest) ≡ ended line ++ tail = append_assoc (ended line) (flat_map ended lines) (ended [] ++ rest) in
+    ap (λ (x : List ℕ). lines_at (pieces 10 x)) whole ∙ lines_at-line (ended line ++ tail) ∙ ap lines_front (line_at-again line tail h.0.0) ∙ add_full line (lines_at (pieces 10 tail)) (pieces 10 tail) h.0.1 ∙ ap (with_line line) (lines_again lines rest h.1)
+
+-- ---- and what is read is spelled so
+
+pub record Split (text : List ℕ) (x : Lines) : Type 0 where
+  pub rest : List ℕ
+  pub whole : text ≡ flat_map ended x.0 ++ (ended [] ++ rest)
+  pub are_full : AllByRecursion IsFull x.0
+  pub behind : pieces 10 rest ≡ x.1
+
+abbrev Found : ℕ → Type 0
+Found n = (text : List ℕ) (x : Lines) → length text < n → lines_at (pieces 10 text) ≡ Some x → Split text x
+
+shorter : (text line after : List ℕ) → TakesLine text line after → length after < length text
+shorter text line after t = omega (arith, ap length t.whole, length-append (ended line) after, length-append line (13 ∷ 10 ∷ []))
+
+longer : (text line after : List ℕ) (y : Lines) → TakesLine text line after → (line ≢ []) → Split after y → Split text (line ∷ y.0, y.1)
+longer text line after y t full s = record {
+  rest = s.rest;
+  whole = t.whole ∙ ap (λ (x : List ℕ). ended line ++ x) s.whole ∙ sym (append_assoc (ended line) (flat_map ended y.0) (ended [] ++ s.rest));
+  are_full = ((t.is_line, full), s.are_full);
+  behind = s.behind;
+}
+
+with_line_takes : (text line after : List ℕ) (later : Option Lines) (x : Lines) → TakesLine text line after → (line ≢ []) → ((y : Lines) → later ≡ Some y → Split after y) → with_line line later ≡ Some x → Split text x
+with_line_takes text line after None x t full s e = absurd cc
+with_line_takes text line after (Some y) x t full s e = subst (Split text) (some_is (line ∷ y.0, y.1) x e) (longer text line after y t full (s y refl))
+
+cons_full : (b : ℕ) (bs : List ℕ) → (b ∷ bs) ≢ []
+cons_full b bs e = absurd cc
+
+front_takes : (n : ℕ) → Found n → (text : List ℕ) (x : Lines) (front : Front) → length text < suc n → line_at text ≡ front → lines_front front ≡ Some x → Split text x
+front_takes n all text x None lt at e = absurd cc
+front_takes n all text x (Some ([], after)) lt at e =
+    let t = line_at-takes text [] after at in
+    subst (Split text) (some_is ([], pieces 10 after) x e) (record { rest = after; whole = t.whole; are_full = tt; behind = refl })
+front_takes n all text x (Some (b ∷ bs, after)) lt at e =
+    let t = line_at-takes text (b ∷ bs) after at in
+    with_line_takes text (b ∷ bs) after (lines_at (pieces 10 after)) x t (cons_full b bs) (λ y h. all after y (omega (arith, shorter text (b ∷ bs) after t)) h) e
+
+-- by the length of the text
+below : (n : ℕ) → Found n
+below zero text x lt e = absurd (omega arith)
+below (suc n) text x lt e = front_takes n (below n) text x (line_at text) lt refl (sym (lines_at-line text) ∙ e)
+
+pub lines_take : (text : List ℕ) (x : Lines) → lines_at (pieces 10 text) ≡ Some x → Split text x
+lines_take text x e = below (suc (length text)) text x (omega arith) e

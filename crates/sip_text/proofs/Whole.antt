@@ -1,0 +1,213 @@
+-- Whole texts, by the relation and by the function.
+use Rattle.std.proofs.Common.{◌≡◌, ◌≢◌, ℕ, zero, suc, ◌+◌, ◌≤◌, Bool, true, false, cond, eqb, leb, List, [], ◌∷◌, ◌++◌, length, map, take, drop, Option, Some, None, Result, Ok, Err, refl, sym, ap, subst, ◌∙◌, inl, inr, arith, append_assoc, length-take}
+use Rattle.std.specs.Prelude.{◌&&◌, nat_le}
+use Rattle.std.specs.List.{flat_map, join_with_byte, AllByRecursion}
+use Rattle.std.proofs.lemmas.Bool.{and_parts, cases_Bool, cond_both, cond-true, cond-false, eqb-true, le-leb, leb-true, ne_eqb}
+use Rattle.std.proofs.lemmas.List.{length-append, take_at, take-append-drop}
+use Rattle.sip_lex.specs.Bytes.{trim}
+use Rattle.sip_lex.specs.Line.{IsLine, ended, line_at}
+use Rattle.sip_lex.specs.Pieces.{pieces}
+use Rattle.sip_lex.proofs.Lines.{line_at-again, line_at-takes}
+use Rattle.sip_text.specs.declared.fields.BodyLength.{BodyLength}
+use Rattle.sip_text.specs.declared.fields.BodyLength.TheVariants.{Unsaid, Bytes, Wrong}
+use Rattle.sip_text.specs.declared.needed.Needed.{Needed}
+use Rattle.sip_text.specs.Fields.{cseq_fits, missing, said_length}
+use Rattle.sip_text.specs.Grammar.{AreHeaders, IsBody, IsFull, IsStartLine, IsText, blank_lines}
+use Rattle.sip_text.specs.Message.{after_headers, after_line, after_start, body_at, checked, head_of, if_present, read_at}
+use Rattle.sip_text.specs.Reading.{Fault, BadCSeq, BadHeader, BadLength, BadStart, Group, Headers, Lacks, Lines, Short, closed, grouped, headers_at, lines_at, skip, start_of, tail_at, tail_of_group, tail_of_lines}
+use Rattle.sip_text.specs.Text.{HeaderText, MessageText, StartText}
+use Rattle.sip_text.proofs.Good.{found, some_is}
+use Rattle.sip_text.proofs.Groups.{grouped_found, headers_again}
+use Rattle.sip_text.proofs.Joins.{join_pieces}
+use Rattle.sip_text.proofs.StartAgain.{start_again}
+use Rattle.sip_text.proofs.StartLines.{done, ok_is, start_found}
+use Rattle.sip_text.proofs.TextLines.{Split, lines_again, lines_take}
+
+abbrev Read : Type 0
+Read = Result MessageText Fault
+
+-- ---- empty lines at the front
+
+skip_blank : (n : ℕ) (bs : List ℕ) → skip (blank_lines n ++ bs) ≡ skip bs
+skip_blank zero bs = refl
+skip_blank (suc n) bs = skip_blank n bs
+
+keep_first : (b c : ℕ) (bs : List ℕ) → (b ≢ 13) → skip (b ∷ c ∷ bs) ≡ b ∷ c ∷ bs
+keep_first b c bs h = cond-false _ _ _ (ap (λ x. x && eqb c 10) (ne_eqb b 13 h))
+
+skip_line : (line rest : List ℕ) → IsLine line → (line ≢ []) → skip (ended line ++ rest) ≡ ended line ++ rest
+skip_line [] rest h full = absurd (full refl)
+skip_line (b ∷ []) rest h full = keep_first b 13 (10 ∷ rest) h.no_cr.0
+skip_line (b ∷ c ∷ bs) rest h full = keep_first b c (ended bs ++ rest) h.no_cr.0
+
+skip_pair : (b c : ℕ) (bs : List ℕ) → (eqb b 13 && eqb c 10) ≡ true → (n : ℕ) × (bs ≡ blank_lines n ++ skip bs) → (n : ℕ) × (b ∷ c ∷ bs ≡ blank_lines n ++ skip bs)
+skip_pair b c bs e h =
+    let both = and_parts (eqb b 13) (eqb c 10) e in
+    (suc h.0, ap (λ n. n ∷ c ∷ bs) (eqb-true b 13 both.0) ∙ ap (λ n. 13 ∷ n ∷ bs) (eqb-true c 10 both.1) ∙ ap (λ (x : List ℕ). 13 ∷ 10 ∷ x) h.1)
+
+skip_found : (bs : List ℕ) → (n : ℕ) × (bs ≡ blank_lines n ++ skip bs)
+skip_found [] = (0, refl)
+skip_found (b ∷ []) = (0, refl)
+skip_found (b ∷ c ∷ bs) =
+    cond_both (eqb b 13 && eqb c 10) (skip bs) (b ∷ c ∷ bs) (λ (r : List ℕ). (n : ℕ) × (b ∷ c ∷ bs ≡ blank_lines n ++ r))
+    (λ e. skip_pair b c bs e (skip_found bs))
+    (λ e. (0, refl))
+
+-- ---- what is spelled so is read
+
+body_again : (m : MessageText) (rest : List ℕ) (said : BodyLength) → IsBody said rest m.body → body_at m.start m.headers rest said ≡ Ok m
+unfolding body_at
+body_again m rest Unsaid h = ap (λ (x : List ℕ). done (record { start = m.start; headers = m.headers; body = x })) h
+body_again m rest (Bytes n) h =
+    let long : n ≤ length rest = omega (arith, h.2, ap length h.1, length-append m.body h.0) in
+    let same : take n rest ≡ m.body = ap (take n) h.1 ∙ take_at m.body h.0 n h.2 in
+    cond-true _ _ _ (le-leb n (length rest) long) ∙ ap (λ (x : List ℕ). done (record { start = m.start; headers = m.headers; body = x })) same
+body_again m rest Wrong h = absurd h
+
+pub headers_read : (lines : List (List ℕ)) (hs : List HeaderText) (rest : List ℕ) → AllByRecursion IsFull lines → AreHeaders lines hs → headers_at (flat_map ended lines ++ (ended [] ++ rest)) ≡ Some (hs, pieces 10 rest)
+unfolding headers_at tail_at
+headers_read lines hs rest full are =
+    ap (λ (x : Option Lines). closed (tail_of_lines x)) (lines_again lines rest full) ∙ ap (λ (x : Option Group). closed (tail_of_group x (pieces 10 rest))) (headers_again lines hs are)
+
+checked_again : (m : MessageText) (rest : List ℕ) → missing m.headers ≡ None → cseq_fits m.start m.headers ≡ true → IsBody (said_length m.headers) rest m.body → checked m.start m.headers rest ≡ Ok m
+unfolding checked
+checked_again m rest needed cseq body =
+    ap (λ (x : Option Needed). if_present x (cond (cseq_fits m.start m.headers) (body_at m.start m.headers rest (said_length m.headers)) (Err BadCSeq))) needed ∙ cond-true _ _ _ cseq ∙ body_again m rest (said_length m.headers) body
+
+no_start : (s : StartText) (line : List ℕ) → start_of line ≡ Ok s → (line ≢ [])
+unfolding start_of
+no_start s line e none = let wrong : Err BadStart ≡ done s = sym (ap start_of none) ∙ e in absurd cc
+
+pub text_read : (text : List ℕ) (m : MessageText) → IsText text m → read_at text ≡ Ok m
+unfolding read_at
+text_read text m t =
+    let tail = flat_map ended t.lines ++ (ended [] ++ t.rest) in
+    let start = start_again t.line m.start t.start in
+    let front : skip text ≡ ended t.line ++ tail = ap skip t.whole ∙ skip_blank t.blank (ended t.line ++ tail) ∙ skip_line t.line tail t.is_line (no_start m.start t.line start) in
+    ap (λ (x : List ℕ). after_line (line_at x)) front
+    ∙ ap after_line (line_at-again t.line tail t.is_line)
+    ∙ ap (λ (x : Result StartText Fault). after_start x tail) start
+    ∙ ap (after_headers m.start) (headers_read t.lines m.headers t.rest t.are_full t.headers)
+    ∙ ap (checked m.start m.headers) (join_pieces t.rest)
+    ∙ checked_again m t.rest t.needed t.cseq t.body
+
+-- ---- and what is read is spelled so
+
+pub record HeadersAre (text : List ℕ) (x : Headers) : Type 0 where
+  pub lines : List (List ℕ)
+  pub rest : List ℕ
+  pub whole : text ≡ flat_map ended lines ++ (ended [] ++ rest)
+  pub are_full : AllByRecursion IsFull lines
+  pub headers : AreHeaders lines x.0
+  pub behind : pieces 10 rest ≡ x.1
+
+-- no part continues what isn't there
+own_headers : (lines more others : List (List ℕ)) (hs : List HeaderText) → lines ≡ more ++ others → [] ≡ map trim more → AreHeaders others hs → AreHeaders lines hs
+own_headers lines [] others hs e none are = subst (λ (x : List (List ℕ)). AreHeaders x hs) (sym e) are
+own_headers lines (l ∷ more) others hs e none are = absurd cc
+
+length_front : (n : ℕ) (bs : List ℕ) → n ≤ length bs → length (take n bs) ≡ n
+length_front n bs h = length-take n bs ∙ omega arith
+
+group_are : (text : List ℕ) (lines : Lines) (o : Option Group) (x : Headers) → Split text lines → grouped lines.0 ≡ o → closed (tail_of_group o lines.1) ≡ Some x → HeadersAre text x
+group_are text lines None x s at e = absurd cc
+group_are text lines (Some (part ∷ parts, hs)) x s at e = absurd cc
+group_are text lines (Some ([], hs)) x s at e =
+    let g = grouped_found lines.0 ([], hs) at in
+    subst (HeadersAre text) (some_is (hs, lines.1) x e) (record {
+      lines = lines.0;
+      rest = s.rest;
+      whole = s.whole;
+      are_full = s.are_full;
+      headers = own_headers lines.0 g.more g.others hs g.whole g.parts g.headers;
+      behind = s.behind;
+    })
+
+lines_are : (text : List ℕ) (o : Option Lines) (x : Headers) → lines_at (pieces 10 text) ≡ o → closed (tail_of_lines o) ≡ Some x → HeadersAre text x
+lines_are text None x at e = absurd cc
+lines_are text (Some lines) x at e = group_are text lines (grouped lines.0) x (lines_take text lines at) refl e
+
+pub headers_found : (text : List ℕ) (x : Headers) → headers_at text ≡ Some x → HeadersAre text x
+unfolding headers_at tail_at
+headers_found text x e = lines_are text (lines_at (pieces 10 text)) x refl e
+
+pub record Checked (start : StartText) (hs : List HeaderText) (rest : List ℕ) (m : MessageText) : Type 0 where
+  pub start_is : m.start ≡ start
+  pub headers_are : m.headers ≡ hs
+  pub needed : missing hs ≡ None
+  pub cseq : cseq_fits start hs ≡ true
+  pub body : IsBody (said_length hs) rest m.body
+
+bad : (f : Fault) (m : MessageText) (P : Type 0) → Err f ≡ done m → P
+bad f m P e = absurd cc
+
+body_found : (start : StartText) (hs : List HeaderText) (rest : List ℕ) (said : BodyLength) (m : MessageText) → body_at start hs rest said ≡ Ok m → (m.start ≡ start) × ((m.headers ≡ hs) × IsBody said rest m.body)
+unfolding body_at
+body_found start hs rest Unsaid m e =
+    let same = ok_is (record { start = start; headers = hs; body = rest }) m e in
+    (ap (λ (x : MessageText). x.start) (sym same), (ap (λ (x : MessageText). x.headers) (sym same), ap (λ (x : MessageText). x.body) same))
+body_found start hs rest Wrong m e = bad BadLength m _ e
+body_found start hs rest (Bytes n) m e =
+    elim (cases_Bool (leb n (length rest))) [
+      | inl fits ↦
+          let same = ok_is (record { start = start; headers = hs; body = take n rest }) m (sym (cond-true _ _ _ fits) ∙ e) in
+          let text : m.body ≡ take n rest = ap (λ (x : MessageText). x.body) (sym same) in
+          let long : n ≤ length rest = leb-true n (length rest) fits in
+          (ap (λ (x : MessageText). x.start) (sym same), (ap (λ (x : MessageText). x.headers) (sym same), (drop n rest, sym (take-append-drop n rest) ∙ ap (λ (x : List ℕ). x ++ drop n rest) (sym text), ap length text ∙ length_front n rest long)))
+      | inr short ↦ bad (Short (head_of start hs)) m _ (sym (cond-false _ _ _ short) ∙ e)
+    ]
+
+present_found : (o : Option Needed) (r : Read) (m : MessageText) → if_present o r ≡ Ok m → (o ≡ None) × (r ≡ Ok m)
+present_found None r m e = (refl, e)
+present_found (Some name) r m e = bad (Lacks name) m _ e
+
+pub checked_found : (start : StartText) (hs : List HeaderText) (rest : List ℕ) (m : MessageText) → checked start hs rest ≡ Ok m → Checked start hs rest m
+unfolding checked
+checked_found start hs rest m e =
+    let p = present_found (missing hs) (cond (cseq_fits start hs) (body_at start hs rest (said_length hs)) (Err BadCSeq)) m e in
+    elim (cases_Bool (cseq_fits start hs)) [
+      | inl fits ↦
+          let b = body_found start hs rest (said_length hs) m (sym (cond-true _ _ _ fits) ∙ p.1) in
+          record { start_is = b.0; headers_are = b.1.0; needed = p.0; cseq = fits; body = b.1.1 }
+      | inr none ↦ bad BadCSeq m _ (sym (cond-false _ _ _ none) ∙ p.1)
+    ]
+
+abbrev with_body : StartText → List HeaderText → List ℕ → MessageText
+with_body start hs body = record { start = start; headers = hs; body = body }
+
+all_found : (text line rest : List ℕ) (start : StartText) (x : Headers) (m : MessageText) → line_at (skip text) ≡ Some (line, rest) → start_of line ≡ Ok start → HeadersAre rest x → Checked start x.0 (join_with_byte 10 x.1) m → IsText text m
+all_found text line rest start x m at read are ok =
+    let t = line_at-takes (skip text) line rest at in
+    let blank = skip_found text in
+    let behind : join_with_byte 10 x.1 ≡ are.rest = ap (join_with_byte 10) (sym are.behind) ∙ join_pieces are.rest in
+    let whole : IsText text (with_body start x.0 m.body) = record {
+      blank = blank.0;
+      line = line;
+      lines = are.lines;
+      rest = are.rest;
+      whole = blank.1 ∙ ap (λ (y : List ℕ). blank_lines blank.0 ++ y) (t.whole ∙ ap (λ (y : List ℕ). ended line ++ y) are.whole);
+      is_line = t.is_line;
+      are_full = are.are_full;
+      start = start_found line start read;
+      headers = are.headers;
+      needed = ok.needed;
+      cseq = ok.cseq;
+      body = subst (λ (y : List ℕ). IsBody (said_length x.0) y m.body) behind ok.body;
+    } in
+    subst (λ (s : StartText). IsText text (with_body s m.headers m.body)) (sym ok.start_is) (subst (λ (hs : List HeaderText). IsText text (with_body start hs m.body)) (sym ok.headers_are) whole)
+
+after_headers_found : (text line rest : List ℕ) (start : StartText) (o : Option Headers) (m : MessageText) → line_at (skip text) ≡ Some (line, rest) → start_of line ≡ Ok start → headers_at rest ≡ o → after_headers start o ≡ Ok m → IsText text m
+after_headers_found text line rest start None m at read hs e = bad BadHeader m _ e
+after_headers_found text line rest start (Some x) m at read hs e = all_found text line rest start x m at read (headers_found rest x hs) (checked_found start x.0 (join_with_byte 10 x.1) m e)
+
+after_start_found : (text line rest : List ℕ) (r : Result StartText Fault) (m : MessageText) → line_at (skip text) ≡ Some (line, rest) → start_of line ≡ r → after_start r rest ≡ Ok m → IsText text m
+after_start_found text line rest (Err f) m at read e = bad f m _ e
+after_start_found text line rest (Ok start) m at read e = after_headers_found text line rest start (headers_at rest) m at read refl e
+
+after_line_found : (text : List ℕ) (o : Option (List ℕ × List ℕ)) (m : MessageText) → line_at (skip text) ≡ o → after_line o ≡ Ok m → IsText text m
+after_line_found text None m at e = bad BadStart m _ e
+after_line_found text (Some (line, rest)) m at e = after_start_found text line rest (start_of line) m at refl e
+
+pub text_found : (text : List ℕ) (m : MessageText) → read_at text ≡ Ok m → IsText text m
+unfolding read_at
+text_found text m e = after_line_found text (line_at (skip text)) m refl e

@@ -1,0 +1,169 @@
+-- A message whose Content-Length is set to zero.
+use Rattle.std.proofs.Common.{◌≡◌, ℕ, Bool, true, false, cond, eqb, List, [], ◌∷◌, map, length, Option, Some, None, refl, sym, ap, subst, ◌∙◌, ◌≤◌, take, inl, inr, arith, length-take}
+use Rattle.std.specs.Prelude.{◌&&◌, codes, is_none, nat_le}
+use Rattle.std.specs.List.{list_all}
+use Rattle.std.specs.Str.{bytes_eq, str_to_ascii_lowercase}
+use Rattle.std.proofs.lemmas.Bool.{and_parts, cases_Bool, cond_both, cond-true, cond-false, eq-eqb, false_from_ne_true, false≢true}
+use Rattle.std.proofs.lemmas.Slice.Eq.{bytes_eq-Decides}
+use Rattle.sip_lex.specs.Bytes.{is_token}
+use Rattle.sip_text.specs.declared.fields.BodyLength.{BodyLength}
+use Rattle.sip_text.specs.declared.fields.BodyLength.TheVariants.{Unsaid, Bytes, Wrong}
+use Rattle.sip_text.specs.declared.needed.Needed.{Needed}
+use Rattle.sip_text.specs.declared.needed.Needed.TheVariants.{Via, From, To, CallId, CSeq}
+use Rattle.sip_text.specs.Fields.{cseq_fits, cseq_in, fits_start, is_missing, length_name, missing, needed_name, said_by, said_length, says}
+use Rattle.sip_text.specs.Message.{IsHead, IsMessage, fits_body, head_of, is_header, is_value, zeroed}
+use Rattle.sip_text.specs.Name.{first_of, full_name, same_name, values_of}
+use Rattle.sip_text.specs.Text.{HeaderText, StartText}
+use Rattle.sip_text.proofs.Good.{and_both}
+
+abbrev zero_header : HeaderText → HeaderText
+zero_header h = record { name = h.name; value = 48 ∷ [] }
+
+zeroed-name : (h : HeaderText) → (zeroed h).name ≡ h.name
+zeroed-name h = cond_both (same_name length_name h.name) (zero_header h) h (λ (x : HeaderText). x.name ≡ h.name) (λ e. refl) (λ e. refl)
+
+zeroed_good : (h : HeaderText) → is_header h ≡ true → is_header (zeroed h) ≡ true
+zeroed_good h good =
+    cond_both (same_name length_name h.name) (zero_header h) h (λ (x : HeaderText). is_header x ≡ true)
+    (λ e. and_both (is_token h.name) (is_value (48 ∷ [])) (and_parts (is_token h.name) (is_value h.value) good).0 refl)
+    (λ e. good)
+
+all_good : (hs : List HeaderText) → list_all is_header hs ≡ true → list_all is_header (map zeroed hs) ≡ true
+all_good [] h = refl
+all_good (x ∷ hs) h = let both = and_parts (is_header x) (list_all is_header hs) h in and_both (is_header (zeroed x)) (list_all is_header (map zeroed hs)) (zeroed_good x both.0) (all_good hs both.1)
+
+-- ---- the values of other names stay
+
+abbrev step : List ℕ → HeaderText → List (List ℕ) → List (List ℕ)
+step name h later = cond (same_name name h.name) (h.value ∷ later) later
+
+values_other : (name : List ℕ) (hs : List HeaderText) → ((n : List ℕ) → same_name name n ≡ true → same_name length_name n ≡ false) → values_of name (map zeroed hs) ≡ values_of name hs
+unfolding values_of
+values_other name [] apart = refl
+values_other name (h ∷ hs) apart =
+    let later = values_other name hs apart in
+    elim (cases_Bool (same_name name h.name)) [
+      | inl same ↦
+          let kept : zeroed h ≡ h = cond-false _ _ _ (apart h.name same) in
+          ap (λ (x : HeaderText). step name x (values_of name (map zeroed hs))) kept ∙ ap (step name h) later
+      | inr other ↦
+          ap (λ (n : List ℕ). cond (same_name name n) ((zeroed h).value ∷ values_of name (map zeroed hs)) (values_of name (map zeroed hs))) (zeroed-name h) ∙ cond-false _ _ _ other ∙ later ∙ sym (cond-false _ _ _ other)
+    ]
+
+-- and each length is zero
+abbrev zeros : List (List ℕ) → List (List ℕ)
+zeros vs = map (λ (v : List ℕ). 48 ∷ []) vs
+
+values_zero : (hs : List HeaderText) → values_of length_name (map zeroed hs) ≡ zeros (values_of length_name hs)
+unfolding values_of
+values_zero [] = refl
+values_zero (h ∷ hs) =
+    let later = values_zero hs in
+    elim (cases_Bool (same_name length_name h.name)) [
+      | inl same ↦
+          let kept : zeroed h ≡ zero_header h = cond-true _ _ _ same in
+          ap (λ (x : HeaderText). step length_name x (values_of length_name (map zeroed hs))) kept ∙ cond-true _ _ _ same ∙ ap (λ (vs : List (List ℕ)). (48 ∷ []) ∷ vs) later ∙ ap zeros (sym (cond-true _ _ _ same))
+      | inr other ↦
+          let kept : zeroed h ≡ h = cond-false _ _ _ other in
+          ap (λ (x : HeaderText). step length_name x (values_of length_name (map zeroed hs))) kept ∙ cond-false _ _ _ other ∙ later ∙ ap zeros (sym (cond-false _ _ _ other))
+    ]
+
+say_zero : (vs : List (List ℕ)) → list_all (says 0) (zeros vs) ≡ true
+say_zero [] = refl
+say_zero (v ∷ vs) = say_zero vs
+
+said_zero : (vs : List (List ℕ)) → fits_body (said_by (zeros vs)) 0 ≡ true
+said_zero [] = refl
+said_zero (v ∷ vs) = ap (λ (b : BodyLength). fits_body b 0) (cond-true (list_all (says 0) (zeros vs)) (Bytes 0) Wrong (say_zero vs))
+
+pub empty_fits : (hs : List HeaderText) → fits_body (said_length (map zeroed hs)) 0 ≡ true
+empty_fits hs = ap (λ (vs : List (List ℕ)). fits_body (said_by vs) 0) (values_zero hs) ∙ said_zero (values_of length_name hs)
+
+-- ---- no needed field is a length
+
+abbrev lowered_name : List ℕ → List ℕ
+lowered_name name = str_to_ascii_lowercase (full_name name)
+
+differ : (which : Needed) → bytes_eq (lowered_name (needed_name which)) (lowered_name length_name) ≡ false
+unfolding full_name
+differ Via = refl
+differ From = refl
+differ To = refl
+differ CallId = refl
+differ CSeq = refl
+
+apart_from : (which : Needed) (n : List ℕ) → same_name (needed_name which) n ≡ true → same_name length_name n ≡ false
+apart_from which n same =
+    false_from_ne_true (same_name length_name n) (λ also.
+    let a = (bytes_eq-Decides (lowered_name (needed_name which)) (lowered_name n)).0 same in
+    let b = (bytes_eq-Decides (lowered_name length_name) (lowered_name n)).0 also in
+    false≢true (sym (differ which) ∙ (bytes_eq-Decides (lowered_name (needed_name which)) (lowered_name length_name)).1 (a ∙ sym b)))
+
+needed_values : (which : Needed) (hs : List HeaderText) → values_of (needed_name which) (map zeroed hs) ≡ values_of (needed_name which) hs
+needed_values which hs = values_other (needed_name which) hs (apart_from which)
+
+abbrev missing_by : List (List ℕ) → List (List ℕ) → List (List ℕ) → List (List ℕ) → List (List ℕ) → Option Needed
+missing_by via from to call cseq =
+    cond (is_none (first_of via)) (Some Via)
+    (cond (is_none (first_of from)) (Some From)
+    (cond (is_none (first_of to)) (Some To)
+    (cond (is_none (first_of call)) (Some CallId)
+    (cond (is_none (first_of cseq)) (Some CSeq) None))))
+
+same_missing : (hs : List HeaderText) → missing (map zeroed hs) ≡ missing hs
+same_missing hs =
+    let rest = map zeroed hs in
+    ap (λ (v : List (List ℕ)). missing_by v (values_of (needed_name From) rest) (values_of (needed_name To) rest) (values_of (needed_name CallId) rest) (values_of (needed_name CSeq) rest)) (needed_values Via hs)
+    ∙ ap (λ (v : List (List ℕ)). missing_by (values_of (needed_name Via) hs) v (values_of (needed_name To) rest) (values_of (needed_name CallId) rest) (values_of (needed_name CSeq) rest)) (needed_values From hs)
+    ∙ ap (λ (v : List (List ℕ)). missing_by (values_of (needed_name Via) hs) (values_of (needed_name From) hs) v (values_of (needed_name CallId) rest) (values_of (needed_name CSeq) rest)) (needed_values To hs)
+    ∙ ap (λ (v : List (List ℕ)). missing_by (values_of (needed_name Via) hs) (values_of (needed_name From) hs) (values_of (needed_name To) hs) v (values_of (needed_name CSeq) rest)) (needed_values CallId hs)
+    ∙ ap (λ (v : List (List ℕ)). missing_by (values_of (needed_name Via) hs) (values_of (needed_name From) hs) (values_of (needed_name To) hs) (values_of (needed_name CallId) hs) v) (needed_values CSeq hs)
+
+same_cseq : (start : StartText) (hs : List HeaderText) → cseq_fits start (map zeroed hs) ≡ cseq_fits start hs
+same_cseq start hs = ap (λ (v : List (List ℕ)). fits_start start (cseq_in (first_of v))) (needed_values CSeq hs)
+
+pub zeroed_head : (start : StartText) (hs : List HeaderText) → IsHead start hs → IsHead start (map zeroed hs)
+zeroed_head start hs h = record {
+  start = h.start;
+  headers = all_good hs h.headers;
+  needed = same_missing hs ∙ h.needed;
+  cseq = same_cseq start hs ∙ h.cseq;
+}
+
+-- ---- what a message has
+
+front_missing : (b : Bool) (x : Needed) (r : Option Needed) → cond b (Some x) r ≡ None → (b ≡ false) × (r ≡ None)
+front_missing true x r e = absurd cc
+front_missing false x r e = (refl, e)
+
+abbrev behind_call_id : List HeaderText → Option Needed
+behind_call_id hs = cond (is_missing CSeq hs) (Some CSeq) None
+
+abbrev behind_to : List HeaderText → Option Needed
+behind_to hs = cond (is_missing CallId hs) (Some CallId) (behind_call_id hs)
+
+abbrev behind_from : List HeaderText → Option Needed
+behind_from hs = cond (is_missing To hs) (Some To) (behind_to hs)
+
+abbrev behind_via : List HeaderText → Option Needed
+behind_via hs = cond (is_missing From hs) (Some From) (behind_from hs)
+
+pub call_id_there : (hs : List HeaderText) → missing hs ≡ None → is_missing CallId hs ≡ false
+call_id_there hs e =
+    let via = front_missing (is_missing Via hs) Via (behind_via hs) e in
+    let from = front_missing (is_missing From hs) From (behind_from hs) via.1 in
+    let to = front_missing (is_missing To hs) To (behind_to hs) from.1 in
+    (front_missing (is_missing CallId hs) CallId (behind_call_id hs) to.1).0
+
+pub without_body_good : (start : StartText) (hs zs : List HeaderText) (body : List ℕ) → zs ≡ map zeroed hs → body ≡ [] → IsHead start hs → IsMessage (record { start = start; headers = zs; body = body })
+without_body_good start hs zs body z b h =
+    let good : IsMessage (head_of start hs) = record { head = zeroed_head start hs h; body = empty_fits hs } in
+    subst (λ (x : List HeaderText). IsMessage (record { start = start; headers = x; body = body })) (sym z) (subst (λ (x : List ℕ). IsMessage (record { start = start; headers = map zeroed hs; body = x })) (sym b) good)
+
+pub unsaid_good : (start : StartText) (hs : List HeaderText) (body : List ℕ) → Unsaid ≡ said_length hs → IsHead start hs → IsMessage (record { start = start; headers = hs; body = body })
+unsaid_good start hs body e h = record { head = h; body = ap (λ (b : BodyLength). fits_body b (length body)) (sym e) }
+
+pub said_good : (start : StartText) (hs : List HeaderText) (body rest : List ℕ) (n : ℕ) → said_length hs ≡ Bytes n → n ≤ length rest → body ≡ take n rest → IsHead start hs → IsMessage (record { start = start; headers = hs; body = body })
+said_good start hs body rest n e le b h =
+    let size : n ≡ length body = sym (ap length b ∙ length-take n rest ∙ omega arith) in
+    record { head = h; body = ap (λ (x : BodyLength). fits_body x (length body)) e ∙ eq-eqb n (length body) size }

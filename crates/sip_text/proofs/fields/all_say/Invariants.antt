@@ -1,0 +1,10 @@
+use Rattle.std.proofs.Common.{◌≡◌}
+use Rattle.std.specs.List.{list_all}
+use Rattle.sip_text.specs.Fields.{says}
+use Rattle.sip_text.proofs.fields.all_say.Given as goal
+
+abbrev pub invariant-loop-value : goal.invariant-loop-value
+invariant-loop-value g l =
+    (goal.iterator-loop-value g).can_next l.values ×
+    (goal.iterator-loop-value g).is_finite l.values ×
+    (list_all (says l.n) l.values ≡ list_all (says l.n) l.initial.values)

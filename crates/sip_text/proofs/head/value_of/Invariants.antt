@@ -1,0 +1,14 @@
+use Rattle.std.proofs.Common.{◌≡◌, ◌≤◌, length}
+use Rattle.sip_lex.specs.Bytes.{trim}
+use Rattle.sip_text.specs.Heads.{continued}
+use Rattle.sip_text.specs.Reading.{tail_at}
+use Rattle.sip_text.proofs.head.value_of.Given as goal
+
+abbrev pub invariant-loop-rest : goal.invariant-loop-rest
+invariant-loop-rest g l = record {
+  reads : continued l.value.items (tail_at l.rest) ≡ continued (trim l.raw) (tail_at l.text);
+  shorter : length l.rest ≤ length l.text;
+}
+
+abbrev pub decreases-loop-rest : goal.decreases-loop-rest
+decreases-loop-rest g l = length l.rest

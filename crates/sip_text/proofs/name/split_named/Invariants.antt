@@ -1,0 +1,10 @@
+use Rattle.std.proofs.Common.{◌≡◌, length}
+use Rattle.sip_text.specs.Name.{values_of}
+use Rattle.sip_text.specs.Seen.{views}
+use Rattle.sip_text.proofs.name.split_named.Given as goal
+
+abbrev pub invariant-loop-header : goal.invariant-loop-header
+invariant-loop-header g l = values_of l.name (views l.rest) ≡ values_of l.name (views l.headers)
+
+abbrev pub decreases-loop-header : goal.decreases-loop-header
+decreases-loop-header g l = length l.rest

@@ -1,0 +1,26 @@
+use Rattle.std.proofs.Common.{◌≡◌, ◌∙◌, true, None, Result, ap, subst, sym}
+use Rattle.sip_lex.specs.Line.{line_at}
+use Rattle.sip_text.specs.Fault.{Gives}
+use Rattle.sip_text.specs.Fields.{cseq_fits, missing}
+use Rattle.sip_text.specs.Reading.{Fault}
+use Rattle.sip_text.specs.Seen.{view_start, views}
+use Rattle.sip_text.specs.Text.{MessageText}
+use Rattle.sip_text.proofs.Good.{headers_good}
+use Rattle.sip_text.proofs.Heads.{all_read, some_headers}
+use Rattle.sip_text.proofs.StartLines.{start_found, start_line_good}
+use Rattle.sip_text.proofs.Spelled.{line_is}
+use Rattle.sip_text.proofs.read.read_all.Goals as goal
+
+pub body_of-requires : goal.body_of-requires
+body_of-requires g c = record {
+  start = start_line_good c.in-Some.line.now _ (start_found c.in-Some.line.now _ c.in_ok-start.ensures) (line_is c.in-Some.line.now c.in-Some.ensures.found.0);
+  headers = headers_good c.in-Some.rest.now _ (some_headers _ _ c.in_ok-headers.ensures);
+  needed = cc;
+  cseq = cc;
+}
+
+pub returns : goal.returns
+returns g c =
+    let needed : missing (views c.in_ok-headers.headers.items) ≡ None = cc in
+    let fits : cseq_fits (view_start c.in_ok-start.start) (views c.in_ok-headers.headers.items) ≡ true = cc in
+    subst (λ (r : Result MessageText Fault). Gives (λ m. m) c.body_of.result r) (sym (all_read c.args.text.now c.in-Some.line.now c.in-Some.rest.now c.in_ok-headers.rest.now (view_start c.in_ok-start.start) (views c.in_ok-headers.headers.items) (c.in-Some.ensures.value ∙ ap line_at c.skip.ensures) c.in_ok-start.ensures c.in_ok-headers.ensures needed fits)) c.body_of.ensures

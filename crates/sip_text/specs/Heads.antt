@@ -1,0 +1,38 @@
+-- Where the code that reads header lines stands in what reading gives.
+use Rattle.std.specs.Prelude.{ℕ, List, [], ◌∷◌, ◌++◌, Option, Some, None, Result, Ok, Err}
+use Rattle.sip_text.specs.Reading.{Fault, BadHeader, Headers, Tail, header_of, joined}
+use Rattle.sip_text.specs.Text.{HeaderText}
+
+abbrev pub or_bad : {X : Type 0} → Option X → Result X Fault
+or_bad None = Err BadHeader
+or_bad (Some x) = Ok x
+
+-- a value, and the headers behind it
+abbrev pub Valued : Type 0
+Valued = List ℕ × List HeaderText × List (List ℕ)
+
+-- a value that the first lines continue
+abbrev pub continued : List ℕ → Option Tail → Option Valued
+continued value None = None
+continued value (Some t) = Some (joined value t.parts, t.headers, t.rest)
+
+abbrev pub valued : List ℕ → Option Headers → Option Valued
+valued value None = None
+valued value (Some x) = Some (value, x.0, x.1)
+
+abbrev pub put : HeaderText → Option Headers → Option Headers
+put h None = None
+put h (Some x) = Some (h ∷ x.0, x.1)
+
+abbrev pub put_if_any : Option HeaderText → Tail → Option Headers
+put_if_any None t = None
+put_if_any (Some h) t = Some (h ∷ t.headers, t.rest)
+
+-- the header of a line, and what the lines behind it are
+abbrev pub front_header : List ℕ → Option Tail → Option Headers
+front_header line None = None
+front_header line (Some t) = put_if_any (header_of line t.parts) t
+
+abbrev pub prepended : List HeaderText → Option Headers → Option Headers
+prepended hs None = None
+prepended hs (Some x) = Some (hs ++ x.0, x.1)

@@ -1,0 +1,10 @@
+pub mod Text
+pub mod Name
+pub mod Reading
+pub mod Heads
+pub mod Fields
+pub mod Tag
+pub mod Message
+pub mod Seen
+pub mod Fault
+pub mod Grammar

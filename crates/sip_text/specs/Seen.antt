@@ -1,0 +1,26 @@
+-- What lies in memory, as texts.
+use Rattle.std.specs.Prelude.{ℕ, List, Option, Some, None, map}
+use Rattle.std.specs.Borrow.{Bor}
+use Rattle.sip_text.specs.declared.parts.Header.{Header}
+use Rattle.sip_text.specs.declared.parts.Start.{Start}
+use Rattle.sip_text.specs.declared.parts.Start.TheVariants as starts
+use Rattle.sip_text.specs.declared.parts.CSeqLine.{CSeqLine}
+use Rattle.sip_text.specs.Text.{HeaderText, StartText, Request, Response}
+use Rattle.sip_text.specs.Fields.{CSeqText}
+
+abbrev pub view : {A : Type 0} → Header A → HeaderText
+view h = record { name = h.name.items; value = h.value.items }
+
+abbrev pub views : {A : Type 0} → List (Header A) → List HeaderText
+views hs = map view hs
+
+abbrev pub view_start : {A : Type 0} → Start A → StartText
+view_start (starts.Request method uri) = Request method.items uri.items
+view_start (starts.Response status reason) = Response status reason.items
+
+abbrev pub view_cseq : CSeqLine → CSeqText
+view_cseq c = record { number = c.number; method = c.method.now }
+
+abbrev pub seen_cseq : Option CSeqLine → Option CSeqText
+seen_cseq None = None
+seen_cseq (Some c) = Some (view_cseq c)

@@ -1,0 +1,35 @@
+-- The tag of a From or To value (RFC 3261 sections 19.3 and 20.20).
+use Rattle.std.specs.Prelude.{ℕ, Bool, List, [], ◌∷◌, Option, Some, None, ◌==◌, length, if◌then◌else◌, codes}
+use Rattle.std.specs.Str.{bytes_eq, str_to_ascii_lowercase}
+use Rattle.sip_lex.specs.declared.sheltered.Shelter.TheVariants.{QuotesAndAngles}
+use Rattle.sip_lex.specs.declared.sheltered.Place.TheVariants.{Plain}
+use Rattle.sip_lex.specs.Bytes.{trim}
+use Rattle.sip_lex.specs.Cut.{cut, is}
+use Rattle.sip_lex.specs.Outside.{pieces_outside_behind}
+use Rattle.sip_lex.specs.Sheltered.{cut_outside}
+
+abbrev pub is_tag_name : List ℕ → Bool
+is_tag_name name = bytes_eq (str_to_ascii_lowercase (trim name)) (codes "tag")
+
+abbrev pub unless_empty : List ℕ → Option (List ℕ)
+unless_empty [] = None
+unless_empty (b ∷ bs) = Some (b ∷ bs)
+
+-- an empty or missing value is no tag
+abbrev pub value_of_cut : Option (List ℕ) → Option (List ℕ)
+value_of_cut None = None
+value_of_cut (Some value) = unless_empty (trim value)
+
+-- the first parameter of that name decides
+abbrev pub tag_of_params : List (List ℕ) → Option (List ℕ)
+tag_of_params [] = None
+tag_of_params (param ∷ params) = if is_tag_name (cut (is 61) param).0 then value_of_cut (cut (is 61) param).1 else tag_of_params params
+
+-- the parameters stand behind the first `;` outside quotes and angle brackets
+abbrev pub tag_of : List ℕ → Option (List ℕ)
+tag_of value = tag_of_params (pieces_outside_behind QuotesAndAngles 59 (cut_outside QuotesAndAngles 59 Plain value).1)
+
+-- the tag of a value, if it is there
+abbrev pub tag_in : Option (List ℕ) → Option (List ℕ)
+tag_in None = None
+tag_in (Some value) = tag_of value

@@ -1,0 +1,21 @@
+//! Laws of reading and writing.
+
+ghost use Rattle.std.specs.Prelude.{◌≡◌, List, Ok, ℕ};
+ghost use Rattle.sip_text.specs.Grammar.{IsText};
+ghost use Rattle.sip_text.specs.Message.{IsMessage, read_at};
+ghost use Rattle.sip_text.specs.Text.{MessageText, spelling};
+
+/// What a message is written as is a text of that message.
+pub fn spelling_is_text()
+    ensures { (m : MessageText) → IsMessage m → IsText (spelling m) m }
+{}
+
+/// What a text spells is a message, so it may be made of parts.
+pub fn text_is_message()
+    ensures { (text : List ℕ) (m : MessageText) → IsText text m → IsMessage m }
+{}
+
+/// A message that is written and read again is the same, whether it was read or made of parts.
+pub fn round_trip()
+    ensures { (m : MessageText) → IsMessage m → read_at (spelling m) ≡ Ok m }
+{}

@@ -1,0 +1,156 @@
+//! Messages.
+
+use crate::fault::ReadFault;
+use crate::fields::{message_cseq, value_of};
+use crate::name::Values;
+use crate::needed::Needed;
+use crate::parts::{CSeqLine, Header, Start};
+use crate::read::read_all;
+use crate::tag::tag_of;
+use crate::write::append_message;
+use std::alloc::{AllocError, Allocator};
+use std::marker::Model;
+
+/// A message that stands by RFC 3261 section 7: all that is read as one, and all whose parts could
+/// be.
+#[derive(Drop)]
+pub struct Message<A: Allocator> {
+    start: Start<A>,
+    headers: Vec<Header<A>, A>,
+    body: Vec<u8, A>,
+}
+
+impl<A: Allocator> Model for Message<A> {
+    ghost use Rattle.sip_text.specs.Text.{MessageText};
+    ghost use Rattle.sip_text.specs.Message.{IsMessage};
+    ghost use Rattle.sip_text.specs.Seen.{view_start, views};
+
+    ghost Value = { MessageText };
+
+    ghost view = { λ m. record { start = view_start m.start; headers = views m.headers.items; body = m.body.items } };
+
+    ghost invariant = { λ m. IsMessage (record { start = view_start m.start; headers = views m.headers.items; body = m.body.items }) };
+}
+
+impl<A: Allocator> Message<A> {
+    ghost use Rattle.std.specs.Prelude.{◌≡◌, ◌++◌, OnOk, OnErr, Some};
+    ghost use Rattle.std.specs.Option.{option_copied};
+    ghost use Rattle.sip_text.specs.declared.needed.Needed.TheVariants.{CallId, From, To};
+    ghost use Rattle.sip_text.specs.Fields.{message_cseq, value_of};
+    ghost use Rattle.sip_text.specs.Message.{IsMessage};
+    ghost use Rattle.sip_text.specs.Name.{values_of};
+    ghost use Rattle.sip_text.specs.Seen.{view_cseq, view_start, views};
+    ghost use Rattle.sip_text.specs.Tag.{tag_in};
+    ghost use Rattle.sip_text.specs.Text.{spelling};
+
+    /// The message of these parts, which have to be such as some text spells.
+    pub fn from_parts(start: Start<A>, headers: Vec<Header<A>, A>, body: Vec<u8, A>) -> Message<A>
+        requires { IsMessage (record { start = view_start start; headers = views headers.items; body = body.items }) }
+        ensures { result ≡ record { start = view_start start; headers = views headers.items; body = body.items } }
+    {
+        Message {
+            start,
+            headers,
+            body,
+        }
+    }
+
+    /// The start line.
+    pub fn start(&self) -> &Start<A>
+        ensures { view_start result.now ≡ self.now.start }
+    {
+        &self.start
+    }
+
+    /// The header lines, in order.
+    pub fn headers(&self) -> &[Header<A>]
+        ensures { views result.now ≡ self.now.headers }
+    {
+        self.headers.as_slice()
+    }
+
+    /// The values of the header lines of that name, in order, in any case and in long or compact
+    /// form. A value that holds several, as between commas, is one.
+    pub fn values<'a, 'n>(&'a self, name: &'n [u8]) -> Values<'a, 'n, A>
+        ensures { result ≡ values_of name.now self.now.headers }
+    {
+        Values::new(name, &self.headers)
+    }
+
+    /// What the first CSeq says (RFC 3261 section 20.16). In a request its method is the request's.
+    pub fn cseq(&self) -> CSeqLine<'_>
+        ensures { message_cseq self.now.headers ≡ Some (view_cseq result) }
+    {
+        match message_cseq(&self.headers) {
+            Some(cseq) => cseq,
+            None => unreachable!(),
+        }
+    }
+
+    /// The first Call-ID (RFC 3261 section 20.8).
+    pub fn call_id(&self) -> &[u8]
+        ensures { value_of CallId self.now.headers ≡ Some result.now }
+    {
+        match value_of(Needed::CallId, &self.headers) {
+            Some(value) => value,
+            None => unreachable!(),
+        }
+    }
+
+    /// The tag of the first From (RFC 3261 section 20.20), if it has one.
+    pub fn from_tag(&self) -> Option<&[u8]>
+        ensures { option_copied result ≡ tag_in (value_of From self.now.headers) }
+    {
+        tag_of(value_of(Needed::From, &self.headers)?)
+    }
+
+    /// The tag of the first To (RFC 3261 section 20.39), if it has one.
+    pub fn to_tag(&self) -> Option<&[u8]>
+        ensures { option_copied result ≡ tag_in (value_of To self.now.headers) }
+    {
+        tag_of(value_of(Needed::To, &self.headers)?)
+    }
+
+    /// The body.
+    pub fn body(&self) -> &[u8]
+        ensures { result.now ≡ self.now.body }
+    {
+        self.body.as_slice()
+    }
+
+    /// Appends the text that spells the message: reading it gives the message back.
+    ///
+    /// # Errors
+    ///
+    /// Only where the growth of `out` is refused; `out` is then unchanged.
+    pub fn write<B: Allocator>(&self, out: &mut Vec<u8, B>) -> Result<(), AllocError>
+        ensures ok { OnOk result (out.new.items ≡ out.old.items ++ spelling self.now) }
+        ensures err { OnErr result (out.new.items ≡ out.old.items) }
+    {
+        append_message(out, &self.start, &self.headers, &self.body)
+    }
+}
+
+impl<A: Allocator + Clone> Message<A> {
+    ghost use Rattle.std.specs.Prelude.{IfOk, Ok};
+    ghost use Rattle.sip_text.specs.Fault.{Gives};
+    ghost use Rattle.sip_text.specs.Grammar.{IsText};
+    ghost use Rattle.sip_text.specs.Message.{read_at};
+    ghost use Rattle.sip_text.specs.Text.{MessageText};
+
+    /// The message that a text spells (RFC 3261 sections 7 and 25.1). Empty lines before it are
+    /// skipped; what follows the body that Content-Length gives is dropped.
+    ///
+    /// # Errors
+    ///
+    /// The first that holds of: `StartLine`, `Version` or `Status` for the first line; `HeaderLine`;
+    /// `Missing`; `CSeq`; `Length`; `ShortBody`, which carries the message without its body; and
+    /// `NoMemory` wherever the allocator refuses.
+    pub fn read(alloc: A, text: &[u8]) -> Result<Message<A>, ReadFault<A>>
+        ensures found { IfOk result (λ m. IsText text.now m) }
+        ensures only { (m : MessageText) → IsText text.now m → Gives (λ m. m) result (Ok m) }
+        ensures exact { Gives (λ m. m) result (read_at text.now) }
+    {
+        read_all(&alloc, text)
+    }
+}

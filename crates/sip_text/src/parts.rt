@@ -1,0 +1,28 @@
+//! The parts of a message.
+
+use std::alloc::Allocator;
+
+/// A header line (RFC 3261 section 7.3): its name as received, and its value without the space round
+/// it, the lines that continue it joined by one space each.
+#[derive(Drop)]
+pub struct Header<A: Allocator> {
+    pub name: Vec<u8, A>,
+    pub value: Vec<u8, A>,
+}
+
+/// A start line (RFC 3261 sections 7.1 and 7.2).
+#[derive(Drop)]
+pub enum Start<A: Allocator> {
+    /// The method and the Request-URI of a request.
+    Request { method: Vec<u8, A>, uri: Vec<u8, A> },
+    /// The status of a response, 100 to 699, and its reason, which may be empty.
+    Response { status: u16, reason: Vec<u8, A> },
+}
+
+/// What a CSeq header says (RFC 3261 section 20.16).
+#[derive(Clone, Copy, Debug)]
+pub struct CSeqLine<'a> {
+    /// Below 2^31.
+    pub number: u32,
+    pub method: &'a [u8],
+}

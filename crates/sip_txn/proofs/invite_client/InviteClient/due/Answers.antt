@@ -1,0 +1,19 @@
+-- What is known of the timers in each state gives the laws of ticks and of the end.
+use Rattle.std.proofs.Common.{◌≡◌, subst}
+use Rattle.sip_txn.specs.declared.machine.Machine.{Machine}
+use Rattle.sip_txn.specs.declared.invite_client.InviteClientState.{InviteClientState}
+use Rattle.sip_txn.specs.declared.invite_client.InviteClientState.TheVariants.{Terminated}
+use Rattle.sip_txn.specs.Runs.{IsOver}
+use Rattle.sip_txn.specs.InviteClient.{invite_client, RunsOutByTicks}
+use Rattle.sip_txn.proofs.InviteClientTable.{runs_out, is_over}
+use Rattle.sip_txn.proofs.invite_client.InviteClient.due.Goals as goal
+
+pub returns-clause-runs_out : goal.returns-clause-runs_out
+returns-clause-runs_out c =
+    let Law : Machine InviteClientState → Type 0 = λ m. RunsOutByTicks m.state m in
+    subst Law c.self.view_is (runs_out _ _ _ c.self.invariant)
+
+pub returns-clause-over : goal.returns-clause-over
+returns-clause-over c =
+    let Law : Machine InviteClientState → Type 0 = λ m. m.state ≡ Terminated → IsOver invite_client m in
+    subst Law c.self.view_is (is_over _ _ c.self.invariant)

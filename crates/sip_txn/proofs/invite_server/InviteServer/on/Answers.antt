@@ -1,0 +1,12 @@
+-- The row that the table lists keeps which timers run.
+use Rattle.std.proofs.Common.{sym, subst}
+use Rattle.sip_txn.specs.declared.machine.Machine.{Machine}
+use Rattle.sip_txn.specs.declared.invite_server.InviteServerState.{InviteServerState}
+use Rattle.sip_txn.specs.InviteServer.{RunsTimersOf}
+use Rattle.sip_txn.proofs.InviteServerTable.{keeps}
+use Rattle.sip_txn.proofs.invite_server.InviteServer.on.Goals as goal
+
+pub invariant_of-self : goal.invariant_of-self
+invariant_of-self c =
+    let IsKept : Machine InviteServerState → Type 0 = λ m. RunsTimersOf m.state m.timers in
+    subst IsKept (sym c.follow.ensures.next) (rw c.listed-row.ensures (keeps _ _ c.args.now _ c.self.invariant))

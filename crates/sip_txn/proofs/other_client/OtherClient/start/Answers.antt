@@ -1,0 +1,10 @@
+-- The laws of a machine that starts.
+use Rattle.std.proofs.Common.{lit≤}
+use Rattle.sip_txn.proofs.OtherClientTable.{hands_up_one, unanswered}
+use Rattle.sip_txn.proofs.other_client.OtherClient.start.Goals as goal
+
+pub returns-clause-once : goal.returns-clause-once
+returns-clause-once c = hands_up_one _ (lit≤ tt)
+
+pub returns-clause-unanswered : goal.returns-clause-unanswered
+returns-clause-unanswered c = rw c.repeating.ensures (unanswered c.args.now)

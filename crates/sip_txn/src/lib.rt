@@ -1,0 +1,21 @@
+//! The four transaction machines of SIP over UDP (RFC 3261 section 17, with RFC 6026): they are fed
+//! events and moments, and say what to send and what to pass up. They hold no message and no clock.
+#![tactic(auto)]
+
+mod event;
+mod invite_client;
+mod invite_server;
+mod machine;
+mod other_client;
+mod other_server;
+mod timers;
+
+pub use event::{TxEvent, TxOut, TxPass, TxSend};
+pub use invite_client::{InviteClient, InviteClientState};
+pub use invite_server::{InviteServer, InviteServerState};
+pub use other_client::{OtherClient, OtherClientState};
+pub use other_server::{OtherServer, OtherServerState};
+pub use timers::{T1, T1_TIMES_64, T2, T4, TIMER_D};
+
+#[cfg(test)]
+mod tests;

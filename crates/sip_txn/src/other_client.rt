@@ -1,0 +1,121 @@
+//! The client transaction of a request other than INVITE (RFC 3261 section 17.1.2).
+
+use crate::event::{TxEvent, TxOut, TxPass, TxSend};
+use crate::machine::{Machine, Row, goes_to};
+use crate::timers::{Clock, Growth, Input, T4, Timers};
+use std::marker::Model;
+
+/// The states of RFC 3261 figure 6.
+#[derive(Clone, Copy, Debug, PartialEq, Eq)]
+pub enum OtherClientState {
+    Trying,
+    Proceeding,
+    Completed,
+    Terminated,
+}
+
+/// The client transaction of a request other than INVITE.
+#[derive(Clone, Copy, Debug, PartialEq, Eq)]
+pub struct OtherClient {
+    machine: Machine<OtherClientState>,
+}
+
+impl Model for OtherClient {
+    ghost use Rattle.sip_txn.specs.declared.machine.Machine.{Machine};
+    ghost use Rattle.sip_txn.specs.declared.other_client.OtherClientState.{OtherClientState};
+
+    ghost Value = { Machine OtherClientState };
+
+    ghost use Rattle.sip_txn.specs.OtherClient.{RunsTimersOf};
+
+    ghost view = { λ m. m.machine };
+
+    ghost invariant = { λ m. RunsTimersOf m.machine.state m.machine.timers };
+
+    ghost inverse = { λ m. record { machine = m } };
+}
+
+impl OtherClient {
+    ghost use Rattle.std.specs.Prelude.{◌≡◌};
+    ghost use Rattle.sip_txn.specs.Timers.{least, repeats_and_ends};
+    ghost use Rattle.sip_txn.specs.Machine.{machine_after, out_of};
+    ghost use Rattle.sip_txn.specs.Runs.{IsOver};
+    ghost use Rattle.sip_txn.specs.OtherClient.{other_client, HandsUpOneEnd, RetransmitsUnanswered, RunsOutByTicks, RunsTimersOf};
+
+    /// A transaction whose request is sent at this moment, in milliseconds: it is in Trying, with
+    /// timers E and F (RFC 3261 section 17.1.2.2). The caller sends this first request.
+    pub fn start(now: u64) -> OtherClient
+        ensures value { result ≡ record { state = OtherClientState.Trying; timers = repeats_and_ends now } }
+        ensures once { HandsUpOneEnd result }
+        ensures unanswered { RetransmitsUnanswered now result }
+    {
+        OtherClient {
+            machine: Machine {
+                state: OtherClientState::Trying,
+                timers: Timers::repeating(now),
+            },
+        }
+    }
+
+    /// The state that it is in.
+    pub fn state(&self) -> OtherClientState
+        ensures { result ≡ self.now.state }
+    {
+        self.machine.state
+    }
+
+    /// The moment, in milliseconds, of the earliest running timer: a tick is wanted then. Ticks
+    /// alone, each when it is due, lead to the end of a state in which a timer runs.
+    pub fn due(&self) -> Option<u64>
+        ensures value { result ≡ least self.now.timers }
+        ensures runs { RunsTimersOf self.now.state self.now.timers }
+        ensures runs_out { RunsOutByTicks self.now.state self.now }
+        ensures over { self.now.state ≡ OtherClientState.Terminated → IsOver other_client self.now }
+    {
+        self.machine.timers.due()
+    }
+
+    /// Feeds it an event at this moment, in milliseconds, and says what to send and to pass.
+    pub fn on(&mut self, event: TxEvent, now: u64) -> TxOut
+        ensures next { self.new ≡ machine_after other_client event now self.old }
+        ensures out { result ≡ out_of other_client event now self.old }
+    {
+        let Machine { state, timers } = self.machine;
+        let row = listed(state, timers.input(event, now));
+        self.machine.follow(row, now)
+    }
+}
+
+ghost use Rattle.std.specs.Prelude.{◌≡◌};
+ghost use Rattle.sip_txn.specs.OtherClient.{other_client};
+
+/// The table's row for a state and an input (RFC 3261 section 17.1.2.2).
+fn listed(state: OtherClientState, input: Input) -> Option<Row<OtherClientState>>
+    ensures { result ≡ other_client state input }
+{
+    use Clock::{Again, EndIn, Keep, StopAll};
+    use Input::{EndDue, Event, RepeatDue};
+    use OtherClientState::{Completed, Proceeding, Terminated, Trying};
+    use TxEvent::{Failure, Provisional, Stop, Success, TransportError};
+
+    let request = TxOut::sends(TxSend::Request);
+    let response = TxOut::passes(TxPass::Response);
+    let timeout = TxOut::passes(TxPass::Timeout);
+    let fault = TxOut::passes(TxPass::Fault);
+    let silent = TxOut::silent();
+    match (state, input) {
+        // Timer E fires, or timer F.
+        (Trying, RepeatDue) => goes_to(Trying, Again(Growth::DoubledUpToT2), request),
+        (Proceeding, RepeatDue) => goes_to(Proceeding, Again(Growth::SetToT2), request),
+        (Trying | Proceeding, EndDue) => goes_to(Terminated, StopAll, timeout),
+        (Trying | Proceeding, Event(TransportError)) => goes_to(Terminated, StopAll, fault),
+        // Timers E and F run on.
+        (Trying | Proceeding, Event(Provisional)) => goes_to(Proceeding, Keep, response),
+        // Timer K starts.
+        (Trying | Proceeding, Event(Success | Failure)) => goes_to(Completed, EndIn(T4), response),
+        // Timer K fires.
+        (Completed, EndDue) => goes_to(Terminated, StopAll, silent),
+        (_, Event(Stop)) => goes_to(Terminated, StopAll, silent),
+        _ => None,
+    }
+}

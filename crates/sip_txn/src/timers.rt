@@ -1,0 +1,179 @@
+//! The timers of a transaction, in milliseconds (RFC 3261 section 17 and its table 4).
+
+ghost use Rattle.std.specs.Prelude.{◌≡◌};
+ghost use Rattle.sip_txn.specs.Timers.{later, grown_to, set_again, least, input_of, no_timers, ends_after, repeats_and_ends, run_clock};
+
+use crate::event::TxEvent;
+
+/// T1, the estimate of a round trip, in milliseconds (RFC 3261 section 17.1.1.1).
+pub const T1: u64 = 500;
+
+/// T2, the longest interval between retransmissions of what is not an INVITE request, in milliseconds
+/// (RFC 3261 sections 17.1.2.1 and 17.2.1).
+pub const T2: u64 = 4_000;
+
+/// T4, how long a message may stay in the network, in milliseconds (RFC 3261 section 17.1.2.2).
+pub const T4: u64 = 5_000;
+
+/// 64 times T1, in milliseconds: how long timers B, F, H, J, L and M run.
+pub const T1_TIMES_64: u64 = 64 * T1;
+
+/// How long timer D runs, in milliseconds: over UDP at least 32 seconds (RFC 3261 section 17.1.1.2).
+pub const TIMER_D: u64 = 32_000;
+
+/// A timer that is set again each time that it fires: its moment, and the interval up to it.
+#[derive(Clone, Copy, Debug, PartialEq, Eq)]
+pub struct Repeat {
+    pub at: u64,
+    pub interval: u64,
+}
+
+/// The running timers: one that repeats (A, E or G), and one that ends the state (the others).
+#[derive(Clone, Copy, Debug, PartialEq, Eq)]
+pub struct Timers {
+    pub repeat: Option<Repeat>,
+    pub end: Option<u64>,
+}
+
+/// How the interval of a timer grows as it is set again.
+#[derive(Clone, Copy)]
+pub enum Growth {
+    Doubled,
+    DoubledUpToT2,
+    SetToT2,
+}
+
+/// What a row of a table does to the timers.
+#[derive(Clone, Copy)]
+pub enum Clock {
+    /// They run on.
+    Keep,
+    /// None runs any more.
+    StopAll,
+    /// One alone runs, and ends the state after this many milliseconds.
+    EndIn(u64),
+    /// One starts that repeats, first after T1, and one that ends the state after 64 times T1.
+    RepeatAndEnd,
+    /// The one that repeats is set again.
+    Again(Growth),
+}
+
+/// An event, where a tick is told apart by the timer that it finds due.
+#[derive(Clone, Copy)]
+pub enum Input {
+    Event(TxEvent),
+    EndDue,
+    RepeatDue,
+    NothingDue,
+}
+
+/// The moment that much after `now`; past the greatest u64 it stays there.
+fn after(now: u64, interval: u64) -> u64
+    ensures { result ≡ later now interval }
+{
+    now.saturating_add(interval)
+}
+
+impl Growth {
+    /// The interval that follows this one.
+    fn next(self, interval: u64) -> u64
+        ensures { result ≡ grown_to self interval }
+    {
+        match self {
+            Growth::Doubled => interval.saturating_mul(2),
+            Growth::DoubledUpToT2 => interval.saturating_mul(2).min(T2),
+            Growth::SetToT2 => T2,
+        }
+    }
+}
+
+impl Repeat {
+    /// The timer, which fired at this moment, set again.
+    fn again(self, growth: Growth, now: u64) -> Repeat
+        ensures { result ≡ set_again growth now self }
+    {
+        let interval = growth.next(self.interval);
+        Repeat {
+            at: after(now, interval),
+            interval,
+        }
+    }
+}
+
+impl Timers {
+    /// No timer.
+    pub(crate) fn none() -> Timers
+        ensures { result ≡ no_timers }
+    {
+        Timers {
+            repeat: None,
+            end: None,
+        }
+    }
+
+    /// One timer, which ends the state after the interval.
+    pub(crate) fn ending(now: u64, interval: u64) -> Timers
+        ensures { result ≡ ends_after interval now }
+    {
+        Timers {
+            repeat: None,
+            end: Some(after(now, interval)),
+        }
+    }
+
+    /// One timer that repeats, first after T1, and one that ends the state after 64 times T1.
+    pub(crate) fn repeating(now: u64) -> Timers
+        ensures { result ≡ repeats_and_ends now }
+    {
+        Timers {
+            repeat: Some(Repeat {
+                at: after(now, T1),
+                interval: T1,
+            }),
+            end: Some(after(now, T1_TIMES_64)),
+        }
+    }
+
+    /// The timers after a row of a table has done this to them.
+    pub(crate) fn run(self, clock: Clock, now: u64) -> Timers
+        ensures { result ≡ run_clock clock now self }
+    {
+        match clock {
+            Clock::Keep => self,
+            Clock::StopAll => Timers::none(),
+            Clock::EndIn(interval) => Timers::ending(now, interval),
+            Clock::RepeatAndEnd => Timers::repeating(now),
+            Clock::Again(growth) => Timers {
+                repeat: self.repeat.map(|repeat| repeat.again(growth, now)),
+                end: self.end,
+            },
+        }
+    }
+
+    /// The moment of the earliest running timer.
+    pub(crate) fn due(&self) -> Option<u64>
+        ensures { result ≡ least self.now }
+    {
+        match (self.repeat, self.end) {
+            (None, end) => end,
+            (Some(repeat), None) => Some(repeat.at),
+            (Some(repeat), Some(end)) => Some(repeat.at.min(end)),
+        }
+    }
+
+    /// What the event is to a machine with these timers.
+    pub(crate) fn input(&self, event: TxEvent, now: u64) -> Input
+        ensures { result ≡ input_of event now self.now }
+    {
+        let TxEvent::Tick = event else {
+            return Input::Event(event);
+        };
+        if self.end.is_some_and(|end| end <= now) {
+            Input::EndDue
+        } else if self.repeat.is_some_and(|repeat| repeat.at <= now) {
+            Input::RepeatDue
+        } else {
+            Input::NothingDue
+        }
+    }
+}

@@ -1,0 +1,64 @@
+-- Items and parameters by cuts.
+use Rattle.std.proofs.Common.{◌≡◌, ℕ, Bool, true, false, eqb, ltb, List, [], ◌∷◌, ◌++◌, length, map, Option, Some, sym, ap, ◌∙◌, append_assoc, arith}
+use Rattle.std.specs.Prelude.{◌&&◌}
+use Rattle.std.specs.List.{list_all}
+use Rattle.std.proofs.lemmas.List.{map-append}
+use Rattle.std.proofs.lemmas.Bool.{cond-true, cond-false, eqb-true, eqb-false, lt-ltb, le-ltb}
+use Rattle.sip_lex.specs.declared.sheltered.Shelter.TheVariants.{QuotesAndAngles}
+use Rattle.sip_lex.specs.declared.sheltered.Place.TheVariants.{Plain}
+use Rattle.sip_lex.specs.Bytes.{trim}
+use Rattle.sip_lex.specs.Sheltered.{cut_outside}
+use Rattle.sip_lex.proofs.OutsideSplits.{pieces_outside-cut}
+use Rattle.sip_uri.specs.declared.contact.Contact.{Contact}
+use Rattle.sip_uri.specs.SeenContact.{view_contact, view_contacts}
+use Rattle.sip_uri.specs.Contact.{ContactText, are_items, contact_of, contact_params, is_contact_param, is_q, items_behind, q_of, q_value_if_any, value_of}
+
+abbrev Cut : Type 0
+Cut = List ℕ × Option (List ℕ)
+
+-- the first parameter, and the others
+pub params_cut : (text param : List ℕ) (after : Option (List ℕ)) → (param, after) ≡ cut_outside QuotesAndAngles 59 Plain text → contact_params (Some text) ≡ param ∷ contact_params after
+params_cut text param after e = pieces_outside-cut QuotesAndAngles 59 text ∙ sym (ap (λ (c : Cut). c.0 ∷ contact_params c.1) e)
+
+-- the first item, and the others
+pub items_cut : (text item : List ℕ) (after : Option (List ℕ)) → (item, after) ≡ cut_outside QuotesAndAngles 44 Plain text → items_behind (Some text) ≡ trim item ∷ items_behind after
+items_cut text item after e = ap (map trim) (pieces_outside-cut QuotesAndAngles 44 text) ∙ sym (ap (λ (c : Cut). trim c.0 ∷ items_behind c.1) e)
+
+-- ---- steps of the loops
+
+pub good_first : (text param : List ℕ) (after : Option (List ℕ)) (all : Bool) → (param, after) ≡ cut_outside QuotesAndAngles 59 Plain text → is_contact_param param ≡ true → list_all is_contact_param (contact_params (Some text)) ≡ all → list_all is_contact_param (contact_params after) ≡ all
+good_first text param after all e good h =
+    ap (λ t. t && list_all is_contact_param (contact_params after)) (sym good) ∙ sym (ap (list_all is_contact_param) (params_cut text param after e)) ∙ h
+
+pub bad_first : (text param : List ℕ) (after : Option (List ℕ)) (all : Bool) → (param, after) ≡ cut_outside QuotesAndAngles 59 Plain text → is_contact_param param ≡ false → list_all is_contact_param (contact_params (Some text)) ≡ all → false ≡ all
+bad_first text param after all e bad h =
+    ap (λ t. t && list_all is_contact_param (contact_params after)) (sym bad) ∙ sym (ap (list_all is_contact_param) (params_cut text param after e)) ∙ h
+
+pub q_first : (text param : List ℕ) (after : Option (List ℕ)) (all : ℕ) → (param, after) ≡ cut_outside QuotesAndAngles 59 Plain text → is_q param ≡ true → q_of (contact_params (Some text)) ≡ all → q_value_if_any (value_of param) ≡ all
+q_first text param after all e q h =
+    sym (cond-true (is_q param) (q_value_if_any (value_of param)) (q_of (contact_params after)) q) ∙ sym (ap q_of (params_cut text param after e)) ∙ h
+
+pub q_later : (text param : List ℕ) (after : Option (List ℕ)) (all : ℕ) → (param, after) ≡ cut_outside QuotesAndAngles 59 Plain text → is_q param ≡ false → q_of (contact_params (Some text)) ≡ all → q_of (contact_params after) ≡ all
+q_later text param after all e other h =
+    sym (cond-false (is_q param) (q_value_if_any (value_of param)) (q_of (contact_params after)) other) ∙ sym (ap q_of (params_cut text param after e)) ∙ h
+
+pub item_full : (text item trimmed : List ℕ) (after : Option (List ℕ)) (all : Bool) → (item, after) ≡ cut_outside QuotesAndAngles 44 Plain text → trimmed ≡ trim item → eqb (length trimmed) 0 ≡ false → are_items (items_behind (Some text)) ≡ all → are_items (items_behind after) ≡ all
+item_full text item trimmed after all e t filled h =
+    let long : ltb 0 (length (trim item)) ≡ true = lt-ltb 0 (length (trim item)) (omega (arith, eqb-false _ _ filled, ap length t)) in
+    ap (λ b. b && are_items (items_behind after)) (sym long) ∙ sym (ap are_items (items_cut text item after e)) ∙ h
+
+pub item_empty : (text item trimmed : List ℕ) (after : Option (List ℕ)) (all : Bool) → (item, after) ≡ cut_outside QuotesAndAngles 44 Plain text → trimmed ≡ trim item → eqb (length trimmed) 0 ≡ true → are_items (items_behind (Some text)) ≡ all → false ≡ all
+item_empty text item trimmed after all e t empty h =
+    let short : ltb 0 (length (trim item)) ≡ false = le-ltb 0 (length (trim item)) (omega (arith, eqb-true _ _ empty, ap length t)) in
+    ap (λ b. b && are_items (items_behind after)) (sym short) ∙ sym (ap are_items (items_cut text item after e)) ∙ h
+
+module _ {A : Type 0} where
+  pub next_contact : (done more : List (Contact A)) (c : Contact A) (text item trimmed : List ℕ) (after : Option (List ℕ)) (all : List ContactText) → (item, after) ≡ cut_outside QuotesAndAngles 44 Plain text → trimmed ≡ trim item → more ≡ done ++ c ∷ [] → view_contact c ≡ contact_of trimmed → view_contacts done ++ map contact_of (items_behind (Some text)) ≡ all → view_contacts more ++ map contact_of (items_behind after) ≡ all
+  next_contact done more c text item trimmed after all e t pushed is h =
+      let rest = map contact_of (items_behind after) in
+      ap (λ (cs : List (Contact A)). view_contacts cs ++ rest) pushed
+      ∙ ap (λ (vs : List ContactText). vs ++ rest) (map-append view_contact done (c ∷ []))
+      ∙ append_assoc (view_contacts done) (view_contact c ∷ []) rest
+      ∙ ap (λ (v : ContactText). view_contacts done ++ (v ∷ rest)) (is ∙ ap contact_of t)
+      ∙ sym (ap (λ (items : List (List ℕ)). view_contacts done ++ map contact_of items) (items_cut text item after e))
+      ∙ h

@@ -1,0 +1,11 @@
+pub mod Hosts
+pub mod Keys
+pub mod Contacts
+pub mod Forms
+pub mod Found
+pub mod Listed
+pub mod Only
+pub mod Readings
+pub mod Requests
+pub mod Sorted
+pub mod Written

@@ -1,0 +1,6 @@
+use Rattle.std.proofs.Common.{◌∙◌, sym}
+use Rattle.sip_uri.proofs.Hosts.{address_of-cut}
+use Rattle.sip_uri.proofs.host.read_address.Goals as goal
+
+pub returns : goal.returns
+returns c = c.address_of_first.ensures ∙ sym (address_of-cut c.args.host.now)

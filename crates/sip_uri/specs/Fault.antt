@@ -1,0 +1,13 @@
+-- What a call answered against what reading gives, unless memory ran out.
+use Rattle.std.specs.Prelude.{◌≡◌, Result, Ok, Err}
+use Rattle.sip_uri.specs.declared.fault.UriFault.{UriFault}
+use Rattle.sip_uri.specs.declared.fault.UriFault.TheVariants.{NoMemory}
+
+abbrev pub Fails : {Y : Type 0} → UriFault → Result Y UriFault → Type 0
+Fails NoMemory read = Unit {0}
+Fails f read = read ≡ Err f
+
+-- the value, as view shows it, or the fault, is what reading gives
+abbrev pub Gives : {X Y : Type 0} → (X → Y) → Result X UriFault → Result Y UriFault → Type 0
+Gives view (Ok x) read = read ≡ Ok (view x)
+Gives view (Err e) read = Fails e read

@@ -1,0 +1,12 @@
+pub mod Contact
+pub mod Fault
+pub mod Grammar
+pub mod Hop
+pub mod Host
+pub mod Items
+pub mod Kept
+pub mod Key
+pub mod Reading
+pub mod Seen
+pub mod SeenContact
+pub mod Uri

@@ -1,0 +1,38 @@
+//! Why a text is no SIP URI.
+
+ghost use Rattle.std.specs.Prelude.{◌≡◌};
+ghost use Rattle.sip_uri.specs.declared.fault.UriFault.TheVariants.{NoMemory};
+
+use std::alloc::{AllocError, AllocFailed};
+
+/// Why a text is no SIP URI, or no list of contacts.
+#[derive(Clone, Copy, Debug, PartialEq, Eq)]
+pub enum UriFault {
+    /// It does not begin with `sip:`, in any case.
+    NotSip,
+    /// The host is no host name, IPv4 address or address in square brackets.
+    BadHost,
+    /// The port is no number from 1 to 65535 in one to five digits.
+    BadPort,
+    /// A byte that stands in no URI, an empty user or an empty part of a parameter; of contacts a
+    /// quote or bracket that is not closed, or an empty item.
+    BadText,
+    /// The allocator refused.
+    NoMemory,
+}
+
+impl From<AllocError> for UriFault {
+    ghost from_gives = { λ _ e. e ≡ NoMemory };
+
+    fn from(_e: AllocError) -> UriFault {
+        UriFault::NoMemory
+    }
+}
+
+impl<T: Drop> From<AllocFailed<T>> for UriFault {
+    ghost from_gives = { λ _ e. e ≡ NoMemory };
+
+    fn from(_e: AllocFailed<T>) -> UriFault {
+        UriFault::NoMemory
+    }
+}

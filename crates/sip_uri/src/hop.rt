@@ -1,0 +1,8 @@
+//! Where a datagram goes.
+
+/// An IPv4 address and a UDP port.
+#[derive(Clone, Copy, Debug, PartialEq, Eq)]
+pub struct Hop {
+    pub addr: [u8; 4],
+    pub port: u16,
+}

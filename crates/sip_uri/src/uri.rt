@@ -1,0 +1,145 @@
+//! SIP URIs.
+
+ghost use Rattle.std.specs.Prelude.{◌≡◌, ◌++◌, ◌↔◌, IfOk, OnOk, OnErr, IsTrue, Ok, Bool, List, ℕ};
+ghost use Rattle.std.specs.List.{list_all, list_any};
+ghost use Rattle.std.specs.List.Sorted.{IsStrictlySortedBy};
+ghost use Rattle.std.specs.Ordering.{nat_cmp};
+ghost use Rattle.std.specs.Cmp.Lexicographic.{slice_cmp};
+ghost use Rattle.std.specs.Option.{option_copied};
+ghost use Rattle.sip_uri.specs.Fault.{Gives};
+ghost use Rattle.sip_uri.specs.Grammar.{IsUri, is_uri_byte};
+ghost use Rattle.sip_uri.specs.Hop.{hop_of};
+ghost use Rattle.sip_uri.specs.Key.{counted, key_of, key_params};
+ghost use Rattle.sip_uri.specs.Reading.{read_uri};
+ghost use Rattle.sip_uri.specs.Uri.{Uri, request_uri, spelling};
+
+use crate::checks::{are_uri_bytes, begins_with_sip, first_fault};
+use crate::cut::cut_body;
+use crate::fault::UriFault;
+use crate::hop::Hop;
+use crate::key::make_key;
+use crate::next::hop_of;
+use crate::write::append_request_uri;
+use std::alloc::{AllocError, Allocator};
+use std::marker::Model;
+
+/// A SIP URI: its text as written, and its key.
+#[derive(Drop)]
+pub struct SipUri<A: Allocator> {
+    text: Vec<u8, A>,
+    key: Vec<u8, A>,
+}
+
+impl<A: Allocator> Model for SipUri<A> {
+    ghost use Rattle.std.specs.Prelude.{Ok};
+    ghost use Rattle.sip_uri.specs.Uri.{Uri};
+    ghost use Rattle.sip_uri.specs.Reading.{uri_of};
+    ghost use Rattle.sip_uri.specs.Kept.{IsKept};
+
+    ghost Value = { Uri };
+
+    ghost view = { λ s. uri_of s.text.items };
+
+    ghost invariant = { λ s. IsKept s.text.items s.key.items };
+}
+
+#[tactic(auto, unfolding(crate::specs::Reading::read_uri))]
+fn read_all<A: Allocator + Clone>(alloc: A, text: &[u8]) -> Result<SipUri<A>, UriFault>
+    ensures { Gives (λ u. u) result (read_uri text.now) }
+{
+    if !begins_with_sip(text) {
+        return Err(UriFault::NotSip);
+    }
+    if !are_uri_bytes(text) {
+        return Err(UriFault::BadText);
+    }
+    let cut = cut_body(&text[4..]);
+    if let Some(fault) = first_fault(&cut) {
+        return Err(fault);
+    }
+    let key = make_key(&alloc, &cut)?;
+    let text = Vec::from_slice(alloc, text)?;
+    Ok(SipUri { text, key })
+}
+
+impl<A: Allocator + Clone> SipUri<A> {
+    /// The URI that the text spells (RFC 3261 section 19.1.1).
+    ///
+    /// # Errors
+    ///
+    /// The first that holds of: `NotSip`; `BadText` for a byte outside 33 to 126, or `<`, `>`, `"`;
+    /// `BadHost`; `BadPort`; `BadText` for an empty user or an empty part of a parameter; and at
+    /// last `NoMemory`.
+    pub fn read(alloc: A, text: &[u8]) -> Result<SipUri<A>, UriFault>
+        ensures found { IfOk result (λ u. IsUri u × (text.now ≡ spelling u)) }
+        ensures only { (u : Uri) → IsUri u → text.now ≡ spelling u
+            → Gives (λ v. v) result (Ok u) }
+        ensures exact { Gives (λ u. u) result (read_uri text.now) }
+    {
+        read_all(alloc, text)
+    }
+
+    /// What stands before the `@`, as written, if there is one: `userinfo` of RFC 3261 section 25.1
+    /// without its `@`. Escapes are not decoded.
+    pub fn user(&self) -> Option<&[u8]>
+        ensures { option_copied result ≡ self.now.user }
+    {
+        cut_body(&self.text[4..]).user
+    }
+
+    /// The host as written (RFC 3261 section 25.1).
+    pub fn host(&self) -> &[u8]
+        ensures value { result.now ≡ self.now.host }
+        // Each URI that there is keeps the grammar.
+        ensures grammar { IsUri self.now }
+    {
+        cut_body(&self.text[4..]).host
+    }
+
+    /// Whether the two are the same target (RFC 3261 section 16.5), as their keys say. This is not
+    /// the comparison of section 19.1.4.
+    pub fn same_target(&self, other: &SipUri<A>) -> bool
+        ensures { IsTrue result ↔ (key_of self.now ≡ key_of other.now) }
+    {
+        self.key.as_slice() == other.key.as_slice()
+    }
+
+    /// Where a request to this URI is sent (RFC 3261 section 16.6, over UDP and IPv4): the host is an IPv4 address, there is no parameter
+    /// `maddr`, and each `transport` is `udp`. The port is the URI's or 5060.
+    pub fn next_hop(&self) -> Option<Hop>
+        ensures { result ≡ hop_of self.now }
+    {
+        hop_of(&cut_body(&self.text[4..]))
+    }
+
+    /// Appends the text without `method` parameters and headers, as it stands in a request (RFC 3261
+    /// sections 16.6 and 19.1.1).
+    ///
+    /// # Errors
+    ///
+    /// Only where the growth of `out` is refused; `out` is then unchanged.
+    pub fn request_uri<B: Allocator>(&self, out: &mut Vec<u8, B>) -> Result<(), AllocError>
+        ensures ok { OnOk result (out.new.items ≡ out.old.items ++ request_uri self.now) }
+        ensures bytes { IsTrue (list_all is_uri_byte (request_uri self.now)) }
+        ensures err { OnErr result (out.new.items ≡ out.old.items) }
+    {
+        append_request_uri(out, &self.text[..4], &cut_body(&self.text[4..]))
+    }
+
+    /// Appends the key: two URIs are the same target exactly where their keys are equal.
+    ///
+    /// # Errors
+    ///
+    /// Only where the growth of `out` is refused; `out` is then unchanged.
+    pub fn target_key<B: Allocator>(&self, out: &mut Vec<u8, B>) -> Result<(), AllocError>
+        ensures ok { OnOk result (out.new.items ≡ out.old.items ++ key_of self.now) }
+        // Its parameters ascend, and are those that count: a test that passes at one of these
+        // passes at one of those, and the other way round.
+        ensures sorted { IsStrictlySortedBy (slice_cmp nat_cmp) (key_params self.now.params) }
+        ensures members { (p : List ℕ → Bool)
+            → list_any p (key_params self.now.params) ≡ list_any p (counted self.now.params) }
+        ensures err { OnErr result (out.new.items ≡ out.old.items) }
+    {
+        out.extend_from_slice(&self.key)
+    }
+}
