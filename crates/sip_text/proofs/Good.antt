@@ -69,10 +69,13 @@ reverse_take k bs le =
     let len : length (reverse (drop m bs)) ≡ k = length-reverse (drop m bs) ∙ length-drop m bs ∙ omega arith in
     sym (ap (λ (x : List ℕ). drop k (reverse x)) (sym (take-append-drop m bs)) ∙ ap (drop k) (reverse-append (take m bs) (drop m bs)) ∙ drop_at (reverse (drop m bs)) (reverse (take m bs)) k len)
 
+pub trim_front : (bs : List ℕ) → begins_with_space (trim bs) ≡ false
+trim_front bs = let s = trim_start bs in take_no_space (length s - suffix_len is_space s) s (drop_spaces bs)
+
 pub trim_trimmed : (bs : List ℕ) → is_trimmed (trim bs) ≡ true
 trim_trimmed bs =
     let s = trim_start bs in
-    let front : begins_with_space (trim bs) ≡ false = take_no_space (length s - suffix_len is_space s) s (drop_spaces bs) in
+    let front : begins_with_space (trim bs) ≡ false = trim_front bs in
     let back : begins_with_space (reverse (trim bs)) ≡ false = ap begins_with_space (reverse_take (suffix_len is_space s) s (suffix_len-le-length is_space s)) ∙ drop_spaces (reverse s) in
     ap (λ x. not x && not (begins_with_space (reverse (trim bs)))) front ∙ ap (λ x. not x) back
 

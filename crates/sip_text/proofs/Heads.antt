@@ -18,7 +18,7 @@ pub some_headers : (o : Option Headers) (x : Headers) → or_bad o ≡ Ok x → 
 some_headers None x e = absurd cc
 some_headers (Some y) x e = let same : y ≡ x = cc in ap there same
 
-checked_is : (s : StartText) (hs : List HeaderText) (rest : List ℕ) → missing hs ≡ None → cseq_fits s hs ≡ true → checked s hs rest ≡ body_at s hs rest (said_length hs)
+pub checked_is : (s : StartText) (hs : List HeaderText) (rest : List ℕ) → missing hs ≡ None → cseq_fits s hs ≡ true → checked s hs rest ≡ body_at s hs rest (said_length hs)
 unfolding checked
 checked_is s hs rest needed fits = ap (λ (x : Option Needed). if_present x (cond (cseq_fits s hs) (body_at s hs rest (said_length hs)) (Err BadCSeq))) needed ∙ cond-true _ _ _ fits
 

@@ -5,6 +5,7 @@ pub mod Grown
 pub mod Heads
 pub mod Joins
 pub mod Public
+pub mod Refusals
 pub mod Size
 pub mod Spelled
 pub mod StartAgain

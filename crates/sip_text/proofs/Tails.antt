@@ -11,9 +11,9 @@ use Rattle.sip_lex.specs.Line as lines
 use Rattle.sip_lex.specs.Pieces.{pieces, pieces_behind}
 use Rattle.sip_lex.proofs.Lines.{line_at-takes}
 use Rattle.sip_lex.proofs.Splits.{pieces-cut}
-use Rattle.sip_lex.proofs.Trims.{token_byte-space, token_bytes}
+use Rattle.sip_lex.proofs.Trims.{token_byte-space, token_bytes, trim-space}
 use Rattle.sip_text.specs.Fault.{FailsAs}
-use Rattle.sip_text.specs.Heads.{Valued, continued, front_header, or_bad, prepended, put, put_if_any, valued}
+use Rattle.sip_text.specs.Heads.{Valued, continued, front_header, or_bad, prepended, put, put_if_any, valued, with_part}
 use Rattle.sip_text.specs.Reading.{Fault, BadHeader, Group, Headers, Lines, Tail, before_group, begins_with_space, closed, grouped, header_of, header_of_cut, headers_at, joined, lines_at, lines_from, tail_at, tail_of_group, tail_of_lines, with_header, with_line}
 use Rattle.sip_text.specs.Text.{HeaderText}
 
@@ -113,9 +113,22 @@ after_space : (value line after : List ℕ) → begins_with_space line ≡ true 
 after_space value [] after e = absurd cc
 after_space value (b ∷ bs) after e = part_step value (b ∷ bs) (tail_at after) e
 
-pub value_goes_on : (value longer bs line after : List ℕ) (all : Option Valued) → Some (line, after) ≡ line_at bs → begins_with_space bs ≡ true → longer ≡ value ++ 32 ∷ trim line → continued value (tail_at bs) ≡ all → continued longer (tail_at after) ≡ all
+value_goes_on : (value longer bs line after : List ℕ) (all : Option Valued) → Some (line, after) ≡ line_at bs → begins_with_space bs ≡ true → longer ≡ value ++ 32 ∷ trim line → continued value (tail_at bs) ≡ all → continued longer (tail_at after) ≡ all
 value_goes_on value longer bs line after all e space l h =
     ap (λ v. continued v (tail_at after)) l ∙ sym (after_space value line after (sym (line_space bs line after e) ∙ space)) ∙ ap (continued value) (ap tail_front e ∙ sym (tail_at-line bs)) ∙ h
+
+part_same : (value part : List ℕ) (t : Option Tail) → continued (with_part value part) t ≡ continued (value ++ 32 ∷ part) t
+part_same value part None = refl
+part_same [] part (Some t) = ap (λ (v : List ℕ). Some (v, t.headers, t.rest)) (sym (trim-space (part ++ flat_map (λ (p : List ℕ). 32 ∷ p) t.parts)))
+part_same (b ∷ bs) part (Some t) = refl
+
+pub value_with_part : (value longer bs line after : List ℕ) (all : Option Valued) → Some (line, after) ≡ line_at bs → begins_with_space bs ≡ true → longer ≡ with_part value (trim line) → continued value (tail_at bs) ≡ all → continued longer (tail_at after) ≡ all
+value_with_part value longer bs line after all e space l h =
+    ap (λ v. continued v (tail_at after)) l ∙ part_same value (trim line) (tail_at after) ∙ value_goes_on value (value ++ 32 ∷ trim line) bs line after all e space refl h
+
+pub part_front : (value part : List ℕ) → begins_with_space value ≡ false → begins_with_space part ≡ false → begins_with_space (with_part value part) ≡ false
+part_front [] part h k = k
+part_front (b ∷ bs) part h k = h
 
 no_parts : (value : List ℕ) → joined value [] ≡ trim value
 no_parts value = ap trim (append-nil value)

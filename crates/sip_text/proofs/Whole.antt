@@ -28,14 +28,14 @@ Read = Result MessageText Fault
 
 -- ---- empty lines at the front
 
-skip_blank : (n : ℕ) (bs : List ℕ) → skip (blank_lines n ++ bs) ≡ skip bs
+pub skip_blank : (n : ℕ) (bs : List ℕ) → skip (blank_lines n ++ bs) ≡ skip bs
 skip_blank zero bs = refl
 skip_blank (suc n) bs = skip_blank n bs
 
 keep_first : (b c : ℕ) (bs : List ℕ) → (b ≢ 13) → skip (b ∷ c ∷ bs) ≡ b ∷ c ∷ bs
 keep_first b c bs h = cond-false _ _ _ (ap (λ x. x && eqb c 10) (ne_eqb b 13 h))
 
-skip_line : (line rest : List ℕ) → IsLine line → (line ≢ []) → skip (ended line ++ rest) ≡ ended line ++ rest
+pub skip_line : (line rest : List ℕ) → IsLine line → (line ≢ []) → skip (ended line ++ rest) ≡ ended line ++ rest
 skip_line [] rest h full = absurd (full refl)
 skip_line (b ∷ []) rest h full = keep_first b 13 (10 ∷ rest) h.no_cr.0
 skip_line (b ∷ c ∷ bs) rest h full = keep_first b c (ended bs ++ rest) h.no_cr.0
@@ -45,7 +45,7 @@ skip_pair b c bs e h =
     let both = and_parts (eqb b 13) (eqb c 10) e in
     (suc h.0, ap (λ n. n ∷ c ∷ bs) (eqb-true b 13 both.0) ∙ ap (λ n. 13 ∷ n ∷ bs) (eqb-true c 10 both.1) ∙ ap (λ (x : List ℕ). 13 ∷ 10 ∷ x) h.1)
 
-skip_found : (bs : List ℕ) → (n : ℕ) × (bs ≡ blank_lines n ++ skip bs)
+pub skip_found : (bs : List ℕ) → (n : ℕ) × (bs ≡ blank_lines n ++ skip bs)
 skip_found [] = (0, refl)
 skip_found (b ∷ []) = (0, refl)
 skip_found (b ∷ c ∷ bs) =

@@ -11,6 +11,11 @@ or_bad (Some x) = Ok x
 abbrev pub Valued : Type 0
 Valued = List ℕ × List HeaderText × List (List ℕ)
 
+-- a value and a line that continues it: no space is put in front
+abbrev pub with_part : List ℕ → List ℕ → List ℕ
+with_part [] part = part
+with_part (b ∷ bs) part = b ∷ (bs ++ 32 ∷ part)
+
 -- a value that the first lines continue
 abbrev pub continued : List ℕ → Option Tail → Option Valued
 continued value None = None

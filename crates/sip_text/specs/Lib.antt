@@ -8,3 +8,4 @@ pub mod Message
 pub mod Seen
 pub mod Fault
 pub mod Grammar
+pub mod Refusal

@@ -1,10 +1,10 @@
 //! The header lines.
 
-ghost use Rattle.std.specs.Prelude.{◌≡◌, ◌≤◌, ◌<◌, ◌==◌, ◌∷◌, [], ◌++◌, length, IfOk, IfErr, OnOk, IfSome, Some};
+ghost use Rattle.std.specs.Prelude.{◌≡◌, ◌≤◌, ◌<◌, ◌==◌, ◌∷◌, [], ◌++◌, length, IfOk, IfErr, OnOk, IfSome, Some, false};
 ghost use Rattle.sip_lex.specs.Bytes.{trim};
 ghost use Rattle.sip_lex.specs.Pieces.{pieces};
 ghost use Rattle.sip_text.specs.Fault.{Fails, Gives};
-ghost use Rattle.sip_text.specs.Heads.{continued, front_header, or_bad, put, valued};
+ghost use Rattle.sip_text.specs.Heads.{continued, front_header, or_bad, put, valued, with_part};
 ghost use Rattle.sip_text.specs.Reading.{begins_with_space, headers_at, tail_at};
 ghost use Rattle.sip_text.specs.Seen.{view, views};
 
@@ -22,16 +22,26 @@ fn begins_with_space(text: &[u8]) -> bool
     }
 }
 
-/// The value without space at its ends.
-fn finish<A: Allocator>(alloc: A, mut value: Vec<u8, A>) -> Result<Vec<u8, A>, AllocError>
-    ensures { IfOk result (λ v. v.items ≡ trim value.items) }
+/// Adds a line that continues a value, with one space between. The value grows once at most.
+fn append_part<A: Allocator>(value: &mut Vec<u8, A>, part: &[u8]) -> Result<(), AllocError>
+    ensures { OnOk result (value.new.items ≡ with_part value.old.items part.now) }
 {
-    if begins_with_space(&value) {
-        return Vec::from_slice(alloc, trim(&value));
+    if value.is_empty() {
+        return value.extend_from_slice(part);
     }
+    value.reserve(part.len().saturating_add(1))?;
+    value.push(b' ')?;
+    value.extend_from_slice(part)
+}
+
+/// The value without space at its ends, where none stands at its front.
+fn finish<A: Allocator>(mut value: Vec<u8, A>) -> Vec<u8, A>
+    requires { begins_with_space value.items ≡ false }
+    ensures { result.items ≡ trim value.items }
+{
     let len = trim_end(&value).len();
     value.truncate(len);
-    Ok(value)
+    value
 }
 
 /// A value and the lines that continue it, and what stands behind them.
@@ -52,12 +62,10 @@ fn value_of<'a, A: Allocator + Clone>(
         let Some((line, after)) = first_line(rest) else {
             return Err(ReadFault::HeaderLine);
         };
-        value.push(b' ')?;
-        value.extend_from_slice(trim(line))?;
+        append_part(&mut value, trim(line))?;
         rest = after;
     }
-    let value = finish(alloc.clone()?, value)?;
-    Ok((value, rest))
+    Ok((finish(value), rest))
 }
 
 /// The header that begins with a line, and what stands behind the lines that continue it.

@@ -1,8 +1,10 @@
 //! Laws of reading and writing.
 
-ghost use Rattle.std.specs.Prelude.{◌≡◌, List, Ok, ℕ};
+ghost use Rattle.std.specs.Prelude.{◌≡◌, List, Ok, Err, ℕ};
 ghost use Rattle.sip_text.specs.Grammar.{IsText};
 ghost use Rattle.sip_text.specs.Message.{IsMessage, read_at};
+ghost use Rattle.sip_text.specs.Reading.{Fault};
+ghost use Rattle.sip_text.specs.Refusal.{IsRefused};
 ghost use Rattle.sip_text.specs.Text.{MessageText, spelling};
 
 /// What a message is written as is a text of that message.
@@ -18,4 +20,11 @@ pub fn text_is_message()
 /// A message that is written and read again is the same, whether it was read or made of parts.
 pub fn round_trip()
     ensures { (m : MessageText) → IsMessage m → read_at (spelling m) ≡ Ok m }
+{}
+
+/// A text that is refused has the fault that is named, and a text that has it is refused so: of the
+/// line at its front, its header lines, the fields that each message has, or its body.
+pub fn faults_are_of_the_text()
+    ensures found { (text : List ℕ) (f : Fault) → read_at text ≡ Err f → IsRefused text f }
+    ensures only { (text : List ℕ) (f : Fault) → IsRefused text f → read_at text ≡ Err f }
 {}

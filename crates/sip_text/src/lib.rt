@@ -1,7 +1,7 @@
 //! SIP messages, read and written (RFC 3261 sections 7 and 25).
 //!
 //! `Message::read` takes exactly the texts of `specs/Grammar.antt`, and names the first fault of any
-//! other. A message keeps its start line, its header lines as received and its body; `write` spells
+//! other, as `specs/Refusal.antt` says it. A message keeps its start line, its header lines as received and its body; `write` spells
 //! it so that reading gives it back.
 #![tactic(auto)]
 
@@ -21,7 +21,7 @@ mod tests;
 mod write;
 
 pub use fault::ReadFault;
-pub use laws::{round_trip, spelling_is_text, text_is_message};
+pub use laws::{faults_are_of_the_text, round_trip, spelling_is_text, text_is_message};
 pub use message::Message;
 pub use name::Values;
 pub use needed::Needed;

@@ -55,6 +55,13 @@ impl<A: Allocator> Message<A> {
         }
     }
 
+    /// Shows that the parts are a message's, as `from_parts` asks of those who change some of them.
+    pub fn is_message(&self)
+        ensures { IsMessage self.now }
+    {
+        let _body = &self.body;
+    }
+
     /// The start line.
     pub fn start(&self) -> &Start<A>
         ensures { view_start result.now ≡ self.now.start }

@@ -16,28 +16,26 @@ use crate::start::{skip, start_of};
 use sip_lex::first_line;
 use std::alloc::{AllocError, Allocator};
 
-/// A copy of a header, `0` in the place of a Content-Length.
-fn zeroed<A: Allocator + Clone>(alloc: &A, header: &Header<A>) -> Result<Header<A>, AllocError>
-    ensures { IfOk result (λ h. view h ≡ zeroed (view header.now)) }
+/// Sets the value of a Content-Length to `0`.
+fn zeroed<A: Allocator>(mut header: Header<A>) -> Result<Header<A>, AllocError>
+    ensures { IfOk result (λ h. view h ≡ zeroed (view header)) }
 {
-    let name = Vec::from_slice(alloc.clone()?, &header.name)?;
     if same_name(LENGTH_NAME, &header.name) {
-        let value = Vec::from_slice(alloc.clone()?, b"0")?;
-        return Ok(Header { name, value });
+        header.value.clear();
+        header.value.push(b'0')?;
     }
-    let value = Vec::from_slice(alloc.clone()?, &header.value)?;
-    Ok(Header { name, value })
+    Ok(header)
 }
 
 fn all_zeroed<A: Allocator + Clone>(
     alloc: &A,
-    headers: &[Header<A>],
+    headers: Vec<Header<A>, A>,
 ) -> Result<Vec<Header<A>, A>, AllocError>
-    ensures { IfOk result (λ v. views v.items ≡ map zeroed (views headers.now)) }
+    ensures { IfOk result (λ v. views v.items ≡ map zeroed (views headers.items)) }
 {
     let mut done = Vec::new(alloc.clone()?);
     for header in headers {
-        done.push(zeroed(alloc, header)?)?;
+        done.push(zeroed(header)?)?;
     }
     Ok(done)
 }
@@ -46,10 +44,10 @@ fn all_zeroed<A: Allocator + Clone>(
 fn without_body<A: Allocator + Clone>(
     alloc: &A,
     start: Start<A>,
-    headers: &[Header<A>],
+    headers: Vec<Header<A>, A>,
 ) -> Result<Message<A>, AllocError>
-    requires { IsHead (view_start start) (views headers.now) }
-    ensures { IfOk result (λ m. m ≡ head_of (view_start start) (views headers.now)) }
+    requires { IsHead (view_start start) (views headers.items) }
+    ensures { IfOk result (λ m. m ≡ head_of (view_start start) (views headers.items)) }
 {
     let headers = all_zeroed(alloc, headers)?;
     let body = Vec::new(alloc.clone()?);
@@ -86,7 +84,7 @@ fn said_body<A: Allocator + Clone>(
         (body_at (view_start start) (views headers.items) rest.now (BodyLength.Bytes n)) }
 {
     if rest.len() < n {
-        return Err(ReadFault::ShortBody(without_body(alloc, start, &headers)?));
+        return Err(ReadFault::ShortBody(without_body(alloc, start, headers)?));
     }
     Ok(with_body(alloc, start, headers, &rest[..n])?)
 }

@@ -1,6 +1,12 @@
 //! Requests and responses read and written, and texts that are none by one change.
 
-use crate::{Message, Needed, ReadFault, Start};
+ghost use Rattle.std.specs.Prelude.{◌≡◌, IfOk};
+ghost use Rattle.sip_text.specs.Seen.{view, view_start, views};
+
+use crate::{
+    Header, Message, Needed, ReadFault, Start, Values, faults_are_of_the_text, round_trip,
+    spelling_is_text, text_is_message,
+};
 use std::alloc::{AllocError, Global};
 use std::process::Abort;
 use std::test::Fail;
@@ -115,16 +121,100 @@ fn reads_writes_and_reads_again(rt: HostRuntime) -> Result<(), Fail> {
     Ok(())
 }
 
+/// A copy of a start line.
+fn copied_start(alloc: Global, start: &Start<Global>) -> Result<Start<Global>, AllocError>
+    ensures { IfOk result (λ s. view_start s ≡ view_start start.now) }
+{
+    match start {
+        Start::Request { method, uri } => {
+            let method = Vec::from_slice(alloc, method)?;
+            let uri = Vec::from_slice(alloc, uri)?;
+            Ok(Start::Request { method, uri })
+        }
+        Start::Response { status, reason } => {
+            let reason = Vec::from_slice(alloc, reason)?;
+            Ok(Start::Response {
+                status: *status,
+                reason,
+            })
+        }
+    }
+}
+
+/// A copy of a header.
+fn copied(alloc: Global, header: &Header<Global>) -> Result<Header<Global>, AllocError>
+    ensures { IfOk result (λ h. view h ≡ view header.now) }
+{
+    let name = Vec::from_slice(alloc, &header.name)?;
+    let value = Vec::from_slice(alloc, &header.value)?;
+    Ok(Header { name, value })
+}
+
+/// A copy of header lines.
+fn copied_headers(
+    alloc: Global,
+    headers: &[Header<Global>],
+) -> Result<Vec<Header<Global>>, AllocError>
+    ensures { IfOk result (λ v. views v.items ≡ views headers.now) }
+{
+    let mut done = Vec::new(alloc);
+    for header in headers {
+        done.push(copied(alloc, header)?)?;
+    }
+    Ok(done)
+}
+
+/// The same message, made of copies of its parts.
+fn made_again(alloc: Global, message: &Message<Global>) -> Result<Message<Global>, AllocError>
+    ensures { IfOk result (λ m. m ≡ message.now) }
+{
+    message.is_message();
+    let start = copied_start(alloc, message.start())?;
+    let headers = copied_headers(alloc, message.headers())?;
+    let body = Vec::from_slice(alloc, message.body())?;
+    Ok(Message::from_parts(start, headers, body))
+}
+
+#[test]
+fn makes_a_message_of_parts(rt: HostRuntime) -> Result<(), Fail> {
+    let alloc = rt.alloc();
+    let mut text = changed(alloc, 7, b"Content-Length: 4")?;
+    text.extend_from_slice(b"body")?;
+    let made = made_again(alloc, &Message::read(alloc, &text)?)?;
+    let mut out = Vec::new(alloc);
+    made.write(&mut out)?;
+    assert!(rt; is(&out, &text));
+    let mut lengths = Values::new(b"L", made.headers());
+    assert!(rt; lengths.size_hint().0 <= 1);
+    assert!(rt; is(lengths.next().ok_or("no length")?, b"4"));
+    assert!(rt; lengths.next().is_none());
+    text_is_message();
+    spelling_is_text();
+    round_trip();
+    faults_are_of_the_text();
+    Ok(())
+}
+
+/// The text of the head that a short body carries.
+fn head_text(alloc: Global, text: &[u8]) -> Result<Vec<u8>, AllocError> {
+    let mut out = Vec::new(alloc);
+    if let Some(head) = head_of(alloc, text) {
+        head.write(&mut out)?;
+    }
+    Ok(out)
+}
+
 #[test]
 fn a_short_body_carries_the_head(rt: HostRuntime) -> Result<(), Fail> {
     let alloc = rt.alloc();
     let mut text = text_of(alloc, &busy(b"l: 5"))?;
     text.extend_from_slice(b"body")?;
-    let head = head_of(alloc, &text).ok_or("no head")?;
-    let mut out = Vec::new(alloc);
-    head.write(&mut out)?;
-    let expected = text_of(alloc, &busy(b"l: 0"))?;
-    assert!(rt; is(&out, &expected));
+    let head = head_text(alloc, &text)?;
+    assert!(rt; is(&head, &text_of(alloc, &busy(b"l: 0"))?));
+    let mut text = changed(alloc, 7, b"l: 5")?;
+    text.extend_from_slice(b"body")?;
+    let head = head_text(alloc, &text)?;
+    assert!(rt; is(&head, &request(alloc)?));
     Ok(())
 }
 

@@ -45,6 +45,7 @@ fn append_start<A: Allocator, B: Allocator>(
     Ok(())
 }
 
+/// Appends a header line; `out` grows once at most.
 fn append_header<A: Allocator, B: Allocator>(
     out: &mut Vec<u8, B>,
     header: &Header<A>,
@@ -52,6 +53,8 @@ fn append_header<A: Allocator, B: Allocator>(
     ensures ok { OnOk result (out.new.items ≡ out.old.items ++ header_text (view header.now)) }
     ensures begins { take (vec_len out.old) out.new.items ≡ out.old.items }
 {
+    let text = header.name.len().saturating_add(header.value.len());
+    out.reserve(text.saturating_add(4))?;
     out.extend_from_slice(&header.name)?;
     out.extend_from_slice(b": ")?;
     out.extend_from_slice(&header.value)?;

@@ -16,6 +16,7 @@ use Rattle.sip_lex.proofs.Trims.{trim_end-passes, trim_end-whole, trim_start-non
 use Rattle.sip_uri.specs.Contact.{Form, bare_form, behind_brackets, bracketed_form, form_behind, form_of, is_address, is_bare, is_bare_byte}
 use Rattle.sip_uri.specs.Grammar.{is_uri_byte}
 use Rattle.sip_uri.specs.Items.{IsBare, IsBracketed, IsForm}
+use Rattle.sip_uri.proofs.Hosts.{other_than}
 
 abbrev Cut : Type 0
 Cut = List ℕ × Option (List ℕ)
@@ -115,9 +116,6 @@ record IsCalm (b : ℕ) : Type 0 where
   quote : eqb b 34 ≡ false
   angle : eqb b 60 ≡ false
   mark : eqb b 59 ≡ false
-
-other_than : (p : ℕ → Bool) (b c : ℕ) → p c ≡ false → p b ≡ true → eqb b c ≡ false
-other_than p b c fails h = false_from_ne_true (eqb b c) (λ e. absurd (false≢true (sym fails ∙ ap p (sym (eqb-true b c e)) ∙ h)))
 
 calm_by : (p : ℕ → Bool) (b : ℕ) → p 34 ≡ false → p 60 ≡ false → p 59 ≡ false → p b ≡ true → IsCalm b
 calm_by p b q a m h = record { quote = other_than p b 34 q h; angle = other_than p b 60 a h; mark = other_than p b 59 m h }

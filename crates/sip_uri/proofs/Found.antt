@@ -117,7 +117,7 @@ guard : {A : Type 0} (b : Bool) (d : UriFault) (r : Result A UriFault) (u : A) �
 guard true d r u e = (refl, e)
 guard false d r u e = absurd cc
 
-passes : (b : Bool) (f : UriFault) (rest : Option UriFault) → cond (not b) (Some f) rest ≡ None → (b ≡ true) × (rest ≡ None)
+pub passes : (b : Bool) (f : UriFault) (rest : Option UriFault) → cond (not b) (Some f) rest ≡ None → (b ≡ true) × (rest ≡ None)
 passes true f rest e = (refl, e)
 passes false f rest e = absurd cc
 
@@ -157,7 +157,7 @@ are_good p e =
 
 -- ---- the parts are those of the grammar
 
-port_is : (digits : List ℕ) → is_port digits ≡ true → IsPort digits
+pub port_is : (digits : List ℕ) → is_port digits ≡ true → IsPort digits
 port_is digits h =
     let a = and_parts (leb (length digits) 5 && is_number digits && ltb 0 (number digits)) (leb (number digits) 65535) h in
     let b = and_parts (leb (length digits) 5 && is_number digits) (ltb 0 (number digits)) a.0 in

@@ -1,13 +1,13 @@
 -- Hosts by their form and by the test, and addresses by cuts.
-use Rattle.std.proofs.Common.{◌≡◌, ◌≢◌, ℕ, true, false, eqb, ltb, List, [], ◌∷◌, ◌++◌, length, Option, Some, None, refl, sym, ap, subst, ◌∙◌, inl, inr, arith}
-use Rattle.std.specs.Prelude.{◌&&◌}
+use Rattle.std.proofs.Common.{◌≡◌, ◌≢◌, ℕ, suc, ◌+◌, Bool, true, false, not, eqb, ltb, List, [], ◌∷◌, ◌++◌, length, take, drop, Option, Some, None, refl, sym, ap, subst, ◌∙◌, inl, inr, arith}
+use Rattle.std.specs.Prelude.{◌&&◌, if◌then◌else◌}
 use Rattle.std.specs.List.{list_all}
-use Rattle.std.proofs.lemmas.Bool.{cond-true, cond-false, eqb-true, and_parts, cases_Bool, false≢true, lt-ltb, false_from_ne_true}
+use Rattle.std.proofs.lemmas.Bool.{cond_both, cond-true, cond-false, eqb-true, and_parts, cases_Bool, false≢true, lt-ltb, false_from_ne_true}
 use Rattle.sip_lex.specs.Cut.{behind, cut, is}
 use Rattle.sip_lex.specs.Pieces.{pieces_behind}
 use Rattle.sip_lex.proofs.Cuts.{cut_again, cut_joins, Lacks-pass}
 use Rattle.sip_lex.proofs.Splits.{pieces-cut}
-use Rattle.sip_uri.specs.Host.{IsHost, IsReference, address_of, address_of_first, address_of_last, address_of_pieces, address_of_second, address_of_third, is_address_byte, is_host, is_host_byte, is_reference}
+use Rattle.sip_uri.specs.Host.{BeginsWithEnd, IsHost, IsReference, LacksEnds, address_of, address_of_first, address_of_last, address_of_pieces, address_of_second, address_of_third, ends_host, host_len, is_address_byte, is_host, is_host_byte, is_reference}
 
 abbrev Cut : Type 0
 Cut = List ℕ × Option (List ℕ)
@@ -58,6 +58,10 @@ is_host-IsHost (b ∷ bs) h =
       | inr other ↦ inl (full (b ∷ bs) (lt-ltb 0 (length (b ∷ bs)) (omega arith)), sym (cond-false _ _ _ other) ∙ h)
     ]
 
+-- a byte that passes is none that fails
+pub other_than : (p : ℕ → Bool) (b c : ℕ) → p c ≡ false → p b ≡ true → eqb b c ≡ false
+other_than p b c fails h = false_from_ne_true (eqb b c) (λ e. absurd (false≢true (sym fails ∙ ap p (sym (eqb-true b c e)) ∙ h)))
+
 host_byte : (b : ℕ) → is_host_byte b ≡ true → eqb b 91 ≡ false
 host_byte b h = false_from_ne_true (eqb b 91) (λ e. let bad : is_host_byte 91 ≡ true = subst (λ x. is_host_byte x ≡ true) (eqb-true b 91 e) h in absurd (false≢true bad))
 
@@ -72,3 +76,22 @@ of_reference inner ne h =
 pub IsHost-is_host : (host : List ℕ) → IsHost host → is_host host ≡ true
 IsHost-is_host host (inl n) = of_name host n.0 n.1
 IsHost-is_host host (inr r) = ap is_host r.1 ∙ of_reference r.0 r.2 r.3
+
+-- ---- the host at the front of a text
+
+abbrev step : Bool → ℕ → Bool
+step inside b = if inside then not (eqb b 93) else eqb b 91
+
+pub front_lacks : (inside : Bool) (bs : List ℕ) → LacksEnds inside (take (host_len inside bs) bs)
+front_lacks inside [] = tt
+front_lacks inside (b ∷ bs) =
+    cond_both (not inside && ends_host b) 0 (1 + host_len (step inside b) bs) (λ (n : ℕ). LacksEnds inside (take n (b ∷ bs)))
+    (λ e. tt)
+    (λ e. let k : 1 + host_len (step inside b) bs ≡ suc (host_len (step inside b) bs) = omega arith in rw k (e, front_lacks (step inside b) bs))
+
+pub rest_begins : (inside : Bool) (bs : List ℕ) → BeginsWithEnd (drop (host_len inside bs) bs)
+rest_begins inside [] = tt
+rest_begins inside (b ∷ bs) =
+    cond_both (not inside && ends_host b) 0 (1 + host_len (step inside b) bs) (λ (n : ℕ). BeginsWithEnd (drop n (b ∷ bs)))
+    (λ e. (and_parts (not inside) (ends_host b) e).1)
+    (λ e. let k : 1 + host_len (step inside b) bs ≡ suc (host_len (step inside b) bs) = omega arith in rw k (rest_begins (step inside b) bs))

@@ -1,10 +1,12 @@
-pub mod Hosts
-pub mod Keys
+pub mod Checked
 pub mod Contacts
 pub mod Forms
 pub mod Found
+pub mod Hosts
+pub mod Keys
 pub mod Listed
 pub mod Only
+pub mod Params
 pub mod Readings
 pub mod Requests
 pub mod Sorted

@@ -10,17 +10,17 @@ use Rattle.sip_uri.specs.Reading.{uri_of}
 use Rattle.sip_uri.specs.Uri.{Uri, is_method, param_text, params_text, request_uri, user_text, without_methods}
 use Rattle.sip_uri.proofs.Found.{found}
 
-abbrev AreBytes : List ℕ → Type 0
+abbrev pub AreBytes : List ℕ → Type 0
 AreBytes bs = list_all is_uri_byte bs ≡ true
 
-parts : (xs ys : List ℕ) → AreBytes (xs ++ ys) → AreBytes xs × AreBytes ys
+pub parts : (xs ys : List ℕ) → AreBytes (xs ++ ys) → AreBytes xs × AreBytes ys
 parts [] ys h = (refl, h)
 parts (x ∷ xs) ys h =
     let both = and_parts (is_uri_byte x) (list_all is_uri_byte (xs ++ ys)) h in
     let more = parts xs ys both.1 in
     (ap (λ t. t && list_all is_uri_byte xs) both.0 ∙ more.0, more.1)
 
-whole : (xs ys : List ℕ) → AreBytes xs → AreBytes ys → AreBytes (xs ++ ys)
+pub whole : (xs ys : List ℕ) → AreBytes xs → AreBytes ys → AreBytes (xs ++ ys)
 whole [] ys h k = k
 whole (x ∷ xs) ys h k =
     let both = and_parts (is_uri_byte x) (list_all is_uri_byte xs) h in

@@ -44,6 +44,16 @@ abbrev pub host_len : Bool → List ℕ → ℕ
 host_len inside [] = 0
 host_len inside (b ∷ bs) = if not inside && ends_host b then 0 else 1 + host_len (if inside then not (b == 93) else b == 91) bs
 
+-- none of these stands outside square brackets
+abbrev pub LacksEnds : Bool → List ℕ → Type 0
+LacksEnds inside [] = Unit {0}
+LacksEnds inside (b ∷ bs) = (not inside && ends_host b ≡ false) × LacksEnds (if inside then not (b == 93) else b == 91) bs
+
+-- nothing, or what begins with one of these
+abbrev pub BeginsWithEnd : List ℕ → Type 0
+BeginsWithEnd [] = Unit {0}
+BeginsWithEnd (b ∷ bs) = IsTrue (ends_host b)
+
 -- ---- ports
 
 -- one to five digits of a number from 1 to 65535

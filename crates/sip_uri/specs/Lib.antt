@@ -1,3 +1,4 @@
+pub mod Checked
 pub mod Contact
 pub mod Fault
 pub mod Grammar
@@ -6,6 +7,7 @@ pub mod Host
 pub mod Items
 pub mod Kept
 pub mod Key
+pub mod Progress
 pub mod Reading
 pub mod Seen
 pub mod SeenContact

@@ -1,16 +1,18 @@
 //! Which texts and parts are those of a URI.
 
-ghost use Rattle.std.specs.Prelude.{◌≡◌};
+ghost use Rattle.std.specs.Prelude.{◌≡◌, ◌&&◌};
 ghost use Rattle.std.specs.List.{list_all};
+ghost use Rattle.std.specs.Option.{option_copied};
 ghost use Rattle.sip_lex.specs.Pieces.{pieces};
+ghost use Rattle.sip_uri.specs.Checked.{are_bytes_if_any, are_params_if_any, are_texts, is_user_if_any, named_fault, part_fault};
 ghost use Rattle.sip_uri.specs.Grammar.{is_uri_byte};
-ghost use Rattle.sip_uri.specs.Reading.{fault_of, is_param, is_sip};
+ghost use Rattle.sip_uri.specs.Progress.{is_whole, progress_after};
+ghost use Rattle.sip_uri.specs.Reading.{is_param, is_port_if_any, is_sip};
 ghost use Rattle.sip_uri.specs.Seen.{parts};
 
 use crate::cut::Cut;
 use crate::fault::UriFault;
 use crate::host::{is_host, read_port};
-use sip_lex::cut_at;
 
 pub(crate) fn begins_with_sip(text: &[u8]) -> bool
     ensures { result ≡ is_sip text.now }
@@ -38,42 +40,130 @@ pub(crate) fn are_uri_bytes(text: &[u8]) -> bool
     text.iter().all(|byte| is_uri_byte(*byte))
 }
 
-fn is_param(param: &[u8]) -> bool
-    ensures { result ≡ is_param param.now }
-{
-    match cut_at(param, b'=') {
-        (name, None) => !name.is_empty(),
-        (name, Some(value)) => !name.is_empty() && !value.is_empty(),
+/// How much of a parameter was read.
+#[derive(Clone, Copy)]
+enum Progress {
+    /// Nothing.
+    Begun,
+    /// A name.
+    Named,
+    /// A name and `=`.
+    Valueless,
+    /// A name, `=` and a value.
+    Valued,
+    /// What is no parameter.
+    Broken,
+}
+
+impl Progress {
+    /// The progress behind one more byte, of which `;` begins the next parameter.
+    fn after(self, byte: u8) -> Progress
+        ensures { result ≡ progress_after self byte }
+    {
+        if !is_uri_byte(byte) {
+            return Progress::Broken;
+        }
+        match (self, byte) {
+            (Progress::Named | Progress::Valued, b';') => Progress::Begun,
+            (Progress::Begun | Progress::Valueless, b';') => Progress::Broken,
+            (Progress::Begun, b'=') | (Progress::Broken, _) => Progress::Broken,
+            (Progress::Named, b'=') => Progress::Valueless,
+            (Progress::Begun | Progress::Named, _) => Progress::Named,
+            (Progress::Valueless | Progress::Valued, _) => Progress::Valued,
+        }
+    }
+
+    fn is_whole(self) -> bool
+        ensures { result ≡ is_whole self }
+    {
+        match self {
+            Progress::Named | Progress::Valued => true,
+            Progress::Begun | Progress::Valueless | Progress::Broken => false,
+        }
     }
 }
 
+/// Whether a text is parameters with `;` between them, and each byte one of a URI.
 fn are_params(text: &[u8]) -> bool
-    ensures { result ≡ list_all is_param (pieces 59 text.now) }
+    ensures { result ≡ (list_all is_param (pieces 59 text.now) && list_all is_uri_byte text.now) }
 {
-    text.split(|byte| *byte == b';')
-        .all(|param| is_param(param))
+    let mut progress = Progress::Begun;
+    for byte in text {
+        progress = progress.after(*byte);
+    }
+    progress.is_whole()
 }
 
-/// The first fault of the parts: of the host, then of the port, then of user and parameters.
-#[tactic(auto, unfolding(crate::specs::Reading::fault_of))]
-pub(crate) fn first_fault(cut: &Cut<'_>) -> Option<UriFault>
-    ensures { result ≡ fault_of (parts cut.now) }
+fn are_params_if_any(params: Option<&[u8]>) -> bool
+    ensures { result ≡ are_params_if_any (option_copied params.entry) }
+{
+    match params {
+        None => true,
+        Some(params) => are_params(params),
+    }
+}
+
+fn is_user_if_any(user: Option<&[u8]>) -> bool
+    ensures { result ≡ is_user_if_any (option_copied user.entry) }
+{
+    match user {
+        None => true,
+        Some(user) => !user.is_empty() && are_uri_bytes(user),
+    }
+}
+
+fn are_bytes_if_any(part: Option<&[u8]>) -> bool
+    ensures { result ≡ are_bytes_if_any (option_copied part.entry) }
+{
+    match part {
+        None => true,
+        Some(bytes) => are_uri_bytes(bytes),
+    }
+}
+
+fn is_port_if_any(port: Option<&[u8]>) -> bool
+    ensures { result ≡ is_port_if_any (option_copied port.entry) }
+{
+    match port {
+        None => true,
+        Some(digits) => read_port(digits).is_some(),
+    }
+}
+
+fn are_texts(cut: &Cut<'_>) -> bool
+    ensures { result ≡ are_texts (parts cut.now) }
+{
+    is_user_if_any(cut.user) && are_params_if_any(cut.params) && are_bytes_if_any(cut.headers)
+}
+
+/// The first part with a fault: the host, then the port, then user, parameters and headers.
+///
+/// Each byte is tested with its part, so parts without a fault have no other bytes.
+#[tactic(auto, unfolding(crate::specs::Checked::part_fault))]
+fn part_fault(cut: &Cut<'_>) -> Option<UriFault>
+    ensures { result ≡ part_fault (parts cut.now) }
 {
     if !is_host(cut.host) {
         return Some(UriFault::BadHost);
     }
-    if let Some(port) = cut.port {
-        if read_port(port).is_none() {
-            return Some(UriFault::BadPort);
-        }
+    if !is_port_if_any(cut.port) {
+        return Some(UriFault::BadPort);
     }
-    if let Some([]) = cut.user {
+    if !are_texts(cut) {
         return Some(UriFault::BadText);
     }
-    if let Some(params) = cut.params {
-        if !are_params(params) {
-            return Some(UriFault::BadText);
-        }
-    }
     None
+}
+
+/// The first fault of a text that was cut so. Only a text with a fault is looked at once more: a byte
+/// that stands in no URI counts before a fault of the host or the port.
+pub(crate) fn first_fault(text: &[u8], cut: &Cut<'_>) -> Option<UriFault>
+    ensures { result ≡ named_fault text.now (part_fault (parts cut.now)) }
+{
+    let fault = part_fault(cut)?;
+    if are_uri_bytes(text) {
+        Some(fault)
+    } else {
+        Some(UriFault::BadText)
+    }
 }

@@ -1,9 +1,9 @@
 //! Hosts, ports and IPv4 addresses (RFC 3261 section 25.1).
 
-ghost use Rattle.std.specs.Prelude.{◌≡◌, ◌≤◌, ◌↔◌, IsTrue, false, length, take, drop, option_map};
+ghost use Rattle.std.specs.Prelude.{◌≡◌, ◌≤◌, ◌↔◌, ◌++◌, IsTrue, false, length, take, drop, option_map};
 ghost use Rattle.std.specs.List.{list_all};
 ghost use Rattle.sip_lex.specs.Cut.{cut, is};
-ghost use Rattle.sip_uri.specs.Host.{IsHost, address_of, address_of_first, address_of_last, address_of_second, address_of_third, ends_host, four_of, host_len, is_address_byte, is_host, is_host_byte, is_reference, octet_of, port_of};
+ghost use Rattle.sip_uri.specs.Host.{BeginsWithEnd, IsHost, LacksEnds, address_of, address_of_first, address_of_last, address_of_second, address_of_third, ends_host, four_of, host_len, is_address_byte, is_host, is_host_byte, is_reference, octet_of, port_of};
 
 use sip_lex::{cut_at, read_number};
 
@@ -63,13 +63,23 @@ fn host_len(text: &[u8]) -> usize
     text.len()
 }
 
+fn split_host(text: &[u8]) -> (&[u8], &[u8])
+    ensures host { result.0.now ≡ take (host_len false text.now) text.now }
+    ensures rest { result.1.now ≡ drop (host_len false text.now) text.now }
+{
+    text.split_at(host_len(text))
+}
+
 /// The host at the front, and what stands behind it: nothing, or what begins with the first `:`,
 /// `;` or `?` outside square brackets. Whether the front is a host is for `is_host` to say.
 pub fn cut_host(text: &[u8]) -> (&[u8], &[u8])
     ensures host { result.0.now ≡ take (host_len false text.now) text.now }
     ensures rest { result.1.now ≡ drop (host_len false text.now) text.now }
+    ensures whole { text.now ≡ result.0.now ++ result.1.now }
+    ensures front { LacksEnds false result.0.now }
+    ensures begins { BeginsWithEnd result.1.now }
 {
-    text.split_at(host_len(text))
+    split_host(text)
 }
 
 /// The number of a port: one to five digits of a number from 1 to 65535.

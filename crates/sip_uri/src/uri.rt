@@ -6,6 +6,7 @@ ghost use Rattle.std.specs.List.Sorted.{IsStrictlySortedBy};
 ghost use Rattle.std.specs.Ordering.{nat_cmp};
 ghost use Rattle.std.specs.Cmp.Lexicographic.{slice_cmp};
 ghost use Rattle.std.specs.Option.{option_copied};
+ghost use Rattle.sip_uri.specs.Checked.{checked_uri};
 ghost use Rattle.sip_uri.specs.Fault.{Gives};
 ghost use Rattle.sip_uri.specs.Grammar.{IsUri, is_uri_byte};
 ghost use Rattle.sip_uri.specs.Hop.{hop_of};
@@ -13,7 +14,7 @@ ghost use Rattle.sip_uri.specs.Key.{counted, key_of, key_params};
 ghost use Rattle.sip_uri.specs.Reading.{read_uri};
 ghost use Rattle.sip_uri.specs.Uri.{Uri, request_uri, spelling};
 
-use crate::checks::{are_uri_bytes, begins_with_sip, first_fault};
+use crate::checks::{begins_with_sip, first_fault};
 use crate::cut::cut_body;
 use crate::fault::UriFault;
 use crate::hop::Hop;
@@ -43,21 +44,19 @@ impl<A: Allocator> Model for SipUri<A> {
     ghost invariant = { λ s. IsKept s.text.items s.key.items };
 }
 
-#[tactic(auto, unfolding(crate::specs::Reading::read_uri))]
+#[tactic(auto, unfolding(crate::specs::Checked::checked_uri))]
 fn read_all<A: Allocator + Clone>(alloc: A, text: &[u8]) -> Result<SipUri<A>, UriFault>
-    ensures { Gives (λ u. u) result (read_uri text.now) }
+    ensures { Gives (λ u. u) result (checked_uri text.now) }
 {
     if !begins_with_sip(text) {
         return Err(UriFault::NotSip);
     }
-    if !are_uri_bytes(text) {
-        return Err(UriFault::BadText);
-    }
     let cut = cut_body(&text[4..]);
-    if let Some(fault) = first_fault(&cut) {
+    if let Some(fault) = first_fault(text, &cut) {
         return Err(fault);
     }
-    let key = make_key(&alloc, &cut)?;
+    // The key is never longer than the text.
+    let key = make_key(&alloc, &cut, text.len())?;
     let text = Vec::from_slice(alloc, text)?;
     Ok(SipUri { text, key })
 }
@@ -104,8 +103,9 @@ impl<A: Allocator + Clone> SipUri<A> {
         self.key.as_slice() == other.key.as_slice()
     }
 
-    /// Where a request to this URI is sent (RFC 3261 section 16.6, over UDP and IPv4): the host is an IPv4 address, there is no parameter
-    /// `maddr`, and each `transport` is `udp`. The port is the URI's or 5060.
+    /// Where a request to this URI is sent (RFC 3261 section 16.6, over UDP and IPv4): the host is an
+    /// IPv4 address, there is no parameter `maddr`, and each `transport` is `udp`. The port is the
+    /// URI's or 5060.
     pub fn next_hop(&self) -> Option<Hop>
         ensures { result ≡ hop_of self.now }
     {

@@ -1,8 +1,17 @@
-use Rattle.std.proofs.Common.{◌≡◌, ◌∙◌, ◌++◌, ◌∷◌, [], List, ℕ, sym, ap, append_assoc, arith}
-use Rattle.sip_text.specs.Heads.{or_bad, valued}
-use Rattle.sip_text.specs.Reading.{headers_at}
-use Rattle.sip_text.proofs.Tails.{value_ends-early, value_goes_on, value_ends}
+use Rattle.std.proofs.Common.{◌≡◌, ◌∙◌, false, refl, sym, ap, arith, List, ℕ}
+use Rattle.sip_text.specs.Heads.{continued, or_bad, valued, with_part}
+use Rattle.sip_text.specs.Reading.{begins_with_space, headers_at, tail_at}
+use Rattle.sip_text.proofs.Good.{trim_front}
+use Rattle.sip_text.proofs.Tails.{part_front, value_ends-early, value_ends, value_with_part}
 use Rattle.sip_text.proofs.head.value_of.Goals as goal
+
+pub loop-rest-init : goal.loop-rest-init
+loop-rest-init g c =
+    let same = c.in_ok-value.ensures.items ∙ c.trim.ensures in record {
+      reads = ap (λ (v : List ℕ). continued v (tail_at c.args.text.now)) same;
+      front = ap begins_with_space same ∙ trim_front c.args.raw.now;
+      shorter = omega arith;
+    }
 
 pub returns-in_default-clause-err : goal.returns-in_default-clause-err
 returns-in_default-clause-err g c = ap or_bad (value_ends-early c.loop-rest.value.items c.loop-rest.rest.now _ c.in_default.ensures.value c.loop-rest.invariant.reads)
@@ -10,12 +19,18 @@ returns-in_default-clause-err g c = ap or_bad (value_ends-early c.loop-rest.valu
 pub loop-rest-preserved : goal.loop-rest-preserved
 loop-rest-preserved g c =
     let value = c.loop-rest.value.items in
+    let line = c.in-Some.line.now in
     let part = c.trim-in-loop-rest.result.now in
-    let longer = c.in_ok-extend_from_slice.ensures.items ∙ ap (λ (x : List ℕ). x ++ part) c.in_ok-push.ensures.items ∙ append_assoc value (32 ∷ []) part ∙ ap (λ (x : List ℕ). value ++ 32 ∷ x) c.trim-in-loop-rest.ensures in record {
-      reads = value_goes_on value _ c.loop-rest.rest.now c.in-Some.line.now c.in-Some.after.now _ c.in-Some.ensures.value (sym c.begins_with_space.ensures ∙ c.loop-rest-test.true) longer c.loop-rest.invariant.reads;
+    let longer = c.in_ok-append_part.ensures in
+    let trimmed = c.trim-in-loop-rest.ensures in record {
+      reads = value_with_part value _ c.loop-rest.rest.now line c.in-Some.after.now _ c.in-Some.ensures.value (sym c.begins_with_space.ensures ∙ c.loop-rest-test.true) (longer ∙ ap (λ (p : List ℕ). with_part value p) trimmed) c.loop-rest.invariant.reads;
+      front = ap begins_with_space longer ∙ part_front value part c.loop-rest.invariant.front (ap begins_with_space trimmed ∙ trim_front line);
       shorter = omega (arith, c.in-Some.ensures.shorter, c.loop-rest.invariant.shorter);
     }
 
+pub finish-requires : goal.finish-requires
+finish-requires g c = c.loop-rest.invariant.front
+
 pub returns-clause-ok : goal.returns-clause-ok
 returns-clause-ok g c =
-    value_ends c.loop-rest.value.items c.loop-rest.rest.now _ (sym c.begins_with_space.ensures ∙ c.loop-rest-test.false) c.loop-rest.invariant.reads ∙ ap (λ (v : List ℕ). valued v (headers_at c.loop-rest.rest.now)) (sym c.in_ok-value-2.ensures)
+    value_ends c.loop-rest.value.items c.loop-rest.rest.now _ (sym c.begins_with_space.ensures ∙ c.loop-rest-test.false) c.loop-rest.invariant.reads ∙ ap (λ (v : List ℕ). valued v (headers_at c.loop-rest.rest.now)) (sym c.finish.ensures)

@@ -1,12 +1,13 @@
-use Rattle.std.proofs.Common.{◌≡◌, ◌≤◌, length}
+use Rattle.std.proofs.Common.{◌≡◌, ◌≤◌, false, length}
 use Rattle.sip_lex.specs.Bytes.{trim}
 use Rattle.sip_text.specs.Heads.{continued}
-use Rattle.sip_text.specs.Reading.{tail_at}
+use Rattle.sip_text.specs.Reading.{begins_with_space, tail_at}
 use Rattle.sip_text.proofs.head.value_of.Given as goal
 
 abbrev pub invariant-loop-rest : goal.invariant-loop-rest
 invariant-loop-rest g l = record {
   reads : continued l.value.items (tail_at l.rest) ≡ continued (trim l.raw) (tail_at l.text);
+  front : begins_with_space l.value.items ≡ false;
   shorter : length l.rest ≤ length l.text;
 }
 

@@ -1,7 +1,7 @@
-use Rattle.std.proofs.Common.{◌≡◌, take, map}
+use Rattle.std.proofs.Common.{◌≡◌, map}
 use Rattle.sip_text.specs.Message.{zeroed}
 use Rattle.sip_text.specs.Seen.{views}
 use Rattle.sip_text.proofs.read.all_zeroed.Given as goal
 
 abbrev pub invariant-loop-header : goal.invariant-loop-header
-invariant-loop-header g l = views l.done.items ≡ map zeroed (views (take l.header-index l.headers))
+invariant-loop-header g l = views l.done.items ≡ map zeroed (views l.yielded)

@@ -1,12 +1,12 @@
-use Rattle.std.proofs.Common.{rules, tests}
-use Rattle.std.proofs.lemmas.Iterator.Search.{all_from_yields_List}
-use Rattle.std.proofs.lemmas.Iterator.Splits.{YieldsList-from_slice_split}
-use Rattle.sip_lex.specs.Cut.{is}
-use Rattle.sip_uri.specs.Reading.{is_param}
+use Rattle.std.proofs.Common.{◌≡◌, ◌∙◌, ap, fold, take}
+use Rattle.std.proofs.lemmas.List.{take_all}
+use Rattle.sip_uri.specs.declared.checks.Progress.TheVariants.{Begun}
+use Rattle.sip_uri.specs.Progress.{is_whole, progress_after}
+use Rattle.sip_uri.proofs.Params.{params_read}
 use Rattle.sip_uri.proofs.checks.are_params.Goals as goal
 
 pub returns : goal.returns
 returns c =
-    all_from_yields_List is_param _ _ _ c.all.ensures.ran
-    (YieldsList-from_slice_split _ (is 59) c.args.text.now c.split.ensures.rest c.split.ensures.done c.split.ensures.closure (λ x b q k. search (rules, tests)))
-    (λ x b q k. search (rules, tests))
+    let text = c.args.text.now in
+    let so_far : c.loop-byte.progress ≡ fold progress_after Begun (take c.loop-byte.byte-index text) = c.loop-byte.invariant in
+    c.is_whole.ensures ∙ ap is_whole (so_far ∙ ap (fold progress_after Begun) (take_all c.loop-byte.byte-index text c.loop-byte-test.false)) ∙ params_read text

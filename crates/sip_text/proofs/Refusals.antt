@@ -1,0 +1,223 @@
+-- Texts that are refused, by the relation and by the function.
+use Rattle.std.proofs.Common.{◌≡◌, ◌≢◌, ℕ, ◌<◌, ◌≤◌, Bool, true, false, cond, eqb, leb, List, [], ◌∷◌, ◌++◌, length, take, get_or, Option, Some, None, Result, Ok, Err, refl, sym, ap, subst, ◌∙◌, inl, inr, arith}
+use Rattle.std.specs.Prelude.{◌&&◌}
+use Rattle.std.specs.Char.{is_ascii_digit}
+use Rattle.std.specs.List.{flat_map, join_with_byte}
+use Rattle.std.proofs.lemmas.Bool.{cases_Bool, cond_both, cond-true, cond-false, false_from_ne_true, false≢true, leb-false, leb-true}
+use Rattle.sip_lex.specs.Bytes.{is_space, is_token}
+use Rattle.sip_lex.specs.Cut.{cut}
+use Rattle.sip_lex.specs.Line.{IsLine, ended, line_at}
+use Rattle.sip_lex.specs.Pieces.{pieces}
+use Rattle.sip_lex.proofs.Lines.{line_at-again, line_at-takes}
+use Rattle.sip_text.specs.declared.fields.BodyLength.{BodyLength}
+use Rattle.sip_text.specs.declared.fields.BodyLength.TheVariants.{Unsaid, Bytes, Wrong}
+use Rattle.sip_text.specs.declared.needed.Needed.{Needed}
+use Rattle.sip_text.specs.Fields.{cseq_fits, missing, said_length}
+use Rattle.sip_text.specs.Grammar.{blank_lines}
+use Rattle.sip_text.specs.Message.{after_headers, after_line, after_start, body_at, checked, head_of, if_present, read_at}
+use Rattle.sip_text.specs.Reading.{Fault, BadStart, BadHeader, Lacks, BadVersion, BadStatus, Short, BadCSeq, BadLength, Headers, after_uri, begins_with_sip, headers_at, is_status, is_uri, is_version, number_of, request_of, response_of, skip, start_of, status_of}
+use Rattle.sip_text.specs.Refusal.{Begins, FirstLine, HasFields, HasHead, HasHeaders, IsRefused}
+use Rattle.sip_text.specs.Text.{HeaderText, MessageText, StartText, Request, Response}
+use Rattle.sip_text.proofs.Gaps.{Cut}
+use Rattle.sip_text.proofs.Good.{found, some_is}
+use Rattle.sip_text.proofs.Heads.{checked_is}
+use Rattle.sip_text.proofs.Joins.{join_pieces}
+use Rattle.sip_text.proofs.StartAgain.{start_again}
+use Rattle.sip_text.proofs.StartLines.{done, start_found}
+use Rattle.sip_text.proofs.Whole.{headers_found, headers_read, skip_blank, skip_found, skip_line}
+
+abbrev failed : {A : Type 0} → Fault → Result A Fault
+failed f = Err f
+
+same_fault : (f g : Fault) → failed {A = MessageText} f ≡ failed g → f ≡ g
+same_fault f g e = cc
+
+no_fault : (m : MessageText) (f : Fault) (P : Type 0) → done m ≡ failed f → P
+no_fault m f P e = absurd cc
+
+-- ---- the first line
+
+skip_kept : (bs rest : List ℕ) → skip bs ≡ 13 ∷ 10 ∷ rest → ⊥
+skip_kept [] rest h = absurd cc
+skip_kept (b ∷ []) rest h = absurd cc
+skip_kept (b ∷ c ∷ bs) rest h =
+    cond_both (eqb b 13 && eqb c 10) (skip bs) (b ∷ c ∷ bs) (λ (r : List ℕ). r ≡ 13 ∷ 10 ∷ rest → ⊥)
+    (λ e k. skip_kept bs rest k)
+    (λ e k. let first : b ≡ 13 = ap (λ (x : List ℕ). get_or x 0 0) k in let second : c ≡ 10 = ap (λ (x : List ℕ). get_or x 1 0) k in false≢true (sym e ∙ ap (λ n. eqb n 13 && eqb c 10) first ∙ ap (λ n. eqb n 10) second))
+    h
+
+not_empty : (text line rest : List ℕ) → skip text ≡ ended line ++ rest → line ≢ []
+not_empty text line rest whole none = skip_kept text rest (whole ∙ ap (λ (x : List ℕ). ended x ++ rest) none)
+
+first_found : (text line rest : List ℕ) → line_at (skip text) ≡ Some (line, rest) → FirstLine text line rest
+first_found text line rest at =
+    let t = line_at-takes (skip text) line rest at in
+    let blank = skip_found text in
+    record {
+      blank = blank.0;
+      whole = blank.1 ∙ ap (λ (x : List ℕ). blank_lines blank.0 ++ x) t.whole;
+      is_line = t.is_line;
+      full = not_empty text line rest t.whole;
+    }
+
+first_read : (text line rest : List ℕ) → FirstLine text line rest → line_at (skip text) ≡ Some (line, rest)
+first_read text line rest f =
+    let front : skip text ≡ ended line ++ rest = ap skip f.whole ∙ skip_blank f.blank (ended line ++ rest) ∙ skip_line line rest f.is_line f.full in
+    ap line_at front ∙ line_at-again line rest f.is_line
+
+-- ---- the faults of a start line
+
+abbrev IsOfStart : Fault → Type 0
+IsOfStart BadStart = Unit {0}
+IsOfStart BadVersion = Unit {0}
+IsOfStart BadStatus = Unit {0}
+IsOfStart f = ⊥
+
+abbrev FailsAtStart : Result StartText Fault → Type 0
+FailsAtStart (Ok s) = Unit {0}
+FailsAtStart (Err f) = IsOfStart f
+
+status_faults : (rest : List ℕ) → FailsAtStart (status_of rest)
+status_faults [] = tt
+status_faults (a ∷ []) = tt
+status_faults (a ∷ b ∷ []) = tt
+status_faults (a ∷ b ∷ c ∷ []) = tt
+status_faults (a ∷ b ∷ c ∷ gap ∷ reason) =
+    let n = number_of a b c in
+    cond_both (is_ascii_digit a && is_ascii_digit b && is_ascii_digit c && is_space gap) (cond (is_status n) (Ok (Response n reason)) (Err BadStatus)) (Err BadStart) FailsAtStart
+    (λ form. cond_both (is_status n) (Ok (Response n reason)) (Err BadStatus) FailsAtStart (λ e. tt) (λ e. tt))
+    (λ other. tt)
+
+response_faults : (c : Cut) → FailsAtStart (response_of c)
+response_faults (version, None) = cond_both (is_version version) (Err BadStart) (Err BadVersion) FailsAtStart (λ e. tt) (λ e. tt)
+response_faults (version, Some rest) = cond_both (is_version version) (status_of rest) (Err BadVersion) FailsAtStart (λ e. status_faults rest) (λ e. tt)
+
+uri_faults : (method : List ℕ) (c : Cut) → FailsAtStart (after_uri method c)
+uri_faults method (uri, None) = tt
+uri_faults method (uri, Some version) =
+    cond_both (is_version version) (cond (is_token method && is_uri uri) (Ok (Request method uri)) (Err BadStart)) (cond (begins_with_sip version) (Err BadVersion) (Err BadStart)) FailsAtStart
+    (λ e. cond_both (is_token method && is_uri uri) (Ok (Request method uri)) (Err BadStart) FailsAtStart (λ f. tt) (λ f. tt))
+    (λ e. cond_both (begins_with_sip version) (Err BadVersion) (Err BadStart) FailsAtStart (λ f. tt) (λ f. tt))
+
+request_faults : (c : Cut) → FailsAtStart (request_of c)
+request_faults (method, None) = tt
+request_faults (method, Some rest) = uri_faults method (cut is_space rest)
+
+start_faults : (line : List ℕ) → FailsAtStart (start_of line)
+unfolding start_of
+start_faults line =
+    cond_both (begins_with_sip line) (response_of (cut is_space line)) (request_of (cut is_space line)) FailsAtStart
+    (λ e. response_faults (cut is_space line))
+    (λ e. request_faults (cut is_space line))
+
+-- ---- each fault has its cause
+
+start_line_refused : (text line rest : List ℕ) (f : Fault) → IsOfStart f → FirstLine text line rest → start_of line ≡ Err f → IsRefused text f
+start_line_refused text line rest BadStart is first at = λ l r other.
+    let same = some_is (line, rest) (l, r) (sym (first_read text line rest first) ∙ first_read text l r other) in
+    ap (λ (p : List ℕ × List ℕ). start_of p.0) (sym same) ∙ at
+start_line_refused text line rest BadVersion is first at = (line, rest, first, at)
+start_line_refused text line rest BadStatus is first at = (line, rest, first, at)
+start_line_refused text line rest BadHeader is first at = absurd is
+start_line_refused text line rest (Lacks name) is first at = absurd is
+start_line_refused text line rest (Short m) is first at = absurd is
+start_line_refused text line rest BadCSeq is first at = absurd is
+start_line_refused text line rest BadLength is first at = absurd is
+
+body_refused : (text : List ℕ) (start : StartText) (hs : List HeaderText) (rest : List ℕ) (said : BodyLength) (f : Fault) → HasHead text start hs rest → HasFields start hs → said_length hs ≡ said → body_at start hs rest said ≡ Err f → IsRefused text f
+unfolding body_at
+body_refused text start hs rest Unsaid f head fields at e = no_fault (record { start = start; headers = hs; body = rest }) f _ e
+body_refused text start hs rest Wrong f head fields at e = subst (IsRefused text) (same_fault BadLength f e) (start, hs, rest, head, fields, at)
+body_refused text start hs rest (Bytes n) f head fields at e =
+    elim (cases_Bool (leb n (length rest))) [
+      | inl fits ↦ no_fault (record { start = start; headers = hs; body = take n rest }) f _ (sym (cond-true _ _ _ fits) ∙ e)
+      | inr short ↦ subst (IsRefused text) (same_fault (Short (head_of start hs)) f (sym (cond-false _ _ _ short) ∙ e)) (start, hs, rest, head, fields, record { said = n; said_is = at; fewer = leb-false n (length rest) short; head = refl })
+    ]
+
+fields_refused : (text : List ℕ) (start : StartText) (hs : List HeaderText) (rest : List ℕ) (o : Option Needed) (f : Fault) → HasHead text start hs rest → missing hs ≡ o → if_present o (cond (cseq_fits start hs) (body_at start hs rest (said_length hs)) (Err BadCSeq)) ≡ Err f → IsRefused text f
+fields_refused text start hs rest (Some name) f head at e = subst (IsRefused text) (same_fault (Lacks name) f e) (start, hs, rest, head, at)
+fields_refused text start hs rest None f head at e =
+    elim (cases_Bool (cseq_fits start hs)) [
+      | inl fits ↦ body_refused text start hs rest (said_length hs) f head (record { needed = at; cseq = fits }) refl (sym (cond-true _ _ _ fits) ∙ e)
+      | inr other ↦ subst (IsRefused text) (same_fault BadCSeq f (sym (cond-false _ _ _ other) ∙ e)) (start, hs, rest, head, at, other)
+    ]
+
+checked_refused : (text : List ℕ) (start : StartText) (hs : List HeaderText) (rest : List ℕ) (f : Fault) → HasHead text start hs rest → checked start hs rest ≡ Err f → IsRefused text f
+unfolding checked
+checked_refused text start hs rest f head e = fields_refused text start hs rest (missing hs) f head refl e
+
+has_headers : (text : List ℕ) (hs : List HeaderText) (rest : List ℕ) → HasHeaders text hs rest → headers_at text ≡ Some (hs, pieces 10 rest)
+has_headers text hs rest h = ap headers_at h.whole ∙ headers_read h.lines hs rest h.are_full h.headers
+
+headers_refused : (text : List ℕ) (start : StartText) (rest : List ℕ) (o : Option Headers) (f : Fault) → Begins text start rest → headers_at rest ≡ o → after_headers start o ≡ Err f → IsRefused text f
+headers_refused text start rest None f begins at e =
+    subst (IsRefused text) (same_fault BadHeader f e) (start, rest, begins, λ hs body h. let wrong : None ≡ found (hs, pieces 10 body) = sym at ∙ has_headers rest hs body h in absurd cc)
+headers_refused text start rest (Some x) f begins at e =
+    let are = headers_found rest x at in
+    let behind : join_with_byte 10 x.1 ≡ are.rest = ap (join_with_byte 10) (sym are.behind) ∙ join_pieces are.rest in
+    let head : HasHead text start x.0 are.rest = record { behind = rest; begins = begins; headers = record { lines = are.lines; whole = are.whole; are_full = are.are_full; headers = are.headers } } in
+    checked_refused text start x.0 are.rest f head (sym (ap (checked start x.0) behind) ∙ e)
+
+start_refused : (text line rest : List ℕ) (r : Result StartText Fault) (f : Fault) → FirstLine text line rest → start_of line ≡ r → after_start r rest ≡ Err f → IsRefused text f
+start_refused text line rest (Ok start) f first at e = headers_refused text start rest (headers_at rest) f (record { line = line; first = first; start_is = start_found line start at }) refl e
+start_refused text line rest (Err g) f first at e = subst (IsRefused text) (same_fault g f e) (start_line_refused text line rest g (subst FailsAtStart at (start_faults line)) first at)
+
+line_refused : (text : List ℕ) (o : Option (List ℕ × List ℕ)) (f : Fault) → line_at (skip text) ≡ o → after_line o ≡ Err f → IsRefused text f
+line_refused text None f at e = subst (IsRefused text) (same_fault BadStart f e) (λ line rest first. let wrong : None ≡ found (line, rest) = sym at ∙ first_read text line rest first in absurd cc)
+line_refused text (Some (line, rest)) f at e = start_refused text line rest (start_of line) f (first_found text line rest at) refl e
+
+pub refused_found : (text : List ℕ) (f : Fault) → read_at text ≡ Err f → IsRefused text f
+unfolding read_at
+refused_found text f e = line_refused text (line_at (skip text)) f refl e
+
+-- ---- and each cause gives its fault
+
+no_start_line : (text : List ℕ) (o : Option (List ℕ × List ℕ)) → IsRefused text BadStart → line_at (skip text) ≡ o → after_line o ≡ Err BadStart
+no_start_line text None h at = refl
+no_start_line text (Some (line, rest)) h at = ap (λ (x : Result StartText Fault). after_start x rest) (h line rest (first_found text line rest at))
+
+first_again : (text line rest : List ℕ) (f : Fault) → FirstLine text line rest → start_of line ≡ Err f → read_at text ≡ Err f
+unfolding read_at
+first_again text line rest f first at = ap after_line (first_read text line rest first) ∙ ap (λ (x : Result StartText Fault). after_start x rest) at
+
+begins_again : (text : List ℕ) (start : StartText) (rest : List ℕ) → Begins text start rest → read_at text ≡ after_headers start (headers_at rest)
+unfolding read_at
+begins_again text start rest b = ap after_line (first_read text b.line rest b.first) ∙ ap (λ (x : Result StartText Fault). after_start x rest) (start_again b.line start b.start_is)
+
+no_headers : (start : StartText) (rest : List ℕ) (o : Option Headers) → ((hs : List HeaderText) (body : List ℕ) → HasHeaders rest hs body → ⊥) → headers_at rest ≡ o → after_headers start o ≡ Err BadHeader
+no_headers start rest None none at = refl
+no_headers start rest (Some x) none at = let are = headers_found rest x at in absurd (none x.0 are.rest (record { lines = are.lines; whole = are.whole; are_full = are.are_full; headers = are.headers }))
+
+head_again : (text : List ℕ) (start : StartText) (hs : List HeaderText) (rest : List ℕ) → HasHead text start hs rest → read_at text ≡ checked start hs rest
+head_again text start hs rest h = begins_again text start h.behind h.begins ∙ ap (after_headers start) (has_headers h.behind hs rest h.headers) ∙ ap (checked start hs) (join_pieces rest)
+
+abbrev fields_read : StartText → List HeaderText → List ℕ → Option Needed → Result MessageText Fault
+fields_read start hs rest o = if_present o (cond (cseq_fits start hs) (body_at start hs rest (said_length hs)) (Err BadCSeq))
+
+checked_by : (start : StartText) (hs : List HeaderText) (rest : List ℕ) (o : Option Needed) → missing hs ≡ o → checked start hs rest ≡ fields_read start hs rest o
+unfolding checked
+checked_by start hs rest o at = ap (fields_read start hs rest) at
+
+body_again : (start : StartText) (hs : List HeaderText) (rest : List ℕ) (said : BodyLength) → HasFields start hs → said_length hs ≡ said → checked start hs rest ≡ body_at start hs rest said
+body_again start hs rest said fields at = checked_is start hs rest fields.needed fields.cseq ∙ ap (body_at start hs rest) at
+
+body_wrong : (start : StartText) (hs : List HeaderText) (rest : List ℕ) → body_at start hs rest Wrong ≡ Err BadLength
+unfolding body_at
+body_wrong start hs rest = refl
+
+body_short : (start : StartText) (hs : List HeaderText) (rest : List ℕ) (n : ℕ) (m : MessageText) → length rest < n → m ≡ head_of start hs → body_at start hs rest (Bytes n) ≡ Err (Short m)
+unfolding body_at
+body_short start hs rest n m fewer same =
+    let short : leb n (length rest) ≡ false = false_from_ne_true (leb n (length rest)) (λ e. let fits : n ≤ length rest = leb-true n (length rest) e in absurd (omega arith)) in
+    cond-false _ _ _ short ∙ ap (λ (x : MessageText). failed (Short x)) (sym same)
+
+pub refused_again : (text : List ℕ) (f : Fault) → IsRefused text f → read_at text ≡ Err f
+unfolding read_at
+refused_again text BadStart h = no_start_line text (line_at (skip text)) h refl
+refused_again text BadVersion h = first_again text h.0 h.1 BadVersion h.2 h.3
+refused_again text BadStatus h = first_again text h.0 h.1 BadStatus h.2 h.3
+refused_again text BadHeader h = begins_again text h.0 h.1 h.2 ∙ no_headers h.0 h.1 (headers_at h.1) h.3 refl
+refused_again text (Lacks name) h = head_again text h.0 h.1 h.2 h.3 ∙ checked_by h.0 h.1 h.2 (Some name) h.4
+refused_again text BadCSeq h = head_again text h.0 h.1 h.2 h.3 ∙ checked_by h.0 h.1 h.2 None h.4 ∙ cond-false _ _ _ h.5
+refused_again text BadLength h = head_again text h.0 h.1 h.2 h.3 ∙ body_again h.0 h.1 h.2 Wrong h.4 h.5 ∙ body_wrong h.0 h.1 h.2
+refused_again text (Short m) h = let s = h.5 in head_again text h.0 h.1 h.2 h.3 ∙ body_again h.0 h.1 h.2 (Bytes s.said) h.4 s.said_is ∙ body_short h.0 h.1 h.2 s.said m s.fewer s.head
