@@ -8,3 +8,4 @@ pub mod PlainContacts
 pub mod PlainLists
 pub mod PlainStep
 pub mod PlainWaiting
+pub mod ChallengeSteps

@@ -8,6 +8,7 @@ use Rattle.fork_model.specs.Core.{Core, most_strays, is_full, core_next}
 use Rattle.fork_model.specs.Steps.{progress, IsWithin}
 use Rattle.fork_model.proofs.StepLemmas.{positions_bounded, progress_bounded}
 use Rattle.fork_model.proofs.ContactLemmas.{targets_bounded}
+use Rattle.fork_model.proofs.Arrivals.{next_arrivals}
 use Rattle.fork_context.specs.Sound.{IsSound}
 
 within_next : (core : Core) (event : Event) → is_full core event ≡ false → IsWithin core → IsWithin (core_next core event)
@@ -20,6 +21,7 @@ pub sound_next : (core : Core) (event : Event) → is_full core event ≡ false 
 sound_next core event open_yet sound = record {
   few = targets_bounded core.table event core.taken sound.few;
   within = within_next core event open_yet sound.within;
+  apart = next_arrivals core.table event core.taken sound.apart;
 }
 
 -- a position is small

@@ -12,3 +12,5 @@ pub mod LeftView
 pub mod Sound
 pub mod FateView
 pub mod PlainTaking
+pub mod Askers
+pub mod Chosen

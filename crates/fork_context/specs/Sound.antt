@@ -1,10 +1,12 @@
 -- What every response context keeps. Past the limit it takes only events that change its table, and no table changes
--- without end, so its positions are bounded.
+-- without end, so its positions are bounded. Its stored answers arrived apart, so that one of them is chosen.
 use Rattle.std.specs.Prelude.{◌≤◌, ◌+◌, ℕ, length}
 use Rattle.fork_model.specs.Table.{Table, most_targets}
 use Rattle.fork_model.specs.Core.{most_strays}
+use Rattle.fork_model.specs.OneReply.{AreArrivals}
 use Rattle.fork_model.specs.Steps.{progress}
 
 pub record IsSound (table : Table) (taken : ℕ) : Type 0 where
   pub few : length table.rows ≤ most_targets
   pub within : taken ≤ most_strays + progress table
+  pub apart : AreArrivals table.rows taken

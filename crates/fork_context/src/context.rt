@@ -1,11 +1,13 @@
 //! The response context of one request.
-ghost use Rattle.std.specs.Prelude.{◌≡◌, ◌≤◌, ◌↔◌, [], true, false, length, slice_get, IsTrue, IsErrOf, IsErrAnd, IfOk, IfErr, OnOk, OnErr, IsSome, IfSome};
+ghost use Rattle.std.specs.Prelude.{◌≡◌, ◌≤◌, ◌↔◌, ◌++◌, [], Option, true, false, length, slice_get, IsTrue, IsErrOf, IsErrAnd, IfOk, IfErr, OnOk, OnErr, IsSome, IfSome};
 ghost use Rattle.std.specs.Option.{option_map, option_copied, option_and_then};
 ghost use Rattle.fork_model.specs.Table.{most_targets, is_finished, is_succeeded};
+ghost use Rattle.fork_model.specs.Choice as spec_choice;
 ghost use Rattle.fork_model.specs.Choice.{IsChoice};
 ghost use Rattle.fork_model.specs.Core.{opening_core, core_next, is_full};
 ghost use Rattle.fork_model.specs.Reply.{IsReply};
 ghost use Rattle.fork_model.specs.Step.{next};
+ghost use Rattle.fork_context.specs.Chosen.{IsChosen, challenges_added};
 ghost use Rattle.fork_context.specs.EventView.{event_of};
 ghost use Rattle.fork_context.specs.KindView.{kind_of};
 ghost use Rattle.fork_context.specs.LeftView.{left_of};
@@ -15,6 +17,7 @@ ghost use Rattle.fork_context.specs.RowShown.{row_shown};
 
 use crate::event::{Event, Offer, Target};
 use crate::kind::Kind;
+use crate::plain::challenges::challenge_list;
 use crate::plain::choice::choice;
 use crate::plain::opening::{has_twice, opening};
 use crate::plain::reply::reply;
@@ -22,7 +25,7 @@ use crate::plain::step::{is_stray, next};
 use crate::reply::{Choice, Reply};
 use crate::row::RowView;
 use crate::table::Table;
-use fork_rank::{MOST_TARGETS, Rules};
+use fork_rank::{Challenge, MOST_TARGETS, Rules};
 use std::alloc::{AllocError, Allocator, Global};
 use std::marker::Model;
 use thiserror::Error;
@@ -233,5 +236,25 @@ impl<A: Allocator + Clone> Context<A> {
         } else {
             None
         }
+    }
+
+    /// Appends what goes up with a chosen 401 or 407 beside its own challenges: those of all other stored 401 and 407
+    /// answers, by arrival, each answer's in the order of its message (RFC 3261 section 16.7 step 7). Nothing where no
+    /// answer or another is chosen.
+    ///
+    /// # Errors
+    ///
+    /// Only where the allocator refuses; then `out` is as it was.
+    pub fn challenges(&self, out: &mut Vec<Challenge<A>, A>) -> Result<(), AllocError>
+        // of the one choice that `choice` answers
+        ensures added { (chosen : Option spec_choice.Choice) → IsChosen self.now.table chosen → OnOk result (out.new.items ≡ out.old.items ++ challenges_added self.now.table.rows chosen) }
+        ensures err { OnErr result (out.new.items ≡ out.old.items) }
+    {
+        let Some(choice) = self.choice() else {
+            return Ok(());
+        };
+        let mut added = challenge_list(&self.alloc, &self.table.rows, choice)?;
+        out.append(&mut added)?;
+        Ok(())
     }
 }

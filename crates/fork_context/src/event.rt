@@ -124,6 +124,21 @@ impl<A: Allocator> Answer<A> {
         self.offers.push(offer)
     }
 
+    /// Adds a challenge behind the others.
+    ///
+    /// # Errors
+    ///
+    /// Only where the allocator refuses; then the answer is as it was.
+    pub fn push_challenge(
+        &mut self,
+        challenge: Challenge<A>,
+    ) -> Result<(), AllocFailed<Challenge<A>>>
+        ensures ok { OnOk result (self.new ≡ record self.old { challenges = self.old.challenges ++ challenge ∷ [] }) }
+        ensures err { OnErr result (self.new ≡ self.old) }
+    {
+        self.challenges.push(challenge)
+    }
+
     /// Its status.
     pub fn status(&self) -> Status
         ensures { result ≡ self.now.status }

@@ -3,7 +3,7 @@ use crate::{
     Answer, Choice, Context, End, Event, Kind, NewFault, Offer, PostError, Reply, RowView, State,
     Target, Up,
 };
-use fork_rank::{RingStatus, Rules, Status};
+use fork_rank::{Challenge, RingStatus, Rules, Status};
 use std::process::Abort;
 use std::test::Fail;
 
@@ -87,6 +87,27 @@ fn tells(reply: &Reply, started: &[u16], cancelled: &[u16], up: Up) -> bool {
     reply.started() == started && reply.cancelled() == cancelled && reply.up() == up
 }
 
+/// Takes the event. (What this call hides of its reply keeps the tests' proofs short.)
+fn posted(fork: &mut Context, event: Event) -> Result<Reply, Fail> {
+    Ok(fork.post(event)?)
+}
+
+/// Takes the event. Whether the reply tells of these rows and nothing else goes up.
+fn comes(
+    fork: &mut Context,
+    event: Event,
+    started: &[u16],
+    cancelled: &[u16],
+    up: Up,
+) -> Result<bool, Fail> {
+    Ok(tells(&posted(fork, event)?, started, cancelled, up))
+}
+
+/// Takes the event. What goes up.
+fn up_after(fork: &mut Context, event: Event) -> Result<Up, Fail> {
+    Ok(posted(fork, event)?.up())
+}
+
 #[test]
 fn a_preferred_4xx_goes_first(rt: HostRuntime) -> Result<(), Fail> {
     let mut fork = context(
@@ -96,12 +117,12 @@ fn a_preferred_4xx_goes_first(rt: HostRuntime) -> Result<(), Fail> {
     )?;
     assert_eq!(rt; fork.choice(), None);
     for (n, code) in [(0, 503), (1, 407), (2, 501)] {
-        let reply = fork.post(answer(&rt, n, code)?)?;
+        let reply = posted(&mut fork, answer(&rt, n, code)?)?;
         assert_eq!(rt; reply.at(), n as u32);
         assert!(rt; tells(&reply, &[], &[], Up::Nothing));
     }
     assert!(rt; !fork.finished());
-    let reply = fork.post(answer(&rt, 3, 404)?)?;
+    let reply = posted(&mut fork, answer(&rt, 3, 404)?)?;
     assert_eq!(rt; reply.at(), 3);
     assert!(rt; tells(&reply, &[], &[], Up::Final(Choice::Stored(1))));
     assert!(rt; fork.finished());
@@ -110,8 +131,7 @@ fn a_preferred_4xx_goes_first(rt: HostRuntime) -> Result<(), Fail> {
     assert!(rt; has_received(&fork, 1, 407, 1));
 
     // whatever comes then changes nothing, and nothing final goes up again
-    let reply = fork.post(answer(&rt, 1, 603)?)?;
-    assert!(rt; tells(&reply, &[], &[], Up::Nothing));
+    assert!(rt; comes(&mut fork, answer(&rt, 1, 603)?, &[], &[], Up::Nothing)?);
     assert_eq!(rt; fork.choice(), Some(Choice::Stored(1)));
     Ok(())
 }
@@ -119,9 +139,9 @@ fn a_preferred_4xx_goes_first(rt: HostRuntime) -> Result<(), Fail> {
 #[test]
 fn the_earliest_of_equals_goes_first(rt: HostRuntime) -> Result<(), Fail> {
     let mut fork = context(&rt, Kind::Other, &[(b"a", 1000), (b"b", 1000)])?;
-    assert_eq!(rt; fork.post(answer(&rt, 1, 486)?)?.up(), Up::Nothing);
+    assert_eq!(rt; up_after(&mut fork, answer(&rt, 1, 486)?)?, Up::Nothing);
     assert_eq!(rt;
-        fork.post(answer(&rt, 0, 404)?)?.up(),
+        up_after(&mut fork, answer(&rt, 0, 404)?)?,
         Up::Final(Choice::Stored(1))
     );
     Ok(())
@@ -130,9 +150,9 @@ fn the_earliest_of_equals_goes_first(rt: HostRuntime) -> Result<(), Fail> {
 #[test]
 fn a_503_goes_up_as_a_500(rt: HostRuntime) -> Result<(), Fail> {
     let mut fork = context(&rt, Kind::Invite, &[(b"a", 1000), (b"b", 1000)])?;
-    assert_eq!(rt; fork.post(answer(&rt, 1, 503)?)?.up(), Up::Nothing);
+    assert_eq!(rt; up_after(&mut fork, answer(&rt, 1, 503)?)?, Up::Nothing);
     assert_eq!(rt;
-        fork.post(Event::Fault(0))?.up(),
+        up_after(&mut fork, Event::Fault(0))?,
         Up::Final(Choice::Only503(1))
     );
     let assumed = State::Ended(End::Stored {
@@ -151,14 +171,20 @@ fn a_6xx_waits_for_the_others(rt: HostRuntime) -> Result<(), Fail> {
         Kind::Invite,
         &[(b"a", 1000), (b"b", 1000), (b"c", 500)],
     )?;
-    assert_eq!(rt; fork.post(ring(0, 100)?)?.up(), Up::Nothing);
-    assert_eq!(rt; fork.post(ring(0, 183)?)?.up(), Up::Provisional(0));
-    let reply = fork.post(answer(&rt, 1, 603)?)?;
-    assert!(rt; tells(&reply, &[], &[0], Up::Nothing));
+    assert_eq!(rt; up_after(&mut fork, ring(0, 100)?)?, Up::Nothing);
+    assert_eq!(rt; up_after(&mut fork, ring(0, 183)?)?, Up::Provisional(0));
+    assert!(rt; comes(&mut fork, answer(&rt, 1, 603)?, &[], &[0], Up::Nothing)?);
     assert!(rt; fork.closed());
     assert_eq!(rt; row(&fork, 2)?.row.state, State::Ended(End::Never));
-    let reply = fork.post(answer(&rt, 0, 487)?)?;
-    assert!(rt; tells(&reply, &[], &[], Up::Final(Choice::Stored(1))));
+    assert!(rt;
+        comes(
+            &mut fork,
+            answer(&rt, 0, 487)?,
+            &[],
+            &[],
+            Up::Final(Choice::Stored(1))
+        )?
+    );
     Ok(())
 }
 
@@ -176,16 +202,13 @@ fn groups_are_tried_in_series(rt: HostRuntime) -> Result<(), Fail> {
     let second = row(&fork, 1)?;
     assert_eq!(rt; (second.place, second.row.group, second.row.q), (2, 1, 500));
     assert_eq!(rt; second.row.state, State::Idle);
-    let reply = fork.post(Event::Timeout(0))?;
-    assert!(rt; tells(&reply, &[1, 2], &[], Up::Nothing));
-    let reply = fork.post(answer(&rt, 2, 200)?)?;
-    assert!(rt; tells(&reply, &[], &[], Up::Success(2)));
+    assert!(rt; comes(&mut fork, Event::Timeout(0), &[1, 2], &[], Up::Nothing)?);
+    assert!(rt; comes(&mut fork, answer(&rt, 2, 200)?, &[], &[], Up::Success(2))?);
     assert!(rt; fork.succeeded());
     assert_eq!(rt; row(&fork, 3)?.row.state, State::Ended(End::Never));
 
     // the later 2xx of a request that is no INVITE stays
-    let reply = fork.post(answer(&rt, 1, 200)?)?;
-    assert!(rt; tells(&reply, &[], &[], Up::Nothing));
+    assert!(rt; comes(&mut fork, answer(&rt, 1, 200)?, &[], &[], Up::Nothing)?);
     assert!(rt; fork.finished());
     assert_eq!(rt; fork.choice(), None);
     Ok(())
@@ -199,8 +222,7 @@ fn contacts_are_taken_or_left(rt: HostRuntime) -> Result<(), Fail> {
         (b"<mailto:c>", None),
         (b"<sip:a>", Some(b"a")),
     ];
-    let reply = fork.post(redirect(&rt, &contacts)?)?;
-    assert!(rt; tells(&reply, &[1], &[], Up::Nothing));
+    assert!(rt; comes(&mut fork, redirect(&rt, &contacts)?, &[1], &[], Up::Nothing)?);
     assert!(rt; has_received(&fork, 0, 302, 0));
     let left = fork.left(0).ok_or("nothing is left")?;
     assert_eq!(rt; left.len(), 1);
@@ -209,8 +231,15 @@ fn contacts_are_taken_or_left(rt: HostRuntime) -> Result<(), Fail> {
     assert!(rt; fork.left(1).is_none());
 
     // a 3xx goes before any 4xx
-    let reply = fork.post(answer(&rt, 1, 404)?)?;
-    assert!(rt; tells(&reply, &[], &[], Up::Final(Choice::Stored(0))));
+    assert!(rt;
+        comes(
+            &mut fork,
+            answer(&rt, 1, 404)?,
+            &[],
+            &[],
+            Up::Final(Choice::Stored(0))
+        )?
+    );
     Ok(())
 }
 
@@ -218,15 +247,13 @@ fn contacts_are_taken_or_left(rt: HostRuntime) -> Result<(), Fail> {
 fn a_3xx_of_taken_contacts_is_spent(rt: HostRuntime) -> Result<(), Fail> {
     let mut fork = context(&rt, Kind::Invite, &[(b"a", 1000)])?;
     let contacts: [(&[u8], Option<&[u8]>); 1] = [(b"<sip:b>", Some(b"b"))];
-    let reply = fork.post(redirect(&rt, &contacts)?)?;
-    assert!(rt; tells(&reply, &[1], &[], Up::Nothing));
+    assert!(rt; comes(&mut fork, redirect(&rt, &contacts)?, &[1], &[], Up::Nothing)?);
     assert_eq!(rt;
         row(&fork, 0)?.row.state,
         State::Ended(End::Taken { arrival: 0 })
     );
     assert!(rt; fork.left(0).is_none());
-    let reply = fork.post(answer(&rt, 1, 200)?)?;
-    assert!(rt; tells(&reply, &[], &[], Up::Success(1)));
+    assert!(rt; comes(&mut fork, answer(&rt, 1, 200)?, &[], &[], Up::Success(1))?);
     Ok(())
 }
 
@@ -239,20 +266,18 @@ fn a_cancel_ends_what_waits(rt: HostRuntime) -> Result<(), Fail> {
     )?;
     assert_eq!(rt; fork.kind(), Kind::Invite);
     assert_eq!(rt; fork.rules().depth(), 256);
-    assert_eq!(rt; fork.post(ring(0, 180)?)?.up(), Up::Provisional(0));
-    let reply = fork.post(Event::Cancel)?;
-    assert!(rt; tells(&reply, &[], &[0], Up::Nothing));
+    assert_eq!(rt; up_after(&mut fork, ring(0, 180)?)?, Up::Provisional(0));
+    assert!(rt; comes(&mut fork, Event::Cancel, &[], &[0], Up::Nothing)?);
     assert_eq!(rt; row(&fork, 0)?.row.state, State::Rung { cancelled: true });
     assert_eq!(rt; row(&fork, 2)?.row.state, State::Ended(End::Never));
-    let reply = fork.post(ring(1, 180)?)?;
-    assert!(rt; tells(&reply, &[], &[1], Up::Provisional(1)));
-    assert_eq!(rt; fork.post(Event::GiveUp(0))?.up(), Up::Nothing);
+    assert!(rt; comes(&mut fork, ring(1, 180)?, &[], &[1], Up::Provisional(1))?);
+    assert_eq!(rt; up_after(&mut fork, Event::GiveUp(0))?, Up::Nothing);
     assert_eq!(rt;
         row(&fork, 0)?.row.state,
         State::Ended(End::Silent { arrival: 3 })
     );
     assert_eq!(rt;
-        fork.post(Event::GiveUp(1))?.up(),
+        up_after(&mut fork, Event::GiveUp(1))?,
         Up::Final(Choice::NoAnswer408)
     );
     Ok(())
@@ -261,13 +286,19 @@ fn a_cancel_ends_what_waits(rt: HostRuntime) -> Result<(), Fail> {
 #[test]
 fn timer_c_cancels_a_branch_that_rings(rt: HostRuntime) -> Result<(), Fail> {
     let mut fork = context(&rt, Kind::Invite, &[(b"a", 1000), (b"b", 1000)])?;
-    assert_eq!(rt; fork.post(ring(0, 180)?)?.up(), Up::Provisional(0));
-    let reply = fork.post(Event::TimerC(0))?;
-    assert!(rt; tells(&reply, &[], &[0], Up::Nothing));
+    assert_eq!(rt; up_after(&mut fork, ring(0, 180)?)?, Up::Provisional(0));
+    assert!(rt; comes(&mut fork, Event::TimerC(0), &[], &[0], Up::Nothing)?);
     assert!(rt; !fork.closed());
-    assert_eq!(rt; fork.post(Event::TimerC(1))?.up(), Up::Nothing);
-    let reply = fork.post(answer(&rt, 0, 487)?)?;
-    assert!(rt; tells(&reply, &[], &[], Up::Final(Choice::Stored(1))));
+    assert_eq!(rt; up_after(&mut fork, Event::TimerC(1))?, Up::Nothing);
+    assert!(rt;
+        comes(
+            &mut fork,
+            answer(&rt, 0, 487)?,
+            &[],
+            &[],
+            Up::Final(Choice::Stored(1))
+        )?
+    );
     Ok(())
 }
 
@@ -276,7 +307,7 @@ fn strays_are_refused_at_last(rt: HostRuntime) -> Result<(), Fail> {
     let mut fork = context(&rt, Kind::Other, &[(b"a", 1000)])?;
     for at in 0..4096u32 {
         assert!(rt; !fork.is_full(&Event::Timeout(1)));
-        assert_eq!(rt; fork.post(Event::Timeout(1))?.at(), at);
+        assert_eq!(rt; posted(&mut fork, Event::Timeout(1))?.at(), at);
     }
     assert!(rt; fork.is_full(&Event::Timeout(1)));
     assert!(rt;
@@ -287,7 +318,7 @@ fn strays_are_refused_at_last(rt: HostRuntime) -> Result<(), Fail> {
     );
 
     // an event that changes something is taken all the same
-    let reply = fork.post(answer(&rt, 0, 404)?)?;
+    let reply = posted(&mut fork, answer(&rt, 0, 404)?)?;
     assert_eq!(rt; reply.at(), 4096);
     assert!(rt; tells(&reply, &[], &[], Up::Final(Choice::Stored(0))));
     Ok(())
@@ -318,12 +349,33 @@ fn faults_come_in_their_order(rt: HostRuntime) -> Result<(), Fail> {
 fn copies_do_what_their_events_do(rt: HostRuntime) -> Result<(), Fail> {
     let mut fork = context(&rt, Kind::Invite, &[(b"a", 1000)])?;
     let contacts: [(&[u8], Option<&[u8]>); 2] = [(b"b", Some(b"b")), (b"c", Some(b"c"))];
-    let reply = fork.post(redirect(&rt, &contacts)?.copy(&rt.alloc())?)?;
-    assert!(rt; tells(&reply, &[1, 2], &[], Up::Nothing));
-    let reply = fork.post(answer(&rt, 1, 404)?.copy(&rt.alloc())?)?;
-    assert!(rt; tells(&reply, &[], &[], Up::Nothing));
-    let reply = fork.post(Event::Timeout(2).copy(&rt.alloc())?)?;
-    assert!(rt; tells(&reply, &[], &[], Up::Final(Choice::Stored(1))));
+    assert!(rt;
+        comes(
+            &mut fork,
+            redirect(&rt, &contacts)?.copy(&rt.alloc())?,
+            &[1, 2],
+            &[],
+            Up::Nothing
+        )?
+    );
+    assert!(rt;
+        comes(
+            &mut fork,
+            answer(&rt, 1, 404)?.copy(&rt.alloc())?,
+            &[],
+            &[],
+            Up::Nothing
+        )?
+    );
+    assert!(rt;
+        comes(
+            &mut fork,
+            Event::Timeout(2).copy(&rt.alloc())?,
+            &[],
+            &[],
+            Up::Final(Choice::Stored(1))
+        )?
+    );
     Ok(())
 }
 
@@ -334,7 +386,7 @@ fn an_answer_takes_contacts(rt: HostRuntime) -> Result<(), Fail> {
     let mut answer = Answer::new(status(302)?, Vec::new(rt.alloc()), Vec::new(rt.alloc()));
     answer.push_offer(offer)?;
     let mut fork = context(&rt, Kind::Invite, &[(b"a", 1000)])?;
-    fork.post(Event::Answer(0, answer.copy(&rt.alloc())?))?;
+    posted(&mut fork, Event::Answer(0, answer.copy(&rt.alloc())?))?;
     let left = fork.left(0).ok_or("nothing is left")?;
     assert_eq!(rt; left.len(), 1);
     assert_eq!(rt; left[0].text(), b"<sip:b>".as_slice());
@@ -359,8 +411,15 @@ fn depth_zero_leaves_each_contact(rt: HostRuntime) -> Result<(), Fail> {
         targets(&rt, &[(b"a", 1000)])?,
     )?;
     let contacts: [(&[u8], Option<&[u8]>); 1] = [(b"b", Some(b"b"))];
-    let reply = fork.post(redirect(&rt, &contacts)?)?;
-    assert!(rt; tells(&reply, &[], &[], Up::Final(Choice::Stored(0))));
+    assert!(rt;
+        comes(
+            &mut fork,
+            redirect(&rt, &contacts)?,
+            &[],
+            &[],
+            Up::Final(Choice::Stored(0))
+        )?
+    );
     assert_eq!(rt; left_alone(&fork), Some(b"b".as_slice()));
     Ok(())
 }
@@ -373,10 +432,102 @@ fn the_257th_target_is_left(rt: HostRuntime) -> Result<(), Fail> {
     }
     let mut fork = Context::new(rt.alloc(), Kind::Invite, Rules::usual(), list)?;
     let contacts: [(&[u8], Option<&[u8]>); 2] = [(b"x", Some(b"x")), (b"y", Some(b"y"))];
-    let reply = fork.post(redirect(&rt, &contacts)?)?;
-    assert!(rt; tells(&reply, &[255], &[], Up::Nothing));
+    assert!(rt;
+        comes(
+            &mut fork,
+            redirect(&rt, &contacts)?,
+            &[255],
+            &[],
+            Up::Nothing
+        )?
+    );
     assert!(rt; has_received(&fork, 0, 302, 0));
     assert_eq!(rt; left_alone(&fork), Some(b"y".as_slice()));
     assert_eq!(rt; fork.count(), 256);
+    Ok(())
+}
+
+/// A 401 or a 407 with these challenges, each of the kind that goes with the status.
+fn asking(rt: &HostRuntime, n: u16, code: u16, values: &[&[u8]]) -> Result<Event, Fail> {
+    let mut answer = Answer::new(status(code)?, Vec::new(rt.alloc()), Vec::new(rt.alloc()));
+    for &value in values {
+        answer.push_challenge(Challenge::new(code == 407, value.to_vec(rt.alloc())?))?;
+    }
+    Ok(Event::Answer(n, answer))
+}
+
+/// Whether these challenges are added to the final answer, of proxies where the flag is set.
+fn adds(rt: &HostRuntime, fork: &Context, wanted: &[(bool, &[u8])]) -> Result<bool, Fail> {
+    let mut out = Vec::new(rt.alloc());
+    out.push(Challenge::new(true, Vec::new(rt.alloc())))?;
+    fork.challenges(&mut out)?;
+    let [_, added @ ..] = out.as_slice() else {
+        return Ok(false);
+    };
+    for (challenge, &(proxy, value)) in added.iter().zip(wanted) {
+        if challenge.proxy() != proxy || challenge.value() != value {
+            return Ok(false);
+        }
+    }
+    Ok(added.len() == wanted.len())
+}
+
+/// The challenges of three branches, each event copied first or none: one is busy, a server's challenge is chosen,
+/// and a proxy's goes up beside it. Whether it is so.
+fn asks_twice(rt: &HostRuntime, copied: bool) -> Result<bool, Fail> {
+    let mut fork = context(
+        rt,
+        Kind::Invite,
+        &[(b"a", 1000), (b"b", 1000), (b"c", 1000)],
+    )?;
+    let mut events = Vec::new(rt.alloc());
+    events.push(answer(rt, 0, 486)?)?;
+    events.push(asking(rt, 1, 401, &[b"Digest realm=\"a\""])?)?;
+    events.push(asking(rt, 2, 407, &[b"Digest realm=\"b\""])?)?;
+    let mut up = Up::Nothing;
+    for event in events {
+        if !adds(rt, &fork, &[])? {
+            return Ok(false);
+        }
+        let event = if copied {
+            event.copy(&rt.alloc())?
+        } else {
+            event
+        };
+        up = up_after(&mut fork, event)?;
+    }
+    Ok(up == Up::Final(Choice::Stored(1)) && adds(rt, &fork, &[(true, b"Digest realm=\"b\"")])?)
+}
+
+#[test]
+fn others_challenges_are_added(rt: HostRuntime) -> Result<(), Fail> {
+    assert!(rt; asks_twice(&rt, false)?);
+    assert!(rt; asks_twice(&rt, true)?);
+    Ok(())
+}
+
+#[test]
+fn challenges_stand_by_arrival(rt: HostRuntime) -> Result<(), Fail> {
+    let mut fork = context(
+        &rt,
+        Kind::Other,
+        &[(b"a", 1000), (b"b", 1000), (b"c", 1000), (b"d", 1000)],
+    )?;
+    posted(&mut fork, asking(&rt, 3, 407, &[b"1"])?)?;
+    posted(&mut fork, asking(&rt, 2, 407, &[b"2", b"3"])?)?;
+    posted(&mut fork, answer(&rt, 1, 404)?)?;
+    let reply = posted(&mut fork, asking(&rt, 0, 401, &[b"4"])?)?;
+    assert_eq!(rt; reply.up(), Up::Final(Choice::Stored(3)));
+    assert!(rt; adds(&rt, &fork, &[(true, b"2"), (true, b"3"), (false, b"4")])?);
+    Ok(())
+}
+
+#[test]
+fn another_choice_has_no_challenges(rt: HostRuntime) -> Result<(), Fail> {
+    let mut fork = context(&rt, Kind::Invite, &[(b"a", 1000), (b"b", 1000)])?;
+    posted(&mut fork, asking(&rt, 0, 401, &[b"1"])?)?;
+    let reply = posted(&mut fork, answer(&rt, 1, 603)?)?;
+    assert_eq!(rt; reply.up(), Up::Final(Choice::Stored(1)));
+    assert!(rt; adds(&rt, &fork, &[])?);
     Ok(())
 }

@@ -16,11 +16,11 @@ use Rattle.fork_model.proofs.WaitingLemmas.{MayStart, may_start_facts, is_earlie
 use Rattle.fork_model.proofs.SeriesLemmas.{keeps_series, one_group_starts}
 
 -- an opening row stands under none, and it is tried just where its group is the first
-record IsOpeningRow (row : Row) : Type 0 where
-  parent : row.parent ≡ None
-  state : row.state ≡ cond (row.group == 0) Trying Idle
+pub record IsOpeningRow (row : Row) : Type 0 where
+  pub parent : row.parent ≡ None
+  pub state : row.state ≡ cond (row.group == 0) Trying Idle
 
-opening_row : (targets : List Target) (m : ℕ) (row : Row) → slice_get (opening_rows targets) m ≡ Some row → IsOpeningRow row
+pub opening_row : (targets : List Target) (m : ℕ) (row : Row) → slice_get (opening_rows targets) m ≡ Some row → IsOpeningRow row
 opening_row targets m row is =
     let from = from_filter_map (λ (p : ℕ × ℕ). option_map (first_row p.0 p.1) (slice_get targets p.1)) (numbered (map (λ (target : Target). target.q) targets)) m row is in
     go from.0.0 from.0.1 (slice_get targets from.0.1) from.1
@@ -39,10 +39,10 @@ target_at (target ∷ targets) q zero e = (target, refl)
 target_at (target ∷ targets) q (suc place) e = target_at targets q place e
 
 -- no rows, or one of group 0 at the head
-abbrev HasFirst : List Row → Type 0
+abbrev pub HasFirst : List Row → Type 0
 HasFirst rows = (rows ≡ []) ⊎ ((row : Row) × (rest : List Row) × (rows ≡ row ∷ rest) × (row.group ≡ 0))
 
-has_first : (targets : List Target) → HasFirst (opening_rows targets)
+pub has_first : (targets : List Target) → HasFirst (opening_rows targets)
 has_first targets = go (first_place (map (λ (target : Target). target.q) targets))
   where
     go : FirstPlace (map (λ (target : Target). target.q) targets) → HasFirst (opening_rows targets)

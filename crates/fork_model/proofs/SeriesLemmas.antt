@@ -38,21 +38,21 @@ parent_ended_more rows later (Some n) ext e = go (slice_get rows n) refl e
 
 -- ---- settling
 
-settled_there : (t : Table) (rows : List Row) (m : ℕ) (row : Row) → slice_get rows m ≡ Some row → slice_get (map (settled_row t) rows) m ≡ Some (settled_row t row)
+pub settled_there : (t : Table) (rows : List Row) (m : ℕ) (row : Row) → slice_get rows m ≡ Some row → slice_get (map (settled_row t) rows) m ≡ Some (settled_row t row)
 settled_there t [] m row is = absurd cc
 settled_there t (x ∷ rows) zero row is = let same : x ≡ row = cc in ap (λ (r : Row). Some (settled_row t r)) same
 settled_there t (x ∷ rows) (suc m) row is = settled_there t rows m row is
 
 -- the row of which a settled row was made
-abbrev SettledFrom : Table → List Row → ℕ → Row → Type 0
+abbrev pub SettledFrom : Table → List Row → ℕ → Row → Type 0
 SettledFrom t rows m row = (r : Row) × (slice_get rows m ≡ Some r) × (settled_row t r ≡ row)
 
-settled_from : (t : Table) (rows : List Row) (m : ℕ) (row : Row) → slice_get (map (settled_row t) rows) m ≡ Some row → SettledFrom t rows m row
+pub settled_from : (t : Table) (rows : List Row) (m : ℕ) (row : Row) → slice_get (map (settled_row t) rows) m ≡ Some row → SettledFrom t rows m row
 settled_from t [] m row is = absurd cc
 settled_from t (x ∷ rows) zero row is = (x, refl, let same : settled_row t x ≡ row = cc in same)
 settled_from t (x ∷ rows) (suc m) row is = settled_from t rows m row is
 
-settled_open : (t : Table) (row : Row) → t.closed ≡ false → settled_state t row ≡ cond (may_start t.rows row) Trying row.state
+pub settled_open : (t : Table) (row : Row) → t.closed ≡ false → settled_state t row ≡ cond (may_start t.rows row) Trying row.state
 settled_open t row still = ap (λ (b : Bool). cond b (closed_state t.kind row.state) (cond (may_start t.rows row) Trying row.state)) still
 
 idle_back : (start : Bool) (state : State) → is_idle (cond start Trying state) ≡ true → is_idle state ≡ true
@@ -109,7 +109,7 @@ none_waits_settled t still n row is =
         let tried : settled_state t r ≡ Trying = settled_open t r still ∙ ap (λ (b : Bool). cond b Trying r.state) starts in
         absurd (differ facts.idle (ap is_idle tried))
 
-closed_not_idle : (kind : Kind) (state : State) → is_idle (closed_state kind state) ≡ false
+pub closed_not_idle : (kind : Kind) (state : State) → is_idle (closed_state kind state) ≡ false
 closed_not_idle kind Idle = refl
 closed_not_idle kind Trying = refl
 closed_not_idle kind (Rung b) = refl
@@ -239,7 +239,7 @@ new_meets rows fresh n rn s there i k a b new parent is f g passes =
         not_above (with_state rows n s ++ fresh) l i a b len is f g (subst P (sym above) longer)
 
 -- rows that may start after a move stand in one group
-abbrev OneGroup : List Row → Type 0
+abbrev pub OneGroup : List Row → Type 0
 OneGroup rows =
     (i j : ℕ) (a b : Row) → slice_get rows i ≡ Some a → slice_get rows j ≡ Some b → MayStart rows a → MayStart rows b
     → (a.parent ≡ b.parent) × (a.group ≡ b.group)
@@ -287,7 +287,7 @@ started_by_settling state kind false true not_yet now = (refl, refl)
 started_by_settling state kind false false not_yet now = absurd (differ now not_yet)
 
 -- a row that is tried after the change was tried before it
-tried_before : (t u : Table) → (IsMove t u) ⊎ (IsClosing t u) → (n : ℕ) (row : Row) → slice_get u.rows n ≡ Some row
+pub tried_before : (t u : Table) → (IsMove t u) ⊎ (IsClosing t u) → (n : ℕ) (row : Row) → slice_get u.rows n ≡ Some row
     → is_row is_trying (slice_get t.rows n) ≡ false → is_trying row.state ≡ false
 tried_before t u (inr c) n row is not_yet =
     let there : slice_get t.rows n ≡ Some row = ap (λ (rows : List Row). slice_get rows n) (sym c.rows) ∙ is in
@@ -322,7 +322,7 @@ begun t u change n row started =
     let why = started_by_settling from.0.state u.kind u.closed (may_start u.rows from.0) before now' in
     record { was = from.0; there = from.1; same = from.2; still = why.0; may = may_start_facts u.rows from.0 why.1 }
 
-one_group_changed : (t u : Table) → Onward t u → (IsMove t u) ⊎ (IsClosing t u) → IsInSeries t → u.closed ≡ false → OneGroup u.rows
+pub one_group_changed : (t u : Table) → Onward t u → (IsMove t u) ⊎ (IsClosing t u) → IsInSeries t → u.closed ≡ false → OneGroup u.rows
 one_group_changed t u on (inr c) h still = absurd (differ c.closed still)
 one_group_changed t u on (inl m) h still =
     let P : List Row → Type 0 = λ rows. OneGroup rows in
@@ -383,7 +383,7 @@ trying_not_idle (Rung b) e = refl
 trying_not_idle (Ended end) e = refl
 
 -- a row that waits was not tried before
-idle_before : (rows later : List Row) (m : ℕ) (b : Row) → Extends rows later → slice_get later m ≡ Some b → is_idle b.state ≡ true
+pub idle_before : (rows later : List Row) (m : ℕ) (b : Row) → Extends rows later → slice_get later m ≡ Some b → is_idle b.state ≡ true
     → is_row is_trying (slice_get rows m) ≡ false
 idle_before rows later m b ext is idle = go (slice_get rows m) refl
   where

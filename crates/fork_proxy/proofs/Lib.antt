@@ -1,5 +1,6 @@
 pub mod Pieces
-pub mod Contacts
+pub mod LastAnswer
+pub mod InputSteps
 pub mod Rows
 pub mod Outcomes
 pub mod PreferredLists

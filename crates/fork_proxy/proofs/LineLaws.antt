@@ -15,8 +15,8 @@ use Rattle.fork_model.specs.Table.{Kind, Invite, Other, most_targets}
 use Rattle.fork_model.specs.Event.{Ring, Answer, Timeout, Fault, TimerC, GiveUp}
 use Rattle.fork_proxy.specs.declared.line.Word.{Word}
 use Rattle.fork_proxy.specs.declared.line.Word.TheVariants as word
-use Rattle.fork_proxy.specs.Line.{Line, KindLine, PreferLine, DepthLine, TargetLine, EventLine, ContactLine, OtherLine, list_text, kind_text, numbered_text, line_text, most_q, most_number, is_name, is_text, bare, IsLine}
-use Rattle.fork_proxy.specs.Reading.{word_of, read_kind, numbers_onto, is_preferred_list, preferred_if, read_preferred, numbered_cut, read_numbered, number_from, ring_of, answer_of, named, texted, read_named, read_texted, read_row, read_rest, read_alone, read_worded, read_cut, read_line}
+use Rattle.fork_proxy.specs.Line.{Line, KindLine, PreferLine, DepthLine, TargetLine, EventLine, ContactLine, OtherLine, ChallengeLine, list_text, kind_text, asker_text, numbered_text, line_text, most_q, most_number, is_name, is_text, bare, IsLine}
+use Rattle.fork_proxy.specs.Reading.{word_of, read_kind, numbers_onto, is_preferred_list, preferred_if, read_preferred, numbered_cut, read_numbered, number_from, ring_of, answer_of, named, texted, read_named, read_texted, read_asker, challenge_of, challenge_cut, read_challenge, read_row, read_rest, read_alone, read_worded, read_cut, read_line}
 use Rattle.fork_proxy.proofs.NumberLaws.{IsSpelled, number_spelled}
 use Rattle.fork_proxy.proofs.PreferredLists.{preferred_is}
 
@@ -50,6 +50,7 @@ word_text word.GiveUp = codes "giveup"
 word_text word.Cancel = codes "cancel"
 word_text word.Contact = codes "contact"
 word_text word.Other = codes "other"
+word_text word.Challenge = codes "challenge"
 
 word_step : (b : Bool) (text : List ℕ) (w v : Word) (r : Option Word) → (b ≡ true → text ≡ word_text w) → (r ≡ Some v → text ≡ word_text v) → cond b (Some w) r ≡ Some v → text ≡ word_text v
 word_step true text w v r same others e = same refl ∙ ap word_text (some_is e)
@@ -70,7 +71,8 @@ word_found text v =
     (word_step _ text word.Cancel v _ (bytes_eq-Decides text (codes "cancel")).0
     (word_step _ text word.Contact v _ (bytes_eq-Decides text (codes "contact")).0
     (word_step _ text word.Other v _ (bytes_eq-Decides text (codes "other")).0
-    (λ e. absurd cc)))))))))))))
+    (word_step _ text word.Challenge v _ (bytes_eq-Decides text (codes "challenge")).0
+    (λ e. absurd cc))))))))))))))
 
 kind_step : (b : Bool) (text : List ℕ) (k v : Kind) (r : Option Kind) → (b ≡ true → text ≡ kind_text k) → (r ≡ Some v → text ≡ kind_text v) → cond b (Some k) r ≡ Some v → text ≡ kind_text v
 kind_step true text k v r same others e = same refl ∙ ap kind_text (some_is e)
@@ -80,6 +82,15 @@ kind_found : (text : List ℕ) (kind : Kind) → read_kind text ≡ Some kind �
 kind_found text kind =
     kind_step _ text Invite kind _ (bytes_eq-Decides text (codes "INVITE")).0
     (kind_step _ text Other kind _ (bytes_eq-Decides text (codes "OTHER")).0 (λ e. absurd cc))
+
+asker_step : (b : Bool) (text : List ℕ) (k v : Bool) (r : Option Bool) → (b ≡ true → text ≡ asker_text k) → (r ≡ Some v → text ≡ asker_text v) → cond b (Some k) r ≡ Some v → text ≡ asker_text v
+asker_step true text k v r same others e = same refl ∙ ap asker_text (some_is e)
+asker_step false text k v r same others e = others e
+
+asker_found : (text : List ℕ) (proxy : Bool) → read_asker text ≡ Some proxy → text ≡ asker_text proxy
+asker_found text proxy =
+    asker_step _ text false proxy _ (bytes_eq-Decides text (codes "W")).0
+    (asker_step _ text true proxy _ (bytes_eq-Decides text (codes "P")).0 (λ e. absurd cc))
 
 -- a number, a space, a text
 numbered_found : (limit : ℕ) (text : List ℕ) (p : ℕ × List ℕ) → limit < 2 ^ 64 → read_numbered limit text ≡ Some p → (text ≡ numbered_text p.0 p.1) × (p.0 ≤ limit)
@@ -180,6 +191,19 @@ preferred_found text statuses e = by_dash (bytes_eq text (codes "-")) (bytes_eq-
 abbrev Found : List ℕ → Line → Type 0
 Found text line = (text ≡ line_text line) × IsLine line
 
+challenge_found : (text : List ℕ) (line : Line) → read_challenge text ≡ Some line → Found (codes "challenge" ++ 32 ∷ text) line
+challenge_found text line e = parts (cut (is 32) text) (cut_joins 32 text) e
+  where
+    parts : (c : List ℕ × Option (List ℕ)) → text ≡ c.0 ++ behind 32 c.1 → challenge_cut c ≡ Some line → Found (codes "challenge" ++ 32 ∷ text) line
+    parts (asker, None) whole e = absurd cc
+    parts (asker, Some value) whole e =
+        found_then (challenge_of value) (read_asker asker) line (Found (codes "challenge" ++ 32 ∷ text) line)
+        (λ proxy at is.
+        let g = found_if (is_text value) (ChallengeLine proxy value) line is in
+        let P : Line → Type 0 = Found (codes "challenge" ++ 32 ∷ text) in
+        subst P g.1 (ap (λ (bytes : List ℕ). codes "challenge " ++ bytes) (whole ∙ ap (λ (bytes : List ℕ). bytes ++ 32 ∷ value) (asker_found asker proxy at)), g.0))
+        e
+
 -- behind a word and its space
 rest_found : (w : Word) (rest : List ℕ) (line : Line) → read_rest w rest ≡ Some line → Found (word_text w ++ 32 ∷ rest) line
 rest_found word.Kind rest line e =
@@ -226,6 +250,7 @@ rest_found word.Contact rest line e =
 rest_found word.Other rest line e =
     found_map (λ p. OtherLine p.0 p.1) (read_texted rest) line (Found (codes "other" ++ 32 ∷ rest))
     (λ p at. let h = texted_found rest p at in (ap (λ (text : List ℕ). codes "other " ++ text) h.0, (h.1, h.2))) e
+rest_found word.Challenge rest line e = challenge_found rest line e
 
 alone_found : (w : Word) (line : Line) → read_alone w ≡ Some line → Found (word_text w ++ []) line
 alone_found word.Cancel line e = let P : Line → Type 0 = Found (codes "cancel") in subst P (some_is e) (refl, tt)
@@ -241,6 +266,7 @@ alone_found word.TimerC line e = absurd cc
 alone_found word.GiveUp line e = absurd cc
 alone_found word.Contact line e = absurd cc
 alone_found word.Other line e = absurd cc
+alone_found word.Challenge line e = absurd cc
 
 worded_found : (w : Word) (rest : Option (List ℕ)) (line : Line) → read_worded w rest ≡ Some line → Found (word_text w ++ behind 32 rest) line
 worded_found w None line e = alone_found w line e

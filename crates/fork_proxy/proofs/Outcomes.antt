@@ -3,7 +3,7 @@ use Rattle.std.proofs.Common.{◌≡◌, ℕ, List, [], ◌∷◌, ◌++◌, ref
 use Rattle.fork_model.specs.Event.{Event}
 use Rattle.fork_model.specs.Core.{Core, Outcome, IsOutcome, AreOutcomes, core_offered, core_after}
 use Rattle.fork_proxy.specs.Script.{Script}
-use Rattle.fork_proxy.specs.Replay.{ended, opening_text, outcome_text, outcomes_text, ending_text, IsEnding, opened, AddsOutcome, AddsOutcomes, EndsWith, IsReplay}
+use Rattle.fork_proxy.specs.Replay.{ended, opening_text, outcome_text, outcomes_text, ending_lines, IsEnding, opened, AddsOutcome, AddsOutcomes, EndsWith, IsReplay}
 
 pub AreOutcomes-snoc : (core : Core) (events : List Event) (outcomes : List Outcome) (event : Event) (outcome : Outcome) → AreOutcomes core events outcomes → IsOutcome (core_after core events) event outcome → AreOutcomes core (events ++ event ∷ []) (outcomes ++ outcome ∷ [])
 AreOutcomes-snoc core [] [] event outcome are last = (last, tt)
@@ -62,6 +62,6 @@ is_replay script first last empty begun told whole set_up none opening adds ends
       last = subst Q all.next ends.right;
       spelled =
           ends.spelled
-          ∙ ap (λ (core : Core). told ++ ended (ending_text core.table.rows ends.ending)) all.next
-          ∙ ap (λ (text : List ℕ). text ++ ended (ending_text (core_after (opened script) script.events).table.rows ends.ending)) (all.spelled ∙ ap (λ (text : List ℕ). text ++ outcomes_text (opened script) script.events all.outcomes) front);
+          ∙ ap (λ (core : Core). told ++ ending_lines core.table.rows ends.ending) all.next
+          ∙ ap (λ (text : List ℕ). text ++ ending_lines (core_after (opened script) script.events).table.rows ends.ending) (all.spelled ∙ ap (λ (text : List ℕ). text ++ outcomes_text (opened script) script.events all.outcomes) front);
     }

@@ -7,14 +7,14 @@ use Rattle.fork_model.specs.Choice.{IsChoice}
 use Rattle.fork_model.specs.Reply.{Reply, IsReply}
 use Rattle.fork_model.specs.Core.{Core, Replied, is_full, core_next, core_offered}
 use Rattle.fork_model.specs.Choice as spec
-use Rattle.fork_proxy.specs.Replay.{Unfinished, Chosen, branches_left, ended, ending_text, reply_text, EndsWith, AddsOutcome}
+use Rattle.fork_proxy.specs.Replay.{Unfinished, Chosen, branches_left, ended, ending_lines, reply_text, EndsWith, AddsOutcome}
 
 module _ {T E : Type 0} where
-  pub ends_unfinished : (r : Result T E) (t : Table) (old new : List ℕ) → is_succeeded t.rows ≡ false → is_finished t.rows ≡ false → OnOk r (new ≡ old ++ ended (ending_text t.rows (Unfinished (branches_left t.rows)))) → OnOk r (EndsWith t old new)
+  pub ends_unfinished : (r : Result T E) (t : Table) (old new : List ℕ) → is_succeeded t.rows ≡ false → is_finished t.rows ≡ false → OnOk r (new ≡ old ++ ending_lines t.rows (Unfinished (branches_left t.rows))) → OnOk r (EndsWith t old new)
   ends_unfinished (Ok x) t old new failed open_ h = record { ending = Unfinished (branches_left t.rows); right = (failed, open_, refl); spelled = h }
   ends_unfinished (Err e) t old new failed open_ h = h
 
-  pub ends_chosen : (r : Result T E) (t : Table) (choice : spec.Choice) (old new : List ℕ) → is_succeeded t.rows ≡ false → is_finished t.rows ≡ true → IsChoice t.rules t.rows choice → OnOk r (new ≡ old ++ ended (ending_text t.rows (Chosen choice))) → OnOk r (EndsWith t old new)
+  pub ends_chosen : (r : Result T E) (t : Table) (choice : spec.Choice) (old new : List ℕ) → is_succeeded t.rows ≡ false → is_finished t.rows ≡ true → IsChoice t.rules t.rows choice → OnOk r (new ≡ old ++ ending_lines t.rows (Chosen choice)) → OnOk r (EndsWith t old new)
   ends_chosen (Ok x) t choice old new failed done is h = record { ending = Chosen choice; right = (failed, done, is); spelled = h }
   ends_chosen (Err e) t choice old new failed done is h = h
 

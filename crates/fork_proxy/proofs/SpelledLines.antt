@@ -13,7 +13,7 @@ use Rattle.sip_lex.proofs.Cuts.{cut_again}
 use Rattle.fork_rank.specs.Preferred.{IsPreferredList}
 use Rattle.fork_model.specs.Table.{Invite, Other, most_targets}
 use Rattle.fork_model.specs.Event.{FinalAnswer, Event, Ring, Answer, Timeout, Fault, TimerC, GiveUp, Cancel}
-use Rattle.fork_proxy.specs.Line.{Line, KindLine, PreferLine, DepthLine, TargetLine, EventLine, ContactLine, OtherLine, list_text, numbered_text, line_text, most_q, most_number, is_name, is_text, bare, IsLine, IsSpelledBy}
+use Rattle.fork_proxy.specs.Line.{Line, KindLine, PreferLine, DepthLine, TargetLine, EventLine, ContactLine, OtherLine, ChallengeLine, list_text, numbered_text, line_text, most_q, most_number, is_name, is_text, bare, IsLine, IsSpelledBy}
 use Rattle.fork_proxy.specs.Reading.{numbers_onto, preferred_if, read_preferred, numbered_cut, read_numbered, number_from, ring_of, answer_of, named, texted, read_named, read_texted, read_line}
 use Rattle.fork_proxy.proofs.NumberLaws.{number_read, cut-numbered, decimal_lacks}
 use Rattle.fork_proxy.proofs.PreferredLists.{preferred_passes}
@@ -104,6 +104,8 @@ line_read (TargetLine q name) h = ap (option_map (λ p. TargetLine p.0 p.1)) (na
 line_read (EventLine event) h = event_read event h
 line_read (ContactLine q name) h = ap (option_map (λ p. ContactLine p.0 p.1)) (named_read q name h.0 h.1)
 line_read (OtherLine q text) h = ap (option_map (λ p. OtherLine p.0 p.1)) (texted_read q text h.0 h.1)
+line_read (ChallengeLine false value) h = ap (λ t. cond t (Some (ChallengeLine false value)) None) h
+line_read (ChallengeLine true value) h = ap (λ t. cond t (Some (ChallengeLine true value)) None) h
 
 -- so what is read of such a text is that line, and a line is read of such texts alone
 module _ {T E : Type 0} where

@@ -6,3 +6,5 @@ pub mod ReadView
 pub mod Replay
 pub mod FaultView
 pub mod Faults
+pub mod Program
+pub mod Input

@@ -1,13 +1,14 @@
 -- The lines of a script: what is forked, by which rules and to which targets, then what happens to the fork
 -- (RFC 3261 sections 16.5 to 16.10). Words are separated by one space, numbers are decimal without leading zeros.
-use Rattle.std.specs.Prelude.{◌≡◌, ◌≤◌, ◌<◌, ℕ, ◌&&◌, nat_le, Bool, IsTrue, List, [], ◌∷◌, ◌++◌, length, codes}
+use Rattle.std.specs.Prelude.{◌≡◌, ◌≤◌, ◌<◌, ℕ, ◌&&◌, nat_le, Bool, true, false, IsTrue, List, [], ◌∷◌, ◌++◌, length, codes}
 use Rattle.std.specs.List.{list_all, flat_map}
 use Rattle.std.specs.Fmt.{decimal}
 use Rattle.fork_rank.specs.Preferred.{IsPreferredList}
 use Rattle.fork_model.specs.Table.{Kind, Invite, Other, most_targets}
 use Rattle.fork_model.specs.Event.{Event, Ring, Answer, Timeout, Fault, TimerC, GiveUp, Cancel, FinalAnswer}
 
--- an event's answer has its contacts on the lines behind it: a name that may be tried, or any other text
+-- an event's answer has its contacts and its challenges on the lines behind it: a name that may be tried, or any other
+-- text; a server's challenge or a proxy's
 pub data Line : Type 0 where
   KindLine : Kind → Line
   PreferLine : (statuses : List ℕ) → Line
@@ -16,6 +17,7 @@ pub data Line : Type 0 where
   EventLine : Event → Line
   ContactLine : (q : ℕ) (name : List ℕ) → Line
   OtherLine : (q : ℕ) (text : List ℕ) → Line
+  ChallengeLine : (proxy : Bool) (value : List ℕ) → Line
 
 -- `-` for none, else the numbers with commas between them
 abbrev pub list_text : List ℕ → List ℕ
@@ -25,6 +27,11 @@ list_text (n ∷ ns) = decimal n ++ flat_map (λ m. 44 ∷ decimal m) ns
 abbrev pub kind_text : Kind → List ℕ
 kind_text Invite = codes "INVITE"
 kind_text Other = codes "OTHER"
+
+-- whose challenge it is: a server's in WWW-Authenticate, a proxy's in Proxy-Authenticate (sections 20.27 and 20.44)
+abbrev pub asker_text : Bool → List ℕ
+asker_text false = codes "W"
+asker_text true = codes "P"
 
 -- a number, a space, a text
 abbrev pub numbered_text : ℕ → List ℕ → List ℕ
@@ -48,6 +55,7 @@ line_text (TargetLine q name) = codes "target " ++ numbered_text q name
 line_text (EventLine event) = event_text event
 line_text (ContactLine q name) = codes "contact " ++ numbered_text q name
 line_text (OtherLine q text) = codes "other " ++ numbered_text q text
+line_text (ChallengeLine proxy value) = codes "challenge " ++ (asker_text proxy ++ 32 ∷ value)
 
 -- q is in thousandths
 abbrev pub most_q : ℕ
@@ -69,7 +77,7 @@ is_name name = nat_le 1 (length name) && nat_le (length name) 64 && list_all is_
 abbrev pub is_text : List ℕ → Bool
 is_text text = nat_le 1 (length text) && list_all is_printable text
 
--- the answer before its contacts are known
+-- the answer before its contacts and its challenges are known
 abbrev pub bare : ℕ → FinalAnswer
 bare status = record { status = status; offers = []; challenges = [] }
 
@@ -92,6 +100,7 @@ IsLine (TargetLine q name) = (q ≤ most_q) × IsTrue (is_name name)
 IsLine (EventLine event) = IsEventLine event
 IsLine (ContactLine q name) = (q ≤ most_q) × IsTrue (is_name name)
 IsLine (OtherLine q text) = (q ≤ most_q) × IsTrue (is_text text)
+IsLine (ChallengeLine proxy value) = IsTrue (is_text value)
 
 -- the text spells the line
 abbrev pub IsSpelledBy : List ℕ → Line → Type 0

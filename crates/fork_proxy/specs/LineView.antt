@@ -21,6 +21,7 @@ line_of (line.GiveUp n) = spec.EventLine (GiveUp n)
 line_of line.Cancel = spec.EventLine Cancel
 line_of (line.Contact q name) = spec.ContactLine q name.now
 line_of (line.Other q text) = spec.OtherLine q text.now
+line_of (line.Challenge proxy value) = spec.ChallengeLine proxy value.now
 
 -- a number and a text in memory
 abbrev pub seen_numbered : Option (ℕ × Bor (List ℕ)) → Option (ℕ × List ℕ)

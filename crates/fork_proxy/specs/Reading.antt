@@ -1,5 +1,5 @@
 -- Reading one line: the word before its first space says which line it is.
-use Rattle.std.specs.Prelude.{ℕ, ◌&&◌, nat_lt, nat_le, Bool, true, bytes_eq, List, [], ◌∷◌, ◌++◌, length, codes, Option, Some, None, option_and_then, if◌then◌else◌}
+use Rattle.std.specs.Prelude.{ℕ, ◌&&◌, nat_lt, nat_le, Bool, true, false, bytes_eq, List, [], ◌∷◌, ◌++◌, length, codes, Option, Some, None, option_and_then, if◌then◌else◌}
 use Rattle.std.specs.Option.{option_map}
 use Rattle.std.specs.List.{list_all, slice_split}
 use Rattle.sip_lex.specs.Cut.{cut, is}
@@ -8,7 +8,7 @@ use Rattle.fork_model.specs.Table.{Kind, Invite, Other, most_targets}
 use Rattle.fork_model.specs.Event.{Ring, Answer, Timeout, Fault, TimerC, GiveUp, Cancel}
 use Rattle.fork_proxy.specs.declared.line.Word.{Word}
 use Rattle.fork_proxy.specs.declared.line.Word.TheVariants as word
-use Rattle.fork_proxy.specs.Line.{Line, KindLine, PreferLine, DepthLine, TargetLine, EventLine, ContactLine, OtherLine, most_q, most_number, is_name, is_text, bare}
+use Rattle.fork_proxy.specs.Line.{Line, KindLine, PreferLine, DepthLine, TargetLine, EventLine, ContactLine, OtherLine, ChallengeLine, most_q, most_number, is_name, is_text, bare}
 
 abbrev pub word_of : List ℕ → Option Word
 word_of text =
@@ -25,7 +25,8 @@ word_of text =
     else (if bytes_eq text (codes "cancel") then Some word.Cancel
     else (if bytes_eq text (codes "contact") then Some word.Contact
     else (if bytes_eq text (codes "other") then Some word.Other
-    else None))))))))))))
+    else (if bytes_eq text (codes "challenge") then Some word.Challenge
+    else None)))))))))))))
 
 abbrev pub read_kind : List ℕ → Option Kind
 read_kind text =
@@ -93,6 +94,23 @@ read_texted text = option_and_then texted (read_numbered most_q text)
 abbrev pub read_row : List ℕ → Option ℕ
 read_row digits = plain_number_within most_number digits
 
+-- whose challenge it is; `true`: a proxy's
+abbrev pub read_asker : List ℕ → Option Bool
+read_asker text =
+    if bytes_eq text (codes "W") then Some false
+    else (if bytes_eq text (codes "P") then Some true
+    else None)
+
+abbrev pub challenge_of : List ℕ → Bool → Option Line
+challenge_of value proxy = if is_text value then Some (ChallengeLine proxy value) else None
+
+abbrev pub challenge_cut : List ℕ × Option (List ℕ) → Option Line
+challenge_cut (asker, None) = None
+challenge_cut (asker, Some value) = option_and_then (challenge_of value) (read_asker asker)
+
+abbrev pub read_challenge : List ℕ → Option Line
+read_challenge text = challenge_cut (cut (is 32) text)
+
 -- what stands behind the word and its space
 abbrev pub read_rest : Word → List ℕ → Option Line
 read_rest word.Kind rest = option_map KindLine (read_kind rest)
@@ -108,6 +126,7 @@ read_rest word.GiveUp rest = option_map (λ n. EventLine (GiveUp n)) (read_row r
 read_rest word.Cancel rest = None
 read_rest word.Contact rest = option_map (λ p. ContactLine p.0 p.1) (read_named rest)
 read_rest word.Other rest = option_map (λ p. OtherLine p.0 p.1) (read_texted rest)
+read_rest word.Challenge rest = read_challenge rest
 
 -- a line of one word
 abbrev pub read_alone : Word → Option Line

@@ -1,11 +1,13 @@
 -- What a replay prints: the rows that are tried at once, a line for each event that says what the proxy does on
 -- it (RFC 3261 sections 16.6, 16.7 and 9.1), and how the fork stands at the end.
-use Rattle.std.specs.Prelude.{◌≡◌, ℕ, true, false, not, List, [], ◌∷◌, ◌++◌, filter, count_by, length, slice_get, codes}
+use Rattle.std.specs.Prelude.{◌≡◌, ℕ, Bool, true, false, not, List, [], ◌∷◌, ◌++◌, filter, count_by, length, slice_get, codes}
+use Rattle.std.specs.List.{flat_map}
 use Rattle.std.specs.Fmt.{decimal}
-use Rattle.fork_model.specs.Table.{Row, Table, is_trying, is_ended, is_finished, is_succeeded, is_row}
+use Rattle.fork_model.specs.Table.{Challenge, Row, Table, is_trying, is_ended, is_finished, is_succeeded, is_row}
 use Rattle.fork_model.specs.Groups.{numbers_below}
 use Rattle.fork_model.specs.Event.{Event}
 use Rattle.fork_model.specs.Choice.{Choice, Best, Only503, NoAnswer408, IsChoice, status_at}
+use Rattle.fork_model.specs.Challenges.{challenge_list}
 use Rattle.fork_model.specs.Reply.{Up, Nothing, Provisional, Success, Final, Reply}
 use Rattle.fork_model.specs.Core.{Core, Outcome, Full, Replied, opening_core, core_offered, core_after, IsOutcome, AreOutcomes}
 use Rattle.fork_proxy.specs.Line.{list_text, numbered_text}
@@ -70,10 +72,26 @@ IsEnding t (Unfinished branches) =
 IsEnding t (Chosen choice) =
     (is_succeeded t.rows ≡ false) × (is_finished t.rows ≡ true) × IsChoice t.rules t.rows choice
 
-abbrev pub ending_text : List Row → Ending → List ℕ
-ending_text rows Succeeded = codes "succeeded"
-ending_text rows (Unfinished branches) = codes "unfinished " ++ decimal branches
-ending_text rows (Chosen choice) = final_text rows choice
+-- the header field that a challenge is a value of (sections 20.27 and 20.44)
+abbrev pub field_name : Bool → List ℕ
+field_name true = codes "Proxy-Authenticate"
+field_name false = codes "WWW-Authenticate"
+
+abbrev pub added_text : Challenge → List ℕ
+added_text challenge = codes "add " ++ field_name challenge.proxy ++ codes ": " ++ challenge.value
+
+-- a line for each challenge that goes up beside those of the chosen answer
+abbrev pub added_lines : List Challenge → List ℕ
+added_lines challenges = flat_map (λ challenge. ended (added_text challenge)) challenges
+
+-- the fork whose final answer has gone up
+abbrev pub chosen_lines : List Row → Choice → List ℕ
+chosen_lines rows choice = ended (final_text rows choice)
+
+abbrev pub ending_lines : List Row → Ending → List ℕ
+ending_lines rows Succeeded = ended (codes "succeeded")
+ending_lines rows (Unfinished branches) = ended (codes "unfinished " ++ decimal branches)
+ending_lines rows (Chosen choice) = added_lines (challenge_list rows choice) ++ chosen_lines rows choice
 
 abbrev pub opened : Script → Core
 opened script = opening_core script.kind script.rules script.targets
@@ -86,7 +104,7 @@ abbrev pub replay_text : Script → List Outcome → Ending → List ℕ
 replay_text script outcomes ending =
     ended (opening_text (opened script).table)
     ++ outcomes_text (opened script) script.events outcomes
-    ++ ended (ending_text (closed script).table.rows ending)
+    ++ ending_lines (closed script).table.rows ending
 
 -- the text is that of the outcomes of the script's events, one for each, and of the end that they lead to
 pub record IsReplay (script : Script) (text : List ℕ) : Type 0 where
@@ -110,8 +128,8 @@ pub record AddsOutcomes (before after : Core) (events : List Event) (old new : L
   pub next : after ≡ core_after before events
   pub spelled : new ≡ old ++ outcomes_text before events outcomes
 
--- the text has grown by a line that says how the fork stands
+-- the text has grown by the lines that say how the fork stands
 pub record EndsWith (t : Table) (old new : List ℕ) : Type 0 where
   pub ending : Ending
   pub right : IsEnding t ending
-  pub spelled : new ≡ old ++ ended (ending_text t.rows ending)
+  pub spelled : new ≡ old ++ ending_lines t.rows ending

@@ -4,12 +4,12 @@ use Rattle.std.specs.Option.{option_map}
 use Rattle.std.specs.List.{slice_split}
 use Rattle.sip_lex.specs.Cut.{is}
 use Rattle.fork_rank.specs.Preferred.{usual_preferred}
-use Rattle.fork_model.specs.Table.{Kind, Invite, Rules, Offer, most_targets}
+use Rattle.fork_model.specs.Table.{Kind, Invite, Rules, Offer, Challenge, most_targets}
 use Rattle.fork_model.specs.Event.{FinalAnswer, Event, Answer}
 use Rattle.fork_model.specs.History.{Target}
 use Rattle.fork_proxy.specs.declared.script.Phase.{Phase}
-use Rattle.fork_proxy.specs.declared.script.Phase.TheVariants.{AtKind, AtPrefer, AtDepth, AtTargets, AtEvents, AtContacts}
-use Rattle.fork_proxy.specs.Line.{Line, KindLine, PreferLine, DepthLine, TargetLine, EventLine, ContactLine, OtherLine}
+use Rattle.fork_proxy.specs.declared.script.Phase.TheVariants.{AtKind, AtPrefer, AtDepth, AtTargets, AtEvents, AtAnswer}
+use Rattle.fork_proxy.specs.Line.{Line, KindLine, PreferLine, DepthLine, TargetLine, EventLine, ContactLine, OtherLine, ChallengeLine}
 use Rattle.fork_proxy.specs.Reading.{read_line}
 
 pub record Script : Type 0 where
@@ -18,9 +18,9 @@ pub record Script : Type 0 where
   pub targets : List Target
   pub events : List Event
 
--- contacts may come right behind an answer alone
+-- contacts and challenges may come right behind an answer alone
 abbrev pub phase_behind : Event → Phase
-phase_behind (Answer n answer) = AtContacts
+phase_behind (Answer n answer) = AtAnswer
 phase_behind _ = AtEvents
 
 -- which line may come in which phase, and the phase behind it: the kind, then the preferred statuses and the
@@ -34,23 +34,27 @@ phase_after AtDepth (DepthLine depth) = Some AtTargets
 phase_after AtPrefer (TargetLine q name) = Some AtTargets
 phase_after AtDepth (TargetLine q name) = Some AtTargets
 phase_after AtTargets (TargetLine q name) = Some AtTargets
-phase_after AtContacts (ContactLine q name) = Some AtContacts
-phase_after AtContacts (OtherLine q text) = Some AtContacts
+phase_after AtAnswer (ContactLine q name) = Some AtAnswer
+phase_after AtAnswer (OtherLine q text) = Some AtAnswer
+phase_after AtAnswer (ChallengeLine proxy value) = Some AtAnswer
 phase_after _ (EventLine event) = Some (phase_behind event)
 phase_after _ _ = None
 
-abbrev pub with_contact : FinalAnswer → Offer → FinalAnswer
-with_contact answer offer = record answer { offers = answer.offers ++ offer ∷ [] }
+abbrev pub with_contact : Offer → FinalAnswer → FinalAnswer
+with_contact offer answer = record answer { offers = answer.offers ++ offer ∷ [] }
 
-abbrev pub event_with : Event → Offer → Event
-event_with (Answer n answer) offer = Answer n (with_contact answer offer)
-event_with event offer = event
+abbrev pub with_challenge : Challenge → FinalAnswer → FinalAnswer
+with_challenge challenge answer = record answer { challenges = answer.challenges ++ challenge ∷ [] }
 
--- the contact goes to the last event
-abbrev pub events_with : List Event → Offer → List Event
-events_with [] offer = []
-events_with (event ∷ []) offer = event_with event offer ∷ []
-events_with (event ∷ next ∷ events) offer = event ∷ events_with (next ∷ events) offer
+abbrev pub answer_changed : (FinalAnswer → FinalAnswer) → Event → Event
+answer_changed change (Answer n answer) = Answer n (change answer)
+answer_changed change event = event
+
+-- what a line behind an answer says goes to the last event
+abbrev pub last_changed : (FinalAnswer → FinalAnswer) → List Event → List Event
+last_changed change [] = []
+last_changed change (event ∷ []) = answer_changed change event ∷ []
+last_changed change (event ∷ next ∷ events) = event ∷ last_changed change (next ∷ events)
 
 -- what a line adds
 abbrev pub with_line : Script → Line → Script
@@ -60,9 +64,11 @@ with_line script (DepthLine depth) = record script { rules = record script.rules
 with_line script (TargetLine q name) = record script { targets = script.targets ++ record { key = name; q = q } ∷ [] }
 with_line script (EventLine event) = record script { events = script.events ++ event ∷ [] }
 with_line script (ContactLine q name) =
-    record script { events = events_with script.events (record { text = name; q = q; key = Some name }) }
+    record script { events = last_changed (with_contact (record { text = name; q = q; key = Some name })) script.events }
 with_line script (OtherLine q text) =
-    record script { events = events_with script.events (record { text = text; q = q; key = None }) }
+    record script { events = last_changed (with_contact (record { text = text; q = q; key = None })) script.events }
+with_line script (ChallengeLine proxy value) =
+    record script { events = last_changed (with_challenge (record { proxy = proxy; value = value })) script.events }
 
 abbrev pub usual_rules : Rules
 usual_rules = record { preferred = usual_preferred; depth = most_targets }

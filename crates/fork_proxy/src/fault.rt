@@ -92,12 +92,21 @@ impl Fault {
 }
 
 impl From<AllocError> for Fault {
+    ghost use Rattle.fork_proxy.specs.declared.fault.ProgFault.TheVariants as prog;
+    ghost use Rattle.fork_proxy.specs.declared.fault.Fault.TheVariants as fault;
+
+    ghost from_gives = { λ _ failed. failed ≡ fault.Text prog.NoMemory };
+
     fn from(_refused: AllocError) -> Fault {
         Fault::Text(ProgFault::NoMemory)
     }
 }
 
 impl From<ProgFault> for Fault {
+    ghost use Rattle.fork_proxy.specs.declared.fault.Fault.TheVariants as fault;
+
+    ghost from_gives = { λ refused failed. failed ≡ fault.Text refused };
+
     fn from(fault: ProgFault) -> Fault {
         Fault::Text(fault)
     }

@@ -1,6 +1,8 @@
 //! Reading standard input.
-ghost use Rattle.std.specs.Prelude.{◌≡◌, ◌+◌, ◌≤◌, IfOk, vec_len};
+ghost use Rattle.std.specs.Prelude.{◌≡◌, ◌+◌, ◌≤◌, ◌<◌, IfOk, IfErr, IfSome, length, take, vec_len};
 ghost use Rattle.fork_proxy.specs.Faults.{most_text};
+ghost use Rattle.fork_proxy.specs.Input.{ReadsMore};
+ghost use Rattle.fork_proxy.specs.Program.{IsReadFault};
 
 use crate::fault::Fault;
 use crate::replay::MOST_TEXT;
@@ -20,6 +22,28 @@ fn zeros<A: Allocator>(alloc: A, count: usize) -> Result<Vec<u8, A>, AllocError>
     vec![in alloc; 0u8; count]
 }
 
+/// Reads once, at most as many bytes as the chunk has, and appends them; whether the end is met. An interrupted
+/// read brings none.
+fn read_more<A: Allocator, R: Read>(
+    reader: &mut R,
+    chunk: &mut [u8],
+    text: &mut Vec<u8, A>,
+) -> Result<bool, Fault>
+    requires { 0 < length chunk.old }
+    ensures more { IfOk result (ReadsMore (R.remaining reader.old) (R.remaining reader.new) (length chunk.old) text.old.items text.new.items) }
+    ensures fault { IfErr result IsReadFault }
+{
+    match reader.read(chunk) {
+        Ok(0) => Ok(true),
+        Ok(count) => {
+            text.extend_from_slice(&chunk[..count])?;
+            Ok(false)
+        }
+        Err(error) if error.kind() == ErrorKind::Interrupted => Ok(false),
+        Err(_) => Err(Fault::Read),
+    }
+}
+
 /// The whole input, or one byte more than a script may have.
 ///
 /// # Errors
@@ -29,7 +53,9 @@ pub fn read_input<A: Allocator + Clone, R: Read>(
     alloc: A,
     reader: &mut R,
 ) -> Result<Vec<u8, A>, Fault>
-    ensures { IfOk result (λ text. vec_len text ≤ most_text + 1) }
+    ensures whole { IfOk result (λ text. IfSome (R.remaining reader.old) (λ bytes. text.items ≡ take (most_text + 1) bytes)) }
+    ensures few { IfOk result (λ text. length text.items ≤ most_text + 1) }
+    ensures fault { IfErr result IsReadFault }
 {
     let mut chunk = zeros(alloc.clone()?, CHUNK)?;
     let mut text = Vec::new(alloc);
@@ -38,11 +64,8 @@ pub fn read_input<A: Allocator + Clone, R: Read>(
         if room == 0 {
             return Ok(text);
         }
-        match reader.read(&mut chunk[..room]) {
-            Ok(0) => return Ok(text),
-            Ok(count) => text.extend_from_slice(&chunk[..count])?,
-            Err(error) if error.kind() == ErrorKind::Interrupted => {}
-            Err(_) => return Err(Fault::Read),
+        if read_more(reader, &mut chunk[..room], &mut text)? {
+            return Ok(text);
         }
     }
     Err(Fault::Read)

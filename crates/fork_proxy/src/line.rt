@@ -8,7 +8,7 @@ ghost use Rattle.fork_model.specs.Table.{most_targets};
 ghost use Rattle.fork_context.specs.KindView.{kind_of};
 ghost use Rattle.fork_proxy.specs.Line as spec;
 ghost use Rattle.fork_proxy.specs.Line.{IsSpelledBy, most_q, most_number, is_visible, is_printable, is_name, is_text};
-ghost use Rattle.fork_proxy.specs.Reading.{word_of, read_kind, numbers_onto, read_preferred, read_numbered, number_from, read_named, read_texted, read_rest, read_worded, read_line};
+ghost use Rattle.fork_proxy.specs.Reading.{word_of, read_kind, numbers_onto, read_preferred, read_numbered, number_from, read_named, read_texted, read_asker, read_challenge, read_rest, read_worded, read_line};
 ghost use Rattle.fork_proxy.specs.LineView.{line_of, seen_numbered};
 
 use crate::depth::Depth;
@@ -39,10 +39,12 @@ pub enum Word {
     Cancel,
     Contact,
     Other,
+    Challenge,
 }
 
-/// What a line says; names and texts are lent by the script. The contacts of an answer stand on the lines behind
-/// it: `Contact` may be tried, `Other` may not.
+/// What a line says; names and texts are lent by the script. The contacts and the challenges of an answer stand on
+/// the lines behind it: `Contact` may be tried, `Other` may not; a `Challenge` is a value of Proxy-Authenticate where
+/// `proxy`, else of WWW-Authenticate.
 #[derive(Clone, Copy, Debug)]
 pub enum Line<'a> {
     Kind(Kind),
@@ -58,6 +60,7 @@ pub enum Line<'a> {
     Cancel,
     Contact(u16, &'a [u8]),
     Other(u16, &'a [u8]),
+    Challenge { proxy: bool, value: &'a [u8] },
 }
 
 fn word_of(text: &[u8]) -> Option<Word>
@@ -89,6 +92,8 @@ fn word_of(text: &[u8]) -> Option<Word>
         Some(Word::Contact)
     } else if text == b"other".as_slice() {
         Some(Word::Other)
+    } else if text == b"challenge".as_slice() {
+        Some(Word::Challenge)
     } else {
         None
     }
@@ -188,6 +193,36 @@ fn read_texted(text: &[u8]) -> Option<(u16, &[u8])>
     }
 }
 
+/// Whose challenge it is: a server's (`W`) or, where it is so, a proxy's (`P`).
+fn read_asker(text: &[u8]) -> Option<bool>
+    ensures { result ≡ read_asker text.now }
+{
+    if text == b"W".as_slice() {
+        Some(false)
+    } else if text == b"P".as_slice() {
+        Some(true)
+    } else {
+        None
+    }
+}
+
+/// Whose challenge it is, and its value.
+fn read_challenge(text: &[u8]) -> Option<Line<'_>>
+    ensures { option_map line_of result ≡ read_challenge text.now }
+{
+    match cut_at(text, b' ') {
+        (_, None) => None,
+        (asker, Some(value)) => {
+            let proxy = read_asker(asker)?;
+            if is_text(value) {
+                Some(Line::Challenge { proxy, value })
+            } else {
+                None
+            }
+        }
+    }
+}
+
 /// The numbers between the commas; `None` where something else stands there.
 fn read_numbers<A: Allocator>(alloc: A, text: &[u8]) -> Result<Option<Vec<u16, A>>, AllocError>
     ensures { IfOk result (λ r. option_map (λ v. v.items) r ≡ numbers_onto [] (slice_split (is 44) text.now)) }
@@ -251,6 +286,7 @@ fn read_rest(word: Word, rest: &[u8]) -> Option<Line<'_>>
             let (q, text) = read_texted(rest)?;
             Some(Line::Other(q, text))
         }
+        Word::Challenge => read_challenge(rest),
         Word::Prefer | Word::Cancel => None,
     }
 }

@@ -2,6 +2,10 @@
 //! input and prints what the proxy does on each event.
 #![tactic(auto)]
 
+ghost use Rattle.std.specs.Prelude.{◌≡◌, IfOk, IfErr, map, string_bytes};
+ghost use Rattle.std.specs.Process.{exit_status};
+ghost use Rattle.fork_proxy.specs.Program.{asks_replay, IsUsageFault, status_of};
+
 mod depth;
 mod fault;
 mod input;
@@ -20,7 +24,9 @@ use std::io::ErrorKind;
 use std::process::ExitCode;
 
 /// Whether the arguments, the program's name among them, ask for a replay: none does, and so does `replay`.
-fn asks_replay(words: &[String]) -> bool {
+fn asks_replay(words: &[String]) -> bool
+    ensures { result ≡ asks_replay (map string_bytes words.now) }
+{
     match words {
         [] | [_] => true,
         [_, word] => word.as_str() == "replay",
@@ -29,7 +35,9 @@ fn asks_replay(words: &[String]) -> bool {
 }
 
 /// The arguments, tested before anything is read.
-fn check_words(rt: &HostRuntime) -> Result<(), Fault> {
+fn check_words(rt: &HostRuntime) -> Result<(), Fault>
+    ensures { IfErr result IsUsageFault }
+{
     let words: Vec<String> = match env::args(rt) {
         Ok(words) => words.collect(rt.alloc())?,
         Err(error) if error.kind() == ErrorKind::OutOfMemory => return Err(Fault::Text(
@@ -44,7 +52,14 @@ fn check_words(rt: &HostRuntime) -> Result<(), Fault> {
     }
 }
 
-fn run(rt: &HostRuntime) -> Result<u8, Fault> {
+/// Reads the text, replays it and writes what its replay prints; the exit status is 0.
+///
+/// # Errors
+///
+/// In this order: `Usage`, `Read`, `Text` with what `replay_text` refuses, `Write`; want of memory anywhere.
+fn run(rt: &HostRuntime) -> Result<u8, Fault>
+    ensures { IfOk result (λ status. status ≡ 0) }
+{
     check_words(rt)?;
     let text = read_input(rt.alloc(), &mut rt.reader())?;
     let mut out = Vec::new(rt.alloc());
@@ -55,12 +70,19 @@ fn run(rt: &HostRuntime) -> Result<u8, Fault> {
     }
 }
 
-fn main(rt: HostRuntime) -> ExitCode {
-    match run(&rt) {
+/// How the program ends after a run, whose fault it prints on standard error.
+fn ended(rt: &HostRuntime, ran: Result<u8, Fault>) -> ExitCode
+    ensures { exit_status result ≡ status_of ran }
+{
+    match ran {
         Ok(status) => ExitCode::from(status),
         Err(fault) => {
             let _ = rt.eprintln(fault);
             ExitCode::from(fault.status())
         }
     }
+}
+
+fn main(rt: HostRuntime) -> ExitCode {
+    ended(&rt, run(&rt))
 }

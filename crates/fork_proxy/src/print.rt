@@ -1,14 +1,17 @@
 //! The texts that a replay prints.
-ghost use Rattle.std.specs.Prelude.{◌≡◌, ◌∷◌, ◌++◌, [], codes, OnOk};
+ghost use Rattle.std.specs.Prelude.{◌≡◌, ◌∷◌, ◌++◌, [], Some, codes, OnOk};
 ghost use Rattle.std.specs.Prelude.{slice_get, not, IfOk};
 ghost use Rattle.std.specs.Fmt.{decimal};
 ghost use Rattle.fork_model.specs.Table.{is_ended, is_trying, is_row};
 ghost use Rattle.fork_model.specs.Choice.{status_at};
+ghost use Rattle.fork_model.specs.Challenges.{challenge_list};
+ghost use Rattle.fork_context.specs.Chosen.{IsChosen};
 ghost use Rattle.fork_context.specs.ReplyView.{choice_of, up_of};
 ghost use Rattle.fork_proxy.specs.Line.{list_text, numbered_text};
-ghost use Rattle.fork_proxy.specs.Replay.{tried, opening_text, final_text, up_text, reply_text, branches_left, ended, EndsWith};
+ghost use Rattle.fork_proxy.specs.Replay.{tried, opening_text, final_text, up_text, reply_text, branches_left, ended, field_name, added_text, added_lines, chosen_lines, EndsWith};
 
 use fork_context::{Choice, Context, End, Reply, State, Up};
+use fork_rank::Challenge;
 use std::alloc::{AllocError, Allocator};
 
 fn append<A: Allocator>(text: &mut Vec<u8, A>, bytes: &[u8]) -> Result<(), AllocError>
@@ -196,20 +199,88 @@ fn append_unfinished<A: Allocator + Clone>(
     append(text, b"\n")
 }
 
+/// The header field that a challenge is a value of.
+fn field_name(proxy: bool) -> &'static [u8]
+    ensures { result.now ≡ field_name proxy }
+{
+    if proxy {
+        b"Proxy-Authenticate"
+    } else {
+        b"WWW-Authenticate"
+    }
+}
+
+/// Appends the line of a challenge that is added to the final answer.
+fn append_challenge<A: Allocator>(
+    text: &mut Vec<u8, A>,
+    challenge: &Challenge<A>,
+) -> Result<(), AllocError>
+    ensures { OnOk result (text.new.items ≡ text.old.items ++ ended (added_text challenge.now)) }
+{
+    append(text, b"add ")?;
+    append(text, field_name(challenge.proxy()))?;
+    append(text, b": ")?;
+    append(text, challenge.value())?;
+    append(text, b"\n")
+}
+
+/// Appends a line for each challenge.
+fn append_challenges<A: Allocator>(
+    text: &mut Vec<u8, A>,
+    challenges: &[Challenge<A>],
+) -> Result<(), AllocError>
+    ensures { OnOk result (text.new.items ≡ text.old.items ++ added_lines challenges.now) }
+{
+    for challenge in challenges {
+        append_challenge(text, challenge)?;
+    }
+    Ok(())
+}
+
+/// Appends a line for each challenge that goes up beside those of the chosen answer.
+fn append_added<A: Allocator + Clone>(
+    alloc: A,
+    text: &mut Vec<u8, A>,
+    context: &Context<A>,
+    choice: Choice,
+) -> Result<(), AllocError>
+    requires { IsChosen context.now.table (Some (choice_of choice)) }
+    ensures { OnOk result (text.new.items ≡ text.old.items ++ added_lines (challenge_list context.now.table.rows (choice_of choice))) }
+{
+    let mut added = Vec::new(alloc);
+    context.challenges(&mut added)?;
+    append_challenges(text, &added)
+}
+
 /// Appends the line of a fork whose final answer has gone up.
 fn append_chosen<A: Allocator + Clone>(
     text: &mut Vec<u8, A>,
     context: &Context<A>,
     choice: Choice,
 ) -> Result<(), AllocError>
-    ensures { OnOk result (text.new.items ≡ text.old.items ++ ended (final_text context.now.table.rows (choice_of choice))) }
+    ensures { OnOk result (text.new.items ≡ text.old.items ++ chosen_lines context.now.table.rows (choice_of choice)) }
 {
     append_final(text, context, choice)?;
     append(text, b"\n")
 }
 
-/// Appends the last line: how the fork stands.
+/// Appends how a fork stands whose final answer has gone up.
+fn append_finished<A: Allocator + Clone>(
+    alloc: A,
+    text: &mut Vec<u8, A>,
+    context: &Context<A>,
+    choice: Choice,
+) -> Result<(), AllocError>
+    requires { IsChosen context.now.table (Some (choice_of choice)) }
+    ensures { OnOk result (text.new.items ≡ text.old.items ++ (added_lines (challenge_list context.now.table.rows (choice_of choice)) ++ chosen_lines context.now.table.rows (choice_of choice))) }
+{
+    append_added(alloc, text, context, choice)?;
+    append_chosen(text, context, choice)
+}
+
+/// Appends the last lines: how the fork stands.
 pub fn append_ending<A: Allocator + Clone>(
+    alloc: A,
     text: &mut Vec<u8, A>,
     context: &Context<A>,
 ) -> Result<(), AllocError>
@@ -220,6 +291,6 @@ pub fn append_ending<A: Allocator + Clone>(
     }
     match context.choice() {
         None => append_unfinished(text, context),
-        Some(choice) => append_chosen(text, context, choice),
+        Some(choice) => append_finished(alloc, text, context, choice),
     }
 }

@@ -59,9 +59,9 @@ fn replay<A: Allocator + Clone>(alloc: A, script: Script<A>) -> Result<Vec<u8, A
     } = script;
     let mut context = Context::new(alloc.clone()?, kind, rules, targets)?;
     let mut text = Vec::new(alloc.clone()?);
-    append_opening(alloc, &mut text, &context)?;
+    append_opening(alloc.clone()?, &mut text, &context)?;
     append_outcomes(&mut text, &mut context, events)?;
-    append_ending(&mut text, &context)?;
+    append_ending(alloc, &mut text, &context)?;
     Ok(text)
 }
 

@@ -4,7 +4,7 @@ ghost use Rattle.std.specs.List.{slice_split};
 ghost use Rattle.sip_lex.specs.Cut.{is};
 ghost use Rattle.fork_context.specs.KindView.{kind_of};
 ghost use Rattle.fork_context.specs.EventView.{event_of};
-ghost use Rattle.fork_proxy.specs.Script.{phase_after, event_with, events_with, with_line, no_script, no_draft, drafted, has_kind, finished_draft, read_script};
+ghost use Rattle.fork_proxy.specs.Script.{phase_after, with_contact, with_challenge, answer_changed, last_changed, with_line, no_script, no_draft, drafted, has_kind, finished_draft, read_script};
 ghost use Rattle.fork_proxy.specs.Line.{bare};
 ghost use Rattle.fork_proxy.specs.LineView.{line_of};
 ghost use Rattle.fork_proxy.specs.ReadView.{GivesScript};
@@ -12,14 +12,14 @@ ghost use Rattle.fork_proxy.specs.ReadView.{GivesScript};
 use crate::depth::Depth;
 use crate::line::{Line, read_line};
 use fork_context::{Answer, Event, Kind, Offer, Target};
-use fork_rank::{Preferred, Rules, Status};
+use fork_rank::{Challenge, Preferred, Rules, Status};
 use sip_lex::cut_at;
 use std::alloc::{AllocError, Allocator};
 use std::collections::VecDeque;
 use std::marker::Model;
 
-/// Which lines may come: the kind first, then the rules, then the targets, then events, with the contacts of an
-/// answer right behind it.
+/// Which lines may come: the kind first, then the rules, then the targets, then events, with the contacts and the
+/// challenges of an answer right behind it.
 #[derive(Clone, Copy, Debug, PartialEq, Eq)]
 pub enum Phase {
     /// Nothing was read.
@@ -30,10 +30,10 @@ pub enum Phase {
     AtDepth,
     /// The depth or a target was read.
     AtTargets,
-    /// An event was read that has no contacts.
+    /// An event was read that has no contacts and no challenges.
     AtEvents,
-    /// An answer was read, and contacts of it.
-    AtContacts,
+    /// An answer was read, and contacts and challenges of it.
+    AtAnswer,
 }
 
 impl Phase {
@@ -49,8 +49,9 @@ impl Phase {
             (Phase::AtPrefer | Phase::AtDepth | Phase::AtTargets, Line::Target(_, _)) => Some(
                 Phase::AtTargets,
             ),
-            (Phase::AtContacts, Line::Contact(_, _) | Line::Other(_, _)) => Some(Phase::AtContacts),
-            (_, Line::Answer(_, _)) => Some(Phase::AtContacts),
+            (Phase::AtAnswer, Line::Contact(_, _) | Line::Other(_, _) | Line::Challenge { .. }) =>
+                Some(Phase::AtAnswer),
+            (_, Line::Answer(_, _)) => Some(Phase::AtAnswer),
             (
                 _,
                 Line::Ring(_, _)
@@ -117,11 +118,27 @@ impl<A: Allocator> Model for Script<A> {
 
 /// An event with one more contact, where it is an answer.
 fn event_with<A: Allocator>(event: Event<A>, offer: Offer<A>) -> Result<Event<A>, AllocError>
-    ensures { IfOk result (λ e. event_of e ≡ event_with (event_of event) offer) }
+    ensures { IfOk result (λ e. event_of e ≡ answer_changed (with_contact offer) (event_of event)) }
 {
     match event {
         Event::Answer(n, mut answer) => {
             answer.push_offer(offer)?;
+            Ok(Event::Answer(n, answer))
+        }
+        event => Ok(event),
+    }
+}
+
+/// An event with one more challenge, where it is an answer.
+fn event_asking<A: Allocator>(
+    event: Event<A>,
+    challenge: Challenge<A>,
+) -> Result<Event<A>, AllocError>
+    ensures { IfOk result (λ e. event_of e ≡ answer_changed (with_challenge challenge) (event_of event)) }
+{
+    match event {
+        Event::Answer(n, mut answer) => {
+            answer.push_challenge(challenge)?;
             Ok(Event::Answer(n, answer))
         }
         event => Ok(event),
@@ -183,11 +200,21 @@ impl<A: Allocator + Clone> Script<A> {
 
     /// Adds a contact to the last event.
     fn add_contact(&mut self, offer: Offer<A>) -> Result<(), AllocError>
-        ensures { OnOk result (self.new ≡ record self.old { events = events_with self.old.events offer }) }
+        ensures { OnOk result (self.new ≡ record self.old { events = last_changed (with_contact offer) self.old.events }) }
     {
         match self.events.pop_back() {
             None => Ok(()),
             Some(event) => self.add_event(event_with(event, offer)?),
+        }
+    }
+
+    /// Adds a challenge to the last event.
+    fn add_challenge(&mut self, challenge: Challenge<A>) -> Result<(), AllocError>
+        ensures { OnOk result (self.new ≡ record self.old { events = last_changed (with_challenge challenge) self.old.events }) }
+    {
+        match self.events.pop_back() {
+            None => Ok(()),
+            Some(event) => self.add_event(event_asking(event, challenge)?),
         }
     }
 
@@ -212,12 +239,16 @@ impl<A: Allocator + Clone> Script<A> {
             Line::Cancel => self.add_event(Event::Cancel)?,
             Line::Contact(q, name) => self.add_contact(contact(alloc, q, name)?)?,
             Line::Other(q, text) => self.add_contact(other(alloc, q, text)?)?,
+            Line::Challenge { proxy, value } => {
+                let value = value.to_vec(alloc.clone()?)?;
+                self.add_challenge(Challenge::new(proxy, value))?;
+            }
         }
         Ok(())
     }
 }
 
-/// The answer of this status, before its contacts are known.
+/// The answer of this status, before its contacts and its challenges are known.
 fn bare_answer<A: Allocator + Clone>(alloc: &A, status: Status) -> Result<Answer<A>, AllocError>
     ensures { IfOk result (λ answer. answer ≡ bare status) }
 {

@@ -162,7 +162,7 @@ const CONTACTS: [(&str, &str); 7] = [
 ];
 
 /// Scripts with the number of their first malformed line.
-const MALFORMED: [(&str, u32); 52] = [
+const MALFORMED: [(&str, u32); 57] = [
     ("", 1),
     ("\n", 1),
     ("kind INVITE", 1),
@@ -201,8 +201,22 @@ const MALFORMED: [(&str, u32); 52] = [
     ("kind INVITE\ntarget 1000 a\ncontact 1000 b\n", 3),
     ("kind INVITE\ntarget 1000 a\ncancel\ncontact 1000 b\n", 4),
     ("kind INVITE\ntarget 1000 a\ncancel\ntarget 1000 b\n", 4),
+    ("kind INVITE\ntarget 1000 a\nchallenge W Digest\n", 3),
     (
-        "kind INVITE\ntarget 1000 a\nanswer 0 401\nchallenge W Digest\n",
+        "kind INVITE\ntarget 1000 a\ncancel\nchallenge W Digest\n",
+        4,
+    ),
+    (
+        "kind INVITE\ntarget 1000 a\nanswer 0 401\nchallenge X Digest\n",
+        4,
+    ),
+    ("kind INVITE\ntarget 1000 a\nanswer 0 401\nchallenge W\n", 4),
+    (
+        "kind INVITE\ntarget 1000 a\nanswer 0 401\nchallenge W \n",
+        4,
+    ),
+    (
+        "kind INVITE\ntarget 1000 a\nanswer 0 401\nchallenge W a\tb\n",
         4,
     ),
     ("kind INVITE\ntarget 1000 a\nanswer 0 302\nother 1000 \n", 4),
@@ -254,6 +268,31 @@ fn malformed_lines_are_counted(rt: HostRuntime) -> Result<(), Fail> {
         );
     }
     Ok(())
+}
+
+/// The challenges of a 401 and a 407.
+const CHALLENGES: [(&str, &str); 4] = [
+    (
+        "kind INVITE\ntarget 1000 a\ntarget 1000 b\ntarget 1000 c\nanswer 0 486\nanswer 1 401\nchallenge W Digest realm=\"a\"\nanswer 2 407\nchallenge P Digest realm=\"b\"\n",
+        "opening start 0,1,2\n0 start - cancel - up -\n1 start - cancel - up -\n2 start - cancel - up final 401 1\nadd Proxy-Authenticate: Digest realm=\"b\"\nfinal 401 1\n",
+    ),
+    (
+        "kind OTHER\ntarget 1000 a\ntarget 1000 b\ntarget 1000 c\nanswer 2 407\nchallenge P 1\nanswer 1 401\nchallenge W  2 \nchallenge P 3\nanswer 0 401\nchallenge W 4\n",
+        "opening start 0,1,2\n0 start - cancel - up -\n1 start - cancel - up -\n2 start - cancel - up final 407 2\nadd WWW-Authenticate:  2 \nadd Proxy-Authenticate: 3\nadd WWW-Authenticate: 4\nfinal 407 2\n",
+    ),
+    (
+        "kind INVITE\ntarget 1000 a\ntarget 1000 b\nanswer 0 401\nchallenge W 1\nanswer 1 603\n",
+        "opening start 0,1\n0 start - cancel - up -\n1 start - cancel - up final 603 1\nfinal 603 1\n",
+    ),
+    (
+        "kind INVITE\ntarget 1000 a\nanswer 0 302\nchallenge W 1\ncontact 1000 b\nchallenge P 2\nother 1000 <tel:+1555>\nanswer 1 404\n",
+        "opening start 0\n0 start 1 cancel - up -\n1 start - cancel - up final 302 0\nfinal 302 0\n",
+    ),
+];
+
+#[test]
+fn challenges_are_added(rt: HostRuntime) -> Result<(), Fail> {
+    check_all(&rt, &CHALLENGES)
 }
 
 /// So many bytes that are no script.

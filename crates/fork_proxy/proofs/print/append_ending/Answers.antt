@@ -13,4 +13,4 @@ returns-in-None g c =
 pub returns-in-Some : goal.returns-in-Some
 returns-in-Some g c =
     let due = c.in-Some.ensures.due.0 refl in
-    ends_chosen c.append_chosen.result c.args.context.now.table (choice_of c.in-Some.choice) _ _ due.1 due.0 c.in-Some.ensures.value c.append_chosen.ensures
+    ends_chosen c.append_finished.result c.args.context.now.table (choice_of c.in-Some.choice) _ _ due.1 due.0 c.in-Some.ensures.value c.append_finished.ensures

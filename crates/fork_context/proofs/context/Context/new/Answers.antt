@@ -1,6 +1,8 @@
-use Rattle.std.proofs.Common.{◌≡◌, ◌≤◌, length, arith, ap}
+use Rattle.std.proofs.Common.{◌≡◌, ◌≤◌, [], length, arith, ap, sym, subst}
 use Rattle.fork_model.specs.Table.{Table, most_targets}
 use Rattle.fork_model.specs.History.{opening}
+use Rattle.fork_model.specs.OneReply.{AreArrivals}
+use Rattle.fork_model.proofs.Arrivals.{history_of_arrivals}
 use Rattle.fork_model.proofs.ContactLemmas.{each_target}
 use Rattle.fork_context.specs.KindView.{kind_of}
 use Rattle.fork_context.specs.Refusals.{HasTwice}
@@ -14,7 +16,10 @@ invariant_of-result g c =
     each_target (kind_of c.args.kind) c.args.rules c.deref-2.result.now in
     let all : length c.deref-2.result.now ≡ length c.args.targets.items = ap length c.deref-2.ensures.value in
     let few : length c.in-Ok.table.rows ≤ most_targets = omega arith in
-    record { few = few; within = omega arith }
+    let Apart : Table → Type 0 = λ t. AreArrivals t.rows 0 in
+    let apart : AreArrivals c.in-Ok.table.rows 0 =
+    subst Apart (sym c.in-Ok.ensures) (history_of_arrivals (kind_of c.args.kind) c.args.rules c.deref-2.result.now []) in
+    record { few = few; within = omega arith; apart = apart }
 
 pub returns-clause-twice : goal.returns-clause-twice
 returns-clause-twice g c =

@@ -2,8 +2,8 @@ use Rattle.std.proofs.Common.{◌≡◌, ◌∷◌, ◌++◌, ◌∙◌, [], map
 use Rattle.std.proofs.lemmas.List.{map_push}
 use Rattle.fork_context.specs.EventView.{event_of}
 use Rattle.fork_context.specs.KindView.{kind_of}
-use Rattle.fork_proxy.specs.Script.{Script}
-use Rattle.fork_proxy.proofs.Contacts.{contact_added}
+use Rattle.fork_proxy.specs.Script.{Script, with_contact}
+use Rattle.fork_proxy.proofs.LastAnswer.{change_added}
 use Rattle.fork_proxy.proofs.script.Script.add_contact.Goals as goal
 
 pub returns-in_ok-event_with-in-Some : goal.returns-in_ok-event_with-in-Some
@@ -12,4 +12,4 @@ returns-in_ok-event_with-in-Some g c =
     let shown : Script = record { kind = kind_of inside.kind; rules = inside.rules; targets = inside.targets.items; events = map event_of inside.events.items } in
     let seen : c.args.self.now ≡ shown = cc c.self.view_is in
     let last : shown.events ≡ map event_of c.pop_back.new.self.items ++ event_of c.in-Some.event ∷ [] = ap (map event_of) c.in-Some.ensures.items ∙ map_push event_of c.pop_back.new.self.items c.in-Some.event in
-    contact_added c.add_event.result c.args.self.now shown c.add_event.new.self (map event_of c.pop_back.new.self.items) (event_of c.in-Some.event) _ c.args.offer seen last c.in_ok-event_with-in-Some.ensures c.add_event.ensures
+    change_added (with_contact c.args.offer) c.add_event.result c.args.self.now shown c.add_event.new.self (map event_of c.pop_back.new.self.items) (event_of c.in-Some.event) _ seen last c.in_ok-event_with-in-Some.ensures c.add_event.ensures

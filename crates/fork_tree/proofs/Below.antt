@@ -1,0 +1,168 @@
+-- What a node keeps is the best, and its count that, of the rows at or below its number.
+use Rattle.std.proofs.Common.{◌≡◌, ℕ, zero, suc, ◌+◌, ◌<◌, ◌≤◌, ◌&&◌, ◌⊎◌, inl, inr, Bool, true, false, IsTrue, not, List, [], ◌∷◌, ◌++◌, length, Option, Some, None, slice_get, refl, ap, sym, subst, ◌∙◌, arith, if◌then◌else◌}
+use Rattle.std.specs.Prelude.{is_some}
+use Rattle.std.specs.Option.{option_map}
+use Rattle.fork_model.specs.Table.{Row, Rules, is_ended, stored_of}
+use Rattle.fork_model.specs.Rank.{Rank, Score, RanksBefore, rank_of, Before}
+use Rattle.fork_model.specs.Choice.{HasScore, score_of, stored_at}
+use Rattle.fork_tree.specs.declared.best.Kept.{Kept}
+use Rattle.fork_tree.specs.declared.best.BestRef.{BestRef}
+use Rattle.fork_tree.specs.declared.best.Tally.{Tally}
+use Rattle.fork_tree.specs.declared.place.Place.{Place}
+use Rattle.fork_tree.specs.States.{has_ended, bare_state}
+use Rattle.fork_tree.specs.Rows.{Cell, Entry, find}
+use Rattle.fork_tree.specs.Places.{path_of, row_at, rows_of, number_of, IsPlaced, AreOlder}
+use Rattle.fork_tree.specs.Tally.{HasKept, IsKept, best_of, open_of}
+use Rattle.fork_tree.specs.Listed.{AreListed, AreRanked, IsTree}
+use Rattle.fork_tree.specs.Tree.{Tree, score_of_ref}
+use Rattle.fork_tree.specs.Below.{leads, lies_below, stripped, put_under, under, IsBestOf, IsBestBelow, open_where, open_below, IsSubtree}
+use Rattle.fork_tree.proofs.Traces.{path_below, path_top}
+use Rattle.fork_tree.proofs.Placed.{IsRowAt, row_got, place_less, ended_bare}
+use Rattle.fork_tree.proofs.Counts.{one, passing, passing_rows, passing_agree, rows_length}
+use Rattle.fork_tree.proofs.Kept.{ScoreKept, KeptScore, stored_state, state_stored, ranked_at, found_kept, kept_score, before_ranks}
+use Rattle.fork_tree.proofs.Unders.{stripped_here, stripped_is, find_under}
+use Rattle.fork_tree.proofs.Chains.{up_of, lies_same, GoesOn, leads_on, on_leads}
+
+-- ---- the walk by parents
+
+path_there : (all : List Place) (root : List Entry) (n : ℕ) (path : List ℕ) → IsPlaced all root → n < length all → path ≡ path_of all n → IsTrue (is_some (find root path))
+path_there all root n path placed lt e = go (find root path) (ap (λ p. number_of (find root p)) e ∙ placed n lt)
+  where
+    go : (o : Option Cell) → number_of o ≡ Some n → IsTrue (is_some o)
+    go None h = absurd cc
+    go (Some c) h = cc
+
+pub top_there : (all : List Place) (root : List Entry) (n : ℕ) (p : Place) → IsPlaced all root → n < length all → slice_get all n ≡ Some p → p.parent ≡ None
+    → IsTrue (is_some (find root (p.group ∷ p.place ∷ [])))
+top_there all root n p placed lt is up = path_there all root n (p.group ∷ p.place ∷ []) placed lt (sym (path_top all n p is up))
+
+pub further_there : (all : List Place) (root node : List Entry) (n m : ℕ) (p : Place) → AreOlder all → IsPlaced all root → n < length all → slice_get all n ≡ Some p → p.parent ≡ Some m
+    → node ≡ under (path_of all m) root → IsTrue (is_some (find node (p.group ∷ p.place ∷ [])))
+further_there all root node n m p older placed lt is up e =
+    let P : Option Cell → Type 0 = λ x. IsTrue (is_some x) in
+    subst P (sym (ap (λ x. find x (p.group ∷ p.place ∷ [])) e ∙ find_under (path_of all m) root (p.group ∷ p.place ∷ [])))
+      (path_there all root n (path_of all m ++ p.group ∷ p.place ∷ []) placed lt (sym (path_below all n m p older is up)))
+
+-- ---- the best
+
+score_below : (rules : Rules) (all : List Place) (root : List Entry) (n m : ℕ) (score : Score) → AreOlder all → AreRanked rules root → IsTrue (lies_below (rows_of all root) n m)
+    → HasScore (rows_of all root) m score → ScoreKept rules (under (path_of all n) root) score
+score_below rules all root n m score older ranked below h = go (slice_get (rows_of all root) m) refl h
+  where
+    on : GoesOn all n m
+    on = leads_on all n m m older (sym (lies_same all root n m) ∙ truth (lies_below (rows_of all root) n m) below)
+      where
+        truth : (b : Bool) → IsTrue b → b ≡ true
+        truth true k = refl
+        truth false k = absurd cc
+    cell : (p : Place) (o : Option Cell) → find root (path_of all m) ≡ o → option_map score_of (stored_of (row_at p o).state) ≡ Some score → ScoreKept rules (under (path_of all n) root) score
+    cell p None e h = absurd cc
+    cell p (Some c) e h =
+        let found = stored_state rules c.number c.standing.state score h in
+        (found.0, found_kept (under (path_of all n) root) on.0 c found.0 (find_under (path_of all n) root on.0 ∙ ap (find root) (sym on.1) ∙ e)
+          (ranked_at rules root (path_of all m) c ranked e ∙ found.1), found.2)
+    go : (o : Option Row) → slice_get (rows_of all root) m ≡ o → option_map score_of (stored_at o) ≡ Some score → ScoreKept rules (under (path_of all n) root) score
+    go None e h = absurd cc
+    go (Some r) e h =
+        let found : IsRowAt all root 0 m all r = row_got all root 0 m all r e in
+        let at : 0 + m ≡ m = omega arith in
+        cell found.0 (find root (path_of all m)) refl
+          (sym (ap (λ (x : Row). option_map score_of (stored_of x.state)) (found.2 ∙ ap (λ k. row_at found.0 (find root (path_of all k))) at)) ∙ h)
+
+record KeptBelow (rules : Rules) (rows : List Row) (n : ℕ) (k : Kept) : Type 0 where
+  pub below : IsTrue (lies_below rows n k.best.no)
+  pub score : KeptScore rules rows k
+
+kept_below : (rules : Rules) (all : List Place) (root es : List Entry) (n : ℕ) (k : Kept) → AreOlder all → IsPlaced all root → n < length all → AreListed all root es → AreRanked rules es
+    → HasKept (under (path_of all n) es) k → KeptBelow rules (rows_of all root) n k
+kept_below rules all root [] n k older placed lt l r h = absurd h
+kept_below rules all root (e ∷ es) n k older placed lt l r h = go (stripped (path_of all n) e.path) refl h (λ t. kept_below rules all root es n k older placed lt l.1 r.1 t)
+  where
+    own : (q : List ℕ) → stripped (path_of all n) e.path ≡ Some q → e.cell.standing.answer ≡ Some k → KeptBelow rules (rows_of all root) n k
+    own q f a =
+        let number : k.best.no ≡ e.cell.number = (state_stored rules e.cell.number e.cell.standing.state k (sym r.0 ∙ a)).0 in
+        let yes : lies_below (rows_of all root) n e.cell.number ≡ true =
+            lies_same all root n e.cell.number
+              ∙ on_leads all root n e.cell.number e.cell.number older placed lt l.0.known (omega arith) (q, sym l.0.path ∙ stripped_is (path_of all n) e.path q f) in
+        let B : Bool → Type 0 = λ b. IsTrue b in
+        record { below = subst B (sym (ap (lies_below (rows_of all root) n) number ∙ yes)) cc; score = kept_score rules all root (e ∷ es) k l r (inl a); }
+    go : (o : Option (List ℕ)) → stripped (path_of all n) e.path ≡ o → HasKept (put_under o e (under (path_of all n) es)) k
+        → (HasKept (under (path_of all n) es) k → KeptBelow rules (rows_of all root) n k) → KeptBelow rules (rows_of all root) n k
+    go None f h again = again h
+    go (Some q) f h again = elim h [ inl a ↦ own q f a | inr t ↦ again t ]
+
+best_below : (rules : Rules) (all : List Place) (root : List Entry) (n : ℕ) (kept : Option Kept) → AreOlder all → IsPlaced all root → n < length all → AreListed all root root
+    → AreRanked rules root → IsKept (under (path_of all n) root) kept → IsBestBelow rules (rows_of all root) n (best_of kept)
+best_below rules all root n None older placed lt listed ranked k =
+    λ m score below s. (let found = score_below rules all root n m score older ranked below s in k found.0 found.1)
+best_below rules all root n (Some b) older placed lt listed ranked k =
+    let own : KeptBelow rules (rows_of all root) n b = kept_below rules all root root n b older placed lt listed ranked k.stored in
+    record {
+      below = own.below;
+      stored = own.score.0;
+      first = λ m other below s before.
+          (let found = score_below rules all root n m other older ranked below s in
+          k.first found.0 found.1 (ranks found.0.rank b.rank other found.2 own.score.1 before));
+    }
+  where
+    ranks : (x y : Rank) (other : Score) → x ≡ rank_of rules other → y ≡ rank_of rules (score_of_ref b.best) → Before rules other (score_of_ref b.best) → RanksBefore x y
+    ranks x y other e f before = rw (e, f) (before_ranks rules other (score_of_ref b.best) before)
+
+-- ---- the count
+
+abbrev open_cell : List Place → ℕ → Cell → Bool
+open_cell all n c = leads (up_of all) n c.number c.number && not (has_ended c.standing.state)
+
+opens_below : (all : List Place) (root es : List Entry) (n : ℕ) → AreOlder all → IsPlaced all root → n < length all → AreListed all root es
+    → open_of (under (path_of all n) es) ≡ passing (open_cell all n) es
+opens_below all root [] n older placed lt l = refl
+opens_below all root (e ∷ es) n older placed lt l = go (stripped (path_of all n) e.path) refl (opens_below all root es n older placed lt l.1)
+  where
+    counted : (b : Bool) (x y : ℕ) → x ≡ y → (if b then 0 else 1) + x ≡ one (not b) + y
+    counted true x y h = omega (arith, h)
+    counted false x y h = omega (arith, h)
+    not_there : stripped (path_of all n) e.path ≡ None → leads (up_of all) n e.cell.number e.cell.number ≡ false
+    not_there f =
+        elim (leads (up_of all) n e.cell.number e.cell.number) as (λ t. leads (up_of all) n e.cell.number e.cell.number ≡ t → t ≡ false)
+          [ true ↦ (λ k.
+              let on = leads_on all n e.cell.number e.cell.number older k in
+              let bad : None ≡ Some on.0 = sym f ∙ ap (stripped (path_of all n)) (l.0.path ∙ on.1) ∙ stripped_here (path_of all n) on.0 in absurd cc)
+          | false ↦ (λ k. refl) ] refl
+    go : (o : Option (List ℕ)) → stripped (path_of all n) e.path ≡ o → open_of (under (path_of all n) es) ≡ passing (open_cell all n) es
+        → open_of (put_under o e (under (path_of all n) es)) ≡ one (leads (up_of all) n e.cell.number e.cell.number && not (has_ended e.cell.standing.state)) + passing (open_cell all n) es
+    go None f rest =
+        let none : one (leads (up_of all) n e.cell.number e.cell.number && not (has_ended e.cell.standing.state)) ≡ 0 =
+            ap (λ (b : Bool). one (b && not (has_ended e.cell.standing.state))) (not_there f) in
+        omega (arith, rest, none)
+    go (Some q) f rest =
+        counted (has_ended e.cell.standing.state) (open_of (under (path_of all n) es)) (passing (open_cell all n) es) rest
+          ∙ sym (ap (λ (b : Bool). one (b && not (has_ended e.cell.standing.state)) + passing (open_cell all n) es)
+              (on_leads all root n e.cell.number e.cell.number older placed lt l.0.known (omega arith) (q, sym l.0.path ∙ stripped_is (path_of all n) e.path q f)))
+
+where_passing : (f g : ℕ → Bool) (k : ℕ) (rows : List Row) → ((i : ℕ) → f i ≡ g i) → open_where f k rows ≡ passing_rows (λ i s. g i && not (is_ended s)) k rows
+where_passing f g k [] h = refl
+where_passing f g k (row ∷ rows) h =
+    ap (λ (b : Bool). (if b && not (is_ended row.state) then 1 else 0) + open_where f (suc k) rows) (h k)
+      ∙ ap (λ x. one (g k && not (is_ended row.state)) + x) (where_passing f g (suc k) rows h)
+
+count_below : (all : List Place) (root : List Entry) (n : ℕ) → AreOlder all → IsPlaced all root → n < length all → AreListed all root root → length root ≡ length all
+    → open_of (under (path_of all n) root) ≡ open_below (rows_of all root) n
+count_below all root n older placed lt listed sized =
+    opens_below all root root n older placed lt listed
+      ∙ passing_agree (open_cell all n) (λ i s. leads (up_of all) n i i && not (is_ended s)) all root
+          (λ c. ap (λ (b : Bool). leads (up_of all) n c.number c.number && not b) (ended_bare c.standing.state)) placed sized
+      ∙ sym (where_passing (lies_below (rows_of all root) n) (λ i. leads (up_of all) n i i) 0 (rows_of all root) (lies_same all root n))
+
+-- ---- the node
+
+pub is_subtree : (rules : Rules) (all : List Place) (root node : List Entry) (t : Tally) (now : Tree) (n : ℕ) → record { rules = rules; rows = rows_of all root } ≡ now
+    → IsTree rules all root t → n < length all → node ≡ under (path_of all n) root → IsSubtree now n node
+is_subtree rules all root node t now n v was lt e =
+    let P : Tree → Type 0 = λ x. IsSubtree x n node in
+    let Q : List Entry → Type 0 = λ x. IsSubtree (record { rules = rules; rows = rows_of all root }) n x in
+    subst P v (subst Q (sym e) (record {
+      known = omega (arith, lt, rows_length all root 0 all);
+      best = λ b is. (let B : Option BestRef → Type 0 = λ x. IsBestBelow rules (rows_of all root) n x in
+          subst B is.2 (best_below rules all root n is.0 was.older was.placed lt was.listed was.ranked is.1));
+      count = count_below all root n was.older was.placed lt was.listed was.sized;
+    }))

@@ -1,0 +1,16 @@
+pub mod Grafts
+pub mod Tallies
+pub mod Closes
+pub mod Traces
+pub mod Seatings
+pub mod Placed
+pub mod Kept
+pub mod ClosesAll
+pub mod Opening
+pub mod Counts
+pub mod Trees
+pub mod Ends
+pub mod Finds
+pub mod Unders
+pub mod Chains
+pub mod Below

@@ -1,0 +1,64 @@
+use Rattle.std.proofs.Common.{◌<◌, ◌≤◌, length, arith, ap}
+use Rattle.fork_tree.specs.Rows.{joined}
+use Rattle.fork_tree.specs.Tally.{open_of}
+use Rattle.fork_tree.proofs.Tallies.{open_le}
+use Rattle.fork_tree.proofs.Closes.{close_part, close_more, close_done, count_more, node_closed}
+use Rattle.fork_tree.proofs.node.+close.Goals as goal
+
+pub Tier::close-close-ended-requires : goal.Tier::close-close-ended-requires
+Tier::close-close-ended-requires g t c κs within =
+    let lt : c.loop-i.i < length c.loop-i.self-inside.groups.items = omega (arith, c.loop-i-test.true, c.len.ensures) in
+    let few : length c.index_mut.result.now ≤ length c.args.self.now = close_part _ c.self.inside.groups.items c.loop-i.self-inside.groups.items c.loop-i.i c.index_mut.result.now c.self.view_is c.loop-i.invariant.closed c.index_mut.ensures.value lt in
+    (omega (arith, c.decreases, few), (within, omega (arith, few, c.requires.few)))
+
+pub Tier::close-overflow_add-ended : goal.Tier::close-overflow_add-ended
+Tier::close-overflow_add-ended g t c =
+    let lt : c.loop-i.i < length c.loop-i.self-inside.groups.items = omega (arith, c.loop-i-test.true, c.len.ensures) in
+    let few : length c.index_mut.result.now ≤ length c.args.self.now = close_part _ c.self.inside.groups.items c.loop-i.self-inside.groups.items c.loop-i.i c.index_mut.result.now c.self.view_is c.loop-i.invariant.closed c.index_mut.ensures.value lt in
+    let all : open_of (joined 0 c.self.inside.groups.items) ≤ length (joined 0 c.self.inside.groups.items) = open_le (joined 0 c.self.inside.groups.items) in
+    let one : open_of c.index_mut.result.now ≤ length c.index_mut.result.now = open_le c.index_mut.result.now in
+    omega (arith, few, all, one, ap length c.self.view_is, c.requires.few, c.loop-i.invariant.counted, c.close-ended.ensures.counted)
+
+pub Tier::close-loop-i-preserved : goal.Tier::close-loop-i-preserved
+Tier::close-loop-i-preserved g t c =
+    let lt : c.loop-i.i < length c.loop-i.self-inside.groups.items = omega (arith, c.loop-i-test.true, c.len.ensures) in
+    record {
+      closed = close_more c.self.inside.groups.items c.loop-i.self-inside.groups.items c.loop-i.i c.index_mut.result.now _ c.loop-i.invariant.closed c.index_mut.ensures.value lt c.close-ended.ensures.closed;
+      counted = count_more c.self.inside.groups.items c.loop-i.self-inside.groups.items c.loop-i.i c.index_mut.result.now _ _ _ c.index_mut.ensures.value lt c.loop-i.invariant.counted c.close-ended.ensures.counted;
+    }
+
+pub Tier::close-returns-clause-closed : goal.Tier::close-returns-clause-closed
+Tier::close-returns-clause-closed g t c =
+    let past : length c.loop-i.self-inside.groups.items ≤ c.loop-i.i = omega (arith, c.loop-i-test.false, c.len.ensures) in
+    close_done _ c.self.inside.groups.items c.loop-i.self-inside.groups.items c.loop-i.i c.self.view_is c.loop-i.invariant.closed past
+
+pub Group::close-close-ended-requires : goal.Group::close-close-ended-requires
+Group::close-close-ended-requires g t c κs within =
+    let lt : c.loop-i.i < length c.loop-i.self-inside.nodes.items = omega (arith, c.loop-i-test.true, c.len.ensures) in
+    let few : length c.index_mut.result.now ≤ length c.args.self.now = close_part _ c.self.inside.nodes.items c.loop-i.self-inside.nodes.items c.loop-i.i c.index_mut.result.now c.self.view_is c.loop-i.invariant.closed c.index_mut.ensures.value lt in
+    (omega (arith, c.decreases, few), (within, omega (arith, few, c.requires.few)))
+
+pub Group::close-overflow_add-ended : goal.Group::close-overflow_add-ended
+Group::close-overflow_add-ended g t c =
+    let lt : c.loop-i.i < length c.loop-i.self-inside.nodes.items = omega (arith, c.loop-i-test.true, c.len.ensures) in
+    let few : length c.index_mut.result.now ≤ length c.args.self.now = close_part _ c.self.inside.nodes.items c.loop-i.self-inside.nodes.items c.loop-i.i c.index_mut.result.now c.self.view_is c.loop-i.invariant.closed c.index_mut.ensures.value lt in
+    let all : open_of (joined 0 c.self.inside.nodes.items) ≤ length (joined 0 c.self.inside.nodes.items) = open_le (joined 0 c.self.inside.nodes.items) in
+    let one : open_of c.index_mut.result.now ≤ length c.index_mut.result.now = open_le c.index_mut.result.now in
+    omega (arith, few, all, one, ap length c.self.view_is, c.requires.few, c.loop-i.invariant.counted, c.close-ended.ensures.counted)
+
+pub Group::close-loop-i-preserved : goal.Group::close-loop-i-preserved
+Group::close-loop-i-preserved g t c =
+    let lt : c.loop-i.i < length c.loop-i.self-inside.nodes.items = omega (arith, c.loop-i-test.true, c.len.ensures) in
+    record {
+      closed = close_more c.self.inside.nodes.items c.loop-i.self-inside.nodes.items c.loop-i.i c.index_mut.result.now _ c.loop-i.invariant.closed c.index_mut.ensures.value lt c.close-ended.ensures.closed;
+      counted = count_more c.self.inside.nodes.items c.loop-i.self-inside.nodes.items c.loop-i.i c.index_mut.result.now _ _ _ c.index_mut.ensures.value lt c.loop-i.invariant.counted c.close-ended.ensures.counted;
+    }
+
+pub Group::close-returns-clause-closed : goal.Group::close-returns-clause-closed
+Group::close-returns-clause-closed g t c =
+    let past : length c.loop-i.self-inside.nodes.items ≤ c.loop-i.i = omega (arith, c.loop-i-test.false, c.len.ensures) in
+    close_done _ c.self.inside.nodes.items c.loop-i.self-inside.nodes.items c.loop-i.i c.self.view_is c.loop-i.invariant.closed past
+
+pub Node::close-invariant_of-self : goal.Node::close-invariant_of-self
+Node::close-invariant_of-self g t c =
+    node_closed _ _ _ _ _ _ _ _ _ _ c.self.invariant c.closed-self-inside.ensures c.close.ensures.closed c.open_count-before.ensures c.open_count.ensures c.close.ensures.counted

@@ -1,0 +1,12 @@
+use Rattle.std.proofs.Common.{◌<◌, [], ◌∙◌, length, arith, sym}
+use Rattle.fork_tree.proofs.Unders.{child_in, child_under, under_none}
+use Rattle.fork_tree.proofs.node.Group.child.Goals as goal
+
+pub index-requires : goal.index-requires
+index-requires g c =
+    let h : c.args.place < length c.self.inside.nodes.items = child_in _ c.self.inside.nodes.items c.args.place [] c.self.view_is c.requires.there in omega arith
+
+pub returns : goal.returns
+returns g c =
+    sym (under_none c.index.result.now)
+      ∙ child_under _ c.self.inside.nodes.items c.args.place c.index.result.now [] c.self.view_is c.index.ensures c.requires.there

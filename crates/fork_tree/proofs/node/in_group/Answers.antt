@@ -1,0 +1,5 @@
+use Rattle.fork_tree.proofs.Seatings.{group_begun}
+use Rattle.fork_tree.proofs.node.in_group.Goals as goal
+
+pub returns-in_ok-clone-clause-same : goal.returns-in_ok-clone-clause-same
+returns-in_ok-clone-clause-same g c = group_begun _ _ c.args.nodes.items _ c.in_ok-push.ensures.items c.new.ensures.items

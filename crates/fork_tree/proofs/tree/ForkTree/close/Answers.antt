@@ -1,0 +1,21 @@
+use Rattle.std.proofs.Common.{List, map, ap, ◌∙◌}
+use Rattle.fork_model.specs.Table.{Row}
+use Rattle.fork_tree.specs.Places.{rows_of}
+use Rattle.fork_tree.specs.Closing.{closed_row}
+use Rattle.fork_tree.proofs.ClosesAll.{whole_closed}
+use Rattle.fork_tree.proofs.Trees.{tree_closed, value_after}
+use Rattle.fork_tree.proofs.tree.ForkTree.close.Goals as goal
+
+pub invariant_of-self : goal.invariant_of-self
+invariant_of-self g c = record {
+  tree = tree_closed c.self.inside.rules c.self.inside.places.items c.self.inside.root c.close-ended.new.self c.self.inside.tally c.close-ended.result
+      c.self.invariant.tree c.close-ended.ensures.closed c.close-ended.ensures.counted;
+  path_room = c.self.invariant.path_room;
+  places_room = c.self.invariant.places_room;
+}
+
+pub returns : goal.returns
+returns g c =
+    value_after c.self.inside.rules (rows_of c.self.inside.places.items c.self.inside.root) (rows_of c.self.inside.places.items c.close-ended.new.self) c.args.self.now
+    (λ (r : List Row). map closed_row r) c.self.view_is
+    (ap (rows_of c.self.inside.places.items) c.close-ended.ensures.closed ∙ whole_closed c.self.inside.places.items c.self.inside.root)

@@ -1,0 +1,155 @@
+use Rattle.std.proofs.Common.{◌≡◌, ◌++◌, ◌∷◌, ◌+◌, ℕ, List, Some, None, IsTrue, length, map, arith, ap, sym, subst, ◌∙◌}
+use Rattle.fork_model.specs.Table.{Row}
+use Rattle.fork_model.specs.Step.{with_state}
+use Rattle.fork_tree.specs.declared.place.Place.{Place}
+use Rattle.fork_tree.specs.declared.best.Standing.{Standing}
+use Rattle.fork_tree.specs.declared.row.State.TheVariants.{Ended}
+use Rattle.fork_tree.specs.States.{bare_state}
+use Rattle.fork_tree.specs.Rows.{Entry, find, open_at, graft}
+use Rattle.fork_tree.specs.Tally.{IsKept, open_of}
+use Rattle.fork_tree.specs.Places.{path_of, rows_of, AreOlder}
+use Rattle.fork_tree.specs.Seats.{Waiting, seat_rows, seated, place_in}
+use Rattle.fork_tree.specs.Listed.{IsTree, kept_of}
+use Rattle.fork_tree.specs.Tree.{Tree}
+use Rattle.fork_tree.proofs.Tallies.{open_some, open_le}
+use Rattle.fork_tree.proofs.Placed.{open_row}
+use Rattle.fork_tree.proofs.Opening.{AreRising, seats_rise, length_seat_rows, open_seats, seats_keep_none}
+use Rattle.fork_tree.proofs.Counts.{rows_length}
+use Rattle.fork_tree.proofs.Trees.{value_after}
+use Rattle.fork_tree.proofs.Ends.{grown, IsEnding, tree_ended, rows_ended, open_unended}
+use Rattle.fork_tree.proofs.tree.ForkTree.end.Goals as goal
+
+pub trace-requires-clause-known : goal.trace-requires-clause-known
+trace-requires-clause-known g c =
+    let at = open_row _ c.self.inside.places.items c.self.inside.root c.args.n (ap (λ (t : Tree). t.rows) c.self.view_is) (open_unended _ c.requires.there) in
+    omega (arith, at.0, ap length c.deref.ensures.value)
+
+pub trace-requires-clause-older : goal.trace-requires-clause-older
+trace-requires-clause-older g c = subst AreOlder (sym c.deref.ensures.value) c.self.invariant.tree.older
+
+pub trace-requires-clause-room : goal.trace-requires-clause-room
+trace-requires-clause-room g c =
+    let at = open_row _ c.self.inside.places.items c.self.inside.root c.args.n (ap (λ (t : Tree). t.rows) c.self.view_is) (open_unended _ c.requires.there) in
+    omega (arith, at.0, c.clear.ensures.len, c.clear.ensures.capacity, c.self.invariant.path_room, c.self.invariant.tree.few)
+
+pub add_places-requires : goal.add_places-requires
+add_places-requires g c =
+    let first : c.below.inside.first ≡ length c.self.inside.places.items =
+    omega (
+      arith,
+      ap (λ (w : Waiting). w.first) c.below.view_is,
+      c.requires.next,
+      ap (λ (t : Tree). length t.rows) c.self.view_is,
+      rows_length c.self.inside.places.items c.self.inside.root 0 c.self.inside.places.items,
+    ) in
+    record { room = omega (arith, first, ap length c.deref-2.ensures.value, c.below.invariant.few, c.self.invariant.places_room) }
+
+pub end-requires-clause-there : goal.end-requires-clause-there
+end-requires-clause-there g c =
+    let at = open_row _ c.self.inside.places.items c.self.inside.root c.args.n (ap (λ (t : Tree). t.rows) c.self.view_is) (open_unended _ c.requires.there) in
+    let p : c.deref-3.result.now ≡ path_of c.self.inside.places.items c.args.n =
+    c.deref-3.ensures.value ∙ c.trace.ensures.items ∙ ap (λ x. x ++ path_of c.deref.result.now c.args.n) c.clear.ensures.items
+    ∙ ap (λ x. path_of x c.args.n) c.deref.ensures.value in
+    let P : List ℕ → Type 0 = λ x. IsTrue (open_at c.self.inside.root x) in
+    subst P (sym p) at.1
+
+pub end-requires-clause-fresh : goal.end-requires-clause-fresh
+end-requires-clause-fresh g c =
+    let P : List Entry → Type 0 = λ x. IsKept x None in
+    subst P (sym c.below.invariant.seated) (seats_keep_none c.below.inside.first c.below.inside.seats.items)
+
+pub end-requires-clause-opens : goal.end-requires-clause-opens
+end-requires-clause-opens g c =
+    omega (arith, c.len-opens.ensures, ap open_of c.below.invariant.seated, open_seats c.below.inside.first c.below.inside.seats.items)
+
+pub end-requires-clause-few : goal.end-requires-clause-few
+end-requires-clause-few g c =
+    let first : c.below.inside.first ≡ length c.self.inside.places.items =
+    omega (
+      arith,
+      ap (λ (w : Waiting). w.first) c.below.view_is,
+      c.requires.next,
+      ap (λ (t : Tree). length t.rows) c.self.view_is,
+      rows_length c.self.inside.places.items c.self.inside.root 0 c.self.inside.places.items,
+    ) in
+    omega (arith, first, c.self.invariant.tree.sized, ap length c.below.invariant.seated, length_seat_rows c.below.inside.first c.below.inside.seats.items, c.below.invariant.few)
+
+pub after-self-inside-requires-clause-some : goal.after-self-inside-requires-clause-some
+after-self-inside-requires-clause-some g c =
+    let at = open_row _ c.self.inside.places.items c.self.inside.root c.args.n (ap (λ (t : Tree). t.rows) c.self.view_is) (open_unended _ c.requires.there) in
+    omega (arith, c.self.invariant.tree.tally.still, open_some c.self.inside.root (path_of c.self.inside.places.items c.args.n) at.1)
+
+pub after-self-inside-requires-clause-fits : goal.after-self-inside-requires-clause-fits
+after-self-inside-requires-clause-fits g c =
+    omega (arith, c.self.invariant.tree.tally.still, open_le c.self.inside.root, c.self.invariant.tree.sized, c.self.invariant.tree.few, c.len-opens.ensures, c.below.invariant.few)
+
+pub invariant_of-self : goal.invariant_of-self
+invariant_of-self g c =
+    let at = open_row _ c.self.inside.places.items c.self.inside.root c.args.n (ap (λ (t : Tree). t.rows) c.self.view_is) (open_unended _ c.requires.there) in
+    let first : c.below.inside.first ≡ length c.self.inside.places.items =
+    omega (
+      arith,
+      ap (λ (w : Waiting). w.first) c.below.view_is,
+      c.requires.next,
+      ap (λ (t : Tree). length t.rows) c.self.view_is,
+      rows_length c.self.inside.places.items c.self.inside.root 0 c.self.inside.places.items,
+    ) in
+    let p : c.deref-3.result.now ≡ path_of c.self.inside.places.items c.args.n =
+    c.deref-3.ensures.value ∙ c.trace.ensures.items ∙ ap (λ x. x ++ path_of c.deref.result.now c.args.n) c.clear.ensures.items
+    ∙ ap (λ x. path_of x c.args.n) c.deref.ensures.value in
+    let is : IsEnding c.self.inside.places.items c.self.inside.root c.args.n c.below.inside.seats.items = record {
+      older = c.self.invariant.tree.older;
+      placed = c.self.invariant.tree.placed;
+      known = at.0;
+      alone = λ k r. ap (λ x. find c.self.inside.root (x ++ k ∷ r)) (sym p) ∙ c.end.ensures.alone k r;
+      rise = subst AreRising (sym c.below.invariant.rising.1) (seats_rise None 0 0 c.below.invariant.rising.0);
+    } in
+    let places : c.add_places.new.places.items ≡ grown c.self.inside.places.items c.args.n c.below.inside.seats.items =
+    c.add_places.ensures.items ∙ ap (λ x. c.self.inside.places.items ++ map (place_in (Some c.args.n)) x) c.deref-2.ensures.value in
+    let new : c.end.new.self ≡ graft c.self.inside.root (path_of c.self.inside.places.items c.args.n) c.of-standing.result (seat_rows c.below.inside.first c.below.inside.seats.items) =
+    c.end.ensures.grafted ∙ ap (λ x. graft c.self.inside.root x c.of-standing.result c.below.inside.tier) p
+    ∙ ap (λ x. graft c.self.inside.root (path_of c.self.inside.places.items c.args.n) c.of-standing.result x) c.below.invariant.seated in
+    let answer : c.of-standing.result.answer ≡ kept_of c.self.inside.rules c.args.n c.of-standing.result.state =
+    ap (λ (s : Standing). s.answer) c.of-standing.ensures ∙ ap (λ (s : Standing). kept_of c.self.inside.rules c.args.n s.state) (sym c.of-standing.ensures) in
+    let P : List Place → Type 0 = λ x. IsTree c.self.inside.rules x c.end.new.self c.after-self-inside.result in
+    record {
+      tree = subst P (sym places) (tree_ended c.self.inside.rules c.self.inside.places.items c.self.inside.root c.end.new.self c.self.inside.tally c.after-self-inside.result c.args.n
+          c.of-standing.result c.below.inside.seats.items c.below.inside.first c.len-opens.result c.self.invariant.tree is answer first c.below.invariant.few new
+          (c.end.ensures.sized ∙ ap (λ x. length c.self.inside.root + length x) c.below.invariant.seated) c.end.ensures.counted c.end.ensures.gained
+          c.after-self-inside.ensures.kept c.after-self-inside.ensures.still);
+      path_room = omega (arith, c.self.invariant.path_room, c.clear.ensures.capacity, c.trace.ensures.capacity);
+      places_room = omega (arith, c.self.invariant.places_room, c.add_places.ensures.capacity);
+    }
+
+pub returns : goal.returns
+returns g c =
+    let at = open_row _ c.self.inside.places.items c.self.inside.root c.args.n (ap (λ (t : Tree). t.rows) c.self.view_is) (open_unended _ c.requires.there) in
+    let first : c.below.inside.first ≡ length c.self.inside.places.items =
+    omega (
+      arith,
+      ap (λ (w : Waiting). w.first) c.below.view_is,
+      c.requires.next,
+      ap (λ (t : Tree). length t.rows) c.self.view_is,
+      rows_length c.self.inside.places.items c.self.inside.root 0 c.self.inside.places.items,
+    ) in
+    let p : c.deref-3.result.now ≡ path_of c.self.inside.places.items c.args.n =
+    c.deref-3.ensures.value ∙ c.trace.ensures.items ∙ ap (λ x. x ++ path_of c.deref.result.now c.args.n) c.clear.ensures.items
+    ∙ ap (λ x. path_of x c.args.n) c.deref.ensures.value in
+    let is : IsEnding c.self.inside.places.items c.self.inside.root c.args.n c.below.inside.seats.items = record {
+      older = c.self.invariant.tree.older;
+      placed = c.self.invariant.tree.placed;
+      known = at.0;
+      alone = λ k r. ap (λ x. find c.self.inside.root (x ++ k ∷ r)) (sym p) ∙ c.end.ensures.alone k r;
+      rise = subst AreRising (sym c.below.invariant.rising.1) (seats_rise None 0 0 c.below.invariant.rising.0);
+    } in
+    let places : c.add_places.new.places.items ≡ grown c.self.inside.places.items c.args.n c.below.inside.seats.items =
+    c.add_places.ensures.items ∙ ap (λ x. c.self.inside.places.items ++ map (place_in (Some c.args.n)) x) c.deref-2.ensures.value in
+    let new : c.end.new.self ≡ graft c.self.inside.root (path_of c.self.inside.places.items c.args.n) c.of-standing.result (seat_rows c.below.inside.first c.below.inside.seats.items) =
+    c.end.ensures.grafted ∙ ap (λ x. graft c.self.inside.root x c.of-standing.result c.below.inside.tier) p
+    ∙ ap (λ x. graft c.self.inside.root (path_of c.self.inside.places.items c.args.n) c.of-standing.result x) c.below.invariant.seated in
+    value_after c.self.inside.rules (rows_of c.self.inside.places.items c.self.inside.root) (rows_of c.add_places.new.places.items c.end.new.self) c.args.self.now
+    (λ (r : List Row). with_state r c.args.n (bare_state (Ended c.args.end)) ++ map (seated (Some c.args.n)) c.args.below.seats) c.self.view_is
+    (ap (λ x. rows_of x c.end.new.self) places
+    ∙ rows_ended c.self.inside.places.items c.self.inside.root c.end.new.self c.args.n c.of-standing.result c.below.inside.seats.items c.below.inside.first is first new
+    ∙ ap (λ (s : Standing). with_state (rows_of c.self.inside.places.items c.self.inside.root) c.args.n (bare_state s.state) ++ map (seated (Some c.args.n)) c.below.inside.seats.items) c.of-standing.ensures
+    ∙ ap (λ (w : Waiting). with_state (rows_of c.self.inside.places.items c.self.inside.root) c.args.n (bare_state (Ended c.args.end)) ++ map (seated (Some c.args.n)) w.seats) c.below.view_is)

@@ -1,0 +1,5 @@
+use Rattle.fork_tree.proofs.Trees.{uncancelled_unended}
+use Rattle.fork_tree.proofs.tree.ForkTree.mark_cancel.Goals as goal
+
+pub set-requires-clause-there : goal.set-requires-clause-there
+set-requires-clause-there g c = uncancelled_unended _ c.requires

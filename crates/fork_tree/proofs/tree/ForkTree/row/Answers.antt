@@ -1,0 +1,23 @@
+use Rattle.std.proofs.Common.{◌≡◌, ◌<◌, ◌≤◌, ◌++◌, Some, length, slice_get, arith, ap, sym, ◌∙◌}
+use Rattle.std.specs.Option.{option_map}
+use Rattle.fork_tree.specs.Rows.{find}
+use Rattle.fork_tree.specs.Places.{path_of}
+use Rattle.fork_tree.specs.Tree.{Tree, row_ref}
+use Rattle.fork_tree.proofs.Counts.{rows_length}
+use Rattle.fork_tree.proofs.Finds.{row_read, row_none}
+use Rattle.fork_tree.proofs.tree.ForkTree.row.Goals as goal
+
+pub returns-then-n-len : goal.returns-then-n-len
+returns-then-n-len g c =
+    let past : length c.args.self.now.rows ≤ c.args.n =
+    omega (arith, c.if-n-len.true, c.len.ensures, ap (λ (t : Tree). length t.rows) c.self.view_is, rows_length c.self.inside.places.items c.self.inside.root 0 c.self.inside.places.items) in
+    sym (ap (option_map (row_ref c.args.n)) (row_none c.args.self.now.rows c.args.n past))
+
+pub returns : goal.returns
+returns g c =
+    let known : c.args.n < length c.self.inside.places.items = omega (arith, c.if-n-len.false, c.len.ensures) in
+    let place : slice_get c.self.inside.places.items c.args.n ≡ Some c.place_of-place.result =
+    ap (λ x. slice_get x c.args.n) (sym c.deref.ensures.value) ∙ c.place_of-place.ensures in
+    row_read c.self.inside.places.items c.self.inside.root c.node_at-node.result.now c.args.n c.q.result c.state.result c.place_of-place.result c.self.invariant.tree.placed known place
+    (λ rest. c.node_at-node.ensures rest ∙ ap (λ x. find c.self.inside.root (path_of x c.args.n ++ rest)) c.deref-2.ensures.value) c.q.ensures c.state.ensures
+    ∙ ap (λ (t : Tree). option_map (row_ref c.args.n) (slice_get t.rows c.args.n)) c.self.view_is

@@ -1,0 +1,53 @@
+use Rattle.std.proofs.Common.{◌≡◌, ◌++◌, ℕ, List, [], IsTrue, length, arith, ap, sym, subst, ◌∙◌}
+use Rattle.fork_model.specs.Table.{Row}
+use Rattle.fork_model.specs.Step.{with_state}
+use Rattle.fork_tree.specs.States.{bare_state}
+use Rattle.fork_tree.specs.Rows.{open_at, graft, unanswered}
+use Rattle.fork_tree.specs.Places.{path_of, rows_of}
+use Rattle.fork_tree.specs.Tree.{Tree}
+use Rattle.fork_tree.proofs.Placed.{open_row}
+use Rattle.fork_tree.proofs.Trees.{tree_set, rows_set, value_after}
+use Rattle.fork_tree.proofs.tree.ForkTree.set.Goals as goal
+
+pub trace-requires-clause-known : goal.trace-requires-clause-known
+trace-requires-clause-known g c =
+    let at = open_row _ c.self.inside.places.items c.self.inside.root c.args.n (ap (λ (t : Tree). t.rows) c.self.view_is) c.requires.there in
+    omega (arith, at.0, ap length c.deref.ensures.value)
+
+pub trace-requires-clause-room : goal.trace-requires-clause-room
+trace-requires-clause-room g c =
+    let at = open_row _ c.self.inside.places.items c.self.inside.root c.args.n (ap (λ (t : Tree). t.rows) c.self.view_is) c.requires.there in
+    omega (arith, at.0, c.clear.ensures.len, c.clear.ensures.capacity, c.self.invariant.path_room, c.self.invariant.tree.few)
+
+pub set-requires-clause-there : goal.set-requires-clause-there
+set-requires-clause-there g c =
+    let at = open_row _ c.self.inside.places.items c.self.inside.root c.args.n (ap (λ (t : Tree). t.rows) c.self.view_is) c.requires.there in
+    let p : c.deref-2.result.now ≡ path_of c.self.inside.places.items c.args.n =
+    c.deref-2.ensures.value ∙ c.trace.ensures.items ∙ ap (λ x. x ++ path_of c.deref.result.now c.args.n) c.clear.ensures.items
+    ∙ ap (λ x. path_of x c.args.n) c.deref.ensures.value in
+    let P : List ℕ → Type 0 = λ x. IsTrue (open_at c.self.inside.root x) in
+    subst P (sym p) at.1
+
+pub invariant_of-self : goal.invariant_of-self
+invariant_of-self g c =
+    let at = open_row _ c.self.inside.places.items c.self.inside.root c.args.n (ap (λ (t : Tree). t.rows) c.self.view_is) c.requires.there in
+    let p : c.deref-2.result.now ≡ path_of c.self.inside.places.items c.args.n =
+    c.deref-2.ensures.value ∙ c.trace.ensures.items ∙ ap (λ x. x ++ path_of c.deref.result.now c.args.n) c.clear.ensures.items
+    ∙ ap (λ x. path_of x c.args.n) c.deref.ensures.value in
+    record {
+      tree = tree_set c.self.inside.rules c.self.inside.places.items c.self.inside.root c.set.new.self c.self.inside.tally c.args.n c.args.state c.self.invariant.tree at.0 c.requires.waits
+          (c.set.ensures.grafted ∙ ap (λ x. graft c.self.inside.root x (unanswered c.args.state) []) p) c.set.ensures.sized c.set.ensures.counted c.set.ensures.gained;
+      path_room = omega (arith, c.self.invariant.path_room, c.clear.ensures.capacity, c.trace.ensures.capacity);
+      places_room = c.self.invariant.places_room;
+    }
+
+pub returns : goal.returns
+returns g c =
+    let at = open_row _ c.self.inside.places.items c.self.inside.root c.args.n (ap (λ (t : Tree). t.rows) c.self.view_is) c.requires.there in
+    let p : c.deref-2.result.now ≡ path_of c.self.inside.places.items c.args.n =
+    c.deref-2.ensures.value ∙ c.trace.ensures.items ∙ ap (λ x. x ++ path_of c.deref.result.now c.args.n) c.clear.ensures.items
+    ∙ ap (λ x. path_of x c.args.n) c.deref.ensures.value in
+    value_after c.self.inside.rules (rows_of c.self.inside.places.items c.self.inside.root) (rows_of c.self.inside.places.items c.set.new.self) c.args.self.now
+    (λ (r : List Row). with_state r c.args.n (bare_state c.args.state)) c.self.view_is
+    (rows_set c.self.inside.places.items c.self.inside.root c.set.new.self c.args.n c.args.state c.self.invariant.tree.placed at.0
+    (c.set.ensures.grafted ∙ ap (λ x. graft c.self.inside.root x (unanswered c.args.state) []) p))

@@ -1,0 +1,10 @@
+pub mod States
+pub mod Rows
+pub mod Falls
+pub mod Tally
+pub mod Places
+pub mod Seats
+pub mod Closing
+pub mod Listed
+pub mod Tree
+pub mod Below

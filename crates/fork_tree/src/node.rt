@@ -1,0 +1,412 @@
+//! Nodes, and the groups of nodes below them.
+ghost use Rattle.std.specs.Prelude.{◌≡◌, ℕ, List, ◌∷◌, ◌≤◌, ◌+◌, ◌++◌, IsTrue, IfOk, OnOk, None, [], is_some, length, map, suc, true, false, if◌then◌else◌};
+ghost use Rattle.fork_model.specs.Table.{most_targets};
+ghost use Rattle.fork_tree.specs.Rows.{open_at, find, graft, is_there, joined, node_rows, pushed, q_in, state_in, unanswered};
+ghost use Rattle.fork_tree.specs.Below.{under};
+ghost use Rattle.fork_tree.specs.Closing.{closed_entry};
+ghost use Rattle.fork_tree.specs.Tally.{Gains, IsKept, open_of};
+ghost use Rattle.fork_tree.specs.States.{has_ended};
+ghost use Rattle.fork_tree.specs.Seats.{differs, idle, seat_rows, seats_of};
+
+use crate::best::{Standing, Tally};
+use crate::row::State;
+use crate::seat::Seat;
+use std::alloc::{AllocError, Allocator, Global};
+use std::marker::Model;
+
+/// A branch, and those found below it.
+#[cycle(node)]
+#[derive(Drop)]
+pub struct Node<A: Allocator = Global> {
+    number: u16,
+    q: u16,
+    standing: Standing,
+    below: Tier<A>,
+    pub(crate) tally: Tally,
+}
+
+/// The groups of branches under one branch, or at the top.
+#[cycle(node)]
+#[derive(Drop)]
+pub(crate) struct Tier<A: Allocator = Global> {
+    groups: Vec<Group<A>, A>,
+}
+
+/// Branches of one q, which are tried together.
+#[cycle(node)]
+#[derive(Drop)]
+pub(crate) struct Group<A: Allocator = Global> {
+    nodes: Vec<Node<A>, A>,
+}
+
+impl<A: Allocator> Model for Node<A> {
+    ghost use Rattle.std.specs.Prelude.{List, ◌*◌, ℕ, length};
+    ghost use Rattle.std.proofs.Common.{arith};
+    ghost use Rattle.fork_tree.specs.Rows.{Entry, node_rows};
+
+    ghost Value = { List Entry };
+
+    ghost view = { λ n. node_rows n.number n.q n.standing n.below };
+
+    ghost use Rattle.fork_tree.specs.Tally.{IsNode};
+
+    ghost invariant = { λ n. IsNode n.number n.q n.standing n.below n.tally };
+
+    ghost size = { λ rows. 3 * length rows };
+
+    ghost size_decreases = { λ a h. omega arith };
+}
+
+impl<A: Allocator> Model for Group<A> {
+    ghost use Rattle.std.specs.Prelude.{List, ◌+◌, ◌*◌, ℕ, length};
+    ghost use Rattle.std.proofs.Common.{arith};
+    ghost use Rattle.fork_tree.specs.Rows.{Entry, joined};
+    ghost use Rattle.fork_tree.specs.Falls.{most_nodes};
+
+    ghost Value = { List Entry };
+
+    ghost view = { λ g. joined 0 g.nodes.items };
+
+    ghost size = { λ rows. 3 * length rows + 1 };
+
+    ghost size_decreases = { λ a h. omega (arith, most_nodes 0 a.nodes.items) };
+}
+
+impl<A: Allocator> Model for Tier<A> {
+    ghost use Rattle.std.specs.Prelude.{List, ◌+◌, ◌*◌, ℕ, length};
+    ghost use Rattle.std.proofs.Common.{arith};
+    ghost use Rattle.fork_tree.specs.Rows.{Entry, joined};
+    ghost use Rattle.fork_tree.specs.Falls.{most_groups};
+
+    ghost Value = { List Entry };
+
+    ghost view = { λ l. joined 0 l.groups.items };
+
+    ghost size = { λ rows. 3 * length rows + 2 };
+
+    ghost size_decreases = { λ a h. omega (arith, most_groups 0 a.groups.items) };
+}
+
+impl<A: Allocator> Node<A> {
+    /// A branch that waits.
+    pub(crate) fn idle(alloc: A, number: u16, q: u16) -> Node<A>
+        ensures { result ≡ node_rows number q idle [] }
+    {
+        Node {
+            number,
+            q,
+            standing: Standing {
+                state: State::Idle,
+                answer: None,
+            },
+            below: Tier::new(alloc),
+            tally: Tally::waiting(1),
+        }
+    }
+
+    /// Its q, in thousandths.
+    pub(crate) fn q(&self) -> u16
+        ensures { result ≡ q_in (find self.now []) }
+    {
+        self.q
+    }
+
+    /// Where it is.
+    pub(crate) fn state(&self) -> State
+        ensures { result ≡ state_in (find self.now []) }
+    {
+        self.standing.state
+    }
+
+    /// The branches below it.
+    pub(crate) fn below(&self) -> &Tier<A>
+        ensures { (k : ℕ) (rest : List ℕ) → find result.now (k ∷ rest) ≡ find self.now (k ∷ rest) }
+    {
+        &self.below
+    }
+
+    /// The branch at this place of this group right below it.
+    pub(crate) fn child(&self, group: u16, place: u16) -> &Node<A>
+        requires there { IsTrue (is_some (find self.now (group ∷ place ∷ []))) }
+        ensures { result.now ≡ under (group ∷ place ∷ []) self.now }
+    {
+        self.below.child(group, place)
+    }
+
+    /// The branch at this path, which has not ended, comes into another state in which it has not.
+    #[cycle(set)]
+    pub(crate) fn set(&mut self, path: &[u16], state: State)
+        requires there { IsTrue (open_at self.old path.now) }
+        requires waits { has_ended state ≡ false }
+        ensures grafted { self.new ≡ graft self.old path.now (unanswered state) [] }
+        ensures sized { length self.new ≡ length self.old }
+        ensures counted { open_of self.new ≡ open_of self.old }
+        ensures gained { Gains self.old self.new None }
+    {
+        if path.is_empty() {
+            self.standing = Standing {
+                state,
+                answer: None,
+            };
+        } else {
+            self.below.set(path, state);
+        }
+    }
+
+    /// The branch at this path, which has not ended, comes into a standing in which it has, and these are put below
+    /// it, of which so many have not ended.
+    #[cycle(end)]
+    pub(crate) fn end(&mut self, path: &[u16], standing: Standing, below: Tier<A>, opens: u16)
+        requires there { IsTrue (open_at self.old path.now) }
+        requires ended { has_ended standing.state ≡ true }
+        requires fresh { IsKept below None }
+        requires opens { opens ≡ open_of below }
+        requires few { length self.old + length below ≤ most_targets }
+        ensures grafted { self.new ≡ graft self.old path.now standing below }
+        ensures sized { length self.new ≡ length self.old + length below }
+        ensures counted { open_of self.new + 1 ≡ open_of self.old + opens }
+        ensures gained { Gains self.old self.new standing.answer }
+        ensures alone { (k : ℕ) (rest : List ℕ) → find self.old (path.now ++ k ∷ rest) ≡ None }
+    {
+        self.tally = self.tally.after(standing.answer, opens);
+        if path.is_empty() {
+            self.standing = standing;
+            self.below = below;
+        } else {
+            self.below.end(path, standing, below, opens);
+        }
+    }
+
+    /// Each branch that waits is never tried; the answer is how many they were.
+    #[cycle(close)]
+    pub(crate) fn close(&mut self) -> u16
+        requires few { length self.old ≤ most_targets }
+        ensures closed { self.new ≡ map closed_entry self.old }
+        ensures counted { open_of self.new + result ≡ open_of self.old }
+    {
+        let before = self.standing.open_count();
+        self.standing = self.standing.closed();
+        let own = before - self.standing.open_count();
+        let ended = own + self.below.close();
+        self.tally.still -= ended;
+        ended
+    }
+}
+
+impl<A: Allocator> Tier<A> {
+    /// No branches.
+    pub(crate) fn new(alloc: A) -> Tier<A>
+        ensures { result ≡ [] }
+    {
+        Tier {
+            groups: Vec::new(alloc),
+        }
+    }
+
+    /// The branch at this place of this group.
+    pub(crate) fn at(&self, group: u16, place: u16) -> &Node<A>
+        requires { IsTrue (is_there self.now (group ∷ place ∷ [])) }
+        ensures { (rest : List ℕ) → find result.now rest ≡ find self.now (group ∷ place ∷ rest) }
+    {
+        self.groups[group as usize].at(place)
+    }
+
+    /// The branch at this place of this group.
+    pub(crate) fn child(&self, group: u16, place: u16) -> &Node<A>
+        requires there { IsTrue (is_some (find self.now (group ∷ place ∷ []))) }
+        ensures { result.now ≡ under (group ∷ place ∷ []) self.now }
+    {
+        self.groups[group as usize].child(place)
+    }
+
+    /// The branch at this path comes into another state, as of a node.
+    #[cycle(set)]
+    pub(crate) fn set(&mut self, path: &[u16], state: State)
+        requires there { IsTrue (open_at self.old path.now) }
+        requires waits { has_ended state ≡ false }
+        ensures grafted { self.new ≡ graft self.old path.now (unanswered state) [] }
+        ensures sized { length self.new ≡ length self.old }
+        ensures counted { open_of self.new ≡ open_of self.old }
+        ensures gained { Gains self.old self.new None }
+    {
+        if let Some((first, rest)) = path.split_first() {
+            self.groups[*first as usize].set(rest, state);
+        }
+    }
+
+    /// The branch at this path ends, as of a node.
+    #[cycle(end)]
+    pub(crate) fn end(&mut self, path: &[u16], standing: Standing, below: Tier<A>, opens: u16)
+        requires there { IsTrue (open_at self.old path.now) }
+        requires ended { has_ended standing.state ≡ true }
+        requires fresh { IsKept below None }
+        requires opens { opens ≡ open_of below }
+        requires few { length self.old + length below ≤ most_targets }
+        ensures grafted { self.new ≡ graft self.old path.now standing below }
+        ensures sized { length self.new ≡ length self.old + length below }
+        ensures counted { open_of self.new + 1 ≡ open_of self.old + opens }
+        ensures gained { Gains self.old self.new standing.answer }
+        ensures alone { (k : ℕ) (rest : List ℕ) → find self.old (path.now ++ k ∷ rest) ≡ None }
+    {
+        if let Some((first, rest)) = path.split_first() {
+            self.groups[*first as usize].end(rest, standing, below, opens);
+        }
+    }
+
+    /// Each branch that waits is never tried; the answer is how many they were.
+    #[cycle(close)]
+    pub(crate) fn close(&mut self) -> u16
+        requires few { length self.old ≤ most_targets }
+        ensures closed { self.new ≡ map closed_entry self.old }
+        ensures counted { open_of self.new + result ≡ open_of self.old }
+    {
+        let mut ended = 0;
+        let mut i = 0;
+        while i < self.groups.len() {
+            ended += self.groups[i].close();
+            i += 1;
+        }
+        ended
+    }
+}
+
+impl<A: Allocator> Group<A> {
+    /// The branch at this place.
+    fn at(&self, place: u16) -> &Node<A>
+        requires { IsTrue (is_there self.now (place ∷ [])) }
+        ensures { (rest : List ℕ) → find result.now rest ≡ find self.now (place ∷ rest) }
+    {
+        &self.nodes[place as usize]
+    }
+
+    /// The branch at this place.
+    fn child(&self, place: u16) -> &Node<A>
+        requires there { IsTrue (is_some (find self.now (place ∷ []))) }
+        ensures { result.now ≡ under (place ∷ []) self.now }
+    {
+        &self.nodes[place as usize]
+    }
+
+    /// The branch at this path comes into another state, as of a node.
+    #[cycle(set)]
+    pub(crate) fn set(&mut self, path: &[u16], state: State)
+        requires there { IsTrue (open_at self.old path.now) }
+        requires waits { has_ended state ≡ false }
+        ensures grafted { self.new ≡ graft self.old path.now (unanswered state) [] }
+        ensures sized { length self.new ≡ length self.old }
+        ensures counted { open_of self.new ≡ open_of self.old }
+        ensures gained { Gains self.old self.new None }
+    {
+        if let Some((first, rest)) = path.split_first() {
+            self.nodes[*first as usize].set(rest, state);
+        }
+    }
+
+    /// The branch at this path ends, as of a node.
+    #[cycle(end)]
+    pub(crate) fn end(&mut self, path: &[u16], standing: Standing, below: Tier<A>, opens: u16)
+        requires there { IsTrue (open_at self.old path.now) }
+        requires ended { has_ended standing.state ≡ true }
+        requires fresh { IsKept below None }
+        requires opens { opens ≡ open_of below }
+        requires few { length self.old + length below ≤ most_targets }
+        ensures grafted { self.new ≡ graft self.old path.now standing below }
+        ensures sized { length self.new ≡ length self.old + length below }
+        ensures counted { open_of self.new + 1 ≡ open_of self.old + opens }
+        ensures gained { Gains self.old self.new standing.answer }
+        ensures alone { (k : ℕ) (rest : List ℕ) → find self.old (path.now ++ k ∷ rest) ≡ None }
+    {
+        if let Some((first, rest)) = path.split_first() {
+            self.nodes[*first as usize].end(rest, standing, below, opens);
+        }
+    }
+
+    /// Each branch that waits is never tried; the answer is how many they were.
+    #[cycle(close)]
+    pub(crate) fn close(&mut self) -> u16
+        requires few { length self.old ≤ most_targets }
+        ensures closed { self.new ≡ map closed_entry self.old }
+        ensures counted { open_of self.new + result ≡ open_of self.old }
+    {
+        let mut ended = 0;
+        let mut i = 0;
+        while i < self.nodes.len() {
+            ended += self.nodes[i].close();
+            i += 1;
+        }
+        ended
+    }
+}
+
+/// Branches that wait, of these q in groups of equal q, numbered from here on, and the seat of each.
+pub(crate) fn branches<A: Allocator + Clone>(
+    alloc: &A,
+    first: u16,
+    qs: &[u16],
+) -> Result<(Tier<A>, Vec<Seat, A>), AllocError>
+    requires few { first + length qs.now ≤ most_targets }
+    ensures tier { IfOk result (λ made. made.0 ≡ seat_rows first made.1.items) }
+    ensures seats { IfOk result (λ made. made.1.items ≡ seats_of qs.now) }
+{
+    let mut seats = Vec::with_capacity(alloc.clone()?, qs.len())?;
+    let mut groups = Vec::new(alloc.clone()?);
+    let mut nodes = Vec::new(alloc.clone()?);
+    let mut before = None;
+    for i in 0..qs.len() {
+        nodes = in_group(alloc, &mut groups, nodes, another(before, qs[i]))?;
+        seats.push(Seat {
+            group: groups.len() as u16,
+            place: nodes.len() as u16,
+            q: qs[i],
+        })?;
+        nodes.push(Node::idle(alloc.clone()?, first + i as u16, qs[i]))?;
+        before = Some(qs[i]);
+    }
+    Ok((whole(groups, nodes)?, seats))
+}
+
+/// Whether this q begins another group.
+fn another(before: Option<u16>, q: u16) -> bool
+    ensures { result ≡ differs before q }
+{
+    match before {
+        Some(before) => before != q,
+        None => false,
+    }
+}
+
+/// The nodes of the group that goes on, or none, after these were made a group, where another begins.
+fn in_group<A: Allocator + Clone>(
+    alloc: &A,
+    groups: &mut Vec<Group<A>, A>,
+    nodes: Vec<Node<A>, A>,
+    begins: bool,
+) -> Result<Vec<Node<A>, A>, AllocError>
+    ensures same { IfOk result (λ next. joined 0 groups.new.items ++ map (pushed (length groups.new.items)) (joined 0 next.items)
+        ≡ joined 0 groups.old.items ++ map (pushed (length groups.old.items)) (joined 0 nodes.items)) }
+    ensures groups { IfOk result (λ next. length groups.new.items
+        ≡ (if begins then suc (length groups.old.items) else length groups.old.items)) }
+    ensures nodes { IfOk result (λ next. length next.items ≡ (if begins then 0 else length nodes.items)) }
+{
+    if begins {
+        groups.push(Group { nodes })?;
+        Ok(Vec::new(alloc.clone()?))
+    } else {
+        Ok(nodes)
+    }
+}
+
+/// The groups, and last these nodes.
+fn whole<A: Allocator>(
+    mut groups: Vec<Group<A>, A>,
+    nodes: Vec<Node<A>, A>,
+) -> Result<Tier<A>, AllocError>
+    ensures { IfOk result (λ tier. tier
+        ≡ joined 0 groups.items ++ map (pushed (length groups.items)) (joined 0 nodes.items)) }
+{
+    if nodes.is_empty() {
+        return Ok(Tier { groups });
+    }
+    groups.push(Group { nodes })?;
+    Ok(Tier { groups })
+}

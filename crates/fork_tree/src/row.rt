@@ -1,0 +1,72 @@
+//! What a row is, apart from the tree.
+ghost use Rattle.std.specs.Prelude.{◌≡◌};
+ghost use Rattle.fork_tree.specs.States.{has_ended, closed_state};
+
+use fork_rank::Status;
+
+/// How a branch ended; an arrival is the position of the event that ended it.
+#[derive(Clone, Copy, PartialEq, Eq, Debug)]
+pub enum End {
+    /// With an answer that is stored: received from the branch, or assumed by the proxy.
+    Stored {
+        status: Status,
+        arrival: u32,
+        received: bool,
+    },
+    /// With a 3xx all of whose contacts were taken.
+    Taken {
+        arrival: u32,
+    },
+    /// Cancelled, and given up without an answer.
+    Silent {
+        arrival: u32,
+    },
+    /// It was never tried.
+    Never,
+    /// With a 2xx.
+    Accepted {
+        arrival: u32,
+    },
+}
+
+/// Where a branch is.
+#[derive(Clone, Copy, PartialEq, Eq, Debug)]
+pub enum State {
+    /// It waits for its group to start.
+    Idle,
+    /// The request was sent to it, and it has not rung.
+    Trying,
+    /// It has rung; its CANCEL was sent or not.
+    Rung { cancelled: bool },
+    Ended(End),
+}
+
+/// What identifies a row and where it is: its number, the number of the row it stands under (None: an
+/// initial target), its group there, its q in thousandths, its state.
+#[derive(Clone, Copy, PartialEq, Eq, Debug)]
+pub struct RowRef {
+    pub no: u16,
+    pub parent: Option<u16>,
+    pub group: u16,
+    pub q: u16,
+    pub state: State,
+}
+
+impl State {
+    /// The state once nothing that waits is ever tried.
+    pub(crate) fn closed(self) -> State
+        ensures { result ≡ closed_state self }
+    {
+        match self {
+            State::Idle => State::Ended(End::Never),
+            state => state,
+        }
+    }
+
+    /// Whether the branch has ended.
+    pub(crate) fn has_ended(&self) -> bool
+        ensures { result ≡ has_ended self.now }
+    {
+        matches!(self, State::Ended(_))
+    }
+}

@@ -1,0 +1,200 @@
+//! The whole tree.
+ghost use Rattle.std.specs.Prelude.{◌≡◌, ◌≤◌, ◌<◌, ◌+◌, ◌*◌, ◌++◌, true, false, Some, None, IsTrue, IfOk, length, map, slice_get, vec_len, vec_capacity};
+ghost use Rattle.std.specs.Option.{option_map};
+ghost use Rattle.fork_model.specs.Table as spec;
+ghost use Rattle.fork_model.specs.Table.{most_targets, is_row, is_idle, is_trying, is_open};
+ghost use Rattle.fork_model.specs.Step.{with_state};
+ghost use Rattle.fork_tree.specs.States.{bare_state, has_ended, IsFinalEnd};
+ghost use Rattle.fork_tree.specs.declared.row.State.TheVariants.{Ended};
+ghost use Rattle.fork_tree.specs.Seats.{seats_of, seated, place_in};
+ghost use Rattle.fork_tree.specs.Closing.{closed_row};
+ghost use Rattle.fork_tree.specs.Tree.{IsBest, open_rows, row_ref, is_unended, is_uncancelled};
+
+use crate::best::{BestRef, Standing, Tally};
+use crate::find::node_at;
+use crate::level::Level;
+use crate::node::{Tier, branches};
+use crate::place::{Place, place_of, trace};
+use crate::row::{End, RowRef, State};
+use crate::seat::Seat;
+use fork_rank::{MOST_TARGETS, Rules};
+use std::alloc::{AllocError, Allocator, Global};
+use std::marker::Model;
+
+/// The branches of a fork by number, and as a tree in which each subtree has its best stored answer and its count of
+/// branches that have not ended (RFC 3261 sections 16.5 to 16.7).
+#[derive(Drop)]
+pub struct ForkTree<A: Allocator = Global> {
+    rules: Rules,
+    pub(crate) root: Tier<A>,
+    pub(crate) places: Vec<Place, A>,
+    path: Vec<u16, A>,
+    tally: Tally,
+}
+
+impl<A: Allocator> Model for ForkTree<A> {
+    ghost use Rattle.std.specs.Prelude.{◌≤◌, ◌*◌, vec_capacity};
+    ghost use Rattle.fork_model.specs.Table.{most_targets};
+    ghost use Rattle.fork_tree.specs.Places.{rows_of};
+    ghost use Rattle.fork_tree.specs.Listed.{IsTree};
+    ghost use Rattle.fork_tree.specs.Tree.{Tree};
+
+    ghost Value = { Tree };
+
+    ghost view = { λ t. record { rules = t.rules; rows = rows_of t.places.items t.root } };
+
+    ghost invariant = { λ t. record {
+      tree : IsTree t.rules t.places.items t.root t.tally;
+      path_room : 2 * most_targets ≤ vec_capacity t.path;
+      places_room : most_targets ≤ vec_capacity t.places;
+    } };
+}
+
+impl<A: Allocator + Clone> ForkTree<A> {
+    /// The tree of the initial targets of these q, in thousandths: rows that all wait, those of one q that stand
+    /// together being a group. It takes the memory for the numbers of all rows that it may ever have. The only error
+    /// is want of memory.
+    pub fn new(alloc: A, rules: Rules, qs: &[u16]) -> Result<ForkTree<A>, AllocError>
+        requires few { length qs.now ≤ most_targets }
+        ensures { IfOk result (λ tree. tree ≡ record { rules = rules; rows = map (seated None) (seats_of qs.now) }) }
+    {
+        let mut places = Vec::with_capacity(alloc.clone()?, MOST_TARGETS as usize)?;
+        let path = Vec::with_capacity(alloc.clone()?, 2 * MOST_TARGETS as usize)?;
+        let (root, seats) = branches(&alloc, 0, qs)?;
+        add_places(&mut places, None, &seats);
+        let tally = Tally::waiting(qs.len() as u16);
+        Ok(ForkTree {
+            rules,
+            root,
+            places,
+            path,
+            tally,
+        })
+    }
+}
+
+impl<A: Allocator> ForkTree<A> {
+    /// The rules that it was made with.
+    pub fn rules(&self) -> Rules
+        ensures { result ≡ self.now.rules }
+    {
+        self.rules
+    }
+
+    /// How many rows there are.
+    pub fn count(&self) -> u16
+        ensures { result ≡ length self.now.rows }
+    {
+        self.places.len() as u16
+    }
+
+    /// Row n; None where there is none.
+    pub fn row(&self, n: u16) -> Option<RowRef>
+        ensures { result ≡ option_map (row_ref n) (slice_get self.now.rows n) }
+    {
+        if n as usize >= self.places.len() {
+            return None;
+        }
+        let place = place_of(&self.places, n);
+        let node = node_at(&self.root, &self.places, n);
+        Some(RowRef {
+            no: n,
+            parent: place.parent,
+            group: place.group,
+            q: node.q(),
+            state: node.state(),
+        })
+    }
+
+    /// The stored answer that none ranks before (RFC 3261 section 16.7 step 6); None where nothing is stored.
+    pub fn best(&self) -> Option<BestRef>
+        ensures { IsBest self.now.rules self.now.rows result }
+    {
+        self.tally.best()
+    }
+
+    /// How many rows have not ended.
+    pub fn open_count(&self) -> u16
+        ensures { result ≡ open_rows self.now.rows }
+    {
+        self.tally.still
+    }
+
+    /// Row n, which waits, is tried.
+    pub fn start(&mut self, n: u16)
+        requires { IsTrue (is_row is_idle (slice_get self.old.rows n)) }
+        ensures { self.new ≡ record self.old { rows = with_state self.old.rows n spec.Trying } }
+    {
+        self.set(n, State::Trying);
+    }
+
+    /// Row n, which was tried, has rung.
+    pub fn ring(&mut self, n: u16)
+        requires { IsTrue (is_row is_trying (slice_get self.old.rows n)) }
+        ensures { self.new ≡ record self.old { rows = with_state self.old.rows n (spec.Rung false) } }
+    {
+        self.set(n, State::Rung { cancelled: false });
+    }
+
+    /// A CANCEL was sent to row n, which has rung (RFC 3261 section 9.1).
+    pub fn mark_cancel(&mut self, n: u16)
+        requires { IsTrue (is_row is_uncancelled (slice_get self.old.rows n)) }
+        ensures { self.new ≡ record self.old { rows = with_state self.old.rows n (spec.Rung true) } }
+    {
+        self.set(n, State::Rung { cancelled: true });
+    }
+
+    /// Row n, which was tried, ends so, and these rows, which wait, come below it.
+    pub fn end(&mut self, n: u16, end: End, below: Level<A>)
+        requires there { IsTrue (is_row is_open (slice_get self.old.rows n)) }
+        requires final_status { IsFinalEnd end }
+        requires next { below.first ≡ length self.old.rows }
+        ensures { self.new ≡ record self.old {
+          rows = with_state self.old.rows n (bare_state (Ended end)) ++ map (seated (Some n)) below.seats;
+        } }
+    {
+        let standing = Standing::of(n, State::Ended(end), &self.rules);
+        let answer = standing.answer;
+        let Level { tier, seats, .. } = below;
+        let opens = seats.len() as u16;
+        self.path.clear();
+        trace(&self.places, n, &mut self.path);
+        add_places(&mut self.places, Some(n), &seats);
+        self.root.end(&self.path, standing, tier, opens);
+        self.tally = self.tally.after(answer, opens);
+    }
+
+    /// No row that waits is ever tried.
+    pub fn close(&mut self)
+        ensures { self.new ≡ record self.old { rows = map closed_row self.old.rows } }
+    {
+        let ended = self.root.close();
+        self.tally.still -= ended;
+    }
+
+    /// Row n, which has not ended, comes into another state in which it has not.
+    fn set(&mut self, n: u16, state: State)
+        requires there { IsTrue (is_row is_unended (slice_get self.old.rows n)) }
+        requires waits { has_ended state ≡ false }
+        ensures { self.new ≡ record self.old { rows = with_state self.old.rows n (bare_state state) } }
+    {
+        self.path.clear();
+        trace(&self.places, n, &mut self.path);
+        self.root.set(&self.path, state);
+    }
+}
+
+/// Adds the place of each seat under this row, or at the top.
+fn add_places<A: Allocator>(places: &mut Vec<Place, A>, parent: Option<u16>, seats: &[Seat])
+    requires room { vec_len places.old + length seats.now ≤ vec_capacity places.old }
+    ensures items { places.new.items ≡ places.old.items ++ map (place_in parent) seats.now }
+    ensures capacity { vec_capacity places.new ≡ vec_capacity places.old }
+{
+    for i in 0..seats.len() {
+        places.push_reserved(Place {
+            parent,
+            group: seats[i].group,
+            place: seats[i].place,
+        });
+    }
+}

@@ -1,0 +1,124 @@
+-- A branch parameter is read exactly where it is written so.
+use Rattle.std.proofs.Common.{◌≡◌, ℕ, ◌<◌, ◌≤◌, ◌^◌, true, false, List, ◌∷◌, ◌++◌, take, drop, Option, Some, None, refl, sym, ap, ◌∙◌, arith}
+use Rattle.std.specs.Prelude.{IfSome}
+use Rattle.std.specs.Fmt.{decimal}
+use Rattle.std.specs.Str.{bytes_eq}
+use Rattle.std.proofs.lemmas.Bool.{false≢true}
+use Rattle.std.proofs.lemmas.List.{take-append-drop}
+use Rattle.std.proofs.lemmas.Slice.Eq.{bytes_eq-Decides}
+use Rattle.sip_lex.specs.Cut.{cut, is, behind, Lacks}
+use Rattle.sip_lex.specs.Number.{plain_number_within}
+use Rattle.sip_lex.proofs.Cuts.{cut_again, cut_joins}
+use Rattle.sip_via.specs.BranchParts.{BranchParts, branch_parts, parts_of, parts_text, with_context, with_instance, with_key}
+use Rattle.sip_via.specs.BranchText.{Branch, IsBranch, branch_text, cookie}
+use Rattle.sip_via.proofs.HexLaws.{hex_text_lacks}
+use Rattle.sip_via.specs.HexPair.{hex_text}
+use Rattle.sip_via.proofs.DecimalLaws.{decimal_lacks, number_read, number_spelled}
+
+abbrev Cut : Type 0
+Cut = List ℕ × Option (List ℕ)
+
+abbrev found : BranchParts → Option BranchParts
+found p = Some p
+
+abbrev number_found : ℕ → Option ℕ
+number_found n = Some n
+
+abbrev branch_found : Branch → Option Branch
+branch_found b = Some b
+
+-- ---- parts
+
+context_found : (key instance : List ℕ) (c : Cut) (p : BranchParts) → with_context key instance c ≡ Some p → key ++ (46 ∷ (instance ++ (46 ∷ (c.0 ++ behind 46 c.1)))) ≡ parts_text p
+context_found key instance (context, None) p e = absurd cc
+context_found key instance (context, Some target) p e =
+    let q : BranchParts = record { key = key; instance = instance; context = context; target = target } in
+    let same : found q ≡ found p = e in
+    let is : q ≡ p = cc in
+    ap parts_text is
+
+instance_found : (key : List ℕ) (c : Cut) (p : BranchParts) → with_instance key c ≡ Some p → key ++ (46 ∷ (c.0 ++ behind 46 c.1)) ≡ parts_text p
+instance_found key (instance, None) p e = absurd cc
+instance_found key (instance, Some rest) p e =
+    ap (λ (x : List ℕ). key ++ (46 ∷ (instance ++ (46 ∷ x)))) (cut_joins 46 rest) ∙ context_found key instance (cut (is 46) rest) p e
+
+key_found : (c : Cut) (p : BranchParts) → with_key c ≡ Some p → c.0 ++ behind 46 c.1 ≡ parts_text p
+key_found (key, None) p e = absurd cc
+key_found (key, Some rest) p e =
+    ap (λ (x : List ℕ). key ++ (46 ∷ x)) (cut_joins 46 rest) ∙ instance_found key (cut (is 46) rest) p e
+
+pub parts_found : (text : List ℕ) (p : BranchParts) → parts_of text ≡ Some p → text ≡ parts_text p
+parts_found text p e = cut_joins 46 text ∙ key_found (cut (is 46) text) p e
+
+pub parts_again : (p : BranchParts) → Lacks 46 p.key → Lacks 46 p.instance → Lacks 46 p.context → parts_of (parts_text p) ≡ Some p
+parts_again p key instance context =
+    ap with_key (cut_again 46 p.key (Some (p.instance ++ (46 ∷ (p.context ++ (46 ∷ p.target))))) key)
+    ∙ ap (with_instance p.key) (cut_again 46 p.instance (Some (p.context ++ (46 ∷ p.target))) instance)
+    ∙ ap (with_context p.key p.instance) (cut_again 46 p.context (Some p.target) context)
+
+pub branch_again : (b : Branch) → IsBranch b → parts_of (parts_text (branch_parts b)) ≡ Some (branch_parts b)
+branch_again b is =
+    let small : b.instance < 2 ^ 64 = let h = is.instance in omega (arith, h) in
+    parts_again (branch_parts b) (hex_text_lacks b.key) (decimal_lacks 46 b.instance refl small) (decimal_lacks 46 b.context refl is.context)
+
+-- ---- the cookie
+
+pub cookie_found : (text rest : List ℕ) → bytes_eq (take 7 text) cookie ≡ true → rest ≡ drop 7 text → text ≡ cookie ++ rest
+cookie_found text rest same e =
+    let front : take 7 text ≡ cookie = (bytes_eq-Decides (take 7 text) cookie).0 same in
+    sym (take-append-drop 7 text) ∙ ap (λ (x : List ℕ). x ++ drop 7 text) front ∙ ap (λ (x : List ℕ). cookie ++ x) (sym e)
+
+pub cookie_there : (text rest : List ℕ) → bytes_eq (take 7 text) cookie ≡ false → text ≡ cookie ++ rest → ⊥
+cookie_there text rest other e = false≢true (sym other ∙ ap (λ (t : List ℕ). bytes_eq (take 7 t) cookie) e)
+
+pub cookie_rest : (text rest more : List ℕ) → rest ≡ drop 7 text → text ≡ cookie ++ more → rest ≡ more
+cookie_rest text rest more e is = e ∙ ap (λ (t : List ℕ). drop 7 t) is
+
+pub text_is : (text rest : List ℕ) (p : BranchParts) (b : Branch) → bytes_eq (take 7 text) cookie ≡ true → rest ≡ drop 7 text → Some p ≡ parts_of rest → p ≡ branch_parts b → text ≡ branch_text b
+text_is text rest p b same behind_it cut is =
+    cookie_found text rest same behind_it ∙ ap (λ (x : List ℕ). cookie ++ x) (parts_found rest p (sym cut)) ∙ ap (λ (q : BranchParts). cookie ++ parts_text q) is
+
+parts_there : (text rest : List ℕ) (b : Branch) → IsBranch b → rest ≡ drop 7 text → text ≡ branch_text b → parts_of rest ≡ Some (branch_parts b)
+parts_there text rest b is behind_it e = ap parts_of (cookie_rest text rest (parts_text (branch_parts b)) behind_it e) ∙ branch_again b is
+
+pub parts_refused : (text rest : List ℕ) (b : Branch) → IsBranch b → rest ≡ drop 7 text → text ≡ branch_text b → None ≡ parts_of rest → ⊥
+parts_refused text rest b is behind_it e refused =
+    let wrong : None ≡ found (branch_parts b) = refused ∙ parts_there text rest b is behind_it e in absurd cc
+
+pub parts_same : (text rest : List ℕ) (p : BranchParts) (b : Branch) → IsBranch b → rest ≡ drop 7 text → text ≡ branch_text b → Some p ≡ parts_of rest → p ≡ branch_parts b
+parts_same text rest p b is behind_it e cut =
+    let same : found p ≡ found (branch_parts b) = cut ∙ parts_there text rest b is behind_it e in cc
+
+pub some_map : {X : Type 0} (o : Option X) (P Q : X → Type 0) → ((x : X) → P x → Q x) → IfSome o P → IfSome o Q
+some_map None P Q f h = tt
+some_map (Some x) P Q f h = f x h
+
+-- ---- numbers
+
+pub number_refused : (limit : ℕ) (ds : List ℕ) (n : ℕ) → n ≤ limit → n < 2 ^ 64 → None ≡ plain_number_within limit ds → ds ≡ decimal n → ⊥
+number_refused limit ds n within small refused is =
+    let wrong : None ≡ number_found n = refused ∙ ap (plain_number_within limit) is ∙ number_read limit n within small in absurd cc
+
+pub number_same : (limit : ℕ) (ds : List ℕ) (m n : ℕ) → n ≤ limit → n < 2 ^ 64 → Some m ≡ plain_number_within limit ds → ds ≡ decimal n → m ≡ n
+number_same limit ds m n within small read is =
+    let same : number_found m ≡ number_found n = read ∙ ap (plain_number_within limit) is ∙ number_read limit n within small in cc
+
+pub number_text : (limit : ℕ) (ds : List ℕ) (n : ℕ) → limit < 2 ^ 64 → Some n ≡ plain_number_within limit ds → ds ≡ decimal n
+number_text limit ds n small read = (number_spelled limit ds n small (sym read)).spelled
+
+-- ---- all parts
+
+pub parts_is : (p : BranchParts) (b : Branch) → p.key ≡ hex_text b.key → p.instance ≡ decimal b.instance → p.context ≡ decimal b.context → p.target ≡ decimal b.target → p ≡ branch_parts b
+parts_is p b key instance context target =
+    ap (λ (x : List ℕ). record { key = x; instance = p.instance; context = p.context; target = p.target }) key
+    ∙ ap (λ (x : List ℕ). record { key = hex_text b.key; instance = x; context = p.context; target = p.target }) instance
+    ∙ ap (λ (x : List ℕ). record { key = hex_text b.key; instance = decimal b.instance; context = x; target = p.target }) context
+    ∙ ap (λ (x : List ℕ). record { key = hex_text b.key; instance = decimal b.instance; context = decimal b.context; target = x }) target
+
+pub branch_is : (a b : Branch) → a.key ≡ b.key → a.instance ≡ b.instance → a.context ≡ b.context → a.target ≡ b.target → Some a ≡ Some b
+branch_is a b key instance context target =
+    ap branch_found
+    (ap (λ (x : List ℕ). record { key = x; instance = a.instance; context = a.context; target = a.target }) key
+    ∙ ap (λ (x : ℕ). record { key = b.key; instance = x; context = a.context; target = a.target }) instance
+    ∙ ap (λ (x : ℕ). record { key = b.key; instance = b.instance; context = x; target = a.target }) context
+    ∙ ap (λ (x : ℕ). record { key = b.key; instance = b.instance; context = b.context; target = x }) target)

@@ -1,0 +1,245 @@
+-- A Via line whose top value was marked is a header value.
+use Rattle.std.proofs.Common.{◌≡◌, ℕ, zero, suc, ◌+◌, ◌-◌, ◌<◌, ◌^◌, Bool, true, false, not, eqb, cond, List, [], ◌∷◌, ◌++◌, length, take, drop, reverse, Option, Some, None, refl, sym, ap, subst, ◌∙◌, arith, inl, inr}
+use Rattle.std.specs.Prelude.{◌&&◌, codes, slice_index, Result, Ok, Err}
+use Rattle.std.specs.Char.{is_ascii_digit}
+use Rattle.std.specs.Fmt.{decimal}
+use Rattle.std.specs.List.{flat_map, list_all, onto_first, prefix_len, suffix_len}
+use Rattle.std.proofs.lemmas.Bool.{and_parts, cases_Bool, cond-true, cond-false, cond_both, eqb-true, false_from_ne_true, false≢true}
+use Rattle.std.proofs.lemmas.Fmt.{digits_decimal}
+use Rattle.std.proofs.lemmas.List.{reverse-append, reverse-reverse}
+use Rattle.std.proofs.lemmas.List.Folds.{list_all-append}
+use Rattle.sip_lex.specs.declared.sheltered.Shelter.TheVariants.{Quotes}
+use Rattle.sip_lex.specs.declared.sheltered.Place.{Place}
+use Rattle.sip_lex.specs.declared.sheltered.Place.TheVariants.{Plain}
+use Rattle.sip_lex.specs.Bytes.{is_space, trim, trim_end, trim_start}
+use Rattle.sip_lex.specs.Cut.{behind}
+use Rattle.sip_lex.specs.Outside.{pieces_from, pieces_outside, pieces_outside_behind}
+use Rattle.sip_lex.specs.Sheltered.{cut_outside, is_plain, place_after}
+use Rattle.sip_lex.proofs.Shelters.{cut_outside_joins}
+use Rattle.sip_lex.proofs.Trims.{trim_end-reverse}
+use Rattle.sip_text.specs.Message.{IsMessage, is_header, is_line, is_line_byte, is_trimmed, is_value}
+use Rattle.sip_text.specs.Name.{first_value}
+use Rattle.sip_text.specs.Text.{HeaderText, MessageText}
+use Rattle.sip_text.specs.Reading.{begins_with_space}
+use Rattle.sip_text.proofs.Good.{and_both, behind_line, trim_trimmed}
+use Rattle.sip_uri.specs.declared.hop.Hop.{Hop}
+use Rattle.sip_via.specs.Address.{IsAddress, address_text, dotted}
+use Rattle.sip_via.specs.Received.{IsSource, asks_port, filled, first_via_line, gets_received, line_marked, marked_line, marked_param, marked_parts, marked_value, received_text, with_via_line}
+use Rattle.sip_via.specs.ViaParts.{is_named, is_via, or_empty, params_of, via_of}
+use Rattle.sip_via.proofs.TrimmedValues.{all-parts, all-trim}
+use Rattle.sip_via.proofs.NumberLaws.{own}
+use Rattle.sip_via.proofs.Replaced.{first-good, with_via-good}
+use Rattle.sip_via.specs.declared.own.ViaFault.{ViaFault}
+use Rattle.sip_via.specs.declared.own.ViaFault.TheVariants.{BadVia}
+
+abbrev Cut : Type 0
+Cut = List ℕ × Option (List ℕ)
+
+-- ---- lines
+
+pub line-append : (xs ys : List ℕ) → is_line xs ≡ true → is_line ys ≡ true → is_line (xs ++ ys) ≡ true
+line-append xs ys h k = list_all-append is_line_byte xs ys ∙ and_both (is_line xs) (is_line ys) h k
+
+digit-line : (b : ℕ) → is_ascii_digit b ≡ true → is_line_byte b ≡ true
+digit-line b h =
+    let no_cr : eqb b 13 ≡ false = false_from_ne_true (eqb b 13) (λ e. let bad : is_ascii_digit 13 ≡ true = subst (λ x. is_ascii_digit x ≡ true) (eqb-true b 13 e) h in false≢true bad) in
+    let no_lf : eqb b 10 ≡ false = false_from_ne_true (eqb b 10) (λ e. let bad : is_ascii_digit 10 ≡ true = subst (λ x. is_ascii_digit x ≡ true) (eqb-true b 10 e) h in false≢true bad) in
+    ap (λ x. not x && not (eqb b 10)) no_cr ∙ ap not no_lf
+
+digits-line : (ds : List ℕ) → list_all is_ascii_digit ds ≡ true → is_line ds ≡ true
+digits-line [] h = refl
+digits-line (d ∷ ds) h =
+    let each = and_parts (is_ascii_digit d) (list_all is_ascii_digit ds) h in
+    and_both (is_line_byte d) (is_line ds) (digit-line d each.0) (digits-line ds each.1)
+
+pub decimal-line : (n : ℕ) → n < 2 ^ 64 → is_line (decimal n) ≡ true
+decimal-line n small = digits-line (decimal n) (digits_decimal own n small)
+
+-- ---- space at the front
+
+pub begins-append : (xs ys : List ℕ) → begins_with_space xs ≡ false → begins_with_space ys ≡ false → begins_with_space (xs ++ ys) ≡ false
+begins-append [] ys h k = k
+begins-append (x ∷ xs) ys h k = h
+
+pub begins-front : (xs ys : List ℕ) → begins_with_space (xs ++ ys) ≡ false → begins_with_space xs ≡ false
+begins-front [] ys h = refl
+begins-front (x ∷ xs) ys h = h
+
+not-true : (b : Bool) → not b ≡ true → b ≡ false
+not-true true e = absurd (false≢true e)
+not-true false e = refl
+
+pub front-of : (v : List ℕ) → is_trimmed v ≡ true → begins_with_space v ≡ false
+front-of v h = not-true (begins_with_space v) (and_parts (not (begins_with_space v)) (not (begins_with_space (reverse v))) h).0
+
+pub back-of : (v : List ℕ) → is_trimmed v ≡ true → begins_with_space (reverse v) ≡ false
+back-of v h = not-true (begins_with_space (reverse v)) (and_parts (not (begins_with_space v)) (not (begins_with_space (reverse v))) h).1
+
+drop-spaces : (bs : List ℕ) → begins_with_space (drop (prefix_len is_space bs) bs) ≡ false
+drop-spaces [] = refl
+drop-spaces (b ∷ bs) =
+    cond_both (is_space b) (1 + prefix_len is_space bs) 0 (λ n. begins_with_space (drop n (b ∷ bs)) ≡ false)
+    (λ e. ap (λ n. begins_with_space (drop n (b ∷ bs))) (let k : 1 + prefix_len is_space bs ≡ suc (prefix_len is_space bs) = omega arith in k) ∙ drop-spaces bs)
+    (λ e. e)
+
+-- no space stands at the end of a text that was trimmed there
+trim_end-back : (bs : List ℕ) → begins_with_space (reverse (trim_end bs)) ≡ false
+trim_end-back bs = ap (λ (x : List ℕ). begins_with_space (reverse x)) (trim_end-reverse bs) ∙ ap begins_with_space (reverse-reverse (trim_start (reverse bs))) ∙ drop-spaces (reverse bs)
+
+take-front : (n : ℕ) (bs : List ℕ) → begins_with_space bs ≡ false → begins_with_space (take n bs) ≡ false
+take-front zero bs h = refl
+take-front (suc n) [] h = refl
+take-front (suc n) (b ∷ bs) h = h
+
+-- ---- the parameters
+
+onto-line : (b : ℕ) (parts : List (List ℕ)) → is_line_byte b ≡ true → list_all is_line parts ≡ true → list_all is_line (onto_first b parts) ≡ true
+onto-line b [] h k = and_both (is_line (b ∷ [])) true (and_both (is_line_byte b) true h refl) refl
+onto-line b (part ∷ parts) h k =
+    let each = and_parts (is_line part) (list_all is_line parts) k in
+    and_both (is_line (b ∷ part)) (list_all is_line parts) (and_both (is_line_byte b) (is_line part) h each.0) each.1
+
+pieces-line : (place : Place) (bs : List ℕ) → is_line bs ≡ true → list_all is_line (pieces_from Quotes 59 place bs) ≡ true
+pieces-line place [] h = refl
+pieces-line place (b ∷ bs) h =
+    let each = and_parts (is_line_byte b) (is_line bs) h in
+    cond_both (is_plain place && eqb b 59) ([] ∷ pieces_outside Quotes 59 bs) (onto_first b (pieces_from Quotes 59 (place_after Quotes place b) bs)) (λ (ps : List (List ℕ)). list_all is_line ps ≡ true)
+    (λ e. pieces-line Plain bs each.1)
+    (λ e. onto-line b (pieces_from Quotes 59 (place_after Quotes place b) bs) each.0 (pieces-line (place_after Quotes place b) bs each.1))
+
+filled-line : (port : ℕ) (param : List ℕ) → port < 2 ^ 64 → is_line param ≡ true → is_line (filled port param) ≡ true
+filled-line port param small h =
+    let name = (all-parts is_line_byte (length param - suffix_len is_space param) param h).0 in
+    let rest = (all-parts is_line_byte (length (trim_end param)) param h).1 in
+    line-append (trim_end param) (61 ∷ (decimal port ++ drop (length (trim_end param)) param)) name (line-append (decimal port) (drop (length (trim_end param)) param) (decimal-line port small) rest)
+
+marked_param-line : (port : ℕ) (param : List ℕ) → port < 2 ^ 64 → is_line param ≡ true → is_line (marked_param port param) ≡ true
+marked_param-line port param small h =
+    cond_both (is_named (codes "received") param) [] (59 ∷ cond (asks_port param) (filled port param) param) (λ (x : List ℕ). is_line x ≡ true)
+    (λ e. refl)
+    (λ e. cond_both (asks_port param) (filled port param) param (λ (x : List ℕ). is_line (59 ∷ x) ≡ true) (λ f. filled-line port param small h) (λ f. h))
+
+params-line : (port : ℕ) (ps : List (List ℕ)) → port < 2 ^ 64 → list_all is_line ps ≡ true → is_line (flat_map (marked_param port) ps) ≡ true
+params-line port [] small h = refl
+params-line port (p ∷ ps) small h =
+    let each = and_parts (is_line p) (list_all is_line ps) h in
+    line-append (marked_param port p) (flat_map (marked_param port) ps) (marked_param-line port p small each.0) (params-line port ps small each.1)
+
+marked_param-front : (port : ℕ) (param : List ℕ) → begins_with_space (marked_param port param) ≡ false
+marked_param-front port param = cond_both (is_named (codes "received") param) [] (59 ∷ cond (asks_port param) (filled port param) param) (λ (x : List ℕ). begins_with_space x ≡ false) (λ e. refl) (λ e. refl)
+
+params-front : (port : ℕ) (ps : List (List ℕ)) → begins_with_space (flat_map (marked_param port) ps) ≡ false
+params-front port [] = refl
+params-front port (p ∷ ps) = begins-append (marked_param port p) (flat_map (marked_param port) ps) (marked_param-front port p) (params-front port ps)
+
+-- ---- the address
+
+dotted-line : (n : ℕ) → n < 2 ^ 64 → is_line (dotted n) ≡ true
+dotted-line n small = decimal-line n small
+
+pub address-line : (addr : List ℕ) → IsAddress addr → is_line (address_text addr) ≡ true
+address-line addr is =
+    let b = dotted (slice_index addr 1) in
+    let c = dotted (slice_index addr 2) in
+    let d = dotted (slice_index addr 3) in
+    line-append (decimal (slice_index addr 0)) (b ++ (c ++ d)) (decimal-line (slice_index addr 0) is.first)
+    (line-append b (c ++ d) (dotted-line (slice_index addr 1) is.second)
+    (line-append c d (dotted-line (slice_index addr 2) is.third) (dotted-line (slice_index addr 3) is.fourth)))
+
+received-line : (address host : List ℕ) (ps : List (List ℕ)) → is_line address ≡ true → is_line (received_text address host ps) ≡ true
+received-line address host ps is = cond_both (gets_received address host ps) (codes ";received=" ++ address) [] (λ (x : List ℕ). is_line x ≡ true) (λ e. line-append (codes ";received=") address refl is) (λ e. refl)
+
+received-front : (address host : List ℕ) (ps : List (List ℕ)) → begins_with_space (received_text address host ps) ≡ false
+received-front address host ps = cond_both (gets_received address host ps) (codes ";received=" ++ address) [] (λ (x : List ℕ). begins_with_space x ≡ false) (λ e. refl) (λ e. refl)
+
+-- ---- the top value
+
+-- a text of a line without space at its front, trimmed at its end
+pub record IsTop (bs : List ℕ) : Type 0 where
+  pub lines : is_line bs ≡ true
+  pub front : begins_with_space bs ≡ false
+  pub back : begins_with_space (reverse bs) ≡ false
+
+behind-pieces : (c : Cut) → is_line (behind 59 c.1) ≡ true → list_all is_line (pieces_outside_behind Quotes 59 c.1) ≡ true
+behind-pieces (front, None) h = refl
+behind-pieces (front, Some after) h = pieces-line Plain after h
+
+parts-top : (source : Hop) (host value : List ℕ) (c : Cut) → IsSource source → is_line value ≡ true → begins_with_space value ≡ false → value ≡ c.0 ++ behind 59 c.1 → IsTop (marked_parts source host c)
+parts-top source host value (front, params) is h k e =
+    let ps = params_of params in
+    let address = address_text source.addr in
+    let both = and_parts (is_line front) (is_line (behind 59 params)) (sym (list_all-append is_line_byte front (behind 59 params)) ∙ ap is_line (sym e) ∙ h) in
+    let rest = flat_map (marked_param source.port) ps ++ received_text address host ps in
+    let whole = front ++ rest in
+    let rest_line : is_line rest ≡ true = line-append (flat_map (marked_param source.port) ps) (received_text address host ps) (params-line source.port ps is.port (behind-pieces (front, params) both.1)) (received-line address host ps (address-line source.addr is.address)) in
+    let rest_front : begins_with_space rest ≡ false = begins-append (flat_map (marked_param source.port) ps) (received_text address host ps) (params-front source.port ps) (received-front address host ps) in
+    let front_front : begins_with_space front ≡ false = begins-front front (behind 59 params) (ap begins_with_space (sym e) ∙ k) in
+    record {
+      lines = (all-parts is_line_byte (length whole - suffix_len is_space whole) whole (line-append front rest both.0 rest_line)).0;
+      front = take-front (length whole - suffix_len is_space whole) whole (begins-append front rest front_front rest_front);
+      back = trim_end-back whole;
+    }
+
+value-top : (source : Hop) (value : List ℕ) → IsSource source → is_line value ≡ true → begins_with_space value ≡ false → IsTop (marked_value source value)
+value-top source value is h k = parts-top source (via_of value).host value (cut_outside Quotes 59 Plain value) is h k (cut_outside_joins Quotes 59 Plain value)
+
+-- ---- the line
+
+back-behind : (front : List ℕ) (others : Option (List ℕ)) → begins_with_space (reverse (front ++ behind 44 others)) ≡ false → begins_with_space (reverse (behind 44 others)) ≡ false
+back-behind front None h = refl
+back-behind front (Some after) h = begins-front (reverse (44 ∷ after)) (reverse front) (ap begins_with_space (sym (reverse-append front (44 ∷ after))) ∙ h)
+
+behind-front : (others : Option (List ℕ)) → begins_with_space (behind 44 others) ≡ false
+behind-front None = refl
+behind-front (Some after) = refl
+
+-- a value with another top in front of its others
+joined-good : (top front : List ℕ) (others : Option (List ℕ)) → IsTop top → is_value (front ++ behind 44 others) ≡ true → is_value (top ++ behind 44 others) ≡ true
+joined-good top front others is good =
+    let value = front ++ behind 44 others in
+    let both = and_parts (is_line value) (is_trimmed value) good in
+    let back_line : is_line (behind 44 others) ≡ true = (and_parts (is_line front) (is_line (behind 44 others)) (sym (list_all-append is_line_byte front (behind 44 others)) ∙ both.0)).1 in
+    let ends : begins_with_space (reverse (behind 44 others)) ≡ false = back-behind front others (back-of value both.1) in
+    let first : begins_with_space (top ++ behind 44 others) ≡ false = begins-append top (behind 44 others) is.front (behind-front others) in
+    let last : begins_with_space (reverse (top ++ behind 44 others)) ≡ false = ap begins_with_space (reverse-append top (behind 44 others)) ∙ begins-append (reverse (behind 44 others)) (reverse top) ends is.back in
+    and_both (is_line (top ++ behind 44 others)) (is_trimmed (top ++ behind 44 others)) (line-append top (behind 44 others) is.lines back_line)
+    (and_both (not (begins_with_space (top ++ behind 44 others))) (not (begins_with_space (reverse (top ++ behind 44 others)))) (ap not first) (ap not last))
+
+line-good : (source : Hop) (line : List ℕ) (c : Cut) → IsSource source → is_value line ≡ true → line ≡ c.0 ++ behind 44 c.1 → is_value (marked_line source c) ≡ true
+line-good source line (top, others) is good e =
+    let kept : is_value (top ++ behind 44 others) ≡ true = ap is_value (sym e) ∙ good in
+    let both = and_parts (is_line line) (is_trimmed line) good in
+    let top_line : is_line top ≡ true = (and_parts (is_line top) (is_line (behind 44 others)) (sym (list_all-append is_line_byte top (behind 44 others)) ∙ ap is_line (sym e) ∙ both.0)).0 in
+    let is_top = value-top source (trim top) is (all-trim is_line_byte top top_line) (front-of (trim top) (trim_trimmed top)) in
+    joined-good (marked_value source (trim top)) top others is_top kept
+
+-- the first Via line, marked, is a value
+pub marked_line-good : (source : Hop) (line : List ℕ) → IsSource source → is_value line ≡ true → is_value (marked_line source (cut_outside Quotes 44 Plain line)) ≡ true
+marked_line-good source line is good = line-good source line (cut_outside Quotes 44 Plain line) is good (cut_outside_joins Quotes 44 Plain line)
+
+abbrev ok_of : List ℕ → Result (List ℕ) ViaFault
+ok_of x = Ok x
+
+abbrev ok_or : ViaFault → Result (List ℕ) ViaFault
+ok_or f = Err f
+
+marked-at-good : (source : Hop) (line v : List ℕ) → IsSource source → is_value line ≡ true → line_marked source line ≡ Ok v → is_value v ≡ true
+marked-at-good source line v is good e =
+    let c = cut_outside Quotes 44 Plain line in
+    elim (cases_Bool (is_via (trim c.0))) [
+      | inl reads ↦
+          let found : ok_of (marked_line source c) ≡ Ok v = sym (cond-true _ _ _ reads) ∙ e in
+          let same : marked_line source c ≡ v = cc in
+          sym (ap is_value same) ∙ marked_line-good source line is good
+      | inr none ↦ let wrong : ok_or BadVia ≡ Ok v = sym (cond-false _ _ _ none) ∙ e in absurd cc
+    ]
+
+first-line-good : (hs : List HeaderText) (o : Option (List ℕ)) → list_all is_header hs ≡ true → first_value (codes "via") hs ≡ o → is_value (or_empty o) ≡ true
+first-line-good hs None h e = refl
+first-line-good hs (Some v) h e = first-good (codes "via") v hs h e
+
+-- a message with its first Via line marked is one
+pub marked-message : (m : MessageText) (source : Hop) (line v : List ℕ) → IsMessage m → IsSource source → line ≡ first_via_line m → line_marked source line ≡ Ok v → IsMessage (with_via_line m v)
+marked-message m source line v good is l e =
+    let value : is_value line ≡ true = ap is_value l ∙ first-line-good m.headers (first_value (codes "via") m.headers) good.head.headers refl in
+    with_via-good m v good (marked-at-good source line v is value e)

@@ -1,0 +1,7 @@
+use Rattle.std.proofs.Common.{◌≡◌, ◌+◌, drop}
+use Rattle.sip_text.specs.Seen.{views}
+use Rattle.sip_via.specs.Edits.{place_of}
+use Rattle.sip_via.proofs.edits.place_of.Given as goal
+
+abbrev pub invariant-loop-i : goal.invariant-loop-i
+invariant-loop-i g l = l.i + place_of l.name (views (drop l.i l.headers)) ≡ place_of l.name (views l.headers)

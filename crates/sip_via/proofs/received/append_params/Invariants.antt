@@ -1,0 +1,10 @@
+use Rattle.std.proofs.Common.{◌≡◌, ◌++◌}
+use Rattle.std.specs.List.{flat_map}
+use Rattle.sip_via.specs.Received.{marked_param}
+use Rattle.sip_via.proofs.received.append_params.Given as goal
+
+abbrev pub invariant-loop-param : goal.invariant-loop-param
+invariant-loop-param g l =
+    (goal.iterator-loop-param g).can_next l.params ×
+    (goal.iterator-loop-param g).is_finite l.params ×
+    (l.out.items ++ flat_map (marked_param l.port) l.params ≡ l.fn.out.items ++ flat_map (marked_param l.port) l.initial.params)

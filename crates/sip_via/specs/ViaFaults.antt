@@ -1,0 +1,24 @@
+-- What a call answered against what its definition gives, unless memory ran out.
+use Rattle.std.specs.Prelude.{◌≡◌, Result, Ok, Err}
+use Rattle.sip_via.specs.declared.own.BuildFault.{BuildFault}
+use Rattle.sip_via.specs.declared.own.BuildFault.TheVariants as build
+use Rattle.sip_via.specs.declared.own.ViaFault.{ViaFault}
+use Rattle.sip_via.specs.declared.own.ViaFault.TheVariants as via
+
+abbrev pub Fails : {Y : Type 0} → ViaFault → Result Y ViaFault → Type 0
+Fails via.NoMemory read = Unit {0}
+Fails f read = read ≡ Err f
+
+-- the value, as view shows it, or the fault, is what reading gives
+abbrev pub Gives : {X Y : Type 0} → (X → Y) → Result X ViaFault → Result Y ViaFault → Type 0
+Gives view (Ok x) read = read ≡ Ok (view x)
+Gives view (Err e) read = Fails e read
+
+abbrev pub FailsToBuild : {Y : Type 0} → BuildFault → Result Y BuildFault → Type 0
+FailsToBuild build.NoMemory built = Unit {0}
+FailsToBuild f built = built ≡ Err f
+
+-- the message, or the fault, is what building gives
+abbrev pub Builds : {X Y : Type 0} → (X → Y) → Result X BuildFault → Result Y BuildFault → Type 0
+Builds view (Ok x) built = built ≡ Ok (view x)
+Builds view (Err e) built = FailsToBuild e built

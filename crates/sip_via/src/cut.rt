@@ -1,0 +1,116 @@
+//! Cutting a text into the parts of a Via value.
+
+ghost use Rattle.std.specs.Prelude.{◌≡◌, IfSome, IfNone, false, true};
+ghost use Rattle.std.specs.List.{list_all, list_any};
+ghost use Rattle.std.specs.Option.{option_copied};
+ghost use Rattle.sip_via.specs.SeenParts.{seen_parts};
+ghost use Rattle.sip_via.specs.ViaParts.{are_parts, is_port_if_any, is_trimmed, is_via, or_empty, parts_of, port_and_params, port_if_any};
+
+use crate::params::are_params;
+use sip_lex::{cut_at, cut_at_space, is_token, trim, trim_end, trim_start};
+use sip_uri::{cut_host, is_host, read_port};
+
+/// The parts of a value, as they stand in the text.
+#[derive(Clone, Copy)]
+pub(crate) struct Cut<'a> {
+    pub protocol: &'a [u8],
+    pub version: &'a [u8],
+    pub transport: &'a [u8],
+    pub host: &'a [u8],
+    pub port: Option<&'a [u8]>,
+    pub params: Option<&'a [u8]>,
+}
+
+fn or_empty(text: Option<&[u8]>) -> &[u8]
+    ensures { result.now ≡ or_empty (option_copied text.entry) }
+{
+    text.unwrap_or(b"")
+}
+
+/// The port and the parameters in what stands behind the host.
+fn port_and_params(tail: &[u8]) -> (Option<&[u8]>, Option<&[u8]>)
+    ensures port { option_copied result.0 ≡ (port_and_params tail.now).0 }
+    ensures params { option_copied result.1 ≡ (port_and_params tail.now).1 }
+{
+    match tail {
+        [] => (None, None),
+        [b':', rest @ ..] => {
+            let (port, params) = cut_at(rest, b';');
+            (Some(trim(port)), params)
+        }
+        [b';', rest @ ..] => (None, Some(rest)),
+        _ => (Some(b""), None),
+    }
+}
+
+/// Cuts any text into the parts that a Via value would have.
+#[tactic(auto, unfolding(crate::specs::ViaParts::parts_of))]
+pub(crate) fn cut_value(text: &[u8]) -> Cut<'_>
+    ensures { seen_parts result ≡ parts_of text.now }
+{
+    let (protocol, rest) = cut_at(text, b'/');
+    let (version, rest) = cut_at(or_empty(rest), b'/');
+    let (transport, rest) = cut_at_space(trim_start(or_empty(rest)));
+    let (host, tail) = cut_host(trim_start(or_empty(rest)));
+    let (port, params) = port_and_params(tail);
+    Cut {
+        protocol: trim_end(protocol),
+        version: trim(version),
+        transport,
+        host: trim_end(host),
+        port,
+        params,
+    }
+}
+
+fn is_port_if_any(port: Option<&[u8]>) -> bool
+    ensures { result ≡ is_port_if_any (option_copied port.entry) }
+{
+    match port {
+        None => true,
+        Some(digits) => read_port(digits).is_some(),
+    }
+}
+
+/// Whether the parts are those of a Via value.
+#[tactic(auto, unfolding(crate::specs::ViaParts::are_parts))]
+fn are_parts(cut: &Cut<'_>) -> bool
+    ensures { result ≡ are_parts (seen_parts cut.now) }
+{
+    cut.protocol.eq_ignore_ascii_case(b"sip")
+        && cut.version == b"2.0".as_slice()
+        && is_token(cut.transport)
+        && is_host(cut.host)
+        && is_port_if_any(cut.port)
+        && are_params(cut.params)
+}
+
+/// Whether no space stands at the ends of a text.
+fn is_trimmed(text: &[u8]) -> bool
+    ensures { result ≡ is_trimmed text.now }
+{
+    trim(text) == text
+}
+
+/// The parts of a Via value (RFC 3261 section 20.42); `None` where the text is none.
+pub(crate) fn cut_via(text: &[u8]) -> Option<Cut<'_>>
+    ensures found { IfSome result
+        (λ cut. (is_via text.now ≡ true) × (seen_parts cut ≡ parts_of text.now)) }
+    ensures none { IfNone result (is_via text.now ≡ false) }
+{
+    if !is_trimmed(text) {
+        return None;
+    }
+    let cut = cut_value(text);
+    if !are_parts(&cut) {
+        return None;
+    }
+    Some(cut)
+}
+
+/// The number of a port, if there is one.
+pub(crate) fn port_if_any(port: Option<&[u8]>) -> Option<u16>
+    ensures { result ≡ port_if_any (option_copied port.entry) }
+{
+    read_port(port?)
+}

@@ -1,0 +1,166 @@
+//! Copies of header lines of which some are changed or left out.
+
+ghost use Rattle.std.specs.Prelude.{◌≡◌, ◌++◌, [], ◌∷◌, ◌≤◌, length, IfOk, OnOk};
+ghost use Rattle.sip_text.specs.Message.{IsMessage};
+ghost use Rattle.std.specs.Option.{option_copied};
+ghost use Rattle.sip_text.specs.Name.{first_value};
+ghost use Rattle.sip_text.specs.Seen.{view, view_start, views};
+ghost use Rattle.sip_via.specs.Edits.{begins_named, changed_first, line, line_if_any, place_of, replaced, with_headers};
+ghost use Rattle.sip_via.specs.SeenMessages.{seen_value};
+
+use sip_text::{Header, Message, Start, Values};
+use std::alloc::{AllocError, Allocator};
+
+/// The first value of that name.
+fn first_value<'a, A: Allocator>(headers: &'a [Header<A>], name: &[u8]) -> Option<&'a [u8]>
+    ensures { option_copied result ≡ first_value name.now (views headers.now) }
+{
+    Values::new(name, headers).next()
+}
+
+/// Whether the first of some header lines has that name, in any case and in long or compact form.
+fn begins_named<A: Allocator>(headers: &[Header<A>], name: &[u8]) -> bool
+    requires { 1 ≤ length headers.now }
+    ensures { result ≡ begins_named name.now (views headers.now) }
+{
+    let (first, _) = headers.split_at(1);
+    first_value(first, name).is_some()
+}
+
+/// A copy of a start line.
+pub(crate) fn copy_start<A: Allocator + Clone>(
+    alloc: &A,
+    start: &Start<A>,
+) -> Result<Start<A>, AllocError>
+    ensures { IfOk result (λ copy. view_start copy ≡ view_start start.now) }
+{
+    match start {
+        Start::Request { method, uri } => Ok(Start::Request {
+            method: Vec::from_slice(alloc.clone()?, method)?,
+            uri: Vec::from_slice(alloc.clone()?, uri)?,
+        }),
+        Start::Response { status, reason } => Ok(Start::Response {
+            status: *status,
+            reason: Vec::from_slice(alloc.clone()?, reason)?,
+        }),
+    }
+}
+
+fn copy_header<A: Allocator + Clone>(alloc: &A, header: &Header<A>) -> Result<Header<A>, AllocError>
+    ensures { IfOk result (λ copy. view copy ≡ view header.now) }
+{
+    Ok(Header {
+        name: Vec::from_slice(alloc.clone()?, &header.name)?,
+        value: Vec::from_slice(alloc.clone()?, &header.value)?,
+    })
+}
+
+/// Adds copies of header lines.
+pub(crate) fn add_copies<A: Allocator + Clone>(
+    out: &mut Vec<Header<A>, A>,
+    alloc: &A,
+    headers: &[Header<A>],
+) -> Result<(), AllocError>
+    ensures { OnOk result (views out.new.items ≡ views out.old.items ++ views headers.now) }
+{
+    for header in headers {
+        out.push(copy_header(alloc, header)?)?;
+    }
+    Ok(())
+}
+
+/// Adds a line of that name and value.
+pub(crate) fn add_line<A: Allocator + Clone>(
+    out: &mut Vec<Header<A>, A>,
+    alloc: &A,
+    name: &[u8],
+    value: Vec<u8, A>,
+) -> Result<(), AllocError>
+    ensures { OnOk result
+        (views out.new.items ≡ views out.old.items ++ line name.now value.items ∷ []) }
+{
+    let name = Vec::from_slice(alloc.clone()?, name)?;
+    out.push(Header { name, value })?;
+    Ok(())
+}
+
+/// Adds a line of that name, if there is a value for it.
+fn add_line_if_any<A: Allocator + Clone>(
+    out: &mut Vec<Header<A>, A>,
+    alloc: &A,
+    name: &[u8],
+    value: Option<Vec<u8, A>>,
+) -> Result<(), AllocError>
+    ensures { OnOk result
+        (views out.new.items ≡ views out.old.items ++ line_if_any name.now (seen_value value)) }
+{
+    match value {
+        None => Ok(()),
+        Some(value) => add_line(out, alloc, name, value),
+    }
+}
+
+/// The place of the first header line of that name, or how many there are.
+fn place_of<A: Allocator>(headers: &[Header<A>], name: &[u8]) -> usize
+    ensures value { result ≡ place_of name.now (views headers.now) }
+    ensures within { result ≤ length headers.now }
+{
+    for i in 0..headers.len() {
+        let (_, rest) = headers.split_at(i);
+        if begins_named(rest, name) {
+            return i;
+        }
+    }
+    headers.len()
+}
+
+/// Adds copies of some header lines, the first of them with another value, or left out.
+fn add_changed<A: Allocator + Clone>(
+    out: &mut Vec<Header<A>, A>,
+    alloc: &A,
+    headers: &[Header<A>],
+    value: Option<Vec<u8, A>>,
+) -> Result<(), AllocError>
+    ensures { OnOk result
+        (views out.new.items
+        ≡ views out.old.items ++ changed_first (seen_value value) (views headers.now)) }
+{
+    let Some((header, after)) = headers.split_first() else {
+        return Ok(());
+    };
+    add_line_if_any(out, alloc, &header.name, value)?;
+    add_copies(out, alloc, after)?;
+    Ok(())
+}
+
+/// Adds copies of the header lines, the first of that name with another value, or left out.
+pub(crate) fn add_replaced<A: Allocator + Clone>(
+    out: &mut Vec<Header<A>, A>,
+    alloc: &A,
+    headers: &[Header<A>],
+    name: &[u8],
+    value: Option<Vec<u8, A>>,
+) -> Result<(), AllocError>
+    ensures { OnOk result
+        (views out.new.items
+        ≡ views out.old.items ++ replaced name.now (seen_value value) (views headers.now)) }
+{
+    let (front, back) = headers.split_at(place_of(headers, name));
+    add_copies(out, alloc, front)?;
+    add_changed(out, alloc, back, value)?;
+    Ok(())
+}
+
+/// The message with other header lines.
+pub(crate) fn with_headers<A: Allocator + Clone>(
+    alloc: A,
+    message: &Message<A>,
+    headers: Vec<Header<A>, A>,
+) -> Result<Message<A>, AllocError>
+    requires { IsMessage (with_headers message.now (views headers.items)) }
+    ensures { IfOk result (λ m. m ≡ with_headers message.now (views headers.items)) }
+{
+    let start = copy_start(&alloc, message.start())?;
+    let body = Vec::from_slice(alloc, message.body())?;
+    Ok(Message::from_parts(start, headers, body))
+}

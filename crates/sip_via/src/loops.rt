@@ -1,0 +1,155 @@
+//! The key by which a loop is found, and the proxy's own tag.
+
+ghost use Rattle.std.specs.Prelude.{◌≡◌, ◌≤◌, ◌++◌, List, ℕ, length, take, codes};
+ghost use Rattle.std.specs.Fmt.{decimal};
+ghost use Rattle.std.specs.List.{join_with_byte};
+ghost use Rattle.std.specs.Option.{option_copied};
+ghost use Rattle.md5.specs.Md5.{Holds, md5};
+ghost use Rattle.sip_via.specs.HexPair.{hex_text};
+ghost use Rattle.sip_via.specs.Loop.{all_values, behind_commas, dialog_fields, field_line, field_lines, loop_key, or_empty, own_tag, request_uri, routing_fields, tag_fields};
+
+use crate::hex_pair::hex_pair;
+use itoa::Buffer;
+use md5::{Digest, Md5};
+use sip_text::{Message, Start, Values};
+use std::alloc::Allocator;
+
+/// The Request-URI of a request; empty for a response.
+pub(crate) fn request_uri<A: Allocator>(message: &Message<A>) -> &[u8]
+    ensures { result.now ≡ request_uri message.now.start }
+{
+    match message.start() {
+        Start::Request { uri, .. } => uri,
+        Start::Response { .. } => b"",
+    }
+}
+
+/// Adds a field and the LF behind it.
+fn add_field(hasher: &mut Md5, field: &[u8])
+    ensures { (m : List ℕ) → Holds hasher.old m → Holds hasher.new (m ++ field_line field.now) }
+{
+    hasher.update(field);
+    hasher.update(b"\n");
+}
+
+/// Adds a field that may be missing, and is empty then.
+fn add_optional(hasher: &mut Md5, field: Option<&[u8]>)
+    ensures { (m : List ℕ) → Holds hasher.old m
+        → Holds hasher.new (m ++ field_line (or_empty (option_copied field.entry))) }
+{
+    add_field(hasher, field.unwrap_or(b""));
+}
+
+/// Adds a number in decimal.
+fn add_number(hasher: &mut Md5, n: u32)
+    ensures { (m : List ℕ) → Holds hasher.old m → Holds hasher.new (m ++ field_line (decimal n)) }
+{
+    add_field(hasher, Buffer::new().format(n).as_bytes());
+}
+
+/// Adds the values left, a comma before each.
+fn add_more<A: Allocator>(hasher: &mut Md5, mut values: Values<'_, '_, A>)
+    ensures { (m : List ℕ) → Holds hasher.old m → Holds hasher.new (m ++ behind_commas values.entry) }
+{
+    while let Some(value) = values.next() {
+        hasher.update(b",");
+        hasher.update(value);
+    }
+}
+
+/// Adds the values left, a comma between two.
+fn add_joined<A: Allocator>(hasher: &mut Md5, mut values: Values<'_, '_, A>)
+    ensures { (m : List ℕ) → Holds hasher.old m → Holds hasher.new (m ++ join_with_byte 44 values.entry) }
+{
+    let Some(first) = values.next() else {
+        return;
+    };
+    hasher.update(first);
+    add_more(hasher, values);
+}
+
+/// Adds the values of that name, a comma between two, and the LF behind them.
+fn add_values<A: Allocator>(hasher: &mut Md5, message: &Message<A>, name: &[u8])
+    ensures { (m : List ℕ) → Holds hasher.old m
+        → Holds hasher.new (m ++ field_line (all_values name.now message.now)) }
+{
+    add_joined(hasher, message.values(name));
+    hasher.update(b"\n");
+}
+
+/// Adds the fields that name the request among those of its sender.
+fn add_dialog<A: Allocator>(hasher: &mut Md5, message: &Message<A>)
+    ensures { (m : List ℕ) → Holds hasher.old m
+        → Holds hasher.new (m ++ field_lines (dialog_fields message.now)) }
+{
+    add_optional(hasher, message.from_tag());
+    add_optional(hasher, message.to_tag());
+    add_field(hasher, message.call_id());
+    add_number(hasher, message.cseq().number);
+}
+
+/// Adds the fields that say how the request is routed.
+fn add_routing<A: Allocator>(hasher: &mut Md5, message: &Message<A>)
+    ensures { (m : List ℕ) → Holds hasher.old m
+        → Holds hasher.new (m ++ field_lines (routing_fields message.now)) }
+{
+    add_values(hasher, message, b"route");
+    add_values(hasher, message, b"proxy-require");
+    add_values(hasher, message, b"proxy-authorization");
+}
+
+/// The key that tells two passes of a request through this proxy apart, by what its routing rests on
+/// (RFC 3261 section 16.6 step 8): MD5 of the Request-URI, the tags of From and To, the Call-ID, the
+/// number of the CSeq, and the values of Route, Proxy-Require and Proxy-Authorization, each followed
+/// by LF. What is missing is empty.
+///
+/// The caller has taken the proxy's own Route value away.
+#[tactic(auto, unfolding(crate::specs::Loop::loop_key))]
+pub fn loop_key<A: Allocator>(message: &Message<A>) -> [u8; 16]
+    ensures { result ≡ loop_key message.now }
+{
+    let mut hasher = Md5::new();
+    add_field(&mut hasher, request_uri(message));
+    add_dialog(&mut hasher, message);
+    add_routing(&mut hasher, message);
+    hasher.finalize()
+}
+
+fn tag_digest<A: Allocator>(message: &Message<A>) -> [u8; 16]
+    ensures { result ≡ md5 (field_lines (tag_fields message.now)) }
+{
+    let mut hasher = Md5::new();
+    add_field(&mut hasher, message.call_id());
+    add_optional(&mut hasher, message.from_tag());
+    add_number(&mut hasher, message.cseq().number);
+    hasher.finalize()
+}
+
+/// `fp` and the first sixteen digits of a digest.
+fn tag_of(digest: &[u8]) -> [u8; 18]
+    requires { 8 ≤ length digest.now }
+    ensures { result ≡ codes "fp" ++ hex_text (take 8 digest.now) }
+{
+    let mut tag = [0; 18];
+    tag[0] = b'f';
+    tag[1] = b'p';
+    for i in 0..8 {
+        let [upper, lower] = hex_pair(digest[i]);
+        tag[2 * i + 2] = upper;
+        tag[2 * i + 3] = lower;
+    }
+    tag
+}
+
+/// The tag that the proxy gives its own answers to a request (RFC 3261 section 8.2.6.2): the same
+/// for each repetition of the request.
+///
+/// `fp` and the first sixteen hexadecimal digits of MD5 of the Call-ID, the From tag and the number
+/// of the CSeq, each followed by LF.
+#[tactic(auto, unfolding(crate::specs::Loop::own_tag))]
+pub fn own_tag<A: Allocator>(message: &Message<A>) -> [u8; 18]
+    ensures { result ≡ own_tag message.now }
+{
+    let digest = tag_digest(message);
+    tag_of(&digest)
+}

@@ -1,0 +1,92 @@
+//! The Via values of a message.
+
+ghost use Rattle.std.specs.Prelude.{◌≡◌, [], ◌∷◌, ◌++◌, IfSome, IfNone};
+ghost use Rattle.std.specs.List.{flat_map};
+ghost use Rattle.std.specs.Option.{option_copied};
+ghost use Rattle.sip_via.specs.SeenVia.{values_behind, values_left};
+ghost use Rattle.sip_via.specs.TopVia.{top_value, values_in};
+
+use sip_lex::{Shelter, cut_outside, trim};
+use sip_text::{Message, Values};
+use std::alloc::Allocator;
+use std::marker::Model;
+
+/// The name of the field, in lower case.
+pub(crate) const VIA: &[u8] = b"via";
+
+/// The Via values that are left, each line's in order.
+#[derive(Drop)]
+pub(crate) struct ViaValues<'a, A: Allocator> {
+    line: Option<&'a [u8]>,
+    lines: Values<'a, 'static, A>,
+}
+
+impl<'a, A: Allocator> Model for ViaValues<'a, A> {
+    ghost use Rattle.std.specs.Prelude.{List, ℕ};
+    ghost use Rattle.std.specs.Option.{option_copied};
+    ghost use Rattle.sip_via.specs.SeenVia.{values_left};
+
+    ghost Value = { List (List ℕ) };
+
+    ghost view = { λ v. values_left (option_copied v.line) v.lines };
+}
+
+/// The first value of a line, and what stands behind its comma.
+fn cut_value(text: &[u8]) -> (&[u8], Option<&[u8]>)
+    ensures { values_in text.now ≡ result.0.now ∷ values_behind (option_copied result.1) }
+{
+    let (value, after) = cut_outside(text, b',', Shelter::Quotes);
+    (trim(value), after)
+}
+
+/// The line that is begun, or else the next one.
+fn take_line<'a, A: Allocator>(
+    line: &mut Option<&'a [u8]>,
+    lines: &mut Values<'a, 'static, A>,
+) -> Option<&'a [u8]>
+    ensures some { IfSome result
+        (λ text. values_left (option_copied line.old) lines.old ≡ values_in text.now ++ flat_map values_in lines.new) }
+    ensures none { IfNone result (values_left (option_copied line.old) lines.old ≡ []) }
+{
+    match line.take() {
+        Some(text) => Some(text),
+        None => lines.next(),
+    }
+}
+
+impl<'a, A: Allocator> ViaValues<'a, A> {
+    ghost use Rattle.std.specs.Prelude.{◌≡◌, [], ◌∷◌, IfSome, IfNone};
+    ghost use Rattle.sip_via.specs.TopVia.{via_values};
+
+    /// All Via values of a message.
+    pub(crate) fn of(message: &'a Message<A>) -> ViaValues<'a, A>
+        ensures { result ≡ via_values message.now }
+    {
+        ViaValues {
+            line: None,
+            lines: message.values(VIA),
+        }
+    }
+
+    /// The first of those that are left, which then is not.
+    pub(crate) fn next(&mut self) -> Option<&'a [u8]>
+        ensures some { IfSome result (λ value. self.old ≡ value.now ∷ self.new) }
+        ensures none { IfNone result (self.old ≡ []) }
+    {
+        let text = take_line(&mut self.line, &mut self.lines)?;
+        let (value, after) = cut_value(text);
+        self.line = after;
+        Some(value)
+    }
+}
+
+/// The first Via value of a message: that of the nearest sender (RFC 3261 section 18.2.2). Each
+/// message has one.
+pub fn top_via<A: Allocator>(message: &Message<A>) -> &[u8]
+    ensures { result.now ≡ top_value message.now }
+{
+    match ViaValues::of(message).next() {
+        Some(value) => value,
+        None => b"",
+    }
+}

@@ -1,0 +1,75 @@
+//! Via values.
+
+ghost use Rattle.std.specs.Prelude.{◌≡◌, true};
+ghost use Rattle.std.specs.List.{list_any};
+ghost use Rattle.std.specs.Option.{option_copied};
+ghost use Rattle.sip_via.specs.ViaFaults.{Gives};
+ghost use Rattle.sip_via.specs.ViaParts.{branch_of, is_rport, port_if_any, read_via};
+
+use crate::cut::{cut_value, cut_via, port_if_any};
+use crate::own::ViaFault;
+use crate::params::{first_named, has_rport};
+use std::alloc::Allocator;
+use std::marker::Model;
+
+/// A Via value: its text as written.
+#[derive(Drop)]
+pub struct Via<A: Allocator> {
+    text: Vec<u8, A>,
+}
+
+impl<A: Allocator> Model for Via<A> {
+    ghost use Rattle.sip_via.specs.ViaParts.{ViaText, via_of};
+
+    ghost Value = { ViaText };
+
+    ghost view = { λ v. via_of v.text.items };
+}
+
+impl<A: Allocator> Via<A> {
+    /// The Via value that a text is (RFC 3261 section 20.42): `SIP/2.0/` and a transport, space, the
+    /// sender's host and port, and parameters. Space may stand round `/`, `:`, `;` and `=`, none at
+    /// the ends.
+    ///
+    /// # Errors
+    ///
+    /// `BadVia` for any other text; then `NoMemory`.
+    pub fn read(alloc: A, value: &[u8]) -> Result<Via<A>, ViaFault>
+        ensures { Gives (λ v. v) result (read_via value.now) }
+    {
+        if cut_via(value).is_none() {
+            return Err(ViaFault::BadVia);
+        }
+        let text = Vec::from_slice(alloc, value)?;
+        Ok(Via { text })
+    }
+
+    /// The host of the sender, as written.
+    pub fn host(&self) -> &[u8]
+        ensures { result.now ≡ self.now.host }
+    {
+        cut_value(&self.text).host
+    }
+
+    /// The port of the sender, where the value names one.
+    pub fn port(&self) -> Option<u16>
+        ensures { result ≡ port_if_any self.now.port }
+    {
+        port_if_any(cut_value(&self.text).port)
+    }
+
+    /// The value of the first parameter `branch`, in any case, if it has one (RFC 3261 section
+    /// 8.1.1.7).
+    pub fn branch(&self) -> Option<&[u8]>
+        ensures { option_copied result ≡ branch_of self.now }
+    {
+        first_named(cut_value(&self.text).params, b"branch")
+    }
+
+    /// Whether a parameter `rport` has that number (RFC 3581 section 4).
+    pub fn has_rport(&self, port: u16) -> bool
+        ensures { result ≡ list_any (is_rport port) self.now.params }
+    {
+        has_rport(cut_value(&self.text).params, port)
+    }
+}
