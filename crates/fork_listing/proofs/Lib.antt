@@ -1,0 +1,10 @@
+mod Pieces
+mod PreferredLists
+mod Placing
+mod Sets
+mod BestLines
+mod Listed
+mod Sorting
+mod Meanings
+mod Finals
+mod ListedRows

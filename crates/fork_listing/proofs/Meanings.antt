@@ -1,0 +1,103 @@
+-- What a right listing tells.
+use Rattle.std.proofs.Common.{◌≡◌, ℕ, zero, suc, ◌<◌, ◌⊎◌, List, length, Option, Some, None, Result, Ok, Err, refl, sym, ap, subst, ◌∙◌, arith, inl, inr}
+use Rattle.std.specs.Prelude.{slice_get, option_and_then}
+use Rattle.std.specs.Option.{option_map}
+use Rattle.fork_model.specs.Table.{Row}
+use Rattle.fork_model.specs.Rank.{Score, Before}
+use Rattle.fork_model.specs.Choice as model
+use Rattle.fork_model.specs.Choice.{Choice, Best, Only503, NoAnswer408, HasScore, IsFirst, IsChoice, stored_at, status_at}
+use Rattle.fork_model.proofs.OrderLemmas.{Before-trans}
+use Rattle.fork_listing.specs.declared.line.Target.{Target}
+use Rattle.fork_listing.specs.declared.line.Ranked.{Ranked}
+use Rattle.fork_listing.specs.declared.line.Final.{Final}
+use Rattle.fork_listing.specs.Ranks.{row_of, rows_of, score_of, score_in, score_at, RanksBehind, final_of, IsChosen}
+use Rattle.fork_listing.specs.Text.{Listing, read_listing}
+use Rattle.fork_listing.specs.Checking.{AreInOrder, AreListed, IsChecked, verdict_of}
+use Rattle.fork_listing.specs.Meaning.{ListedAreStored, FinalIsFirst, TellsTheChoice, RightTellsTheChoice, AcceptedTellsTheChoice}
+use Rattle.fork_listing.proofs.Placing.{inside, there}
+use Rattle.fork_listing.proofs.BestLines.{target_score, get_map}
+use Rattle.fork_listing.proofs.Finals.{status_seen}
+
+some_same : {X : Type 0} {x y : X} → Some x ≡ Some y → x ≡ y
+some_same e = cc
+
+none_some : {X : Type 0} {x : X} → None ≡ Some x → ⊥
+none_some e = absurd cc
+
+abbrev seen : Option Row → Option Score
+seen row = option_map model.score_of (stored_at row)
+
+score_seen : (o : Option Target) → seen (option_map row_of o) ≡ option_and_then (λ (t : Target). score_in t.end) o
+score_seen None = refl
+score_seen (Some target) = target_score target
+
+-- the score in a row is that in its line
+pub same_score : (targets : List Target) (n : ℕ) → seen (slice_get (rows_of targets) n) ≡ score_at targets n
+same_score targets n = ap seen (get_map row_of targets n) ∙ score_seen (slice_get targets n)
+
+one_line : (a b : Ranked) → a.number ≡ b.number → score_of a ≡ score_of b → a ≡ b
+one_line a b e h =
+    let line : ℕ → ℕ → ℕ → Ranked = λ s n t. record { status = s; number = n; arrival = t } in
+    ap (λ s. line s a.number a.arrival) (ap (λ (x : Score). x.status) h)
+    ∙ ap (λ n. line b.status n a.arrival) e
+    ∙ ap (λ t. line b.status b.number t) (ap (λ (x : Score). x.arrival) h)
+
+listed : (l : Listing) → AreInOrder l → AreListed l → ListedAreStored l
+listed l order all = λ ranked. (
+  (λ at. same_score l.targets ranked.number ∙ (order at.0 (inside l.ranks at.0 ranked at.1) ranked at.1).stored),
+  (λ stored.
+      let here : score_at l.targets ranked.number ≡ Some (score_of ranked) = sym (same_score l.targets ranked.number) ∙ stored in
+      let h = all ranked.number (scored_inside l.targets ranked.number (score_of ranked) here) (score_of ranked) here in
+      let found : score_at l.targets h.1.number ≡ Some (score_of h.1) = (order h.0 (inside l.ranks h.0 h.1 h.2) h.1 h.2).stored in
+      let one : score_of h.1 ≡ score_of ranked = some_same (sym found ∙ ap (score_at l.targets) h.3 ∙ here) in
+      (h.0, h.2 ∙ ap Some (one_line h.1 ranked h.3 one))),
+)
+  where
+    scored_inside : (targets : List Target) (m : ℕ) (s : Score) → score_at targets m ≡ Some s → m < length targets
+    scored_inside targets m s e = at (slice_get targets m) refl e
+      where
+        at : (o : Option Target) → slice_get targets m ≡ o → option_and_then (λ (t : Target). score_in t.end) o ≡ Some s → m < length targets
+        at None here e = absurd (none_some e)
+        at (Some target) here e = inside targets m target here
+
+next_behind : (l : Listing) (k : ℕ) (a b : Ranked) → AreInOrder l → slice_get l.ranks k ≡ Some a → slice_get l.ranks (suc k) ≡ Some b → Before l.rules (score_of a) (score_of b)
+next_behind l k a b order x y =
+    let P : Option Ranked → Type 0 = λ o. RanksBehind l.rules o b in
+    subst P x (order (suc k) (inside l.ranks (suc k) b y) b y).behind
+
+cases : (m n : ℕ) → m < suc n → (m < n) ⊎ (m ≡ n)
+cases m n lt = grind arith
+
+ranked : (l : Listing) → AreInOrder l → (k j : ℕ) (a b : Ranked) → j < k → slice_get l.ranks j ≡ Some a → slice_get l.ranks k ≡ Some b → Before l.rules (score_of a) (score_of b)
+ranked l order zero j a b lt x y = absurd (omega arith)
+ranked l order (suc k) j a b lt x y =
+    let h = inside l.ranks (suc k) b y in
+    let mid = there l.ranks k (omega arith) in
+    let last : Before l.rules (score_of mid.0) (score_of b) = next_behind l k mid.0 b order mid.1 y in
+    elim (cases j k lt) [
+      | inl less ↦ Before-trans l.rules (score_of a) (score_of mid.0) (score_of b) (ranked l order k j a mid.0 less x mid.1) last
+      | inr same ↦
+          let one : mid.0 ≡ a = some_same (sym mid.1 ∙ ap (slice_get l.ranks) (sym same) ∙ x) in
+          subst (λ (r : Ranked). Before l.rules (score_of r) (score_of b)) one last
+    ]
+
+first : (l : Listing) → IsChosen l.rules l.targets l.last → FinalIsFirst l
+first l chosen = at chosen.0 chosen.1 chosen.2
+  where
+    at : (choice : Choice) → IsChoice l.rules (rows_of l.targets) choice → l.last ≡ final_of (rows_of l.targets) choice → FinalIsFirst l
+    at (Best n) is e =
+        let status : status_at (slice_get (rows_of l.targets) n) ≡ is.0.status = status_seen (stored_at (slice_get (rows_of l.targets) n)) is.0 is.1.stored in
+        let line : ℕ → Final = λ s. record { status = s; number = Some n } in
+        inl (n, is.0, is.1, is.2, e ∙ ap line status)
+    at (Only503 n) is e = inr (inl (n, is.0, is.1, is.2, e))
+    at NoAnswer408 is e = inr (inr (is, e))
+
+pub right_tells : RightTellsTheChoice
+right_tells l right = (listed l right.1 right.2, (λ j k a b lt x y. ranked l right.1 k j a b lt x y), first l right.3)
+
+pub accepted_tells : AcceptedTellsTheChoice
+accepted_tells text verdict checked = at (read_listing text) refl checked
+  where
+    at : (r : Result Listing ℕ) → read_listing text ≡ r → IsChecked r (Ok verdict) → (l : Listing) × (read_listing text ≡ Ok l) × (verdict ≡ verdict_of l) × TellsTheChoice l
+    at (Ok l) e is = (l, e, is.1, right_tells l is.0)
+    at (Err n) e is = absurd is

@@ -1,0 +1,10 @@
+use Rattle.std.proofs.Common.{length, ◌-◌, ◌≤◌}
+use Rattle.fork_listing.specs.Near.{Holds}
+use Rattle.fork_listing.specs.Stored.{number_at}
+use Rattle.fork_listing.proofs.ranks.numbers_of.Given as goal
+
+abbrev pub invariant-loop-k : goal.invariant-loop-k
+invariant-loop-k g l = (l.k ≤ length l.ranks) × Holds l.numbers (number_at l.ranks) l.k
+
+abbrev pub decreases-loop-k : goal.decreases-loop-k
+decreases-loop-k g l = length l.ranks - l.k

@@ -1,0 +1,15 @@
+use Rattle.std.proofs.Common.{length, ◌-◌, ◌≤◌}
+use Rattle.fork_listing.specs.Targets.{ended_at}
+use Rattle.fork_listing.specs.Near.{Holds}
+use Rattle.fork_listing.proofs.Placing.{ArePlaced, AreDepths}
+use Rattle.fork_listing.proofs.targets.first_misplaced.Given as goal
+
+abbrev pub invariant-loop-n : goal.invariant-loop-n
+invariant-loop-n g l =
+    (l.n ≤ length l.targets)
+    × ArePlaced l.most_depth l.targets l.n
+    × AreDepths l.targets l.depths.items l.n
+    × Holds l.arrivals (ended_at l.targets) l.n
+
+abbrev pub decreases-loop-n : goal.decreases-loop-n
+decreases-loop-n g l = length l.targets - l.n

@@ -1,0 +1,16 @@
+pub mod Line
+pub mod Reading
+pub mod LineView
+pub mod Text
+pub mod ReadView
+pub mod First
+pub mod Targets
+pub mod Near
+pub mod Ranks
+pub mod Stored
+pub mod Checking
+pub mod HeadView
+pub mod Ranking
+pub mod Listed
+pub mod Sorting
+pub mod Meaning

@@ -1,0 +1,74 @@
+-- The stored answers of a listing in order of rank, and the answer that goes up (RFC 3261 section 16.7 step 6).
+use Rattle.std.specs.Prelude.{◌≡◌, ℕ, zero, suc, List, [], Option, Some, None, map, slice_get, option_and_then}
+use Rattle.fork_model.specs.Table as table
+use Rattle.fork_model.specs.Table.{Row, Rules}
+use Rattle.fork_model.specs.Rank.{Score, Before}
+use Rattle.fork_model.specs.Choice.{Choice, Best, Only503, NoAnswer408, IsChoice, status_sent}
+use Rattle.fork_listing.specs.declared.line.End.{End}
+use Rattle.fork_listing.specs.declared.line.End.TheVariants.{Stored, Taken, Silent, Never}
+use Rattle.fork_listing.specs.declared.line.Target.{Target}
+use Rattle.fork_listing.specs.declared.line.Ranked.{Ranked}
+use Rattle.fork_listing.specs.declared.line.Final.{Final}
+
+-- the end that a line tells of, without contacts and challenges
+abbrev pub end_of : End → table.End
+end_of (Stored status arrival received) =
+    table.Answered (record { status = status; arrival = arrival; received = received; left = []; challenges = [] })
+end_of (Taken arrival) = table.Taken arrival
+end_of (Silent arrival) = table.Silent arrival
+end_of Never = table.Never
+
+-- the row that a line tells of; of its key, place and group it tells nothing
+abbrev pub row_of : Target → Row
+row_of target = record { key = []; q = target.q; place = 0; parent = target.parent; group = 0; state = table.Ended (end_of target.end) }
+
+abbrev pub rows_of : List Target → List Row
+rows_of targets = map row_of targets
+
+abbrev pub score_of : Ranked → Score
+score_of ranked = record { status = ranked.status; arrival = ranked.arrival }
+
+abbrev pub RanksBehind : Rules → Option Ranked → Ranked → Type 0
+RanksBehind rules None ranked = Unit {0}
+RanksBehind rules (Some before) ranked = Before rules (score_of before) (score_of ranked)
+
+abbrev pub rank_before : List Ranked → ℕ → Option Ranked
+rank_before ranks zero = None
+rank_before ranks (suc k) = slice_get ranks k
+
+-- the score of the answer that a branch has stored
+abbrev pub score_in : End → Option Score
+score_in (Stored status arrival received) = Some (record { status = status; arrival = arrival })
+score_in (Taken arrival) = None
+score_in (Silent arrival) = None
+score_in Never = None
+
+abbrev pub score_at : List Target → ℕ → Option Score
+score_at targets n = option_and_then (λ (target : Target). score_in target.end) (slice_get targets n)
+
+-- a line that tells of an answer that its branch has stored, and that ranks behind the line before
+pub record IsInOrder (rules : Rules) (targets : List Target) (ranks : List Ranked) (k : ℕ) (ranked : Ranked) : Type 0 where
+  pub stored : score_at targets ranked.number ≡ Some (score_of ranked)
+  pub behind : RanksBehind rules (rank_before ranks k) ranked
+
+abbrev pub IsOrdered : Rules → List Target → List Ranked → ℕ → Type 0
+IsOrdered rules targets ranks k = (ranked : Ranked) → slice_get ranks k ≡ Some ranked → IsInOrder rules targets ranks k ranked
+
+-- a stored answer has its line
+abbrev pub IsListed : List Target → List Ranked → ℕ → Type 0
+IsListed targets ranks n =
+    (score : Score) → score_at targets n ≡ Some score
+    → (k : ℕ) × (ranked : Ranked) × (slice_get ranks k ≡ Some ranked) × (ranked.number ≡ n)
+
+-- the line of the answer that goes up
+abbrev pub final_of : List Row → Choice → Final
+final_of rows (Best n) = record { status = status_sent rows (Best n); number = Some n }
+final_of rows (Only503 n) = record { status = 500; number = Some n }
+final_of rows NoAnswer408 = record { status = 408; number = None }
+
+abbrev pub IsChosen : Rules → List Target → Final → Type 0
+IsChosen rules targets last = (choice : Choice) × IsChoice rules (rows_of targets) choice × (last ≡ final_of (rows_of targets) choice)
+
+-- the choice is another
+abbrev pub IsNotChosen : Rules → List Target → Final → Type 0
+IsNotChosen rules targets last = (choice : Choice) × IsChoice rules (rows_of targets) choice × (last ≡ final_of (rows_of targets) choice → ⊥)

@@ -1,0 +1,139 @@
+-- A whole listing: its lines in their order, each ended by LF, and what they stand for.
+use Rattle.std.specs.Prelude.{◌-◌, ◌==◌, ℕ, suc, Bool, true, false, List, [], ◌∷◌, ◌++◌, map, Option, Some, None, Result, Ok, Err, option_and_then, if◌then◌else◌}
+use Rattle.std.specs.Option.{option_map}
+use Rattle.std.specs.List.{slice_split, flat_map}
+use Rattle.sip_lex.specs.Cut.{is}
+use Rattle.fork_rank.specs.Preferred.{usual_preferred}
+use Rattle.fork_model.specs.Table.{Rules, most_targets}
+use Rattle.fork_listing.specs.declared.line.Version.{Version}
+use Rattle.fork_listing.specs.declared.line.Version.TheVariants.{First, Second, Third}
+use Rattle.fork_listing.specs.declared.line.Target.{Target}
+use Rattle.fork_listing.specs.declared.line.Ranked.{Ranked}
+use Rattle.fork_listing.specs.declared.line.Final.{Final}
+use Rattle.fork_listing.specs.declared.draft.Phase.{Phase}
+use Rattle.fork_listing.specs.declared.draft.Phase.TheVariants.{AtFork, AtPrefer, AtDepth, AtTargets, AtRanks, AtEnd}
+use Rattle.fork_listing.specs.Line.{Line, ForkLine, PreferLine, DepthLine, TargetLine, RankLine, FinalLine, line_text}
+use Rattle.fork_listing.specs.Reading.{read_line}
+
+pub record Listing : Type 0 where
+  pub version : Version
+  pub count : ℕ
+  pub rules : Rules
+  pub targets : List Target
+  pub ranks : List Ranked
+  pub last : Final
+
+-- the first version is silent about the rules, the second about the depth: what is not said is usual
+abbrev pub rule_lines : Version → Rules → List Line
+rule_lines First rules = []
+rule_lines Second rules = PreferLine rules.preferred ∷ []
+rule_lines Third rules = PreferLine rules.preferred ∷ DepthLine rules.depth ∷ []
+
+-- the lines of a listing
+abbrev pub lines_of : Listing → List Line
+lines_of l =
+    ForkLine l.version l.count
+    ∷ (rule_lines l.version l.rules ++ (map TargetLine l.targets ++ (map RankLine l.ranks ++ FinalLine l.last ∷ [])))
+
+abbrev pub ended : List ℕ → List ℕ
+ended line = line ++ 10 ∷ []
+
+abbrev pub lines_text : List Line → List ℕ
+lines_text lines = flat_map (λ line. ended (line_text line)) lines
+
+-- how it is spelled
+abbrev pub listing_text : Listing → List ℕ
+listing_text l = lines_text (lines_of l)
+
+-- the parts of a listing of the third version
+abbrev pub head_text : ℕ → Rules → List ℕ
+head_text count rules =
+    ended (line_text (ForkLine Third count))
+    ++ (ended (line_text (PreferLine rules.preferred)) ++ ended (line_text (DepthLine rules.depth)))
+
+abbrev pub targets_text : List Target → List ℕ
+targets_text targets = flat_map (λ target. ended (line_text (TargetLine target))) targets
+
+abbrev pub ranks_text : List Ranked → List ℕ
+ranks_text ranks = flat_map (λ ranked. ended (line_text (RankLine ranked))) ranks
+
+abbrev pub targets_due : ℕ → Phase
+targets_due count = if count == 0 then AtRanks else AtTargets count
+
+-- which line is due in which phase, and the phase behind it
+abbrev pub phase_after : Phase → Line → Option Phase
+phase_after AtFork (ForkLine First count) = Some (targets_due count)
+phase_after AtFork (ForkLine version count) = Some (AtPrefer version count)
+phase_after (AtPrefer Second count) (PreferLine statuses) = Some (targets_due count)
+phase_after (AtPrefer version count) (PreferLine statuses) = Some (AtDepth count)
+phase_after (AtDepth count) (DepthLine depth) = Some (targets_due count)
+phase_after (AtTargets count) (TargetLine target) = Some (targets_due (count - 1))
+phase_after AtRanks (RankLine ranked) = Some AtRanks
+phase_after AtRanks (FinalLine last) = Some (AtEnd last)
+phase_after _ _ = None
+
+-- the lines read so far
+pub record Draft : Type 0 where
+  pub phase : Phase
+  pub version : Version
+  pub count : ℕ
+  pub rules : Rules
+  pub targets : List Target
+  pub ranks : List Ranked
+
+abbrev pub usual_rules : Rules
+usual_rules = record { preferred = usual_preferred; depth = most_targets }
+
+abbrev pub no_draft : Draft
+no_draft = record { phase = AtFork; version = First; count = 0; rules = usual_rules; targets = []; ranks = [] }
+
+-- what a line adds
+abbrev pub with_line : Draft → Line → Draft
+with_line draft (ForkLine version count) = record draft { version = version; count = count }
+with_line draft (PreferLine statuses) = record draft { rules = record draft.rules { preferred = statuses } }
+with_line draft (DepthLine depth) = record draft { rules = record draft.rules { depth = depth } }
+with_line draft (TargetLine target) = record draft { targets = draft.targets ++ target ∷ [] }
+with_line draft (RankLine ranked) = record draft { ranks = draft.ranks ++ ranked ∷ [] }
+with_line draft (FinalLine last) = draft
+
+abbrev pub in_phase : Draft → Phase → Draft
+in_phase draft phase = record draft { phase = phase }
+
+abbrev pub drafted_line : Draft → Line → Option Draft
+drafted_line draft line = option_map (in_phase (with_line draft line)) (phase_after draft.phase line)
+
+-- with one more line, where it is one and is due
+abbrev pub drafted : Draft → List ℕ → Option Draft
+drafted draft text = option_and_then (drafted_line draft) (read_line text)
+
+abbrev pub is_empty : {X : Type 0} → List X → Bool
+is_empty [] = true
+is_empty (x ∷ xs) = false
+
+abbrev pub listing_in : Draft → Phase → Option Listing
+listing_in draft (AtEnd last) = Some (record { version = draft.version; count = draft.count; rules = draft.rules; targets = draft.targets; ranks = draft.ranks; last = last })
+listing_in draft _ = None
+
+abbrev pub or_line : ℕ → Option Listing → Result Listing ℕ
+or_line number None = Err number
+or_line number (Some listing) = Ok listing
+
+-- behind the last LF nothing stands
+abbrev pub finished_draft : ℕ → Draft → List ℕ → Result Listing ℕ
+finished_draft number draft rest = if is_empty rest then or_line number (listing_in draft draft.phase) else Err number
+
+abbrev pub with_next : ℕ → Option Draft → (Draft → Result Listing ℕ) → Result Listing ℕ
+with_next number None read = Err number
+with_next number (Some draft) read = read draft
+
+-- the lines from this number on, and what stands behind the last LF
+abbrev pub read_from : ℕ → Draft → List (List ℕ) → Result Listing ℕ
+read_from number draft [] = Err number
+read_from number draft (line ∷ lines) =
+    if is_empty lines then finished_draft number draft line
+    else with_next number (drafted draft line) (λ next. read_from (suc number) next lines)
+
+-- the listing, or the number of the first line that is not of the form due in its place; a line that is missing has
+-- the number that it would have
+unfoldable pub read_listing : List ℕ → Result Listing ℕ
+read_listing text = read_from 1 no_draft (slice_split (is 10) text)

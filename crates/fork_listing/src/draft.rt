@@ -1,0 +1,308 @@
+//! A whole listing, read line by line.
+ghost use Rattle.std.specs.Prelude.{◌≡◌, ◌≤◌, ◌<◌, ◌^◌, ◌++◌, ◌∷◌, [], length, suc, OnOk, IfOk, IfErr, MatchResult, Some, None, if◌then◌else◌};
+ghost use Rattle.std.specs.List.{slice_split};
+ghost use Rattle.sip_lex.specs.Cut.{is};
+ghost use Rattle.fork_listing.specs.LineView.{line_of};
+ghost use Rattle.fork_listing.specs.Text.{targets_due, phase_after, with_line, no_draft, drafted, finished_draft, read_listing};
+ghost use Rattle.fork_listing.specs.ReadView.{GivesListing};
+
+use crate::depth::Depth;
+use crate::line::{Final, Line, Ranked, Target, Version, read_line};
+use fork_rank::{Preferred, Rules};
+use sip_lex::cut_at;
+use std::alloc::{AllocError, Allocator};
+use std::marker::Model;
+
+/// Which line is due.
+#[derive(Clone, Copy, Debug, PartialEq, Eq)]
+pub enum Phase {
+    /// The first.
+    AtFork,
+    /// The preferred statuses, of a listing of this version with so many targets.
+    AtPrefer(Version, u16),
+    /// The depth, with so many targets behind it.
+    AtDepth(u16),
+    /// So many targets.
+    AtTargets(u16),
+    /// A stored answer, or the answer that went up.
+    AtRanks,
+    /// None: this answer went up.
+    AtEnd(Final),
+}
+
+/// The phase in which so many targets are due.
+fn targets_due(count: u16) -> Phase
+    ensures { result ≡ targets_due count }
+{
+    if count == 0 {
+        Phase::AtRanks
+    } else {
+        Phase::AtTargets(count)
+    }
+}
+
+impl Phase {
+    /// The phase behind a line; `None` where the line is not due.
+    fn after(self, line: &Line) -> Option<Phase>
+        ensures { result ≡ phase_after self (line_of line.now) }
+    {
+        match (self, line) {
+            (Phase::AtFork, Line::Fork(Version::First, count)) => Some(targets_due(*count)),
+            (Phase::AtFork, Line::Fork(version, count)) => Some(Phase::AtPrefer(*version, *count)),
+            (Phase::AtPrefer(Version::Second, count), Line::Prefer(_)) => Some(targets_due(count)),
+            (Phase::AtPrefer(_, count), Line::Prefer(_)) => Some(Phase::AtDepth(count)),
+            (Phase::AtDepth(count), Line::Depth(_)) => Some(targets_due(count)),
+            (Phase::AtTargets(count), Line::Target(_)) => Some(targets_due(count.saturating_sub(
+                1,
+            ))),
+            (Phase::AtRanks, Line::Rank(_)) => Some(Phase::AtRanks),
+            (Phase::AtRanks, Line::Final(last)) => Some(Phase::AtEnd(*last)),
+            _ => None,
+        }
+    }
+}
+
+/// Why a text is no listing.
+#[derive(Clone, Copy, Debug, PartialEq, Eq)]
+pub enum ReadFault {
+    /// The first line that is not of the form due in its place, or is missing, from 1.
+    Line(usize),
+    /// A growth was refused.
+    NoMemory,
+}
+
+impl From<AllocError> for ReadFault {
+    ghost use Rattle.fork_listing.specs.declared.draft.ReadFault.TheVariants as read;
+
+    ghost from_gives = { λ _ fault. fault ≡ read.NoMemory };
+
+    fn from(_refused: AllocError) -> ReadFault {
+        ReadFault::NoMemory
+    }
+}
+
+/// A listing: its version, the rules of the fork, its branches, its stored answers in order of rank, and the answer that
+/// went up.
+#[derive(Drop)]
+pub struct Listing<A: Allocator> {
+    version: Version,
+    count: u16,
+    rules: Rules,
+    targets: Vec<Target, A>,
+    ranks: Vec<Ranked, A>,
+    last: Final,
+}
+
+impl<A: Allocator> Model for Listing<A> {
+    ghost use Rattle.fork_listing.specs.Text as spec;
+
+    ghost Value = { spec.Listing };
+
+    ghost view = { λ l. record { version = l.version; count = l.count; rules = l.rules; targets = l.targets.items; ranks = l.ranks.items; last = l.last } };
+}
+
+/// The lines read so far.
+#[derive(Drop)]
+struct Draft<A: Allocator> {
+    phase: Phase,
+    version: Version,
+    count: u16,
+    rules: Rules,
+    targets: Vec<Target, A>,
+    ranks: Vec<Ranked, A>,
+}
+
+impl<A: Allocator> Model for Draft<A> {
+    ghost use Rattle.fork_listing.specs.Text as spec;
+
+    ghost Value = { spec.Draft };
+
+    ghost view = { λ d. record { phase = d.phase; version = d.version; count = d.count; rules = d.rules; targets = d.targets.items; ranks = d.ranks.items } };
+}
+
+impl<A: Allocator + Clone> Draft<A> {
+    fn new(alloc: &A) -> Result<Self, AllocError>
+        ensures { IfOk result (λ draft. draft ≡ no_draft) }
+    {
+        Ok(Draft {
+            phase: Phase::AtFork,
+            version: Version::First,
+            count: 0,
+            rules: Rules::usual(),
+            targets: Vec::new(alloc.clone()?),
+            ranks: Vec::new(alloc.clone()?),
+        })
+    }
+
+    fn set_phase(&mut self, phase: Phase)
+        ensures { self.new ≡ record self.old { phase = phase } }
+    {
+        self.phase = phase;
+    }
+
+    fn set_version(&mut self, version: Version, count: u16)
+        ensures { self.new ≡ record self.old { version = version; count = count } }
+    {
+        self.version = version;
+        self.count = count;
+    }
+
+    fn set_rules(&mut self, rules: Rules)
+        ensures { self.new ≡ record self.old { rules = rules } }
+    {
+        self.rules = rules;
+    }
+
+    fn set_preferred(&mut self, preferred: Preferred)
+        ensures { self.new ≡ record self.old { rules = record self.old.rules { preferred = preferred } } }
+    {
+        let rules = Rules::of(preferred, self.rules.depth());
+        self.set_rules(rules.unwrap());
+    }
+
+    fn set_depth(&mut self, depth: Depth)
+        ensures { self.new ≡ record self.old { rules = record self.old.rules { depth = depth.steps } } }
+    {
+        let rules = Rules::of(self.rules.preferred(), depth.steps);
+        self.set_rules(rules.unwrap());
+    }
+
+    fn add_target(&mut self, target: Target) -> Result<(), AllocError>
+        ensures { OnOk result (self.new ≡ record self.old { targets = self.old.targets ++ target ∷ [] }) }
+    {
+        self.targets.push(target)?;
+        Ok(())
+    }
+
+    fn add_ranked(&mut self, ranked: Ranked) -> Result<(), AllocError>
+        ensures { OnOk result (self.new ≡ record self.old { ranks = self.old.ranks ++ ranked ∷ [] }) }
+    {
+        self.ranks.push(ranked)?;
+        Ok(())
+    }
+
+    /// Adds what a line says.
+    fn add_line(&mut self, line: Line) -> Result<(), AllocError>
+        ensures { OnOk result (self.new ≡ with_line self.old (line_of line)) }
+    {
+        match line {
+            Line::Fork(version, count) => self.set_version(version, count),
+            Line::Prefer(preferred) => self.set_preferred(preferred),
+            Line::Depth(depth) => self.set_depth(depth),
+            Line::Target(target) => self.add_target(target)?,
+            Line::Rank(ranked) => self.add_ranked(ranked)?,
+            Line::Final(_) => {}
+        }
+        Ok(())
+    }
+
+    /// Adds a line, and answers whether it is one and is due.
+    fn add(&mut self, alloc: &A, text: &[u8]) -> Result<bool, AllocError>
+        ensures { IfOk result (λ added. (if added then Some self.new else None) ≡ drafted self.old text.now) }
+    {
+        let line = match read_line(alloc.clone()?, text) {
+            Ok(Some(line)) => line,
+            Ok(None) => return Ok(false),
+            Err(refused) => return Err(refused),
+        };
+        let Some(phase) = self.phase.after(&line) else {
+            return Ok(false);
+        };
+        self.add_line(line)?;
+        self.set_phase(phase);
+        Ok(true)
+    }
+
+    /// The whole listing, where nothing stands behind its last line.
+    fn finished(self, number: usize, rest: &[u8]) -> Result<Listing<A>, ReadFault>
+        ensures { GivesListing (finished_draft number self rest.now) result }
+    {
+        let Draft {
+            phase,
+            version,
+            count,
+            rules,
+            targets,
+            ranks,
+        } = self;
+        match phase {
+            Phase::AtEnd(last) if rest.is_empty() => Ok(Listing {
+                version,
+                count,
+                rules,
+                targets,
+                ranks,
+                last,
+            }),
+            _ => Err(ReadFault::Line(number)),
+        }
+    }
+}
+
+impl<A: Allocator> Listing<A> {
+    pub fn version(&self) -> Version
+        ensures { result ≡ self.now.version }
+    {
+        self.version
+    }
+
+    /// How many targets its first line says that there are.
+    pub fn count(&self) -> u16
+        ensures { result ≡ self.now.count }
+    {
+        self.count
+    }
+
+    pub fn rules(&self) -> Rules
+        ensures { result ≡ self.now.rules }
+    {
+        self.rules
+    }
+
+    pub fn targets(&self) -> &[Target]
+        ensures { result.now ≡ self.now.targets }
+    {
+        &self.targets
+    }
+
+    pub fn ranks(&self) -> &[Ranked]
+        ensures { result.now ≡ self.now.ranks }
+    {
+        &self.ranks
+    }
+
+    /// The answer that went up.
+    pub fn last(&self) -> Final
+        ensures { result ≡ self.now.last }
+    {
+        self.last
+    }
+}
+
+impl<A: Allocator + Clone> Listing<A> {
+    /// The listing that a text spells: each line ends in LF, and nothing stands behind the last.
+    ///
+    /// # Errors
+    ///
+    /// The first line, counted from 1, that is not of the form due in its place; a missing one by the number that it
+    /// would have. Or want of memory.
+    #[tactic(auto, unfolding(crate::specs::Text::read_listing))]
+    pub fn read(alloc: &A, text: &[u8]) -> Result<Self, ReadFault>
+        ensures { GivesListing (read_listing text.now) result }
+    {
+        let mut draft = Draft::new(alloc)?;
+        let mut number = 1;
+        let mut rest = text;
+        loop {
+            let (line, more) = cut_at(rest, b'\n');
+            let Some(after) = more else {
+                return draft.finished(number, line);
+            };
+            if !draft.add(alloc, line)? {
+                return Err(ReadFault::Line(number));
+            }
+            number += 1;
+            rest = after;
+        }
+    }
+}

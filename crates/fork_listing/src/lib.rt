@@ -1,0 +1,19 @@
+//! The listing of a finished fork: its branches, its stored answers in order of rank, and the answer that went up; and
+//! a check that such a text is right (RFC 3261 section 16.7 step 6).
+#![tactic(auto)]
+
+mod checker;
+mod depth;
+mod draft;
+mod laws;
+mod line;
+mod lister;
+mod print;
+mod ranks;
+mod targets;
+#[cfg(test)]
+mod tests;
+
+pub use checker::{CheckFault, Verdict, check};
+pub use laws::accepted_listing_tells_the_choice;
+pub use lister::{ListFault, listing};

@@ -1,0 +1,424 @@
+//! The lines of a listing.
+ghost use Rattle.std.specs.Prelude.{◌≡◌, ◌≢◌, ◌≤◌, [], IfOk, IfSome, bytes_eq, codes};
+ghost use Rattle.std.specs.Option.{option_map, option_copied};
+ghost use Rattle.std.specs.List.{slice_split};
+ghost use Rattle.sip_lex.specs.Cut.{is};
+ghost use Rattle.sip_lex.specs.Number.{plain_number_within};
+ghost use Rattle.fork_model.specs.Table.{most_targets};
+ghost use Rattle.fork_listing.specs.Line.{most_number, most_arrival};
+ghost use Rattle.fork_listing.specs.Reading.{before, word_of, read_version, read_status, read_parent, numbers_onto, read_preferred, may_be_assumed, stored_as, read_stored, read_end, read_count, read_target, read_ranked, read_final, read_rest, read_line};
+ghost use Rattle.fork_listing.specs.LineView.{line_of, seen_before};
+
+use crate::depth::Depth;
+use fork_rank::{MOST_TARGETS, Preferred, Status};
+use sip_lex::{cut_at, read_plain_number};
+use std::alloc::{AllocError, Allocator};
+
+/// A q is in thousandths, and at most one.
+const MOST_Q: u16 = 1000;
+
+/// A preferred status is a 4xx.
+const MOST_PREFERRED_STATUS: u16 = 499;
+
+/// The first two versions of the listing have so many targets at most.
+const MOST_EARLY_TARGETS: u16 = 64;
+
+/// How a listing is written: the second version adds the preferred statuses, the third the depth.
+#[derive(Clone, Copy, Debug, PartialEq, Eq)]
+pub enum Version {
+    First,
+    Second,
+    Third,
+}
+
+/// How a branch ended; an arrival is the position of the event that ended it.
+#[derive(Clone, Copy, Debug, PartialEq, Eq)]
+pub enum End {
+    /// With an answer that is stored: received from the branch, or assumed by the proxy.
+    Stored {
+        status: Status,
+        arrival: u32,
+        received: bool,
+    },
+    /// With a 3xx all of whose contacts were taken.
+    Taken {
+        arrival: u32,
+    },
+    /// Cancelled, and given up without an answer.
+    Silent {
+        arrival: u32,
+    },
+    /// It was never tried.
+    Never,
+}
+
+/// A branch: its number, the number of the branch it stands under (None: an initial target), its q in thousandths.
+#[derive(Clone, Copy, Debug, PartialEq, Eq)]
+pub struct Target {
+    pub number: u16,
+    pub parent: Option<u16>,
+    pub q: u16,
+    pub end: End,
+}
+
+/// A stored answer, in its order among them.
+#[derive(Clone, Copy, Debug, PartialEq, Eq)]
+pub struct Ranked {
+    pub status: Status,
+    pub number: u16,
+    pub arrival: u32,
+}
+
+/// The answer that went up, and the branch that it came from.
+#[derive(Clone, Copy, Debug, PartialEq, Eq)]
+pub struct Final {
+    pub status: Status,
+    pub number: Option<u16>,
+}
+
+/// What a line says.
+#[derive(Clone, Copy, Debug)]
+pub enum Line {
+    Fork(Version, u16),
+    Prefer(Preferred),
+    Depth(Depth),
+    Target(Target),
+    Rank(Ranked),
+    Final(Final),
+}
+
+/// The word that begins a line.
+#[derive(Clone, Copy, Debug, PartialEq, Eq)]
+pub enum Word {
+    Fork,
+    Prefer,
+    Depth,
+    Target,
+    Rank,
+    Final,
+}
+
+fn word_of(text: &[u8]) -> Option<Word>
+    ensures { result ≡ word_of text.now }
+{
+    if text == b"fork".as_slice() {
+        Some(Word::Fork)
+    } else if text == b"prefer".as_slice() {
+        Some(Word::Prefer)
+    } else if text == b"depth".as_slice() {
+        Some(Word::Depth)
+    } else if text == b"target".as_slice() {
+        Some(Word::Target)
+    } else if text == b"rank".as_slice() {
+        Some(Word::Rank)
+    } else if text == b"final".as_slice() {
+        Some(Word::Final)
+    } else {
+        None
+    }
+}
+
+/// The number that decimal digits without a leading zero spell, where it is at most `most`.
+fn read_number(digits: &[u8], most: u16) -> Option<u16>
+    ensures value { result ≡ plain_number_within most digits.now }
+    ensures within { IfSome result (λ n. n ≤ most) }
+{
+    let n = read_plain_number(digits, u64::from(most))?;
+    Some(n as u16)
+}
+
+/// A number, and what stands behind the space after it.
+fn read_number_before(text: &[u8], most: u16) -> Option<(u16, &[u8])>
+    ensures { seen_before result ≡ before (plain_number_within most) text.now }
+{
+    match cut_at(text, b' ') {
+        (_, None) => None,
+        (digits, Some(rest)) => Some((read_number(digits, most)?, rest)),
+    }
+}
+
+fn read_arrival(digits: &[u8]) -> Option<u32>
+    ensures { result ≡ plain_number_within most_arrival digits.now }
+{
+    let n = read_plain_number(digits, u64::from(u32::MAX))?;
+    Some(n as u32)
+}
+
+fn read_arrival_before(text: &[u8]) -> Option<(u32, &[u8])>
+    ensures { seen_before result ≡ before (plain_number_within most_arrival) text.now }
+{
+    match cut_at(text, b' ') {
+        (_, None) => None,
+        (digits, Some(rest)) => Some((read_arrival(digits)?, rest)),
+    }
+}
+
+/// A status that may be stored or go up: a 2xx is neither.
+fn read_status(digits: &[u8]) -> Option<Status>
+    ensures { result ≡ read_status digits.now }
+{
+    let n = read_number(digits, 699)?;
+    if n >= 300 { Status::of(n) } else { None }
+}
+
+fn read_status_before(text: &[u8]) -> Option<(Status, &[u8])>
+    ensures { seen_before result ≡ before read_status text.now }
+{
+    match cut_at(text, b' ') {
+        (_, None) => None,
+        (digits, Some(rest)) => Some((read_status(digits)?, rest)),
+    }
+}
+
+/// A branch's number, or `-` for none.
+fn read_parent(text: &[u8]) -> Option<Option<u16>>
+    ensures { result ≡ read_parent text.now }
+{
+    if text == b"-".as_slice() {
+        Some(None)
+    } else {
+        Some(Some(read_number(text, u16::MAX)?))
+    }
+}
+
+fn read_parent_before(text: &[u8]) -> Option<(Option<u16>, &[u8])>
+    ensures { seen_before result ≡ before read_parent text.now }
+{
+    match cut_at(text, b' ') {
+        (_, None) => None,
+        (parent, Some(rest)) => Some((read_parent(parent)?, rest)),
+    }
+}
+
+fn read_version(text: &[u8]) -> Option<Version>
+    ensures { result ≡ read_version text.now }
+{
+    if text == b"1".as_slice() {
+        Some(Version::First)
+    } else if text == b"2".as_slice() {
+        Some(Version::Second)
+    } else if text == b"3".as_slice() {
+        Some(Version::Third)
+    } else {
+        None
+    }
+}
+
+fn read_version_before(text: &[u8]) -> Option<(Version, &[u8])>
+    ensures { seen_before result ≡ before read_version text.now }
+{
+    match cut_at(text, b' ') {
+        (_, None) => None,
+        (version, Some(rest)) => Some((read_version(version)?, rest)),
+    }
+}
+
+/// How many targets a listing has.
+fn read_count(version: Version, digits: &[u8]) -> Option<u16>
+    ensures { result ≡ read_count version digits.now }
+{
+    let most = match version {
+        Version::First | Version::Second => MOST_EARLY_TARGETS,
+        Version::Third => MOST_TARGETS,
+    };
+    let count = read_number(digits, most)?;
+    if count >= 1 { Some(count) } else { None }
+}
+
+/// An answer that is assumed is a 408 or a 503.
+fn may_be_assumed(status: Status) -> bool
+    ensures { result ≡ may_be_assumed status }
+{
+    status.code() == 408 || status.code() == 503
+}
+
+fn stored_as(status: Status, arrival: u32, how: &[u8]) -> Option<End>
+    ensures { result ≡ stored_as status arrival how.now }
+{
+    if how == b"received".as_slice() {
+        Some(End::Stored {
+            status,
+            arrival,
+            received: true,
+        })
+    } else if how == b"assumed".as_slice() && may_be_assumed(status) {
+        Some(End::Stored {
+            status,
+            arrival,
+            received: false,
+        })
+    } else {
+        None
+    }
+}
+
+fn read_stored(text: &[u8]) -> Option<End>
+    ensures { result ≡ read_stored text.now }
+{
+    match read_status_before(text) {
+        None => None,
+        Some((status, rest)) => {
+            let (arrival, how) = read_arrival_before(rest)?;
+            stored_as(status, arrival, how)
+        }
+    }
+}
+
+fn read_end(text: &[u8]) -> Option<End>
+    ensures { result ≡ read_end text.now }
+{
+    let (word, rest) = cut_at(text, b' ');
+    match rest {
+        None => {
+            if word == b"never".as_slice() {
+                Some(End::Never)
+            } else {
+                None
+            }
+        }
+        Some(rest) => {
+            if word == b"stored".as_slice() {
+                read_stored(rest)
+            } else if word == b"taken".as_slice() {
+                Some(End::Taken {
+                    arrival: read_arrival(rest)?,
+                })
+            } else if word == b"silent".as_slice() {
+                Some(End::Silent {
+                    arrival: read_arrival(rest)?,
+                })
+            } else {
+                None
+            }
+        }
+    }
+}
+
+fn read_target(text: &[u8]) -> Option<Target>
+    ensures { result ≡ read_target text.now }
+{
+    let (number, rest) = read_number_before(text, u16::MAX)?;
+    let (parent, rest) = read_parent_before(rest)?;
+    let (q, rest) = read_number_before(rest, MOST_Q)?;
+    let end = read_end(rest)?;
+    Some(Target {
+        number,
+        parent,
+        q,
+        end,
+    })
+}
+
+fn read_ranked(text: &[u8]) -> Option<Ranked>
+    ensures { result ≡ read_ranked text.now }
+{
+    match read_status_before(text) {
+        None => None,
+        Some((status, rest)) => {
+            let (number, rest) = read_number_before(rest, u16::MAX)?;
+            let arrival = read_arrival(rest)?;
+            Some(Ranked {
+                status,
+                number,
+                arrival,
+            })
+        }
+    }
+}
+
+fn read_final(text: &[u8]) -> Option<Final>
+    ensures { result ≡ read_final text.now }
+{
+    match read_status_before(text) {
+        None => None,
+        Some((status, rest)) => {
+            let number = read_parent(rest)?;
+            Some(Final { status, number })
+        }
+    }
+}
+
+fn read_depth(digits: &[u8]) -> Option<Depth>
+    ensures { option_map (λ depth. depth.steps) result ≡ plain_number_within most_targets digits.now }
+{
+    let steps = read_number(digits, MOST_TARGETS)?;
+    Some(Depth { steps })
+}
+
+/// The numbers between the commas; `None` where something else stands there.
+fn read_numbers<A: Allocator>(alloc: A, text: &[u8]) -> Result<Option<Vec<u16, A>>, AllocError>
+    ensures { IfOk result (λ r. option_map (λ v. v.items) r ≡ numbers_onto [] (slice_split (is 44) text.now)) }
+{
+    let mut numbers = Vec::new(alloc);
+    let mut rest = text;
+    loop {
+        let (digits, more) = cut_at(rest, b',');
+        let Some(number) = read_number(digits, MOST_PREFERRED_STATUS) else {
+            return Ok(None);
+        };
+        numbers.push(number)?;
+        match more {
+            None => return Ok(Some(numbers)),
+            Some(after) => rest = after,
+        }
+    }
+}
+
+fn read_preferred<A: Allocator>(alloc: A, text: &[u8]) -> Result<Option<Preferred>, AllocError>
+    ensures { IfOk result (λ preferred. preferred ≡ read_preferred text.now) }
+{
+    if text == b"-".as_slice() {
+        return Ok(Preferred::of(&[]));
+    }
+    match read_numbers(alloc, text)? {
+        None => Ok(None),
+        Some(statuses) => Ok(Preferred::of(&statuses)),
+    }
+}
+
+/// What stands behind a word and its space, of a line that takes no memory to read.
+fn read_rest(word: Word, rest: &[u8]) -> Option<Line>
+    requires { word ≢ Word.Prefer }
+    ensures { option_map line_of result ≡ read_rest word rest.now }
+{
+    match word {
+        Word::Fork => {
+            let (version, count) = read_version_before(rest)?;
+            Some(Line::Fork(version, read_count(version, count)?))
+        }
+        Word::Depth => Some(Line::Depth(read_depth(rest)?)),
+        Word::Target => Some(Line::Target(read_target(rest)?)),
+        Word::Rank => Some(Line::Rank(read_ranked(rest)?)),
+        Word::Final => Some(Line::Final(read_final(rest)?)),
+        Word::Prefer => None,
+    }
+}
+
+fn read_worded<A: Allocator>(alloc: A, word: Word, rest: &[u8]) -> Result<Option<Line>, AllocError>
+    ensures { IfOk result (λ line. option_map line_of line ≡ read_rest word rest.now) }
+{
+    match word {
+        Word::Prefer => match read_preferred(alloc, rest)? {
+            None => Ok(None),
+            Some(preferred) => Ok(Some(Line::Prefer(preferred))),
+        },
+        word => Ok(read_rest(word, rest)),
+    }
+}
+
+/// What a line says; `None` where it has no form of a line of a listing.
+///
+/// # Errors
+///
+/// Only where the allocator refuses.
+pub fn read_line<A: Allocator>(alloc: A, text: &[u8]) -> Result<Option<Line>, AllocError>
+    ensures { IfOk result (λ line. option_map line_of line ≡ read_line text.now) }
+{
+    match cut_at(text, b' ') {
+        (_, None) => Ok(None),
+        (word, Some(rest)) => match word_of(word) {
+            None => Ok(None),
+            Some(word) => read_worded(alloc, word, rest),
+        },
+    }
+}

@@ -1,0 +1,166 @@
+//! Writing the lines of a listing.
+ghost use Rattle.std.specs.Prelude.{◌≡◌, ◌∷◌, ◌++◌, [], OnOk};
+ghost use Rattle.std.specs.Fmt.{decimal};
+ghost use Rattle.fork_listing.specs.Line.{list_text, number_text, how_text, end_text, line_text, TargetLine, RankLine, ForkLine, PreferLine, DepthLine};
+ghost use Rattle.fork_listing.specs.Text.{ended, head_text, targets_text, ranks_text};
+
+use crate::line::{End, Ranked, Target};
+use fork_rank::Rules;
+use std::alloc::{AllocError, Allocator};
+
+pub fn append<A: Allocator>(text: &mut Vec<u8, A>, bytes: &[u8]) -> Result<(), AllocError>
+    ensures { OnOk result (text.new.items ≡ text.old.items ++ bytes.now) }
+{
+    text.extend_from_slice(bytes)
+}
+
+/// Appends a number in decimal.
+#[tactic(auto, using(std::proofs::lemmas::Fmt::decimal_digit, std::proofs::lemmas::Fmt::decimal_step))]
+pub fn append_number<A: Allocator>(text: &mut Vec<u8, A>, n: u64) -> Result<(), AllocError>
+    ensures { OnOk result (text.new.items ≡ text.old.items ++ decimal n) }
+{
+    if n >= 10 {
+        append_number(text, n / 10)?;
+    }
+    text.push(b'0' + (n % 10) as u8)?;
+    Ok(())
+}
+
+/// Appends numbers with commas between them, or `-` for none.
+fn append_list<A: Allocator>(text: &mut Vec<u8, A>, numbers: &[u16]) -> Result<(), AllocError>
+    ensures { OnOk result (text.new.items ≡ text.old.items ++ list_text numbers.now) }
+{
+    let [first, more @ ..] = numbers else {
+        return append(text, b"-");
+    };
+    append_number(text, u64::from(*first))?;
+    for number in more {
+        text.push(b',')?;
+        append_number(text, u64::from(*number))?;
+    }
+    Ok(())
+}
+
+/// Appends a number, or `-` for none.
+pub fn append_number_or_none<A: Allocator>(
+    text: &mut Vec<u8, A>,
+    number: Option<u16>,
+) -> Result<(), AllocError>
+    ensures { OnOk result (text.new.items ≡ text.old.items ++ number_text number) }
+{
+    match number {
+        None => append(text, b"-"),
+        Some(n) => append_number(text, u64::from(n)),
+    }
+}
+
+fn append_how<A: Allocator>(text: &mut Vec<u8, A>, received: bool) -> Result<(), AllocError>
+    ensures { OnOk result (text.new.items ≡ text.old.items ++ how_text received) }
+{
+    if received {
+        append(text, b"received")
+    } else {
+        append(text, b"assumed")
+    }
+}
+
+/// Appends a number with a space behind it.
+fn append_number_before<A: Allocator>(text: &mut Vec<u8, A>, n: u64) -> Result<(), AllocError>
+    ensures { OnOk result (text.new.items ≡ text.old.items ++ (decimal n ++ 32 ∷ [])) }
+{
+    append_number(text, n)?;
+    append(text, b" ")
+}
+
+fn append_end<A: Allocator>(text: &mut Vec<u8, A>, end: End) -> Result<(), AllocError>
+    ensures { OnOk result (text.new.items ≡ text.old.items ++ end_text end) }
+{
+    match end {
+        End::Stored {
+            status,
+            arrival,
+            received,
+        } => {
+            append(text, b"stored ")?;
+            append_number_before(text, u64::from(status.code()))?;
+            append_number_before(text, u64::from(arrival))?;
+            append_how(text, received)
+        }
+        End::Taken { arrival } => {
+            append(text, b"taken ")?;
+            append_number(text, u64::from(arrival))
+        }
+        End::Silent { arrival } => {
+            append(text, b"silent ")?;
+            append_number(text, u64::from(arrival))
+        }
+        End::Never => append(text, b"never"),
+    }
+}
+
+/// Appends the number of a branch and that of its parent.
+fn append_parentage<A: Allocator>(text: &mut Vec<u8, A>, target: &Target) -> Result<(), AllocError>
+    ensures { OnOk result (text.new.items ≡ text.old.items ++ (decimal target.now.number ++ 32 ∷ (number_text target.now.parent ++ 32 ∷ []))) }
+{
+    append_number_before(text, u64::from(target.number))?;
+    append_number_or_none(text, target.parent)?;
+    append(text, b" ")
+}
+
+fn append_target<A: Allocator>(text: &mut Vec<u8, A>, target: &Target) -> Result<(), AllocError>
+    ensures { OnOk result (text.new.items ≡ text.old.items ++ ended (line_text (TargetLine target.now))) }
+{
+    append(text, b"target ")?;
+    append_parentage(text, target)?;
+    append_number_before(text, u64::from(target.q))?;
+    append_end(text, target.end)?;
+    append(text, b"\n")
+}
+
+fn append_ranked<A: Allocator>(text: &mut Vec<u8, A>, ranked: &Ranked) -> Result<(), AllocError>
+    ensures { OnOk result (text.new.items ≡ text.old.items ++ ended (line_text (RankLine ranked.now))) }
+{
+    append(text, b"rank ")?;
+    append_number_before(text, u64::from(ranked.status.code()))?;
+    append_number_before(text, u64::from(ranked.number))?;
+    append_number(text, u64::from(ranked.arrival))?;
+    append(text, b"\n")
+}
+
+/// Appends the lines before the targets.
+pub fn append_head<A: Allocator>(
+    text: &mut Vec<u8, A>,
+    count: u16,
+    rules: &Rules,
+) -> Result<(), AllocError>
+    ensures { OnOk result (text.new.items ≡ text.old.items ++ head_text count rules.now) }
+{
+    append(text, b"fork 3 ")?;
+    append_number(text, u64::from(count))?;
+    append(text, b"\nprefer ")?;
+    append_list(text, rules.preferred().statuses())?;
+    append(text, b"\ndepth ")?;
+    append_number(text, u64::from(rules.depth()))?;
+    append(text, b"\n")
+}
+
+pub fn append_targets<A: Allocator>(
+    text: &mut Vec<u8, A>,
+    targets: &[Target],
+) -> Result<(), AllocError>
+    ensures { OnOk result (text.new.items ≡ text.old.items ++ targets_text targets.now) }
+{
+    for target in targets {
+        append_target(text, target)?;
+    }
+    Ok(())
+}
+
+pub fn append_ranks<A: Allocator>(text: &mut Vec<u8, A>, ranks: &[Ranked]) -> Result<(), AllocError>
+    ensures { OnOk result (text.new.items ≡ text.old.items ++ ranks_text ranks.now) }
+{
+    for ranked in ranks {
+        append_ranked(text, ranked)?;
+    }
+    Ok(())
+}
