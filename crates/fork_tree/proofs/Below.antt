@@ -41,7 +41,7 @@ pub further_there : (all : List Place) (root node : List Entry) (n m : ℕ) (p :
 further_there all root node n m p older placed lt is up e =
     let P : Option Cell → Type 0 = λ x. IsTrue (is_some x) in
     subst P (sym (ap (λ x. find x (p.group ∷ p.place ∷ [])) e ∙ find_under (path_of all m) root (p.group ∷ p.place ∷ [])))
-      (path_there all root n (path_of all m ++ p.group ∷ p.place ∷ []) placed lt (sym (path_below all n m p older is up)))
+    (path_there all root n (path_of all m ++ p.group ∷ p.place ∷ []) placed lt (sym (path_below all n m p older is up)))
 
 -- ---- the best
 
@@ -55,19 +55,24 @@ score_below rules all root n m score older ranked below h = go (slice_get (rows_
         truth : (b : Bool) → IsTrue b → b ≡ true
         truth true k = refl
         truth false k = absurd cc
+
     cell : (p : Place) (o : Option Cell) → find root (path_of all m) ≡ o → option_map score_of (stored_of (row_at p o).state) ≡ Some score → ScoreKept rules (under (path_of all n) root) score
     cell p None e h = absurd cc
     cell p (Some c) e h =
-        let found = stored_state rules c.number c.standing.state score h in
-        (found.0, found_kept (under (path_of all n) root) on.0 c found.0 (find_under (path_of all n) root on.0 ∙ ap (find root) (sym on.1) ∙ e)
-          (ranked_at rules root (path_of all m) c ranked e ∙ found.1), found.2)
+        let found = stored_state rules c.number c.standing.state score h in (
+          found.0,
+          found_kept (under (path_of all n) root) on.0 c found.0 (find_under (path_of all n) root on.0 ∙ ap (find root) (sym on.1) ∙ e)
+              (ranked_at rules root (path_of all m) c ranked e ∙ found.1),
+          found.2,
+        )
+
     go : (o : Option Row) → slice_get (rows_of all root) m ≡ o → option_map score_of (stored_at o) ≡ Some score → ScoreKept rules (under (path_of all n) root) score
     go None e h = absurd cc
     go (Some r) e h =
         let found : IsRowAt all root 0 m all r = row_got all root 0 m all r e in
         let at : 0 + m ≡ m = omega arith in
         cell found.0 (find root (path_of all m)) refl
-          (sym (ap (λ (x : Row). option_map score_of (stored_of x.state)) (found.2 ∙ ap (λ k. row_at found.0 (find root (path_of all k))) at)) ∙ h)
+        (sym (ap (λ (x : Row). option_map score_of (stored_of x.state)) (found.2 ∙ ap (λ k. row_at found.0 (find root (path_of all k))) at)) ∙ h)
 
 record KeptBelow (rules : Rules) (rows : List Row) (n : ℕ) (k : Kept) : Type 0 where
   pub below : IsTrue (lies_below rows n k.best.no)
@@ -82,10 +87,11 @@ kept_below rules all root (e ∷ es) n k older placed lt l r h = go (stripped (p
     own q f a =
         let number : k.best.no ≡ e.cell.number = (state_stored rules e.cell.number e.cell.standing.state k (sym r.0 ∙ a)).0 in
         let yes : lies_below (rows_of all root) n e.cell.number ≡ true =
-            lies_same all root n e.cell.number
-              ∙ on_leads all root n e.cell.number e.cell.number older placed lt l.0.known (omega arith) (q, sym l.0.path ∙ stripped_is (path_of all n) e.path q f) in
+        lies_same all root n e.cell.number
+        ∙ on_leads all root n e.cell.number e.cell.number older placed lt l.0.known (omega arith) (q, sym l.0.path ∙ stripped_is (path_of all n) e.path q f) in
         let B : Bool → Type 0 = λ b. IsTrue b in
-        record { below = subst B (sym (ap (lies_below (rows_of all root) n) number ∙ yes)) cc; score = kept_score rules all root (e ∷ es) k l r (inl a); }
+        record { below = subst B (sym (ap (lies_below (rows_of all root) n) number ∙ yes)) cc; score = kept_score rules all root (e ∷ es) k l r (inl a) }
+
     go : (o : Option (List ℕ)) → stripped (path_of all n) e.path ≡ o → HasKept (put_under o e (under (path_of all n) es)) k
         → (HasKept (under (path_of all n) es) k → KeptBelow rules (rows_of all root) n k) → KeptBelow rules (rows_of all root) n k
     go None f h again = again h
@@ -121,37 +127,40 @@ opens_below all root (e ∷ es) n older placed lt l = go (stripped (path_of all 
     counted : (b : Bool) (x y : ℕ) → x ≡ y → (if b then 0 else 1) + x ≡ one (not b) + y
     counted true x y h = omega (arith, h)
     counted false x y h = omega (arith, h)
+
     not_there : stripped (path_of all n) e.path ≡ None → leads (up_of all) n e.cell.number e.cell.number ≡ false
     not_there f =
-        elim (leads (up_of all) n e.cell.number e.cell.number) as (λ t. leads (up_of all) n e.cell.number e.cell.number ≡ t → t ≡ false)
-          [ true ↦ (λ k.
+        elim (leads (up_of all) n e.cell.number e.cell.number) as (λ t. leads (up_of all) n e.cell.number e.cell.number ≡ t → t ≡ false) [
+          | true ↦ (λ k.
               let on = leads_on all n e.cell.number e.cell.number older k in
               let bad : None ≡ Some on.0 = sym f ∙ ap (stripped (path_of all n)) (l.0.path ∙ on.1) ∙ stripped_here (path_of all n) on.0 in absurd cc)
-          | false ↦ (λ k. refl) ] refl
+          | false ↦ (λ k. refl)
+        ] refl
+
     go : (o : Option (List ℕ)) → stripped (path_of all n) e.path ≡ o → open_of (under (path_of all n) es) ≡ passing (open_cell all n) es
         → open_of (put_under o e (under (path_of all n) es)) ≡ one (leads (up_of all) n e.cell.number e.cell.number && not (has_ended e.cell.standing.state)) + passing (open_cell all n) es
     go None f rest =
         let none : one (leads (up_of all) n e.cell.number e.cell.number && not (has_ended e.cell.standing.state)) ≡ 0 =
-            ap (λ (b : Bool). one (b && not (has_ended e.cell.standing.state))) (not_there f) in
+        ap (λ (b : Bool). one (b && not (has_ended e.cell.standing.state))) (not_there f) in
         omega (arith, rest, none)
     go (Some q) f rest =
         counted (has_ended e.cell.standing.state) (open_of (under (path_of all n) es)) (passing (open_cell all n) es) rest
-          ∙ sym (ap (λ (b : Bool). one (b && not (has_ended e.cell.standing.state)) + passing (open_cell all n) es)
-              (on_leads all root n e.cell.number e.cell.number older placed lt l.0.known (omega arith) (q, sym l.0.path ∙ stripped_is (path_of all n) e.path q f)))
+        ∙ sym (ap (λ (b : Bool). one (b && not (has_ended e.cell.standing.state)) + passing (open_cell all n) es)
+        (on_leads all root n e.cell.number e.cell.number older placed lt l.0.known (omega arith) (q, sym l.0.path ∙ stripped_is (path_of all n) e.path q f)))
 
 where_passing : (f g : ℕ → Bool) (k : ℕ) (rows : List Row) → ((i : ℕ) → f i ≡ g i) → open_where f k rows ≡ passing_rows (λ i s. g i && not (is_ended s)) k rows
 where_passing f g k [] h = refl
 where_passing f g k (row ∷ rows) h =
     ap (λ (b : Bool). (if b && not (is_ended row.state) then 1 else 0) + open_where f (suc k) rows) (h k)
-      ∙ ap (λ x. one (g k && not (is_ended row.state)) + x) (where_passing f g (suc k) rows h)
+    ∙ ap (λ x. one (g k && not (is_ended row.state)) + x) (where_passing f g (suc k) rows h)
 
 count_below : (all : List Place) (root : List Entry) (n : ℕ) → AreOlder all → IsPlaced all root → n < length all → AreListed all root root → length root ≡ length all
     → open_of (under (path_of all n) root) ≡ open_below (rows_of all root) n
 count_below all root n older placed lt listed sized =
     opens_below all root root n older placed lt listed
-      ∙ passing_agree (open_cell all n) (λ i s. leads (up_of all) n i i && not (is_ended s)) all root
-          (λ c. ap (λ (b : Bool). leads (up_of all) n c.number c.number && not b) (ended_bare c.standing.state)) placed sized
-      ∙ sym (where_passing (lies_below (rows_of all root) n) (λ i. leads (up_of all) n i i) 0 (rows_of all root) (lies_same all root n))
+    ∙ passing_agree (open_cell all n) (λ i s. leads (up_of all) n i i && not (is_ended s)) all root
+    (λ c. ap (λ (b : Bool). leads (up_of all) n c.number c.number && not b) (ended_bare c.standing.state)) placed sized
+    ∙ sym (where_passing (lies_below (rows_of all root) n) (λ i. leads (up_of all) n i i) 0 (rows_of all root) (lies_same all root n))
 
 -- ---- the node
 

@@ -50,9 +50,10 @@ GoesOn all n m = (q : List ℕ) × (path_of all m ≡ path_of all n ++ q)
 pub leads_on : (all : List Place) (n steps m : ℕ) → AreOlder all → leads (up_of all) n steps m ≡ true → GoesOn all n m
 leads_on all n zero m older h = ([], ap (path_of all) (eqb-true m n h) ∙ sym (append-nil (path_of all n)))
 leads_on all n (suc steps) m older h =
-    elim (eqb m n) as (λ t. eqb m n ≡ t → (t || from_parent (up_of all m) (leads (up_of all) n steps)) ≡ true → GoesOn all n m)
-      [ true ↦ (λ e k. ([], ap (path_of all) (eqb-true m n e) ∙ sym (append-nil (path_of all n))))
-      | false ↦ (λ e k. at (λ u l. leads_on all n steps u older l) (slice_get all m) refl k) ] refl h
+    elim (eqb m n) as (λ t. eqb m n ≡ t → (t || from_parent (up_of all m) (leads (up_of all) n steps)) ≡ true → GoesOn all n m) [
+      | true ↦ (λ e k. ([], ap (path_of all) (eqb-true m n e) ∙ sym (append-nil (path_of all n))))
+      | false ↦ (λ e k. at (λ u l. leads_on all n steps u older l) (slice_get all m) refl k)
+    ] refl h
   where
     up : ((u : ℕ) → leads (up_of all) n steps u ≡ true → GoesOn all n u) → (p : Place) → slice_get all m ≡ Some p → (o : Option ℕ) → p.parent ≡ o
         → from_parent o (leads (up_of all) n steps) ≡ true → GoesOn all n m
@@ -60,6 +61,7 @@ leads_on all n (suc steps) m older h =
     up again p is (Some u) e k =
         let on : GoesOn all n u = again u k in
         (on.0 ++ p.group ∷ p.place ∷ [], path_below all m u p older is e ∙ ap (λ x. x ++ p.group ∷ p.place ∷ []) on.1 ∙ append_assoc (path_of all n) on.0 (p.group ∷ p.place ∷ []))
+
     at : ((u : ℕ) → leads (up_of all) n steps u ≡ true → GoesOn all n u) → (o : Option Place) → slice_get all m ≡ o
         → from_parent (place_parent o) (leads (up_of all) n steps) ≡ true → GoesOn all n m
     at again None is k = absurd cc
@@ -79,6 +81,7 @@ even_to all (suc steps) n = at (λ m. even_to all steps m) (slice_get all n)
     up again p (Some m) =
         let rest = again m in
         (suc rest.0, omega (arith, rest.1, length-append (path_to all steps m) (p.group ∷ p.place ∷ [])))
+
     at : ((m : ℕ) → IsEven (length (path_to all steps m))) → (o : Option Place) → IsEven (length (path_at o (path_to all steps)))
     at again None = (0, refl)
     at again (Some p) = up again p p.parent
@@ -114,6 +117,7 @@ step_up all root n m q older placed ln lm e differ = go (place_there all m lm) (
   where
     apart : length q ≡ 0 → ⊥
     apart f = paths_differ all root m n placed lm ln differ (e ∙ ap (λ x. path_of all n ++ x) (nil_of q f) ∙ append-nil (path_of all n))
+
     up : (p r : Place) → slice_get all m ≡ Some p → slice_get all n ≡ Some r → (o : Option ℕ) → p.parent ≡ o → IsStep all n m
     up p r is there None f =
         absurd (apart (omega (arith, long all n r there, ap length e, length-append (path_of all n) q, ap length (path_top all m p is f))))
@@ -122,7 +126,7 @@ step_up all root n m q older placed ln lm e differ = go (place_there all m lm) (
         let a = even_to all (suc u) u in
         let b = even_to all (suc n) n in
         let sizes : length (path_of all u) + 2 ≡ length (path_of all n) + length q =
-            omega (arith, ap length e, ap length below, length-append (path_of all n) q, length-append (path_of all u) (p.group ∷ p.place ∷ [])) in
+        omega (arith, ap length e, ap length below, length-append (path_of all n) q, length-append (path_of all u) (p.group ∷ p.place ∷ [])) in
         record {
           up = u;
           parent = ap place_parent is ∙ f;
@@ -134,6 +138,7 @@ step_up all root n m q older placed ln lm e differ = go (place_there all m lm) (
             → length (path_of all n) ≤ length (path_of all u)
         fits zero no_more x y f g s = absurd (no_more refl)
         fits (suc l) no_more x y f g s = omega (arith, f, g, s)
+
     go : (p : Place) × (slice_get all m ≡ Some p) → (r : Place) × (slice_get all n ≡ Some r) → IsStep all n m
     go p r = up p.0 r.0 p.1 r.1 p.0.parent refl
 
@@ -143,12 +148,14 @@ unequal m n e f = let yes : eqb m n ≡ true = eq-eqb m n e in cc
 pub on_leads : (all : List Place) (root : List Entry) (n steps m : ℕ) → AreOlder all → IsPlaced all root → n < length all → m < length all → m ≤ steps → GoesOn all n m
     → leads (up_of all) n steps m ≡ true
 on_leads all root n zero m older placed ln lm le on =
-    elim (eqb m n) as (λ t. eqb m n ≡ t → t ≡ true)
-      [ true ↦ (λ e. refl)
-      | false ↦ (λ e. (let up = step_up all root n m on.0 older placed ln lm on.1 (λ f. unequal m n f e) in absurd (omega (arith, up.older, le)))) ] refl
+    elim (eqb m n) as (λ t. eqb m n ≡ t → t ≡ true) [
+      | true ↦ (λ e. refl)
+      | false ↦ (λ e. (let up = step_up all root n m on.0 older placed ln lm on.1 (λ f. unequal m n f e) in absurd (omega (arith, up.older, le))))
+    ] refl
 on_leads all root n (suc steps) m older placed ln lm le on =
-    elim (eqb m n) as (λ t. eqb m n ≡ t → (t || from_parent (up_of all m) (leads (up_of all) n steps)) ≡ true)
-      [ true ↦ (λ e. refl)
+    elim (eqb m n) as (λ t. eqb m n ≡ t → (t || from_parent (up_of all m) (leads (up_of all) n steps)) ≡ true) [
+      | true ↦ (λ e. refl)
       | false ↦ (λ e.
           let up = step_up all root n m on.0 older placed ln lm on.1 (λ f. unequal m n f e) in
-          ap (λ o. from_parent o (leads (up_of all) n steps)) up.parent ∙ on_leads all root n steps up.up older placed ln (omega (arith, up.older, lm)) (omega (arith, up.older, le)) up.on) ] refl
+          ap (λ o. from_parent o (leads (up_of all) n steps)) up.parent ∙ on_leads all root n steps up.up older placed ln (omega (arith, up.older, lm)) (omega (arith, up.older, le)) up.on)
+    ] refl

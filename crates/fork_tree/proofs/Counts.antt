@@ -28,9 +28,10 @@ hits_none n k (suc m) h = omega (arith, ap one (eqb_differ n k (λ e. omega (ari
 hits_one : (n k m : ℕ) → hits n k m ≤ 1
 hits_one n k zero = omega arith
 hits_one n k (suc m) =
-    elim (eqb n k) as (λ b. eqb n k ≡ b → one b + hits n (suc k) m ≤ 1)
-      [ true ↦ (λ e. (let at : n ≡ k = eqb-true n k e in omega (arith, hits_none n (suc k) m (omega (arith, at)))))
-      | false ↦ (λ e. omega (arith, hits_one n (suc k) m)) ] refl
+    elim (eqb n k) as (λ b. eqb n k ≡ b → one b + hits n (suc k) m ≤ 1) [
+      | true ↦ (λ e. (let at : n ≡ k = eqb-true n k e in omega (arith, hits_none n (suc k) m (omega (arith, at)))))
+      | false ↦ (λ e. omega (arith, hits_one n (suc k) m))
+    ] refl
 
 abbrev pub passing : (Cell → Bool) → List Entry → ℕ
 passing t [] = 0
@@ -54,25 +55,27 @@ from_one : (t : Cell → Bool) (k m : ℕ) (e : Entry) (es : List Entry)
 from_one t k zero e es = elim (t e.cell) as (λ b. 0 ≡ (if b then 0 else 0) + 0) [ true ↦ refl | false ↦ refl ]
 from_one t k (suc m) e es =
     elim (t e.cell) as (λ b. passing_from t (suc k) m (e ∷ es) ≡ (if b then hits e.cell.number (suc k) m else 0) + passing_from t (suc k) m es
-        → ((if b then one (eqb e.cell.number k) else 0) + passing_at t k es) + passing_from t (suc k) m (e ∷ es)
-          ≡ (if b then one (eqb e.cell.number k) + hits e.cell.number (suc k) m else 0) + (passing_at t k es + passing_from t (suc k) m es))
-      [ true ↦ (λ h. omega (arith, h)) | false ↦ (λ h. omega (arith, h)) ] (from_one t (suc k) m e es)
+    → ((if b then one (eqb e.cell.number k) else 0) + passing_at t k es) + passing_from t (suc k) m (e ∷ es)
+    ≡ (if b then one (eqb e.cell.number k) + hits e.cell.number (suc k) m else 0) + (passing_at t k es + passing_from t (suc k) m es))
+    [ true ↦ (λ h. omega (arith, h)) | false ↦ (λ h. omega (arith, h)) ] (from_one t (suc k) m e es)
 
 from_le : (t : Cell → Bool) (k m : ℕ) (es : List Entry) → passing_from t k m es ≤ passing t es
 from_le t k m [] = omega (arith, from_none t k m)
 from_le t k m (e ∷ es) =
     elim (t e.cell) as (λ b. passing_from t k m (e ∷ es) ≡ (if b then hits e.cell.number k m else 0) + passing_from t k m es → passing_from t k m (e ∷ es) ≤ one b + passing t es)
-      [ true ↦ (λ h. omega (arith, h, hits_one e.cell.number k m, from_le t k m es)) | false ↦ (λ h. omega (arith, h, from_le t k m es)) ] (from_one t k m e es)
+    [ true ↦ (λ h. omega (arith, h, hits_one e.cell.number k m, from_le t k m es)) | false ↦ (λ h. omega (arith, h, from_le t k m es)) ] (from_one t k m e es)
 
 found_passes : (t : Cell → Bool) (es : List Entry) (p : List ℕ) (c : Cell) (k : ℕ) → find es p ≡ Some c → c.number ≡ k → one (t c) ≤ passing_at t k es
 found_passes t [] p c k h n = absurd cc
 found_passes t (e ∷ es) p c k h n =
-    elim (same e.path p) as (λ b. (if b then Some e.cell else find es p) ≡ Some c → one (t c) ≤ (if t e.cell then one (eqb e.cell.number k) else 0) + passing_at t k es)
-      [ true ↦ (λ g. (let at : e.cell ≡ c = cc in own (t e.cell) (ap (λ (x : Cell). one (t x)) at) (hit e.cell.number k (ap (λ (x : Cell). x.number) at ∙ n))))
-      | false ↦ (λ g. (let rest = found_passes t es p c k g n in omega (arith, rest))) ] h
+    elim (same e.path p) as (λ b. (if b then Some e.cell else find es p) ≡ Some c → one (t c) ≤ (if t e.cell then one (eqb e.cell.number k) else 0) + passing_at t k es) [
+      | true ↦ (λ g. (let at : e.cell ≡ c = cc in own (t e.cell) (ap (λ (x : Cell). one (t x)) at) (hit e.cell.number k (ap (λ (x : Cell). x.number) at ∙ n))))
+      | false ↦ (λ g. (let rest = found_passes t es p c k g n in omega (arith, rest)))
+    ] h
   where
     hit : (a b : ℕ) → a ≡ b → one (eqb a b) ≡ 1
     hit a b e = ap one (eq-eqb a b e)
+
     own : (b : Bool) → one b ≡ one (t c) → one (eqb e.cell.number k) ≡ 1 → one (t c) ≤ (if b then one (eqb e.cell.number k) else 0) + passing_at t k es
     own true f g = omega (arith, f, g)
     own false f g = omega (arith, f, g)
@@ -103,25 +106,25 @@ both : (t : Cell → Bool) (es : List Entry) → passing t es + passing (λ c. n
 both t [] = refl
 both t (e ∷ es) =
     elim (t e.cell) as (λ b. (one b + passing t es) + (one (not b) + passing (λ c. not (t c)) es) ≡ suc (length es))
-      [ true ↦ omega (arith, both t es) | false ↦ omega (arith, both t es) ]
+    [ true ↦ omega (arith, both t es) | false ↦ omega (arith, both t es) ]
 
 both_rows : (r : ℕ → spec.State → Bool) (k : ℕ) (rows : List Row) → passing_rows r k rows + passing_rows (λ i s. not (r i s)) k rows ≡ length rows
 both_rows r k [] = refl
 both_rows r k (row ∷ rows) =
     elim (r k row.state) as (λ b. (one b + passing_rows r (suc k) rows) + (one (not b) + passing_rows (λ i s. not (r i s)) (suc k) rows) ≡ suc (length rows))
-      [ true ↦ omega (arith, both_rows r (suc k) rows) | false ↦ omega (arith, both_rows r (suc k) rows) ]
+    [ true ↦ omega (arith, both_rows r (suc k) rows) | false ↦ omega (arith, both_rows r (suc k) rows) ]
 
 opens_are : (es : List Entry) → open_of es ≡ passing (λ c. not (has_ended c.standing.state)) es
 opens_are [] = refl
 opens_are (e ∷ es) =
     elim (has_ended e.cell.standing.state) as (λ b. (if b then 0 else 1) + open_of es ≡ one (not b) + passing (λ c. not (has_ended c.standing.state)) es)
-      [ true ↦ omega (arith, opens_are es) | false ↦ omega (arith, opens_are es) ]
+    [ true ↦ omega (arith, opens_are es) | false ↦ omega (arith, opens_are es) ]
 
 open_rows_are : (k : ℕ) (rows : List Row) → open_rows rows ≡ passing_rows (λ i s. not (is_ended s)) k rows
 open_rows_are k [] = refl
 open_rows_are k (r ∷ rs) =
     elim (is_ended r.state) as (λ b. (if b then 0 else 1) + open_rows rs ≡ one (not b) + passing_rows (λ i s. not (is_ended s)) (suc k) rs)
-      [ true ↦ omega (arith, open_rows_are (suc k) rs) | false ↦ omega (arith, open_rows_are (suc k) rs) ]
+    [ true ↦ omega (arith, open_rows_are (suc k) rs) | false ↦ omega (arith, open_rows_are (suc k) rs) ]
 
 pub rows_length : (all : List Place) (root : List Entry) (k : ℕ) (ps : List Place) → length (rows_from all root k ps) ≡ length ps
 rows_length all root k [] = refl
@@ -131,13 +134,20 @@ rows_length all root k (p ∷ ps) = omega (arith, rows_length all root (suc k) p
 pub passing_agree : (t : Cell → Bool) (r : ℕ → spec.State → Bool) (all : List Place) (root : List Entry) → Agree t r → IsPlaced all root → length root ≡ length all
     → passing t root ≡ passing_rows r 0 (rows_of all root)
 passing_agree t r all root agree placed sized =
-    omega (arith, sized, both t root, both_rows r 0 (rows_of all root), rows_length all root 0 all,
-      rows_le t r all root 0 all agree placed (omega arith), from_le t 0 (length all) root,
+    omega (
+      arith,
+      sized,
+      both t root,
+      both_rows r 0 (rows_of all root),
+      rows_length all root 0 all,
+      rows_le t r all root 0 all agree placed (omega arith),
+      from_le t 0 (length all) root,
       rows_le (λ c. not (t c)) (λ i s. not (r i s)) all root 0 all (λ c. ap not (agree c)) placed (omega arith),
-      from_le (λ c. not (t c)) 0 (length all) root)
+      from_le (λ c. not (t c)) 0 (length all) root,
+    )
 
 pub counts_agree : (all : List Place) (root : List Entry) → IsPlaced all root → length root ≡ length all → open_of root ≡ open_rows (rows_of all root)
 counts_agree all root placed sized =
     opens_are root
-      ∙ passing_agree (λ c. not (has_ended c.standing.state)) (λ i s. not (is_ended s)) all root (λ c. ap not (ended_bare c.standing.state)) placed sized
-      ∙ sym (open_rows_are 0 (rows_of all root))
+    ∙ passing_agree (λ c. not (has_ended c.standing.state)) (λ i s. not (is_ended s)) all root (λ c. ap not (ended_bare c.standing.state)) placed sized
+    ∙ sym (open_rows_are 0 (rows_of all root))

@@ -17,7 +17,7 @@ stripped_is [] path q h = cc
 stripped_is (x ∷ xs) [] q h = absurd cc
 stripped_is (x ∷ xs) (y ∷ ys) q h =
     elim (eqb x y) as (λ t. eqb x y ≡ t → (if t then stripped xs ys else None) ≡ Some q → y ∷ ys ≡ x ∷ (xs ++ q))
-      [ true ↦ (λ e k. let head : x ≡ y = eqb-true x y e in let tail : ys ≡ xs ++ q = stripped_is xs ys q k in cc) | false ↦ (λ e k. absurd cc) ] refl h
+    [ true ↦ (λ e k. let head : x ≡ y = eqb-true x y e in let tail : ys ≡ xs ++ q = stripped_is xs ys q k in cc) | false ↦ (λ e k. absurd cc) ] refl h
 
 abbrev strip_on : List ℕ → Option (List ℕ) → Option (List ℕ)
 strip_on q None = None
@@ -28,7 +28,7 @@ stripped_more [] q path = refl
 stripped_more (x ∷ xs) q [] = refl
 stripped_more (x ∷ xs) q (y ∷ ys) =
     elim (eqb x y) as (λ t. (if t then stripped (xs ++ q) ys else None) ≡ strip_on q (if t then stripped xs ys else None))
-      [ true ↦ stripped_more xs q ys | false ↦ refl ]
+    [ true ↦ stripped_more xs q ys | false ↦ refl ]
 
 same_put : (o : Option (List ℕ)) (e f : Entry) (rest : List Entry) → e.cell ≡ f.cell → put_under o e rest ≡ put_under o f rest
 same_put None e f rest h = refl
@@ -48,21 +48,21 @@ under_pushed : (k : ℕ) (p : List ℕ) (rows : List Entry) → under (k ∷ p) 
 under_pushed k p [] = refl
 under_pushed k p (e ∷ es) =
     ap (λ (t : Bool). put_under (if t then stripped p e.path else None) (pushed k e) (under (k ∷ p) (map (pushed k) es))) (eq-eqb k k refl)
-      ∙ same_put (stripped p e.path) (pushed k e) e (under (k ∷ p) (map (pushed k) es)) refl
-      ∙ ap (put_under (stripped p e.path) e) (under_pushed k p es)
+    ∙ same_put (stripped p e.path) (pushed k e) e (under (k ∷ p) (map (pushed k) es)) refl
+    ∙ ap (put_under (stripped p e.path) e) (under_pushed k p es)
 
 under_other : (j k : ℕ) (p : List ℕ) (rows : List Entry) → (j ≡ k → ⊥) → under (k ∷ p) (map (pushed j) rows) ≡ []
 under_other j k p [] h = refl
 under_other j k p (e ∷ es) h =
     ap (λ (t : Bool). put_under (if t then stripped p e.path else None) (pushed j e) (under (k ∷ p) (map (pushed j) es))) (eqb_differ k j (λ f. h (sym f)))
-      ∙ under_other j k p es h
+    ∙ under_other j k p es h
 
 under_later : (j k : ℕ) (parts : List (List Entry)) (p : List ℕ) → k < j → under (k ∷ p) (joined j parts) ≡ []
 under_later j k [] p h = refl
 under_later j k (x ∷ xs) p h =
     under_append (k ∷ p) (map (pushed j) x) (joined (suc j) xs)
-      ∙ ap (λ r. r ++ under (k ∷ p) (joined (suc j) xs)) (under_other j k p x (λ e. omega (arith, e, h)))
-      ∙ under_later (suc j) k xs p (omega (arith, h))
+    ∙ ap (λ r. r ++ under (k ∷ p) (joined (suc j) xs)) (under_other j k p x (λ e. omega (arith, e, h)))
+    ∙ under_later (suc j) k xs p (omega (arith, h))
 
 under_joined : (j i k : ℕ) (parts : List (List Entry)) (p : List ℕ) → k ≡ j + i → under (k ∷ p) (joined j parts) ≡ under p (get_or parts i [])
 under_joined j i k [] p e = refl
@@ -70,17 +70,17 @@ under_joined j zero k (x ∷ xs) p e =
     let at : k ≡ j = omega (arith, e) in
     let P : ℕ → Type 0 = λ n. under (n ∷ p) (map (pushed j) x ++ joined (suc j) xs) ≡ under p x in
     subst P (sym at)
-      (under_append (j ∷ p) (map (pushed j) x) (joined (suc j) xs)
-        ∙ ap (λ r. under (j ∷ p) (map (pushed j) x) ++ r) (under_later (suc j) j xs p (omega arith))
-        ∙ append_none (under (j ∷ p) (map (pushed j) x)) ∙ under_pushed j p x)
+    (under_append (j ∷ p) (map (pushed j) x) (joined (suc j) xs)
+    ∙ ap (λ r. under (j ∷ p) (map (pushed j) x) ++ r) (under_later (suc j) j xs p (omega arith))
+    ∙ append_none (under (j ∷ p) (map (pushed j) x)) ∙ under_pushed j p x)
   where
     append_none : (xs : List Entry) → xs ++ [] ≡ xs
     append_none [] = refl
     append_none (x ∷ xs) = ap (λ r. x ∷ r) (append_none xs)
 under_joined j (suc i) k (x ∷ xs) p e =
     under_append (k ∷ p) (map (pushed j) x) (joined (suc j) xs)
-      ∙ ap (λ r. r ++ under (k ∷ p) (joined (suc j) xs)) (under_other j k p x (λ h. omega (arith, h, e)))
-      ∙ under_joined (suc j) i k xs p (omega (arith, e))
+    ∙ ap (λ r. r ++ under (k ∷ p) (joined (suc j) xs)) (under_other j k p x (λ h. omega (arith, h, e)))
+    ∙ under_joined (suc j) i k xs p (omega (arith, e))
 
 pub under_none : (rows : List Entry) → under [] rows ≡ rows
 under_none [] = refl
@@ -119,13 +119,14 @@ find_under p (e ∷ es) q = go (stripped p e.path) refl (find_under p es q)
     differ : stripped p e.path ≡ None → same e.path (p ++ q) ≡ false
     differ h =
         elim (same e.path (p ++ q)) as (λ t. same e.path (p ++ q) ≡ t → t ≡ false)
-          [ true ↦ (λ k. (let bad : None ≡ Some q = sym h ∙ ap (stripped p) (same_true e.path (p ++ q) k) ∙ stripped_here p q in absurd cc)) | false ↦ (λ k. refl) ] refl
+        [ true ↦ (λ k. (let bad : None ≡ Some q = sym h ∙ ap (stripped p) (same_true e.path (p ++ q) k) ∙ stripped_here p q in absurd cc)) | false ↦ (λ k. refl) ] refl
+
     go : (o : Option (List ℕ)) → stripped p e.path ≡ o → find (under p es) q ≡ find es (p ++ q)
         → find (put_under o e (under p es)) q ≡ (if same e.path (p ++ q) then Some e.cell else find es (p ++ q))
     go None h rest = rest ∙ sym (ap (λ (t : Bool). if t then Some e.cell else find es (p ++ q)) (differ h))
     go (Some r) h rest =
         ap (λ (t : Bool). if t then Some e.cell else find (under p es) q) (sym (ap (λ x. same x (p ++ q)) (stripped_is p e.path r h) ∙ same_led p r q))
-          ∙ ap (λ x. if same e.path (p ++ q) then Some e.cell else x) rest
+        ∙ ap (λ x. if same e.path (p ++ q) then Some e.cell else x) rest
 
 pub under_twice : (p q : List ℕ) (rows : List Entry) → under q (under p rows) ≡ under (p ++ q) rows
 under_twice p q [] = refl
@@ -136,5 +137,5 @@ under_twice p q (e ∷ es) = go (stripped p e.path) refl (under_twice p q es)
     go None h rest = rest ∙ sym (ap (λ o. put_under o e (under (p ++ q) es)) (stripped_more p q e.path ∙ ap (strip_on q) h))
     go (Some r) h rest =
         ap (put_under (stripped q r) (record { path = r; cell = e.cell })) rest
-          ∙ same_put (stripped q r) (record { path = r; cell = e.cell }) e (under (p ++ q) es) refl
-          ∙ sym (ap (λ o. put_under o e (under (p ++ q) es)) (stripped_more p q e.path ∙ ap (strip_on q) h))
+        ∙ same_put (stripped q r) (record { path = r; cell = e.cell }) e (under (p ++ q) es) refl
+        ∙ sym (ap (λ o. put_under o e (under (p ++ q) es)) (stripped_more p q e.path ∙ ap (strip_on q) h))

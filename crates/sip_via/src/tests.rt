@@ -1,10 +1,8 @@
 //! Via values by one change, and messages that were marked or stripped, byte for byte.
 
-use crate::{
-    BranchName, Own, Via, ViaFault, forward, mark_received, reply_hop, strip_route, top_via,
-};
+use crate::{Own, Via, ViaFault, mark_received, reply_hop, strip_route, top_via};
 use sip_text::Message;
-use sip_uri::{Hop, SipUri};
+use sip_uri::Hop;
 use std::alloc::{AllocError, Global};
 use std::test::Fail;
 
@@ -276,26 +274,5 @@ fn strips_its_own_route(rt: HostRuntime) -> Result<(), Fail> {
     let mut text = Vec::new(alloc);
     same.write(&mut text)?;
     assert!(rt; is(&text, &text_with(alloc, &[LINES[1]])?));
-    Ok(())
-}
-
-#[test]
-fn forwards_to_a_target(rt: HostRuntime) -> Result<(), Fail> {
-    let alloc = rt.alloc();
-    let request = Message::read(alloc, &text_with(alloc, &[LINES[1]])?)?;
-    let marked = mark_received(alloc, &request, SOURCE)?;
-    let target = SipUri::read(alloc, b"sip:bob@192.0.2.4")?;
-    let branch = BranchName {
-        key: [0; 16],
-        instance: 7,
-        context: 3,
-        target: 0,
-    };
-    let forwarded = forward(alloc, &marked, &target, OWN, &branch)?;
-    let mut text = Vec::new(alloc);
-    forwarded.write(&mut text)?;
-    let lines: &[u8] =
-        b"OPTIONS sip:bob@192.0.2.4 SIP/2.0\r\nVia: SIP/2.0/UDP 192.0.2.9:5060;branch=z9hG4bK00000000000000000000000000000000.7.3.0\r\nv: SIP/2.0/UDP 192.0.2.1:5060;branch=z9hG4bKa;rport=40000;received=192.0.2.1\r\nMax-Forwards: 69\r\nf: <sip:alice@example.com>;tag=1\r\nt: <sip:bob@example.com>\r\ni: c1\r\nCSeq: 1 OPTIONS\r\nl: 0\r\n\r\n";
-    assert!(rt; is(&text, lines));
     Ok(())
 }

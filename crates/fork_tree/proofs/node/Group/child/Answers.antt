@@ -9,4 +9,4 @@ index-requires g c =
 pub returns : goal.returns
 returns g c =
     sym (under_none c.index.result.now)
-      ∙ child_under _ c.self.inside.nodes.items c.args.place c.index.result.now [] c.self.view_is c.index.ensures c.requires.there
+    ∙ child_under _ c.self.inside.nodes.items c.args.place c.index.result.now [] c.self.view_is c.index.ensures c.requires.there

@@ -14,4 +14,4 @@ pub returns : goal.returns
 returns g c =
     let known : c.args.n < length c.self.inside.places.items = omega (arith, c.if-n-len.false, c.len.ensures) in
     is_subtree c.self.inside.rules c.self.inside.places.items c.self.inside.root c.node_of.result.now c.self.inside.tally c.args.self.now c.args.n c.self.view_is
-      c.self.invariant.tree known (c.node_of.ensures ∙ ap (λ x. under (path_of x c.args.n) c.self.inside.root) c.deref.ensures.value)
+    c.self.invariant.tree known (c.node_of.ensures ∙ ap (λ x. under (path_of x c.args.n) c.self.inside.root) c.deref.ensures.value)
