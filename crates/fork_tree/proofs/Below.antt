@@ -1,5 +1,5 @@
 -- What a node keeps is the best, and its count that, of the rows at or below its number.
-use Rattle.std.proofs.Common.{◌≡◌, ℕ, zero, suc, ◌+◌, ◌<◌, ◌≤◌, ◌&&◌, ◌⊎◌, inl, inr, Bool, true, false, IsTrue, not, List, [], ◌∷◌, ◌++◌, length, Option, Some, None, slice_get, refl, ap, sym, subst, ◌∙◌, arith, if◌then◌else◌}
+use Rattle.std.proofs.Common.{◌≡◌, ℕ, suc, ◌+◌, ◌<◌, ◌&&◌, inl, inr, Bool, true, false, IsTrue, not, List, [], ◌∷◌, ◌++◌, length, Option, Some, None, slice_get, refl, ap, sym, subst, ◌∙◌, arith, if◌then◌else◌}
 use Rattle.std.specs.Prelude.{is_some}
 use Rattle.std.specs.Option.{option_map}
 use Rattle.fork_model.specs.Table.{Row, Rules, is_ended, stored_of}
@@ -9,15 +9,15 @@ use Rattle.fork_tree.specs.declared.best.Kept.{Kept}
 use Rattle.fork_tree.specs.declared.best.BestRef.{BestRef}
 use Rattle.fork_tree.specs.declared.best.Tally.{Tally}
 use Rattle.fork_tree.specs.declared.place.Place.{Place}
-use Rattle.fork_tree.specs.States.{has_ended, bare_state}
+use Rattle.fork_tree.specs.States.{has_ended}
 use Rattle.fork_tree.specs.Rows.{Cell, Entry, find}
 use Rattle.fork_tree.specs.Places.{path_of, row_at, rows_of, number_of, IsPlaced, AreOlder}
 use Rattle.fork_tree.specs.Tally.{HasKept, IsKept, best_of, open_of}
 use Rattle.fork_tree.specs.Listed.{AreListed, AreRanked, IsTree}
 use Rattle.fork_tree.specs.Tree.{Tree, score_of_ref}
-use Rattle.fork_tree.specs.Below.{leads, lies_below, stripped, put_under, under, IsBestOf, IsBestBelow, open_where, open_below, IsSubtree}
+use Rattle.fork_tree.specs.Below.{leads, lies_below, stripped, put_under, under, IsBestBelow, open_where, open_below, IsSubtree}
 use Rattle.fork_tree.proofs.Traces.{path_below, path_top}
-use Rattle.fork_tree.proofs.Placed.{IsRowAt, row_got, place_less, ended_bare}
+use Rattle.fork_tree.proofs.Placed.{IsRowAt, row_got, ended_bare}
 use Rattle.fork_tree.proofs.Counts.{one, passing, passing_rows, passing_agree, rows_length}
 use Rattle.fork_tree.proofs.Kept.{ScoreKept, KeptScore, stored_state, state_stored, ranked_at, found_kept, kept_score, before_ranks}
 use Rattle.fork_tree.proofs.Unders.{stripped_here, stripped_is, find_under}

@@ -1,9 +1,8 @@
 -- A row lies below another one where its path goes on from the other's.
-use Rattle.std.proofs.Common.{◌≡◌, ℕ, zero, suc, ◌+◌, ◌*◌, ◌<◌, ◌≤◌, ◌||◌, Bool, true, false, List, [], ◌∷◌, ◌++◌, length, Option, Some, None, slice_get, refl, ap, sym, subst, ◌∙◌, arith, append_assoc, length-append}
+use Rattle.std.proofs.Common.{◌≡◌, ℕ, zero, suc, ◌+◌, ◌*◌, ◌<◌, ◌≤◌, ◌||◌, Bool, true, false, List, [], ◌∷◌, ◌++◌, length, Option, Some, None, slice_get, refl, ap, sym, ◌∙◌, arith, append_assoc, length-append}
 use Rattle.std.specs.Prelude.{eqb}
 use Rattle.std.proofs.lemmas.Bool.{eq-eqb, eqb-true}
 use Rattle.std.proofs.lemmas.List.{append-nil}
-use Rattle.fork_model.specs.Table.{Row}
 use Rattle.fork_tree.specs.declared.place.Place.{Place}
 use Rattle.fork_tree.specs.Rows.{Cell, Entry, find}
 use Rattle.fork_tree.specs.Places.{above, path_at, path_to, path_of, row_at, rows_from, rows_of, IsPlaced, AreOlder}

@@ -14,3 +14,10 @@ pub mod Finds
 pub mod Unders
 pub mod Chains
 pub mod Below
+pub mod Building
+pub mod Runs
+pub mod Ordering
+pub mod Samples
+pub mod Lines
+pub mod Mates
+pub mod Starting

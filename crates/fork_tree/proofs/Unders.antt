@@ -1,11 +1,11 @@
 -- The branches below a path.
-use Rattle.std.proofs.Common.{◌≡◌, ℕ, zero, suc, ◌+◌, ◌<◌, ◌≤◌, Bool, true, false, IsTrue, List, [], ◌∷◌, ◌++◌, length, map, Option, Some, None, refl, ap, sym, subst, ◌∙◌, arith, get_or, if◌then◌else◌}
+use Rattle.std.proofs.Common.{◌≡◌, ℕ, zero, suc, ◌+◌, ◌<◌, Bool, true, false, IsTrue, List, [], ◌∷◌, ◌++◌, length, map, Option, Some, None, refl, ap, sym, subst, ◌∙◌, arith, get_or, if◌then◌else◌}
 use Rattle.std.specs.Prelude.{eqb, is_some}
 use Rattle.std.proofs.lemmas.Bool.{eq-eqb, eqb-true}
 use Rattle.fork_tree.specs.Rows.{Cell, Entry, pushed, joined, same, find}
 use Rattle.fork_tree.specs.Below.{stripped, put_under, under}
 use Rattle.fork_tree.proofs.Grafts.{eqb_differ, find_joined, get_same}
-use Rattle.fork_tree.proofs.Placed.{same_true, same_refl}
+use Rattle.fork_tree.proofs.Placed.{same_true}
 use Rattle.fork_tree.proofs.Ends.{same_led}
 
 pub stripped_here : (p q : List ℕ) → stripped p (p ++ q) ≡ Some q

@@ -1,5 +1,5 @@
 -- A row and those below it: what is kept of them, and how many of them have not ended.
-use Rattle.std.specs.Prelude.{◌≡◌, ◌<◌, ◌≤◌, ◌+◌, ℕ, zero, suc, ◌&&◌, ◌||◌, Bool, true, false, IsTrue, not, List, [], ◌∷◌, length, Option, Some, None, eqb, slice_get, if◌then◌else◌}
+use Rattle.std.specs.Prelude.{◌≡◌, ◌<◌, ◌≤◌, ◌+◌, ℕ, zero, suc, ◌&&◌, ◌||◌, Bool, false, IsTrue, not, List, [], ◌∷◌, length, Option, Some, None, eqb, slice_get, if◌then◌else◌}
 use Rattle.fork_model.specs.Table.{Row, Rules, is_ended}
 use Rattle.fork_model.specs.Rank.{Score, Before}
 use Rattle.fork_model.specs.Choice.{HasScore}

@@ -8,3 +8,6 @@ pub mod Closing
 pub mod Listed
 pub mod Tree
 pub mod Below
+pub mod Given
+pub mod Ready
+pub mod Search

@@ -3,7 +3,12 @@
 #![tactic(auto)]
 
 mod best;
+mod build;
+#[cfg(test)]
+mod build_tests;
 mod find;
+#[cfg(test)]
+mod histories;
 mod level;
 mod node;
 #[cfg(test)]
@@ -11,6 +16,7 @@ mod node_tests;
 mod place;
 mod row;
 mod seat;
+mod series;
 mod subtree;
 #[cfg(test)]
 mod tests;

@@ -8,6 +8,7 @@ ghost use Rattle.fork_tree.specs.States.{bare_state, has_ended, IsFinalEnd};
 ghost use Rattle.fork_tree.specs.declared.row.State.TheVariants.{Ended};
 ghost use Rattle.fork_tree.specs.Seats.{seats_of, seated, place_in};
 ghost use Rattle.fork_tree.specs.Closing.{closed_row};
+ghost use Rattle.fork_tree.specs.Below.{parent_of};
 ghost use Rattle.fork_tree.specs.Tree.{IsBest, open_rows, row_ref, is_unended, is_uncancelled};
 
 use crate::best::{BestRef, Standing, Tally};
@@ -38,6 +39,7 @@ impl<A: Allocator> Model for ForkTree<A> {
     ghost use Rattle.fork_tree.specs.Places.{rows_of};
     ghost use Rattle.fork_tree.specs.Listed.{IsTree};
     ghost use Rattle.fork_tree.specs.Tree.{Tree};
+    ghost use Rattle.fork_tree.specs.Search.{AreTogether};
 
     ghost Value = { Tree };
 
@@ -45,6 +47,7 @@ impl<A: Allocator> Model for ForkTree<A> {
 
     ghost invariant = { λ t. record {
       tree : IsTree t.rules t.places.items t.root t.tally;
+      together : AreTogether t.places.items;
       path_room : 2 * most_targets ≤ vec_capacity t.path;
       places_room : most_targets ≤ vec_capacity t.places;
     } };
@@ -104,6 +107,17 @@ impl<A: Allocator> ForkTree<A> {
             q: node.q(),
             state: node.state(),
         })
+    }
+
+    /// The number of the row that row n stands under; None where it is an initial target, or there is no row n. It
+    /// takes no longer in a deeper tree.
+    pub fn parent(&self, n: u16) -> Option<u16>
+        ensures { result ≡ parent_of (slice_get self.now.rows n) }
+    {
+        if n as usize >= self.places.len() {
+            return None;
+        }
+        place_of(&self.places, n).parent
     }
 
     /// The stored answer that none ranks before (RFC 3261 section 16.7 step 6); None where nothing is stored.
@@ -173,7 +187,7 @@ impl<A: Allocator> ForkTree<A> {
     }
 
     /// Row n, which has not ended, comes into another state in which it has not.
-    fn set(&mut self, n: u16, state: State)
+    pub(crate) fn set(&mut self, n: u16, state: State)
         requires there { IsTrue (is_row is_unended (slice_get self.old.rows n)) }
         requires waits { has_ended state ≡ false }
         ensures { self.new ≡ record self.old { rows = with_state self.old.rows n (bare_state state) } }

@@ -1,4 +1,3 @@
-use Rattle.std.proofs.Common.{ℕ}
 use Rattle.fork_tree.proofs.subtree.+node_of.Given as goal
 
 abbrev pub decreases-node_of : goal.decreases-node_of

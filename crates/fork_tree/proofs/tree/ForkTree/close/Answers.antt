@@ -10,6 +10,7 @@ pub invariant_of-self : goal.invariant_of-self
 invariant_of-self g c = record {
   tree = tree_closed c.self.inside.rules c.self.inside.places.items c.self.inside.root c.close-ended.new.self c.self.inside.tally c.close-ended.result
       c.self.invariant.tree c.close-ended.ensures.closed c.close-ended.ensures.counted;
+  together = c.self.invariant.together;
   path_room = c.self.invariant.path_room;
   places_room = c.self.invariant.places_room;
 }

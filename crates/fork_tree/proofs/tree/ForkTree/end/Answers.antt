@@ -9,6 +9,9 @@ use Rattle.fork_tree.specs.Rows.{Entry, find, open_at, graft}
 use Rattle.fork_tree.specs.Tally.{IsKept, open_of}
 use Rattle.fork_tree.specs.Places.{path_of, rows_of, AreOlder}
 use Rattle.fork_tree.specs.Seats.{Waiting, seat_rows, seated, place_in}
+use Rattle.fork_tree.specs.declared.seat.Seat.{Seat}
+use Rattle.fork_tree.specs.Search.{AreTogether}
+use Rattle.fork_tree.proofs.Mates.{together_more, seats_together}
 use Rattle.fork_tree.specs.Listed.{IsTree, kept_of}
 use Rattle.fork_tree.specs.Tree.{Tree}
 use Rattle.fork_tree.proofs.Tallies.{open_some, open_le}
@@ -111,12 +114,15 @@ invariant_of-self g c =
     ∙ ap (λ x. graft c.self.inside.root (path_of c.self.inside.places.items c.args.n) c.of-standing.result x) c.below.invariant.seated in
     let answer : c.of-standing.result.answer ≡ kept_of c.self.inside.rules c.args.n c.of-standing.result.state =
     ap (λ (s : Standing). s.answer) c.of-standing.ensures ∙ ap (λ (s : Standing). kept_of c.self.inside.rules c.args.n s.state) (sym c.of-standing.ensures) in
+    let T : List Seat → Type 0 = λ x. AreTogether (map (place_in (Some c.args.n)) x) in
     let P : List Place → Type 0 = λ x. IsTree c.self.inside.rules x c.end.new.self c.after-self-inside.result in
     record {
       tree = subst P (sym places) (tree_ended c.self.inside.rules c.self.inside.places.items c.self.inside.root c.end.new.self c.self.inside.tally c.after-self-inside.result c.args.n
           c.of-standing.result c.below.inside.seats.items c.below.inside.first c.len-opens.result c.self.invariant.tree is answer first c.below.invariant.few new
           (c.end.ensures.sized ∙ ap (λ x. length c.self.inside.root + length x) c.below.invariant.seated) c.end.ensures.counted c.end.ensures.gained
           c.after-self-inside.ensures.kept c.after-self-inside.ensures.still);
+      together = subst AreTogether (sym places) (together_more None c.self.inside.places.items (map (place_in (Some c.args.n)) c.below.inside.seats.items) c.self.invariant.together
+          (subst T (sym c.below.invariant.rising.1) (seats_together (Some c.args.n) c.below.invariant.rising.0)));
       path_room = omega (arith, c.self.invariant.path_room, c.clear.ensures.capacity, c.trace.ensures.capacity);
       places_room = omega (arith, c.self.invariant.places_room, c.add_places.ensures.capacity);
     }

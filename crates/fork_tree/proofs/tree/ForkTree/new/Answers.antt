@@ -3,6 +3,9 @@ use Rattle.fork_model.specs.Table.{Row}
 use Rattle.fork_tree.specs.declared.place.Place.{Place}
 use Rattle.fork_tree.specs.Rows.{Entry}
 use Rattle.fork_tree.specs.Seats.{seats_of, seated, place_in}
+use Rattle.fork_tree.specs.Search.{AreTogether}
+use Rattle.fork_tree.specs.declared.seat.Seat.{Seat}
+use Rattle.fork_tree.proofs.Mates.{seats_together}
 use Rattle.fork_tree.specs.Places.{rows_of}
 use Rattle.fork_tree.specs.Listed.{IsTree}
 use Rattle.fork_tree.proofs.Opening.{AreRising, seats_rise, seats_count, rows_opened, tree_opened}
@@ -21,9 +24,11 @@ invariant_of-result g c =
     c.add_places.ensures.items ∙ ap (λ x. x ++ map (place_in None) c.deref.result.now) c.in_ok-places.ensures.items ∙ ap (map (place_in None)) c.deref.ensures.value in
     let P : List Place → Type 0 = λ x. IsTree c.args.rules x c.in_ok-root.root c.waiting-tally.result in
     let Q : List Entry → Type 0 = λ x. IsTree c.args.rules (map (place_in None) c.in_ok-root.seats.items) x c.waiting-tally.result in
+    let T : List Seat → Type 0 = λ x. AreTogether (map (place_in None) x) in
     record {
       tree = subst P (sym places) (subst Q (sym c.in_ok-root.ensures.tier)
           (tree_opened c.args.rules c.in_ok-root.seats.items c.waiting-tally.result rise (omega (arith, many, c.requires.few)) (ap (λ x. x.kept) c.waiting-tally.ensures) (ap (λ x. x.still) c.waiting-tally.ensures ∙ sym many)));
+      together = subst AreTogether (sym places) (subst T (sym c.in_ok-root.ensures.seats) (seats_together None c.args.qs.now));
       path_room = omega (arith, c.in_ok-path.ensures.exact);
       places_room = omega (arith, c.in_ok-places.ensures.exact, c.add_places.ensures.capacity);
     }

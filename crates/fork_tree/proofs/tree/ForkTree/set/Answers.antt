@@ -37,6 +37,7 @@ invariant_of-self g c =
     record {
       tree = tree_set c.self.inside.rules c.self.inside.places.items c.self.inside.root c.set.new.self c.self.inside.tally c.args.n c.args.state c.self.invariant.tree at.0 c.requires.waits
           (c.set.ensures.grafted ∙ ap (λ x. graft c.self.inside.root x (unanswered c.args.state) []) p) c.set.ensures.sized c.set.ensures.counted c.set.ensures.gained;
+      together = c.self.invariant.together;
       path_room = omega (arith, c.self.invariant.path_room, c.clear.ensures.capacity, c.trace.ensures.capacity);
       places_room = c.self.invariant.places_room;
     }

@@ -1,0 +1,26 @@
+use Rattle.std.proofs.Common.{List, Some, map, length, ◌++◌, ap, sym, ◌∙◌, subst, IsTrue, slice_get}
+use Rattle.fork_model.specs.Table as spec
+use Rattle.fork_model.specs.Table.{Row, is_open, is_row}
+use Rattle.fork_model.specs.Step.{with_state}
+use Rattle.fork_tree.specs.States.{bare_state}
+use Rattle.fork_tree.specs.declared.row.State.TheVariants.{Ended}
+use Rattle.fork_tree.specs.Seats.{seated}
+use Rattle.fork_tree.specs.Tree.{Tree}
+use Rattle.fork_tree.proofs.Building.{started_open, state_twice, length_state}
+use Rattle.fork_tree.proofs.tree.ForkTree.finish.Goals as goal
+
+pub end-requires-clause-there : goal.end-requires-clause-there
+end-requires-clause-there g c =
+    let P : Tree → Type 0 = λ t. IsTrue (is_row is_open (slice_get t.rows c.args.n)) in
+    subst P (sym c.start.ensures) (started_open c.args.self.now.rows c.args.n c.requires.waits)
+
+pub end-requires-clause-next : goal.end-requires-clause-next
+end-requires-clause-next g c =
+    c.requires.next ∙ sym (ap (λ (t : Tree). length t.rows) c.start.ensures ∙ length_state c.args.self.now.rows c.args.n spec.Trying)
+
+pub returns : goal.returns
+returns g c =
+    c.end.ensures
+    ∙ ap (λ (t : Tree). record t { rows = with_state t.rows c.args.n (bare_state (Ended c.args.end)) ++ map (seated (Some c.args.n)) c.args.below.seats }) c.start.ensures
+    ∙ ap (λ (r : List Row). record { rules = c.args.self.now.rules; rows = r ++ map (seated (Some c.args.n)) c.args.below.seats })
+    (state_twice c.args.self.now.rows c.args.n spec.Trying (bare_state (Ended c.args.end)))

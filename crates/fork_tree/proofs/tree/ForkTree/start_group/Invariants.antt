@@ -1,0 +1,9 @@
+use Rattle.std.proofs.Common.{◌≡◌, ◌-◌, ◌≤◌}
+use Rattle.fork_tree.specs.Ready.{tried}
+use Rattle.fork_tree.proofs.tree.ForkTree.start_group.Given as goal
+
+abbrev pub invariant-loop-n : goal.invariant-loop-n
+invariant-loop-n g l = record {
+  begun : l.first ≤ l.n;
+  tried : l.self ≡ record l.fn.self { rows = tried l.fn.self.rows l.first (l.n - l.first) };
+}

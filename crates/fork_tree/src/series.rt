@@ -1,0 +1,189 @@
+//! Which group may start, and its start (RFC 3261 section 16.6: the groups of one target set in series, those of a
+//! redirected branch before the next group goes on).
+ghost use Rattle.std.specs.Prelude.{◌≡◌, ◌<◌, ◌≤◌, ◌-◌, ◌&&◌, nat_eq, nat_lt, ℕ, true, false, None, IsTrue, IfNone, IfSome, Some, length, slice_get};
+ghost use Rattle.std.specs.Option.{option_eq};
+ghost use Rattle.fork_model.specs.Table.{Row, is_ended, is_idle, is_row};
+ghost use Rattle.fork_model.specs.Waiting.{in_earlier_group, may_start, parent_ended};
+ghost use Rattle.fork_tree.specs.Ready.{IsReady, tried};
+ghost use Rattle.fork_tree.specs.Search.{AllWait, BeginsReady, FindsReady, HoldsUp, IsBegin, IsGroup, IsNext, MayGo, Opens};
+
+use crate::place::{Place, place_of};
+use crate::row::State;
+use crate::tree::ForkTree;
+use std::alloc::Allocator;
+
+impl<A: Allocator> ForkTree<A> {
+    /// Some group that may start is tried: the number of its first row, and how many rows it has, which all wait;
+    /// None where no group may start. A group may start where the row that it stands under has ended, and all rows of
+    /// the earlier groups there and all below those (RFC 3261 section 16.6).
+    pub fn start_ready(&mut self) -> Option<(u16, u16)>
+        ensures none { IfNone result ((self.new ≡ self.old) × ((k : ℕ) (row : Row) → slice_get self.old.rows k ≡ Some row
+            → may_start self.old.rows row ≡ false)) }
+        ensures some { IfSome result (λ g. IsReady self.old.rows g.0 g.1
+            × (self.new ≡ record self.old { rows = tried self.old.rows g.0 g.1 })) }
+    {
+        let (first, end) = self.ready_group()?;
+        self.start_group(first, end);
+        Some((first, end - first))
+    }
+
+    /// Some group that may start: the number of its first row, and the one after its last.
+    fn ready_group(&self) -> Option<(u16, u16)>
+        ensures { FindsReady self.now.rows result }
+    {
+        for n in 0..self.count() {
+            if let Some(end) = self.ready_from(n) {
+                return Some((n, end));
+            }
+        }
+        None
+    }
+
+    /// Where the group ends whose first is row n, if it may start.
+    fn ready_from(&self, n: u16) -> Option<u16>
+        requires { n < length self.now.rows }
+        ensures { BeginsReady self.now.rows n result }
+    {
+        if !self.begins(n) {
+            return None;
+        }
+        let end = self.group_end(n);
+        if self.is_ready(n, end) {
+            Some(end)
+        } else {
+            None
+        }
+    }
+
+    /// Whether row n is the first of its group.
+    fn begins(&self, n: u16) -> bool
+        requires { n < length self.now.rows }
+        ensures { IsBegin self.now.rows n result }
+    {
+        place_of(&self.places, n).place == 0
+    }
+
+    /// The number after the last row of the group whose first is row n.
+    fn group_end(&self, n: u16) -> u16
+        requires known { n < length self.now.rows }
+        requires first { Opens self.now.rows n }
+        ensures { IsGroup self.now.rows n result }
+    {
+        let count = self.places.len() as u16;
+        for m in n + 1..count {
+            if self.begins(m) {
+                return m;
+            }
+        }
+        count
+    }
+
+    /// Whether the group of these rows may start.
+    fn is_ready(&self, first: u16, end: u16) -> bool
+        requires { IsGroup self.now.rows first end }
+        ensures { MayGo self.now.rows first result }
+    {
+        if !self.all_wait(first, end) {
+            return false;
+        }
+        let place = place_of(&self.places, first);
+        self.parent_over(place.parent) && self.is_next(first)
+    }
+
+    /// Whether the rows from the first up to this end wait.
+    fn all_wait(&self, first: u16, end: u16) -> bool
+        ensures { AllWait self.now.rows first end result }
+    {
+        for n in first..end {
+            if !self.is_waiting(n) {
+                return false;
+            }
+        }
+        true
+    }
+
+    /// Whether row n waits.
+    pub(crate) fn is_waiting(&self, n: u16) -> bool
+        ensures { result ≡ is_row is_idle (slice_get self.now.rows n) }
+    {
+        match self.row(n) {
+            Some(row) => row.state == State::Idle,
+            None => false,
+        }
+    }
+
+    /// Whether the row that others stand under has ended, where they stand under one.
+    fn parent_over(&self, parent: Option<u16>) -> bool
+        ensures { result ≡ parent_ended self.now.rows parent }
+    {
+        match parent {
+            Some(n) => self.is_over(n),
+            None => true,
+        }
+    }
+
+    /// Whether row n has ended.
+    fn is_over(&self, n: u16) -> bool
+        ensures { result ≡ is_row is_ended (slice_get self.now.rows n) }
+    {
+        match self.row(n) {
+            Some(row) => row.state.has_ended(),
+            None => false,
+        }
+    }
+
+    /// Whether all rows of the earlier groups beside row n, and all below those, have ended.
+    fn is_next(&self, n: u16) -> bool
+        requires { n < length self.now.rows }
+        ensures { IsNext self.now.rows n result }
+    {
+        for m in 0..self.count() {
+            if self.holds_up(m, n) {
+                return false;
+            }
+        }
+        true
+    }
+
+    /// Whether row m stands in an earlier group beside row n, and it or a row below it has not ended.
+    fn holds_up(&self, m: u16, n: u16) -> bool
+        requires known { m < length self.now.rows }
+        requires here { n < length self.now.rows }
+        ensures { HoldsUp self.now.rows m n result }
+    {
+        if !self.is_earlier(m, n) {
+            return false;
+        }
+        match self.node(m) {
+            Some(node) => node.open_count() > 0,
+            None => false,
+        }
+    }
+
+    /// Whether row m stands in an earlier group beside row n.
+    fn is_earlier(&self, m: u16, n: u16) -> bool
+        requires known { m < length self.now.rows }
+        requires here { n < length self.now.rows }
+        ensures { (first row : Row) → slice_get self.now.rows m ≡ Some first → slice_get self.now.rows n ≡ Some row
+            → result ≡ in_earlier_group first row }
+    {
+        stands_earlier(place_of(&self.places, m), place_of(&self.places, n))
+    }
+
+    /// The rows of this group, which wait, are tried.
+    fn start_group(&mut self, first: u16, end: u16)
+        requires { IsReady self.old.rows first (end - first) }
+        ensures { self.new ≡ record self.old { rows = tried self.old.rows first (end - first) } }
+    {
+        for n in first..end {
+            self.start(n);
+        }
+    }
+}
+
+/// Whether this place is in an earlier group than the other under the same row.
+fn stands_earlier(place: Place, other: Place) -> bool
+    ensures { result ≡ (option_eq nat_eq place.parent other.parent && nat_lt place.group other.group) }
+{
+    place.parent == other.parent && place.group < other.group
+}
