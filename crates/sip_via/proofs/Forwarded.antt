@@ -1,11 +1,11 @@
 -- A request as it goes to a target is a message.
-use Rattle.std.proofs.Common.{◌≡◌, ℕ, ◌+◌, ◌-◌, ◌<◌, ◌≤◌, ◌^◌, Bool, true, false, not, cond, eqb, ltb, map, inl, inr, List, [], ◌∷◌, ◌++◌, length, reverse, Option, Some, None, refl, sym, ap, subst, ◌∙◌, arith}
-use Rattle.std.specs.Prelude.{◌&&◌, codes, slice_index, IfSome, IsTrue, is_none}
+use Rattle.std.proofs.Common.{◌≡◌, ℕ, ◌-◌, ◌<◌, ◌^◌, Bool, true, false, not, eqb, ltb, map, inl, inr, List, [], ◌∷◌, ◌++◌, length, reverse, Option, Some, None, refl, sym, ap, subst, ◌∙◌, arith}
+use Rattle.std.specs.Prelude.{◌&&◌, codes, IfSome, is_none}
 use Rattle.std.specs.Char.{is_ascii_digit, to_ascii_lowercase}
 use Rattle.std.specs.Fmt.{decimal}
 use Rattle.std.specs.List.{list_all}
 use Rattle.std.proofs.lemmas.Bool.{and_parts, eqb-true, false_from_ne_true, false≢true, lt-ltb, or_cases}
-use Rattle.std.proofs.lemmas.Fmt.{digits_decimal, decimal_nonempty}
+use Rattle.std.proofs.lemmas.Fmt.{digits_decimal}
 use Rattle.std.proofs.lemmas.List.{length-reverse, reverse-append}
 use Rattle.std.proofs.lemmas.List.Folds.{list_all-append}
 use Rattle.sip_lex.specs.Bytes.{is_space, is_token, is_token_byte}
@@ -20,9 +20,9 @@ use Rattle.sip_text.proofs.Good.{and_both}
 use Rattle.sip_uri.specs.Grammar.{IsUri, is_uri_byte}
 use Rattle.sip_uri.specs.Uri.{Uri, request_uri}
 use Rattle.sip_via.specs.declared.own.Own.{Own}
-use Rattle.sip_via.specs.Address.{IsAddress, address_text}
+use Rattle.sip_via.specs.Address.{address_text}
 use Rattle.sip_via.specs.BranchText.{Branch, branch_text}
-use Rattle.sip_via.specs.Edits.{line, replaced}
+use Rattle.sip_via.specs.Edits.{line}
 use Rattle.sip_via.specs.Forwarding.{IsHops, IsOwn, forwarded, hops_lowered, hops_name, is_request, own_via, to_target}
 use Rattle.sip_via.proofs.Marked.{address-line, decimal-line, line-append}
 use Rattle.sip_via.proofs.NumberLaws.{own}

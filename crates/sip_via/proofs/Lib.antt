@@ -18,3 +18,10 @@ pub mod NumberLaws
 pub mod Marked
 pub mod Stripped
 pub mod Forwarded
+pub mod FrontLaws
+pub mod Passes
+pub mod ViaFound
+pub mod ViaOnly
+pub mod ViaReads
+pub mod Exchanged
+pub mod UpwardGood

@@ -21,7 +21,7 @@ use Rattle.sip_text.specs.Message.{IsMessage, is_header, is_line, is_line_byte, 
 use Rattle.sip_text.specs.Name.{first_value}
 use Rattle.sip_text.specs.Text.{HeaderText, MessageText}
 use Rattle.sip_text.specs.Reading.{begins_with_space}
-use Rattle.sip_text.proofs.Good.{and_both, behind_line, trim_trimmed}
+use Rattle.sip_text.proofs.Good.{and_both, trim_trimmed}
 use Rattle.sip_uri.specs.declared.hop.Hop.{Hop}
 use Rattle.sip_via.specs.Address.{IsAddress, address_text, dotted}
 use Rattle.sip_via.specs.Received.{IsSource, asks_port, filled, first_via_line, gets_received, line_marked, marked_line, marked_param, marked_parts, marked_value, received_text, with_via_line}

@@ -1,13 +1,13 @@
 -- Values that a header line may have.
-use Rattle.std.proofs.Common.{◌≡◌, ℕ, ◌-◌, Bool, true, false, not, List, [], ◌∷◌, ◌++◌, length, take, drop, reverse, Option, Some, None, refl, sym, ap, ◌∙◌}
-use Rattle.std.specs.Prelude.{◌&&◌, option_map}
+use Rattle.std.proofs.Common.{◌≡◌, ℕ, ◌-◌, Bool, true, List, ◌++◌, length, take, drop, Option, Some, None, sym, ap, ◌∙◌}
+use Rattle.std.specs.Prelude.{option_map}
 use Rattle.std.specs.List.{list_all, prefix_len, suffix_len}
 use Rattle.std.proofs.lemmas.Bool.{and_parts}
 use Rattle.std.proofs.lemmas.List.{take-append-drop}
 use Rattle.std.proofs.lemmas.List.Folds.{list_all-append}
 use Rattle.sip_lex.specs.declared.sheltered.Shelter.{Shelter}
 use Rattle.sip_lex.specs.declared.sheltered.Place.TheVariants.{Plain}
-use Rattle.sip_lex.specs.Bytes.{is_space, trim, trim_end, trim_start}
+use Rattle.sip_lex.specs.Bytes.{is_space, trim, trim_start}
 use Rattle.sip_lex.specs.Cut.{behind}
 use Rattle.sip_lex.specs.Sheltered.{cut_outside}
 use Rattle.sip_lex.proofs.Shelters.{cut_outside_joins}

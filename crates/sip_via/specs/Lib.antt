@@ -16,3 +16,8 @@ pub mod SeenMessages
 pub mod Received
 pub mod Routes
 pub mod Forwarding
+pub mod Fronts
+pub mod LoopTest
+pub mod ViaGrammar
+pub mod Upward
+pub mod SeenKept

@@ -1,5 +1,5 @@
 -- The walk over Via values, as the values that are left.
-use Rattle.std.specs.Prelude.{ℕ, List, [], map, ◌++◌, Option}
+use Rattle.std.specs.Prelude.{ℕ, List, map, ◌++◌, Option}
 use Rattle.std.specs.List.{flat_map}
 use Rattle.sip_lex.specs.declared.sheltered.Shelter.TheVariants.{Quotes}
 use Rattle.sip_lex.specs.Bytes.{trim}

@@ -9,7 +9,7 @@ use std::alloc::{AllocError, Global};
 use std::test::Fail;
 
 /// The lines of a request, without their ends.
-const REQUEST: [&[u8]; 9] = [
+pub(crate) const REQUEST: [&[u8]; 9] = [
     b"OPTIONS sip:bob@example.com SIP/2.0",
     b"v: SIP/2.0/UDP 192.0.2.1:5060;branch=z9hG4bKa;rport",
     b"Max-Forwards: 70",
@@ -36,7 +36,7 @@ const SENT: [&[u8]; 10] = [
 ];
 
 /// A text of these lines.
-fn text_of(alloc: Global, lines: &[&[u8]]) -> Result<Vec<u8>, AllocError> {
+pub(crate) fn text_of(alloc: Global, lines: &[&[u8]]) -> Result<Vec<u8>, AllocError> {
     let mut text = Vec::new(alloc);
     for line in lines {
         text.extend_from_slice(line)?;
@@ -46,19 +46,19 @@ fn text_of(alloc: Global, lines: &[&[u8]]) -> Result<Vec<u8>, AllocError> {
 }
 
 /// What a message is written as.
-fn written(alloc: Global, message: &Message<Global>) -> Result<Vec<u8>, AllocError> {
+pub(crate) fn written(alloc: Global, message: &Message<Global>) -> Result<Vec<u8>, AllocError> {
     let mut text = Vec::new(alloc);
     message.write(&mut text)?;
     Ok(text)
 }
 
 /// Whether a text is this one.
-fn is(part: &[u8], text: &[u8]) -> bool {
+pub(crate) fn is(part: &[u8], text: &[u8]) -> bool {
     part == text
 }
 
 /// The CANCEL of a request.
-fn cancelled(alloc: Global, sent: &Message<Global>) -> Option<Message<Global>> {
+pub(crate) fn cancelled(alloc: Global, sent: &Message<Global>) -> Option<Message<Global>> {
     match sent.start() {
         Start::Request { .. } => cancel_of(alloc, sent).ok(),
         Start::Response { .. } => None,
@@ -66,7 +66,7 @@ fn cancelled(alloc: Global, sent: &Message<Global>) -> Option<Message<Global>> {
 }
 
 /// The ACK for a response to a request.
-fn acknowledged(
+pub(crate) fn acknowledged(
     alloc: Global,
     sent: &Message<Global>,
     response: &Message<Global>,

@@ -19,7 +19,7 @@ fn first_value<'a, A: Allocator>(headers: &'a [Header<A>], name: &[u8]) -> Optio
 }
 
 /// Whether the first of some header lines has that name, in any case and in long or compact form.
-fn begins_named<A: Allocator>(headers: &[Header<A>], name: &[u8]) -> bool
+pub(crate) fn begins_named<A: Allocator>(headers: &[Header<A>], name: &[u8]) -> bool
     requires { 1 ≤ length headers.now }
     ensures { result ≡ begins_named name.now (views headers.now) }
 {
@@ -46,7 +46,10 @@ pub(crate) fn copy_start<A: Allocator + Clone>(
     }
 }
 
-fn copy_header<A: Allocator + Clone>(alloc: &A, header: &Header<A>) -> Result<Header<A>, AllocError>
+pub(crate) fn copy_header<A: Allocator + Clone>(
+    alloc: &A,
+    header: &Header<A>,
+) -> Result<Header<A>, AllocError>
     ensures { IfOk result (λ copy. view copy ≡ view header.now) }
 {
     Ok(Header {
@@ -85,7 +88,7 @@ pub(crate) fn add_line<A: Allocator + Clone>(
 }
 
 /// Adds a line of that name, if there is a value for it.
-fn add_line_if_any<A: Allocator + Clone>(
+pub(crate) fn add_line_if_any<A: Allocator + Clone>(
     out: &mut Vec<Header<A>, A>,
     alloc: &A,
     name: &[u8],
@@ -101,7 +104,7 @@ fn add_line_if_any<A: Allocator + Clone>(
 }
 
 /// The place of the first header line of that name, or how many there are.
-fn place_of<A: Allocator>(headers: &[Header<A>], name: &[u8]) -> usize
+pub(crate) fn place_of<A: Allocator>(headers: &[Header<A>], name: &[u8]) -> usize
     ensures value { result ≡ place_of name.now (views headers.now) }
     ensures within { result ≤ length headers.now }
 {

@@ -62,7 +62,7 @@ fn is_own(own: Own, hop: Option<Hop>) -> bool
 }
 
 /// A copy of the values that stand behind a comma, without the space round them.
-fn copy_others<A: Allocator>(
+pub(crate) fn copy_others<A: Allocator>(
     alloc: A,
     others: Option<&[u8]>,
 ) -> Result<Option<Vec<u8, A>>, AllocError>

@@ -10,9 +10,12 @@ mod branch;
 mod built_tests;
 mod cut;
 mod edits;
+#[cfg(test)]
+mod forward_tests;
 mod forwarding;
 mod hex_pair;
 mod lines;
+mod loop_test;
 mod loops;
 mod own;
 mod params;
@@ -21,15 +24,20 @@ mod requests;
 mod responses;
 #[cfg(test)]
 mod tests;
+mod upstream;
+#[cfg(test)]
+mod upstream_tests;
 mod values;
 mod via;
 
 pub use branch::{BranchName, branch_is_token, read_branch, write_branch};
 pub use forwarding::{forward, strip_route};
+pub use loop_test::is_loop;
 pub use loops::{loop_key, own_tag};
 pub use own::{BuildFault, Own, ViaFault};
 pub use received::{mark_received, reply_hop};
 pub use requests::{ack_is_message, ack_of, cancel_is_message, cancel_of};
 pub use responses::{OwnStatus, generated, generated_is_message};
+pub use upstream::upward;
 pub use values::top_via;
 pub use via::Via;

@@ -20,7 +20,7 @@ use sip_uri::Hop;
 use std::alloc::{AllocError, Allocator};
 
 /// The port of SIP over UDP where a Via value names none (RFC 3261 section 18.2.2).
-const DEFAULT_PORT: u16 = 5060;
+pub(crate) const DEFAULT_PORT: u16 = 5060;
 
 /// Where a response to a request with that top value goes, which came from `source` (RFC 3261
 /// section 18.2.2, RFC 3581 section 4): to the source's address; to its port where `rport` now has

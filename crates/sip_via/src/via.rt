@@ -1,10 +1,11 @@
 //! Via values.
 
-ghost use Rattle.std.specs.Prelude.{◌≡◌, true};
+ghost use Rattle.std.specs.Prelude.{◌≡◌, true, IfOk, Ok};
 ghost use Rattle.std.specs.List.{list_any};
 ghost use Rattle.std.specs.Option.{option_copied};
 ghost use Rattle.sip_via.specs.ViaFaults.{Gives};
-ghost use Rattle.sip_via.specs.ViaParts.{branch_of, is_rport, port_if_any, read_via};
+ghost use Rattle.sip_via.specs.ViaGrammar.{IsVia};
+ghost use Rattle.sip_via.specs.ViaParts.{ViaText, branch_of, is_rport, port_if_any, read_via};
 
 use crate::cut::{cut_value, cut_via, port_if_any};
 use crate::own::ViaFault;
@@ -26,22 +27,30 @@ impl<A: Allocator> Model for Via<A> {
     ghost view = { λ v. via_of v.text.items };
 }
 
+fn read_value<A: Allocator>(alloc: A, value: &[u8]) -> Result<Via<A>, ViaFault>
+    ensures { Gives (λ v. v) result (read_via value.now) }
+{
+    if cut_via(value).is_none() {
+        return Err(ViaFault::BadVia);
+    }
+    let text = Vec::from_slice(alloc, value)?;
+    Ok(Via { text })
+}
+
 impl<A: Allocator> Via<A> {
-    /// The Via value that a text is (RFC 3261 section 20.42): `SIP/2.0/` and a transport, space, the
-    /// sender's host and port, and parameters. Space may stand round `/`, `:`, `;` and `=`, none at
-    /// the ends.
+    /// The Via value that a text is (`via-parm` of RFC 3261 section 25.1, see section 20.42):
+    /// `SIP/2.0/` and a transport, space, the sender's host and port, and parameters. Space may
+    /// stand round `/`, `:`, `;` and `=`, none at the ends.
     ///
     /// # Errors
     ///
     /// `BadVia` for any other text; then `NoMemory`.
     pub fn read(alloc: A, value: &[u8]) -> Result<Via<A>, ViaFault>
-        ensures { Gives (λ v. v) result (read_via value.now) }
+        ensures found { IfOk result (λ via. IsVia value.now via) }
+        ensures only { (via : ViaText) → IsVia value.now via → Gives (λ v. v) result (Ok via) }
+        ensures exact { Gives (λ v. v) result (read_via value.now) }
     {
-        if cut_via(value).is_none() {
-            return Err(ViaFault::BadVia);
-        }
-        let text = Vec::from_slice(alloc, value)?;
-        Ok(Via { text })
+        read_value(alloc, value)
     }
 
     /// The host of the sender, as written.

@@ -1,4 +1,4 @@
-use Rattle.std.proofs.Common.{◌≡◌, ◌∙◌, List, ap}
+use Rattle.std.proofs.Common.{◌∙◌, List, ap}
 use Rattle.std.specs.Prelude.{is_some}
 use Rattle.sip_text.specs.declared.parts.Header.{Header}
 use Rattle.sip_text.specs.Name.{first_value}

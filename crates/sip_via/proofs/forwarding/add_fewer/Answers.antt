@@ -1,4 +1,4 @@
-use Rattle.std.proofs.Common.{◌≡◌, ◌∙◌, ◌++◌, List, ℕ, Some, ap}
+use Rattle.std.proofs.Common.{◌∙◌, ◌++◌, List, ℕ, Some, ap}
 use Rattle.sip_text.specs.Seen.{views}
 use Rattle.sip_via.specs.Edits.{replaced}
 use Rattle.sip_via.specs.Forwarding.{hops_name}

@@ -1,4 +1,4 @@
-use Rattle.std.proofs.Common.{◌≡◌, ◌∙◌, ◌++◌, ◌∷◌, [], List, ℕ, ap, append_assoc}
+use Rattle.std.proofs.Common.{◌∙◌, ◌++◌, ◌∷◌, [], List, ℕ, ap, append_assoc}
 use Rattle.std.specs.Prelude.{codes}
 use Rattle.sip_text.specs.Seen.{views}
 use Rattle.sip_text.specs.Text.{HeaderText}

@@ -1,4 +1,4 @@
-use Rattle.std.proofs.Common.{◌≡◌, ◌∙◌, ◌++◌, ◌∷◌, [], List, ℕ, ap}
+use Rattle.std.proofs.Common.{◌∙◌, ◌++◌, ◌∷◌, [], List, ℕ, ap}
 use Rattle.std.specs.Prelude.{codes}
 use Rattle.sip_text.specs.declared.parts.Header.{Header}
 use Rattle.sip_text.specs.Name.{first_value}

@@ -1,4 +1,4 @@
-use Rattle.std.proofs.Common.{◌≡◌, List, sym, subst}
+use Rattle.std.proofs.Common.{List, sym, subst}
 use Rattle.sip_text.specs.Message.{IsMessage}
 use Rattle.sip_text.specs.Text.{HeaderText}
 use Rattle.sip_via.specs.Edits.{with_headers}

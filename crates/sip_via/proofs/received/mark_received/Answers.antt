@@ -1,4 +1,4 @@
-use Rattle.std.proofs.Common.{◌≡◌, ◌∙◌, ◌++◌, List, Some, ap, sym, subst}
+use Rattle.std.proofs.Common.{◌∙◌, ◌++◌, List, Some, ap, sym, subst}
 use Rattle.std.specs.Prelude.{codes}
 use Rattle.sip_text.specs.Message.{IsMessage}
 use Rattle.sip_text.specs.Seen.{views}

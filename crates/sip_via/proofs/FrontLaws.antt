@@ -1,0 +1,108 @@
+-- A text is an address where four numbers with dots between them can be taken from its front.
+use Rattle.std.proofs.Common.{◌≡◌, ℕ, Bool, true, false, eqb, List, [], ◌∷◌, ◌++◌, length, take, drop, Option, Some, None, refl, sym, ap, ◌∙◌, inl, inr}
+use Rattle.std.specs.Prelude.{slice_index}
+use Rattle.std.specs.Fmt.{decimal}
+use Rattle.std.specs.Str.{bytes_eq}
+use Rattle.std.proofs.lemmas.Bool.{cases_Bool, cond-true, cond-false, eqb-true}
+use Rattle.std.proofs.lemmas.List.{append-nil, drop_at, take-append-drop, take_at}
+use Rattle.std.proofs.lemmas.Slice.Eq.{bytes_eq-Decides}
+use Rattle.sip_via.specs.Address.{address_text, dotted}
+use Rattle.sip_via.specs.Fronts.{behind_dotted, behind_number, behind_text, is_address, is_end}
+
+abbrev some : List ℕ → Option (List ℕ)
+some text = Some text
+
+some_is : (x y : List ℕ) → some x ≡ some y → x ≡ y
+some_is x y e = cc
+
+-- ---- a text at the front
+
+pub front_found : (front text rest : List ℕ) → behind_text front text ≡ Some rest → text ≡ front ++ rest
+front_found front text rest e =
+    let n = length front in
+    elim (cases_Bool (bytes_eq (take n text) front)) [
+      | inl same ↦
+          let begins : take n text ≡ front = (bytes_eq-Decides (take n text) front).0 same in
+          let ends : drop n text ≡ rest = some_is (drop n text) rest (sym (cond-true _ (some (drop n text)) None same) ∙ e) in
+          sym (take-append-drop n text) ∙ ap (λ (x : List ℕ). x ++ drop n text) begins ∙ ap (λ (x : List ℕ). front ++ x) ends
+      | inr other ↦ let wrong : None ≡ some rest = sym (cond-false _ (some (drop n text)) None other) ∙ e in absurd cc
+    ]
+
+pub front_again : (front rest : List ℕ) → behind_text front (front ++ rest) ≡ Some rest
+front_again front rest =
+    let n = length front in
+    let same : bytes_eq (take n (front ++ rest)) front ≡ true = ap (λ (x : List ℕ). bytes_eq x front) (take_at front rest n refl) ∙ (bytes_eq-Decides front front).1 refl in
+    cond-true _ (some (drop n (front ++ rest))) None same ∙ ap some (drop_at front rest n refl)
+
+-- ---- a dot and a number at the front
+
+pub record IsBehindDotted (n : ℕ) (text : Option (List ℕ)) (rest : List ℕ) : Type 0 where
+  pub whole : List ℕ
+  pub there : text ≡ Some whole
+  pub joins : whole ≡ dotted n ++ rest
+
+pub dotted_found : (n : ℕ) (text : Option (List ℕ)) (rest : List ℕ) → behind_dotted n text ≡ Some rest → IsBehindDotted n text rest
+dotted_found n None rest e = absurd cc
+dotted_found n (Some []) rest e = absurd cc
+dotted_found n (Some (b ∷ bs)) rest e =
+    elim (cases_Bool (eqb b 46)) [
+      | inl dot ↦ record {
+        whole = b ∷ bs;
+        there = refl;
+        joins = ap (λ (c : ℕ). c ∷ bs) (eqb-true b 46 dot) ∙ ap (λ (x : List ℕ). 46 ∷ x) (front_found (decimal n) bs rest (sym (cond-true _ (behind_number n bs) None dot) ∙ e));
+      }
+      | inr other ↦ let wrong : None ≡ some rest = sym (cond-false _ (behind_number n bs) None other) ∙ e in absurd cc
+    ]
+
+pub dotted_again : (n : ℕ) (rest : List ℕ) → behind_dotted n (Some (dotted n ++ rest)) ≡ Some rest
+dotted_again n rest = front_again (decimal n) rest
+
+end_found : (o : Option (List ℕ)) → is_end o ≡ true → o ≡ Some []
+end_found None e = absurd cc
+end_found (Some []) e = refl
+end_found (Some (b ∷ bs)) e = absurd cc
+
+-- ---- an address
+
+address_joins : (a b c d : List ℕ) → a ++ (b ++ (c ++ (d ++ []))) ≡ a ++ (b ++ (c ++ d))
+address_joins a b c d = ap (λ (x : List ℕ). a ++ (b ++ (c ++ x))) (append-nil d)
+
+pub address_found : (addr text : List ℕ) → is_address addr text ≡ true → text ≡ address_text addr
+address_found addr text e =
+    let a = slice_index addr 0 in
+    let b = slice_index addr 1 in
+    let c = slice_index addr 2 in
+    let d = slice_index addr 3 in
+    let one = behind_number a text in
+    let two = behind_dotted b one in
+    let three = behind_dotted c two in
+    let last = dotted_found d three [] (end_found (behind_dotted d three) e) in
+    let third = dotted_found c two last.whole last.there in
+    let second = dotted_found b one third.whole third.there in
+    let first = front_found (decimal a) text second.whole second.there in
+    first
+    ∙ ap (λ (x : List ℕ). decimal a ++ x) (second.joins ∙ ap (λ (x : List ℕ). dotted b ++ x) (third.joins ∙ ap (λ (x : List ℕ). dotted c ++ x) last.joins))
+    ∙ address_joins (decimal a) (dotted b) (dotted c) (dotted d)
+
+pub address_again : (addr : List ℕ) → is_address addr (address_text addr) ≡ true
+address_again addr =
+    let a = slice_index addr 0 in
+    let b = slice_index addr 1 in
+    let c = slice_index addr 2 in
+    let d = slice_index addr 3 in
+    ap (is_address addr) (sym (address_joins (decimal a) (dotted b) (dotted c) (dotted d)))
+    ∙ ap (λ (o : Option (List ℕ)). is_end (behind_dotted d (behind_dotted c (behind_dotted b o)))) (front_again (decimal a) (dotted b ++ (dotted c ++ (dotted d ++ []))))
+    ∙ ap (λ (o : Option (List ℕ)). is_end (behind_dotted d (behind_dotted c o))) (dotted_again b (dotted c ++ (dotted d ++ [])))
+    ∙ ap (λ (o : Option (List ℕ)). is_end (behind_dotted d o)) (dotted_again c (dotted d ++ []))
+    ∙ ap is_end (dotted_again d [])
+
+same_tests : (p q : Bool) → (p ≡ true → q ≡ true) → (q ≡ true → p ≡ true) → p ≡ q
+same_tests true q f g = sym (f refl)
+same_tests false true f g = g refl
+same_tests false false f g = refl
+
+pub address_is : (addr text : List ℕ) → is_address addr text ≡ bytes_eq text (address_text addr)
+address_is addr text =
+    same_tests (is_address addr text) (bytes_eq text (address_text addr))
+    (λ e. (bytes_eq-Decides text (address_text addr)).1 (address_found addr text e))
+    (λ e. ap (is_address addr) ((bytes_eq-Decides text (address_text addr)).0 e) ∙ address_again addr)

@@ -1,0 +1,496 @@
+-- What is a Via value is read as it.
+use Rattle.std.proofs.Common.{◌≡◌, ◌≢◌, ℕ, ◌+◌, Bool, true, false, not, cond, eqb, ltb, List, [], ◌∷◌, ◌++◌, length, map, take, drop, reverse, Option, Some, None, Result, Ok, Err, refl, sym, ap, subst, ◌∙◌, append_assoc, inl, inr, arith}
+use Rattle.std.specs.Prelude.{IfSome, OnSome, ◌||◌, ◌&&◌, codes, option_map}
+use Rattle.std.specs.Char.{is_ascii_digit, to_ascii_lowercase}
+use Rattle.std.specs.List.{list_all, AllByRecursion, flat_map}
+use Rattle.std.specs.Str.{bytes_eq, str_to_ascii_lowercase}
+use Rattle.std.proofs.lemmas.Bool.{and_from, and_parts, cond-true, cond-false, eqb-true, false_from_ne_true, false≢true, le-leb, lt-ltb}
+use Rattle.std.proofs.lemmas.List.{append-nil, drop_at, length-append, reverse-append, reverse-reverse, take_at}
+use Rattle.std.proofs.lemmas.List.Folds.{list_all-append}
+use Rattle.std.proofs.lemmas.Slice.Eq.{bytes_eq-Decides}
+use Rattle.sip_lex.specs.declared.sheltered.Shelter.TheVariants.{Quotes}
+use Rattle.sip_lex.specs.declared.sheltered.Place.{Place}
+use Rattle.sip_lex.specs.declared.sheltered.Place.TheVariants.{Angled, Escaped, Plain, Quoted}
+use Rattle.sip_lex.specs.Bytes.{is_space, is_token, is_token_byte, trim, trim_end, trim_start}
+use Rattle.sip_lex.specs.Cut.{behind, cut, is, Lacks}
+use Rattle.sip_lex.specs.Number.{number}
+use Rattle.sip_lex.specs.Outside.{pieces_outside_behind}
+use Rattle.sip_lex.specs.Quoted.{IsInside, quoted_at}
+use Rattle.sip_lex.specs.Sheltered.{LacksOutside, cut_outside, end_place, place_after}
+use Rattle.sip_lex.proofs.Cuts.{cut_again, Lacks-append, Lacks-pass}
+use Rattle.sip_lex.proofs.OutsideSplits.{pieces_outside-cut}
+use Rattle.sip_lex.proofs.Quotes.{quoted_at-again}
+use Rattle.sip_lex.proofs.Shelters.{cut_outside_again}
+use Rattle.sip_lex.proofs.Splits.{joined, joined-behind}
+use Rattle.sip_lex.proofs.Trims.{token_bytes, trim_end-passes, trim_end-reverse, trim_start-none, trim_start-spaces}
+use Rattle.sip_uri.specs.Host.{BeginsWithEnd, IsHost, IsPort, ends_host, host_len, is_address_byte, is_host_byte}
+use Rattle.sip_uri.proofs.Hosts.{IsHost-is_host, full-ltb, other_than}
+use Rattle.sip_via.specs.declared.own.ViaFault.{ViaFault}
+use Rattle.sip_via.specs.declared.own.ViaFault.TheVariants.{BadVia}
+use Rattle.sip_via.specs.ViaGrammar.{AreParamGaps, AreViaGaps, IsSpace, IsValue, IsVia, IsViaParam, ParamGaps, ViaGaps, param_spelling, param_text, params_spelling, spaced, spelling, tail_spelling, value_spelling}
+use Rattle.sip_via.specs.ViaParts.{Parts, ViaText, are_parts, is_param, is_port_if_any, is_trimmed, is_value, is_value_byte, is_value_if_any, is_via, is_whole, or_empty, params_of, parts_of, port_and_params, read_via, via_of, via_of_parts}
+use Rattle.sip_via.proofs.HeaderValues.{no_space}
+use Rattle.sip_via.proofs.Tokens.{all_pass}
+
+abbrev Cut : Type 0
+Cut = List ℕ × Option (List ℕ)
+
+abbrev Marks : Type 0
+Marks = Option (List ℕ) × Option (List ℕ)
+
+-- ---- bytes
+
+not_space : (b : ℕ) → no_space b ≡ true → is_space b ≡ false
+not_space b h = is_not (is_space b) h
+  where
+    is_not : (t : Bool) → not t ≡ true → t ≡ false
+    is_not true e = absurd (false≢true e)
+    is_not false e = refl
+
+-- a byte of a class without space and tab is none
+class_no_space : (p : ℕ → Bool) → p 32 ≡ false → p 9 ≡ false → (b : ℕ) → p b ≡ true → no_space b ≡ true
+class_no_space p space tab b h = ap (λ t. not (t || eqb b 9)) (other_than p b 32 space h) ∙ ap not (other_than p b 9 tab h)
+
+class_runs_on : (p : ℕ → Bool) → p 58 ≡ false → p 59 ≡ false → p 63 ≡ false → (b : ℕ) → p b ≡ true → ends_host b ≡ false
+class_runs_on p colon semicolon question b h =
+    ap (λ t. (t || eqb b 59) || eqb b 63) (other_than p b 58 colon h) ∙ ap (λ t. t || eqb b 63) (other_than p b 59 semicolon h) ∙ other_than p b 63 question h
+
+all_joined : (p : ℕ → Bool) (xs ys : List ℕ) → list_all p xs ≡ true → list_all p ys ≡ true → list_all p (xs ++ ys) ≡ true
+all_joined p xs ys h k = list_all-append p xs ys ∙ and_from (list_all p xs) (list_all p ys) h k
+
+-- ---- texts with space round them
+
+-- a text that begins with another byte than space
+abbrev Starts : List ℕ → Type 0
+Starts [] = ⊥
+Starts (b ∷ bs) = is_space b ≡ false
+
+start_kept : (gap bs rest : List ℕ) → IsSpace gap → Starts bs → trim_start (gap ++ (bs ++ rest)) ≡ bs ++ rest
+start_kept gap [] rest space s = absurd s
+start_kept gap (b ∷ bs) rest space s = trim_start-spaces gap (b ∷ (bs ++ rest)) space ∙ trim_start-none b (bs ++ rest) s
+
+-- a text that begins and ends so
+record IsBare (bs : List ℕ) : Type 0 where
+  starts : Starts bs
+  ends : (gap : List ℕ) → IsSpace gap → trim_end (bs ++ gap) ≡ bs
+
+bare_trim : (before bs after : List ℕ) → IsSpace before → IsSpace after → IsBare bs → trim (before ++ (bs ++ after)) ≡ bs
+bare_trim before bs after front back h = ap trim_end (start_kept before bs after front h.starts) ∙ h.ends after back
+
+passes_starts : (bs : List ℕ) → bs ≢ [] → list_all no_space bs ≡ true → Starts bs
+passes_starts [] more h = more refl
+passes_starts (b ∷ bs) more h = not_space b (and_parts (no_space b) (list_all no_space bs) h).0
+
+no_space_bare : (bs : List ℕ) → bs ≢ [] → list_all no_space bs ≡ true → IsBare bs
+no_space_bare bs some h = record { starts = passes_starts bs some h; ends = λ gap space. trim_end-passes no_space not_space bs gap h space }
+
+class_bare : (p : ℕ → Bool) → p 32 ≡ false → p 9 ≡ false → (bs : List ℕ) → bs ≢ [] → list_all p bs ≡ true → IsBare bs
+class_bare p space tab bs some h = no_space_bare bs some (all_pass p no_space bs (class_no_space p space tab) h)
+
+all_reverse : (p : ℕ → Bool) (bs : List ℕ) → list_all p bs ≡ true → list_all p (reverse bs) ≡ true
+all_reverse p [] h = refl
+all_reverse p (b ∷ bs) h =
+    let each = and_parts (p b) (list_all p bs) h in
+    ap (list_all p) (reverse-append (b ∷ []) bs) ∙ all_joined p (reverse bs) (b ∷ []) (all_reverse p bs each.1) (ap (λ t. t && true) each.0)
+
+-- one that a byte other than space ends
+ended_bare : (b c : ℕ) (bs : List ℕ) → is_space b ≡ false → is_space c ≡ false → IsBare (b ∷ (bs ++ c ∷ []))
+ended_bare b c bs first last = record {
+  starts = first;
+  ends = λ gap space.
+      let text = b ∷ (bs ++ c ∷ []) in
+      let back : reverse text ≡ c ∷ reverse (b ∷ bs) = reverse-append (b ∷ bs) (c ∷ []) in
+      trim_end-reverse (text ++ gap)
+      ∙ ap (λ (x : List ℕ). reverse (trim_start x)) (reverse-append text gap)
+      ∙ ap reverse (trim_start-spaces (reverse gap) (reverse text) (all_reverse is_space gap space) ∙ ap trim_start back ∙ trim_start-none c (reverse (b ∷ bs)) last ∙ sym back)
+      ∙ reverse-reverse text;
+}
+
+token_some : (bs : List ℕ) → is_token bs ≡ true → bs ≢ []
+token_some [] h = λ e. absurd (false≢true h)
+token_some (b ∷ bs) h = λ e. absurd cc
+
+token_bare : (bs : List ℕ) → is_token bs ≡ true → IsBare bs
+token_bare bs h = class_bare is_token_byte refl refl bs (token_some bs h) (token_bytes bs h)
+
+host_bare : (host : List ℕ) → IsHost host → IsBare host
+host_bare host (inl name) = class_bare is_host_byte refl refl host name.0 name.1
+host_bare host (inr r) = subst IsBare (sym r.1) (ended_bare 91 93 r.0 refl refl)
+
+digits_all : (digits : List ℕ) → IsPort digits → list_all is_ascii_digit digits ≡ true
+digits_all digits p = (and_parts (ltb 0 (length digits)) (list_all is_ascii_digit digits) p.digits).1
+
+port_some : (digits : List ℕ) → IsPort digits → digits ≢ []
+port_some [] p = λ e. absurd (false≢true p.digits)
+port_some (d ∷ digits) p = λ e. absurd cc
+
+port_bare : (digits : List ℕ) → IsPort digits → IsBare digits
+port_bare digits p = class_bare is_ascii_digit refl refl digits (port_some digits p) (digits_all digits p)
+
+value_bare : (value : List ℕ) → IsValue value → IsBare value
+value_bare value (inl plain) = class_bare is_value_byte refl refl value plain.0 plain.1
+value_bare value (inr q) = subst IsBare (sym q.1.0) (ended_bare 34 34 q.0 refl refl)
+
+space_lacks : (mark : ℕ) (gap : List ℕ) → is_space mark ≡ false → IsSpace gap → Lacks mark gap
+space_lacks mark gap other space = Lacks-pass is_space mark gap other space
+
+-- ---- a name that is `sip` in any case
+
+lowered_lacks : (mark : ℕ) (bs : List ℕ) → to_ascii_lowercase mark ≡ mark → Lacks mark (map to_ascii_lowercase bs) → Lacks mark bs
+lowered_lacks mark [] same h = tt
+lowered_lacks mark (b ∷ bs) same h = (λ e. h.0 (ap to_ascii_lowercase e ∙ same), lowered_lacks mark bs same h.1)
+
+lacks_all : (bs : List ℕ) → Lacks 32 bs → Lacks 9 bs → list_all no_space bs ≡ true
+lacks_all [] h k = refl
+lacks_all (b ∷ bs) h k =
+    and_from (no_space b) (list_all no_space bs)
+    (ap (λ t. not (t || eqb b 9)) (false_from_ne_true (eqb b 32) (λ e. h.0 (eqb-true b 32 e))) ∙ ap not (false_from_ne_true (eqb b 9) (λ e. k.0 (eqb-true b 9 e))))
+    (lacks_all bs h.1 k.1)
+
+sip_lacks : (mark : ℕ) (name : List ℕ) → to_ascii_lowercase mark ≡ mark → is_token_byte mark ≡ false → map to_ascii_lowercase name ≡ codes "sip" → Lacks mark name
+sip_lacks mark name same other e = lowered_lacks mark name same (subst (Lacks mark) (sym e) (Lacks-pass is_token_byte mark (codes "sip") other refl))
+
+sip_no_space : (name : List ℕ) → map to_ascii_lowercase name ≡ codes "sip" → list_all no_space name ≡ true
+sip_no_space name e = lacks_all name (sip_lacks 32 name refl refl e) (sip_lacks 9 name refl refl e)
+
+-- ---- parameters
+
+param_front : (g : ParamGaps) (name : List ℕ) → AreParamGaps g → is_token name ≡ true → Lacks 61 (g.before ++ (name ++ g.behind_name))
+param_front g name spaces token =
+    Lacks-append 61 g.before (name ++ g.behind_name) (space_lacks 61 g.before refl spaces.before)
+    (Lacks-append 61 name g.behind_name (Lacks-pass is_token_byte 61 name refl (token_bytes name token)) (space_lacks 61 g.behind_name refl spaces.behind_name))
+
+abbrev value_in : ParamGaps → Option (List ℕ) → Option (List ℕ)
+value_in g None = None
+value_in g (Some value) = Some (g.before_value ++ (value ++ g.behind_value))
+
+padded : (before inner after rest : List ℕ) → (before ++ (inner ++ after)) ++ rest ≡ before ++ (inner ++ (after ++ rest))
+padded before inner after rest = append_assoc before (inner ++ after) rest ∙ ap (λ (x : List ℕ). before ++ x) (append_assoc inner after rest)
+
+param_joins : (g : ParamGaps) (name : List ℕ) (value : Option (List ℕ)) → param_spelling g name value ≡ (g.before ++ (name ++ g.behind_name)) ++ behind 61 (value_in g value)
+param_joins g name None = sym (append-nil (g.before ++ (name ++ g.behind_name)))
+param_joins g name (Some value) = sym (padded g.before name g.behind_name (61 ∷ (g.before_value ++ (value ++ g.behind_value))))
+
+abbrev some_text : List ℕ → Option (List ℕ)
+some_text text = Some text
+
+value_trims : (g : ParamGaps) (value : Option (List ℕ)) → AreParamGaps g → IfSome value IsValue → option_map trim (value_in g value) ≡ value
+value_trims g None spaces h = refl
+value_trims g (Some value) spaces h = ap some_text (bare_trim g.before_value value g.behind_value spaces.before_value spaces.behind_value (value_bare value h))
+
+value_good : (value : List ℕ) → IsValue value → is_value value ≡ true
+value_good value (inl plain) = ap (λ t. t || is_whole (quoted_at value)) (and_from (ltb 0 (length value)) (list_all is_value_byte value) (full-ltb value plain.0) plain.1)
+value_good value (inr q) = or_right _ _ (ap is_whole (ap quoted_at q.1.0 ∙ quoted_at-again q.0 [] q.1.1))
+  where
+    or_right : (a b : Bool) → b ≡ true → (a || b) ≡ true
+    or_right true b e = refl
+    or_right false b e = e
+
+value_if_any : (value : Option (List ℕ)) → IfSome value IsValue → is_value_if_any value ≡ true
+value_if_any None h = refl
+value_if_any (Some value) h = value_good value h
+
+abbrev good_cut : Cut → Bool
+good_cut c = is_token (trim c.0) && is_value_if_any (option_map trim c.1)
+
+param_good : (param : List ℕ) → IsViaParam param → is_param param ≡ true
+param_good param h =
+    let front = h.gaps.before ++ (h.name ++ h.gaps.behind_name) in
+    let cuts : cut (is 61) param ≡ (front, value_in h.gaps h.value) = ap (cut (is 61)) (h.spelled ∙ param_joins h.gaps h.name h.value) ∙ cut_again 61 front (value_in h.gaps h.value) (param_front h.gaps h.name h.spaces h.token) in
+    let name : trim front ≡ h.name = bare_trim h.gaps.before h.name h.gaps.behind_name h.spaces.before h.spaces.behind_name (token_bare h.name h.token) in
+    ap good_cut cuts
+    ∙ and_from (is_token (trim front)) (is_value_if_any (option_map trim (value_in h.gaps h.value))) (ap is_token name ∙ h.token) (ap is_value_if_any (value_trims h.gaps h.value h.spaces h.valued) ∙ value_if_any h.value h.valued)
+
+params_good : (params : List (List ℕ)) → AllByRecursion IsViaParam params → list_all is_param params ≡ true
+params_good [] h = refl
+params_good (p ∷ ps) h = and_from (is_param p) (list_all is_param ps) (param_good p h.0) (params_good ps h.1)
+
+-- ---- no `;` stands in a parameter but in quotes, and its quotes are closed
+
+record IsCalm (place : Place) (bs : List ℕ) : Type 0 where
+  lacks : LacksOutside Quotes 59 place bs
+  ends : end_place Quotes place bs ≡ Plain
+
+abbrev neither : ℕ → Bool
+neither b = not (eqb b 59) && not (eqb b 34)
+
+calm_append : (xs : List ℕ) → list_all neither xs ≡ true → (ys : List ℕ) → IsCalm Plain ys → IsCalm Plain (xs ++ ys)
+calm_append [] h ys k = k
+calm_append (b ∷ xs) h ys k =
+    let each = and_parts (neither b) (list_all neither xs) h in
+    let byte = and_parts (not (eqb b 59)) (not (eqb b 34)) each.0 in
+    let semicolon : eqb b 59 ≡ false = not_true (eqb b 59) byte.0 in
+    let stays : place_after Quotes Plain b ≡ Plain = plain_after b (not_true (eqb b 34) byte.1) in
+    let rest = calm_append xs each.1 ys k in
+    record {
+      lacks = (semicolon, subst (λ (p : Place). LacksOutside Quotes 59 p (xs ++ ys)) (sym stays) rest.lacks);
+      ends = ap (λ (p : Place). end_place Quotes p (xs ++ ys)) stays ∙ rest.ends;
+    }
+  where
+    not_true : (t : Bool) → not t ≡ true → t ≡ false
+    not_true true e = absurd (false≢true e)
+    not_true false e = refl
+
+    no_angle : (t : Bool) → cond (t && false) Angled Plain ≡ Plain
+    no_angle true = refl
+    no_angle false = refl
+
+    plain_after : (b : ℕ) → eqb b 34 ≡ false → place_after Quotes Plain b ≡ Plain
+    plain_after b e = cond-false (eqb b 34) Quoted (cond (eqb b 60 && false) Angled Plain) e ∙ no_angle (eqb b 60)
+
+calm_all : (xs : List ℕ) → list_all neither xs ≡ true → IsCalm Plain xs
+calm_all xs h = subst (IsCalm Plain) (append-nil xs) (calm_append xs h [] (record { lacks = tt; ends = refl }))
+
+class_neither : (p : ℕ → Bool) → p 59 ≡ false → p 34 ≡ false → (b : ℕ) → p b ≡ true → neither b ≡ true
+class_neither p semicolon quote b h = ap (λ t. not t && not (eqb b 34)) (other_than p b 59 semicolon h) ∙ ap not (other_than p b 34 quote h)
+
+class_calm : (p : ℕ → Bool) → p 59 ≡ false → p 34 ≡ false → (xs : List ℕ) → list_all p xs ≡ true → list_all neither xs ≡ true
+class_calm p semicolon quote xs h = all_pass p neither xs (class_neither p semicolon quote) h
+
+-- inside quotes
+abbrev place_in : Bool → Place
+place_in true = Escaped
+place_in false = Quoted
+
+inside_calm : (escaped : Bool) (inside ys : List ℕ) → IsInside escaped inside → IsCalm Plain ys → IsCalm (place_in escaped) (inside ++ (34 ∷ ys))
+inside_calm true [] ys h k = absurd (false≢true (sym h))
+inside_calm false [] ys h k = record { lacks = (refl, k.lacks); ends = k.ends }
+inside_calm true (b ∷ inside) ys h k =
+    let rest = inside_calm false inside ys h.1 k in
+    record { lacks = (refl, rest.lacks); ends = rest.ends }
+inside_calm false (b ∷ inside) ys h k =
+    let rest = inside_calm (eqb b 92) inside ys h.1 k in
+    let later : place_after Quotes Quoted b ≡ place_in (eqb b 92) = after_quoted (eqb b 92) (eqb b 34) (and_true (eqb b 34) h.0) in
+    record {
+      lacks = (refl, subst (λ (p : Place). LacksOutside Quotes 59 p (inside ++ (34 ∷ ys))) (sym later) rest.lacks);
+      ends = ap (λ (p : Place). end_place Quotes p (inside ++ (34 ∷ ys))) later ∙ rest.ends;
+    }
+  where
+    and_true : (t : Bool) → (t && true) ≡ false → t ≡ false
+    and_true true e = e
+    and_true false e = refl
+
+    after_quoted : (s t : Bool) → t ≡ false → cond s Escaped (cond t Plain Quoted) ≡ place_in s
+    after_quoted true t e = refl
+    after_quoted false true e = absurd (false≢true (sym e))
+    after_quoted false false e = refl
+
+quoted_calm : (inside ys : List ℕ) → IsInside false inside → IsCalm Plain ys → IsCalm Plain (34 ∷ (inside ++ (34 ∷ ys)))
+quoted_calm inside ys h k = let rest = inside_calm false inside ys h k in record { lacks = (refl, rest.lacks); ends = rest.ends }
+
+value_calm : (value ys : List ℕ) → IsValue value → IsCalm Plain ys → IsCalm Plain (value ++ ys)
+value_calm value ys (inl plain) k = calm_append value (class_calm is_value_byte refl refl value plain.1) ys k
+value_calm value ys (inr q) k =
+    subst (λ (x : List ℕ). IsCalm Plain (x ++ ys)) (sym q.1.0) (subst (λ (x : List ℕ). IsCalm Plain (34 ∷ x)) (sym (append_assoc q.0 (34 ∷ []) ys)) (quoted_calm q.0 ys q.1.1 k))
+
+space_calm : (gap : List ℕ) → IsSpace gap → list_all neither gap ≡ true
+space_calm gap space = class_calm is_space refl refl gap space
+
+tail_calm : (g : ParamGaps) (value : Option (List ℕ)) → AreParamGaps g → IfSome value IsValue → IsCalm Plain (value_spelling g value)
+tail_calm g None spaces h = calm_all g.behind_name (space_calm g.behind_name spaces.behind_name)
+tail_calm g (Some value) spaces h =
+    calm_append g.behind_name (space_calm g.behind_name spaces.behind_name) (61 ∷ (g.before_value ++ (value ++ g.behind_value)))
+    (calm_append (61 ∷ []) refl (g.before_value ++ (value ++ g.behind_value))
+    (calm_append g.before_value (space_calm g.before_value spaces.before_value) (value ++ g.behind_value)
+    (value_calm value g.behind_value h (calm_all g.behind_value (space_calm g.behind_value spaces.behind_value)))))
+
+param_calm : (param : List ℕ) → IsViaParam param → IsCalm Plain param
+param_calm param h =
+    subst (IsCalm Plain) (sym h.spelled)
+    (calm_append h.gaps.before (space_calm h.gaps.before h.spaces.before) (h.name ++ value_spelling h.gaps h.value)
+    (calm_append h.name (class_calm is_token_byte refl refl h.name (token_bytes h.name h.token)) (value_spelling h.gaps h.value)
+    (tail_calm h.gaps h.value h.spaces h.valued)))
+
+abbrev of_cut : Cut → List (List ℕ)
+of_cut c = c.0 ∷ pieces_outside_behind Quotes 59 c.1
+
+on_some : (o : Option (List ℕ)) (P : Type 0) → P → OnSome o P
+on_some None P p = tt
+on_some (Some x) P p = p
+
+params_again : (params : List (List ℕ)) → AllByRecursion IsViaParam params → params_of (joined 59 params) ≡ params
+params_again [] all = refl
+params_again (p ∷ ps) all =
+    let calm = param_calm p all.0 in
+    pieces_outside-cut Quotes 59 (p ++ flat_map param_text ps)
+    ∙ ap (λ (x : List ℕ). of_cut (cut_outside Quotes 59 Plain (p ++ x))) (joined-behind 59 ps)
+    ∙ ap of_cut (cut_outside_again Quotes 59 Plain p (joined 59 ps) calm.lacks (on_some (joined 59 ps) _ calm.ends))
+    ∙ ap (λ (rest : List (List ℕ)). p ∷ rest) (params_again ps all.1)
+
+-- ---- the host ends where it ended
+
+runs_on : (p : ℕ → Bool) → ((b : ℕ) → p b ≡ true → ends_host b ≡ false) → p 91 ≡ false → (bs rest : List ℕ) → list_all p bs ≡ true → host_len false (bs ++ rest) ≡ length bs + host_len false rest
+runs_on p on bracket [] rest h = let k : host_len false rest ≡ length {A = ℕ} [] + host_len false rest = omega arith in k
+runs_on p on bracket (b ∷ bs) rest h =
+    let each = and_parts (p b) (list_all p bs) h in
+    let k : 1 + (length bs + host_len false rest) ≡ length (b ∷ bs) + host_len false rest = omega arith in
+    cond-false (ends_host b) 0 (1 + host_len (eqb b 91) (bs ++ rest)) (on b each.0) ∙ ap (λ t. 1 + host_len t (bs ++ rest)) (other_than p b 91 bracket each.0) ∙ ap (λ n. 1 + n) (runs_on p on bracket bs rest each.1) ∙ k
+
+inner_runs_on : (inner rest : List ℕ) → list_all is_address_byte inner ≡ true → host_len true (inner ++ (93 ∷ rest)) ≡ 1 + (length inner + host_len false rest)
+inner_runs_on [] rest h = let k : 1 + host_len false rest ≡ 1 + (length {A = ℕ} [] + host_len false rest) = omega arith in k
+inner_runs_on (b ∷ bs) rest h =
+    let each = and_parts (is_address_byte b) (list_all is_address_byte bs) h in
+    let k : 1 + (1 + (length bs + host_len false rest)) ≡ 1 + (length (b ∷ bs) + host_len false rest) = omega arith in
+    ap (λ t. 1 + host_len (not t) (bs ++ (93 ∷ rest))) (other_than is_address_byte b 93 refl each.0) ∙ ap (λ n. 1 + n) (inner_runs_on bs rest each.1) ∙ k
+
+host_runs_on : (host rest : List ℕ) → IsHost host → host_len false (host ++ rest) ≡ length host + host_len false rest
+host_runs_on host rest (inl name) = runs_on is_host_byte (class_runs_on is_host_byte refl refl refl) refl host rest name.1
+host_runs_on host rest (inr r) =
+    let text : host ++ rest ≡ 91 ∷ (r.0 ++ (93 ∷ rest)) = ap (λ (x : List ℕ). x ++ rest) r.1 ∙ ap (λ (x : List ℕ). 91 ∷ x) (append_assoc r.0 (93 ∷ []) rest) in
+    ap (host_len false) text ∙ ap (λ n. 1 + n) (inner_runs_on r.0 rest r.3) ∙ omega (arith, ap length r.1, length-append r.0 (93 ∷ []))
+
+stops_at : (tail : List ℕ) → BeginsWithEnd tail → host_len false tail ≡ 0
+stops_at [] h = refl
+stops_at (b ∷ bs) h = cond-true (ends_host b) 0 (1 + host_len (eqb b 91) bs) h
+
+host_ends : (host gap tail : List ℕ) → IsHost host → IsSpace gap → BeginsWithEnd tail → host_len false (host ++ (gap ++ tail)) ≡ length (host ++ gap)
+host_ends host gap tail h space ends =
+    let a = host_runs_on host (gap ++ tail) h in
+    let b = runs_on is_space (class_runs_on is_space refl refl refl) refl gap tail space in
+    let c = stops_at tail ends in
+    let d = length-append host gap in
+    omega (arith, a, b, c, d)
+
+-- ---- the parts, cut by cut
+
+abbrev with_tail : List ℕ → List ℕ → List ℕ → List ℕ → Marks → Parts
+with_tail protocol version transport host marks = record { protocol = protocol; version = version; transport = transport; host = host; port = marks.0; params = marks.1 }
+
+abbrev with_len : List ℕ → List ℕ → List ℕ → List ℕ → ℕ → Parts
+with_len protocol version transport sent n = with_tail protocol version transport (trim_end (take n sent)) (port_and_params (drop n sent))
+
+abbrev with_sent : List ℕ → List ℕ → List ℕ → List ℕ → Parts
+with_sent protocol version transport sent = with_len protocol version transport sent (host_len false sent)
+
+abbrev with_third : List ℕ → List ℕ → Cut → Parts
+with_third protocol version c = with_sent protocol version c.0 (trim_start (or_empty c.1))
+
+abbrev with_second : List ℕ → Cut → Parts
+with_second protocol c = with_third protocol (trim c.0) (cut is_space (trim_start (or_empty c.1)))
+
+abbrev with_first : Cut → Parts
+with_first c = with_second (trim_end c.0) (cut (is 47) (or_empty c.1))
+
+parts_by_cuts : (text : List ℕ) → parts_of text ≡ with_first (cut (is 47) text)
+unfolding parts_of
+parts_by_cuts text = refl
+
+-- what stands behind the host
+record IsTail (text gap tail : List ℕ) (marks : Marks) : Type 0 where
+  joins : text ≡ gap ++ tail
+  space : IsSpace gap
+  ends : BeginsWithEnd tail
+  cuts : port_and_params tail ≡ marks
+
+no_port_tail : (gap : List ℕ) (params : List (List ℕ)) → IsSpace gap → IsTail (params_spelling gap params) gap (flat_map param_text params) (None, joined 59 params)
+no_port_tail gap [] space = record { joins = refl; space = space; ends = tt; cuts = refl }
+no_port_tail gap (p ∷ ps) space = record { joins = refl; space = space; ends = refl; cuts = refl }
+
+port_tail : (before after gap port : List ℕ) (params : List (List ℕ)) → IsSpace before → IsSpace after → IsSpace gap → IsPort port → IsTail (spaced 58 before after (port ++ params_spelling gap params)) before (58 ∷ (after ++ (port ++ params_spelling gap params))) (Some port, joined 59 params)
+port_tail before after gap port params front back space is_port =
+    let inner = after ++ (port ++ gap) in
+    let text : after ++ (port ++ (gap ++ flat_map param_text params)) ≡ inner ++ behind 59 (joined 59 params) = sym (padded after port gap (flat_map param_text params)) ∙ ap (λ (x : List ℕ). inner ++ x) (joined-behind 59 params) in
+    let lacks = Lacks-append 59 after (port ++ gap) (space_lacks 59 after refl back) (Lacks-append 59 port gap (Lacks-pass is_ascii_digit 59 port refl (digits_all port is_port)) (space_lacks 59 gap refl space)) in
+    let cuts : cut (is 59) (after ++ (port ++ (gap ++ flat_map param_text params))) ≡ (inner, joined 59 params) = ap (cut (is 59)) text ∙ cut_again 59 inner (joined 59 params) lacks in
+    record {
+      joins = refl;
+      space = front;
+      ends = refl;
+      cuts = ap (λ (c : Cut). (Some (trim c.0), c.1)) cuts ∙ ap (λ (x : List ℕ). (Some x, joined 59 params)) (bare_trim after port gap back space (port_bare port is_port));
+    }
+
+sent_again : (protocol version transport host text gap tail : List ℕ) (marks : Marks) → IsHost host → IsTail text gap tail marks → with_sent protocol version transport (host ++ text) ≡ with_tail protocol version transport host marks
+sent_again protocol version transport host text gap tail marks h t =
+    let n = host_len false (host ++ (gap ++ tail)) in
+    let size : n ≡ length (host ++ gap) = host_ends host gap tail h t.space t.ends in
+    let front : take n (host ++ (gap ++ tail)) ≡ host ++ gap = ap (take n) (sym (append_assoc host gap tail)) ∙ take_at (host ++ gap) tail n (sym size) in
+    let back : drop n (host ++ (gap ++ tail)) ≡ tail = ap (drop n) (sym (append_assoc host gap tail)) ∙ drop_at (host ++ gap) tail n (sym size) in
+    ap (λ (x : List ℕ). with_sent protocol version transport (host ++ x)) t.joins
+    ∙ ap (λ (x : List ℕ). with_tail protocol version transport (trim_end x) (port_and_params (drop n (host ++ (gap ++ tail))))) front
+    ∙ ap (λ (x : List ℕ). with_tail protocol version transport x (port_and_params (drop n (host ++ (gap ++ tail))))) ((host_bare host h).ends gap t.space)
+    ∙ ap (λ (x : List ℕ). with_tail protocol version transport host (port_and_params x)) back
+    ∙ ap (with_tail protocol version transport host) t.cuts
+
+cut_space : (ds rest : List ℕ) (b : ℕ) → list_all no_space ds ≡ true → is_space b ≡ true → cut is_space (ds ++ (b ∷ rest)) ≡ (ds, Some rest)
+cut_space [] rest b h space = cond-true (is_space b) ([], Some rest) (b ∷ (cut is_space rest).0, (cut is_space rest).1) space
+cut_space (d ∷ ds) rest b h space =
+    let each = and_parts (no_space d) (list_all no_space ds) h in
+    cond-false (is_space d) ([], Some (ds ++ (b ∷ rest))) (d ∷ (cut is_space (ds ++ (b ∷ rest))).0, (cut is_space (ds ++ (b ∷ rest))).1) (not_space d each.0)
+    ∙ ap (λ (c : Cut). (d ∷ c.0, c.1)) (cut_space ds rest b each.1 space)
+
+host_again : (protocol version transport lws host text gap tail : List ℕ) (marks : Marks) → is_token transport ≡ true → lws ≢ [] → IsSpace lws → IsHost host → IsTail text gap tail marks → with_third protocol version (cut is_space (transport ++ (lws ++ (host ++ text)))) ≡ with_tail protocol version transport host marks
+host_again protocol version transport [] host text gap tail marks token more space h t = absurd (more refl)
+host_again protocol version transport (b ∷ lws) host text gap tail marks token more space h t =
+    let each = and_parts (is_space b) (list_all is_space lws) space in
+    let no_spaces = all_pass is_token_byte no_space transport (class_no_space is_token_byte refl refl) (token_bytes transport token) in
+    ap (with_third protocol version) (cut_space transport (lws ++ (host ++ text)) b no_spaces each.0)
+    ∙ ap (with_sent protocol version transport) (start_kept lws host text each.1 (host_bare host h).starts)
+    ∙ sent_again protocol version transport host text gap tail marks h t
+
+slash_again : (before inner after rest : List ℕ) → IsSpace before → IsSpace after → Lacks 47 inner → cut (is 47) (before ++ (inner ++ (after ++ (47 ∷ rest)))) ≡ (before ++ (inner ++ after), Some rest)
+slash_again before inner after rest front back lacks =
+    ap (cut (is 47)) (sym (padded before inner after (47 ∷ rest)))
+    ∙ cut_again 47 (before ++ (inner ++ after)) (Some rest) (Lacks-append 47 before (inner ++ after) (space_lacks 47 before refl front) (Lacks-append 47 inner after lacks (space_lacks 47 after refl back)))
+
+abbrev version_text : List ℕ
+version_text = codes "2.0"
+
+abbrev tail_of : ViaGaps → ViaText → List ℕ
+tail_of g via = tail_spelling g.before_port g.before_params via.port via.params
+
+abbrev parts_in : ViaGaps → ViaText → Marks → Parts
+parts_in g via marks = with_tail g.name version_text via.transport via.host marks
+
+spelled_again : (g : ViaGaps) (via : ViaText) (gap tail : List ℕ) (marks : Marks) → AreViaGaps g → is_token via.transport ≡ true → IsHost via.host → IsTail (tail_of g via) gap tail marks → parts_of (spelling g via) ≡ parts_in g via marks
+spelled_again g via gap tail marks spaces token h t =
+    let r3 = via.transport ++ (g.before_host ++ (via.host ++ tail_of g via)) in
+    let r2 = g.before_transport.1 ++ r3 in
+    let r1 = g.before_version.1 ++ (version_text ++ (g.before_transport.0 ++ (47 ∷ r2))) in
+    let no_spaces = sip_no_space g.name spaces.sip in
+    parts_by_cuts (spelling g via)
+    ∙ ap with_first (slash_again [] g.name g.before_version.0 r1 refl spaces.before_version.0 (sip_lacks 47 g.name refl refl spaces.sip))
+    ∙ ap (λ (x : List ℕ). with_second x (cut (is 47) r1)) (trim_end-passes no_space not_space g.name g.before_version.0 no_spaces spaces.before_version.0)
+    ∙ ap (with_second g.name) (slash_again g.before_version.1 version_text g.before_transport.0 r2 spaces.before_version.1 spaces.before_transport.0 (Lacks-pass is_token_byte 47 version_text refl refl))
+    ∙ ap (λ (x : List ℕ). with_third g.name x (cut is_space (trim_start r2))) (bare_trim g.before_version.1 version_text g.before_transport.0 spaces.before_version.1 spaces.before_transport.0 (token_bare version_text refl))
+    ∙ ap (λ (x : List ℕ). with_third g.name version_text (cut is_space x)) (start_kept g.before_transport.1 via.transport (g.before_host ++ (via.host ++ tail_of g via)) spaces.before_transport.1 (token_bare via.transport token).starts)
+    ∙ host_again g.name version_text via.transport g.before_host via.host (tail_of g via) gap tail marks token spaces.before_host.0 spaces.before_host.1 h t
+
+abbrev TailOf : ViaGaps → Option (List ℕ) → List (List ℕ) → Type 0
+TailOf g port params = (gap : List ℕ) × (tail : List ℕ) × IsTail (tail_spelling g.before_port g.before_params port params) gap tail (port, joined 59 params)
+
+tail_is : (g : ViaGaps) (port : Option (List ℕ)) (params : List (List ℕ)) → AreViaGaps g → IfSome port IsPort → TailOf g port params
+tail_is g None params spaces h = (g.before_params, flat_map param_text params, no_port_tail g.before_params params spaces.before_params)
+tail_is g (Some port) params spaces h = (g.before_port.0, 58 ∷ (g.before_port.1 ++ (port ++ params_spelling g.before_params params)), port_tail g.before_port.0 g.before_port.1 g.before_params port params spaces.before_port.0 spaces.before_port.1 spaces.before_params h)
+
+parts_again : (text : List ℕ) (via : ViaText) (h : IsVia text via) → parts_of text ≡ parts_in h.gaps via (via.port, joined 59 via.params)
+parts_again text via h =
+    let t = tail_is h.gaps via.port via.params h.spaces h.port in
+    ap parts_of h.spelled ∙ spelled_again h.gaps via t.0 t.1 (via.port, joined 59 via.params) h.spaces h.transport h.host t.2
+
+-- ---- and pass each test
+
+port_good : (port : Option (List ℕ)) → IfSome port IsPort → is_port_if_any port ≡ true
+port_good None h = refl
+port_good (Some digits) h =
+    and_from _ _ (and_from _ _ (and_from _ _ (le-leb (length digits) 5 h.short) h.digits) (lt-ltb 0 (number digits) h.positive)) (le-leb (number digits) 65535 h.within)
+
+tests_pass : (p : Parts) → bytes_eq (str_to_ascii_lowercase p.protocol) (codes "sip") ≡ true → bytes_eq p.version (codes "2.0") ≡ true → is_token p.transport ≡ true → IsHost p.host → IfSome p.port IsPort → list_all is_param (params_of p.params) ≡ true → are_parts p ≡ true
+unfolding are_parts
+tests_pass p protocol version transport host port params =
+    and_from _ _ (and_from _ _ (and_from _ _ (and_from _ _ (and_from _ _ protocol version) transport) (IsHost-is_host p.host host)) (port_good p.port port)) params
+
+abbrev with_params : ViaText → List (List ℕ) → ViaText
+with_params via params = record { transport = via.transport; host = via.host; port = via.port; params = params }
+
+abbrev ok : ViaText → Result ViaText ViaFault
+ok via = Ok via
+
+pub via_again : (text : List ℕ) (via : ViaText) → IsVia text via → read_via text ≡ Ok via
+via_again text via h =
+    let parts = parts_again text via h in
+    let params : params_of (joined 59 via.params) ≡ via.params = params_again via.params h.params in
+    let sip : bytes_eq (str_to_ascii_lowercase h.gaps.name) (codes "sip") ≡ true = ap (λ (s : List ℕ). bytes_eq s (codes "sip")) h.spaces.sip in
+    let good = tests_pass (parts_in h.gaps via (via.port, joined 59 via.params)) sip refl h.transport h.host h.port (ap (list_all is_param) params ∙ params_good via.params h.params) in
+    let reads : is_via text ≡ true = and_from (is_trimmed text) (are_parts (parts_of text)) ((bytes_eq-Decides (trim text) text).1 h.trimmed) (ap are_parts parts ∙ good) in
+    let value : via_of text ≡ via = ap via_of_parts parts ∙ ap (with_params via) params in
+    cond-true (is_via text) (ok (via_of text)) (Err BadVia) reads ∙ ap ok value

@@ -1,0 +1,34 @@
+-- A text is read exactly where it is a Via value.
+use Rattle.std.proofs.Common.{◌≡◌, ℕ, List, Result, Ok, Err, sym, subst, ◌∙◌, inl, inr}
+use Rattle.std.specs.Prelude.{IfOk}
+use Rattle.std.proofs.lemmas.Bool.{and_parts, cases_Bool, cond-false, cond-true}
+use Rattle.sip_via.specs.declared.own.ViaFault.{ViaFault}
+use Rattle.sip_via.specs.declared.own.ViaFault.TheVariants.{BadVia}
+use Rattle.sip_via.specs.ViaFaults.{Gives}
+use Rattle.sip_via.specs.ViaGrammar.{IsVia}
+use Rattle.sip_via.specs.ViaParts.{ViaText, are_parts, is_trimmed, is_via, parts_of, read_via, via_of}
+use Rattle.sip_via.proofs.ViaFound.{via_found}
+use Rattle.sip_via.proofs.ViaOnly.{via_again}
+
+abbrev ok : ViaText → Result ViaText ViaFault
+ok via = Ok via
+
+ok_is : (x y : ViaText) → ok x ≡ ok y → x ≡ y
+ok_is x y e = cc
+
+via_read : (text : List ℕ) (via : ViaText) → read_via text ≡ Ok via → IsVia text via
+via_read text via e =
+    elim (cases_Bool (is_via text)) [
+      | inl so ↦
+          let both = and_parts (is_trimmed text) (are_parts (parts_of text)) so in
+          let same : via_of text ≡ via = ok_is (via_of text) via (sym (cond-true (is_via text) (ok (via_of text)) (Err BadVia) so) ∙ e) in
+          subst (λ (v : ViaText). IsVia text v) same (via_found text both.0 both.1)
+      | inr other ↦ let wrong : Err BadVia ≡ ok via = sym (cond-false (is_via text) (ok (via_of text)) (Err BadVia) other) ∙ e in absurd cc
+    ]
+
+pub is_found : (text : List ℕ) (r : Result ViaText ViaFault) → Gives (λ (v : ViaText). v) r (read_via text) → IfOk r (λ via. IsVia text via)
+is_found text (Ok via) e = via_read text via e
+is_found text (Err f) e = tt
+
+pub only_read : (text : List ℕ) (r : Result ViaText ViaFault) → Gives (λ (v : ViaText). v) r (read_via text) → (via : ViaText) → IsVia text via → Gives (λ (v : ViaText). v) r (Ok via)
+only_read text r h via good = subst (λ (x : Result ViaText ViaFault). Gives (λ (v : ViaText). v) r x) (via_again text via good) h
