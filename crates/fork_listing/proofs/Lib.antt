@@ -8,3 +8,13 @@ mod Sorting
 mod Meanings
 mod Finals
 mod ListedRows
+mod NumberLaws
+mod SpelledParts
+mod SpelledLines
+mod SpelledListings
+mod Growing
+mod FallingRows
+mod GrownTables
+mod AcceptedTexts
+mod ListedForks
+mod MalformedLines

@@ -2,6 +2,7 @@ pub mod Line
 pub mod Reading
 pub mod LineView
 pub mod Text
+pub mod Spelled
 pub mod ReadView
 pub mod First
 pub mod Targets
@@ -9,6 +10,7 @@ pub mod Near
 pub mod Ranks
 pub mod Stored
 pub mod Checking
+pub mod Accepted
 pub mod HeadView
 pub mod Ranking
 pub mod Listed

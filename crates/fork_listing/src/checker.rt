@@ -1,5 +1,7 @@
 //! Whether a text is the listing of a fork as it may have ended, and tells its choice.
-ghost use Rattle.std.specs.Prelude.{◌≡◌, ◌+◌};
+ghost use Rattle.std.specs.Prelude.{◌≡◌, ◌+◌, IfOk, IfErr};
+ghost use Rattle.fork_listing.specs.declared.checker.Verdict as spec;
+ghost use Rattle.fork_listing.specs.Accepted.{IsRightText, IsOkElseNoMemory, IsLineNamed};
 ghost use Rattle.fork_listing.specs.Text.{read_listing};
 ghost use Rattle.fork_listing.specs.Checking.{IsChecked, IsVerdictOf, first_target};
 ghost use Rattle.fork_listing.specs.HeadView.{listing_with, AreBranchesChecked, IsOrderChecked, AreListedChecked, IsLastChecked};
@@ -179,8 +181,13 @@ fn check_in<A: Allocator + Clone>(alloc: A, text: &[u8]) -> Result<Verdict, Chec
 /// # Errors
 ///
 /// The first fault, in the order of `CheckFault`; `NoMemory` only where the arena is refused memory.
+#[tactic(auto, using(crate::proofs::AcceptedTexts::right_of, crate::proofs::AcceptedTexts::right_accepted, crate::proofs::AcceptedTexts::named_of))]
 pub fn check(arena: &Bump, text: &[u8]) -> Result<Verdict, CheckFault>
-    ensures { IsChecked (read_listing text.now) result }
+    ensures checked { IsChecked (read_listing text.now) result }
+    ensures right { IfOk result (IsRightText text.now) }
+    // no right text is refused
+    ensures accepted { (verdict : spec.Verdict) → IsRightText text.now verdict → IsOkElseNoMemory verdict result }
+    ensures malformed { IfErr result (IsLineNamed text.now) }
 {
     check_in(arena, text)
 }

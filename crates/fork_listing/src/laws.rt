@@ -1,5 +1,7 @@
 //! What it means that a listing is right.
 ghost use Rattle.fork_listing.specs.Meaning.{RightTellsTheChoice, AcceptedTellsTheChoice};
+ghost use Rattle.fork_listing.specs.Spelled.{ReadExactly, RefusedByFirst};
+ghost use Rattle.fork_listing.specs.Accepted.{AcceptedTextsAreRight, RightTextsAreAccepted, ListingsAreRight};
 
 /// Where `check` accepts a text, the answers listed are exactly those stored, each ranks before those behind it, and the
 /// last line tells the answer that none stored ranks before, or a 500 in place of a 503, or a 408 where nothing is stored
@@ -10,4 +12,32 @@ ghost use Rattle.fork_listing.specs.Meaning.{RightTellsTheChoice, AcceptedTellsT
 pub fn accepted_listing_tells_the_choice()
     ensures right { RightTellsTheChoice }
     ensures accepted { AcceptedTellsTheChoice }
+{}
+
+/// A listing is read of exactly the text that spells it: what is spelled is read, and nothing else. Any other text is
+/// refused by the number of its first line that is not of the form due in its place.
+///
+/// A law over the definitions, with nothing to run.
+#[tactic(auto, using(crate::proofs::SpelledListings::read_exactly, crate::proofs::MalformedLines::refused_by_first))]
+pub fn listing_is_read_exactly()
+    ensures exactly { ReadExactly }
+    ensures refused { RefusedByFirst }
+{}
+
+/// `check` accepts exactly the texts of right listings, want of memory aside.
+///
+/// A law over the definitions, with nothing to run.
+#[tactic(auto, using(crate::proofs::AcceptedTexts::accepted_right, crate::proofs::AcceptedTexts::right_accepted))]
+pub fn right_texts_are_accepted()
+    ensures accepted { AcceptedTextsAreRight }
+    ensures right { RightTextsAreAccepted }
+{}
+
+/// Whatever has happened to a fork, its listing is right, so that `check` accepts it, where each q that it was given is
+/// at most one (RFC 3261 sections 16.5 to 16.7).
+///
+/// A law over the definitions, with nothing to run.
+#[tactic(auto, using(crate::proofs::ListedForks::listings_right))]
+pub fn listings_of_forks_are_right()
+    ensures { ListingsAreRight }
 {}

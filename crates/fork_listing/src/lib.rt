@@ -13,7 +13,12 @@ mod ranks;
 mod targets;
 #[cfg(test)]
 mod tests;
+#[cfg(test)]
+mod text_tests;
 
 pub use checker::{CheckFault, Verdict, check};
-pub use laws::accepted_listing_tells_the_choice;
+pub use laws::{
+    accepted_listing_tells_the_choice, listing_is_read_exactly, listings_of_forks_are_right,
+    right_texts_are_accepted,
+};
 pub use lister::{ListFault, listing};

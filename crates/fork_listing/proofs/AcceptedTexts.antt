@@ -1,0 +1,161 @@
+-- Exactly the texts of right listings are accepted.
+use Rattle.std.proofs.Common.{◌≡◌, ℕ, zero, suc, ◌<◌, ◌≤◌, List, [], ◌∷◌, ◌++◌, map, length, Option, Some, None, Result, Ok, Err, refl, sym, ap, subst, ◌∙◌, arith, inl, inr, ◌⊎◌}
+use Rattle.std.specs.Prelude.{slice_get, option_and_then, IfOk, IfErr}
+use Rattle.std.specs.Option.{option_map}
+use Rattle.std.specs.List.{AllByRecursion}
+use Rattle.std.proofs.lemmas.Bool.{cases_lt}
+use Rattle.fork_model.specs.Table.{Row, Rules}
+use Rattle.fork_model.specs.Rank.{Score}
+use Rattle.fork_model.specs.Choice.{HasScore}
+use Rattle.fork_model.specs.OneReply.{AreArrivals}
+use Rattle.fork_model.proofs.OneReplyLemmas.{one_choice}
+use Rattle.fork_listing.specs.declared.line.End.{End}
+use Rattle.fork_listing.specs.declared.line.End.TheVariants.{Stored, Taken, Silent, Never}
+use Rattle.fork_listing.specs.declared.line.Target.{Target}
+use Rattle.fork_listing.specs.declared.checker.Verdict.{Verdict}
+use Rattle.fork_listing.specs.declared.checker.CheckFault.{CheckFault}
+use Rattle.fork_listing.specs.declared.checker.CheckFault.TheVariants as fault
+use Rattle.fork_listing.specs.Line.{Line, TargetLine, most_arrival}
+use Rattle.fork_listing.specs.Targets.{arrival_of, ended_at, IsPlaced, IsInPlace}
+use Rattle.fork_listing.specs.Ranks.{rows_of, score_in, score_at, IsChosen, IsNotChosen, final_of}
+use Rattle.fork_listing.specs.Text.{Listing, rule_lines, lines_of, read_listing}
+use Rattle.fork_listing.specs.Checking.{AreBranches, IsRight, IsVerdictOf, IsChecked, verdict_of}
+use Rattle.fork_listing.specs.Spelled.{IsLine, IsEnd, IsListing, IsTextOf, IsFirstMalformed}
+use Rattle.fork_listing.specs.Accepted.{IsRightText, IsOkElseNoMemory, IsLineNamed, AcceptedTextsAreRight, RightTextsAreAccepted}
+use Rattle.fork_listing.proofs.MalformedLines.{refused_by_first}
+use Rattle.fork_listing.proofs.Meanings.{same_score}
+use Rattle.fork_listing.proofs.Placing.{inside}
+use Rattle.fork_listing.proofs.SpelledListings.{read_exactly}
+use Rattle.fork_listing.proofs.SpelledParts.{some_is}
+
+none_some : {X : Type 0} {x : X} → None ≡ Some x → ⊥
+none_some e = absurd cc
+
+-- ---- a score and its arrival
+
+score_arrives : (end : End) (score : Score) → score_in end ≡ Some score → arrival_of end ≡ Some score.arrival
+score_arrives (Stored status arrival received) score e = ap (λ (s : Score). Some s.arrival) (some_is e)
+score_arrives (Taken arrival) score e = absurd (none_some e)
+score_arrives (Silent arrival) score e = absurd (none_some e)
+score_arrives Never score e = absurd (none_some e)
+
+pub scored_at : (targets : List Target) (n : ℕ) (score : Score) → score_at targets n ≡ Some score
+    → (target : Target) × (slice_get targets n ≡ Some target) × (score_in target.end ≡ Some score)
+scored_at targets n score e = go (slice_get targets n) refl e
+  where
+    go : (o : Option Target) → slice_get targets n ≡ o → option_and_then (λ (t : Target). score_in t.end) o ≡ Some score
+        → (target : Target) × (slice_get targets n ≡ Some target) × (score_in target.end ≡ Some score)
+    go None is e = absurd (none_some e)
+    go (Some target) is e = (target, is, e)
+
+pub score_ends : (targets : List Target) (n : ℕ) (score : Score) → score_at targets n ≡ Some score → ended_at targets n ≡ Some score.arrival
+score_ends targets n score e =
+    let h = scored_at targets n score e in
+    ap (option_and_then (λ (t : Target). arrival_of t.end)) h.1 ∙ score_arrives h.0.end score h.2
+
+-- branches that stand as they may ended apart
+pub ended_apart : (most_depth : ℕ) (targets : List Target) → ((n : ℕ) (target : Target) → slice_get targets n ≡ Some target → IsInPlace most_depth targets n target)
+    → (m n a : ℕ) → ended_at targets m ≡ Some a → ended_at targets n ≡ Some a → m ≡ n
+ended_apart most_depth targets placed m n a x y = go (cases_lt m n) (cases_lt n m)
+  where
+    clash : (i j : ℕ) → i < j → ended_at targets i ≡ Some a → ended_at targets j ≡ Some a → ⊥
+    clash i j lt x y = by (slice_get targets j) refl y
+      where
+        by : (o : Option Target) → slice_get targets j ≡ o → option_and_then (λ (t : Target). arrival_of t.end) o ≡ Some a → ⊥
+        by None is e = none_some e
+        by (Some target) is e = (placed j target is).apart i a lt x e
+
+    go : (m < n) ⊎ (n ≤ m) → (n < m) ⊎ (m ≤ n) → m ≡ n
+    go (inl lt) other = absurd (clash m n lt x y)
+    go (inr le) (inl lt) = absurd (clash n m lt y x)
+    go (inr le) (inr ge) = omega arith
+
+-- ---- the stored answers of a listing arrived apart
+
+lines_at : (targets : List Target) (more : List Line) → AllByRecursion IsLine (map TargetLine targets ++ more)
+    → (n : ℕ) (target : Target) → slice_get targets n ≡ Some target → IsLine (TargetLine target)
+lines_at [] more all n target is = absurd (none_some is)
+lines_at (t ∷ targets) more all zero target is = let P : Target → Type 0 = λ x. IsLine (TargetLine x) in subst P (some_is is) all.0
+lines_at (t ∷ targets) more all (suc n) target is = lines_at targets more all.1 n target is
+
+skip : (lines more : List Line) → AllByRecursion IsLine (lines ++ more) → AllByRecursion IsLine more
+skip [] more all = all
+skip (line ∷ lines) more all = skip lines more all.1
+
+target_lines : (l : Listing) → IsListing l → (n : ℕ) (target : Target) → slice_get l.targets n ≡ Some target → IsLine (TargetLine target)
+target_lines l h = lines_at l.targets _ (skip (rule_lines l.version l.rules) _ h.lines.1)
+
+score_within : (end : End) (score : Score) → IsEnd end → score_in end ≡ Some score → score.arrival ≤ most_arrival
+score_within (Stored status arrival received) score h e =
+    let same : arrival ≡ score.arrival = ap (λ (s : Score). s.arrival) (some_is e) in
+    let le : arrival ≤ most_arrival = h.1 in
+    omega arith
+score_within (Taken arrival) score h e = absurd (none_some e)
+score_within (Silent arrival) score h e = absurd (none_some e)
+score_within Never score h e = absurd (none_some e)
+
+arrivals : (l : Listing) → IsListing l → AreBranches l → AreArrivals (rows_of l.targets) (suc most_arrival)
+arrivals l h branches = record { past = past; apart = apart }
+  where
+    placed : (n : ℕ) (target : Target) → slice_get l.targets n ≡ Some target → IsInPlace l.rules.depth l.targets n target
+    placed n target is = branches n (inside l.targets n target is) target is
+
+    past : (m : ℕ) (score : Score) → HasScore (rows_of l.targets) m score → score.arrival < suc most_arrival
+    past m score is =
+        let s = scored_at l.targets m score (sym (same_score l.targets m) ∙ is) in
+        let le : score.arrival ≤ most_arrival = score_within s.0.end score (target_lines l h m s.0 s.1).3 s.2 in
+        omega arith
+
+    apart : (m n : ℕ) (a b : Score) → HasScore (rows_of l.targets) m a → HasScore (rows_of l.targets) n b → a.arrival ≡ b.arrival → m ≡ n
+    apart m n a b x y same =
+        ended_apart l.rules.depth l.targets placed m n b.arrival
+        (score_ends l.targets m a (sym (same_score l.targets m) ∙ x) ∙ ap Some same)
+        (score_ends l.targets n b (sym (same_score l.targets n) ∙ y))
+
+-- ---- what is right has no fault
+
+no_fault : (l : Listing) → IsListing l → IsRight l → (result : Result Verdict CheckFault) → IsVerdictOf l result → IsOkElseNoMemory (verdict_of l) result
+no_fault l h right (Ok verdict) is = is.1
+no_fault l h right (Err (fault.Line n)) is = absurd is
+no_fault l h right (Err (fault.Tree n)) is = absurd (is.1.2 (right.0 is.0 is.1.0))
+no_fault l h right (Err (fault.Order n)) is = absurd (is.2.2 (right.1 is.1 is.2.0))
+no_fault l h right (Err (fault.Absent n)) is = absurd (is.2.2 (right.2 n is.2.0))
+no_fault l h right (Err fault.FinalLine) is =
+    let chosen : IsChosen l.rules l.targets l.last = right.3 in
+    let other : IsNotChosen l.rules l.targets l.last = is.3 in
+    let one = one_choice l.rules (rows_of l.targets) (suc most_arrival) (arrivals l h right.0) chosen.0 other.0 chosen.1 other.1 in
+    absurd (other.2 (chosen.2 ∙ ap (final_of (rows_of l.targets)) one))
+no_fault l h right (Err fault.NoMemory) is = tt
+
+pub right_accepted : RightTextsAreAccepted
+right_accepted text verdict result right checked =
+    let l = right.0 in
+    let read : read_listing text ≡ Ok l = (read_exactly text l).1 right.1 in
+    let P : Result Listing ℕ → Type 0 = λ r. IsChecked r result in
+    let Q : Verdict → Type 0 = λ v. IsOkElseNoMemory v result in
+    subst Q (sym right.3) (no_fault l right.1.1 right.2 result (subst P read checked))
+
+pub accepted_right : AcceptedTextsAreRight
+accepted_right text verdict checked = go (read_listing text) refl checked
+  where
+    go : (r : Result Listing ℕ) → read_listing text ≡ r → IsChecked r (Ok verdict) → IsRightText text verdict
+    go (Ok l) is checked = (l, (read_exactly text l).0 is, checked.0, checked.1)
+    go (Err n) is checked = absurd checked
+
+-- the same of what a check has answered
+pub right_of : (text : List ℕ) (result : Result Verdict CheckFault) → IsChecked (read_listing text) result → IfOk result (IsRightText text)
+right_of text (Ok verdict) checked = accepted_right text verdict checked
+right_of text (Err fault) checked = tt
+
+pub named_of : (text : List ℕ) (result : Result Verdict CheckFault) → IsChecked (read_listing text) result → IfErr result (IsLineNamed text)
+named_of text (Ok verdict) checked = tt
+named_of text (Err (fault.Tree n)) checked = tt
+named_of text (Err (fault.Order n)) checked = tt
+named_of text (Err (fault.Absent n)) checked = tt
+named_of text (Err fault.FinalLine) checked = tt
+named_of text (Err fault.NoMemory) checked = tt
+named_of text (Err (fault.Line n)) checked = go (read_listing text) refl checked
+  where
+    go : (r : Result Listing ℕ) → read_listing text ≡ r → IsChecked r (Err (fault.Line n)) → IsFirstMalformed text n
+    go (Ok l) is checked = absurd checked
+    go (Err m) is checked = let P : ℕ → Type 0 = IsFirstMalformed text in subst P (sym checked) (refused_by_first text m is)

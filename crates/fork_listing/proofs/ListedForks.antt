@@ -1,0 +1,285 @@
+-- The listing of every fork is right.
+use Rattle.std.proofs.Common.{◌≡◌, ◌≢◌, ℕ, zero, suc, ◌+◌, ◌<◌, ◌≤◌, Bool, true, false, cond, List, [], ◌∷◌, ◌++◌, map, length, Option, Some, None, refl, sym, ap, subst, ◌∙◌, arith, inl, inr, ◌⊎◌}
+use Rattle.std.specs.Prelude.{slice_get, option_and_then}
+use Rattle.std.specs.Option.{option_map}
+use Rattle.std.specs.List.{AllByRecursion}
+use Rattle.fork_model.specs.Table.{Kind, Rules, Row, Table, State, Idle, Trying, Rung, Ended, Answered, Taken, Silent, Never, Accepted, most_targets, stored_of}
+use Rattle.fork_model.specs.Rank.{Score, Before}
+use Rattle.fork_model.specs.Event.{Event}
+use Rattle.fork_model.specs.History as history
+use Rattle.fork_model.specs.Choice as model
+use Rattle.fork_model.specs.Choice.{Choice, Best, Only503, NoAnswer408, IsChoice, IsFirst, HasScore, stored_at, status_at}
+use Rattle.fork_model.specs.Core.{Core, opening_core, core_next, core_offered, core_after, is_full}
+use Rattle.fork_model.specs.Steps.{most_taken}
+use Rattle.fork_model.proofs.ContactLemmas.{targets_bounded, each_target, taken_bounded}
+use Rattle.fork_model.proofs.StepLemmas.{rows_keep_numbers}
+use Rattle.fork_model.proofs.OrderLemmas.{Before-total}
+use Rattle.fork_listing.specs.declared.line.Version.TheVariants.{Third}
+use Rattle.fork_listing.specs.declared.line.End.{End}
+use Rattle.fork_listing.specs.declared.line.End.TheVariants as line_end
+use Rattle.fork_listing.specs.declared.line.Target.{Target}
+use Rattle.fork_listing.specs.declared.line.Ranked.{Ranked}
+use Rattle.fork_listing.specs.declared.line.Final.{Final}
+use Rattle.fork_listing.specs.declared.checker.Verdict.{Verdict}
+use Rattle.fork_listing.specs.Line.{Line, ForkLine, PreferLine, DepthLine, TargetLine, RankLine, FinalLine, most_q, most_number, most_arrival}
+use Rattle.fork_listing.specs.Targets.{arrival_of, ended_at, IsParent, IsInPlace}
+use Rattle.fork_listing.specs.Ranks.{rows_of, score_of, score_in, score_at, RanksBehind, rank_before, IsInOrder, final_of, IsChosen}
+use Rattle.fork_listing.specs.Ranking.{IsRanking}
+use Rattle.fork_listing.specs.Text.{Listing}
+use Rattle.fork_listing.specs.Checking.{AreBranches, AreInOrder, AreListed, IsRight, verdict_of}
+use Rattle.fork_listing.specs.Listed.{targets_of, listing_of, IsListingOf}
+use Rattle.fork_listing.specs.Spelled.{IsStatus, IsEnd, IsNumberOrNone, IsTargetLine, IsRankLine, IsFinalLine, IsLine, IsListing}
+use Rattle.fork_listing.specs.Accepted.{AreRules, IsLedTo, IsRightText, ListingsAreRight, AppendsRight}
+use Rattle.fork_listing.proofs.Placing.{inside, there}
+use Rattle.fork_listing.proofs.Finals.{status_seen}
+use Rattle.fork_listing.proofs.Meanings.{same_score}
+use Rattle.fork_listing.proofs.Growing.{IsKept, IsGrown}
+use Rattle.fork_listing.proofs.GrownTables.{seen, line_at, listed_row, row_listed, length-targets, IsGrownTable, history_grows}
+use Rattle.fork_listing.proofs.AcceptedTexts.{scored_at, score_ends, ended_apart}
+
+some_same : {X : Type 0} {x y : X} → Some x ≡ Some y → x ≡ y
+some_same e = cc
+
+none_some : {X : Type 0} {x : X} → None ≡ Some x → ⊥
+none_some e = absurd cc
+
+-- ---- how many rows there are
+
+pub record HasSize (core : Core) : Type 0 where
+  pub some : 1 ≤ length core.table.rows
+  pub few : length core.table.rows ≤ most_targets
+
+offered_size : (core : Core) (event : Event) → HasSize core → HasSize (core_offered core event)
+offered_size core event h = go (is_full core event)
+  where
+    go : (full : Bool) → HasSize (cond full core (core_next core event))
+    go true = h
+    go false =
+        let more = (rows_keep_numbers core.table event core.taken).length in
+        let one : 1 ≤ length core.table.rows = h.some in
+        record { some = omega arith; few = targets_bounded core.table event core.taken h.few }
+
+after_size : (core : Core) (events : List Event) → HasSize core → HasSize (core_after core events)
+after_size core [] h = h
+after_size core (event ∷ events) h = after_size (core_offered core event) events (offered_size core event h)
+
+opening_size : (kind : Kind) (rules : Rules) (targets : List history.Target) → targets ≢ [] → length targets ≤ most_targets → HasSize (opening_core kind rules targets)
+opening_size kind rules [] some few = absurd (some refl)
+opening_size kind rules (target ∷ targets) some few =
+    let same : length (opening_core kind rules (target ∷ targets)).table.rows ≡ length (target ∷ targets) = each_target kind rules (target ∷ targets) in
+    let le : length (target ∷ targets) ≤ most_targets = few in
+    let one : 1 ≤ length (target ∷ targets) = omega arith in
+    record { some = omega arith; few = omega arith }
+
+-- ---- a table whose rows stand as they may
+
+record IsFit (t : Table) (at : ℕ) : Type 0 where
+  grown : IsGrownTable t at
+  soon : at ≤ most_taken
+  some : 1 ≤ length t.rows
+  few : length t.rows ≤ most_targets
+  rules : AreRules t.rules
+
+-- the score of a row is that of its line
+state_score : (state : State) → option_map model.score_of (stored_of state) ≡ score_in (seen state)
+state_score Idle = refl
+state_score Trying = refl
+state_score (Rung cancelled) = refl
+state_score (Ended (Answered answer)) = refl
+state_score (Ended (Taken arrival)) = refl
+state_score (Ended (Silent arrival)) = refl
+state_score (Ended Never) = refl
+state_score (Ended (Accepted arrival)) = refl
+
+row_score : (rows : List Row) (n : ℕ) → option_map model.score_of (stored_at (slice_get rows n)) ≡ score_at (targets_of rows) n
+row_score rows n = go (slice_get rows n) refl
+  where
+    none : (o : Option Target) → slice_get (targets_of rows) n ≡ o → slice_get rows n ≡ None → None ≡ option_and_then (λ (t : Target). score_in t.end) o
+    none None is no_row = refl
+    none (Some target) is no_row = let r = row_listed rows n target is in absurd (none_some (sym no_row ∙ r.1))
+
+    go : (o : Option Row) → slice_get rows n ≡ o → option_map model.score_of (stored_at o) ≡ score_at (targets_of rows) n
+    go None is = none (slice_get (targets_of rows) n) refl is
+    go (Some row) is = state_score row.state ∙ sym (ap (option_and_then (λ (t : Target). score_in t.end)) (listed_row rows n row is))
+
+-- the rows that the lines tell of have the same scores
+lines_score : (rows : List Row) (n : ℕ) → option_map model.score_of (stored_at (slice_get rows n)) ≡ option_map model.score_of (stored_at (slice_get (rows_of (targets_of rows)) n))
+lines_score rows n = row_score rows n ∙ sym (same_score (targets_of rows) n)
+
+same_first : (rules : Rules) (rows : List Row) (n : ℕ) (score : Score) → IsFirst rules rows n score → IsFirst rules (rows_of (targets_of rows)) n score
+same_first rules rows n score h = record {
+  stored = sym (lines_score rows n) ∙ h.stored;
+  first = λ m other is. h.first m other (lines_score rows m ∙ is);
+}
+
+same_choice : (rules : Rules) (rows : List Row) (choice : Choice) → IsChoice rules rows choice → IsChoice rules (rows_of (targets_of rows)) choice
+same_choice rules rows (Best n) h = (h.0, same_first rules rows n h.0 h.1, h.2)
+same_choice rules rows (Only503 n) h = (h.0, same_first rules rows n h.0 h.1, h.2)
+same_choice rules rows NoAnswer408 h = λ m score is. h m score (lines_score rows m ∙ is)
+
+same_final : (rules : Rules) (rows : List Row) (choice : Choice) → IsChoice rules rows choice → final_of rows choice ≡ final_of (rows_of (targets_of rows)) choice
+same_final rules rows (Best n) h =
+    let line : ℕ → Final = λ s. record { status = s; number = Some n } in
+    let first = same_first rules rows n h.0 h.1 in
+    ap line (status_seen (stored_at (slice_get rows n)) h.0 h.1.stored ∙ sym (status_seen (stored_at (slice_get (rows_of (targets_of rows)) n)) h.0 first.stored))
+same_final rules rows (Only503 n) h = refl
+same_final rules rows NoAnswer408 h = refl
+
+-- ---- its lines
+
+end_line : (end : End) → IsKept end → ((a : ℕ) → arrival_of end ≡ Some a → a ≤ most_arrival) → IsEnd end
+end_line (line_end.Stored status arrival received) kept arrives = (kept.0, arrives arrival refl, kept.1)
+end_line (line_end.Taken arrival) kept arrives = arrives arrival refl
+end_line (line_end.Silent arrival) kept arrives = arrives arrival refl
+end_line line_end.Never kept arrives = tt
+
+all_map : {X : Type 0} (f : X → Line) (xs : List X) → ((n : ℕ) (x : X) → slice_get xs n ≡ Some x → IsLine (f x)) → AllByRecursion IsLine (map f xs)
+all_map f [] each = tt
+all_map f (x ∷ xs) each = (each 0 x refl, all_map f xs (λ n y is. each (suc n) y is))
+
+all_append : (xs ys : List Line) → AllByRecursion IsLine xs → AllByRecursion IsLine ys → AllByRecursion IsLine (xs ++ ys)
+all_append [] ys a b = b
+all_append (x ∷ xs) ys a b = (a.0, all_append xs ys a.1 b)
+
+module _ (t : Table) (at : ℕ) (ranks : List Ranked) (choice : Choice) (fit : IsFit t at) (ranking : IsRanking t.rules (targets_of t.rows) ranks) (chosen : IsChoice t.rules t.rows choice) where
+  abbrev targets : List Target
+  targets = targets_of t.rows
+
+  small : (n : ℕ) (target : Target) → slice_get targets n ≡ Some target → n ≤ most_number
+  small n target is =
+      let lt : n < length targets = inside targets n target is in
+      let same : length targets ≡ length t.rows = length-targets 0 t.rows in
+      let few : length t.rows ≤ most_targets = fit.few in
+      omega arith
+
+  soon : (n a : ℕ) → ended_at targets n ≡ Some a → a ≤ most_arrival
+  soon n a e =
+      let lt : a < at = fit.grown.past n a e in
+      let le : at ≤ most_taken = fit.soon in
+      omega arith
+
+  parent_line : (n : ℕ) (parent : Option ℕ) → n ≤ most_number → IsParent targets n parent → IsNumberOrNone parent
+  parent_line n None le h = tt
+  parent_line n (Some p) le h = let lt : p < n = h.0 in omega arith
+
+  end_of_line : (n : ℕ) (target : Target) → slice_get targets n ≡ Some target → IsEnd target.end
+  end_of_line n target is =
+      end_line target.end (fit.grown.kept n target is).1
+      (λ a e. soon n a (ap (option_and_then (λ (x : Target). arrival_of x.end)) is ∙ e))
+
+  target_line : (n : ℕ) (target : Target) → slice_get targets n ≡ Some target → IsTargetLine target
+  target_line n target is =
+      let h = fit.grown.placed n target is in
+      let number : target.number ≡ n = h.number in
+      let le : n ≤ most_number = small n target is in
+      (omega arith, parent_line n target.parent le h.parent, (fit.grown.kept n target is).0, end_of_line n target is)
+
+  score_line : (n : ℕ) (score : Score) → score_at targets n ≡ Some score → IsStatus score.status × (score.arrival ≤ most_arrival) × (n ≤ most_number)
+  score_line n score e =
+      let s = scored_at targets n score e in
+      (status s.0.end (end_of_line n s.0 s.1) s.2, soon n score.arrival (score_ends targets n score e), small n s.0 s.1)
+    where
+      status : (end : End) → IsEnd end → score_in end ≡ Some score → IsStatus score.status
+      status (line_end.Stored s arrival received) h e = let P : Score → Type 0 = λ x. IsStatus x.status in subst P (some_same e) h.0
+      status (line_end.Taken arrival) h e = absurd (none_some e)
+      status (line_end.Silent arrival) h e = absurd (none_some e)
+      status line_end.Never h e = absurd (none_some e)
+
+  rank_line : (k : ℕ) (ranked : Ranked) → slice_get ranks k ≡ Some ranked → IsRankLine ranked
+  rank_line k ranked is =
+      let s = score_line ranked.number (score_of ranked) (ranking.stored k ranked is) in
+      (s.0, s.2, s.1)
+
+  final_line : (c : Choice) → IsChoice t.rules t.rows c → IsFinalLine (final_of t.rows c)
+  final_line (Best n) h =
+      let s = score_line n h.0 (sym (row_score t.rows n) ∙ h.1.stored) in
+      let status : status_at (slice_get t.rows n) ≡ h.0.status = status_seen (stored_at (slice_get t.rows n)) h.0 h.1.stored in
+      let P : ℕ → Type 0 = IsStatus in
+      (subst P (sym status) s.0, s.2)
+  final_line (Only503 n) h =
+      let s = score_line n h.0 (sym (row_score t.rows n) ∙ h.1.stored) in
+      ((omega arith, omega arith), s.2)
+  final_line NoAnswer408 h = ((omega arith, omega arith), tt)
+
+  is_listing : IsListing (listing_of t ranks choice)
+  is_listing = record {
+    lines = (
+      (fit.some, fit.few),
+      (
+        fit.rules.preferred,
+        (
+          fit.rules.depth,
+          all_append (map TargetLine targets) (map RankLine ranks ++ FinalLine (final_of t.rows choice) ∷ []) (all_map TargetLine targets target_line)
+              (all_append (map RankLine ranks) (FinalLine (final_of t.rows choice) ∷ []) (all_map RankLine ranks rank_line) (final_line choice chosen, tt)),
+        ),
+      ),
+    );
+    counted = length-targets 0 t.rows;
+    usual = tt;
+  }
+
+  -- ---- it is right
+
+  placed : (n : ℕ) (target : Target) → slice_get targets n ≡ Some target → IsInPlace t.rules.depth targets n target
+  placed n target is = fit.grown.placed n target is
+
+  next_behind : (j : ℕ) (a b : Ranked) → slice_get ranks j ≡ Some a → slice_get ranks (suc j) ≡ Some b → Before t.rules (score_of a) (score_of b)
+  next_behind j a b x y =
+      elim (Before-total t.rules (score_of a) (score_of b) apart) [
+        | inl before ↦ before
+        | inr behind ↦ absurd (ranking.ordered j (suc j) a b (omega arith) x y behind)
+      ]
+    where
+      apart : a.arrival ≢ b.arrival
+      apart same =
+          let first : ended_at targets a.number ≡ Some b.arrival = score_ends targets a.number (score_of a) (ranking.stored j a x) ∙ ap Some same in
+          let second : ended_at targets b.number ≡ Some b.arrival = score_ends targets b.number (score_of b) (ranking.stored (suc j) b y) in
+          let numbers : a.number ≡ b.number = ended_apart t.rules.depth targets placed a.number b.number b.arrival first second in
+          let once : j ≡ suc j = ranking.once j (suc j) a b x y numbers in
+          omega arith
+
+  behind : (k : ℕ) (ranked : Ranked) → slice_get ranks k ≡ Some ranked → RanksBehind t.rules (rank_before ranks k) ranked
+  behind zero ranked is = tt
+  behind (suc j) ranked is = go (slice_get ranks j) refl
+    where
+      go : (o : Option Ranked) → slice_get ranks j ≡ o → RanksBehind t.rules o ranked
+      go None none = tt
+      go (Some before) some = next_behind j before ranked some is
+
+  in_order : AreInOrder (listing_of t ranks choice)
+  in_order = λ k lt ranked is. record { stored = ranking.stored k ranked is; behind = behind k ranked is }
+
+  listed : AreListed (listing_of t ranks choice)
+  listed = λ n lt score is. ranking.all n score is
+
+  is_chosen : IsChosen t.rules targets (final_of t.rows choice)
+  is_chosen = (choice, same_choice t.rules t.rows choice chosen, same_final t.rules t.rows choice chosen)
+
+  is_right : IsRight (listing_of t ranks choice)
+  is_right = ((λ n lt target is. placed n target is), in_order, listed, is_chosen)
+
+fit_right : (t : Table) (at : ℕ) (text : List ℕ) → IsFit t at → IsListingOf t text → (verdict : Verdict) × IsRightText text verdict
+fit_right t at text fit l =
+    let listing : Listing = listing_of t l.ranks l.choice in
+    (verdict_of listing, (listing, (l.spelled, is_listing t at l.ranks l.choice fit l.ranking l.chosen), is_right t at l.ranks l.choice fit l.ranking l.chosen, refl))
+
+pub listings_right : ListingsAreRight
+listings_right core text h listed =
+    let end : Core = core_after (opening_core h.kind h.rules h.targets) h.events in
+    let grown = history_grows h.kind h.rules h.targets h.events h.targets_in_range h.events_in_range in
+    let size = after_size (opening_core h.kind h.rules h.targets) h.events (opening_size h.kind h.rules h.targets h.some h.few) in
+    let P : Rules → Type 0 = AreRules in
+    let Q : Core → Type 0 = λ c. IsListingOf c.table text in
+    fit_right end.table end.taken text
+    (record {
+      grown = grown.grown;
+      soon = taken_bounded h.kind h.rules h.targets h.events h.few;
+      some = size.some;
+      few = size.few;
+      rules = subst P (sym grown.ruled) h.set;
+    })
+    (subst Q h.led listed)
+
+-- and so is what is appended
+pub appends_right : (core : Core) (old text new : List ℕ) → IsListingOf core.table text → new ≡ old ++ text → AppendsRight core old new
+appends_right core old text new listed joined = λ led. let h = listings_right core text led listed in (text, h.0, joined, h.1)

@@ -1,0 +1,249 @@
+-- What is spelled in a line is read, and what is read is spelled so: the parts of a line.
+use Rattle.std.proofs.Common.{◌≡◌, ℕ, zero, suc, ◌^◌, ◌<◌, ◌≤◌, Bool, true, false, cond, eqb, List, [], ◌∷◌, ◌++◌, map, length, Option, Some, None, refl, sym, ap, subst, ◌∙◌, arith, inl, inr, ◌⊎◌, append_assoc, append-nil}
+use Rattle.std.specs.Prelude.{nat_le, bytes_eq, codes, option_and_then, All, ◌&&◌, ◌||◌}
+use Rattle.std.specs.Char.{is_ascii_digit}
+use Rattle.std.specs.Option.{option_map}
+use Rattle.std.specs.List.{slice_split, flat_map, join_with_byte}
+use Rattle.std.specs.Fmt.{decimal}
+use Rattle.std.proofs.lemmas.Bool.{le-leb, leb-true, eqb-false, eqb-true, eq-eqb, and_parts}
+use Rattle.std.proofs.lemmas.List.Elements.{All-head, All-tail}
+use Rattle.std.proofs.lemmas.List.Splits.{join_with_byte-slice_split, length-slice_split}
+use Rattle.std.proofs.lemmas.Slice.Eq.{bytes_eq-Decides}
+use Rattle.std.proofs.lemmas.Fmt.{decimal_nonempty}
+use Rattle.sip_lex.specs.Cut.{cut, is, behind, Lacks}
+use Rattle.sip_lex.specs.Number.{plain_number_within}
+use Rattle.sip_lex.proofs.Cuts.{cut_again, cut_joins}
+use Rattle.fork_rank.specs.Preferred.{IsPreferredList}
+use Rattle.fork_model.specs.Table.{most_targets}
+use Rattle.fork_listing.specs.declared.line.Version.{Version}
+use Rattle.fork_listing.specs.declared.line.Version.TheVariants.{First, Second, Third}
+use Rattle.fork_listing.specs.declared.line.End.{End}
+use Rattle.fork_listing.specs.declared.line.End.TheVariants.{Stored, Taken, Silent, Never}
+use Rattle.fork_listing.specs.Line.{list_text, version_text, number_text, how_text, end_text, most_q, most_number, most_arrival, most_listed}
+use Rattle.fork_listing.specs.Reading.{before_cut, before, numbers_onto, preferred_if, read_preferred, least, read_status, read_parent, read_version, read_count, may_be_assumed, stored_as, read_stored, read_end_cut, read_end}
+use Rattle.fork_listing.specs.Spelled.{IsStatus, IsHow, IsEnd, IsNumberOrNone}
+use Rattle.fork_listing.proofs.NumberLaws.{IsSpelled, number_read, number_spelled, decimal_lacks}
+use Rattle.fork_listing.proofs.PreferredLists.{preferred_passes, preferred_is}
+use Rattle.fork_listing.proofs.Pieces.{pieces-cut}
+
+pub some_is : {X : Type 0} {x y : X} → Some x ≡ Some y → x ≡ y
+some_is e = cc
+
+module _ {X : Type 0} where
+  pub found_map : {Y : Type 0} (f : X → Y) (o : Option X) (y : Y) (P : Y → Type 0) → ((x : X) → o ≡ Some x → P (f x)) → option_map f o ≡ Some y → P y
+  found_map f None y P k e = absurd cc
+  found_map f (Some x) y P k e = subst P (some_is e) (k x refl)
+
+  pub found_then : {Y : Type 0} (f : X → Option Y) (o : Option X) (y : Y) (P : Type 0) → ((x : X) → o ≡ Some x → f x ≡ Some y → P) → option_and_then f o ≡ Some y → P
+  found_then f None y P k e = absurd cc
+  found_then f (Some x) y P k e = k x refl e
+
+  pub found_if : (b : Bool) (x y : X) → cond b (Some x) None ≡ Some y → (b ≡ true) × (x ≡ y)
+  found_if true x y e = (refl, some_is e)
+  found_if false x y e = absurd cc
+
+  -- one of two, by a test
+  pub found_one : (b : Bool) (x y : X) (r : Option X) (P : X → Type 0) → (b ≡ true → P x) → (r ≡ Some y → P y) → cond b (Some x) r ≡ Some y → P y
+  found_one true x y r P same others e = subst P (some_is e) (same refl)
+  found_one false x y r P same others e = others e
+
+  -- what stands before a space
+  pub before_read : (read : List ℕ → Option X) (front rest : List ℕ) (x : X) → Lacks 32 front → read front ≡ Some x → before read (front ++ 32 ∷ rest) ≡ Some (x, rest)
+  before_read read front rest x lacks e =
+      ap (before_cut read) (cut_again 32 front (Some rest) lacks) ∙ ap (option_map (λ y. (y, rest))) e
+
+  pub before_found : (read : List ℕ → Option X) (text : List ℕ) (p : X × List ℕ) → before read text ≡ Some p → (front : List ℕ) × (text ≡ front ++ 32 ∷ p.1) × (read front ≡ Some p.0)
+  before_found read text p e = parts (cut (is 32) text) (cut_joins 32 text) e
+    where
+      parts : (c : List ℕ × Option (List ℕ)) → text ≡ c.0 ++ behind 32 c.1 → before_cut read c ≡ Some p → (front : List ℕ) × (text ≡ front ++ 32 ∷ p.1) × (read front ≡ Some p.0)
+      parts (front, None) whole e = absurd cc
+      parts (front, Some rest) whole e = by (read front) refl e
+        where
+          by : (o : Option X) → read front ≡ o → option_map (λ x. (x, rest)) o ≡ Some p → (front : List ℕ) × (text ≡ front ++ 32 ∷ p.1) × (read front ≡ Some p.0)
+          by None is e = absurd cc
+          by (Some x) is e =
+              let same : (x, rest) ≡ p = some_is e in
+              let P : X × List ℕ → Type 0 = λ q. (front : List ℕ) × (text ≡ front ++ 32 ∷ q.1) × (read front ≡ Some q.0) in
+              subst P same (front, whole, is)
+
+pub not_true : (b : Bool) → (b ≡ true → ⊥) → b ≡ false
+not_true true never = absurd (never refl)
+not_true false never = refl
+
+pub status_read : (n : ℕ) → IsStatus n → read_status (decimal n) ≡ Some n
+status_read n h =
+    ap (option_and_then (least 300)) (number_read 699 n (omega arith) (omega arith)) ∙ ap (λ t. cond t (Some n) None) (le-leb 300 n h.0)
+
+pub status_found : (digits : List ℕ) (n : ℕ) → read_status digits ≡ Some n → (digits ≡ decimal n) × IsStatus n
+status_found digits n e =
+    found_then (least 300) (plain_number_within 699 digits) n ((digits ≡ decimal n) × IsStatus n)
+    (λ m at is.
+    let h = number_spelled 699 digits m (omega arith) at in
+    let g = found_if (nat_le 300 m) m n is in
+    let Q : ℕ → Type 0 = λ k. (digits ≡ decimal k) × IsStatus k in
+    let low : 300 ≤ m = leb-true _ _ g.0 in
+    let high : m ≤ 699 = h.within in
+    subst Q g.1 (h.spelled, (low, omega arith)))
+    e
+
+pub count_read : (version : Version) (n : ℕ) → (1 ≤ n) × (n ≤ most_listed version) → n < 2 ^ 64 → read_count version (decimal n) ≡ Some n
+count_read version n h small =
+    ap (option_and_then (least 1)) (number_read (most_listed version) n h.1 small) ∙ ap (λ t. cond t (Some n) None) (le-leb 1 n h.0)
+
+pub most_listed_small : (version : Version) → most_listed version ≤ 256
+most_listed_small First = omega arith
+most_listed_small Second = omega arith
+most_listed_small Third = omega arith
+
+pub count_found : (version : Version) (digits : List ℕ) (n : ℕ) → read_count version digits ≡ Some n → (digits ≡ decimal n) × ((1 ≤ n) × (n ≤ most_listed version))
+count_found version digits n e =
+    found_then (least 1) (plain_number_within (most_listed version) digits) n ((digits ≡ decimal n) × ((1 ≤ n) × (n ≤ most_listed version)))
+    (λ m at is.
+    let bound : most_listed version ≤ 256 = most_listed_small version in
+    let h = number_spelled (most_listed version) digits m (omega arith) at in
+    let g = found_if (nat_le 1 m) m n is in
+    let Q : ℕ → Type 0 = λ k. (digits ≡ decimal k) × ((1 ≤ k) × (k ≤ most_listed version)) in
+    subst Q g.1 (h.spelled, (leb-true _ _ g.0, h.within)))
+    e
+
+-- a number is not the dash
+front_differs : (front back : List ℕ) → Lacks 45 front → 0 < length front → front ++ back ≡ 45 ∷ [] → ⊥
+front_differs [] back lacks some same = absurd (omega arith)
+front_differs (b ∷ front) back lacks some same = lacks.0 (let h : b ≡ 45 = cc in h)
+
+pub no_dash : (n : ℕ) (back : List ℕ) → n < 2 ^ 64 → bytes_eq (decimal n ++ back) (codes "-") ≡ false
+no_dash n back small =
+    not_true _ (λ e.
+    let same : decimal n ++ back ≡ codes "-" = (bytes_eq-Decides (decimal n ++ back) (codes "-")).0 e in
+    front_differs (decimal n) back (decimal_lacks 45 n refl small) (decimal_nonempty n small) same)
+
+pub parent_read : (parent : Option ℕ) → IsNumberOrNone parent → read_parent (number_text parent) ≡ Some parent
+parent_read None h = refl
+parent_read (Some n) h =
+    let plain : bytes_eq (decimal n) (codes "-") ≡ false = ap (λ (ds : List ℕ). bytes_eq ds (codes "-")) (sym (append-nil (decimal n))) ∙ no_dash n [] (omega arith) in
+    ap (λ t. cond t (Some None) (option_map Some (plain_number_within most_number (decimal n)))) plain
+    ∙ ap (option_map Some) (number_read most_number n h (omega arith))
+
+pub parent_found : (text : List ℕ) (parent : Option ℕ) → read_parent text ≡ Some parent → (text ≡ number_text parent) × IsNumberOrNone parent
+parent_found text parent e =
+    let P : Option ℕ → Type 0 = λ p. (text ≡ number_text p) × IsNumberOrNone p in
+    found_one (bytes_eq text (codes "-")) None parent (option_map Some (plain_number_within most_number text)) P
+    (λ t. ((bytes_eq-Decides text (codes "-")).0 t, tt))
+    (λ r. found_map Some (plain_number_within most_number text) parent P
+    (λ n at. let h = number_spelled most_number text n (omega arith) at in (h.spelled, h.within)) r)
+    e
+
+pub parent_lacks : (mark : ℕ) (parent : Option ℕ) → eqb 45 mark ≡ false → is_ascii_digit mark ≡ false → IsNumberOrNone parent → Lacks mark (number_text parent)
+parent_lacks mark None dash no_digit h = (eqb-false 45 mark dash, tt)
+parent_lacks mark (Some n) dash no_digit h = decimal_lacks mark n no_digit (omega arith)
+
+pub version_found : (text : List ℕ) (version : Version) → read_version text ≡ Some version → text ≡ version_text version
+version_found text version e =
+    let P : Version → Type 0 = λ v. text ≡ version_text v in
+    found_one (bytes_eq text (codes "1")) First version _ P (bytes_eq-Decides text (codes "1")).0
+    (λ second. found_one (bytes_eq text (codes "2")) Second version _ P (bytes_eq-Decides text (codes "2")).0
+    (λ third. found_one (bytes_eq text (codes "3")) Third version None P (bytes_eq-Decides text (codes "3")).0 (λ none. absurd cc) third)
+    second) e
+
+-- how a branch ended
+assumed_passes : (status : ℕ) → IsHow false status → may_be_assumed status ≡ true
+assumed_passes status (inl e) = ap may_be_assumed e
+assumed_passes status (inr e) = ap may_be_assumed e
+
+assumed_is : (status : ℕ) → may_be_assumed status ≡ true → IsHow false status
+assumed_is status e = by (eqb status 408) (eqb status 503) refl refl e
+  where
+    by : (a b : Bool) → eqb status 408 ≡ a → eqb status 503 ≡ b → (a || b) ≡ true → IsHow false status
+    by true b first second e = inl (eqb-true _ _ first)
+    by false true first second e = inr (eqb-true _ _ second)
+    by false false first second e = absurd cc
+
+how_read : (status arrival : ℕ) (received : Bool) → IsHow received status → stored_as status arrival (how_text received) ≡ Some (Stored status arrival received)
+how_read status arrival true h = refl
+how_read status arrival false h = ap (λ t. cond t (Some (Stored status arrival false)) None) (assumed_passes status h)
+
+-- the end, stored with this status and at this arrival
+record IsStoredAs (status arrival : ℕ) (how : List ℕ) (end : End) : Type 0 where
+  received : Bool
+  same : end ≡ Stored status arrival received
+  spelled : how ≡ how_text received
+  right : IsHow received status
+
+how_found : (status arrival : ℕ) (how : List ℕ) (end : End) → stored_as status arrival how ≡ Some end → IsStoredAs status arrival how end
+how_found status arrival how end e =
+    found_one (bytes_eq how (codes "received")) (Stored status arrival true) end _ (IsStoredAs status arrival how)
+    (λ t. record { received = true; same = refl; spelled = (bytes_eq-Decides how (codes "received")).0 t; right = tt })
+    (λ r.
+    let g = found_if (bytes_eq how (codes "assumed") && may_be_assumed status) (Stored status arrival false) end r in
+    let both = and_parts (bytes_eq how (codes "assumed")) (may_be_assumed status) g.0 in
+    record { received = false; same = sym g.1; spelled = (bytes_eq-Decides how (codes "assumed")).0 both.0; right = assumed_is status both.1 })
+    e
+
+pub end_read : (end : End) → IsEnd end → read_end (end_text end) ≡ Some end
+end_read (Stored status arrival received) h =
+    let how : List ℕ = how_text received in
+    ap (option_and_then (λ s. option_and_then (λ a. stored_as s.0 a.0 a.1) (before (plain_number_within most_arrival) s.1)))
+    (before_read read_status (decimal status) (decimal arrival ++ 32 ∷ how) status (decimal_lacks 32 status refl (omega arith)) (status_read status h.0))
+    ∙ ap (option_and_then (λ a. stored_as status a.0 a.1))
+    (before_read (plain_number_within most_arrival) (decimal arrival) how arrival (decimal_lacks 32 arrival refl (omega arith)) (number_read most_arrival arrival h.1 (omega arith)))
+    ∙ how_read status arrival received h.2
+end_read (Taken arrival) h = ap (option_map Taken) (number_read most_arrival arrival h (omega arith))
+end_read (Silent arrival) h = ap (option_map Silent) (number_read most_arrival arrival h (omega arith))
+end_read Never h = refl
+
+abbrev IsEndText : List ℕ → End → Type 0
+IsEndText text end = (text ≡ end_text end) × IsEnd end
+
+stored_found : (rest : List ℕ) (end : End) → read_stored rest ≡ Some end → IsEndText (codes "stored" ++ 32 ∷ rest) end
+stored_found rest end e =
+    found_then (λ s. option_and_then (λ a. stored_as s.0 a.0 a.1) (before (plain_number_within most_arrival) s.1)) (before read_status rest) end (IsEndText (codes "stored" ++ 32 ∷ rest) end)
+    (λ s at is. found_then (λ a. stored_as s.0 a.0 a.1) (before (plain_number_within most_arrival) s.1) end (IsEndText (codes "stored" ++ 32 ∷ rest) end)
+    (λ a here by.
+    let f = before_found read_status rest s at in
+    let g = before_found (plain_number_within most_arrival) s.1 a here in
+    let status = status_found f.0 s.0 f.2 in
+    let arrival = number_spelled most_arrival g.0 a.0 (omega arith) g.2 in
+    let how = how_found s.0 a.0 a.1 end by in
+    let inner : s.1 ≡ decimal a.0 ++ 32 ∷ how_text how.received = g.1 ∙ ap (λ (ds : List ℕ). ds ++ 32 ∷ a.1) arrival.spelled ∙ ap (λ (t : List ℕ). decimal a.0 ++ 32 ∷ t) how.spelled in
+    let whole : rest ≡ decimal s.0 ++ 32 ∷ (decimal a.0 ++ 32 ∷ how_text how.received) = f.1 ∙ ap (λ (ds : List ℕ). ds ++ 32 ∷ s.1) status.0 ∙ ap (λ (t : List ℕ). decimal s.0 ++ 32 ∷ t) inner in
+    let P : End → Type 0 = IsEndText (codes "stored" ++ 32 ∷ rest) in
+    subst P (sym how.same) (ap (λ (t : List ℕ). codes "stored " ++ t) whole, (status.1, arrival.within, how.right)))
+    is)
+    e
+
+taken_found : (rest : List ℕ) (end : End) → option_map Taken (plain_number_within most_arrival rest) ≡ Some end → IsEndText (codes "taken" ++ 32 ∷ rest) end
+taken_found rest end e =
+    found_map Taken (plain_number_within most_arrival rest) end (IsEndText (codes "taken" ++ 32 ∷ rest))
+    (λ n at. let h = number_spelled most_arrival rest n (omega arith) at in (ap (λ (t : List ℕ). codes "taken " ++ t) h.spelled, h.within)) e
+
+silent_found : (rest : List ℕ) (end : End) → option_map Silent (plain_number_within most_arrival rest) ≡ Some end → IsEndText (codes "silent" ++ 32 ∷ rest) end
+silent_found rest end e =
+    found_map Silent (plain_number_within most_arrival rest) end (IsEndText (codes "silent" ++ 32 ∷ rest))
+    (λ n at. let h = number_spelled most_arrival rest n (omega arith) at in (ap (λ (t : List ℕ). codes "silent " ++ t) h.spelled, h.within)) e
+
+-- one of the words, by a test
+choose : (b : Bool) (x y : Option End) (end : End) (P : Type 0) → (b ≡ true → x ≡ Some end → P) → (y ≡ Some end → P) → cond b x y ≡ Some end → P
+choose true x y end P same others e = same refl e
+choose false x y end P same others e = others e
+
+pub end_found : (text : List ℕ) (end : End) → read_end text ≡ Some end → IsEndText text end
+end_found text end e = parts (cut (is 32) text) (cut_joins 32 text) e
+  where
+    parts : (c : List ℕ × Option (List ℕ)) → text ≡ c.0 ++ behind 32 c.1 → read_end_cut c ≡ Some end → IsEndText text end
+    parts (word, None) whole e =
+        let g = found_if (bytes_eq word (codes "never")) Never end e in
+        let same : text ≡ codes "never" = whole ∙ append-nil word ∙ (bytes_eq-Decides word (codes "never")).0 g.0 in
+        let P : End → Type 0 = IsEndText text in
+        subst P g.1 (same, tt)
+    parts (word, Some rest) whole e =
+        choose (bytes_eq word (codes "stored")) _ _ end (IsEndText text end)
+        (λ t is. told (codes "stored") ((bytes_eq-Decides word (codes "stored")).0 t) (stored_found rest end is))
+        (choose (bytes_eq word (codes "taken")) _ _ end (IsEndText text end)
+        (λ t is. told (codes "taken") ((bytes_eq-Decides word (codes "taken")).0 t) (taken_found rest end is))
+        (choose (bytes_eq word (codes "silent")) _ None end (IsEndText text end)
+        (λ t is. told (codes "silent") ((bytes_eq-Decides word (codes "silent")).0 t) (silent_found rest end is))
+        (λ none. absurd cc)))
+        e
+      where
+        told : (name : List ℕ) → word ≡ name → IsEndText (name ++ 32 ∷ rest) end → IsEndText text end
+        told name same h = (whole ∙ ap (λ (w : List ℕ). w ++ 32 ∷ rest) same ∙ h.0, h.1)
