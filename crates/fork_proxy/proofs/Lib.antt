@@ -5,6 +5,7 @@ pub mod Rows
 pub mod Outcomes
 pub mod PreferredLists
 pub mod Printing
+pub mod Answering
 pub mod Refusing
 pub mod NumberLaws
 pub mod LineLaws

@@ -62,6 +62,6 @@ is_replay script first last empty begun told whole set_up none opening adds ends
       last = subst Q all.next ends.right;
       spelled =
           ends.spelled
-          ∙ ap (λ (core : Core). told ++ ending_lines core.table.rows ends.ending) all.next
-          ∙ ap (λ (text : List ℕ). text ++ ending_lines (core_after (opened script) script.events).table.rows ends.ending) (all.spelled ∙ ap (λ (text : List ℕ). text ++ outcomes_text (opened script) script.events all.outcomes) front);
+          ∙ ap (λ (core : Core). told ++ ending_lines core.table ends.ending) all.next
+          ∙ ap (λ (text : List ℕ). text ++ ending_lines (core_after (opened script) script.events).table ends.ending) (all.spelled ∙ ap (λ (text : List ℕ). text ++ outcomes_text (opened script) script.events all.outcomes) front);
     }

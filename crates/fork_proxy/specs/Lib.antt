@@ -6,5 +6,6 @@ pub mod ReadView
 pub mod Replay
 pub mod FaultView
 pub mod Faults
+pub mod Answer
 pub mod Program
 pub mod Input

@@ -1,5 +1,5 @@
 -- What a replay prints: the rows that are tried at once, a line for each event that says what the proxy does on
--- it (RFC 3261 sections 16.6, 16.7 and 9.1), and how the fork stands at the end.
+-- it (RFC 3261 sections 16.6, 16.7 and 9.1), and how the fork stands at the end, with its listing where it is done.
 use Rattle.std.specs.Prelude.{◌≡◌, ℕ, Bool, true, false, not, List, [], ◌∷◌, ◌++◌, filter, count_by, length, slice_get, codes}
 use Rattle.std.specs.List.{flat_map}
 use Rattle.std.specs.Fmt.{decimal}
@@ -10,6 +10,10 @@ use Rattle.fork_model.specs.Choice.{Choice, Best, Only503, NoAnswer408, IsChoice
 use Rattle.fork_model.specs.Challenges.{challenge_list}
 use Rattle.fork_model.specs.Reply.{Up, Nothing, Provisional, Success, Final, Reply}
 use Rattle.fork_model.specs.Core.{Core, Outcome, Full, Replied, opening_core, core_offered, core_after, IsOutcome, AreOutcomes}
+use Rattle.fork_listing.specs.declared.line.Ranked.{Ranked}
+use Rattle.fork_listing.specs.Text.{listing_text}
+use Rattle.fork_listing.specs.Ranking.{IsRanking}
+use Rattle.fork_listing.specs.Listed.{targets_of, listing_of}
 use Rattle.fork_proxy.specs.Line.{list_text, numbered_text}
 use Rattle.fork_proxy.specs.Script.{Script}
 
@@ -56,11 +60,12 @@ outcomes_text core (event ∷ events) (outcome ∷ outcomes) =
     ended (outcome_text (core_offered core event).table.rows outcome)
     ++ outcomes_text (core_offered core event) events outcomes
 
--- how a fork stands: a 2xx came; so many branches have not ended; this answer has gone up
+-- how a fork stands: a 2xx came; so many branches have not ended; all have, these answers are stored, in order of rank,
+-- and this one has gone up
 pub data Ending : Type 0 where
   Succeeded : Ending
   Unfinished : (branches : ℕ) → Ending
-  Chosen : Choice → Ending
+  Listed : (ranks : List Ranked) → Choice → Ending
 
 abbrev pub branches_left : List Row → ℕ
 branches_left rows = count_by (λ row. not (is_ended row.state)) rows
@@ -69,8 +74,11 @@ abbrev pub IsEnding : Table → Ending → Type 0
 IsEnding t Succeeded = is_succeeded t.rows ≡ true
 IsEnding t (Unfinished branches) =
     (is_succeeded t.rows ≡ false) × (is_finished t.rows ≡ false) × (branches ≡ branches_left t.rows)
-IsEnding t (Chosen choice) =
-    (is_succeeded t.rows ≡ false) × (is_finished t.rows ≡ true) × IsChoice t.rules t.rows choice
+IsEnding t (Listed ranks choice) =
+    (is_succeeded t.rows ≡ false)
+    × (is_finished t.rows ≡ true)
+    × IsRanking t.rules (targets_of t.rows) ranks
+    × IsChoice t.rules t.rows choice
 
 -- the header field that a challenge is a value of (sections 20.27 and 20.44)
 abbrev pub field_name : Bool → List ℕ
@@ -84,14 +92,12 @@ added_text challenge = codes "add " ++ field_name challenge.proxy ++ codes ": " 
 abbrev pub added_lines : List Challenge → List ℕ
 added_lines challenges = flat_map (λ challenge. ended (added_text challenge)) challenges
 
--- the fork whose final answer has gone up
-abbrev pub chosen_lines : List Row → Choice → List ℕ
-chosen_lines rows choice = ended (final_text rows choice)
-
-abbrev pub ending_lines : List Row → Ending → List ℕ
-ending_lines rows Succeeded = ended (codes "succeeded")
-ending_lines rows (Unfinished branches) = ended (codes "unfinished " ++ decimal branches)
-ending_lines rows (Chosen choice) = added_lines (challenge_list rows choice) ++ chosen_lines rows choice
+-- a fork whose final answer has gone up ends in what was added to it and in the listing
+abbrev pub ending_lines : Table → Ending → List ℕ
+ending_lines t Succeeded = ended (codes "succeeded")
+ending_lines t (Unfinished branches) = ended (codes "unfinished " ++ decimal branches)
+ending_lines t (Listed ranks choice) =
+    added_lines (challenge_list t.rows choice) ++ listing_text (listing_of t ranks choice)
 
 abbrev pub opened : Script → Core
 opened script = opening_core script.kind script.rules script.targets
@@ -104,7 +110,7 @@ abbrev pub replay_text : Script → List Outcome → Ending → List ℕ
 replay_text script outcomes ending =
     ended (opening_text (opened script).table)
     ++ outcomes_text (opened script) script.events outcomes
-    ++ ending_lines (closed script).table.rows ending
+    ++ ending_lines (closed script).table ending
 
 -- the text is that of the outcomes of the script's events, one for each, and of the end that they lead to
 pub record IsReplay (script : Script) (text : List ℕ) : Type 0 where
@@ -132,4 +138,4 @@ pub record AddsOutcomes (before after : Core) (events : List Event) (old new : L
 pub record EndsWith (t : Table) (old new : List ℕ) : Type 0 where
   pub ending : Ending
   pub right : IsEnding t ending
-  pub spelled : new ≡ old ++ ending_lines t.rows ending
+  pub spelled : new ≡ old ++ ending_lines t ending

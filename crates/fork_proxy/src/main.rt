@@ -1,11 +1,14 @@
 //! `forkproxy` replays what happens to a forked SIP request (RFC 3261 section 16): it reads a script on standard
-//! input and prints what the proxy does on each event.
+//! input and prints what the proxy does on each event, and the listing of a fork that is done; or it checks such a
+//! listing.
 #![tactic(auto)]
 
-ghost use Rattle.std.specs.Prelude.{◌≡◌, IfOk, IfErr, map, string_bytes};
+ghost use Rattle.std.specs.Prelude.{◌≡◌, ◌⊎◌, IfOk, IfErr};
 ghost use Rattle.std.specs.Process.{exit_status};
-ghost use Rattle.fork_proxy.specs.Program.{asks_replay, IsUsageFault, status_of};
+ghost use Rattle.fork_proxy.specs.Program.{IsUsageFault, status_of};
 
+mod check;
+mod command;
 mod depth;
 mod fault;
 mod input;
@@ -16,26 +19,15 @@ mod script;
 #[cfg(test)]
 mod tests;
 
+use crate::command::Command;
 use crate::fault::{Fault, ProgFault};
 use crate::input::read_input;
-use crate::replay::replay_text;
 use std::env;
 use std::io::ErrorKind;
 use std::process::ExitCode;
 
-/// Whether the arguments, the program's name among them, ask for a replay: none does, and so does `replay`.
-fn asks_replay(words: &[String]) -> bool
-    ensures { result ≡ asks_replay (map string_bytes words.now) }
-{
-    match words {
-        [] | [_] => true,
-        [_, word] => word.as_str() == "replay",
-        _ => false,
-    }
-}
-
-/// The arguments, tested before anything is read.
-fn check_words(rt: &HostRuntime) -> Result<(), Fault>
+/// What the arguments ask for, found before anything is read.
+fn asked(rt: &HostRuntime) -> Result<Command, Fault>
     ensures { IfErr result IsUsageFault }
 {
     let words: Vec<String> = match env::args(rt) {
@@ -45,25 +37,24 @@ fn check_words(rt: &HostRuntime) -> Result<(), Fault>
         )),
         Err(_) => return Err(Fault::Usage),
     };
-    if asks_replay(&words) {
-        Ok(())
-    } else {
-        Err(Fault::Usage)
+    match Command::of(&words) {
+        Some(command) => Ok(command),
+        None => Err(Fault::Usage),
     }
 }
 
-/// Reads the text, replays it and writes what its replay prints; the exit status is 0.
+/// Reads the text, and writes what the command makes of it. The exit status is 0, or 4 where a check says no.
 ///
 /// # Errors
 ///
-/// In this order: `Usage`, `Read`, `Text` with what `replay_text` refuses, `Write`; want of memory anywhere.
+/// In this order: `Usage`, `Read`, `Text` with what the command refuses, `Write`; want of memory anywhere.
 fn run(rt: &HostRuntime) -> Result<u8, Fault>
-    ensures { IfOk result (λ status. status ≡ 0) }
+    ensures { IfOk result (λ status. (status ≡ 0) ⊎ (status ≡ 4)) }
 {
-    check_words(rt)?;
+    let command = asked(rt)?;
     let text = read_input(rt.alloc(), &mut rt.reader())?;
     let mut out = Vec::new(rt.alloc());
-    let status = replay_text(rt.alloc(), &text, &mut out)?;
+    let status = command.run(rt.alloc(), &text, &mut out)?;
     match rt.write_all(&out) {
         Ok(()) => Ok(status),
         Err(_) => Err(Fault::Write),

@@ -3,18 +3,20 @@ ghost use Rattle.std.specs.Prelude.{◌≡◌, ◌∷◌, ◌++◌, [], Some, co
 ghost use Rattle.std.specs.Prelude.{slice_get, not, IfOk};
 ghost use Rattle.std.specs.Fmt.{decimal};
 ghost use Rattle.fork_model.specs.Table.{is_ended, is_trying, is_row};
+ghost use Rattle.fork_model.specs.Choice as spec_choice;
 ghost use Rattle.fork_model.specs.Choice.{status_at};
 ghost use Rattle.fork_model.specs.Challenges.{challenge_list};
 ghost use Rattle.fork_context.specs.Chosen.{IsChosen};
 ghost use Rattle.fork_context.specs.ReplyView.{choice_of, up_of};
 ghost use Rattle.fork_proxy.specs.Line.{list_text, numbered_text};
-ghost use Rattle.fork_proxy.specs.Replay.{tried, opening_text, final_text, up_text, reply_text, branches_left, ended, field_name, added_text, added_lines, chosen_lines, EndsWith};
+ghost use Rattle.fork_proxy.specs.Replay.{tried, opening_text, final_text, up_text, reply_text, branches_left, ended, field_name, added_text, added_lines, EndsWith};
 
 use fork_context::{Choice, Context, End, Reply, State, Up};
+use fork_listing::{ListFault, listing};
 use fork_rank::Challenge;
 use std::alloc::{AllocError, Allocator};
 
-fn append<A: Allocator>(text: &mut Vec<u8, A>, bytes: &[u8]) -> Result<(), AllocError>
+pub fn append<A: Allocator>(text: &mut Vec<u8, A>, bytes: &[u8]) -> Result<(), AllocError>
     ensures { OnOk result (text.new.items ≡ text.old.items ++ bytes.now) }
 {
     text.extend_from_slice(bytes)
@@ -22,7 +24,7 @@ fn append<A: Allocator>(text: &mut Vec<u8, A>, bytes: &[u8]) -> Result<(), Alloc
 
 /// Appends a number in decimal.
 #[tactic(auto, using(std::proofs::lemmas::Fmt::decimal_digit, std::proofs::lemmas::Fmt::decimal_step))]
-fn append_number<A: Allocator>(text: &mut Vec<u8, A>, n: u64) -> Result<(), AllocError>
+pub fn append_number<A: Allocator>(text: &mut Vec<u8, A>, n: u64) -> Result<(), AllocError>
     ensures { OnOk result (text.new.items ≡ text.old.items ++ decimal n) }
 {
     if n >= 10 {
@@ -242,40 +244,27 @@ fn append_added<A: Allocator + Clone>(
     alloc: A,
     text: &mut Vec<u8, A>,
     context: &Context<A>,
-    choice: Choice,
 ) -> Result<(), AllocError>
-    requires { IsChosen context.now.table (Some (choice_of choice)) }
-    ensures { OnOk result (text.new.items ≡ text.old.items ++ added_lines (challenge_list context.now.table.rows (choice_of choice))) }
+    // by the one choice that is due
+    ensures { (choice : spec_choice.Choice) → IsChosen context.now.table (Some choice) → OnOk result (text.new.items ≡ text.old.items ++ added_lines (challenge_list context.now.table.rows choice)) }
 {
     let mut added = Vec::new(alloc);
     context.challenges(&mut added)?;
     append_challenges(text, &added)
 }
 
-/// Appends the line of a fork whose final answer has gone up.
-fn append_chosen<A: Allocator + Clone>(
-    text: &mut Vec<u8, A>,
-    context: &Context<A>,
-    choice: Choice,
-) -> Result<(), AllocError>
-    ensures { OnOk result (text.new.items ≡ text.old.items ++ chosen_lines context.now.table.rows (choice_of choice)) }
-{
-    append_final(text, context, choice)?;
-    append(text, b"\n")
-}
-
-/// Appends how a fork stands whose final answer has gone up.
-fn append_finished<A: Allocator + Clone>(
+/// Appends how a fork stands whose final answer has gone up: what was added to it, and the listing.
+fn append_listed<A: Allocator + Clone>(
     alloc: A,
     text: &mut Vec<u8, A>,
     context: &Context<A>,
-    choice: Choice,
+    listed: &[u8],
 ) -> Result<(), AllocError>
-    requires { IsChosen context.now.table (Some (choice_of choice)) }
-    ensures { OnOk result (text.new.items ≡ text.old.items ++ (added_lines (challenge_list context.now.table.rows (choice_of choice)) ++ chosen_lines context.now.table.rows (choice_of choice))) }
+    // by the one choice that is due
+    ensures { (choice : spec_choice.Choice) → IsChosen context.now.table (Some choice) → OnOk result (text.new.items ≡ text.old.items ++ (added_lines (challenge_list context.now.table.rows choice) ++ listed.now)) }
 {
-    append_added(alloc, text, context, choice)?;
-    append_chosen(text, context, choice)
+    append_added(alloc, text, context)?;
+    append(text, listed)
 }
 
 /// Appends the last lines: how the fork stands.
@@ -286,11 +275,11 @@ pub fn append_ending<A: Allocator + Clone>(
 ) -> Result<(), AllocError>
     ensures { OnOk result (EndsWith context.now.table text.old.items text.new.items) }
 {
-    if context.succeeded() {
-        return append(text, b"succeeded\n");
-    }
-    match context.choice() {
-        None => append_unfinished(text, context),
-        Some(choice) => append_finished(alloc, text, context, choice),
+    let mut listed = Vec::new(alloc.clone()?);
+    match listing(context, &mut listed) {
+        Ok(()) => append_listed(alloc, text, context, &listed),
+        Err(ListFault::Succeeded) => append(text, b"succeeded\n"),
+        Err(ListFault::NotFinished) => append_unfinished(text, context),
+        Err(ListFault::NoMemory) => Err(AllocError),
     }
 }
