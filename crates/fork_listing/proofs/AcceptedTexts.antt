@@ -82,7 +82,7 @@ skip : (lines more : List Line) → AllByRecursion IsLine (lines ++ more) → Al
 skip [] more all = all
 skip (line ∷ lines) more all = skip lines more all.1
 
-target_lines : (l : Listing) → IsListing l → (n : ℕ) (target : Target) → slice_get l.targets n ≡ Some target → IsLine (TargetLine target)
+pub target_lines : (l : Listing) → IsListing l → (n : ℕ) (target : Target) → slice_get l.targets n ≡ Some target → IsLine (TargetLine target)
 target_lines l h = lines_at l.targets _ (skip (rule_lines l.version l.rules) _ h.lines.1)
 
 score_within : (end : End) (score : Score) → IsEnd end → score_in end ≡ Some score → score.arrival ≤ most_arrival

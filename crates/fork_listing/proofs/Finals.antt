@@ -7,13 +7,14 @@ use Rattle.fork_model.specs.Table.{Rules, Row, Stored}
 use Rattle.fork_model.specs.Rank.{Score}
 use Rattle.fork_model.specs.Choice as model
 use Rattle.fork_model.specs.Choice.{Choice, Best, Only503, NoAnswer408, IsChoice, IsFirst, stored_at, status_at}
+use Rattle.fork_tree.specs.declared.best.BestRef.{BestRef}
+use Rattle.fork_tree.specs.Tree.{IsBest, score_of_ref}
 use Rattle.fork_listing.specs.declared.line.Target.{Target}
-use Rattle.fork_listing.specs.declared.line.Ranked.{Ranked}
 use Rattle.fork_listing.specs.declared.line.Final.{Final}
 use Rattle.fork_listing.specs.First.{HoldsBelow}
 use Rattle.fork_listing.specs.Targets.{IsPlaced}
-use Rattle.fork_listing.specs.Ranks.{rows_of, score_of, final_of, IsChosen, IsNotChosen}
-use Rattle.fork_listing.specs.Stored.{AreNumbered, IsBest, final_of_best}
+use Rattle.fork_listing.specs.Ranks.{rows_of, final_of, IsChosen, IsNotChosen}
+use Rattle.fork_listing.specs.Stored.{AreNumbered, final_of_best}
 use Rattle.fork_listing.proofs.Placing.{inside}
 
 some_same : {X : Type 0} {x y : X} → Some x ≡ Some y → x ≡ y
@@ -27,32 +28,32 @@ status_seen None score e = absurd (none_some e)
 status_seen (Some answer) score e = ap (λ (s : Score). s.status) (some_same e)
 
 -- the choice that the first of those stored makes, and its line
-abbrev Chosen : Rules → List Row → Option Ranked → Type 0
+abbrev Chosen : Rules → List Row → Option BestRef → Type 0
 Chosen rules rows best = (choice : Choice) × IsChoice rules rows choice × (final_of_best best ≡ final_of rows choice)
 
-chosen_by : (rules : Rules) (rows : List Row) (best : Option Ranked) → IsBest rules rows best → Chosen rules rows best
+chosen_by : (rules : Rules) (rows : List Row) (best : Option BestRef) → IsBest rules rows best → Chosen rules rows best
 chosen_by rules rows None is = (NoAnswer408, is, refl)
 chosen_by rules rows (Some first) is = at (eqb first.status 503) refl
   where
     line : ℕ → Final
-    line s = record { status = s; number = Some first.number }
+    line s = record { status = s; number = Some first.no }
 
-    status : status_at (slice_get rows first.number) ≡ first.status
-    status = status_seen (stored_at (slice_get rows first.number)) (score_of first) is.stored
+    status : status_at (slice_get rows first.no) ≡ first.status
+    status = status_seen (stored_at (slice_get rows first.no)) (score_of_ref first) is.stored
 
     at : (b : Bool) → eqb first.status 503 ≡ b → Chosen rules rows (Some first)
     at true e =
-        (Only503 first.number, (score_of first, is, eqb-true first.status 503 e), ap (λ t. cond t (line 500) (line first.status)) e)
+        (Only503 first.no, (score_of_ref first, is, eqb-true first.status 503 e), ap (λ t. cond t (line 500) (line first.status)) e)
     at false e = (
-      Best first.number,
-      (score_of first, is, (λ same. false≢true (sym e ∙ eq-eqb first.status 503 same))),
+      Best first.no,
+      (score_of_ref first, is, (λ same. false≢true (sym e ∙ eq-eqb first.status 503 same))),
       ap (λ t. cond t (line 500) (line first.status)) e ∙ ap line (sym status),
     )
 
-pub is_chosen : (rules : Rules) (targets : List Target) (best : Option Ranked) (last : Final) → IsBest rules (rows_of targets) best → last ≡ final_of_best best → IsChosen rules targets last
+pub is_chosen : (rules : Rules) (targets : List Target) (best : Option BestRef) (last : Final) → IsBest rules (rows_of targets) best → last ≡ final_of_best best → IsChosen rules targets last
 is_chosen rules targets best last is e = let h = chosen_by rules (rows_of targets) best is in (h.0, h.1, e ∙ h.2)
 
-pub not_chosen : (rules : Rules) (targets : List Target) (best : Option Ranked) (last : Final) → IsBest rules (rows_of targets) best → (last ≡ final_of_best best → ⊥) → IsNotChosen rules targets last
+pub not_chosen : (rules : Rules) (targets : List Target) (best : Option BestRef) (last : Final) → IsBest rules (rows_of targets) best → (last ≡ final_of_best best → ⊥) → IsNotChosen rules targets last
 not_chosen rules targets best last is e = let h = chosen_by rules (rows_of targets) best is in (h.0, h.1, (λ same. e (same ∙ sym h.2)))
 
 -- lines that keep the rules have their numbers

@@ -2,7 +2,7 @@ mod Pieces
 mod PreferredLists
 mod Placing
 mod Sets
-mod BestLines
+mod LineScores
 mod Listed
 mod Sorting
 mod Meanings
@@ -17,4 +17,6 @@ mod FallingRows
 mod GrownTables
 mod AcceptedTexts
 mod ListedForks
+mod Formed
+mod TreeRows
 mod MalformedLines

@@ -15,7 +15,7 @@ use Rattle.fork_listing.specs.Text.{Listing, read_listing}
 use Rattle.fork_listing.specs.Checking.{AreInOrder, AreListed, IsChecked, verdict_of}
 use Rattle.fork_listing.specs.Meaning.{ListedAreStored, FinalIsFirst, TellsTheChoice, RightTellsTheChoice, AcceptedTellsTheChoice}
 use Rattle.fork_listing.proofs.Placing.{inside, there}
-use Rattle.fork_listing.proofs.BestLines.{target_score, get_map}
+use Rattle.fork_listing.proofs.LineScores.{target_score, get_map}
 use Rattle.fork_listing.proofs.Finals.{status_seen}
 
 some_same : {X : Type 0} {x y : X} → Some x ≡ Some y → x ≡ y

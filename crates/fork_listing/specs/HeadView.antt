@@ -38,4 +38,5 @@ module _ {X : Type 0} where
   abbrev pub IsLastChecked : Head → List Target → Result X CheckFault → Type 0
   IsLastChecked head targets (Ok x) = IsChosen head.rules targets head.last
   IsLastChecked head targets (Err FinalLine) = IsNotChosen head.rules targets head.last
+  IsLastChecked head targets (Err NoMemory) = Unit {0}
   IsLastChecked head targets (Err _) = ⊥

@@ -11,6 +11,7 @@ pub mod Ranks
 pub mod Stored
 pub mod Checking
 pub mod Accepted
+pub mod TreeRows
 pub mod HeadView
 pub mod Ranking
 pub mod Listed

@@ -1,13 +1,12 @@
--- The first of the stored answers, found line by line.
-use Rattle.std.specs.Prelude.{◌≡◌, ◌==◌, ℕ, ◌⊎◌, List, Option, Some, None, slice_get, if◌then◌else◌}
+-- The lines of the stored answers, and of the answer that goes up.
+use Rattle.std.specs.Prelude.{◌≡◌, ◌==◌, ℕ, List, Option, Some, None, slice_get, if◌then◌else◌}
 use Rattle.std.specs.Option.{option_map}
-use Rattle.fork_model.specs.Table.{Rules, Row}
-use Rattle.fork_model.specs.Rank.{Score, Before}
-use Rattle.fork_model.specs.Choice.{IsFirst, NoneStored}
+use Rattle.fork_model.specs.Rank.{Score}
+use Rattle.fork_tree.specs.declared.best.BestRef.{BestRef}
 use Rattle.fork_listing.specs.declared.line.Target.{Target}
 use Rattle.fork_listing.specs.declared.line.Ranked.{Ranked}
 use Rattle.fork_listing.specs.declared.line.Final.{Final}
-use Rattle.fork_listing.specs.Ranks.{score_of, score_in}
+use Rattle.fork_listing.specs.Ranks.{score_in}
 
 abbrev pub ranked_as : ℕ → Score → Ranked
 ranked_as n score = record { status = score.status; number = n; arrival = score.arrival }
@@ -20,25 +19,12 @@ ranked_in target = option_map (ranked_as target.number) (score_in target.end)
 abbrev pub AreNumbered : List Target → Type 0
 AreNumbered targets = (n : ℕ) (target : Target) → slice_get targets n ≡ Some target → target.number ≡ n
 
--- the answer that none ranks before; None where none is stored
-abbrev pub IsBest : Rules → List Row → Option Ranked → Type 0
-IsBest rules rows None = NoneStored rows
-IsBest rules rows (Some first) = IsFirst rules rows first.number (score_of first)
-
--- a later answer takes the place of the one kept only where it ranks before it
-abbrev pub IsBetter : Rules → Option Ranked → Option Ranked → Option Ranked → Type 0
-IsBetter rules kept None best = best ≡ kept
-IsBetter rules None (Some stored) best = best ≡ Some stored
-IsBetter rules (Some kept) (Some stored) best =
-    ((best ≡ Some stored) × Before rules (score_of stored) (score_of kept))
-    ⊎ ((best ≡ Some kept) × (Before rules (score_of stored) (score_of kept) → ⊥))
-
 -- the line of the answer that goes up, where this is the first
-abbrev pub final_of_best : Option Ranked → Final
+abbrev pub final_of_best : Option BestRef → Final
 final_of_best None = record { status = 408; number = None }
 final_of_best (Some first) =
-    if first.status == 503 then record { status = 500; number = Some first.number }
-    else record { status = first.status; number = Some first.number }
+    if first.status == 503 then record { status = 500; number = Some first.no }
+    else record { status = first.status; number = Some first.no }
 
 -- the number that a line of the ranks names
 abbrev pub number_at : List Ranked → ℕ → Option ℕ

@@ -1,15 +1,19 @@
 //! Whether a text is the listing of a fork as it may have ended, and tells its choice.
-ghost use Rattle.std.specs.Prelude.{◌≡◌, ◌+◌, IfOk, IfErr};
+ghost use Rattle.std.specs.Prelude.{◌≡◌, ◌+◌, IfOk, IfErr, length};
 ghost use Rattle.fork_listing.specs.declared.checker.Verdict as spec;
 ghost use Rattle.fork_listing.specs.Accepted.{IsRightText, IsOkElseNoMemory, IsLineNamed};
 ghost use Rattle.fork_listing.specs.Text.{read_listing};
 ghost use Rattle.fork_listing.specs.Checking.{IsChecked, IsVerdictOf, first_target};
 ghost use Rattle.fork_listing.specs.HeadView.{listing_with, AreBranchesChecked, IsOrderChecked, AreListedChecked, IsLastChecked};
+ghost use Rattle.fork_listing.specs.First.{HoldsBelow};
+ghost use Rattle.fork_listing.specs.Targets.{IsPlaced};
 ghost use Rattle.fork_listing.specs.Stored.{AreNumbered};
+ghost use Rattle.fork_listing.specs.TreeRows.{AreFormed};
 
+use crate::choice::best_stored;
 use crate::draft::{Listing, ReadFault};
 use crate::line::{Final, Ranked, Target, Version};
-use crate::ranks::{best, first_misordered, first_unlisted, is_final_of};
+use crate::ranks::{first_misordered, first_unlisted, is_final_of};
 use crate::targets::first_misplaced;
 use bumpalo::Bump;
 use fork_rank::Rules;
@@ -116,11 +120,17 @@ fn check_listed<A: Allocator + Clone>(
 }
 
 /// Whether the last line tells the choice.
-fn check_last(head: &Head, targets: &[Target]) -> Result<(), CheckFault>
-    requires numbered { AreNumbered targets.now }
+fn check_last<A: Allocator + Clone>(
+    alloc: A,
+    head: &Head,
+    targets: &[Target],
+) -> Result<(), CheckFault>
+    requires formed { AreFormed targets.now }
+    requires placed { HoldsBelow (IsPlaced head.now.rules.depth targets.now) (length targets.now) }
     ensures { IsLastChecked head.now targets.now result }
 {
-    if is_final_of(best(&head.rules, targets), &head.last) {
+    let best = best_stored(alloc, head.rules, targets)?;
+    if is_final_of(best, &head.last) {
         Ok(())
     } else {
         Err(CheckFault::FinalLine)
@@ -134,12 +144,13 @@ fn check_parts<A: Allocator + Clone>(
     targets: &[Target],
     ranks: &[Ranked],
 ) -> Result<Verdict, CheckFault>
+    requires formed { AreFormed targets.now }
     ensures { IsVerdictOf (listing_with head.now targets.now ranks.now) result }
 {
     check_branches(alloc.clone()?, head, targets)?;
     check_order(head, targets, ranks)?;
-    check_listed(alloc, targets, ranks)?;
-    check_last(head, targets)?;
+    check_listed(alloc.clone()?, targets, ranks)?;
+    check_last(alloc, head, targets)?;
     Ok(Verdict {
         targets: head.count,
         status: head.last.status.code(),
@@ -151,6 +162,7 @@ fn check_listing<A: Allocator + Clone>(
     alloc: A,
     listing: &Listing<A>,
 ) -> Result<Verdict, CheckFault>
+    requires formed { AreFormed listing.now.targets }
     ensures { IsVerdictOf listing.now result }
 {
     let head = Head {
@@ -182,7 +194,7 @@ fn check_in<A: Allocator + Clone>(alloc: A, text: &[u8]) -> Result<Verdict, Chec
 ///
 /// The first fault, in the order of `CheckFault`; `NoMemory` only where the arena is refused memory.
 #[tactic(auto, using(crate::proofs::AcceptedTexts::right_of, crate::proofs::AcceptedTexts::right_accepted, crate::proofs::AcceptedTexts::named_of))]
-pub fn check(arena: &Bump, text: &[u8]) -> Result<Verdict, CheckFault>
+pub fn check<A: Allocator>(arena: &Bump<A>, text: &[u8]) -> Result<Verdict, CheckFault>
     ensures checked { IsChecked (read_listing text.now) result }
     ensures right { IfOk result (IsRightText text.now) }
     // no right text is refused

@@ -3,6 +3,7 @@
 #![tactic(auto)]
 
 mod checker;
+mod choice;
 mod depth;
 mod draft;
 mod laws;

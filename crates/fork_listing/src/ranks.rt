@@ -5,12 +5,13 @@ ghost use Rattle.fork_listing.specs.First.{IsFirstToFail};
 ghost use Rattle.fork_listing.specs.Near.{Holds};
 ghost use Rattle.std.specs.Ordering.{nat_cmp};
 ghost use Rattle.std.specs.BTreeSet.{contains};
-ghost use Rattle.fork_listing.specs.Ranks.{rows_of, score_of, score_in, score_at, RanksBehind, rank_before, IsInOrder, IsOrdered, IsListed};
-ghost use Rattle.fork_listing.specs.Stored.{ranked_in, AreNumbered, IsBest, IsBetter, final_of_best, number_at};
+ghost use Rattle.fork_listing.specs.Ranks.{score_of, score_in, score_at, RanksBehind, rank_before, IsInOrder, IsOrdered, IsListed};
+ghost use Rattle.fork_listing.specs.Stored.{ranked_in, AreNumbered, final_of_best, number_at};
 
 use crate::line::{End, Final, Ranked, Target};
 use crate::targets::{note, target_at};
 use fork_rank::{Rules, ranks_before};
+use fork_tree::BestRef;
 use std::alloc::{AllocError, Allocator};
 use std::collections::BTreeSet;
 
@@ -169,39 +170,8 @@ pub fn stored_in(target: &Target) -> Option<Ranked>
     }
 }
 
-/// Of the answer kept so far and a later one that which goes first.
-fn better(rules: &Rules, kept: Option<Ranked>, stored: Option<Ranked>) -> Option<Ranked>
-    ensures { IsBetter rules.now kept stored result }
-{
-    match (kept, stored) {
-        (_, None) => kept,
-        (None, Some(_)) => stored,
-        (Some(first), Some(later)) => {
-            if goes_before(rules, &later, &first) {
-                stored
-            } else {
-                kept
-            }
-        }
-    }
-}
-
-/// The stored answer that none ranks before.
-pub fn best(rules: &Rules, targets: &[Target]) -> Option<Ranked>
-    requires numbered { AreNumbered targets.now }
-    ensures { IsBest rules.now (rows_of targets.now) result }
-{
-    let mut best = None;
-    let mut n = 0;
-    while n < targets.len() {
-        best = better(rules, best, stored_in(&targets[n]));
-        n += 1;
-    }
-    best
-}
-
 /// Whether the line says that the first answer goes up: a 500 in place of a 503, a 408 where nothing is stored.
-pub fn is_final_of(best: Option<Ranked>, last: &Final) -> bool
+pub fn is_final_of(best: Option<BestRef>, last: &Final) -> bool
     ensures { IsTrue result ↔ (last.now ≡ final_of_best best) }
 {
     match best {
@@ -212,7 +182,7 @@ pub fn is_final_of(best: Option<Ranked>, last: &Final) -> bool
             } else {
                 first.status.code()
             };
-            last.status.code() == status && last.number == Some(first.number)
+            last.status.code() == status && last.number == Some(first.no)
         }
     }
 }

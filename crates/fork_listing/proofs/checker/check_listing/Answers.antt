@@ -1,4 +1,4 @@
-use Rattle.std.proofs.Common.{◌≡◌, ◌∙◌, ℕ, List, ap, subst}
+use Rattle.std.proofs.Common.{◌≡◌, ◌∙◌, ℕ, List, ap, sym, subst}
 use Rattle.fork_model.specs.Table.{Rules}
 use Rattle.fork_listing.specs.declared.line.Version.{Version}
 use Rattle.fork_listing.specs.declared.line.Target.{Target}
@@ -6,6 +6,7 @@ use Rattle.fork_listing.specs.declared.line.Ranked.{Ranked}
 use Rattle.fork_listing.specs.declared.line.Final.{Final}
 use Rattle.fork_listing.specs.Text.{Listing}
 use Rattle.fork_listing.specs.Checking.{IsVerdictOf}
+use Rattle.fork_listing.specs.TreeRows.{AreFormed}
 use Rattle.fork_listing.proofs.checker.check_listing.Goals as goal
 
 same_listing : (l : Listing) (v : Version) (n : ℕ) (r : Rules) (ts : List Target) (rs : List Ranked) (f : Final)
@@ -27,3 +28,8 @@ returns g c =
     subst P
     (same_listing c.args.listing.now _ _ _ _ _ _ c.version.ensures c.count.ensures c.rules.ensures c.targets.ensures c.ranks.ensures c.last.ensures)
     c.check_parts.ensures
+
+pub check_parts-requires : goal.check_parts-requires
+check_parts-requires g c =
+    let P : List Target → Type 0 = λ ts. AreFormed ts in
+    record { formed = subst P (sym c.targets.ensures) c.requires.formed }

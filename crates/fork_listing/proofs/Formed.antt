@@ -1,0 +1,28 @@
+-- What the form of its lines says of a listing's branches.
+use Rattle.std.proofs.Common.{◌≡◌, ◌≤◌, ℕ, List, length, Ok, arith}
+use Rattle.fork_model.specs.Table.{most_targets}
+use Rattle.fork_listing.specs.declared.line.Version.{Version}
+use Rattle.fork_listing.specs.declared.line.Version.TheVariants.{First, Second, Third}
+use Rattle.fork_listing.specs.Line.{most_listed}
+use Rattle.fork_listing.specs.Text.{Listing, read_listing}
+use Rattle.fork_listing.specs.Spelled.{IsListing}
+use Rattle.fork_listing.specs.TreeRows.{AreFormed}
+use Rattle.fork_listing.proofs.AcceptedTexts.{target_lines}
+use Rattle.fork_listing.proofs.SpelledListings.{listing_found}
+
+few_listed : (version : Version) → most_listed version ≤ most_targets
+few_listed First = omega arith
+few_listed Second = omega arith
+few_listed Third = omega arith
+
+formed : (l : Listing) → IsListing l → AreFormed l.targets
+formed l h =
+    let bound : l.count ≤ most_listed l.version = h.lines.0.1 in
+    let counted : length l.targets ≡ l.count = h.counted in
+    record {
+      few = omega (arith, counted, bound, few_listed l.version);
+      ends = λ n target here. (target_lines l h n target here).3;
+    }
+
+pub formed_read : (text : List ℕ) (l : Listing) → read_listing text ≡ Ok l → AreFormed l.targets
+formed_read text l read = formed l (listing_found text l read).1

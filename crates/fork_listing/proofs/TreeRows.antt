@@ -1,0 +1,242 @@
+-- The branches of a listing, each rightly placed, are the rows of a tree, and its best answer is theirs.
+use Rattle.std.proofs.Common.{◌≡◌, ℕ, zero, suc, ◌+◌, ◌-◌, ◌<◌, ◌≤◌, ◌⊎◌, inl, inr, Bool, true, false, not, eqb, List, [], ◌∷◌, ◌++◌, length, map, drop, Option, Some, None, refl, ap, sym, subst, ◌∙◌, arith, append_assoc, append-nil, if◌then◌else◌}
+use Rattle.std.proofs.lemmas.Bool.{eqb-true, eq-eqb, false≢true}
+use Rattle.std.specs.Prelude.{slice_get}
+use Rattle.std.specs.Option.{option_map}
+use Rattle.fork_model.specs.Table.{Rules, most_targets, stored_end}
+use Rattle.fork_model.specs.Choice.{score_of, stored_at}
+use Rattle.fork_tree.specs.declared.best.BestRef.{BestRef}
+use Rattle.fork_tree.specs.declared.row.RowRef.{RowRef}
+use Rattle.fork_tree.specs.States.{IsFinal, IsFinalEnd, has_ended, end_of as tree_end_of}
+use Rattle.fork_tree.specs.Tree.{IsBest}
+use Rattle.fork_tree.specs.Given.{AreRows, given_row}
+use Rattle.fork_tree.proofs.Ordering.{IsNext, ordered_rows}
+use Rattle.fork_listing.specs.declared.line.End.{End}
+use Rattle.fork_listing.specs.declared.line.End.TheVariants.{Stored, Taken, Silent, Never}
+use Rattle.fork_listing.specs.declared.line.Target.{Target}
+use Rattle.fork_listing.specs.First.{HoldsBelow}
+use Rattle.fork_listing.specs.Ranks.{rows_of, end_of}
+use Rattle.fork_listing.specs.Spelled.{IsEnd}
+use Rattle.fork_listing.specs.Targets.{ended_at, IsParent, IsBefore, Follows, FollowsTarget, IsInPlace, IsPlaced}
+use Rattle.fork_listing.specs.TreeRows.{AreFormed, tree_end, is_same, group_beside, group_behind, group_kept, row_behind, rows_behind, last_row, tree_rows}
+use Rattle.fork_listing.proofs.Placing.{inside}
+
+some_same : {X : Type 0} {x y : X} → Some x ≡ Some y → x ≡ y
+some_same e = cc
+
+-- ---- row by row
+
+drop_one : {X : Type 0} (xs : List X) (n : ℕ) (x : X) → slice_get xs n ≡ Some x → drop n xs ≡ x ∷ drop (suc n) xs
+drop_one [] n x is = absurd cc
+drop_one {X} (y ∷ xs) zero x is = ap (λ (z : X). z ∷ xs) (some_same is)
+drop_one (y ∷ xs) (suc n) x is = drop_one xs n x is
+
+drop_all : {X : Type 0} (xs : List X) (n : ℕ) → length xs ≤ n → drop n xs ≡ []
+drop_all [] zero h = refl
+drop_all [] (suc n) h = refl
+drop_all (x ∷ xs) zero h = absurd (omega (arith, h))
+drop_all (x ∷ xs) (suc n) h = drop_all xs n (omega (arith, h))
+
+-- the rows so far, and those behind them
+abbrev pub AreBegun : List Target → ℕ → List RowRef → Type 0
+AreBegun targets n rows = rows ++ rows_behind (last_row rows) (drop n targets) ≡ tree_rows targets
+
+get_pushed : (rows : List RowRef) (row : RowRef) → slice_get (rows ++ row ∷ []) (length rows) ≡ Some row
+get_pushed [] row = refl
+get_pushed (r ∷ rows) row = get_pushed rows row
+
+length_pushed : (rows : List RowRef) (row : RowRef) → length (rows ++ row ∷ []) ≡ suc (length rows)
+length_pushed [] row = refl
+length_pushed (r ∷ rows) row = ap suc (length_pushed rows row)
+
+last_pushed : (rows : List RowRef) (row : RowRef) → last_row (rows ++ row ∷ []) ≡ Some row
+last_pushed rows row =
+    let at : length (rows ++ row ∷ []) - 1 ≡ length rows = omega (arith, length_pushed rows row) in
+    ap (slice_get (rows ++ row ∷ [])) at ∙ get_pushed rows row
+
+pub rows_more : (targets : List Target) (n : ℕ) (target : Target) (rows : List RowRef) → slice_get targets n ≡ Some target
+    → AreBegun targets n rows → AreBegun targets (n + 1) (rows ++ row_behind (last_row rows) target ∷ [])
+rows_more targets n target rows here was =
+    let before : Option RowRef = last_row rows in
+    let row : RowRef = row_behind before target in
+    let one : n + 1 ≡ suc n = omega arith in
+    ap (λ (o : Option RowRef). (rows ++ row ∷ []) ++ rows_behind o (drop (n + 1) targets)) (last_pushed rows row)
+    ∙ ap (λ k. (rows ++ row ∷ []) ++ rows_behind (Some row) (drop k targets)) one
+    ∙ append_assoc rows (row ∷ []) (rows_behind (Some row) (drop (suc n) targets))
+    ∙ ap (λ (ts : List Target). rows ++ rows_behind before ts) (sym (drop_one targets n target here))
+    ∙ was
+
+pub rows_done : (targets : List Target) (n : ℕ) (rows : List RowRef) → length targets ≤ n → AreBegun targets n rows → rows ≡ tree_rows targets
+rows_done targets n rows past was =
+    sym (append-nil rows)
+    ∙ ap (λ (ts : List Target). rows ++ rows_behind (last_row rows) ts) (sym (drop_all targets n past))
+    ∙ was
+
+group_bound : (before : Option RowRef) (target : Target) → group_behind before target ≤ suc (group_kept before)
+group_bound None target = omega arith
+group_bound (Some b) target = at (is_same b.parent target.parent) (eqb b.q target.q)
+  where
+    at : (s e : Bool) → (if s then (if e then b.group else suc b.group) else 0) ≤ suc b.group
+    at true true = omega arith
+    at true false = omega arith
+    at false e = omega arith
+
+-- a group is no further on than the rows
+pub group_more : (n : ℕ) (target : Target) (rows : List RowRef) → group_kept (last_row rows) ≤ n
+    → group_kept (last_row (rows ++ row_behind (last_row rows) target ∷ [])) ≤ n + 1
+group_more n target rows low =
+    let P : Option RowRef → Type 0 = λ o. group_kept o ≤ n + 1 in
+    let bound : group_behind (last_row rows) target ≤ suc (group_kept (last_row rows)) = group_bound (last_row rows) target in
+    let here : group_behind (last_row rows) target ≤ n + 1 = omega (arith, bound, low) in
+    subst P (sym (last_pushed rows (row_behind (last_row rows) target))) here
+
+length_behind : (before : Option RowRef) (targets : List Target) → length (rows_behind before targets) ≡ length targets
+length_behind before [] = refl
+length_behind before (t ∷ ts) = ap suc (length_behind (Some (row_behind before t)) ts)
+
+-- a row is that of a line
+record IsRowOf (targets : List Target) (n : ℕ) (row : RowRef) : Type 0 where
+  target : Target
+  here : slice_get targets n ≡ Some target
+  before : Option RowRef
+  same : row ≡ row_behind before target
+
+row_found : (before : Option RowRef) (targets : List Target) (n : ℕ) (row : RowRef) → slice_get (rows_behind before targets) n ≡ Some row → IsRowOf targets n row
+row_found before [] n row is = absurd cc
+row_found before (t ∷ ts) zero row is = record { target = t; here = refl; before = before; same = sym (some_same is) }
+row_found before (t ∷ ts) (suc n) row is =
+    let h = row_found (Some (row_behind before t)) ts n row is in
+    record { target = h.target; here = h.here; before = h.before; same = h.same }
+
+next_found : (before : Option RowRef) (targets : List Target) (n : ℕ) (a b : RowRef) → slice_get (rows_behind before targets) n ≡ Some a
+    → slice_get (rows_behind before targets) (suc n) ≡ Some b → (t : Target) × (slice_get targets (suc n) ≡ Some t) × (b ≡ row_behind (Some a) t)
+next_found before [] n a b ia ib = absurd cc
+next_found before (t ∷ []) n a b ia ib = absurd cc
+next_found before (t ∷ u ∷ ts) zero a b ia ib =
+    (u, refl, sym (some_same ib) ∙ ap (λ (x : RowRef). row_behind (Some x) u) (some_same ia))
+next_found before (t ∷ u ∷ ts) (suc n) a b ia ib = next_found (Some (row_behind before t)) (u ∷ ts) n a b ia ib
+
+first_found : (targets : List Target) (row : RowRef) → slice_get (tree_rows targets) 0 ≡ Some row → row.group ≡ 0
+first_found [] row is = absurd cc
+first_found (t ∷ ts) row is = ap (λ (x : RowRef). x.group) (sym (some_same is))
+
+-- ---- the order of the parents: none, then by the event that ended them
+
+abbrev at_or_0 : Option ℕ → ℕ
+at_or_0 None = 0
+at_or_0 (Some at) = at
+
+abbrev order : List Target → Option ℕ → ℕ
+order targets None = 0
+order targets (Some m) = suc (at_or_0 (ended_at targets m))
+
+rising : (a b : Option ℕ) → IsBefore a b → at_or_0 a < at_or_0 b
+rising None b h = absurd h
+rising (Some a) None h = absurd h
+rising (Some a) (Some b) h = h
+
+follows_order : (targets : List Target) (a b : Option ℕ) → Follows targets a b → (a ≡ b) ⊎ (order targets a < order targets b)
+follows_order targets None None h = inl refl
+follows_order targets None (Some m) h = inr (omega arith)
+follows_order targets (Some k) None h = absurd h
+follows_order targets (Some k) (Some m) h = elim h [
+  | inl same ↦ inl (ap Some same)
+  | inr before ↦ inr (let up = rising (ended_at targets k) (ended_at targets m) before in omega (arith, up))
+]
+
+same_found : (a b : Option ℕ) → is_same a b ≡ true → a ≡ b
+same_found None None e = refl
+same_found None (Some b) e = absurd (false≢true e)
+same_found (Some a) None e = absurd (false≢true e)
+same_found (Some a) (Some b) e = ap Some (eqb-true a b e)
+
+same_self : (a : Option ℕ) → is_same a a ≡ true
+same_self None = refl
+same_self (Some a) = eq-eqb a a refl
+
+turned : (b : Bool) (m n : ℕ) → (if b then m else n) ≡ (if not b then n else m)
+turned true m n = refl
+turned false m n = refl
+
+next_behind : (targets : List Target) (a : RowRef) (t : Target) → Follows targets a.parent t.parent → IsNext (order targets) a (row_behind (Some a) t)
+next_behind targets a t follows = at (is_same a.parent t.parent) refl
+  where
+    group_if : Bool → ℕ
+    group_if s = if s then group_beside a t.q else 0
+
+    at : (s : Bool) → is_same a.parent t.parent ≡ s → IsNext (order targets) a (row_behind (Some a) t)
+    at true e = inl (same_found a.parent t.parent e, ap group_if e ∙ turned (eqb a.q t.q) a.group (suc a.group))
+    at false e = elim (follows_order targets a.parent t.parent follows) [
+      | inl same ↦ absurd (false≢true (sym e ∙ ap (is_same a.parent) (sym same) ∙ same_self a.parent))
+      | inr later ↦ inr (later, ap group_if e)
+    ]
+
+-- ---- so they are the rows of a tree
+
+final_end : (end : End) → IsEnd end → IsFinalEnd (tree_end end)
+final_end (Stored status arrival received) h = h.0.0
+final_end (Taken arrival) h = tt
+final_end (Silent arrival) h = tt
+final_end Never h = tt
+
+pub are_rows : (depth : ℕ) (targets : List Target) (rows : List RowRef) → AreFormed targets → HoldsBelow (IsPlaced depth targets) (length targets)
+    → rows ≡ tree_rows targets → AreRows rows
+are_rows depth targets rows formed placed is =
+    let P : List RowRef → Type 0 = λ x. AreRows x in
+    subst P (sym is) (ordered_rows (order targets) (tree_rows targets) (record {
+      few = omega (arith, length_behind None targets, formed.few);
+      number = λ n row at.
+          let h = row_found None targets n row at in
+          ap (λ (x : RowRef). x.no) h.same ∙ (place n h.target h.here).number;
+      final_end = λ n row at.
+          let h = row_found None targets n row at in
+          let Q : RowRef → Type 0 = λ x. IsFinal x.state in
+          subst Q (sym h.same) (final_end h.target.end (formed.ends n h.target h.here));
+      parent = λ n m row at e. record {
+        older = (parent_of n m row at e).0;
+        ended = λ p there. ap (λ (x : RowRef). has_ended x.state) (row_found None targets m p there).same;
+      };
+      first = first_found targets;
+      next = λ n a b ia ib.
+          let h = next_found None targets n a b ia ib in
+          let Q : RowRef → Type 0 = λ x. IsNext (order targets) a x in
+          subst Q (sym h.2) (next_behind targets a h.0 (behind n a h.0 ia h.1));
+    }))
+  where
+    place : (n : ℕ) (target : Target) → slice_get targets n ≡ Some target → IsInPlace depth targets n target
+    place n target here = placed n (inside targets n target here) target here
+
+    parent_of : (n m : ℕ) (row : RowRef) → slice_get (tree_rows targets) n ≡ Some row → row.parent ≡ Some m → IsParent targets n (Some m)
+    parent_of n m row at e =
+        let h = row_found None targets n row at in
+        let Q : Option ℕ → Type 0 = λ o. IsParent targets n o in
+        let same : h.target.parent ≡ Some m = sym (ap (λ (x : RowRef). x.parent) h.same) ∙ e in
+        subst Q same (place n h.target h.here).parent
+
+    behind : (n : ℕ) (a : RowRef) (t : Target) → slice_get (tree_rows targets) n ≡ Some a → slice_get targets (suc n) ≡ Some t → Follows targets a.parent t.parent
+    behind n a t ia here =
+        let k = row_found None targets n a ia in
+        let Q : Option Target → Type 0 = λ o. FollowsTarget targets o t.parent in
+        let R : Option ℕ → Type 0 = λ o. Follows targets o t.parent in
+        let same : a.parent ≡ k.target.parent = ap (λ (x : RowRef). x.parent) k.same in
+        subst R (sym same) (subst Q k.here (place (suc n) t here).follows)
+
+-- ---- and the best of the tree is theirs
+
+same_end : (end : End) → stored_end (tree_end_of (tree_end end) [] []) ≡ stored_end (end_of end)
+same_end (Stored status arrival received) = refl
+same_end (Taken arrival) = refl
+same_end (Silent arrival) = refl
+same_end Never = refl
+
+same_stored : (before : Option RowRef) (targets : List Target) (n : ℕ) → stored_at (slice_get (map given_row (rows_behind before targets)) n) ≡ stored_at (slice_get (rows_of targets) n)
+same_stored before [] n = refl
+same_stored before (t ∷ ts) zero = same_end t.end
+same_stored before (t ∷ ts) (suc n) = same_stored (Some (row_behind before t)) ts n
+
+pub best_same : (rules : Rules) (targets : List Target) (best : Option BestRef) → IsBest rules (map given_row (tree_rows targets)) best → IsBest rules (rows_of targets) best
+best_same rules targets None none = λ m score is. none m score (ap (option_map score_of) (same_stored None targets m) ∙ is)
+best_same rules targets (Some b) first = record {
+  stored = ap (option_map score_of) (sym (same_stored None targets b.no)) ∙ first.stored;
+  first = λ m other is. first.first m other (ap (option_map score_of) (same_stored None targets m) ∙ is);
+}
