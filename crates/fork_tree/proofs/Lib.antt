@@ -21,3 +21,4 @@ pub mod Samples
 pub mod Lines
 pub mod Mates
 pub mod Starting
+pub mod Known

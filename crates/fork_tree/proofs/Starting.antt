@@ -13,7 +13,7 @@ use Rattle.fork_tree.specs.Tally.{open_of}
 use Rattle.fork_tree.specs.Tree.{Tree}
 use Rattle.fork_tree.specs.Below.{lies_below, IsSubtree}
 use Rattle.fork_tree.specs.Ready.{IsReady, tried}
-use Rattle.fork_tree.specs.Search.{AreMates, Joins, IsGroup, AllWait, IsHeldUp, HoldsUp, IsNext, MayGo}
+use Rattle.fork_tree.specs.Search.{AreMates, Joins, IsGroup, AllWait, IsHeldUp, HoldsUp, IsNext, IsNextIn, MayGo}
 use Rattle.fork_tree.proofs.Lines.{AreOlderRows, IsBefore, before_found, before_goes, none_below, GoesOn, some_below}
 use Rattle.fork_tree.proofs.Mates.{AreJoined, row_there}
 
@@ -253,3 +253,29 @@ WaitTo rows first n = (k : ℕ) (row : Row) → first ≤ k → k < n → slice_
 pub wait_more : (rows : List Row) (first n : ℕ) → WaitTo rows first n → is_row is_idle (slice_get rows n) ≡ true → WaitTo rows first (n + 1)
 wait_more rows first n h e k row low high is =
     below_next (λ j. (r : Row) → first ≤ j → slice_get rows j ≡ Some r → is_idle r.state ≡ true) n k (λ j lt r l i. h j r l lt i) (λ r l i. waits_at rows n true r e i) high row low is
+
+-- ---- what holds a row up, from either side
+
+abbrev pub FreeIn : List Row → ℕ → ℕ → ℕ → Type 0
+FreeIn rows n low high = (m : ℕ) → low ≤ m → m < high → HoldsUp rows m n false
+
+pub free_on : (rows : List Row) (n low m : ℕ) → FreeIn rows n low m → HoldsUp rows m n false → FreeIn rows n low (m + 1)
+free_on rows n low m free here k from lt = below_next (λ j. low ≤ j → HoldsUp rows j n false) m k (λ j l f. free j f l) (λ f. here) lt from
+
+pub free_back : (rows : List Row) (n back : ℕ) → back < n → FreeIn rows n (n - back) n → HoldsUp rows (n - 1 - back) n false → FreeIn rows n (n - (back + 1)) n
+free_back rows n back less free here k from lt = go (ltb k (n - back)) refl
+  where
+    go : (b : Bool) → ltb k (n - back) ≡ b → HoldsUp rows k n false
+    go true e =
+        let at : n - 1 - back ≡ k = omega (arith, ltb-true k (n - back) e, from, less) in
+        let P : ℕ → Type 0 = λ j. HoldsUp rows j n false in
+        subst P at here
+    go false e = free k (ltb-false k (n - back) e) lt
+
+pub next_both : (rows : List Row) (n : ℕ) (b : Bool) → n < length rows → FreeIn rows n 0 n → IsNextIn rows n n (length rows) b → IsNext rows n b
+next_both rows n false less free on = on
+next_both rows n true less free on = λ m lt. go m lt (ltb m n) refl
+  where
+    go : (m : ℕ) → m < length rows → (b : Bool) → ltb m n ≡ b → HoldsUp rows m n false
+    go m lt true e = free m (omega arith) (ltb-true m n e)
+    go m lt false e = on m (ltb-false m n e) lt

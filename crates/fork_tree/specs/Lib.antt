@@ -11,3 +11,4 @@ pub mod Below
 pub mod Given
 pub mod Ready
 pub mod Search
+pub mod Quiet

@@ -87,6 +87,11 @@ abbrev pub IsNext : List Row → ℕ → Bool → Type 0
 IsNext rows n true = (m : ℕ) → m < length rows → HoldsUp rows m n false
 IsNext rows n false = (m : ℕ) × IsHeldUp rows m n
 
+-- the same of the rows from one number up to another alone
+abbrev pub IsNextIn : List Row → ℕ → ℕ → ℕ → Bool → Type 0
+IsNextIn rows n low high true = (m : ℕ) → low ≤ m → m < high → HoldsUp rows m n false
+IsNextIn rows n low high false = (m : ℕ) × IsHeldUp rows m n
+
 -- whether the group of row n may start
 abbrev pub MayGo : List Row → ℕ → Bool → Type 0
 MayGo rows n b = (row : Row) → slice_get rows n ≡ Some row → may_start rows row ≡ b

@@ -14,6 +14,7 @@ mod node;
 #[cfg(test)]
 mod node_tests;
 mod place;
+mod quiet;
 mod row;
 mod seat;
 mod series;

@@ -1,6 +1,7 @@
 //! What a row is, apart from the tree.
-ghost use Rattle.std.specs.Prelude.{◌≡◌};
-ghost use Rattle.fork_tree.specs.States.{has_ended, closed_state};
+ghost use Rattle.std.specs.Prelude.{◌≡◌, not};
+ghost use Rattle.fork_model.specs.Table.{is_idle};
+ghost use Rattle.fork_tree.specs.States.{bare_state, has_ended, closed_state};
 
 use fork_rank::Status;
 
@@ -68,5 +69,12 @@ impl State {
         ensures { result ≡ has_ended self.now }
     {
         matches!(self, State::Ended(_))
+    }
+
+    /// Whether the branch waits no more.
+    pub(crate) fn has_started(&self) -> bool
+        ensures { result ≡ not (is_idle (bare_state self.now)) }
+    {
+        !matches!(self, State::Idle)
     }
 }

@@ -3,11 +3,13 @@
 ghost use Rattle.std.specs.Prelude.{◌≡◌, ◌<◌, ◌≤◌, ◌-◌, ◌&&◌, nat_eq, nat_lt, ℕ, true, false, None, IsTrue, IfNone, IfSome, Some, length, slice_get};
 ghost use Rattle.std.specs.Option.{option_eq};
 ghost use Rattle.fork_model.specs.Table.{Row, is_ended, is_idle, is_row};
-ghost use Rattle.fork_model.specs.Waiting.{in_earlier_group, may_start, parent_ended};
+ghost use Rattle.fork_model.specs.Waiting.{in_earlier_group, may_start, parent_ended, same_group};
 ghost use Rattle.fork_tree.specs.Ready.{IsReady, tried};
-ghost use Rattle.fork_tree.specs.Search.{AllWait, BeginsReady, FindsReady, HoldsUp, IsBegin, IsGroup, IsNext, MayGo, Opens};
+ghost use Rattle.fork_tree.specs.Search.{AllWait, BeginsReady, FindsReady, HoldsUp, IsBegin, IsGroup, IsNext, IsNextIn, MayGo, Opens};
+ghost use Rattle.fork_tree.specs.Quiet.{IsHeld, NoneStarts, OneIsLast};
 
 use crate::place::{Place, place_of};
+use crate::quiet::Quiet;
 use crate::row::State;
 use crate::tree::ForkTree;
 use std::alloc::Allocator;
@@ -22,9 +24,85 @@ impl<A: Allocator> ForkTree<A> {
         ensures some { IfSome result (λ g. IsReady self.old.rows g.0 g.1
             × (self.new ≡ record self.old { rows = tried self.old.rows g.0 g.1 })) }
     {
-        let (first, end) = self.ready_group()?;
-        self.start_group(first, end);
-        Some((first, end - first))
+        if self.is_calm() {
+            return None;
+        }
+        let single = self.is_single();
+        match self.ready_group() {
+            Some((first, end)) => {
+                self.start_group(first, end);
+                self.rest(single);
+                Some((first, end - first))
+            }
+            None => {
+                self.rest(true);
+                None
+            }
+        }
+    }
+
+    /// Whether it is known that no group may start.
+    fn is_calm(&self) -> bool
+        ensures { result ≡ true → NoneStarts self.now.rows }
+    {
+        self.quiet.calm
+    }
+
+    /// Whether it is known that no two groups may start, so that none may once one has.
+    fn is_single(&self) -> bool
+        ensures { result ≡ true → OneIsLast self.now.rows }
+    {
+        self.quiet.single
+    }
+
+    /// From now on it is known, where `calm`, that no group may start.
+    fn rest(&mut self, calm: bool)
+        requires { calm ≡ true → NoneStarts self.old.rows }
+        ensures { self.new ≡ self.old }
+    {
+        self.quiet = Quiet {
+            calm,
+            single: calm,
+        };
+    }
+
+    /// Whether the end of row n, which brings so many new rows, lets no group start, since a neighbour of it in its group
+    /// has not ended.
+    pub(crate) fn is_held(&self, n: u16, opens: u16) -> bool
+        requires { n < length self.now.rows }
+        ensures { result ≡ true → (opens ≡ 0) × IsHeld self.now.rows n }
+    {
+        if opens > 0 {
+            return false;
+        }
+        if n > 0 && self.holds(n - 1, n) {
+            return true;
+        }
+        let count = self.count();
+        n + 1 < count && self.holds(n + 1, n)
+    }
+
+    /// Whether row m stands in the group of row n, another one, and has not ended.
+    fn holds(&self, m: u16, n: u16) -> bool
+        requires known { m < length self.now.rows }
+        requires here { n < length self.now.rows }
+        requires apart { m ≡ n → ⊥ }
+        ensures { result ≡ true → IsHeld self.now.rows n }
+    {
+        if !self.is_beside(m, n) {
+            return false;
+        }
+        !self.is_over(m)
+    }
+
+    /// Whether row m stands in the group of row n.
+    fn is_beside(&self, m: u16, n: u16) -> bool
+        requires known { m < length self.now.rows }
+        requires here { n < length self.now.rows }
+        ensures { (mate row : Row) → slice_get self.now.rows m ≡ Some mate → slice_get self.now.rows n ≡ Some row
+            → result ≡ same_group mate row }
+    {
+        stands_beside(place_of(&self.places, m), place_of(&self.places, n))
     }
 
     /// Some group that may start: the number of its first row, and the one after its last.
@@ -137,7 +215,28 @@ impl<A: Allocator> ForkTree<A> {
         requires { n < length self.now.rows }
         ensures { IsNext self.now.rows n result }
     {
-        for m in 0..self.count() {
+        self.is_next_back(n) && self.is_next_on(n)
+    }
+
+    /// Whether no older row holds row n up; the youngest first, since that one mostly does.
+    fn is_next_back(&self, n: u16) -> bool
+        requires { n < length self.now.rows }
+        ensures { IsNextIn self.now.rows n 0 n result }
+    {
+        for back in 0..n {
+            if self.holds_up(n - 1 - back, n) {
+                return false;
+            }
+        }
+        true
+    }
+
+    /// Whether neither row n nor a later one holds row n up.
+    fn is_next_on(&self, n: u16) -> bool
+        requires { n < length self.now.rows }
+        ensures { IsNextIn self.now.rows n n (length self.now.rows) result }
+    {
+        for m in n..self.count() {
             if self.holds_up(m, n) {
                 return false;
             }
@@ -186,4 +285,11 @@ fn stands_earlier(place: Place, other: Place) -> bool
     ensures { result ≡ (option_eq nat_eq place.parent other.parent && nat_lt place.group other.group) }
 {
     place.parent == other.parent && place.group < other.group
+}
+
+/// Whether these places are in one group.
+fn stands_beside(place: Place, other: Place) -> bool
+    ensures { result ≡ (option_eq nat_eq place.parent other.parent && nat_eq place.group other.group) }
+{
+    place.parent == other.parent && place.group == other.group
 }

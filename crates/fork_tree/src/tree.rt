@@ -16,6 +16,7 @@ use crate::find::node_at;
 use crate::level::Level;
 use crate::node::{Tier, branches};
 use crate::place::{Place, place_of, trace};
+use crate::quiet::Quiet;
 use crate::row::{End, RowRef, State};
 use crate::seat::Seat;
 use fork_rank::{MOST_TARGETS, Rules};
@@ -31,6 +32,7 @@ pub struct ForkTree<A: Allocator = Global> {
     pub(crate) places: Vec<Place, A>,
     path: Vec<u16, A>,
     tally: Tally,
+    pub(crate) quiet: Quiet,
 }
 
 impl<A: Allocator> Model for ForkTree<A> {
@@ -40,6 +42,7 @@ impl<A: Allocator> Model for ForkTree<A> {
     ghost use Rattle.fork_tree.specs.Listed.{IsTree};
     ghost use Rattle.fork_tree.specs.Tree.{Tree};
     ghost use Rattle.fork_tree.specs.Search.{AreTogether};
+    ghost use Rattle.fork_tree.specs.Quiet.{IsQuiet};
 
     ghost Value = { Tree };
 
@@ -50,6 +53,7 @@ impl<A: Allocator> Model for ForkTree<A> {
       together : AreTogether t.places.items;
       path_room : 2 * most_targets ≤ vec_capacity t.path;
       places_room : most_targets ≤ vec_capacity t.places;
+      quiet : IsQuiet (rows_of t.places.items t.root) t.quiet;
     } };
 }
 
@@ -66,12 +70,17 @@ impl<A: Allocator + Clone> ForkTree<A> {
         let (root, seats) = branches(&alloc, 0, qs)?;
         add_places(&mut places, None, &seats);
         let tally = Tally::waiting(qs.len() as u16);
+        let quiet = Quiet {
+            calm: false,
+            single: true,
+        };
         Ok(ForkTree {
             rules,
             root,
             places,
             path,
             tally,
+            quiet,
         })
     }
 }
@@ -171,11 +180,13 @@ impl<A: Allocator> ForkTree<A> {
         let answer = standing.answer;
         let Level { tier, seats, .. } = below;
         let opens = seats.len() as u16;
+        let held = self.is_held(n, opens);
         self.path.clear();
         trace(&self.places, n, &mut self.path);
         add_places(&mut self.places, Some(n), &seats);
         self.root.end(&self.path, standing, tier, opens);
         self.tally = self.tally.after(answer, opens);
+        self.quiet = self.quiet.ended(held);
     }
 
     /// No row that waits is ever tried.
@@ -184,6 +195,10 @@ impl<A: Allocator> ForkTree<A> {
     {
         let ended = self.root.close();
         self.tally.still -= ended;
+        self.quiet = Quiet {
+            calm: true,
+            single: true,
+        };
     }
 
     /// Row n, which has not ended, comes into another state in which it has not.
@@ -195,6 +210,7 @@ impl<A: Allocator> ForkTree<A> {
         self.path.clear();
         trace(&self.places, n, &mut self.path);
         self.root.set(&self.path, state);
+        self.quiet = self.quiet.if_still(state.has_started());
     }
 }
 

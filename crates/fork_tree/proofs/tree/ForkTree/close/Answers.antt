@@ -3,6 +3,7 @@ use Rattle.fork_model.specs.Table.{Row}
 use Rattle.fork_tree.specs.Places.{rows_of}
 use Rattle.fork_tree.specs.Closing.{closed_row}
 use Rattle.fork_tree.proofs.ClosesAll.{whole_closed}
+use Rattle.fork_tree.proofs.Known.{quiet_closed}
 use Rattle.fork_tree.proofs.Trees.{tree_closed, value_after}
 use Rattle.fork_tree.proofs.tree.ForkTree.close.Goals as goal
 
@@ -13,6 +14,8 @@ invariant_of-self g c = record {
   together = c.self.invariant.together;
   path_room = c.self.invariant.path_room;
   places_room = c.self.invariant.places_room;
+  quiet = quiet_closed (rows_of c.self.inside.places.items c.self.inside.root) (rows_of c.self.inside.places.items c.close-ended.new.self) c.self.inside.quiet c.self.invariant.quiet
+      (ap (rows_of c.self.inside.places.items) c.close-ended.ensures.closed ∙ whole_closed c.self.inside.places.items c.self.inside.root);
 }
 
 pub returns : goal.returns

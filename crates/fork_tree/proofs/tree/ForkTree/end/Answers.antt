@@ -4,7 +4,7 @@ use Rattle.fork_model.specs.Step.{with_state}
 use Rattle.fork_tree.specs.declared.place.Place.{Place}
 use Rattle.fork_tree.specs.declared.best.Standing.{Standing}
 use Rattle.fork_tree.specs.declared.row.State.TheVariants.{Ended}
-use Rattle.fork_tree.specs.States.{bare_state}
+use Rattle.fork_tree.specs.States.{bare_state, has_ended}
 use Rattle.fork_tree.specs.Rows.{Entry, find, open_at, graft}
 use Rattle.fork_tree.specs.Tally.{IsKept, open_of}
 use Rattle.fork_tree.specs.Places.{path_of, rows_of, AreOlder}
@@ -19,6 +19,7 @@ use Rattle.fork_tree.proofs.Placed.{open_row}
 use Rattle.fork_tree.proofs.Opening.{AreRising, seats_rise, length_seat_rows, open_seats, seats_keep_none}
 use Rattle.fork_tree.proofs.Counts.{rows_length}
 use Rattle.fork_tree.proofs.Trees.{value_after}
+use Rattle.fork_tree.proofs.Known.{tree_quiet_end}
 use Rattle.fork_tree.proofs.Ends.{grown, IsEnding, tree_ended, rows_ended, open_unended}
 use Rattle.fork_tree.proofs.tree.ForkTree.end.Goals as goal
 
@@ -86,6 +87,11 @@ pub after-self-inside-requires-clause-fits : goal.after-self-inside-requires-cla
 after-self-inside-requires-clause-fits g c =
     omega (arith, c.self.invariant.tree.tally.still, open_le c.self.inside.root, c.self.invariant.tree.sized, c.self.invariant.tree.few, c.len-opens.ensures, c.below.invariant.few)
 
+pub is_held-held-requires : goal.is_held-held-requires
+is_held-held-requires g c =
+    let at = open_row _ c.self.inside.places.items c.self.inside.root c.args.n (ap (λ (t : Tree). t.rows) c.self.view_is) (open_unended _ c.requires.there) in
+    omega (arith, at.0, ap (λ (t : Tree). length t.rows) c.self.view_is, rows_length c.self.inside.places.items c.self.inside.root 0 c.self.inside.places.items)
+
 pub invariant_of-self : goal.invariant_of-self
 invariant_of-self g c =
     let at = open_row _ c.self.inside.places.items c.self.inside.root c.args.n (ap (λ (t : Tree). t.rows) c.self.view_is) (open_unended _ c.requires.there) in
@@ -116,15 +122,24 @@ invariant_of-self g c =
     ap (λ (s : Standing). s.answer) c.of-standing.ensures ∙ ap (λ (s : Standing). kept_of c.self.inside.rules c.args.n s.state) (sym c.of-standing.ensures) in
     let T : List Seat → Type 0 = λ x. AreTogether (map (place_in (Some c.args.n)) x) in
     let P : List Place → Type 0 = λ x. IsTree c.self.inside.rules x c.end.new.self c.after-self-inside.result in
-    record {
-      tree = subst P (sym places) (tree_ended c.self.inside.rules c.self.inside.places.items c.self.inside.root c.end.new.self c.self.inside.tally c.after-self-inside.result c.args.n
+    let tree : IsTree c.self.inside.rules c.add_places.new.places.items c.end.new.self c.after-self-inside.result =
+    subst P (sym places) (tree_ended c.self.inside.rules c.self.inside.places.items c.self.inside.root c.end.new.self c.self.inside.tally c.after-self-inside.result c.args.n
           c.of-standing.result c.below.inside.seats.items c.below.inside.first c.len-opens.result c.self.invariant.tree is answer first c.below.invariant.few new
           (c.end.ensures.sized ∙ ap (λ x. length c.self.inside.root + length x) c.below.invariant.seated) c.end.ensures.counted c.end.ensures.gained
-          c.after-self-inside.ensures.kept c.after-self-inside.ensures.still);
+          c.after-self-inside.ensures.kept c.after-self-inside.ensures.still) in
+    let many : c.len-opens.result ≡ length c.below.inside.seats.items = omega (arith, c.len-opens.ensures) in
+    record {
+      tree = tree;
       together = subst AreTogether (sym places) (together_more None c.self.inside.places.items (map (place_in (Some c.args.n)) c.below.inside.seats.items) c.self.invariant.together
           (subst T (sym c.below.invariant.rising.1) (seats_together (Some c.args.n) c.below.invariant.rising.0)));
       path_room = omega (arith, c.self.invariant.path_room, c.clear.ensures.capacity, c.trace.ensures.capacity);
       places_room = omega (arith, c.self.invariant.places_room, c.add_places.ensures.capacity);
+      quiet = tree_quiet_end c.self.inside.places.items c.add_places.new.places.items c.self.inside.root c.end.new.self c.args.self.now.rows c.below.inside.seats.items c.args.n
+          c.len-opens.result c.of-standing.result.state c.self.inside.quiet c.ended-self-inside.result c.is_held-held.result c.self.invariant.tree.older tree.older
+          (ap (λ (t : Tree). t.rows) c.self.view_is) c.self.invariant.quiet c.requires.there
+          (ap (λ x. rows_of x c.end.new.self) places
+          ∙ rows_ended c.self.inside.places.items c.self.inside.root c.end.new.self c.args.n c.of-standing.result c.below.inside.seats.items c.below.inside.first is first new)
+          (ap (λ (s : Standing). has_ended s.state) c.of-standing.ensures) many c.is_held-held.ensures c.ended-self-inside.ensures;
     }
 
 pub returns : goal.returns

@@ -1,12 +1,14 @@
-use Rattle.std.proofs.Common.{ℕ, false, subst}
-use Rattle.fork_tree.specs.Search.{HoldsUp}
-use Rattle.fork_tree.proofs.Starting.{below_next}
+use Rattle.std.proofs.Common.{◌≡◌, true, subst, sym}
+use Rattle.fork_tree.specs.Search.{IsNext, IsNextIn}
+use Rattle.fork_tree.proofs.Starting.{next_both}
 use Rattle.fork_tree.proofs.tree.ForkTree.is_next.Goals as goal
 
-pub loop-m-preserved : goal.loop-m-preserved
-loop-m-preserved g c = λ k lt.
-    below_next (λ (j : ℕ). HoldsUp c.args.self.now.rows j c.args.n false) c.loop-m.m k c.loop-m.invariant
-    (subst (HoldsUp c.args.self.now.rows c.loop-m.m c.args.n) c.if-holds_up.false c.holds_up.ensures) lt
+pub returns-then-is_next_back : goal.returns-then-is_next_back
+returns-then-is_next_back g c =
+    next_both c.args.self.now.rows c.args.n c.is_next_on.result c.requires
+    (subst (IsNextIn c.args.self.now.rows c.args.n 0 c.args.n) c.if-is_next_back.true c.is_next_back.ensures) c.is_next_on.ensures
 
-pub returns-then-holds_up : goal.returns-then-holds_up
-returns-then-holds_up g c = (c.loop-m.m, subst (HoldsUp c.args.self.now.rows c.loop-m.m c.args.n) c.if-holds_up.true c.holds_up.ensures)
+pub returns-else-is_next_back : goal.returns-else-is_next_back
+returns-else-is_next_back g c =
+    subst (IsNext c.args.self.now.rows c.args.n) (sym c.if-is_next_back.false)
+    (subst (IsNextIn c.args.self.now.rows c.args.n 0 c.args.n) c.if-is_next_back.false c.is_next_back.ensures)

@@ -8,6 +8,7 @@ use Rattle.fork_tree.specs.declared.seat.Seat.{Seat}
 use Rattle.fork_tree.proofs.Mates.{seats_together}
 use Rattle.fork_tree.specs.Places.{rows_of}
 use Rattle.fork_tree.specs.Listed.{IsTree}
+use Rattle.fork_tree.proofs.Known.{quiet_new}
 use Rattle.fork_tree.proofs.Opening.{AreRising, seats_rise, seats_count, rows_opened, tree_opened}
 use Rattle.fork_tree.proofs.tree.ForkTree.new.Goals as goal
 
@@ -31,6 +32,9 @@ invariant_of-result g c =
       together = subst AreTogether (sym places) (subst T (sym c.in_ok-root.ensures.seats) (seats_together None c.args.qs.now));
       path_room = omega (arith, c.in_ok-path.ensures.exact);
       places_room = omega (arith, c.in_ok-places.ensures.exact, c.add_places.ensures.capacity);
+      quiet = quiet_new (rows_of c.add_places.new.places.items c.in_ok-root.root) c.in_ok-root.seats.items
+          (ap (λ x. rows_of x c.in_ok-root.root) places ∙ ap (rows_of (map (place_in None) c.in_ok-root.seats.items)) c.in_ok-root.ensures.tier
+          ∙ rows_opened c.in_ok-root.seats.items rise);
     }
 
 pub returns : goal.returns
