@@ -2,6 +2,8 @@
 //! a check that such a text is right (RFC 3261 section 16.7 step 6).
 #![tactic(auto)]
 
+#[cfg(test)]
+mod altered_tests;
 mod checker;
 mod choice;
 mod depth;

@@ -288,7 +288,7 @@ fn other_forks_are_not_listed(rt: HostRuntime) -> Result<(), Fail> {
 }
 
 /// The next number of a sequence, below a bound.
-fn next(seed: &mut u64, bound: u64) -> u16 {
+pub fn next(seed: &mut u64, bound: u64) -> u16 {
     *seed = seed
         .wrapping_mul(6_364_136_223_846_793_005)
         .wrapping_add(1_442_695_040_888_963_407);
@@ -313,7 +313,7 @@ fn some_event(rt: &HostRuntime, seed: &mut u64) -> Result<Event<Global>, Fail> {
 }
 
 /// The listing of some finished fork.
-fn some_listing(rt: &HostRuntime, seed: &mut u64) -> Result<Vec<u8>, Fail> {
+pub fn some_listing(rt: &HostRuntime, seed: &mut u64) -> Result<Vec<u8>, Fail> {
     let rules = Rules::of(Preferred::usual(), next(seed, 3)).ok_or("no rules")?;
     let mut targets = Vec::new(rt.alloc());
     for name in ["a", "b", "c"] {
