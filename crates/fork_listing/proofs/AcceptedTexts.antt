@@ -1,10 +1,8 @@
 -- Exactly the texts of right listings are accepted.
-use Rattle.std.proofs.Common.{◌≡◌, ℕ, zero, suc, ◌<◌, ◌≤◌, List, [], ◌∷◌, ◌++◌, map, length, Option, Some, None, Result, Ok, Err, refl, sym, ap, subst, ◌∙◌, arith, inl, inr, ◌⊎◌}
+use Rattle.std.proofs.Common.{◌≡◌, ℕ, zero, suc, ◌<◌, ◌≤◌, List, [], ◌∷◌, ◌++◌, map, Option, Some, None, Result, Ok, Err, refl, sym, ap, subst, ◌∙◌, arith, inl, inr, ◌⊎◌}
 use Rattle.std.specs.Prelude.{slice_get, option_and_then, IfOk, IfErr}
-use Rattle.std.specs.Option.{option_map}
 use Rattle.std.specs.List.{AllByRecursion}
 use Rattle.std.proofs.lemmas.Bool.{cases_lt}
-use Rattle.fork_model.specs.Table.{Row, Rules}
 use Rattle.fork_model.specs.Rank.{Score}
 use Rattle.fork_model.specs.Choice.{HasScore}
 use Rattle.fork_model.specs.OneReply.{AreArrivals}
@@ -16,11 +14,11 @@ use Rattle.fork_listing.specs.declared.checker.Verdict.{Verdict}
 use Rattle.fork_listing.specs.declared.checker.CheckFault.{CheckFault}
 use Rattle.fork_listing.specs.declared.checker.CheckFault.TheVariants as fault
 use Rattle.fork_listing.specs.Line.{Line, TargetLine, most_arrival}
-use Rattle.fork_listing.specs.Targets.{arrival_of, ended_at, IsPlaced, IsInPlace}
+use Rattle.fork_listing.specs.Targets.{arrival_of, ended_at, IsInPlace}
 use Rattle.fork_listing.specs.Ranks.{rows_of, score_in, score_at, IsChosen, IsNotChosen, final_of}
-use Rattle.fork_listing.specs.Text.{Listing, rule_lines, lines_of, read_listing}
+use Rattle.fork_listing.specs.Text.{Listing, rule_lines, read_listing}
 use Rattle.fork_listing.specs.Checking.{AreBranches, IsRight, IsVerdictOf, IsChecked, verdict_of}
-use Rattle.fork_listing.specs.Spelled.{IsLine, IsEnd, IsListing, IsTextOf, IsFirstMalformed}
+use Rattle.fork_listing.specs.Spelled.{IsLine, IsEnd, IsListing, IsFirstMalformed}
 use Rattle.fork_listing.specs.Accepted.{IsRightText, IsOkElseNoMemory, IsLineNamed, AcceptedTextsAreRight, RightTextsAreAccepted}
 use Rattle.fork_listing.proofs.MalformedLines.{refused_by_first}
 use Rattle.fork_listing.proofs.Meanings.{same_score}

@@ -1,11 +1,11 @@
 -- One branch ends, and others may come to stand under it: the branches still stand as they may.
-use Rattle.std.proofs.Common.{◌≡◌, ◌≢◌, ℕ, zero, suc, ◌+◌, ◌<◌, ◌≤◌, Bool, true, false, List, [], ◌∷◌, ◌++◌, length, Option, Some, None, refl, sym, ap, subst, ◌∙◌, arith, inl, inr, ◌⊎◌}
+use Rattle.std.proofs.Common.{◌≡◌, ◌≢◌, ℕ, zero, suc, ◌+◌, ◌<◌, ◌≤◌, true, false, List, [], ◌∷◌, ◌++◌, length, Option, Some, None, refl, sym, ap, subst, ◌∙◌, arith, inl, inr, ◌⊎◌}
 use Rattle.std.specs.Prelude.{slice_get, option_and_then}
 use Rattle.std.proofs.lemmas.Bool.{cases_eq}
 use Rattle.fork_listing.specs.declared.line.End.{End}
 use Rattle.fork_listing.specs.declared.line.End.TheVariants.{Stored, Taken, Silent, Never}
 use Rattle.fork_listing.specs.declared.line.Target.{Target}
-use Rattle.fork_listing.specs.Targets.{arrival_of, ended_at, is_redirection, is_redirected, IsParent, IsBefore, Follows, FollowsTarget, line_before, IsEarlier, HasDepth, IsInPlace, IsPlaced}
+use Rattle.fork_listing.specs.Targets.{arrival_of, ended_at, is_redirection, is_redirected, IsParent, IsBefore, Follows, FollowsTarget, line_before, IsEarlier, HasDepth, IsInPlace}
 use Rattle.fork_listing.specs.Spelled.{IsStatus, IsHow}
 use Rattle.fork_listing.specs.Line.{most_q}
 use Rattle.fork_listing.proofs.Placing.{inside, there}

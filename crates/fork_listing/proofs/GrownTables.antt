@@ -1,32 +1,31 @@
 -- The rows of every fork, shown as they would be listed, stand as they may.
-use Rattle.std.proofs.Common.{◌≡◌, ◌≢◌, ℕ, zero, suc, ◌+◌, ◌<◌, ◌≤◌, Bool, true, false, cond, List, [], ◌∷◌, ◌++◌, map, length, Option, Some, None, refl, sym, ap, subst, ◌∙◌, arith, inl, inr, ◌⊎◌}
+use Rattle.std.proofs.Common.{◌≡◌, ℕ, zero, suc, ◌+◌, ◌<◌, ◌≤◌, Bool, true, false, cond, List, [], ◌∷◌, ◌++◌, map, length, Option, Some, None, refl, sym, ap, subst, ◌∙◌, arith, inl, inr}
 use Rattle.std.specs.Prelude.{slice_get, option_and_then, unwrap_or, not, nat_lt, ◌&&◌, ◌||◌, ◌==◌}
 use Rattle.std.specs.Option.{option_map}
 use Rattle.std.specs.List.{AllByRecursion}
 use Rattle.std.proofs.lemmas.Bool.{ltb-true, ltb-false, or_parts}
-use Rattle.fork_model.specs.Table.{Kind, Rules, Offer, Challenge, Row, Table, State, Idle, Trying, Rung, Ended, Answered, Taken, Silent, Accepted, is_idle, is_invite}
+use Rattle.fork_model.specs.Table.{Kind, Rules, Offer, Row, Table, State, Idle, Trying, Rung, Ended, Taken, Silent, Accepted, is_idle, is_invite}
 use Rattle.fork_model.specs.Event.{FinalAnswer, Event, Ring, Answer, Timeout, Fault, TimerC, GiveUp, Cancel}
 use Rattle.fork_model.specs.Groups.{numbered}
-use Rattle.fork_model.specs.Waiting.{parent_row, line_from, rows_above, depth_of, may_start}
+use Rattle.fork_model.specs.Waiting.{parent_row, line_from, depth_of, may_start}
 use Rattle.fork_model.specs.Contacts.{Fate, Known, Fresh, Left, Taking, fate_of, keys_after, with_fate, taking_from, taking_at, fresh_row, fresh_rows, keys_of}
-use Rattle.fork_model.specs.Step.{Effect, moves, assumed, accepts, received, redirected, redirects, stores, is_nonempty, effect, answers, change_at, with_state, with_effect, change, next, settled, settled_row, settled_state, closed_state, cancelled}
+use Rattle.fork_model.specs.Step.{Effect, moves, assumed, accepts, received, redirects, stores, is_nonempty, effect, answers, change_at, with_state, with_effect, change, next, settled, settled_row, settled_state, closed_state, cancelled}
 use Rattle.fork_model.specs.History.{Target as Named, first_row, opening_rows, opening}
 use Rattle.fork_model.specs.Core.{Core, opening_core, core_next, core_offered, core_after, is_full}
 use Rattle.fork_model.proofs.ChangeLemmas.{from_filter_map}
 use Rattle.fork_model.proofs.OpeningSeries.{opening_row}
-use Rattle.fork_context.specs.RowShown.{row_shown}
 use Rattle.fork_context.specs.StateView.{shown}
 use Rattle.fork_listing.specs.declared.line.End.{End}
 use Rattle.fork_listing.specs.declared.line.End.TheVariants as line_end
 use Rattle.fork_listing.specs.declared.line.Target.{Target}
-use Rattle.fork_listing.specs.Targets.{arrival_of, ended_at, is_redirection, is_redirected, IsParent, Follows, FollowsTarget, line_before, IsEarlier, HasDepth, IsInPlace}
+use Rattle.fork_listing.specs.Targets.{arrival_of, ended_at, is_redirection, IsParent, Follows, FollowsTarget, line_before, IsEarlier, HasDepth, IsInPlace}
 use Rattle.fork_listing.specs.Line.{most_q}
 use Rattle.fork_listing.specs.Spelled.{IsStatus}
 use Rattle.fork_listing.specs.Accepted.{IsTargetInRange, IsOfferInRange, IsEventInRange}
-use Rattle.fork_listing.specs.Listed.{state_shown, target_shown, targets_from, targets_of}
+use Rattle.fork_listing.specs.Listed.{state_shown, targets_from, targets_of}
 use Rattle.fork_listing.proofs.Placing.{inside, there}
 use Rattle.fork_listing.proofs.FallingRows.{fall_at, fresh_fall, opening_fall}
-use Rattle.fork_listing.proofs.Growing.{IsKept, IsGrown, with_end, Ends, grows, waits_on}
+use Rattle.fork_listing.proofs.Growing.{IsKept, IsGrown, with_end, grows, waits_on}
 
 some_same : {X : Type 0} {x y : X} → Some x ≡ Some y → x ≡ y
 some_same e = cc

@@ -1,5 +1,5 @@
 -- The listing of every fork is right.
-use Rattle.std.proofs.Common.{◌≡◌, ◌≢◌, ℕ, zero, suc, ◌+◌, ◌<◌, ◌≤◌, Bool, true, false, cond, List, [], ◌∷◌, ◌++◌, map, length, Option, Some, None, refl, sym, ap, subst, ◌∙◌, arith, inl, inr, ◌⊎◌}
+use Rattle.std.proofs.Common.{◌≡◌, ◌≢◌, ℕ, zero, suc, ◌<◌, ◌≤◌, Bool, true, false, cond, List, [], ◌∷◌, ◌++◌, map, length, Option, Some, None, refl, sym, ap, subst, ◌∙◌, arith, inl, inr}
 use Rattle.std.specs.Prelude.{slice_get, option_and_then}
 use Rattle.std.specs.Option.{option_map}
 use Rattle.std.specs.List.{AllByRecursion}
@@ -14,27 +14,26 @@ use Rattle.fork_model.specs.Steps.{most_taken}
 use Rattle.fork_model.proofs.ContactLemmas.{targets_bounded, each_target, taken_bounded}
 use Rattle.fork_model.proofs.StepLemmas.{rows_keep_numbers}
 use Rattle.fork_model.proofs.OrderLemmas.{Before-total}
-use Rattle.fork_listing.specs.declared.line.Version.TheVariants.{Third}
 use Rattle.fork_listing.specs.declared.line.End.{End}
 use Rattle.fork_listing.specs.declared.line.End.TheVariants as line_end
 use Rattle.fork_listing.specs.declared.line.Target.{Target}
 use Rattle.fork_listing.specs.declared.line.Ranked.{Ranked}
 use Rattle.fork_listing.specs.declared.line.Final.{Final}
 use Rattle.fork_listing.specs.declared.checker.Verdict.{Verdict}
-use Rattle.fork_listing.specs.Line.{Line, ForkLine, PreferLine, DepthLine, TargetLine, RankLine, FinalLine, most_q, most_number, most_arrival}
+use Rattle.fork_listing.specs.Line.{Line, TargetLine, RankLine, FinalLine, most_number, most_arrival}
 use Rattle.fork_listing.specs.Targets.{arrival_of, ended_at, IsParent, IsInPlace}
-use Rattle.fork_listing.specs.Ranks.{rows_of, score_of, score_in, score_at, RanksBehind, rank_before, IsInOrder, final_of, IsChosen}
+use Rattle.fork_listing.specs.Ranks.{rows_of, score_of, score_in, score_at, RanksBehind, rank_before, final_of, IsChosen}
 use Rattle.fork_listing.specs.Ranking.{IsRanking}
 use Rattle.fork_listing.specs.Text.{Listing}
-use Rattle.fork_listing.specs.Checking.{AreBranches, AreInOrder, AreListed, IsRight, verdict_of}
+use Rattle.fork_listing.specs.Checking.{AreInOrder, AreListed, IsRight, verdict_of}
 use Rattle.fork_listing.specs.Listed.{targets_of, listing_of, IsListingOf}
 use Rattle.fork_listing.specs.Spelled.{IsStatus, IsEnd, IsNumberOrNone, IsTargetLine, IsRankLine, IsFinalLine, IsLine, IsListing}
-use Rattle.fork_listing.specs.Accepted.{AreRules, IsLedTo, IsRightText, ListingsAreRight, AppendsRight}
-use Rattle.fork_listing.proofs.Placing.{inside, there}
+use Rattle.fork_listing.specs.Accepted.{AreRules, IsRightText, ListingsAreRight, AppendsRight}
+use Rattle.fork_listing.proofs.Placing.{inside}
 use Rattle.fork_listing.proofs.Finals.{status_seen}
 use Rattle.fork_listing.proofs.Meanings.{same_score}
-use Rattle.fork_listing.proofs.Growing.{IsKept, IsGrown}
-use Rattle.fork_listing.proofs.GrownTables.{seen, line_at, listed_row, row_listed, length-targets, IsGrownTable, history_grows}
+use Rattle.fork_listing.proofs.Growing.{IsKept}
+use Rattle.fork_listing.proofs.GrownTables.{seen, listed_row, row_listed, length-targets, IsGrownTable, history_grows}
 use Rattle.fork_listing.proofs.AcceptedTexts.{scored_at, score_ends, ended_apart}
 
 some_same : {X : Type 0} {x y : X} → Some x ≡ Some y → x ≡ y

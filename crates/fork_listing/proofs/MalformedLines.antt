@@ -1,5 +1,5 @@
 -- A text that is no listing is refused by the number of its first line that is not of the form due in its place.
-use Rattle.std.proofs.Common.{◌≡◌, ℕ, suc, ◌+◌, ◌<◌, Bool, true, false, cond, List, [], ◌∷◌, ◌++◌, length, Option, Some, None, Result, Ok, Err, refl, sym, ap, subst, ◌∙◌, arith, append_assoc}
+use Rattle.std.proofs.Common.{◌≡◌, ℕ, suc, ◌+◌, ◌<◌, List, [], ◌∷◌, ◌++◌, length, Option, Some, None, Result, Ok, Err, refl, sym, ap, subst, ◌∙◌, arith, append_assoc}
 use Rattle.std.specs.Prelude.{option_and_then}
 use Rattle.std.specs.Option.{option_map}
 use Rattle.std.specs.List.{slice_split, join_with_byte, AllByRecursion}
@@ -11,8 +11,7 @@ use Rattle.fork_listing.specs.declared.draft.Phase.{Phase}
 use Rattle.fork_listing.specs.Line.{Line, line_text}
 use Rattle.fork_listing.specs.Reading.{read_line}
 use Rattle.fork_listing.specs.Text.{Listing, ended, lines_text, phase_after, Draft, no_draft, with_line, in_phase, drafted_line, drafted, listing_in, or_line, with_next, read_from, read_listing}
-use Rattle.fork_listing.specs.Spelled.{IsLine, IsSpelledBy, drafted_lines, IsNoneDue, IsFirstMalformed, RefusedByFirst}
-use Rattle.fork_listing.proofs.SpelledParts.{some_is}
+use Rattle.fork_listing.specs.Spelled.{IsLine, IsSpelledBy, drafted_lines, IsNoneDue, RefusedByFirst}
 use Rattle.fork_listing.proofs.SpelledLines.{line_read, line_found, line_lacks}
 
 none_some : {X : Type 0} {x : X} → None ≡ Some x → ⊥

@@ -1,6 +1,6 @@
 -- A line is read exactly where it is the spelling of a line.
-use Rattle.std.proofs.Common.{◌≡◌, ℕ, ◌^◌, ◌<◌, ◌≤◌, Bool, true, false, cond, eqb, List, [], ◌∷◌, ◌++◌, map, length, Option, Some, None, refl, sym, ap, subst, ◌∙◌, arith, append_assoc, append-nil}
-use Rattle.std.specs.Prelude.{nat_le, not, bytes_eq, codes, option_and_then, All}
+use Rattle.std.proofs.Common.{◌≡◌, ℕ, ◌<◌, ◌≤◌, Bool, true, false, cond, eqb, List, [], ◌∷◌, ◌++◌, map, length, Some, None, refl, sym, ap, subst, ◌∙◌, arith, append_assoc, append-nil}
+use Rattle.std.specs.Prelude.{not, bytes_eq, codes, option_and_then, All}
 use Rattle.std.specs.Option.{option_map}
 use Rattle.std.specs.List.{slice_split, flat_map, join_with_byte, list_all}
 use Rattle.std.specs.Fmt.{decimal}
@@ -8,9 +8,9 @@ use Rattle.std.proofs.lemmas.Bool.{eqb-false}
 use Rattle.std.proofs.lemmas.List.Elements.{All-head, All-tail}
 use Rattle.std.proofs.lemmas.List.Splits.{join_with_byte-slice_split, length-slice_split}
 use Rattle.std.proofs.lemmas.Slice.Eq.{bytes_eq-Decides}
-use Rattle.sip_lex.specs.Cut.{cut, is, behind, Lacks}
+use Rattle.sip_lex.specs.Cut.{is, Lacks}
 use Rattle.sip_lex.specs.Number.{plain_number_within}
-use Rattle.sip_lex.proofs.Cuts.{cut_again, cut_joins, Lacks-append, Lacks-pass}
+use Rattle.sip_lex.proofs.Cuts.{cut_again, Lacks-append, Lacks-pass}
 use Rattle.fork_rank.specs.Preferred.{IsPreferredList}
 use Rattle.fork_model.specs.Table.{most_targets}
 use Rattle.fork_listing.specs.declared.line.Word.{Word}

@@ -1,13 +1,12 @@
 -- A listing is read of exactly the text that spells it.
-use Rattle.std.proofs.Common.{◌≡◌, ℕ, zero, suc, ◌+◌, ◌-◌, ◌<◌, ◌≤◌, Bool, true, false, cond, eqb, List, [], ◌∷◌, ◌++◌, map, length, Option, Some, None, Result, Ok, Err, refl, sym, ap, subst, ◌∙◌, arith, append_assoc, append-nil}
-use Rattle.std.specs.Prelude.{option_and_then, ◌↔◌, ◌==◌}
-use Rattle.std.specs.Option.{option_map}
-use Rattle.std.specs.List.{slice_split, flat_map, join_with_byte, AllByRecursion}
+use Rattle.std.proofs.Common.{◌≡◌, ℕ, zero, suc, ◌+◌, ◌-◌, List, [], ◌∷◌, ◌++◌, map, length, Option, Some, None, Result, Ok, refl, sym, ap, subst, ◌∙◌, arith, append_assoc, append-nil}
+use Rattle.std.specs.Prelude.{option_and_then}
+use Rattle.std.specs.List.{slice_split, join_with_byte, AllByRecursion}
 use Rattle.std.proofs.lemmas.Bool.{cond-false, ne_eqb}
 use Rattle.std.proofs.lemmas.List.Splits.{join_with_byte-slice_split}
-use Rattle.sip_lex.specs.Cut.{cut, is, Lacks}
+use Rattle.sip_lex.specs.Cut.{cut, is}
 use Rattle.sip_lex.proofs.Cuts.{cut_again}
-use Rattle.fork_model.specs.Table.{Rules, most_targets}
+use Rattle.fork_model.specs.Table.{Rules}
 use Rattle.fork_listing.specs.declared.line.Version.{Version}
 use Rattle.fork_listing.specs.declared.line.Version.TheVariants.{First, Second, Third}
 use Rattle.fork_listing.specs.declared.line.Target.{Target}
@@ -17,10 +16,10 @@ use Rattle.fork_listing.specs.declared.draft.Phase.{Phase}
 use Rattle.fork_listing.specs.declared.draft.Phase.TheVariants.{AtFork, AtPrefer, AtDepth, AtTargets, AtRanks, AtEnd}
 use Rattle.fork_listing.specs.Line.{Line, ForkLine, PreferLine, DepthLine, TargetLine, RankLine, FinalLine, line_text}
 use Rattle.fork_listing.specs.Reading.{read_line}
-use Rattle.fork_listing.specs.Text.{Listing, rule_lines, lines_of, ended, lines_text, listing_text, targets_due, phase_after, Draft, usual_rules, no_draft, with_line, in_phase, drafted_line, drafted, is_empty, listing_in, or_line, finished_draft, with_next, read_from, read_listing}
+use Rattle.fork_listing.specs.Text.{Listing, rule_lines, lines_of, ended, lines_text, listing_text, targets_due, Draft, usual_rules, no_draft, in_phase, drafted_line, listing_in, or_line, with_next, read_from, read_listing}
 use Rattle.fork_listing.specs.Spelled.{IsLine, IsSpelledBy, IsUsualElse, IsListing, IsTextOf, ReadExactly, drafted_lines}
-use Rattle.fork_listing.proofs.Pieces.{read_from-last, read_from-next}
-use Rattle.fork_listing.proofs.SpelledParts.{some_is, found_then}
+use Rattle.fork_listing.proofs.Pieces.{read_from-next}
+use Rattle.fork_listing.proofs.SpelledParts.{some_is}
 use Rattle.fork_listing.proofs.SpelledLines.{line_read, line_found, line_lacks}
 
 abbrev found_as : Listing → Result Listing ℕ

@@ -1,30 +1,23 @@
 -- What is spelled in a line is read, and what is read is spelled so: the parts of a line.
-use Rattle.std.proofs.Common.{◌≡◌, ℕ, zero, suc, ◌^◌, ◌<◌, ◌≤◌, Bool, true, false, cond, eqb, List, [], ◌∷◌, ◌++◌, map, length, Option, Some, None, refl, sym, ap, subst, ◌∙◌, arith, inl, inr, ◌⊎◌, append_assoc, append-nil}
-use Rattle.std.specs.Prelude.{nat_le, bytes_eq, codes, option_and_then, All, ◌&&◌, ◌||◌}
+use Rattle.std.proofs.Common.{◌≡◌, ℕ, ◌^◌, ◌<◌, ◌≤◌, Bool, true, false, cond, eqb, List, [], ◌∷◌, ◌++◌, length, Option, Some, None, refl, sym, ap, subst, ◌∙◌, arith, inl, inr, append-nil}
+use Rattle.std.specs.Prelude.{nat_le, bytes_eq, codes, option_and_then, ◌&&◌, ◌||◌}
 use Rattle.std.specs.Char.{is_ascii_digit}
 use Rattle.std.specs.Option.{option_map}
-use Rattle.std.specs.List.{slice_split, flat_map, join_with_byte}
 use Rattle.std.specs.Fmt.{decimal}
-use Rattle.std.proofs.lemmas.Bool.{le-leb, leb-true, eqb-false, eqb-true, eq-eqb, and_parts}
-use Rattle.std.proofs.lemmas.List.Elements.{All-head, All-tail}
-use Rattle.std.proofs.lemmas.List.Splits.{join_with_byte-slice_split, length-slice_split}
+use Rattle.std.proofs.lemmas.Bool.{le-leb, leb-true, eqb-false, eqb-true, and_parts}
 use Rattle.std.proofs.lemmas.Slice.Eq.{bytes_eq-Decides}
 use Rattle.std.proofs.lemmas.Fmt.{decimal_nonempty}
 use Rattle.sip_lex.specs.Cut.{cut, is, behind, Lacks}
 use Rattle.sip_lex.specs.Number.{plain_number_within}
 use Rattle.sip_lex.proofs.Cuts.{cut_again, cut_joins}
-use Rattle.fork_rank.specs.Preferred.{IsPreferredList}
-use Rattle.fork_model.specs.Table.{most_targets}
 use Rattle.fork_listing.specs.declared.line.Version.{Version}
 use Rattle.fork_listing.specs.declared.line.Version.TheVariants.{First, Second, Third}
 use Rattle.fork_listing.specs.declared.line.End.{End}
 use Rattle.fork_listing.specs.declared.line.End.TheVariants.{Stored, Taken, Silent, Never}
-use Rattle.fork_listing.specs.Line.{list_text, version_text, number_text, how_text, end_text, most_q, most_number, most_arrival, most_listed}
-use Rattle.fork_listing.specs.Reading.{before_cut, before, numbers_onto, preferred_if, read_preferred, least, read_status, read_parent, read_version, read_count, may_be_assumed, stored_as, read_stored, read_end_cut, read_end}
+use Rattle.fork_listing.specs.Line.{version_text, number_text, how_text, end_text, most_number, most_arrival, most_listed}
+use Rattle.fork_listing.specs.Reading.{before_cut, before, least, read_status, read_parent, read_version, read_count, may_be_assumed, stored_as, read_stored, read_end_cut, read_end}
 use Rattle.fork_listing.specs.Spelled.{IsStatus, IsHow, IsEnd, IsNumberOrNone}
-use Rattle.fork_listing.proofs.NumberLaws.{IsSpelled, number_read, number_spelled, decimal_lacks}
-use Rattle.fork_listing.proofs.PreferredLists.{preferred_passes, preferred_is}
-use Rattle.fork_listing.proofs.Pieces.{pieces-cut}
+use Rattle.fork_listing.proofs.NumberLaws.{number_read, number_spelled, decimal_lacks}
 
 pub some_is : {X : Type 0} {x y : X} → Some x ≡ Some y → x ≡ y
 some_is e = cc

@@ -3,7 +3,7 @@ use Rattle.std.proofs.Common.{◌≡◌, ℕ, zero, suc, ◌+◌, ◌-◌, ◌<�
 use Rattle.std.proofs.lemmas.Bool.{eqb-true, eq-eqb, false≢true}
 use Rattle.std.specs.Prelude.{slice_get}
 use Rattle.std.specs.Option.{option_map}
-use Rattle.fork_model.specs.Table.{Rules, most_targets, stored_end}
+use Rattle.fork_model.specs.Table.{Rules, stored_end}
 use Rattle.fork_model.specs.Choice.{score_of, stored_at}
 use Rattle.fork_tree.specs.declared.best.BestRef.{BestRef}
 use Rattle.fork_tree.specs.declared.row.RowRef.{RowRef}

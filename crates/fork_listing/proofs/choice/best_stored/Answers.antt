@@ -1,10 +1,7 @@
-use Rattle.std.proofs.Common.{◌≡◌, ◌∙◌, List, Option, map, sym, subst, ap}
-use Rattle.fork_model.specs.Table.{Row}
-use Rattle.fork_tree.specs.declared.best.BestRef.{BestRef}
+use Rattle.std.proofs.Common.{◌∙◌, List, map, subst}
 use Rattle.fork_tree.specs.declared.row.RowRef.{RowRef}
 use Rattle.fork_tree.specs.Given.{given_row}
 use Rattle.fork_tree.specs.Tree.{Tree, IsBest}
-use Rattle.fork_listing.specs.TreeRows.{tree_rows}
 use Rattle.fork_listing.proofs.TreeRows.{are_rows, best_same}
 use Rattle.fork_listing.proofs.choice.best_stored.Goals as goal
 
