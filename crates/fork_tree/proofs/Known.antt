@@ -229,14 +229,14 @@ all_back rows later n rn s step busy parents frees k row is e =
         elim (kept rows later [] n rn s step m other there) [
           | inl h ↦ inl h
           | inr h ↦ inr (record {
-              state = s;
-              there = h.1;
-              busy = busy;
-              free = λ goes ends.
-                  (let same : other ≡ rn = one_row rows n other rn (ap (slice_get rows) (sym h.0) ∙ there) step.there in
-                  let P : Row → Type 0 = λ r. goes_before rows r row ≡ true in
-                  absurd (frees row may (subst P same goes) ends));
-            })
+            state = s;
+            there = h.1;
+            busy = busy;
+            free = λ goes ends.
+                (let same : other ≡ rn = one_row rows n other rn (ap (slice_get rows) (sym h.0) ∙ there) step.there in
+                let P : Row → Type 0 = λ r. goes_before rows r row ≡ true in
+                absurd (frees row may (subst P same goes) ends));
+          })
         ]
 
     go : MayStart later row → Found rows [] n s k row → Back rows k row

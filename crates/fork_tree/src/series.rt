@@ -60,10 +60,7 @@ impl<A: Allocator> ForkTree<A> {
         requires { calm ≡ true → NoneStarts self.old.rows }
         ensures { self.new ≡ self.old }
     {
-        self.quiet = Quiet {
-            calm,
-            single: calm,
-        };
+        self.quiet = Quiet { calm, single: calm };
     }
 
     /// Whether the end of row n, which brings so many new rows, lets no group start, since a neighbour of it in its group

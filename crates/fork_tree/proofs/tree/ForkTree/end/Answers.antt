@@ -124,9 +124,9 @@ invariant_of-self g c =
     let P : List Place → Type 0 = λ x. IsTree c.self.inside.rules x c.end.new.self c.after-self-inside.result in
     let tree : IsTree c.self.inside.rules c.add_places.new.places.items c.end.new.self c.after-self-inside.result =
     subst P (sym places) (tree_ended c.self.inside.rules c.self.inside.places.items c.self.inside.root c.end.new.self c.self.inside.tally c.after-self-inside.result c.args.n
-          c.of-standing.result c.below.inside.seats.items c.below.inside.first c.len-opens.result c.self.invariant.tree is answer first c.below.invariant.few new
-          (c.end.ensures.sized ∙ ap (λ x. length c.self.inside.root + length x) c.below.invariant.seated) c.end.ensures.counted c.end.ensures.gained
-          c.after-self-inside.ensures.kept c.after-self-inside.ensures.still) in
+    c.of-standing.result c.below.inside.seats.items c.below.inside.first c.len-opens.result c.self.invariant.tree is answer first c.below.invariant.few new
+    (c.end.ensures.sized ∙ ap (λ x. length c.self.inside.root + length x) c.below.invariant.seated) c.end.ensures.counted c.end.ensures.gained
+    c.after-self-inside.ensures.kept c.after-self-inside.ensures.still) in
     let many : c.len-opens.result ≡ length c.below.inside.seats.items = omega (arith, c.len-opens.ensures) in
     record {
       tree = tree;
