@@ -10,7 +10,7 @@ use crate::print::{append, append_number};
 use crate::replay::MOST_TEXT;
 use bumpalo::Bump;
 use fork_listing::{CheckFault, Verdict, check};
-use std::alloc::{AllocError, Allocator, Global};
+use std::alloc::{AllocError, Allocator};
 
 /// The exit status where a text is no right listing.
 const NO: u8 = 4;
@@ -68,7 +68,11 @@ pub fn append_found<A: Allocator>(
 /// # Errors
 ///
 /// In this order: `TooLong` over `MOST_TEXT` bytes, `NoMemory` where a growth was refused. After each `out` is as it was.
-pub fn check_text(alloc: Global, text: &[u8], out: &mut Vec<u8>) -> Result<u8, ProgFault>
+pub fn check_text<A: Allocator + Clone>(
+    alloc: A,
+    text: &[u8],
+    out: &mut Vec<u8, A>,
+) -> Result<u8, ProgFault>
     ensures answered { IfOk result (AppendsAnswer text.now out.old.items out.new.items) }
     ensures fault { IfErr result (IsCheckRefusal text.now) }
     ensures too_long { IsErrOf result ProgFault.TooLong ↔ (most_text < length text.now) }
@@ -77,7 +81,7 @@ pub fn check_text(alloc: Global, text: &[u8], out: &mut Vec<u8>) -> Result<u8, P
     if text.len() > MOST_TEXT {
         return Err(ProgFault::TooLong);
     }
-    let arena = Bump::new(alloc);
+    let arena = Bump::new(alloc.clone()?);
     let mut line = Vec::new(alloc);
     let status = append_found(&mut line, check(&arena, text))?;
     out.extend_from_slice(&line)?;
