@@ -115,7 +115,7 @@ few_more keys place offer (Fresh key) rest fit few =
     omega arith
 few_more keys place offer Left rest fit few = few
 
-few_from : (keys : List (List ℕ)) (place : ℕ) (offers : List Offer) → length (taking_from keys place offers).fresh ≤ most_targets - length keys
+pub few_from : (keys : List (List ℕ)) (place : ℕ) (offers : List Offer) → length (taking_from keys place offers).fresh ≤ most_targets - length keys
 few_from keys place [] = omega arith
 few_from keys place (offer ∷ offers) =
     few_more keys place offer (fate_of keys offer.key) (taking_from (keys_after keys (fate_of keys offer.key)) (suc place) offers)

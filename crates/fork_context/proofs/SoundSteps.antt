@@ -1,5 +1,5 @@
 -- A context that takes an event keeps its bounds.
-use Rattle.std.proofs.Common.{◌≡◌, ◌≤◌, ◌*◌, ◌+◌, ℕ, suc, Bool, false, length, arith, subst}
+use Rattle.std.proofs.Common.{◌≡◌, ◌≤◌, ◌*◌, ◌+◌, ℕ, suc, Bool, false, List, [], length, arith, subst}
 use Rattle.std.specs.Prelude.{if◌then◌else◌}
 use Rattle.fork_model.specs.Table.{Table, most_targets}
 use Rattle.fork_model.specs.Event.{Event}
@@ -9,7 +9,14 @@ use Rattle.fork_model.specs.Steps.{progress, IsWithin}
 use Rattle.fork_model.proofs.StepLemmas.{positions_bounded, progress_bounded}
 use Rattle.fork_model.proofs.ContactLemmas.{targets_bounded}
 use Rattle.fork_model.proofs.Arrivals.{next_arrivals}
-use Rattle.fork_context.specs.Sound.{IsSound}
+use Rattle.fork_model.specs.Table.{Kind, Rules}
+use Rattle.fork_model.specs.History.{Target, opening}
+use Rattle.fork_model.proofs.ContactLemmas.{each_target}
+use Rattle.fork_model.proofs.Arrivals.{history_of_arrivals}
+use Rattle.fork_model.proofs.SeriesLemmas.{keeps_series}
+use Rattle.fork_model.proofs.OpeningSeries.{opening_in_series}
+use Rattle.fork_context.specs.Sound.{IsSound, IsKept}
+use Rattle.fork_context.proofs.ClosingRows.{keeps_closed}
 
 within_next : (core : Core) (event : Event) → is_full core event ≡ false → IsWithin core → IsWithin (core_next core event)
 within_next core event open_yet within =
@@ -31,3 +38,21 @@ taken_small table taken sound =
     let few : length table.rows ≤ most_targets = sound.few in
     let within : taken ≤ most_strays + progress table = sound.within in
     omega arith
+
+pub kept_next : (core : Core) (event : Event) → is_full core event ≡ false → IsKept core.table core.taken
+    → IsKept (next core.table event core.taken) (suc core.taken)
+kept_next core event open_yet kept = record {
+  sound = sound_next core event open_yet kept.sound;
+  series = keeps_series core.table event core.taken kept.series;
+  whole = keeps_closed core.table event core.taken kept.whole;
+}
+
+-- the context as it opens
+pub kept_opening : (kind : Kind) (rules : Rules) (targets : List Target) → length targets ≤ most_targets → IsKept (opening kind rules targets) 0
+kept_opening kind rules targets few =
+    let each : length (opening kind rules targets).rows ≡ length targets = each_target kind rules targets in
+    record {
+      sound = record { few = omega arith; within = omega arith; apart = history_of_arrivals kind rules targets [] };
+      series = opening_in_series kind rules targets;
+      whole = λ done. absurd cc;
+    }

@@ -1,7 +1,7 @@
 -- The row that a row's fields stand for.
 use Rattle.fork_model.specs.Table as spec
 use Rattle.fork_context.specs.declared.row.Row.TheInside.{Inside}
-use Rattle.fork_context.specs.StateView.{state_of}
+use Rattle.fork_tree.specs.States.{state_of}
 
 abbrev pub row_of : {A : Type 0} → Inside A → spec.Row
 row_of row = record {

@@ -15,16 +15,13 @@ ghost use Rattle.fork_context.specs.Refusals.{IsTooMany, HasTwice, IsFull, retur
 ghost use Rattle.fork_context.specs.ReplyView.{choice_of};
 ghost use Rattle.fork_context.specs.RowShown.{row_shown};
 
+use crate::challenges::challenge_list;
 use crate::event::{Event, Offer, Target};
+use crate::fork::Fork;
 use crate::kind::Kind;
-use crate::plain::challenges::challenge_list;
-use crate::plain::choice::choice;
-use crate::plain::opening::{has_twice, opening};
-use crate::plain::reply::reply;
-use crate::plain::step::{is_stray, next};
+use crate::opening::has_twice;
 use crate::reply::{Choice, Reply};
 use crate::row::RowView;
-use crate::table::Table;
 use fork_rank::{Challenge, MOST_TARGETS, Rules};
 use std::alloc::{AllocError, Allocator, Global};
 use std::marker::Model;
@@ -65,20 +62,20 @@ pub enum PostError<A: Allocator = Global> {
 /// The response context of a forked request: its table, and how many events it has taken.
 #[derive(Drop)]
 pub struct Context<A: Allocator + Clone = Global> {
-    table: Table<A>,
+    fork: Fork<A>,
     taken: u32,
     alloc: A,
 }
 
 impl<A: Allocator + Clone> Model for Context<A> {
     ghost use Rattle.fork_model.specs.Core.{Core};
-    ghost use Rattle.fork_context.specs.Sound.{IsSound};
+    ghost use Rattle.fork_context.specs.Sound.{IsKept};
 
     ghost Value = { Core };
 
-    ghost view = { λ c. record { table = c.table; taken = c.taken } };
+    ghost view = { λ c. record { table = c.fork; taken = c.taken } };
 
-    ghost invariant = { λ c. IsSound c.table c.taken };
+    ghost invariant = { λ c. IsKept c.fork c.taken };
 }
 
 impl<A: Allocator + Clone> Context<A> {
@@ -109,11 +106,11 @@ impl<A: Allocator + Clone> Context<A> {
         if has_twice(&targets) {
             return Err(NewFault::Twice);
         }
-        let Ok(table) = opening(&alloc, kind, rules, &targets) else {
+        let Ok(fork) = Fork::opening(&alloc, kind, rules, &targets) else {
             return Err(NewFault::NoMemory);
         };
         Ok(Context {
-            table,
+            fork,
             taken: 0,
             alloc,
         })
@@ -135,50 +132,39 @@ impl<A: Allocator + Clone> Context<A> {
         if self.is_full(&event) {
             return Err(PostError::Full(event));
         }
-        let Ok((table, reply)) = self.step(&event) else {
+        let Ok(reply) = self.fork.take(&self.alloc, &event, self.taken) else {
             return Err(PostError::NoMemory(event));
         };
-        self.table = table;
         self.taken += 1;
         Ok(reply)
-    }
-
-    /// The table after the event, and the reply to it.
-    fn step(&self, event: &Event<A>) -> Result<(Table<A>, Reply<A>), AllocError>
-        ensures table { IfOk result (λ stepped. stepped.0 ≡ next self.now.table (event_of event.now) self.now.taken) }
-        ensures reply { IfOk result (λ stepped. IsReply self.now.table (event_of event.now) self.now.taken stepped.1) }
-    {
-        let table = next(&self.alloc, &self.table, event, self.taken)?;
-        let reply = reply(&self.alloc, &self.table, event, self.taken, &table)?;
-        Ok((table, reply))
     }
 
     /// Whether `post` would refuse the event as one too many that changes nothing.
     pub fn is_full(&self, event: &Event<A>) -> bool
         ensures { result ≡ is_full self.now (event_of event.now) }
     {
-        self.taken >= MOST_STRAYS && is_stray(&self.table, event)
+        self.taken >= MOST_STRAYS && self.fork.is_stray(event)
     }
 
     /// Whether every branch has ended.
     pub fn finished(&self) -> bool
         ensures { result ≡ is_finished self.now.table.rows }
     {
-        self.table.finished()
+        self.fork.finished()
     }
 
     /// Whether a branch was answered with a 2xx.
     pub fn succeeded(&self) -> bool
         ensures { result ≡ is_succeeded self.now.table.rows }
     {
-        self.table.succeeded()
+        self.fork.succeeded()
     }
 
     /// Whether no further group starts.
     pub fn closed(&self) -> bool
         ensures { result ≡ self.now.table.closed }
     {
-        self.table.closed()
+        self.fork.closed()
     }
 
     /// How many rows there are, at most 256.
@@ -186,35 +172,35 @@ impl<A: Allocator + Clone> Context<A> {
         ensures value { result ≡ length self.now.table.rows }
         ensures range { result ≤ most_targets }
     {
-        self.table.count() as u16
+        self.fork.count()
     }
 
     /// What is forked.
     pub fn kind(&self) -> Kind
         ensures { kind_of result ≡ self.now.table.kind }
     {
-        self.table.kind()
+        self.fork.kind()
     }
 
     /// The rules that it was made with.
     pub fn rules(&self) -> Rules
         ensures { result ≡ self.now.table.rules }
     {
-        self.table.rules()
+        self.fork.rules()
     }
 
     /// What identifies the target of row n.
     pub fn key(&self, n: u16) -> Option<&[u8]>
         ensures { option_copied result ≡ option_map (λ row. row.key) (slice_get self.now.table.rows n) }
     {
-        Some(self.table.row(n)?.key())
+        self.fork.key(n)
     }
 
     /// Row n as a caller sees it.
     pub fn look(&self, n: u16) -> Option<RowView>
         ensures { result ≡ option_map (row_shown n) (slice_get self.now.table.rows n) }
     {
-        Some(self.table.row(n)?.shown(n))
+        self.fork.look(n)
     }
 
     /// The contacts that are left of the 3xx that row n was answered with, for the caller to try itself; None where
@@ -222,7 +208,7 @@ impl<A: Allocator + Clone> Context<A> {
     pub fn left(&self, n: u16) -> Option<&[Offer<A>]>
         ensures { option_copied result ≡ option_and_then left_of (slice_get self.now.table.rows n) }
     {
-        self.table.row(n)?.left()
+        self.fork.left(n)
     }
 
     /// Which answer goes up, once every branch has ended and none was answered with a 2xx (RFC 3261 section 16.7 step
@@ -232,7 +218,7 @@ impl<A: Allocator + Clone> Context<A> {
         ensures value { IfSome result (λ choice. IsChoice self.now.table.rules self.now.table.rows (choice_of choice)) }
     {
         if self.finished() && !self.succeeded() {
-            Some(choice(&self.table))
+            Some(self.fork.choice())
         } else {
             None
         }
@@ -253,7 +239,7 @@ impl<A: Allocator + Clone> Context<A> {
         let Some(choice) = self.choice() else {
             return Ok(());
         };
-        let mut added = challenge_list(&self.alloc, &self.table.rows, choice)?;
+        let mut added = challenge_list(&self.alloc, &self.fork, choice)?;
         out.append(&mut added)?;
         Ok(())
     }

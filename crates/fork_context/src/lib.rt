@@ -2,13 +2,28 @@
 //! (RFC 3261 section 16.7).
 #![tactic(auto)]
 
+mod below;
+mod beside;
+mod challenges;
 mod context;
+mod copy;
+mod effect;
 mod event;
+mod fork;
 mod kind;
+mod opening;
+mod order;
+#[cfg(test)]
 mod plain;
 mod reply;
 mod row;
+#[cfg(test)]
+mod side_by_side;
+mod step;
+mod stray;
+#[cfg(test)]
 mod table;
+mod taking;
 #[cfg(test)]
 mod tests;
 #[cfg(test)]
@@ -17,6 +32,7 @@ mod walk;
 pub use context::{Context, NewFault, PostError};
 pub use event::{Answer, Event, Offer, Target};
 pub use fork_rank::Challenge;
+pub use fork_tree::{End, RowRef, State};
 pub use kind::Kind;
 pub use reply::{Choice, Reply, Up};
-pub use row::{End, RowRef, RowView, State};
+pub use row::RowView;

@@ -5,56 +5,9 @@ ghost use Rattle.fork_model.specs.Table.{is_idle, is_trying, is_cancelled, is_op
 
 use crate::event::Offer;
 use fork_rank::{Challenge, Status};
+use fork_tree::{End, RowRef, State};
 use std::alloc::{Allocator, Global};
 use std::marker::Model;
-
-/// How a branch ended; an arrival is the position of the event that ended it.
-#[derive(Clone, Copy, PartialEq, Eq, Debug)]
-pub enum End {
-    /// With an answer that is stored: received from the branch, or assumed by the proxy.
-    Stored {
-        status: Status,
-        arrival: u32,
-        received: bool,
-    },
-    /// With a 3xx all of whose contacts were taken.
-    Taken {
-        arrival: u32,
-    },
-    /// Cancelled, and given up without an answer.
-    Silent {
-        arrival: u32,
-    },
-    /// It was never tried.
-    Never,
-    /// With a 2xx.
-    Accepted {
-        arrival: u32,
-    },
-}
-
-/// Where a branch is.
-#[derive(Clone, Copy, PartialEq, Eq, Debug)]
-pub enum State {
-    /// It waits for its group to start.
-    Idle,
-    /// The request was sent to it, and it has not rung.
-    Trying,
-    /// It has rung; its CANCEL was sent or not.
-    Rung { cancelled: bool },
-    Ended(End),
-}
-
-/// What identifies a row and where it is: its number, the number of the row it stands under (None: an
-/// initial target), its group there, its q in thousandths, its state.
-#[derive(Clone, Copy, PartialEq, Eq, Debug)]
-pub struct RowRef {
-    pub no: u16,
-    pub parent: Option<u16>,
-    pub group: u16,
-    pub q: u16,
-    pub state: State,
-}
 
 /// What a caller sees of a row: the row, and the place of its target in the list that it came in.
 #[derive(Clone, Copy, PartialEq, Eq, Debug)]
@@ -93,7 +46,7 @@ pub struct Row<A: Allocator = Global> {
 
 impl<A: Allocator> Model for Row<A> {
     ghost use Rattle.fork_model.specs.Table as spec;
-    ghost use Rattle.fork_context.specs.StateView.{IsFinal};
+    ghost use Rattle.fork_tree.specs.States.{IsFinal};
     ghost use Rattle.fork_context.specs.Inside.{row_of};
 
     ghost Value = { spec.Row };

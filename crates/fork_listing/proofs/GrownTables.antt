@@ -14,7 +14,7 @@ use Rattle.fork_model.specs.History.{Target as Named, first_row, opening_rows, o
 use Rattle.fork_model.specs.Core.{Core, opening_core, core_next, core_offered, core_after, is_full}
 use Rattle.fork_model.proofs.ChangeLemmas.{from_filter_map}
 use Rattle.fork_model.proofs.OpeningSeries.{opening_row}
-use Rattle.fork_context.specs.StateView.{shown}
+use Rattle.fork_tree.specs.States.{shown}
 use Rattle.fork_listing.specs.declared.line.End.{End}
 use Rattle.fork_listing.specs.declared.line.End.TheVariants as line_end
 use Rattle.fork_listing.specs.declared.line.Target.{Target}

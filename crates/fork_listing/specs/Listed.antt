@@ -2,10 +2,10 @@
 use Rattle.std.specs.Prelude.{◌≡◌, ℕ, suc, List, [], ◌∷◌, ◌++◌, length}
 use Rattle.fork_model.specs.Table as table
 use Rattle.fork_model.specs.Choice.{Choice, IsChoice}
-use Rattle.fork_context.specs.declared.row.State.{State}
-use Rattle.fork_context.specs.declared.row.State.TheVariants as state
-use Rattle.fork_context.specs.declared.row.End as shown_end
-use Rattle.fork_context.specs.declared.row.End.TheVariants as shown
+use Rattle.fork_tree.specs.declared.row.State.{State}
+use Rattle.fork_tree.specs.declared.row.State.TheVariants as state
+use Rattle.fork_tree.specs.declared.row.End as shown_end
+use Rattle.fork_tree.specs.declared.row.End.TheVariants as shown
 use Rattle.fork_context.specs.declared.row.RowView.{RowView}
 use Rattle.fork_context.specs.RowShown.{row_shown}
 use Rattle.fork_listing.specs.declared.line.Version.TheVariants.{Third}

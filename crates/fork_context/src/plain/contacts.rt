@@ -7,16 +7,18 @@ ghost use Rattle.fork_model.specs.Table.{most_targets};
 ghost use Rattle.fork_model.specs.Waiting.{depth_of};
 ghost use Rattle.fork_model.specs.Contacts.{fate_of, is_known, keys_of, taking_from, taking_at};
 ghost use Rattle.fork_model.specs.Contacts as contacts;
-ghost use Rattle.fork_context.specs.FateView.{fate_at};
+ghost use Rattle.fork_context.specs.TakingFate.{fate_at};
 ghost use Rattle.fork_context.specs.PlainTaking.{keys_of_fresh, taken_more, fresh_row_at, with_row_at, qs_of_fresh};
 
+use crate::copy::copied_offers;
 use crate::event::Offer;
-use crate::plain::copy::copied_offers;
-use crate::plain::opening::numbered;
+use crate::order::numbered;
 use crate::plain::waiting::depth;
-use crate::row::{Row, State};
+use crate::row::Row;
 use crate::table::Table;
+use crate::taking::Fate;
 use fork_rank::MOST_TARGETS;
+use fork_tree::State;
 use std::alloc::{AllocError, Allocator};
 use std::marker::Model;
 
@@ -89,13 +91,6 @@ fn has_room<A: Allocator>(rows: &[Row<A>], fresh: &[Fresh<A>]) -> bool
     ensures { result ≡ nat_lt (length (keys_of rows.now ++ keys_of_fresh fresh.now)) most_targets }
 {
     fresh.len() < (MOST_TARGETS as usize).saturating_sub(rows.len())
-}
-
-/// What becomes of one contact: its target is one already; it becomes one; it is left.
-enum Fate {
-    Known,
-    Fresh,
-    Left,
 }
 
 /// What becomes of a contact, where these rows and these contacts are targets.

@@ -13,28 +13,12 @@ ghost use Rattle.fork_context.specs.Refusals.{keys_of_targets, HasTwice};
 
 use crate::event::Target;
 use crate::kind::Kind;
-use crate::row::{Row, State};
+use crate::order::numbered;
+use crate::row::Row;
 use crate::table::Table;
-use fork_rank::{Rules, groups};
+use fork_rank::Rules;
+use fork_tree::State;
 use std::alloc::{AllocError, Allocator};
-
-/// Whether two of the targets have one key.
-pub(crate) fn has_twice<A: Allocator>(targets: &[Target<A>]) -> bool
-    ensures { IsTrue result ↔ HasTwice targets.now }
-{
-    for n in 0..targets.len() {
-        if has_key(&targets[..n], targets[n].key()) {
-            return true;
-        }
-    }
-    false
-}
-
-fn has_key<A: Allocator>(targets: &[Target<A>], key: &[u8]) -> bool
-    ensures { result ≡ list_any (λ target. pointwise nat_eq key.now target.key) targets.now }
-{
-    targets.iter().any(|target| key == target.key())
-}
 
 /// The table of these targets, the first group of which is tried at once.
 pub(crate) fn opening<A: Allocator + Clone>(
@@ -121,36 +105,4 @@ fn first_row<A: Allocator + Clone>(
         left: Vec::new(alloc.clone()?),
         challenges: Vec::new(alloc.clone()?),
     })
-}
-
-/// The places of the list in the order in which they are tried, each behind the number of its group: by falling q,
-/// those of one q together.
-pub(crate) fn numbered<A: Allocator + Clone>(
-    alloc: &A,
-    qs: &[u16],
-) -> Result<Vec<(u16, u16), A>, AllocError>
-    requires few { length qs.now ≤ most_targets }
-    ensures { IfOk result (λ pairs. pairs.items ≡ numbered qs.now) }
-{
-    let groups = groups(alloc.clone()?, qs)?;
-    let mut pairs = Vec::new(alloc.clone()?);
-    for (group, places) in groups.iter().enumerate() {
-        push_group(&mut pairs, group as u16, places)?;
-    }
-    Ok(pairs)
-}
-
-/// Adds the places of one group.
-fn push_group<A: Allocator>(
-    pairs: &mut Vec<(u16, u16), A>,
-    group: u16,
-    places: &[usize],
-) -> Result<(), AllocError>
-    requires within { All (λ place. place < most_targets) places.now }
-    ensures { OnOk result (pairs.new.items ≡ pairs.old.items ++ in_group group places.now) }
-{
-    for &place in places {
-        pairs.push((group, place as u16))?;
-    }
-    Ok(())
 }

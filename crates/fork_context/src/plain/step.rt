@@ -3,17 +3,19 @@ ghost use Rattle.std.specs.Prelude.{◌≡◌, ◌≤◌, ◌<◌, ◌&&◌, not
 ghost use Rattle.fork_model.specs.Table.{Trying, Rung, most_targets};
 ghost use Rattle.fork_model.specs.Step as step;
 ghost use Rattle.fork_context.specs.EventView.{event_of};
-ghost use Rattle.fork_context.specs.StateView.{state_of, IsFinal};
+ghost use Rattle.fork_tree.specs.States.{state_of, IsFinal};
 ghost use Rattle.fork_context.specs.KindView.{kind_of};
 
+use crate::copy::copied_challenges;
 use crate::event::{Answer, Event, Offer};
 use crate::kind::Kind;
 use crate::plain::contacts::{Taking, fresh_rows, taking_at};
-use crate::plain::copy::{copied_challenges, copied_rows};
+use crate::plain::copy::copied_rows;
 use crate::plain::waiting::may_start;
-use crate::row::{End, Row, State};
+use crate::row::Row;
 use crate::table::Table;
 use fork_rank::{Challenge, Status};
+use fork_tree::{End, State};
 use std::alloc::{AllocError, Allocator};
 use std::marker::Model;
 
@@ -30,7 +32,7 @@ struct Effect<A: Allocator> {
 
 impl<A: Allocator> Model for Effect<A> {
     ghost use Rattle.fork_model.specs.Step as spec;
-    ghost use Rattle.fork_context.specs.StateView.{state_of, IsFinal};
+    ghost use Rattle.fork_tree.specs.States.{state_of, IsFinal};
 
     ghost Value = { spec.Effect };
 

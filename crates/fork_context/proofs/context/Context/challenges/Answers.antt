@@ -1,4 +1,4 @@
-use Rattle.std.proofs.Common.{rules, refl, ◌≡◌, ◌∙◌, ◌++◌, ap, sym, subst}
+use Rattle.std.proofs.Common.{refl, ◌≡◌, ◌∙◌, ◌++◌, ap, sym, subst}
 use Rattle.fork_model.specs.Core.{Core}
 use Rattle.fork_model.specs.Challenges.{challenge_list}
 use Rattle.fork_context.specs.Chosen.{challenges_added}
@@ -11,8 +11,8 @@ pub returns-clause-added : goal.returns-clause-added
 returns-clause-added g c =
     let Sound : Core → Type 0 = λ core. IsSound core.table core.taken in
     let core : Core = c.args.self.now in
-    let sound : Sound core = subst Sound c.self.view_is c.self.invariant in
-    let same : c.deref.result.now ≡ core.table.rows = search rules in
+    let sound : Sound core = subst Sound c.self.view_is c.self.invariant.sound in
+    let same : c.self.inside.fork.rows ≡ core.table.rows = ap (λ (x : Core). x.table.rows) c.self.view_is in
     let due = due_now core.table.rows (c.in-Some.ensures.due.0 refl) in
     λ chosen h.
     c.in_ok-append.ensures.items

@@ -1,0 +1,87 @@
+-- The numbers that pass a test, where they follow each other.
+use Rattle.std.proofs.Common.{◌≡◌, ℕ, zero, suc, ◌+◌, ◌<◌, ◌≤◌, Bool, true, false, List, [], ◌∷◌, ◌++◌, length, refl, ap, arith, ◌∙◌, sym, cond, length-append, add-one}
+use Rattle.std.specs.Prelude.{filter}
+use Rattle.std.proofs.lemmas.List.{append-nil}
+use Rattle.std.proofs.lemmas.List.Elements.{filter-append}
+use Rattle.fork_model.specs.Groups.{numbers_below}
+use Rattle.fork_context.specs.Ready.{numbers_from}
+
+one_more : (p : ℕ → Bool) (n : ℕ) (b : Bool) → p n ≡ b → filter p (numbers_below (suc n)) ≡ filter p (numbers_below n) ++ cond b (n ∷ []) []
+one_more p n b e = filter-append p (numbers_below n) (n ∷ []) ∙ ap (λ b. filter p (numbers_below n) ++ cond b (n ∷ []) []) e
+
+pub filter_none : (p : ℕ → Bool) (len : ℕ) → ((k : ℕ) → k < len → p k ≡ false) → filter p (numbers_below len) ≡ []
+filter_none p zero h = refl
+filter_none p (suc len) h =
+    one_more p len false (h len (omega arith)) ∙ append-nil _ ∙ filter_none p len (λ k lt. h k (omega arith))
+
+pub filter_same : (p q : ℕ → Bool) (len : ℕ) → ((k : ℕ) → k < len → p k ≡ q k) → filter p (numbers_below len) ≡ filter q (numbers_below len)
+filter_same p q zero h = refl
+filter_same p q (suc len) h =
+    one_more p len (q len) (h len (omega arith))
+    ∙ ap (λ (ns : List ℕ). ns ++ cond (q len) (len ∷ []) []) (filter_same p q len (λ k lt. h k (omega arith)))
+    ∙ sym (one_more q len (q len) refl)
+
+pub filter_range : (p : ℕ → Bool) (first count len : ℕ) → first + count ≤ len
+    → ((k : ℕ) → first ≤ k → k < first + count → p k ≡ true)
+    → ((k : ℕ) → k < len → p k ≡ true → (first ≤ k) × (k < first + count))
+    → filter p (numbers_below len) ≡ numbers_from first count
+filter_range p first zero len fits all only = filter_none p len none
+  where
+    none : (k : ℕ) → k < len → p k ≡ false
+    none k lt = go (p k) refl
+      where
+        go : (b : Bool) → p k ≡ b → p k ≡ false
+        go false e = e
+        go true e = let at = only k lt e in let lo : first ≤ k = at.0 in let hi : k < first + 0 = at.1 in absurd (omega arith)
+filter_range p first (suc count) zero fits all only = absurd (omega arith)
+filter_range p first (suc count) (suc len) fits all only =
+    go (p len) refl
+    (λ c fits all only. filter_range p first c len fits all only)
+  where
+    go : (b : Bool) → p len ≡ b
+        → ((c : ℕ) → first + c ≤ len → ((k : ℕ) → first ≤ k → k < first + c → p k ≡ true)
+        → ((k : ℕ) → k < len → p k ≡ true → (first ≤ k) × (k < first + c)) → filter p (numbers_below len) ≡ numbers_from first c)
+        → filter p (numbers_below (suc len)) ≡ numbers_from first (suc count)
+    go true e rest =
+        let at = only len (omega arith) e in
+        let lo : first ≤ len = at.0 in
+        let hi : len < first + suc count = at.1 in
+        let last : first + count ≡ len = omega arith in
+        one_more p len true e
+        ∙ ap (λ (ns : List ℕ). ns ++ len ∷ [])
+        (rest count (omega arith) (λ k l h. all k l (omega arith))
+        (λ k lt is. let in_it = only k (omega arith) is in let l : first ≤ k = in_it.0 in (l, omega arith)))
+        ∙ ap (λ (n : ℕ). numbers_from first count ++ n ∷ []) (sym last)
+    go false e rest =
+        let below : first + suc count ≤ len = before (p len) e (λ l h. all len l h) in
+        one_more p len false e ∙ append-nil _
+        ∙ rest (suc count) below all (λ k lt is. only k (omega arith) is)
+      where
+        before : (b : Bool) → b ≡ false → (first ≤ len → len < first + suc count → b ≡ true) → first + suc count ≤ len
+        before b e h = grind arith
+
+pub length_numbers_from : (first count : ℕ) → length (numbers_from first count) ≡ count
+length_numbers_from first zero = refl
+length_numbers_from first (suc count) =
+    let rest : length (numbers_from first count) ≡ count = length_numbers_from first count in
+    let more : length (numbers_from first count ++ (first + count) ∷ []) ≡ length (numbers_from first count) + 1 = length-append (numbers_from first count) ((first + count) ∷ []) in
+    omega arith
+
+pub numbers_from_more : (first count : ℕ) → numbers_from first (count + 1) ≡ numbers_from first count ++ (first + count) ∷ []
+numbers_from_more first count = ap (numbers_from first) (add-one count)
+
+pub length_passing : (p : ℕ → Bool) (n : ℕ) → length (filter p (numbers_below n)) ≤ n
+length_passing p zero = omega arith
+length_passing p (suc n) = go (p n) refl (length_passing p n)
+  where
+    go : (b : Bool) → p n ≡ b → length (filter p (numbers_below n)) ≤ n → length (filter p (numbers_below (suc n))) ≤ suc n
+    go b e rest =
+        let is : length (filter p (numbers_below (suc n))) ≡ length (filter p (numbers_below n) ++ cond b (n ∷ []) []) = ap (λ (ns : List ℕ). length ns) (one_more p n b e) in
+        let all : length (filter p (numbers_below n) ++ cond b (n ∷ []) []) ≡ length (filter p (numbers_below n)) + length (cond b (n ∷ []) []) =
+        length-append (filter p (numbers_below n)) (cond b (n ∷ []) []) in
+        let one : length (cond b (n ∷ []) []) ≤ 1 = small b in
+        omega arith
+      where
+        small : (b : Bool) → length {A = ℕ} (cond b (n ∷ []) []) ≤ 1
+        small true = omega arith
+        small false = omega arith

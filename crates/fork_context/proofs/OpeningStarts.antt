@@ -1,0 +1,120 @@
+-- The initial targets all wait; settling starts their first group, and that is the opening table.
+use Rattle.std.proofs.Common.{◌≡◌, ℕ, zero, suc, ◌<◌, Bool, true, false, List, [], ◌∷◌, map, Option, Some, None, refl, ap, arith, ◌∙◌, sym, subst, cond, inl, inr, ◌⊎◌, ltb-true, length}
+use Rattle.std.specs.Prelude.{slice_get, ◌==◌, ◌&&◌, ◌||◌, nat_lt, nat_eq}
+use Rattle.std.specs.Option.{option_map, option_eq}
+use Rattle.std.specs.List.{list_any}
+use Rattle.std.proofs.lemmas.Option.{slice_get-map}
+use Rattle.fork_model.specs.Table.{Kind, Rules, Row, Table, State, Idle, Trying, is_idle, is_ended}
+use Rattle.fork_model.specs.Waiting.{in_earlier_group, goes_before, line_of, parent_ended, may_start}
+use Rattle.fork_model.specs.Step.{settled, settled_row}
+use Rattle.fork_model.specs.History.{Target, opening_rows, opening}
+use Rattle.fork_context.specs.Opening.{idled, waiting_rows, waiting_table}
+use Rattle.fork_model.proofs.OpeningSeries.{IsOpeningRow, opening_row, HasFirst, has_first}
+use Rattle.fork_model.proofs.SeriesLemmas.{OneGroup}
+use Rattle.fork_model.proofs.WaitingLemmas.{MayStart, may_start_facts, may_start_of, is_earlier, goes_by_group, has_rows, one_group}
+
+differ : {b : Bool} → b ≡ true → b ≡ false → ⊥
+differ h k = cc
+
+found_in : (o : Option Row) (row : Row) → option_map idled o ≡ Some row → (r : Row) × (o ≡ Some r) × (idled r ≡ row)
+found_in None row e = absurd cc
+found_in (Some r) row e = (r, refl, let same : idled r ≡ row = cc in same)
+
+waits_from : (targets : List Target) (m : ℕ) (row : Row) → slice_get (waiting_rows targets) m ≡ Some row
+    → (r : Row) × (slice_get (opening_rows targets) m ≡ Some r) × (idled r ≡ row)
+waits_from targets m row is = found_in (slice_get (opening_rows targets) m) row (sym (slice_get-map idled (opening_rows targets) m) ∙ is)
+
+waits_at : (targets : List Target) (m : ℕ) (row : Row) → slice_get (opening_rows targets) m ≡ Some row → slice_get (waiting_rows targets) m ≡ Some (idled row)
+waits_at targets m row is = slice_get-map idled (opening_rows targets) m ∙ ap (option_map idled) is
+
+not_less : (n : ℕ) → nat_lt n 0 ≡ false
+not_less n = go (nat_lt n 0) refl
+  where
+    go : (b : Bool) → nat_lt n 0 ≡ b → b ≡ false
+    go false e = refl
+    go true e = let less : n < 0 = ltb-true n 0 e in absurd (omega arith)
+
+and_false : (a : Bool) → (a && false) ≡ false
+and_false true = refl
+and_false false = refl
+
+-- no row goes before one of group 0
+none_earlier : (line : List Row) (a : Row) → a.group ≡ 0 → list_any (λ above. in_earlier_group above a) line ≡ false
+none_earlier [] a e = refl
+none_earlier (x ∷ line) a e =
+    let here : in_earlier_group x a ≡ false =
+    ap (λ (g : ℕ). option_eq nat_eq x.parent a.parent && nat_lt x.group g) e ∙ ap (λ (b : Bool). option_eq nat_eq x.parent a.parent && b) (not_less x.group) ∙ and_false (option_eq nat_eq x.parent a.parent) in
+    ap (λ (b : Bool). b || list_any (λ above. in_earlier_group above a) line) here ∙ none_earlier line a e
+
+is_zero : (n : ℕ) → (n == 0) ≡ true → n ≡ 0
+is_zero zero e = refl
+is_zero (suc n) e = grind arith
+
+is_later : (n : ℕ) → (n == 0) ≡ false → 0 < n
+is_later zero e = absurd cc
+is_later (suc n) e = omega arith
+
+first_may : (targets : List Target) (m : ℕ) (row : Row) → slice_get (opening_rows targets) m ≡ Some row → row.group ≡ 0
+    → may_start (waiting_rows targets) (idled row) ≡ true
+first_may targets m row is zeroth = may_start_of (waiting_rows targets) (idled row) (record {
+  idle = refl;
+  mates = λ k mate at same. let r = waits_from targets k mate at in sym (ap (λ (x : Row). is_idle x.state) r.2);
+  parent = ap (parent_ended (waiting_rows targets)) (opening_row targets m row is).parent;
+  before = λ k other at goes. absurd (differ goes (none_earlier (line_of (waiting_rows targets) other) (idled row) zeroth));
+})
+
+later_waits : (targets : List Target) (m : ℕ) (row : Row) → slice_get (opening_rows targets) m ≡ Some row → 0 < row.group
+    → may_start (waiting_rows targets) (idled row) ≡ false
+later_waits targets m row is later = go (has_first targets) (may_start (waiting_rows targets) (idled row)) refl
+  where
+    waits : (head : Row) (rest : List Row) → opening_rows targets ≡ head ∷ rest → head.group ≡ 0 → MayStart (waiting_rows targets) (idled row) → ⊥
+    waits head rest made first may =
+        let at : slice_get (opening_rows targets) 0 ≡ Some head = ap (λ (rows : List Row). slice_get rows 0) made in
+        let earlier : in_earlier_group (idled head) (idled row) ≡ true =
+        is_earlier (idled head) (idled row) ((opening_row targets 0 head at).parent ∙ sym (opening_row targets m row is).parent) (omega arith) in
+        let len = has_rows (waiting_rows targets) m (idled row) (waits_at targets m row is) in
+        let ended : is_ended Idle ≡ true =
+        may.before 0 (idled head) (waits_at targets 0 head at) (goes_by_group (waiting_rows targets) len.0 (idled head) (idled row) len.1 earlier) in
+        cc
+
+    go : HasFirst (opening_rows targets) → (b : Bool) → may_start (waiting_rows targets) (idled row) ≡ b → may_start (waiting_rows targets) (idled row) ≡ false
+    go h false e = e
+    go (inl none) true e = absurd (let there : slice_get {X = Row} [] m ≡ Some row = ap (λ (rows : List Row). slice_get rows m) (sym none) ∙ is in cc)
+    go (inr h) true e = absurd (waits h.0 h.1 h.2 h.3 (may_start_facts (waiting_rows targets) (idled row) e))
+
+map_back : (f : Row → Row) (rows : List Row) → ((k : ℕ) (row : Row) → slice_get rows k ≡ Some row → f (idled row) ≡ row) → map f (map idled rows) ≡ rows
+map_back f [] h = refl
+map_back f (row ∷ rows) h =
+    let rest : map f (map idled rows) ≡ rows = map_back f rows (λ k r is. h (suc k) r is) in
+    let here : f (idled row) ≡ row = h 0 row refl in
+    (λ i. here i ∷ rest i)
+
+settled_back : (kind : Kind) (rules : Rules) (targets : List Target) (k : ℕ) (row : Row) → slice_get (opening_rows targets) k ≡ Some row
+    → settled_row (waiting_table kind rules targets) (idled row) ≡ row
+settled_back kind rules targets k row is = go (row.group == 0) refl
+  where
+    state_is : (b : Bool) → may_start (waiting_rows targets) (idled row) ≡ b → (row.group == 0) ≡ b
+        → settled_row (waiting_table kind rules targets) (idled row) ≡ row
+    state_is b may group =
+        let now : cond (may_start (waiting_rows targets) (idled row)) Trying Idle ≡ row.state =
+        ap (λ (x : Bool). cond x Trying Idle) (may ∙ sym group) ∙ sym (opening_row targets k row is).state in
+        ap (λ (s : State). let r : Row = record row { state = s } in r) now
+
+    go : (b : Bool) → (row.group == 0) ≡ b → settled_row (waiting_table kind rules targets) (idled row) ≡ row
+    go true e = state_is true (first_may targets k row is (is_zero row.group e)) e
+    go false e = state_is false (later_waits targets k row is (is_later row.group e)) e
+
+-- settling starts the first group, and that is the opening table
+pub opening_settled : (kind : Kind) (rules : Rules) (targets : List Target) → settled (waiting_table kind rules targets) ≡ opening kind rules targets
+opening_settled kind rules targets =
+    let of_rows : List Row → Table = λ (rows : List Row). record { kind = kind; rules = rules; closed = false; rows = rows } in
+    ap of_rows (map_back (settled_row (waiting_table kind rules targets)) (opening_rows targets) (settled_back kind rules targets))
+
+-- and it is one group
+pub opening_one_group : (targets : List Target) → OneGroup (waiting_rows targets)
+opening_one_group targets i j a b is also f g =
+    let r = waits_from targets i a is in
+    let s = waits_from targets j b also in
+    let none : a.parent ≡ b.parent =
+    sym (ap (λ (x : Row). x.parent) r.2) ∙ (opening_row targets i r.0 r.1).parent ∙ sym (opening_row targets j s.0 s.1).parent ∙ ap (λ (x : Row). x.parent) s.2 in
+    (none, one_group (waiting_rows targets) i j a b is also f g none)

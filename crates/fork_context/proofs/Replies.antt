@@ -1,0 +1,150 @@
+-- Which rows a reply names, by what the event changed.
+use Rattle.std.proofs.Common.{◌≡◌, ℕ, zero, suc, ◌+◌, ◌<◌, ◌≤◌, Bool, true, false, List, [], ◌∷◌, ◌++◌, length, map, Option, Some, None, refl, ap, arith, ◌∙◌, sym, subst, cond, inl, inr, ◌⊎◌}
+use Rattle.std.specs.Prelude.{slice_get, not, ◌&&◌, filter}
+use Rattle.std.proofs.lemmas.Option.{slice_get_within, slice_get-get_or}
+use Rattle.fork_model.specs.Table.{Kind, Row, Table, State, Idle, Trying, Rung, Ended, is_idle, is_trying, is_cancelled, is_open, is_row}
+use Rattle.fork_model.specs.Groups.{numbers_below}
+use Rattle.fork_model.specs.Step.{with_state}
+use Rattle.fork_model.specs.Reply.{has_become, became}
+use Rattle.fork_model.proofs.ChangeLemmas.{Found, found, changed_row}
+use Rattle.fork_tree.specs.Ready.{tried}
+use Rattle.fork_context.specs.Ready.{numbers_from}
+use Rattle.fork_context.proofs.Numbers.{filter_none, filter_same, filter_range}
+
+differ : {b : Bool} → b ≡ true → b ≡ false → ⊥
+differ h k = cc
+
+and_one : (a b : Bool) → (a && b) ≡ true → a ≡ true
+and_one true b e = refl
+and_one false b e = absurd cc
+
+and_two : (a b : Bool) → (a && b) ≡ true → b ≡ true
+and_two true b e = e
+and_two false b e = absurd cc
+
+not_false : (b : Bool) → not b ≡ true → b ≡ false
+not_false true e = absurd cc
+not_false false e = refl
+
+is_false : (b : Bool) → (b ≡ true → ⊥) → b ≡ false
+is_false true h = absurd (h refl)
+is_false false h = refl
+
+-- the row behind a passed test
+row_of_test : (test : State → Bool) (o : Option Row) → is_row test o ≡ true → (row : Row) × (o ≡ Some row) × (test row.state ≡ true)
+row_of_test test None e = absurd cc
+row_of_test test (Some row) e = (row, refl, e)
+
+-- nothing has become what nothing is now that was not before
+pub became_none : (test : State → Bool) (old new : List Row)
+    → ((k : ℕ) (row : Row) → slice_get new k ≡ Some row → test row.state ≡ true → is_row test (slice_get old k) ≡ true)
+    → became test old new ≡ []
+became_none test old new h = filter_none (has_become test old new) (length new) none
+  where
+    none : (k : ℕ) → k < length new → has_become test old new k ≡ false
+    none k lt = is_false _ (λ e.
+        let row = row_of_test test (slice_get new k) (and_one _ _ e) in
+        differ (h k row.0 row.1 row.2) (not_false _ (and_two _ _ e)))
+
+-- the rows of a range
+pub became_range : (test : State → Bool) (old new : List Row) (first count : ℕ) → first + count ≤ length new
+    → ((k : ℕ) → first ≤ k → k < first + count → (is_row test (slice_get new k) ≡ true) × (is_row test (slice_get old k) ≡ false))
+    → ((k : ℕ) (row : Row) → slice_get new k ≡ Some row → test row.state ≡ true → is_row test (slice_get old k) ≡ false → (first ≤ k) × (k < first + count))
+    → became test old new ≡ numbers_from first count
+became_range test old new first count fits all only =
+    filter_range (has_become test old new) first count (length new) fits
+    (λ k lo hi. (λ i. (all k lo hi).0 i && not ((all k lo hi).1 i)))
+    (λ k lt e.
+    let row = row_of_test test (slice_get new k) (and_one _ _ e) in
+    only k row.0 row.1 row.2 (not_false _ (and_two _ _ e)))
+
+-- one row changed, and more came behind it
+record Moved (test : State → Bool) (rows fresh : List Row) : Type 0 where
+  none : (k : ℕ) (row : Row) → slice_get fresh k ≡ Some row → test row.state ≡ false
+
+pub moved_none : (test : State → Bool) (rows fresh : List Row) (n : ℕ) (state : State)
+    → ((k : ℕ) (row : Row) → slice_get fresh k ≡ Some row → test row.state ≡ false) → test state ≡ false
+    → became test rows (with_state rows n state ++ fresh) ≡ []
+moved_none test rows fresh n state none is =
+    became_none test rows (with_state rows n state ++ fresh) (λ k row there e. go k row (found rows fresh n state k row there) e)
+  where
+    go : (k : ℕ) (row : Row) → Found rows fresh n state k row → test row.state ≡ true → is_row test (slice_get rows k) ≡ true
+    go k row (inl h) e = ap (is_row test) h ∙ e
+    go k row (inr (inl h)) e = absurd (differ e (ap test h.1 ∙ is))
+    go k row (inr (inr h)) e = absurd (differ e (none h.0 row h.1))
+
+length_more : (rows fresh : List Row) (n : ℕ) (state : State) → length rows ≤ length (with_state rows n state ++ fresh)
+length_more [] fresh n state = omega arith
+length_more (x ∷ rows) fresh zero state = longer rows
+  where
+    more : (rows : List Row) → length rows ≤ length (rows ++ fresh)
+    more [] = omega arith
+    more (y ∷ rows) = let rest : length rows ≤ length (rows ++ fresh) = more rows in omega arith
+
+    longer : (rows : List Row) → suc (length rows) ≤ suc (length (rows ++ fresh))
+    longer rows = let rest : length rows ≤ length (rows ++ fresh) = more rows in omega arith
+length_more (x ∷ rows) fresh (suc n) state = let rest : length rows ≤ length (with_state rows n state ++ fresh) = length_more rows fresh n state in omega arith
+
+pub moved_one : (test : State → Bool) (rows fresh : List Row) (n : ℕ) (state : State) (row : Row) → slice_get rows n ≡ Some row
+    → ((k : ℕ) (row : Row) → slice_get fresh k ≡ Some row → test row.state ≡ false) → test state ≡ true → test row.state ≡ false
+    → became test rows (with_state rows n state ++ fresh) ≡ n ∷ []
+moved_one test rows fresh n state row is none now before =
+    let lt : n < length rows = slice_get_within rows n row is in
+    let more : length rows ≤ length (with_state rows n state ++ fresh) = length_more rows fresh n state in
+    let range : became test rows (with_state rows n state ++ fresh) ≡ numbers_from n 1 =
+    became_range test rows (with_state rows n state ++ fresh) n 1 (omega arith) all only in
+    range ∙ ap (λ (k : ℕ). k ∷ []) (omega arith)
+  where
+    all : (k : ℕ) → n ≤ k → k < n + 1 → (is_row test (slice_get (with_state rows n state ++ fresh) k) ≡ true) × (is_row test (slice_get rows k) ≡ false)
+    all k lo hi =
+        let same : k ≡ n = omega arith in (
+          ap (λ (j : ℕ). is_row test (slice_get (with_state rows n state ++ fresh) j)) same ∙ ap (is_row test) (changed_row rows fresh n state row is) ∙ now,
+          ap (λ (j : ℕ). is_row test (slice_get rows j)) same ∙ ap (is_row test) is ∙ before,
+        )
+
+    only : (k : ℕ) (r : Row) → slice_get (with_state rows n state ++ fresh) k ≡ Some r → test r.state ≡ true → is_row test (slice_get rows k) ≡ false
+        → (n ≤ k) × (k < n + 1)
+    only k r there e was = go (found rows fresh n state k r there)
+      where
+        go : Found rows fresh n state k r → (n ≤ k) × (k < n + 1)
+        go (inl h) = absurd (differ (ap (is_row test) h ∙ e) was)
+        go (inr (inl h)) = let same : k ≡ n = h.0 in (omega arith, omega arith)
+        go (inr (inr h)) = absurd (differ e (none h.0 r h.1))
+
+-- ---- a group that starts
+
+pub length-tried : (rows : List Row) (first count : ℕ) → length (tried rows first count) ≡ length rows
+length-tried [] first count = refl
+length-tried (row ∷ rows) zero zero = refl
+length-tried (row ∷ rows) zero (suc count) = let rest : length (tried rows zero count) ≡ length rows = length-tried rows zero count in omega arith
+length-tried (row ∷ rows) (suc first) count = let rest : length (tried rows first count) ≡ length rows = length-tried rows first count in omega arith
+
+pub tried_in : (rows : List Row) (first count k : ℕ) (row : Row) → slice_get rows k ≡ Some row → first ≤ k → k < first + count
+    → slice_get (tried rows first count) k ≡ Some (record row { state = Trying })
+tried_in [] first count k row is lo hi = absurd cc
+tried_in (x ∷ rows) zero zero k row is lo hi = absurd (let less : k < 0 + 0 = hi in omega arith)
+tried_in (x ∷ rows) zero (suc count) zero row is lo hi = let same : x ≡ row = cc in ap (λ (r : Row). Some (record r { state = Trying })) same
+tried_in (x ∷ rows) zero (suc count) (suc k) row is lo hi =
+    tried_in rows zero count k row is (omega arith) (let less : suc k < 0 + suc count = hi in omega arith)
+tried_in (x ∷ rows) (suc first) count zero row is lo hi = absurd (let le : suc first ≤ 0 = lo in omega arith)
+tried_in (x ∷ rows) (suc first) count (suc k) row is lo hi =
+    tried_in rows first count k row is (let le : suc first ≤ suc k = lo in omega arith) (let less : suc k < suc first + count = hi in omega arith)
+
+-- a row of the started table: one that was there, or one of the group
+pub tried_found : (rows : List Row) (first count k : ℕ) (row : Row) → slice_get (tried rows first count) k ≡ Some row
+    → (slice_get rows k ≡ Some row) ⊎ ((first ≤ k) × (k < first + count) × (row.state ≡ Trying))
+tried_found [] first count k row is = inl is
+tried_found (x ∷ rows) zero zero k row is = inl is
+tried_found (x ∷ rows) zero (suc count) zero row is =
+    let same : record x { state = Trying } ≡ row = cc in inr (omega arith, omega arith, sym (ap (λ (r : Row). r.state) same))
+tried_found (x ∷ rows) zero (suc count) (suc k) row is =
+    elim (tried_found rows zero count k row is) [
+      | inl h ↦ inl h
+      | inr h ↦ inr (omega arith, (let less : k < 0 + count = h.1 in omega arith), h.2)
+    ]
+tried_found (x ∷ rows) (suc first) count zero row is = inl is
+tried_found (x ∷ rows) (suc first) count (suc k) row is =
+    elim (tried_found rows first count k row is) [
+      | inl h ↦ inl h
+      | inr h ↦ inr ((let le : first ≤ k = h.0 in omega arith), (let less : k < first + count = h.1 in omega arith), h.2)
+    ]

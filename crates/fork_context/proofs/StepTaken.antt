@@ -1,0 +1,316 @@
+-- One event at a table: what it changes, what settling then changes, and what the reply names.
+use Rattle.std.proofs.Common.{◌≡◌, ℕ, zero, suc, ◌+◌, ◌<◌, ◌≤◌, Bool, true, false, List, [], ◌∷◌, ◌++◌, length, map, Option, Some, None, refl, ap, arith, ◌∙◌, sym, subst, cond, inl, inr, ◌⊎◌, get_or}
+use Rattle.std.specs.Prelude.{slice_get, not, ◌&&◌, ◌||◌, filter, nat_lt, nat_le}
+use Rattle.std.specs.Option.{option_map}
+use Rattle.std.proofs.lemmas.Option.{slice_get_within, slice_get-get_or, slice_get-map}
+use Rattle.std.proofs.lemmas.List.{append-nil, length-map}
+use Rattle.fork_model.specs.Table.{Kind, Row, Table, State, End, Idle, Trying, Rung, Ended, Silent, Accepted, is_idle, is_trying, is_cancelled, is_ended, is_open, is_row, is_invite}
+use Rattle.fork_model.specs.Event.{Event, FinalAnswer, Ring, Answer, Timeout, Fault, TimerC, GiveUp, Cancel, row_named}
+use Rattle.fork_model.specs.Groups.{numbers_below}
+use Rattle.fork_model.specs.Waiting.{may_start, depth_of}
+use Rattle.fork_model.specs.Contacts.{Taking, taking_at, taking_from, keys_of, fresh_rows}
+use Rattle.fork_model.specs.Step.{Effect, effect, moves, assumed, accepts, answers, redirected, redirects, stores, with_state, with_effect, change_at, change, cancelled, closed_state, settled, next}
+use Rattle.fork_model.specs.Reply.{has_become, became}
+use Rattle.fork_model.specs.Series.{IsInSeries}
+use Rattle.fork_model.proofs.StepLemmas.{next_of_change, Onward, change_advances}
+use Rattle.fork_model.proofs.WaitingLemmas.{may_start_facts}
+use Rattle.fork_model.proofs.ChangeLemmas.{IsMove, IsClosing, change_is, Found, found}
+use Rattle.fork_model.proofs.SeriesLemmas.{OneGroup, one_group_changed, tried_before, idle_before}
+use Rattle.fork_tree.specs.Ready.{IsReady, tried}
+use Rattle.fork_context.specs.Ready.{numbers_from}
+use Rattle.fork_context.specs.Closing.{is_ringing, closed_row, AreClosed, IsClosedWhole}
+use Rattle.fork_context.proofs.Settling.{settled_none, settled_group}
+use Rattle.fork_context.proofs.Numbers.{filter_same}
+use Rattle.fork_context.proofs.Replies.{became_none, became_range, tried_in, tried_found, length-tried}
+use Rattle.fork_context.proofs.ClosingRows.{settled_closed, still_closed}
+
+differ : {b : Bool} → b ≡ true → b ≡ false → ⊥
+differ h k = cc
+
+-- ---- an event that changes a table by settling alone after its own change
+
+-- the table that an event changed, before it is settled
+pub record IsChanged (t : Table) (event : Event) (at : ℕ) (u : Table) : Type 0 where
+  pub series : IsInSeries t
+  pub changes : change t event at ≡ Some u
+
+moved : (t : Table) (event : Event) (at : ℕ) (u : Table) → IsChanged t event at u → (IsMove t u) ⊎ (IsClosing t u)
+moved t event at u c = change_is t u event at c.changes
+
+onward : (t : Table) (event : Event) (at : ℕ) (u : Table) → IsChanged t event at u → Onward t u
+onward t event at u c = (change_advances t u event at c.changes).onward
+
+-- what is tried after the event's own change was tried before it
+was_tried : (t : Table) (event : Event) (at : ℕ) (u : Table) → IsChanged t event at u
+    → (k : ℕ) (row : Row) → slice_get u.rows k ≡ Some row → is_trying row.state ≡ true → is_row is_trying (slice_get t.rows k) ≡ true
+was_tried t event at u c k row is now = go (is_row is_trying (slice_get t.rows k)) refl
+  where
+    go : (b : Bool) → is_row is_trying (slice_get t.rows k) ≡ b → is_row is_trying (slice_get t.rows k) ≡ true
+    go true e = e
+    go false e = absurd (differ now (tried_before t u (moved t event at u c) k row is e))
+
+pub next_is : (t : Table) (event : Event) (at : ℕ) (u : Table) → change t event at ≡ Some u → next t event at ≡ settled u
+next_is t event at u is = next_of_change t u event at is
+
+-- ---- the table stays open
+
+pub one_group_of : (t : Table) (event : Event) (at : ℕ) (u : Table) → IsChanged t event at u → u.closed ≡ false → OneGroup u.rows
+one_group_of t event at u c still = one_group_changed t u (onward t event at u c) (moved t event at u c) c.series still
+
+pub none_starts : (t : Table) (event : Event) (at : ℕ) (u : Table) → IsChanged t event at u → u.closed ≡ false
+    → ((k : ℕ) (row : Row) → slice_get u.rows k ≡ Some row → may_start u.rows row ≡ false) → next t event at ≡ u
+none_starts t event at u c still none = next_is t event at u c.changes ∙ settled_none u still none
+
+pub none_started : (t : Table) (event : Event) (at : ℕ) (u : Table) → IsChanged t event at u → became is_trying t.rows u.rows ≡ []
+none_started t event at u c = became_none is_trying t.rows u.rows (was_tried t event at u c)
+
+pub group_starts : (t : Table) (event : Event) (at : ℕ) (u : Table) (first count : ℕ) → IsChanged t event at u → u.closed ≡ false
+    → IsReady u.rows first count → next t event at ≡ record u { rows = tried u.rows first count }
+group_starts t event at u first count c still ready =
+    next_is t event at u c.changes ∙ settled_group u first count still (one_group_of t event at u c still) ready
+
+-- a row of a group that starts waited till then
+ready_idle : (rows : List Row) (first count : ℕ) → IsReady rows first count → (k : ℕ) (row : Row) → first ≤ k → k < first + count
+    → slice_get rows k ≡ Some row → is_idle row.state ≡ true
+ready_idle rows first count ready k row lo hi is = (may_start_facts rows row (ready.ready k row lo hi is)).idle
+
+some_row : (rows : List Row) (k : ℕ) → k < length rows → (row : Row) × (slice_get rows k ≡ Some row)
+some_row [] k lt = absurd (omega arith)
+some_row (row ∷ rows) zero lt = (row, refl)
+some_row (row ∷ rows) (suc k) lt = some_row rows k (omega arith)
+
+pub group_started : (t : Table) (event : Event) (at : ℕ) (u : Table) (first count : ℕ) → IsChanged t event at u → IsReady u.rows first count
+    → became is_trying t.rows (tried u.rows first count) ≡ numbers_from first count
+group_started t event at u first count c ready =
+    let within : first + count ≤ length u.rows = ready.within in
+    let same : length (tried u.rows first count) ≡ length u.rows = length-tried u.rows first count in
+    became_range is_trying t.rows (tried u.rows first count) first count (omega arith) all only
+  where
+    all : (k : ℕ) → first ≤ k → k < first + count
+        → (is_row is_trying (slice_get (tried u.rows first count) k) ≡ true) × (is_row is_trying (slice_get t.rows k) ≡ false)
+    all k lo hi =
+        let within : first + count ≤ length u.rows = ready.within in
+        let row = some_row u.rows k (omega arith) in (
+          ap (is_row is_trying) (tried_in u.rows first count k row.0 row.1 lo hi),
+          idle_before t.rows u.rows k row.0 (onward t event at u c).rows row.1 (ready_idle u.rows first count ready k row.0 lo hi row.1),
+        )
+
+    only : (k : ℕ) (row : Row) → slice_get (tried u.rows first count) k ≡ Some row → is_trying row.state ≡ true
+        → is_row is_trying (slice_get t.rows k) ≡ false → (first ≤ k) × (k < first + count)
+    only k row is now before = go (tried_found u.rows first count k row is)
+      where
+        go : (slice_get u.rows k ≡ Some row) ⊎ ((first ≤ k) × (k < first + count) × (row.state ≡ Trying)) → (first ≤ k) × (k < first + count)
+        go (inl h) = absurd (differ (was_tried t event at u c k row h now) before)
+        go (inr h) = (h.0, h.1)
+
+-- a group that starts cancels nothing
+pub group_cancels : (old rows : List Row) (first count : ℕ) → IsReady rows first count
+    → became is_cancelled old (tried rows first count) ≡ became is_cancelled old rows
+group_cancels old rows first count ready =
+    ap (λ (n : ℕ). filter (has_become is_cancelled old (tried rows first count)) (numbers_below n)) (length-tried rows first count)
+    ∙ filter_same (has_become is_cancelled old (tried rows first count)) (has_become is_cancelled old rows) (length rows) same
+  where
+    same : (k : ℕ) → k < length rows → has_become is_cancelled old (tried rows first count) k ≡ has_become is_cancelled old rows k
+    same k lt =
+        let was = some_row rows k lt in
+        let longer : length (tried rows first count) ≡ length rows = length-tried rows first count in
+        let now = some_row (tried rows first count) k (omega arith) in
+        ap (λ (b : Bool). b && not (is_row is_cancelled (slice_get old k)))
+        (ap (is_row is_cancelled) now.1 ∙ go was.0 now.0 was.1 (tried_found rows first count k now.0 now.1) ∙ sym (ap (is_row is_cancelled) was.1))
+      where
+        idle_not : (state : State) → is_idle state ≡ true → false ≡ is_cancelled state
+        idle_not Idle e = refl
+        idle_not Trying e = refl
+        idle_not (Rung b) e = absurd cc
+        idle_not (Ended end) e = refl
+
+        go : (was now : Row) → slice_get rows k ≡ Some was → (slice_get rows k ≡ Some now) ⊎ ((first ≤ k) × (k < first + count) × (now.state ≡ Trying))
+            → is_cancelled now.state ≡ is_cancelled was.state
+        go was now is (inl h) = let same : now ≡ was = cc in ap (λ (r : Row). is_cancelled r.state) same
+        go was now is (inr h) = ap is_cancelled h.2 ∙ idle_not was.state (ready_idle rows first count ready k was h.0 h.1 is)
+
+-- ---- the table closes
+
+pub closing_is : (t : Table) (event : Event) (at : ℕ) (u : Table) → change t event at ≡ Some u → u.closed ≡ true
+    → next t event at ≡ record u { rows = map (closed_row u.kind) u.rows }
+closing_is t event at u is done = next_is t event at u is ∙ settled_closed u done
+
+closed_trying : (kind : Kind) (state : State) → is_trying (closed_state kind state) ≡ is_trying state
+closed_trying kind Idle = refl
+closed_trying kind Trying = refl
+closed_trying kind (Rung b) = refl
+closed_trying kind (Ended end) = refl
+
+row_before : (kind : Kind) (o : Option Row) (row : Row) → option_map (closed_row kind) o ≡ Some row → (r : Row) × (o ≡ Some r) × (closed_row kind r ≡ row)
+row_before kind None row e = absurd cc
+row_before kind (Some r) row e = (r, refl, let same : closed_row kind r ≡ row = cc in same)
+
+pub closing_starts : (t : Table) (event : Event) (at : ℕ) (u : Table) → IsChanged t event at u
+    → became is_trying t.rows (map (closed_row u.kind) u.rows) ≡ []
+closing_starts t event at u c = became_none is_trying t.rows (map (closed_row u.kind) u.rows) (λ k row is now.
+    let was = row_before u.kind (slice_get u.rows k) row (sym (slice_get-map (closed_row u.kind) u.rows k) ∙ is) in
+    was_tried t event at u c k was.0 was.1
+    (sym (closed_trying u.kind was.0.state) ∙ ap (λ (r : Row). is_trying r.state) was.2 ∙ now))
+
+-- each row that has rung had rung before, and its CANCEL is the same
+abbrev pub RangBefore : List Row → List Row → Type 0
+RangBefore old rows = (k : ℕ) (row : Row) (cancelled : Bool) → slice_get rows k ≡ Some row → row.state ≡ Rung cancelled → is_row is_cancelled (slice_get old k) ≡ cancelled
+
+pub closing_cancels : (old rows : List Row) (kind : Kind) → RangBefore old rows
+    → became is_cancelled old (map (closed_row kind) rows) ≡ filter (λ k. is_row is_ringing (slice_get rows k) && is_invite kind) (numbers_below (length rows))
+closing_cancels old rows kind rang =
+    ap (λ (n : ℕ). filter (has_become is_cancelled old (map (closed_row kind) rows)) (numbers_below n)) (length-map rows (closed_row kind))
+    ∙ filter_same (has_become is_cancelled old (map (closed_row kind) rows)) (λ k. is_row is_ringing (slice_get rows k) && is_invite kind) (length rows) same
+  where
+    by_state : (k : ℕ) (state : State) → ((b : Bool) → state ≡ Rung b → is_row is_cancelled (slice_get old k) ≡ b)
+        → (is_cancelled (closed_state kind state) && not (is_row is_cancelled (slice_get old k))) ≡ (is_ringing state && is_invite kind)
+    by_state k Idle h = refl
+    by_state k Trying h = refl
+    by_state k (Ended end) h = refl
+    by_state k (Rung true) h = ap (λ (b : Bool). not b) (h true refl)
+    by_state k (Rung false) h = ap (λ (b : Bool). is_invite kind && not b) (h false refl) ∙ and_true (is_invite kind)
+      where
+        and_true : (b : Bool) → (b && true) ≡ b
+        and_true true = refl
+        and_true false = refl
+
+    same : (k : ℕ) → k < length rows → has_become is_cancelled old (map (closed_row kind) rows) k ≡ (is_row is_ringing (slice_get rows k) && is_invite kind)
+    same k lt =
+        let row = some_row rows k lt in
+        let now : slice_get (map (closed_row kind) rows) k ≡ Some (closed_row kind row.0) =
+        slice_get-map (closed_row kind) rows k ∙ ap (option_map (closed_row kind)) row.1 in
+        ap (λ (o : Option Row). is_row is_cancelled o && not (is_row is_cancelled (slice_get old k))) now
+        ∙ by_state k row.0.state (λ b e. rang k row.0 b row.1 e)
+        ∙ sym (ap (λ (o : Option Row). is_row is_ringing o && is_invite kind) row.1)
+
+state_not_rung : (state : State) (b : Bool) → state ≡ Rung b → is_ended state ≡ true → ⊥
+state_not_rung state b e h = let f : is_ended (Rung b) ≡ true = ap is_ended (sym e) ∙ h in cc
+
+idle_not_rung : (state : State) (b : Bool) → state ≡ Rung b → is_idle state ≡ true → ⊥
+idle_not_rung state b e h = let f : is_idle (Rung b) ≡ true = ap is_idle (sym e) ∙ h in cc
+
+-- it is so where a row has ended and new rows wait
+pub rang_moved : (rows fresh : List Row) (n : ℕ) (state : State) → is_ended state ≡ true
+    → ((k : ℕ) (row : Row) → slice_get fresh k ≡ Some row → is_idle row.state ≡ true) → RangBefore rows (with_state rows n state ++ fresh)
+rang_moved rows fresh n state ends waits k row b is rung = go (found rows fresh n state k row is)
+  where
+    go : Found rows fresh n state k row → is_row is_cancelled (slice_get rows k) ≡ b
+    go (inl h) = ap (is_row is_cancelled) h ∙ ap is_cancelled rung
+    go (inr (inl h)) = absurd (state_not_rung row.state b rung (ap is_ended h.1 ∙ ends))
+    go (inr (inr h)) = absurd (idle_not_rung row.state b rung (waits h.0 row h.1))
+
+pub rang_same : (rows : List Row) → RangBefore rows rows
+rang_same rows k row b is rung = ap (is_row is_cancelled) is ∙ ap is_cancelled rung
+
+-- ---- the event's own change, by the row that it names
+
+-- only an answer that ends its row closes the table
+abbrev ClosesEnded : Option Effect → Type 0
+ClosesEnded None = Unit {0}
+ClosesEnded (Some e) = e.closes ≡ true → is_ended e.state ≡ true
+
+ended_if : (b : Bool) (e : Effect) → ClosesEnded (Some e) → ClosesEnded (cond b (Some e) None)
+ended_if true e h = h
+ended_if false e h = tt
+
+ended_answers : (t : Table) (n : ℕ) (row : Row) (at : ℕ) (answer : FinalAnswer) → ClosesEnded (Some (answers t n row at answer))
+ended_answers t n row at answer = go (nat_lt answer.status 300) (nat_lt answer.status 400)
+  where
+    go : (a b : Bool) → ClosesEnded (Some (cond a (accepts at) (cond b (redirects n at answer (taking_at t row answer.offers)) (stores at answer))))
+    go true b = λ h. refl
+    go false true = λ h. refl
+    go false false = λ h. refl
+
+ended_effect : (t : Table) (row : Row) (at : ℕ) (event : Event) (state : State) → ClosesEnded (effect t row at event state)
+ended_effect t row at event Idle = tt
+ended_effect t row at event (Ended end) = tt
+ended_effect t row at (Ring n status) Trying = λ h. absurd cc
+ended_effect t row at (Ring n status) (Rung cancelled) = tt
+ended_effect t row at (Answer n answer) Trying = ended_answers t n row at answer
+ended_effect t row at (Answer n answer) (Rung cancelled) = ended_answers t n row at answer
+ended_effect t row at (Timeout n) Trying = λ h. refl
+ended_effect t row at (Timeout n) (Rung cancelled) = λ h. refl
+ended_effect t row at (Fault n) Trying = λ h. refl
+ended_effect t row at (Fault n) (Rung cancelled) = λ h. refl
+ended_effect t row at (TimerC n) Trying = ended_if (is_invite t.kind) (assumed 408 at) (λ h. refl)
+ended_effect t row at (TimerC n) (Rung cancelled) = ended_if (is_invite t.kind && not cancelled) (moves (Rung true)) (λ h. absurd cc)
+ended_effect t row at (GiveUp n) Trying = tt
+ended_effect t row at (GiveUp n) (Rung cancelled) = ended_if cancelled (moves (Ended (Silent at))) (λ h. refl)
+ended_effect t row at Cancel Trying = tt
+ended_effect t row at Cancel (Rung cancelled) = tt
+
+pub closes_ended : (t : Table) (row : Row) (at : ℕ) (event : Event) (state : State) (e : Effect) → effect t row at event state ≡ Some e
+    → e.closes ≡ true → is_ended e.state ≡ true
+closes_ended t row at event state e is = let P : Option Effect → Type 0 = λ o. ClosesEnded o in subst P is (ended_effect t row at event state)
+
+-- a closed table takes no contact
+abbrev AddsNone : Option Effect → Type 0
+AddsNone None = Unit {0}
+AddsNone (Some e) = e.fresh ≡ []
+
+none_if : (b : Bool) (e : Effect) → AddsNone (Some e) → AddsNone (cond b (Some e) None)
+none_if true e h = h
+none_if false e h = tt
+
+none_taken : (t : Table) (n : ℕ) (row : Row) (answer : FinalAnswer) → t.closed ≡ true → fresh_rows n (taking_at t row answer.offers).fresh ≡ []
+none_taken t n row answer done =
+    (λ i. fresh_rows n (cond (done i || not (nat_lt (depth_of t.rows row) t.rules.depth)) (let k : Taking = record { fresh = []; left = answer.offers } in k) (taking_from (keys_of t.rows) 0 answer.offers)).fresh)
+
+none_answers : (t : Table) (n : ℕ) (row : Row) (at : ℕ) (answer : FinalAnswer) → t.closed ≡ true → AddsNone (Some (answers t n row at answer))
+none_answers t n row at answer done = go (nat_lt answer.status 300) (nat_lt answer.status 400)
+  where
+    go : (a b : Bool) → AddsNone (Some (cond a (accepts at) (cond b (redirects n at answer (taking_at t row answer.offers)) (stores at answer))))
+    go true b = refl
+    go false true = none_taken t n row answer done
+    go false false = refl
+
+none_effect : (t : Table) (row : Row) (at : ℕ) (event : Event) (state : State) → t.closed ≡ true → AddsNone (effect t row at event state)
+none_effect t row at event Idle done = tt
+none_effect t row at event (Ended end) done = tt
+none_effect t row at (Ring n status) Trying done = refl
+none_effect t row at (Ring n status) (Rung cancelled) done = tt
+none_effect t row at (Answer n answer) Trying done = none_answers t n row at answer done
+none_effect t row at (Answer n answer) (Rung cancelled) done = none_answers t n row at answer done
+none_effect t row at (Timeout n) Trying done = refl
+none_effect t row at (Timeout n) (Rung cancelled) done = refl
+none_effect t row at (Fault n) Trying done = refl
+none_effect t row at (Fault n) (Rung cancelled) done = refl
+none_effect t row at (TimerC n) Trying done = none_if (is_invite t.kind) (assumed 408 at) refl
+none_effect t row at (TimerC n) (Rung cancelled) done = none_if (is_invite t.kind && not cancelled) (moves (Rung true)) refl
+none_effect t row at (GiveUp n) Trying done = tt
+none_effect t row at (GiveUp n) (Rung cancelled) done = none_if cancelled (moves (Ended (Silent at))) refl
+none_effect t row at Cancel Trying done = tt
+none_effect t row at Cancel (Rung cancelled) done = tt
+
+pub closed_adds_none : (t : Table) (row : Row) (at : ℕ) (event : Event) (state : State) (e : Effect) → t.closed ≡ true
+    → effect t row at event state ≡ Some e → e.fresh ≡ []
+closed_adds_none t row at event state e done is = let P : Option Effect → Type 0 = λ o. AddsNone o in subst P is (none_effect t row at event state done)
+
+-- the change is that of the row that the event names
+pub change_named : (t : Table) (event : Event) (at n : ℕ) → row_named event ≡ Some n → change t event at ≡ change_at t at event n (slice_get t.rows n)
+change_named t (Ring m status) at n e = let same : m ≡ n = cc in ap (λ k. change_at t at (Ring m status) k (slice_get t.rows k)) same
+change_named t (Answer m answer) at n e = let same : m ≡ n = cc in ap (λ k. change_at t at (Answer m answer) k (slice_get t.rows k)) same
+change_named t (Timeout m) at n e = let same : m ≡ n = cc in ap (λ k. change_at t at (Timeout m) k (slice_get t.rows k)) same
+change_named t (Fault m) at n e = let same : m ≡ n = cc in ap (λ k. change_at t at (Fault m) k (slice_get t.rows k)) same
+change_named t (TimerC m) at n e = let same : m ≡ n = cc in ap (λ k. change_at t at (TimerC m) k (slice_get t.rows k)) same
+change_named t (GiveUp m) at n e = let same : m ≡ n = cc in ap (λ k. change_at t at (GiveUp m) k (slice_get t.rows k)) same
+change_named t Cancel at n e = absurd cc
+
+pub change_by_effect : (t : Table) (event : Event) (at n : ℕ) (row : Row) (e : Effect) → row_named event ≡ Some n → slice_get t.rows n ≡ Some row
+    → effect t row at event row.state ≡ Some e → change t event at ≡ Some (with_effect t n e)
+change_by_effect t event at n row e named there is =
+    change_named t event at n named ∙ ap (change_at t at event n) there ∙ ap (option_map (with_effect t n)) is
+
+-- in a closed table the named row alone changes, and where it rings it is cancelled
+pub closed_step : (t : Table) (event : Event) (at n : ℕ) (row : Row) (e : Effect) → IsClosedWhole t → t.closed ≡ true
+    → row_named event ≡ Some n → slice_get t.rows n ≡ Some row → effect t row at event row.state ≡ Some e
+    → next t event at ≡ record (with_effect t n e) { rows = with_state t.rows n (closed_state t.kind e.state) }
+closed_step t event at n row e whole done named there is =
+    let u : Table = with_effect t n e in
+    let none : e.fresh ≡ [] = closed_adds_none t row at event row.state e done is in
+    let rows : with_state t.rows n e.state ++ e.fresh ≡ with_state t.rows n e.state =
+    ap (λ (more : List Row). with_state t.rows n e.state ++ more) none ∙ append-nil (with_state t.rows n e.state) in
+    let shut : u.closed ≡ true = ap (λ (b : Bool). b || e.closes) done in
+    closing_is t event at u (change_by_effect t event at n row e named there is) shut
+    ∙ ap (λ (rs : List Row). let v : Table = record (with_effect t n e) { rows = rs } in v)
+    (ap (map (closed_row t.kind)) rows ∙ still_closed t.kind t.rows n e.state (whole done))

@@ -1,0 +1,98 @@
+-- Whether a 2xx came, as rows change.
+use Rattle.std.proofs.Common.{◌≡◌, ℕ, zero, suc, ◌+◌, ◌<◌, ◌≤◌, Bool, true, false, List, [], ◌∷◌, ◌++◌, map, Some, refl, ap, arith, ◌∙◌, sym, inl, inr, ◌⊎◌}
+use Rattle.std.specs.Prelude.{slice_get, ◌||◌}
+use Rattle.fork_model.specs.Table.{Row, State, End, Answered, Taken, Silent, Never, Accepted, Idle, Trying, Rung, Ended, is_idle, is_open, is_accepted, is_succeeded}
+use Rattle.fork_model.specs.Step.{with_state}
+use Rattle.fork_tree.specs.Ready.{tried}
+use Rattle.fork_context.specs.Closing.{never_state, never_row}
+use Rattle.fork_context.specs.Dressed.{Beside, dress_state, dress, dressed}
+
+or_swap : (a b : Bool) → (a || b) ≡ (b || a)
+or_swap true true = refl
+or_swap true false = refl
+or_swap false true = refl
+or_swap false false = refl
+
+or_group : (a b c : Bool) → (a || (b || c)) ≡ ((a || b) || c)
+or_group true b c = refl
+or_group false b c = refl
+
+or_none : (a : Bool) → (a || false) ≡ a
+or_none true = refl
+or_none false = refl
+
+-- a row that was not answered with a 2xx goes to another state
+pub succeeded_state : (rows : List Row) (n : ℕ) (row : Row) (state : State) → slice_get rows n ≡ Some row → is_accepted row.state ≡ false
+    → is_succeeded (with_state rows n state) ≡ (is_succeeded rows || is_accepted state)
+succeeded_state [] n row state is e = absurd cc
+succeeded_state (x ∷ rows) zero row state is e =
+    let same : x ≡ row = cc in
+    let none : is_accepted x.state ≡ false = ap (λ (r : Row). is_accepted r.state) same ∙ e in
+    or_swap (is_accepted state) (is_succeeded rows) ∙ sym (ap (λ (b : Bool). (b || is_succeeded rows) || is_accepted state) none)
+succeeded_state (x ∷ rows) (suc n) row state is e =
+    ap (λ (b : Bool). is_accepted x.state || b) (succeeded_state rows n row state is e)
+    ∙ or_group (is_accepted x.state) (is_succeeded rows) (is_accepted state)
+
+pub idle_not_accepted : (state : State) → is_idle state ≡ true → is_accepted state ≡ false
+idle_not_accepted Idle e = refl
+idle_not_accepted Trying e = refl
+idle_not_accepted (Rung b) e = refl
+idle_not_accepted (Ended end) e = absurd cc
+
+pub open_not_accepted : (state : State) → is_open state ≡ true → is_accepted state ≡ false
+open_not_accepted Idle e = refl
+open_not_accepted Trying e = refl
+open_not_accepted (Rung b) e = refl
+open_not_accepted (Ended end) e = absurd cc
+
+none_succeeded : (rows : List Row) → ((k : ℕ) (row : Row) → slice_get rows k ≡ Some row → is_idle row.state ≡ true) → is_succeeded rows ≡ false
+none_succeeded [] h = refl
+none_succeeded (x ∷ rows) h =
+    (λ i. idle_not_accepted x.state (h 0 x refl) i || none_succeeded rows (λ k r is. h (suc k) r is) i)
+
+-- rows that wait come behind
+pub succeeded_more : (rows fresh : List Row) → ((k : ℕ) (row : Row) → slice_get fresh k ≡ Some row → is_idle row.state ≡ true)
+    → is_succeeded (rows ++ fresh) ≡ is_succeeded rows
+succeeded_more [] fresh h = none_succeeded fresh h
+succeeded_more (x ∷ rows) fresh h = ap (λ (b : Bool). is_accepted x.state || b) (succeeded_more rows fresh h)
+
+-- a group starts
+pub succeeded_tried : (rows : List Row) (first count : ℕ)
+    → ((k : ℕ) (row : Row) → first ≤ k → k < first + count → slice_get rows k ≡ Some row → is_idle row.state ≡ true)
+    → is_succeeded (tried rows first count) ≡ is_succeeded rows
+succeeded_tried [] first count h = refl
+succeeded_tried (x ∷ rows) zero zero h = refl
+succeeded_tried (x ∷ rows) zero (suc count) h =
+    let none : false ≡ is_accepted x.state = sym (idle_not_accepted x.state (h 0 x (omega arith) (omega arith) refl)) in
+    let rest : is_succeeded (tried rows zero count) ≡ is_succeeded rows =
+    succeeded_tried rows zero count (λ k r lo hi is. h (suc k) r (omega arith) (let less : k < 0 + count = hi in omega arith) is) in
+    (λ i. none i || rest i)
+succeeded_tried (x ∷ rows) (suc first) count h =
+    ap (λ (b : Bool). is_accepted x.state || b)
+    (succeeded_tried rows first count (λ k r lo hi is. h (suc k) r (let le : first ≤ k = lo in omega arith) (let less : k < first + count = hi in omega arith) is))
+
+never_accepted : (state : State) → is_accepted (never_state state) ≡ is_accepted state
+never_accepted Idle = refl
+never_accepted Trying = refl
+never_accepted (Rung b) = refl
+never_accepted (Ended end) = refl
+
+-- rows that wait are never tried
+pub succeeded_never : (rows : List Row) → is_succeeded (map never_row rows) ≡ is_succeeded rows
+succeeded_never [] = refl
+succeeded_never (x ∷ rows) = (λ i. never_accepted x.state i || succeeded_never rows i)
+
+accepted_dress : (state : State) (b : Beside) → is_accepted (dress_state state b) ≡ is_accepted state
+accepted_dress Idle b = refl
+accepted_dress Trying b = refl
+accepted_dress (Rung cancelled) b = refl
+accepted_dress (Ended (Answered a)) b = refl
+accepted_dress (Ended (Taken at)) b = refl
+accepted_dress (Ended (Silent at)) b = refl
+accepted_dress (Ended Never) b = refl
+accepted_dress (Ended (Accepted at)) b = refl
+
+pub succeeded_dressed : (rows : List Row) (besides : List Beside) → is_succeeded (dressed rows besides) ≡ is_succeeded rows
+succeeded_dressed [] besides = refl
+succeeded_dressed (x ∷ rows) [] = ap (λ (b : Bool). is_accepted x.state || b) (succeeded_dressed rows [])
+succeeded_dressed (x ∷ rows) (b ∷ besides) = (λ i. accepted_dress x.state b i || succeeded_dressed rows besides i)

@@ -1,0 +1,11 @@
+use Rattle.std.proofs.Common.{rules}
+use Rattle.std.proofs.lemmas.List.{get_or_default}
+use Rattle.fork_context.specs.Dressed.{beside_at}
+use Rattle.fork_context.proofs.BelowLists.{pushed_more}
+use Rattle.fork_context.proofs.below.besides_at.Goals as goal
+
+pub loop-pair-preserved : goal.loop-pair-preserved
+loop-pair-preserved g c =
+    pushed_more (beside_at c.args.fresh.now) c.args.numbered.now c.loop-pair.pair-index _ _ _ (search rules)
+    (get_or_default c.args.numbered.now c.loop-pair.pair-index (0, 0) _ (search rules))
+    c.loop-pair.invariant c.in_ok-push_beside_at.ensures

@@ -1,0 +1,95 @@
+use Rattle.std.proofs.Common.{rules, arith, ◌≡◌, ◌≤◌, ◌<◌, ◌+◌, ◌++◌, ℕ, true, false, [], ◌∷◌, Some, length, map, filter, refl, ap, ◌∙◌, sym, subst, List, Bool, add-one, length-append}
+use Rattle.std.proofs.lemmas.List.{length-map}
+use Rattle.fork_tree.specs.States.{end_of}
+use Rattle.fork_tree.specs.Seats.{seated}
+use Rattle.std.specs.Prelude.{◌&&◌, ◌||◌, ◌==◌, slice_get, vec_capacity, nat_eq}
+use Rattle.std.specs.List.{list_any}
+use Rattle.std.specs.Option.{option_map}
+use Rattle.std.specs.Cmp.Lexicographic.{pointwise}
+use Rattle.fork_model.specs.Table.{Row, Table, Rung, Ended, is_row, is_trying, is_open, is_accepted, is_finished, is_succeeded, is_invite, most_targets}
+use Rattle.fork_model.specs.Step.{with_state}
+use Rattle.fork_model.specs.Groups.{numbers_below}
+use Rattle.fork_tree.specs.Tree.{Tree, is_uncancelled}
+use Rattle.fork_context.specs.Closing.{never_row, closed_row, is_ringing, cancel_row, gets_cancel}
+use Rattle.fork_context.specs.Dressed.{Beside, dressed, with_beside}
+use Rattle.fork_context.specs.ForkInside.{IsFork, accepts_end}
+use Rattle.fork_context.specs.KindView.{kind_of}
+use Rattle.fork_tree.specs.Ready.{IsReady, tried}
+use Rattle.fork_context.specs.Ready.{Starts, numbers_from}
+use Rattle.fork_context.specs.RowShown.{row_shown, ref_shown}
+use Rattle.fork_context.proofs.ForkRows.{row_dressed, key_dressed, trying_dressed, uncancelled_dressed, open_dressed, none_open, finished_dressed, ready_dressed, none_dressed, fork_moved, fork_closed, fork_tried, open_of_trying, open_of_uncancelled, keys_dressed, row_within}
+use Rattle.fork_context.proofs.ForkStart.{started_fork, started_none, started_some, started_range}
+use Rattle.fork_context.proofs.ForkEnd.{ended_rows, fork_ended, fork_same}
+use Rattle.fork_context.proofs.DressedRows.{dressed_state, dressed_tried, dressed_never, length-dressed}
+use Rattle.fork_context.proofs.Successes.{succeeded_dressed}
+use Rattle.fork_context.proofs.Numbers.{length_numbers_from, numbers_from_more, length_passing}
+use Rattle.fork_context.proofs.ShutRows.{untouched, none_gone, length-cancelled, gone_more, gone_same, never_gets, cancel_then, cancel_else, numbers_then, numbers_else}
+use Rattle.fork_context.proofs.ClosingRows.{cancelled_to, cancelled_all, closed_in_two}
+use Rattle.fork_context.proofs.fork.Fork.end.Goals as goal
+
+pub store_at-requires : goal.store_at-requires
+store_at-requires g c =
+    let there : is_row is_open (slice_get c.self.inside.tree.rows c.args.n) ≡ true =
+    sym (open_dressed c.self.inside.tree.rows c.self.inside.besides.items c.args.n) ∙ ap (λ (t : Table). is_row is_open (slice_get t.rows c.args.n)) c.self.view_is ∙ c.requires.open_yet in
+    let lt : c.args.n < length c.self.inside.tree.rows = row_within is_open c.self.inside.tree.rows c.args.n there in
+    let each : length c.self.inside.besides.items ≡ length c.self.inside.tree.rows = c.self.invariant.each in
+    let within : c.args.n < length c.self.inside.besides.items = omega arith in
+    let same : length c.args.self.now.rows ≡ length c.self.inside.tree.rows = sym (ap (λ (t : Table). length t.rows) c.self.view_is) ∙ length-dressed c.self.inside.tree.rows c.self.inside.besides.items in
+    let whole : c.append.new.self.items ≡ c.self.inside.besides.items ++ c.args.fresh.items = c.in_ok-append.ensures.items in
+    let long : length c.append.new.self.items ≡ length (c.self.inside.besides.items ++ c.args.fresh.items) = ap (λ (bs : List Beside). length bs) whole in
+    let sum : length (c.self.inside.besides.items ++ c.args.fresh.items) ≡ length c.self.inside.besides.items + length c.args.fresh.items = length-append c.self.inside.besides.items c.args.fresh.items in
+    record { there = omega arith }
+
+pub end-requires-clause-there : goal.end-requires-clause-there
+end-requires-clause-there g c =
+    sym (open_dressed c.self.inside.tree.rows c.self.inside.besides.items c.args.n) ∙ ap (λ (t : Table). is_row is_open (slice_get t.rows c.args.n)) c.self.view_is ∙ c.requires.open_yet
+
+pub end-requires-clause-next : goal.end-requires-clause-next
+end-requires-clause-next g c =
+    c.requires.first ∙ sym (ap (λ (t : Table). length t.rows) c.self.view_is) ∙ length-dressed c.self.inside.tree.rows c.self.inside.besides.items
+
+pub invariant_of-self-2 : goal.invariant_of-self-2
+invariant_of-self-2 g c =
+    let there : is_row is_open (slice_get c.self.inside.tree.rows c.args.n) ≡ true =
+    sym (open_dressed c.self.inside.tree.rows c.self.inside.besides.items c.args.n) ∙ ap (λ (t : Table). is_row is_open (slice_get t.rows c.args.n)) c.self.view_is ∙ c.requires.open_yet in
+    let lt : c.args.n < length c.self.inside.tree.rows = row_within is_open c.self.inside.tree.rows c.args.n there in
+    let each : length c.self.inside.besides.items ≡ length c.self.inside.tree.rows = c.self.invariant.each in
+    let within : c.args.n < length c.self.inside.besides.items = omega arith in
+    let same : length c.args.self.now.rows ≡ length c.self.inside.tree.rows = sym (ap (λ (t : Table). length t.rows) c.self.view_is) ∙ length-dressed c.self.inside.tree.rows c.self.inside.besides.items in
+    let whole : c.append.new.self.items ≡ c.self.inside.besides.items ++ c.args.fresh.items = c.in_ok-append.ensures.items in
+    let few : length c.args.self.now.rows + length c.args.below.seats ≤ most_targets = c.requires.few in
+    fork_same (with_state c.self.inside.tree.rows c.args.n (Ended (end_of c.args.end [] [])) ++ map (seated (Some c.args.n)) c.args.below.seats) c.end.new.self.rows
+    (with_beside (c.self.inside.besides.items ++ c.args.fresh.items) c.args.n c.args.stored.0.items c.args.stored.1.items) c.store_at.new.besides.items
+    (c.self.inside.succeeded || accepts_end c.args.end) c.succeeds-succeeded.result
+    (ap (λ (t : Tree). t.rows) c.end.ensures)
+    (c.store_at.ensures ∙ ap (λ (bs : List Beside). with_beside bs c.args.n c.args.stored.0.items c.args.stored.1.items) whole)
+    c.succeeds-succeeded.ensures
+    (fork_ended c.self.inside.tree.rows c.self.inside.besides.items c.args.fresh.items c.self.inside.succeeded c.args.n c.args.end c.args.stored.0.items c.args.stored.1.items c.args.below.seats
+    c.self.invariant there c.requires.each (omega arith) within)
+
+pub returns-clause-ok : goal.returns-clause-ok
+returns-clause-ok g c =
+    let there : is_row is_open (slice_get c.self.inside.tree.rows c.args.n) ≡ true =
+    sym (open_dressed c.self.inside.tree.rows c.self.inside.besides.items c.args.n) ∙ ap (λ (t : Table). is_row is_open (slice_get t.rows c.args.n)) c.self.view_is ∙ c.requires.open_yet in
+    let lt : c.args.n < length c.self.inside.tree.rows = row_within is_open c.self.inside.tree.rows c.args.n there in
+    let each : length c.self.inside.besides.items ≡ length c.self.inside.tree.rows = c.self.invariant.each in
+    let within : c.args.n < length c.self.inside.besides.items = omega arith in
+    let same : length c.args.self.now.rows ≡ length c.self.inside.tree.rows = sym (ap (λ (t : Table). length t.rows) c.self.view_is) ∙ length-dressed c.self.inside.tree.rows c.self.inside.besides.items in
+    let whole : c.append.new.self.items ≡ c.self.inside.besides.items ++ c.args.fresh.items = c.in_ok-append.ensures.items in
+    let left = c.args.stored.0.items in
+    let challenges = c.args.stored.1.items in
+    let more : List Row = map (seated (Some c.args.n)) c.args.below.seats in
+    let view : Tree → Table = λ (t : Tree). record { kind = kind_of c.self.inside.kind; rules = t.rules; closed = c.self.inside.closed; rows = dressed t.rows c.store_at.new.besides.items } in
+    let with_rows : List Row → Table = λ (rows : List Row). record { kind = kind_of c.self.inside.kind; rules = c.self.inside.tree.rules; closed = c.self.inside.closed; rows = rows } in
+    let after : Table → Table = λ (t : Table). record t { rows = with_state t.rows c.args.n (Ended (end_of c.args.end left challenges)) ++ dressed more c.args.fresh.items } in
+    ap view c.end.ensures
+    ∙ ap (λ (bs : List Beside). with_rows (dressed (with_state c.self.inside.tree.rows c.args.n (Ended (end_of c.args.end [] [])) ++ more) bs))
+    (c.store_at.ensures ∙ ap (λ (bs : List Beside). with_beside bs c.args.n left challenges) whole)
+    ∙ ap with_rows (ended_rows c.self.inside.tree.rows more c.self.inside.besides.items c.args.fresh.items c.args.n c.args.end left challenges each within)
+    ∙ ap after c.self.view_is
+
+pub invariant_of-self : goal.invariant_of-self
+invariant_of-self g c =
+    let same : c.append.new.self.items ≡ c.self.inside.besides.items = c.in_err-append.ensures.items in
+    let Q : List Beside → Type 0 = λ bs. IsFork c.self.inside.tree.rows bs c.self.inside.succeeded in
+    subst Q (sym same) c.self.invariant

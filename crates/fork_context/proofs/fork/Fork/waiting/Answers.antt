@@ -1,0 +1,56 @@
+use Rattle.std.proofs.Common.{◌≡◌, ◌≤◌, ◌∙◌, sym, ap, subst, List, ℕ, false, length, map, arith, None}
+use Rattle.std.specs.List.{filter_map}
+use Rattle.fork_model.specs.Table.{Row, Rules, Table, most_targets}
+use Rattle.fork_model.specs.Groups.{numbered}
+use Rattle.fork_tree.specs.Tree.{Tree}
+use Rattle.fork_tree.specs.Seats.{seated, seats_of}
+use Rattle.fork_context.specs.Dressed.{Beside, dressed, q_of_pair}
+use Rattle.fork_context.specs.ForkInside.{IsFork}
+use Rattle.fork_context.specs.KindView.{kind_of}
+use Rattle.fork_context.specs.Opening.{target_beside}
+use Rattle.fork_context.proofs.OpeningFork.{target_qs, target_seats, opening_dressed, opening_fork, length_ordered}
+use Rattle.fork_context.proofs.fork.Fork.waiting.Goals as goal
+
+pub new-requires : goal.new-requires
+new-requires g c =
+    let targets = c.args.targets.now in
+    let qs : c.deref.result.now ≡ target_qs targets = c.deref.ensures.value ∙ c.in_ok-qs.ensures in
+    let again : c.deref-2.result.now ≡ target_qs targets = c.deref-2.ensures.value ∙ c.in_ok-qs.ensures in
+    let order : c.deref-3.result.now ≡ numbered (target_qs targets) = c.deref-3.ensures.value ∙ c.in_ok-order.ensures ∙ ap numbered qs in
+    let ordered : c.deref-4.result.now ≡ map (q_of_pair (target_qs targets)) (numbered (target_qs targets)) =
+    c.deref-4.ensures.value ∙ c.in_ok-qs_at.ensures ∙ (λ i. map (q_of_pair (again i)) (order i)) in
+    let long : length c.deref-4.result.now ≡ length targets = ap (λ (vs : List ℕ). length vs) ordered ∙ length_ordered targets in
+    let few : length targets ≤ most_targets = c.requires.few in
+    record { few = omega arith }
+
+pub of-requires : goal.of-requires
+of-requires g c =
+    let targets = c.args.targets.now in
+    let qs : c.deref.result.now ≡ target_qs targets = c.deref.ensures.value ∙ c.in_ok-qs.ensures in
+    let again : c.deref-2.result.now ≡ target_qs targets = c.deref-2.ensures.value ∙ c.in_ok-qs.ensures in
+    let order : c.deref-3.result.now ≡ numbered (target_qs targets) = c.deref-3.ensures.value ∙ c.in_ok-order.ensures ∙ ap numbered qs in
+    let ordered : c.deref-4.result.now ≡ map (q_of_pair (target_qs targets)) (numbered (target_qs targets)) =
+    c.deref-4.ensures.value ∙ c.in_ok-qs_at.ensures ∙ (λ i. map (q_of_pair (again i)) (order i)) in
+    let rows : c.in_ok-tree.tree.rows ≡ map (seated None) (target_seats targets) =
+    ap (λ (t : Tree). t.rows) c.in_ok-tree.ensures ∙ ap (λ (vs : List ℕ). map (seated None) (seats_of vs)) ordered in
+    let besides : c.in_ok-besides.besides.items ≡ filter_map (target_beside targets) (numbered (target_qs targets)) =
+    c.in_ok-besides.ensures ∙ ap (filter_map (target_beside targets)) (c.deref-5.ensures.value ∙ c.in_ok-order.ensures ∙ ap numbered qs) in
+    let P : List Row → Type 0 = λ rs. IsFork rs (filter_map (target_beside targets) (numbered (target_qs targets))) false in
+    let Q : List Beside → Type 0 = λ bs. IsFork c.in_ok-tree.tree.rows bs false in
+    subst Q (sym besides) (subst P (sym rows) (opening_fork targets c.requires.few))
+
+pub returns : goal.returns
+returns g c =
+    let targets = c.args.targets.now in
+    let qs : c.deref.result.now ≡ target_qs targets = c.deref.ensures.value ∙ c.in_ok-qs.ensures in
+    let again : c.deref-2.result.now ≡ target_qs targets = c.deref-2.ensures.value ∙ c.in_ok-qs.ensures in
+    let order : c.deref-3.result.now ≡ numbered (target_qs targets) = c.deref-3.ensures.value ∙ c.in_ok-order.ensures ∙ ap numbered qs in
+    let ordered : c.deref-4.result.now ≡ map (q_of_pair (target_qs targets)) (numbered (target_qs targets)) =
+    c.deref-4.ensures.value ∙ c.in_ok-qs_at.ensures ∙ (λ i. map (q_of_pair (again i)) (order i)) in
+    let rules : c.in_ok-tree.tree.rules ≡ c.args.rules = ap (λ (t : Tree). t.rules) c.in_ok-tree.ensures in
+    let rows : c.in_ok-tree.tree.rows ≡ map (seated None) (target_seats targets) =
+    ap (λ (t : Tree). t.rows) c.in_ok-tree.ensures ∙ ap (λ (vs : List ℕ). map (seated None) (seats_of vs)) ordered in
+    let besides : c.in_ok-besides.besides.items ≡ filter_map (target_beside targets) (numbered (target_qs targets)) =
+    c.in_ok-besides.ensures ∙ ap (filter_map (target_beside targets)) (c.deref-5.ensures.value ∙ c.in_ok-order.ensures ∙ ap numbered qs) in
+    let of_rows : Rules → List Row → Table = λ (rs : Rules) (xs : List Row). record { kind = kind_of c.args.kind; rules = rs; closed = false; rows = xs } in
+    c.of.ensures ∙ (λ i. of_rows (rules i) (dressed (rows i) (besides i))) ∙ ap (of_rows c.args.rules) (opening_dressed targets)

@@ -1,0 +1,7 @@
+use Rattle.std.proofs.Common.{◌≡◌, ◌≤◌}
+use Rattle.std.specs.Prelude.{vec_capacity}
+use Rattle.fork_context.specs.Ready.{numbers_from}
+use Rattle.fork_context.proofs.fork.push_numbers.Given as goal
+
+abbrev pub invariant-loop-n : goal.invariant-loop-n
+invariant-loop-n g l = (l.numbers.items ≡ numbers_from l.first l.n) × (l.count ≤ vec_capacity l.numbers)

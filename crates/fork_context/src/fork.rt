@@ -1,0 +1,460 @@
+//! The table of a fork, its rows kept in a tree.
+ghost use Rattle.std.specs.Prelude.{◌≡◌, ◌≤◌, ◌+◌, ◌++◌, ◌&&◌, ◌||◌, ℕ, true, false, [], Some, length, map, filter, nat_eq, slice_get, vec_capacity, IfOk, OnOk, OnErr, IfSome, IfNone};
+ghost use Rattle.std.specs.List.{list_any};
+ghost use Rattle.std.specs.Cmp.Lexicographic.{pointwise};
+ghost use Rattle.std.specs.Option.{option_map, option_copied, option_and_then};
+ghost use Rattle.fork_model.specs.Table.{Row, Rung, Ended, is_row, is_trying, is_open, is_accepted, is_finished, is_succeeded, is_invite, most_targets};
+ghost use Rattle.fork_model.specs.Step.{with_state, with_effect};
+ghost use Rattle.fork_context.specs.Placed.{may_go};
+ghost use Rattle.fork_model.specs.Choice.{IsChoice, stored_at};
+ghost use Rattle.fork_model.specs.Groups.{numbers_below};
+ghost use Rattle.fork_model.specs.Waiting.{may_start, line_from, parent_row};
+ghost use Rattle.fork_tree.specs.Below.{parent_of};
+ghost use Rattle.fork_tree.specs.Tree.{is_uncancelled};
+ghost use Rattle.fork_tree.specs.States.{end_of, IsFinalEnd};
+ghost use Rattle.fork_tree.specs.Seats.{seated};
+ghost use Rattle.fork_context.specs.Closing.{never_row, closed_row, is_ringing, cancel_row, gets_cancel};
+ghost use Rattle.fork_context.specs.Dressed.{dressed};
+ghost use Rattle.fork_context.specs.ForkInside.{IsFork, accepts_end};
+ghost use Rattle.fork_context.specs.KindView.{kind_of};
+ghost use Rattle.fork_context.specs.LeftView.{left_of};
+ghost use Rattle.fork_tree.specs.Ready.{IsReady, tried};
+ghost use Rattle.fork_context.specs.Ready.{Starts, numbers_from};
+ghost use Rattle.fork_context.specs.ReplyView.{choice_of};
+ghost use Rattle.fork_context.specs.RowShown.{row_shown, ref_shown};
+
+use crate::beside::{Beside, store_at};
+use crate::challenges::{StoredAnswer, stored_answer};
+use crate::effect::Effect;
+use crate::event::Offer;
+use crate::kind::Kind;
+use crate::reply::Choice;
+use crate::row::RowView;
+use fork_rank::{Challenge, Rules};
+use fork_tree::{End, ForkTree, Level, RowRef, State};
+use std::alloc::{AllocError, Allocator, Global};
+use std::marker::Model;
+
+/// A row for each target, the row's number being its place; once closed, no further group starts.
+#[derive(Drop)]
+pub(crate) struct Fork<A: Allocator + Clone = Global> {
+    kind: Kind,
+    closed: bool,
+    succeeded: bool,
+    tree: ForkTree<A>,
+    besides: Vec<Beside<A>, A>,
+}
+
+impl<A: Allocator + Clone> Model for Fork<A> {
+    ghost use Rattle.fork_model.specs.Table as spec;
+    ghost use Rattle.fork_context.specs.Dressed.{dressed};
+    ghost use Rattle.fork_context.specs.ForkInside.{IsFork};
+    ghost use Rattle.fork_context.specs.KindView.{kind_of};
+
+    ghost Value = { spec.Table };
+
+    ghost view = { λ f. record { kind = kind_of f.kind; rules = f.tree.rules; closed = f.closed; rows = dressed f.tree.rows f.besides.items } };
+
+    ghost invariant = { λ f. IsFork f.tree.rows f.besides.items f.succeeded };
+}
+
+impl<A: Allocator + Clone> Fork<A> {
+    /// The open fork of these rows, with what stands beside each.
+    pub(crate) fn of(kind: Kind, tree: ForkTree<A>, besides: Vec<Beside<A>, A>) -> Fork<A>
+        requires { IsFork tree.rows besides.items false }
+        ensures { result ≡ record { kind = kind_of kind; rules = tree.rules; closed = false; rows = dressed tree.rows besides.items } }
+    {
+        Fork {
+            kind,
+            closed: false,
+            succeeded: false,
+            tree,
+            besides,
+        }
+    }
+
+    /// What is forked.
+    pub(crate) fn kind(&self) -> Kind
+        ensures { kind_of result ≡ self.now.kind }
+    {
+        self.kind
+    }
+
+    /// Whether an INVITE is forked, whose branches alone can be cancelled (RFC 3261 section 9.1).
+    pub(crate) fn is_invite(&self) -> bool
+        ensures { result ≡ is_invite self.now.kind }
+    {
+        matches!(self.kind, Kind::Invite)
+    }
+
+    /// The rules that it was made with.
+    pub(crate) fn rules(&self) -> Rules
+        ensures { result ≡ self.now.rules }
+    {
+        self.tree.rules()
+    }
+
+    /// Whether no further group starts.
+    pub(crate) fn closed(&self) -> bool
+        ensures { result ≡ self.now.closed }
+    {
+        self.closed
+    }
+
+    /// Whether some row was answered with a 2xx.
+    pub(crate) fn succeeded(&self) -> bool
+        ensures { result ≡ is_succeeded self.now.rows }
+    {
+        self.succeeded
+    }
+
+    /// Whether every row has ended.
+    pub(crate) fn finished(&self) -> bool
+        ensures { result ≡ is_finished self.now.rows }
+    {
+        self.tree.open_count() == 0
+    }
+
+    /// How many rows there are.
+    pub(crate) fn count(&self) -> u16
+        ensures value { result ≡ length self.now.rows }
+        ensures range { result ≤ most_targets }
+    {
+        self.tree.count()
+    }
+
+    /// Row n.
+    pub(crate) fn row(&self, n: u16) -> Option<RowRef>
+        ensures { result ≡ option_map (ref_shown n) (slice_get self.now.rows n) }
+    {
+        self.tree.row(n)
+    }
+
+    /// Whether there is such a row, and it was tried and has not ended.
+    pub(crate) fn is_open(&self, n: u16) -> bool
+        ensures { result ≡ is_row is_open (slice_get self.now.rows n) }
+    {
+        match self.row(n) {
+            Some(row) => matches!(row.state, State::Trying | State::Rung { .. }),
+            None => false,
+        }
+    }
+
+    /// Whether there is such a row, and it was answered with a 2xx.
+    pub(crate) fn is_accepted(&self, n: u16) -> bool
+        ensures { result ≡ is_row is_accepted (slice_get self.now.rows n) }
+    {
+        match self.row(n) {
+            Some(row) => matches!(row.state, State::Ended(End::Accepted { .. })),
+            None => false,
+        }
+    }
+
+    /// What goes up once every branch has ended: the first of the stored answers, a 500 in place of a 503, a 408 where
+    /// nothing is stored.
+    pub(crate) fn choice(&self) -> Choice
+        ensures { IsChoice self.now.rules self.now.rows (choice_of result) }
+    {
+        match self.tree.best() {
+            None => Choice::NoAnswer408,
+            Some(first) => {
+                if first.status.code() == 503 {
+                    Choice::Only503(first.no)
+                } else {
+                    Choice::Stored(first.no)
+                }
+            }
+        }
+    }
+
+    /// Row n as a caller sees it.
+    pub(crate) fn look(&self, n: u16) -> Option<RowView>
+        ensures { result ≡ option_map (row_shown n) (slice_get self.now.rows n) }
+    {
+        let row = self.tree.row(n)?;
+        let beside = beside_at(&self.besides, n)?;
+        Some(RowView {
+            row,
+            place: beside.place(),
+        })
+    }
+
+    /// The answer stored in row n, if there is one.
+    pub(crate) fn answer(&self, n: u16) -> Option<StoredAnswer<'_, A>>
+        ensures { result ≡ stored_at (slice_get self.now.rows n) }
+    {
+        let row = self.tree.row(n)?;
+        stored_answer(&row, beside_at(&self.besides, n)?)
+    }
+
+    /// The contacts left of the 3xx that row n was answered with and that is stored.
+    pub(crate) fn left(&self, n: u16) -> Option<&[Offer<A>]>
+        ensures { option_copied result ≡ option_and_then left_of (slice_get self.now.rows n) }
+    {
+        self.answer(n)?.redirects()
+    }
+
+    /// What stands beside row n.
+    fn beside(&self, n: u16) -> Option<&Beside<A>>
+        ensures { option_map (λ b. b.key) (option_copied result) ≡ option_map (λ row. row.key) (slice_get self.now.rows n) }
+    {
+        beside_at(&self.besides, n)
+    }
+
+    /// What identifies the target of row n.
+    pub(crate) fn key(&self, n: u16) -> Option<&[u8]>
+        ensures { option_copied result ≡ option_map (λ row. row.key) (slice_get self.now.rows n) }
+    {
+        Some(self.beside(n)?.key())
+    }
+
+    /// Row n, which was tried and has not rung, has rung.
+    pub(crate) fn ring(&mut self, n: u16)
+        requires tried { is_row is_trying (slice_get self.old.rows n) ≡ true }
+        ensures { self.new ≡ record self.old { rows = with_state self.old.rows n (Rung false) } }
+    {
+        self.tree.ring(n);
+    }
+
+    /// The CANCEL of row n, which has rung, is sent.
+    pub(crate) fn mark_cancel(&mut self, n: u16)
+        requires rang { is_row is_uncancelled (slice_get self.old.rows n) ≡ true }
+        ensures { self.new ≡ record self.old { rows = with_state self.old.rows n (Rung true) } }
+    {
+        self.tree.mark_cancel(n);
+    }
+
+    /// No row that waits is ever tried.
+    pub(crate) fn close(&mut self)
+        ensures { self.new ≡ record self.old { closed = true; rows = map never_row self.old.rows } }
+    {
+        self.tree.close();
+        self.closed = true;
+    }
+
+    /// Some group that may start is tried: its first number, and how many rows it has. None exactly where none may.
+    pub(crate) fn start_ready(&mut self) -> Option<(u16, u16)>
+        ensures none { IfNone result ((self.new ≡ self.old) × ((k : ℕ) (row : Row) → slice_get self.old.rows k ≡ Some row → may_start self.old.rows row ≡ false)) }
+        ensures some { IfSome result (λ g. IsReady self.old.rows g.0 g.1 × (self.new ≡ record self.old { rows = tried self.old.rows g.0 g.1 })) }
+        ensures range { IfSome result (λ g. g.0 + g.1 ≤ most_targets) }
+    {
+        self.tree.start_ready()
+    }
+
+    /// Whether some row has this key.
+    pub(crate) fn has_key(&self, key: &[u8]) -> bool
+        ensures { result ≡ list_any (λ row. pointwise nat_eq key.now row.key) self.now.rows }
+    {
+        has_key(&self.besides, key)
+    }
+
+    /// How many rows stand in the line that begins at this one, within so many steps.
+    fn line_len(&self, steps: u16, n: Option<u16>) -> u16
+        ensures value { result ≡ length (line_from steps self.now.rows (parent_row self.now.rows n)) }
+        ensures few { result ≤ steps }
+    {
+        if steps == 0 {
+            return 0;
+        }
+        let Some(n) = n else {
+            return 0;
+        };
+        if n >= self.count() {
+            return 0;
+        }
+        1 + self.line_len(steps - 1, self.parent(n))
+    }
+
+    /// The number of the row that row n stands under, if it is one that stands under another.
+    fn parent(&self, n: u16) -> Option<u16>
+        ensures { result ≡ parent_of (slice_get self.now.rows n) }
+    {
+        self.tree.parent(n)
+    }
+
+    /// How many rows stand above one under this parent.
+    pub(crate) fn depth(&self, parent: Option<u16>) -> u16
+        ensures { result ≡ length (line_from (length self.now.rows) self.now.rows (parent_row self.now.rows parent)) }
+    {
+        self.line_len(self.count(), parent)
+    }
+
+    /// A level without rows.
+    pub(crate) fn no_level(&self, alloc: &A) -> Result<Level<A>, AllocError>
+        ensures { IfOk result (λ level. level ≡ record { first = length self.now.rows; seats = [] }) }
+    {
+        Level::idle(alloc.clone()?, self.count(), &[])
+    }
+
+    /// Row n, which is open, has ended, with these contacts left and these challenges; the rows of the level come below
+    /// it, each with what stands beside it.
+    ///
+    /// # Errors
+    ///
+    /// Only where the allocator refuses; then the fork is as it was.
+    pub(crate) fn end(
+        &mut self,
+        n: u16,
+        end: End,
+        stored: (Vec<Offer<A>, A>, Vec<Challenge<A>, A>),
+        below: Level<A>,
+        mut fresh: Vec<Beside<A>, A>,
+    ) -> Result<(), AllocError>
+        requires open_yet { is_row is_open (slice_get self.old.rows n) ≡ true }
+        requires final_status { IsFinalEnd end }
+        requires first { below.first ≡ length self.old.rows }
+        requires each { length fresh.items ≡ length below.seats }
+        requires few { length self.old.rows + length below.seats ≤ most_targets }
+        ensures ok { OnOk result (self.new ≡ record self.old { rows = with_state self.old.rows n (Ended (end_of end stored.0.items stored.1.items)) ++ dressed (map (seated (Some n)) below.seats) fresh.items }) }
+        ensures err { OnErr result (self.new ≡ self.old) }
+    {
+        let succeeded = succeeds(self.succeeded, &end);
+        self.besides.append(&mut fresh)?;
+        let (left, challenges) = stored;
+        store_at(&mut self.besides, n, left, challenges);
+        self.tree.end(n, end, below);
+        self.succeeded = succeeded;
+        Ok(())
+    }
+
+    /// The effect on its row: the row goes on, and new rows come below it.
+    ///
+    /// # Errors
+    ///
+    /// Only where the allocator refuses; then the fork is as it was.
+    pub(crate) fn apply(&mut self, effect: Effect<A>) -> Result<(), AllocError>
+        requires goes { is_row (λ s. may_go s effect.effect.state) (slice_get self.old.rows effect.n) ≡ true }
+        requires first { effect.first ≡ length self.old.rows }
+        requires few { length self.old.rows + length effect.effect.fresh ≤ most_targets }
+        ensures ok { OnOk result (self.new ≡ with_effect self.old effect.n effect.effect) }
+        ensures err { OnErr result (self.new ≡ self.old) }
+    {
+        let Effect {
+            n,
+            state,
+            left,
+            challenges,
+            below,
+            fresh,
+            closes,
+        } = effect;
+        match state {
+            State::Rung { cancelled } => self.go_on(n, cancelled),
+            State::Ended(end) => {
+                self.end(n, end, (left, challenges), below, fresh)?;
+                self.closed = closes_with(self.closed, closes);
+            }
+            State::Idle => {}
+            State::Trying => {}
+        }
+        Ok(())
+    }
+
+    /// Row n, which was tried, has rung; or its CANCEL is sent, once it has.
+    fn go_on(&mut self, n: u16, cancelled: bool)
+        requires goes { is_row (λ s. may_go s (Rung cancelled)) (slice_get self.old.rows n) ≡ true }
+        ensures { self.new ≡ record self.old { rows = with_state self.old.rows n (Rung cancelled) } }
+    {
+        if cancelled {
+            self.mark_cancel(n);
+        } else {
+            self.ring(n);
+        }
+    }
+
+    /// Whether row n gets its CANCEL once the table is closed: it has rung, no CANCEL was sent, and the request is an
+    /// INVITE.
+    pub(crate) fn gets_cancel(&self, n: u16) -> bool
+        ensures { result ≡ (is_row is_ringing (slice_get self.now.rows n) && is_invite self.now.kind) }
+    {
+        self.is_ringing(n) && self.is_invite()
+    }
+
+    /// Whether row n has rung, and no CANCEL was sent.
+    fn is_ringing(&self, n: u16) -> bool
+        ensures { result ≡ is_row is_ringing (slice_get self.now.rows n) }
+    {
+        match self.row(n) {
+            Some(row) => matches!(row.state, State::Rung { cancelled: false }),
+            None => false,
+        }
+    }
+
+    /// Each row that has rung gets its CANCEL, where the request is an INVITE; their numbers.
+    fn cancel_rung(&mut self, cancelled: &mut Vec<u16, A>)
+        requires none { cancelled.old.items ≡ [] }
+        requires room { length self.old.rows ≤ vec_capacity cancelled.old }
+        ensures rows { self.new ≡ record self.old { rows = map (cancel_row self.old.kind) self.old.rows } }
+        ensures numbers { cancelled.new.items ≡ filter (gets_cancel self.old.kind self.old.rows) (numbers_below (length self.old.rows)) }
+    {
+        for n in 0..self.count() {
+            if self.gets_cancel(n) {
+                self.mark_cancel(n);
+                cancelled.push_reserved(n);
+            }
+        }
+    }
+
+    /// The table closes: no row that waits is ever tried, and in an INVITE each that has rung gets its CANCEL; the
+    /// numbers of those.
+    pub(crate) fn shut(&mut self, cancelled: &mut Vec<u16, A>)
+        requires none { cancelled.old.items ≡ [] }
+        requires room { length self.old.rows ≤ vec_capacity cancelled.old }
+        ensures rows { self.new ≡ record self.old { closed = true; rows = map (closed_row self.old.kind) self.old.rows } }
+        ensures numbers { cancelled.new.items ≡ filter (gets_cancel self.old.kind self.old.rows) (numbers_below (length self.old.rows)) }
+    {
+        self.close();
+        self.cancel_rung(cancelled);
+    }
+
+    /// Some group that may start is tried; the numbers of its rows.
+    pub(crate) fn start(&mut self, started: &mut Vec<u16, A>)
+        requires none { started.old.items ≡ [] }
+        requires room { length self.old.rows ≤ vec_capacity started.old }
+        ensures { Starts self.old self.new started.new.items }
+    {
+        if let Some((first, count)) = self.start_ready() {
+            push_numbers(started, first, count);
+        }
+    }
+}
+
+/// Adds so many numbers, from the first on.
+fn push_numbers<A: Allocator>(numbers: &mut Vec<u16, A>, first: u16, count: u16)
+    requires none { numbers.old.items ≡ [] }
+    requires fits { first + count ≤ most_targets }
+    requires room { count ≤ vec_capacity numbers.old }
+    ensures { numbers.new.items ≡ numbers_from first count }
+{
+    for n in 0..count {
+        numbers.push_reserved(first + n);
+    }
+}
+
+/// Whether one of these is the key.
+fn has_key<A: Allocator>(besides: &[Beside<A>], key: &[u8]) -> bool
+    ensures { result ≡ list_any (λ beside. pointwise nat_eq key.now beside.key) besides.now }
+{
+    besides.iter().any(|beside| key == beside.key())
+}
+
+/// Whether a 2xx has come, where one had before, or this is the end by one.
+fn succeeds(before: bool, end: &End) -> bool
+    ensures { result ≡ (before || accepts_end end.now) }
+{
+    before || matches!(end, End::Accepted { .. })
+}
+
+/// Whether a table is closed, where it was before, or this closes it.
+fn closes_with(before: bool, closes: bool) -> bool
+    ensures { result ≡ (before || closes) }
+{
+    before || closes
+}
+
+/// What stands beside row n.
+fn beside_at<A: Allocator>(besides: &[Beside<A>], n: u16) -> Option<&Beside<A>>
+    ensures { option_copied result ≡ slice_get besides.now n }
+{
+    besides.get(n as usize)
+}

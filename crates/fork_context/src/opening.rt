@@ -1,0 +1,130 @@
+//! The fork that a request opens with (RFC 3261 section 16.6).
+ghost use Rattle.std.specs.Prelude.{◌≡◌, ◌≤◌, ◌↔◌, ◌++◌, IsTrue, length, map, nat_eq, IfOk, OnOk};
+ghost use Rattle.std.specs.List.{filter_map, list_any};
+ghost use Rattle.std.specs.Option.{option_to_list};
+ghost use Rattle.std.specs.Cmp.Lexicographic.{pointwise};
+ghost use Rattle.fork_model.specs.Table.{most_targets};
+ghost use Rattle.fork_model.specs.History as history;
+ghost use Rattle.fork_context.specs.KindView.{kind_of};
+ghost use Rattle.fork_context.specs.Opening.{beside_target, target_beside, waiting_table};
+ghost use Rattle.fork_context.specs.Refusals.{HasTwice};
+
+use crate::below::qs_at;
+use crate::beside::Beside;
+use crate::event::Target;
+use crate::fork::Fork;
+use crate::kind::Kind;
+use crate::order::numbered;
+use fork_rank::Rules;
+use fork_tree::ForkTree;
+use std::alloc::{AllocError, Allocator};
+
+/// Whether two of the targets have one key.
+pub(crate) fn has_twice<A: Allocator>(targets: &[Target<A>]) -> bool
+    ensures { IsTrue result ↔ HasTwice targets.now }
+{
+    for n in 0..targets.len() {
+        if has_key(&targets[..n], targets[n].key()) {
+            return true;
+        }
+    }
+    false
+}
+
+fn has_key<A: Allocator>(targets: &[Target<A>], key: &[u8]) -> bool
+    ensures { result ≡ list_any (λ target. pointwise nat_eq key.now target.key) targets.now }
+{
+    targets.iter().any(|target| key == target.key())
+}
+
+fn qs_of<A: Allocator + Clone>(alloc: &A, targets: &[Target<A>]) -> Result<Vec<u16, A>, AllocError>
+    ensures { IfOk result (λ qs. qs.items ≡ map (λ target. target.q) targets.now) }
+{
+    let mut qs = Vec::new(alloc.clone()?);
+    for target in targets {
+        qs.push(target.q())?;
+    }
+    Ok(qs)
+}
+
+/// What stands beside the row of the target at this place.
+fn beside_target<A: Allocator + Clone>(
+    alloc: &A,
+    place: u16,
+    target: &Target<A>,
+) -> Result<Beside<A>, AllocError>
+    ensures { IfOk result (λ beside. beside ≡ beside_target place target.now) }
+{
+    Ok(Beside {
+        key: target.key().to_vec(alloc.clone()?)?,
+        place: place as usize,
+        left: Vec::new(alloc.clone()?),
+        challenges: Vec::new(alloc.clone()?),
+    })
+}
+
+/// Adds what stands beside the row of the target at this place, if there is one.
+fn push_beside<A: Allocator + Clone>(
+    alloc: &A,
+    besides: &mut Vec<Beside<A>, A>,
+    targets: &[Target<A>],
+    group: u16,
+    place: u16,
+) -> Result<(), AllocError>
+    ensures { OnOk result (besides.new.items ≡ besides.old.items ++ option_to_list (target_beside targets.now (group, place))) }
+{
+    match targets.get(place as usize) {
+        Some(target) => besides.push(beside_target(alloc, place, target)?)?,
+        None => {}
+    }
+    Ok(())
+}
+
+/// What stands beside the rows of the targets at these places.
+fn besides_of<A: Allocator + Clone>(
+    alloc: &A,
+    targets: &[Target<A>],
+    order: &[(u16, u16)],
+) -> Result<Vec<Beside<A>, A>, AllocError>
+    ensures { IfOk result (λ besides. besides.items ≡ filter_map (target_beside targets.now) order.now) }
+{
+    let mut besides = Vec::new(alloc.clone()?);
+    for &(group, place) in order.iter() {
+        push_beside(alloc, &mut besides, targets, group, place)?;
+    }
+    Ok(besides)
+}
+
+impl<A: Allocator + Clone> Fork<A> {
+    /// The fork of these targets, the first group of which is tried at once; the only error is want of memory.
+    pub(crate) fn opening(
+        alloc: &A,
+        kind: Kind,
+        rules: Rules,
+        targets: &[Target<A>],
+    ) -> Result<Fork<A>, AllocError>
+        requires few { length targets.now ≤ most_targets }
+        ensures { IfOk result (λ fork. fork ≡ history.opening (kind_of kind) rules targets.now) }
+    {
+        let mut fork = Fork::waiting(alloc, kind, rules, targets)?;
+        fork.start_ready();
+        Ok(fork)
+    }
+
+    /// The fork of these targets, all of which wait.
+    fn waiting(
+        alloc: &A,
+        kind: Kind,
+        rules: Rules,
+        targets: &[Target<A>],
+    ) -> Result<Fork<A>, AllocError>
+        requires few { length targets.now ≤ most_targets }
+        ensures { IfOk result (λ fork. fork ≡ waiting_table (kind_of kind) rules targets.now) }
+    {
+        let qs = qs_of(alloc, targets)?;
+        let order = numbered(alloc, &qs)?;
+        let tree = ForkTree::new(alloc.clone()?, rules, &qs_at(alloc, &qs, &order)?)?;
+        let besides = besides_of(alloc, targets, &order)?;
+        Ok(Fork::of(kind, tree, besides))
+    }
+}
