@@ -4,7 +4,7 @@ use crate::plain::reply::reply;
 use crate::plain::step::next;
 use crate::table::Table;
 use crate::{Answer, Context, Event, Kind, Offer, Reply, Target};
-use fork_rank::{Challenge, RingStatus, Rules, Status};
+use fork_rank::{Challenge, MOST_TARGETS, RingStatus, Rules, Status};
 use std::test::Fail;
 
 /// Numbers that look random, the same in each run.
@@ -23,7 +23,8 @@ impl Dice {
     }
 
     fn pick(&mut self, list: &[u16]) -> u16 {
-        let place = self.roll(list.len() as u32) as usize;
+        let sides = u32::try_from(list.len()).unwrap_or(1);
+        let place = self.roll(sides) as usize;
         list.get(place).copied().unwrap_or(0)
     }
 }
@@ -69,7 +70,7 @@ fn answer(rt: &HostRuntime, dice: &mut Dice) -> Result<Answer, Fail> {
 
 /// What happens next to a fork of so many rows; now and then it names a row that is not there.
 fn event(rt: &HostRuntime, dice: &mut Dice, rows: u16) -> Result<Event, Fail> {
-    let n = dice.roll(u32::from(rows).saturating_add(1)) as u16;
+    let n = u16::try_from(dice.roll(u32::from(rows).saturating_add(1))).unwrap_or(0);
     Ok(match dice.roll(24) {
         0..4 => {
             let code = dice.pick(&[100, 180, 183]);
@@ -138,6 +139,9 @@ fn same_tables(fork: &Context, table: &Table) -> bool {
 fn goes_the_same(rt: &HostRuntime, seed: u32, kind: Kind, steps: u32) -> Result<u16, Fail> {
     let mut dice = Dice { state: seed };
     let list = targets(rt, &mut dice)?;
+    if list.len() > MOST_TARGETS as usize {
+        return Err(Fail::from("there are too many"));
+    }
     let mut table = opening(&rt.alloc(), kind, Rules::usual(), &list)?;
     let mut fork = Context::new(rt.alloc(), kind, Rules::usual(), list)?;
     for at in 0..steps {
