@@ -147,6 +147,9 @@ fn goes_the_same(rt: &HostRuntime, seed: u32, kind: Kind, steps: u32) -> Result<
     for at in 0..steps {
         let event = event(rt, &mut dice, fork.count())?;
         let after = next(&rt.alloc(), &table, &event, at)?;
+        if after.count() > MOST_TARGETS as usize {
+            return Err(Fail::from("there are too many rows"));
+        }
         let plain = reply(&rt.alloc(), &table, &event, at, &after)?;
         let told = fork.post(event)?;
         table = after;
