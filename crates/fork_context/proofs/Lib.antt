@@ -1,10 +1,8 @@
 pub mod KeySteps
-pub mod OpeningSteps
 pub mod NumberSteps
 pub mod GroupSteps
 pub mod SoundSteps
 pub mod PlainContacts
-pub mod PlainLists
 pub mod BareRows
 pub mod Settling
 pub mod Numbers
@@ -30,9 +28,6 @@ pub mod OpeningFork
 pub mod ForkReads
 pub mod FreshIdle
 pub mod Strays
-pub mod BestSteps
-pub mod PlainStep
-pub mod PlainWaiting
 pub mod Applied
 pub mod Lines
 pub mod Applies

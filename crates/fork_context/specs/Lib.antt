@@ -1,11 +1,7 @@
 pub mod KindView
 pub mod EventView
-pub mod Inside
 pub mod RowShown
 pub mod ReplyView
-pub mod Best
-pub mod MarkView
-pub mod OpeningRow
 pub mod LeftView
 pub mod Sound
 pub mod PlainTaking

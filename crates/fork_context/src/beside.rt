@@ -2,7 +2,7 @@
 ghost use Rattle.std.specs.Prelude.{◌≡◌, ◌<◌, length};
 ghost use Rattle.fork_context.specs.Dressed.{with_beside};
 
-use crate::event::Offer;
+use crate::offer::Offer;
 use fork_rank::Challenge;
 use std::alloc::{Allocator, Global};
 use std::marker::Model;

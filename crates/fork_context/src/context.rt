@@ -16,9 +16,10 @@ ghost use Rattle.fork_context.specs.ReplyView.{choice_of};
 ghost use Rattle.fork_context.specs.RowShown.{row_shown};
 
 use crate::challenges::challenge_list;
-use crate::event::{Event, Offer, Target};
+use crate::event::{Event, Target};
 use crate::fork::Fork;
 use crate::kind::Kind;
+use crate::offer::Offer;
 use crate::opening::has_twice;
 use crate::reply::{Choice, Reply};
 use crate::row::RowView;

@@ -1,7 +1,8 @@
 //! Equal values in memory of their own. Each function's only error is want of memory.
 ghost use Rattle.std.specs.Prelude.{◌≡◌, IfOk};
 
-use crate::event::{Answer, Event, Offer};
+use crate::event::{Answer, Event};
+use crate::offer::Offer;
 use fork_rank::Challenge;
 use std::alloc::{AllocError, Allocator};
 

@@ -1,7 +1,7 @@
 //! What may happen to a fork.
 ghost use Rattle.std.specs.Prelude.{◌≡◌, ◌++◌, ◌∷◌, [], OnOk, OnErr};
-ghost use Rattle.std.specs.Option.{option_map, option_copied};
 
+use crate::offer::Offer;
 use fork_rank::{Challenge, RingStatus, Status};
 use std::alloc::{AllocFailed, Allocator, Global};
 use std::marker::Model;
@@ -43,41 +43,6 @@ impl<A: Allocator> Target<A> {
         ensures { result ≡ self.now.q }
     {
         self.q
-    }
-}
-
-/// A contact of a 3xx as it came: its text, its q in thousandths, and a key where the proxy may try it.
-#[derive(Drop)]
-#[derive_where(Debug)]
-pub struct Offer<A: Allocator = Global> {
-    pub(crate) text: Vec<u8, A>,
-    pub(crate) q: u16,
-    pub(crate) key: Option<Vec<u8, A>>,
-}
-
-impl<A: Allocator> Model for Offer<A> {
-    ghost use Rattle.fork_model.specs.Table as spec;
-    ghost use Rattle.std.specs.Option.{option_map};
-
-    ghost Value = { spec.Offer };
-
-    ghost view = { λ o. record { text = o.text.items; q = o.q; key = option_map (λ v. v.items) o.key } };
-}
-
-impl<A: Allocator> Offer<A> {
-    /// A contact with this text and q; the key is that of the target it names, or None where the proxy
-    /// cannot try it.
-    pub fn new(text: Vec<u8, A>, q: u16, key: Option<Vec<u8, A>>) -> Self
-        ensures { result ≡ record { text = text.items; q = q; key = option_map (λ v. v.items) key } }
-    {
-        Offer { text, q, key }
-    }
-
-    /// The contact as it came.
-    pub fn text(&self) -> &[u8]
-        ensures { result.now ≡ self.now.text }
-    {
-        &self.text
     }
 }
 
@@ -137,6 +102,20 @@ impl<A: Allocator> Answer<A> {
         ensures err { OnErr result (self.new ≡ self.old) }
     {
         self.challenges.push(challenge)
+    }
+
+    /// Its contacts, in the order of the message.
+    pub fn offers(&self) -> &[Offer<A>]
+        ensures { result.now ≡ self.now.offers }
+    {
+        &self.offers
+    }
+
+    /// Its challenges, in the order of the message.
+    pub fn challenges(&self) -> &[Challenge<A>]
+        ensures { result.now ≡ self.now.challenges }
+    {
+        &self.challenges
     }
 
     /// Its status.

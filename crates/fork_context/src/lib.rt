@@ -11,18 +11,13 @@ mod effect;
 mod event;
 mod fork;
 mod kind;
+mod offer;
 mod opening;
 mod order;
-#[cfg(test)]
-mod plain;
 mod reply;
 mod row;
-#[cfg(test)]
-mod side_by_side;
 mod step;
 mod stray;
-#[cfg(test)]
-mod table;
 mod taking;
 #[cfg(test)]
 mod tests;
@@ -30,9 +25,10 @@ mod tests;
 mod walk;
 
 pub use context::{Context, NewFault, PostError};
-pub use event::{Answer, Event, Offer, Target};
+pub use event::{Answer, Event, Target};
 pub use fork_rank::Challenge;
 pub use fork_tree::{End, RowRef, State};
 pub use kind::Kind;
+pub use offer::Offer;
 pub use reply::{Choice, Reply, Up};
 pub use row::RowView;

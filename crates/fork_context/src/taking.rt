@@ -11,8 +11,8 @@ ghost use Rattle.fork_context.specs.StandIn.{tree_row};
 ghost use Rattle.fork_context.specs.PlainTaking.{keys_of_fresh, taken_more};
 
 use crate::copy::copied_offers;
-use crate::event::Offer;
 use crate::fork::Fork;
+use crate::offer::Offer;
 use fork_rank::MOST_TARGETS;
 use fork_tree::RowRef;
 use std::alloc::{AllocError, Allocator};

@@ -383,8 +383,12 @@ fn copies_do_what_their_events_do(rt: HostRuntime) -> Result<(), Fail> {
 fn an_answer_takes_contacts(rt: HostRuntime) -> Result<(), Fail> {
     let offer = Offer::new(b"<sip:b>".to_vec(rt.alloc())?, 1000, None).copy(&rt.alloc())?;
     assert_eq!(rt; offer.text(), b"<sip:b>".as_slice());
+    assert_eq!(rt; offer.q(), 1000);
+    assert!(rt; offer.key().is_none());
     let mut answer = Answer::new(status(302)?, Vec::new(rt.alloc()), Vec::new(rt.alloc()));
     answer.push_offer(offer)?;
+    assert_eq!(rt; answer.offers().len(), 1);
+    assert!(rt; answer.challenges().is_empty());
     let mut fork = context(&rt, Kind::Invite, &[(b"a", 1000)])?;
     posted(&mut fork, Event::Answer(0, answer.copy(&rt.alloc())?))?;
     let left = fork.left(0).ok_or("nothing is left")?;
