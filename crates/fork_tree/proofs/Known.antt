@@ -1,10 +1,10 @@
 -- What stays known of the groups that may start when rows change.
-use Rattle.std.proofs.Common.{◌≡◌, ℕ, zero, suc, ◌+◌, ◌<◌, ◌≤◌, ◌⊎◌, inl, inr, ◌&&◌, ◌||◌, Bool, true, false, not, IsTrue, List, [], ◌∷◌, ◌++◌, length, map, Option, Some, None, slice_get, refl, ap, sym, subst, ◌∙◌, arith, eqb-true, if◌then◌else◌}
-use Rattle.std.specs.Prelude.{◌==◌, eqb, nat_eq, nat_lt}
+use Rattle.std.proofs.Common.{◌≡◌, ℕ, zero, suc, ◌<◌, ◌⊎◌, inl, inr, ◌&&◌, Bool, true, false, not, IsTrue, List, [], ◌∷◌, ◌++◌, length, map, Option, Some, None, slice_get, refl, ap, sym, subst, ◌∙◌, arith, eqb-true, lt-ltb, if◌then◌else◌}
+use Rattle.std.specs.Prelude.{◌==◌, eqb, nat_eq, nat_lt, IfSome}
 use Rattle.std.specs.Option.{option_eq}
 use Rattle.std.specs.List.{list_any}
 use Rattle.std.proofs.lemmas.List.{append-nil}
-use Rattle.fork_model.specs.Table.{Row, State, End, Idle, Trying, Rung, Ended, Table, Other, is_idle, is_trying, is_open, is_ended, is_row}
+use Rattle.fork_model.specs.Table.{Row, State, Idle, Trying, Rung, Ended, Table, Other, is_idle, is_trying, is_open, is_ended, is_row}
 use Rattle.fork_model.specs.Step.{with_state}
 use Rattle.fork_model.specs.Steps.{IsLaterState}
 use Rattle.fork_model.specs.Waiting.{parent_row, line_from, same_group, in_earlier_group, goes_before, parent_ended, may_start}
@@ -25,16 +25,16 @@ use Rattle.fork_tree.specs.Closing.{never_tried, closed_row}
 use Rattle.fork_tree.specs.Ready.{IsReady, tried}
 use Rattle.fork_tree.specs.Search.{AreMates}
 use Rattle.fork_tree.specs.Tree.{is_unended}
-use Rattle.fork_tree.specs.Quiet.{NoneStarts, OneStarts, OneIsLast, ParentsEnded, IsQuiet, IsHeld, nothing_known}
+use Rattle.fork_tree.specs.Quiet.{NoneStarts, OneStarts, OneIsLast, ParentsEnded, IsPassed, IsNear, IsQuiet, IsHeld, nothing_known, without_row}
 use Rattle.fork_tree.proofs.Lines.{AreOlderRows, IsBefore, before_found, before_goes, or_cases, or_left, or_right}
 use Rattle.fork_tree.proofs.Placed.{ended_bare}
 use Rattle.fork_tree.proofs.Mates.{row_there, older_rows, at_place}
 use Rattle.fork_tree.proofs.Starting.{not_true}
 
-differ : (b : Bool) → b ≡ true → b ≡ false → ⊥
+pub differ : (b : Bool) → b ≡ true → b ≡ false → ⊥
 differ b e f = cc
 
-one_row : (rows : List Row) (k : ℕ) (a b : Row) → slice_get rows k ≡ Some a → slice_get rows k ≡ Some b → a ≡ b
+pub one_row : (rows : List Row) (k : ℕ) (a b : Row) → slice_get rows k ≡ Some a → slice_get rows k ≡ Some b → a ≡ b
 one_row rows k a b e f = let same : Some a ≡ Some b = sym e ∙ f in cc
 
 -- ---- mates
@@ -44,13 +44,13 @@ is_mate a b m =
     ap (λ (p : Option ℕ). option_eq nat_eq a.parent p && a.group == b.group) (sym m.0) ∙ ap (λ (g : ℕ). option_eq nat_eq a.parent a.parent && a.group == g) (sym m.1)
     ∙ same_group_refl a
 
-option_same : (a b : Option ℕ) → option_eq nat_eq a b ≡ true → a ≡ b
+pub option_same : (a b : Option ℕ) → option_eq nat_eq a b ≡ true → a ≡ b
 option_same None None e = refl
 option_same None (Some y) e = absurd cc
 option_same (Some x) None e = absurd cc
 option_same (Some x) (Some y) e = ap (λ (n : ℕ). Some n) (eqb-true x y e)
 
-mates_of : (a b : Row) → same_group a b ≡ true → AreMates a b
+pub mates_of : (a b : Row) → same_group a b ≡ true → AreMates a b
 mates_of a b e = (option_same a.parent b.parent (and_left _ _ e), eqb-true a.group b.group (and_right _ _ e))
 
 -- ---- what goes before a row goes before it later too
@@ -69,12 +69,12 @@ leads_more f g n (suc s) m more h =
     up (Some u) is k again = ap (λ o. from_parent o (leads g n s)) (more m u is) ∙ again u k
 
 -- the row of this number stands where it stood
-record StandsSo (later : List Row) (k : ℕ) (row : Row) : Type 0 where
+pub record StandsSo (later : List Row) (k : ℕ) (row : Row) : Type 0 where
   pub new : Row
   pub there : slice_get later k ≡ Some new
   pub mates : AreMates new row
 
-abbrev KeepsPlaces : List Row → List Row → Type 0
+abbrev pub KeepsPlaces : List Row → List Row → Type 0
 KeepsPlaces rows later = (k : ℕ) (row : Row) → slice_get rows k ≡ Some row → StandsSo later k row
 
 up_later : (rows later : List Row) → KeepsPlaces rows later → (k u : ℕ) → parent_of (slice_get rows k) ≡ Some u → parent_of (slice_get later k) ≡ Some u
@@ -84,7 +84,7 @@ up_later rows later keeps k u e = go (slice_get rows k) refl e
     go None is h = absurd cc
     go (Some row) is h = let new : StandsSo later k row = keeps k row is in ap parent_of new.there ∙ new.mates.0 ∙ h
 
-earlier_as : (a b row : Row) → AreMates a b → in_earlier_group b row ≡ true → in_earlier_group a row ≡ true
+pub earlier_as : (a b row : Row) → AreMates a b → in_earlier_group b row ≡ true → in_earlier_group a row ≡ true
 earlier_as a b row m e =
     ap (λ (p : Option ℕ). option_eq nat_eq p row.parent && nat_lt a.group row.group) m.0
     ∙ ap (λ (g : ℕ). option_eq nat_eq b.parent row.parent && nat_lt g row.group) m.1 ∙ e
@@ -181,10 +181,10 @@ pub record IsStep (rows later fresh : List Row) (n : ℕ) (rn : Row) (s : State)
 abbrev Kept : List Row → ℕ → State → ℕ → Row → Type 0
 Kept later n s m row = (slice_get later m ≡ Some row) ⊎ ((m ≡ n) × (slice_get later m ≡ Some (record row { state = s })))
 
-kept : (rows later fresh : List Row) (n : ℕ) (rn : Row) (s : State) → IsStep rows later fresh n rn s → (m : ℕ) (row : Row) → slice_get rows m ≡ Some row → Kept later n s m row
+pub kept : (rows later fresh : List Row) (n : ℕ) (rn : Row) (s : State) → IsStep rows later fresh n rn s → (m : ℕ) (row : Row) → slice_get rows m ≡ Some row → Kept later n s m row
 kept rows later fresh n rn s step m row is = let P : List Row → Type 0 = λ x. Kept x n s m row in subst P (sym step.made) (stays rows fresh n s m row is)
 
-changed : (rows later fresh : List Row) (n : ℕ) (rn : Row) (s : State) → IsStep rows later fresh n rn s → slice_get later n ≡ Some (record rn { state = s })
+pub changed : (rows later fresh : List Row) (n : ℕ) (rn : Row) (s : State) → IsStep rows later fresh n rn s → slice_get later n ≡ Some (record rn { state = s })
 changed rows later fresh n rn s step = ap (λ (x : List Row). slice_get x n) step.made ∙ changed_row rows fresh n s rn step.there
 
 parents_step : (rows later fresh : List Row) (n : ℕ) (rn : Row) (s : State) → IsStep rows later fresh n rn s → ParentsEnded rows → ParentsEnded later
@@ -213,15 +213,16 @@ parents_step rows later fresh n rn s step parents k row is = go (found rows fres
         let new = step.below h.0 row h.1 in
         ap (parent_ended later) new.0 ∙ ap (is_row is_ended) (changed rows later fresh n rn s step) ∙ new.2
 
-none_new : (i : ℕ) (row : Row) → slice_get {X = Row} [] i ≡ Some row → ⊥
+pub none_new : (i : ℕ) (row : Row) → slice_get {X = Row} [] i ≡ Some row → ⊥
 none_new i row e = cc
 
 -- the changed row, where it ends, holds no row up alone
 abbrev Frees : List Row → List Row → Row → State → Type 0
 Frees rows later rn s = (row : Row) → MayStart later row → goes_before rows rn row ≡ true → is_ended s ≡ true → ⊥
 
-all_back : (rows later : List Row) (n : ℕ) (rn : Row) (s : State) → IsStep rows later [] n rn s → is_idle s ≡ false → ParentsEnded rows → Frees rows later rn s → AllBack rows later
-all_back rows later n rn s step busy parents frees k row is e =
+one_row_back : (rows later : List Row) (n : ℕ) (rn : Row) (s : State) → IsStep rows later [] n rn s → is_idle s ≡ false → ParentsEnded rows
+    → (k : ℕ) (row : Row) → slice_get later k ≡ Some row → may_start later row ≡ true → (goes_before rows rn row ≡ true → is_ended s ≡ true → ⊥) → Back rows k row
+one_row_back rows later n rn s step busy parents k row is e frees =
     go (may_start_facts later row e) (found rows [] n s k row (ap (λ (x : List Row). slice_get x k) (sym step.made) ∙ is))
   where
     moves : MayStart later row → Moves rows later row
@@ -235,7 +236,7 @@ all_back rows later n rn s step busy parents frees k row is e =
             free = λ goes ends.
                 (let same : other ≡ rn = one_row rows n other rn (ap (slice_get rows) (sym h.0) ∙ there) step.there in
                 let P : Row → Type 0 = λ r. goes_before rows r row ≡ true in
-                absurd (frees row may (subst P same goes) ends));
+                absurd (frees (subst P same goes) ends));
           })
         ]
 
@@ -247,6 +248,15 @@ all_back rows later n rn s step busy parents frees k row is e =
     go may (inr (inl h)) = absurd (differ (is_idle s) (ap is_idle (sym h.1) ∙ may.idle) busy)
     go may (inr (inr h)) = absurd (none_new h.0 row h.1)
 
+all_back : (rows later : List Row) (n : ℕ) (rn : Row) (s : State) → IsStep rows later [] n rn s → is_idle s ≡ false → ParentsEnded rows → Frees rows later rn s → AllBack rows later
+all_back rows later n rn s step busy parents frees k row is e =
+    one_row_back rows later n rn s step busy parents k row is e (frees row (may_start_facts later row e))
+
+pub places_kept : (rows later fresh : List Row) (n : ℕ) (rn : Row) (s : State) → IsStep rows later fresh n rn s → KeepsPlaces rows later
+places_kept rows later fresh n rn s step k r is =
+    elim (kept rows later fresh n rn s step k r is)
+    [ inl h ↦ record { new = r; there = h; mates = (refl, refl) } | inr h ↦ record { new = record r { state = s }; there = h.1; mates = (refl, refl) } ]
+
 -- where a row beside it has not ended, its end lets nothing start
 held_frees : (rows later : List Row) (n : ℕ) (rn : Row) (s : State) → IsStep rows later [] n rn s → IsHeld rows n → Frees rows later rn s
 held_frees rows later n rn s step held row may goes ends = go (kept rows later [] n rn s step held.number held.mate held.there)
@@ -257,40 +267,36 @@ held_frees rows later n rn s step held row may goes ends = go (kept rows later [
     beside : goes_before rows held.mate row ≡ true
     beside = mates_go rows held.mate rn row (held.mates.0 ∙ ap (λ (r : Row). r.parent) same, held.mates.1 ∙ ap (λ (r : Row). r.group) same) goes
 
-    places : KeepsPlaces rows later
-    places k r is =
-        elim (kept rows later [] n rn s step k r is)
-        [ inl h ↦ record { new = r; there = h; mates = (refl, refl) } | inr h ↦ record { new = record r { state = s }; there = h.1; mates = (refl, refl) } ]
-
     go : Kept later n s held.number held.mate → ⊥
     go (inl h) =
         differ (is_ended held.mate.state)
-        (may.before held.number held.mate h (goes_later rows later held.number held.mate held.mate row step.older step.olds places held.there h beside)) held.unended
+        (may.before held.number held.mate h (goes_later rows later held.number held.mate held.mate row step.older step.olds (places_kept rows later [] n rn s step) held.there h beside)) held.unended
     go (inr h) = held.apart h.0
 
 -- ---- after a row comes into another state in which it has not ended
 
 pub quiet_set : (rows later : List Row) (n : ℕ) (rn : Row) (s : State) (q : Quiet) → IsQuiet rows q → IsStep rows later [] n rn s → is_ended s ≡ false
-    → IsQuiet later (if not (is_idle s) then q else nothing_known)
+    → IsQuiet later (if not (is_idle s) then without_row q else nothing_known)
 quiet_set rows later n rn s q was step goes_on = go (is_idle s) refl
   where
     frees : Frees rows later rn s
     frees row may goes ends = differ (is_ended s) ends goes_on
 
-    go : (b : Bool) → is_idle s ≡ b → IsQuiet later (if not b then q else nothing_known)
-    go true e = record { parents = parents_step rows later [] n rn s step was.parents; calm = λ c. absurd cc; single = λ c. absurd cc }
+    go : (b : Bool) → is_idle s ≡ b → IsQuiet later (if not b then without_row q else nothing_known)
+    go true e = record { parents = parents_step rows later [] n rn s step was.parents; calm = λ c. absurd cc; single = λ c. absurd cc; near = λ m c. absurd cc }
     go false e = record {
       parents = parents_step rows later [] n rn s step was.parents;
       calm = λ c. none_back rows later (all_back rows later n rn s step e was.parents frees) (was.calm c);
       single = λ c. one_back rows later (all_back rows later n rn s step e was.parents frees) (was.single c);
+      near = λ m c. absurd cc;
     }
 
-record OpenRow (o : Option Row) : Type 0 where
+pub record OpenRow (o : Option Row) : Type 0 where
   pub row : Row
   pub there : o ≡ Some row
   pub unended : is_ended row.state ≡ false
 
-open_of_row : (o : Option Row) → IsTrue (is_row is_unended o) → OpenRow o
+pub open_of_row : (o : Option Row) → IsTrue (is_row is_unended o) → OpenRow o
 open_of_row None h = absurd cc
 open_of_row (Some row) h = go (is_ended row.state) refl h
   where
@@ -299,7 +305,7 @@ open_of_row (Some row) h = go (is_ended row.state) refl h
     go false e h = record { row = row; there = refl; unended = e }
 
 pub quiet_after_set : (rows later : List Row) (n : ℕ) (s : State) (q : Quiet) → IsQuiet rows q → AreOlderRows rows → AreOlderRows later
-    → IsTrue (is_row is_unended (slice_get rows n)) → later ≡ with_state rows n s → is_ended s ≡ false → IsQuiet later (if not (is_idle s) then q else nothing_known)
+    → IsTrue (is_row is_unended (slice_get rows n)) → later ≡ with_state rows n s → is_ended s ≡ false → IsQuiet later (if not (is_idle s) then without_row q else nothing_known)
 quiet_after_set rows later n s q was older olds there made goes_on =
     let r : OpenRow (slice_get rows n) = open_of_row (slice_get rows n) there in
     quiet_set rows later n r.row s q was
@@ -324,7 +330,7 @@ later_state Trying (Ended end) e f = record { started = λ x. refl; ended = λ x
 later_state (Rung true) (Ended end) e f = record { started = λ x. refl; ended = λ x. absurd cc; steps = omega arith }
 later_state (Rung false) (Ended end) e f = record { started = λ x. refl; ended = λ x. absurd cc; steps = omega arith }
 
-ended_busy : (s : State) → is_ended s ≡ true → (is_idle s ≡ false) × (is_trying s ≡ false)
+pub ended_busy : (s : State) → is_ended s ≡ true → (is_idle s ≡ false) × (is_trying s ≡ false)
 ended_busy Idle e = absurd cc
 ended_busy Trying e = absurd cc
 ended_busy (Rung c) e = (refl, refl)
@@ -355,16 +361,66 @@ one_ended rows later fresh n rn s step tried ends parents none i j a b is also e
     }))
     (record { parents = parents; none_waits = none }) refl i j a b is also (may_start_facts later a e) (may_start_facts later b f)
 
+pub row_less : (rows : List Row) (k : ℕ) (row : Row) → slice_get rows k ≡ Some row → k < length rows
+row_less [] k row is = absurd cc
+row_less (x ∷ rows) zero row is = omega arith
+row_less (x ∷ rows) (suc k) row is = omega (arith, row_less rows k row is)
+
+-- where no group might start, the row goes before each that may once it has ended
+passed_step : (rows later : List Row) (n : ℕ) (rn : Row) (s : State) → IsStep rows later [] n rn s → is_idle s ≡ false → ParentsEnded rows → NoneStarts rows → IsPassed later n
+passed_step rows later n rn s step busy parents none k row last is there e = go (goes_before rows rn row) refl
+  where
+    go : (b : Bool) → goes_before rows rn row ≡ b → goes_before later last row ≡ true
+    go true g = goes_later rows later n rn last row step.older step.olds (places_kept rows later [] n rn s step) step.there there g
+    go false g =
+        let b : Back rows k row = one_row_back rows later n rn s step busy parents k row is e (λ goes ends. differ (goes_before rows rn row) goes g) in
+        absurd (differ (may_start rows row) b.starts (none k row b.there))
+
+behind_rows : (rows : List Row) (y : Row) (ys : List Row) → slice_get (rows ++ y ∷ ys) (length rows) ≡ Some y
+behind_rows [] y ys = refl
+behind_rows (x ∷ rows) y ys = behind_rows rows y ys
+
+first_new : (rows : List Row) (n : ℕ) (s : State) (y : Row) (ys : List Row) → slice_get (with_state rows n s ++ y ∷ ys) (length rows) ≡ Some y
+first_new [] n s y ys = refl
+first_new (x ∷ rows) zero s y ys = behind_rows rows y ys
+first_new (x ∷ rows) (suc n) s y ys = first_new rows n s y ys
+
+-- the row, or the first of those that came below it
+near_end : (rows later : List Row) (seats : List Seat) (n : ℕ) (rn : Row) (s : State) (m : ℕ) → IsStep rows later (map (seated (Some n)) seats) n rn s → is_idle s ≡ false
+    → ParentsEnded rows → NoneStarts rows → m ≡ (if nat_lt 0 (length seats) then length rows else n) → IsNear later m
+near_end rows later [] n rn s m step busy parents none at =
+    let here : m ≡ n = at in
+    let P : ℕ → Type 0 = λ x. IsNear later x in
+    subst P (sym here) (record {
+      known = row_less later n (record rn { state = s }) (changed rows later [] n rn s step);
+      passed = λ w. passed_step rows later n rn s step busy parents none;
+    })
+near_end rows later (x ∷ seats) n rn s m step busy parents none at =
+    let some : nat_lt 0 (length (x ∷ seats)) ≡ true = lt-ltb 0 (length (x ∷ seats)) (omega arith) in
+    let first : m ≡ length rows = at ∙ ap (λ (b : Bool). if b then length rows else n) some in
+    let P : ℕ → Type 0 = λ x. IsNear later x in
+    let there : slice_get later (length rows) ≡ Some (seated (Some n) x) =
+    ap (λ (l : List Row). slice_get l (length rows)) step.made ∙ first_new rows n s (seated (Some n) x) (map (seated (Some n)) seats) in
+    subst P (sym first) (record {
+      known = row_less later (length rows) (seated (Some n) x) there;
+      passed = λ w. absurd (differ (is_row is_idle (slice_get later (length rows))) (ap (is_row is_idle) there) w);
+    })
+
 -- what is known where it is held up
-pub quiet_ended : (rows later fresh : List Row) (n : ℕ) (rn : Row) (s : State) (q : Quiet) (held : Bool) → IsQuiet rows q → IsStep rows later fresh n rn s
-    → is_open rn.state ≡ true → is_ended s ≡ true → (held ≡ true → (fresh ≡ []) × IsHeld rows n)
-    → IsQuiet later (record { calm = if held then q.calm else false; single = q.calm })
-quiet_ended rows later fresh n rn s q held was step tried ends h = record {
+pub quiet_ended : (rows later fresh : List Row) (n : ℕ) (rn : Row) (s : State) (q : Quiet) (held : Bool) (m : ℕ) → IsQuiet rows q → IsStep rows later fresh n rn s
+    → is_open rn.state ≡ true → is_ended s ≡ true → (held ≡ true → (fresh ≡ []) × IsHeld rows n) → (NoneStarts rows → IsNear later m)
+    → IsQuiet later (record { calm = if held then q.calm else false; single = q.calm; near = if q.calm then Some m else None })
+quiet_ended rows later fresh n rn s q held m was step tried ends h near = record {
   parents = parents_step rows later fresh n rn s step was.parents;
   calm = calm held refl;
   single = λ c. one_ended rows later fresh n rn s step tried ends was.parents (was.calm c);
+  near = λ k e. is_near q.calm refl k e;
 }
   where
+    is_near : (b : Bool) → q.calm ≡ b → (k : ℕ) → (if b then Some m else None) ≡ Some k → IsNear later k
+    is_near true c k e = let at : m ≡ k = cc in let P : ℕ → Type 0 = λ x. IsNear later x in subst P at (near (was.calm c))
+    is_near false c k e = absurd cc
+
     calm : (b : Bool) → held ≡ b → (if b then q.calm else false) ≡ true → NoneStarts later
     calm false e c = absurd cc
     calm true e c =
@@ -373,13 +429,13 @@ quiet_ended rows later fresh n rn s q held was step tried ends h = record {
         let alone : IsStep rows later [] n rn s = subst P here.0 step in
         none_back rows later (all_back rows later n rn s alone (ended_busy s ends).0 was.parents (held_frees rows later n rn s alone here.1)) (was.calm c)
 
-record TriedRow (o : Option Row) : Type 0 where
+pub record TriedRow (o : Option Row) : Type 0 where
   pub row : Row
   pub there : o ≡ Some row
   pub tried : is_open row.state ≡ true
   pub unended : is_ended row.state ≡ false
 
-tried_row : (o : Option Row) → IsTrue (is_row is_open o) → TriedRow o
+pub tried_row : (o : Option Row) → IsTrue (is_row is_open o) → TriedRow o
 tried_row None h = absurd cc
 tried_row (Some row) h = go (is_open row.state) refl h
   where
@@ -393,7 +449,7 @@ tried_row (Some row) h = go (is_open row.state) refl h
     go true e h = record { row = row; there = refl; tried = e; unended = open_on row.state e }
     go false e h = absurd cc
 
-seats_below : (n : ℕ) (seats : List Seat) (s : State) → is_ended s ≡ true → AreBelow (Some n) s (map (seated (Some n)) seats)
+pub seats_below : (n : ℕ) (seats : List Seat) (s : State) → is_ended s ≡ true → AreBelow (Some n) s (map (seated (Some n)) seats)
 seats_below n [] s ends k row is = absurd cc
 seats_below n (x ∷ seats) s ends zero row is =
     let same : seated (Some n) x ≡ row = cc in (sym (ap (λ (r : Row). r.parent) same), sym (ap (λ (r : Row). is_idle r.state) same), ends)
@@ -403,14 +459,17 @@ no_seats : (n : ℕ) (seats : List Seat) → length seats ≡ 0 → map (seated 
 no_seats n [] e = refl
 no_seats n (x ∷ seats) e = absurd (omega (arith, e))
 
-pub quiet_after_end : (rows later : List Row) (seats : List Seat) (n : ℕ) (s : State) (q : Quiet) (held : Bool) → IsQuiet rows q → AreOlderRows rows → AreOlderRows later
+pub quiet_after_end : (rows later : List Row) (seats : List Seat) (n : ℕ) (s : State) (q : Quiet) (held : Bool) (m : ℕ) → IsQuiet rows q → AreOlderRows rows → AreOlderRows later
     → IsTrue (is_row is_open (slice_get rows n)) → later ≡ with_state rows n s ++ map (seated (Some n)) seats → is_ended s ≡ true
-    → (held ≡ true → (length seats ≡ 0) × IsHeld rows n) → IsQuiet later (record { calm = if held then q.calm else false; single = q.calm })
-quiet_after_end rows later seats n s q held was older olds there made ends h =
+    → (held ≡ true → (length seats ≡ 0) × IsHeld rows n) → m ≡ (if nat_lt 0 (length seats) then length rows else n)
+    → IsQuiet later (record { calm = if held then q.calm else false; single = q.calm; near = if q.calm then Some m else None })
+quiet_after_end rows later seats n s q held m was older olds there made ends h at =
     let r : TriedRow (slice_get rows n) = tried_row (slice_get rows n) there in
-    quiet_ended rows later (map (seated (Some n)) seats) n r.row s q held was
-    (record { there = r.there; unended = r.unended; made = made; below = seats_below n seats s ends; older = older; olds = olds }) r.tried ends
+    let step : IsStep rows later (map (seated (Some n)) seats) n r.row s =
+    record { there = r.there; unended = r.unended; made = made; below = seats_below n seats s ends; older = older; olds = olds } in
+    quiet_ended rows later (map (seated (Some n)) seats) n r.row s q held m was step r.tried ends
     (λ e. (no_seats n seats (h e).0, (h e).1))
+    (λ none. near_end rows later seats n r.row s m step (ended_busy s ends).0 was.parents none at)
 
 -- ---- at first, and at last
 
@@ -419,13 +478,14 @@ top_parent [] k row is = absurd cc
 top_parent (s ∷ seats) zero row is = let same : seated None s ≡ row = cc in sym (ap (λ (r : Row). r.parent) same)
 top_parent (s ∷ seats) (suc k) row is = top_parent seats k row is
 
-pub quiet_new : (rows : List Row) (seats : List Seat) → rows ≡ map (seated None) seats → IsQuiet rows (record { calm = false; single = true })
+pub quiet_new : (rows : List Row) (seats : List Seat) → rows ≡ map (seated None) seats → IsQuiet rows (record { calm = false; single = true; near = None })
 quiet_new rows seats made = record {
   parents = λ k row is. ap (parent_ended rows) (top k row is);
   calm = λ c. absurd cc;
   single = λ c i j a b is also e f.
       (let same : a.parent ≡ b.parent = top i a is ∙ sym (top j b also) in
       (same, one_group rows i j a b is also (may_start_facts rows a e) (may_start_facts rows b f) same));
+  near = λ m c. absurd cc;
 }
   where
     top : (k : ℕ) (row : Row) → slice_get rows k ≡ Some row → row.parent ≡ None
@@ -462,13 +522,17 @@ closed_busy (Ended end) = refl
 pub calm_one : (rows : List Row) → NoneStarts rows → OneStarts rows
 calm_one rows none i j a b is also e f = absurd (differ (may_start rows a) e (none i a is))
 
-pub quiet_closed : (rows later : List Row) (q : Quiet) → IsQuiet rows q → later ≡ map closed_row rows → IsQuiet later (record { calm = true; single = true })
-quiet_closed rows later q was made = subst (λ x. IsQuiet x (record { calm = true; single = true })) (sym made) (record {
+abbrev at_rest : Quiet
+at_rest = record { calm = true; single = true; near = None }
+
+pub quiet_closed : (rows later : List Row) (q : Quiet) → IsQuiet rows q → later ≡ map closed_row rows → IsQuiet later (record { calm = true; single = true; near = None })
+quiet_closed rows later q was made = subst (λ x. IsQuiet x at_rest) (sym made) (record {
   parents = λ k row is.
       (let from : IsClosed rows k row = closed_from rows k row is in
       ap (λ (r : Row). parent_ended (map closed_row rows) r.parent) (sym from.same) ∙ up from.old.parent (was.parents k from.old from.there));
   calm = λ c. none;
   single = λ c. calm_one (map closed_row rows) none;
+  near = λ m c. absurd cc;
 })
   where
     up : (p : Option ℕ) → parent_ended rows p ≡ true → parent_ended (map closed_row rows) p ≡ true
@@ -483,7 +547,7 @@ quiet_closed rows later q was made = subst (λ x. IsQuiet x (record { calm = tru
 
 -- ---- after the only group that may start has
 
-tried_keeps : (rows : List Row) (first count m : ℕ) (other : Row) → slice_get rows m ≡ Some other
+pub tried_keeps : (rows : List Row) (first count m : ℕ) (other : Row) → slice_get rows m ≡ Some other
     → (slice_get (tried rows first count) m ≡ Some other) ⊎ (slice_get (tried rows first count) m ≡ Some (record other { state = Trying }))
 tried_keeps [] first count m other is = absurd cc
 tried_keeps (x ∷ rows) zero zero m other is = inl is
@@ -503,7 +567,7 @@ tried_from (x ∷ rows) zero (suc count) (suc k) row is = tried_from rows zero c
 tried_from (x ∷ rows) (suc first) count zero row is = inl is
 tried_from (x ∷ rows) (suc first) count (suc k) row is = tried_from rows first count k row is
 
-tried_up : (rows : List Row) (first count k : ℕ) → parent_of (slice_get (tried rows first count) k) ≡ parent_of (slice_get rows k)
+pub tried_up : (rows : List Row) (first count k : ℕ) → parent_of (slice_get (tried rows first count) k) ≡ parent_of (slice_get rows k)
 tried_up [] first count k = refl
 tried_up (x ∷ rows) zero zero k = refl
 tried_up (x ∷ rows) zero (suc count) zero = refl
@@ -548,7 +612,7 @@ none_left rows first count older parents one ready k row is = not_true (may_star
 
 pub tree_quiet_set : (all : List Place) (root new : List Entry) (now : List Row) (n : ℕ) (s : row_state.State) (q r : Quiet) → AreOlder all → rows_of all root ≡ now
     → IsQuiet (rows_of all root) q → IsTrue (is_row is_unended (slice_get now n)) → rows_of all new ≡ with_state (rows_of all root) n (bare_state s) → has_ended s ≡ false
-    → r ≡ (if not (is_idle (bare_state s)) then q else nothing_known) → IsQuiet (rows_of all new) r
+    → r ≡ (if not (is_idle (bare_state s)) then without_row q else nothing_known) → IsQuiet (rows_of all new) r
 tree_quiet_set all root new now n s q r older v was there made goes_on is =
     let P : List Row → Type 0 = λ x. IsTrue (is_row is_unended (slice_get x n)) in
     let Q : Quiet → Type 0 = λ x. IsQuiet (rows_of all new) x in
@@ -556,33 +620,44 @@ tree_quiet_set all root new now n s q r older v was there made goes_on is =
     (quiet_after_set (rows_of all root) (rows_of all new) n (bare_state s) q was (older_rows all root (rows_of all root) older refl)
     (older_rows all new (rows_of all new) older refl) (subst P (sym v) there) made (ended_bare s ∙ goes_on))
 
-pub tree_quiet_end : (all more : List Place) (root new : List Entry) (now : List Row) (seats : List Seat) (n opens : ℕ) (s : row_state.State) (q r : Quiet) (held : Bool) → AreOlder all
+pub tree_quiet_end : (all more : List Place) (root new : List Entry) (now : List Row) (seats : List Seat) (n opens first m : ℕ) (s : row_state.State) (q r : Quiet) (held : Bool) → AreOlder all
     → AreOlder more → rows_of all root ≡ now → IsQuiet (rows_of all root) q → IsTrue (is_row is_open (slice_get now n))
     → rows_of more new ≡ with_state (rows_of all root) n (bare_state s) ++ map (seated (Some n)) seats → has_ended s ≡ true → opens ≡ length seats
-    → (held ≡ true → (opens ≡ 0) × IsHeld now n) → r ≡ record { calm = if held then q.calm else false; single = q.calm } → IsQuiet (rows_of more new) r
-tree_quiet_end all more root new now seats n opens s q r held older olds v was there made ends many h is =
+    → (held ≡ true → (opens ≡ 0) × IsHeld now n) → first ≡ length (rows_of all root) → m ≡ (if nat_lt 0 opens then first else n)
+    → r ≡ record { calm = if held then q.calm else false; single = q.calm; near = if q.calm then Some m else None } → IsQuiet (rows_of more new) r
+tree_quiet_end all more root new now seats n opens first m s q r held older olds v was there made ends many h next at is =
     let P : List Row → Type 0 = λ x. IsTrue (is_row is_open (slice_get x n)) in
     let H : List Row → Type 0 = λ x. IsHeld x n in
     let Q : Quiet → Type 0 = λ x. IsQuiet (rows_of more new) x in
     subst Q (sym is)
-    (quiet_after_end (rows_of all root) (rows_of more new) seats n (bare_state s) q held was (older_rows all root (rows_of all root) older refl)
+    (quiet_after_end (rows_of all root) (rows_of more new) seats n (bare_state s) q held m was (older_rows all root (rows_of all root) older refl)
     (older_rows more new (rows_of more new) olds refl) (subst P (sym v) there) made (ended_bare s ∙ ends)
-    (λ e. (sym many ∙ (h e).0, subst H (sym v) (h e).1)))
+    (λ e. (sym many ∙ (h e).0, subst H (sym v) (h e).1))
+    (at ∙ ap (λ (k : ℕ). if nat_lt 0 k then first else n) many ∙ ap (λ (k : ℕ). if nat_lt 0 (length seats) then k else n) next))
 
 pub tree_last : (all : List Place) (root : List Entry) (q : Quiet) → AreOlder all → IsQuiet (rows_of all root) q → q.single ≡ true → OneIsLast (rows_of all root)
 tree_last all root q older was e =
     λ first count ready. none_left (rows_of all root) first count (older_rows all root (rows_of all root) older refl) was.parents (was.single e) ready
 
 pub tree_quiet_rest : (rows now : List Row) (q : Quiet) (calm : Bool) → IsQuiet rows q → rows ≡ now → (calm ≡ true → NoneStarts now)
-    → IsQuiet rows (record { calm = calm; single = calm })
+    → IsQuiet rows (record { calm = calm; single = calm; near = None })
 tree_quiet_rest rows now q calm was v h = record {
   parents = was.parents;
   calm = λ e. none e;
   single = λ e. calm_one rows (none e);
+  near = λ m e. absurd cc;
 }
   where
     none : calm ≡ true → NoneStarts rows
     none e = let P : List Row → Type 0 = λ x. NoneStarts x in subst P (sym v) (h e)
+
+-- the row that goes before all that may start, where one is known
+pub near_of : (rows now : List Row) (q : Quiet) → IsQuiet rows q → rows ≡ now → IfSome q.near (λ n. IsNear now n)
+near_of rows now q was v = go q.near refl
+  where
+    go : (o : Option ℕ) → q.near ≡ o → IfSome o (λ n. IsNear now n)
+    go None e = tt
+    go (Some n) e = let P : List Row → Type 0 = λ x. IsNear x n in subst P v (was.near n e)
 
 -- row m stands beside row n, and has not ended
 pub holds_of : (rows : List Row) (m n : ℕ) (beside over : Bool) → m < length rows → n < length rows → (m ≡ n → ⊥)

@@ -22,3 +22,5 @@ pub mod Lines
 pub mod Mates
 pub mod Starting
 pub mod Known
+pub mod Ordered
+pub mod Passing

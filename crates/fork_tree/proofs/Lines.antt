@@ -28,11 +28,11 @@ leads_here : (f : ℕ → Option ℕ) (n s m : ℕ) → eqb m n ≡ true → lea
 leads_here f n zero m e = e
 leads_here f n (suc s) m e = or_left (eqb m n) (from_parent (f m) (leads f n s)) e
 
-leads_up : (f : ℕ → Option ℕ) (n s m u : ℕ) → f m ≡ Some u → leads f n s u ≡ true → leads f n (suc s) m ≡ true
+pub leads_up : (f : ℕ → Option ℕ) (n s m u : ℕ) → f m ≡ Some u → leads f n s u ≡ true → leads f n (suc s) m ≡ true
 leads_up f n s m u is e = or_right (eqb m n) (from_parent (f m) (leads f n s)) (ap (λ o. from_parent o (leads f n s)) is ∙ e)
 
 -- no more steps are needed than the number says
-leads_enough : (f : ℕ → Option ℕ) (n t s m : ℕ) → ((k u : ℕ) → f k ≡ Some u → u < k) → m ≤ s → leads f n t m ≡ true → leads f n s m ≡ true
+pub leads_enough : (f : ℕ → Option ℕ) (n t s m : ℕ) → ((k u : ℕ) → f k ≡ Some u → u < k) → m ≤ s → leads f n t m ≡ true → leads f n s m ≡ true
 leads_enough f n zero s m older le h = leads_here f n s m h
 leads_enough f n (suc t) s m older le h =
     elim (or_cases (eqb m n) (from_parent (f m) (leads f n t)) h) [
@@ -48,7 +48,7 @@ leads_enough f n (suc t) s m older le h =
 
 -- ---- from the line above a row
 
-abbrev up_in : List Row → ℕ → Option ℕ
+abbrev pub up_in : List Row → ℕ → Option ℕ
 up_in rows k = parent_of (slice_get rows k)
 
 -- a row of an earlier group beside this one, at or above row k

@@ -9,7 +9,8 @@ use Rattle.fork_tree.specs.declared.place.Place.{Place}
 use Rattle.fork_tree.specs.Rows.{Cell, Entry, find}
 use Rattle.fork_tree.specs.Places.{path_of, row_at, rows_of, IsPlaced, AreOlder}
 use Rattle.fork_tree.specs.Seats.{differs, seats_with, seats_from, seats_of, place_in}
-use Rattle.fork_tree.specs.Search.{AllStep, AreTogether, AreMates, Opens, Joins, IsBegin, IsGroup}
+use Rattle.fork_tree.specs.Quiet.{right_before}
+use Rattle.fork_tree.specs.Search.{IsPlaceIn, AllStep, AreTogether, AreMates, Opens, Joins, IsBegin, IsGroup, IsNextBegin}
 use Rattle.fork_tree.proofs.Lines.{AreOlderRows}
 use Rattle.fork_tree.proofs.Traces.{path_below, path_top}
 use Rattle.fork_tree.proofs.Placed.{paths_differ, get_row, row_got, IsRowAt, place_less}
@@ -74,6 +75,19 @@ earlier_at all root rows m n first row p q v ip iq there here =
     ∙ ap (λ (x : ℕ). option_eq nat_eq first.parent row.parent && nat_lt x q.group) (sym a.1)
     ∙ ap (λ (x : ℕ). option_eq nat_eq first.parent row.parent && nat_lt first.group x) (sym b.1)
 
+pub right_at : (all : List Place) (root : List Entry) (rows : List Row) (m n : ℕ) (first row : Row) (p q : Place) → rows_of all root ≡ rows → slice_get all m ≡ Some p
+    → slice_get all n ≡ Some q → slice_get rows m ≡ Some first → slice_get rows n ≡ Some row
+    → (option_eq nat_eq p.parent q.parent && nat_eq (p.group + 1) q.group) ≡ right_before first row
+right_at all root rows m n first row p q v ip iq there here =
+    let a = at_place all root rows m first p v ip there in
+    let b = at_place all root rows n row q v iq here in
+    let on : p.group + 1 ≡ suc p.group = omega arith in
+    ap (λ (x : ℕ). option_eq nat_eq p.parent q.parent && nat_eq x q.group) on
+    ∙ ap (λ (x : Option ℕ). option_eq nat_eq x q.parent && nat_eq (suc p.group) q.group) (sym a.0)
+    ∙ ap (λ (x : Option ℕ). option_eq nat_eq first.parent x && nat_eq (suc p.group) q.group) (sym b.0)
+    ∙ ap (λ (x : ℕ). option_eq nat_eq first.parent row.parent && nat_eq (suc x) q.group) (sym a.1)
+    ∙ ap (λ (x : ℕ). option_eq nat_eq first.parent row.parent && nat_eq (suc first.group) x) (sym b.1)
+
 -- parents are older
 pub older_rows : (all : List Place) (root : List Entry) (rows : List Row) → AreOlder all → rows_of all root ≡ rows → AreOlderRows rows
 older_rows all root rows older v k u h = go (slice_get rows k) refl h
@@ -89,6 +103,9 @@ older_rows all root rows older v k u h = go (slice_get rows k) refl h
 none_some : (p : Place) → None ≡ Some p → ⊥
 none_some p e = cc
 
+none_in : (parent : Option ℕ) (group : ℕ) → IsPlaceIn None parent group → ⊥
+none_in parent group h = none_some (record { parent = parent; group = group; place = h.place }) h.is
+
 abbrev IsBehind : List Place → ℕ → Place → ℕ → Type 0
 IsBehind all n p place = (m : ℕ) × (n ≡ suc m) × (slice_get all m ≡ Some (record { parent = p.parent; group = p.group; place = place }))
 
@@ -98,7 +115,7 @@ behind_from before [] n p place s is e = absurd cc
 behind_from before (x ∷ ps) zero p place s is e =
     let same : x ≡ p = cc in
     let P : Place → Type 0 = λ y. y.place ≡ suc place → before ≡ Some (record { parent = y.parent; group = y.group; place = place }) in
-    inl (refl, subst P same (s.0 place) e)
+    inl (refl, subst P same (s.0.inside place) e)
 behind_from before (x ∷ ps) (suc n) p place s is e =
     elim (behind_from (Some x) ps n p place s.1 is e)
     [ inl h ↦ inr (0, ap (λ (k : ℕ). suc k) h.0, h.1) | inr b ↦ inr (suc b.0, ap (λ (k : ℕ). suc k) b.1, b.2) ]
@@ -212,7 +229,7 @@ mates_on rows first end (suc d) k row other joined at lt is there =
     (ap (λ (r : Row). r.parent) e ∙ sym j.mates.0 ∙ rest.0, ap (λ (r : Row). r.group) e ∙ sym j.mates.1 ∙ rest.1)
 
 -- no mate of the first stands where another group has begun
-none_past : (rows : List Row) (first end d k : ℕ) (row other : Row) → AllBegin rows → first < end → Opens rows end ⊎ (length rows ≤ end)
+pub none_past : (rows : List Row) (first end d k : ℕ) (row other : Row) → AllBegin rows → first < end → Opens rows end ⊎ (length rows ≤ end)
     → k ≡ end + d → slice_get rows first ≡ Some row → slice_get rows k ≡ Some other → AreMates other row → ⊥
 none_past rows first end zero k row other begins less ends at is there mates =
     let here : slice_get rows end ≡ Some other = ap (slice_get rows) (omega (arith, at)) ∙ there in
@@ -250,31 +267,128 @@ group_is rows first end begins opens less le joined ends = record {
     bounds k row other is there mates false false e f =
         absurd (none_past rows first end (k - end) k row other begins less ends (omega (arith, ltb-false k end f)) is there mates)
 
+pub group_next : (rows : List Row) (n end : ℕ) → AllBegin rows → Opens rows n → IsNextBegin rows n end → IsGroup rows n end
+group_next rows n end begins opens next =
+    group_is rows n end begins opens next.past next.within next.joined (ends (ltb end (length rows)) refl)
+  where
+    ends : (b : Bool) → ltb end (length rows) ≡ b → Opens rows end ⊎ (length rows ≤ end)
+    ends true e = inl (next.opens (ltb-true end (length rows) e))
+    ends false e = inr (ltb-false end (length rows) e)
+
+-- ---- the group before a later one
+
+record IsOn (all : List Place) (n : ℕ) (parent : Option ℕ) (group : ℕ) : Type 0 where
+  pub number : ℕ
+  pub next : n ≡ suc number
+  pub place : ℕ
+  pub there : slice_get all number ≡ Some (record { parent = parent; group = group; place = place })
+
+on_from : (before : Option Place) (ps : List Place) (n : ℕ) (p : Place) (group : ℕ) → AllStep before ps → slice_get ps n ≡ Some p → p.place ≡ 0 → p.group ≡ suc group
+    → ((n ≡ 0) × IsPlaceIn before p.parent group) ⊎ IsOn ps n p.parent group
+on_from before [] n p group s is z e = absurd cc
+on_from before (x ∷ ps) zero p group s is z e =
+    let same : x ≡ p = cc in
+    let P : Place → Type 0 = λ y. y.place ≡ 0 → y.group ≡ suc group → IsPlaceIn before y.parent group in
+    inl (refl, subst P same (s.0.on group) z e)
+on_from before (x ∷ ps) (suc n) p group s is z e =
+    elim (on_from (Some x) ps n p group s.1 is z e) [
+      | inl h ↦ inr (record { number = 0; next = ap (λ (k : ℕ). suc k) h.0; place = h.1.place; there = h.1.is })
+      | inr b ↦ inr (record { number = suc b.number; next = ap (λ (k : ℕ). suc k) b.next; place = b.place; there = b.there })
+    ]
+
+on_of : (all : List Place) (n : ℕ) (p : Place) (group : ℕ) → AreTogether all → slice_get all n ≡ Some p → p.place ≡ 0 → p.group ≡ suc group → IsOn all n p.parent group
+on_of all n p group together is z e =
+    elim (on_from None all n p group together is z e) [ inl h ↦ absurd (none_in p.parent group h.1) | inr b ↦ b ]
+
+-- the group of the row begins right behind a row of the group before, under the same parent
+pub record StandsOn (rows : List Row) (row : Row) : Type 0 where
+  pub last : ℕ
+  pub mate : Row
+  pub head : Row
+  pub before : slice_get rows last ≡ Some mate
+  pub here : slice_get rows (suc last) ≡ Some head
+  pub opens : Opens rows (suc last)
+  pub mates : AreMates head row
+  pub parent : mate.parent ≡ row.parent
+  pub group : row.group ≡ suc mate.group
+
+abbrev pub AllFollow : List Row → Type 0
+AllFollow rows = (k : ℕ) (row : Row) (group : ℕ) → slice_get rows k ≡ Some row → row.group ≡ suc group → StandsOn rows row
+
+pub all_follow : (all : List Place) (root : List Entry) (rows : List Row) → AreOlder all → IsPlaced all root → AreTogether all → rows_of all root ≡ rows → AllFollow rows
+all_follow all root rows older placed together v k row group is e =
+    let a : IsPlaceOf all k row = place_got all root rows k row v is in
+    let first : Place = first_place a.spot in
+    let far = back all a.spot.place k a.spot together a.there refl in
+    let on : IsOn all far.0 a.spot.parent group = on_of all far.0 first group together far.2 refl (sym a.group ∙ e) in
+    let p : Place = record { parent = a.spot.parent; group = group; place = on.place } in
+    let x : IsRowOf rows on.number p = row_of all root rows on.number p v on.there in
+    let h : IsRowOf rows far.0 first = row_of all root rows far.0 first v far.2 in
+    let P : ℕ → Type 0 = λ n. Opens rows n in
+    record {
+      last = on.number;
+      mate = x.row;
+      head = h.row;
+      before = x.there;
+      here = ap (slice_get rows) (sym on.next) ∙ h.there;
+      opens = subst P on.next (opens_at all root rows far.0 first older placed together v far.2 refl);
+      mates = (h.parent ∙ sym a.parent, h.group ∙ sym a.group);
+      parent = x.parent ∙ sym a.parent;
+      group = e ∙ ap (λ (g : ℕ). suc g) (sym x.group);
+    }
+
 -- ---- places of new rows
 
 pub together_more : (before : Option Place) (xs ys : List Place) → AllStep before xs → AreTogether ys → AllStep before (xs ++ ys)
 together_more before [] [] s t = tt
-together_more before [] (y ∷ ys) s t = ((λ place e. absurd (none_some (record { parent = y.parent; group = y.group; place = place }) (t.0 place e))), t.1)
+together_more before [] (y ∷ ys) s t = (
+  record {
+    inside = λ place e. absurd (none_some (record { parent = y.parent; group = y.group; place = place }) (t.0.inside place e));
+    on = λ group z e. absurd (none_in y.parent group (t.0.on group z e));
+  },
+  t.1,
+)
 together_more before (x ∷ xs) ys s t = (s.0, together_more (Some x) xs ys s.1 t)
 
--- the place before this one, where it isn't the first of its group
-abbrev Comes : Option ℕ → Option Place → ℕ → ℕ → Type 0
-Comes parent before group place = (last : ℕ) → place ≡ suc last → before ≡ Some (record { parent = parent; group = group; place = last })
+-- behind this place, and a row of this q, the next one comes in this group at this place, or begins another group
+record Comes (parent : Option ℕ) (prior : Option Place) (before : Option ℕ) (group place : ℕ) : Type 0 where
+  pub inside : (last : ℕ) → place ≡ suc last → prior ≡ Some (record { parent = parent; group = group; place = last })
+  pub begun : (q : ℕ) → before ≡ Some q → IsPlaceIn prior parent group
+  pub least : place ≡ 0 → group ≡ 0
 
-seats_step : (parent : Option ℕ) (prior : Option Place) (before : Option ℕ) (group place : ℕ) (qs : List ℕ) → Comes parent prior group place
+another_on : (parent : Option ℕ) (prior : Option Place) (before : Option ℕ) (group place q g : ℕ) → Comes parent prior before group place → differs before q ≡ true → suc group ≡ suc g
+    → IsPlaceIn prior parent g
+another_on parent prior before group place q g h d e = go before refl d
+  where
+    go : (o : Option ℕ) → before ≡ o → differs o q ≡ true → IsPlaceIn prior parent g
+    go None is f = absurd cc
+    go (Some b) is f =
+        let at : group ≡ g = omega (arith, e) in
+        let P : ℕ → Type 0 = λ x. IsPlaceIn prior parent x in
+        subst P at (h.begun b is)
+
+comes_next : (parent : Option ℕ) (q g p : ℕ) → Comes parent (Some (record { parent = parent; group = g; place = p })) (Some q) g (suc p)
+comes_next parent q g p = record {
+  inside = λ last e. (let at : p ≡ last = omega (arith, e) in ap (λ (x : ℕ). Some (record { parent = parent; group = g; place = x })) at);
+  begun = λ b e. record { place = p; is = refl };
+  least = λ e. absurd (omega (arith, e));
+}
+
+seats_step : (parent : Option ℕ) (prior : Option Place) (before : Option ℕ) (group place : ℕ) (qs : List ℕ) → Comes parent prior before group place
     → AllStep prior (map (place_in parent) (seats_from before group place qs))
 seats_step parent prior before group place [] h = tt
 seats_step parent prior before group place (q ∷ qs) h =
-    elim (differs before q) as (λ b. AllStep prior (map (place_in parent) (seats_with b group place q (λ x y z. seats_from x y z qs)))) [
-      | true ↦ ((λ last e. absurd cc), seats_step parent (Some (record { parent = parent; group = suc group; place = 0 })) (Some q) (suc group) 1 qs (one (suc group)))
-      | false ↦ (h, seats_step parent (Some (record { parent = parent; group = group; place = place })) (Some q) group (suc place) qs (next group place))
-    ]
-  where
-    next : (g p : ℕ) → Comes parent (Some (record { parent = parent; group = g; place = p })) g (suc p)
-    next g p last e = let at : p ≡ last = omega (arith, e) in ap (λ (x : ℕ). Some (record { parent = parent; group = g; place = x })) at
-
-    one : (g : ℕ) → Comes parent (Some (record { parent = parent; group = g; place = 0 })) g 1
-    one g last e = let at : 0 ≡ last = omega (arith, e) in ap (λ (x : ℕ). Some (record { parent = parent; group = g; place = x })) at
+    elim (differs before q) as (λ b. differs before q ≡ b → AllStep prior (map (place_in parent) (seats_with b group place q (λ x y z. seats_from x y z qs)))) [
+      | true ↦ (λ d. (
+        record { inside = λ last e. absurd cc; on = λ g z e. another_on parent prior before group place q g h d e },
+        seats_step parent (Some (record { parent = parent; group = suc group; place = 0 })) (Some q) (suc group) 1 qs (comes_next parent q (suc group) 0),
+      ))
+      | false ↦ (λ d. (
+        record { inside = h.inside; on = λ g z e. absurd (omega (arith, h.least z, e)) },
+        seats_step parent (Some (record { parent = parent; group = group; place = place })) (Some q) group (suc place) qs (comes_next parent q group place),
+      ))
+    ] refl
 
 pub seats_together : (parent : Option ℕ) (qs : List ℕ) → AreTogether (map (place_in parent) (seats_of qs))
-seats_together parent qs = seats_step parent None None 0 0 qs (λ last e. absurd cc)
+seats_together parent qs =
+    seats_step parent None None 0 0 qs (record { inside = λ last e. absurd cc; begun = λ q e. absurd cc; least = λ e. refl })

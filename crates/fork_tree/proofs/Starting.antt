@@ -48,7 +48,7 @@ mates_of a b e = (option_same a.parent b.parent (and_left _ _ e), eqb-true a.gro
 is_mate : (a b : Row) → AreMates a b → same_group a b ≡ true
 is_mate a b m = group_as a b a (sym m.0, sym m.1) ∙ same_group_refl a
 
-mate_starts : (rows : List Row) (k : ℕ) (a b : Row) → slice_get rows k ≡ Some b → AreMates b a → may_start rows a ≡ true → may_start rows b ≡ true
+pub mate_starts : (rows : List Row) (k : ℕ) (a b : Row) → slice_get rows k ≡ Some b → AreMates b a → may_start rows a ≡ true → may_start rows b ≡ true
 mate_starts rows k a b is m e =
     let h : MayStart rows a = may_start_facts rows a e in
     may_start_of rows b (record {

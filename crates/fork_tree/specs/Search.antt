@@ -9,16 +9,24 @@ use Rattle.fork_tree.specs.Ready.{IsReady}
 
 -- ---- places
 
--- after this place, where there is one: who isn't the first of a group stands right behind the one before it there
-abbrev pub Steps : Option Place → Place → Type 0
-Steps before p =
-    (place : ℕ) → p.place ≡ suc place → before ≡ Some (record { parent = p.parent; group = p.group; place = place })
+-- this is a place in this group under this row
+pub record IsPlaceIn (before : Option Place) (parent : Option ℕ) (group : ℕ) : Type 0 where
+  pub place : ℕ
+  pub is : before ≡ Some (record { parent = parent; group = group; place = place })
+
+-- after this place, where there is one: who isn't the first of a group stands right behind the one before it there, and
+-- the first of a later group right behind one of the group before that
+pub record Steps (before : Option Place) (p : Place) : Type 0 where
+  pub inside : (place : ℕ) → p.place ≡ suc place
+      → before ≡ Some (record { parent = p.parent; group = p.group; place = place })
+  pub on : (group : ℕ) → p.place ≡ 0 → p.group ≡ suc group → IsPlaceIn before p.parent group
 
 abbrev pub AllStep : Option Place → List Place → Type 0
 AllStep before [] = Unit {0}
 AllStep before (p ∷ ps) = Steps before p × AllStep (Some p) ps
 
--- the rows of a group stand in the order of their numbers, with none of another between them
+-- the rows of a group stand in the order of their numbers, with none of another between them, and so do the groups under
+-- one row
 abbrev pub AreTogether : List Place → Type 0
 AreTogether all = AllStep None all
 
@@ -55,6 +63,13 @@ pub record IsGroup (rows : List Row) (first end : ℕ) : Type 0 where
       → slice_get rows k ≡ Some other → AreMates other row
   pub whole : (k : ℕ) (row other : Row) → slice_get rows first ≡ Some row → slice_get rows k ≡ Some other
       → AreMates other row → (first ≤ k) × (k < end)
+
+-- the first number behind row n at which a group begins; how many rows there are, where none does
+pub record IsNextBegin (rows : List Row) (n end : ℕ) : Type 0 where
+  pub past : n < end
+  pub within : end ≤ length rows
+  pub joined : (k : ℕ) → n < k → k < end → Joins rows k
+  pub opens : end < length rows → Opens rows end
 
 -- it doesn't wait
 abbrev pub IsBusy : List Row → ℕ → Type 0

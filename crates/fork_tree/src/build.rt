@@ -60,7 +60,7 @@ impl<A: Allocator + Clone> ForkTree<A> {
                 let none = Level::idle(alloc.clone()?, self.count(), &[])?;
                 self.finish(row.no, end, none);
             }
-            state => self.set(row.no, state),
+            state => self.set(row.no, state, false),
         }
         Ok(())
     }

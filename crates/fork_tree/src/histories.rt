@@ -9,7 +9,7 @@ use fork_rank::{MOST_TARGETS, Rules, Status};
 use std::test::Fail;
 
 /// Whether row n was tried, and has not rung.
-fn is_tried(tree: &ForkTree, n: u16) -> bool
+pub(crate) fn is_tried(tree: &ForkTree, n: u16) -> bool
     ensures { result ≡ is_row is_trying (slice_get tree.now.rows n) }
 {
     match tree.row(n) {
@@ -29,7 +29,7 @@ fn is_ringing(tree: &ForkTree, n: u16) -> bool
 }
 
 /// Whether row n was tried, and has not ended.
-fn goes_on(tree: &ForkTree, n: u16) -> bool
+pub(crate) fn goes_on(tree: &ForkTree, n: u16) -> bool
     ensures { result ≡ is_row is_open (slice_get tree.now.rows n) }
 {
     match tree.row(n) {
@@ -48,7 +48,7 @@ fn start(tree: &mut ForkTree, n: u16) -> Result<(), Fail> {
 }
 
 /// Row n, which was tried, rings.
-fn ring(tree: &mut ForkTree, n: u16) -> Result<(), Fail> {
+pub(crate) fn ring(tree: &mut ForkTree, n: u16) -> Result<(), Fail> {
     if !is_tried(tree, n) {
         return Err(Fail::from("it was not tried"));
     }
@@ -66,7 +66,13 @@ fn cancel(tree: &mut ForkTree, n: u16) -> Result<(), Fail> {
 }
 
 /// Row n, which goes on, ends so, and rows of these q come below it.
-fn end(rt: &HostRuntime, tree: &mut ForkTree, n: u16, end: End, qs: &[u16]) -> Result<(), Fail> {
+pub(crate) fn end(
+    rt: &HostRuntime,
+    tree: &mut ForkTree,
+    n: u16,
+    end: End,
+    qs: &[u16],
+) -> Result<(), Fail> {
     let first = tree.count();
     if first > MOST_TARGETS || qs.len() > (MOST_TARGETS - first) as usize {
         return Err(Fail::from("there are too many"));

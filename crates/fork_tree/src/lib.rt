@@ -18,6 +18,8 @@ mod quiet;
 mod row;
 mod seat;
 mod series;
+#[cfg(test)]
+mod series_tests;
 mod subtree;
 #[cfg(test)]
 mod tests;

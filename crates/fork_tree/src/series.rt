@@ -1,12 +1,13 @@
 //! Which group may start, and its start (RFC 3261 section 16.6: the groups of one target set in series, those of a
 //! redirected branch before the next group goes on).
-ghost use Rattle.std.specs.Prelude.{◌≡◌, ◌<◌, ◌≤◌, ◌-◌, ◌&&◌, nat_eq, nat_lt, ℕ, true, false, None, IsTrue, IfNone, IfSome, Some, length, slice_get};
+ghost use Rattle.std.specs.Prelude.{◌≡◌, ◌<◌, ◌≤◌, ◌-◌, ◌+◌, ◌&&◌, nat_eq, nat_lt, ℕ, suc, true, false, None, IsTrue, IfNone, IfSome, Some, length, slice_get};
 ghost use Rattle.std.specs.Option.{option_eq};
 ghost use Rattle.fork_model.specs.Table.{Row, is_ended, is_idle, is_row};
 ghost use Rattle.fork_model.specs.Waiting.{in_earlier_group, may_start, parent_ended, same_group};
 ghost use Rattle.fork_tree.specs.Ready.{IsReady, tried};
-ghost use Rattle.fork_tree.specs.Search.{AllWait, BeginsReady, FindsReady, HoldsUp, IsBegin, IsGroup, IsNext, IsNextIn, MayGo, Opens};
-ghost use Rattle.fork_tree.specs.Quiet.{IsHeld, NoneStarts, OneIsLast};
+ghost use Rattle.fork_tree.specs.Search.{AllWait, BeginsReady, FindsReady, HoldsUp, IsBegin, IsGroup, IsNext, IsNextBegin, IsNextIn, MayGo, Opens};
+ghost use Rattle.fork_tree.specs.Below.{open_below};
+ghost use Rattle.fork_tree.specs.Quiet.{AreOver, FindsAfter, InOrder, IsAfter, IsAhead, IsHeld, IsInOrder, IsNear, IsOnly, IsPassed, IsStuck, NoneStarts, OneIsLast, right_before};
 
 use crate::place::{Place, place_of};
 use crate::quiet::Quiet;
@@ -28,9 +29,11 @@ impl<A: Allocator> ForkTree<A> {
             return None;
         }
         let single = self.is_single();
+        let in_order = self.is_in_order();
         match self.ready_group() {
             Some((first, end)) => {
                 self.start_group(first, end);
+                self.keep_order(in_order);
                 self.rest(single);
                 Some((first, end - first))
             }
@@ -60,7 +63,11 @@ impl<A: Allocator> ForkTree<A> {
         requires { calm ≡ true → NoneStarts self.old.rows }
         ensures { self.new ≡ self.old }
     {
-        self.quiet = Quiet { calm, single: calm };
+        self.quiet = Quiet {
+            calm,
+            single: calm,
+            near: None,
+        };
     }
 
     /// Whether the end of row n, which brings so many new rows, lets no group start, since a neighbour of it in its group
@@ -106,12 +113,145 @@ impl<A: Allocator> ForkTree<A> {
     fn ready_group(&self) -> Option<(u16, u16)>
         ensures { FindsReady self.now.rows result }
     {
+        match self.near() {
+            Some(n) => self.ready_near(n),
+            None => self.ready_anywhere(),
+        }
+    }
+
+    /// The row that, if it waits no more, goes before each row that may start, where one is known.
+    fn near(&self) -> Option<u16>
+        ensures { IfSome result (λ n. IsNear self.now.rows n) }
+    {
+        self.quiet.near
+    }
+
+    /// Some group that may start, where row n goes before each row that may start or waits itself.
+    fn ready_near(&self, n: u16) -> Option<(u16, u16)>
+        requires { IsNear self.now.rows n }
+        ensures { FindsReady self.now.rows result }
+    {
+        if !self.is_waiting(n) {
+            return self.ready_past(n);
+        }
+        match self.ready_from(n) {
+            Some(end) => Some((n, end)),
+            None => self.ready_anywhere(),
+        }
+    }
+
+    /// Some group that may start, where row n goes before each row that may: the group right behind its own, or where
+    /// none stands there, the same of the row above.
+    fn ready_past(&self, n: u16) -> Option<(u16, u16)>
+        requires known { n < length self.now.rows }
+        requires passed { IsPassed self.now.rows n }
+        ensures { FindsReady self.now.rows result }
+    {
+        if let Some(next) = self.group_after(n) {
+            return self.ready_behind(n, next);
+        }
+        match self.parent(n) {
+            Some(up) => self.ready_past(up),
+            None => None,
+        }
+    }
+
+    /// The same, where row `next` is the first of the group right behind that of row n.
+    fn ready_behind(&self, n: u16, next: u16) -> Option<(u16, u16)>
+        requires known { n < length self.now.rows }
+        requires passed { IsPassed self.now.rows n }
+        requires after { IsAfter self.now.rows n next }
+        ensures { FindsReady self.now.rows result }
+    {
+        if self.is_stuck(n) {
+            return None;
+        }
+        self.ready_only(next)
+    }
+
+    /// Whether row n, or the one right before or behind it in its group, goes on, or a row below those. There may be
+    /// others in the group that do.
+    fn is_stuck(&self, n: u16) -> bool
+        requires { n < length self.now.rows }
+        ensures { result ≡ true → IsStuck self.now.rows n }
+    {
+        if self.is_stuck_by(n, n) {
+            return true;
+        }
+        if n > 0 && self.is_stuck_by(n - 1, n) {
+            return true;
+        }
+        let count = self.count();
+        n + 1 < count && self.is_stuck_by(n + 1, n)
+    }
+
+    /// Whether row m stands in the group of row n, and it or a row below it has not ended.
+    fn is_stuck_by(&self, m: u16, n: u16) -> bool
+        requires known { m < length self.now.rows }
+        requires here { n < length self.now.rows }
+        ensures { result ≡ true → IsStuck self.now.rows n }
+    {
+        if !self.is_beside(m, n) {
+            return false;
+        }
+        self.goes_on(m)
+    }
+
+    /// Some group that may start, where that whose first is row n is the only one, if it waits.
+    fn ready_only(&self, n: u16) -> Option<(u16, u16)>
+        requires { IsOnly self.now.rows n }
+        ensures { FindsReady self.now.rows result }
+    {
+        if !self.is_waiting(n) {
+            return self.ready_anywhere();
+        }
+        match self.ready_from(n) {
+            Some(end) => Some((n, end)),
+            None => None,
+        }
+    }
+
+    /// The first row of the group right behind that of row n, under the same row.
+    fn group_after(&self, n: u16) -> Option<u16>
+        requires { n < length self.now.rows }
+        ensures { FindsAfter self.now.rows n result }
+    {
+        let next = self.next_begin(n);
+        if next as usize >= self.places.len() {
+            return None;
+        }
+        if self.is_right_before(n, next) {
+            Some(next)
+        } else {
+            None
+        }
+    }
+
+    /// Some group that may start, looked for by number.
+    fn ready_anywhere(&self) -> Option<(u16, u16)>
+        ensures { FindsReady self.now.rows result }
+    {
         for n in 0..self.count() {
             if let Some(end) = self.ready_from(n) {
                 return Some((n, end));
             }
         }
         None
+    }
+
+    /// The first of the next group by number; how many rows there are where row n stands in the last.
+    fn next_begin(&self, n: u16) -> u16
+        requires { n < length self.now.rows }
+        ensures next { IsNextBegin self.now.rows n result }
+        ensures group { Opens self.now.rows n → IsGroup self.now.rows n result }
+    {
+        let count = self.places.len() as u16;
+        for m in n + 1..count {
+            if self.begins(m) {
+                return m;
+            }
+        }
+        count
     }
 
     /// Where the group ends whose first is row n, if it may start.
@@ -144,13 +284,7 @@ impl<A: Allocator> ForkTree<A> {
         requires first { Opens self.now.rows n }
         ensures { IsGroup self.now.rows n result }
     {
-        let count = self.places.len() as u16;
-        for m in n + 1..count {
-            if self.begins(m) {
-                return m;
-            }
-        }
-        count
+        self.next_begin(n)
     }
 
     /// Whether the group of these rows may start.
@@ -212,7 +346,110 @@ impl<A: Allocator> ForkTree<A> {
         requires { n < length self.now.rows }
         ensures { IsNext self.now.rows n result }
     {
+        if self.is_in_first(n) {
+            return true;
+        }
+        match self.group_before(n) {
+            Some(first) => self.are_over(first, self.group_end(first)),
+            None => self.is_next_anywhere(n),
+        }
+    }
+
+    /// The same, by asking all rows.
+    fn is_next_anywhere(&self, n: u16) -> bool
+        requires { n < length self.now.rows }
+        ensures { IsNext self.now.rows n result }
+    {
         self.is_next_back(n) && self.is_next_on(n)
+    }
+
+    /// Whether row n stands in the first group there.
+    fn is_in_first(&self, n: u16) -> bool
+        requires { n < length self.now.rows }
+        ensures { result ≡ true → IsNext self.now.rows n true }
+    {
+        place_of(&self.places, n).group == 0
+    }
+
+    /// The first row of the group right before that of row n, where it stands right before it by number too, and rows
+    /// are known to have been tried in order.
+    fn group_before(&self, n: u16) -> Option<u16>
+        requires { n < length self.now.rows }
+        ensures { IfSome result (λ first. IsAhead self.now.rows first n) }
+    {
+        if n == 0 {
+            return None;
+        }
+        if !self.is_in_order() {
+            return None;
+        }
+        let first = self.first_beside(n - 1);
+        if !self.begins(first) {
+            return None;
+        }
+        if self.is_right_before(first, n) {
+            Some(first)
+        } else {
+            None
+        }
+    }
+
+    /// The first row of the group of row n.
+    fn first_beside(&self, n: u16) -> u16
+        requires { n < length self.now.rows }
+        ensures { result ≤ n }
+    {
+        let place = place_of(&self.places, n).place;
+        if place > n { 0 } else { n - place }
+    }
+
+    /// Whether row m stands in the group right before that of row n, under the same row.
+    fn is_right_before(&self, m: u16, n: u16) -> bool
+        requires known { m < length self.now.rows }
+        requires here { n < length self.now.rows }
+        ensures { (mate row : Row) → slice_get self.now.rows m ≡ Some mate → slice_get self.now.rows n ≡ Some row
+            → result ≡ right_before mate row }
+    {
+        stands_right_before(place_of(&self.places, m), place_of(&self.places, n))
+    }
+
+    /// Whether all of these rows, and all below them, have ended.
+    fn are_over(&self, first: u16, end: u16) -> bool
+        requires { end ≤ length self.now.rows }
+        ensures { AreOver self.now.rows first end result }
+    {
+        for m in first..end {
+            if self.goes_on(m) {
+                return false;
+            }
+        }
+        true
+    }
+
+    /// Whether row n or one below it has not ended.
+    fn goes_on(&self, n: u16) -> bool
+        requires { n < length self.now.rows }
+        ensures { result ≡ nat_lt 0 (open_below self.now.rows n) }
+    {
+        match self.node(n) {
+            Some(node) => node.open_count() > 0,
+            None => false,
+        }
+    }
+
+    /// Whether all that goes before a row that waits no more is known to have ended.
+    fn is_in_order(&self) -> bool
+        ensures { result ≡ true → IsInOrder self.now.rows }
+    {
+        self.in_order
+    }
+
+    /// From now on it is known, where `in_order`, that all that goes before a row that waits no more has ended.
+    fn keep_order(&mut self, in_order: bool)
+        requires { in_order ≡ true → InOrder self.old.rows }
+        ensures { self.new ≡ self.old }
+    {
+        self.in_order = in_order;
     }
 
     /// Whether no older row holds row n up; the youngest first, since that one mostly does.
@@ -289,4 +526,18 @@ fn stands_beside(place: Place, other: Place) -> bool
     ensures { result ≡ (option_eq nat_eq place.parent other.parent && nat_eq place.group other.group) }
 {
     place.parent == other.parent && place.group == other.group
+}
+
+/// Whether this place is in the group right before the other's, under the same row.
+fn stands_right_before(place: Place, other: Place) -> bool
+    ensures { result ≡ (option_eq nat_eq place.parent other.parent && nat_eq (place.group + 1) other.group) }
+{
+    place.parent == other.parent && is_one_less(place.group, other.group)
+}
+
+/// Whether the first number is one less than the second.
+fn is_one_less(a: u16, b: u16) -> bool
+    ensures { result ≡ nat_eq (a + 1) b }
+{
+    a as u32 + 1 == b as u32
 }

@@ -16,7 +16,7 @@ use crate::find::node_at;
 use crate::level::Level;
 use crate::node::{Tier, branches};
 use crate::place::{Place, place_of, trace};
-use crate::quiet::Quiet;
+use crate::quiet::{Quiet, both, if_new};
 use crate::row::{End, RowRef, State};
 use crate::seat::Seat;
 use fork_rank::{MOST_TARGETS, Rules};
@@ -33,16 +33,18 @@ pub struct ForkTree<A: Allocator = Global> {
     path: Vec<u16, A>,
     tally: Tally,
     pub(crate) quiet: Quiet,
+    /// It is known that all that goes before a row that waits no more has ended.
+    pub(crate) in_order: bool,
 }
 
 impl<A: Allocator> Model for ForkTree<A> {
-    ghost use Rattle.std.specs.Prelude.{◌≤◌, ◌*◌, vec_capacity};
+    ghost use Rattle.std.specs.Prelude.{◌≡◌, ◌≤◌, ◌*◌, true, vec_capacity};
     ghost use Rattle.fork_model.specs.Table.{most_targets};
     ghost use Rattle.fork_tree.specs.Places.{rows_of};
     ghost use Rattle.fork_tree.specs.Listed.{IsTree};
     ghost use Rattle.fork_tree.specs.Tree.{Tree};
     ghost use Rattle.fork_tree.specs.Search.{AreTogether};
-    ghost use Rattle.fork_tree.specs.Quiet.{IsQuiet};
+    ghost use Rattle.fork_tree.specs.Quiet.{InOrder, IsQuiet};
 
     ghost Value = { Tree };
 
@@ -54,6 +56,7 @@ impl<A: Allocator> Model for ForkTree<A> {
       path_room : 2 * most_targets ≤ vec_capacity t.path;
       places_room : most_targets ≤ vec_capacity t.places;
       quiet : IsQuiet (rows_of t.places.items t.root) t.quiet;
+      order : t.in_order ≡ true → InOrder (rows_of t.places.items t.root);
     } };
 }
 
@@ -73,6 +76,7 @@ impl<A: Allocator + Clone> ForkTree<A> {
         let quiet = Quiet {
             calm: false,
             single: true,
+            near: None,
         };
         Ok(ForkTree {
             rules,
@@ -81,6 +85,7 @@ impl<A: Allocator + Clone> ForkTree<A> {
             path,
             tally,
             quiet,
+            in_order: true,
         })
     }
 }
@@ -148,7 +153,7 @@ impl<A: Allocator> ForkTree<A> {
         requires { IsTrue (is_row is_idle (slice_get self.old.rows n)) }
         ensures { self.new ≡ record self.old { rows = with_state self.old.rows n spec.Trying } }
     {
-        self.set(n, State::Trying);
+        self.set(n, State::Trying, false);
     }
 
     /// Row n, which was tried, has rung.
@@ -156,7 +161,7 @@ impl<A: Allocator> ForkTree<A> {
         requires { IsTrue (is_row is_trying (slice_get self.old.rows n)) }
         ensures { self.new ≡ record self.old { rows = with_state self.old.rows n (spec.Rung false) } }
     {
-        self.set(n, State::Rung { cancelled: false });
+        self.set(n, State::Rung { cancelled: false }, true);
     }
 
     /// A CANCEL was sent to row n, which has rung (RFC 3261 section 9.1).
@@ -164,7 +169,7 @@ impl<A: Allocator> ForkTree<A> {
         requires { IsTrue (is_row is_uncancelled (slice_get self.old.rows n)) }
         ensures { self.new ≡ record self.old { rows = with_state self.old.rows n (spec.Rung true) } }
     {
-        self.set(n, State::Rung { cancelled: true });
+        self.set(n, State::Rung { cancelled: true }, true);
     }
 
     /// Row n, which was tried, ends so, and these rows, which wait, come below it.
@@ -178,7 +183,7 @@ impl<A: Allocator> ForkTree<A> {
     {
         let standing = Standing::of(n, State::Ended(end), &self.rules);
         let answer = standing.answer;
-        let Level { tier, seats, .. } = below;
+        let Level { first, tier, seats } = below;
         let opens = seats.len() as u16;
         let held = self.is_held(n, opens);
         self.path.clear();
@@ -186,7 +191,7 @@ impl<A: Allocator> ForkTree<A> {
         add_places(&mut self.places, Some(n), &seats);
         self.root.end(&self.path, standing, tier, opens);
         self.tally = self.tally.after(answer, opens);
-        self.quiet = self.quiet.ended(held);
+        self.quiet = self.quiet.ended(held, if_new(opens, first, n));
     }
 
     /// No row that waits is ever tried.
@@ -198,19 +203,23 @@ impl<A: Allocator> ForkTree<A> {
         self.quiet = Quiet {
             calm: true,
             single: true,
+            near: None,
         };
+        self.in_order = false;
     }
 
-    /// Row n, which has not ended, comes into another state in which it has not.
-    pub(crate) fn set(&mut self, n: u16, state: State)
+    /// Row n, which has not ended, comes into another state in which it has not; `tried` says that it was tried before.
+    pub(crate) fn set(&mut self, n: u16, state: State, tried: bool)
         requires there { IsTrue (is_row is_unended (slice_get self.old.rows n)) }
         requires waits { has_ended state ≡ false }
+        requires tried { tried ≡ true → is_row is_idle (slice_get self.old.rows n) ≡ false }
         ensures { self.new ≡ record self.old { rows = with_state self.old.rows n (bare_state state) } }
     {
         self.path.clear();
         trace(&self.places, n, &mut self.path);
         self.root.set(&self.path, state);
         self.quiet = self.quiet.if_still(state.has_started());
+        self.in_order = both(self.in_order, tried);
     }
 }
 

@@ -16,6 +16,7 @@ invariant_of-self g c = record {
   places_room = c.self.invariant.places_room;
   quiet = quiet_closed (rows_of c.self.inside.places.items c.self.inside.root) (rows_of c.self.inside.places.items c.close-ended.new.self) c.self.inside.quiet c.self.invariant.quiet
       (ap (rows_of c.self.inside.places.items) c.close-ended.ensures.closed ∙ whole_closed c.self.inside.places.items c.self.inside.root);
+  order = λ e. absurd cc;
 }
 
 pub returns : goal.returns

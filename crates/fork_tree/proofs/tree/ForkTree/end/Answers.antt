@@ -20,6 +20,7 @@ use Rattle.fork_tree.proofs.Opening.{AreRising, seats_rise, length_seat_rows, op
 use Rattle.fork_tree.proofs.Counts.{rows_length}
 use Rattle.fork_tree.proofs.Trees.{value_after}
 use Rattle.fork_tree.proofs.Known.{tree_quiet_end}
+use Rattle.fork_tree.proofs.Ordered.{tree_order_end}
 use Rattle.fork_tree.proofs.Ends.{grown, IsEnding, tree_ended, rows_ended, open_unended}
 use Rattle.fork_tree.proofs.tree.ForkTree.end.Goals as goal
 
@@ -135,11 +136,17 @@ invariant_of-self g c =
       path_room = omega (arith, c.self.invariant.path_room, c.clear.ensures.capacity, c.trace.ensures.capacity);
       places_room = omega (arith, c.self.invariant.places_room, c.add_places.ensures.capacity);
       quiet = tree_quiet_end c.self.inside.places.items c.add_places.new.places.items c.self.inside.root c.end.new.self c.args.self.now.rows c.below.inside.seats.items c.args.n
-          c.len-opens.result c.of-standing.result.state c.self.inside.quiet c.ended-self-inside.result c.is_held-held.result c.self.invariant.tree.older tree.older
+          c.len-opens.result c.below.inside.first c.if_new.result c.of-standing.result.state c.self.inside.quiet c.ended-self-inside.result c.is_held-held.result c.self.invariant.tree.older tree.older
           (ap (λ (t : Tree). t.rows) c.self.view_is) c.self.invariant.quiet c.requires.there
           (ap (λ x. rows_of x c.end.new.self) places
           ∙ rows_ended c.self.inside.places.items c.self.inside.root c.end.new.self c.args.n c.of-standing.result c.below.inside.seats.items c.below.inside.first is first new)
-          (ap (λ (s : Standing). has_ended s.state) c.of-standing.ensures) many c.is_held-held.ensures c.ended-self-inside.ensures;
+          (ap (λ (s : Standing). has_ended s.state) c.of-standing.ensures) many c.is_held-held.ensures
+          (omega (arith, first, rows_length c.self.inside.places.items c.self.inside.root 0 c.self.inside.places.items)) c.if_new.ensures c.ended-self-inside.ensures;
+      order = λ e. tree_order_end c.self.inside.places.items c.add_places.new.places.items c.self.inside.root c.end.new.self c.args.self.now.rows c.below.inside.seats.items c.args.n
+          c.of-standing.result.state c.self.invariant.tree.older tree.older (ap (λ (t : Tree). t.rows) c.self.view_is) c.self.invariant.quiet.parents (c.self.invariant.order e) c.requires.there
+          (ap (λ x. rows_of x c.end.new.self) places
+          ∙ rows_ended c.self.inside.places.items c.self.inside.root c.end.new.self c.args.n c.of-standing.result c.below.inside.seats.items c.below.inside.first is first new)
+          (ap (λ (s : Standing). has_ended s.state) c.of-standing.ensures);
     }
 
 pub returns : goal.returns

@@ -1,4 +1,3 @@
-use Rattle.std.proofs.Common.{Some}
 use Rattle.fork_tree.proofs.Known.{holds_of}
 use Rattle.fork_tree.proofs.tree.ForkTree.holds.Goals as goal
 

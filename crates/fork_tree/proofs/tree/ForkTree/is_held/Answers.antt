@@ -1,4 +1,4 @@
-use Rattle.std.proofs.Common.{length, arith}
+use Rattle.std.proofs.Common.{arith}
 use Rattle.fork_tree.proofs.tree.ForkTree.is_held.Goals as goal
 
 pub overflow_add-n : goal.overflow_add-n

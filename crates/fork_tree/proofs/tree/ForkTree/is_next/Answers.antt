@@ -1,14 +1,25 @@
-use Rattle.std.proofs.Common.{◌≡◌, true, subst, sym}
-use Rattle.fork_tree.specs.Search.{IsNext, IsNextIn}
-use Rattle.fork_tree.proofs.Starting.{next_both}
+use Rattle.std.proofs.Common.{IfSome, subst}
+use Rattle.fork_tree.specs.Quiet.{IsAhead}
+use Rattle.fork_tree.proofs.Ordered.{next_ahead}
 use Rattle.fork_tree.proofs.tree.ForkTree.is_next.Goals as goal
 
-pub returns-then-is_next_back : goal.returns-then-is_next_back
-returns-then-is_next_back g c =
-    next_both c.args.self.now.rows c.args.n c.is_next_on.result c.requires
-    (subst (IsNextIn c.args.self.now.rows c.args.n 0 c.args.n) c.if-is_next_back.true c.is_next_back.ensures) c.is_next_on.ensures
+pub returns-then-is_in_first : goal.returns-then-is_in_first
+returns-then-is_in_first g c = c.is_in_first.ensures c.if-is_in_first.true
 
-pub returns-else-is_next_back : goal.returns-else-is_next_back
-returns-else-is_next_back g c =
-    subst (IsNext c.args.self.now.rows c.args.n) (sym c.if-is_next_back.false)
-    (subst (IsNextIn c.args.self.now.rows c.args.n 0 c.args.n) c.if-is_next_back.false c.is_next_back.ensures)
+pub group_end-requires-clause-known : goal.group_end-requires-clause-known
+group_end-requires-clause-known g c =
+    let ahead : IsAhead c.args.self.now.rows c.in-Some.first c.args.n = subst (λ o. IfSome o (λ first. IsAhead c.args.self.now.rows first c.args.n)) c.in-Some.is c.group_before.ensures in
+    ahead.known
+
+pub group_end-requires-clause-first : goal.group_end-requires-clause-first
+group_end-requires-clause-first g c =
+    let ahead : IsAhead c.args.self.now.rows c.in-Some.first c.args.n = subst (λ o. IfSome o (λ first. IsAhead c.args.self.now.rows first c.args.n)) c.in-Some.is c.group_before.ensures in
+    ahead.opens
+
+pub are_over-requires : goal.are_over-requires
+are_over-requires g c = c.group_end.ensures.within
+
+pub returns-in-Some : goal.returns-in-Some
+returns-in-Some g c =
+    let ahead : IsAhead c.args.self.now.rows c.in-Some.first c.args.n = subst (λ o. IfSome o (λ first. IsAhead c.args.self.now.rows first c.args.n)) c.in-Some.is c.group_before.ensures in
+    next_ahead c.args.self.now.rows c.in-Some.first c.group_end.result c.args.n c.are_over.result ahead.order.older ahead.order.order c.requires c.group_end.ensures ahead.right c.are_over.ensures

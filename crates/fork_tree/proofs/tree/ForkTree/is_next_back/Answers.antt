@@ -1,4 +1,4 @@
-use Rattle.std.proofs.Common.{◌≡◌, ◌≤◌, ◌-◌, ℕ, subst, arith}
+use Rattle.std.proofs.Common.{◌-◌, subst, arith}
 use Rattle.fork_tree.specs.Search.{HoldsUp}
 use Rattle.fork_tree.proofs.Starting.{free_back}
 use Rattle.fork_tree.proofs.tree.ForkTree.is_next_back.Goals as goal

@@ -1,4 +1,4 @@
-use Rattle.std.proofs.Common.{◌≡◌, ◌≤◌, length, subst, arith}
+use Rattle.std.proofs.Common.{subst, arith}
 use Rattle.fork_tree.specs.Search.{HoldsUp}
 use Rattle.fork_tree.proofs.Starting.{free_on}
 use Rattle.fork_tree.proofs.tree.ForkTree.is_next_on.Goals as goal

@@ -1,5 +1,4 @@
 use Rattle.std.proofs.Common.{ap, subst}
-use Rattle.fork_tree.specs.Places.{rows_of}
 use Rattle.fork_tree.specs.Tree.{Tree}
 use Rattle.fork_tree.specs.Quiet.{OneIsLast}
 use Rattle.fork_tree.proofs.Known.{tree_last}

@@ -9,6 +9,7 @@ use Rattle.fork_tree.proofs.Mates.{seats_together}
 use Rattle.fork_tree.specs.Places.{rows_of}
 use Rattle.fork_tree.specs.Listed.{IsTree}
 use Rattle.fork_tree.proofs.Known.{quiet_new}
+use Rattle.fork_tree.proofs.Ordered.{order_new}
 use Rattle.fork_tree.proofs.Opening.{AreRising, seats_rise, seats_count, rows_opened, tree_opened}
 use Rattle.fork_tree.proofs.tree.ForkTree.new.Goals as goal
 
@@ -33,6 +34,9 @@ invariant_of-result g c =
       path_room = omega (arith, c.in_ok-path.ensures.exact);
       places_room = omega (arith, c.in_ok-places.ensures.exact, c.add_places.ensures.capacity);
       quiet = quiet_new (rows_of c.add_places.new.places.items c.in_ok-root.root) c.in_ok-root.seats.items
+          (ap (λ x. rows_of x c.in_ok-root.root) places ∙ ap (rows_of (map (place_in None) c.in_ok-root.seats.items)) c.in_ok-root.ensures.tier
+          ∙ rows_opened c.in_ok-root.seats.items rise);
+      order = λ e. order_new (rows_of c.add_places.new.places.items c.in_ok-root.root) c.in_ok-root.seats.items
           (ap (λ x. rows_of x c.in_ok-root.root) places ∙ ap (rows_of (map (place_in None) c.in_ok-root.seats.items)) c.in_ok-root.ensures.tier
           ∙ rows_opened c.in_ok-root.seats.items rise);
     }

@@ -1,15 +1,6 @@
-use Rattle.std.proofs.Common.{◌⊎◌, ℕ, false, arith, subst}
-use Rattle.fork_tree.specs.Search.{Joins, MayGo, BeginsReady}
-use Rattle.fork_tree.proofs.Starting.{below_next, none_starts}
+use Rattle.std.proofs.Common.{IfSome, subst}
+use Rattle.fork_tree.specs.Quiet.{IsNear}
 use Rattle.fork_tree.proofs.tree.ForkTree.ready_group.Goals as goal
 
-pub loop-n-preserved : goal.loop-n-preserved
-loop-n-preserved g c = λ k lt.
-    below_next (λ (j : ℕ). Joins c.args.self.now.rows j ⊎ MayGo c.args.self.now.rows j false) c.loop-n.n k c.loop-n.invariant
-    (subst (BeginsReady c.args.self.now.rows c.loop-n.n) c.in_default.is c.ready_from.ensures) lt
-
-pub returns-in-Some : goal.returns-in-Some
-returns-in-Some g c = subst (BeginsReady c.args.self.now.rows c.loop-n.n) c.in-Some.is c.ready_from.ensures
-
-pub returns : goal.returns
-returns g c = none_starts c.args.self.now.rows (λ n lt. c.loop-n.invariant n (omega (arith, lt, c.count-n-end.ensures)))
+pub ready_near-requires : goal.ready_near-requires
+ready_near-requires g c = subst (λ o. IfSome o (λ n. IsNear c.args.self.now.rows n)) c.in-Some.is c.near.ensures

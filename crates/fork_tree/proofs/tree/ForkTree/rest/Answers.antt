@@ -12,4 +12,5 @@ invariant_of-self g c = record {
   places_room = c.self.invariant.places_room;
   quiet = tree_quiet_rest (rows_of c.self.inside.places.items c.self.inside.root) c.args.self.now.rows c.self.inside.quiet c.args.calm c.self.invariant.quiet
       (ap (λ (t : Tree). t.rows) c.self.view_is) c.requires;
+  order = c.self.invariant.order;
 }
