@@ -32,3 +32,5 @@ pub mod Applied
 pub mod Lines
 pub mod Applies
 pub mod Redirected
+pub mod ByKeySteps
+pub mod TakenKeys

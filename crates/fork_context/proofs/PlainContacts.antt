@@ -13,7 +13,7 @@ use Rattle.fork_context.specs.PlainTaking.{keys_of_fresh, taken_more}
 abbrev pub joined : Taking → Taking → Taking
 joined a b = record { fresh = a.fresh ++ b.fresh; left = a.left ++ b.left }
 
-list_any-map : {X Y : Type 0} (p : Y → Bool) (f : X → Y) (xs : List X) → list_any p (map f xs) ≡ list_any (λ x. p (f x)) xs
+pub list_any-map : {X Y : Type 0} (p : Y → Bool) (f : X → Y) (xs : List X) → list_any p (map f xs) ≡ list_any (λ x. p (f x)) xs
 list_any-map p f [] = refl
 list_any-map p f (x ∷ xs) = ap (λ b. p (f x) || b) (list_any-map p f xs)
 
@@ -85,7 +85,29 @@ keys_more keys all place offer (Fresh key) taken fit =
     ∙ ap (λ ks. keys ++ ks) (sym (map_push (λ (f : ℕ × Offer). unwrap_or f.1.key []) taken.fresh (place, offer)))
 keys_more keys all place offer Left taken fit = refl
 
--- the step of the loop over the contacts
+-- a contact becomes a target only where there is room
+pub room_of : (keys : List (List ℕ)) (offer : Option (List ℕ)) (key : List ℕ) → Fresh key ≡ fate_of keys offer → length keys < most_targets
+room_of keys offer key is = let P : Fate → Type 0 = λ fate. IsFit keys offer fate in let fit : P (Fresh key) = subst P (sym is) (fits keys offer) in fit.room
+
+-- the step of the loop over the contacts, where these are the keys of all targets before it and after it
+pub taken_by_keys : (keys after : List (List ℕ)) (offers : List Offer) (place : ℕ) (offer : Offer) (taken more whole : Taking)
+    → place < length offers → offer ≡ get_or offers place offer
+    → more ≡ taken_more place offer (fate_of keys offer.key) taken
+    → after ≡ keys_after keys (fate_of keys offer.key)
+    → joined taken (taking_from keys place (drop place offers)) ≡ whole
+    → joined more (taking_from after (place + 1) (drop (place + 1) offers)) ≡ whole
+taken_by_keys keys after offers place offer taken more whole lt at is known so_far =
+    let fate : Fate = fate_of keys offer.key in
+    let rest : List Offer = drop (place + 1) offers in
+    let J : List (List ℕ) → ℕ → Taking = λ ks p. joined (taken_more place offer fate taken) (taking_from ks p rest) in
+    let split : drop place offers ≡ offer ∷ rest = drop_more offers place offer lt ∙ ap (λ o. o ∷ rest) (sym at) in
+    ap (λ (t : Taking). joined t (taking_from after (place + 1) rest)) is
+    ∙ ap (λ p. J after p) (add-one place)
+    ∙ ap (λ ks. J ks (suc place)) known
+    ∙ sym (joined_more place offer fate taken (taking_from (keys_after keys fate) (suc place) rest))
+    ∙ sym (ap (λ os. joined taken (taking_from keys place os)) split)
+    ∙ so_far
+
 pub taking_more : (keys : List (List ℕ)) (offers : List Offer) (place : ℕ) (offer : Offer) (taken more whole : Taking)
     → place < length offers → offer ≡ get_or offers place offer
     → more ≡ taken_more place offer (fate_of (keys ++ keys_of_fresh taken.fresh) offer.key) taken
@@ -93,17 +115,9 @@ pub taking_more : (keys : List (List ℕ)) (offers : List Offer) (place : ℕ) (
     → joined more (taking_from (keys ++ keys_of_fresh more.fresh) (place + 1) (drop (place + 1) offers)) ≡ whole
 taking_more keys offers place offer taken more whole lt at is so_far =
     let now : List (List ℕ) = keys ++ keys_of_fresh taken.fresh in
-    let fate : Fate = fate_of now offer.key in
-    let rest : List Offer = drop (place + 1) offers in
-    let J : List (List ℕ) → ℕ → Taking = λ ks p. joined (taken_more place offer fate taken) (taking_from ks p rest) in
-    let after : Taking → Taking = λ t. joined t (taking_from (keys ++ keys_of_fresh t.fresh) (place + 1) rest) in
-    let split : drop place offers ≡ offer ∷ rest = drop_more offers place offer lt ∙ ap (λ o. o ∷ rest) (sym at) in
-    ap after is
-    ∙ ap (λ p. J (keys ++ keys_of_fresh (taken_more place offer fate taken).fresh) p) (add-one place)
-    ∙ sym (ap (λ ks. J ks (suc place)) (keys_more keys now place offer fate taken (fits now offer.key)))
-    ∙ sym (joined_more place offer fate taken (taking_from (keys_after now fate) (suc place) rest))
-    ∙ sym (ap (λ os. joined taken (taking_from now place os)) split)
-    ∙ so_far
+    let known : keys ++ keys_of_fresh more.fresh ≡ keys_after now (fate_of now offer.key) =
+    ap (λ (t : Taking). keys ++ keys_of_fresh t.fresh) is ∙ sym (keys_more keys now place offer (fate_of now offer.key) taken (fits now offer.key)) in
+    taken_by_keys now (keys ++ keys_of_fresh more.fresh) offers place offer taken more whole lt at is known so_far
 
 -- no more contacts become targets than there is room
 few_more : (keys : List (List ℕ)) (place : ℕ) (offer : Offer) (fate : Fate) (rest : Taking) → IsFit keys offer.key fate

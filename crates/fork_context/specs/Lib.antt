@@ -18,3 +18,4 @@ pub mod Askers
 pub mod Chosen
 pub mod Stepped
 pub mod Opening
+pub mod ByKey

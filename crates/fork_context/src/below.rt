@@ -52,7 +52,10 @@ pub(crate) fn qs_at<A: Allocator + Clone>(
 }
 
 /// What stands beside the row of a contact.
-fn beside_of<A: Allocator + Clone>(alloc: &A, contact: &Fresh<A>) -> Result<Beside<A>, AllocError>
+pub(crate) fn beside_of<A: Allocator + Clone>(
+    alloc: &A,
+    contact: &Fresh<A>,
+) -> Result<Beside<A>, AllocError>
     ensures { IfOk result (λ beside. beside ≡ beside_of contact.now) }
 {
     Ok(Beside {

@@ -1,6 +1,5 @@
 //! What stands beside a row of the tree.
 ghost use Rattle.std.specs.Prelude.{◌≡◌, ◌<◌, length};
-ghost use Rattle.fork_context.specs.Dressed.{with_beside};
 
 use crate::offer::Offer;
 use fork_rank::Challenge;
@@ -61,17 +60,4 @@ impl<A: Allocator> Beside<A> {
         self.left = left;
         self.challenges = challenges;
     }
-}
-
-/// Keeps what is stored with the answer to row n.
-pub(crate) fn store_at<A: Allocator>(
-    besides: &mut Vec<Beside<A>, A>,
-    n: u16,
-    left: Vec<Offer<A>, A>,
-    challenges: Vec<Challenge<A>, A>,
-)
-    requires there { n < length besides.old.items }
-    ensures { besides.new.items ≡ with_beside besides.old.items n left.items challenges.items }
-{
-    besides[n as usize].store(left, challenges);
 }

@@ -23,7 +23,8 @@ ghost use Rattle.fork_context.specs.Ready.{Starts, numbers_from};
 ghost use Rattle.fork_context.specs.ReplyView.{choice_of};
 ghost use Rattle.fork_context.specs.RowShown.{row_shown, ref_shown};
 
-use crate::beside::{Beside, store_at};
+use crate::beside::Beside;
+use crate::besides::Besides;
 use crate::challenges::{StoredAnswer, stored_answer};
 use crate::effect::Effect;
 use crate::kind::Kind;
@@ -42,7 +43,7 @@ pub(crate) struct Fork<A: Allocator + Clone = Global> {
     closed: bool,
     succeeded: bool,
     tree: ForkTree<A>,
-    besides: Vec<Beside<A>, A>,
+    besides: Besides<A>,
 }
 
 impl<A: Allocator + Clone> Model for Fork<A> {
@@ -53,16 +54,16 @@ impl<A: Allocator + Clone> Model for Fork<A> {
 
     ghost Value = { spec.Table };
 
-    ghost view = { λ f. record { kind = kind_of f.kind; rules = f.tree.rules; closed = f.closed; rows = dressed f.tree.rows f.besides.items } };
+    ghost view = { λ f. record { kind = kind_of f.kind; rules = f.tree.rules; closed = f.closed; rows = dressed f.tree.rows f.besides } };
 
-    ghost invariant = { λ f. IsFork f.tree.rows f.besides.items f.succeeded };
+    ghost invariant = { λ f. IsFork f.tree.rows f.besides f.succeeded };
 }
 
 impl<A: Allocator + Clone> Fork<A> {
     /// The open fork of these rows, with what stands beside each.
-    pub(crate) fn of(kind: Kind, tree: ForkTree<A>, besides: Vec<Beside<A>, A>) -> Fork<A>
-        requires { IsFork tree.rows besides.items false }
-        ensures { result ≡ record { kind = kind_of kind; rules = tree.rules; closed = false; rows = dressed tree.rows besides.items } }
+    pub(crate) fn of(kind: Kind, tree: ForkTree<A>, besides: Besides<A>) -> Fork<A>
+        requires { IsFork tree.rows besides false }
+        ensures { result ≡ record { kind = kind_of kind; rules = tree.rules; closed = false; rows = dressed tree.rows besides } }
     {
         Fork {
             kind,
@@ -172,7 +173,7 @@ impl<A: Allocator + Clone> Fork<A> {
         ensures { result ≡ option_map (row_shown n) (slice_get self.now.rows n) }
     {
         let row = self.tree.row(n)?;
-        let beside = beside_at(&self.besides, n)?;
+        let beside = self.besides.get(n)?;
         Some(RowView {
             row,
             place: beside.place(),
@@ -184,7 +185,7 @@ impl<A: Allocator + Clone> Fork<A> {
         ensures { result ≡ stored_at (slice_get self.now.rows n) }
     {
         let row = self.tree.row(n)?;
-        stored_answer(&row, beside_at(&self.besides, n)?)
+        stored_answer(&row, self.besides.get(n)?)
     }
 
     /// The contacts left of the 3xx that row n was answered with and that is stored.
@@ -198,7 +199,7 @@ impl<A: Allocator + Clone> Fork<A> {
     fn beside(&self, n: u16) -> Option<&Beside<A>>
         ensures { option_map (λ b. b.key) (option_copied result) ≡ option_map (λ row. row.key) (slice_get self.now.rows n) }
     {
-        beside_at(&self.besides, n)
+        self.besides.get(n)
     }
 
     /// What identifies the target of row n.
@@ -245,7 +246,7 @@ impl<A: Allocator + Clone> Fork<A> {
     pub(crate) fn has_key(&self, key: &[u8]) -> bool
         ensures { result ≡ list_any (λ row. pointwise nat_eq key.now row.key) self.now.rows }
     {
-        has_key(&self.besides, key)
+        self.besides.has_key(key)
     }
 
     /// How many rows stand in the line that begins at this one, within so many steps.
@@ -298,7 +299,7 @@ impl<A: Allocator + Clone> Fork<A> {
         end: End,
         stored: (Vec<Offer<A>, A>, Vec<Challenge<A>, A>),
         below: Level<A>,
-        mut fresh: Vec<Beside<A>, A>,
+        fresh: Vec<Beside<A>, A>,
     ) -> Result<(), AllocError>
         requires open_yet { is_row is_open (slice_get self.old.rows n) ≡ true }
         requires final_status { IsFinalEnd end }
@@ -309,9 +310,9 @@ impl<A: Allocator + Clone> Fork<A> {
         ensures err { OnErr result (self.new ≡ self.old) }
     {
         let succeeded = succeeds(self.succeeded, &end);
-        self.besides.append(&mut fresh)?;
+        self.besides.append(fresh)?;
         let (left, challenges) = stored;
-        store_at(&mut self.besides, n, left, challenges);
+        self.besides.store(n, left, challenges);
         self.tree.end(n, end, below);
         self.succeeded = succeeded;
         Ok(())
@@ -431,13 +432,6 @@ fn push_numbers<A: Allocator>(numbers: &mut Vec<u16, A>, first: u16, count: u16)
     }
 }
 
-/// Whether one of these is the key.
-fn has_key<A: Allocator>(besides: &[Beside<A>], key: &[u8]) -> bool
-    ensures { result ≡ list_any (λ beside. pointwise nat_eq key.now beside.key) besides.now }
-{
-    besides.iter().any(|beside| key == beside.key())
-}
-
 /// Whether a 2xx has come, where one had before, or this is the end by one.
 fn succeeds(before: bool, end: &End) -> bool
     ensures { result ≡ (before || accepts_end end.now) }
@@ -450,11 +444,4 @@ fn closes_with(before: bool, closes: bool) -> bool
     ensures { result ≡ (before || closes) }
 {
     before || closes
-}
-
-/// What stands beside row n.
-fn beside_at<A: Allocator>(besides: &[Beside<A>], n: u16) -> Option<&Beside<A>>
-    ensures { option_copied result ≡ slice_get besides.now n }
-{
-    besides.get(n as usize)
 }

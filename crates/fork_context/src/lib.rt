@@ -4,6 +4,7 @@
 
 mod below;
 mod beside;
+mod besides;
 mod challenges;
 mod context;
 mod copy;
@@ -19,6 +20,7 @@ mod row;
 mod step;
 mod stray;
 mod taking;
+mod targets;
 #[cfg(test)]
 mod tests;
 #[cfg(test)]

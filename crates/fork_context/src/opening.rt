@@ -11,6 +11,7 @@ ghost use Rattle.fork_context.specs.Refusals.{HasTwice};
 
 use crate::below::qs_at;
 use crate::beside::Beside;
+use crate::besides::Besides;
 use crate::event::Target;
 use crate::fork::Fork;
 use crate::kind::Kind;
@@ -95,6 +96,18 @@ fn besides_of<A: Allocator + Clone>(
     Ok(besides)
 }
 
+/// The same, to be found by number and by key.
+fn besides_by_key<A: Allocator + Clone>(
+    alloc: &A,
+    targets: &[Target<A>],
+    order: &[(u16, u16)],
+) -> Result<Besides<A>, AllocError>
+    requires few { length order.now ≤ most_targets }
+    ensures { IfOk result (λ besides. besides ≡ filter_map (target_beside targets.now) order.now) }
+{
+    Besides::of(alloc, besides_of(alloc, targets, order)?)
+}
+
 impl<A: Allocator + Clone> Fork<A> {
     /// The fork of these targets, the first group of which is tried at once; the only error is want of memory.
     pub(crate) fn opening(
@@ -124,7 +137,7 @@ impl<A: Allocator + Clone> Fork<A> {
         let qs = qs_of(alloc, targets)?;
         let order = numbered(alloc, &qs)?;
         let tree = ForkTree::new(alloc.clone()?, rules, &qs_at(alloc, &qs, &order)?)?;
-        let besides = besides_of(alloc, targets, &order)?;
+        let besides = besides_by_key(alloc, targets, &order)?;
         Ok(Fork::of(kind, tree, besides))
     }
 }

@@ -1,19 +1,18 @@
 //! The contacts of a 3xx, taken as further targets or left to the caller (RFC 3261 sections 16.5 and 16.7
 //! step 4).
-ghost use Rattle.std.specs.Prelude.{◌≡◌, ◌≤◌, ◌||◌, not, ◌∷◌, ◌++◌, nat_eq, nat_lt, [], length, unwrap_or, IfOk, OnOk};
-ghost use Rattle.std.specs.List.{list_any, filter_map};
-ghost use Rattle.std.specs.Cmp.Lexicographic.{pointwise};
+ghost use Rattle.std.specs.Prelude.{◌≡◌, ◌≤◌, ◌<◌, ◌||◌, not, ◌∷◌, ◌++◌, nat_lt, [], length, unwrap_or, IfOk, OnOk};
 ghost use Rattle.fork_model.specs.Table.{most_targets};
 ghost use Rattle.fork_model.specs.Waiting.{line_from, parent_row};
-ghost use Rattle.fork_model.specs.Contacts.{fate_of, is_known, keys_of, taking_from, taking_at};
+ghost use Rattle.fork_model.specs.Contacts.{fate_of, keys_of, keys_after, taking_from, taking_at};
 ghost use Rattle.fork_context.specs.TakingFate.{fate_at};
 ghost use Rattle.fork_context.specs.StandIn.{tree_row};
-ghost use Rattle.fork_context.specs.PlainTaking.{keys_of_fresh, taken_more};
+ghost use Rattle.fork_context.specs.PlainTaking.{taken_more};
 
+use crate::below::beside_of;
 use crate::copy::copied_offers;
 use crate::fork::Fork;
 use crate::offer::Offer;
-use fork_rank::MOST_TARGETS;
+use crate::targets::Targets;
 use fork_tree::RowRef;
 use std::alloc::{AllocError, Allocator};
 use std::marker::Model;
@@ -75,27 +74,6 @@ impl<A: Allocator> Model for Taking<A> {
     ghost view = { λ t. record { fresh = t.fresh.items; left = t.left.items } };
 }
 
-/// Whether some contact that becomes a target has this key.
-fn is_key_of_fresh<A: Allocator>(fresh: &[Fresh<A>], key: &[u8]) -> bool
-    ensures { result ≡ list_any (λ f. pointwise nat_eq key.now (unwrap_or f.1.key [])) fresh.now }
-{
-    fresh.iter().any(|contact| key == contact.key())
-}
-
-/// Whether this is the key of a target, where the targets of the fork and these contacts are targets.
-fn is_known<A: Allocator + Clone>(fork: &Fork<A>, fresh: &[Fresh<A>], key: &[u8]) -> bool
-    ensures { result ≡ is_known (keys_of fork.now.rows ++ keys_of_fresh fresh.now) key.now }
-{
-    fork.has_key(key) || is_key_of_fresh(fresh, key)
-}
-
-/// Whether there may be one more target than the rows of the fork and these contacts.
-fn has_room<A: Allocator + Clone>(fork: &Fork<A>, fresh: &[Fresh<A>]) -> bool
-    ensures { result ≡ nat_lt (length (keys_of fork.now.rows ++ keys_of_fresh fresh.now)) most_targets }
-{
-    fresh.len() < (MOST_TARGETS as usize).saturating_sub(fork.count() as usize)
-}
-
 /// What becomes of one contact: its target is one already; it becomes one; it is left.
 pub(crate) enum Fate {
     Known,
@@ -103,16 +81,16 @@ pub(crate) enum Fate {
     Left,
 }
 
-/// What becomes of a contact, where the targets of the fork and these contacts are targets.
-fn fate_of<A: Allocator + Clone>(fork: &Fork<A>, fresh: &[Fresh<A>], offer: &Offer<A>) -> Fate
-    ensures { fate_at result offer.now ≡ fate_of (keys_of fork.now.rows ++ keys_of_fresh fresh.now) offer.now.key }
+/// What becomes of a contact, where these are all targets.
+fn fate_of<A: Allocator + Clone>(targets: &Targets<'_, A>, offer: &Offer<A>) -> Fate
+    ensures { fate_at result offer.now ≡ fate_of targets.now offer.now.key }
 {
     let Some(key) = &offer.key else {
         return Fate::Left;
     };
-    if is_known(fork, fresh, key) {
+    if targets.has(key) {
         Fate::Known
-    } else if has_room(fork, fresh) {
+    } else if targets.has_room() {
         Fate::Fresh
     } else {
         Fate::Left
@@ -121,10 +99,10 @@ fn fate_of<A: Allocator + Clone>(fork: &Fork<A>, fresh: &[Fresh<A>], offer: &Off
 
 impl<A: Allocator> Taking<A> {
     /// Takes one more contact.
-    fn take(&mut self, place: usize, offer: Offer<A>) -> Result<(), AllocError>
-        ensures { OnOk result (self.new ≡ record self.old { fresh = self.old.fresh ++ (place, offer) ∷ [] }) }
+    fn take(&mut self, contact: Fresh<A>) -> Result<(), AllocError>
+        ensures { OnOk result (self.new ≡ record self.old { fresh = self.old.fresh ++ contact ∷ [] }) }
     {
-        self.fresh.push(Fresh { place, offer })?;
+        self.fresh.push(contact)?;
         Ok(())
     }
 
@@ -137,19 +115,42 @@ impl<A: Allocator> Taking<A> {
     }
 }
 
-/// Takes or leaves one contact, which stands at this place; the only error is want of memory.
-fn take_contact<A: Allocator + Clone>(
+/// Takes one contact, which stands at this place: its key is that of a target from now on. The only error is want of
+/// memory.
+fn take_fresh<A: Allocator + Clone>(
     alloc: &A,
-    fork: &Fork<A>,
+    targets: &mut Targets<'_, A>,
     taking: &mut Taking<A>,
     place: usize,
     offer: &Offer<A>,
 ) -> Result<(), AllocError>
-    ensures { OnOk result (taking.new ≡ taken_more place offer.now (fate_of (keys_of fork.now.rows ++ keys_of_fresh taking.old.fresh) offer.now.key) taking.old) }
+    requires room { length targets.old < most_targets }
+    ensures taken { OnOk result (taking.new ≡ record taking.old { fresh = taking.old.fresh ++ (place, offer.now) ∷ [] }) }
+    ensures keys { OnOk result (targets.new ≡ targets.old ++ unwrap_or offer.now.key [] ∷ []) }
 {
-    match fate_of(fork, &taking.fresh, offer) {
+    let contact = Fresh {
+        place,
+        offer: offer.copy(alloc)?,
+    };
+    targets.add(beside_of(alloc, &contact)?)?;
+    taking.take(contact)
+}
+
+/// Takes or leaves one contact, which stands at this place, where these are all targets so far; the only error is want
+/// of memory.
+fn take_contact<A: Allocator + Clone>(
+    alloc: &A,
+    targets: &mut Targets<'_, A>,
+    taking: &mut Taking<A>,
+    place: usize,
+    offer: &Offer<A>,
+) -> Result<(), AllocError>
+    ensures taken { OnOk result (taking.new ≡ taken_more place offer.now (fate_of targets.old offer.now.key) taking.old) }
+    ensures keys { OnOk result (targets.new ≡ keys_after targets.old (fate_of targets.old offer.now.key)) }
+{
+    match fate_of(targets, offer) {
         Fate::Known => Ok(()),
-        Fate::Fresh => taking.take(place, offer.copy(alloc)?),
+        Fate::Fresh => take_fresh(alloc, targets, taking, place, offer),
         Fate::Left => taking.leave(offer.copy(alloc)?),
     }
 }
@@ -162,12 +163,13 @@ fn taking_from<A: Allocator + Clone>(
 ) -> Result<Taking<A>, AllocError>
     ensures { IfOk result (λ taken. taken ≡ taking_from (keys_of fork.now.rows) 0 offers.now) }
 {
+    let mut targets = Targets::of(alloc, fork)?;
     let mut taking = Taking {
         fresh: Vec::new(alloc.clone()?),
         left: Vec::new(alloc.clone()?),
     };
     for (place, offer) in offers.iter().enumerate() {
-        take_contact(alloc, fork, &mut taking, place, offer)?;
+        take_contact(alloc, &mut targets, &mut taking, place, offer)?;
     }
     Ok(taking)
 }

@@ -26,6 +26,6 @@ use Rattle.fork_context.proofs.fork.Fork.beside.Goals as goal
 
 pub returns : goal.returns
 returns g c =
-    ap (option_map (λ (b : Beside). b.key)) (c.beside_at.ensures ∙ ap (λ (bs : List Beside). slice_get bs c.args.n) c.deref.ensures.value)
-    ∙ key_dressed c.self.inside.tree.rows c.self.inside.besides.items c.args.n c.self.invariant.each
+    ap (option_map (λ (b : Beside). b.key)) c.get.ensures
+    ∙ key_dressed c.self.inside.tree.rows c.self.inside.besides c.args.n c.self.invariant.each
     ∙ ap (λ (t : Table). option_map (λ (row : Row). row.key) (slice_get t.rows c.args.n)) c.self.view_is

@@ -19,7 +19,7 @@ use Rattle.fork_context.proofs.ClosingRows.{cancelled_to, cancelled_all, closed_
 use Rattle.fork_context.proofs.fork.Fork.count.Goals as goal
 
 pub returns-clause-value : goal.returns-clause-value
-returns-clause-value g c = rw (← c.self.view_is) (c.count.ensures ∙ sym (length-dressed c.self.inside.tree.rows c.self.inside.besides.items))
+returns-clause-value g c = rw (← c.self.view_is) (c.count.ensures ∙ sym (length-dressed c.self.inside.tree.rows c.self.inside.besides))
 
 pub returns-clause-range : goal.returns-clause-range
 returns-clause-range g c =

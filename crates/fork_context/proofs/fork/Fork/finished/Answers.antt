@@ -26,5 +26,5 @@ use Rattle.fork_context.proofs.fork.Fork.finished.Goals as goal
 
 pub returns : goal.returns
 returns g c =
-    ap (λ (k : ℕ). k == 0) c.open_count.ensures ∙ none_open c.self.inside.tree.rows ∙ sym (finished_dressed c.self.inside.tree.rows c.self.inside.besides.items)
+    ap (λ (k : ℕ). k == 0) c.open_count.ensures ∙ none_open c.self.inside.tree.rows ∙ sym (finished_dressed c.self.inside.tree.rows c.self.inside.besides)
     ∙ ap (λ (t : Table). is_finished t.rows) c.self.view_is

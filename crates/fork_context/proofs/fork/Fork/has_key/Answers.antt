@@ -27,6 +27,5 @@ use Rattle.fork_context.proofs.fork.Fork.has_key.Goals as goal
 pub returns : goal.returns
 returns g c =
     c.has_key.ensures
-    ∙ ap (list_any (λ (b : Beside). pointwise nat_eq c.args.key.now b.key)) c.deref.ensures.value
-    ∙ keys_dressed c.args.key.now c.self.inside.tree.rows c.self.inside.besides.items c.self.invariant.each
+    ∙ keys_dressed c.args.key.now c.self.inside.tree.rows c.self.inside.besides c.self.invariant.each
     ∙ ap (λ (t : Table). list_any (λ (row : Row). pointwise nat_eq c.args.key.now row.key) t.rows) c.self.view_is

@@ -11,21 +11,21 @@ use Rattle.fork_context.proofs.fork.Fork.look.Goals as goal
 pub returns-in_err-row : goal.returns-in_err-row
 returns-in_err-row g c =
     let n = c.args.n in
-    let none = none_there c.self.inside.tree.rows c.self.inside.besides.items n n c.self.invariant.each c.in_err-row.ensures in
+    let none = none_there c.self.inside.tree.rows c.self.inside.besides n n c.self.invariant.each c.in_err-row.ensures in
     c.from_residual.ensures ∙ sym (ap (option_map (row_shown n)) none) ∙ ap (λ (t : Table). option_map (row_shown n) (slice_get t.rows n)) c.self.view_is
 
 pub returns-in_err-beside : goal.returns-in_err-beside
 returns-in_err-beside g c =
     let n = c.args.n in
-    let none = none_beside c.self.inside.tree.rows c.self.inside.besides.items n c.self.invariant.each
-    (c.in_err-beside.ensures ∙ ap (λ (bs : List Beside). slice_get bs n) c.deref.ensures.value) in
+    let none = none_beside c.self.inside.tree.rows c.self.inside.besides n c.self.invariant.each
+    c.in_err-beside.ensures in
     c.from_residual-in_err-beside.ensures ∙ sym (ap (option_map (row_shown n)) none) ∙ ap (λ (t : Table). option_map (row_shown n) (slice_get t.rows n)) c.self.view_is
 
 pub returns : goal.returns
 returns g c =
     let n = c.args.n in
-    let is = there c.self.inside.tree.rows c.self.inside.besides.items n n c.in_ok-row.row c.in_ok-beside.beside.now c.self.invariant.each c.in_ok-row.ensures
-    (c.in_ok-beside.ensures ∙ ap (λ (bs : List Beside). slice_get bs n) c.deref.ensures.value) in
+    let is = there c.self.inside.tree.rows c.self.inside.besides n n c.in_ok-row.row c.in_ok-beside.beside.now c.self.invariant.each c.in_ok-row.ensures
+    c.in_ok-beside.ensures in
     ap (λ (p : ℕ). Some (let v : RowView = record { row = c.in_ok-row.row; place = p } in v)) c.place.ensures
-    ∙ look_there c.self.inside.tree.rows c.self.inside.besides.items n n c.in_ok-row.row c.in_ok-beside.beside.now is
+    ∙ look_there c.self.inside.tree.rows c.self.inside.besides n n c.in_ok-row.row c.in_ok-beside.beside.now is
     ∙ ap (λ (t : Table). option_map (row_shown n) (slice_get t.rows n)) c.self.view_is

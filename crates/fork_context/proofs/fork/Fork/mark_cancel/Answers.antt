@@ -26,23 +26,23 @@ use Rattle.fork_context.proofs.fork.Fork.mark_cancel.Goals as goal
 
 pub mark_cancel-requires : goal.mark_cancel-requires
 mark_cancel-requires g c =
-    sym (uncancelled_dressed c.self.inside.tree.rows c.self.inside.besides.items c.args.n)
+    sym (uncancelled_dressed c.self.inside.tree.rows c.self.inside.besides c.args.n)
     ∙ ap (λ (t : Table). is_row is_uncancelled (slice_get t.rows c.args.n)) c.self.view_is
     ∙ c.requires.rang
 
 pub invariant_of-self : goal.invariant_of-self
 invariant_of-self g c =
     let there : is_row is_uncancelled (slice_get c.self.inside.tree.rows c.args.n) ≡ true =
-    sym (uncancelled_dressed c.self.inside.tree.rows c.self.inside.besides.items c.args.n)
+    sym (uncancelled_dressed c.self.inside.tree.rows c.self.inside.besides c.args.n)
     ∙ ap (λ (t : Table). is_row is_uncancelled (slice_get t.rows c.args.n)) c.self.view_is
     ∙ c.requires.rang in
-    let Q : Tree → Type 0 = λ t. IsFork t.rows c.self.inside.besides.items c.self.inside.succeeded in
+    let Q : Tree → Type 0 = λ t. IsFork t.rows c.self.inside.besides c.self.inside.succeeded in
     subst Q (sym c.mark_cancel.ensures)
-    (fork_moved c.self.inside.tree.rows c.self.inside.besides.items c.self.inside.succeeded c.args.n (Rung true) c.self.invariant (open_of_uncancelled c.self.inside.tree.rows c.args.n there) refl refl)
+    (fork_moved c.self.inside.tree.rows c.self.inside.besides c.self.inside.succeeded c.args.n (Rung true) c.self.invariant (open_of_uncancelled c.self.inside.tree.rows c.args.n there) refl refl)
 
 pub returns : goal.returns
 returns g c =
-    let view : Tree → Table = λ (t : Tree). record { kind = kind_of c.self.inside.kind; rules = t.rules; closed = c.self.inside.closed; rows = dressed t.rows c.self.inside.besides.items } in
+    let view : Tree → Table = λ (t : Tree). record { kind = kind_of c.self.inside.kind; rules = t.rules; closed = c.self.inside.closed; rows = dressed t.rows c.self.inside.besides } in
     let with_rows : List Row → Table = λ (rows : List Row). record { kind = kind_of c.self.inside.kind; rules = c.self.inside.tree.rules; closed = c.self.inside.closed; rows = rows } in
     let after : Table → Table = λ (t : Table). record t { rows = with_state t.rows c.args.n (Rung true) } in
-    ap view c.mark_cancel.ensures ∙ ap with_rows (dressed_state c.self.inside.tree.rows c.self.inside.besides.items c.args.n (Rung true) (λ b. refl)) ∙ ap after c.self.view_is
+    ap view c.mark_cancel.ensures ∙ ap with_rows (dressed_state c.self.inside.tree.rows c.self.inside.besides c.args.n (Rung true) (λ b. refl)) ∙ ap after c.self.view_is

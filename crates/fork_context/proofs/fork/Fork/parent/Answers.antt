@@ -3,4 +3,4 @@ use Rattle.fork_context.proofs.Lines.{parent_dressed}
 use Rattle.fork_context.proofs.fork.Fork.parent.Goals as goal
 
 pub returns : goal.returns
-returns g c = rw (← c.self.view_is) (c.parent.ensures ∙ parent_dressed c.self.inside.tree.rows c.self.inside.besides.items c.args.n)
+returns g c = rw (← c.self.view_is) (c.parent.ensures ∙ parent_dressed c.self.inside.tree.rows c.self.inside.besides c.args.n)

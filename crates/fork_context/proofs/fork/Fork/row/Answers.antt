@@ -19,4 +19,4 @@ use Rattle.fork_context.proofs.ClosingRows.{cancelled_to, cancelled_all, closed_
 use Rattle.fork_context.proofs.fork.Fork.row.Goals as goal
 
 pub returns : goal.returns
-returns g c = rw (← c.self.view_is) (c.row.ensures ∙ row_dressed c.self.inside.tree.rows c.self.inside.besides.items c.args.n c.args.n)
+returns g c = rw (← c.self.view_is) (c.row.ensures ∙ row_dressed c.self.inside.tree.rows c.self.inside.besides c.args.n c.args.n)

@@ -19,4 +19,4 @@ use Rattle.fork_context.proofs.ClosingRows.{cancelled_to, cancelled_all, closed_
 use Rattle.fork_context.proofs.fork.Fork.succeeded.Goals as goal
 
 pub returns : goal.returns
-returns g c = rw (← c.self.view_is) (c.self.invariant.succeeds ∙ sym (succeeded_dressed c.self.inside.tree.rows c.self.inside.besides.items))
+returns g c = rw (← c.self.view_is) (c.self.invariant.succeeds ∙ sym (succeeded_dressed c.self.inside.tree.rows c.self.inside.besides))

@@ -1,5 +1,6 @@
 use Rattle.std.proofs.Common.{◌≡◌, ◌≤◌, ◌∙◌, sym, ap, subst, List, ℕ, false, length, map, arith, None}
 use Rattle.std.specs.List.{filter_map}
+use Rattle.std.proofs.lemmas.List.{length-map}
 use Rattle.fork_model.specs.Table.{Row, Rules, Table, most_targets}
 use Rattle.fork_model.specs.Groups.{numbered}
 use Rattle.fork_tree.specs.Tree.{Tree}
@@ -23,6 +24,18 @@ new-requires g c =
     let few : length targets ≤ most_targets = c.requires.few in
     record { few = omega arith }
 
+pub besides_by_key-requires : goal.besides_by_key-requires
+besides_by_key-requires g c =
+    let targets = c.args.targets.now in
+    let pairs = numbered (target_qs targets) in
+    let qs : c.deref.result.now ≡ target_qs targets = c.deref.ensures.value ∙ c.in_ok-qs.ensures in
+    let order : c.deref-5.result.now ≡ pairs = c.deref-5.ensures.value ∙ c.in_ok-order.ensures ∙ ap numbered qs in
+    let long : length c.deref-5.result.now ≡ length pairs = ap (λ (ps : List (ℕ × ℕ)). length ps) order in
+    let each : length (map (q_of_pair (target_qs targets)) pairs) ≡ length pairs = length-map pairs (q_of_pair (target_qs targets)) in
+    let all : length (map (q_of_pair (target_qs targets)) pairs) ≡ length targets = length_ordered targets in
+    let few : length targets ≤ most_targets = c.requires.few in
+    record { few = omega arith }
+
 pub of-requires : goal.of-requires
 of-requires g c =
     let targets = c.args.targets.now in
@@ -33,7 +46,7 @@ of-requires g c =
     c.deref-4.ensures.value ∙ c.in_ok-qs_at.ensures ∙ (λ i. map (q_of_pair (again i)) (order i)) in
     let rows : c.in_ok-tree.tree.rows ≡ map (seated None) (target_seats targets) =
     ap (λ (t : Tree). t.rows) c.in_ok-tree.ensures ∙ ap (λ (vs : List ℕ). map (seated None) (seats_of vs)) ordered in
-    let besides : c.in_ok-besides.besides.items ≡ filter_map (target_beside targets) (numbered (target_qs targets)) =
+    let besides : c.in_ok-besides.besides ≡ filter_map (target_beside targets) (numbered (target_qs targets)) =
     c.in_ok-besides.ensures ∙ ap (filter_map (target_beside targets)) (c.deref-5.ensures.value ∙ c.in_ok-order.ensures ∙ ap numbered qs) in
     let P : List Row → Type 0 = λ rs. IsFork rs (filter_map (target_beside targets) (numbered (target_qs targets))) false in
     let Q : List Beside → Type 0 = λ bs. IsFork c.in_ok-tree.tree.rows bs false in
@@ -50,7 +63,7 @@ returns g c =
     let rules : c.in_ok-tree.tree.rules ≡ c.args.rules = ap (λ (t : Tree). t.rules) c.in_ok-tree.ensures in
     let rows : c.in_ok-tree.tree.rows ≡ map (seated None) (target_seats targets) =
     ap (λ (t : Tree). t.rows) c.in_ok-tree.ensures ∙ ap (λ (vs : List ℕ). map (seated None) (seats_of vs)) ordered in
-    let besides : c.in_ok-besides.besides.items ≡ filter_map (target_beside targets) (numbered (target_qs targets)) =
+    let besides : c.in_ok-besides.besides ≡ filter_map (target_beside targets) (numbered (target_qs targets)) =
     c.in_ok-besides.ensures ∙ ap (filter_map (target_beside targets)) (c.deref-5.ensures.value ∙ c.in_ok-order.ensures ∙ ap numbered qs) in
     let of_rows : Rules → List Row → Table = λ (rs : Rules) (xs : List Row). record { kind = kind_of c.args.kind; rules = rs; closed = false; rows = xs } in
     c.of.ensures ∙ (λ i. of_rows (rules i) (dressed (rows i) (besides i))) ∙ ap (of_rows c.args.rules) (opening_dressed targets)

@@ -1,0 +1,302 @@
+-- The numbers by key, where one more is put in its place, and where a key is looked up.
+use Rattle.std.proofs.Common.{◌≡◌, eqb-true, ltb-true, ltb-false, ℕ, zero, suc, ◌+◌, ◌<◌, ◌≤◌, Bool, true, false, List, [], ◌∷◌, ◌++◌, length, take, drop, get_or, Option, Some, None, refl, ap, arith, ◌∙◌, sym, subst, inl, inr, ◌⊎◌, nat_eq, cond}
+use Rattle.std.specs.Prelude.{slice_get, slice_index_or, ◌||◌, ◌==◌, nat_lt, is_ok, IsOk, Result, Ok, Err}
+use Rattle.std.specs.List.{insert, list_any}
+use Rattle.std.specs.List.Sorted.{IsPartitionedBy, IsPartitionPoint}
+use Rattle.std.specs.Cmp.{IsTotalOrder}
+use Rattle.std.specs.Cmp.Lexicographic.{slice_cmp, pointwise, lists_ties}
+use Rattle.std.specs.declared.cmp.Ordering.{Ordering}
+use Rattle.std.specs.declared.cmp.Ordering.TheVariants.{Less, Equal, Greater}
+use Rattle.std.specs.Ordering.{nat_cmp, is_gt, is_lt, is_eq, eq_by_cmp, ordering_reverse}
+use Rattle.std.proofs.lemmas.Cmp.{nat_list_cmp_total, alike_right}
+use Rattle.std.proofs.lemmas.Bool.{false≢true}
+use Rattle.std.proofs.Math.ListN.{set}
+use Rattle.fork_model.specs.Table.{Offer, Challenge}
+use Rattle.fork_context.specs.Dressed.{Beside, with_beside}
+use Rattle.fork_context.specs.ByKey.{key_at, UpTo, AllFrom, Rising, AllBelow, Has, IsByKey, is_before, Parted, found_at}
+
+-- ---- the order of keys
+
+abbrev cmp : List ℕ → List ℕ → Ordering
+cmp = slice_cmp nat_cmp
+
+lt_then_upto : (o : Ordering) → is_lt o ≡ true → is_gt o ≡ false
+lt_then_upto Less e = refl
+lt_then_upto Equal e = absurd cc
+lt_then_upto Greater e = absurd cc
+
+not_lt_back : (o : Ordering) → is_lt o ≡ false → is_gt (ordering_reverse o) ≡ false
+not_lt_back Less e = absurd cc
+not_lt_back Equal e = refl
+not_lt_back Greater e = refl
+
+-- what is not before a key does not come before it
+from_here : (k l : List ℕ) → is_lt (cmp k l) ≡ false → UpTo l k
+from_here k l e = ap is_gt (nat_list_cmp_total.antisymm l k) ∙ not_lt_back (cmp k l) e
+
+pub before_too : (k l x : List ℕ) → UpTo k l → is_lt (cmp l x) ≡ true → is_lt (cmp k x) ≡ true
+before_too k l x up e = go (cmp k l) refl up (is_less (cmp l x) e)
+  where
+    is_less : (o : Ordering) → is_lt o ≡ true → o ≡ Less
+    is_less Less e = refl
+    is_less Equal e = absurd cc
+    is_less Greater e = absurd cc
+
+    go : (o : Ordering) → cmp k l ≡ o → is_gt o ≡ false → cmp l x ≡ Less → is_lt (cmp k x) ≡ true
+    go Less is up less = ap is_lt (nat_list_cmp_total.trans k l x is less)
+    go Equal is up less = ap is_lt (nat_list_cmp_total.congr k l x is ∙ less)
+    go Greater is up less = absurd cc
+
+after_too : (x k l : List ℕ) → cmp x k ≡ Less → UpTo k l → cmp x l ≡ Less
+after_too x k l less up = go (cmp k l) refl up
+  where
+    go : (o : Ordering) → cmp k l ≡ o → is_gt o ≡ false → cmp x l ≡ Less
+    go Less is up = nat_list_cmp_total.trans x k l less is
+    go Equal is up = sym (alike_right nat_list_cmp_total k l x is) ∙ less
+    go Greater is up = absurd cc
+
+neq_lt : (i j : ℕ) → i ≤ j → (i == j) ≡ false → i < j
+neq_lt i j le e = go (nat_lt i j) refl
+  where
+    go : (b : Bool) → nat_lt i j ≡ b → i < j
+    go true is = ltb-true i j is
+    go false is =
+        let back : j ≤ i = ltb-false i j is in
+        let same : i ≡ j = omega arith in
+        let yes : (i == i) ≡ true = grind arith in
+        absurd (false≢true (sym e ∙ sym (ap (λ (k : ℕ). i == k) same) ∙ yes))
+
+-- ---- the keys before one, and the others
+
+all_from_at : (besides : List Beside) (k : List ℕ) (ns : List ℕ) (j d : ℕ) → AllFrom besides k ns → j < length ns → UpTo k (key_at besides (get_or ns j d))
+all_from_at besides k [] j d all lt = absurd (omega arith)
+all_from_at besides k (n ∷ ns) zero d all lt = all.0
+all_from_at besides k (n ∷ ns) (suc j) d all lt = all_from_at besides k ns j d all.1 (omega arith)
+
+rising_at : (besides : List Beside) (ns : List ℕ) (i j d : ℕ) → Rising besides ns → i < j → j < length ns
+    → UpTo (key_at besides (get_or ns i d)) (key_at besides (get_or ns j d))
+rising_at besides [] i j d up lt within = absurd (omega arith)
+rising_at besides (n ∷ ns) zero zero d up lt within = absurd (omega arith)
+rising_at besides (n ∷ ns) zero (suc j) d up lt within = all_from_at besides (key_at besides n) ns j d up.0 (omega arith)
+rising_at besides (n ∷ ns) (suc i) zero d up lt within = absurd (omega arith)
+rising_at besides (n ∷ ns) (suc i) (suc j) d up lt within = rising_at besides ns i j d up.1 (omega arith) (omega arith)
+
+pub partitioned : (besides : List Beside) (ns x : List ℕ) → Rising besides ns → IsPartitionedBy (is_before besides x) ns
+partitioned besides ns x up i j d le within e = go (i == j) refl
+  where
+    go : (b : Bool) → (i == j) ≡ b → is_before besides x (slice_index_or ns i d) ≡ true
+    go true is = let same : i ≡ j = eqb-true i j is in ap (λ (k : ℕ). is_before besides x (slice_index_or ns k d)) same ∙ e
+    go false is = before_too (key_at besides (get_or ns i d)) (key_at besides (get_or ns j d)) x (rising_at besides ns i j d up (neq_lt i j le is) within) e
+
+pub parted : (besides : List Beside) (ns x : List ℕ) (p : ℕ)
+    → IsPartitionPoint (λ n. is_before besides x n ≡ true) (λ n. is_before besides x n ≡ false) ns p → Parted besides x ns p
+parted besides [] x p point = tt
+parted besides (n ∷ ns) x zero point = (
+  point.1 0 n (omega arith) (omega arith),
+  parted besides ns x zero ((λ k d lo hi. absurd (omega arith)), λ k d lo hi. point.1 (suc k) d (omega arith) (omega arith)),
+)
+parted besides (n ∷ ns) x (suc p) point = (
+  point.0 0 n (omega arith) (omega arith),
+  parted besides ns x p ((λ k d lo hi. point.0 (suc k) d (omega arith) (omega arith)), λ k d lo hi. point.1 (suc k) d (omega arith) (omega arith)),
+)
+
+-- ---- one more number in its place
+
+all_from_insert : (besides : List Beside) (k : List ℕ) (ns : List ℕ) (p m : ℕ) → AllFrom besides k ns → UpTo k (key_at besides m)
+    → AllFrom besides k (insert ns p m)
+all_from_insert besides k [] zero m all up = (up, tt)
+all_from_insert besides k [] (suc p) m all up = (up, tt)
+all_from_insert besides k (n ∷ ns) zero m all up = (up, all)
+all_from_insert besides k (n ∷ ns) (suc p) m all up = (all.0, all_from_insert besides k ns p m all.1 up)
+
+all_from_here : (besides : List Beside) (x ns : List ℕ) → Parted besides x ns zero → AllFrom besides x ns
+all_from_here besides x [] part = tt
+all_from_here besides x (n ∷ ns) part = (from_here (key_at besides n) x part.0, all_from_here besides x ns part.1)
+
+rising_insert : (besides : List Beside) (ns : List ℕ) (p m : ℕ) → Rising besides ns → Parted besides (key_at besides m) ns p
+    → Rising besides (insert ns p m)
+rising_insert besides [] zero m up part = (tt, tt)
+rising_insert besides [] (suc p) m up part = (tt, tt)
+rising_insert besides (n ∷ ns) zero m up part = (all_from_here besides (key_at besides m) (n ∷ ns) part, up)
+rising_insert besides (n ∷ ns) (suc p) m up part = (
+  all_from_insert besides (key_at besides n) ns p m up.0 (lt_then_upto (cmp (key_at besides n) (key_at besides m)) part.0),
+  rising_insert besides ns p m up.1 part.1,
+)
+
+below_insert : (count : ℕ) (ns : List ℕ) (p : ℕ) → AllBelow count ns → AllBelow (suc count) (insert ns p count)
+below_insert count [] zero all = (omega arith, tt)
+below_insert count [] (suc p) all = (omega arith, tt)
+below_insert count (n ∷ ns) zero all = (omega arith, more (n ∷ ns) all)
+  where
+    more : (ns : List ℕ) → AllBelow count ns → AllBelow (suc count) ns
+    more [] all = tt
+    more (n ∷ ns) all = let lt : n < count = all.0 in (omega arith, more ns all.1)
+below_insert count (n ∷ ns) (suc p) all = let lt : n < count = all.0 in (omega arith, below_insert count ns p all.1)
+
+has_itself : (ns : List ℕ) (p m : ℕ) → Has (insert ns p m) m
+has_itself [] zero m = inl refl
+has_itself [] (suc p) m = inl refl
+has_itself (n ∷ ns) zero m = inl refl
+has_itself (n ∷ ns) (suc p) m = inr (has_itself ns p m)
+
+has_still : (ns : List ℕ) (p m k : ℕ) → Has ns k → Has (insert ns p m) k
+has_still [] p m k has = absurd has
+has_still (n ∷ ns) zero m k has = inr has
+has_still (n ∷ ns) (suc p) m k (inl e) = inl e
+has_still (n ∷ ns) (suc p) m k (inr has) = inr (has_still ns p m k has)
+
+pub by_key_more : (besides : List Beside) (count : ℕ) (ns : List ℕ) (p : ℕ) → IsByKey besides count ns → Parted besides (key_at besides count) ns p
+    → IsByKey besides (suc count) (insert ns p count)
+by_key_more besides count ns p is part = record {
+  known = below_insert count ns p is.known;
+  rising = rising_insert besides ns p count is.rising part;
+  whole = λ n lt. go n (n == count) refl lt;
+}
+  where
+    go : (n : ℕ) (b : Bool) → (n == count) ≡ b → n < suc count → Has (insert ns p count) n
+    go n true is' lt = let same : count ≡ n = sym (eqb-true n count is') in subst (λ k. Has (insert ns p count) k) same (has_itself ns p count)
+    go n false is' lt = has_still ns p count n (is.whole n (neq_lt n count (omega arith) is'))
+
+pub in_ok : {T E X : Type 0} (r : Result T E) (a b : X) → IsOk r → cond (is_ok r) a b ≡ a
+in_ok (Ok x) a b ok = refl
+in_ok (Err e) a b ok = absurd cc
+
+-- ---- more rows behind
+
+key_before : (besides more : List Beside) (n : ℕ) → n < length besides → key_at (besides ++ more) n ≡ key_at besides n
+key_before [] more n lt = absurd (omega arith)
+key_before (b ∷ besides) more zero lt = refl
+key_before (b ∷ besides) more (suc n) lt = key_before besides more n (omega arith)
+
+rising_same : (old new : List Beside) (count : ℕ) (ns : List ℕ) → ((n : ℕ) → n < count → key_at new n ≡ key_at old n) → AllBelow count ns → Rising old ns
+    → Rising new ns
+rising_same old new count [] same all up = tt
+rising_same old new count (n ∷ ns) same all up = (from ns all.1 up.0, rising_same old new count ns same all.1 up.1)
+  where
+    from : (ms : List ℕ) → AllBelow count ms → AllFrom old (key_at old n) ms → AllFrom new (key_at new n) ms
+    from [] below up = tt
+    from (m ∷ ms) below up = (ap is_gt (λ i. cmp (same n all.0 i) (same m below.0 i)) ∙ up.0, from ms below.1 up.1)
+
+pub by_key_behind : (besides more : List Beside) (ns : List ℕ) → IsByKey besides (length besides) ns → IsByKey (besides ++ more) (length besides) ns
+by_key_behind besides more ns is = record {
+  known = is.known;
+  rising = rising_same besides (besides ++ more) (length besides) ns (key_before besides more) is.known is.rising;
+  whole = is.whole;
+}
+
+-- ---- what is stored changes no key
+
+key_stored : (besides : List Beside) (m : ℕ) (left : List Offer) (challenges : List Challenge) (n : ℕ)
+    → key_at (with_beside besides m left challenges) n ≡ key_at besides n
+key_stored [] m left challenges n = refl
+key_stored (b ∷ besides) zero left challenges zero = refl
+key_stored (b ∷ besides) zero left challenges (suc n) = refl
+key_stored (b ∷ besides) (suc m) left challenges zero = refl
+key_stored (b ∷ besides) (suc m) left challenges (suc n) = key_stored besides m left challenges n
+
+length_stored : (besides : List Beside) (m : ℕ) (left : List Offer) (challenges : List Challenge) → length (with_beside besides m left challenges) ≡ length besides
+length_stored [] m left challenges = refl
+length_stored (b ∷ besides) zero left challenges = refl
+length_stored (b ∷ besides) (suc m) left challenges = ap suc (length_stored besides m left challenges)
+
+pub by_key_stored : (besides : List Beside) (ns : List ℕ) (m : ℕ) (left : List Offer) (challenges : List Challenge) → IsByKey besides (length besides) ns
+    → IsByKey (with_beside besides m left challenges) (length (with_beside besides m left challenges)) ns
+by_key_stored besides ns m left challenges is =
+    let P : ℕ → Type 0 = λ count. IsByKey (with_beside besides m left challenges) count ns in
+    subst P (sym (length_stored besides m left challenges)) (record {
+      known = is.known;
+      rising = rising_same besides (with_beside besides m left challenges) (length besides) ns (λ n lt. key_stored besides m left challenges n) is.known is.rising;
+      whole = is.whole;
+    })
+
+-- a write of what stands beside one row
+pub set_stored : (besides : List Beside) (n : ℕ) (b new : Beside) (left : List Offer) (challenges : List Challenge) → n < length besides
+    → new ≡ record (get_or besides n b) { left = left; challenges = challenges } → set besides n new ≡ with_beside besides n left challenges
+set_stored [] n b new left challenges lt e = absurd (omega arith)
+set_stored (x ∷ besides) zero b new left challenges lt e = ap (λ r. r ∷ besides) e
+set_stored (x ∷ besides) (suc n) b new left challenges lt e = ap (λ rest. x ∷ rest) (set_stored besides n b new left challenges (omega arith) e)
+
+-- ---- a key looked up
+
+abbrev is_key : List Beside → List ℕ → ℕ → Bool
+is_key besides x n = pointwise nat_eq x (key_at besides n)
+
+nat_tied : (x y : ℕ) → nat_eq x y ≡ eq_by_cmp nat_cmp x y
+nat_tied x y = grind arith
+
+same_key : (k l : List ℕ) → pointwise nat_eq k l ≡ is_eq (cmp k l)
+same_key k l = lists_ties nat_cmp nat_tied k l
+
+lt_not_eq : (k x : List ℕ) → is_lt (cmp k x) ≡ true → pointwise nat_eq x k ≡ false
+lt_not_eq k x e = same_key x k ∙ ap is_eq (nat_list_cmp_total.antisymm x k) ∙ flip (cmp k x) e
+  where
+    flip : (o : Ordering) → is_lt o ≡ true → is_eq (ordering_reverse o) ≡ false
+    flip Less e = refl
+    flip Equal e = absurd cc
+    flip Greater e = absurd cc
+
+not_lt_not_eq : (k x : List ℕ) → is_lt (cmp k x) ≡ false → pointwise nat_eq x k ≡ false → cmp x k ≡ Less
+not_lt_not_eq k x e d = go (cmp x k) (ap is_lt (sym (nat_list_cmp_total.antisymm k x)) ∙ e) (sym (same_key x k) ∙ d)
+  where
+    go : (o : Ordering) → is_lt (ordering_reverse o) ≡ false → is_eq o ≡ false → o ≡ Less
+    go Less e d = refl
+    go Equal e d = absurd cc
+    go Greater e d = absurd cc
+
+less_not_eq : (x k : List ℕ) → cmp x k ≡ Less → pointwise nat_eq x k ≡ false
+less_not_eq x k e = same_key x k ∙ ap is_eq e
+
+-- the key is not that of the row at this place, if there is one
+abbrev NotAt : List Beside → List ℕ → Option ℕ → Type 0
+NotAt besides x None = Unit {0}
+NotAt besides x (Some n) = is_key besides x n ≡ false
+
+none_behind : (besides : List Beside) (x : List ℕ) (k : List ℕ) (ns : List ℕ) (m : ℕ) → cmp x k ≡ Less → AllFrom besides k ns → Has ns m → is_key besides x m ≡ false
+none_behind besides x k [] m less all has = absurd has
+none_behind besides x k (n ∷ ns) m less all (inl e) =
+    ap (λ (j : ℕ). is_key besides x j) (sym e) ∙ less_not_eq x (key_at besides n) (after_too x k (key_at besides n) less all.0)
+none_behind besides x k (n ∷ ns) m less all (inr has) = none_behind besides x k ns m less all.1 has
+
+none_there : (besides : List Beside) (x ns : List ℕ) (p m : ℕ) → Rising besides ns → Parted besides x ns p → NotAt besides x (slice_get ns p)
+    → Has ns m → is_key besides x m ≡ false
+none_there besides x [] p m up part not has = absurd has
+none_there besides x (n ∷ ns) zero m up part not (inl e) = ap (λ (j : ℕ). is_key besides x j) (sym e) ∙ not
+none_there besides x (n ∷ ns) zero m up part not (inr has) =
+    none_behind besides x (key_at besides n) ns m (not_lt_not_eq (key_at besides n) x part.0 not) up.0 has
+none_there besides x (n ∷ ns) (suc p) m up part not (inl e) = ap (λ (j : ℕ). is_key besides x j) (sym e) ∙ lt_not_eq (key_at besides n) x part.0
+none_there besides x (n ∷ ns) (suc p) m up part not (inr has) = none_there besides x ns p m up.1 part.1 not has
+
+none_any : (besides : List Beside) (x : List ℕ) → ((n : ℕ) → n < length besides → is_key besides x n ≡ false) → list_any (λ b. pointwise nat_eq x b.key) besides ≡ false
+none_any [] x none = refl
+none_any (b ∷ besides) x none =
+    (λ i. none 0 (omega arith) i || none_any besides x (λ n lt. none (suc n) (omega arith)) i)
+
+some_any : (besides : List Beside) (x : List ℕ) (n : ℕ) → n < length besides → is_key besides x n ≡ true → list_any (λ b. pointwise nat_eq x b.key) besides ≡ true
+some_any [] x n lt e = absurd (omega arith)
+some_any (b ∷ besides) x zero lt e = ap (λ (c : Bool). c || list_any (λ b. pointwise nat_eq x b.key) besides) e
+some_any (b ∷ besides) x (suc n) lt e =
+    ap (λ (c : Bool). pointwise nat_eq x b.key || c) (some_any besides x n (omega arith) e) ∙ or_true (pointwise nat_eq x b.key)
+  where
+    or_true : (a : Bool) → (a || true) ≡ true
+    or_true true = refl
+    or_true false = refl
+
+below_there : (count : ℕ) (ns : List ℕ) (p n : ℕ) → AllBelow count ns → slice_get ns p ≡ Some n → n < count
+below_there count [] p n all is = absurd cc
+below_there count (m ∷ ns) zero n all is = let same : m ≡ n = cc in let lt : m < count = all.0 in omega arith
+below_there count (m ∷ ns) (suc p) n all is = below_there count ns p n all.1 is
+
+pub found : (besides : List Beside) (ns x : List ℕ) (p : ℕ) → IsByKey besides (length besides) ns → Parted besides x ns p
+    → found_at besides x (slice_get ns p) ≡ list_any (λ b. pointwise nat_eq x b.key) besides
+found besides ns x p is part = go (slice_get ns p) refl
+  where
+    none : NotAt besides x (slice_get ns p) → false ≡ list_any (λ b. pointwise nat_eq x b.key) besides
+    none not = sym (none_any besides x (λ n lt. none_there besides x ns p n is.rising part not (is.whole n lt)))
+
+    with_key : (n : ℕ) (b : Bool) → slice_get ns p ≡ Some n → is_key besides x n ≡ b → b ≡ list_any (λ b. pointwise nat_eq x b.key) besides
+    with_key n true there e = sym (some_any besides x n (below_there (length besides) ns p n is.known there) e)
+    with_key n false there e = let P : Option ℕ → Type 0 = λ o. NotAt besides x o in none (subst P (sym there) e)
+
+    go : (o : Option ℕ) → slice_get ns p ≡ o → found_at besides x o ≡ list_any (λ b. pointwise nat_eq x b.key) besides
+    go None there = let P : Option ℕ → Type 0 = λ o. NotAt besides x o in none (subst P (sym there) tt)
+    go (Some n) there = with_key n (is_key besides x n) there refl
