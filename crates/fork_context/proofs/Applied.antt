@@ -1,10 +1,10 @@
 -- An effect applied to a fork.
-use Rattle.std.proofs.Common.{◌≡◌, ℕ, ◌+◌, ◌≤◌, Bool, true, false, List, [], ◌++◌, length, map, Option, Some, None, refl, ap, arith, ◌∙◌, sym}
+use Rattle.std.proofs.Common.{◌≡◌, ℕ, Bool, true, false, List, [], length, map, Option, Some, None, refl, ◌∙◌, sym}
 use Rattle.std.specs.Prelude.{◌||◌}
 use Rattle.std.proofs.lemmas.List.{length-map, append-nil}
 use Rattle.fork_model.specs.Table.{Row, Table, State, Idle, Trying, Rung, Ended, is_row, is_trying}
 use Rattle.fork_tree.specs.Tree.{is_uncancelled}
-use Rattle.fork_model.specs.Step.{Effect, with_state, with_effect}
+use Rattle.fork_model.specs.Step.{with_state, with_effect}
 use Rattle.fork_tree.specs.declared.seat.Seat.{Seat}
 use Rattle.fork_tree.specs.Seats.{seated}
 use Rattle.fork_context.specs.Dressed.{Beside, dressed}

@@ -1,13 +1,13 @@
 -- What a table says of its groups it says of its bare rows.
-use Rattle.std.proofs.Common.{◌≡◌, ℕ, zero, suc, ◌+◌, Bool, true, false, List, [], ◌∷◌, ◌++◌, length, map, Option, Some, None, refl, ap, arith, ◌∙◌, sym, subst}
+use Rattle.std.proofs.Common.{◌≡◌, ℕ, zero, suc, Bool, List, [], ◌∷◌, length, map, Option, Some, None, refl, ap, ◌∙◌}
 use Rattle.std.specs.Prelude.{slice_get, not, ◌&&◌, ◌||◌}
 use Rattle.std.specs.Option.{option_map}
 use Rattle.std.specs.List.{list_any, list_all}
 use Rattle.std.proofs.lemmas.Option.{slice_get-map}
 use Rattle.std.proofs.lemmas.List.{length-map}
 use Rattle.std.proofs.lemmas.List.Folds.{list_all-map}
-use Rattle.fork_model.specs.Table.{End, Answered, Taken, Silent, Never, Accepted, State, Idle, Trying, Rung, Ended, Row, is_idle, is_trying, is_open, is_ended, is_cancelled, is_accepted, is_row, stored_of, is_finished, is_succeeded}
-use Rattle.fork_model.specs.Waiting.{parent_row, line_from, line_of, same_group, in_earlier_group, goes_before, parent_ended, may_start, depth_of}
+use Rattle.fork_model.specs.Table.{State, Idle, Trying, Rung, Ended, Row, is_idle, is_ended, is_row, is_finished}
+use Rattle.fork_model.specs.Waiting.{parent_row, line_from, same_group, in_earlier_group, goes_before, parent_ended, may_start, depth_of}
 use Rattle.fork_tree.specs.States.{bare_state, shown}
 use Rattle.fork_tree.specs.Tree.{bare}
 

@@ -1,9 +1,8 @@
 -- The numbers by key, where one more is put in its place, and where a key is looked up.
-use Rattle.std.proofs.Common.{◌≡◌, eqb-true, ltb-true, ltb-false, ℕ, zero, suc, ◌+◌, ◌<◌, ◌≤◌, Bool, true, false, List, [], ◌∷◌, ◌++◌, length, take, drop, get_or, Option, Some, None, refl, ap, arith, ◌∙◌, sym, subst, inl, inr, ◌⊎◌, nat_eq, cond}
+use Rattle.std.proofs.Common.{◌≡◌, eqb-true, ltb-true, ltb-false, ℕ, zero, suc, ◌<◌, ◌≤◌, Bool, true, false, List, [], ◌∷◌, ◌++◌, length, get_or, Option, Some, None, refl, ap, arith, ◌∙◌, sym, subst, inl, inr, nat_eq, cond}
 use Rattle.std.specs.Prelude.{slice_get, slice_index_or, ◌||◌, ◌==◌, nat_lt, is_ok, IsOk, Result, Ok, Err}
 use Rattle.std.specs.List.{insert, list_any}
 use Rattle.std.specs.List.Sorted.{IsPartitionedBy, IsPartitionPoint}
-use Rattle.std.specs.Cmp.{IsTotalOrder}
 use Rattle.std.specs.Cmp.Lexicographic.{slice_cmp, pointwise, lists_ties}
 use Rattle.std.specs.declared.cmp.Ordering.{Ordering}
 use Rattle.std.specs.declared.cmp.Ordering.TheVariants.{Less, Equal, Greater}

@@ -1,12 +1,11 @@
 -- A table that closes, and one that is closed.
-use Rattle.std.proofs.Common.{◌≡◌, ℕ, zero, suc, ◌+◌, ◌<◌, Bool, true, false, List, [], ◌∷◌, ◌++◌, length, map, Option, Some, None, refl, ap, arith, ◌∙◌, sym, subst, cond}
-use Rattle.std.specs.Prelude.{slice_get, ◌||◌, ◌&&◌, not}
-use Rattle.std.proofs.lemmas.List.{append-nil}
-use Rattle.fork_model.specs.Table.{Kind, Invite, Other, Row, Table, State, End, Never, Idle, Trying, Rung, Ended, is_invite, is_row}
+use Rattle.std.proofs.Common.{◌≡◌, ℕ, zero, suc, Bool, true, false, List, [], ◌∷◌, length, map, Option, Some, None, refl, ap, arith, ◌∙◌, sym, subst, cond}
+use Rattle.std.specs.Prelude.{slice_get, ◌&&◌}
+use Rattle.fork_model.specs.Table.{Kind, Invite, Other, Row, Table, State, Idle, Trying, Rung, Ended, is_invite}
 use Rattle.fork_model.specs.Event.{Event}
 use Rattle.fork_model.specs.Waiting.{may_start}
-use Rattle.fork_model.specs.Step.{with_state, closed_state, settled_state, settled_row, settled, next, change}
-use Rattle.fork_model.proofs.StepLemmas.{next_of_change, next_of_stray, Onward, change_advances}
+use Rattle.fork_model.specs.Step.{with_state, closed_state, settled, next, change}
+use Rattle.fork_model.proofs.StepLemmas.{next_of_change, next_of_stray}
 use Rattle.fork_context.specs.Closing.{is_ringing, closed_row, never_state, never_row, cancel_row, AreClosed, IsClosedWhole}
 
 -- settling a closed table

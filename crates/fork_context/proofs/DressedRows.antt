@@ -1,17 +1,17 @@
 -- What is done to the rows of a tree is done to the rows of its table.
-use Rattle.std.proofs.Common.{◌≡◌, ℕ, zero, suc, ◌+◌, ◌<◌, Bool, true, false, List, [], ◌∷◌, ◌++◌, length, map, Option, Some, None, refl, ap, arith, ◌∙◌, sym, subst, cond}
+use Rattle.std.proofs.Common.{◌≡◌, ℕ, zero, suc, ◌<◌, List, [], ◌∷◌, ◌++◌, length, map, refl, ap, arith, ◌∙◌, sym}
 use Rattle.std.proofs.Common.{get_or}
 use Rattle.std.proofs.Math.ListN.{set}
 use Rattle.std.specs.Prelude.{slice_get}
 use Rattle.std.specs.Option.{option_map}
 use Rattle.std.proofs.lemmas.Option.{slice_get-map}
-use Rattle.fork_model.specs.Table.{Offer, Challenge, Answered, Taken, Silent, Never, Accepted, End, State, Idle, Trying, Rung, Ended, Row, Kind, Table, is_idle, is_trying, is_cancelled, is_open, is_ended, is_accepted, is_row}
+use Rattle.fork_model.specs.Table.{Offer, Challenge, Answered, Taken, Silent, Never, Accepted, End, State, Idle, Trying, Rung, Ended, Row}
 use Rattle.fork_model.specs.Step.{with_state}
 use Rattle.fork_tree.specs.States.{bare_state, shown}
 use Rattle.fork_tree.specs.Tree.{bare}
 use Rattle.fork_context.specs.Dressed.{Beside, dress_end, dress_state, dress, dressed, with_beside}
 use Rattle.fork_tree.specs.Ready.{tried}
-use Rattle.fork_context.specs.Closing.{never_row, never_state, is_ringing}
+use Rattle.fork_context.specs.Closing.{never_row, never_state}
 
 bare_dress_state : (state : State) (b : Beside) → bare_state (shown (dress_state state b)) ≡ bare_state (shown state)
 bare_dress_state Idle b = refl

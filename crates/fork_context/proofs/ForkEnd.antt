@@ -1,11 +1,11 @@
 -- A row ends, and new rows come below it.
-use Rattle.std.proofs.Common.{◌≡◌, ℕ, zero, suc, ◌+◌, ◌<◌, ◌≤◌, Bool, true, false, List, [], ◌∷◌, ◌++◌, length, map, Option, Some, None, refl, ap, arith, ◌∙◌, sym, subst, length-append}
+use Rattle.std.proofs.Common.{◌≡◌, ℕ, zero, suc, ◌+◌, ◌<◌, ◌≤◌, Bool, true, List, [], ◌∷◌, ◌++◌, length, map, Option, Some, refl, ap, arith, ◌∙◌, sym, subst, length-append}
 use Rattle.std.specs.Prelude.{slice_get, ◌||◌}
 use Rattle.std.proofs.lemmas.List.{length-map}
-use Rattle.fork_model.specs.Table.{Offer, Challenge, State, Idle, Ended, Accepted, Row, most_targets, is_open, is_idle, is_row, is_accepted, is_accepted_end, is_succeeded}
+use Rattle.fork_model.specs.Table.{Offer, Challenge, State, Ended, Row, most_targets, is_open, is_idle, is_row, is_accepted_end}
 use Rattle.fork_model.specs.Step.{with_state}
 use Rattle.fork_model.proofs.ContactLemmas.{length-state}
-use Rattle.fork_tree.specs.States.{end_of, bare_state, shown, shown_end}
+use Rattle.fork_tree.specs.States.{end_of, bare_state, shown}
 use Rattle.fork_tree.specs.declared.row.End.{End}
 use Rattle.fork_tree.specs.declared.row.End.TheVariants as end
 use Rattle.fork_tree.specs.declared.seat.Seat.{Seat}

@@ -2,7 +2,7 @@
 use Rattle.std.proofs.Common.{◌≡◌, ℕ, zero, suc, List, [], ◌∷◌, length, Option, Some, None, refl, ap, arith, ◌∙◌, sym}
 use Rattle.std.specs.Prelude.{slice_get}
 use Rattle.std.specs.Option.{option_map, option_and_then}
-use Rattle.fork_model.specs.Table.{Offer, Row, Stored, State, End, Answered, Taken, Silent, Never, Accepted, Idle, Trying, Rung, Ended, stored_of}
+use Rattle.fork_model.specs.Table.{Row, State, Answered, Taken, Silent, Never, Accepted, Idle, Trying, Rung, Ended, stored_of}
 use Rattle.fork_model.specs.Choice.{stored_at}
 use Rattle.fork_tree.specs.declared.row.RowRef.{RowRef}
 use Rattle.fork_tree.specs.States.{bare_state, shown}

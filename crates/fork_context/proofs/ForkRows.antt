@@ -1,27 +1,26 @@
 -- What holds of every fork is kept by each change, and what its tree says of its rows holds of the table's.
-use Rattle.std.proofs.Common.{◌≡◌, ℕ, zero, suc, ◌+◌, ◌<◌, ◌≤◌, Bool, true, false, List, [], ◌∷◌, ◌++◌, length, map, Option, Some, None, refl, ap, arith, ◌∙◌, sym, subst, cond, length-append}
+use Rattle.std.proofs.Common.{◌≡◌, ℕ, zero, suc, ◌+◌, ◌<◌, ◌≤◌, Bool, true, false, List, [], ◌∷◌, length, map, Option, Some, None, refl, ap, arith, ◌∙◌, sym, subst, cond}
 use Rattle.std.specs.Prelude.{slice_get, ◌==◌, ◌||◌, ◌&&◌, nat_eq}
 use Rattle.std.proofs.Common.{eqb-true}
 use Rattle.std.specs.List.{list_any}
 use Rattle.std.specs.Cmp.Lexicographic.{pointwise}
 use Rattle.std.specs.Option.{option_map}
-use Rattle.std.specs.List.{list_all}
 use Rattle.std.proofs.lemmas.Option.{slice_get-map, slice_get_within}
 use Rattle.std.proofs.lemmas.List.{length-map}
-use Rattle.fork_model.specs.Table.{Offer, Challenge, Answered, Taken, Silent, Never, Accepted, End, State, Idle, Trying, Rung, Ended, Row, most_targets, is_idle, is_trying, is_open, is_ended, is_accepted, is_row, is_finished, is_succeeded}
+use Rattle.fork_model.specs.Table.{Answered, Taken, Silent, Never, Accepted, State, Idle, Trying, Rung, Ended, Row, most_targets, is_trying, is_open, is_ended, is_accepted, is_row, is_finished, is_succeeded}
 use Rattle.fork_model.specs.Waiting.{may_start}
 use Rattle.fork_model.specs.Step.{with_state}
 use Rattle.fork_model.proofs.ContactLemmas.{length-state}
 use Rattle.fork_model.proofs.WaitingLemmas.{may_start_facts}
-use Rattle.fork_tree.specs.States.{bare_state, shown, shown_end}
+use Rattle.fork_tree.specs.States.{bare_state, shown}
 use Rattle.fork_tree.specs.Tree.{bare, row_ref, open_rows, is_uncancelled}
-use Rattle.fork_context.specs.Dressed.{Beside, dress_end, dress_state, dress, dressed, with_beside}
+use Rattle.fork_context.specs.Dressed.{Beside, dress_state, dressed}
 use Rattle.fork_context.specs.Closing.{never_state, never_row, is_ringing}
 use Rattle.fork_tree.specs.Ready.{IsReady, tried}
 use Rattle.fork_context.specs.RowShown.{ref_shown}
 use Rattle.fork_context.specs.ForkInside.{IsFork}
-use Rattle.fork_context.proofs.BareRows.{may_start-bare, bare_finished}
-use Rattle.fork_context.proofs.DressedRows.{bare_dressed, length-dressed}
+use Rattle.fork_context.proofs.BareRows.{may_start-bare}
+use Rattle.fork_context.proofs.DressedRows.{bare_dressed}
 use Rattle.fork_context.proofs.Replies.{length-tried}
 use Rattle.fork_context.proofs.Successes.{succeeded_state, succeeded_tried, succeeded_never, open_not_accepted}
 

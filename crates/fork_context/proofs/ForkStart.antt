@@ -1,5 +1,5 @@
 -- A fork after some group was started, or none.
-use Rattle.std.proofs.Common.{◌≡◌, ◌≤◌, ◌+◌, ℕ, Bool, false, List, length, map, Option, Some, None, refl, ap, arith, ◌∙◌, sym, subst}
+use Rattle.std.proofs.Common.{◌≡◌, ◌≤◌, ◌+◌, ℕ, Bool, false, List, length, Option, Some, None, ap, arith, ◌∙◌, sym, subst}
 use Rattle.std.specs.Prelude.{slice_get, IfSome, IfNone}
 use Rattle.fork_model.specs.Table.{Kind, Row, Table, most_targets}
 use Rattle.fork_model.specs.Waiting.{may_start}

@@ -1,5 +1,5 @@
 -- New rows wait.
-use Rattle.std.proofs.Common.{◌≡◌, ℕ, Bool, true, false, List, Option, Some, None, refl, ap, ◌∙◌, sym, cond}
+use Rattle.std.proofs.Common.{◌≡◌, ℕ, Bool, true, false, List, Option, Some, None, ap, sym, cond}
 use Rattle.std.specs.Prelude.{slice_get, not, ◌&&◌, nat_lt, map, []}
 use Rattle.std.specs.Option.{option_map}
 use Rattle.fork_model.specs.Table.{Offer, Row, Table, State, Idle, Trying, Rung, Ended, Silent, is_idle, is_invite}

@@ -1,5 +1,5 @@
 -- The rows of a level, with what stands beside them, are the new rows of a redirection.
-use Rattle.std.proofs.Common.{◌≡◌, ℕ, zero, suc, ◌+◌, ◌<◌, ◌≤◌, Bool, true, false, List, [], ◌∷◌, ◌++◌, length, map, Option, Some, None, unwrap_or, refl, ap, arith, ◌∙◌, sym, subst}
+use Rattle.std.proofs.Common.{◌≡◌, ℕ, zero, suc, true, List, [], ◌∷◌, length, map, Option, Some, None, unwrap_or, refl, ap, arith, ◌∙◌, sym}
 use Rattle.std.specs.Prelude.{slice_get, is_some}
 use Rattle.std.specs.Option.{option_map}
 use Rattle.std.specs.List.{filter_map, cons_option}
@@ -10,7 +10,7 @@ use Rattle.fork_model.specs.Contacts.{fresh_row, fresh_rows}
 use Rattle.fork_model.proofs.GroupLemmas.{AllPlaces, numbered_places, length_numbered_all}
 use Rattle.fork_tree.specs.declared.seat.Seat.{Seat}
 use Rattle.fork_tree.specs.Seats.{seated, seats_of}
-use Rattle.fork_context.specs.Dressed.{Beside, dressed, beside_of, beside_at, contact_qs, q_at, q_of_pair}
+use Rattle.fork_context.specs.Dressed.{dressed, beside_of, beside_at, contact_qs, q_at, q_of_pair}
 use Rattle.fork_context.proofs.Seats.{group_and_q, group_of_pair, seats_numbered, length_seats}
 
 contact_there : (fresh : List (ℕ × Offer)) (place : ℕ) → is_some (slice_get (contact_qs fresh) place) ≡ true

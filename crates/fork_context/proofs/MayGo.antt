@@ -1,5 +1,5 @@
 -- An effect takes its row on as rows may go.
-use Rattle.std.proofs.Common.{◌≡◌, ℕ, Bool, true, false, Option, Some, None, refl, ap, ◌∙◌, sym, subst, cond}
+use Rattle.std.proofs.Common.{◌≡◌, ℕ, Bool, true, false, Option, Some, None, refl, subst, cond}
 use Rattle.std.specs.Prelude.{not, ◌&&◌, nat_lt}
 use Rattle.fork_model.specs.Table.{Row, Table, State, Idle, Trying, Rung, Ended, Silent, is_invite}
 use Rattle.fork_model.specs.Event.{Event, FinalAnswer, Ring, Answer, Timeout, Fault, TimerC, GiveUp, Cancel}

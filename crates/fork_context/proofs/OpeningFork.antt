@@ -1,5 +1,5 @@
 -- The seats of the initial targets, with what stands beside each, are their rows; the first group starts.
-use Rattle.std.proofs.Common.{◌≡◌, ℕ, zero, suc, ◌+◌, ◌<◌, ◌≤◌, Bool, true, false, List, [], ◌∷◌, ◌++◌, length, map, Option, Some, None, refl, ap, arith, ◌∙◌, sym, subst, take, get_or}
+use Rattle.std.proofs.Common.{◌≡◌, ℕ, zero, suc, ◌+◌, ◌<◌, ◌≤◌, true, false, List, [], ◌∷◌, ◌++◌, length, map, Option, Some, None, refl, ap, arith, ◌∙◌, sym, subst, take, get_or}
 use Rattle.std.specs.Prelude.{slice_get, is_some, IfSome, IfNone}
 use Rattle.std.specs.Option.{option_map, option_to_list}
 use Rattle.std.specs.List.{filter_map, cons_option}
@@ -8,8 +8,7 @@ use Rattle.std.proofs.lemmas.List.Elements.{filter_map-append}
 use Rattle.fork_model.specs.Table.{Kind, Rules, Row, Table, Idle, most_targets, is_succeeded}
 use Rattle.fork_model.specs.Groups.{numbered}
 use Rattle.fork_model.specs.Waiting.{may_start}
-use Rattle.fork_model.specs.Step.{settled}
-use Rattle.fork_model.specs.History.{Target, first_row, opening_rows, opening}
+use Rattle.fork_model.specs.History.{Target, first_row, opening}
 use Rattle.fork_model.proofs.GroupLemmas.{AllPlaces, numbered_places, length_numbered_all}
 use Rattle.fork_tree.specs.Tree.{bare}
 use Rattle.fork_tree.specs.declared.seat.Seat.{Seat}

@@ -1,15 +1,15 @@
 -- The initial targets all wait; settling starts their first group, and that is the opening table.
-use Rattle.std.proofs.Common.{◌≡◌, ℕ, zero, suc, ◌<◌, Bool, true, false, List, [], ◌∷◌, map, Option, Some, None, refl, ap, arith, ◌∙◌, sym, subst, cond, inl, inr, ◌⊎◌, ltb-true, length}
+use Rattle.std.proofs.Common.{◌≡◌, ℕ, zero, suc, ◌<◌, Bool, true, false, List, [], ◌∷◌, map, Option, Some, None, refl, ap, arith, ◌∙◌, sym, cond, inl, inr, ltb-true}
 use Rattle.std.specs.Prelude.{slice_get, ◌==◌, ◌&&◌, ◌||◌, nat_lt, nat_eq}
 use Rattle.std.specs.Option.{option_map, option_eq}
 use Rattle.std.specs.List.{list_any}
 use Rattle.std.proofs.lemmas.Option.{slice_get-map}
 use Rattle.fork_model.specs.Table.{Kind, Rules, Row, Table, State, Idle, Trying, is_idle, is_ended}
-use Rattle.fork_model.specs.Waiting.{in_earlier_group, goes_before, line_of, parent_ended, may_start}
+use Rattle.fork_model.specs.Waiting.{in_earlier_group, line_of, parent_ended, may_start}
 use Rattle.fork_model.specs.Step.{settled, settled_row}
 use Rattle.fork_model.specs.History.{Target, opening_rows, opening}
 use Rattle.fork_context.specs.Opening.{idled, waiting_rows, waiting_table}
-use Rattle.fork_model.proofs.OpeningSeries.{IsOpeningRow, opening_row, HasFirst, has_first}
+use Rattle.fork_model.proofs.OpeningSeries.{opening_row, HasFirst, has_first}
 use Rattle.fork_model.proofs.SeriesLemmas.{OneGroup}
 use Rattle.fork_model.proofs.WaitingLemmas.{MayStart, may_start_facts, may_start_of, is_earlier, goes_by_group, has_rows, one_group}
 

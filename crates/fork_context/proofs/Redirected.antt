@@ -1,18 +1,14 @@
 -- The effect of a redirection, made of a level and of what stands beside its rows.
-use Rattle.std.proofs.Common.{◌≡◌, ℕ, ◌+◌, ◌-◌, ◌≤◌, Bool, true, false, cond, List, [], length, map, Option, Some, refl, ap, arith, ◌∙◌, sym, subst}
+use Rattle.std.proofs.Common.{◌≡◌, ℕ, ◌+◌, ◌-◌, ◌≤◌, Bool, true, false, cond, List, [], length, map, Some, ap, arith, ◌∙◌, sym, subst}
 use Rattle.std.specs.Prelude.{◌||◌, not, nat_lt}
 use Rattle.std.proofs.lemmas.List.{length-map}
 use Rattle.std.specs.List.{filter_map}
-use Rattle.fork_model.specs.Table.{Offer, Row, Table, State, most_targets}
-use Rattle.fork_model.specs.Event.{FinalAnswer}
+use Rattle.fork_model.specs.Table.{Offer, Row, Table, most_targets}
 use Rattle.fork_model.specs.Groups.{numbered}
 use Rattle.fork_model.specs.Waiting.{depth_of}
 use Rattle.fork_model.specs.Contacts.{Taking, keys_of, taking_from, taking_at, fresh_rows}
-use Rattle.fork_model.specs.Step.{Effect, redirected, redirects}
-use Rattle.fork_tree.specs.declared.seat.Seat.{Seat}
 use Rattle.fork_tree.specs.Seats.{Waiting, seated, seats_of}
 use Rattle.fork_context.specs.Dressed.{Beside, dressed, beside_at, contact_qs, q_of_pair}
-use Rattle.fork_context.specs.Placed.{Placed, placed}
 use Rattle.fork_context.proofs.LevelRows.{level_rows, level_sizes}
 use Rattle.fork_context.proofs.PlainContacts.{few_from}
 

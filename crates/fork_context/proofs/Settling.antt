@@ -1,12 +1,12 @@
 -- Settling an open table is the start of the one group that may start.
-use Rattle.std.proofs.Common.{◌≡◌, ℕ, zero, suc, ◌+◌, ◌<◌, ◌≤◌, Bool, true, false, List, [], ◌∷◌, ◌++◌, length, map, Option, Some, None, refl, ap, arith, ◌∙◌, sym, subst, cond}
+use Rattle.std.proofs.Common.{◌≡◌, ℕ, zero, suc, ◌+◌, ◌<◌, ◌≤◌, Bool, true, false, List, [], ◌∷◌, length, map, Some, refl, ap, arith, ◌∙◌, cond}
 use Rattle.std.specs.Prelude.{slice_get}
 use Rattle.std.proofs.lemmas.Option.{slice_get-get_or}
 use Rattle.std.proofs.Common.{get_or}
-use Rattle.fork_model.specs.Table.{Kind, Row, Table, State, Idle, Trying, Rung, Ended}
+use Rattle.fork_model.specs.Table.{Row, Table, State, Trying}
 use Rattle.fork_model.specs.Waiting.{may_start}
-use Rattle.fork_model.specs.Step.{with_state, closed_state, settled_state, settled_row, settled}
-use Rattle.fork_model.proofs.WaitingLemmas.{MayStart, may_start_facts}
+use Rattle.fork_model.specs.Step.{settled_state, settled_row, settled}
+use Rattle.fork_model.proofs.WaitingLemmas.{may_start_facts}
 use Rattle.fork_model.proofs.SeriesLemmas.{OneGroup, settled_open}
 use Rattle.fork_tree.specs.Ready.{IsReady, tried}
 

@@ -1,15 +1,15 @@
 -- A table shuts row by row.
-use Rattle.std.proofs.Common.{◌≡◌, ℕ, zero, suc, ◌+◌, ◌<◌, ◌≤◌, Bool, true, false, List, [], ◌∷◌, ◌++◌, length, map, Option, Some, None, refl, ap, arith, ◌∙◌, sym, add-one}
+use Rattle.std.proofs.Common.{◌≡◌, ℕ, zero, suc, ◌+◌, ◌<◌, Bool, true, false, List, [], ◌∷◌, ◌++◌, length, map, Option, Some, None, refl, ap, arith, ◌∙◌, sym, add-one}
 use Rattle.std.specs.Prelude.{slice_get, ◌&&◌, filter}
 use Rattle.std.specs.Option.{option_map}
 use Rattle.std.proofs.lemmas.Option.{slice_get-map}
 use Rattle.fork_model.specs.Table.{Kind, Row, Table, State, Idle, Trying, Rung, Ended, is_row, is_invite}
 use Rattle.fork_model.specs.Groups.{numbers_below}
 use Rattle.fork_model.specs.Step.{with_state}
-use Rattle.fork_context.specs.Closing.{is_ringing, never_state, never_row, closed_row, cancel_row, gets_cancel}
+use Rattle.fork_context.specs.Closing.{is_ringing, never_state, never_row, gets_cancel}
 use Rattle.fork_context.proofs.Numbers.{filter_same}
 use Rattle.fork_context.proofs.NumberSteps.{numbers_more, numbers_same}
-use Rattle.fork_context.proofs.ClosingRows.{cancelled_to, cancelled_more, cancelled_same, cancelled_all}
+use Rattle.fork_context.proofs.ClosingRows.{cancelled_to, cancelled_more, cancelled_same}
 
 -- a row not gone through yet is as it was
 pub untouched : (kind : Kind) (rows : List Row) (n : ℕ) → slice_get (cancelled_to n kind rows) n ≡ slice_get rows n

@@ -16,8 +16,8 @@ use Rattle.fork_model.proofs.StepLemmas.{next_of_stray, next_of_change, and_left
 use Rattle.fork_model.proofs.ChangeLemmas.{changed_row}
 use Rattle.fork_context.proofs.FreshIdle.{IdleEffect, idle_effect}
 use Rattle.fork_tree.specs.Tree.{is_uncancelled}
-use Rattle.fork_tree.specs.Ready.{IsReady, tried}
-use Rattle.fork_context.specs.Ready.{Starts, numbers_from}
+use Rattle.fork_tree.specs.Ready.{tried}
+use Rattle.fork_context.specs.Ready.{Starts}
 use Rattle.fork_context.specs.Closing.{is_ringing, closed_row, gets_cancel, IsClosedWhole}
 use Rattle.fork_context.specs.Placed.{Placed, may_go, placed, effect_at}
 use Rattle.fork_context.specs.Stepped.{IsStepped, number_if, cancelled_at, IsSettled, IsUpOf}

@@ -1,15 +1,15 @@
 -- One event at a table: what it changes, what settling then changes, and what the reply names.
-use Rattle.std.proofs.Common.{◌≡◌, ℕ, zero, suc, ◌+◌, ◌<◌, ◌≤◌, Bool, true, false, List, [], ◌∷◌, ◌++◌, length, map, Option, Some, None, refl, ap, arith, ◌∙◌, sym, subst, cond, inl, inr, ◌⊎◌, get_or}
-use Rattle.std.specs.Prelude.{slice_get, not, ◌&&◌, ◌||◌, filter, nat_lt, nat_le}
+use Rattle.std.proofs.Common.{◌≡◌, ℕ, zero, suc, ◌+◌, ◌<◌, ◌≤◌, Bool, true, false, List, [], ◌∷◌, ◌++◌, length, map, Option, Some, None, refl, ap, arith, ◌∙◌, sym, subst, cond, inl, inr, ◌⊎◌}
+use Rattle.std.specs.Prelude.{slice_get, not, ◌&&◌, ◌||◌, filter, nat_lt}
 use Rattle.std.specs.Option.{option_map}
-use Rattle.std.proofs.lemmas.Option.{slice_get_within, slice_get-get_or, slice_get-map}
+use Rattle.std.proofs.lemmas.Option.{slice_get-map}
 use Rattle.std.proofs.lemmas.List.{append-nil, length-map}
-use Rattle.fork_model.specs.Table.{Kind, Row, Table, State, End, Idle, Trying, Rung, Ended, Silent, Accepted, is_idle, is_trying, is_cancelled, is_ended, is_open, is_row, is_invite}
+use Rattle.fork_model.specs.Table.{Kind, Row, Table, State, Idle, Trying, Rung, Ended, Silent, is_idle, is_trying, is_cancelled, is_ended, is_row, is_invite}
 use Rattle.fork_model.specs.Event.{Event, FinalAnswer, Ring, Answer, Timeout, Fault, TimerC, GiveUp, Cancel, row_named}
 use Rattle.fork_model.specs.Groups.{numbers_below}
 use Rattle.fork_model.specs.Waiting.{may_start, depth_of}
 use Rattle.fork_model.specs.Contacts.{Taking, taking_at, taking_from, keys_of, fresh_rows}
-use Rattle.fork_model.specs.Step.{Effect, effect, moves, assumed, accepts, answers, redirected, redirects, stores, with_state, with_effect, change_at, change, cancelled, closed_state, settled, next}
+use Rattle.fork_model.specs.Step.{Effect, effect, moves, assumed, accepts, answers, redirects, stores, with_state, with_effect, change_at, change, cancelled, closed_state, settled, next}
 use Rattle.fork_model.specs.Reply.{has_become, became}
 use Rattle.fork_model.specs.Series.{IsInSeries}
 use Rattle.fork_model.proofs.StepLemmas.{next_of_change, Onward, change_advances}
@@ -18,7 +18,7 @@ use Rattle.fork_model.proofs.ChangeLemmas.{IsMove, IsClosing, change_is, Found, 
 use Rattle.fork_model.proofs.SeriesLemmas.{OneGroup, one_group_changed, tried_before, idle_before}
 use Rattle.fork_tree.specs.Ready.{IsReady, tried}
 use Rattle.fork_context.specs.Ready.{numbers_from}
-use Rattle.fork_context.specs.Closing.{is_ringing, closed_row, AreClosed, IsClosedWhole}
+use Rattle.fork_context.specs.Closing.{is_ringing, closed_row, IsClosedWhole}
 use Rattle.fork_context.proofs.Settling.{settled_none, settled_group}
 use Rattle.fork_context.proofs.Numbers.{filter_same}
 use Rattle.fork_context.proofs.Replies.{became_none, became_range, tried_in, tried_found, length-tried}

@@ -1,11 +1,11 @@
 -- The stored answers of a tree's rows are those of its table.
-use Rattle.std.proofs.Common.{◌≡◌, ◌≢◌, ℕ, zero, suc, List, [], ◌∷◌, Option, Some, None, refl, ap, ◌∙◌, sym, false, ◌==◌, Bool}
+use Rattle.std.proofs.Common.{◌≡◌, ℕ, zero, suc, List, [], ◌∷◌, refl, ◌∙◌, sym}
 use Rattle.std.specs.Prelude.{slice_get}
 use Rattle.std.specs.Option.{option_map}
-use Rattle.fork_model.specs.Table.{Row, Rules, Stored, State, End, Answered, Taken, Silent, Never, Accepted, Idle, Trying, Rung, Ended, stored_of, is_finished, is_ended}
+use Rattle.fork_model.specs.Table.{Row, Rules, State, Answered, Taken, Silent, Never, Accepted, Idle, Trying, Rung, Ended, stored_of}
 use Rattle.fork_model.specs.Rank.{Score}
-use Rattle.fork_model.specs.Choice.{score_of, stored_at, HasScore, IsFirst, NoneStored}
-use Rattle.fork_context.specs.Dressed.{Beside, dress_state, dress, dressed}
+use Rattle.fork_model.specs.Choice.{score_of, stored_at, IsFirst, NoneStored}
+use Rattle.fork_context.specs.Dressed.{Beside, dress_state, dressed}
 
 score_dress : (state : State) (b : Beside) → option_map score_of (stored_of (dress_state state b)) ≡ option_map score_of (stored_of state)
 score_dress Idle b = refl

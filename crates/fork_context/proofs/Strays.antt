@@ -4,7 +4,7 @@ use Rattle.std.specs.Prelude.{not, ◌&&◌, is_some, is_none, slice_get}
 use Rattle.std.specs.Option.{option_map}
 use Rattle.fork_model.specs.Table.{Row, Table, is_invite}
 use Rattle.fork_model.specs.Event.{Event, Ring, Answer, Timeout, Fault, TimerC, GiveUp, Cancel, row_named}
-use Rattle.fork_model.specs.Step.{Effect, effect, with_effect, change_at, change, is_stray}
+use Rattle.fork_model.specs.Step.{Effect, effect, with_effect, change_at, is_stray}
 use Rattle.fork_tree.specs.declared.row.RowRef.{RowRef}
 use Rattle.fork_tree.specs.States.{bare_state}
 use Rattle.fork_context.specs.RowShown.{ref_shown}

@@ -1,11 +1,11 @@
 -- Whether a 2xx came, as rows change.
-use Rattle.std.proofs.Common.{◌≡◌, ℕ, zero, suc, ◌+◌, ◌<◌, ◌≤◌, Bool, true, false, List, [], ◌∷◌, ◌++◌, map, Some, refl, ap, arith, ◌∙◌, sym, inl, inr, ◌⊎◌}
+use Rattle.std.proofs.Common.{◌≡◌, ℕ, zero, suc, ◌+◌, ◌<◌, ◌≤◌, Bool, true, false, List, [], ◌∷◌, ◌++◌, map, Some, refl, ap, arith, ◌∙◌, sym}
 use Rattle.std.specs.Prelude.{slice_get, ◌||◌}
-use Rattle.fork_model.specs.Table.{Row, State, End, Answered, Taken, Silent, Never, Accepted, Idle, Trying, Rung, Ended, is_idle, is_open, is_accepted, is_succeeded}
+use Rattle.fork_model.specs.Table.{Row, State, Answered, Taken, Silent, Never, Accepted, Idle, Trying, Rung, Ended, is_idle, is_open, is_accepted, is_succeeded}
 use Rattle.fork_model.specs.Step.{with_state}
 use Rattle.fork_tree.specs.Ready.{tried}
 use Rattle.fork_context.specs.Closing.{never_state, never_row}
-use Rattle.fork_context.specs.Dressed.{Beside, dress_state, dress, dressed}
+use Rattle.fork_context.specs.Dressed.{Beside, dress_state, dressed}
 
 or_swap : (a b : Bool) → (a || b) ≡ (b || a)
 or_swap true true = refl

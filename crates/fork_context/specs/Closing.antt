@@ -1,6 +1,6 @@
 -- The rows of a table that closes (RFC 3261 sections 16.7 step 5 and 16.10).
-use Rattle.std.specs.Prelude.{◌≡◌, ℕ, zero, suc, ◌&&◌, Bool, true, false, not, List, [], ◌∷◌, map, slice_get, if◌then◌else◌}
-use Rattle.fork_model.specs.Table.{Kind, Row, State, Idle, Trying, Rung, Ended, End, Never, Table, is_row, is_invite}
+use Rattle.std.specs.Prelude.{◌≡◌, ℕ, ◌&&◌, Bool, true, false, not, List, map, slice_get, if◌then◌else◌}
+use Rattle.fork_model.specs.Table.{Kind, Row, State, Idle, Trying, Rung, Ended, Table, is_row, is_invite}
 use Rattle.fork_model.specs.Step.{closed_state}
 use Rattle.fork_tree.specs.Closing.{never_tried}
 

@@ -1,5 +1,5 @@
 -- The rows of a table, of which a tree keeps one part and a list beside it the other.
-use Rattle.std.specs.Prelude.{ℕ, zero, suc, List, [], ◌∷◌, ◌++◌, Option, Some, map, unwrap_or, slice_get}
+use Rattle.std.specs.Prelude.{ℕ, zero, suc, List, [], ◌∷◌, ◌++◌, Option, map, unwrap_or, slice_get}
 use Rattle.std.specs.Option.{option_map, option_to_list}
 use Rattle.fork_model.specs.Table.{Offer, Challenge, End, Answered, Taken, Silent, Never, Accepted, State, Idle, Trying, Rung, Ended, Row}
 

@@ -1,5 +1,5 @@
 -- An effect with the row that it is on, and how a row may go on (RFC 3261 sections 16.7 to 16.10).
-use Rattle.std.specs.Prelude.{◌≡◌, ℕ, ◌&&◌, Bool, true, false, not, List, [], Option, length, slice_get}
+use Rattle.std.specs.Prelude.{ℕ, ◌&&◌, Bool, true, false, not, Option, length, slice_get}
 use Rattle.std.specs.Option.{option_and_then}
 use Rattle.fork_model.specs.Table.{Table, State, Idle, Trying, Rung, Ended}
 use Rattle.fork_model.specs.Event.{Event}

@@ -1,4 +1,4 @@
-use Rattle.std.proofs.Common.{◌≡◌, ℕ, suc, ◌+◌, List, ap, subst, sym, ◌∙◌, add-one}
+use Rattle.std.proofs.Common.{◌≡◌, ℕ, ◌+◌, List, subst, sym, ◌∙◌, add-one}
 use Rattle.std.specs.List.{insert}
 use Rattle.fork_context.specs.ByKey.{IsByKey, Parted, key_at}
 use Rattle.fork_context.proofs.ByKeySteps.{by_key_more, in_ok}

@@ -1,4 +1,4 @@
-use Rattle.std.proofs.Common.{◌≡◌, ℕ, List, nat_eq, slice_get, ap, subst, ◌∙◌}
+use Rattle.std.proofs.Common.{ℕ, List, nat_eq, slice_get, ap, subst, ◌∙◌}
 use Rattle.std.specs.List.{list_any}
 use Rattle.std.specs.Cmp.Lexicographic.{pointwise}
 use Rattle.fork_context.specs.ByKey.{Parted, found_at}

@@ -1,5 +1,4 @@
-use Rattle.std.proofs.Common.{◌≡◌, ◌<◌, ℕ, List, length, arith, ap, subst, sym, ◌∙◌}
-use Rattle.std.specs.Prelude.{slice_set}
+use Rattle.std.proofs.Common.{◌≡◌, ◌<◌, List, length, arith, ap, subst, sym, ◌∙◌}
 use Rattle.fork_context.specs.ByKey.{IsByKey}
 use Rattle.fork_context.specs.Dressed.{Beside, with_beside}
 use Rattle.fork_context.proofs.ByKeySteps.{by_key_stored, set_stored}

@@ -1,6 +1,5 @@
 use Rattle.std.proofs.Common.{◌≡◌, ◌≤◌, length, arith, ap, sym, subst}
 use Rattle.fork_model.specs.Table.{Table, most_targets}
-use Rattle.fork_model.specs.History.{opening}
 use Rattle.fork_context.specs.KindView.{kind_of}
 use Rattle.fork_context.specs.Refusals.{HasTwice}
 use Rattle.fork_context.specs.Sound.{IsKept}

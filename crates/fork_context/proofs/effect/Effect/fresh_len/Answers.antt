@@ -1,4 +1,4 @@
-use Rattle.std.proofs.Common.{◌≡◌, ◌∙◌, Some, length, map, sym, ap, arith}
+use Rattle.std.proofs.Common.{◌≡◌, Some, length, map, sym, ap, arith}
 use Rattle.std.specs.Prelude.{vec_len}
 use Rattle.std.proofs.lemmas.List.{length-map}
 use Rattle.fork_tree.specs.Seats.{seated}

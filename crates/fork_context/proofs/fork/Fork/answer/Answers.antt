@@ -1,8 +1,7 @@
-use Rattle.std.proofs.Common.{◌≡◌, ◌∙◌, sym, ap, List, Option, Some, None}
+use Rattle.std.proofs.Common.{◌∙◌, sym, ap}
 use Rattle.std.specs.Prelude.{slice_get}
 use Rattle.fork_model.specs.Table.{Table}
 use Rattle.fork_model.specs.Choice.{stored_at}
-use Rattle.fork_context.specs.Dressed.{Beside}
 use Rattle.fork_context.proofs.ForkReads.{none_there, none_beside, there, answer_there}
 use Rattle.fork_context.proofs.fork.Fork.answer.Goals as goal
 

@@ -1,8 +1,8 @@
-use Rattle.std.proofs.Common.{◌≡◌, ◌≤◌, ◌+◌, ℕ, Bool, true, false, List, Option, Some, length, map, arith, ap, subst, sym, ◌∙◌}
+use Rattle.std.proofs.Common.{◌≡◌, ◌≤◌, ◌+◌, Bool, true, false, Option, Some, length, map, arith, ap, subst, sym, ◌∙◌}
 use Rattle.std.specs.Prelude.{◌||◌, slice_get}
-use Rattle.fork_model.specs.Table.{Row, Table, State, Idle, Trying, Rung, Ended, is_row, most_targets}
-use Rattle.fork_model.specs.Step.{Effect, with_effect}
-use Rattle.fork_tree.specs.States.{state_of, end_of, has_ended}
+use Rattle.fork_model.specs.Table.{Row, Table, State, Idle, Trying, Rung, is_row, most_targets}
+use Rattle.fork_model.specs.Step.{with_effect}
+use Rattle.fork_tree.specs.States.{state_of, has_ended}
 use Rattle.fork_tree.specs.Seats.{seated}
 use Rattle.fork_context.specs.Dressed.{dressed}
 use Rattle.fork_context.specs.Placed.{Placed, may_go}

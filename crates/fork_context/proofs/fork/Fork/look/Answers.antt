@@ -1,9 +1,8 @@
-use Rattle.std.proofs.Common.{◌≡◌, ◌∙◌, sym, ap, ℕ, List, Option, Some, None}
+use Rattle.std.proofs.Common.{◌∙◌, sym, ap, ℕ, Some}
 use Rattle.std.specs.Prelude.{slice_get}
 use Rattle.std.specs.Option.{option_map}
 use Rattle.fork_model.specs.Table.{Table}
 use Rattle.fork_context.specs.declared.row.RowView.{RowView}
-use Rattle.fork_context.specs.Dressed.{Beside}
 use Rattle.fork_context.specs.RowShown.{row_shown}
 use Rattle.fork_context.proofs.ForkReads.{none_there, none_beside, there, look_there}
 use Rattle.fork_context.proofs.fork.Fork.look.Goals as goal
