@@ -154,7 +154,7 @@ where_passing f g k (row ∷ rows) h =
     ap (λ (b : Bool). (if b && not (is_ended row.state) then 1 else 0) + open_where f (suc k) rows) (h k)
     ∙ ap (λ x. one (g k && not (is_ended row.state)) + x) (where_passing f g (suc k) rows h)
 
-count_below : (all : List Place) (root : List Entry) (n : ℕ) → AreOlder all → IsPlaced all root → n < length all → AreListed all root root → length root ≡ length all
+pub count_below : (all : List Place) (root : List Entry) (n : ℕ) → AreOlder all → IsPlaced all root → n < length all → AreListed all root root → length root ≡ length all
     → open_of (under (path_of all n) root) ≡ open_below (rows_of all root) n
 count_below all root n older placed lt listed sized =
     opens_below all root root n older placed lt listed

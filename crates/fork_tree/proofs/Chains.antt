@@ -71,7 +71,7 @@ leads_on all n (suc steps) m older h =
 abbrev pub IsEven : ℕ → Type 0
 IsEven n = (d : ℕ) × (n ≡ 2 * d)
 
-even_to : (all : List Place) (steps n : ℕ) → IsEven (length (path_to all steps n))
+pub even_to : (all : List Place) (steps n : ℕ) → IsEven (length (path_to all steps n))
 even_to all zero n = (0, refl)
 even_to all (suc steps) n = at (λ m. even_to all steps m) (slice_get all n)
   where
@@ -85,7 +85,7 @@ even_to all (suc steps) n = at (λ m. even_to all steps m) (slice_get all n)
     at again None = (0, refl)
     at again (Some p) = up again p p.parent
 
-long : (all : List Place) (n : ℕ) (p : Place) → slice_get all n ≡ Some p → 2 ≤ length (path_of all n)
+pub long : (all : List Place) (n : ℕ) (p : Place) → slice_get all n ≡ Some p → 2 ≤ length (path_of all n)
 long all n p is =
     omega (arith, ap (λ o. length (path_at o (path_to all n))) is, length-append (above p.parent (path_to all n)) (p.group ∷ p.place ∷ []))
 
@@ -94,7 +94,7 @@ place_there [] i h = absurd (omega (arith, h))
 place_there (p ∷ ps) zero h = (p, refl)
 place_there (p ∷ ps) (suc i) h = place_there ps i (omega (arith, h))
 
-shorter : (a b c d : List ℕ) → a ++ b ≡ c ++ d → length c ≤ length a → (q : List ℕ) × (a ≡ c ++ q)
+pub shorter : (a b c d : List ℕ) → a ++ b ≡ c ++ d → length c ≤ length a → (q : List ℕ) × (a ≡ c ++ q)
 shorter a b [] d e h = (a, refl)
 shorter [] b (x ∷ c) d e h = absurd (omega (arith, h))
 shorter (y ∷ a) b (x ∷ c) d e h =

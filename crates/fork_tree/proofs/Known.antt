@@ -39,7 +39,7 @@ one_row rows k a b e f = let same : Some a ≡ Some b = sym e ∙ f in cc
 
 -- ---- mates
 
-is_mate : (a b : Row) → AreMates a b → same_group a b ≡ true
+pub is_mate : (a b : Row) → AreMates a b → same_group a b ≡ true
 is_mate a b m =
     ap (λ (p : Option ℕ). option_eq nat_eq a.parent p && a.group == b.group) (sym m.0) ∙ ap (λ (g : ℕ). option_eq nat_eq a.parent a.parent && a.group == g) (sym m.1)
     ∙ same_group_refl a

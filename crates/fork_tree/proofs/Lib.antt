@@ -1,4 +1,5 @@
 pub mod Grafts
+pub mod Grouped
 pub mod Tallies
 pub mod Closes
 pub mod Traces
@@ -24,3 +25,4 @@ pub mod Starting
 pub mod Known
 pub mod Ordered
 pub mod Passing
+pub mod Halving

@@ -1,5 +1,5 @@
 -- Rows tried in order: all that goes before one that waits no more has ended.
-use Rattle.std.proofs.Common.{◌≡◌, ℕ, zero, suc, ◌+◌, ◌<◌, ◌≤◌, ◌⊎◌, inl, inr, ◌&&◌, Bool, true, false, IsTrue, List, [], ◌∷◌, ◌++◌, length, map, Option, Some, None, slice_get, refl, ap, sym, subst, ◌∙◌, arith, eqb-true, ltb, ltb-true, ltb-false}
+use Rattle.std.proofs.Common.{◌≡◌, ℕ, zero, suc, ◌+◌, ◌<◌, ◌≤◌, ◌⊎◌, inl, inr, ◌&&◌, Bool, true, false, IsTrue, not, List, [], ◌∷◌, ◌++◌, length, map, Option, Some, None, slice_get, refl, ap, sym, subst, ◌∙◌, arith, eqb-true, ltb, ltb-true, ltb-false}
 use Rattle.std.specs.Prelude.{eqb, nat_eq, nat_lt}
 use Rattle.std.specs.Option.{option_eq}
 use Rattle.std.proofs.lemmas.Bool.{eq-eqb}
@@ -19,13 +19,12 @@ use Rattle.fork_tree.specs.States.{bare_state, has_ended}
 use Rattle.fork_tree.specs.Seats.{seated}
 use Rattle.fork_tree.specs.Below.{parent_of, from_parent, leads, lies_below, open_below}
 use Rattle.fork_tree.specs.Ready.{IsReady, tried}
-use Rattle.fork_tree.specs.Search.{AreMates, IsGroup, IsNext}
+use Rattle.fork_tree.specs.Search.{AreMates, IsNext}
 use Rattle.fork_tree.specs.Tree.{is_unended, is_uncancelled}
-use Rattle.fork_tree.specs.Quiet.{InOrder, IsRightBefore, AreOver, ParentsEnded}
+use Rattle.fork_tree.specs.Quiet.{InOrder, IsRightBefore, GroupGoesOn, ParentsEnded}
 use Rattle.fork_tree.proofs.Lines.{AreOlderRows, IsBefore, before_found, before_goes, or_cases, or_left, or_right, up_in, leads_enough, none_below, GoesOn, some_below}
 use Rattle.fork_tree.proofs.Placed.{ended_bare}
 use Rattle.fork_tree.proofs.Mates.{row_there, older_rows}
-use Rattle.fork_tree.proofs.Starting.{below_next}
 use Rattle.fork_tree.proofs.Known.{differ, one_row, option_same, StandsSo, KeepsPlaces, IsStep, places_kept, changed, tried_keeps, tried_up, OpenRow, open_of_row, TriedRow, tried_row, seats_below, none_new, ended_busy}
 
 -- ---- what goes before a row later went before it
@@ -271,11 +270,11 @@ none_open rows first m head a older order here started there earlier = go (ltb 0
         absurd (differ (is_ended busy.row.state) (order first busy.number head busy.row here started busy.there goes) busy.goes_on)
     go false e = let none : open_below rows m ≤ 0 = ltb-false 0 (open_below rows m) e in omega (arith, none)
 
-next_free : (rows : List Row) (first end n : ℕ) → AreOlderRows rows → InOrder rows → IsGroup rows first end → IsRightBefore rows first n → AreOver rows first end true → IsNext rows n true
-next_free rows first end n older order group right over m lt a row there here earlier = go (ltb a.group head.0.group) refl
+next_free : (rows : List Row) (first n : ℕ) → AreOlderRows rows → InOrder rows → first < length rows → IsRightBefore rows first n → GroupGoesOn rows first false → IsNext rows n true
+next_free rows first n older order known right over m lt a row there here earlier = go (ltb a.group head.0.group) refl
   where
     head : (r : Row) × (slice_get rows first ≡ Some r)
-    head = let some : first < end = group.some in let within : end ≤ length rows = group.within in row_there rows first (omega (arith, some, within))
+    head = row_there rows first known
 
     near : (head.0.parent ≡ row.parent) × (suc head.0.group ≡ row.group)
     near = right head.0 row head.1 here
@@ -284,7 +283,7 @@ next_free rows first end n older order group right over m lt a row there here ea
     parents = option_same a.parent row.parent (and_left _ _ earlier) ∙ sym near.0
 
     ended : is_ended head.0.state ≡ true
-    ended = none_below rows first first head.0 (over first (omega arith) group.some) head.1 (lies_here rows first older)
+    ended = none_below rows first first head.0 (over first head.0 head.0 head.1 head.1 (refl, refl)) head.1 (lies_here rows first older)
 
     go : (b : Bool) → ltb a.group head.0.group ≡ b → open_below rows m ≡ 0
     go true e =
@@ -294,25 +293,25 @@ next_free rows first end n older order group right over m lt a row there here ea
         let most : head.0.group ≤ a.group = ltb-false a.group head.0.group e in
         let step : suc head.0.group ≡ row.group = near.1 in
         let same : a.group ≡ head.0.group = omega (arith, less, most, step) in
-        let range = group.whole m head.0 a head.1 there (parents, same) in
-        over m range.0 range.1
+        over m a head.0 there head.1 (parents, same)
 
-pub next_ahead : (rows : List Row) (first end n : ℕ) (b : Bool) → AreOlderRows rows → InOrder rows → n < length rows → IsGroup rows first end → IsRightBefore rows first n
-    → AreOver rows first end b → IsNext rows n b
-next_ahead rows first end n true older order known group right over = next_free rows first end n older order group right over
-next_ahead rows first end n false older order known group right over =
-    let some : first < end = group.some in
-    let within : end ≤ length rows = group.within in
-    let high : over.0 < end = over.2 in
-    let head : (r : Row) × (slice_get rows first ≡ Some r) = row_there rows first (omega (arith, some, within)) in
-    let a : (r : Row) × (slice_get rows over.0 ≡ Some r) = row_there rows over.0 (omega (arith, high, within)) in
+pub next_ahead : (rows : List Row) (first n : ℕ) (b : Bool) → AreOlderRows rows → InOrder rows → first < length rows → n < length rows → IsRightBefore rows first n
+    → GroupGoesOn rows first b → IsNext rows n (not b)
+next_ahead rows first n false older order there known right over = next_free rows first n older order there right over
+next_ahead rows first n true older order there known right stuck =
     let row : (r : Row) × (slice_get rows n ≡ Some r) = row_there rows n known in
-    let mates : AreMates a.0 head.0 = group.same over.0 head.0 a.0 over.1 over.2 head.1 a.1 in
-    let near = right head.0 row.0 head.1 row.1 in
-    let step : suc head.0.group ≡ row.0.group = near.1 in
-    let same : a.0.group ≡ head.0.group = mates.1 in (
-      over.0,
-      record { first = a.0; row = row.0; there = a.1; here = row.1; earlier = is_earlier a.0 row.0 (mates.0 ∙ near.0) (omega (arith, step, same)); busy = over.3 },
+    let near = right stuck.row row.0 stuck.here row.1 in
+    let step : suc stuck.row.group ≡ row.0.group = near.1 in
+    let same : stuck.mate.group ≡ stuck.row.group = stuck.mates.1 in (
+      stuck.number,
+      record {
+        first = stuck.mate;
+        row = row.0;
+        there = stuck.there;
+        here = row.1;
+        earlier = is_earlier stuck.mate row.0 (stuck.mates.0 ∙ near.0) (omega (arith, step, same));
+        busy = stuck.busy;
+      },
     )
 
 -- nothing goes before a row of the first group
@@ -321,12 +320,6 @@ first_next rows n least m lt a row there here earlier =
     let less : a.group < row.group = ltb-true a.group row.group (and_right _ _ earlier) in
     let none : row.group ≡ 0 = least row here in
     absurd (omega (arith, less, none))
-
-pub over_more : (rows : List Row) (first m : ℕ) → ((k : ℕ) → first ≤ k → k < m → open_below rows k ≡ 0) → nat_lt 0 (open_below rows m) ≡ false
-    → (k : ℕ) → first ≤ k → k < m + 1 → open_below rows k ≡ 0
-over_more rows first m h e k low high =
-    below_next (λ j. first ≤ j → open_below rows j ≡ 0) m k (λ j lt l. h j l lt)
-    (λ l. (let none : open_below rows m ≤ 0 = ltb-false 0 (open_below rows m) e in omega (arith, none))) high low
 
 -- ---- rows that wait no more
 

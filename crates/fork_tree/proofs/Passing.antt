@@ -4,16 +4,16 @@ use Rattle.std.specs.Prelude.{eqb, nat_eq, nat_lt}
 use Rattle.std.specs.Option.{option_eq}
 use Rattle.std.proofs.lemmas.Bool.{eq-eqb}
 use Rattle.fork_model.specs.Table.{Row, is_idle, is_ended, is_row}
-use Rattle.fork_model.specs.Waiting.{same_group, in_earlier_group, goes_before, may_start}
+use Rattle.fork_model.specs.Waiting.{in_earlier_group, goes_before, may_start}
 use Rattle.fork_model.proofs.StepLemmas.{and_left, and_right}
 use Rattle.fork_model.proofs.WaitingLemmas.{may_start_facts, is_earlier, idle_not_ended, same_group_refl}
-use Rattle.fork_tree.specs.Below.{parent_of, from_parent, leads, lies_below, open_below}
+use Rattle.fork_tree.specs.Below.{parent_of, from_parent, leads, lies_below}
 use Rattle.fork_tree.specs.Search.{AreMates, Opens, Joins, IsNextBegin, MayGo, FindsReady}
 use Rattle.fork_tree.specs.Quiet.{NoneStarts, IsPassed, IsAfter, NoneBehind, IsStuck, IsOnly, right_before}
 use Rattle.fork_tree.proofs.Lines.{AreOlderRows, IsBefore, before_found, before_goes, up_in, leads_up, leads_enough, or_cases, GoesOn, some_below}
 use Rattle.fork_tree.proofs.Mates.{AllBegin, StandsOn, AllFollow, row_there, none_past}
 use Rattle.fork_tree.proofs.Starting.{not_true, mate_starts, waits_at}
-use Rattle.fork_tree.proofs.Known.{differ, one_row, option_same, mates_of, earlier_as, row_less}
+use Rattle.fork_tree.proofs.Known.{differ, one_row, option_same, earlier_as, row_less}
 use Rattle.fork_tree.proofs.Ordered.{LedUp, leads_cases, lies_here}
 
 -- ---- the group right behind
@@ -146,23 +146,6 @@ none_stuck rows n older passed stuck k row here = not_true (may_start rows row) 
           | inr l ↦ above b l
         ] in
         differ (is_ended busy.row.state) ((may_start_facts rows row may).before busy.number busy.row busy.there goes) busy.goes_on
-
--- row m stands beside row n, and goes on
-pub stuck_of : (rows : List Row) (m n : ℕ) (beside goes : Bool) → m < length rows → n < length rows
-    → ((mate row : Row) → slice_get rows m ≡ Some mate → slice_get rows n ≡ Some row → beside ≡ same_group mate row) → goes ≡ nat_lt 0 (open_below rows m)
-    → beside ≡ true → goes ≡ true → IsStuck rows n
-stuck_of rows m n beside goes lm ln same on stands going =
-    let mate : (r : Row) × (slice_get rows m ≡ Some r) = row_there rows m lm in
-    let row : (r : Row) × (slice_get rows n ≡ Some r) = row_there rows n ln in
-    record {
-      number = m;
-      row = row.0;
-      mate = mate.0;
-      here = row.1;
-      there = mate.1;
-      mates = mates_of mate.0 row.0 (sym (same mate.0 row.0 mate.1 row.1) ∙ stands);
-      busy = ltb-true 0 (open_below rows m) (sym on ∙ going);
-    }
 
 -- ---- the only group that may start
 

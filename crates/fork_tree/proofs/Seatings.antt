@@ -1,8 +1,10 @@
 -- Branches made one after another stand on their seats.
-use Rattle.std.proofs.Common.{◌≡◌, ℕ, zero, suc, ◌+◌, ◌<◌, ◌≤◌, Bool, true, false, List, [], ◌∷◌, ◌++◌, length, map, drop, Option, Some, refl, ap, sym, ◌∙◌, arith, append_assoc, get_or, if◌then◌else◌}
+use Rattle.std.proofs.Common.{◌≡◌, ℕ, zero, suc, ◌+◌, ◌<◌, ◌≤◌, Bool, true, false, List, [], ◌∷◌, ◌++◌, length, map, drop, Option, Some, refl, ap, sym, ◌∙◌, arith, append_assoc, length-append, get_or, if◌then◌else◌}
 use Rattle.std.proofs.lemmas.List.{append-nil, map-append}
 use Rattle.fork_tree.specs.declared.seat.Seat.{Seat}
 use Rattle.fork_tree.specs.Rows.{Entry, pushed, joined, node_rows}
+use Rattle.fork_tree.specs.Tally.{AreWaiting, open_of}
+use Rattle.fork_tree.proofs.Tallies.{open_append, open_pushed}
 use Rattle.fork_tree.specs.Seats.{differs, seats_with, seats_from, idle, seat_rows}
 
 pub joined_more : (j : ℕ) (xs : List (List Entry)) (n : List Entry) → joined j (xs ++ n ∷ []) ≡ joined j xs ++ map (pushed (j + length xs)) n
@@ -52,6 +54,22 @@ row_seated groups nodes more first k seats s was e g p m =
     ∙ ap (λ x. x ++ map (pushed (length groups)) one) was
     ∙ ap (λ x. seat_rows first seats ++ record { path = x ∷ s.place ∷ []; cell = record { number = k; q = s.q; standing = idle } } ∷ []) (sym g)
     ∙ sym (seat_pushed first seats s k e)
+
+-- one more that waits
+pub waiting_more : (nodes more : List (List Entry)) (k q : ℕ) → AreWaiting nodes → more ≡ nodes ++ node_rows k q idle [] ∷ [] → AreWaiting more
+waiting_more nodes more k q w m =
+    let one : List Entry = map (pushed (0 + length nodes)) (node_rows k q idle []) in
+    let sizes : length (nodes ++ node_rows k q idle [] ∷ []) ≡ length nodes + 1 = length-append nodes (node_rows k q idle [] ∷ []) in
+    omega (
+      arith,
+      ap length m,
+      sizes,
+      w,
+      ap (λ x. open_of (joined 0 x)) m,
+      ap open_of (joined_more 0 nodes (node_rows k q idle [])),
+      open_append (joined 0 nodes) one,
+      open_pushed (0 + length nodes) (node_rows k q idle []),
+    )
 
 drop_at : (xs : List ℕ) (i : ℕ) → i < length xs → drop i xs ≡ get_or xs i 0 ∷ drop (i + 1) xs
 drop_at [] i h = absurd (omega arith)

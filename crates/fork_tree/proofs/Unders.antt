@@ -110,6 +110,10 @@ pub child_under : (rows : List Entry) (parts : List (List Entry)) (i : ℕ) (par
 child_under rows parts i part path v is h =
     ap (under path) (is ∙ get_same parts i part (child_in rows parts i path v h)) ∙ sym (under_joined 0 i i parts path (omega arith)) ∙ ap (under (i ∷ path)) v
 
+pub part_under : (rows : List Entry) (parts : List (List Entry)) (i : ℕ) (part : List Entry) → joined 0 parts ≡ rows → part ≡ get_or parts i part → i < length parts → part ≡ under (i ∷ []) rows
+part_under rows parts i part v is lt =
+    sym (under_none part) ∙ ap (under []) (is ∙ get_same parts i part lt) ∙ sym (under_joined 0 i i parts [] (omega arith)) ∙ ap (under (i ∷ [])) v
+
 -- ---- below what is below
 
 pub find_under : (p : List ℕ) (rows : List Entry) (q : List ℕ) → find (under p rows) q ≡ find rows (p ++ q)

@@ -22,6 +22,14 @@ path_to all (suc steps) n = path_at (slice_get all n) (path_to all steps)
 abbrev pub path_of : List Place → ℕ → List ℕ
 path_of all n = path_to all (suc n) n
 
+-- the path to its group: without its place there
+abbrev pub group_at : Option Place → (ℕ → List ℕ) → List ℕ
+group_at None up = []
+group_at (Some p) up = above p.parent up ++ p.group ∷ []
+
+abbrev pub group_of : List Place → ℕ → List ℕ
+group_of all n = group_at (slice_get all n) (path_to all n)
+
 abbrev pub row_at : Place → Option Cell → Row
 row_at p None = record { key = []; q = 0; place = 0; parent = p.parent; group = p.group; state = Ended Never }
 row_at p (Some c) =

@@ -1,5 +1,5 @@
 -- What is known of the groups that may start (RFC 3261 section 16.6).
-use Rattle.std.specs.Prelude.{◌≡◌, ◌<◌, ◌≤◌, ◌&&◌, nat_eq, ℕ, suc, Bool, true, false, List, length, Option, Some, None, slice_get}
+use Rattle.std.specs.Prelude.{◌≡◌, ◌<◌, ◌&&◌, nat_eq, ℕ, suc, Bool, true, false, List, length, Option, Some, None, slice_get}
 use Rattle.std.specs.Option.{option_eq}
 use Rattle.fork_model.specs.Table.{Row, is_idle, is_ended, is_row}
 use Rattle.fork_model.specs.Waiting.{in_earlier_group, goes_before, parent_ended, may_start}
@@ -93,11 +93,6 @@ pub record IsAhead (rows : List Row) (first n : ℕ) : Type 0 where
   pub right : IsRightBefore rows first n
   pub order : IsInOrder rows
 
--- whether all of these rows, and all below them, have ended
-abbrev pub AreOver : List Row → ℕ → ℕ → Bool → Type 0
-AreOver rows first end true = (k : ℕ) → first ≤ k → k < end → open_below rows k ≡ 0
-AreOver rows first end false = (k : ℕ) × (first ≤ k) × (k < end) × (0 < open_below rows k)
-
 -- the group right behind that of row n, under the same parent, begins with row `next`
 pub record IsAfter (rows : List Row) (n next : ℕ) : Type 0 where
   pub known : next < length rows
@@ -130,6 +125,12 @@ pub record IsStuck (rows : List Row) (n : ℕ) : Type 0 where
   pub there : slice_get rows number ≡ Some mate
   pub mates : AreMates mate row
   pub busy : 0 < open_below rows number
+
+-- whether a row in the group of row n, or one below it, has not ended
+abbrev pub GroupGoesOn : List Row → ℕ → Bool → Type 0
+GroupGoesOn rows n true = IsStuck rows n
+GroupGoesOn rows n false =
+    (k : ℕ) (mate row : Row) → slice_get rows k ≡ Some mate → slice_get rows n ≡ Some row → AreMates mate row → open_below rows k ≡ 0
 
 -- a group begins with row n, and where that waits, no other group may start
 pub record IsOnly (rows : List Row) (n : ℕ) : Type 0 where

@@ -1,6 +1,6 @@
 -- What is kept of some branches: the stored answer that none ranks before, and how many have not ended (RFC 3261
 -- section 16.7 steps 5 and 6).
-use Rattle.std.specs.Prelude.{◌≡◌, ◌⊎◌, ◌+◌, ℕ, false, List, [], ◌∷◌, Option, Some, None, if◌then◌else◌}
+use Rattle.std.specs.Prelude.{◌≡◌, ◌⊎◌, ◌+◌, ℕ, false, List, [], ◌∷◌, length, Option, Some, None, if◌then◌else◌}
 use Rattle.fork_model.specs.Rank.{RanksBefore}
 use Rattle.fork_tree.specs.declared.best.Standing.{Standing}
 use Rattle.fork_tree.specs.declared.best.Kept.{Kept}
@@ -8,7 +8,7 @@ use Rattle.fork_tree.specs.declared.best.BestRef.{BestRef}
 use Rattle.fork_tree.specs.declared.best.Tally.{Tally}
 use Rattle.fork_tree.specs.declared.row.State.{State}
 use Rattle.fork_tree.specs.States.{has_ended}
-use Rattle.fork_tree.specs.Rows.{Entry, node_rows}
+use Rattle.fork_tree.specs.Rows.{Entry, joined, node_rows}
 
 -- the answer is stored in one of the branches
 abbrev pub HasKept : List Entry → Kept → Type 0
@@ -31,6 +31,10 @@ open_state state = if has_ended state then 0 else 1
 abbrev pub open_of : List Entry → ℕ
 open_of [] = 0
 open_of (e ∷ es) = open_state e.cell.standing.state + open_of es
+
+-- of these branches, each with those below it, as many have not ended as they are
+abbrev pub AreWaiting : List (List Entry) → Type 0
+AreWaiting nodes = open_of (joined 0 nodes) ≡ length nodes
 
 pub record IsTally (rows : List Entry) (t : Tally) : Type 0 where
   pub kept : IsKept rows t.kept

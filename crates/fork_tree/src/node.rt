@@ -4,7 +4,7 @@ ghost use Rattle.fork_model.specs.Table.{most_targets};
 ghost use Rattle.fork_tree.specs.Rows.{open_at, find, graft, is_there, joined, node_rows, pushed, q_in, state_in, unanswered};
 ghost use Rattle.fork_tree.specs.Below.{under};
 ghost use Rattle.fork_tree.specs.Closing.{closed_entry};
-ghost use Rattle.fork_tree.specs.Tally.{Gains, IsKept, open_of};
+ghost use Rattle.fork_tree.specs.Tally.{AreWaiting, Gains, IsKept, open_of};
 ghost use Rattle.fork_tree.specs.States.{has_ended};
 ghost use Rattle.fork_tree.specs.Seats.{differs, idle, seat_rows, seats_of};
 
@@ -37,6 +37,8 @@ pub(crate) struct Tier<A: Allocator = Global> {
 #[derive(Drop)]
 pub(crate) struct Group<A: Allocator = Global> {
     nodes: Vec<Node<A>, A>,
+    /// How many of these branches, and of those below them, have not ended.
+    still: u16,
 }
 
 impl<A: Allocator> Model for Node<A> {
@@ -60,12 +62,16 @@ impl<A: Allocator> Model for Node<A> {
 impl<A: Allocator> Model for Group<A> {
     ghost use Rattle.std.specs.Prelude.{List, ◌+◌, ◌*◌, ℕ, length};
     ghost use Rattle.std.proofs.Common.{arith};
+    ghost use Rattle.std.specs.Prelude.{◌≡◌};
     ghost use Rattle.fork_tree.specs.Rows.{Entry, joined};
+    ghost use Rattle.fork_tree.specs.Tally.{open_of};
     ghost use Rattle.fork_tree.specs.Falls.{most_nodes};
 
     ghost Value = { List Entry };
 
     ghost view = { λ g. joined 0 g.nodes.items };
+
+    ghost invariant = { λ g. g.still ≡ open_of (joined 0 g.nodes.items) };
 
     ghost size = { λ rows. 3 * length rows + 1 };
 
@@ -131,6 +137,14 @@ impl<A: Allocator> Node<A> {
         ensures { result.now ≡ under (group ∷ place ∷ []) self.now }
     {
         self.below.child(group, place)
+    }
+
+    /// How many of the branches in this group right below it, and of those below them, have not ended.
+    pub(crate) fn open_in(&self, group: u16) -> u16
+        requires there { (place : ℕ) × IsTrue (is_some (find self.now (group ∷ place ∷ []))) }
+        ensures { result ≡ open_of (under (group ∷ []) self.now) }
+    {
+        self.below.open_in(group)
     }
 
     /// The branch at this path, which has not ended, comes into another state in which it has not.
@@ -219,6 +233,14 @@ impl<A: Allocator> Tier<A> {
         self.groups[group as usize].child(place)
     }
 
+    /// How many of the branches in this group, and of those below them, have not ended.
+    pub(crate) fn open_in(&self, group: u16) -> u16
+        requires there { (place : ℕ) × IsTrue (is_some (find self.now (group ∷ place ∷ []))) }
+        ensures { result ≡ open_of (under (group ∷ []) self.now) }
+    {
+        self.groups[group as usize].open_count()
+    }
+
     /// The branch at this path comes into another state, as of a node.
     #[cycle(set)]
     pub(crate) fn set(&mut self, path: &[u16], state: State)
@@ -287,6 +309,23 @@ impl<A: Allocator> Group<A> {
         &self.nodes[place as usize]
     }
 
+    /// These branches, which all wait.
+    fn waiting(nodes: Vec<Node<A>, A>) -> Group<A>
+        requires few { length nodes.items ≤ most_targets }
+        requires waiting { AreWaiting nodes.items }
+        ensures { result ≡ joined 0 nodes.items }
+    {
+        let still = nodes.len() as u16;
+        Group { nodes, still }
+    }
+
+    /// How many of its branches, and of those below them, have not ended.
+    fn open_count(&self) -> u16
+        ensures { result ≡ open_of self.now }
+    {
+        self.still
+    }
+
     /// The branch at this path comes into another state, as of a node.
     #[cycle(set)]
     pub(crate) fn set(&mut self, path: &[u16], state: State)
@@ -317,6 +356,7 @@ impl<A: Allocator> Group<A> {
         ensures alone { (k : ℕ) (rest : List ℕ) → find self.old (path.now ++ k ∷ rest) ≡ None }
     {
         if let Some((first, rest)) = path.split_first() {
+            self.still = self.still + opens - 1;
             self.nodes[*first as usize].end(rest, standing, below, opens);
         }
     }
@@ -334,6 +374,7 @@ impl<A: Allocator> Group<A> {
             ended += self.nodes[i].close();
             i += 1;
         }
+        self.still -= ended;
         ended
     }
 }
@@ -382,14 +423,17 @@ fn in_group<A: Allocator + Clone>(
     nodes: Vec<Node<A>, A>,
     begins: bool,
 ) -> Result<Vec<Node<A>, A>, AllocError>
+    requires few { length nodes.items ≤ most_targets }
+    requires waiting { AreWaiting nodes.items }
     ensures same { IfOk result (λ next. joined 0 groups.new.items ++ map (pushed (length groups.new.items)) (joined 0 next.items)
         ≡ joined 0 groups.old.items ++ map (pushed (length groups.old.items)) (joined 0 nodes.items)) }
     ensures groups { IfOk result (λ next. length groups.new.items
         ≡ (if begins then suc (length groups.old.items) else length groups.old.items)) }
     ensures nodes { IfOk result (λ next. length next.items ≡ (if begins then 0 else length nodes.items)) }
+    ensures waiting { IfOk result (λ next. AreWaiting next.items) }
 {
     if begins {
-        groups.push(Group { nodes })?;
+        groups.push(Group::waiting(nodes))?;
         Ok(Vec::new(alloc.clone()?))
     } else {
         Ok(nodes)
@@ -401,12 +445,14 @@ fn whole<A: Allocator>(
     mut groups: Vec<Group<A>, A>,
     nodes: Vec<Node<A>, A>,
 ) -> Result<Tier<A>, AllocError>
+    requires few { length nodes.items ≤ most_targets }
+    requires waiting { AreWaiting nodes.items }
     ensures { IfOk result (λ tier. tier
         ≡ joined 0 groups.items ++ map (pushed (length groups.items)) (joined 0 nodes.items)) }
 {
     if nodes.is_empty() {
         return Ok(Tier { groups });
     }
-    groups.push(Group { nodes })?;
+    groups.push(Group::waiting(nodes))?;
     Ok(Tier { groups })
 }

@@ -7,11 +7,12 @@ ghost use Rattle.fork_model.specs.Waiting.{in_earlier_group, may_start, parent_e
 ghost use Rattle.fork_tree.specs.Ready.{IsReady, tried};
 ghost use Rattle.fork_tree.specs.Search.{AllWait, BeginsReady, FindsReady, HoldsUp, IsBegin, IsGroup, IsNext, IsNextBegin, IsNextIn, MayGo, Opens};
 ghost use Rattle.fork_tree.specs.Below.{open_below};
-ghost use Rattle.fork_tree.specs.Quiet.{AreOver, FindsAfter, InOrder, IsAfter, IsAhead, IsHeld, IsInOrder, IsNear, IsOnly, IsPassed, IsStuck, NoneStarts, OneIsLast, right_before};
+ghost use Rattle.fork_tree.specs.Quiet.{FindsAfter, GroupGoesOn, InOrder, IsAfter, IsAhead, IsHeld, IsInOrder, IsNear, IsOnly, IsPassed, NoneStarts, OneIsLast, ParentsOlder, right_before};
 
 use crate::place::{Place, place_of};
 use crate::quiet::Quiet;
 use crate::row::State;
+use crate::subtree::open_in_group;
 use crate::tree::ForkTree;
 use std::alloc::Allocator;
 
@@ -141,14 +142,17 @@ impl<A: Allocator> ForkTree<A> {
     }
 
     /// Some group that may start, where row n goes before each row that may: the group right behind its own, or where
-    /// none stands there, the same of the row above.
+    /// none stands there, the same of the row above; none where its own group goes on.
     fn ready_past(&self, n: u16) -> Option<(u16, u16)>
         requires known { n < length self.now.rows }
         requires passed { IsPassed self.now.rows n }
         ensures { FindsReady self.now.rows result }
     {
+        if self.group_goes_on(n) {
+            return None;
+        }
         if let Some(next) = self.group_after(n) {
-            return self.ready_behind(n, next);
+            return self.ready_only(next);
         }
         match self.parent(n) {
             Some(up) => self.ready_past(up),
@@ -156,45 +160,13 @@ impl<A: Allocator> ForkTree<A> {
         }
     }
 
-    /// The same, where row `next` is the first of the group right behind that of row n.
-    fn ready_behind(&self, n: u16, next: u16) -> Option<(u16, u16)>
-        requires known { n < length self.now.rows }
-        requires passed { IsPassed self.now.rows n }
-        requires after { IsAfter self.now.rows n next }
-        ensures { FindsReady self.now.rows result }
-    {
-        if self.is_stuck(n) {
-            return None;
-        }
-        self.ready_only(next)
-    }
-
-    /// Whether row n, or the one right before or behind it in its group, goes on, or a row below those. There may be
-    /// others in the group that do.
-    fn is_stuck(&self, n: u16) -> bool
+    /// Whether a row in the group of row n, or one below it, has not ended: their count tells.
+    fn group_goes_on(&self, n: u16) -> bool
         requires { n < length self.now.rows }
-        ensures { result ≡ true → IsStuck self.now.rows n }
+        ensures older { ParentsOlder self.now.rows }
+        ensures goes { GroupGoesOn self.now.rows n result }
     {
-        if self.is_stuck_by(n, n) {
-            return true;
-        }
-        if n > 0 && self.is_stuck_by(n - 1, n) {
-            return true;
-        }
-        let count = self.count();
-        n + 1 < count && self.is_stuck_by(n + 1, n)
-    }
-
-    /// Whether row m stands in the group of row n, and it or a row below it has not ended.
-    fn is_stuck_by(&self, m: u16, n: u16) -> bool
-        requires known { m < length self.now.rows }
-        requires here { n < length self.now.rows }
-        ensures { result ≡ true → IsStuck self.now.rows n }
-    {
-        if !self.is_beside(m, n) {
-            return false;
-        }
-        self.goes_on(m)
+        open_in_group(&self.root, &self.places, n) > 0
     }
 
     /// Some group that may start, where that whose first is row n is the only one, if it waits.
@@ -246,12 +218,28 @@ impl<A: Allocator> ForkTree<A> {
         ensures group { Opens self.now.rows n → IsGroup self.now.rows n result }
     {
         let count = self.places.len() as u16;
-        for m in n + 1..count {
-            if self.begins(m) {
-                return m;
+        if n + 1 < count && !self.is_beside(n + 1, n) {
+            return n + 1;
+        }
+        self.next_further(n)
+    }
+
+    /// The same, by halving, since rows of one group stand together.
+    fn next_further(&self, n: u16) -> u16
+        requires { n < length self.now.rows }
+        ensures { IsNextBegin self.now.rows n result }
+    {
+        let mut last = n;
+        let mut next = self.places.len() as u16;
+        while last + 1 < next {
+            let middle = last + (next - last) / 2;
+            if self.is_beside(middle, n) {
+                last = middle;
+            } else {
+                next = middle;
             }
         }
-        count
+        next
     }
 
     /// Where the group ends whose first is row n, if it may start.
@@ -350,7 +338,7 @@ impl<A: Allocator> ForkTree<A> {
             return true;
         }
         match self.group_before(n) {
-            Some(first) => self.are_over(first, self.group_end(first)),
+            Some(first) => !self.group_goes_on(first),
             None => self.is_next_anywhere(n),
         }
     }
@@ -411,30 +399,6 @@ impl<A: Allocator> ForkTree<A> {
             → result ≡ right_before mate row }
     {
         stands_right_before(place_of(&self.places, m), place_of(&self.places, n))
-    }
-
-    /// Whether all of these rows, and all below them, have ended.
-    fn are_over(&self, first: u16, end: u16) -> bool
-        requires { end ≤ length self.now.rows }
-        ensures { AreOver self.now.rows first end result }
-    {
-        for m in first..end {
-            if self.goes_on(m) {
-                return false;
-            }
-        }
-        true
-    }
-
-    /// Whether row n or one below it has not ended.
-    fn goes_on(&self, n: u16) -> bool
-        requires { n < length self.now.rows }
-        ensures { result ≡ nat_lt 0 (open_below self.now.rows n) }
-    {
-        match self.node(n) {
-            Some(node) => node.open_count() > 0,
-            None => false,
-        }
     }
 
     /// Whether all that goes before a row that waits no more is known to have ended.

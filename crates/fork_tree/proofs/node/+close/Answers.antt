@@ -50,9 +50,16 @@ pub Group::close-loop-i-preserved : goal.Group::close-loop-i-preserved
 Group::close-loop-i-preserved g t c =
     let lt : c.loop-i.i < length c.loop-i.self-inside.nodes.items = omega (arith, c.loop-i-test.true, c.len.ensures) in
     record {
+      still = c.loop-i.invariant.still;
       closed = close_more c.self.inside.nodes.items c.loop-i.self-inside.nodes.items c.loop-i.i c.index_mut.result.now _ c.loop-i.invariant.closed c.index_mut.ensures.value lt c.close-ended.ensures.closed;
       counted = count_more c.self.inside.nodes.items c.loop-i.self-inside.nodes.items c.loop-i.i c.index_mut.result.now _ _ _ c.index_mut.ensures.value lt c.loop-i.invariant.counted c.close-ended.ensures.counted;
     }
+
+pub Group::close-overflow_sub-self : goal.Group::close-overflow_sub-self
+Group::close-overflow_sub-self g t c = omega (arith, c.loop-i.invariant.still, c.self.invariant, c.loop-i.invariant.counted)
+
+pub Group::close-invariant_of-self : goal.Group::close-invariant_of-self
+Group::close-invariant_of-self g t c = omega (arith, c.loop-i.invariant.still, c.self.invariant, c.loop-i.invariant.counted)
 
 pub Group::close-returns-clause-closed : goal.Group::close-returns-clause-closed
 Group::close-returns-clause-closed g t c =

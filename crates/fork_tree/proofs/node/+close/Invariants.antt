@@ -18,6 +18,7 @@ decreases-Tier::close-loop-i g l = length l.self-inside.groups.items - l.i
 
 abbrev pub invariant-Group::close-loop-i : goal.invariant-Group::close-loop-i
 invariant-Group::close-loop-i g l = record {
+  still : l.self-inside.still ≡ l.initial.self-inside.still;
   closed : l.self-inside.nodes.items ≡ closed_to l.i l.initial.self-inside.nodes.items;
   counted : open_of (joined 0 l.self-inside.nodes.items) + l.ended ≡ open_of (joined 0 l.initial.self-inside.nodes.items);
 }

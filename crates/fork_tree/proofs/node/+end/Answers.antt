@@ -76,6 +76,24 @@ Group::end-returns-in-Some g t c = record {
   gained = step_gained _ c.self.inside.nodes.items _ _ _ _ _ _ c.self.view_is c.in-Some.ensures.cases.0 c.index_mut.ensures.value c.requires.there c.end.ensures.gained;
 }
 
+pub Group::end-overflow_add-self : goal.Group::end-overflow_add-self
+Group::end-overflow_add-self g t c =
+    omega (arith, c.self.invariant, ap open_of c.self.view_is, open_le c.args.self.now, c.requires.opens, open_le c.args.below, c.requires.few)
+
+pub Group::end-overflow_sub-self : goal.Group::end-overflow_sub-self
+Group::end-overflow_sub-self g t c =
+    omega (arith, c.self.invariant, ap open_of c.self.view_is, open_some c.args.self.now c.args.path.now c.requires.there)
+
+pub Group::end-invariant_of-self : goal.Group::end-invariant_of-self
+Group::end-invariant_of-self g t c =
+    omega (
+      arith,
+      c.self.invariant,
+      ap open_of c.self.view_is,
+      open_some c.args.self.now c.args.path.now c.requires.there,
+      step_counted _ c.self.inside.nodes.items _ _ _ _ _ _ c.self.view_is c.in-Some.ensures.cases.0 c.index_mut.ensures.value c.requires.there c.end.ensures.counted,
+    )
+
 pub Group::end-returns-in_default : goal.Group::end-returns-in_default
 Group::end-returns-in_default g t c = absurd (none_here _ c.self.inside.nodes.items _ c.self.view_is c.in_default.ensures.cases c.requires.there)
 

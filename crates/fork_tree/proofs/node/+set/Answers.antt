@@ -1,7 +1,8 @@
-use Rattle.std.proofs.Common.{◌<◌, length, [], arith, ap, ◌∙◌, refl, None}
+use Rattle.std.proofs.Common.{◌<◌, length, [], arith, ap, sym, ◌∙◌, refl, None}
 use Rattle.fork_tree.proofs.Grafts.{step_in, step_open, step_graft, none_here}
 use Rattle.fork_tree.proofs.Tallies.{step_same_size, step_same_count, step_gained, node_below}
 use Rattle.fork_tree.specs.Rows.{graft, unanswered}
+use Rattle.fork_tree.specs.Tally.{open_of}
 use Rattle.fork_tree.proofs.node.+set.Goals as goal
 
 pub Tier::set-index_mut-requires : goal.Tier::set-index_mut-requires
@@ -54,6 +55,11 @@ Group::set-returns-in-Some g t c = record {
   counted = step_same_count _ c.self.inside.nodes.items _ _ _ _ _ c.self.view_is c.in-Some.ensures.cases.0 c.index_mut.ensures.value c.requires.there c.set.ensures.counted;
   gained = step_gained _ c.self.inside.nodes.items _ _ _ _ _ _ c.self.view_is c.in-Some.ensures.cases.0 c.index_mut.ensures.value c.requires.there c.set.ensures.gained;
 }
+
+pub Group::set-invariant_of-self : goal.Group::set-invariant_of-self
+Group::set-invariant_of-self g t c =
+    c.self.invariant ∙ ap open_of c.self.view_is
+    ∙ sym (step_same_count _ c.self.inside.nodes.items _ _ _ _ _ c.self.view_is c.in-Some.ensures.cases.0 c.index_mut.ensures.value c.requires.there c.set.ensures.counted)
 
 pub Group::set-returns-in_default : goal.Group::set-returns-in_default
 Group::set-returns-in_default g t c = absurd (none_here _ c.self.inside.nodes.items _ c.self.view_is c.in_default.ensures.cases c.requires.there)

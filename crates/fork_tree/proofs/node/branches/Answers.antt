@@ -1,7 +1,7 @@
 use Rattle.std.proofs.Common.{◌≡◌, ◌<◌, ◌+◌, ◌++◌, ℕ, [], ◌∷◌, Some, length, drop, suc, if◌then◌else◌, slice_index_or, arith, ap, sym, ◌∙◌, refl}
 use Rattle.fork_tree.specs.declared.seat.Seat.{Seat}
 use Rattle.fork_tree.specs.Seats.{seats_from, seats_of, differs}
-use Rattle.fork_tree.proofs.Seatings.{row_seated, seats_more, begun_le, rest_le}
+use Rattle.fork_tree.proofs.Seatings.{row_seated, seats_more, begun_le, rest_le, waiting_more}
 use Rattle.fork_tree.proofs.node.branches.Goals as goal
 
 pub loop-i-preserved : goal.loop-i-preserved
@@ -29,6 +29,8 @@ loop-i-preserved g c =
           ∙ ap (λ x. (c.loop-i.seats.items ++ s ∷ []) ++ seats_from (Some q) s.group x (drop (c.loop-i.i + 1) c.args.qs.now)) (sym next)
           ∙ more;
       count = omega (arith, c.loop-i.invariant.count, c.in_ok-push.ensures.len);
+      waiting = waiting_more c.in_ok-nodes.nodes.items c.push-in-loop-i.new.self.items (c.args.first + c.loop-i.i) q c.in_ok-nodes.ensures.waiting
+          (c.in_ok-push-2.ensures.items ∙ ap (λ x. c.in_ok-nodes.nodes.items ++ x ∷ []) c.idle.ensures);
       groups_few = omega (arith, groups, begun_le (differs c.loop-i.before q) _ _ c.loop-i.invariant.groups_few);
       nodes_few = omega (arith, next, place, nodes, rest_le (differs c.loop-i.before q) _ _ c.loop-i.invariant.nodes_few);
     }

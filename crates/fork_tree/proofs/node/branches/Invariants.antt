@@ -1,5 +1,6 @@
 use Rattle.std.proofs.Common.{◌≡◌, ◌≤◌, ◌++◌, length, map, drop}
 use Rattle.fork_tree.specs.Rows.{joined, pushed}
+use Rattle.fork_tree.specs.Tally.{AreWaiting}
 use Rattle.fork_tree.specs.Seats.{seat_rows, seats_from, seats_of}
 use Rattle.fork_tree.proofs.node.branches.Given as goal
 
@@ -9,5 +10,6 @@ invariant-loop-i g l = record {
   seated : l.seats.items ++ seats_from l.before (length l.groups.items) (length l.nodes.items) (drop l.i l.qs) ≡ seats_of l.qs;
   count : length l.seats.items ≡ l.i;
   groups_few : length l.groups.items ≤ l.i;
+  waiting : AreWaiting l.nodes.items;
   nodes_few : length l.nodes.items ≤ l.i;
 }

@@ -1,6 +1,7 @@
+use Rattle.std.proofs.Common.{◌∙◌, ◌++◌, ◌∷◌, [], ap}
 use Rattle.fork_tree.specs.Rows.{joined}
 use Rattle.fork_tree.proofs.Seatings.{group_made}
 use Rattle.fork_tree.proofs.node.whole.Goals as goal
 
 pub returns : goal.returns
-returns g c = group_made _ _ (joined 0 c.args.nodes.items) c.in_ok-push.ensures.items
+returns g c = group_made _ _ (joined 0 c.args.nodes.items) (c.in_ok-push.ensures.items ∙ ap (λ x. c.args.groups.items ++ x ∷ []) c.waiting.ensures)

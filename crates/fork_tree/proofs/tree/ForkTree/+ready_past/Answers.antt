@@ -1,11 +1,18 @@
 use Rattle.std.proofs.Common.{◌≡◌, ◌<◌, ◌∙◌, Some, slice_get, arith, sym, subst}
 use Rattle.fork_tree.specs.Below.{parent_of}
-use Rattle.fork_tree.specs.Quiet.{FindsAfter, IsLast}
-use Rattle.fork_tree.proofs.Passing.{passed_up, none_passed}
+use Rattle.fork_tree.specs.Quiet.{FindsAfter, GroupGoesOn, IsAfter, IsLast}
+use Rattle.fork_tree.proofs.Passing.{passed_up, none_passed, none_stuck, only_next}
 use Rattle.fork_tree.proofs.tree.ForkTree.+ready_past.Goals as goal
 
-pub ready_behind-requires-clause-after : goal.ready_behind-requires-clause-after
-ready_behind-requires-clause-after g t c = subst (FindsAfter c.args.self.now.rows c.args.n) c.in-Some.is c.group_after.ensures
+pub returns-then-group_goes_on : goal.returns-then-group_goes_on
+returns-then-group_goes_on g t c =
+    none_stuck c.args.self.now.rows c.args.n c.group_goes_on.ensures.older c.requires.passed
+    (subst (GroupGoesOn c.args.self.now.rows c.args.n) c.if-group_goes_on.true c.group_goes_on.ensures.goes)
+
+pub ready_only-requires : goal.ready_only-requires
+ready_only-requires g t c =
+    let after : IsAfter c.args.self.now.rows c.args.n c.in-Some.next = subst (FindsAfter c.args.self.now.rows c.args.n) c.in-Some.is c.group_after.ensures in
+    only_next c.args.self.now.rows c.args.n c.in-Some.next after.older c.requires.known c.requires.passed after
 
 pub ready_past-requires : goal.ready_past-requires
 ready_past-requires g t c κs within =
