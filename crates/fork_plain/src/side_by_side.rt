@@ -152,8 +152,28 @@ fn same_challenges(rt: &HostRuntime, fork: &Context, table: &Table) -> Result<bo
     )
 }
 
-/// One script: the context and the plain program go the same way.
-fn goes_the_same(rt: &HostRuntime, seed: u32, kind: Kind, steps: u32) -> Result<u16, Fail> {
+/// The row that row n stands under.
+fn parent(fork: &Context, n: u16) -> Option<u16> {
+    match fork.look(n) {
+        Some(view) => view.row.parent,
+        None => None,
+    }
+}
+
+/// Whether row n is a contact of a contact of a contact of a target.
+fn is_deep(fork: &Context, n: u16) -> bool {
+    let Some(contact) = parent(fork, n) else {
+        return false;
+    };
+    let Some(first) = parent(fork, contact) else {
+        return false;
+    };
+    parent(fork, first).is_some()
+}
+
+/// One script: the context and the plain program go the same way. How many rows there were, and whether one stood three
+/// deep.
+fn goes_the_same(rt: &HostRuntime, seed: u32, kind: Kind, steps: u32) -> Result<(u16, bool), Fail> {
     let mut dice = Dice { state: seed };
     let list = targets(rt, &mut dice)?;
     if list.len() > MOST_TARGETS as usize {
@@ -177,20 +197,25 @@ fn goes_the_same(rt: &HostRuntime, seed: u32, kind: Kind, steps: u32) -> Result<
     if !same_challenges(rt, &fork, &table)? {
         return Err(Fail::from("the context and the plain program add other challenges"));
     }
-    Ok(fork.count())
+    let deep = (0..fork.count()).any(|n| is_deep(&fork, n));
+    Ok((fork.count(), deep))
 }
 
 #[test]
 fn context_goes_as_the_plain_program(rt: HostRuntime) -> Result<(), Fail> {
     let mut most = 0;
+    let mut deep = false;
     for seed in 0..60 {
         let kind = if seed % 3 == 0 {
             Kind::Other
         } else {
             Kind::Invite
         };
-        most = most.max(goes_the_same(&rt, seed, kind, 80)?);
+        let (rows, nested) = goes_the_same(&rt, seed, kind, 80)?;
+        most = most.max(rows);
+        deep = deep || nested;
     }
     assert!(rt; most > 10);
+    assert!(rt; deep);
     Ok(())
 }

@@ -24,10 +24,10 @@ returns-then-not-is_beside g c =
     span_done c.args.self.now.rows c.args.n c.args.n (c.args.n + 1) begins c.requires
     (span_down c.args.self.now.rows c.args.n c.args.n (length c.args.self.now.rows) (c.args.n + 1) (span_new c.args.self.now.rows c.args.n c.requires) (omega arith) less
     (λ other row there here. sym c.if-not-is_beside.true ∙ c.is_beside.ensures other row there here)) (omega arith) in
-    record { next = next; group = λ opens. group_next c.args.self.now.rows c.args.n (c.args.n + 1) begins opens next; }
+    record { next = next; group = λ opens. group_next c.args.self.now.rows c.args.n (c.args.n + 1) begins opens next }
 
 pub returns : goal.returns
 returns g c =
     let begins =
     all_begin c.self.inside.places.items c.self.inside.root c.args.self.now.rows c.self.invariant.tree.older c.self.invariant.tree.placed c.self.invariant.together (ap (λ (t : Tree). t.rows) c.self.view_is) in
-    record { next = c.next_further.ensures; group = λ opens. group_next c.args.self.now.rows c.args.n c.next_further.result begins opens c.next_further.ensures; }
+    record { next = c.next_further.ensures; group = λ opens. group_next c.args.self.now.rows c.args.n c.next_further.result begins opens c.next_further.ensures }

@@ -9,7 +9,7 @@ pub loop-last-init : goal.loop-last-init
 loop-last-init g c =
     let sizes : length c.args.self.now.rows ≡ c.len-next.result =
     omega (arith, c.len-next.ensures, c.self.invariant.tree.few, ap (λ (t : Tree). length t.rows) c.self.view_is, rows_length c.self.inside.places.items c.self.inside.root 0 c.self.inside.places.items) in
-    record { span = subst (IsSpan c.args.self.now.rows c.args.n c.args.n) sizes (span_new c.args.self.now.rows c.args.n c.requires); }
+    record { span = subst (IsSpan c.args.self.now.rows c.args.n c.args.n) sizes (span_new c.args.self.now.rows c.args.n c.requires) }
 
 pub overflow_add-last : goal.overflow_add-last
 overflow_add-last g c = omega (arith, c.loop-last.invariant.span.less, c.loop-last.auto.next-fits)
