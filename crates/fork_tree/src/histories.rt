@@ -145,6 +145,31 @@ fn two_contacts_of_a_302(rt: HostRuntime) -> Result<(), Fail> {
 }
 
 #[test]
+fn a_contact_before_the_next_group(rt: HostRuntime) -> Result<(), Fail> {
+    let mut tree = ForkTree::new(rt.alloc(), Rules::usual(), &[1000, 500])?;
+    assert_eq!(rt; tree.start_ready(), Some((0, 1)));
+    end(&rt, &mut tree, 0, End::Taken { arrival: 0 }, &[1000])?;
+    assert_eq!(rt; tree.start_ready(), Some((2, 1)));
+    end(&rt, &mut tree, 2, stored(404, 1)?, &[])?;
+    let node = tree.node(0).ok_or("no such row")?;
+    assert_eq!(rt; node.best(), best(2, 404, 1)?);
+    assert_eq!(rt; node.open_count(), 0);
+    assert_eq!(rt; tree.start_ready(), Some((1, 1)));
+    Ok(())
+}
+
+#[test]
+fn what_waits_ends_with_a_decline(rt: HostRuntime) -> Result<(), Fail> {
+    let mut tree = ForkTree::new(rt.alloc(), Rules::usual(), &[1000, 500])?;
+    assert_eq!(rt; tree.start_ready(), Some((0, 1)));
+    end(&rt, &mut tree, 0, stored(603, 0)?, &[])?;
+    tree.close();
+    assert_eq!(rt; tree.open_count(), 0);
+    assert_eq!(rt; tree.best(), best(0, 603, 0)?);
+    Ok(())
+}
+
+#[test]
 fn decline_goes_first(rt: HostRuntime) -> Result<(), Fail> {
     let mut tree = ForkTree::new(rt.alloc(), Rules::usual(), &[1000, 1000, 1000, 500])?;
     assert_eq!(rt; tree.start_ready(), Some((0, 3)));
