@@ -1,27 +1,12 @@
-//! `forkproxy` replays what happens to a forked SIP request (RFC 3261 section 16): it reads a script on standard
-//! input and prints what the proxy does on each event, and the listing of a fork that is done; or it checks such a
-//! listing.
+//! `forkproxy`: reads standard input, calls the command that the arguments name (`fork_program`), and writes what it
+//! answers.
 #![tactic(auto)]
 
 ghost use Rattle.std.specs.Prelude.{◌≡◌, ◌⊎◌, IfOk, IfErr};
 ghost use Rattle.std.specs.Process.{exit_status};
-ghost use Rattle.fork_proxy.specs.Program.{IsUsageFault, status_of};
+ghost use Rattle.fork_program.specs.Program.{IsUsageFault, status_of};
 
-mod check;
-mod command;
-mod depth;
-mod fault;
-mod input;
-mod line;
-mod print;
-mod replay;
-mod script;
-#[cfg(test)]
-mod tests;
-
-use crate::command::Command;
-use crate::fault::{Fault, ProgFault};
-use crate::input::read_input;
+use fork_program::{Command, Fault, ProgFault, read_input};
 use std::env;
 use std::io::ErrorKind;
 use std::process::ExitCode;

@@ -1,0 +1,21 @@
+-- What a line behind an answer says goes to the last event.
+use Rattle.std.proofs.Common.{◌≡◌, List, [], ◌∷◌, ◌++◌, Result, Ok, Err, refl, sym, ap, ◌∙◌}
+use Rattle.std.specs.Prelude.{OnOk}
+use Rattle.fork_model.specs.Event.{FinalAnswer, Event}
+use Rattle.fork_program.specs.Script.{Script, answer_changed, last_changed}
+
+last_changed-snoc : (change : FinalAnswer → FinalAnswer) (events : List Event) (event : Event) → last_changed change (events ++ event ∷ []) ≡ events ++ answer_changed change event ∷ []
+last_changed-snoc change [] event = refl
+last_changed-snoc change (first ∷ []) event = refl
+last_changed-snoc change (first ∷ next ∷ events) event = ap (λ (es : List Event). first ∷ es) (last_changed-snoc change (next ∷ events) event)
+
+module _ {T E : Type 0} where
+  -- where the last event was taken off, and with a change put back
+  pub change_added : (change : FinalAnswer → FinalAnswer) (r : Result T E) (old shown new : Script) (before : List Event) (event other : Event) → old ≡ shown → shown.events ≡ before ++ event ∷ [] → other ≡ answer_changed change event → OnOk r (new ≡ record shown { events = before ++ other ∷ [] }) → OnOk r (new ≡ record old { events = last_changed change old.events })
+  change_added change (Ok x) old shown new before event other seen last with_ h =
+      h
+      ∙ ap (λ (e : Event). record shown { events = before ++ e ∷ [] }) with_
+      ∙ ap (λ (es : List Event). record shown { events = es }) (sym (last_changed-snoc change before event))
+      ∙ ap (λ (es : List Event). record shown { events = last_changed change es }) (sym last)
+      ∙ ap (λ (s : Script). record s { events = last_changed change s.events }) (sym seen)
+  change_added change (Err x) old shown new before event other seen last with_ h = h

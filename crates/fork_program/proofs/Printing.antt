@@ -1,0 +1,74 @@
+-- What is appended in steps, where each step may be refused.
+use Rattle.std.proofs.Common.{◌≡◌, ◌&&◌, ℕ, Bool, true, false, not, cond, List, [], ◌++◌, Some, Result, Ok, Err, refl, sym, ap, subst, ◌∙◌}
+use Rattle.std.specs.Prelude.{◌↔◌, OnOk, IsErrOf, IsTrue}
+use Rattle.fork_model.specs.Table.{Table, is_finished, is_succeeded}
+use Rattle.fork_model.specs.Event.{Event}
+use Rattle.fork_model.specs.Challenges.{challenge_list}
+use Rattle.fork_model.specs.Reply.{Reply, IsReply}
+use Rattle.fork_model.specs.Core.{Core, Replied, is_full, core_next, core_offered}
+use Rattle.fork_model.specs.Choice as spec
+use Rattle.fork_context.specs.Chosen.{is_due, IsChosen}
+use Rattle.fork_listing.specs.declared.lister.ListFault.{ListFault}
+use Rattle.fork_listing.specs.declared.lister.ListFault.TheVariants as list
+use Rattle.fork_listing.specs.Listed.{IsListingOf, Appends}
+use Rattle.fork_program.specs.Replay.{Succeeded, Unfinished, Listed, branches_left, ended, added_lines, ending_lines, reply_text, EndsWith, AddsOutcome}
+
+module _ {T E : Type 0} where
+  pub ends_succeeded : (r : Result T E) (t : Table) (old new : List ℕ) → is_succeeded t.rows ≡ true → OnOk r (new ≡ old ++ ending_lines t Succeeded) → OnOk r (EndsWith t old new)
+  ends_succeeded (Ok x) t old new done h = record { ending = Succeeded; right = done; spelled = h }
+  ends_succeeded (Err e) t old new done h = h
+
+  pub ends_unfinished : (r : Result T E) (t : Table) (old new : List ℕ) → (is_finished t.rows ≡ false) × (is_succeeded t.rows ≡ false) → OnOk r (new ≡ old ++ ending_lines t (Unfinished (branches_left t.rows))) → OnOk r (EndsWith t old new)
+  ends_unfinished (Ok x) t old new open_ h = record { ending = Unfinished (branches_left t.rows); right = (open_.1, open_.0, refl); spelled = h }
+  ends_unfinished (Err e) t old new open_ h = h
+
+  pub ends_listed : (r : Result T E) (t : Table) (text old new : List ℕ) → is_succeeded t.rows ≡ false → is_finished t.rows ≡ true → IsListingOf t text → ((choice : spec.Choice) → IsChosen t (Some choice) → OnOk r (new ≡ old ++ (added_lines (challenge_list t.rows choice) ++ text))) → OnOk r (EndsWith t old new)
+  ends_listed (Ok x) t text old new failed done is h =
+      let due : is_due t.rows ≡ true = ap (λ b. b && not (is_succeeded t.rows)) done ∙ ap not failed in
+      record {
+        ending = Listed is.ranks is.choice;
+        right = (failed, done, is.ranking, is.chosen);
+        spelled = h is.choice (due, is.chosen) ∙ ap (λ (listed : List ℕ). old ++ (added_lines (challenge_list t.rows is.choice) ++ listed)) is.spelled;
+      }
+  ends_listed (Err e) t text old new failed done is h = tt
+
+  pub adds_reply : (r : Result T E) (before after : Core) (event : Event) (reply : Reply) (old new : List ℕ) → (IsTrue (is_full before event) → ⊥) → IsReply before.table event before.taken reply → after ≡ core_next before event → OnOk r (new ≡ old ++ ended (reply_text after.table.rows reply)) → OnOk r (AddsOutcome before after event old new)
+  adds_reply (Ok x) before after event reply old new room is e h =
+      let full : is_full before event ≡ false = not_full (is_full before event) room in
+      let offered : core_offered before event ≡ core_next before event = ap (λ t. cond t before (core_next before event)) full in
+      let same : after ≡ core_offered before event = e ∙ sym offered in
+      record {
+        outcome = Replied reply;
+        right = (full, is);
+        next = same;
+        spelled = h ∙ ap (λ (core : Core). old ++ ended (reply_text core.table.rows reply)) same;
+      }
+    where
+      not_full : (b : Bool) → (IsTrue b → ⊥) → b ≡ false
+      not_full true never = absurd (never refl)
+      not_full false never = refl
+  adds_reply (Err x) before after event reply old new room is e h = h
+
+ok_is : {T : Type 0} {made : T} {fault : ListFault} → Ok made ≡ Err fault → ⊥
+ok_is e = absurd cc
+
+is_false : (b : Bool) → (b ≡ true → ⊥) → b ≡ false
+is_false true never = absurd (never refl)
+is_false false never = refl
+
+is_true : (b : Bool) → (b ≡ false → ⊥) → b ≡ true
+is_true true never = refl
+is_true false never = absurd (never refl)
+
+-- a fork that is listed has finished without a 2xx
+pub listed_failed : {T : Type 0} (made : T) (succeeded : Bool) → (IsErrOf (Ok made) list.Succeeded ↔ (succeeded ≡ true)) → succeeded ≡ false
+listed_failed made succeeded due = is_false succeeded (λ e. ok_is (due.1 e))
+
+pub listed_finished : {T : Type 0} (made : T) (finished succeeded : Bool) → (IsErrOf (Ok made) list.NotFinished ↔ ((finished ≡ false) × (succeeded ≡ false))) → succeeded ≡ false → finished ≡ true
+listed_finished made finished succeeded due failed = is_true finished (λ e. ok_is (due.1 (e, failed)))
+
+pub listed_alone : (t : Table) (old new shown : List ℕ) → old ≡ [] → Appends t old new → shown ≡ new → IsListingOf t shown
+listed_alone t old new shown none listed seen =
+    let same : shown ≡ listed.text = seen ∙ listed.spelled ∙ ap (λ (front : List ℕ). front ++ listed.text) none in
+    let P : List ℕ → Type 0 = IsListingOf t in
+    subst P (sym same) listed.listing

@@ -1,0 +1,30 @@
+use Rattle.std.proofs.Common.{◌≡◌, map, ap, sym, subst, refl}
+use Rattle.std.proofs.lemmas.Result.{err_from_is_err_and}
+use Rattle.fork_context.specs.EventView.{event_of}
+use Rattle.fork_context.specs.KindView.{kind_of}
+use Rattle.fork_program.specs.Script.{Script}
+use Rattle.fork_program.specs.Faults.{IsForkReplay}
+use Rattle.fork_program.proofs.Outcomes.{is_replay}
+use Rattle.fork_program.proofs.Refusing.{fork_refused, fork_taken}
+use Rattle.fork_program.proofs.replay.replay.Goals as goal
+
+pub returns-in_err-context-clause-fault : goal.returns-in_err-context-clause-fault
+returns-in_err-context-clause-fault g c =
+    let p = err_from_is_err_and c.from_residual-in_err-context.result c.from_residual-in_err-context.ensures.1 in
+    let seen = ap (λ (s : Script). s.targets) c.script.view_is in
+    let same : c.args.script.targets ≡ c.script.inside.targets.items = cc seen in
+    rw (p.1, p.2) (fork_refused c.args.script c.script.inside.targets.items c.in_err-context.field-0.0 same c.in_err-context.ensures.none c.in_err-context.ensures.many c.in_err-context.ensures.twice)
+
+pub returns-clause-ok : goal.returns-clause-ok
+returns-clause-ok g c =
+    let inside = c.script.inside in
+    let shown : Script = record { kind = kind_of inside.kind; rules = inside.rules; targets = inside.targets.items; events = map event_of inside.events.items } in
+    let seen : c.args.script ≡ shown = cc c.script.view_is in
+    let right : IsForkReplay shown c.append_ending.new.text.items =
+    record {
+      set_up = fork_taken shown inside.targets.items c.in_ok-context.context refl c.in_ok-context.ensures.none c.in_ok-context.ensures.many c.in_ok-context.ensures.twice;
+      replayed = is_replay shown _ _ _ _ _ _ c.in_ok-context.ensures.opened c.new-text.ensures.items c.in_ok-append_opening.ensures c.in_ok-append_outcomes.ensures c.in_ok-append_ending.ensures;
+    }
+    in
+    let P : Script → Type 0 = λ s. IsForkReplay s c.append_ending.new.text.items in
+    subst P (sym seen) right

@@ -1,0 +1,41 @@
+-- How the program is called, what it prints, and how it ends.
+use Rattle.std.specs.Prelude.{◌≡◌, ◌⊎◌, ℕ, List, [], ◌∷◌, bytes_eq, codes, Option, Some, None, Result, Ok, Err, if◌then◌else◌}
+use Rattle.fork_program.specs.declared.command.Command.{Command}
+use Rattle.fork_program.specs.declared.command.Command.TheVariants.{Replay, Check}
+use Rattle.fork_program.specs.declared.fault.ProgFault.TheVariants as prog
+use Rattle.fork_program.specs.declared.fault.Fault.{Fault}
+use Rattle.fork_program.specs.declared.fault.Fault.TheVariants as fault
+use Rattle.fork_program.specs.FaultView.{exit_status}
+use Rattle.fork_program.specs.Faults.{AppendsReplay}
+use Rattle.fork_program.specs.Answer.{AppendsAnswer}
+
+abbrev pub command_named : List ℕ → Option Command
+command_named word =
+    if bytes_eq word (codes "replay") then Some Replay
+    else (if bytes_eq word (codes "check") then Some Check
+    else None)
+
+-- the program's own name comes first; nothing behind it asks for a replay
+abbrev pub command_of : List (List ℕ) → Option Command
+command_of [] = Some Replay
+command_of (name ∷ []) = Some Replay
+command_of (name ∷ word ∷ []) = command_named word
+command_of (name ∷ word ∷ other ∷ words) = None
+
+-- what a command appends of a text, and the status that it ends with
+abbrev pub Appends : Command → List ℕ → List ℕ → List ℕ → ℕ → Type 0
+Appends Replay text old new status = (status ≡ 0) × AppendsReplay text old new
+Appends Check text old new status = AppendsAnswer text old new status
+
+-- the arguments are no command, or a growth was refused
+abbrev pub IsUsageFault : Fault → Type 0
+IsUsageFault f = (f ≡ fault.Usage) ⊎ (f ≡ fault.Text prog.NoMemory)
+
+-- the input could not be read, or a growth was refused
+abbrev pub IsReadFault : Fault → Type 0
+IsReadFault f = (f ≡ fault.Read) ⊎ (f ≡ fault.Text prog.NoMemory)
+
+-- the status that the program ends with: what its run gives, or that of the fault
+abbrev pub status_of : Result ℕ Fault → ℕ
+status_of (Ok status) = status
+status_of (Err f) = exit_status f

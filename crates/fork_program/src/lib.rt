@@ -1,0 +1,21 @@
+//! The commands of `forkproxy` as functions over texts: a script is replayed (RFC 3261 section 16), which prints what the
+//! proxy does on each event and the listing of a fork that is done; such a listing is checked.
+#![tactic(auto)]
+
+mod check;
+mod command;
+mod depth;
+mod fault;
+mod input;
+mod line;
+mod print;
+mod replay;
+mod script;
+#[cfg(test)]
+mod tests;
+
+pub use check::{append_found, check_text};
+pub use command::Command;
+pub use fault::{Fault, ProgFault};
+pub use input::read_input;
+pub use replay::{MOST_TEXT, replay_text};

@@ -1,0 +1,93 @@
+//! Replaying a script: the program's text for the replies of a fork.
+ghost use Rattle.std.specs.Prelude.{◌≡◌, ◌<◌, ◌≤◌, ◌↔◌, ◌++◌, ℕ, List, length, map, OnOk, OnErr, IfOk, IfErr, IsErrOf};
+ghost use Rattle.fork_context.specs.EventView.{event_of};
+ghost use Rattle.fork_model.specs.Core.{core_after};
+ghost use Rattle.fork_program.specs.Replay.{AddsOutcome, AddsOutcomes};
+ghost use Rattle.fork_program.specs.Script.{Script};
+ghost use Rattle.fork_program.specs.Faults.{most_text, IsFault, IsForkReplay, IsForkRefusal, AppendsReplay};
+ghost use Rattle.fork_program.specs.FaultView.{fault_set_up};
+
+use crate::fault::ProgFault;
+use crate::print::{append_ending, append_full, append_opening, append_reply};
+use crate::script::Script;
+use fork_context::{Context, Event, PostError};
+use std::alloc::{AllocError, Allocator};
+use std::collections::VecDeque;
+
+/// No more bytes than these are read of a script.
+pub const MOST_TEXT: usize = 1_048_576;
+
+/// Posts one event and appends its line.
+fn append_outcome<A: Allocator + Clone>(
+    text: &mut Vec<u8, A>,
+    context: &mut Context<A>,
+    event: Event<A>,
+) -> Result<(), AllocError>
+    ensures { OnOk result (AddsOutcome context.old context.new (event_of event) text.old.items text.new.items) }
+{
+    match context.post(event) {
+        Ok(reply) => append_reply(text, context, &reply),
+        Err(PostError::Full(_)) => append_full(text),
+        Err(PostError::NoMemory(_)) => Err(AllocError),
+    }
+}
+
+/// Posts the events in their order and appends a line for each.
+fn append_outcomes<A: Allocator + Clone>(
+    text: &mut Vec<u8, A>,
+    context: &mut Context<A>,
+    mut events: VecDeque<Event<A>, A>,
+) -> Result<(), AllocError>
+    ensures { OnOk result (AddsOutcomes context.old context.new (map event_of events.items) text.old.items text.new.items) }
+{
+    while let Some(event) = events.pop_front() {
+        append_outcome(text, context, event)?;
+    }
+    Ok(())
+}
+
+/// What the replay of a script prints.
+fn replay<A: Allocator + Clone>(alloc: A, script: Script<A>) -> Result<Vec<u8, A>, ProgFault>
+    ensures ok { IfOk result (λ text. IsForkReplay script text.items) }
+    ensures fault { IfErr result (IsForkRefusal script) }
+{
+    let Script {
+        kind,
+        rules,
+        targets,
+        events,
+    } = script;
+    let mut context = Context::new(alloc.clone()?, kind, rules, targets)?;
+    let mut text = Vec::new(alloc.clone()?);
+    append_opening(alloc.clone()?, &mut text, &context)?;
+    append_outcomes(&mut text, &mut context, events)?;
+    append_ending(alloc, &mut text, &context)?;
+    Ok(text)
+}
+
+/// Replays a script and appends what its replay prints; the exit status is 0. The text is built apart, so that
+/// `out` is as it was where it is refused.
+///
+/// # Errors
+///
+/// In this order: `TooLong` over `MOST_TEXT` bytes, `Line` with the first malformed line, `New` where the targets
+/// are no fork, `NoMemory` where a growth was refused.
+pub fn replay_text<A: Allocator + Clone>(
+    alloc: A,
+    text: &[u8],
+    out: &mut Vec<u8, A>,
+) -> Result<u8, ProgFault>
+    ensures status { IfOk result (λ status. status ≡ 0) }
+    ensures replayed { OnOk result (AppendsReplay text.now out.old.items out.new.items) }
+    ensures fault { IfErr result (IsFault text.now) }
+    ensures too_long { IsErrOf result ProgFault.TooLong ↔ (most_text < length text.now) }
+    ensures err { OnErr result (out.new.items ≡ out.old.items) }
+{
+    if text.len() > MOST_TEXT {
+        return Err(ProgFault::TooLong);
+    }
+    let script = Script::read(&alloc, text)?;
+    let printed = replay(alloc, script)?;
+    out.extend_from_slice(&printed)?;
+    Ok(0)
+}

@@ -1,0 +1,353 @@
+//! A whole script: what is forked, by which rules and to which targets, and what happens then.
+ghost use Rattle.std.specs.Prelude.{◌≡◌, ◌≤◌, ◌<◌, ◌^◌, ◌++◌, ◌∷◌, [], length, suc, OnOk, IfOk, IfErr, MatchResult, Some, None, if◌then◌else◌};
+ghost use Rattle.std.specs.List.{slice_split};
+ghost use Rattle.sip_lex.specs.Cut.{is};
+ghost use Rattle.fork_context.specs.KindView.{kind_of};
+ghost use Rattle.fork_context.specs.EventView.{event_of};
+ghost use Rattle.fork_program.specs.Script.{phase_after, with_contact, with_challenge, answer_changed, last_changed, with_line, no_script, no_draft, drafted, has_kind, finished_draft, read_script};
+ghost use Rattle.fork_program.specs.Line.{bare};
+ghost use Rattle.fork_program.specs.LineView.{line_of};
+ghost use Rattle.fork_program.specs.ReadView.{GivesScript};
+
+use crate::depth::Depth;
+use crate::line::{Line, read_line};
+use fork_context::{Answer, Event, Kind, Offer, Target};
+use fork_rank::{Challenge, Preferred, Rules, Status};
+use sip_lex::cut_at;
+use std::alloc::{AllocError, Allocator};
+use std::collections::VecDeque;
+use std::marker::Model;
+
+/// Which lines may come: the kind first, then the rules, then the targets, then events, with the contacts and the
+/// challenges of an answer right behind it.
+#[derive(Clone, Copy, Debug, PartialEq, Eq)]
+pub enum Phase {
+    /// Nothing was read.
+    AtKind,
+    /// The kind was read.
+    AtPrefer,
+    /// The preferred statuses were read.
+    AtDepth,
+    /// The depth or a target was read.
+    AtTargets,
+    /// An event was read that has no contacts and no challenges.
+    AtEvents,
+    /// An answer was read, and contacts and challenges of it.
+    AtAnswer,
+}
+
+impl Phase {
+    /// The phase behind a line; `None` where the line may not come.
+    fn after(self, line: &Line<'_>) -> Option<Phase>
+        ensures { result ≡ phase_after self (line_of line.now) }
+    {
+        match (self, line) {
+            (Phase::AtKind, Line::Kind(_)) => Some(Phase::AtPrefer),
+            (Phase::AtKind, _) => None,
+            (Phase::AtPrefer, Line::Prefer(_)) => Some(Phase::AtDepth),
+            (Phase::AtPrefer | Phase::AtDepth, Line::Depth(_)) => Some(Phase::AtTargets),
+            (Phase::AtPrefer | Phase::AtDepth | Phase::AtTargets, Line::Target(_, _)) => Some(
+                Phase::AtTargets,
+            ),
+            (Phase::AtAnswer, Line::Contact(_, _) | Line::Other(_, _) | Line::Challenge { .. }) =>
+                Some(Phase::AtAnswer),
+            (_, Line::Answer(_, _)) => Some(Phase::AtAnswer),
+            (
+                _,
+                Line::Ring(_, _)
+                | Line::Timeout(_)
+                | Line::Fault(_)
+                | Line::TimerC(_)
+                | Line::GiveUp(_)
+                | Line::Cancel,
+            ) => { Some(Phase::AtEvents) }
+            _ => None,
+        }
+    }
+
+    fn has_kind(self) -> bool
+        ensures { result ≡ has_kind self }
+    {
+        !matches!(self, Phase::AtKind)
+    }
+}
+
+/// Why a text is no script.
+#[derive(Clone, Copy, Debug, PartialEq, Eq)]
+pub enum ReadFault {
+    /// The first malformed line, from 1.
+    Line(u32),
+    /// A growth was refused.
+    NoMemory,
+}
+
+impl From<AllocError> for ReadFault {
+    ghost use Rattle.fork_program.specs.declared.script.ReadFault.TheVariants as read;
+
+    ghost from_gives = { λ _ fault. fault ≡ read.NoMemory };
+
+    fn from(_refused: AllocError) -> ReadFault {
+        ReadFault::NoMemory
+    }
+}
+
+/// A script: the fork's kind, rules and targets, and the events in their order.
+#[derive(Drop)]
+pub struct Script<A: Allocator> {
+    pub(crate) kind: Kind,
+    pub(crate) rules: Rules,
+    pub(crate) targets: Vec<Target<A>, A>,
+    pub(crate) events: VecDeque<Event<A>, A>,
+}
+
+impl<A: Allocator> Model for Script<A> {
+    ghost use Rattle.std.specs.Prelude.{map};
+    ghost use Rattle.fork_context.specs.KindView.{kind_of};
+    ghost use Rattle.fork_context.specs.EventView.{event_of};
+    ghost use Rattle.fork_program.specs.Script as spec;
+
+    ghost Value = { spec.Script };
+
+    ghost view = { λ s. record {
+      kind = kind_of s.kind;
+      rules = s.rules;
+      targets = s.targets.items;
+      events = map event_of s.events.items;
+    } };
+}
+
+/// An event with one more contact, where it is an answer.
+fn event_with<A: Allocator>(event: Event<A>, offer: Offer<A>) -> Result<Event<A>, AllocError>
+    ensures { IfOk result (λ e. event_of e ≡ answer_changed (with_contact offer) (event_of event)) }
+{
+    match event {
+        Event::Answer(n, mut answer) => {
+            answer.push_offer(offer)?;
+            Ok(Event::Answer(n, answer))
+        }
+        event => Ok(event),
+    }
+}
+
+/// An event with one more challenge, where it is an answer.
+fn event_asking<A: Allocator>(
+    event: Event<A>,
+    challenge: Challenge<A>,
+) -> Result<Event<A>, AllocError>
+    ensures { IfOk result (λ e. event_of e ≡ answer_changed (with_challenge challenge) (event_of event)) }
+{
+    match event {
+        Event::Answer(n, mut answer) => {
+            answer.push_challenge(challenge)?;
+            Ok(Event::Answer(n, answer))
+        }
+        event => Ok(event),
+    }
+}
+
+impl<A: Allocator + Clone> Script<A> {
+    /// A script of no line.
+    fn new(alloc: &A) -> Result<Self, AllocError>
+        ensures { IfOk result (λ script. script ≡ no_script) }
+    {
+        Ok(Script {
+            kind: Kind::Invite,
+            rules: Rules::usual(),
+            targets: Vec::new(alloc.clone()?),
+            events: VecDeque::new(alloc.clone()?),
+        })
+    }
+
+    fn set_kind(&mut self, kind: Kind)
+        ensures { self.new ≡ record self.old { kind = kind_of kind } }
+    {
+        self.kind = kind;
+    }
+
+    fn set_rules(&mut self, rules: Rules)
+        ensures { self.new ≡ record self.old { rules = rules } }
+    {
+        self.rules = rules;
+    }
+
+    fn set_preferred(&mut self, preferred: Preferred)
+        ensures { self.new ≡ record self.old { rules = record self.old.rules { preferred = preferred } } }
+    {
+        let rules = Rules::of(preferred, self.rules.depth());
+        self.set_rules(rules.unwrap());
+    }
+
+    fn set_depth(&mut self, depth: Depth)
+        ensures { self.new ≡ record self.old { rules = record self.old.rules { depth = depth.steps } } }
+    {
+        let rules = Rules::of(self.rules.preferred(), depth.steps);
+        self.set_rules(rules.unwrap());
+    }
+
+    fn add_target(&mut self, target: Target<A>) -> Result<(), AllocError>
+        ensures { OnOk result (self.new ≡ record self.old { targets = self.old.targets ++ target ∷ [] }) }
+    {
+        self.targets.push(target)?;
+        Ok(())
+    }
+
+    fn add_event(&mut self, event: Event<A>) -> Result<(), AllocError>
+        ensures { OnOk result (self.new ≡ record self.old { events = self.old.events ++ event_of event ∷ [] }) }
+    {
+        self.events.push_back(event)?;
+        Ok(())
+    }
+
+    /// Adds a contact to the last event.
+    fn add_contact(&mut self, offer: Offer<A>) -> Result<(), AllocError>
+        ensures { OnOk result (self.new ≡ record self.old { events = last_changed (with_contact offer) self.old.events }) }
+    {
+        match self.events.pop_back() {
+            None => Ok(()),
+            Some(event) => self.add_event(event_with(event, offer)?),
+        }
+    }
+
+    /// Adds a challenge to the last event.
+    fn add_challenge(&mut self, challenge: Challenge<A>) -> Result<(), AllocError>
+        ensures { OnOk result (self.new ≡ record self.old { events = last_changed (with_challenge challenge) self.old.events }) }
+    {
+        match self.events.pop_back() {
+            None => Ok(()),
+            Some(event) => self.add_event(event_asking(event, challenge)?),
+        }
+    }
+
+    /// Adds what a line says.
+    fn add(&mut self, alloc: &A, line: Line<'_>) -> Result<(), AllocError>
+        ensures { OnOk result (self.new ≡ with_line self.old (line_of line.entry)) }
+    {
+        match line {
+            Line::Kind(kind) => self.set_kind(kind),
+            Line::Prefer(preferred) => self.set_preferred(preferred),
+            Line::Depth(depth) => self.set_depth(depth),
+            Line::Target(q, name) => self.add_target(Target::new(name.to_vec(alloc.clone()?)?, q))?,
+            Line::Ring(n, status) => self.add_event(Event::Ring(n, status))?,
+            Line::Answer(n, status) => self.add_event(Event::Answer(
+                n,
+                bare_answer(alloc, status)?,
+            ))?,
+            Line::Timeout(n) => self.add_event(Event::Timeout(n))?,
+            Line::Fault(n) => self.add_event(Event::Fault(n))?,
+            Line::TimerC(n) => self.add_event(Event::TimerC(n))?,
+            Line::GiveUp(n) => self.add_event(Event::GiveUp(n))?,
+            Line::Cancel => self.add_event(Event::Cancel)?,
+            Line::Contact(q, name) => self.add_contact(contact(alloc, q, name)?)?,
+            Line::Other(q, text) => self.add_contact(other(alloc, q, text)?)?,
+            Line::Challenge { proxy, value } => {
+                let value = value.to_vec(alloc.clone()?)?;
+                self.add_challenge(Challenge::new(proxy, value))?;
+            }
+        }
+        Ok(())
+    }
+}
+
+/// The answer of this status, before its contacts and its challenges are known.
+fn bare_answer<A: Allocator + Clone>(alloc: &A, status: Status) -> Result<Answer<A>, AllocError>
+    ensures { IfOk result (λ answer. answer ≡ bare status) }
+{
+    Ok(Answer::new(status, Vec::new(alloc.clone()?), Vec::new(alloc.clone()?)))
+}
+
+/// A contact that the proxy may try.
+fn contact<A: Allocator + Clone>(alloc: &A, q: u16, name: &[u8]) -> Result<Offer<A>, AllocError>
+    ensures { IfOk result (λ offer. offer ≡ record { text = name.now; q = q; key = Some name.now }) }
+{
+    let key = name.to_vec(alloc.clone()?)?;
+    Ok(Offer::new(name.to_vec(alloc.clone()?)?, q, Some(key)))
+}
+
+/// A contact that it may not.
+fn other<A: Allocator + Clone>(alloc: &A, q: u16, text: &[u8]) -> Result<Offer<A>, AllocError>
+    ensures { IfOk result (λ offer. offer ≡ record { text = text.now; q = q; key = None }) }
+{
+    Ok(Offer::new(text.to_vec(alloc.clone()?)?, q, None))
+}
+
+/// The lines read so far.
+#[derive(Drop)]
+struct Draft<A: Allocator> {
+    phase: Phase,
+    script: Script<A>,
+}
+
+impl<A: Allocator> Model for Draft<A> {
+    ghost use Rattle.fork_program.specs.Script as spec;
+
+    ghost Value = { spec.Draft };
+
+    ghost view = { λ d. record { phase = d.phase; script = d.script } };
+}
+
+impl<A: Allocator + Clone> Draft<A> {
+    fn new(alloc: &A) -> Result<Self, AllocError>
+        ensures { IfOk result (λ draft. draft ≡ no_draft) }
+    {
+        Ok(Draft {
+            phase: Phase::AtKind,
+            script: Script::new(alloc)?,
+        })
+    }
+
+    /// Adds a line, and answers whether it is one and may come here.
+    fn add(&mut self, alloc: &A, text: &[u8]) -> Result<bool, AllocError>
+        ensures { IfOk result (λ added. (if added then Some self.new else None) ≡ drafted self.old text.now) }
+    {
+        let line = match read_line(alloc.clone()?, text) {
+            Ok(Some(line)) => line,
+            Ok(None) => return Ok(false),
+            Err(refused) => return Err(refused),
+        };
+        let Some(phase) = self.phase.after(&line) else {
+            return Ok(false);
+        };
+        self.script.add(alloc, line)?;
+        self.phase = phase;
+        Ok(true)
+    }
+
+    /// The whole script, where nothing stands behind its last LF and it has a kind.
+    fn finished(self, number: u32, rest: &[u8]) -> Result<Script<A>, ReadFault>
+        ensures { GivesScript (finished_draft number self rest.now) result }
+    {
+        if rest.is_empty() && self.phase.has_kind() {
+            Ok(self.script)
+        } else {
+            Err(ReadFault::Line(number))
+        }
+    }
+}
+
+impl<A: Allocator + Clone> Script<A> {
+    /// The script that a text spells: each line ends in LF, and nothing stands behind the last.
+    ///
+    /// # Errors
+    ///
+    /// The first malformed line, counted from 1, a missing one by the number that it would have; or want of memory.
+    #[tactic(auto, unfolding(crate::specs::Script::read_script))]
+    pub fn read(alloc: &A, text: &[u8]) -> Result<Self, ReadFault>
+        requires { length text.now < 2 ^ 31 }
+        ensures { GivesScript (read_script text.now) result }
+    {
+        let mut draft = Draft::new(alloc)?;
+        let mut number = 1;
+        let mut rest = text;
+        loop {
+            let (line, more) = cut_at(rest, b'\n');
+            let Some(after) = more else {
+                return draft.finished(number, line);
+            };
+            if !draft.add(alloc, line)? {
+                return Err(ReadFault::Line(number));
+            }
+            number += 1;
+            rest = after;
+        }
+    }
+}

@@ -1,8 +1,0 @@
-use Rattle.std.proofs.Common.{◌≡◌, ◌≤◌, take}
-use Rattle.std.specs.Prelude.{count_by, not}
-use Rattle.fork_model.specs.Table.{is_ended}
-use Rattle.fork_proxy.proofs.print.branches_left.Given as goal
-
-abbrev pub invariant-loop-n : goal.invariant-loop-n
-invariant-loop-n g l =
-    (l.left ≡ count_by (λ row. not (is_ended row.state)) (take l.n l.context.table.rows)) × (l.left ≤ l.n)
