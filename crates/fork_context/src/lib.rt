@@ -21,10 +21,6 @@ mod step;
 mod stray;
 mod taking;
 mod targets;
-#[cfg(test)]
-mod tests;
-#[cfg(test)]
-mod walk;
 
 pub use context::{Context, NewFault, PostError};
 pub use event::{Answer, Event, Target};

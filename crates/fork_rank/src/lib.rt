@@ -8,8 +8,6 @@ mod rank;
 mod ring_status;
 mod rules;
 mod status;
-#[cfg(test)]
-mod tests;
 
 pub use challenge::Challenge;
 pub use grouping::groups;

@@ -5,3 +5,8 @@ use std::process::Abort;
 pub fn holds(rt: &impl Abort, well: bool, what: &str) {
     assert!(rt; well, "{what}");
 }
+
+/// Ends the test where this does not hold at a step of a history, the first of which is step 0.
+pub fn holds_at(rt: &impl Abort, well: bool, history: &str, step: usize) {
+    assert!(rt; well, "{history}, step {step}");
+}

@@ -3,4 +3,10 @@
 #![tactic(auto)]
 
 #[cfg(test)]
+mod context;
+#[cfg(test)]
 mod holds;
+#[cfg(test)]
+mod rank;
+#[cfg(test)]
+mod tree;

@@ -18,7 +18,6 @@ pub mod Below
 pub mod Building
 pub mod Runs
 pub mod Ordering
-pub mod Samples
 pub mod Lines
 pub mod Mates
 pub mod Starting

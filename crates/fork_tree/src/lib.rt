@@ -4,25 +4,15 @@
 
 mod best;
 mod build;
-#[cfg(test)]
-mod build_tests;
 mod find;
-#[cfg(test)]
-mod histories;
 mod level;
 mod node;
-#[cfg(test)]
-mod node_tests;
 mod place;
 mod quiet;
 mod row;
 mod seat;
 mod series;
-#[cfg(test)]
-mod series_tests;
 mod subtree;
-#[cfg(test)]
-mod tests;
 mod tree;
 
 pub use best::BestRef;

@@ -1,0 +1,115 @@
+//! Every short history, one after the other (RFC 3261 section 16.7).
+use crate::context::happening::{Aim, Happening, context, event};
+use crate::holds::holds;
+use fork_context::{Context, Event, Kind, Up};
+use std::alloc::Global;
+use std::test::Fail;
+
+/// So many things may happen to each row.
+const EACH: u32 = 9;
+
+/// What may happen to a row, by its number among them.
+fn of_row(n: u16, number: u32) -> Happening {
+    match number {
+        0 => Happening::Rings(n, 180),
+        1 => Happening::Answers(n, 200),
+        2 => Happening::Answers(n, 404),
+        3 => Happening::Answers(n, 603),
+        4 => Happening::Redirects(n),
+        5 => Happening::TimesOut(n),
+        6 => Happening::Fails(n),
+        7 => Happening::TimerC(n),
+        _ => Happening::GivesUp(n),
+    }
+}
+
+/// What may happen, by its number: a CANCEL, or something to a row.
+fn happening(number: u32) -> Happening {
+    if number == 0 {
+        return Happening::Cancel;
+    }
+    let among_rows = number - 1;
+    match u16::try_from(among_rows / EACH) {
+        Ok(n) => of_row(n, among_rows % EACH),
+        Err(_) => Happening::Cancel,
+    }
+}
+
+/// Whether a final answer goes up; nothing where the event is refused.
+fn sends_final(fork: &mut Context, event: Event) -> Option<bool> {
+    match fork.post(event) {
+        Ok(reply) => Some(matches!(reply.up(), Up::Final(_))),
+        Err(_) => None,
+    }
+}
+
+/// Whether a final answer has to have gone up.
+fn is_final_due(fork: &Context) -> bool {
+    fork.finished() && !fork.succeeded()
+}
+
+/// Whether a final answer goes up where none has gone, exactly where one is due then; a redirection names one contact, the
+/// same from each row.
+fn goes_on_right(alloc: Global, fork: &mut Context, number: u32) -> Result<bool, Fail> {
+    let event = event(alloc, happening(number), &[(100, true)])?;
+    let was_due = is_final_due(fork);
+    let goes_up = sends_final(fork, event);
+    Ok(goes_up == Some(!was_due && is_final_due(fork)))
+}
+
+/// Whether after each of these four events one final answer has gone up where the fork has finished without a 2xx, and
+/// none else.
+fn goes_right(alloc: Global, mut fork: Context, history: [u32; 4]) -> Result<bool, Fail> {
+    let mut right = !is_final_due(&fork);
+    for number in history {
+        right = goes_on_right(alloc, &mut fork, number)? && right;
+    }
+    Ok(right)
+}
+
+/// The numbers of what happens in the history of this number, where so many things may happen.
+fn digits(history: u32, count: u32) -> [u32; 4] {
+    let count = count.max(1);
+    let (first, rest) = (history % count, history / count);
+    let (second, rest) = (rest % count, rest / count);
+    [first, second, rest % count, rest / count]
+}
+
+/// How many histories of four events on so many rows, and with them the shorter ones, go right before one does not, if one
+/// does not.
+fn walk(alloc: Global, list: &[Aim], rows: u32) -> Result<u32, Fail> {
+    let count = rows.saturating_mul(EACH).saturating_add(1);
+    let histories = count.saturating_pow(4);
+    for history in 0..histories {
+        let fork = context(alloc, Kind::Invite, list)?;
+        if !goes_right(alloc, fork, digits(history, count))? {
+            return Ok(history);
+        }
+    }
+    Ok(histories)
+}
+
+#[test]
+fn one_target_and_a_contact(rt: HostRuntime) -> Result<(), Fail> {
+    let walked = walk(rt.alloc(), &[(1, 1000)], 2)?;
+    holds(&rt, walked == 130_321, "one target and a contact");
+    Ok(())
+}
+
+#[test]
+fn two_targets_in_series_and_a_contact(rt: HostRuntime) -> Result<(), Fail> {
+    let walked = walk(rt.alloc(), &[(1, 1000), (2, 500)], 3)?;
+    holds(
+        &rt,
+        walked == 614_656,
+        "two targets in series and a contact",
+    );
+    Ok(())
+}
+
+#[test]
+fn three_targets_of_two_groups(rt: HostRuntime) -> Result<(), Fail> {
+    let walked = walk(rt.alloc(), &[(1, 1000), (2, 1000), (3, 500)], 3)?;
+    holds(&rt, walked == 614_656, "three targets of two groups");
+    Ok(())
+}
