@@ -103,19 +103,18 @@ fn faults_are_printed_as_they_say(rt: HostRuntime) -> Result<(), Fail> {
     Ok(())
 }
 
-/// The statuses of a replay and a check of the same text, and what both print.
-fn run_both(alloc: Global, text: &[u8]) -> Result<(u8, u8, Vec<u8>), ProgFault> {
-    let mut out = Vec::new(alloc);
-    let replay = Command::Replay.run(alloc, text, &mut out)?;
-    let check = Command::Check.run(alloc, text, &mut out)?;
-    Ok((replay, check, out))
+/// Runs a command on a script; the status.
+fn run(alloc: Global, command: Command, out: &mut Vec<u8>) -> Result<u8, ProgFault> {
+    command.run(alloc, b"kind INVITE\ntarget 1000 a\n", out)
 }
 
 #[test]
 fn commands_append_their_answer(rt: HostRuntime) -> Result<(), Fail> {
-    let (replay, check, out) = run_both(rt.alloc(), b"kind INVITE\ntarget 1000 a\n")?;
-    holds(&rt, replay == 0, "a replay ends with 0");
-    holds(&rt, check == 4, "a check of a script ends with 4");
+    let mut out = Vec::new(rt.alloc());
+    let status = run(rt.alloc(), Command::Replay, &mut out)?;
+    holds(&rt, status == 0, "a replay ends with 0");
+    let status = run(rt.alloc(), Command::Check, &mut out)?;
+    holds(&rt, status == 4, "a check of a script ends with 4");
     holds(
         &rt,
         is_text(&out, "opening start 0\nunfinished 1\nno K1 1\n"),

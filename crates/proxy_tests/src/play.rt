@@ -1,5 +1,5 @@
 //! How a script is replayed and a listing checked.
-use crate::holds::{holds, holds_of};
+use crate::holds::holds_of;
 use fork_program::{ProgFault, check_text, replay_text};
 use std::alloc::{AllocError, Global};
 use std::process::Abort;
@@ -126,6 +126,5 @@ pub fn play(rt: &(impl Abort + AllocGlobal), table: &[(&str, &str)]) -> Result<(
         holds_printed(rt, script, wanted)?;
         holds_right(rt, wanted)?;
     }
-    holds(rt, !table.is_empty(), "there are scripts");
     Ok(())
 }
