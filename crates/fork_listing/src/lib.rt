@@ -2,8 +2,6 @@
 //! a check that such a text is right (RFC 3261 section 16.7 step 6).
 #![tactic(auto)]
 
-#[cfg(test)]
-mod altered_tests;
 mod checker;
 mod choice;
 mod depth;
@@ -14,10 +12,6 @@ mod lister;
 mod print;
 mod ranks;
 mod targets;
-#[cfg(test)]
-mod tests;
-#[cfg(test)]
-mod text_tests;
 
 pub use checker::{CheckFault, Verdict, check};
 pub use laws::{

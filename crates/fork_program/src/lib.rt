@@ -11,8 +11,6 @@ mod line;
 mod print;
 mod replay;
 mod script;
-#[cfg(test)]
-mod tests;
 
 pub use check::{append_found, check_text};
 pub use command::Command;

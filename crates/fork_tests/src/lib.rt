@@ -7,6 +7,8 @@ mod context;
 #[cfg(test)]
 mod holds;
 #[cfg(test)]
+mod listing;
+#[cfg(test)]
 mod rank;
 #[cfg(test)]
 mod tree;

@@ -5,3 +5,8 @@ use std::process::Abort;
 pub fn holds(rt: &impl Abort, well: bool, what: &str) {
     assert!(rt; well, "{what}");
 }
+
+/// Ends the test where this does not hold of a row of a table. `what` says which check it is, `row` which row.
+pub fn holds_of(rt: &impl Abort, well: bool, what: &str, row: &str) {
+    assert!(rt; well, "{what}, of {row:?}");
+}

@@ -2,4 +2,14 @@
 #![tactic(auto)]
 
 #[cfg(test)]
+mod answers;
+#[cfg(test)]
+mod faults;
+#[cfg(test)]
 mod holds;
+#[cfg(test)]
+mod limits;
+#[cfg(test)]
+mod play;
+#[cfg(test)]
+mod replays;

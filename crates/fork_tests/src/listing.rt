@@ -1,0 +1,8 @@
+//! Tests of `fork_listing`.
+mod altered;
+mod changed;
+mod forks;
+mod long;
+mod play;
+mod read;
+mod texts;
