@@ -6,9 +6,3 @@ returns-then-code-lt200-clause-valid c = search rules
 
 pub returns-then-code-lt200-clause-value : goal.returns-then-code-lt200-clause-value
 returns-then-code-lt200-clause-value c = search rules
-
-pub returns-else-code-ge100-clause-valid : goal.returns-else-code-ge100-clause-valid
-returns-else-code-ge100-clause-valid c = search rules
-
-pub returns-else-code-ge100-clause-value : goal.returns-else-code-ge100-clause-value
-returns-else-code-ge100-clause-value c = search rules
