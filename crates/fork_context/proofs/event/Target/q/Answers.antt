@@ -1,0 +1,5 @@
+use Rattle.std.proofs.Common.{rules}
+use Rattle.fork_context.proofs.event.Target.q.Goals as goal
+
+pub returns : goal.returns
+returns g c = search rules

@@ -1,0 +1,8 @@
+use Rattle.std.proofs.Common.{rules}
+use Rattle.fork_rank.proofs.preferred.is_preferred_list.Goals as goal
+
+pub returns-then-are_client_errors : goal.returns-then-are_client_errors
+returns-then-are_client_errors c = search rules
+
+pub returns-else-are_client_errors : goal.returns-else-are_client_errors
+returns-else-are_client_errors c = search rules
