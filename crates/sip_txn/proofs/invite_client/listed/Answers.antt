@@ -6,3 +6,6 @@ returns-in-Calling-Event-Provisional c = search rules
 
 pub returns-in-Accepted-Event-Success : goal.returns-in-Accepted-Event-Success
 returns-in-Accepted-Event-Success c = search rules
+
+pub returns-in-Completed-Event-Failure : goal.returns-in-Completed-Event-Failure
+returns-in-Completed-Event-Failure c = search rules
