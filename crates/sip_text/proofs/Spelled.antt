@@ -2,7 +2,7 @@
 use Rattle.std.proofs.Common.{◌≡◌, ◌≢◌, ℕ, ◌+◌, ◌-◌, ◌/◌, ◌%◌, ◌≤◌, Bool, true, false, not, eqb, leb, ltb, List, [], ◌∷◌, ◌++◌, length, map, take, drop, reverse, Ok, refl, sym, ap, ◌∙◌, arith}
 use Rattle.std.specs.Prelude.{◌&&◌, codes}
 use Rattle.std.specs.List.{flat_map, list_all, prefix_len, suffix_len, AllByRecursion}
-use Rattle.std.proofs.lemmas.Bool.{and_parts, cond-false, eq-eqb, eqb-true, false_from_ne_true, false≢true, le-leb, leb-true}
+use Rattle.std.proofs.lemmas.Bool.{and_parts, cond-false, eq-eqb, eqb-true, false_from_ne_true, false≢true, le-leb, leb-true, not-true}
 use Rattle.std.proofs.lemmas.List.{append-nil, length-append, take_all}
 use Rattle.std.proofs.lemmas.List.Folds.{list_all-append}
 use Rattle.sip_lex.specs.Bytes.{is_space, is_token, is_token_byte, trim, trim_end, trim_start}
@@ -78,15 +78,11 @@ no_prefix : (bs : List ℕ) → begins_with_space bs ≡ false → prefix_len is
 no_prefix [] h = refl
 no_prefix (b ∷ bs) h = cond-false _ _ _ h
 
-not_true : (b : Bool) → not b ≡ true → b ≡ false
-not_true true e = absurd cc
-not_true false e = refl
-
 trimmed_is : (bs : List ℕ) → is_trimmed bs ≡ true → trim bs ≡ bs
 trimmed_is bs h =
     let both = and_parts (not (begins_with_space bs)) (not (begins_with_space (reverse bs))) h in
-    let front : trim_start bs ≡ bs = ap (λ n. drop n bs) (no_prefix bs (not_true _ both.0)) in
-    let none : suffix_len is_space bs ≡ 0 = no_prefix (reverse bs) (not_true _ both.1) in
+    let front : trim_start bs ≡ bs = ap (λ n. drop n bs) (no_prefix bs (not-true _ both.0)) in
+    let none : suffix_len is_space bs ≡ 0 = no_prefix (reverse bs) (not-true _ both.1) in
     ap trim_end front ∙ take_all (length bs - suffix_len is_space bs) bs (omega (arith, none))
 
 header_is_line : (h : HeaderText) → is_header h ≡ true → is_line (header_line h) ≡ true

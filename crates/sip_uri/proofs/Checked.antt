@@ -4,7 +4,7 @@ use Rattle.std.specs.Prelude.{◌||◌, ◌&&◌}
 use Rattle.std.specs.Char.{is_ascii_alphanumeric, is_ascii_digit, is_ascii_hexdigit, to_ascii_lowercase}
 use Rattle.std.specs.Int.{is_in_range}
 use Rattle.std.specs.List.{list_all}
-use Rattle.std.proofs.lemmas.Bool.{and_parts, cases_Bool, cond-false, cond-true, eqb-true, le-leb, leb-true, ltb-false, ltb-true, or_cases}
+use Rattle.std.proofs.lemmas.Bool.{and_from, and_parts, cases_Bool, cond-false, cond-true, eqb-true, le-leb, leb-true, ltb-false, ltb-true, or_cases}
 use Rattle.sip_lex.specs.Cut.{behind}
 use Rattle.sip_lex.specs.Pieces.{pieces_behind}
 use Rattle.sip_lex.proofs.Splits.{pieces_behind_join}
@@ -25,9 +25,6 @@ use Rattle.sip_uri.proofs.Requests.{AreBytes, parts, whole}
 
 -- ---- the bytes of schemes, hosts and ports stand in a URI
 
-both : (a b : Bool) → a ≡ true → b ≡ true → (a && b) ≡ true
-both a b e f = ap (λ t. t && b) e ∙ f
-
 abbrev Printed : ℕ → Type 0
 Printed b = (33 ≤ b) × (b ≤ 126)
 
@@ -36,7 +33,7 @@ in_uri p b quote less more h r =
     let c34 = ap not (other_than p b 34 quote h) in
     let c60 = ap not (other_than p b 60 less h) in
     let c62 = ap not (other_than p b 62 more h) in
-    both _ _ (both _ _ (both _ _ (both _ _ (le-leb _ _ r.0) (le-leb _ _ r.1)) c60) c62) c34
+    and_from _ _ (and_from _ _ (and_from _ _ (and_from _ _ (le-leb _ _ r.0) (le-leb _ _ r.1)) c60) c62) c34
 
 in_range : (lo hi b : ℕ) → 33 ≤ lo → hi ≤ 126 → is_in_range lo hi b ≡ true → Printed b
 in_range lo hi b low high h =
@@ -94,7 +91,7 @@ weaker : (p q : ℕ → Bool) (bs : List ℕ) → ((b : ℕ) → p b ≡ true �
 weaker p q [] passes h = refl
 weaker p q (b ∷ bs) passes h =
     let each = and_parts (p b) (list_all p bs) h in
-    both (q b) (list_all q bs) (passes b each.0) (weaker p q bs passes each.1)
+    and_from (q b) (list_all q bs) (passes b each.0) (weaker p q bs passes each.1)
 
 of_host : (host : List ℕ) → IsHost host → AreBytes host
 of_host host (inl n) = weaker is_host_byte is_uri_byte host host_byte n.1
@@ -107,7 +104,7 @@ of_port None h = refl
 of_port (Some digits) h = weaker is_ascii_digit is_uri_byte digits digit_byte (and_parts (ltb 0 (length digits)) (list_all is_ascii_digit digits) (port_is digits h).digits).1
 
 upper_byte : (b : ℕ) → 65 ≤ b → b ≤ 90 → is_uri_byte b ≡ true
-upper_byte b low high = in_uri (is_in_range 65 90) b refl refl refl (both _ _ (le-leb _ _ low) (le-leb _ _ high)) (omega (arith, low), omega (arith, high))
+upper_byte b low high = in_uri (is_in_range 65 90) b refl refl refl (and_from _ _ (le-leb _ _ low) (le-leb _ _ high)) (omega (arith, low), omega (arith, high))
 
 lower_byte : (b : ℕ) → is_uri_byte (to_ascii_lowercase b) ≡ true → is_uri_byte b ≡ true
 lower_byte b h =
@@ -123,7 +120,7 @@ lower_bytes : (bs : List ℕ) → AreBytes (map to_ascii_lowercase bs) → AreBy
 lower_bytes [] h = refl
 lower_bytes (b ∷ bs) h =
     let each = and_parts (is_uri_byte (to_ascii_lowercase b)) (list_all is_uri_byte (map to_ascii_lowercase bs)) h in
-    both _ _ (lower_byte b each.0) (lower_bytes bs each.1)
+    and_from _ _ (lower_byte b each.0) (lower_bytes bs each.1)
 
 of_scheme : (text : List ℕ) → is_sip text ≡ true → AreBytes (take 4 text)
 of_scheme text sip = lower_bytes (take 4 text) (subst (λ (x : List ℕ). AreBytes x) (sym (scheme_is text sip)) refl)
@@ -144,7 +141,7 @@ of_user (Some user) h = whole user (64 ∷ []) h refl
 
 of_behind : (mark : ℕ) (part : Option (List ℕ)) → is_uri_byte mark ≡ true → are_bytes_if_any part ≡ true → AreBytes (behind mark part)
 of_behind mark None m h = refl
-of_behind mark (Some bs) m h = both (is_uri_byte mark) (list_all is_uri_byte bs) m h
+of_behind mark (Some bs) m h = and_from (is_uri_byte mark) (list_all is_uri_byte bs) m h
 
 -- ---- where all bytes stand in a URI, the parts decide
 

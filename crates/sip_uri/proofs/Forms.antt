@@ -3,6 +3,7 @@ use Rattle.std.proofs.Common.{◌≡◌, ℕ, Bool, true, false, cond, eqb, ltb,
 use Rattle.std.specs.Prelude.{◌&&◌, OnSome}
 use Rattle.std.specs.List.{list_all, AllByRecursion}
 use Rattle.std.proofs.lemmas.List.{append-nil}
+use Rattle.std.proofs.lemmas.Option.{same_Some}
 use Rattle.std.proofs.lemmas.Bool.{and_parts, cases_Bool, cond-false, cond-true, eqb-true, false_from_ne_true, false≢true, or_cases}
 use Rattle.sip_lex.specs.declared.sheltered.Shelter.TheVariants.{Quotes, QuotesAndAngles}
 use Rattle.sip_lex.specs.declared.sheltered.Place.{Place}
@@ -24,19 +25,16 @@ Cut = List ℕ × Option (List ℕ)
 abbrev present : Form → Option Form
 present f = Some f
 
-pub some_is : (f g : Form) → present f ≡ present g → f ≡ g
-some_is f g e = cc
-
 -- ---- what is found has the form
 
 behind_found : (a tail address : List ℕ) (params : Option (List ℕ)) → behind_brackets a tail ≡ Some (address, params) → (a ≡ address) × (tail ≡ behind 59 params)
 behind_found a [] address params e =
-    let pair = some_is (a, None) (address, params) e in
+    let pair = same_Some (a, None) (address, params) e in
     (ap (λ (f : Form). f.0) pair, ap (λ (f : Form). behind 59 f.1) pair)
 behind_found a (b ∷ bs) address params e =
     elim (cases_Bool (eqb b 59)) [
       | inl here ↦
-          let pair = some_is (a, Some bs) (address, params) (sym (cond-true _ _ _ here) ∙ e) in
+          let pair = same_Some (a, Some bs) (address, params) (sym (cond-true _ _ _ here) ∙ e) in
           (ap (λ (f : Form). f.0) pair, ap (λ c. c ∷ bs) (eqb-true b 59 here) ∙ ap (λ (f : Form). behind 59 f.1) pair)
       | inr other ↦ let wrong : None ≡ Some (address, params) = sym (cond-false _ _ _ other) ∙ e in absurd cc
     ]
@@ -67,7 +65,7 @@ bare_found item address params (front, after) join none e =
     let t = trim_end-whole front in
     elim (cases_Bool (is_bare (trim_end front))) [
       | inl good ↦
-          let pair = some_is (trim_end front, after) (address, params) (sym (cond-true _ _ _ good) ∙ e) in
+          let pair = same_Some (trim_end front, after) (address, params) (sym (cond-true _ _ _ good) ∙ e) in
           record {
             gap = t.gap;
             spelled = join ∙ ap (λ (x : List ℕ). x ++ behind 59 after) t.whole ∙ append_assoc (trim_end front) t.gap (behind 59 after) ∙ ap (λ (f : Form). f.0 ++ (t.gap ++ behind 59 f.1)) pair;

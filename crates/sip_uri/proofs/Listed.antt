@@ -3,6 +3,7 @@ use Rattle.std.proofs.Common.{◌≡◌, ℕ, false, List, [], ◌∷◌, map, O
 use Rattle.std.specs.Prelude.{◌&&◌, IfOk}
 use Rattle.std.specs.List.{list_all, AllByRecursion}
 use Rattle.std.proofs.lemmas.Bool.{cases_Bool, cond_both, cond-false, cond-true}
+use Rattle.std.proofs.lemmas.Option.{same_Some}
 use Rattle.sip_lex.specs.declared.sheltered.Shelter.TheVariants.{QuotesAndAngles}
 use Rattle.sip_lex.specs.declared.sheltered.Place.TheVariants.{Plain}
 use Rattle.sip_lex.specs.Outside.{pieces_outside}
@@ -14,7 +15,7 @@ use Rattle.sip_uri.specs.Contact.{ContactText, Form, are_items, contact_of, cont
 use Rattle.sip_uri.specs.Fault.{Gives}
 use Rattle.sip_uri.specs.Items.{AreItems, IsContact, texts}
 use Rattle.sip_uri.specs.Reading.{read_uri}
-use Rattle.sip_uri.proofs.Forms.{form_again, form_found, some_is}
+use Rattle.sip_uri.proofs.Forms.{form_again, form_found}
 
 text_of_form : (item : List ℕ) (form : Option Form) → (contact_of_form item form).text ≡ item
 text_of_form item None = refl
@@ -37,7 +38,7 @@ contact_by_form item (Some form) e =
     elim (cases_Bool (list_all is_contact_param (contact_params form.1))) [
       | inl good ↦ subst IsContact (sym (cond-true _ _ _ good)) (inl (record { address = form.0; params = form.1; form = form_found item form.0 form.1 e; named = good; q = refl; uri = refl }))
       | inr bad ↦ subst IsContact (sym (cond-false _ _ _ bad)) (inr (record {
-        unnamed = λ address params f. subst (λ (g : Form). list_all is_contact_param (contact_params g.1) ≡ false) (some_is form (address, params) (sym e ∙ form_again item address params f)) bad;
+        unnamed = λ address params f. subst (λ (g : Form). list_all is_contact_param (contact_params g.1) ≡ false) (same_Some form (address, params) (sym e ∙ form_again item address params f)) bad;
         q = refl;
         uri = refl;
       }))

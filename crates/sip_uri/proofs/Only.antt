@@ -5,7 +5,7 @@ use Rattle.std.specs.Char.{to_ascii_lowercase, is_ascii_digit}
 use Rattle.std.specs.List.{list_all, AllByRecursion}
 use Rattle.std.specs.Str.{bytes_eq}
 use Rattle.std.proofs.lemmas.List.{append-nil, drop_at, length-append, length-map, take_at}
-use Rattle.std.proofs.lemmas.Bool.{cond-true, cond-false, eqb-true, eqb-false, and_parts, false≢true, false_from_ne_true, lt-ltb, le-leb, or_cases}
+use Rattle.std.proofs.lemmas.Bool.{cond-true, cond-false, eqb-true, eqb-false, and_from, and_parts, false≢true, false_from_ne_true, lt-ltb, le-leb, or_cases}
 use Rattle.sip_lex.specs.Cut.{behind, cut, is, Lacks}
 use Rattle.sip_lex.specs.Number.{number}
 use Rattle.sip_lex.specs.Pieces.{pieces_behind}
@@ -142,13 +142,10 @@ parts_again u h =
 
 -- ---- and pass each test
 
-both_true : (a b : Bool) → a ≡ true → b ≡ true → (a && b) ≡ true
-both_true a b h k = ap (λ t. t && b) h ∙ k
-
 port_good : (port : Option (List ℕ)) → IfSome port IsPort → is_port_if_any port ≡ true
 port_good None h = refl
 port_good (Some digits) h =
-    both_true _ _ (both_true _ _ (both_true _ _ (le-leb (length digits) 5 h.short) h.digits) (lt-ltb 0 (number digits) h.positive)) (le-leb (number digits) 65535 h.within)
+    and_from _ _ (and_from _ _ (and_from _ _ (le-leb (length digits) 5 h.short) h.digits) (lt-ltb 0 (number digits) h.positive)) (le-leb (number digits) 65535 h.within)
 
 user_good : (user : Option (List ℕ)) → IfSome user (λ w. (w ≢ []) × Lacks 64 w) → is_full user ≡ true
 user_good None h = refl
@@ -163,16 +160,16 @@ good_cut c = ltb 0 (length c.0) && is_full c.1
 
 param_good : (param : List ℕ) → IsParam param → is_param param ≡ true
 param_good param h =
-    ap good_cut (ap (cut (is 61)) h.spelled ∙ cut_again 61 h.name h.value h.no_equals) ∙ both_true _ _ (full-ltb h.name h.full) (value_good h.value h.valued)
+    ap good_cut (ap (cut (is 61)) h.spelled ∙ cut_again 61 h.name h.value h.no_equals) ∙ and_from _ _ (full-ltb h.name h.full) (value_good h.value h.valued)
 
 params_good : (params : List (List ℕ)) → AllByRecursion IsParam params → list_all is_param params ≡ true
 params_good [] h = refl
-params_good (p ∷ ps) h = both_true _ _ (param_good p h.0) (params_good ps h.1)
+params_good (p ∷ ps) h = and_from _ _ (param_good p h.0) (params_good ps h.1)
 
 no_fault : (p : Parts) → is_host p.host ≡ true → is_port_if_any p.port ≡ true → is_full p.user ≡ true → list_all is_param (pieces_behind 59 p.params) ≡ true → fault_of p ≡ None
 unfolding fault_of
 no_fault p host port user params =
-    cond-false _ _ _ (ap not host) ∙ cond-false _ _ _ (ap not port) ∙ cond-false _ _ _ (ap not (both_true _ _ user params))
+    cond-false _ _ _ (ap not host) ∙ cond-false _ _ _ (ap not port) ∙ cond-false _ _ _ (ap not (and_from _ _ user params))
 
 -- ---- the whole
 

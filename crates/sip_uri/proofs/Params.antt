@@ -2,7 +2,8 @@
 use Rattle.std.proofs.Common.{◌≡◌, ℕ, Bool, true, false, cond, eqb, ltb, List, [], ◌∷◌, length, fold, Option, Some, None, refl, sym, ap, ◌∙◌, arith}
 use Rattle.std.specs.Prelude.{◌&&◌}
 use Rattle.std.specs.List.{list_all}
-use Rattle.std.proofs.lemmas.Bool.{lt-ltb}
+use Rattle.std.proofs.Math.Bool.{and-true}
+use Rattle.std.proofs.lemmas.Bool.{and_right, lt-ltb}
 use Rattle.sip_lex.specs.Cut.{cut, is}
 use Rattle.sip_lex.specs.Pieces.{pieces, pieces_behind}
 use Rattle.sip_lex.proofs.Splits.{pieces-cut}
@@ -65,18 +66,6 @@ broken_reads : (bs : List ℕ) → are_read Broken bs ≡ false
 broken_reads [] = refl
 broken_reads (b ∷ bs) = ap (λ (s : Progress). are_read s bs) (broken_stays b) ∙ broken_reads bs
 
-and_false : (a : Bool) → (a && false) ≡ false
-and_false true = refl
-and_false false = refl
-
-and_assoc : (a b c : Bool) → (a && (b && c)) ≡ ((a && b) && c)
-and_assoc true b c = refl
-and_assoc false b c = refl
-
-and_true : (a : Bool) → (a && true) ≡ a
-and_true true = refl
-and_true false = refl
-
 -- the parts of a cut, of which the first ends a parameter
 abbrev good : Progress → Cut → Bool
 good s c = ends s c.0 && list_all is_param (pieces_behind 59 c.1)
@@ -111,11 +100,11 @@ step s b bs h =
     ]
 
 reads : (s : Progress) (bs : List ℕ) → are_read s bs ≡ wanted s bs
-reads s [] = sym (and_true (good s ([], None)) ∙ and_true (ends s []) ∙ ends_nothing s)
+reads s [] = sym (and-true (good s ([], None)) ∙ and-true (ends s []) ∙ ends_nothing s)
 reads s (b ∷ bs) =
     elim (is_uri_byte b) as (λ t. are_read (cond t (cond (eqb b 59) (behind_semicolon s) (behind_other s b)) Broken) bs ≡ (good s (cut (is 59) (b ∷ bs)) && (t && list_all is_uri_byte bs))) [
       | true ↦ step s b bs (λ t. reads t bs)
-      | false ↦ broken_reads bs ∙ sym (and_false (good s (cut (is 59) (b ∷ bs))))
+      | false ↦ broken_reads bs ∙ sym (and_right (good s (cut (is 59) (b ∷ bs))) false refl)
     ]
 
 pub params_read : (bs : List ℕ) → is_whole (fold progress_after Begun bs) ≡ (list_all is_param (pieces 59 bs) && list_all is_uri_byte bs)

@@ -1,5 +1,5 @@
 -- What is known of the timers in each state gives the laws of ticks and of the end.
-use Rattle.std.proofs.Common.{◌≡◌, subst}
+use Rattle.std.proofs.Common.{◌≡◌, subst, rules}
 use Rattle.sip_txn.specs.declared.machine.Machine.{Machine}
 use Rattle.sip_txn.specs.declared.invite_server.InviteServerState.{InviteServerState}
 use Rattle.sip_txn.specs.declared.invite_server.InviteServerState.TheVariants.{Terminated}
@@ -17,3 +17,6 @@ pub returns-clause-over : goal.returns-clause-over
 returns-clause-over c =
     let Law : Machine InviteServerState → Type 0 = λ m. m.state ≡ Terminated → IsOver invite_server m in
     subst Law c.self.view_is (is_over _ _ c.self.invariant)
+
+pub returns-clause-value : goal.returns-clause-value
+returns-clause-value c = search rules

@@ -1,4 +1,5 @@
-use Rattle.std.proofs.Common.{subst}
+use Rattle.std.proofs.Common.{subst, arith}
+use Rattle.std.proofs.lemmas.Grind.{common_steps}
 use Rattle.sip_uri.specs.Grammar.{IsUri}
 use Rattle.sip_uri.specs.Uri.{Uri}
 use Rattle.sip_uri.proofs.Requests.{kept_uri}
@@ -6,3 +7,6 @@ use Rattle.sip_uri.proofs.uri.SipUri.host.Goals as goal
 
 pub returns-clause-grammar : goal.returns-clause-grammar
 returns-clause-grammar g c = subst (λ (u : Uri). IsUri u) c.self.view_is (kept_uri c.self.inside.text.items c.self.inside.key.items c.self.invariant)
+
+pub returns-clause-value : goal.returns-clause-value
+returns-clause-value g c = grind (arith, common_steps)

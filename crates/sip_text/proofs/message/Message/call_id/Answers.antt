@@ -1,0 +1,5 @@
+use Rattle.std.proofs.Common.{rules}
+use Rattle.sip_text.proofs.message.Message.call_id.Goals as goal
+
+pub returns : goal.returns
+returns g c = search rules

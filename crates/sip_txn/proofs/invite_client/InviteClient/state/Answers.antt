@@ -1,0 +1,5 @@
+use Rattle.std.proofs.Common.{rules}
+use Rattle.sip_txn.proofs.invite_client.InviteClient.state.Goals as goal
+
+pub returns : goal.returns
+returns c = search rules

@@ -1,0 +1,8 @@
+use Rattle.std.proofs.Common.{rules}
+use Rattle.sip_uri.proofs.next.allows_udp.Goals as goal
+
+pub returns-then-eq_ignore_ascii_case : goal.returns-then-eq_ignore_ascii_case
+returns-then-eq_ignore_ascii_case c = search rules
+
+pub returns-then-not-eq_ignore_ascii_case : goal.returns-then-not-eq_ignore_ascii_case
+returns-then-not-eq_ignore_ascii_case c = search rules

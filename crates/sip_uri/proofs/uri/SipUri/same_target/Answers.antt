@@ -1,0 +1,5 @@
+use Rattle.std.proofs.Common.{rules}
+use Rattle.sip_uri.proofs.uri.SipUri.same_target.Goals as goal
+
+pub returns : goal.returns
+returns g c = search rules
