@@ -3,4 +3,12 @@
 #![tactic(auto)]
 
 #[cfg(test)]
+mod build;
+#[cfg(test)]
 mod holds;
+#[cfg(test)]
+mod messages;
+#[cfg(test)]
+mod rows;
+#[cfg(test)]
+mod via;

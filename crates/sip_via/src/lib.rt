@@ -6,12 +6,8 @@
 #![tactic(auto)]
 
 mod branch;
-#[cfg(test)]
-mod built_tests;
 mod cut;
 mod edits;
-#[cfg(test)]
-mod forward_tests;
 mod forwarding;
 mod hex_pair;
 mod lines;
@@ -22,11 +18,7 @@ mod params;
 mod received;
 mod requests;
 mod responses;
-#[cfg(test)]
-mod tests;
 mod upstream;
-#[cfg(test)]
-mod upstream_tests;
 mod values;
 mod via;
 

@@ -1,0 +1,5 @@
+//! Tests of the calls that build messages.
+mod forwarding;
+mod requests;
+mod responses;
+mod upstream;
