@@ -6,7 +6,6 @@
 mod altered_tests;
 mod checker;
 mod choice;
-mod depth;
 mod draft;
 mod laws;
 mod line;
