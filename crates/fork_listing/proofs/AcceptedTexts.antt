@@ -24,7 +24,7 @@ use Rattle.fork_listing.proofs.MalformedLines.{refused_by_first}
 use Rattle.fork_listing.proofs.Meanings.{same_score}
 use Rattle.fork_listing.proofs.Placing.{inside}
 use Rattle.fork_listing.proofs.SpelledListings.{read_exactly}
-use Rattle.fork_listing.proofs.SpelledParts.{some_is}
+use Rattle.std.proofs.lemmas.Option.{same_Some}
 
 none_some : {X : Type 0} {x : X} → None ≡ Some x → ⊥
 none_some e = absurd cc
@@ -32,7 +32,7 @@ none_some e = absurd cc
 -- ---- a score and its arrival
 
 score_arrives : (end : End) (score : Score) → score_in end ≡ Some score → arrival_of end ≡ Some score.arrival
-score_arrives (Stored status arrival received) score e = ap (λ (s : Score). Some s.arrival) (some_is e)
+score_arrives (Stored status arrival received) score e = ap (λ (s : Score). Some s.arrival) (same_Some _ _ e)
 score_arrives (Taken arrival) score e = absurd (none_some e)
 score_arrives (Silent arrival) score e = absurd (none_some e)
 score_arrives Never score e = absurd (none_some e)
@@ -73,7 +73,7 @@ ended_apart most_depth targets placed m n a x y = go (cases_lt m n) (cases_lt n 
 lines_at : (targets : List Target) (more : List Line) → AllByRecursion IsLine (map TargetLine targets ++ more)
     → (n : ℕ) (target : Target) → slice_get targets n ≡ Some target → IsLine (TargetLine target)
 lines_at [] more all n target is = absurd (none_some is)
-lines_at (t ∷ targets) more all zero target is = let P : Target → Type 0 = λ x. IsLine (TargetLine x) in subst P (some_is is) all.0
+lines_at (t ∷ targets) more all zero target is = let P : Target → Type 0 = λ x. IsLine (TargetLine x) in subst P (same_Some _ _ is) all.0
 lines_at (t ∷ targets) more all (suc n) target is = lines_at targets more all.1 n target is
 
 skip : (lines more : List Line) → AllByRecursion IsLine (lines ++ more) → AllByRecursion IsLine more
@@ -85,7 +85,7 @@ target_lines l h = lines_at l.targets _ (skip (rule_lines l.version l.rules) _ h
 
 score_within : (end : End) (score : Score) → IsEnd end → score_in end ≡ Some score → score.arrival ≤ most_arrival
 score_within (Stored status arrival received) score h e =
-    let same : arrival ≡ score.arrival = ap (λ (s : Score). s.arrival) (some_is e) in
+    let same : arrival ≡ score.arrival = ap (λ (s : Score). s.arrival) (same_Some _ _ e) in
     let le : arrival ≤ most_arrival = h.1 in
     omega arith
 score_within (Taken arrival) score h e = absurd (none_some e)

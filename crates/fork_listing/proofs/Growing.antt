@@ -7,7 +7,7 @@ use Rattle.fork_listing.specs.declared.line.End.TheVariants.{Stored, Taken, Sile
 use Rattle.fork_listing.specs.declared.line.Target.{Target}
 use Rattle.fork_listing.specs.Targets.{arrival_of, ended_at, is_redirection, is_redirected, IsParent, IsBefore, Follows, FollowsTarget, line_before, IsEarlier, HasDepth, IsInPlace}
 use Rattle.fork_listing.specs.Spelled.{IsStatus, IsHow}
-use Rattle.fork_listing.specs.Line.{most_q}
+use Rattle.fork_text.specs.Field.{most_q}
 use Rattle.fork_listing.proofs.Placing.{inside, there}
 
 some_same : {X : Type 0} {x y : X} → Some x ≡ Some y → x ≡ y

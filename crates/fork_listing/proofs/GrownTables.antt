@@ -19,7 +19,7 @@ use Rattle.fork_listing.specs.declared.line.End.{End}
 use Rattle.fork_listing.specs.declared.line.End.TheVariants as line_end
 use Rattle.fork_listing.specs.declared.line.Target.{Target}
 use Rattle.fork_listing.specs.Targets.{arrival_of, ended_at, is_redirection, IsParent, Follows, FollowsTarget, line_before, IsEarlier, HasDepth, IsInPlace}
-use Rattle.fork_listing.specs.Line.{most_q}
+use Rattle.fork_text.specs.Field.{most_q}
 use Rattle.fork_listing.specs.Spelled.{IsStatus}
 use Rattle.fork_listing.specs.Accepted.{IsTargetInRange, IsOfferInRange, IsEventInRange}
 use Rattle.fork_listing.specs.Listed.{state_shown, targets_from, targets_of}

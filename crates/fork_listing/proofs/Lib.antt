@@ -1,5 +1,4 @@
 mod Pieces
-mod PreferredLists
 mod Placing
 mod Sets
 mod LineScores
@@ -8,7 +7,6 @@ mod Sorting
 mod Meanings
 mod Finals
 mod ListedRows
-mod NumberLaws
 mod SpelledParts
 mod SpelledLines
 mod SpelledListings

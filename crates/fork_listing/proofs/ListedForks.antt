@@ -8,7 +8,7 @@ use Rattle.fork_model.specs.Rank.{Score, Before}
 use Rattle.fork_model.specs.Event.{Event}
 use Rattle.fork_model.specs.History as history
 use Rattle.fork_model.specs.Choice as model
-use Rattle.fork_model.specs.Choice.{Choice, Best, Only503, NoAnswer408, IsChoice, IsFirst, HasScore, stored_at, status_at}
+use Rattle.fork_model.specs.Choice.{Choice, Best, Only503, NoAnswer408, IsChoice, IsFirst, stored_at, status_at}
 use Rattle.fork_model.specs.Core.{Core, opening_core, core_next, core_offered, core_after, is_full}
 use Rattle.fork_model.specs.Steps.{most_taken}
 use Rattle.fork_model.proofs.ContactLemmas.{targets_bounded, each_target, taken_bounded}
@@ -20,7 +20,8 @@ use Rattle.fork_listing.specs.declared.line.Target.{Target}
 use Rattle.fork_listing.specs.declared.line.Ranked.{Ranked}
 use Rattle.fork_listing.specs.declared.line.Final.{Final}
 use Rattle.fork_listing.specs.declared.checker.Verdict.{Verdict}
-use Rattle.fork_listing.specs.Line.{Line, TargetLine, RankLine, FinalLine, most_number, most_arrival}
+use Rattle.fork_listing.specs.Line.{Line, TargetLine, RankLine, FinalLine, most_arrival}
+use Rattle.fork_text.specs.Field.{most_number}
 use Rattle.fork_listing.specs.Targets.{arrival_of, ended_at, IsParent, IsInPlace}
 use Rattle.fork_listing.specs.Ranks.{rows_of, score_of, score_in, score_at, RanksBehind, rank_before, final_of, IsChosen}
 use Rattle.fork_listing.specs.Ranking.{IsRanking}

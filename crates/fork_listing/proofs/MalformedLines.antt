@@ -10,7 +10,8 @@ use Rattle.sip_lex.proofs.Splits.{pieces_lack}
 use Rattle.fork_listing.specs.declared.draft.Phase.{Phase}
 use Rattle.fork_listing.specs.Line.{Line, line_text}
 use Rattle.fork_listing.specs.Reading.{read_line}
-use Rattle.fork_listing.specs.Text.{Listing, ended, lines_text, phase_after, Draft, no_draft, with_line, in_phase, drafted_line, drafted, listing_in, or_line, with_next, read_from, read_listing}
+use Rattle.fork_listing.specs.Text.{Listing, lines_text, phase_after, Draft, no_draft, with_line, in_phase, drafted_line, drafted, listing_in, or_line, with_next, read_from, read_listing}
+use Rattle.fork_text.specs.RuleLines.{ended}
 use Rattle.fork_listing.specs.Spelled.{IsLine, IsSpelledBy, drafted_lines, IsNoneDue, RefusedByFirst}
 use Rattle.fork_listing.proofs.SpelledLines.{line_read, line_found, line_lacks}
 

@@ -5,7 +5,7 @@ use Rattle.std.specs.List.{list_any}
 use Rattle.std.specs.Ordering.{is_eq}
 use Rattle.std.specs.BTreeSet.{BTreeSet, contains, IsEmpty}
 use Rattle.std.specs.BTreeMap.{is_at}
-use Rattle.std.proofs.lemmas.Bool.{eqb-true, eq-eqb, ltb-true}
+use Rattle.std.proofs.lemmas.Bool.{false_from_ne_true, eqb-true, eq-eqb, ltb-true}
 use Rattle.fork_listing.specs.Near.{Notes, Holds}
 
 at_step : (a q : ℕ) (lt eq : Bool) → (eq ≡ true → a ≡ q) → is_eq (cond lt Less (cond eq Equal Greater)) ≡ true → a ≡ q
@@ -16,13 +16,9 @@ at_step a q false false h e = absurd cc
 at_same : (a q : ℕ) → is_at (nat_cmp a) q ≡ true → a ≡ q
 at_same a q = at_step a q (nat_lt a q) (eqb a q) (eqb-true a q)
 
-not_true : (b : Bool) → (b ≡ true → ⊥) → b ≡ false
-not_true true never = absurd (never refl)
-not_true false never = refl
-
 at_self : (a : ℕ) → is_at (nat_cmp a) a ≡ true
 at_self a =
-    let lt : nat_lt a a ≡ false = not_true _ (λ e. let h : a < a = ltb-true a a e in omega arith) in
+    let lt : nat_lt a a ≡ false = false_from_ne_true _ (λ e. let h : a < a = ltb-true a a e in omega arith) in
     let eq : eqb a a ≡ true = eq-eqb a a refl in
     ap (λ t. is_eq (cond t Less (cond (eqb a a) Equal Greater))) lt ∙ ap (λ t. is_eq (cond t Equal Greater)) eq
 

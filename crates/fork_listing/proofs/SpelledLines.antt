@@ -1,18 +1,16 @@
 -- A line is read exactly where it is the spelling of a line.
-use Rattle.std.proofs.Common.{◌≡◌, ℕ, ◌<◌, ◌≤◌, Bool, true, false, cond, eqb, List, [], ◌∷◌, ◌++◌, map, length, Some, None, refl, sym, ap, subst, ◌∙◌, arith, append_assoc, append-nil}
-use Rattle.std.specs.Prelude.{not, bytes_eq, codes, option_and_then, All}
+use Rattle.std.proofs.Common.{◌≡◌, ℕ, ◌≤◌, Bool, true, false, eqb, List, ◌∷◌, ◌++◌, Some, None, refl, ap, ◌∙◌, arith}
+use Rattle.std.specs.Prelude.{not, bytes_eq, codes, option_and_then}
 use Rattle.std.specs.Option.{option_map}
-use Rattle.std.specs.List.{slice_split, flat_map, join_with_byte, list_all}
+use Rattle.std.specs.List.{list_all}
 use Rattle.std.specs.Fmt.{decimal}
 use Rattle.std.proofs.lemmas.Bool.{eqb-false}
-use Rattle.std.proofs.lemmas.List.Elements.{All-head, All-tail}
-use Rattle.std.proofs.lemmas.List.Splits.{join_with_byte-slice_split, length-slice_split}
 use Rattle.std.proofs.lemmas.Slice.Eq.{bytes_eq-Decides}
 use Rattle.sip_lex.specs.Cut.{is, Lacks}
 use Rattle.sip_lex.specs.Number.{plain_number_within}
-use Rattle.sip_lex.proofs.Cuts.{cut_again, Lacks-append, Lacks-pass}
-use Rattle.fork_rank.specs.Preferred.{IsPreferredList}
+use Rattle.sip_lex.proofs.Cuts.{Lacks-append, Lacks-pass}
 use Rattle.fork_model.specs.Table.{most_targets}
+use Rattle.fork_text.proofs.laws.Preferred.{preferred_read, preferred_found, list_lacks}
 use Rattle.fork_listing.specs.declared.line.Word.{Word}
 use Rattle.fork_listing.specs.declared.line.Word.TheVariants as word
 use Rattle.fork_listing.specs.declared.line.Version.{Version}
@@ -22,93 +20,14 @@ use Rattle.fork_listing.specs.declared.line.End.TheVariants.{Stored, Taken, Sile
 use Rattle.fork_listing.specs.declared.line.Target.{Target}
 use Rattle.fork_listing.specs.declared.line.Ranked.{Ranked}
 use Rattle.fork_listing.specs.declared.line.Final.{Final}
-use Rattle.fork_listing.specs.Line.{Line, ForkLine, PreferLine, DepthLine, TargetLine, RankLine, FinalLine, list_text, version_text, number_text, how_text, end_text, line_text, most_q, most_number, most_arrival, most_listed}
-use Rattle.fork_listing.specs.Reading.{word_of, before, numbers_onto, is_preferred_list, preferred_if, read_preferred, read_status, read_parent, read_version, read_count, read_end, target_with, read_target, ranked_with, read_ranked, final_with, read_final, read_fork, read_rest, read_line}
+use Rattle.fork_listing.specs.Line.{Line, ForkLine, PreferLine, DepthLine, TargetLine, RankLine, FinalLine, version_text, number_text, how_text, end_text, line_text, most_arrival, most_listed}
+use Rattle.fork_text.specs.Preferred.{read_preferred}
+use Rattle.fork_text.specs.Field.{most_q, most_number, before}
+use Rattle.fork_listing.specs.Reading.{word_of, read_status, read_parent, read_version, read_count, read_end, target_with, read_target, ranked_with, read_ranked, final_with, read_final, read_fork, read_rest, read_line}
 use Rattle.fork_listing.specs.Spelled.{IsTargetLine, IsRankLine, IsFinalLine, IsLine, IsSpelledBy, IsEnd}
-use Rattle.fork_listing.proofs.NumberLaws.{number_read, number_spelled, decimal_lacks}
-use Rattle.fork_listing.proofs.PreferredLists.{preferred_passes, preferred_is}
-use Rattle.fork_listing.proofs.Pieces.{pieces-cut}
-use Rattle.fork_listing.proofs.SpelledParts.{some_is, found_map, found_then, found_if, found_one, before_read, before_found, status_read, status_found, count_read, count_found, most_listed_small, no_dash, parent_read, parent_found, parent_lacks, version_found, end_read, end_found}
-
--- a list of statuses
-abbrev AreSmall : List ℕ → Type 0
-AreSmall ns = All (λ n. (400 ≤ n) × (n < 500)) ns
-
-split_list : (n : ℕ) (ns : List ℕ) → AreSmall (n ∷ ns) → slice_split (is 44) (list_text (n ∷ ns)) ≡ map decimal (n ∷ ns)
-split_list n [] small =
-    let h = All-head (λ m. (400 ≤ m) × (m < 500)) n [] small in
-    pieces-cut 44 (list_text (n ∷ [])) (decimal n, None) (sym (cut_again 44 (decimal n) None (decimal_lacks 44 n refl (omega arith))))
-split_list n (m ∷ ns) small =
-    let h = All-head (λ k. (400 ≤ k) × (k < 500)) n (m ∷ ns) small in
-    pieces-cut 44 (list_text (n ∷ m ∷ ns)) (decimal n, Some (list_text (m ∷ ns))) (sym (cut_again 44 (decimal n) (Some (list_text (m ∷ ns))) (decimal_lacks 44 n refl (omega arith))))
-    ∙ ap (λ (ps : List (List ℕ)). decimal n ∷ ps) (split_list m ns (All-tail (λ k. (400 ≤ k) × (k < 500)) n (m ∷ ns) small))
-
-numbers_read : (before ns : List ℕ) → AreSmall ns → numbers_onto before (map decimal ns) ≡ Some (before ++ ns)
-numbers_read before [] small = ap Some (sym (append-nil before))
-numbers_read before (n ∷ ns) small =
-    let h = All-head (λ k. (400 ≤ k) × (k < 500)) n ns small in
-    ap (option_and_then (λ m. numbers_onto (before ++ m ∷ []) (map decimal ns))) (number_read 499 n (omega arith) (omega arith))
-    ∙ numbers_read (before ++ n ∷ []) ns (All-tail (λ k. (400 ≤ k) × (k < 500)) n ns small)
-    ∙ ap Some (append_assoc before (n ∷ []) ns)
-
-preferred_read : (statuses : List ℕ) → IsPreferredList statuses → read_preferred (list_text statuses) ≡ Some statuses
-preferred_read [] h = refl
-preferred_read (n ∷ ns) h =
-    let first = All-head (λ k. (400 ≤ k) × (k < 500)) n ns h.client_errors in
-    let read : numbers_onto [] (slice_split (is 44) (list_text (n ∷ ns))) ≡ Some (n ∷ ns) = ap (numbers_onto []) (split_list n ns h.client_errors) ∙ numbers_read [] (n ∷ ns) h.client_errors in
-    ap (λ t. cond t (Some []) (option_and_then preferred_if (numbers_onto [] (slice_split (is 44) (list_text (n ∷ ns)))))) (no_dash n (flat_map (λ m. 44 ∷ decimal m) ns) (omega arith))
-    ∙ ap (option_and_then preferred_if) read
-    ∙ ap (λ t. cond t (Some (n ∷ ns)) None) (preferred_passes (n ∷ ns) h)
-
--- the numbers between the commas are spelled there, one a piece
-record Pieces (before : List ℕ) (pieces : List (List ℕ)) (out : List ℕ) : Type 0 where
-  more : List ℕ
-  all : out ≡ before ++ more
-  spelled : pieces ≡ map decimal more
-
-pieces_found : (before : List ℕ) (pieces : List (List ℕ)) (out : List ℕ) → numbers_onto before pieces ≡ Some out → Pieces before pieces out
-pieces_found before [] out e = record { more = []; all = sym (some_is e) ∙ sym (append-nil before); spelled = refl }
-pieces_found before (piece ∷ pieces) out e =
-    found_then (λ n. numbers_onto (before ++ n ∷ []) pieces) (plain_number_within 499 piece) out (Pieces before (piece ∷ pieces) out)
-    (λ n at is.
-    let h = number_spelled 499 piece n (omega arith) at in
-    let rest = pieces_found (before ++ n ∷ []) pieces out is in
-    record {
-      more = n ∷ rest.more;
-      all = rest.all ∙ append_assoc before (n ∷ []) rest.more;
-      spelled = ap (λ (p : List ℕ). p ∷ pieces) h.spelled ∙ ap (λ (ps : List (List ℕ)). decimal n ∷ ps) rest.spelled;
-    })
-    e
-
-joined : (n : ℕ) (ns : List ℕ) → join_with_byte 44 (map decimal (n ∷ ns)) ≡ list_text (n ∷ ns)
-joined n [] = sym (append-nil (decimal n))
-joined n (m ∷ ns) = ap (λ (text : List ℕ). decimal n ++ 44 ∷ text) (joined m ns)
-
-list_found : (text out : List ℕ) → numbers_onto [] (slice_split (is 44) text) ≡ Some out → text ≡ list_text out
-list_found text out e = spelled (pieces_found [] (slice_split (is 44) text) out e)
-  where
-    spelled : Pieces [] (slice_split (is 44) text) out → text ≡ list_text out
-    spelled found = by_more found.more found.all found.spelled
-      where
-        by_more : (more : List ℕ) → out ≡ more → slice_split (is 44) text ≡ map decimal more → text ≡ list_text out
-        by_more [] all pieces = absurd (let n : length (slice_split (is 44) text) ≡ 0 = ap length pieces in omega (arith, n, length-slice_split (is 44) text))
-        by_more (n ∷ ns) all pieces =
-            sym (join_with_byte-slice_split 44 text) ∙ ap (join_with_byte 44) pieces ∙ joined n ns ∙ ap list_text (sym all)
-
-preferred_found : (text statuses : List ℕ) → read_preferred text ≡ Some statuses → (text ≡ list_text statuses) × IsPreferredList statuses
-preferred_found text statuses e = by_dash (bytes_eq text (codes "-")) (bytes_eq-Decides text (codes "-")).0 e
-  where
-    by_dash : (b : Bool) → (b ≡ true → text ≡ codes "-") → cond b (Some []) (option_and_then preferred_if (numbers_onto [] (slice_split (is 44) text))) ≡ Some statuses → (text ≡ list_text statuses) × IsPreferredList statuses
-    by_dash true dash e =
-        let P : List ℕ → Type 0 = λ out. (text ≡ list_text out) × IsPreferredList out in
-        subst P (some_is e) (dash refl, preferred_is [] refl)
-    by_dash false dash e =
-        found_then preferred_if (numbers_onto [] (slice_split (is 44) text)) statuses ((text ≡ list_text statuses) × IsPreferredList statuses)
-        (λ out at is.
-        let g = found_if (is_preferred_list out) out statuses is in
-        let P : List ℕ → Type 0 = λ xs. (text ≡ list_text xs) × IsPreferredList xs in
-        subst P g.1 (list_found text out at, preferred_is out g.0))
-        e
+use Rattle.sip_lex.proofs.laws.Numbers.{number_read, number_spelled, decimal_lacks}
+use Rattle.fork_listing.proofs.SpelledParts.{status_read, status_found, count_read, count_found, most_listed_small, parent_read, parent_found, parent_lacks, version_found, end_read, end_found}
+use Rattle.fork_text.proofs.laws.Field.{found_map, found_then, found_one, before_read, before_found}
 
 -- ---- what is spelled is read
 
@@ -299,19 +218,6 @@ line_found text line e =
     e
 
 -- ---- no LF stands in a line
-
-list_lacks : (statuses : List ℕ) → AreSmall statuses → Lacks 10 (list_text statuses)
-list_lacks [] small = (eqb-false 45 10 refl, tt)
-list_lacks (n ∷ ns) small =
-    let h = All-head (λ k. (400 ≤ k) × (k < 500)) n ns small in
-    Lacks-append 10 (decimal n) (flat_map (λ m. 44 ∷ decimal m) ns) (decimal_lacks 10 n refl (omega arith))
-    (more ns (All-tail (λ k. (400 ≤ k) × (k < 500)) n ns small))
-  where
-    more : (ms : List ℕ) → AreSmall ms → Lacks 10 (flat_map (λ m. 44 ∷ decimal m) ms)
-    more [] small = tt
-    more (m ∷ ms) small =
-        let h = All-head (λ k. (400 ≤ k) × (k < 500)) m ms small in
-        (eqb-false 44 10 refl, Lacks-append 10 (decimal m) (flat_map (λ k. 44 ∷ decimal k) ms) (decimal_lacks 10 m refl (omega arith)) (more ms (All-tail (λ k. (400 ≤ k) × (k < 500)) m ms small)))
 
 version_lacks : (version : Version) → Lacks 10 (version_text version)
 version_lacks First = (eqb-false 49 10 refl, tt)

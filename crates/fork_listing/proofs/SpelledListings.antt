@@ -16,10 +16,11 @@ use Rattle.fork_listing.specs.declared.draft.Phase.{Phase}
 use Rattle.fork_listing.specs.declared.draft.Phase.TheVariants.{AtFork, AtPrefer, AtDepth, AtTargets, AtRanks, AtEnd}
 use Rattle.fork_listing.specs.Line.{Line, ForkLine, PreferLine, DepthLine, TargetLine, RankLine, FinalLine, line_text}
 use Rattle.fork_listing.specs.Reading.{read_line}
-use Rattle.fork_listing.specs.Text.{Listing, rule_lines, lines_of, ended, lines_text, listing_text, targets_due, Draft, usual_rules, no_draft, in_phase, drafted_line, listing_in, or_line, with_next, read_from, read_listing}
+use Rattle.fork_listing.specs.Text.{Listing, rule_lines, lines_of, lines_text, listing_text, targets_due, Draft, no_draft, in_phase, drafted_line, listing_in, or_line, with_next, read_from, read_listing}
+use Rattle.fork_text.specs.RuleLines.{ended, usual_rules}
 use Rattle.fork_listing.specs.Spelled.{IsLine, IsSpelledBy, IsUsualElse, IsListing, IsTextOf, ReadExactly, drafted_lines}
 use Rattle.fork_listing.proofs.Pieces.{read_from-next}
-use Rattle.fork_listing.proofs.SpelledParts.{some_is}
+use Rattle.std.proofs.lemmas.Option.{same_Some}
 use Rattle.fork_listing.proofs.SpelledLines.{line_read, line_found, line_lacks}
 
 abbrev found_as : Listing → Result Listing ℕ
@@ -45,7 +46,7 @@ read_next number draft line more h =
 read_lines : (number : ℕ) (draft : Draft) (lines : List Line) (more : List ℕ) (next : Draft) → AllByRecursion IsLine lines → drafted_lines draft lines ≡ Some next
     → read_from number draft (slice_split (is 10) (lines_text lines ++ more)) ≡ read_from (number + length lines) next (slice_split (is 10) more)
 read_lines number draft [] more next all e =
-    let same : draft ≡ next = some_is e in
+    let same : draft ≡ next = same_Some _ _ e in
     let none : number ≡ number + 0 = omega arith in
     ap (λ (d : Draft). read_from number d (slice_split (is 10) more)) same ∙ ap (λ n. read_from n next (slice_split (is 10) more)) none
 read_lines number draft (line ∷ lines) more next all e =
@@ -65,7 +66,7 @@ read_lines number draft (line ∷ lines) more next all e =
 
 pub drafted_append : (draft : Draft) (lines more : List Line) (next : Draft) → drafted_lines draft lines ≡ Some next
     → drafted_lines draft (lines ++ more) ≡ drafted_lines next more
-drafted_append draft [] more next e = ap (λ (d : Draft). drafted_lines d more) (some_is e)
+drafted_append draft [] more next e = ap (λ (d : Draft). drafted_lines d more) (same_Some _ _ e)
 drafted_append draft (line ∷ lines) more next e = one (drafted_line draft line) e (λ d due. drafted_append d lines more next due)
   where
     one : (o : Option Draft) → option_and_then (λ d. drafted_lines d lines) o ≡ Some next
@@ -205,9 +206,9 @@ at_end : (draft : Draft) (last : Final) (lines : List Line) (next : Draft) (l : 
     → drafted_lines (in_phase draft (AtEnd last)) lines ≡ Some next → listing_in next next.phase ≡ Some l
     → (lines ≡ []) × (listing_by draft draft.targets draft.ranks last ≡ l)
 at_end draft last [] next l due end =
-    let same : in_phase draft (AtEnd last) ≡ next = some_is due in
+    let same : in_phase draft (AtEnd last) ≡ next = same_Some _ _ due in
     let here : listing_in (in_phase draft (AtEnd last)) (AtEnd last) ≡ Some l = ap (λ (d : Draft). listing_in d d.phase) same ∙ end in
-    (refl, some_is here)
+    (refl, same_Some _ _ here)
 at_end draft last (ForkLine version count ∷ lines) next l due end = absurd cc
 at_end draft last (PreferLine statuses ∷ lines) next l due end = absurd cc
 at_end draft last (DepthLine depth ∷ lines) next l due end = absurd cc
@@ -218,7 +219,7 @@ at_end draft last (FinalLine other ∷ lines) next l due end = absurd cc
 at_ranks : (draft : Draft) (lines : List Line) (next : Draft) (l : Listing)
     → drafted_lines (in_phase draft AtRanks) lines ≡ Some next → listing_in next next.phase ≡ Some l → RanksFound draft lines l
 at_ranks draft [] next l due end =
-    let same : in_phase draft AtRanks ≡ next = some_is due in
+    let same : in_phase draft AtRanks ≡ next = same_Some _ _ due in
     let here : None ≡ Some l = ap (λ (d : Draft). listing_in d d.phase) same ∙ end in
     absurd cc
 at_ranks draft (RankLine ranked ∷ lines) next l due end =
@@ -255,7 +256,7 @@ at_more : (draft : Draft) (count : ℕ) (lines : List Line) (next : Draft) (l : 
     → ((d : Draft) (others : List Line) → drafted_lines (in_phase d (targets_due count)) others ≡ Some next → TargetsFound d count others l)
     → TargetsFound draft (suc count) lines l
 at_more draft count [] next l due end again =
-    let same : in_phase draft (AtTargets (suc count)) ≡ next = some_is due in
+    let same : in_phase draft (AtTargets (suc count)) ≡ next = same_Some _ _ due in
     let here : None ≡ Some l = ap (λ (d : Draft). listing_in d d.phase) same ∙ end in
     absurd cc
 at_more draft count (TargetLine target ∷ lines) next l due end again =
@@ -312,7 +313,7 @@ behind_rules version count rules lines l usual found =
 -- no listing ends here
 ends_never : (draft next : Draft) (l : Listing) → listing_in draft draft.phase ≡ None → Some draft ≡ Some next → listing_in next next.phase ≡ Some l → ⊥
 ends_never draft next l none due end =
-    let wrong : None ≡ Some l = sym none ∙ ap (λ (d : Draft). listing_in d d.phase) (some_is due) ∙ end in
+    let wrong : None ≡ Some l = sym none ∙ ap (λ (d : Draft). listing_in d d.phase) (same_Some _ _ due) ∙ end in
     cc
 
 abbrev forked : Version → ℕ → Draft

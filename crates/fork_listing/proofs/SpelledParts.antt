@@ -1,87 +1,34 @@
 -- What is spelled in a line is read, and what is read is spelled so: the parts of a line.
-use Rattle.std.proofs.Common.{◌≡◌, ℕ, ◌^◌, ◌<◌, ◌≤◌, Bool, true, false, cond, eqb, List, [], ◌∷◌, ◌++◌, length, Option, Some, None, refl, sym, ap, subst, ◌∙◌, arith, inl, inr, append-nil}
-use Rattle.std.specs.Prelude.{nat_le, bytes_eq, codes, option_and_then, ◌&&◌, ◌||◌}
+use Rattle.std.proofs.Common.{◌≡◌, ℕ, ◌^◌, ◌<◌, ◌≤◌, Bool, true, false, cond, eqb, List, [], ◌∷◌, ◌++◌, Option, Some, None, refl, sym, ap, subst, ◌∙◌, arith, inl, inr, append-nil}
+use Rattle.std.specs.Prelude.{bytes_eq, codes, option_and_then, ◌&&◌, ◌||◌}
 use Rattle.std.specs.Char.{is_ascii_digit}
 use Rattle.std.specs.Option.{option_map}
 use Rattle.std.specs.Fmt.{decimal}
-use Rattle.std.proofs.lemmas.Bool.{le-leb, leb-true, eqb-false, eqb-true, and_parts}
+use Rattle.std.proofs.lemmas.Bool.{eqb-false, eqb-true, and_parts}
 use Rattle.std.proofs.lemmas.Slice.Eq.{bytes_eq-Decides}
-use Rattle.std.proofs.lemmas.Fmt.{decimal_nonempty}
 use Rattle.sip_lex.specs.Cut.{cut, is, behind, Lacks}
 use Rattle.sip_lex.specs.Number.{plain_number_within}
-use Rattle.sip_lex.proofs.Cuts.{cut_again, cut_joins}
+use Rattle.sip_lex.proofs.Cuts.{cut_joins}
+use Rattle.fork_text.proofs.laws.Field.{found_map, found_then, found_one, before_read, before_found, no_dash, number_from_read, number_from_found}
+use Rattle.std.proofs.lemmas.Option.{cond_some}
 use Rattle.fork_listing.specs.declared.line.Version.{Version}
 use Rattle.fork_listing.specs.declared.line.Version.TheVariants.{First, Second, Third}
 use Rattle.fork_listing.specs.declared.line.End.{End}
 use Rattle.fork_listing.specs.declared.line.End.TheVariants.{Stored, Taken, Silent, Never}
-use Rattle.fork_listing.specs.Line.{version_text, number_text, how_text, end_text, most_number, most_arrival, most_listed}
-use Rattle.fork_listing.specs.Reading.{before_cut, before, least, read_status, read_parent, read_version, read_count, may_be_assumed, stored_as, read_stored, read_end_cut, read_end}
+use Rattle.fork_listing.specs.Line.{version_text, number_text, how_text, end_text, most_arrival, most_listed}
+use Rattle.fork_text.specs.Field.{most_number, before}
+use Rattle.fork_listing.specs.Reading.{read_status, read_parent, read_version, read_count, may_be_assumed, stored_as, read_stored, read_end_cut, read_end}
 use Rattle.fork_listing.specs.Spelled.{IsStatus, IsHow, IsEnd, IsNumberOrNone}
-use Rattle.fork_listing.proofs.NumberLaws.{number_read, number_spelled, decimal_lacks}
-
-pub some_is : {X : Type 0} {x y : X} → Some x ≡ Some y → x ≡ y
-some_is e = cc
-
-module _ {X : Type 0} where
-  pub found_map : {Y : Type 0} (f : X → Y) (o : Option X) (y : Y) (P : Y → Type 0) → ((x : X) → o ≡ Some x → P (f x)) → option_map f o ≡ Some y → P y
-  found_map f None y P k e = absurd cc
-  found_map f (Some x) y P k e = subst P (some_is e) (k x refl)
-
-  pub found_then : {Y : Type 0} (f : X → Option Y) (o : Option X) (y : Y) (P : Type 0) → ((x : X) → o ≡ Some x → f x ≡ Some y → P) → option_and_then f o ≡ Some y → P
-  found_then f None y P k e = absurd cc
-  found_then f (Some x) y P k e = k x refl e
-
-  pub found_if : (b : Bool) (x y : X) → cond b (Some x) None ≡ Some y → (b ≡ true) × (x ≡ y)
-  found_if true x y e = (refl, some_is e)
-  found_if false x y e = absurd cc
-
-  -- one of two, by a test
-  pub found_one : (b : Bool) (x y : X) (r : Option X) (P : X → Type 0) → (b ≡ true → P x) → (r ≡ Some y → P y) → cond b (Some x) r ≡ Some y → P y
-  found_one true x y r P same others e = subst P (some_is e) (same refl)
-  found_one false x y r P same others e = others e
-
-  -- what stands before a space
-  pub before_read : (read : List ℕ → Option X) (front rest : List ℕ) (x : X) → Lacks 32 front → read front ≡ Some x → before read (front ++ 32 ∷ rest) ≡ Some (x, rest)
-  before_read read front rest x lacks e =
-      ap (before_cut read) (cut_again 32 front (Some rest) lacks) ∙ ap (option_map (λ y. (y, rest))) e
-
-  pub before_found : (read : List ℕ → Option X) (text : List ℕ) (p : X × List ℕ) → before read text ≡ Some p → (front : List ℕ) × (text ≡ front ++ 32 ∷ p.1) × (read front ≡ Some p.0)
-  before_found read text p e = parts (cut (is 32) text) (cut_joins 32 text) e
-    where
-      parts : (c : List ℕ × Option (List ℕ)) → text ≡ c.0 ++ behind 32 c.1 → before_cut read c ≡ Some p → (front : List ℕ) × (text ≡ front ++ 32 ∷ p.1) × (read front ≡ Some p.0)
-      parts (front, None) whole e = absurd cc
-      parts (front, Some rest) whole e = by (read front) refl e
-        where
-          by : (o : Option X) → read front ≡ o → option_map (λ x. (x, rest)) o ≡ Some p → (front : List ℕ) × (text ≡ front ++ 32 ∷ p.1) × (read front ≡ Some p.0)
-          by None is e = absurd cc
-          by (Some x) is e =
-              let same : (x, rest) ≡ p = some_is e in
-              let P : X × List ℕ → Type 0 = λ q. (front : List ℕ) × (text ≡ front ++ 32 ∷ q.1) × (read front ≡ Some q.0) in
-              subst P same (front, whole, is)
-
-pub not_true : (b : Bool) → (b ≡ true → ⊥) → b ≡ false
-not_true true never = absurd (never refl)
-not_true false never = refl
+use Rattle.sip_lex.proofs.laws.Numbers.{number_read, number_spelled, decimal_lacks}
 
 pub status_read : (n : ℕ) → IsStatus n → read_status (decimal n) ≡ Some n
-status_read n h =
-    ap (option_and_then (least 300)) (number_read 699 n (omega arith) (omega arith)) ∙ ap (λ t. cond t (Some n) None) (le-leb 300 n h.0)
+status_read n h = number_from_read 300 699 n h.0 (omega arith) (omega arith)
 
 pub status_found : (digits : List ℕ) (n : ℕ) → read_status digits ≡ Some n → (digits ≡ decimal n) × IsStatus n
-status_found digits n e =
-    found_then (least 300) (plain_number_within 699 digits) n ((digits ≡ decimal n) × IsStatus n)
-    (λ m at is.
-    let h = number_spelled 699 digits m (omega arith) at in
-    let g = found_if (nat_le 300 m) m n is in
-    let Q : ℕ → Type 0 = λ k. (digits ≡ decimal k) × IsStatus k in
-    let low : 300 ≤ m = leb-true _ _ g.0 in
-    let high : m ≤ 699 = h.within in
-    subst Q g.1 (h.spelled, (low, omega arith)))
-    e
+status_found digits n e = let h = number_from_found 300 699 digits n (omega arith) e in (h.0, (h.1, omega (arith, h.2)))
 
 pub count_read : (version : Version) (n : ℕ) → (1 ≤ n) × (n ≤ most_listed version) → n < 2 ^ 64 → read_count version (decimal n) ≡ Some n
-count_read version n h small =
-    ap (option_and_then (least 1)) (number_read (most_listed version) n h.1 small) ∙ ap (λ t. cond t (Some n) None) (le-leb 1 n h.0)
+count_read version n h small = number_from_read 1 (most_listed version) n h.0 h.1 small
 
 pub most_listed_small : (version : Version) → most_listed version ≤ 256
 most_listed_small First = omega arith
@@ -90,25 +37,8 @@ most_listed_small Third = omega arith
 
 pub count_found : (version : Version) (digits : List ℕ) (n : ℕ) → read_count version digits ≡ Some n → (digits ≡ decimal n) × ((1 ≤ n) × (n ≤ most_listed version))
 count_found version digits n e =
-    found_then (least 1) (plain_number_within (most_listed version) digits) n ((digits ≡ decimal n) × ((1 ≤ n) × (n ≤ most_listed version)))
-    (λ m at is.
     let bound : most_listed version ≤ 256 = most_listed_small version in
-    let h = number_spelled (most_listed version) digits m (omega arith) at in
-    let g = found_if (nat_le 1 m) m n is in
-    let Q : ℕ → Type 0 = λ k. (digits ≡ decimal k) × ((1 ≤ k) × (k ≤ most_listed version)) in
-    subst Q g.1 (h.spelled, (leb-true _ _ g.0, h.within)))
-    e
-
--- a number is not the dash
-front_differs : (front back : List ℕ) → Lacks 45 front → 0 < length front → front ++ back ≡ 45 ∷ [] → ⊥
-front_differs [] back lacks some same = absurd (omega arith)
-front_differs (b ∷ front) back lacks some same = lacks.0 (let h : b ≡ 45 = cc in h)
-
-pub no_dash : (n : ℕ) (back : List ℕ) → n < 2 ^ 64 → bytes_eq (decimal n ++ back) (codes "-") ≡ false
-no_dash n back small =
-    not_true _ (λ e.
-    let same : decimal n ++ back ≡ codes "-" = (bytes_eq-Decides (decimal n ++ back) (codes "-")).0 e in
-    front_differs (decimal n) back (decimal_lacks 45 n refl small) (decimal_nonempty n small) same)
+    let h = number_from_found 1 (most_listed version) digits n (omega arith) e in (h.0, (h.1, h.2))
 
 pub parent_read : (parent : Option ℕ) → IsNumberOrNone parent → read_parent (number_text parent) ≡ Some parent
 parent_read None h = refl
@@ -167,7 +97,7 @@ how_found status arrival how end e =
     found_one (bytes_eq how (codes "received")) (Stored status arrival true) end _ (IsStoredAs status arrival how)
     (λ t. record { received = true; same = refl; spelled = (bytes_eq-Decides how (codes "received")).0 t; right = tt })
     (λ r.
-    let g = found_if (bytes_eq how (codes "assumed") && may_be_assumed status) (Stored status arrival false) end r in
+    let g = cond_some (bytes_eq how (codes "assumed") && may_be_assumed status) (Stored status arrival false) end r in
     let both = and_parts (bytes_eq how (codes "assumed")) (may_be_assumed status) g.0 in
     record { received = false; same = sym g.1; spelled = (bytes_eq-Decides how (codes "assumed")).0 both.0; right = assumed_is status both.1 })
     e
@@ -224,7 +154,7 @@ end_found text end e = parts (cut (is 32) text) (cut_joins 32 text) e
   where
     parts : (c : List ℕ × Option (List ℕ)) → text ≡ c.0 ++ behind 32 c.1 → read_end_cut c ≡ Some end → IsEndText text end
     parts (word, None) whole e =
-        let g = found_if (bytes_eq word (codes "never")) Never end e in
+        let g = cond_some (bytes_eq word (codes "never")) Never end e in
         let same : text ≡ codes "never" = whole ∙ append-nil word ∙ (bytes_eq-Decides word (codes "never")).0 g.0 in
         let P : End → Type 0 = IsEndText text in
         subst P g.1 (same, tt)

@@ -9,7 +9,7 @@ use Rattle.fork_model.specs.Core.{Core, opening_core, core_after}
 use Rattle.fork_listing.specs.declared.checker.Verdict.{Verdict}
 use Rattle.fork_listing.specs.declared.checker.CheckFault.{CheckFault}
 use Rattle.fork_listing.specs.declared.checker.CheckFault.TheVariants.{Line, NoMemory}
-use Rattle.fork_listing.specs.Line.{most_q}
+use Rattle.fork_text.specs.Field.{most_q}
 use Rattle.fork_listing.specs.Text.{Listing, read_listing}
 use Rattle.fork_listing.specs.Spelled.{IsTextOf, IsFirstMalformed}
 use Rattle.fork_listing.specs.Checking.{IsRight, IsChecked, verdict_of}

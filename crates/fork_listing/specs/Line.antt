@@ -1,10 +1,10 @@
 -- The lines of a listing: its version and how many targets it has, the rules, a line for each branch, a line for each
 -- stored answer, and the answer that went up (RFC 3261 sections 16.5 to 16.7). Words are separated by one space,
 -- numbers are decimal without leading zeros.
-use Rattle.std.specs.Prelude.{ℕ, Bool, true, false, List, [], ◌∷◌, ◌++◌, Option, Some, None, codes}
-use Rattle.std.specs.List.{flat_map}
+use Rattle.std.specs.Prelude.{ℕ, Bool, true, false, List, ◌∷◌, ◌++◌, Option, Some, None, codes}
 use Rattle.std.specs.Fmt.{decimal}
 use Rattle.fork_model.specs.Table.{most_targets}
+use Rattle.fork_text.specs.RuleLines.{prefer_text, depth_text}
 use Rattle.fork_listing.specs.declared.line.Version.{Version}
 use Rattle.fork_listing.specs.declared.line.Version.TheVariants.{First, Second, Third}
 use Rattle.fork_listing.specs.declared.line.End.{End}
@@ -20,11 +20,6 @@ pub data Line : Type 0 where
   TargetLine : Target → Line
   RankLine : Ranked → Line
   FinalLine : Final → Line
-
--- `-` for none, else the numbers with commas between them
-abbrev pub list_text : List ℕ → List ℕ
-list_text [] = 45 ∷ []
-list_text (n ∷ ns) = decimal n ++ flat_map (λ m. 44 ∷ decimal m) ns
 
 abbrev pub version_text : Version → List ℕ
 version_text First = codes "1"
@@ -49,21 +44,14 @@ end_text Never = codes "never"
 -- how a line is spelled
 abbrev pub line_text : Line → List ℕ
 line_text (ForkLine version count) = codes "fork " ++ (version_text version ++ 32 ∷ decimal count)
-line_text (PreferLine statuses) = codes "prefer " ++ list_text statuses
-line_text (DepthLine depth) = codes "depth " ++ decimal depth
+line_text (PreferLine statuses) = prefer_text statuses
+line_text (DepthLine depth) = depth_text depth
 line_text (TargetLine target) =
     codes "target "
     ++ (decimal target.number ++ 32 ∷ (number_text target.parent ++ 32 ∷ (decimal target.q ++ 32 ∷ end_text target.end)))
 line_text (RankLine ranked) =
     codes "rank " ++ (decimal ranked.status ++ 32 ∷ (decimal ranked.number ++ 32 ∷ decimal ranked.arrival))
 line_text (FinalLine last) = codes "final " ++ (decimal last.status ++ 32 ∷ number_text last.number)
-
--- q is in thousandths
-abbrev pub most_q : ℕ
-most_q = 1000
-
-abbrev pub most_number : ℕ
-most_number = 65535
 
 abbrev pub most_arrival : ℕ
 most_arrival = 4294967295

@@ -1,10 +1,11 @@
 -- Reading one line: the word before its first space says which line it is.
-use Rattle.std.specs.Prelude.{ℕ, ◌&&◌, ◌||◌, ◌==◌, nat_lt, nat_le, Bool, true, false, bytes_eq, List, [], ◌∷◌, ◌++◌, length, codes, Option, Some, None, option_and_then, if◌then◌else◌}
+use Rattle.std.specs.Prelude.{ℕ, ◌&&◌, ◌||◌, ◌==◌, Bool, true, false, bytes_eq, List, codes, Option, Some, None, option_and_then, if◌then◌else◌}
 use Rattle.std.specs.Option.{option_map}
-use Rattle.std.specs.List.{list_all, slice_split}
 use Rattle.sip_lex.specs.Cut.{cut, is}
 use Rattle.sip_lex.specs.Number.{plain_number_within}
 use Rattle.fork_model.specs.Table.{most_targets}
+use Rattle.fork_text.specs.Field.{most_q, most_number, before, number_from}
+use Rattle.fork_text.specs.Preferred.{read_preferred}
 use Rattle.fork_listing.specs.declared.line.Word.{Word}
 use Rattle.fork_listing.specs.declared.line.Word.TheVariants as word
 use Rattle.fork_listing.specs.declared.line.Version.{Version}
@@ -14,7 +15,7 @@ use Rattle.fork_listing.specs.declared.line.End.TheVariants.{Stored, Taken, Sile
 use Rattle.fork_listing.specs.declared.line.Target.{Target}
 use Rattle.fork_listing.specs.declared.line.Ranked.{Ranked}
 use Rattle.fork_listing.specs.declared.line.Final.{Final}
-use Rattle.fork_listing.specs.Line.{Line, ForkLine, PreferLine, DepthLine, TargetLine, RankLine, FinalLine, most_q, most_number, most_arrival, most_listed}
+use Rattle.fork_listing.specs.Line.{Line, ForkLine, PreferLine, DepthLine, TargetLine, RankLine, FinalLine, most_arrival, most_listed}
 
 abbrev pub word_of : List ℕ → Option Word
 word_of text =
@@ -26,46 +27,8 @@ word_of text =
     else (if bytes_eq text (codes "final") then Some word.Final
     else None)))))
 
--- what is read before the first space, and what stands behind that
-module _ {X : Type 0} where
-  abbrev pub before_cut : (List ℕ → Option X) → List ℕ × Option (List ℕ) → Option (X × List ℕ)
-  before_cut read (front, None) = None
-  before_cut read (front, Some rest) = option_map (λ x. (x, rest)) (read front)
-
-  abbrev pub before : (List ℕ → Option X) → List ℕ → Option (X × List ℕ)
-  before read text = before_cut read (cut (is 32) text)
-
--- the numbers up to 499 between the commas, behind those read before
-abbrev pub numbers_onto : List ℕ → List (List ℕ) → Option (List ℕ)
-numbers_onto numbers [] = Some numbers
-numbers_onto numbers (piece ∷ pieces) =
-    option_and_then (λ n. numbers_onto (numbers ++ n ∷ []) pieces) (plain_number_within 499 piece)
-
-abbrev pub rises_from : ℕ → List ℕ → Bool
-rises_from n [] = true
-rises_from n (m ∷ ms) = nat_lt n m && rises_from m ms
-
-abbrev pub rises : List ℕ → Bool
-rises [] = true
-rises (n ∷ ns) = rises_from n ns
-
-abbrev pub is_preferred_list : List ℕ → Bool
-is_preferred_list statuses =
-    nat_le (length statuses) 16 && list_all (λ status. nat_le 400 status && nat_lt status 500) statuses && rises statuses
-
-abbrev pub preferred_if : List ℕ → Option (List ℕ)
-preferred_if statuses = if is_preferred_list statuses then Some statuses else None
-
-abbrev pub read_preferred : List ℕ → Option (List ℕ)
-read_preferred text =
-    if bytes_eq text (codes "-") then Some []
-    else option_and_then preferred_if (numbers_onto [] (slice_split (is 44) text))
-
-abbrev pub least : ℕ → ℕ → Option ℕ
-least bound n = if nat_le bound n then Some n else None
-
 abbrev pub read_status : List ℕ → Option ℕ
-read_status digits = option_and_then (least 300) (plain_number_within 699 digits)
+read_status digits = number_from 300 699 digits
 
 abbrev pub read_parent : List ℕ → Option (Option ℕ)
 read_parent text = if bytes_eq text (codes "-") then Some None else option_map Some (plain_number_within most_number text)
@@ -78,7 +41,7 @@ read_version text =
     else None))
 
 abbrev pub read_count : Version → List ℕ → Option ℕ
-read_count version digits = option_and_then (least 1) (plain_number_within (most_listed version) digits)
+read_count version digits = number_from 1 (most_listed version) digits
 
 abbrev pub may_be_assumed : ℕ → Bool
 may_be_assumed status = status == 408 || status == 503

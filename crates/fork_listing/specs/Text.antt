@@ -1,10 +1,11 @@
 -- A whole listing: its lines in their order, each ended by LF, and what they stand for.
-use Rattle.std.specs.Prelude.{◌-◌, ◌==◌, ℕ, suc, Bool, true, false, List, [], ◌∷◌, ◌++◌, map, Option, Some, None, Result, Ok, Err, option_and_then, if◌then◌else◌}
+use Rattle.std.specs.Prelude.{◌-◌, ◌==◌, ℕ, suc, List, [], ◌∷◌, ◌++◌, map, Option, Some, None, Result, Ok, Err, option_and_then, if◌then◌else◌}
 use Rattle.std.specs.Option.{option_map}
 use Rattle.std.specs.List.{slice_split, flat_map}
 use Rattle.sip_lex.specs.Cut.{is}
-use Rattle.fork_rank.specs.Preferred.{usual_preferred}
-use Rattle.fork_model.specs.Table.{Rules, most_targets}
+use Rattle.fork_model.specs.Table.{Rules}
+use Rattle.fork_text.specs.Pieces.{is_empty}
+use Rattle.fork_text.specs.RuleLines.{ended, usual_rules}
 use Rattle.fork_listing.specs.declared.line.Version.{Version}
 use Rattle.fork_listing.specs.declared.line.Version.TheVariants.{First, Second, Third}
 use Rattle.fork_listing.specs.declared.line.Target.{Target}
@@ -34,9 +35,6 @@ abbrev pub lines_of : Listing → List Line
 lines_of l =
     ForkLine l.version l.count
     ∷ (rule_lines l.version l.rules ++ (map TargetLine l.targets ++ (map RankLine l.ranks ++ FinalLine l.last ∷ [])))
-
-abbrev pub ended : List ℕ → List ℕ
-ended line = line ++ 10 ∷ []
 
 abbrev pub lines_text : List Line → List ℕ
 lines_text lines = flat_map (λ line. ended (line_text line)) lines
@@ -81,9 +79,6 @@ pub record Draft : Type 0 where
   pub targets : List Target
   pub ranks : List Ranked
 
-abbrev pub usual_rules : Rules
-usual_rules = record { preferred = usual_preferred; depth = most_targets }
-
 abbrev pub no_draft : Draft
 no_draft = record { phase = AtFork; version = First; count = 0; rules = usual_rules; targets = []; ranks = [] }
 
@@ -105,10 +100,6 @@ drafted_line draft line = option_map (in_phase (with_line draft line)) (phase_af
 -- with one more line, where it is one and is due
 abbrev pub drafted : Draft → List ℕ → Option Draft
 drafted draft text = option_and_then (drafted_line draft) (read_line text)
-
-abbrev pub is_empty : {X : Type 0} → List X → Bool
-is_empty [] = true
-is_empty (x ∷ xs) = false
 
 abbrev pub listing_in : Draft → Phase → Option Listing
 listing_in draft (AtEnd last) = Some (record { version = draft.version; count = draft.count; rules = draft.rules; targets = draft.targets; ranks = draft.ranks; last = last })

@@ -1,14 +1,13 @@
 //! A whole listing, read line by line.
-ghost use Rattle.std.specs.Prelude.{◌≡◌, ◌≤◌, ◌<◌, ◌^◌, ◌++◌, ◌∷◌, [], length, suc, OnOk, IfOk, IfErr, MatchResult, Some, None, if◌then◌else◌};
-ghost use Rattle.std.specs.List.{slice_split};
+ghost use Rattle.std.specs.Prelude.{◌≡◌, ◌<◌, ◌++◌, ◌∷◌, [], OnOk, IfOk, Some, None, if◌then◌else◌};
 ghost use Rattle.sip_lex.specs.Cut.{is};
 ghost use Rattle.fork_listing.specs.LineView.{line_of};
 ghost use Rattle.fork_listing.specs.Text.{targets_due, phase_after, with_line, no_draft, drafted, finished_draft, read_listing};
 ghost use Rattle.fork_listing.specs.ReadView.{GivesListing};
 
-use crate::depth::Depth;
 use crate::line::{Final, Line, Ranked, Target, Version, read_line};
-use fork_rank::{Preferred, Rules};
+use fork_rank::Rules;
+use fork_text::{with_depth, with_preferred};
 use sip_lex::cut_at;
 use std::alloc::{AllocError, Allocator};
 use std::marker::Model;
@@ -153,20 +152,6 @@ impl<A: Allocator + Clone> Draft<A> {
         self.rules = rules;
     }
 
-    fn set_preferred(&mut self, preferred: Preferred)
-        ensures { self.new ≡ record self.old { rules = record self.old.rules { preferred = preferred } } }
-    {
-        let rules = Rules::of(preferred, self.rules.depth());
-        self.set_rules(rules.unwrap());
-    }
-
-    fn set_depth(&mut self, depth: Depth)
-        ensures { self.new ≡ record self.old { rules = record self.old.rules { depth = depth.steps } } }
-    {
-        let rules = Rules::of(self.rules.preferred(), depth.steps);
-        self.set_rules(rules.unwrap());
-    }
-
     fn add_target(&mut self, target: Target) -> Result<(), AllocError>
         ensures { OnOk result (self.new ≡ record self.old { targets = self.old.targets ++ target ∷ [] }) }
     {
@@ -187,8 +172,8 @@ impl<A: Allocator + Clone> Draft<A> {
     {
         match line {
             Line::Fork(version, count) => self.set_version(version, count),
-            Line::Prefer(preferred) => self.set_preferred(preferred),
-            Line::Depth(depth) => self.set_depth(depth),
+            Line::Prefer(preferred) => self.set_rules(with_preferred(self.rules, preferred)),
+            Line::Depth(depth) => self.set_rules(with_depth(self.rules, depth)),
             Line::Target(target) => self.add_target(target)?,
             Line::Rank(ranked) => self.add_ranked(ranked)?,
             Line::Final(_) => {}
@@ -197,13 +182,11 @@ impl<A: Allocator + Clone> Draft<A> {
     }
 
     /// Adds a line, and answers whether it is one and is due.
-    fn add(&mut self, alloc: &A, text: &[u8]) -> Result<bool, AllocError>
+    fn add(&mut self, text: &[u8]) -> Result<bool, AllocError>
         ensures { IfOk result (λ added. (if added then Some self.new else None) ≡ drafted self.old text.now) }
     {
-        let line = match read_line(alloc.clone()?, text) {
-            Ok(Some(line)) => line,
-            Ok(None) => return Ok(false),
-            Err(refused) => return Err(refused),
+        let Some(line) = read_line(text) else {
+            return Ok(false);
         };
         let Some(phase) = self.phase.after(&line) else {
             return Ok(false);
@@ -298,7 +281,7 @@ impl<A: Allocator + Clone> Listing<A> {
             let Some(after) = more else {
                 return draft.finished(number, line);
             };
-            if !draft.add(alloc, line)? {
+            if !draft.add(line)? {
                 return Err(ReadFault::Line(number));
             }
             number += 1;

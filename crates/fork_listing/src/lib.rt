@@ -4,7 +4,6 @@
 
 mod checker;
 mod choice;
-mod depth;
 mod draft;
 mod laws;
 mod line;

@@ -1,24 +1,18 @@
 //! The lines of a listing.
-ghost use Rattle.std.specs.Prelude.{◌≡◌, ◌≢◌, ◌≤◌, [], IfOk, IfSome, bytes_eq, codes};
-ghost use Rattle.std.specs.Option.{option_map, option_copied};
-ghost use Rattle.std.specs.List.{slice_split};
-ghost use Rattle.sip_lex.specs.Cut.{is};
+ghost use Rattle.std.specs.Prelude.{◌≡◌};
+ghost use Rattle.std.specs.Option.{option_map};
 ghost use Rattle.sip_lex.specs.Number.{plain_number_within};
-ghost use Rattle.fork_model.specs.Table.{most_targets};
-ghost use Rattle.fork_listing.specs.Line.{most_number, most_arrival};
-ghost use Rattle.fork_listing.specs.Reading.{before, word_of, read_version, read_status, read_parent, numbers_onto, read_preferred, may_be_assumed, stored_as, read_stored, read_end, read_count, read_target, read_ranked, read_final, read_rest, read_line};
-ghost use Rattle.fork_listing.specs.LineView.{line_of, seen_before};
+ghost use Rattle.fork_text.specs.Field.{before, seen_before};
+ghost use Rattle.fork_listing.specs.Line.{most_arrival};
+ghost use Rattle.fork_listing.specs.Reading.{word_of, read_version, read_status, read_parent, may_be_assumed, stored_as, read_stored, read_end, read_count, read_target, read_ranked, read_final, read_rest, read_line};
+ghost use Rattle.fork_listing.specs.LineView.{line_of};
 
-use crate::depth::Depth;
 use fork_rank::{MOST_TARGETS, Preferred, Status};
+use fork_text::{Depth, read_depth, read_number, read_number_before, read_preferred};
 use sip_lex::{cut_at, read_plain_number};
-use std::alloc::{AllocError, Allocator};
 
 /// A q is in thousandths, and at most one.
 const MOST_Q: u16 = 1000;
-
-/// A preferred status is a 4xx.
-const MOST_PREFERRED_STATUS: u16 = 499;
 
 /// The first two versions of the listing have so many targets at most.
 const MOST_EARLY_TARGETS: u16 = 64;
@@ -115,25 +109,6 @@ fn word_of(text: &[u8]) -> Option<Word>
         Some(Word::Final)
     } else {
         None
-    }
-}
-
-/// The number that decimal digits without a leading zero spell, where it is at most `most`.
-fn read_number(digits: &[u8], most: u16) -> Option<u16>
-    ensures value { result ≡ plain_number_within most digits.now }
-    ensures within { IfSome result (λ n. n ≤ most) }
-{
-    let n = read_plain_number(digits, u64::from(most))?;
-    Some(n as u16)
-}
-
-/// A number, and what stands behind the space after it.
-fn read_number_before(text: &[u8], most: u16) -> Option<(u16, &[u8])>
-    ensures { seen_before result ≡ before (plain_number_within most) text.now }
-{
-    match cut_at(text, b' ') {
-        (_, None) => None,
-        (digits, Some(rest)) => Some((read_number(digits, most)?, rest)),
     }
 }
 
@@ -338,47 +313,8 @@ fn read_final(text: &[u8]) -> Option<Final>
     }
 }
 
-fn read_depth(digits: &[u8]) -> Option<Depth>
-    ensures { option_map (λ depth. depth.steps) result ≡ plain_number_within most_targets digits.now }
-{
-    let steps = read_number(digits, MOST_TARGETS)?;
-    Some(Depth { steps })
-}
-
-/// The numbers between the commas; `None` where something else stands there.
-fn read_numbers<A: Allocator>(alloc: A, text: &[u8]) -> Result<Option<Vec<u16, A>>, AllocError>
-    ensures { IfOk result (λ r. option_map (λ v. v.items) r ≡ numbers_onto [] (slice_split (is 44) text.now)) }
-{
-    let mut numbers = Vec::new(alloc);
-    let mut rest = text;
-    loop {
-        let (digits, more) = cut_at(rest, b',');
-        let Some(number) = read_number(digits, MOST_PREFERRED_STATUS) else {
-            return Ok(None);
-        };
-        numbers.push(number)?;
-        match more {
-            None => return Ok(Some(numbers)),
-            Some(after) => rest = after,
-        }
-    }
-}
-
-fn read_preferred<A: Allocator>(alloc: A, text: &[u8]) -> Result<Option<Preferred>, AllocError>
-    ensures { IfOk result (λ preferred. preferred ≡ read_preferred text.now) }
-{
-    if text == b"-".as_slice() {
-        return Ok(Preferred::of(&[]));
-    }
-    match read_numbers(alloc, text)? {
-        None => Ok(None),
-        Some(statuses) => Ok(Preferred::of(&statuses)),
-    }
-}
-
-/// What stands behind a word and its space, of a line that takes no memory to read.
+/// What stands behind a word and its space.
 fn read_rest(word: Word, rest: &[u8]) -> Option<Line>
-    requires { word ≢ Word.Prefer }
     ensures { option_map line_of result ≡ read_rest word rest.now }
 {
     match word {
@@ -386,39 +322,20 @@ fn read_rest(word: Word, rest: &[u8]) -> Option<Line>
             let (version, count) = read_version_before(rest)?;
             Some(Line::Fork(version, read_count(version, count)?))
         }
+        Word::Prefer => Some(Line::Prefer(read_preferred(rest)?)),
         Word::Depth => Some(Line::Depth(read_depth(rest)?)),
         Word::Target => Some(Line::Target(read_target(rest)?)),
         Word::Rank => Some(Line::Rank(read_ranked(rest)?)),
         Word::Final => Some(Line::Final(read_final(rest)?)),
-        Word::Prefer => None,
-    }
-}
-
-fn read_worded<A: Allocator>(alloc: A, word: Word, rest: &[u8]) -> Result<Option<Line>, AllocError>
-    ensures { IfOk result (λ line. option_map line_of line ≡ read_rest word rest.now) }
-{
-    match word {
-        Word::Prefer => match read_preferred(alloc, rest)? {
-            None => Ok(None),
-            Some(preferred) => Ok(Some(Line::Prefer(preferred))),
-        },
-        word => Ok(read_rest(word, rest)),
     }
 }
 
 /// What a line says; `None` where it has no form of a line of a listing.
-///
-/// # Errors
-///
-/// Only where the allocator refuses.
-pub fn read_line<A: Allocator>(alloc: A, text: &[u8]) -> Result<Option<Line>, AllocError>
-    ensures { IfOk result (λ line. option_map line_of line ≡ read_line text.now) }
+pub fn read_line(text: &[u8]) -> Option<Line>
+    ensures { option_map line_of result ≡ read_line text.now }
 {
     match cut_at(text, b' ') {
-        (_, None) => Ok(None),
-        (word, Some(rest)) => match word_of(word) {
-            None => Ok(None),
-            Some(word) => read_worded(alloc, word, rest),
-        },
+        (_, None) => None,
+        (word, Some(rest)) => read_rest(word_of(word)?, rest),
     }
 }

@@ -1,45 +1,15 @@
 //! Writing the lines of a listing.
 ghost use Rattle.std.specs.Prelude.{◌≡◌, ◌∷◌, ◌++◌, [], OnOk};
 ghost use Rattle.std.specs.Fmt.{decimal};
-ghost use Rattle.fork_listing.specs.Line.{list_text, number_text, how_text, end_text, line_text, TargetLine, RankLine, ForkLine, PreferLine, DepthLine};
-ghost use Rattle.fork_listing.specs.Text.{ended, head_text, targets_text, ranks_text};
+ghost use Rattle.fork_listing.specs.Line.{number_text, how_text, end_text, line_text, TargetLine, RankLine};
+ghost use Rattle.fork_listing.specs.Text.{head_text, targets_text, ranks_text};
+ghost use Rattle.fork_text.specs.RuleLines.{ended};
 
 use crate::line::{End, Ranked, Target};
 use fork_rank::Rules;
+use fork_text::{append, append_depth, append_preferred};
+use sip_lex::append_decimal;
 use std::alloc::{AllocError, Allocator};
-
-pub fn append<A: Allocator>(text: &mut Vec<u8, A>, bytes: &[u8]) -> Result<(), AllocError>
-    ensures { OnOk result (text.new.items ≡ text.old.items ++ bytes.now) }
-{
-    text.extend_from_slice(bytes)
-}
-
-/// Appends a number in decimal.
-#[tactic(auto, using(std::proofs::lemmas::Fmt::decimal_digit, std::proofs::lemmas::Fmt::decimal_step))]
-pub fn append_number<A: Allocator>(text: &mut Vec<u8, A>, n: u64) -> Result<(), AllocError>
-    ensures { OnOk result (text.new.items ≡ text.old.items ++ decimal n) }
-{
-    if n >= 10 {
-        append_number(text, n / 10)?;
-    }
-    text.push(b'0' + (n % 10) as u8)?;
-    Ok(())
-}
-
-/// Appends numbers with commas between them, or `-` for none.
-fn append_list<A: Allocator>(text: &mut Vec<u8, A>, numbers: &[u16]) -> Result<(), AllocError>
-    ensures { OnOk result (text.new.items ≡ text.old.items ++ list_text numbers.now) }
-{
-    let [first, more @ ..] = numbers else {
-        return append(text, b"-");
-    };
-    append_number(text, u64::from(*first))?;
-    for number in more {
-        text.push(b',')?;
-        append_number(text, u64::from(*number))?;
-    }
-    Ok(())
-}
 
 /// Appends a number, or `-` for none.
 pub fn append_number_or_none<A: Allocator>(
@@ -50,7 +20,7 @@ pub fn append_number_or_none<A: Allocator>(
 {
     match number {
         None => append(text, b"-"),
-        Some(n) => append_number(text, u64::from(n)),
+        Some(n) => append_decimal(text, u64::from(n)),
     }
 }
 
@@ -68,7 +38,7 @@ fn append_how<A: Allocator>(text: &mut Vec<u8, A>, received: bool) -> Result<(),
 fn append_number_before<A: Allocator>(text: &mut Vec<u8, A>, n: u64) -> Result<(), AllocError>
     ensures { OnOk result (text.new.items ≡ text.old.items ++ (decimal n ++ 32 ∷ [])) }
 {
-    append_number(text, n)?;
+    append_decimal(text, n)?;
     append(text, b" ")
 }
 
@@ -88,11 +58,11 @@ fn append_end<A: Allocator>(text: &mut Vec<u8, A>, end: End) -> Result<(), Alloc
         }
         End::Taken { arrival } => {
             append(text, b"taken ")?;
-            append_number(text, u64::from(arrival))
+            append_decimal(text, u64::from(arrival))
         }
         End::Silent { arrival } => {
             append(text, b"silent ")?;
-            append_number(text, u64::from(arrival))
+            append_decimal(text, u64::from(arrival))
         }
         End::Never => append(text, b"never"),
     }
@@ -123,7 +93,7 @@ fn append_ranked<A: Allocator>(text: &mut Vec<u8, A>, ranked: &Ranked) -> Result
     append(text, b"rank ")?;
     append_number_before(text, u64::from(ranked.status.code()))?;
     append_number_before(text, u64::from(ranked.number))?;
-    append_number(text, u64::from(ranked.arrival))?;
+    append_decimal(text, u64::from(ranked.arrival))?;
     append(text, b"\n")
 }
 
@@ -136,12 +106,10 @@ pub fn append_head<A: Allocator>(
     ensures { OnOk result (text.new.items ≡ text.old.items ++ head_text count rules.now) }
 {
     append(text, b"fork 3 ")?;
-    append_number(text, u64::from(count))?;
-    append(text, b"\nprefer ")?;
-    append_list(text, rules.preferred().statuses())?;
-    append(text, b"\ndepth ")?;
-    append_number(text, u64::from(rules.depth()))?;
-    append(text, b"\n")
+    append_decimal(text, u64::from(count))?;
+    append(text, b"\n")?;
+    append_preferred(text, rules)?;
+    append_depth(text, rules)
 }
 
 pub fn append_targets<A: Allocator>(

@@ -6,7 +6,7 @@ use Rattle.fork_listing.specs.declared.checker.CheckFault.{CheckFault}
 use Rattle.fork_listing.specs.Text.{read_listing}
 use Rattle.fork_listing.specs.Checking.{IsChecked}
 use Rattle.fork_program.specs.Faults.{most_text}
-use Rattle.fork_program.specs.Replay.{ended}
+use Rattle.fork_text.specs.RuleLines.{ended}
 use Rattle.fork_program.specs.Answer.{IsAnswer, AppendsLine, AppendsAnswer}
 
 module _ {E : Type 0} where

@@ -3,10 +3,8 @@ pub mod LastAnswer
 pub mod InputSteps
 pub mod Rows
 pub mod Outcomes
-pub mod PreferredLists
 pub mod Printing
 pub mod Answering
 pub mod Refusing
-pub mod NumberLaws
 pub mod LineLaws
 pub mod SpelledLines

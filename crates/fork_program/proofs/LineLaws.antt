@@ -1,40 +1,22 @@
 -- A line is read exactly where it is the spelling of a line: what is read is spelled so.
-use Rattle.std.proofs.Common.{◌≡◌, ℕ, ◌^◌, ◌<◌, ◌≤◌, Bool, true, false, cond, List, [], ◌∷◌, ◌++◌, map, length, Option, Some, None, refl, sym, ap, subst, ◌∙◌, arith, append_assoc, append-nil}
-use Rattle.std.specs.Prelude.{nat_le, bytes_eq, codes, option_and_then, IsTrue}
-use Rattle.std.specs.Option.{option_map}
-use Rattle.std.specs.List.{slice_split, join_with_byte}
-use Rattle.std.specs.Fmt.{decimal}
-use Rattle.std.proofs.lemmas.Bool.{leb-true}
+use Rattle.std.proofs.Common.{◌≡◌, ℕ, ◌≤◌, Bool, true, false, cond, List, [], ◌∷◌, ◌++◌, Option, Some, None, refl, ap, subst, ◌∙◌, arith}
+use Rattle.std.specs.Prelude.{codes, IsTrue}
 use Rattle.std.proofs.lemmas.Slice.Eq.{bytes_eq-Decides}
-use Rattle.std.proofs.lemmas.List.Splits.{join_with_byte-slice_split, length-slice_split}
 use Rattle.sip_lex.specs.Cut.{cut, is, behind}
 use Rattle.sip_lex.specs.Number.{plain_number_within}
 use Rattle.sip_lex.proofs.Cuts.{cut_joins}
-use Rattle.fork_rank.specs.Preferred.{IsPreferredList}
 use Rattle.fork_model.specs.Table.{Kind, Invite, Other, most_targets}
 use Rattle.fork_model.specs.Event.{Ring, Answer, Timeout, Fault, TimerC, GiveUp}
+use Rattle.std.proofs.lemmas.Option.{cond_some, same_Some}
+use Rattle.fork_text.proofs.laws.Field.{found_map, found_then, number_before_found, number_from_found}
+use Rattle.fork_text.proofs.laws.Preferred.{preferred_found}
 use Rattle.fork_program.specs.declared.line.Word.{Word}
 use Rattle.fork_program.specs.declared.line.Word.TheVariants as word
-use Rattle.fork_program.specs.Line.{Line, KindLine, PreferLine, DepthLine, TargetLine, EventLine, ContactLine, OtherLine, ChallengeLine, list_text, kind_text, asker_text, numbered_text, line_text, most_q, most_number, is_name, is_text, bare, IsLine}
-use Rattle.fork_program.specs.Reading.{word_of, read_kind, numbers_onto, is_preferred_list, preferred_if, read_preferred, numbered_cut, read_numbered, number_from, ring_of, answer_of, named, texted, read_named, read_texted, read_asker, challenge_of, challenge_cut, read_challenge, read_row, read_rest, read_alone, read_worded, read_cut, read_line}
-use Rattle.fork_program.proofs.NumberLaws.{IsSpelled, number_spelled}
-use Rattle.fork_program.proofs.PreferredLists.{preferred_is}
-
-some_is : {X : Type 0} {x y : X} → Some x ≡ Some y → x ≡ y
-some_is e = cc
-
-module _ {X : Type 0} where
-  found_map : (f : X → Line) (o : Option X) (line : Line) (P : Line → Type 0) → ((x : X) → o ≡ Some x → P (f x)) → option_map f o ≡ Some line → P line
-  found_map f None line P k e = absurd cc
-  found_map f (Some x) line P k e = subst P (some_is e) (k x refl)
-
-  found_then : {Y : Type 0} (f : X → Option Y) (o : Option X) (y : Y) (P : Type 0) → ((x : X) → o ≡ Some x → f x ≡ Some y → P) → option_and_then f o ≡ Some y → P
-  found_then f None y P k e = absurd cc
-  found_then f (Some x) y P k e = k x refl e
-
-  found_if : (b : Bool) (x y : X) → cond b (Some x) None ≡ Some y → (b ≡ true) × (x ≡ y)
-  found_if true x y e = (refl, some_is e)
-  found_if false x y e = absurd cc
+use Rattle.fork_program.specs.Line.{Line, KindLine, PreferLine, DepthLine, TargetLine, EventLine, ContactLine, OtherLine, ChallengeLine, kind_text, asker_text, line_text, is_name, is_text, bare, IsLine}
+use Rattle.fork_text.specs.Preferred.{read_preferred}
+use Rattle.fork_text.specs.Field.{numbered_text, most_q, most_number, number_before, number_from}
+use Rattle.fork_program.specs.Reading.{word_of, read_kind, ring_of, answer_of, named, texted, read_named, read_texted, read_asker, challenge_of, challenge_cut, read_challenge, read_row, read_rest, read_alone, read_worded, read_cut, read_line}
+use Rattle.sip_lex.proofs.laws.Numbers.{number_spelled}
 
 abbrev word_text : Word → List ℕ
 word_text word.Kind = codes "kind"
@@ -53,7 +35,7 @@ word_text word.Other = codes "other"
 word_text word.Challenge = codes "challenge"
 
 word_step : (b : Bool) (text : List ℕ) (w v : Word) (r : Option Word) → (b ≡ true → text ≡ word_text w) → (r ≡ Some v → text ≡ word_text v) → cond b (Some w) r ≡ Some v → text ≡ word_text v
-word_step true text w v r same others e = same refl ∙ ap word_text (some_is e)
+word_step true text w v r same others e = same refl ∙ ap word_text (same_Some _ _ e)
 word_step false text w v r same others e = others e
 
 word_found : (text : List ℕ) (v : Word) → word_of text ≡ Some v → text ≡ word_text v
@@ -75,7 +57,7 @@ word_found text v =
     (λ e. absurd cc))))))))))))))
 
 kind_step : (b : Bool) (text : List ℕ) (k v : Kind) (r : Option Kind) → (b ≡ true → text ≡ kind_text k) → (r ≡ Some v → text ≡ kind_text v) → cond b (Some k) r ≡ Some v → text ≡ kind_text v
-kind_step true text k v r same others e = same refl ∙ ap kind_text (some_is e)
+kind_step true text k v r same others e = same refl ∙ ap kind_text (same_Some _ _ e)
 kind_step false text k v r same others e = others e
 
 kind_found : (text : List ℕ) (kind : Kind) → read_kind text ≡ Some kind → text ≡ kind_text kind
@@ -84,7 +66,7 @@ kind_found text kind =
     (kind_step _ text Other kind _ (bytes_eq-Decides text (codes "OTHER")).0 (λ e. absurd cc))
 
 asker_step : (b : Bool) (text : List ℕ) (k v : Bool) (r : Option Bool) → (b ≡ true → text ≡ asker_text k) → (r ≡ Some v → text ≡ asker_text v) → cond b (Some k) r ≡ Some v → text ≡ asker_text v
-asker_step true text k v r same others e = same refl ∙ ap asker_text (some_is e)
+asker_step true text k v r same others e = same refl ∙ ap asker_text (same_Some _ _ e)
 asker_step false text k v r same others e = others e
 
 asker_found : (text : List ℕ) (proxy : Bool) → read_asker text ≡ Some proxy → text ≡ asker_text proxy
@@ -92,101 +74,25 @@ asker_found text proxy =
     asker_step _ text false proxy _ (bytes_eq-Decides text (codes "W")).0
     (asker_step _ text true proxy _ (bytes_eq-Decides text (codes "P")).0 (λ e. absurd cc))
 
--- a number, a space, a text
-numbered_found : (limit : ℕ) (text : List ℕ) (p : ℕ × List ℕ) → limit < 2 ^ 64 → read_numbered limit text ≡ Some p → (text ≡ numbered_text p.0 p.1) × (p.0 ≤ limit)
-numbered_found limit text p small e = parts (cut (is 32) text) (cut_joins 32 text) e
-  where
-    parts : (c : List ℕ × Option (List ℕ)) → text ≡ c.0 ++ behind 32 c.1 → numbered_cut limit c ≡ Some p → (text ≡ numbered_text p.0 p.1) × (p.0 ≤ limit)
-    parts (digits, None) whole e = absurd cc
-    parts (digits, Some rest) whole e = read (plain_number_within limit digits) (λ n. number_spelled limit digits n small) whole e
-      where
-        read : (o : Option ℕ) → ((n : ℕ) → o ≡ Some n → IsSpelled limit digits n) → text ≡ digits ++ 32 ∷ rest → option_map (λ n. (n, rest)) o ≡ Some p → (text ≡ numbered_text p.0 p.1) × (p.0 ≤ limit)
-        read None spelled whole e = absurd cc
-        read (Some n) spelled whole e =
-            let h = spelled n refl in
-            let Q : ℕ × List ℕ → Type 0 = λ q. (text ≡ numbered_text q.0 q.1) × (q.0 ≤ limit) in
-            subst Q (some_is e) (whole ∙ ap (λ ds. ds ++ 32 ∷ rest) h.spelled, h.within)
-
 named_found : (text : List ℕ) (p : ℕ × List ℕ) → read_named text ≡ Some p → (text ≡ numbered_text p.0 p.1) × (p.0 ≤ most_q) × IsTrue (is_name p.1)
 named_found text p e =
-    found_then named (read_numbered most_q text) p ((text ≡ numbered_text p.0 p.1) × (p.0 ≤ most_q) × IsTrue (is_name p.1))
+    found_then named (number_before most_q text) p ((text ≡ numbered_text p.0 p.1) × (p.0 ≤ most_q) × IsTrue (is_name p.1))
     (λ q at is.
-    let h = numbered_found most_q text q (omega arith) at in
-    let g = found_if (is_name q.1) q p is in
+    let h = number_before_found most_q text q (omega arith) at in
+    let g = cond_some (is_name q.1) q p is in
     let Q : ℕ × List ℕ → Type 0 = λ r. (text ≡ numbered_text r.0 r.1) × (r.0 ≤ most_q) × IsTrue (is_name r.1) in
     subst Q g.1 (h.0, h.1, g.0))
     e
 
 texted_found : (text : List ℕ) (p : ℕ × List ℕ) → read_texted text ≡ Some p → (text ≡ numbered_text p.0 p.1) × (p.0 ≤ most_q) × IsTrue (is_text p.1)
 texted_found text p e =
-    found_then texted (read_numbered most_q text) p ((text ≡ numbered_text p.0 p.1) × (p.0 ≤ most_q) × IsTrue (is_text p.1))
+    found_then texted (number_before most_q text) p ((text ≡ numbered_text p.0 p.1) × (p.0 ≤ most_q) × IsTrue (is_text p.1))
     (λ q at is.
-    let h = numbered_found most_q text q (omega arith) at in
-    let g = found_if (is_text q.1) q p is in
+    let h = number_before_found most_q text q (omega arith) at in
+    let g = cond_some (is_text q.1) q p is in
     let Q : ℕ × List ℕ → Type 0 = λ r. (text ≡ numbered_text r.0 r.1) × (r.0 ≤ most_q) × IsTrue (is_text r.1) in
     subst Q g.1 (h.0, h.1, g.0))
     e
-
--- a status of a range
-status_found : (least most : ℕ) (digits : List ℕ) (n : ℕ) → most < 2 ^ 64 → number_from least most digits ≡ Some n → (digits ≡ decimal n) × (least ≤ n) × (n ≤ most)
-status_found least most digits n small e =
-    found_then (λ m. cond (nat_le least m) (Some m) None) (plain_number_within most digits) n ((digits ≡ decimal n) × (least ≤ n) × (n ≤ most))
-    (λ m at is.
-    let h = number_spelled most digits m small at in
-    let g = found_if (nat_le least m) m n is in
-    let Q : ℕ → Type 0 = λ k. (digits ≡ decimal k) × (least ≤ k) × (k ≤ most) in
-    subst Q g.1 (h.spelled, leb-true _ _ g.0, h.within))
-    e
-
--- the numbers between the commas are spelled there, one a piece
-record Pieces (before : List ℕ) (pieces : List (List ℕ)) (out : List ℕ) : Type 0 where
-  more : List ℕ
-  all : out ≡ before ++ more
-  spelled : pieces ≡ map decimal more
-
-pieces_found : (before : List ℕ) (pieces : List (List ℕ)) (out : List ℕ) → numbers_onto before pieces ≡ Some out → Pieces before pieces out
-pieces_found before [] out e = record { more = []; all = sym (some_is e) ∙ sym (append-nil before); spelled = refl }
-pieces_found before (piece ∷ pieces) out e =
-    found_then (λ n. numbers_onto (before ++ n ∷ []) pieces) (plain_number_within 499 piece) out (Pieces before (piece ∷ pieces) out)
-    (λ n at is.
-    let h = number_spelled 499 piece n (omega arith) at in
-    let rest = pieces_found (before ++ n ∷ []) pieces out is in
-    record {
-      more = n ∷ rest.more;
-      all = rest.all ∙ append_assoc before (n ∷ []) rest.more;
-      spelled = ap (λ (p : List ℕ). p ∷ pieces) h.spelled ∙ ap (λ (ps : List (List ℕ)). decimal n ∷ ps) rest.spelled;
-    })
-    e
-
-joined : (n : ℕ) (ns : List ℕ) → join_with_byte 44 (map decimal (n ∷ ns)) ≡ list_text (n ∷ ns)
-joined n [] = sym (append-nil (decimal n))
-joined n (m ∷ ns) = ap (λ (text : List ℕ). decimal n ++ 44 ∷ text) (joined m ns)
-
-list_found : (text out : List ℕ) → numbers_onto [] (slice_split (is 44) text) ≡ Some out → text ≡ list_text out
-list_found text out e = spelled (pieces_found [] (slice_split (is 44) text) out e)
-  where
-    spelled : Pieces [] (slice_split (is 44) text) out → text ≡ list_text out
-    spelled found = by_more found.more found.all found.spelled
-      where
-        by_more : (more : List ℕ) → out ≡ more → slice_split (is 44) text ≡ map decimal more → text ≡ list_text out
-        by_more [] all pieces = absurd (let n : length (slice_split (is 44) text) ≡ 0 = ap length pieces in omega (arith, n, length-slice_split (is 44) text))
-        by_more (n ∷ ns) all pieces =
-            sym (join_with_byte-slice_split 44 text) ∙ ap (join_with_byte 44) pieces ∙ joined n ns ∙ ap list_text (sym all)
-
-preferred_found : (text statuses : List ℕ) → read_preferred text ≡ Some statuses → (text ≡ list_text statuses) × IsPreferredList statuses
-preferred_found text statuses e = by_dash (bytes_eq text (codes "-")) (bytes_eq-Decides text (codes "-")).0 e
-  where
-    by_dash : (b : Bool) → (b ≡ true → text ≡ codes "-") → cond b (Some []) (option_and_then preferred_if (numbers_onto [] (slice_split (is 44) text))) ≡ Some statuses → (text ≡ list_text statuses) × IsPreferredList statuses
-    by_dash true dash e =
-        let P : List ℕ → Type 0 = λ out. (text ≡ list_text out) × IsPreferredList out in
-        subst P (some_is e) (dash refl, preferred_is [] refl)
-    by_dash false dash e =
-        found_then preferred_if (numbers_onto [] (slice_split (is 44) text)) statuses ((text ≡ list_text statuses) × IsPreferredList statuses)
-        (λ out at is.
-        let g = found_if (is_preferred_list out) out statuses is in
-        let P : List ℕ → Type 0 = λ xs. (text ≡ list_text xs) × IsPreferredList xs in
-        subst P g.1 (list_found text out at, preferred_is out g.0))
-        e
 
 abbrev Found : List ℕ → Line → Type 0
 Found text line = (text ≡ line_text line) × IsLine line
@@ -199,7 +105,7 @@ challenge_found text line e = parts (cut (is 32) text) (cut_joins 32 text) e
     parts (asker, Some value) whole e =
         found_then (challenge_of value) (read_asker asker) line (Found (codes "challenge" ++ 32 ∷ text) line)
         (λ proxy at is.
-        let g = found_if (is_text value) (ChallengeLine proxy value) line is in
+        let g = cond_some (is_text value) (ChallengeLine proxy value) line is in
         let P : Line → Type 0 = Found (codes "challenge" ++ 32 ∷ text) in
         subst P g.1 (ap (λ (bytes : List ℕ). codes "challenge " ++ bytes) (whole ∙ ap (λ (bytes : List ℕ). bytes ++ 32 ∷ value) (asker_found asker proxy at)), g.0))
         e
@@ -218,18 +124,18 @@ rest_found word.Target rest line e =
     found_map (λ p. TargetLine p.0 p.1) (read_named rest) line (Found (codes "target" ++ 32 ∷ rest))
     (λ p at. let h = named_found rest p at in (ap (λ (text : List ℕ). codes "target " ++ text) h.0, (h.1, h.2))) e
 rest_found word.Ring rest line e =
-    found_then ring_of (read_numbered most_number rest) line (Found (codes "ring" ++ 32 ∷ rest) line)
+    found_then ring_of (number_before most_number rest) line (Found (codes "ring" ++ 32 ∷ rest) line)
     (λ p at is. found_map (λ status. EventLine (Ring p.0 status)) (number_from 100 199 p.1) line (Found (codes "ring" ++ 32 ∷ rest))
     (λ status of_.
-    let h = numbered_found most_number rest p (omega arith) at in
-    let s = status_found 100 199 p.1 status (omega arith) of_ in
+    let h = number_before_found most_number rest p (omega arith) at in
+    let s = number_from_found 100 199 p.1 status (omega arith) of_ in
     (ap (λ (text : List ℕ). codes "ring " ++ text) (h.0 ∙ ap (numbered_text p.0) s.0), (h.1, s.1, omega arith))) is) e
 rest_found word.Answer rest line e =
-    found_then answer_of (read_numbered most_number rest) line (Found (codes "answer" ++ 32 ∷ rest) line)
+    found_then answer_of (number_before most_number rest) line (Found (codes "answer" ++ 32 ∷ rest) line)
     (λ p at is. found_map (λ status. EventLine (Answer p.0 (bare status))) (number_from 200 699 p.1) line (Found (codes "answer" ++ 32 ∷ rest))
     (λ status of_.
-    let h = numbered_found most_number rest p (omega arith) at in
-    let s = status_found 200 699 p.1 status (omega arith) of_ in
+    let h = number_before_found most_number rest p (omega arith) at in
+    let s = number_from_found 200 699 p.1 status (omega arith) of_ in
     (ap (λ (text : List ℕ). codes "answer " ++ text) (h.0 ∙ ap (numbered_text p.0) s.0), (h.1, s.1, omega arith, refl))) is) e
 rest_found word.Timeout rest line e =
     found_map (λ n. EventLine (Timeout n)) (read_row rest) line (Found (codes "timeout" ++ 32 ∷ rest))
@@ -253,7 +159,7 @@ rest_found word.Other rest line e =
 rest_found word.Challenge rest line e = challenge_found rest line e
 
 alone_found : (w : Word) (line : Line) → read_alone w ≡ Some line → Found (word_text w ++ []) line
-alone_found word.Cancel line e = let P : Line → Type 0 = Found (codes "cancel") in subst P (some_is e) (refl, tt)
+alone_found word.Cancel line e = let P : Line → Type 0 = Found (codes "cancel") in subst P (same_Some _ _ e) (refl, tt)
 alone_found word.Kind line e = absurd cc
 alone_found word.Prefer line e = absurd cc
 alone_found word.Depth line e = absurd cc

@@ -3,7 +3,8 @@ use Rattle.std.proofs.Common.{◌≡◌, ℕ, List, [], ◌∷◌, ◌++◌, ref
 use Rattle.fork_model.specs.Event.{Event}
 use Rattle.fork_model.specs.Core.{Core, Outcome, IsOutcome, AreOutcomes, core_offered, core_after}
 use Rattle.fork_program.specs.Script.{Script}
-use Rattle.fork_program.specs.Replay.{ended, opening_text, outcome_text, outcomes_text, ending_lines, IsEnding, opened, AddsOutcome, AddsOutcomes, EndsWith, IsReplay}
+use Rattle.fork_program.specs.Replay.{opening_text, outcome_text, outcomes_text, ending_lines, IsEnding, opened, AddsOutcome, AddsOutcomes, EndsWith, IsReplay}
+use Rattle.fork_text.specs.RuleLines.{ended}
 
 pub AreOutcomes-snoc : (core : Core) (events : List Event) (outcomes : List Outcome) (event : Event) (outcome : Outcome) → AreOutcomes core events outcomes → IsOutcome (core_after core events) event outcome → AreOutcomes core (events ++ event ∷ []) (outcomes ++ outcome ∷ [])
 AreOutcomes-snoc core [] [] event outcome are last = (last, tt)

@@ -11,7 +11,8 @@ use Rattle.fork_context.specs.Chosen.{is_due, IsChosen}
 use Rattle.fork_listing.specs.declared.lister.ListFault.{ListFault}
 use Rattle.fork_listing.specs.declared.lister.ListFault.TheVariants as list
 use Rattle.fork_listing.specs.Listed.{IsListingOf, Appends}
-use Rattle.fork_program.specs.Replay.{Succeeded, Unfinished, Listed, branches_left, ended, added_lines, ending_lines, reply_text, EndsWith, AddsOutcome}
+use Rattle.fork_program.specs.Replay.{Succeeded, Unfinished, Listed, branches_left, added_lines, ending_lines, reply_text, EndsWith, AddsOutcome}
+use Rattle.fork_text.specs.RuleLines.{ended}
 
 module _ {T E : Type 0} where
   pub ends_succeeded : (r : Result T E) (t : Table) (old new : List ℕ) → is_succeeded t.rows ≡ true → OnOk r (new ≡ old ++ ending_lines t Succeeded) → OnOk r (EndsWith t old new)

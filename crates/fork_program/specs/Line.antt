@@ -1,9 +1,11 @@
 -- The lines of a script: what is forked, by which rules and to which targets, then what happens to the fork
 -- (RFC 3261 sections 16.5 to 16.10). Words are separated by one space, numbers are decimal without leading zeros.
 use Rattle.std.specs.Prelude.{◌≡◌, ◌≤◌, ◌<◌, ℕ, ◌&&◌, nat_le, Bool, true, false, IsTrue, List, [], ◌∷◌, ◌++◌, length, codes}
-use Rattle.std.specs.List.{list_all, flat_map}
+use Rattle.std.specs.List.{list_all}
 use Rattle.std.specs.Fmt.{decimal}
 use Rattle.fork_rank.specs.Preferred.{IsPreferredList}
+use Rattle.fork_text.specs.Field.{most_q, most_number, numbered_text}
+use Rattle.fork_text.specs.RuleLines.{prefer_text, depth_text}
 use Rattle.fork_model.specs.Table.{Kind, Invite, Other, most_targets}
 use Rattle.fork_model.specs.Event.{Event, Ring, Answer, Timeout, Fault, TimerC, GiveUp, Cancel, FinalAnswer}
 
@@ -19,11 +21,6 @@ pub data Line : Type 0 where
   OtherLine : (q : ℕ) (text : List ℕ) → Line
   ChallengeLine : (proxy : Bool) (value : List ℕ) → Line
 
--- `-` for none, else the numbers with commas between them
-abbrev pub list_text : List ℕ → List ℕ
-list_text [] = 45 ∷ []
-list_text (n ∷ ns) = decimal n ++ flat_map (λ m. 44 ∷ decimal m) ns
-
 abbrev pub kind_text : Kind → List ℕ
 kind_text Invite = codes "INVITE"
 kind_text Other = codes "OTHER"
@@ -32,10 +29,6 @@ kind_text Other = codes "OTHER"
 abbrev pub asker_text : Bool → List ℕ
 asker_text false = codes "W"
 asker_text true = codes "P"
-
--- a number, a space, a text
-abbrev pub numbered_text : ℕ → List ℕ → List ℕ
-numbered_text n text = decimal n ++ 32 ∷ text
 
 abbrev pub event_text : Event → List ℕ
 event_text (Ring n status) = codes "ring " ++ numbered_text n (decimal status)
@@ -49,20 +42,13 @@ event_text Cancel = codes "cancel"
 -- how a line is spelled
 abbrev pub line_text : Line → List ℕ
 line_text (KindLine kind) = codes "kind " ++ kind_text kind
-line_text (PreferLine statuses) = codes "prefer " ++ list_text statuses
-line_text (DepthLine depth) = codes "depth " ++ decimal depth
+line_text (PreferLine statuses) = prefer_text statuses
+line_text (DepthLine depth) = depth_text depth
 line_text (TargetLine q name) = codes "target " ++ numbered_text q name
 line_text (EventLine event) = event_text event
 line_text (ContactLine q name) = codes "contact " ++ numbered_text q name
 line_text (OtherLine q text) = codes "other " ++ numbered_text q text
 line_text (ChallengeLine proxy value) = codes "challenge " ++ (asker_text proxy ++ 32 ∷ value)
-
--- q is in thousandths
-abbrev pub most_q : ℕ
-most_q = 1000
-
-abbrev pub most_number : ℕ
-most_number = 65535
 
 abbrev pub is_printable : ℕ → Bool
 is_printable b = nat_le 32 b && nat_le b 126

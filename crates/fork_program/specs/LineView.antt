@@ -1,6 +1,4 @@
 -- The line that a line of the program stands for.
-use Rattle.std.specs.Prelude.{ℕ, List, Option, Some, None}
-use Rattle.std.specs.Borrow.{Bor}
 use Rattle.fork_model.specs.Event.{Ring, Answer, Timeout, Fault, TimerC, GiveUp, Cancel}
 use Rattle.fork_context.specs.KindView.{kind_of}
 use Rattle.fork_program.specs.declared.line.Line.{Line}
@@ -22,8 +20,3 @@ line_of line.Cancel = spec.EventLine Cancel
 line_of (line.Contact q name) = spec.ContactLine q name.now
 line_of (line.Other q text) = spec.OtherLine q text.now
 line_of (line.Challenge proxy value) = spec.ChallengeLine proxy value.now
-
--- a number and a text in memory
-abbrev pub seen_numbered : Option (ℕ × Bor (List ℕ)) → Option (ℕ × List ℕ)
-seen_numbered None = None
-seen_numbered (Some p) = Some (p.0, p.1.now)

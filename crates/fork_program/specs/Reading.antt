@@ -1,14 +1,15 @@
 -- Reading one line: the word before its first space says which line it is.
-use Rattle.std.specs.Prelude.{ℕ, ◌&&◌, nat_lt, nat_le, Bool, true, false, bytes_eq, List, [], ◌∷◌, ◌++◌, length, codes, Option, Some, None, option_and_then, if◌then◌else◌}
+use Rattle.std.specs.Prelude.{ℕ, Bool, true, false, bytes_eq, List, codes, Option, Some, None, option_and_then, if◌then◌else◌}
 use Rattle.std.specs.Option.{option_map}
-use Rattle.std.specs.List.{list_all, slice_split}
 use Rattle.sip_lex.specs.Cut.{cut, is}
 use Rattle.sip_lex.specs.Number.{plain_number_within}
 use Rattle.fork_model.specs.Table.{Kind, Invite, Other, most_targets}
 use Rattle.fork_model.specs.Event.{Ring, Answer, Timeout, Fault, TimerC, GiveUp, Cancel}
+use Rattle.fork_text.specs.Field.{most_q, most_number, number_before, number_from}
+use Rattle.fork_text.specs.Preferred.{read_preferred}
 use Rattle.fork_program.specs.declared.line.Word.{Word}
 use Rattle.fork_program.specs.declared.line.Word.TheVariants as word
-use Rattle.fork_program.specs.Line.{Line, KindLine, PreferLine, DepthLine, TargetLine, EventLine, ContactLine, OtherLine, ChallengeLine, most_q, most_number, is_name, is_text, bare}
+use Rattle.fork_program.specs.Line.{Line, KindLine, PreferLine, DepthLine, TargetLine, EventLine, ContactLine, OtherLine, ChallengeLine, is_name, is_text, bare}
 
 abbrev pub word_of : List ℕ → Option Word
 word_of text =
@@ -34,44 +35,6 @@ read_kind text =
     else (if bytes_eq text (codes "OTHER") then Some Other
     else None)
 
--- the numbers up to 499 between the commas, behind those read before
-abbrev pub numbers_onto : List ℕ → List (List ℕ) → Option (List ℕ)
-numbers_onto numbers [] = Some numbers
-numbers_onto numbers (piece ∷ pieces) =
-    option_and_then (λ n. numbers_onto (numbers ++ n ∷ []) pieces) (plain_number_within 499 piece)
-
-abbrev pub rises_from : ℕ → List ℕ → Bool
-rises_from n [] = true
-rises_from n (m ∷ ms) = nat_lt n m && rises_from m ms
-
-abbrev pub rises : List ℕ → Bool
-rises [] = true
-rises (n ∷ ns) = rises_from n ns
-
-abbrev pub is_preferred_list : List ℕ → Bool
-is_preferred_list statuses =
-    nat_le (length statuses) 16 && list_all (λ status. nat_le 400 status && nat_lt status 500) statuses && rises statuses
-
-abbrev pub preferred_if : List ℕ → Option (List ℕ)
-preferred_if statuses = if is_preferred_list statuses then Some statuses else None
-
-abbrev pub read_preferred : List ℕ → Option (List ℕ)
-read_preferred text =
-    if bytes_eq text (codes "-") then Some []
-    else option_and_then preferred_if (numbers_onto [] (slice_split (is 44) text))
-
--- a number, and what stands behind the space after it
-abbrev pub numbered_cut : ℕ → List ℕ × Option (List ℕ) → Option (ℕ × List ℕ)
-numbered_cut limit (digits, None) = None
-numbered_cut limit (digits, Some rest) = option_map (λ n. (n, rest)) (plain_number_within limit digits)
-
-abbrev pub read_numbered : ℕ → List ℕ → Option (ℕ × List ℕ)
-read_numbered limit text = numbered_cut limit (cut (is 32) text)
-
-abbrev pub number_from : ℕ → ℕ → List ℕ → Option ℕ
-number_from least most digits =
-    option_and_then (λ n. if nat_le least n then Some n else None) (plain_number_within most digits)
-
 abbrev pub ring_of : ℕ × List ℕ → Option Line
 ring_of (n, digits) = option_map (λ status. EventLine (Ring n status)) (number_from 100 199 digits)
 
@@ -86,10 +49,10 @@ abbrev pub texted : ℕ × List ℕ → Option (ℕ × List ℕ)
 texted (q, text) = if is_text text then Some (q, text) else None
 
 abbrev pub read_named : List ℕ → Option (ℕ × List ℕ)
-read_named text = option_and_then named (read_numbered most_q text)
+read_named text = option_and_then named (number_before most_q text)
 
 abbrev pub read_texted : List ℕ → Option (ℕ × List ℕ)
-read_texted text = option_and_then texted (read_numbered most_q text)
+read_texted text = option_and_then texted (number_before most_q text)
 
 abbrev pub read_row : List ℕ → Option ℕ
 read_row digits = plain_number_within most_number digits
@@ -117,8 +80,8 @@ read_rest word.Kind rest = option_map KindLine (read_kind rest)
 read_rest word.Prefer rest = option_map PreferLine (read_preferred rest)
 read_rest word.Depth rest = option_map DepthLine (plain_number_within most_targets rest)
 read_rest word.Target rest = option_map (λ p. TargetLine p.0 p.1) (read_named rest)
-read_rest word.Ring rest = option_and_then ring_of (read_numbered most_number rest)
-read_rest word.Answer rest = option_and_then answer_of (read_numbered most_number rest)
+read_rest word.Ring rest = option_and_then ring_of (number_before most_number rest)
+read_rest word.Answer rest = option_and_then answer_of (number_before most_number rest)
 read_rest word.Timeout rest = option_map (λ n. EventLine (Timeout n)) (read_row rest)
 read_rest word.Fault rest = option_map (λ n. EventLine (Fault n)) (read_row rest)
 read_rest word.TimerC rest = option_map (λ n. EventLine (TimerC n)) (read_row rest)

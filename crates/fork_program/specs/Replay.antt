@@ -14,11 +14,10 @@ use Rattle.fork_listing.specs.declared.line.Ranked.{Ranked}
 use Rattle.fork_listing.specs.Text.{listing_text}
 use Rattle.fork_listing.specs.Ranking.{IsRanking}
 use Rattle.fork_listing.specs.Listed.{targets_of, listing_of}
-use Rattle.fork_program.specs.Line.{list_text, numbered_text}
+use Rattle.fork_text.specs.Preferred.{list_text}
+use Rattle.fork_text.specs.RuleLines.{ended}
+use Rattle.fork_text.specs.Field.{numbered_text}
 use Rattle.fork_program.specs.Script.{Script}
-
-abbrev pub ended : List ℕ → List ℕ
-ended line = line ++ 10 ∷ []
 
 -- the rows that are tried, by number
 abbrev pub tried : List Row → List ℕ

@@ -3,10 +3,11 @@ use Rattle.std.specs.Prelude.{◌&&◌, ℕ, suc, Bool, true, false, List, [], �
 use Rattle.std.specs.Option.{option_map}
 use Rattle.std.specs.List.{slice_split}
 use Rattle.sip_lex.specs.Cut.{is}
-use Rattle.fork_rank.specs.Preferred.{usual_preferred}
-use Rattle.fork_model.specs.Table.{Kind, Invite, Rules, Offer, Challenge, most_targets}
+use Rattle.fork_model.specs.Table.{Kind, Invite, Rules, Offer, Challenge}
 use Rattle.fork_model.specs.Event.{FinalAnswer, Event, Answer}
 use Rattle.fork_model.specs.History.{Target}
+use Rattle.fork_text.specs.Pieces.{is_empty}
+use Rattle.fork_text.specs.RuleLines.{usual_rules}
 use Rattle.fork_program.specs.declared.script.Phase.{Phase}
 use Rattle.fork_program.specs.declared.script.Phase.TheVariants.{AtKind, AtPrefer, AtDepth, AtTargets, AtEvents, AtAnswer}
 use Rattle.fork_program.specs.Line.{Line, KindLine, PreferLine, DepthLine, TargetLine, EventLine, ContactLine, OtherLine, ChallengeLine}
@@ -70,9 +71,6 @@ with_line script (OtherLine q text) =
 with_line script (ChallengeLine proxy value) =
     record script { events = last_changed (with_challenge (record { proxy = proxy; value = value })) script.events }
 
-abbrev pub usual_rules : Rules
-usual_rules = record { preferred = usual_preferred; depth = most_targets }
-
 -- a script of no line
 abbrev pub no_script : Script
 no_script = record { kind = Invite; rules = usual_rules; targets = []; events = [] }
@@ -96,10 +94,6 @@ drafted draft line = option_and_then (drafted_line draft) (read_line line)
 abbrev pub has_kind : Phase → Bool
 has_kind AtKind = false
 has_kind _ = true
-
-abbrev pub is_empty : {X : Type 0} → List X → Bool
-is_empty [] = true
-is_empty (x ∷ xs) = false
 
 -- behind the last LF nothing stands
 abbrev pub finished_draft : ℕ → Draft → List ℕ → Result Script ℕ

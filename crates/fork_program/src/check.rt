@@ -1,15 +1,16 @@
 //! Checking a listing: the line that answers whether it is right.
 ghost use Rattle.std.specs.Prelude.{◌≡◌, ◌<◌, ◌↔◌, ◌++◌, length, Err, IfOk, OnErr, IfErr, IsErrOf};
 ghost use Rattle.std.specs.Fmt.{decimal};
-ghost use Rattle.fork_program.specs.Replay.{ended};
+ghost use Rattle.fork_text.specs.RuleLines.{ended};
 ghost use Rattle.fork_program.specs.Faults.{most_text};
 ghost use Rattle.fork_program.specs.Answer.{AppendsLine, AppendsAnswer, IsCheckRefusal};
 
 use crate::fault::ProgFault;
-use crate::print::{append, append_number};
 use crate::replay::MOST_TEXT;
 use bumpalo::Bump;
 use fork_listing::{CheckFault, Verdict, check};
+use fork_text::append;
+use sip_lex::append_decimal;
 use std::alloc::{AllocError, Allocator};
 
 /// The exit status where a text is no right listing.
@@ -24,7 +25,7 @@ fn append_fault<A: Allocator>(
     ensures { IfOk result (λ status. (status ≡ 4) × (out.new.items ≡ out.old.items ++ ended (fault.now ++ decimal number))) }
 {
     append(out, fault)?;
-    append_number(out, number as u64)?;
+    append_decimal(out, number as u64)?;
     append(out, b"\n")?;
     Ok(NO)
 }

@@ -4,7 +4,6 @@
 
 mod check;
 mod command;
-mod depth;
 mod fault;
 mod input;
 mod line;

@@ -1,27 +1,21 @@
 //! The lines of a script.
-ghost use Rattle.std.specs.Prelude.{◌≡◌, ◌≢◌, ◌≤◌, [], IfOk, IfSome, Some, bytes_eq, codes};
+ghost use Rattle.std.specs.Prelude.{◌≡◌, IfSome, Some};
 ghost use Rattle.std.specs.Option.{option_map, option_copied};
-ghost use Rattle.std.specs.List.{list_all, slice_split};
-ghost use Rattle.sip_lex.specs.Cut.{is};
-ghost use Rattle.sip_lex.specs.Number.{plain_number_within};
-ghost use Rattle.fork_model.specs.Table.{most_targets};
+ghost use Rattle.std.specs.List.{list_all};
 ghost use Rattle.fork_context.specs.KindView.{kind_of};
+ghost use Rattle.fork_text.specs.Field.{number_from, seen_before};
 ghost use Rattle.fork_program.specs.Line as spec;
-ghost use Rattle.fork_program.specs.Line.{IsSpelledBy, most_q, most_number, is_visible, is_printable, is_name, is_text};
-ghost use Rattle.fork_program.specs.Reading.{word_of, read_kind, numbers_onto, read_preferred, read_numbered, number_from, read_named, read_texted, read_asker, read_challenge, read_rest, read_worded, read_line};
-ghost use Rattle.fork_program.specs.LineView.{line_of, seen_numbered};
+ghost use Rattle.fork_program.specs.Line.{IsSpelledBy, is_visible, is_printable, is_name, is_text};
+ghost use Rattle.fork_program.specs.Reading.{word_of, read_kind, read_named, read_texted, read_asker, read_challenge, read_rest, read_worded, read_line};
+ghost use Rattle.fork_program.specs.LineView.{line_of};
 
-use crate::depth::Depth;
 use fork_context::Kind;
-use fork_rank::{MOST_TARGETS, Preferred, RingStatus, Status};
-use sip_lex::{cut_at, read_plain_number};
-use std::alloc::{AllocError, Allocator};
+use fork_rank::{Preferred, RingStatus, Status};
+use fork_text::{Depth, read_depth, read_number, read_number_before, read_preferred};
+use sip_lex::cut_at;
 
 /// A q is in thousandths, and at most one.
 const MOST_Q: u16 = 1000;
-
-/// A preferred status is a 4xx.
-const MOST_PREFERRED_STATUS: u16 = 499;
 
 /// The word that begins a line.
 #[derive(Clone, Copy, Debug, PartialEq, Eq)]
@@ -111,32 +105,6 @@ fn read_kind(text: &[u8]) -> Option<Kind>
     }
 }
 
-/// The number that decimal digits without a leading zero spell, where it is at most `most`.
-fn read_number(digits: &[u8], most: u16) -> Option<u16>
-    ensures value { result ≡ plain_number_within most digits.now }
-    ensures within { IfSome result (λ n. n ≤ most) }
-{
-    let n = read_plain_number(digits, u64::from(most))?;
-    Some(n as u16)
-}
-
-/// A number, and what stands behind the space after it.
-fn read_numbered(text: &[u8], most: u16) -> Option<(u16, &[u8])>
-    ensures { seen_numbered result ≡ read_numbered most text.now }
-{
-    match cut_at(text, b' ') {
-        (_, None) => None,
-        (digits, Some(rest)) => Some((read_number(digits, most)?, rest)),
-    }
-}
-
-fn read_depth(digits: &[u8]) -> Option<Depth>
-    ensures { option_map (λ depth. depth.steps) result ≡ plain_number_within most_targets digits.now }
-{
-    let steps = read_number(digits, MOST_TARGETS)?;
-    Some(Depth { steps })
-}
-
 fn read_ring(digits: &[u8]) -> Option<RingStatus>
     ensures { result ≡ number_from 100 199 digits.now }
 {
@@ -175,17 +143,17 @@ fn is_text(text: &[u8]) -> bool
 
 /// A q and a name.
 fn read_named(text: &[u8]) -> Option<(u16, &[u8])>
-    ensures { seen_numbered result ≡ read_named text.now }
+    ensures { seen_before result ≡ read_named text.now }
 {
-    let (q, name) = read_numbered(text, MOST_Q)?;
+    let (q, name) = read_number_before(text, MOST_Q)?;
     if is_name(name) { Some((q, name)) } else { None }
 }
 
 /// A q and a text.
 fn read_texted(text: &[u8]) -> Option<(u16, &[u8])>
-    ensures { seen_numbered result ≡ read_texted text.now }
+    ensures { seen_before result ≡ read_texted text.now }
 {
-    let (q, other) = read_numbered(text, MOST_Q)?;
+    let (q, other) = read_number_before(text, MOST_Q)?;
     if is_text(other) {
         Some((q, other))
     } else {
@@ -223,55 +191,24 @@ fn read_challenge(text: &[u8]) -> Option<Line<'_>>
     }
 }
 
-/// The numbers between the commas; `None` where something else stands there.
-fn read_numbers<A: Allocator>(alloc: A, text: &[u8]) -> Result<Option<Vec<u16, A>>, AllocError>
-    ensures { IfOk result (λ r. option_map (λ v. v.items) r ≡ numbers_onto [] (slice_split (is 44) text.now)) }
-{
-    let mut numbers = Vec::new(alloc);
-    let mut rest = text;
-    loop {
-        let (digits, more) = cut_at(rest, b',');
-        let Some(number) = read_number(digits, MOST_PREFERRED_STATUS) else {
-            return Ok(None);
-        };
-        numbers.push(number)?;
-        match more {
-            None => return Ok(Some(numbers)),
-            Some(after) => rest = after,
-        }
-    }
-}
-
-fn read_preferred<A: Allocator>(alloc: A, text: &[u8]) -> Result<Option<Preferred>, AllocError>
-    ensures { IfOk result (λ preferred. preferred ≡ read_preferred text.now) }
-{
-    if text == b"-".as_slice() {
-        return Ok(Preferred::of(&[]));
-    }
-    match read_numbers(alloc, text)? {
-        None => Ok(None),
-        Some(statuses) => Ok(Preferred::of(&statuses)),
-    }
-}
-
-/// What stands behind a word and its space, of a line that takes no memory to read.
+/// What stands behind a word and its space.
 fn read_rest(word: Word, rest: &[u8]) -> Option<Line<'_>>
-    requires { word ≢ Word.Prefer }
     ensures { option_map line_of result ≡ read_rest word rest.now }
 {
     match word {
         Word::Kind => Some(Line::Kind(read_kind(rest)?)),
+        Word::Prefer => Some(Line::Prefer(read_preferred(rest)?)),
         Word::Depth => Some(Line::Depth(read_depth(rest)?)),
         Word::Target => {
             let (q, name) = read_named(rest)?;
             Some(Line::Target(q, name))
         }
         Word::Ring => {
-            let (n, status) = read_numbered(rest, u16::MAX)?;
+            let (n, status) = read_number_before(rest, u16::MAX)?;
             Some(Line::Ring(n, read_ring(status)?))
         }
         Word::Answer => {
-            let (n, status) = read_numbered(rest, u16::MAX)?;
+            let (n, status) = read_number_before(rest, u16::MAX)?;
             Some(Line::Answer(n, read_status(status)?))
         }
         Word::Timeout => Some(Line::Timeout(read_number(rest, u16::MAX)?)),
@@ -287,51 +224,36 @@ fn read_rest(word: Word, rest: &[u8]) -> Option<Line<'_>>
             Some(Line::Other(q, text))
         }
         Word::Challenge => read_challenge(rest),
-        Word::Prefer | Word::Cancel => None,
+        Word::Cancel => None,
     }
 }
 
 /// What stands behind a word, if anything.
-fn read_worded<'a, A: Allocator>(
-    alloc: A,
-    word: Word,
-    rest: Option<&'a [u8]>,
-) -> Result<Option<Line<'a>>, AllocError>
-    ensures { IfOk result (λ line. option_map line_of line ≡ read_worded word (option_copied rest.entry)) }
+fn read_worded<'a>(word: Word, rest: Option<&'a [u8]>) -> Option<Line<'a>>
+    ensures { option_map line_of result ≡ read_worded word (option_copied rest.entry) }
 {
     match (word, rest) {
-        (Word::Cancel, None) => Ok(Some(Line::Cancel)),
-        (_, None) => Ok(None),
-        (Word::Prefer, Some(rest)) => match read_preferred(alloc, rest)? {
-            None => Ok(None),
-            Some(preferred) => Ok(Some(Line::Prefer(preferred))),
-        },
-        (_, Some(rest)) => Ok(read_rest(word, rest)),
+        (Word::Cancel, None) => Some(Line::Cancel),
+        (_, None) => None,
+        (_, Some(rest)) => read_rest(word, rest),
     }
 }
 
 /// The line that a text spells.
-fn line_at<A: Allocator>(alloc: A, line: &[u8]) -> Result<Option<Line<'_>>, AllocError>
-    ensures { IfOk result (λ l. option_map line_of l ≡ read_line line.now) }
+fn line_at(line: &[u8]) -> Option<Line<'_>>
+    ensures { option_map line_of result ≡ read_line line.now }
 {
     let (word, rest) = cut_at(line, b' ');
-    match word_of(word) {
-        None => Ok(None),
-        Some(word) => read_worded(alloc, word, rest),
-    }
+    read_worded(word_of(word)?, rest)
 }
 
 /// The line that a text spells; `None` where it spells none. Words are separated by one space, and numbers have no
 /// leading zero.
-///
-/// # Errors
-///
-/// Only where the allocator refuses.
-pub fn read_line<A: Allocator>(alloc: A, line: &[u8]) -> Result<Option<Line<'_>>, AllocError>
-    ensures value { IfOk result (λ l. option_map line_of l ≡ read_line line.now) }
+pub fn read_line(line: &[u8]) -> Option<Line<'_>>
+    ensures value { option_map line_of result ≡ read_line line.now }
     // What is read is the spelling of a line, and each spelling of a line is read.
-    ensures found { IfOk result (λ l. IfSome (option_map line_of l) (IsSpelledBy line.now)) }
-    ensures only { (spelled : spec.Line) → IsSpelledBy line.now spelled → IfOk result (λ l. option_map line_of l ≡ Some spelled) }
+    ensures found { IfSome (option_map line_of result) (IsSpelledBy line.now) }
+    ensures only { (spelled : spec.Line) → IsSpelledBy line.now spelled → option_map line_of result ≡ Some spelled }
 {
-    line_at(alloc, line)
+    line_at(line)
 }

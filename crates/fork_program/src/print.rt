@@ -1,6 +1,5 @@
 //! The texts that a replay prints.
-ghost use Rattle.std.specs.Prelude.{◌≡◌, ◌∷◌, ◌++◌, [], Some, codes, OnOk};
-ghost use Rattle.std.specs.Prelude.{slice_get, not, IfOk};
+ghost use Rattle.std.specs.Prelude.{◌≡◌, ◌++◌, Some, codes, OnOk, slice_get, not, IfOk};
 ghost use Rattle.std.specs.Fmt.{decimal};
 ghost use Rattle.fork_model.specs.Table.{is_ended, is_trying, is_row};
 ghost use Rattle.fork_model.specs.Choice as spec_choice;
@@ -8,31 +7,15 @@ ghost use Rattle.fork_model.specs.Choice.{status_at};
 ghost use Rattle.fork_model.specs.Challenges.{challenge_list};
 ghost use Rattle.fork_context.specs.Chosen.{IsChosen};
 ghost use Rattle.fork_context.specs.ReplyView.{choice_of, up_of};
-ghost use Rattle.fork_program.specs.Line.{list_text, numbered_text};
-ghost use Rattle.fork_program.specs.Replay.{tried, opening_text, final_text, up_text, reply_text, branches_left, ended, field_name, added_text, added_lines, EndsWith};
+ghost use Rattle.fork_program.specs.Replay.{tried, opening_text, final_text, up_text, reply_text, branches_left, field_name, added_text, added_lines, EndsWith};
+ghost use Rattle.fork_text.specs.RuleLines.{ended};
 
 use fork_context::{Choice, Context, End, Reply, State, Up};
 use fork_listing::{ListFault, listing};
 use fork_rank::Challenge;
+use fork_text::{append, append_list};
+use sip_lex::append_decimal;
 use std::alloc::{AllocError, Allocator};
-
-pub fn append<A: Allocator>(text: &mut Vec<u8, A>, bytes: &[u8]) -> Result<(), AllocError>
-    ensures { OnOk result (text.new.items ≡ text.old.items ++ bytes.now) }
-{
-    text.extend_from_slice(bytes)
-}
-
-/// Appends a number in decimal.
-#[tactic(auto, using(std::proofs::lemmas::Fmt::decimal_digit, std::proofs::lemmas::Fmt::decimal_step))]
-pub fn append_number<A: Allocator>(text: &mut Vec<u8, A>, n: u64) -> Result<(), AllocError>
-    ensures { OnOk result (text.new.items ≡ text.old.items ++ decimal n) }
-{
-    if n >= 10 {
-        append_number(text, n / 10)?;
-    }
-    text.push(b'0' + (n % 10) as u8)?;
-    Ok(())
-}
 
 /// Appends a word and a number.
 fn append_numbered<A: Allocator>(
@@ -43,22 +26,7 @@ fn append_numbered<A: Allocator>(
     ensures { OnOk result (text.new.items ≡ text.old.items ++ (word.now ++ decimal n)) }
 {
     append(text, word)?;
-    append_number(text, u64::from(n))
-}
-
-/// Appends numbers with commas between them, or `-` for none.
-fn append_list<A: Allocator>(text: &mut Vec<u8, A>, numbers: &[u16]) -> Result<(), AllocError>
-    ensures { OnOk result (text.new.items ≡ text.old.items ++ list_text numbers.now) }
-{
-    let [first, more @ ..] = numbers else {
-        return append(text, b"-");
-    };
-    append_number(text, u64::from(*first))?;
-    for number in more {
-        text.push(b',')?;
-        append_number(text, u64::from(*number))?;
-    }
-    Ok(())
+    append_decimal(text, u64::from(n))
 }
 
 /// The status of a row's stored answer, 408 where it has none.
@@ -115,7 +83,7 @@ pub fn append_reply<A: Allocator + Clone>(
 ) -> Result<(), AllocError>
     ensures { OnOk result (text.new.items ≡ text.old.items ++ ended (reply_text context.now.table.rows reply.now)) }
 {
-    append_number(text, u64::from(reply.at()))?;
+    append_decimal(text, u64::from(reply.at()))?;
     append(text, b" start ")?;
     append_list(text, reply.started())?;
     append(text, b" cancel ")?;

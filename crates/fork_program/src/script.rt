@@ -1,6 +1,5 @@
 //! A whole script: what is forked, by which rules and to which targets, and what happens then.
-ghost use Rattle.std.specs.Prelude.{◌≡◌, ◌≤◌, ◌<◌, ◌^◌, ◌++◌, ◌∷◌, [], length, suc, OnOk, IfOk, IfErr, MatchResult, Some, None, if◌then◌else◌};
-ghost use Rattle.std.specs.List.{slice_split};
+ghost use Rattle.std.specs.Prelude.{◌≡◌, ◌<◌, ◌^◌, ◌++◌, ◌∷◌, [], length, OnOk, IfOk, Some, None, if◌then◌else◌};
 ghost use Rattle.sip_lex.specs.Cut.{is};
 ghost use Rattle.fork_context.specs.KindView.{kind_of};
 ghost use Rattle.fork_context.specs.EventView.{event_of};
@@ -9,10 +8,10 @@ ghost use Rattle.fork_program.specs.Line.{bare};
 ghost use Rattle.fork_program.specs.LineView.{line_of};
 ghost use Rattle.fork_program.specs.ReadView.{GivesScript};
 
-use crate::depth::Depth;
 use crate::line::{Line, read_line};
 use fork_context::{Answer, Event, Kind, Offer, Target};
-use fork_rank::{Challenge, Preferred, Rules, Status};
+use fork_rank::{Challenge, Rules, Status};
+use fork_text::{with_depth, with_preferred};
 use sip_lex::cut_at;
 use std::alloc::{AllocError, Allocator};
 use std::collections::VecDeque;
@@ -170,20 +169,6 @@ impl<A: Allocator + Clone> Script<A> {
         self.rules = rules;
     }
 
-    fn set_preferred(&mut self, preferred: Preferred)
-        ensures { self.new ≡ record self.old { rules = record self.old.rules { preferred = preferred } } }
-    {
-        let rules = Rules::of(preferred, self.rules.depth());
-        self.set_rules(rules.unwrap());
-    }
-
-    fn set_depth(&mut self, depth: Depth)
-        ensures { self.new ≡ record self.old { rules = record self.old.rules { depth = depth.steps } } }
-    {
-        let rules = Rules::of(self.rules.preferred(), depth.steps);
-        self.set_rules(rules.unwrap());
-    }
-
     fn add_target(&mut self, target: Target<A>) -> Result<(), AllocError>
         ensures { OnOk result (self.new ≡ record self.old { targets = self.old.targets ++ target ∷ [] }) }
     {
@@ -224,8 +209,8 @@ impl<A: Allocator + Clone> Script<A> {
     {
         match line {
             Line::Kind(kind) => self.set_kind(kind),
-            Line::Prefer(preferred) => self.set_preferred(preferred),
-            Line::Depth(depth) => self.set_depth(depth),
+            Line::Prefer(preferred) => self.set_rules(with_preferred(self.rules, preferred)),
+            Line::Depth(depth) => self.set_rules(with_depth(self.rules, depth)),
             Line::Target(q, name) => self.add_target(Target::new(name.to_vec(alloc.clone()?)?, q))?,
             Line::Ring(n, status) => self.add_event(Event::Ring(n, status))?,
             Line::Answer(n, status) => self.add_event(Event::Answer(
@@ -299,10 +284,8 @@ impl<A: Allocator + Clone> Draft<A> {
     fn add(&mut self, alloc: &A, text: &[u8]) -> Result<bool, AllocError>
         ensures { IfOk result (λ added. (if added then Some self.new else None) ≡ drafted self.old text.now) }
     {
-        let line = match read_line(alloc.clone()?, text) {
-            Ok(Some(line)) => line,
-            Ok(None) => return Ok(false),
-            Err(refused) => return Err(refused),
+        let Some(line) = read_line(text) else {
+            return Ok(false);
         };
         let Some(phase) = self.phase.after(&line) else {
             return Ok(false);

@@ -11,4 +11,6 @@ mod listing;
 #[cfg(test)]
 mod rank;
 #[cfg(test)]
+mod text;
+#[cfg(test)]
 mod tree;

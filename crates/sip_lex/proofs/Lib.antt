@@ -1,3 +1,4 @@
+pub mod laws
 pub mod Cuts
 pub mod Lines
 pub mod Numbers

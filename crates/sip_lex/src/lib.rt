@@ -2,7 +2,7 @@
 //!
 //! Classes of bytes, cutting a text in two at its first mark, lines, space at the ends of a text,
 //! decimal and hexadecimal numbers, quoted text, and marks that quotes and angle brackets shelter.
-//! No function but `lowered` takes memory.
+//! No function but `lowered` and `append_decimal` takes memory.
 #![tactic(auto)]
 
 mod bytes;
@@ -20,7 +20,7 @@ pub use bytes::{are_digits, is_space, is_token, lowered};
 pub use cut::{cut_at, cut_at_space};
 pub use hex::{hex_digit, hex_value};
 pub use line::first_line;
-pub use number::{read_number, read_plain_number};
+pub use number::{append_decimal, read_number, read_plain_number};
 pub use quoted::cut_quoted;
 pub use sheltered::{Shelter, cut_outside, is_closed};
 pub use space::{trim, trim_end, trim_start};

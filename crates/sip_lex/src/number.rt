@@ -1,9 +1,12 @@
 //! Decimal numbers of bounded value.
 
-ghost use Rattle.std.specs.Prelude.{◌≡◌, ◌^◌};
+ghost use Rattle.std.specs.Prelude.{◌≡◌, ◌^◌, ◌++◌, OnOk, OnErr};
+ghost use Rattle.std.specs.Fmt.{decimal};
 ghost use Rattle.sip_lex.specs.Number.{below, number, number_within, plain_number_within, with_digit};
 
 use crate::bytes::are_digits;
+use itoa::Buffer;
+use std::alloc::{AllocError, Allocator};
 
 /// A number with one more digit, where it fits 64 bits.
 fn with_digit(n: u64, digit: u8) -> Option<u64>
@@ -48,4 +51,16 @@ pub fn read_plain_number(digits: &[u8], limit: u64) -> Option<u64>
         [b'0', _, ..] => None,
         _ => read_number(digits, limit),
     }
+}
+
+/// Appends a number in decimal, without a leading zero: what `read_plain_number` reads.
+///
+/// # Errors
+///
+/// Only where the growth of `out` is refused; `out` is then unchanged.
+pub fn append_decimal<A: Allocator>(out: &mut Vec<u8, A>, n: u64) -> Result<(), AllocError>
+    ensures ok { OnOk result (out.new.items ≡ out.old.items ++ decimal n) }
+    ensures err { OnErr result (out.new.items ≡ out.old.items) }
+{
+    out.extend_from_slice(Buffer::new().format(n).as_bytes())
 }

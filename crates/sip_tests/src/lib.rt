@@ -7,6 +7,8 @@ mod build;
 #[cfg(test)]
 mod holds;
 #[cfg(test)]
+mod lex_numbers;
+#[cfg(test)]
 mod messages;
 #[cfg(test)]
 mod rows;

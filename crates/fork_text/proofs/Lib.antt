@@ -1,0 +1,3 @@
+pub mod laws
+mod PreferredLists
+mod Numbers

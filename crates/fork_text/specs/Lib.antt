@@ -1,0 +1,4 @@
+pub mod Field
+pub mod Pieces
+pub mod Preferred
+pub mod RuleLines

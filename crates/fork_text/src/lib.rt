@@ -1,0 +1,15 @@
+//! Lines of text that several formats share: numbered fields, and the rules of a fork (`prefer` and `depth`).
+//!
+//! Words are separated by one space, and numbers are decimal without leading zeros. No function but those that append
+//! takes memory.
+#![tactic(auto)]
+
+mod depth;
+mod field;
+mod preferred;
+mod write;
+
+pub use depth::{Depth, read_depth, with_depth};
+pub use field::{read_number, read_number_before};
+pub use preferred::{read_preferred, with_preferred};
+pub use write::{append, append_depth, append_list, append_preferred};

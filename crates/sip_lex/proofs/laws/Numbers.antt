@@ -1,0 +1,93 @@
+-- A number is read exactly where it is the decimal spelling of a number within the limit.
+use Rattle.std.proofs.Common.{◌≡◌, ℕ, zero, suc, ◌^◌, ◌<◌, ◌≤◌, Bool, true, false, cond, eqb, List, [], ◌∷◌, ◌++◌, length, get_or, fold, Option, Some, None, refl, sym, ap, ◌∙◌, arith, rules, inl, inr}
+use Rattle.std.specs.Prelude.{◌&&◌, nat_lt, nat_le}
+use Rattle.std.specs.Char.{is_ascii_digit}
+use Rattle.std.specs.List.{list_all}
+use Rattle.std.specs.Fmt.{decimal}
+use Rattle.std.proofs.lemmas.Bool.{and_parts, and_from, eqb-true, eq-eqb, ltb-true, leb-true, lt-ltb, le-leb, cases_lt, false≢true, false_from_ne_true}
+use Rattle.std.proofs.lemmas.Option.{cond_some}
+use Rattle.std.proofs.lemmas.Str.Parse.{IsNumeralModel, IsDigitsTest, FoldsDigits, numerals_by_fold}
+use Rattle.std.proofs.lemmas.Fmt.{decimal_digit, first_decimal, digits_decimal, digits_value-decimal, decimal-digits_value, decimal_nonempty}
+use Rattle.sip_lex.specs.Cut.{cut, is, Lacks}
+use Rattle.sip_lex.specs.Number.{with_digit, number, is_number, number_within, begins_with_zero, plain_number_within}
+use Rattle.sip_lex.proofs.Cuts.{cut_again, Lacks-pass}
+
+digits_test : IsDigitsTest (λ ds. list_all is_ascii_digit ds ≡ true)
+digits_test = search rules
+
+folds : FoldsDigits (λ n ds. fold with_digit n ds)
+folds = search rules
+
+-- so the numerals of std are these: its lemmas on `decimal` hold of them
+pub own : IsNumeralModel (λ ds. list_all is_ascii_digit ds ≡ true) number
+own = numerals_by_fold _ digits_test (λ n ds. fold with_digit n ds) folds
+
+pub decimal_lacks : (mark n : ℕ) → is_ascii_digit mark ≡ false → n < 2 ^ 64 → Lacks mark (decimal n)
+decimal_lacks mark n no_digit small = Lacks-pass is_ascii_digit mark (decimal n) no_digit (digits_decimal own n small)
+
+-- what is spelled is read
+is_number-decimal : (n : ℕ) → n < 2 ^ 64 → is_number (decimal n) ≡ true
+is_number-decimal n small = and_from _ _ (lt-ltb _ _ (decimal_nonempty n small)) (digits_decimal own n small)
+
+leading : (ds : List ℕ) → nat_lt 1 (length ds) && begins_with_zero ds ≡ true → (1 < length ds) × (get_or ds 0 0 ≡ 48)
+leading [] e = absurd (false≢true e)
+leading (d ∷ ds) e =
+    let parts = and_parts (nat_lt 1 (length (d ∷ ds))) (eqb d 48) e in
+    (ltb-true _ _ parts.0, eqb-true _ _ parts.1)
+
+not_leading : (n : ℕ) → n < 2 ^ 64 → nat_lt 1 (length (decimal n)) && begins_with_zero (decimal n) ≡ false
+not_leading zero small = ap (λ ds. nat_lt 1 (length ds) && begins_with_zero ds) (decimal_digit 0 (omega arith))
+not_leading (suc n) small =
+    let first : 48 < get_or (decimal (suc n)) 0 0 = first_decimal (suc n) (omega arith) small in
+    false_from_ne_true _ (λ e. let h = leading (decimal (suc n)) e in omega arith)
+
+fits : (limit n : ℕ) → n ≤ limit → n < 2 ^ 64 → number_within limit (decimal n) ≡ Some n
+fits limit n within small =
+    let value : number (decimal n) ≡ n = digits_value-decimal own n small in
+    let test : is_number (decimal n) && nat_le (number (decimal n)) limit ≡ true = and_from _ _ (is_number-decimal n small) (le-leb _ _ (omega arith)) in
+    ap (λ t. cond t (Some (number (decimal n))) None) test ∙ ap Some value
+
+pub number_read : (limit n : ℕ) → n ≤ limit → n < 2 ^ 64 → plain_number_within limit (decimal n) ≡ Some n
+number_read limit n within small =
+    ap (λ t. cond t None (number_within limit (decimal n))) (not_leading n small) ∙ fits limit n within small
+
+-- what is read is spelled so
+pub record IsSpelled (limit : ℕ) (ds : List ℕ) (n : ℕ) : Type 0 where
+  pub spelled : ds ≡ decimal n
+  pub within : n ≤ limit
+
+cond_none : (b : Bool) (r : Option ℕ) (n : ℕ) → cond b None r ≡ Some n → (b ≡ false) × (r ≡ Some n)
+cond_none true r n e = absurd cc
+cond_none false r n e = (refl, e)
+
+zero_alone : (ds : List ℕ) → nat_lt 1 (length ds) && begins_with_zero ds ≡ false → get_or ds 0 0 ≡ 48 → 0 < length ds → length ds ≡ 1
+zero_alone [] e z more = absurd (omega arith)
+zero_alone (d ∷ ds) e z more =
+    elim (cases_lt 1 (length (d ∷ ds))) [
+      | inl lt ↦ absurd (false≢true (sym e ∙ and_from _ _ (lt-ltb 1 (length (d ∷ ds)) lt) (eq-eqb d 48 z)))
+      | inr le ↦ omega arith
+    ]
+
+pub number_spelled : (limit : ℕ) (ds : List ℕ) (n : ℕ) → limit < 2 ^ 64 → plain_number_within limit ds ≡ Some n → IsSpelled limit ds n
+number_spelled limit ds n small e =
+    let plain = cond_none (nat_lt 1 (length ds) && begins_with_zero ds) (number_within limit ds) n e in
+    let read = cond_some (is_number ds && nat_le (number ds) limit) (number ds) n plain.1 in
+    let tests = and_parts (is_number ds) (nat_le (number ds) limit) read.0 in
+    let digits = and_parts (nat_lt 0 (length ds)) (list_all is_ascii_digit ds) tests.0 in
+    let within : number ds ≤ limit = leb-true _ _ tests.1 in
+    let some : 0 < length ds = ltb-true _ _ digits.0 in
+    let back : decimal (number ds) ≡ ds = decimal-digits_value own ds digits.1 some (λ z. zero_alone ds plain.0 z some) (omega arith) in
+    record { spelled = sym back ∙ ap decimal read.1; within = omega arith }
+
+-- a number that is read, in digits with zeros before them too, is read again from its decimal spelling
+pub number_read_within : (limit : ℕ) (ds : List ℕ) (n : ℕ) → limit < 2 ^ 64 → number_within limit ds ≡ Some n → (n < 2 ^ 64) × (number_within limit (decimal n) ≡ Some n)
+number_read_within limit ds n small e =
+    let read = cond_some (is_number ds && nat_le (number ds) limit) (number ds) n e in
+    let tests = and_parts (is_number ds) (nat_le (number ds) limit) read.0 in
+    let within : number ds ≤ limit = leb-true _ _ tests.1 in
+    let fit : n < 2 ^ 64 = omega (arith, read.1) in
+    (fit, fits limit n (omega (arith, read.1)) fit)
+
+-- a number before a space
+pub cut-numbered : (n : ℕ) (text : List ℕ) → n < 2 ^ 64 → cut (is 32) (decimal n ++ 32 ∷ text) ≡ (decimal n, Some text)
+cut-numbered n text small = cut_again 32 (decimal n) (Some text) (decimal_lacks 32 n refl small)
