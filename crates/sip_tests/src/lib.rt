@@ -4,3 +4,5 @@
 
 #[cfg(test)]
 mod holds;
+#[cfg(test)]
+mod via_lines;
