@@ -14,3 +14,5 @@ mod messages;
 mod rows;
 #[cfg(test)]
 mod via;
+#[cfg(test)]
+mod via_lines;

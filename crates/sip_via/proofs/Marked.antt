@@ -27,7 +27,7 @@ use Rattle.sip_via.specs.Address.{IsAddress, address_text, dotted}
 use Rattle.sip_via.specs.Received.{IsSource, asks_port, filled, first_via_line, gets_received, line_marked, marked_line, marked_param, marked_parts, marked_value, received_text, with_via_line}
 use Rattle.sip_via.specs.ViaParts.{is_named, is_via, or_empty, params_of, via_of}
 use Rattle.sip_via.proofs.TrimmedValues.{all-parts, all-trim}
-use Rattle.sip_via.proofs.NumberLaws.{own}
+use Rattle.sip_via.proofs.DecimalLaws.{own}
 use Rattle.sip_via.proofs.Replaced.{first-good, with_via-good}
 use Rattle.sip_via.specs.declared.own.ViaFault.{ViaFault}
 use Rattle.sip_via.specs.declared.own.ViaFault.TheVariants.{BadVia}

@@ -16,7 +16,9 @@ use Rattle.sip_text.specs.Message.{is_line_byte}
 use Rattle.sip_via.specs.BranchText.{Branch, IsBranch, branch_text}
 use Rattle.sip_via.specs.HexPair.{hex_text}
 use Rattle.sip_via.proofs.DecimalLaws.{own}
-use Rattle.sip_via.proofs.HeaderValues.{no_space}
+
+abbrev pub no_space : ℕ → Bool
+no_space b = not (is_space b)
 
 -- what each byte of a list passes that has another property
 pub all_pass : (p q : ℕ → Bool) (bs : List ℕ) → ((b : ℕ) → p b ≡ true → q b ≡ true) → list_all p bs ≡ true → list_all q bs ≡ true
@@ -99,30 +101,3 @@ branch_token b is =
 pub all_small : (bs : List ℕ) → ((i : ℕ) → get_or bs i 0 < 2 ^ 8) → AllByRecursion (λ byte. byte < 2 ^ 8) bs
 all_small [] h = tt
 all_small (b ∷ bs) h = (h 0, all_small bs (λ i. h (suc i)))
-
--- ---- a CSeq is read as it was written
-
-cut_digits : (ds rest : List ℕ) → list_all no_space ds ≡ true → cut is_space (ds ++ 32 ∷ rest) ≡ (ds, Some rest)
-cut_digits [] rest h = refl
-cut_digits (d ∷ ds) rest h =
-    let each = and_parts (no_space d) (list_all no_space ds) h in
-    let plain : is_space d ≡ false = not_is (is_space d) each.0 in
-    cond-false (is_space d) ([], Some (ds ++ 32 ∷ rest)) (d ∷ (cut is_space (ds ++ 32 ∷ rest)).0, (cut is_space (ds ++ 32 ∷ rest)).1) plain
-    ∙ ap (λ (r : List ℕ × Option (List ℕ)). (d ∷ r.0, r.1)) (cut_digits ds rest each.1)
-  where
-    not_is : (b : Bool) → not b ≡ true → b ≡ false
-    not_is true e = absurd (false≢true e)
-    not_is false e = refl
-
--- a method as a CSeq has it
-pub record IsMethod (method : List ℕ) : Type 0 where
-  pub token : is_token method ≡ true
-  pub trimmed : trim_start method ≡ method
-
-pub cseq_again : (n : ℕ) (method : List ℕ) → IsMethod method → n < 2 ^ 64 → number_within (2 ^ 31 - 1) (decimal n) ≡ Some n → cseq_of (decimal n ++ 32 ∷ method) ≡ Some (record { number = n; method = method })
-cseq_again n method is small within =
-    let digits = all_pass is_high no_space (decimal n) high_no_space (decimal_high n small) in
-    ap cseq_of_cut (cut_digits (decimal n) method digits)
-    ∙ ap (λ (o : Option ℕ). cseq_with o (trim_start method)) within
-    ∙ ap (λ (m : List ℕ). cseq_with (Some n) m) is.trimmed
-    ∙ cond-true (is_token method) (Some (record { number = n; method = method })) None is.token

@@ -29,8 +29,7 @@ use Rattle.sip_via.specs.declared.own.ViaFault.{ViaFault}
 use Rattle.sip_via.specs.declared.own.ViaFault.TheVariants.{BadVia}
 use Rattle.sip_via.specs.ViaGrammar.{AreParamGaps, AreViaGaps, IsSpace, IsValue, IsVia, IsViaParam, ParamGaps, ViaGaps, param_spelling, param_text, params_spelling, spaced, spelling, tail_spelling, value_spelling}
 use Rattle.sip_via.specs.ViaParts.{Parts, ViaText, are_parts, is_param, is_port_if_any, is_trimmed, is_value, is_value_byte, is_value_if_any, is_via, is_whole, or_empty, params_of, parts_of, port_and_params, read_via, via_of, via_of_parts}
-use Rattle.sip_via.proofs.HeaderValues.{no_space}
-use Rattle.sip_via.proofs.Tokens.{all_pass}
+use Rattle.sip_via.proofs.Tokens.{all_pass, no_space}
 
 abbrev Cut : Type 0
 Cut = List ℕ × Option (List ℕ)

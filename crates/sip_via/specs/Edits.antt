@@ -1,5 +1,5 @@
 -- Header lines of which some are changed or left out (RFC 3261 section 7.3).
-use Rattle.std.specs.Prelude.{ℕ, ◌+◌, Bool, false, not, List, [], ◌∷◌, ◌++◌, filter, Option, Some, None, if◌then◌else◌}
+use Rattle.std.specs.Prelude.{ℕ, ◌+◌, Bool, false, List, [], ◌∷◌, ◌++◌, Option, Some, None, if◌then◌else◌}
 use Rattle.sip_text.specs.Name.{same_name}
 use Rattle.sip_text.specs.Text.{HeaderText, MessageText}
 
@@ -19,14 +19,6 @@ replaced name value (h ∷ hs) = if same_name name h.name then line_if_any h.nam
 -- a message with other header lines
 abbrev pub with_headers : MessageText → List HeaderText → MessageText
 with_headers m hs = record { start = m.start; headers = hs; body = m.body }
-
-abbrev pub is_other : List ℕ → HeaderText → Bool
-is_other name h = not (same_name name h.name)
-
--- other lines in the place of all those of that name: where the first stood, or at the end
-abbrev pub exchanged : List ℕ → List HeaderText → List HeaderText → List HeaderText
-exchanged name lines [] = lines
-exchanged name lines (h ∷ hs) = if same_name name h.name then lines ++ filter (is_other name) hs else h ∷ exchanged name lines hs
 
 -- the first line has another value, or is left out
 abbrev pub changed_first : Option (List ℕ) → List HeaderText → List HeaderText

@@ -1,6 +1,6 @@
--- What tells two passes of one request apart, and the proxy's own tag (RFC 3261 sections 16.3 step 4,
--- 16.6 step 8 and 19.3). Which fields are taken is this proxy's choice.
-use Rattle.std.specs.Prelude.{ℕ, List, [], ◌∷◌, ◌++◌, take, codes, Option, Some, None}
+-- What tells two passes of one request apart (RFC 3261 sections 16.3 step 4 and 16.6 step 8). Which
+-- fields are taken is this proxy's choice.
+use Rattle.std.specs.Prelude.{ℕ, List, [], ◌∷◌, ◌++◌, codes, Option, Some, None}
 use Rattle.std.specs.Fmt.{decimal}
 use Rattle.std.specs.List.{flat_map, join_with_byte}
 use Rattle.md5.specs.Md5.{md5}
@@ -9,7 +9,6 @@ use Rattle.sip_text.specs.Fields.{CSeqText, message_cseq, value_of}
 use Rattle.sip_text.specs.Name.{values_of}
 use Rattle.sip_text.specs.Tag.{tag_in}
 use Rattle.sip_text.specs.Text.{MessageText, StartText, Request, Response}
-use Rattle.sip_via.specs.HexPair.{hex_text}
 
 -- what is missing is empty
 abbrev pub or_empty : Option (List ℕ) → List ℕ
@@ -68,10 +67,3 @@ loop_fields m = request_uri m.start ∷ (dialog_fields m ++ routing_fields m)
 
 unfoldable pub loop_key : MessageText → List ℕ
 loop_key m = md5 (field_lines (loop_fields m))
-
-abbrev pub tag_fields : MessageText → List (List ℕ)
-tag_fields m = call_id m ∷ from_tag m ∷ cseq_number m ∷ []
-
--- `fp` and sixteen hexadecimal digits
-unfoldable pub own_tag : MessageText → List ℕ
-own_tag m = codes "fp" ++ hex_text (take 8 (md5 (field_lines (tag_fields m))))

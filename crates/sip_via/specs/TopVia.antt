@@ -1,5 +1,5 @@
 -- The Via values of a message (RFC 3261 sections 7.3.1 and 20.42).
-use Rattle.std.specs.Prelude.{ℕ, List, [], ◌∷◌, map, codes}
+use Rattle.std.specs.Prelude.{ℕ, Bool, true, false, List, [], ◌∷◌, map, codes}
 use Rattle.std.specs.List.{flat_map}
 use Rattle.sip_lex.specs.declared.sheltered.Shelter.TheVariants.{Quotes}
 use Rattle.sip_lex.specs.Bytes.{trim}
@@ -26,3 +26,9 @@ first_or_empty (v ∷ vs) = v
 -- the first of them, which each message has
 abbrev pub top_value : MessageText → List ℕ
 top_value m = first_or_empty (via_values m)
+
+-- a value stands behind the first
+abbrev pub has_second : List (List ℕ) → Bool
+has_second [] = false
+has_second (v ∷ []) = false
+has_second (v ∷ w ∷ vs) = true

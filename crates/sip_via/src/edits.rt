@@ -19,7 +19,7 @@ fn first_value<'a, A: Allocator>(headers: &'a [Header<A>], name: &[u8]) -> Optio
 }
 
 /// Whether the first of some header lines has that name, in any case and in long or compact form.
-pub(crate) fn begins_named<A: Allocator>(headers: &[Header<A>], name: &[u8]) -> bool
+pub fn begins_named<A: Allocator>(headers: &[Header<A>], name: &[u8]) -> bool
     requires { 1 ≤ length headers.now }
     ensures { result ≡ begins_named name.now (views headers.now) }
 {
@@ -28,10 +28,7 @@ pub(crate) fn begins_named<A: Allocator>(headers: &[Header<A>], name: &[u8]) -> 
 }
 
 /// A copy of a start line.
-pub(crate) fn copy_start<A: Allocator + Clone>(
-    alloc: &A,
-    start: &Start<A>,
-) -> Result<Start<A>, AllocError>
+fn copy_start<A: Allocator + Clone>(alloc: &A, start: &Start<A>) -> Result<Start<A>, AllocError>
     ensures { IfOk result (λ copy. view_start copy ≡ view_start start.now) }
 {
     match start {
@@ -46,10 +43,7 @@ pub(crate) fn copy_start<A: Allocator + Clone>(
     }
 }
 
-pub(crate) fn copy_header<A: Allocator + Clone>(
-    alloc: &A,
-    header: &Header<A>,
-) -> Result<Header<A>, AllocError>
+fn copy_header<A: Allocator + Clone>(alloc: &A, header: &Header<A>) -> Result<Header<A>, AllocError>
     ensures { IfOk result (λ copy. view copy ≡ view header.now) }
 {
     Ok(Header {
@@ -59,7 +53,11 @@ pub(crate) fn copy_header<A: Allocator + Clone>(
 }
 
 /// Adds copies of header lines.
-pub(crate) fn add_copies<A: Allocator + Clone>(
+///
+/// # Errors
+///
+/// Only where the allocator refuses; some of the lines may then stand in `out`.
+pub fn add_copies<A: Allocator + Clone>(
     out: &mut Vec<Header<A>, A>,
     alloc: &A,
     headers: &[Header<A>],
@@ -73,7 +71,7 @@ pub(crate) fn add_copies<A: Allocator + Clone>(
 }
 
 /// Adds a line of that name and value.
-pub(crate) fn add_line<A: Allocator + Clone>(
+fn add_line<A: Allocator + Clone>(
     out: &mut Vec<Header<A>, A>,
     alloc: &A,
     name: &[u8],
@@ -88,7 +86,11 @@ pub(crate) fn add_line<A: Allocator + Clone>(
 }
 
 /// Adds a line of that name, if there is a value for it.
-pub(crate) fn add_line_if_any<A: Allocator + Clone>(
+///
+/// # Errors
+///
+/// Only where the allocator refuses.
+pub fn add_line_if_any<A: Allocator + Clone>(
     out: &mut Vec<Header<A>, A>,
     alloc: &A,
     name: &[u8],
@@ -104,7 +106,7 @@ pub(crate) fn add_line_if_any<A: Allocator + Clone>(
 }
 
 /// The place of the first header line of that name, or how many there are.
-pub(crate) fn place_of<A: Allocator>(headers: &[Header<A>], name: &[u8]) -> usize
+pub fn place_of<A: Allocator>(headers: &[Header<A>], name: &[u8]) -> usize
     ensures value { result ≡ place_of name.now (views headers.now) }
     ensures within { result ≤ length headers.now }
 {
@@ -137,7 +139,11 @@ fn add_changed<A: Allocator + Clone>(
 }
 
 /// Adds copies of the header lines, the first of that name with another value, or left out.
-pub(crate) fn add_replaced<A: Allocator + Clone>(
+///
+/// # Errors
+///
+/// Only where the allocator refuses; some of the lines may then stand in `out`.
+pub fn add_replaced<A: Allocator + Clone>(
     out: &mut Vec<Header<A>, A>,
     alloc: &A,
     headers: &[Header<A>],
@@ -155,7 +161,11 @@ pub(crate) fn add_replaced<A: Allocator + Clone>(
 }
 
 /// The message with other header lines.
-pub(crate) fn with_headers<A: Allocator + Clone>(
+///
+/// # Errors
+///
+/// Only where the allocator refuses.
+pub fn with_headers<A: Allocator + Clone>(
     alloc: A,
     message: &Message<A>,
     headers: Vec<Header<A>, A>,

@@ -1,21 +1,19 @@
-//! The key by which a loop is found, and the proxy's own tag.
+//! The key by which a loop is found.
 
-ghost use Rattle.std.specs.Prelude.{◌≡◌, ◌≤◌, ◌++◌, List, ℕ, length, take, codes};
+ghost use Rattle.std.specs.Prelude.{◌≡◌, ◌++◌, List, ℕ};
 ghost use Rattle.std.specs.Fmt.{decimal};
 ghost use Rattle.std.specs.List.{join_with_byte};
 ghost use Rattle.std.specs.Option.{option_copied};
-ghost use Rattle.md5.specs.Md5.{Holds, md5};
-ghost use Rattle.sip_via.specs.HexPair.{hex_text};
-ghost use Rattle.sip_via.specs.Loop.{all_values, behind_commas, dialog_fields, field_line, field_lines, loop_key, or_empty, own_tag, request_uri, routing_fields, tag_fields};
+ghost use Rattle.md5.specs.Md5.{Holds};
+ghost use Rattle.sip_via.specs.Loop.{all_values, behind_commas, dialog_fields, field_line, field_lines, loop_key, or_empty, request_uri, routing_fields};
 
-use crate::hex_pair::hex_pair;
 use itoa::Buffer;
 use md5::{Digest, Md5};
 use sip_text::{Message, Start, Values};
 use std::alloc::Allocator;
 
 /// The Request-URI of a request; empty for a response.
-pub(crate) fn request_uri<A: Allocator>(message: &Message<A>) -> &[u8]
+pub fn request_uri<A: Allocator>(message: &Message<A>) -> &[u8]
     ensures { result.now ≡ request_uri message.now.start }
 {
     match message.start() {
@@ -113,43 +111,4 @@ pub fn loop_key<A: Allocator>(message: &Message<A>) -> [u8; 16]
     add_dialog(&mut hasher, message);
     add_routing(&mut hasher, message);
     hasher.finalize()
-}
-
-fn tag_digest<A: Allocator>(message: &Message<A>) -> [u8; 16]
-    ensures { result ≡ md5 (field_lines (tag_fields message.now)) }
-{
-    let mut hasher = Md5::new();
-    add_field(&mut hasher, message.call_id());
-    add_optional(&mut hasher, message.from_tag());
-    add_number(&mut hasher, message.cseq().number);
-    hasher.finalize()
-}
-
-/// `fp` and the first sixteen digits of a digest.
-fn tag_of(digest: &[u8]) -> [u8; 18]
-    requires { 8 ≤ length digest.now }
-    ensures { result ≡ codes "fp" ++ hex_text (take 8 digest.now) }
-{
-    let mut tag = [0; 18];
-    tag[0] = b'f';
-    tag[1] = b'p';
-    for i in 0..8 {
-        let [upper, lower] = hex_pair(digest[i]);
-        tag[2 * i + 2] = upper;
-        tag[2 * i + 3] = lower;
-    }
-    tag
-}
-
-/// The tag that the proxy gives its own answers to a request (RFC 3261 section 8.2.6.2): the same
-/// for each repetition of the request.
-///
-/// `fp` and the first sixteen hexadecimal digits of MD5 of the Call-ID, the From tag and the number
-/// of the CSeq, each followed by LF.
-#[tactic(auto, unfolding(crate::specs::Loop::own_tag))]
-pub fn own_tag<A: Allocator>(message: &Message<A>) -> [u8; 18]
-    ensures { result ≡ own_tag message.now }
-{
-    let digest = tag_digest(message);
-    tag_of(&digest)
 }

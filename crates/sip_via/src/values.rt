@@ -4,7 +4,7 @@ ghost use Rattle.std.specs.Prelude.{◌≡◌, [], ◌∷◌, ◌++◌, IfSome, 
 ghost use Rattle.std.specs.List.{flat_map};
 ghost use Rattle.std.specs.Option.{option_copied};
 ghost use Rattle.sip_via.specs.SeenVia.{values_behind, values_left};
-ghost use Rattle.sip_via.specs.TopVia.{top_value, values_in};
+ghost use Rattle.sip_via.specs.TopVia.{has_second, top_value, values_in, via_values};
 
 use sip_lex::{Shelter, cut_outside, trim};
 use sip_text::{Message, Values};
@@ -89,4 +89,13 @@ pub fn top_via<A: Allocator>(message: &Message<A>) -> &[u8]
         Some(value) => value,
         None => b"",
     }
+}
+
+/// Whether a Via value stands behind the top one. A response without one was meant for the proxy itself
+/// (RFC 3261 section 16.7 step 3).
+pub fn has_second_via<A: Allocator>(message: &Message<A>) -> bool
+    ensures { result ≡ has_second (via_values message.now) }
+{
+    let mut values = ViaValues::of(message);
+    values.next().is_some() && values.next().is_some()
 }

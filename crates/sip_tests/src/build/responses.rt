@@ -4,8 +4,8 @@ use crate::messages::{
     REQUEST, ROUTED, is_read_back, is_written_as, is_written_as_read, message_of, written,
 };
 use crate::rows::holds_in_row;
+use sip_build::{OwnStatus, generated, generated_is_message, own_tag};
 use sip_text::Message;
-use sip_via::{OwnStatus, generated, generated_is_message, own_tag};
 use std::alloc::Global;
 
 /// The proxy's own tag for the request of these lines.

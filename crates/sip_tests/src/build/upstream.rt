@@ -2,8 +2,9 @@
 use crate::holds::holds;
 use crate::messages::{is_written_as, message_of};
 use fork_rank::Challenge;
+use sip_build::upward;
 use sip_text::Message;
-use sip_via::{BuildFault, upward};
+use sip_via::BuildFault;
 use std::alloc::Global;
 
 /// A 302 that came with two Via lines and two Contact lines.

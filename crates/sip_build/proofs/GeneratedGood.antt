@@ -1,0 +1,236 @@
+-- A response of the proxy's own is a message.
+use Rattle.std.proofs.Common.{◌≡◌, ℕ, true, List, [], ◌∷◌, ◌++◌, map, take, Option, Some, refl, sym, ap, subst, ◌∙◌, arith}
+use Rattle.std.specs.Prelude.{codes}
+use Rattle.std.specs.List.{list_all}
+use Rattle.std.proofs.lemmas.Bool.{and_parts, and_from, cond_both}
+use Rattle.md5.specs.Md5.{md5}
+use Rattle.sip_lex.specs.Bytes.{is_token}
+use Rattle.sip_text.specs.declared.needed.Needed.TheVariants.{Via, From, To, CallId, CSeq}
+use Rattle.sip_text.specs.Fields.{CSeqText, cseq_fits, cseq_in, fits_start, length_name, message_cseq, said_by, value_of}
+use Rattle.sip_text.specs.Message.{IsMessage, fits_body, is_header, is_line, is_line_byte, is_start, is_value}
+use Rattle.sip_text.specs.Name.{first_of, full_name, values_of}
+use Rattle.sip_text.specs.Text.{HeaderText, MessageText, StartText, Response}
+use Rattle.sip_build.specs.declared.responses.OwnStatus.{OwnStatus}
+use Rattle.sip_build.specs.declared.responses.OwnStatus.TheVariants as own
+use Rattle.sip_build.specs.Generated.{code_of, generated_of, gets_tag, reason_of, tagged, to_lines, unsupported_lines, with_tag}
+use Rattle.sip_build.specs.Lines.{first_line, line, lines_named}
+use Rattle.sip_via.specs.Loop.{field_lines}
+use Rattle.sip_build.specs.OwnTag.{own_tag, tag_fields}
+use Rattle.sip_build.proofs.Named.{AreNamed, Has, all_keep, cseq_there, first_keeps, has_all, named_filter, named_first, named_lines, named_tagged, none_missing, skip, tagged_keeps}
+use Rattle.sip_via.proofs.Tokens.{all_pass, hex_text_high, high_line, high_no_space, is_high, no_space}
+use Rattle.sip_build.proofs.HeaderValues.{behind_good, filter_good, joined_good, lines_good, one_good, values_good}
+
+-- ---- each part of the header lines is of one name
+
+to_named : (status : OwnStatus) (m : MessageText) → AreNamed (codes "to") (to_lines status m)
+to_named status m =
+    let first = named_first (codes "to") (lines_named (codes "to") m) (named_filter (codes "to") m.headers) in
+    cond_both (gets_tag status m) (map (tagged (own_tag m)) (first_line (codes "to") m)) (first_line (codes "to") m) (λ (b : List HeaderText). AreNamed (codes "to") b)
+    (λ e. named_tagged (codes "to") (own_tag m) (first_line (codes "to") m) first)
+    (λ e. first)
+
+unsupported_named : (status : OwnStatus) (m : MessageText) → AreNamed (codes "Unsupported") (unsupported_lines status m)
+unfolding full_name
+unsupported_named own.BadExtension m = named_lines (codes "Unsupported") (codes "Unsupported") (values_of (codes "proxy-require") m.headers) refl
+unsupported_named own.Trying m = tt
+unsupported_named own.Okay m = tt
+unsupported_named own.BadRequest m = tt
+unsupported_named own.RequestTimeout m = tt
+unsupported_named own.UnsupportedUriScheme m = tt
+unsupported_named own.TemporarilyUnavailable m = tt
+unsupported_named own.CallDoesNotExist m = tt
+unsupported_named own.LoopDetected m = tt
+unsupported_named own.TooManyHops m = tt
+unsupported_named own.ServerInternalError m = tt
+
+via_named : (m : MessageText) → AreNamed (codes "via") (lines_named (codes "via") m)
+via_named m = named_filter (codes "via") m.headers
+
+first_named : (name : List ℕ) (m : MessageText) → AreNamed name (first_line name m)
+first_named name m = named_first name (lines_named name m) (named_filter name m.headers)
+
+-- ---- what stands behind each part
+
+abbrev end_lines : List HeaderText
+end_lines = line (codes "Content-Length") (codes "0") ∷ []
+
+abbrev from_unsupported : OwnStatus → MessageText → List HeaderText
+from_unsupported status m = unsupported_lines status m ++ end_lines
+
+abbrev from_cseq : OwnStatus → MessageText → List HeaderText
+from_cseq status m = first_line (codes "cseq") m ++ from_unsupported status m
+
+abbrev from_call : OwnStatus → MessageText → List HeaderText
+from_call status m = first_line (codes "call-id") m ++ from_cseq status m
+
+abbrev from_to : OwnStatus → MessageText → List HeaderText
+from_to status m = to_lines status m ++ from_call status m
+
+abbrev from_from : OwnStatus → MessageText → List HeaderText
+from_from status m = first_line (codes "from") m ++ from_to status m
+
+abbrev all_lines : OwnStatus → MessageText → List HeaderText
+all_lines status m = lines_named (codes "via") m ++ from_from status m
+
+-- ---- the five that a message needs
+
+via_has : (status : OwnStatus) (m : MessageText) → Has Via m.headers → Has Via (all_lines status m)
+via_has status m h = (h.0, all_keep (codes "via") m.headers (from_from status m) h.0 h.1)
+
+from_has : (status : OwnStatus) (m : MessageText) → Has From m.headers → Has From (all_lines status m)
+unfolding full_name
+from_has status m h = (
+  h.0,
+  ap first_of (skip (codes "from") (codes "via") (lines_named (codes "via") m) (from_from status m) refl (via_named m))
+      ∙ first_keeps (codes "from") m.headers (from_to status m) h.0 h.1,
+)
+
+to_there : (status : OwnStatus) (m : MessageText) → Has To m.headers → Has To (from_to status m)
+to_there status m h =
+    cond_both (gets_tag status m) (map (tagged (own_tag m)) (first_line (codes "to") m)) (first_line (codes "to") m) (λ (b : List HeaderText). Has To (b ++ from_call status m))
+    (λ e. (with_tag (own_tag m) h.0, tagged_keeps (codes "to") (own_tag m) m.headers (from_call status m) h.0 h.1))
+    (λ e. (h.0, first_keeps (codes "to") m.headers (from_call status m) h.0 h.1))
+
+to_has : (status : OwnStatus) (m : MessageText) → Has To m.headers → Has To (all_lines status m)
+unfolding full_name
+to_has status m h =
+    let there = to_there status m h in (
+      there.0,
+      ap first_of (skip (codes "to") (codes "via") (lines_named (codes "via") m) (from_from status m) refl (via_named m)
+          ∙ skip (codes "to") (codes "from") (first_line (codes "from") m) (from_to status m) refl (first_named (codes "from") m))
+          ∙ there.1,
+    )
+
+call_has : (status : OwnStatus) (m : MessageText) → Has CallId m.headers → Has CallId (all_lines status m)
+unfolding full_name
+call_has status m h = (
+  h.0,
+  ap first_of (skip (codes "call-id") (codes "via") (lines_named (codes "via") m) (from_from status m) refl (via_named m)
+      ∙ skip (codes "call-id") (codes "from") (first_line (codes "from") m) (from_to status m) refl (first_named (codes "from") m)
+      ∙ skip (codes "call-id") (codes "to") (to_lines status m) (from_call status m) refl (to_named status m))
+      ∙ first_keeps (codes "call-id") m.headers (from_cseq status m) h.0 h.1,
+)
+
+cseq_has : (status : OwnStatus) (m : MessageText) → (h : Has CSeq m.headers) → value_of CSeq (all_lines status m) ≡ Some h.0
+unfolding full_name
+cseq_has status m h =
+    ap first_of (skip (codes "cseq") (codes "via") (lines_named (codes "via") m) (from_from status m) refl (via_named m)
+    ∙ skip (codes "cseq") (codes "from") (first_line (codes "from") m) (from_to status m) refl (first_named (codes "from") m)
+    ∙ skip (codes "cseq") (codes "to") (to_lines status m) (from_call status m) refl (to_named status m)
+    ∙ skip (codes "cseq") (codes "call-id") (first_line (codes "call-id") m) (from_cseq status m) refl (first_named (codes "call-id") m))
+    ∙ first_keeps (codes "cseq") m.headers (from_unsupported status m) h.0 h.1
+
+-- ---- its length
+
+end_length : values_of length_name end_lines ≡ codes "0" ∷ []
+unfolding values_of full_name
+end_length = refl
+
+length_is : (status : OwnStatus) (m : MessageText) → values_of length_name (all_lines status m) ≡ codes "0" ∷ []
+unfolding full_name
+length_is status m =
+    skip length_name (codes "via") (lines_named (codes "via") m) (from_from status m) refl (via_named m)
+    ∙ skip length_name (codes "from") (first_line (codes "from") m) (from_to status m) refl (first_named (codes "from") m)
+    ∙ skip length_name (codes "to") (to_lines status m) (from_call status m) refl (to_named status m)
+    ∙ skip length_name (codes "call-id") (first_line (codes "call-id") m) (from_cseq status m) refl (first_named (codes "call-id") m)
+    ∙ skip length_name (codes "cseq") (first_line (codes "cseq") m) (from_unsupported status m) refl (first_named (codes "cseq") m)
+    ∙ skip length_name (codes "Unsupported") (unsupported_lines status m) end_lines refl (unsupported_named status m)
+    ∙ end_length
+
+-- ---- its header lines are header lines
+
+tag_high : (m : MessageText) → list_all is_high (own_tag m) ≡ true
+unfolding own_tag
+tag_high m = hex_text_high (take 8 (md5 (field_lines (tag_fields m))))
+
+tag_line : (m : MessageText) → is_line (codes ";tag=" ++ own_tag m) ≡ true
+tag_line m = all_pass is_high is_line_byte (own_tag m) high_line (tag_high m)
+
+tag_no_space : (m : MessageText) → list_all no_space (codes ";tag=" ++ own_tag m) ≡ true
+tag_no_space m = all_pass is_high no_space (own_tag m) high_no_space (tag_high m)
+
+tagged_good : (m : MessageText) (block : List HeaderText) → list_all is_header block ≡ true → list_all is_header (map (tagged (own_tag m)) block) ≡ true
+tagged_good m [] h = refl
+tagged_good m (x ∷ block) h =
+    let each = and_parts (is_header x) (list_all is_header block) h in
+    let parts = and_parts (is_token x.name) (is_value x.value) each.0 in
+    let value = behind_good x.value (codes ";tag=" ++ own_tag m) parts.1 (tag_line m) (omega arith) (tag_no_space m) in
+    and_from (is_header (tagged (own_tag m) x)) (list_all is_header (map (tagged (own_tag m)) block))
+    (and_from (is_token x.name) (is_value (x.value ++ (codes ";tag=" ++ own_tag m))) parts.0 value) (tagged_good m block each.1)
+
+first_line_good : (name : List ℕ) (m : MessageText) → list_all is_header m.headers ≡ true → list_all is_header (first_line name m) ≡ true
+first_line_good name m h = one_good (lines_named name m) (filter_good name m.headers h)
+
+to_good : (status : OwnStatus) (m : MessageText) → list_all is_header m.headers ≡ true → list_all is_header (to_lines status m) ≡ true
+to_good status m h =
+    cond_both (gets_tag status m) (map (tagged (own_tag m)) (first_line (codes "to") m)) (first_line (codes "to") m) (λ (b : List HeaderText). list_all is_header b ≡ true)
+    (λ e. tagged_good m (first_line (codes "to") m) (first_line_good (codes "to") m h))
+    (λ e. first_line_good (codes "to") m h)
+
+unsupported_good : (status : OwnStatus) (m : MessageText) → list_all is_header m.headers ≡ true → list_all is_header (unsupported_lines status m) ≡ true
+unsupported_good own.BadExtension m h = lines_good (codes "Unsupported") (values_of (codes "proxy-require") m.headers) refl (values_good (codes "proxy-require") m.headers h)
+unsupported_good own.Trying m h = refl
+unsupported_good own.Okay m h = refl
+unsupported_good own.BadRequest m h = refl
+unsupported_good own.RequestTimeout m h = refl
+unsupported_good own.UnsupportedUriScheme m h = refl
+unsupported_good own.TemporarilyUnavailable m h = refl
+unsupported_good own.CallDoesNotExist m h = refl
+unsupported_good own.LoopDetected m h = refl
+unsupported_good own.TooManyHops m h = refl
+unsupported_good own.ServerInternalError m h = refl
+
+all_good : (status : OwnStatus) (m : MessageText) → list_all is_header m.headers ≡ true → list_all is_header (all_lines status m) ≡ true
+all_good status m h =
+    joined_good (lines_named (codes "via") m) (from_from status m) (filter_good (codes "via") m.headers h)
+    (joined_good (first_line (codes "from") m) (from_to status m) (first_line_good (codes "from") m h)
+    (joined_good (to_lines status m) (from_call status m) (to_good status m h)
+    (joined_good (first_line (codes "call-id") m) (from_cseq status m) (first_line_good (codes "call-id") m h)
+    (joined_good (first_line (codes "cseq") m) (from_unsupported status m) (first_line_good (codes "cseq") m h)
+    (joined_good (unsupported_lines status m) end_lines (unsupported_good status m h) refl)))))
+
+start_good : (status : OwnStatus) → is_start (Response (code_of status) (reason_of status)) ≡ true
+start_good own.Trying = refl
+start_good own.Okay = refl
+start_good own.BadRequest = refl
+start_good own.RequestTimeout = refl
+start_good own.UnsupportedUriScheme = refl
+start_good own.BadExtension = refl
+start_good own.TemporarilyUnavailable = refl
+start_good own.CallDoesNotExist = refl
+start_good own.LoopDetected = refl
+start_good own.TooManyHops = refl
+start_good own.ServerInternalError = refl
+
+fits_good : (status : OwnStatus) (m : MessageText) → (h : Has CSeq m.headers) → cseq_fits m.start m.headers ≡ true → cseq_fits (Response (code_of status) (reason_of status)) (all_lines status m) ≡ true
+fits_good status m h fits =
+    let there = cseq_there m.start (message_cseq m.headers) fits in
+    let same : message_cseq (all_lines status m) ≡ message_cseq m.headers = ap cseq_in (cseq_has status m h ∙ sym h.1) in
+    ap (λ (o : Option CSeqText). fits_start (Response (code_of status) (reason_of status)) o) (same ∙ there.1)
+
+pub generated_good : (m : MessageText) (status : OwnStatus) → IsMessage m → IsMessage (generated_of m status)
+generated_good m status is =
+    let has = has_all m.headers is.head.needed in
+    record {
+      head = record {
+        start = start_good status;
+        headers = all_good status m is.head.headers;
+        needed = none_missing (all_lines status m) (record {
+          via = via_has status m has.via;
+          from = from_has status m has.from;
+          to = to_has status m has.to;
+          call_id = call_has status m has.call_id;
+          cseq = (has.cseq.0, cseq_has status m has.cseq);
+        });
+        cseq = fits_good status m has.cseq is.head.cseq;
+      };
+      body = ap (λ (vs : List (List ℕ)). fits_body (said_by vs) 0) (length_is status m);
+    }
+
+-- what is made of parts like these
+pub made_so : (m : MessageText) (start : StartText) (hs : List HeaderText) (body : List ℕ) → IsMessage m → start ≡ m.start → hs ≡ m.headers → body ≡ m.body → IsMessage (record { start = start; headers = hs; body = body })
+made_so m start hs body is s h b =
+    subst (λ (x : MessageText). IsMessage x)
+    (sym (ap (λ (x : StartText). record { start = x; headers = hs; body = body }) s
+    ∙ ap (λ (x : List HeaderText). record { start = m.start; headers = x; body = body }) h
+    ∙ ap (λ (x : List ℕ). record { start = m.start; headers = m.headers; body = x }) b)) is

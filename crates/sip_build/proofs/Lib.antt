@@ -1,0 +1,11 @@
+pub mod Named
+pub mod HeaderValues
+pub mod CSeqAgain
+pub mod GeneratedGood
+pub mod RequestsGood
+pub mod Walks
+pub mod TagLaws
+pub mod Added
+pub mod Forwarded
+pub mod Exchanged
+pub mod UpwardGood

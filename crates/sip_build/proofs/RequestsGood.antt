@@ -1,0 +1,201 @@
+-- An ACK or CANCEL is a message.
+use Rattle.std.proofs.Common.{◌≡◌, ℕ, ◌-◌, ◌^◌, ◌<◌, true, false, not, List, [], ◌∷◌, ◌++◌, reverse, Option, Some, None, refl, sym, ap, ◌∙◌, arith, inl, inr}
+use Rattle.std.specs.Prelude.{codes}
+use Rattle.std.specs.Fmt.{decimal}
+use Rattle.std.specs.List.{list_all}
+use Rattle.std.specs.Str.{bytes_eq}
+use Rattle.std.proofs.lemmas.Bool.{and_parts, and_from, cases_Bool, cond-true, cond-false}
+use Rattle.std.proofs.lemmas.Fmt.{decimal_nonempty}
+use Rattle.std.proofs.lemmas.List.{reverse-append}
+use Rattle.std.proofs.lemmas.List.Folds.{list_all-append}
+use Rattle.sip_lex.specs.Bytes.{is_space, is_token, trim_start}
+use Rattle.sip_lex.specs.Cut.{cut}
+use Rattle.sip_lex.specs.Number.{number_within}
+use Rattle.sip_text.specs.declared.needed.Needed.TheVariants.{Via, From, To, CallId, CSeq}
+use Rattle.sip_text.specs.Fields.{CSeqText, cseq_in, cseq_of, cseq_of_cut, cseq_with, fits_start, length_name, message_cseq, said_by, value_of}
+use Rattle.sip_text.specs.Message.{IsMessage, fits_body, is_header, is_line, is_line_byte, is_start, is_trimmed, is_value}
+use Rattle.sip_text.specs.Name.{first_of, full_name, same_name, values_of}
+use Rattle.sip_text.specs.Reading.{begins_with_space, is_uri}
+use Rattle.sip_text.specs.Text.{HeaderText, MessageText, StartText, Request, Response}
+use Rattle.sip_text.proofs.Good.{found}
+use Rattle.sip_build.specs.Lines.{line, lines_as}
+use Rattle.sip_via.specs.Loop.{call_id, cseq_number, number_text, request_uri}
+use Rattle.sip_build.specs.Requests.{IsRequest, ack_of, along, cancel_of, from_value, to_value}
+use Rattle.sip_via.specs.TopVia.{top_value}
+use Rattle.sip_build.proofs.Named.{AreNamed, cseq_there, named_lines, none_missing, skip}
+use Rattle.sip_via.proofs.DecimalLaws.{number_read_within}
+use Rattle.sip_via.proofs.Tokens.{all_pass, decimal_high, high_line, high_no_space, is_high, no_space}
+use Rattle.sip_build.proofs.CSeqAgain.{IsMethod, cseq_again}
+use Rattle.sip_build.proofs.HeaderValues.{ends, first_good, joined_good, lines_good, top_good, values_good}
+
+-- ---- the lines behind the Route lines
+
+abbrev tail_lines : List ℕ → MessageText → List ℕ → List HeaderText
+tail_lines method sent to =
+    line (codes "From") (from_value sent)
+    ∷ line (codes "To") to
+    ∷ line (codes "Call-ID") (call_id sent)
+    ∷ line (codes "CSeq") (cseq_number sent ++ 32 ∷ method)
+    ∷ line (codes "Content-Length") (codes "0") ∷ []
+
+abbrev from_routes : List ℕ → MessageText → List ℕ → List HeaderText
+from_routes method sent to = lines_as (codes "Route") (codes "route") sent ++ tail_lines method sent to
+
+abbrev all_lines : List ℕ → MessageText → List ℕ → List HeaderText
+all_lines method sent to = line (codes "Via") (top_value sent) ∷ line (codes "Max-Forwards") (codes "70") ∷ from_routes method sent to
+
+routes_named : (sent : MessageText) → AreNamed (codes "Route") (lines_as (codes "Route") (codes "route") sent)
+unfolding full_name
+routes_named sent = named_lines (codes "Route") (codes "Route") (values_of (codes "route") sent.headers) refl
+
+-- past the lines before it
+past : (name : List ℕ) (method : List ℕ) (sent : MessageText) (to : List ℕ) → same_name name (codes "Route") ≡ false → values_of name (from_routes method sent to) ≡ values_of name (tail_lines method sent to)
+past name method sent to other = skip name (codes "Route") (lines_as (codes "Route") (codes "route") sent) (tail_lines method sent to) other (routes_named sent)
+
+via_has : (method : List ℕ) (sent : MessageText) (to : List ℕ) → value_of Via (all_lines method sent to) ≡ Some (top_value sent)
+unfolding values_of full_name
+via_has method sent to = refl
+
+from_has : (method : List ℕ) (sent : MessageText) (to : List ℕ) → value_of From (all_lines method sent to) ≡ Some (from_value sent)
+unfolding values_of full_name
+from_has method sent to = ap first_of (past (codes "from") method sent to refl)
+
+to_has : (method : List ℕ) (sent : MessageText) (to : List ℕ) → value_of To (all_lines method sent to) ≡ Some to
+unfolding values_of full_name
+to_has method sent to = ap first_of (past (codes "to") method sent to refl)
+
+call_has : (method : List ℕ) (sent : MessageText) (to : List ℕ) → value_of CallId (all_lines method sent to) ≡ Some (call_id sent)
+unfolding values_of full_name
+call_has method sent to = ap first_of (past (codes "call-id") method sent to refl)
+
+cseq_has : (method : List ℕ) (sent : MessageText) (to : List ℕ) → value_of CSeq (all_lines method sent to) ≡ Some (cseq_number sent ++ 32 ∷ method)
+unfolding values_of full_name
+cseq_has method sent to = ap first_of (past (codes "cseq") method sent to refl)
+
+length_is : (method : List ℕ) (sent : MessageText) (to : List ℕ) → values_of length_name (all_lines method sent to) ≡ codes "0" ∷ []
+unfolding values_of full_name
+length_is method sent to = past length_name method sent to refl
+
+-- ---- the number of the CSeq
+
+-- what a message's CSeq says, its number is read again
+record IsCSeq (c : CSeqText) : Type 0 where
+  small : c.number < 2 ^ 64
+  within : number_within (2 ^ 31 - 1) (decimal c.number) ≡ Some c.number
+
+abbrev number_in : Option CSeqText → ℕ
+number_in None = 0
+number_in (Some c) = c.number
+
+with_parts : (o : Option ℕ) (method : List ℕ) (c : CSeqText) → cseq_with o method ≡ Some c → o ≡ Some c.number
+with_parts None method c e = absurd cc
+with_parts (Some n) method c e =
+    let read : CSeqText = record { number = n; method = method } in
+    elim (cases_Bool (is_token method)) [
+      | inl token ↦
+          let same : found read ≡ found c = sym (cond-true (is_token method) (Some read) None token) ∙ e in
+          ap (λ (o : Option CSeqText). Some (number_in o)) same
+      | inr other ↦
+          let wrong : None ≡ found c = sym (cond-false (is_token method) (Some read) None other) ∙ e in absurd cc
+    ]
+
+cut_parts : (r : List ℕ × Option (List ℕ)) (c : CSeqText) → cseq_of_cut r ≡ Some c → number_within (2 ^ 31 - 1) r.0 ≡ Some c.number
+cut_parts (digits, None) c e = absurd cc
+cut_parts (digits, Some rest) c e = with_parts (number_within (2 ^ 31 - 1) digits) (trim_start rest) c e
+
+in_parts : (o : Option (List ℕ)) (c : CSeqText) → cseq_in o ≡ Some c → (v : List ℕ) × (cseq_of v ≡ Some c)
+in_parts None c e = absurd cc
+in_parts (Some v) c e = (v, e)
+
+cseq_is : (hs : List HeaderText) (c : CSeqText) → message_cseq hs ≡ Some c → IsCSeq c
+cseq_is hs c e =
+    let read = in_parts (value_of CSeq hs) c e in
+    let digits = (cut is_space read.0).0 in
+    let again = number_read_within (2 ^ 31 - 1) digits c.number (omega arith) (cut_parts (cut is_space read.0) c read.1) in
+    record { small = again.0; within = again.1 }
+
+-- ---- header lines
+
+cseq_value : (n : ℕ) (method : List ℕ) → n < 2 ^ 64 → is_line (32 ∷ method) ≡ true → begins_with_space (reverse (32 ∷ method) ++ reverse (decimal n)) ≡ false → is_value (decimal n ++ 32 ∷ method) ≡ true
+cseq_value n method small tail last =
+    let digits = decimal_high n small in
+    let front : begins_with_space (decimal n ++ 32 ∷ method) ≡ false = ends (decimal n) (32 ∷ method) (decimal_nonempty n small) (all_pass is_high no_space (decimal n) high_no_space digits) in
+    and_from (is_line (decimal n ++ 32 ∷ method)) (is_trimmed (decimal n ++ 32 ∷ method))
+    (list_all-append is_line_byte (decimal n) (32 ∷ method) ∙ and_from (is_line (decimal n)) (is_line (32 ∷ method)) (all_pass is_high is_line_byte (decimal n) high_line digits) tail)
+    (and_from (not (begins_with_space (decimal n ++ 32 ∷ method))) (not (begins_with_space (reverse (decimal n ++ 32 ∷ method)))) (ap not front) (ap not (ap begins_with_space (reverse-append (decimal n) (32 ∷ method)) ∙ last)))
+
+pub record IsOwnMethod (method : List ℕ) : Type 0 where
+  pub is_method : IsMethod method
+  pub tail : is_line (32 ∷ method) ≡ true
+  pub last : (ds : List ℕ) → begins_with_space (reverse (32 ∷ method) ++ ds) ≡ false
+  pub same : bytes_eq method method ≡ true
+
+ack : IsOwnMethod (codes "ACK")
+ack = record { is_method = record { token = refl; trimmed = refl }; tail = refl; last = λ ds. refl; same = refl }
+
+cancel : IsOwnMethod (codes "CANCEL")
+cancel = record { is_method = record { token = refl; trimmed = refl }; tail = refl; last = λ ds. refl; same = refl }
+
+uri_good : (start : StartText) → IsRequest start → is_start start ≡ true → is_uri (request_uri start) ≡ true
+uri_good (Request method uri) is good = (and_parts (is_token method) (is_uri uri) good).1
+uri_good (Response status reason) is good = absurd is
+
+tail_good : (method : List ℕ) (sent : MessageText) (to : List ℕ) → is_value (from_value sent) ≡ true → is_value to ≡ true → is_value (call_id sent) ≡ true → is_value (cseq_number sent ++ 32 ∷ method) ≡ true → list_all is_header (tail_lines method sent to) ≡ true
+tail_good method sent to from value call spoken =
+    let seq = line (codes "CSeq") (cseq_number sent ++ 32 ∷ method) in
+    let end = line (codes "Content-Length") (codes "0") in
+    and_from (is_header (line (codes "From") (from_value sent))) (list_all is_header (line (codes "To") to ∷ line (codes "Call-ID") (call_id sent) ∷ seq ∷ end ∷ [])) from
+    (and_from (is_header (line (codes "To") to)) (list_all is_header (line (codes "Call-ID") (call_id sent) ∷ seq ∷ end ∷ [])) value
+    (and_from (is_header (line (codes "Call-ID") (call_id sent))) (list_all is_header (seq ∷ end ∷ [])) call
+    (and_from (is_header seq) (list_all is_header (end ∷ [])) spoken refl)))
+
+along_good : (method : List ℕ) (sent : MessageText) (to : List ℕ) → IsOwnMethod method → IsRequest sent.start → is_value to ≡ true → IsMessage sent → IsMessage (along method sent to)
+along_good method sent to own request value is =
+    let hs = sent.headers in
+    let headers = is.head.headers in
+    let there = cseq_there sent.start (message_cseq hs) is.head.cseq in
+    let number = cseq_is hs there.0 there.1 in
+    let text : cseq_number sent ≡ decimal there.0.number = ap number_text there.1 in
+    let whole : cseq_number sent ++ 32 ∷ method ≡ decimal there.0.number ++ 32 ∷ method = ap (λ (t : List ℕ). t ++ 32 ∷ method) text in
+    let spoken : is_value (cseq_number sent ++ 32 ∷ method) ≡ true = ap is_value whole ∙ cseq_value there.0.number method number.small own.tail (own.last (reverse (decimal there.0.number))) in
+    let from = first_good (values_of (codes "from") hs) (values_good (codes "from") hs headers) in
+    let call = first_good (values_of (codes "call-id") hs) (values_good (codes "call-id") hs headers) in
+    let read : message_cseq (all_lines method sent to) ≡ Some (record { number = there.0.number; method = method }) = ap cseq_in (cseq_has method sent to) ∙ ap cseq_of whole ∙ cseq_again there.0.number method own.is_method number.small number.within in
+    record {
+      head = record {
+        start = and_from (is_token method) (is_uri (request_uri sent.start)) own.is_method.token (uri_good sent.start request is.head.start);
+        headers =
+            and_from (is_value (top_value sent)) (list_all is_header (from_routes method sent to)) (top_good sent headers)
+            (joined_good (lines_as (codes "Route") (codes "route") sent) (tail_lines method sent to) (lines_good (codes "Route") (values_of (codes "route") hs) refl (values_good (codes "route") hs headers))
+            (tail_good method sent to from value call spoken));
+        needed = none_missing (all_lines method sent to) (record {
+          via = (top_value sent, via_has method sent to);
+          from = (from_value sent, from_has method sent to);
+          to = (to, to_has method sent to);
+          call_id = (call_id sent, call_has method sent to);
+          cseq = (cseq_number sent ++ 32 ∷ method, cseq_has method sent to);
+        });
+        cseq = ap (λ (o : Option CSeqText). fits_start (Request method (request_uri sent.start)) o) read ∙ own.same;
+      };
+      body = ap (λ (vs : List (List ℕ)). fits_body (said_by vs) 0) (length_is method sent to);
+    }
+
+to_good : (m : MessageText) → IsMessage m → is_value (to_value m) ≡ true
+to_good m is = first_good (values_of (codes "to") m.headers) (values_good (codes "to") m.headers is.head.headers)
+
+pub ack_good : (sent response : MessageText) → IsRequest sent.start → IsMessage sent → IsMessage response → IsMessage (ack_of sent response)
+ack_good sent response request is other = along_good (codes "ACK") sent (to_value response) ack request (to_good response other) is
+
+pub cancel_good : (sent : MessageText) → IsRequest sent.start → IsMessage sent → IsMessage (cancel_of sent)
+cancel_good sent request is = along_good (codes "CANCEL") sent (to_value sent) cancel request (to_good sent is) is
+
+-- the same header lines with what was read of the messages
+pub along_lines : (method : List ℕ) (sent : MessageText) (to via from call seq : List ℕ) → via ≡ top_value sent → from ≡ from_value sent → call ≡ call_id sent → seq ≡ cseq_number sent ++ 32 ∷ method → line (codes "Via") via ∷ line (codes "Max-Forwards") (codes "70") ∷ (lines_as (codes "Route") (codes "route") sent ++ line (codes "From") from ∷ line (codes "To") to ∷ line (codes "Call-ID") call ∷ line (codes "CSeq") seq ∷ line (codes "Content-Length") (codes "0") ∷ []) ≡ (along method sent to).headers
+along_lines method sent to via from call seq v f i s =
+    let routes = lines_as (codes "Route") (codes "route") sent in
+    let forwards = line (codes "Max-Forwards") (codes "70") in
+    let end = line (codes "Content-Length") (codes "0") in
+    ap (λ (x : List ℕ). line (codes "Via") x ∷ forwards ∷ (routes ++ line (codes "From") from ∷ line (codes "To") to ∷ line (codes "Call-ID") call ∷ line (codes "CSeq") seq ∷ end ∷ [])) v
+    ∙ ap (λ (x : List ℕ). line (codes "Via") (top_value sent) ∷ forwards ∷ (routes ++ line (codes "From") x ∷ line (codes "To") to ∷ line (codes "Call-ID") call ∷ line (codes "CSeq") seq ∷ end ∷ [])) f
+    ∙ ap (λ (x : List ℕ). line (codes "Via") (top_value sent) ∷ forwards ∷ (routes ++ line (codes "From") (from_value sent) ∷ line (codes "To") to ∷ line (codes "Call-ID") x ∷ line (codes "CSeq") seq ∷ end ∷ [])) i
+    ∙ ap (λ (x : List ℕ). line (codes "Via") (top_value sent) ∷ forwards ∷ (routes ++ line (codes "From") (from_value sent) ∷ line (codes "To") to ∷ line (codes "Call-ID") (call_id sent) ∷ line (codes "CSeq") x ∷ end ∷ [])) s

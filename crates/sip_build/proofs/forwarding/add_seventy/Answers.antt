@@ -1,0 +1,15 @@
+use Rattle.std.proofs.Common.{◌∙◌, ◌++◌, ◌∷◌, [], List, ℕ, ap, append_assoc}
+use Rattle.std.specs.Prelude.{codes}
+use Rattle.sip_text.specs.Seen.{views}
+use Rattle.sip_text.specs.Text.{HeaderText}
+use Rattle.sip_via.specs.Edits.{line}
+use Rattle.sip_build.proofs.forwarding.add_seventy.Goals as goal
+
+pub returns : goal.returns
+returns g c =
+    let old = views c.args.out.now.items in
+    let rest = views c.args.headers.now in
+    c.in_ok-add_copies.ensures
+    ∙ ap (λ (hs : List HeaderText). hs ++ rest) c.in_ok-add_made.ensures
+    ∙ append_assoc old (line (codes "Max-Forwards") c.in_ok-seventy.seventy.items ∷ []) rest
+    ∙ ap (λ (v : List ℕ). old ++ line (codes "Max-Forwards") v ∷ rest) c.in_ok-seventy.ensures.items

@@ -1,0 +1,12 @@
+use Rattle.std.proofs.Common.{List, sym, subst}
+use Rattle.sip_text.specs.Message.{IsMessage}
+use Rattle.sip_text.specs.Text.{HeaderText}
+use Rattle.sip_via.specs.Edits.{with_headers}
+use Rattle.sip_build.specs.SeenKept.{seen_kept}
+use Rattle.sip_build.proofs.UpwardGood.{upward-good}
+use Rattle.sip_build.proofs.upstream.upward_of.Goals as goal
+
+pub with_headers-requires : goal.with_headers-requires
+with_headers-requires g c =
+    let m = c.args.message.now in
+    subst (λ (hs : List HeaderText). IsMessage (with_headers m hs)) (sym c.in_ok-headers.ensures) (upward-good m (seen_kept c.args.kept) c.args.challenges.now c.is_message.ensures c.requires.second c.requires.kept c.requires.challenges)

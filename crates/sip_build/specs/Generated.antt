@@ -1,0 +1,70 @@
+-- The proxy's own responses (RFC 3261 sections 8.2.6, 16.3 and 21).
+use Rattle.std.specs.Prelude.{ℕ, Bool, false, List, [], ◌∷◌, ◌++◌, map, codes, is_none, if◌then◌else◌}
+use Rattle.sip_text.specs.declared.needed.Needed.TheVariants.{To}
+use Rattle.sip_text.specs.Fields.{value_of}
+use Rattle.sip_text.specs.Tag.{tag_in}
+use Rattle.sip_text.specs.Text.{HeaderText, MessageText, Response}
+use Rattle.sip_build.specs.declared.responses.OwnStatus.{OwnStatus}
+use Rattle.sip_build.specs.declared.responses.OwnStatus.TheVariants as own
+use Rattle.sip_build.specs.Lines.{first_line, line, lines_as, lines_named}
+use Rattle.sip_build.specs.OwnTag.{own_tag}
+
+abbrev pub code_of : OwnStatus → ℕ
+code_of own.Trying = 100
+code_of own.Okay = 200
+code_of own.BadRequest = 400
+code_of own.RequestTimeout = 408
+code_of own.UnsupportedUriScheme = 416
+code_of own.BadExtension = 420
+code_of own.TemporarilyUnavailable = 480
+code_of own.CallDoesNotExist = 481
+code_of own.LoopDetected = 482
+code_of own.TooManyHops = 483
+code_of own.ServerInternalError = 500
+
+abbrev pub reason_of : OwnStatus → List ℕ
+reason_of own.Trying = codes "Trying"
+reason_of own.Okay = codes "OK"
+reason_of own.BadRequest = codes "Bad Request"
+reason_of own.RequestTimeout = codes "Request Timeout"
+reason_of own.UnsupportedUriScheme = codes "Unsupported URI Scheme"
+reason_of own.BadExtension = codes "Bad Extension"
+reason_of own.TemporarilyUnavailable = codes "Temporarily Unavailable"
+reason_of own.CallDoesNotExist = codes "Call/Transaction Does Not Exist"
+reason_of own.LoopDetected = codes "Loop Detected"
+reason_of own.TooManyHops = codes "Too Many Hops"
+reason_of own.ServerInternalError = codes "Server Internal Error"
+
+-- a 100 gets no tag, and neither does a To that has one
+abbrev pub gets_tag : OwnStatus → MessageText → Bool
+gets_tag own.Trying m = false
+gets_tag _ m = is_none (tag_in (value_of To m.headers))
+
+abbrev pub with_tag : List ℕ → List ℕ → List ℕ
+with_tag tag value = value ++ (codes ";tag=" ++ tag)
+
+abbrev pub tagged : List ℕ → HeaderText → HeaderText
+tagged tag h = line h.name (with_tag tag h.value)
+
+abbrev pub to_lines : OwnStatus → MessageText → List HeaderText
+to_lines status m = if gets_tag status m then map (tagged (own_tag m)) (first_line (codes "to") m) else first_line (codes "to") m
+
+-- a 420 names what the request asks for (section 20.40)
+abbrev pub unsupported_lines : OwnStatus → MessageText → List HeaderText
+unsupported_lines own.BadExtension m = lines_as (codes "Unsupported") (codes "proxy-require") m
+unsupported_lines _ m = []
+
+-- the Via lines, the first From, To, Call-ID and CSeq lines as they stand, and what the status asks for
+abbrev pub generated_of : MessageText → OwnStatus → MessageText
+generated_of m status = record {
+  start = Response (code_of status) (reason_of status);
+  headers =
+      lines_named (codes "via") m
+      ++ (first_line (codes "from") m
+      ++ (to_lines status m
+      ++ (first_line (codes "call-id") m
+      ++ (first_line (codes "cseq") m
+      ++ (unsupported_lines status m
+      ++ line (codes "Content-Length") (codes "0") ∷ [])))));
+  body = [];
+}

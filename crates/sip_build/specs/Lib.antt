@@ -1,0 +1,8 @@
+pub mod Lines
+pub mod OwnTag
+pub mod Generated
+pub mod Requests
+pub mod Forwarding
+pub mod Exchanged
+pub mod Upward
+pub mod SeenKept

@@ -1,0 +1,44 @@
+-- The ACK for a failure and the CANCEL of a request that was sent (RFC 3261 sections 9.1 and
+-- 17.1.1.3).
+use Rattle.std.specs.Prelude.{ℕ, List, [], ◌∷◌, ◌++◌, codes}
+use Rattle.sip_text.specs.declared.needed.Needed.TheVariants.{From, To}
+use Rattle.sip_text.specs.Fields.{value_of}
+use Rattle.sip_text.specs.Text.{MessageText, StartText, Request, Response}
+use Rattle.sip_build.specs.Lines.{line, lines_as}
+use Rattle.sip_via.specs.Loop.{call_id, cseq_number, or_empty, request_uri}
+use Rattle.sip_via.specs.TopVia.{top_value}
+
+abbrev pub IsRequest : StartText → Type 0
+IsRequest (Request method uri) = Unit {0}
+IsRequest (Response status reason) = ⊥
+
+abbrev pub from_value : MessageText → List ℕ
+from_value m = or_empty (value_of From m.headers)
+
+abbrev pub to_value : MessageText → List ℕ
+to_value m = or_empty (value_of To m.headers)
+
+-- a request of that method on the way of the sent one: its Request-URI, its top Via value alone, its
+-- Route values, its From, its Call-ID and the number of its CSeq
+abbrev pub along : List ℕ → MessageText → (to : List ℕ) → MessageText
+along method sent to = record {
+  start = Request method (request_uri sent.start);
+  headers =
+      line (codes "Via") (top_value sent)
+      ∷ line (codes "Max-Forwards") (codes "70")
+      ∷ (lines_as (codes "Route") (codes "route") sent
+      ++ line (codes "From") (from_value sent)
+      ∷ line (codes "To") to
+      ∷ line (codes "Call-ID") (call_id sent)
+      ∷ line (codes "CSeq") (cseq_number sent ++ 32 ∷ method)
+      ∷ line (codes "Content-Length") (codes "0") ∷ []);
+  body = [];
+}
+
+-- with the To of the response
+abbrev pub ack_of : MessageText → MessageText → MessageText
+ack_of sent response = along (codes "ACK") sent (to_value response)
+
+-- with the To of the request
+abbrev pub cancel_of : MessageText → MessageText
+cancel_of sent = along (codes "CANCEL") sent (to_value sent)

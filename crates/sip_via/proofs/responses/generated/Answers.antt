@@ -1,8 +1,0 @@
-use Rattle.sip_text.specs.Seen.{view_start, views}
-use Rattle.sip_via.specs.Generated.{generated_of}
-use Rattle.sip_via.proofs.GeneratedGood.{generated_good, made_so}
-use Rattle.sip_via.proofs.responses.generated.Goals as goal
-
-pub from_parts-requires : goal.from_parts-requires
-from_parts-requires g c =
-    made_so (generated_of c.args.message.now c.args.status) (view_start c.in_ok-start.start) (views c.in_ok-headers.headers.items) c.new.result.items (generated_good c.args.message.now c.args.status c.is_message.ensures) c.in_ok-start.ensures c.in_ok-headers.ensures c.new.ensures.items

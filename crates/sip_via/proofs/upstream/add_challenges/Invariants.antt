@@ -1,7 +1,0 @@
-use Rattle.std.proofs.Common.{◌≡◌, ◌++◌, map, take}
-use Rattle.sip_text.specs.Seen.{views}
-use Rattle.sip_via.specs.Upward.{challenge_line}
-use Rattle.sip_via.proofs.upstream.add_challenges.Given as goal
-
-abbrev pub invariant-loop-challenge : goal.invariant-loop-challenge
-invariant-loop-challenge g l = views l.out.items ≡ views l.fn.out.items ++ map challenge_line (take l.challenge-index l.challenges)
