@@ -1,8 +1,8 @@
 //! Calls that no history shows: refusals, and the parts of answers and contacts.
-use crate::context::happening::{Aim, answer, context, offer, targets, text_of};
-use crate::context::play::leaves;
+use crate::context::happening::{Aim, answer, context, key_of, offer, targets, text_of};
+use crate::context::play::{Told, comes, leaves};
 use crate::holds::{holds, holds_at};
-use fork_context::{Answer, Choice, Context, Event, Kind, NewFault, Offer, PostError, Up};
+use fork_context::{Answer, Choice, Context, Event, Kind, NewFault, Offer, PostError, Target, Up};
 use fork_rank::Rules;
 use std::alloc::{AllocError, Global};
 use std::process::Abort;
@@ -80,12 +80,15 @@ fn take_strays(rt: &impl Abort, mut fork: Context) -> Context {
     fork
 }
 
-/// The position of the reply to this answer and what goes up with it; nothing where it is refused.
-fn reply_to(fork: &mut Context, n: u16, answer: Answer) -> Option<(u32, Up)> {
-    match fork.post(Event::Answer(n, answer)) {
-        Ok(reply) => Some((reply.at(), reply.up())),
-        Err(_) => None,
-    }
+/// Whether this answer is taken after 4,096 events, and goes up as the only one.
+fn goes_up(fork: &mut Context, answer: Answer) -> bool {
+    let told = Told {
+        at: 4096,
+        started: (0, 0),
+        cancelled: None,
+        up: Up::Final(Choice::Stored(0)),
+    };
+    comes(fork, Event::Answer(0, answer), told)
 }
 
 #[test]
@@ -93,18 +96,49 @@ fn strays_are_refused_at_last(rt: HostRuntime) -> Result<(), Fail> {
     let not_found = answer(rt.alloc(), 404)?;
     let fork = context(rt.alloc(), Kind::Other, &[(1, 1000)])?;
     let mut fork = take_strays(&rt, fork);
-    let wanted = (4096, Up::Final(Choice::Stored(0)));
     holds(
         &rt,
-        reply_to(&mut fork, 0, not_found) == Some(wanted),
+        goes_up(&mut fork, not_found),
         "an event that changes something is taken all the same",
     );
+    Ok(())
+}
+
+/// The target of number 7, tried at q 0.3.
+fn target(alloc: Global) -> Result<Target, AllocError> {
+    Ok(Target::new(key_of(7).to_vec(alloc)?, 300))
+}
+
+#[test]
+fn a_target_tells_its_parts(rt: HostRuntime) -> Result<(), Fail> {
+    let target = target(rt.alloc())?;
+    holds(
+        &rt,
+        target.key() == key_of(7).as_slice(),
+        "a target has its key",
+    );
+    holds(&rt, target.q() == 300, "a target has its q");
     Ok(())
 }
 
 /// The copy of a contact that cannot be tried.
 fn copied_contact(alloc: Global) -> Result<Offer, AllocError> {
     offer(alloc, (2, false))?.copy(&alloc)
+}
+
+/// Whether this is the key of the contact.
+fn has_key(offer: &Offer, number: u16) -> bool {
+    match offer.key() {
+        Some(key) => key == key_of(number).as_slice(),
+        None => false,
+    }
+}
+
+#[test]
+fn a_contact_that_can_be_tried_has_a_key(rt: HostRuntime) -> Result<(), Fail> {
+    let offer = offer(rt.alloc(), (7, true))?;
+    holds(&rt, has_key(&offer, 7), "the contact has its key");
+    Ok(())
 }
 
 #[test]

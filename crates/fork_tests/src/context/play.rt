@@ -49,11 +49,11 @@ pub enum Step {
 /// What a reply is to say: its position, the first row that is started and how many are, the row that is cancelled, and
 /// what goes up.
 #[derive(Clone, Copy)]
-struct Told {
-    at: u32,
-    started: (u16, u16),
-    cancelled: Option<u16>,
-    up: Up,
+pub struct Told {
+    pub at: u32,
+    pub started: (u16, u16),
+    pub cancelled: Option<u16>,
+    pub up: Up,
 }
 
 /// Whether the rows are so many from the first on.
@@ -84,7 +84,7 @@ fn tells(reply: &Reply, told: Told) -> bool {
 }
 
 /// Takes the event; whether the reply is so.
-fn comes(fork: &mut Context, event: Event, told: Told) -> bool {
+pub fn comes(fork: &mut Context, event: Event, told: Told) -> bool {
     match fork.post(event) {
         Ok(reply) => tells(&reply, told),
         Err(_) => false,
@@ -172,6 +172,7 @@ fn is_contact(offers: &[Offer], number: u16) -> bool {
     }
 }
 
+/// Whether the contact of this number alone is left of the row's answer; None: the row leaves nothing.
 pub fn leaves(fork: &Context, n: u16, number: Option<u16>) -> bool {
     match (fork.left(n), number) {
         (Some(offers), Some(number)) => is_contact(offers, number),

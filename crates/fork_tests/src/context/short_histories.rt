@@ -48,13 +48,14 @@ fn is_final_due(fork: &Context) -> bool {
     fork.finished() && !fork.succeeded()
 }
 
-/// Whether a final answer goes up where none has gone, exactly where one is due then; a redirection names one contact, the
-/// same from each row.
+/// Whether a final answer goes up exactly where one comes to be due, and none that was due is due no more; a redirection names
+/// one contact, the same from each row.
 fn goes_on_right(alloc: Global, fork: &mut Context, number: u32) -> Result<bool, Fail> {
     let event = event(alloc, happening(number), &[(100, true)])?;
     let was_due = is_final_due(fork);
     let goes_up = sends_final(fork, event);
-    Ok(goes_up == Some(!was_due && is_final_due(fork)))
+    let is_due = is_final_due(fork);
+    Ok(goes_up == Some(is_due && !was_due) && (is_due || !was_due))
 }
 
 /// Whether after each of these four events one final answer has gone up where the fork has finished without a 2xx, and
