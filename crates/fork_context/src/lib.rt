@@ -26,7 +26,7 @@ mod tests;
 #[cfg(test)]
 mod walk;
 
-pub use context::{Context, NewFault, PostError};
+pub use context::{Context, NewFault, PostError, Refusal};
 pub use event::{Answer, Event, Target};
 pub use fork_rank::Challenge;
 pub use fork_tree::{End, RowRef, State};

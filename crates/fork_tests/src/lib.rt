@@ -3,4 +3,6 @@
 #![tactic(auto)]
 
 #[cfg(test)]
+mod book;
+#[cfg(test)]
 mod holds;
