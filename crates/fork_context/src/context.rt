@@ -60,6 +60,17 @@ pub enum PostError<A: Allocator = Global> {
     NoMemory(Event<A>),
 }
 
+/// Why an event that is lent is not taken.
+#[derive(Clone, Copy, PartialEq, Eq, Debug, Error)]
+pub enum Refusal {
+    /// 4,096 or more events were taken, and this one would change nothing.
+    #[error("no more events are taken that change nothing")]
+    Full,
+    /// A growth was refused.
+    #[error("out of memory")]
+    NoMemory,
+}
+
 /// The response context of a forked request: its table, and how many events it has taken.
 #[derive(Drop)]
 pub struct Context<A: Allocator + Clone = Global> {
@@ -117,12 +128,34 @@ impl<A: Allocator + Clone> Context<A> {
         })
     }
 
-    /// Takes an event: changes the table by it, and answers what is to be sent (RFC 3261 sections 9 and 16.7 to 16.10).
+    /// Takes an event that is lent: changes the table by it, and answers what is to be sent (RFC 3261 sections 9 and 16.7
+    /// to 16.10). What is stored of the event is copied.
     ///
     /// # Errors
     ///
     /// `Full` exactly where `is_full` says so: 4,096 events or more were taken, and this one would change nothing. Else
-    /// `NoMemory`, only where the allocator refuses. Either way the event comes back, and the context is as it was.
+    /// `NoMemory`, only where the allocator refuses. Either way the context is as it was.
+    pub fn take(&mut self, event: &Event<A>) -> Result<Reply<A>, Refusal>
+        ensures next { OnOk result (self.new ≡ core_next self.old (event_of event.now)) }
+        ensures reply { IfOk result (IsReply self.old.table (event_of event.now) self.old.taken) }
+        ensures full { IsErrOf result Refusal.Full ↔ IsTrue (is_full self.old (event_of event.now)) }
+        ensures err { OnErr result (self.new ≡ self.old) }
+    {
+        if self.is_full(event) {
+            return Err(Refusal::Full);
+        }
+        let Ok(reply) = self.fork.take(&self.alloc, event, self.taken) else {
+            return Err(Refusal::NoMemory);
+        };
+        self.taken += 1;
+        Ok(reply)
+    }
+
+    /// Takes an event as `take` does, and hands it back where it is refused.
+    ///
+    /// # Errors
+    ///
+    /// Those of `take`, in its order, with the event.
     pub fn post(&mut self, event: Event<A>) -> Result<Reply<A>, PostError<A>>
         ensures next { OnOk result (self.new ≡ core_next self.old (event_of event)) }
         ensures reply { IfOk result (IsReply self.old.table (event_of event) self.old.taken) }
@@ -130,14 +163,11 @@ impl<A: Allocator + Clone> Context<A> {
         ensures returned { IfErr result (λ error. returned error ≡ event) }
         ensures err { OnErr result (self.new ≡ self.old) }
     {
-        if self.is_full(&event) {
-            return Err(PostError::Full(event));
+        match self.take(&event) {
+            Ok(reply) => Ok(reply),
+            Err(Refusal::Full) => Err(PostError::Full(event)),
+            Err(Refusal::NoMemory) => Err(PostError::NoMemory(event)),
         }
-        let Ok(reply) = self.fork.take(&self.alloc, &event, self.taken) else {
-            return Err(PostError::NoMemory(event));
-        };
-        self.taken += 1;
-        Ok(reply)
     }
 
     /// Whether `post` would refuse the event as one too many that changes nothing.

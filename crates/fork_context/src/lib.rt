@@ -22,7 +22,7 @@ mod stray;
 mod taking;
 mod targets;
 
-pub use context::{Context, NewFault, PostError};
+pub use context::{Context, NewFault, PostError, Refusal};
 pub use event::{Answer, Event, Target};
 pub use fork_rank::Challenge;
 pub use fork_tree::{End, RowRef, State};

@@ -5,7 +5,7 @@ use Rattle.fork_model.specs.Step.{next}
 use Rattle.fork_context.specs.EventView.{event_of}
 use Rattle.fork_context.specs.Sound.{IsKept}
 use Rattle.fork_context.proofs.SoundSteps.{kept_next, taken_small}
-use Rattle.fork_context.proofs.context.Context.post.Goals as goal
+use Rattle.fork_context.proofs.context.Context.take.Goals as goal
 
 pub overflow_add-self : goal.overflow_add-self
 overflow_add-self g c = omega (arith, taken_small c.self.inside.fork c.self.inside.taken c.self.invariant.sound)
@@ -13,7 +13,7 @@ overflow_add-self g c = omega (arith, taken_small c.self.inside.fork c.self.insi
 pub invariant_of-self-2 : goal.invariant_of-self-2
 invariant_of-self-2 g c =
     let core : Core = record { table = c.self.inside.fork; taken = c.self.inside.taken } in
-    let event = event_of c.args.event in
+    let event = event_of c.args.event.now in
     let OpenYet : Core → Type 0 = λ x. is_full x event ≡ false in
     let open_yet : is_full core event ≡ false = subst OpenYet (sym c.self.view_is) (sym c.is_full.ensures ∙ c.if-is_full.false) in
     let follows : c.take.new.self ≡ next core.table event core.taken = c.in-Ok.ensures.next in
