@@ -13,8 +13,6 @@ mod number;
 mod quoted;
 mod sheltered;
 mod space;
-#[cfg(test)]
-mod tests;
 
 pub use bytes::{are_digits, is_space, is_token, lowered};
 pub use cut::{cut_at, cut_at_space};

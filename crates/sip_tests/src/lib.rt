@@ -3,4 +3,14 @@
 #![tactic(auto)]
 
 #[cfg(test)]
+mod bytes;
+#[cfg(test)]
 mod holds;
+#[cfg(test)]
+mod lex;
+#[cfg(test)]
+mod text;
+#[cfg(test)]
+mod txn;
+#[cfg(test)]
+mod uri;

@@ -16,8 +16,6 @@ mod parts;
 mod read;
 mod start;
 mod tag;
-#[cfg(test)]
-mod tests;
 mod write;
 
 pub use fault::ReadFault;

@@ -16,6 +16,3 @@ pub use invite_server::{InviteServer, InviteServerState};
 pub use other_client::{OtherClient, OtherClientState};
 pub use other_server::{OtherServer, OtherServerState};
 pub use timers::{T1, T1_TIMES_64, T2, T4, TIMER_D};
-
-#[cfg(test)]
-mod tests;

@@ -14,8 +14,6 @@ mod hop;
 mod host;
 mod key;
 mod next;
-#[cfg(test)]
-mod tests;
 mod uri;
 mod write;
 

@@ -2,7 +2,7 @@ use Rattle.std.proofs.Common.{◌∙◌, sym, subst, List, ℕ}
 use Rattle.sip_text.specs.Message.{IsMessage}
 use Rattle.sip_text.specs.Seen.{views}
 use Rattle.sip_text.specs.Text.{HeaderText, StartText}
-use Rattle.sip_text.proofs.tests.made_again.Goals as goal
+use Rattle.sip_tests.proofs.text.parts.made_again.Goals as goal
 
 pub from_parts-requires : goal.from_parts-requires
 from_parts-requires c =
