@@ -70,19 +70,22 @@ fn reads_a_request(rt: HostRuntime) -> Result<(), Fail> {
     Ok(())
 }
 
+/// What the message of a text is written as.
+fn read_and_written(alloc: Global, text: &[u8]) -> Result<Vec<u8>, ReadFault<Global>> {
+    Ok(written(alloc, &Message::read(alloc, text)?)?)
+}
+
 /// Whether the request is the same once it is read and written.
 fn is_the_same(alloc: Global) -> Result<bool, ReadFault<Global>> {
     let text = request(alloc)?;
-    let out = written(alloc, &Message::read(alloc, &text)?)?;
-    Ok(is(&out, &text))
+    Ok(is(&read_and_written(alloc, &text)?, &text))
 }
 
 /// Whether the request is the same once it is read and written, and that again.
 fn is_the_same_twice(alloc: Global) -> Result<bool, ReadFault<Global>> {
     let text = request(alloc)?;
-    let out = written(alloc, &Message::read(alloc, &text)?)?;
-    let twice = written(alloc, &Message::read(alloc, &out)?)?;
-    Ok(is(&twice, &text))
+    let out = read_and_written(alloc, &text)?;
+    Ok(is(&read_and_written(alloc, &out)?, &text))
 }
 
 #[test]
@@ -110,21 +113,26 @@ fn head_of(alloc: Global, text: &[u8]) -> Option<Message<Global>> {
     }
 }
 
-/// Whether these lines and too short a body are refused with the head that has those lines.
-fn carries(alloc: Global, lines: &[&[u8]], head_lines: &[&[u8]]) -> Result<bool, AllocError> {
-    let text = text_of(alloc, lines, b"body")?;
-    let wanted = text_of(alloc, head_lines, b"")?;
-    match head_of(alloc, &text) {
-        Some(head) => Ok(is(&written(alloc, &head)?, &wanted)),
+/// Whether a text is refused for a short body, with the head that is written as this one.
+fn carries(alloc: Global, text: &[u8], wanted: &[u8]) -> Result<bool, AllocError> {
+    match head_of(alloc, text) {
+        Some(head) => Ok(is(&written(alloc, &head)?, wanted)),
         None => Ok(false),
     }
 }
 
+/// Whether these lines and too short a body are refused with the head that has those lines.
+fn lines_carry(alloc: Global, lines: &[&[u8]], head_lines: &[&[u8]]) -> Result<bool, AllocError> {
+    let text = text_of(alloc, lines, b"body")?;
+    let wanted = text_of(alloc, head_lines, b"")?;
+    carries(alloc, &text, &wanted)
+}
+
 #[test]
 fn a_short_body_carries_the_head(rt: HostRuntime) {
-    let found = carries(rt.alloc(), &busy(b"l: 5"), &busy(b"l: 0"));
+    let found = lines_carry(rt.alloc(), &busy(b"l: 5"), &busy(b"l: 0"));
     holds(&rt, found == Ok(true), "the head of a response");
-    let found = carries(rt.alloc(), &lines_with(7, b"l: 5"), &LINES);
+    let found = lines_carry(rt.alloc(), &lines_with(7, b"l: 5"), &LINES);
     holds(&rt, found == Ok(true), "the head of a request");
 }
 
@@ -139,28 +147,33 @@ const JOINED: [(&str, &[u8], usize, &[u8]); 4] = [
     ("the second Contact", b"M", 1, b"e"),
 ];
 
+/// Ends the test where these are not the values of those lines.
+fn are_joined(rt: &impl Abort, message: &Message<Global>) {
+    for (what, name, place, wanted) in &JOINED {
+        holds(rt, has(value_at(message, name, *place), wanted), what);
+    }
+    holds(
+        rt,
+        value_at(message, b"subject", 2).is_none(),
+        "no third Subject",
+    );
+    holds(rt, value_at(message, b"M", 2).is_none(), "no third Contact");
+}
+
 #[test]
 fn joins_continued_lines(rt: HostRuntime) -> Result<(), Fail> {
     let message = message_with(rt.alloc(), 2, CONTINUED, b"")?;
-    for (what, name, place, wanted) in JOINED {
-        holds(&rt, has(value_at(&message, name, place), wanted), what);
-    }
-    holds(
-        &rt,
-        value_at(&message, b"subject", 2).is_none(),
-        "no third Subject",
-    );
-    holds(
-        &rt,
-        value_at(&message, b"M", 2).is_none(),
-        "no third Contact",
-    );
+    are_joined(&rt, &message);
+    Ok(())
+}
+
+#[test]
+fn names_needed_fields(rt: HostRuntime) {
     holds(
         &rt,
         is(Needed::CallId.name(), b"call-id"),
         "the name of Call-ID",
     );
-    Ok(())
 }
 
 /// Whether the message with that line for its length has this body.
