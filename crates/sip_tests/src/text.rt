@@ -1,0 +1,5 @@
+//! Requests and responses read and written by `sip_text`, and texts that are none by one change.
+mod faults;
+mod messages;
+mod parts;
+mod samples;

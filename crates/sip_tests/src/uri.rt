@@ -1,0 +1,4 @@
+//! Each function of `sip_uri` on its happy path, and texts next to those of URIs.
+mod contacts;
+mod faults;
+mod reads;

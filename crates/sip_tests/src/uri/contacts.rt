@@ -1,0 +1,121 @@
+//! Values of Contact: their items, weights and faults.
+use crate::bytes::{has, holds_of, is};
+use crate::holds::holds;
+use sip_uri::{Contact, SipUri, UriFault, read_contacts};
+use std::alloc::Global;
+use std::process::Abort;
+use std::test::Fail;
+
+/// A value of two contacts.
+const TWO: &[u8] = b"\"Bob, B\" <sip:bob@192.0.2.4>;q=0.5, <tel:+1555>";
+
+/// The contacts of a value.
+fn contacts_of(alloc: Global, value: &[u8]) -> Result<Vec<Contact<Global>>, UriFault> {
+    read_contacts(alloc, value)
+}
+
+/// The host of a URI.
+fn host_of(uri: Option<&SipUri<Global>>) -> Option<&[u8]> {
+    Some(uri?.host())
+}
+
+/// Ends the test where these are not the contacts of `TWO`.
+fn are_two(rt: &impl Abort, contacts: &[Contact<Global>]) {
+    holds(rt, contacts.len() == 2, "two contacts");
+    if let [bob, other] = contacts {
+        holds(
+            rt,
+            is(&bob.text, b"\"Bob, B\" <sip:bob@192.0.2.4>;q=0.5"),
+            "the text of the first contact",
+        );
+        holds(rt, bob.q == 500, "the q of the first contact");
+        let host = host_of(bob.uri.as_ref());
+        holds(rt, has(host, b"192.0.2.4"), "the host of the first contact");
+        holds(
+            rt,
+            is(&other.text, b"<tel:+1555>"),
+            "the text of the second contact",
+        );
+        holds(
+            rt,
+            other.q == 1000,
+            "the q of the second contact, which gives none",
+        );
+        holds(
+            rt,
+            other.uri.is_none(),
+            "the second contact may not be taken",
+        );
+    }
+}
+
+#[test]
+fn reads_contacts(rt: HostRuntime) -> Result<(), Fail> {
+    are_two(&rt, &contacts_of(rt.alloc(), TWO)?);
+    Ok(())
+}
+
+/// The q of the one contact, and whether it may be taken.
+fn one_of(contacts: &[Contact<Global>]) -> Option<(u16, bool)> {
+    match contacts {
+        [contact] => Some((contact.q, contact.uri.is_some())),
+        _ => None,
+    }
+}
+
+/// The q of the one contact of a value, and whether it may be taken.
+fn one_contact(alloc: Global, value: &[u8]) -> Result<Option<(u16, bool)>, UriFault> {
+    Ok(one_of(&contacts_of(alloc, value)?))
+}
+
+/// Values of one contact, its q, and whether it may be taken.
+const WEIGHTS: [(&[u8], u16, bool); 15] = [
+    (b"<sip:1.2.3.4>;q=0", 0, true),
+    (b"<sip:1.2.3.4> ; Q = 0.25 ; x", 250, true),
+    (b"<sip:1.2.3.4>;q=0.007", 7, true),
+    (b"<sip:1.2.3.4>;q=0.", 0, true),
+    (b"<sip:1.2.3.4>;q=1.000", 1000, true),
+    (b"<sip:1.2.3.4>;q=0.1234", 1000, true),
+    (b"<sip:1.2.3.4>;q=.5", 1000, true),
+    (b"<sip:1.2.3.4>;q=0.5;q=0.1", 500, true),
+    (b"<sip:1.2.3.4>;q;q=0.1", 1000, true),
+    (b"<sip:1.2.3.4>;q=0.1;;", 1000, false),
+    (b"<sip:1.2.3.4>x;q=0.1", 1000, false),
+    (b"sip:1.2.3.4;q=0.5", 500, true),
+    (b"sip:1.2.3.4?x;q=0.5", 1000, false),
+    (b"<sip:1.2.3.4?x;q=0.5>;q=0.1", 100, true),
+    (b"\"<\" <sip:1.2.3.4;x>;y=\";q=1\";q=0.3", 300, true),
+];
+
+#[test]
+fn reads_weights(rt: HostRuntime) {
+    for (value, q, may_be_taken) in WEIGHTS {
+        let found = one_contact(rt.alloc(), value);
+        let wanted = Ok(Some((q, may_be_taken)));
+        holds_of(
+            &rt,
+            found == wanted,
+            "the q, and whether it may be taken",
+            value,
+        );
+    }
+}
+
+/// Values with an empty item, or a quote or bracket that is not closed.
+const NO_CONTACTS: [&[u8]; 7] = [
+    b"",
+    b" \t",
+    b"<sip:h>,",
+    b"<sip:h>,,<sip:i>",
+    b"\"Bob <sip:h>",
+    b"<sip:h",
+    b"\"a\\\"",
+];
+
+#[test]
+fn refuses_values_without_items(rt: HostRuntime) {
+    for value in NO_CONTACTS {
+        let found = one_contact(rt.alloc(), value);
+        holds_of(&rt, found == Err(UriFault::BadText), "no contacts", value);
+    }
+}

@@ -1,0 +1,190 @@
+//! URIs that are read: their parts, their keys and where requests to them go.
+use crate::bytes::{has, holds_of, is};
+use crate::holds::holds;
+use sip_uri::{Hop, SipUri, UriFault, cut_host, is_host, read_address, read_port};
+use std::alloc::Global;
+
+/// A URI with each part.
+const WHOLE: &[u8] = b"sip:bob@192.0.2.4:5062;transport=udp;Method=INVITE?Subject=x";
+
+fn has_user(alloc: Global, text: &[u8], user: &[u8]) -> Result<bool, UriFault> {
+    Ok(has(SipUri::read(alloc, text)?.user(), user))
+}
+
+fn has_host(alloc: Global, text: &[u8], host: &[u8]) -> Result<bool, UriFault> {
+    Ok(is(SipUri::read(alloc, text)?.host(), host))
+}
+
+/// Whether this is appended as the text in a request.
+fn writes(alloc: Global, text: &[u8], wanted: &[u8]) -> Result<bool, UriFault> {
+    let uri = SipUri::read(alloc, text)?;
+    let mut out = b"> ".to_vec(alloc)?;
+    uri.request_uri(&mut out)?;
+    Ok(is(&out, wanted))
+}
+
+/// Whether this is appended as the key.
+fn has_key(alloc: Global, text: &[u8], wanted: &[u8]) -> Result<bool, UriFault> {
+    let uri = SipUri::read(alloc, text)?;
+    let mut key = b"> ".to_vec(alloc)?;
+    uri.target_key(&mut key)?;
+    Ok(is(&key, wanted))
+}
+
+fn hop_of(alloc: Global, text: &[u8]) -> Result<Option<Hop>, UriFault> {
+    Ok(SipUri::read(alloc, text)?.next_hop())
+}
+
+#[test]
+fn reads_a_whole_uri(rt: HostRuntime) {
+    let alloc = rt.alloc();
+    holds(&rt, has_user(alloc, WHOLE, b"bob") == Ok(true), "the user");
+    holds(
+        &rt,
+        has_host(alloc, WHOLE, b"192.0.2.4") == Ok(true),
+        "the host",
+    );
+    let hop = Hop {
+        addr: [192, 0, 2, 4],
+        port: 5062,
+    };
+    holds(&rt, hop_of(alloc, WHOLE) == Ok(Some(hop)), "the next hop");
+    let request = writes(alloc, WHOLE, b"> sip:bob@192.0.2.4:5062;transport=udp");
+    holds(&rt, request == Ok(true), "the text in a request");
+}
+
+/// URIs and the key of each, behind what was there.
+const KEYS: [(&[u8], &[u8]); 5] = [
+    (WHOLE, b"> bob@192.0.2.4:5062;transport=udp"),
+    (b"SIP:Bob@H.Example", b"> Bob@h.example"),
+    (b"sip:h:05060", b"> h:5060"),
+    (b"sip:h;b;A=X;b;method;a=x;METHOD=y?z", b"> h;a=x;b"),
+    (b"sip:[2001:DB8::1];ab;a", b"> [2001:db8::1];a;ab"),
+];
+
+#[test]
+fn makes_keys(rt: HostRuntime) {
+    for (text, key) in KEYS {
+        holds_of(
+            &rt,
+            has_key(rt.alloc(), text, key) == Ok(true),
+            "the key",
+            text,
+        );
+    }
+}
+
+fn are_same(alloc: Global, a: &[u8], b: &[u8]) -> Result<bool, UriFault> {
+    let a = SipUri::read(alloc, a)?;
+    let b = SipUri::read(alloc, b)?;
+    Ok(a.same_target(&b))
+}
+
+/// Pairs of URIs, and whether they are the same target.
+const PAIRS: [(&[u8], &[u8], bool); 5] = [
+    (b"sip:a@H", b"sip:a@h", true),
+    (b"sip:a@h;x;Y=1", b"SIP:a@h;y=1;x;x;method=z?q", true),
+    (b"sip:a@h", b"sip:a@h:5060", false),
+    (b"sip:a@h", b"sip:A@h", false),
+    (b"sip:a@h", b"sip:h", false),
+];
+
+#[test]
+fn tells_targets_apart(rt: HostRuntime) {
+    for (a, b, same) in PAIRS {
+        let found = are_same(rt.alloc(), a, b);
+        holds_of(&rt, found == Ok(same), "whether it is the same target", b);
+    }
+}
+
+/// Where a request to 10.0.0.255 goes.
+const HOP: Hop = Hop {
+    addr: [10, 0, 0, 255],
+    port: 5060,
+};
+
+/// URIs, and the next hop of each.
+const HOPS: [(&[u8], Option<Hop>); 11] = [
+    (b"sip:10.0.0.255", Some(HOP)),
+    (b"sip:10.000.0.255;Transport=UDP;x", Some(HOP)),
+    (b"sip:10.0.0.256", None),
+    (b"sip:10.0.0", None),
+    (b"sip:10.0.0.1.2", None),
+    (b"sip:10.0.0.0001", None),
+    (b"sip:h.example", None),
+    (b"sip:10.0.0.1;maddr=10.0.0.2", None),
+    (b"sip:10.0.0.1;transport=tcp", None),
+    (b"sip:10.0.0.1;transport=udp;transport=tcp", None),
+    (b"sip:10.0.0.1;transport", None),
+];
+
+#[test]
+fn finds_the_next_hop(rt: HostRuntime) {
+    for (text, hop) in HOPS {
+        holds_of(
+            &rt,
+            hop_of(rt.alloc(), text) == Ok(hop),
+            "the next hop",
+            text,
+        );
+    }
+}
+
+/// Texts, and whether each is a host.
+const HOSTS: [(&[u8], bool); 4] = [
+    (b"h-1.example", true),
+    (b"[2001:db8::192.0.2.1]", true),
+    (b"[]", false),
+    (b"h_1", false),
+];
+
+/// Texts, and the port that each is.
+const PORTS: [(&[u8], Option<u16>); 4] = [
+    (b"65535", Some(65_535)),
+    (b"00001", Some(1)),
+    (b"000001", None),
+    (b"0", None),
+];
+
+fn is_a_host(text: &[u8]) -> bool {
+    is_host(text)
+}
+
+/// A text in two behind its host.
+fn behind_host(text: &[u8]) -> (&[u8], &[u8]) {
+    cut_host(text)
+}
+
+#[test]
+fn reads_hosts_and_ports(rt: HostRuntime) {
+    for (text, wanted) in HOSTS {
+        holds_of(&rt, is_a_host(text) == wanted, "whether it is a host", text);
+    }
+    let (host, rest) = behind_host(b"[::1]:5060;x");
+    holds(&rt, is(host, b"[::1]"), "the host at the front");
+    holds(&rt, is(rest, b":5060;x"), "what is behind the host");
+    for (text, port) in PORTS {
+        holds_of(&rt, read_port(text) == port, "the port", text);
+    }
+    let address = read_address(b"192.0.2.4");
+    holds(&rt, address == Some([192, 0, 2, 4]), "the address");
+}
+
+/// URIs with a part that is as short or as odd as it may be, and the host of each.
+const EDGES: [(&[u8], &[u8]); 7] = [
+    (b"sip:h?", b"h"),
+    (b"sip:h?;;==?", b"h"),
+    (b"sip:a:b@h", b"h"),
+    (b"sip:a;b?c@h", b"h"),
+    (b"sip:h;x==", b"h"),
+    (b"sip:-", b"-"),
+    (b"sip:h:00001", b"h"),
+];
+
+#[test]
+fn reads_at_the_edges(rt: HostRuntime) {
+    for (text, host) in EDGES {
+        let found = has_host(rt.alloc(), text, host);
+        holds_of(&rt, found == Ok(true), "a URI with that host", text);
+    }
+}
