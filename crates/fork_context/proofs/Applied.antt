@@ -2,7 +2,7 @@
 use Rattle.std.proofs.Common.{◌≡◌, ℕ, Bool, true, false, List, [], length, map, Option, Some, None, refl, ◌∙◌, sym}
 use Rattle.std.specs.Prelude.{◌||◌}
 use Rattle.std.proofs.lemmas.List.{length-map, append-nil}
-use Rattle.fork_model.specs.Table.{Row, Table, State, Idle, Trying, Rung, Ended, is_row, is_trying}
+use Rattle.fork_model.specs.Table.{Row, Table, State, End, Idle, Trying, Rung, Ended, is_row, is_trying, is_open}
 use Rattle.fork_tree.specs.Tree.{is_uncancelled}
 use Rattle.fork_model.specs.Step.{with_state, with_effect}
 use Rattle.fork_tree.specs.declared.seat.Seat.{Seat}
@@ -47,6 +47,17 @@ none_waits = none_goes Idle waits_not
 
 pub none_tried : (o : Option Row) → is_row (λ s. may_go s Trying) o ≡ true → ⊥
 none_tried = none_goes Trying tried_not
+
+-- a row that may end is open
+pub goes_to_end : (o : Option Row) (end : End) → is_row (λ s. may_go s (Ended end)) o ≡ true → is_row is_open o ≡ true
+goes_to_end None end e = e
+goes_to_end (Some row) end e = go row.state e
+  where
+    go : (s : State) → may_go s (Ended end) ≡ true → is_open s ≡ true
+    go Idle e = e
+    go Trying e = refl
+    go (Rung cancelled) e = refl
+    go (Ended old) e = e
 
 -- a row that may ring was tried, and one whose CANCEL may be sent has rung
 pub goes_to_ring : (o : Option Row) → is_row (λ s. may_go s (Rung false)) o ≡ true → is_row is_trying o ≡ true

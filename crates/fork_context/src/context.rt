@@ -1,5 +1,5 @@
 //! The response context of one request.
-ghost use Rattle.std.specs.Prelude.{◌≡◌, ◌≤◌, ◌↔◌, ◌++◌, [], Option, true, false, length, slice_get, IsTrue, IsErrOf, IsErrAnd, IfOk, IfErr, OnOk, OnErr, IsSome, IfSome};
+ghost use Rattle.std.specs.Prelude.{◌≡◌, ◌≤◌, ◌↔◌, ◌++◌, [], Option, true, false, length, slice_get, IsTrue, IsErr, IsErrOf, IsErrAnd, IfOk, IfErr, OnOk, OnErr, IsSome, IfSome};
 ghost use Rattle.std.specs.Option.{option_map, option_copied, option_and_then};
 ghost use Rattle.fork_model.specs.Table.{most_targets, is_finished, is_succeeded};
 ghost use Rattle.fork_model.specs.Choice as spec_choice;
@@ -261,10 +261,11 @@ impl<A: Allocator + Clone> Context<A> {
     ///
     /// # Errors
     ///
-    /// Only where the allocator refuses; then `out` is as it was.
+    /// Only where the allocator refuses; then `out` is as it was. Where no answer is chosen nothing is asked of it.
     pub fn challenges(&self, out: &mut Vec<Challenge<A>, A>) -> Result<(), AllocError>
         // of the one choice that `choice` answers
         ensures added { (chosen : Option spec_choice.Choice) → IsChosen self.now.table chosen → OnOk result (out.new.items ≡ out.old.items ++ challenges_added self.now.table.rows chosen) }
+        ensures unasked { IsErr result → (is_finished self.now.table.rows ≡ true) × (is_succeeded self.now.table.rows ≡ false) }
         ensures err { OnErr result (out.new.items ≡ out.old.items) }
     {
         let Some(choice) = self.choice() else {

@@ -1,5 +1,5 @@
 //! Equal values in memory of their own. Each function's only error is want of memory.
-ghost use Rattle.std.specs.Prelude.{◌≡◌, IfOk};
+ghost use Rattle.std.specs.Prelude.{◌≡◌, ℕ, IfOk, IsErr};
 
 use crate::event::{Answer, Event};
 use crate::offer::Offer;
@@ -65,11 +65,14 @@ impl<A: Allocator + Clone> Answer<A> {
 }
 
 impl<A: Allocator + Clone> Event<A> {
+    ghost use Rattle.fork_model.specs.Event as spec;
+    ghost use Rattle.fork_model.specs.Event.{FinalAnswer};
     ghost use Rattle.fork_context.specs.EventView.{event_of};
 
-    /// An equal event; the only error is want of memory.
+    /// An equal event; the only error is want of memory, which an answer alone asks for.
     pub fn copy(&self, alloc: &A) -> Result<Self, AllocError>
-        ensures { IfOk result (λ event. event_of event ≡ event_of self.now) }
+        ensures equal { IfOk result (λ event. event_of event ≡ event_of self.now) }
+        ensures asked { IsErr result → (n : ℕ) × (answer : FinalAnswer) × (event_of self.now ≡ spec.Answer n answer) }
     {
         Ok(match self {
             Event::Ring(n, status) => Event::Ring(*n, *status),

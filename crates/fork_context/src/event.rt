@@ -1,5 +1,5 @@
 //! What may happen to a fork.
-ghost use Rattle.std.specs.Prelude.{◌≡◌, ◌++◌, ◌∷◌, [], OnOk, OnErr};
+ghost use Rattle.std.specs.Prelude.{◌≡◌, ◌++◌, ◌∷◌, [], IfErr, OnOk, OnErr};
 
 use crate::offer::Offer;
 use fork_rank::{Challenge, RingStatus, Status};
@@ -81,9 +81,10 @@ impl<A: Allocator> Answer<A> {
     ///
     /// # Errors
     ///
-    /// Only where the allocator refuses; then the answer is as it was.
+    /// Only where the allocator refuses; then the answer is as it was, and the contact comes back.
     pub fn push_offer(&mut self, offer: Offer<A>) -> Result<(), AllocFailed<Offer<A>>>
         ensures ok { OnOk result (self.new ≡ record self.old { offers = self.old.offers ++ offer ∷ [] }) }
+        ensures returned { IfErr result (λ refused. refused.value ≡ offer) }
         ensures err { OnErr result (self.new ≡ self.old) }
     {
         self.offers.push(offer)
@@ -93,12 +94,13 @@ impl<A: Allocator> Answer<A> {
     ///
     /// # Errors
     ///
-    /// Only where the allocator refuses; then the answer is as it was.
+    /// Only where the allocator refuses; then the answer is as it was, and the challenge comes back.
     pub fn push_challenge(
         &mut self,
         challenge: Challenge<A>,
     ) -> Result<(), AllocFailed<Challenge<A>>>
         ensures ok { OnOk result (self.new ≡ record self.old { challenges = self.old.challenges ++ challenge ∷ [] }) }
+        ensures returned { IfErr result (λ refused. refused.value ≡ challenge) }
         ensures err { OnErr result (self.new ≡ self.old) }
     {
         self.challenges.push(challenge)

@@ -18,3 +18,4 @@ mod ListedForks
 mod Formed
 mod TreeRows
 mod MalformedLines
+pub mod FirstLines

@@ -91,7 +91,7 @@ state_score (Ended (Silent arrival)) = refl
 state_score (Ended Never) = refl
 state_score (Ended (Accepted arrival)) = refl
 
-row_score : (rows : List Row) (n : ℕ) → option_map model.score_of (stored_at (slice_get rows n)) ≡ score_at (targets_of rows) n
+pub row_score : (rows : List Row) (n : ℕ) → option_map model.score_of (stored_at (slice_get rows n)) ≡ score_at (targets_of rows) n
 row_score rows n = go (slice_get rows n) refl
   where
     none : (o : Option Target) → slice_get (targets_of rows) n ≡ o → slice_get rows n ≡ None → None ≡ option_and_then (λ (t : Target). score_in t.end) o

@@ -1,11 +1,11 @@
 -- What a right listing tells.
-use Rattle.std.proofs.Common.{◌≡◌, ℕ, zero, suc, ◌<◌, ◌⊎◌, List, length, Option, Some, None, Result, Ok, Err, refl, sym, ap, subst, ◌∙◌, arith, inl, inr}
+use Rattle.std.proofs.Common.{◌≡◌, ℕ, zero, suc, ◌<◌, ◌⊎◌, List, [], ◌∷◌, length, Option, Some, None, Result, Ok, Err, refl, sym, ap, subst, ◌∙◌, arith, inl, inr}
 use Rattle.std.specs.Prelude.{slice_get, option_and_then}
 use Rattle.std.specs.Option.{option_map}
 use Rattle.fork_model.specs.Table.{Row}
 use Rattle.fork_model.specs.Rank.{Score, Before}
 use Rattle.fork_model.specs.Choice as model
-use Rattle.fork_model.specs.Choice.{Choice, Best, Only503, NoAnswer408, HasScore, IsFirst, IsChoice, stored_at, status_at}
+use Rattle.fork_model.specs.Choice.{Choice, Best, Only503, NoAnswer408, HasScore, IsFirst, IsChoice, NoneStored, stored_at, status_at}
 use Rattle.fork_model.proofs.OrderLemmas.{Before-trans}
 use Rattle.fork_listing.specs.declared.line.Target.{Target}
 use Rattle.fork_listing.specs.declared.line.Ranked.{Ranked}
@@ -13,7 +13,7 @@ use Rattle.fork_listing.specs.declared.line.Final.{Final}
 use Rattle.fork_listing.specs.Ranks.{row_of, rows_of, score_of, score_in, score_at, RanksBehind, final_of, IsChosen}
 use Rattle.fork_listing.specs.Text.{Listing, read_listing}
 use Rattle.fork_listing.specs.Checking.{AreInOrder, AreListed, IsChecked, verdict_of}
-use Rattle.fork_listing.specs.Meaning.{ListedAreStored, FinalIsFirst, TellsTheChoice, RightTellsTheChoice, AcceptedTellsTheChoice}
+use Rattle.fork_listing.specs.Meaning.{ListedAreStored, AreRanked, FinalIsFirst, FirstLineIs, TellsTheChoice, RightTellsTheChoice, AcceptedTellsTheChoice}
 use Rattle.fork_listing.proofs.Placing.{inside, there}
 use Rattle.fork_listing.proofs.LineScores.{target_score, get_map}
 use Rattle.fork_listing.proofs.Finals.{status_seen}
@@ -92,8 +92,53 @@ first l chosen = at chosen.0 chosen.1 chosen.2
     at (Only503 n) is e = inr (inl (n, is.0, is.1, is.2, e))
     at NoAnswer408 is e = inr (inr (is, e))
 
+-- the line of an answer that none stored ranks before is the first
+leads : (l : Listing) (n : ℕ) (score : Score) → ListedAreStored l → AreRanked l → IsFirst l.rules (rows_of l.targets) n score → FirstLineIs l.ranks (Some n)
+leads l n score stored order is = at found.0 found.1
+  where
+    line : Ranked
+    line = record { status = score.status; number = n; arrival = score.arrival }
+
+    found : (k : ℕ) × (slice_get l.ranks k ≡ Some line)
+    found = (stored line).1 is.stored
+
+    at : (k : ℕ) → slice_get l.ranks k ≡ Some line → FirstLineIs l.ranks (Some n)
+    at zero e = (line, e, refl)
+    at (suc k) e =
+        let behind = inside l.ranks (suc k) line e in
+        let front = there l.ranks 0 (omega arith) in
+        absurd (is.first front.0.number (score_of front.0) ((stored front.0).0 (0, front.1)) (order 0 (suc k) front.0 line (omega arith) front.1 e))
+
+-- where nothing is stored there is no line
+no_line : (l : Listing) → ListedAreStored l → NoneStored (rows_of l.targets) → l.ranks ≡ []
+no_line l stored none = at l.ranks refl
+  where
+    at : (ranks : List Ranked) → l.ranks ≡ ranks → ranks ≡ []
+    at [] e = refl
+    at (ranked ∷ ranks) e = absurd (none ranked.number (score_of ranked) ((stored ranked).0 (0, ap (λ (rs : List Ranked). slice_get rs 0) e)))
+
+first_line : (l : Listing) → ListedAreStored l → AreRanked l → FinalIsFirst l → FirstLineIs l.ranks l.last.number
+first_line l stored order final =
+    elim final [
+      | inl best ↦ subst P (sym (ap number best.4)) (leads l best.0 best.1 stored order best.2)
+      | inr other ↦ elim other [
+        | inl worst ↦ subst P (sym (ap number worst.4)) (leads l worst.0 worst.1 stored order worst.2)
+        | inr none ↦ subst P (sym (ap number none.1)) (no_line l stored none.0)
+      ]
+    ]
+  where
+    P : Option ℕ → Type 0
+    P n = FirstLineIs l.ranks n
+
+    number : Final → Option ℕ
+    number last = last.number
+
 pub right_tells : RightTellsTheChoice
-right_tells l right = (listed l right.1 right.2, (λ j k a b lt x y. ranked l right.1 k j a b lt x y), first l right.3)
+right_tells l right =
+    let stored = listed l right.1 right.2 in
+    let order : AreRanked l = λ j k a b lt x y. ranked l right.1 k j a b lt x y in
+    let final = first l right.3 in
+    (stored, order, final, first_line l stored order final)
 
 pub accepted_tells : AcceptedTellsTheChoice
 accepted_tells text verdict checked = at (read_listing text) refl checked

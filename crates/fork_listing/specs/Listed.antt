@@ -1,5 +1,5 @@
 -- The listing of a fork that has finished without a 2xx (RFC 3261 section 16.7 steps 5 and 6).
-use Rattle.std.specs.Prelude.{◌≡◌, ℕ, suc, List, [], ◌∷◌, ◌++◌, length}
+use Rattle.std.specs.Prelude.{◌≡◌, ℕ, suc, true, false, List, [], ◌∷◌, ◌++◌, length}
 use Rattle.fork_model.specs.Table as table
 use Rattle.fork_model.specs.Choice.{Choice, IsChoice}
 use Rattle.fork_tree.specs.declared.row.State.{State}
@@ -52,8 +52,11 @@ listing_of t ranks choice = record {
   last = final_of t.rows choice;
 }
 
--- the text lists the table: its rows by number, all that is stored in order of rank, and the choice
+-- the text lists the table of a fork that has finished without a 2xx: its rows by number, all that is stored in order of
+-- rank, and the choice
 pub record IsListingOf (t : table.Table) (text : List ℕ) : Type 0 where
+  pub finished : table.is_finished t.rows ≡ true
+  pub failed : table.is_succeeded t.rows ≡ false
   pub ranks : List Ranked
   pub choice : Choice
   pub ranking : IsRanking t.rules (targets_of t.rows) ranks

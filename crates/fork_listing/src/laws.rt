@@ -1,11 +1,11 @@
 //! What it means that a listing is right.
-ghost use Rattle.fork_listing.specs.Meaning.{RightTellsTheChoice, AcceptedTellsTheChoice};
+ghost use Rattle.fork_listing.specs.Meaning.{RightTellsTheChoice, AcceptedTellsTheChoice, TheChoiceIsFirst};
 ghost use Rattle.fork_listing.specs.Spelled.{ReadExactly, RefusedByFirst};
 ghost use Rattle.fork_listing.specs.Accepted.{AcceptedTextsAreRight, RightTextsAreAccepted, ListingsAreRight};
 
 /// Where `check` accepts a text, the answers listed are exactly those stored, each ranks before those behind it, and the
 /// last line tells the answer that none stored ranks before, or a 500 in place of a 503, or a 408 where nothing is stored
-/// (RFC 3261 section 16.7 step 6).
+/// (RFC 3261 section 16.7 step 6); and the first rank line tells of that same answer.
 ///
 /// A law over the definitions, with nothing to run.
 #[tactic(auto, using(crate::proofs::Meanings::right_tells, crate::proofs::Meanings::accepted_tells))]
@@ -40,4 +40,12 @@ pub fn right_texts_are_accepted()
 #[tactic(auto, using(crate::proofs::ListedForks::listings_right))]
 pub fn listings_of_forks_are_right()
     ensures { ListingsAreRight }
+{}
+
+/// All that a fork has stored, in order of rank, begins with the answer that goes up; where nothing is stored there is no
+/// rank line (RFC 3261 section 16.7 step 6).
+///
+/// A law over the definitions, with nothing to run.
+pub fn the_choice_is_listed_first()
+    ensures { TheChoiceIsFirst }
 {}

@@ -15,6 +15,6 @@ mod targets;
 pub use checker::{CheckFault, Verdict, check};
 pub use laws::{
     accepted_listing_tells_the_choice, listing_is_read_exactly, listings_of_forks_are_right,
-    right_texts_are_accepted,
+    right_texts_are_accepted, the_choice_is_listed_first,
 };
 pub use lister::{ListFault, listing};

@@ -1,12 +1,12 @@
 -- A context stands where the history of the events that it took leads.
-use Rattle.std.proofs.Common.{◌≡◌, ◌≢◌, suc, Bool, true, false, List, [], ◌∷◌, refl, sym, subst, cond}
+use Rattle.std.proofs.Common.{◌≡◌, ◌≢◌, suc, Bool, true, false, List, [], ◌∷◌, refl, sym, ap, ◌∙◌, subst, cond}
 use Rattle.fork_model.specs.Table.{Kind, Rules, Table, is_finished, is_succeeded}
 use Rattle.fork_model.specs.Event.{Event}
 use Rattle.fork_model.specs.Step.{next}
 use Rattle.fork_model.specs.History.{Target, opening, after, AreReplies, OneFinal}
 use Rattle.fork_model.specs.Core.{Core, Outcome, Full, Replied, is_full, core_next, core_after, opening_core, AreOutcomes}
-use Rattle.fork_model.specs.ExactlyOne.{replies_of, taken_of}
-use Rattle.fork_model.proofs.OneFinalLemmas.{one_final}
+use Rattle.fork_model.specs.ExactlyOne.{replies_of, taken_of, NoFinalBeforeOfContext, NoFinalBesideSuccessOfContext, RowsOfContextStay, NothingFinalFollowsOfContext}
+use Rattle.fork_model.proofs.OneFinalLemmas.{one_final, no_final_before, no_final_beside_success, rows_stay, nothing_final_follows}
 use Rattle.fork_model.proofs.OpeningLemmas.{opening_is_unfinished}
 
 pub stands_by_its_history : (core : Core) (events : List Event) → (core_after core events).table ≡ after core.table core.taken (taken_of core events)
@@ -59,3 +59,27 @@ one_final_of_context kind rules targets events outcomes some are done succ =
     subst P (sym same)
     (one_final (opening kind rules targets) 0 (taken_of core events) (replies_of outcomes) (are_replies core events outcomes are)
     (opening_is_unfinished kind rules targets some) (subst Done same done) (subst Failed same succ))
+
+-- ---- the other laws on replies, of contexts
+
+pub no_final_before_of_context : NoFinalBeforeOfContext
+no_final_before_of_context kind rules targets events outcomes are open_yet =
+    let core : Core = opening_core kind rules targets in
+    let Open : Table → Type 0 = λ t. is_finished t.rows ≡ false in
+    no_final_before core.table core.taken (taken_of core events) (replies_of outcomes) (are_replies core events outcomes are)
+    (subst Open (stands_by_its_history core events) open_yet)
+
+pub no_final_beside_success_of_context : NoFinalBesideSuccessOfContext
+no_final_beside_success_of_context kind rules targets events outcomes are succ =
+    let core : Core = opening_core kind rules targets in
+    let Succeeded : Table → Type 0 = λ t. is_succeeded t.rows ≡ true in
+    no_final_beside_success core.table core.taken (taken_of core events) (replies_of outcomes) (are_replies core events outcomes are)
+    (subst Succeeded (stands_by_its_history core events) succ)
+
+pub rows_of_context_stay : RowsOfContextStay
+rows_of_context_stay core events done =
+    ap (λ (t : Table). t.rows) (stands_by_its_history core events) ∙ rows_stay core.table core.taken (taken_of core events) done
+
+pub nothing_final_follows_of_context : NothingFinalFollowsOfContext
+nothing_final_follows_of_context core events outcomes are done =
+    nothing_final_follows core.table core.taken (taken_of core events) (replies_of outcomes) (are_replies core events outcomes are) done

@@ -1,3 +1,4 @@
+pub mod laws
 pub mod OrderLemmas
 pub mod Choosing
 pub mod EndedRows
@@ -17,3 +18,5 @@ pub mod ChangeLemmas
 pub mod SeriesLemmas
 pub mod OpeningSeries
 pub mod SeriesExamples
+pub mod SourceLemmas
+pub mod OneOutcome

@@ -1,12 +1,12 @@
 -- The order of stored answers is a strict total order on arrivals, for any rules.
-use Rattle.std.proofs.Common.{◌≡◌, ◌≢◌, ◌⊎◌, arith, subst}
+use Rattle.std.proofs.Common.{◌≡◌, ◌≢◌, ◌⊎◌, inl, inr, arith, subst}
 use Rattle.fork_model.specs.Table.{Rules}
 use Rattle.fork_model.specs.Rank.{Rank, Score, rank_of, RanksBefore, Before}
 
-ranks_irrefl : (a : Rank) → RanksBefore a a → ⊥
+pub ranks_irrefl : (a : Rank) → RanksBefore a a → ⊥
 ranks_irrefl a h = grind arith
 
-ranks_trans : (a b c : Rank) → RanksBefore a b → RanksBefore b c → RanksBefore a c
+pub ranks_trans : (a b c : Rank) → RanksBefore a b → RanksBefore b c → RanksBefore a c
 ranks_trans a b c h k = grind arith
 
 ranks_total : (a b : Rank) → a.arrival ≢ b.arrival → RanksBefore a b ⊎ RanksBefore b a
@@ -14,6 +14,24 @@ ranks_total a b differ = grind arith
 
 ranks_decide : (a b : Rank) → RanksBefore a b ⊎ (RanksBefore a b → ⊥)
 ranks_decide a b = grind arith
+
+same_rank : (a b : Rank) → a.class ≡ b.class → a.part ≡ b.part → a.arrival ≡ b.arrival → a ≡ b
+same_rank a b class part arrival = λ i. record { class = class i; part = part i; arrival = arrival i }
+
+-- of three numbers that are not all the same the first that differs decides
+pub ranks_total_apart : (a b : Rank) → a ≢ b → RanksBefore a b ⊎ RanksBefore b a
+ranks_total_apart a b differ =
+    elim (ranks_decide a b) [
+      | inl before ↦ inl before
+      | inr not ↦ elim (ranks_decide b a) [
+        | inl after ↦ inr after
+        | inr neither ↦
+            let class : a.class ≡ b.class = grind arith in
+            let part : a.part ≡ b.part = grind arith in
+            let arrival : a.arrival ≡ b.arrival = grind arith in
+            absurd (differ (same_rank a b class part arrival))
+      ]
+    ]
 
 ranks_between : (o k s : Rank) → RanksBefore o k → (RanksBefore s k → ⊥) → RanksBefore o s
 ranks_between o k s h not = grind arith

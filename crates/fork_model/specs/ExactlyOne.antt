@@ -96,3 +96,34 @@ ExactlyOneFinalOfContext =
     → is_finished (core_after (opening_core kind rules targets) events).table.rows ≡ true
     → is_succeeded (core_after (opening_core kind rules targets) events).table.rows ≡ false
     → OneFinal (core_after (opening_core kind rules targets) events).table (replies_of outcomes)
+
+-- what a context answers are the replies to the events that it took, so what holds of replies holds of contexts
+abbrev pub OutcomesAreReplies : Type 0
+OutcomesAreReplies =
+    (core : Core) (events : List Event) (outcomes : List Outcome) → AreOutcomes core events outcomes
+    → AreReplies core.table core.taken (taken_of core events) (replies_of outcomes)
+
+abbrev pub NoFinalBeforeOfContext : Type 0
+NoFinalBeforeOfContext =
+    (kind : Kind) (rules : Rules) (targets : List Target) (events : List Event) (outcomes : List Outcome)
+    → AreOutcomes (opening_core kind rules targets) events outcomes
+    → is_finished (core_after (opening_core kind rules targets) events).table.rows ≡ false
+    → finals (replies_of outcomes) ≡ []
+
+abbrev pub NoFinalBesideSuccessOfContext : Type 0
+NoFinalBesideSuccessOfContext =
+    (kind : Kind) (rules : Rules) (targets : List Target) (events : List Event) (outcomes : List Outcome)
+    → AreOutcomes (opening_core kind rules targets) events outcomes
+    → is_succeeded (core_after (opening_core kind rules targets) events).table.rows ≡ true
+    → finals (replies_of outcomes) ≡ []
+
+abbrev pub RowsOfContextStay : Type 0
+RowsOfContextStay =
+    (core : Core) (events : List Event) → is_finished core.table.rows ≡ true
+    → (core_after core events).table.rows ≡ core.table.rows
+
+abbrev pub NothingFinalFollowsOfContext : Type 0
+NothingFinalFollowsOfContext =
+    (core : Core) (events : List Event) (outcomes : List Outcome) → AreOutcomes core events outcomes
+    → is_finished core.table.rows ≡ true
+    → finals (replies_of outcomes) ≡ []

@@ -16,3 +16,4 @@ pub mod Worked
 pub mod OneReply
 pub mod Steps
 pub mod Series
+pub mod Sources

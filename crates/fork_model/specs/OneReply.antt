@@ -7,6 +7,7 @@ use Rattle.fork_model.specs.Event.{Event}
 use Rattle.fork_model.specs.Choice.{Choice, HasScore, IsChoice}
 use Rattle.fork_model.specs.Reply.{Reply, IsReply}
 use Rattle.fork_model.specs.History.{Target, table}
+use Rattle.fork_model.specs.Core.{Outcome, opening_core, core_after, IsOutcome}
 
 -- what is stored arrived before this position, and each answer by an event of its own
 pub record AreArrivals (rows : List Row) (at : ℕ) : Type 0 where
@@ -35,4 +36,12 @@ OneReply =
     (kind : Kind) (rules : Rules) (targets : List Target) (events : List Event) (event : Event) (a b : Reply)
     → IsReply (table kind rules targets events) event (length events) a
     → IsReply (table kind rules targets events) event (length events) b
+    → a ≡ b
+
+-- the same of a context: an event that is offered to it is refused or has one reply
+abbrev pub OneOutcome : Type 0
+OneOutcome =
+    (kind : Kind) (rules : Rules) (targets : List Target) (events : List Event) (event : Event) (a b : Outcome)
+    → IsOutcome (core_after (opening_core kind rules targets) events) event a
+    → IsOutcome (core_after (opening_core kind rules targets) events) event b
     → a ≡ b

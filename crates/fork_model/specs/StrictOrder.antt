@@ -2,7 +2,7 @@
 -- response is the best).
 use Rattle.std.specs.Prelude.{◌≢◌, ◌⊎◌}
 use Rattle.fork_model.specs.Table.{Rules}
-use Rattle.fork_model.specs.Rank.{Score, Before}
+use Rattle.fork_model.specs.Rank.{Rank, RanksBefore, Score, Before}
 
 -- no answer goes before itself
 abbrev pub Irreflexive : Type 0
@@ -22,3 +22,15 @@ Decided = (rules : Rules) (a b : Score) → Before rules a b ⊎ (Before rules a
 abbrev pub BeforeTheRest : Type 0
 BeforeTheRest =
     (rules : Rules) (first kept other : Score) → Before rules first kept → (Before rules other kept → ⊥) → Before rules first other
+
+-- ---- the same of ranks themselves, whichever rules gave them
+
+abbrev pub IrreflexiveOnRanks : Type 0
+IrreflexiveOnRanks = (a : Rank) → RanksBefore a a → ⊥
+
+abbrev pub TransitiveOnRanks : Type 0
+TransitiveOnRanks = (a b c : Rank) → RanksBefore a b → RanksBefore b c → RanksBefore a c
+
+-- of two ranks that differ one goes before the other
+abbrev pub TotalOnRanks : Type 0
+TotalOnRanks = (a b : Rank) → a ≢ b → RanksBefore a b ⊎ RanksBefore b a

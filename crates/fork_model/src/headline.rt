@@ -1,5 +1,5 @@
 //! What holds of every history of a fork.
-ghost use Rattle.fork_model.specs.ExactlyOne.{OpeningIsUnfinished, ExactlyOneFinal, NoFinalBefore, NoFinalBesideSuccess, FinalAtTheEnd, FinalAtTheEndAlone, RowsStay, NothingFinalFollows, StandsByItsHistory, ExactlyOneFinalOfContext};
+ghost use Rattle.fork_model.specs.ExactlyOne.{OpeningIsUnfinished, ExactlyOneFinal, NoFinalBefore, NoFinalBesideSuccess, FinalAtTheEnd, FinalAtTheEndAlone, RowsStay, NothingFinalFollows, StandsByItsHistory, OutcomesAreReplies, ExactlyOneFinalOfContext, NoFinalBeforeOfContext, NoFinalBesideSuccessOfContext, RowsOfContextStay, NothingFinalFollowsOfContext};
 
 /// With at least one target the opening table has a branch that has not ended (RFC 3261 section 16.6).
 ///
@@ -40,10 +40,17 @@ pub fn finished_stays()
 {}
 
 /// A context that refuses strays past its limit answers exactly one final answer too: what it refused is no part of
-/// its history (RFC 3261 section 16.7).
+/// its history (RFC 3261 section 16.7). Nothing final goes up before every branch has ended, nor where a 2xx came, and
+/// nothing final follows.
 ///
-/// A law over the definitions, with nothing to run.
+/// A law over the definitions, with nothing to run. Behind it stands that a context is where the history of the events
+/// that it took leads, and that what it answers are the replies to these.
 pub fn exactly_one_final_of_context()
     ensures stands_by_history { StandsByItsHistory }
+    ensures replies { OutcomesAreReplies }
     ensures exactly_one { ExactlyOneFinalOfContext }
+    ensures none_before { NoFinalBeforeOfContext }
+    ensures none_beside_success { NoFinalBesideSuccessOfContext }
+    ensures rows_stay { RowsOfContextStay }
+    ensures none_follows { NothingFinalFollowsOfContext }
 {}

@@ -8,6 +8,7 @@ mod headline;
 mod order;
 mod replies;
 mod series;
+mod sources;
 mod steps;
 mod worked;
 
@@ -18,6 +19,7 @@ pub use headline::{
 pub use order::{first_can_be_kept, order_is_strict_and_total};
 pub use replies::{arrivals_differ, each_event_has_one_reply, each_history_has_one_choice};
 pub use series::{groups_start_whole, groups_wait_in_series, one_group_starts_at_a_time};
+pub use sources::{new_rows_are_contacts, replies_list_all_that_became, stored_answers_came};
 pub use steps::{
     branches_go_on, events_make_progress, positions_are_bounded, rows_keep_their_numbers,
     targets_are_bounded,
@@ -49,6 +51,9 @@ mod tests {
         events_make_progress();
         targets_are_bounded();
         positions_are_bounded();
+        new_rows_are_contacts();
+        stored_answers_came();
+        replies_list_all_that_became();
     }
 
     #[test]

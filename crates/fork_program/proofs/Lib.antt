@@ -8,3 +8,4 @@ pub mod Answering
 pub mod Refusing
 pub mod LineLaws
 pub mod SpelledLines
+pub mod Headline

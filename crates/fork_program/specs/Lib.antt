@@ -9,3 +9,4 @@ pub mod Faults
 pub mod Answer
 pub mod Program
 pub mod Input
+pub mod Headline

@@ -6,11 +6,13 @@ ghost use Rattle.fork_program.specs.Replay.{AddsOutcome, AddsOutcomes};
 ghost use Rattle.fork_program.specs.Script.{Script};
 ghost use Rattle.fork_program.specs.Faults.{most_text, IsFault, IsForkReplay, IsForkRefusal, AppendsReplay};
 ghost use Rattle.fork_program.specs.FaultView.{fault_set_up};
+ghost use Rattle.fork_program.specs.Headline.{IsDone, TellsOneFinal, AppendsOneFinal};
 
 use crate::fault::ProgFault;
 use crate::print::{append_ending, append_full, append_opening, append_reply};
 use crate::script::Script;
 use fork_context::{Context, Event, PostError};
+use fork_listing::the_choice_is_listed_first;
 use std::alloc::{AllocError, Allocator};
 use std::collections::VecDeque;
 
@@ -49,8 +51,10 @@ fn append_outcomes<A: Allocator + Clone>(
 /// What the replay of a script prints.
 fn replay<A: Allocator + Clone>(alloc: A, script: Script<A>) -> Result<Vec<u8, A>, ProgFault>
     ensures ok { IfOk result (λ text. IsForkReplay script text.items) }
+    ensures one_final { IfOk result (λ text. IsDone script → TellsOneFinal script text.items) }
     ensures fault { IfErr result (IsForkRefusal script) }
 {
+    the_choice_is_listed_first();
     let Script {
         kind,
         rules,
@@ -68,6 +72,10 @@ fn replay<A: Allocator + Clone>(alloc: A, script: Script<A>) -> Result<Vec<u8, A
 /// Replays a script and appends what its replay prints; the exit status is 0. The text is built apart, so that
 /// `out` is as it was where it is refused.
 ///
+/// Where every branch of the fork has ended and no 2xx came, exactly one of the replies printed is final: the stored
+/// answer that none stored ranks before, 408 if there is none, 500 in place of a 503; and the list printed behind the
+/// replies holds all stored answers in order of rank, that one first (RFC 3261 section 16.7 steps 5, 6 and 10).
+///
 /// # Errors
 ///
 /// In this order: `TooLong` over `MOST_TEXT` bytes, `Line` with the first malformed line, `New` where the targets
@@ -79,6 +87,7 @@ pub fn replay_text<A: Allocator + Clone>(
 ) -> Result<u8, ProgFault>
     ensures status { IfOk result (λ status. status ≡ 0) }
     ensures replayed { OnOk result (AppendsReplay text.now out.old.items out.new.items) }
+    ensures one_final { OnOk result (AppendsOneFinal text.now out.old.items out.new.items) }
     ensures fault { IfErr result (IsFault text.now) }
     ensures too_long { IsErrOf result ProgFault.TooLong ↔ (most_text < length text.now) }
     ensures err { OnErr result (out.new.items ≡ out.old.items) }

@@ -2,6 +2,7 @@
 mod altered;
 mod changed;
 mod forks;
+mod laws;
 mod long;
 mod play;
 mod read;

@@ -20,8 +20,9 @@ pub mod Runs
 pub mod Ordering
 pub mod Lines
 pub mod Mates
+pub mod Groups
+pub mod Tiers
 pub mod Starting
 pub mod Known
-pub mod Ordered
-pub mod Passing
-pub mod Halving
+pub mod Ways
+pub mod Rooms

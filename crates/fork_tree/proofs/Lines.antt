@@ -190,29 +190,5 @@ none_where test k (suc i) (x ∷ rows) row e is t =
 pub none_below : (rows : List Row) (m k : ℕ) (row : Row) → open_below rows m ≡ 0 → slice_get rows k ≡ Some row → lies_below rows m k ≡ true → is_ended row.state ≡ true
 none_below rows m k row e is t = none_where (lies_below rows m) 0 k rows row e is (let at : k ≡ 0 + k = omega arith in ap (lies_below rows m) (sym at) ∙ t)
 
-pub record GoesOn (rows : List Row) (test : ℕ → Bool) (k : ℕ) : Type 0 where
-  pub number : ℕ
-  pub row : Row
-  pub there : slice_get rows number ≡ Some row
-  pub passes : test (k + number) ≡ true
-  pub goes_on : is_ended row.state ≡ false
-
-some_where : (test : ℕ → Bool) (k : ℕ) (rows : List Row) → 0 < open_where test k rows → GoesOn rows test k
-some_where test k [] h = absurd (omega (arith, h))
-some_where test k (x ∷ rows) h = go (test k) (is_ended x.state) refl refl h (λ less. some_where test (suc k) rows less)
-  where
-    on : GoesOn rows test (suc k) → GoesOn (x ∷ rows) test k
-    on b =
-        let at : suc k + b.number ≡ k + suc b.number = omega arith in
-        record { number = suc b.number; row = b.row; there = b.there; passes = ap test (sym at) ∙ b.passes; goes_on = b.goes_on }
-
-    go : (t e : Bool) → test k ≡ t → is_ended x.state ≡ e → 0 < (if t && not e then 1 else 0) + open_where test (suc k) rows
-        → (0 < open_where test (suc k) rows → GoesOn rows test (suc k)) → GoesOn (x ∷ rows) test k
-    go true false t e h again =
-        let at : k + 0 ≡ k = omega arith in
-        record { number = 0; row = x; there = refl; passes = ap test at ∙ t; goes_on = e }
-    go true true t e h again = on (again (omega (arith, h)))
-    go false e t f h again = on (again (omega (arith, h)))
-
-pub some_below : (rows : List Row) (m : ℕ) → 0 < open_below rows m → GoesOn rows (lies_below rows m) 0
-some_below rows m h = some_where (lies_below rows m) 0 rows h
+pub lies_here : (rows : List Row) (k : ℕ) → AreOlderRows rows → lies_below rows k k ≡ true
+lies_here rows k older = leads_enough (up_in rows) k 0 k k older (omega arith) (eq-eqb k k refl)

@@ -64,7 +64,7 @@ under_later j k (x ∷ xs) p h =
     ∙ ap (λ r. r ++ under (k ∷ p) (joined (suc j) xs)) (under_other j k p x (λ e. omega (arith, e, h)))
     ∙ under_later (suc j) k xs p (omega (arith, h))
 
-under_joined : (j i k : ℕ) (parts : List (List Entry)) (p : List ℕ) → k ≡ j + i → under (k ∷ p) (joined j parts) ≡ under p (get_or parts i [])
+pub under_joined : (j i k : ℕ) (parts : List (List Entry)) (p : List ℕ) → k ≡ j + i → under (k ∷ p) (joined j parts) ≡ under p (get_or parts i [])
 under_joined j i k [] p e = refl
 under_joined j zero k (x ∷ xs) p e =
     let at : k ≡ j = omega (arith, e) in

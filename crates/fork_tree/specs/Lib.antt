@@ -11,4 +11,4 @@ pub mod Below
 pub mod Given
 pub mod Ready
 pub mod Search
-pub mod Quiet
+pub mod Rooms

@@ -22,14 +22,6 @@ path_to all (suc steps) n = path_at (slice_get all n) (path_to all steps)
 abbrev pub path_of : List Place → ℕ → List ℕ
 path_of all n = path_to all (suc n) n
 
--- the path to its group: without its place there
-abbrev pub group_at : Option Place → (ℕ → List ℕ) → List ℕ
-group_at None up = []
-group_at (Some p) up = above p.parent up ++ p.group ∷ []
-
-abbrev pub group_of : List Place → ℕ → List ℕ
-group_of all n = group_at (slice_get all n) (path_to all n)
-
 abbrev pub row_at : Place → Option Cell → Row
 row_at p None = record { key = []; q = 0; place = 0; parent = p.parent; group = p.group; state = Ended Never }
 row_at p (Some c) =
@@ -54,3 +46,15 @@ IsPlaced all root = (n : ℕ) → n < length all → number_of (find root (path_
 -- each parent is an older row
 abbrev pub AreOlder : List Place → Type 0
 AreOlder all = (n : ℕ) (p : Place) (m : ℕ) → slice_get all n ≡ Some p → p.parent ≡ Some m → m < n
+
+-- after this place, where there is one: who isn't the first of a group stands right behind the one before it there
+abbrev pub IsBehind : Option Place → Place → Type 0
+IsBehind before p = (place : ℕ) → p.place ≡ suc place → before ≡ Some (record { parent = p.parent; group = p.group; place = place })
+
+abbrev pub AllBehind : Option Place → List Place → Type 0
+AllBehind before [] = Unit {0}
+AllBehind before (p ∷ ps) = IsBehind before p × AllBehind (Some p) ps
+
+-- the rows of a group have numbers in a row
+abbrev pub AreTogether : List Place → Type 0
+AreTogether all = AllBehind None all

@@ -1,5 +1,5 @@
 -- The branches of a tree in preorder, each with its path from the top: group, place, group, place ..
-use Rattle.std.specs.Prelude.{ℕ, ◌&&◌, suc, Bool, true, false, not, List, [], ◌∷◌, ◌++◌, map, Option, Some, None, eqb, is_some, if◌then◌else◌}
+use Rattle.std.specs.Prelude.{ℕ, ◌&&◌, suc, Bool, true, false, not, List, [], ◌∷◌, ◌++◌, map, Option, Some, None, eqb, if◌then◌else◌}
 use Rattle.fork_tree.specs.declared.best.Standing.{Standing}
 use Rattle.fork_tree.specs.declared.row.State.{State}
 use Rattle.fork_tree.specs.declared.row.State.TheVariants.{Idle}
@@ -75,7 +75,3 @@ q_in (Some cell) = cell.q
 abbrev pub state_in : Option Cell → State
 state_in None = Idle
 state_in (Some cell) = cell.standing.state
-
--- a branch stands there
-abbrev pub is_there : List Entry → List ℕ → Bool
-is_there rows path = is_some (find rows path)

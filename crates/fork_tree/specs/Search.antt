@@ -1,122 +1,126 @@
--- How the rows of a group stand together, and what the search for a group that may start finds out (RFC 3261 section
--- 16.6).
-use Rattle.std.specs.Prelude.{◌≡◌, ◌<◌, ◌≤◌, ◌-◌, ◌⊎◌, ℕ, suc, Bool, true, false, List, [], ◌∷◌, length, Option, Some, None, slice_get}
-use Rattle.fork_model.specs.Table.{Row, is_idle}
-use Rattle.fork_model.specs.Waiting.{in_earlier_group, may_start}
+-- What the search for a group that may start goes by, and what it finds (RFC 3261 section 16.6).
+use Rattle.std.specs.Prelude.{◌≡◌, ◌⊎◌, ◌<◌, ◌≤◌, ℕ, length, Bool, true, false, List, [], ◌∷◌, Option, Some, None, slice_get}
+use Rattle.fork_model.specs.Table.{Row, is_idle, most_targets}
+use Rattle.fork_model.specs.Waiting.{may_start}
 use Rattle.fork_tree.specs.declared.place.Place.{Place}
-use Rattle.fork_tree.specs.Below.{open_below}
+use Rattle.fork_tree.specs.States.{bare_state, has_ended}
+use Rattle.fork_tree.specs.Rows.{Cell, Entry, find, state_in}
+use Rattle.fork_tree.specs.Tally.{open_of}
+use Rattle.fork_tree.specs.Places.{IsPlaced, AreOlder, AreTogether, number_of}
+use Rattle.fork_tree.specs.Listed.{AreListed}
 use Rattle.fork_tree.specs.Ready.{IsReady}
+use Rattle.fork_tree.specs.Below.{lies_below, under}
 
--- ---- places
+-- ---- where a group may have come to start
 
--- this is a place in this group under this row
-pub record IsPlaceIn (before : Option Place) (parent : Option ℕ) (group : ℕ) : Type 0 where
-  pub place : ℕ
-  pub is : before ≡ Some (record { parent = parent; group = group; place = place })
-
--- after this place, where there is one: who isn't the first of a group stands right behind the one before it there, and
--- the first of a later group right behind one of the group before that
-pub record Steps (before : Option Place) (p : Place) : Type 0 where
-  pub inside : (place : ℕ) → p.place ≡ suc place
-      → before ≡ Some (record { parent = p.parent; group = p.group; place = place })
-  pub on : (group : ℕ) → p.place ≡ 0 → p.group ≡ suc group → IsPlaceIn before p.parent group
-
-abbrev pub AllStep : Option Place → List Place → Type 0
-AllStep before [] = Unit {0}
-AllStep before (p ∷ ps) = Steps before p × AllStep (Some p) ps
-
--- the rows of a group stand in the order of their numbers, with none of another between them, and so do the groups under
--- one row
-abbrev pub AreTogether : List Place → Type 0
-AreTogether all = AllStep None all
-
--- ---- rows
-
-abbrev pub AreMates : Row → Row → Type 0
-AreMates a b = (a.parent ≡ b.parent) × (a.group ≡ b.group)
-
--- no older row stands in the row's group
-abbrev pub Opens : List Row → ℕ → Type 0
-Opens rows n =
-    (m : ℕ) (mate row : Row) → m < n → slice_get rows m ≡ Some mate → slice_get rows n ≡ Some row → AreMates mate row → ⊥
-
--- the row right before it stands in the row's group
-pub record Joins (rows : List Row) (n : ℕ) : Type 0 where
-  pub last : ℕ
-  pub next : n ≡ suc last
-  pub mate : Row
+-- a row under this parent stands at or above row n
+pub record IsOver (rows : List Row) (n : ℕ) (parent : Option ℕ) : Type 0 where
+  pub number : ℕ
   pub row : Row
-  pub before : slice_get rows last ≡ Some mate
-  pub here : slice_get rows n ≡ Some row
-  pub mates : AreMates mate row
+  pub there : slice_get rows number ≡ Some row
+  pub beside : row.parent ≡ parent
+  pub below : lies_below rows number n ≡ true
 
--- whether the row is the first of its group
-abbrev pub IsBegin : List Row → ℕ → Bool → Type 0
-IsBegin rows n true = Opens rows n
-IsBegin rows n false = Joins rows n
+-- the rows under this parent stand right below the row, beside it, or beside one above it; of no row: at the top
+abbrev pub IsOnWay : List Row → Option ℕ → Option ℕ → Type 0
+IsOnWay rows None parent = parent ≡ None
+IsOnWay rows (Some n) parent = (parent ≡ Some n) ⊎ IsOver rows n parent
 
--- the rows from the first up to the end are the group of the first
-pub record IsGroup (rows : List Row) (first end : ℕ) : Type 0 where
-  pub some : first < end
-  pub within : end ≤ length rows
-  pub same : (k : ℕ) (row other : Row) → first ≤ k → k < end → slice_get rows first ≡ Some row
-      → slice_get rows k ≡ Some other → AreMates other row
-  pub whole : (k : ℕ) (row other : Row) → slice_get rows first ≡ Some row → slice_get rows k ≡ Some other
-      → AreMates other row → (first ≤ k) × (k < end)
+abbrev pub IsMet : List Row → List (Option ℕ) → Option ℕ → Type 0
+IsMet rows [] parent = ⊥
+IsMet rows (x ∷ recent) parent = IsOnWay rows x parent ⊎ IsMet rows recent parent
 
--- the first number behind row n at which a group begins; how many rows there are, where none does
-pub record IsNextBegin (rows : List Row) (n end : ℕ) : Type 0 where
-  pub past : n < end
-  pub within : end ≤ length rows
-  pub joined : (k : ℕ) → n < k → k < end → Joins rows k
-  pub opens : end < length rows → Opens rows end
+-- each row that may start is met on the way up from one of these
+abbrev pub AreMet : List Row → List (Option ℕ) → Type 0
+AreMet rows recent =
+    (k : ℕ) (row : Row) → slice_get rows k ≡ Some row → may_start rows row ≡ true → IsMet rows recent row.parent
 
--- it doesn't wait
-abbrev pub IsBusy : List Row → ℕ → Type 0
-IsBusy rows k = (row : Row) → slice_get rows k ≡ Some row → is_idle row.state ≡ false
+-- there is this row; or none is meant
+abbrev pub IsKnown : ℕ → Option ℕ → Type 0
+IsKnown count None = Unit {0}
+IsKnown count (Some n) = n < count
 
--- whether the rows from the first up to the end wait
-abbrev pub AllWait : List Row → ℕ → ℕ → Bool → Type 0
-AllWait rows first end true =
-    (k : ℕ) (row : Row) → first ≤ k → k < end → slice_get rows k ≡ Some row → is_idle row.state ≡ true
-AllWait rows first end false = (k : ℕ) × (first ≤ k) × (k < end) × IsBusy rows k
+abbrev pub AreKnown : ℕ → List (Option ℕ) → Type 0
+AreKnown count [] = Unit {0}
+AreKnown count (x ∷ recent) = IsKnown count x × AreKnown count recent
 
--- row m stands in an earlier group beside row n, and it or a row below it has not ended
-pub record IsHeldUp (rows : List Row) (m n : ℕ) : Type 0 where
-  pub first : Row
-  pub row : Row
-  pub there : slice_get rows m ≡ Some first
-  pub here : slice_get rows n ≡ Some row
-  pub earlier : in_earlier_group first row ≡ true
-  pub busy : 0 < open_below rows m
+-- the places lead to the nodes, whatever is kept of those
+pub record IsShape (all : List Place) (root : List Entry) : Type 0 where
+  pub older : AreOlder all
+  pub placed : IsPlaced all root
+  pub listed : AreListed all root root
+  pub sized : length root ≡ length all
+  pub few : length all ≤ most_targets
+  pub together : AreTogether all
 
--- whether row m holds row n up so
-abbrev pub HoldsUp : List Row → ℕ → ℕ → Bool → Type 0
-HoldsUp rows m n true = IsHeldUp rows m n
-HoldsUp rows m n false =
-    (first row : Row) → slice_get rows m ≡ Some first → slice_get rows n ≡ Some row → in_earlier_group first row ≡ true
-    → open_below rows m ≡ 0
+-- ---- what is found among the branches
 
--- whether all that go before row n have ended
-abbrev pub IsNext : List Row → ℕ → Bool → Type 0
-IsNext rows n true = (m : ℕ) → m < length rows → HoldsUp rows m n false
-IsNext rows n false = (m : ℕ) × IsHeldUp rows m n
+-- a branch stands there that waits no more
+abbrev pub IsStarted : Option Cell → Type 0
+IsStarted None = ⊥
+IsStarted (Some cell) = is_idle (bare_state cell.standing.state) ≡ false
 
--- the same of the rows from one number up to another alone
-abbrev pub IsNextIn : List Row → ℕ → ℕ → ℕ → Bool → Type 0
-IsNextIn rows n low high true = (m : ℕ) → low ≤ m → m < high → HoldsUp rows m n false
-IsNextIn rows n low high false = (m : ℕ) × IsHeldUp rows m n
+abbrev pub waits_in : Option Cell → Bool
+waits_in None = false
+waits_in (Some cell) = is_idle (bare_state cell.standing.state)
 
--- whether the group of row n may start
-abbrev pub MayGo : List Row → ℕ → Bool → Type 0
-MayGo rows n b = (row : Row) → slice_get rows n ≡ Some row → may_start rows row ≡ b
+-- whether the branch waits, with none below it
+abbrev pub IsWaiting : List Entry → Bool → Type 0
+IsWaiting rows true =
+    (cell : Cell) × (rows ≡ record { path = []; cell = cell } ∷ []) × (is_idle (bare_state cell.standing.state) ≡ true)
+IsWaiting rows false = IsStarted (find rows [])
 
--- a group that may start and whose first row is row n, up to this end; None where no such group begins there
-abbrev pub BeginsReady : List Row → ℕ → Option ℕ → Type 0
-BeginsReady rows n (Some end) = (n < end) × IsReady rows n (end - n)
-BeginsReady rows n None = Joins rows n ⊎ MayGo rows n false
+-- so many branches, all of which wait, and the first has this number
+pub record AllWait (group : List Entry) (first count : ℕ) : Type 0 where
+  pub some : 0 < count
+  pub first_there : number_of (find group (0 ∷ [])) ≡ Some first
+  pub wait : (place : ℕ) → place < count → waits_in (find group (place ∷ [])) ≡ true
+  pub whole : (place : ℕ) (cell : Cell) → find group (place ∷ []) ≡ Some cell → place < count
 
--- a group that may start: its first row, and the number after its last; None where no group may start
-abbrev pub FindsReady : List Row → Option (ℕ × ℕ) → Type 0
-FindsReady rows (Some group) = (group.0 < group.1) × IsReady rows group.0 (group.1 - group.0)
-FindsReady rows None = (k : ℕ) (row : Row) → slice_get rows k ≡ Some row → may_start rows row ≡ false
+-- the first branch and the count, where all wait; None where one doesn't
+abbrev pub FindsGroup : List Entry → Option (ℕ × ℕ) → Type 0
+FindsGroup group (Some g) = AllWait group g.0 g.1
+FindsGroup group None = (place : ℕ) × IsStarted (find group (place ∷ []))
+
+-- that of the first group in which, or below which, not all has ended
+pub record FindsFirst (rows : List Entry) (result : Option (ℕ × ℕ)) : Type 0 where
+  pub group : ℕ
+  pub earlier : (j : ℕ) → j < group → open_of (under (j ∷ []) rows) ≡ 0
+  pub goes_on : 0 < open_of (under (group ∷ []) rows)
+  pub found : FindsGroup (under (group ∷ []) rows) result
+
+-- the same; or all has ended
+abbrev pub FindsHere : List Entry → Option (ℕ × ℕ) → Type 0
+FindsHere rows (Some g) = FindsFirst rows (Some g)
+FindsHere rows None = FindsFirst rows None ⊎ ((j : ℕ) → open_of (under (j ∷ []) rows) ≡ 0)
+
+-- the same right below a branch, which has ended where a group waits there
+abbrev pub FindsBelow : List Entry → Option (ℕ × ℕ) → Type 0
+FindsBelow node (Some g) = FindsFirst node (Some g) × (has_ended (state_in (find node [])) ≡ true)
+FindsBelow node None = FindsHere node None
+
+abbrev pub OrBelow : Option (ℕ × ℕ) → List Entry → Option (ℕ × ℕ) → Type 0
+OrBelow None node result = FindsBelow node result
+OrBelow (Some g) node result = result ≡ Some g
+
+-- ---- what that says of the rows
+
+-- no row under this parent may start
+abbrev pub NoneUnder : List Row → Option ℕ → Type 0
+NoneUnder rows parent =
+    (k : ℕ) (row : Row) → slice_get rows k ≡ Some row → row.parent ≡ parent → may_start rows row ≡ true → ⊥
+
+-- a group that may start; None where none under this parent may
+abbrev pub FindsUnder : List Row → Option ℕ → Option (ℕ × ℕ) → Type 0
+FindsUnder rows parent (Some group) = IsReady rows group.0 group.1
+FindsUnder rows parent None = NoneUnder rows parent
+
+-- the same; None where none may that is met on this way
+abbrev pub FindsOnWay : List Row → Option ℕ → Option (ℕ × ℕ) → Type 0
+FindsOnWay rows x (Some group) = IsReady rows group.0 group.1
+FindsOnWay rows x None = (parent : Option ℕ) → IsOnWay rows x parent → NoneUnder rows parent
+
+-- the same; None where none may at all
+abbrev pub FindsStart : List Row → Option (ℕ × ℕ) → Type 0
+FindsStart rows (Some group) = IsReady rows group.0 group.1
+FindsStart rows None = (k : ℕ) (row : Row) → slice_get rows k ≡ Some row → may_start rows row ≡ false

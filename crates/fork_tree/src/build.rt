@@ -43,6 +43,16 @@ impl<A: Allocator + Clone> ForkTree<A> {
         self.end(n, end, below);
     }
 
+    /// Whether row n waits.
+    pub(crate) fn is_waiting(&self, n: u16) -> bool
+        ensures { result ≡ is_row is_idle (slice_get self.now.rows n) }
+    {
+        match self.row(n) {
+            Some(row) => row.state == State::Idle,
+            None => false,
+        }
+    }
+
     /// The row comes into its state where it still waits.
     fn settle(&mut self, alloc: &A, row: &RowRef) -> Result<(), AllocError>
         requires few { length self.old.rows ≤ most_targets }
@@ -60,7 +70,8 @@ impl<A: Allocator + Clone> ForkTree<A> {
                 let none = Level::idle(alloc.clone()?, self.count(), &[])?;
                 self.finish(row.no, end, none);
             }
-            state => self.set(row.no, state, false),
+            State::Idle => {}
+            state => self.set(row.no, state),
         }
         Ok(())
     }

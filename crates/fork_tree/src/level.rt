@@ -4,6 +4,7 @@ ghost use Rattle.fork_model.specs.Table.{most_targets};
 ghost use Rattle.fork_tree.specs.Seats.{seats_of};
 
 use crate::node::{Tier, branches};
+use crate::place::Room;
 use crate::seat::Seat;
 use std::alloc::{AllocError, Allocator, Global};
 use std::marker::Model;
@@ -15,26 +16,42 @@ pub struct Level<A: Allocator = Global> {
     pub(crate) first: u16,
     pub(crate) tier: Tier<A>,
     pub(crate) seats: Vec<Seat, A>,
+    /// Room for all rows of the tree that they come into.
+    pub(crate) room: Room<A>,
 }
 
 impl<A: Allocator> Model for Level<A> {
+    ghost use Rattle.std.specs.Prelude.{length};
     ghost use Rattle.fork_tree.specs.Seats.{Waiting, IsLevel};
+    ghost use Rattle.fork_tree.specs.Rooms.{HasRoomFor};
 
     ghost Value = { Waiting };
 
     ghost view = { λ l. record { first = l.first; seats = l.seats.items } };
 
-    ghost invariant = { λ l. IsLevel l.first l.seats.items l.tier };
+    ghost invariant = { λ l. record {
+      level : IsLevel l.first l.seats.items l.tier;
+      room : HasRoomFor l.room l.first (length l.seats.items);
+    } };
 }
 
 impl<A: Allocator + Clone> Level<A> {
     /// Rows of these q, in thousandths, all of which wait: those of one q that stand together are a group, so that of
-    /// q that never rise each group has one of its own, and the groups fall. The only error is want of memory.
+    /// q that never rise each group has one of its own, and the groups fall. They bring the room that a tree with them
+    /// needs. The only error is want of memory.
     pub fn idle(alloc: A, first: u16, qs: &[u16]) -> Result<Level<A>, AllocError>
         requires few { first + length qs.now ≤ most_targets }
         ensures { IfOk result (λ level. level ≡ record { first = first; seats = seats_of qs.now }) }
     {
+        let count = qs.len() as u16;
+        let rows = if count > 0 { first + count + 1 } else { 0 };
+        let room = Room::of(&alloc, rows)?;
         let (tier, seats) = branches(&alloc, first, qs)?;
-        Ok(Level { first, tier, seats })
+        Ok(Level {
+            first,
+            tier,
+            seats,
+            room,
+        })
     }
 }

@@ -4,11 +4,9 @@
 
 mod best;
 mod build;
-mod find;
 mod level;
 mod node;
 mod place;
-mod quiet;
 mod row;
 mod seat;
 mod series;

@@ -1,7 +1,9 @@
 //! Nodes, and the groups of nodes below them.
-ghost use Rattle.std.specs.Prelude.{◌≡◌, ℕ, List, ◌∷◌, ◌≤◌, ◌+◌, ◌++◌, IsTrue, IfOk, OnOk, None, [], is_some, length, map, suc, true, false, if◌then◌else◌};
+ghost use Rattle.std.specs.Prelude.{◌≡◌, ℕ, List, ◌∷◌, ◌<◌, ◌≤◌, ◌+◌, ◌++◌, IsTrue, IfOk, OnOk, Some, None, [], is_some, length, map, suc, true, false, if◌then◌else◌};
 ghost use Rattle.fork_model.specs.Table.{most_targets};
-ghost use Rattle.fork_tree.specs.Rows.{open_at, find, graft, is_there, joined, node_rows, pushed, q_in, state_in, unanswered};
+ghost use Rattle.fork_tree.specs.Places.{number_of};
+ghost use Rattle.fork_tree.specs.Search.{FindsBelow, FindsGroup, FindsHere, IsWaiting};
+ghost use Rattle.fork_tree.specs.Rows.{open_at, find, graft, joined, node_rows, pushed, q_in, state_in, unanswered};
 ghost use Rattle.fork_tree.specs.Below.{under};
 ghost use Rattle.fork_tree.specs.Closing.{closed_entry};
 ghost use Rattle.fork_tree.specs.Tally.{AreWaiting, Gains, IsKept, open_of};
@@ -117,18 +119,18 @@ impl<A: Allocator> Node<A> {
         self.q
     }
 
+    /// Its number.
+    fn number(&self) -> u16
+        ensures { number_of (find self.now []) ≡ Some result }
+    {
+        self.number
+    }
+
     /// Where it is.
     pub(crate) fn state(&self) -> State
         ensures { result ≡ state_in (find self.now []) }
     {
         self.standing.state
-    }
-
-    /// The branches below it.
-    pub(crate) fn below(&self) -> &Tier<A>
-        ensures { (k : ℕ) (rest : List ℕ) → find result.now (k ∷ rest) ≡ find self.now (k ∷ rest) }
-    {
-        &self.below
     }
 
     /// The branch at this place of this group right below it.
@@ -139,12 +141,19 @@ impl<A: Allocator> Node<A> {
         self.below.child(group, place)
     }
 
-    /// How many of the branches in this group right below it, and of those below them, have not ended.
-    pub(crate) fn open_in(&self, group: u16) -> u16
-        requires there { (place : ℕ) × IsTrue (is_some (find self.now (group ∷ place ∷ []))) }
-        ensures { result ≡ open_of (under (group ∷ []) self.now) }
+    /// Whether it waits; none stands below it then.
+    fn waits(&self) -> bool
+        ensures { IsWaiting self.now result }
     {
-        self.below.open_in(group)
+        !self.standing.state.has_started()
+    }
+
+    /// The first branch and the count of the first group right below it in which not all has ended, where that group
+    /// waits. It is None where that group doesn't wait, and where there is none.
+    pub(crate) fn ready_below(&self) -> Option<(u16, u16)>
+        ensures { FindsBelow self.now result }
+    {
+        self.below.ready()
     }
 
     /// The branch at this path, which has not ended, comes into another state in which it has not.
@@ -218,14 +227,6 @@ impl<A: Allocator> Tier<A> {
     }
 
     /// The branch at this place of this group.
-    pub(crate) fn at(&self, group: u16, place: u16) -> &Node<A>
-        requires { IsTrue (is_there self.now (group ∷ place ∷ [])) }
-        ensures { (rest : List ℕ) → find result.now rest ≡ find self.now (group ∷ place ∷ rest) }
-    {
-        self.groups[group as usize].at(place)
-    }
-
-    /// The branch at this place of this group.
     pub(crate) fn child(&self, group: u16, place: u16) -> &Node<A>
         requires there { IsTrue (is_some (find self.now (group ∷ place ∷ []))) }
         ensures { result.now ≡ under (group ∷ place ∷ []) self.now }
@@ -233,12 +234,18 @@ impl<A: Allocator> Tier<A> {
         self.groups[group as usize].child(place)
     }
 
-    /// How many of the branches in this group, and of those below them, have not ended.
-    pub(crate) fn open_in(&self, group: u16) -> u16
-        requires there { (place : ℕ) × IsTrue (is_some (find self.now (group ∷ place ∷ []))) }
-        ensures { result ≡ open_of (under (group ∷ []) self.now) }
+    /// The first branch and the count of the first group in which, or below which, not all has ended, where that group
+    /// waits.
+    pub(crate) fn ready(&self) -> Option<(u16, u16)>
+        ensures { FindsHere self.now result }
     {
-        self.groups[group as usize].open_count()
+        for i in 0..self.groups.len() {
+            let group = &self.groups[i];
+            if group.open_count() > 0 {
+                return group.ready();
+            }
+        }
+        None
     }
 
     /// The branch at this path comes into another state, as of a node.
@@ -294,14 +301,6 @@ impl<A: Allocator> Tier<A> {
 
 impl<A: Allocator> Group<A> {
     /// The branch at this place.
-    fn at(&self, place: u16) -> &Node<A>
-        requires { IsTrue (is_there self.now (place ∷ [])) }
-        ensures { (rest : List ℕ) → find result.now rest ≡ find self.now (place ∷ rest) }
-    {
-        &self.nodes[place as usize]
-    }
-
-    /// The branch at this place.
     fn child(&self, place: u16) -> &Node<A>
         requires there { IsTrue (is_some (find self.now (place ∷ []))) }
         ensures { result.now ≡ under (place ∷ []) self.now }
@@ -324,6 +323,19 @@ impl<A: Allocator> Group<A> {
         ensures { result ≡ open_of self.now }
     {
         self.still
+    }
+
+    /// The number of its first branch, and how many there are, where they all wait.
+    fn ready(&self) -> Option<(u16, u16)>
+        requires goes_on { 0 < open_of self.now }
+        ensures { FindsGroup self.now result }
+    {
+        for i in 0..self.nodes.len() {
+            if !self.nodes[i].waits() {
+                return None;
+            }
+        }
+        Some((self.nodes[0].number(), self.still))
     }
 
     /// The branch at this path comes into another state, as of a node.

@@ -1,8 +1,9 @@
 //! Where each number stands.
-ghost use Rattle.std.specs.Prelude.{◌≡◌, ◌++◌, ◌<◌, ◌≤◌, ◌+◌, ◌*◌, Some, length, slice_get, vec_len, vec_capacity};
+ghost use Rattle.std.specs.Prelude.{◌≡◌, ◌⊎◌, ◌++◌, ◌<◌, ◌≤◌, ◌+◌, ◌*◌, [], IfOk, Some, length, slice_get, vec_len, vec_capacity};
 ghost use Rattle.fork_tree.specs.Places.{path_of, AreOlder};
+ghost use Rattle.fork_tree.specs.Rooms.{HasRoom};
 
-use std::alloc::Allocator;
+use std::alloc::{AllocError, Allocator, Global};
 
 /// Where a row stands: under which row, in which group there, at which place in it.
 #[derive(Clone, Copy, PartialEq, Eq, Debug)]
@@ -10,6 +11,52 @@ pub(crate) struct Place {
     pub(crate) parent: Option<u16>,
     pub(crate) group: u16,
     pub(crate) place: u16,
+}
+
+/// Empty lists with room for what is kept of rows by their numbers.
+#[derive(Drop)]
+pub(crate) struct Room<A: Allocator = Global> {
+    /// Where each row stands.
+    pub(crate) places: Vec<Place, A>,
+    /// The path to a row, while it changes.
+    pub(crate) path: Vec<u16, A>,
+    /// The rows from which the search for a group that may start sets out.
+    pub(crate) recent: Vec<Option<u16>, A>,
+}
+
+impl<A: Allocator + Clone> Room<A> {
+    /// Room for so many rows, the top counted as one.
+    pub(crate) fn of(alloc: &A, rows: u16) -> Result<Room<A>, AllocError>
+        ensures { IfOk result (λ room. HasRoom room rows) }
+    {
+        let rows = rows as usize;
+        Ok(Room {
+            places: Vec::with_capacity(alloc.clone()?, rows)?,
+            path: Vec::with_capacity(alloc.clone()?, 2 * rows)?,
+            recent: Vec::with_capacity(alloc.clone()?, rows)?,
+        })
+    }
+}
+
+/// These items, with room for so many: in their own list, or else in the other, which is empty.
+pub(crate) fn make_room<T: Copy, A: Allocator>(
+    items: &mut Vec<T, A>,
+    mut room: Vec<T, A>,
+    count: usize,
+)
+    requires empty { room.items ≡ [] }
+    requires enough { (count ≤ vec_capacity items.old) ⊎ (count ≤ vec_capacity room) }
+    requires fits { vec_len items.old ≤ count }
+    ensures items { items.new.items ≡ items.old.items }
+    ensures room { count ≤ vec_capacity items.new }
+{
+    if count <= items.capacity() {
+        return;
+    }
+    for i in 0..items.len() {
+        room.push_reserved(items[i]);
+    }
+    *items = room;
 }
 
 /// Adds the path from the top to row n: group, place, group, place ..

@@ -3,7 +3,7 @@ ghost use Rattle.std.specs.Prelude.{◌≡◌, ◌<◌, length};
 ghost use Rattle.std.specs.Option.{option_copied};
 ghost use Rattle.fork_tree.specs.Below.{IsBestOf, IsNodeAt, under};
 ghost use Rattle.fork_tree.specs.Tally.{open_of};
-ghost use Rattle.fork_tree.specs.Places.{path_of, group_of, AreOlder, IsPlaced};
+ghost use Rattle.fork_tree.specs.Places.{path_of, AreOlder, IsPlaced};
 
 use crate::best::BestRef;
 use crate::node::{Node, Tier};
@@ -42,7 +42,7 @@ impl<A: Allocator> Node<A> {
 }
 
 /// The node of row n, by its chain of parents.
-fn node_of<'a, A: Allocator>(root: &'a Tier<A>, places: &[Place], n: u16) -> &'a Node<A>
+pub(crate) fn node_of<'a, A: Allocator>(root: &'a Tier<A>, places: &[Place], n: u16) -> &'a Node<A>
     requires known { n < length places.now }
     requires older { AreOlder places.now }
     requires placed { IsPlaced places.now root.now }
@@ -52,19 +52,5 @@ fn node_of<'a, A: Allocator>(root: &'a Tier<A>, places: &[Place], n: u16) -> &'a
     match place.parent {
         Some(m) => node_of(root, places, m).child(place.group, place.place),
         None => root.child(place.group, place.place),
-    }
-}
-
-/// How many of the group of row n, and of those below them, have not ended.
-pub(crate) fn open_in_group<A: Allocator>(root: &Tier<A>, places: &[Place], n: u16) -> u16
-    requires known { n < length places.now }
-    requires older { AreOlder places.now }
-    requires placed { IsPlaced places.now root.now }
-    ensures { result ≡ open_of (under (group_of places.now n) root.now) }
-{
-    let place = place_of(places, n);
-    match place.parent {
-        Some(m) => node_of(root, places, m).open_in(place.group),
-        None => root.open_in(place.group),
     }
 }

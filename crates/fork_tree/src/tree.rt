@@ -12,14 +12,13 @@ ghost use Rattle.fork_tree.specs.Below.{parent_of};
 ghost use Rattle.fork_tree.specs.Tree.{IsBest, open_rows, row_ref, is_unended, is_uncancelled};
 
 use crate::best::{BestRef, Standing, Tally};
-use crate::find::node_at;
 use crate::level::Level;
 use crate::node::{Tier, branches};
-use crate::place::{Place, place_of, trace};
-use crate::quiet::{Quiet, both, if_new};
+use crate::place::{Place, Room, make_room, place_of, trace};
 use crate::row::{End, RowRef, State};
 use crate::seat::Seat;
-use fork_rank::{MOST_TARGETS, Rules};
+use crate::subtree::node_of;
+use fork_rank::Rules;
 use std::alloc::{AllocError, Allocator, Global};
 use std::marker::Model;
 
@@ -32,19 +31,19 @@ pub struct ForkTree<A: Allocator = Global> {
     pub(crate) places: Vec<Place, A>,
     path: Vec<u16, A>,
     tally: Tally,
-    pub(crate) quiet: Quiet,
-    /// It is known that all that goes before a row that waits no more has ended.
-    pub(crate) in_order: bool,
+    /// Rows that ended: each group that may start stands below one of these, beside it, or beside a row above it. None
+    /// is the top.
+    pub(crate) recent: Vec<Option<u16>, A>,
 }
 
 impl<A: Allocator> Model for ForkTree<A> {
-    ghost use Rattle.std.specs.Prelude.{◌≡◌, ◌≤◌, ◌*◌, true, vec_capacity};
+    ghost use Rattle.std.specs.Prelude.{◌≡◌, ◌≤◌, ◌*◌, ◌+◌, length, vec_capacity};
     ghost use Rattle.fork_model.specs.Table.{most_targets};
     ghost use Rattle.fork_tree.specs.Places.{rows_of};
     ghost use Rattle.fork_tree.specs.Listed.{IsTree};
     ghost use Rattle.fork_tree.specs.Tree.{Tree};
-    ghost use Rattle.fork_tree.specs.Search.{AreTogether};
-    ghost use Rattle.fork_tree.specs.Quiet.{InOrder, IsQuiet};
+    ghost use Rattle.fork_tree.specs.Places.{AreTogether};
+    ghost use Rattle.fork_tree.specs.Search.{AreKnown, AreMet};
 
     ghost Value = { Tree };
 
@@ -53,39 +52,38 @@ impl<A: Allocator> Model for ForkTree<A> {
     ghost invariant = { λ t. record {
       tree : IsTree t.rules t.places.items t.root t.tally;
       together : AreTogether t.places.items;
-      path_room : 2 * most_targets ≤ vec_capacity t.path;
-      places_room : most_targets ≤ vec_capacity t.places;
-      quiet : IsQuiet (rows_of t.places.items t.root) t.quiet;
-      order : t.in_order ≡ true → InOrder (rows_of t.places.items t.root);
+      places_room : length t.places.items ≤ vec_capacity t.places;
+      path_room : 2 * length t.places.items ≤ vec_capacity t.path;
+      recent_room : length t.places.items + 1 ≤ vec_capacity t.recent;
+      recent_few : length t.recent.items + t.tally.still ≤ length t.places.items + 1;
+      known : AreKnown (length t.places.items) t.recent.items;
+      met : AreMet (rows_of t.places.items t.root) t.recent.items;
     } };
 }
 
 impl<A: Allocator + Clone> ForkTree<A> {
     /// The tree of the initial targets of these q, in thousandths: rows that all wait, those of one q that stand
-    /// together being a group. It takes the memory for the numbers of all rows that it may ever have. The only error
-    /// is want of memory.
+    /// together being a group. The only error is want of memory.
     pub fn new(alloc: A, rules: Rules, qs: &[u16]) -> Result<ForkTree<A>, AllocError>
         requires few { length qs.now ≤ most_targets }
         ensures { IfOk result (λ tree. tree ≡ record { rules = rules; rows = map (seated None) (seats_of qs.now) }) }
     {
-        let mut places = Vec::with_capacity(alloc.clone()?, MOST_TARGETS as usize)?;
-        let path = Vec::with_capacity(alloc.clone()?, 2 * MOST_TARGETS as usize)?;
+        let Room {
+            mut places,
+            path,
+            mut recent,
+        } = Room::of(&alloc, qs.len() as u16 + 1)?;
+        recent.push_reserved(None);
         let (root, seats) = branches(&alloc, 0, qs)?;
         add_places(&mut places, None, &seats);
         let tally = Tally::waiting(qs.len() as u16);
-        let quiet = Quiet {
-            calm: false,
-            single: true,
-            near: None,
-        };
         Ok(ForkTree {
             rules,
             root,
             places,
             path,
             tally,
-            quiet,
-            in_order: true,
+            recent,
         })
     }
 }
@@ -113,7 +111,7 @@ impl<A: Allocator> ForkTree<A> {
             return None;
         }
         let place = place_of(&self.places, n);
-        let node = node_at(&self.root, &self.places, n);
+        let node = node_of(&self.root, &self.places, n);
         Some(RowRef {
             no: n,
             parent: place.parent,
@@ -153,7 +151,7 @@ impl<A: Allocator> ForkTree<A> {
         requires { IsTrue (is_row is_idle (slice_get self.old.rows n)) }
         ensures { self.new ≡ record self.old { rows = with_state self.old.rows n spec.Trying } }
     {
-        self.set(n, State::Trying, false);
+        self.set(n, State::Trying);
     }
 
     /// Row n, which was tried, has rung.
@@ -161,7 +159,7 @@ impl<A: Allocator> ForkTree<A> {
         requires { IsTrue (is_row is_trying (slice_get self.old.rows n)) }
         ensures { self.new ≡ record self.old { rows = with_state self.old.rows n (spec.Rung false) } }
     {
-        self.set(n, State::Rung { cancelled: false }, true);
+        self.set(n, State::Rung { cancelled: false });
     }
 
     /// A CANCEL was sent to row n, which has rung (RFC 3261 section 9.1).
@@ -169,7 +167,7 @@ impl<A: Allocator> ForkTree<A> {
         requires { IsTrue (is_row is_uncancelled (slice_get self.old.rows n)) }
         ensures { self.new ≡ record self.old { rows = with_state self.old.rows n (spec.Rung true) } }
     {
-        self.set(n, State::Rung { cancelled: true }, true);
+        self.set(n, State::Rung { cancelled: true });
     }
 
     /// Row n, which was tried, ends so, and these rows, which wait, come below it.
@@ -183,15 +181,23 @@ impl<A: Allocator> ForkTree<A> {
     {
         let standing = Standing::of(n, State::Ended(end), &self.rules);
         let answer = standing.answer;
-        let Level { first, tier, seats } = below;
+        let Level {
+            tier,
+            seats,
+            room,
+            ..
+        } = below;
         let opens = seats.len() as u16;
-        let held = self.is_held(n, opens);
+        let rows = self.places.len() + seats.len();
         self.path.clear();
+        make_room(&mut self.places, room.places, rows);
+        make_room(&mut self.path, room.path, 2 * rows);
+        make_room(&mut self.recent, room.recent, rows + 1);
         trace(&self.places, n, &mut self.path);
         add_places(&mut self.places, Some(n), &seats);
         self.root.end(&self.path, standing, tier, opens);
         self.tally = self.tally.after(answer, opens);
-        self.quiet = self.quiet.ended(held, if_new(opens, first, n));
+        self.recent.push_reserved(Some(n));
     }
 
     /// No row that waits is ever tried.
@@ -200,26 +206,19 @@ impl<A: Allocator> ForkTree<A> {
     {
         let ended = self.root.close();
         self.tally.still -= ended;
-        self.quiet = Quiet {
-            calm: true,
-            single: true,
-            near: None,
-        };
-        self.in_order = false;
+        self.recent.clear();
     }
 
-    /// Row n, which has not ended, comes into another state in which it has not; `tried` says that it was tried before.
-    pub(crate) fn set(&mut self, n: u16, state: State, tried: bool)
+    /// Row n, which has not ended, comes into another state in which it has not, and doesn't wait.
+    pub(crate) fn set(&mut self, n: u16, state: State)
         requires there { IsTrue (is_row is_unended (slice_get self.old.rows n)) }
         requires waits { has_ended state ≡ false }
-        requires tried { tried ≡ true → is_row is_idle (slice_get self.old.rows n) ≡ false }
+        requires busy { is_idle (bare_state state) ≡ false }
         ensures { self.new ≡ record self.old { rows = with_state self.old.rows n (bare_state state) } }
     {
         self.path.clear();
         trace(&self.places, n, &mut self.path);
         self.root.set(&self.path, state);
-        self.quiet = self.quiet.if_still(state.has_started());
-        self.in_order = both(self.in_order, tried);
     }
 }
 

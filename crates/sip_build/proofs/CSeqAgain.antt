@@ -7,7 +7,7 @@ use Rattle.sip_lex.specs.Bytes.{is_space, is_token, trim_start}
 use Rattle.sip_lex.specs.Cut.{cut}
 use Rattle.sip_lex.specs.Number.{number_within}
 use Rattle.sip_text.specs.Fields.{cseq_of, cseq_of_cut, cseq_with}
-use Rattle.sip_via.proofs.Tokens.{all_pass, decimal_high, high_no_space, is_high, no_space}
+use Rattle.sip_via.proofs.laws.Tokens.{all_pass, decimal_high, high_no_space, is_high, no_space}
 
 cut_digits : (ds rest : List ℕ) → list_all no_space ds ≡ true → cut is_space (ds ++ 32 ∷ rest) ≡ (ds, Some rest)
 cut_digits [] rest h = refl

@@ -10,8 +10,8 @@ use Rattle.sip_text.specs.Seen.{view, views}
 use Rattle.sip_text.specs.Text.{HeaderText}
 use Rattle.sip_via.specs.Edits.{line, line_if_any, place_of, replaced}
 use Rattle.sip_build.specs.Exchanged.{exchanged, is_other}
-use Rattle.sip_via.proofs.Places.{replaced-none, replaced-some}
-use Rattle.sip_via.proofs.Replaced.{apart}
+use Rattle.sip_via.proofs.laws.Places.{replaced-none, replaced-some}
+use Rattle.sip_via.proofs.laws.Replaced.{apart}
 
 -- a line of that name is passed over
 pub filter-named : (name : List ℕ) (h : HeaderText) (hs : List HeaderText) → same_name name h.name ≡ true → filter (is_other name) (h ∷ hs) ≡ filter (is_other name) hs

@@ -16,12 +16,13 @@ use Rattle.sip_text.proofs.Good.{and_both}
 use Rattle.sip_uri.specs.Grammar.{IsUri, is_uri_byte}
 use Rattle.sip_uri.specs.Uri.{Uri, request_uri}
 use Rattle.sip_via.specs.declared.own.Own.{Own}
-use Rattle.sip_via.specs.BranchText.{Branch}
+use Rattle.sip_via.specs.declared.branch.BranchName.{BranchName}
 use Rattle.sip_via.specs.Edits.{line}
 use Rattle.sip_via.specs.OwnVia.{own_via}
-use Rattle.sip_build.specs.Forwarding.{IsHops, forwarded, hops_lowered, hops_name, is_request, to_target}
-use Rattle.sip_via.proofs.OwnVia.{decimal-value}
-use Rattle.sip_via.proofs.Replaced.{SameOthers, all-replaced, same-missing, values-replaced}
+use Rattle.sip_build.specs.Forwarding.{forwarded, hops_lowered, is_request, to_target}
+use Rattle.sip_route.specs.Hops.{IsHops, hops_name}
+use Rattle.sip_via.proofs.laws.OwnVia.{decimal-value}
+use Rattle.sip_via.proofs.laws.Replaced.{SameOthers, all-replaced, same-missing, values-replaced}
 
 -- ---- the start line
 
@@ -80,7 +81,7 @@ via-first : (v : List ℕ) (hs : List HeaderText) → is_none (first_value (code
 unfolding full_name values_of
 via-first v hs = refl
 
-forwarded-good : (m : MessageText) (target : Uri) (proxy : Own) (b : Branch) → IsMessage m → is_request m.start ≡ true → IfSome (first_value hops_name m.headers) IsHops → IsUri target → list_all is_uri_byte (request_uri target) ≡ true → is_value (own_via proxy b) ≡ true → IsMessage (forwarded m target proxy b)
+forwarded-good : (m : MessageText) (target : Uri) (proxy : Own) (b : BranchName) → IsMessage m → is_request m.start ≡ true → IfSome (first_value hops_name m.headers) IsHops → IsUri target → list_all is_uri_byte (request_uri target) ≡ true → is_value (own_via proxy b) ≡ true → IsMessage (forwarded m target proxy b)
 forwarded-good m target proxy b good request hops uri bytes value =
     let lowered = hops_lowered m.headers (first_value hops_name m.headers) in
     let via = line (codes "Via") (own_via proxy b) in
@@ -96,7 +97,7 @@ forwarded-good m target proxy b good request hops uri bytes value =
     }
 
 -- parts that are those of a forwarded request
-pub parts-good : (m : MessageText) (target : Uri) (proxy : Own) (b : Branch) (start : StartText) (hs : List HeaderText) (body : List ℕ) → IsMessage m → is_request m.start ≡ true → IfSome (first_value hops_name m.headers) IsHops → IsUri target → list_all is_uri_byte (request_uri target) ≡ true → is_value (own_via proxy b) ≡ true → start ≡ to_target m.start target → hs ≡ line (codes "Via") (own_via proxy b) ∷ hops_lowered m.headers (first_value hops_name m.headers) → body ≡ m.body → IsMessage (record { start = start; headers = hs; body = body })
+pub parts-good : (m : MessageText) (target : Uri) (proxy : Own) (b : BranchName) (start : StartText) (hs : List HeaderText) (body : List ℕ) → IsMessage m → is_request m.start ≡ true → IfSome (first_value hops_name m.headers) IsHops → IsUri target → list_all is_uri_byte (request_uri target) ≡ true → is_value (own_via proxy b) ≡ true → start ≡ to_target m.start target → hs ≡ line (codes "Via") (own_via proxy b) ∷ hops_lowered m.headers (first_value hops_name m.headers) → body ≡ m.body → IsMessage (record { start = start; headers = hs; body = body })
 parts-good m target proxy b start hs body good request hops uri bytes value s h e =
     let whole = forwarded-good m target proxy b good request hops uri bytes value in
     let with_body = subst (λ (x : List ℕ). IsMessage (record { start = to_target m.start target; headers = line (codes "Via") (own_via proxy b) ∷ hops_lowered m.headers (first_value hops_name m.headers); body = x })) (sym e) whole in

@@ -13,11 +13,12 @@ use Rattle.sip_text.specs.Text.{HeaderText, MessageText, StartText, Response}
 use Rattle.sip_build.specs.declared.responses.OwnStatus.{OwnStatus}
 use Rattle.sip_build.specs.declared.responses.OwnStatus.TheVariants as own
 use Rattle.sip_build.specs.Generated.{code_of, generated_of, gets_tag, reason_of, tagged, to_lines, unsupported_lines, with_tag}
-use Rattle.sip_build.specs.Lines.{first_line, line, lines_named}
-use Rattle.sip_via.specs.Loop.{field_lines}
+use Rattle.sip_via.specs.Edits.{line}
+use Rattle.sip_via.specs.Lines.{first_line, lines_named}
+use Rattle.sip_route.specs.Loop.{field_lines}
 use Rattle.sip_build.specs.OwnTag.{own_tag, tag_fields}
 use Rattle.sip_build.proofs.Named.{AreNamed, Has, all_keep, cseq_there, first_keeps, has_all, named_filter, named_first, named_lines, named_tagged, none_missing, skip, tagged_keeps}
-use Rattle.sip_via.proofs.Tokens.{all_pass, hex_text_high, high_line, high_no_space, is_high, no_space}
+use Rattle.sip_via.proofs.laws.Tokens.{all_pass, hex_text_high, high_line, high_no_space, is_high, no_space}
 use Rattle.sip_build.proofs.HeaderValues.{behind_good, filter_good, joined_good, lines_good, one_good, values_good}
 
 -- ---- each part of the header lines is of one name

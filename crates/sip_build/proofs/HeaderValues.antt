@@ -16,9 +16,10 @@ use Rattle.sip_text.specs.Name.{first_of, same_name, values_of}
 use Rattle.sip_text.specs.Reading.{begins_with_space}
 use Rattle.sip_text.specs.Text.{HeaderText, MessageText}
 use Rattle.sip_text.proofs.Good.{trim_trimmed}
-use Rattle.sip_build.specs.Lines.{has_name, line}
-use Rattle.sip_via.specs.Loop.{or_empty}
-use Rattle.sip_via.proofs.Tokens.{no_space}
+use Rattle.sip_via.specs.Edits.{line}
+use Rattle.sip_via.specs.Lines.{has_name}
+use Rattle.sip_via.specs.ViaParts.{or_empty}
+use Rattle.sip_via.proofs.laws.Tokens.{no_space}
 use Rattle.sip_via.specs.TopVia.{first_or_empty, top_value, values_in, via_lines, via_values}
 
 -- ---- parts of lines

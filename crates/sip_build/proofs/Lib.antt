@@ -3,9 +3,10 @@ pub mod HeaderValues
 pub mod CSeqAgain
 pub mod GeneratedGood
 pub mod RequestsGood
-pub mod Walks
 pub mod TagLaws
 pub mod Added
 pub mod Forwarded
 pub mod Exchanged
 pub mod UpwardGood
+pub mod Pieces
+pub mod StrippedSame

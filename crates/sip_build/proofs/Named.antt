@@ -12,7 +12,8 @@ use Rattle.sip_text.specs.Name.{first_of, full_name, same_name, values_of}
 use Rattle.sip_text.specs.Text.{HeaderText, StartText}
 use Rattle.sip_text.proofs.Good.{found, some_is}
 use Rattle.sip_build.specs.Generated.{tagged, with_tag}
-use Rattle.sip_build.specs.Lines.{has_name, line}
+use Rattle.sip_via.specs.Edits.{line}
+use Rattle.sip_via.specs.Lines.{has_name}
 
 -- ---- one line
 

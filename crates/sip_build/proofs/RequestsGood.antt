@@ -4,7 +4,7 @@ use Rattle.std.specs.Prelude.{codes}
 use Rattle.std.specs.Fmt.{decimal}
 use Rattle.std.specs.List.{list_all}
 use Rattle.std.specs.Str.{bytes_eq}
-use Rattle.std.proofs.lemmas.Bool.{and_parts, and_from, cases_Bool, cond-true, cond-false}
+use Rattle.std.proofs.lemmas.Bool.{and_parts, and_from, cases_Bool, cond-true, cond-false, false≢true}
 use Rattle.std.proofs.lemmas.Fmt.{decimal_nonempty}
 use Rattle.std.proofs.lemmas.List.{reverse-append}
 use Rattle.std.proofs.lemmas.List.Folds.{list_all-append}
@@ -18,13 +18,15 @@ use Rattle.sip_text.specs.Name.{first_of, full_name, same_name, values_of}
 use Rattle.sip_text.specs.Reading.{begins_with_space, is_uri}
 use Rattle.sip_text.specs.Text.{HeaderText, MessageText, StartText, Request, Response}
 use Rattle.sip_text.proofs.Good.{found}
-use Rattle.sip_build.specs.Lines.{line, lines_as}
-use Rattle.sip_via.specs.Loop.{call_id, cseq_number, number_text, request_uri}
-use Rattle.sip_build.specs.Requests.{IsRequest, ack_of, along, cancel_of, from_value, to_value}
+use Rattle.sip_via.specs.Edits.{line}
+use Rattle.sip_via.specs.Lines.{lines_as}
+use Rattle.sip_route.specs.Loop.{call_id, cseq_number, number_text, request_uri}
+use Rattle.sip_build.specs.Forwarding.{is_request}
+use Rattle.sip_build.specs.Requests.{ack_of, along, cancel_of, from_value, to_value}
 use Rattle.sip_via.specs.TopVia.{top_value}
 use Rattle.sip_build.proofs.Named.{AreNamed, cseq_there, named_lines, none_missing, skip}
-use Rattle.sip_via.proofs.DecimalLaws.{number_read_within}
-use Rattle.sip_via.proofs.Tokens.{all_pass, decimal_high, high_line, high_no_space, is_high, no_space}
+use Rattle.sip_lex.proofs.laws.Numbers.{number_read_within}
+use Rattle.sip_via.proofs.laws.Tokens.{all_pass, decimal_high, high_line, high_no_space, is_high, no_space}
 use Rattle.sip_build.proofs.CSeqAgain.{IsMethod, cseq_again}
 use Rattle.sip_build.proofs.HeaderValues.{ends, first_good, joined_good, lines_good, top_good, values_good}
 
@@ -136,9 +138,9 @@ ack = record { is_method = record { token = refl; trimmed = refl }; tail = refl;
 cancel : IsOwnMethod (codes "CANCEL")
 cancel = record { is_method = record { token = refl; trimmed = refl }; tail = refl; last = λ ds. refl; same = refl }
 
-uri_good : (start : StartText) → IsRequest start → is_start start ≡ true → is_uri (request_uri start) ≡ true
+uri_good : (start : StartText) → is_request start ≡ true → is_start start ≡ true → is_uri (request_uri start) ≡ true
 uri_good (Request method uri) is good = (and_parts (is_token method) (is_uri uri) good).1
-uri_good (Response status reason) is good = absurd is
+uri_good (Response status reason) is good = absurd (false≢true is)
 
 tail_good : (method : List ℕ) (sent : MessageText) (to : List ℕ) → is_value (from_value sent) ≡ true → is_value to ≡ true → is_value (call_id sent) ≡ true → is_value (cseq_number sent ++ 32 ∷ method) ≡ true → list_all is_header (tail_lines method sent to) ≡ true
 tail_good method sent to from value call spoken =
@@ -149,7 +151,7 @@ tail_good method sent to from value call spoken =
     (and_from (is_header (line (codes "Call-ID") (call_id sent))) (list_all is_header (seq ∷ end ∷ [])) call
     (and_from (is_header seq) (list_all is_header (end ∷ [])) spoken refl)))
 
-along_good : (method : List ℕ) (sent : MessageText) (to : List ℕ) → IsOwnMethod method → IsRequest sent.start → is_value to ≡ true → IsMessage sent → IsMessage (along method sent to)
+along_good : (method : List ℕ) (sent : MessageText) (to : List ℕ) → IsOwnMethod method → is_request sent.start ≡ true → is_value to ≡ true → IsMessage sent → IsMessage (along method sent to)
 along_good method sent to own request value is =
     let hs = sent.headers in
     let headers = is.head.headers in
@@ -183,10 +185,10 @@ along_good method sent to own request value is =
 to_good : (m : MessageText) → IsMessage m → is_value (to_value m) ≡ true
 to_good m is = first_good (values_of (codes "to") m.headers) (values_good (codes "to") m.headers is.head.headers)
 
-pub ack_good : (sent response : MessageText) → IsRequest sent.start → IsMessage sent → IsMessage response → IsMessage (ack_of sent response)
+pub ack_good : (sent response : MessageText) → is_request sent.start ≡ true → IsMessage sent → IsMessage response → IsMessage (ack_of sent response)
 ack_good sent response request is other = along_good (codes "ACK") sent (to_value response) ack request (to_good response other) is
 
-pub cancel_good : (sent : MessageText) → IsRequest sent.start → IsMessage sent → IsMessage (cancel_of sent)
+pub cancel_good : (sent : MessageText) → is_request sent.start ≡ true → IsMessage sent → IsMessage (cancel_of sent)
 cancel_good sent request is = along_good (codes "CANCEL") sent (to_value sent) cancel request (to_good sent is) is
 
 -- the same header lines with what was read of the messages

@@ -3,7 +3,7 @@ use Rattle.std.proofs.Common.{◌≡◌, ℕ, ◌+◌, ◌*◌, ◌<◌, List, [
 use Rattle.std.specs.Prelude.{slice_set}
 use Rattle.std.proofs.lemmas.List.{take_all, take_more_set, length-set}
 use Rattle.sip_via.specs.HexPair.{hex_pair, hex_text}
-use Rattle.sip_via.proofs.HexLaws.{hex_text_more}
+use Rattle.sip_via.proofs.laws.HexLaws.{hex_text_more}
 
 pub tag_more : (front tag digest : List ℕ) (i upper lower : ℕ) → 2 * i + 3 < length tag → i < length digest → upper ∷ lower ∷ [] ≡ hex_pair (get_or digest i 0) → take (2 * i + 2) tag ≡ front ++ hex_text (take i digest) → take (2 * (i + 1) + 2) (slice_set (slice_set tag (2 * i + 2) upper) (2 * i + 3) lower) ≡ front ++ hex_text (take (i + 1) digest)
 tag_more front tag digest i upper lower room lt pair so =

@@ -23,8 +23,8 @@ use Rattle.sip_via.specs.TopVia.{has_second, values_in, via_values}
 use Rattle.sip_build.specs.Upward.{AreKept, challenge_line, challenge_name, contact_lines, is_challenge, others_of, upward_headers, upward_of, with_contacts, without_top}
 use Rattle.sip_build.proofs.Exchanged.{filter-named, filter-other}
 use Rattle.sip_build.proofs.HeaderValues.{lines_good}
-use Rattle.sip_via.proofs.Replaced.{GoodValue, SameOthers, all-replaced, apart, edited-good, first-good, first-replaced, values-replaced}
-use Rattle.sip_via.proofs.TrimmedValues.{others-good}
+use Rattle.sip_via.proofs.laws.Replaced.{GoodValue, SameOthers, all-replaced, apart, edited-good, first-good, first-replaced, values-replaced}
+use Rattle.sip_via.proofs.laws.TrimmedValues.{others-good}
 
 -- ---- values of a name among lines
 

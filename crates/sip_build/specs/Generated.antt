@@ -6,7 +6,8 @@ use Rattle.sip_text.specs.Tag.{tag_in}
 use Rattle.sip_text.specs.Text.{HeaderText, MessageText, Response}
 use Rattle.sip_build.specs.declared.responses.OwnStatus.{OwnStatus}
 use Rattle.sip_build.specs.declared.responses.OwnStatus.TheVariants as own
-use Rattle.sip_build.specs.Lines.{first_line, line, lines_as, lines_named}
+use Rattle.sip_via.specs.Edits.{line}
+use Rattle.sip_via.specs.Lines.{first_line, lines_as, lines_named}
 use Rattle.sip_build.specs.OwnTag.{own_tag}
 
 abbrev pub code_of : OwnStatus → ℕ

@@ -1,4 +1,4 @@
-pub mod Lines
+pub mod Texts
 pub mod OwnTag
 pub mod Generated
 pub mod Requests

@@ -3,7 +3,7 @@ use Rattle.std.specs.Prelude.{ℕ, List, [], ◌∷◌, ◌++◌, take, codes}
 use Rattle.md5.specs.Md5.{md5}
 use Rattle.sip_text.specs.Text.{MessageText}
 use Rattle.sip_via.specs.HexPair.{hex_text}
-use Rattle.sip_via.specs.Loop.{call_id, cseq_number, field_lines, from_tag}
+use Rattle.sip_route.specs.Loop.{call_id, cseq_number, field_lines, from_tag}
 
 abbrev pub tag_fields : MessageText → List (List ℕ)
 tag_fields m = call_id m ∷ from_tag m ∷ cseq_number m ∷ []

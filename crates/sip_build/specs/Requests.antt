@@ -3,14 +3,12 @@
 use Rattle.std.specs.Prelude.{ℕ, List, [], ◌∷◌, ◌++◌, codes}
 use Rattle.sip_text.specs.declared.needed.Needed.TheVariants.{From, To}
 use Rattle.sip_text.specs.Fields.{value_of}
-use Rattle.sip_text.specs.Text.{MessageText, StartText, Request, Response}
-use Rattle.sip_build.specs.Lines.{line, lines_as}
-use Rattle.sip_via.specs.Loop.{call_id, cseq_number, or_empty, request_uri}
+use Rattle.sip_text.specs.Text.{MessageText, Request}
+use Rattle.sip_via.specs.Edits.{line}
+use Rattle.sip_via.specs.Lines.{lines_as}
+use Rattle.sip_route.specs.Loop.{call_id, cseq_number, request_uri}
+use Rattle.sip_via.specs.ViaParts.{or_empty}
 use Rattle.sip_via.specs.TopVia.{top_value}
-
-abbrev pub IsRequest : StartText → Type 0
-IsRequest (Request method uri) = Unit {0}
-IsRequest (Response status reason) = ⊥
 
 abbrev pub from_value : MessageText → List ℕ
 from_value m = or_empty (value_of From m.headers)

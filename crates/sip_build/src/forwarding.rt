@@ -1,6 +1,6 @@
 //! Requests as they go to a target.
 
-ghost use Rattle.std.specs.Prelude.{◌≡◌, ◌-◌, ◌++◌, Ok, None, Some, IfOk, IfSome, IsTrue, OnOk, true};
+ghost use Rattle.std.specs.Prelude.{◌≡◌, ◌-◌, ◌++◌, None, Some, IfErr, IfOk, IfSome, IsTrue, OnOk, true};
 ghost use Rattle.std.specs.Fmt.{decimal};
 ghost use Rattle.std.specs.List.{list_all};
 ghost use Rattle.sip_lex.specs.Number.{number};
@@ -8,16 +8,15 @@ ghost use Rattle.sip_text.specs.Name.{first_value};
 ghost use Rattle.sip_text.specs.Seen.{view_start, views};
 ghost use Rattle.sip_uri.specs.Grammar.{is_uri_byte};
 ghost use Rattle.sip_uri.specs.Uri.{request_uri};
-ghost use Rattle.sip_via.specs.BranchText.{seen_branch};
-ghost use Rattle.sip_via.specs.ViaFaults.{Builds};
-ghost use Rattle.sip_build.specs.Forwarding.{IsHops, forwarded, hops_lowered, hops_name, is_request, to_target};
+ghost use Rattle.sip_via.specs.declared.own.BuildFault.TheVariants.{NoMemory};
+ghost use Rattle.sip_build.specs.Forwarding.{forwarded, hops_lowered, is_request, to_target};
+ghost use Rattle.sip_route.specs.Hops.{IsHops, hops_name};
 
-use crate::lines::add_made;
 use itoa::Buffer;
 use sip_lex::read_number;
 use sip_text::{Header, Message, Start};
 use sip_uri::SipUri;
-use sip_via::{BranchName, BuildFault, Own, add_copies, add_replaced, own_via};
+use sip_via::{BranchName, BuildFault, Own, add_copies, add_made, add_replaced, own_via};
 use std::alloc::{AllocError, Allocator};
 
 const MAX_FORWARDS: &[u8] = b"max-forwards";
@@ -109,7 +108,7 @@ fn to_target<A: Allocator + Clone>(
 ///
 /// # Errors
 ///
-/// Only `NoMemory`.
+/// `NoMemory` alone, where the allocator refuses.
 pub fn forward<A: Allocator + Clone>(
     alloc: A,
     message: &Message<A>,
@@ -119,7 +118,8 @@ pub fn forward<A: Allocator + Clone>(
 ) -> Result<Message<A>, BuildFault>
     requires request { is_request message.now.start ≡ true }
     requires hops { IfSome (first_value hops_name message.now.headers) IsHops }
-    ensures { Builds (λ m. m) result (Ok (forwarded message.now target.now own (seen_branch branch.now))) }
+    ensures ok { IfOk result (λ made. made ≡ forwarded message.now target.now own branch.now) }
+    ensures err { IfErr result (λ fault. fault ≡ NoMemory) }
 {
     message.is_message();
     let _host = target.host();

@@ -5,14 +5,19 @@
 //! function of the message it is built from.
 #![tactic(auto)]
 
+mod forwarded_text;
 mod forwarding;
+mod laws;
 mod lines;
+mod parts;
 mod requests;
 mod responses;
 mod tag;
 mod upstream;
 
+pub use forwarded_text::write_forwarded;
 pub use forwarding::forward;
+pub use laws::stripping_keeps_answers;
 pub use requests::{ack_is_message, ack_of, cancel_is_message, cancel_of};
 pub use responses::{OwnStatus, generated, generated_is_message};
 pub use tag::own_tag;

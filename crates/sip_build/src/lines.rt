@@ -1,147 +1,62 @@
-//! Header lines taken from a message, or made.
+//! Header lines of a message, some of them changed or left out, as text.
 
-ghost use Rattle.std.specs.Prelude.{◌≡◌, ◌<◌, ◌++◌, [], ◌∷◌, IfSome, IfNone, OnOk, length, map};
+ghost use Rattle.std.specs.Prelude.{◌≡◌, ◌++◌, OnOk, take, vec_len};
 ghost use Rattle.std.specs.Option.{option_copied};
-ghost use Rattle.sip_text.specs.Name.{first_value};
-ghost use Rattle.sip_text.specs.Seen.{view, views};
-ghost use Rattle.sip_build.specs.Lines.{first_line, line, lines_among, lines_as, lines_named};
-ghost use Rattle.sip_via.specs.Loop.{or_empty};
+ghost use Rattle.sip_text.specs.Seen.{views};
+ghost use Rattle.sip_via.specs.Edits.{changed_first, line_if_any, replaced};
+ghost use Rattle.sip_build.specs.Texts.{lines_text};
 
-use sip_text::{Header, Message, Values};
-use sip_via::begins_named;
+use sip_text::{Header, append_header, append_headers};
+use sip_via::place_of;
 use std::alloc::{AllocError, Allocator};
 
-fn value_among<'a, A: Allocator>(headers: &'a [Header<A>], name: &[u8]) -> Option<&'a [u8]>
-    ensures { option_copied result ≡ first_value name.now (views headers.now) }
-{
-    Values::new(name, headers).next()
-}
-
-/// The value of the first header line of that name; empty where there is none.
-pub fn first_value<'a, A: Allocator>(message: &'a Message<A>, name: &[u8]) -> &'a [u8]
-    ensures { result.now ≡ or_empty (first_value name.now message.now.headers) }
-{
-    value_among(message.headers(), name).unwrap_or(b"")
-}
-
-/// The first header line of that name, and the lines behind it.
-fn split_named<'a, A: Allocator>(
-    headers: &'a [Header<A>],
+/// Appends a line of that name, if there is a value for it.
+fn append_if_any<B: Allocator>(
+    out: &mut Vec<u8, B>,
     name: &[u8],
-) -> Option<(&'a Header<A>, &'a [Header<A>])>
-    ensures found { IfSome result
-        (λ p. lines_among name.now (views headers.now) ≡ view p.0.now ∷ lines_among name.now (views p.1.now)) }
-    ensures shorter { IfSome result (λ p. length p.1.now < length headers.now) }
-    ensures none { IfNone result (lines_among name.now (views headers.now) ≡ []) }
-{
-    let mut rest = headers;
-    while let Some((header, after)) = rest.split_first() {
-        if begins_named(rest, name) {
-            return Some((header, after));
-        }
-        rest = after;
-    }
-    None
-}
-
-/// The first header line of that name.
-pub fn first_named<'a, A: Allocator>(message: &'a Message<A>, name: &[u8]) -> Option<&'a Header<A>>
-    ensures found { IfSome result (λ header. first_line name.now message.now ≡ view header.now ∷ []) }
-    ensures none { IfNone result (first_line name.now message.now ≡ []) }
-{
-    let (header, _) = split_named(message.headers(), name)?;
-    Some(header)
-}
-
-/// Adds a line of that name and value.
-pub fn add_made<A: Allocator + Clone>(
-    headers: &mut Vec<Header<A>, A>,
-    alloc: &A,
-    name: &[u8],
-    value: Vec<u8, A>,
+    value: Option<&[u8]>,
 ) -> Result<(), AllocError>
-    ensures { OnOk result
-        (views headers.new.items ≡ views headers.old.items ++ line name.now value.items ∷ []) }
+    ensures ok { OnOk result
+        (out.new.items ≡ out.old.items ++ lines_text (line_if_any name.now (option_copied value.entry))) }
+    ensures begins { take (vec_len out.old) out.new.items ≡ out.old.items }
 {
-    let name = Vec::from_slice(alloc.clone()?, name)?;
-    headers.push(Header { name, value })?;
-    Ok(())
-}
-
-/// Adds a line of that name with a copy of that value.
-pub fn add_line<A: Allocator + Clone>(
-    headers: &mut Vec<Header<A>, A>,
-    alloc: &A,
-    name: &[u8],
-    value: &[u8],
-) -> Result<(), AllocError>
-    ensures { OnOk result
-        (views headers.new.items ≡ views headers.old.items ++ line name.now value.now ∷ []) }
-{
-    let value = Vec::from_slice(alloc.clone()?, value)?;
-    add_made(headers, alloc, name, value)
-}
-
-/// Adds the header lines of that name as they stand, in order.
-pub fn add_named<A: Allocator + Clone>(
-    headers: &mut Vec<Header<A>, A>,
-    alloc: &A,
-    message: &Message<A>,
-    name: &[u8],
-) -> Result<(), AllocError>
-    ensures { OnOk result
-        (views headers.new.items ≡ views headers.old.items ++ lines_named name.now message.now) }
-{
-    let mut rest = message.headers();
-    while let Some((header, after)) = split_named(rest, name) {
-        add_line(headers, alloc, &header.name, &header.value)?;
-        rest = after;
-    }
-    Ok(())
-}
-
-/// Adds the first header line of that name as it stands.
-pub fn add_first<A: Allocator + Clone>(
-    headers: &mut Vec<Header<A>, A>,
-    alloc: &A,
-    message: &Message<A>,
-    name: &[u8],
-) -> Result<(), AllocError>
-    ensures { OnOk result
-        (views headers.new.items ≡ views headers.old.items ++ first_line name.now message.now) }
-{
-    match first_named(message, name) {
+    match value {
         None => Ok(()),
-        Some(header) => add_line(headers, alloc, &header.name, &header.value),
+        Some(value) => append_header(out, name, value),
     }
 }
 
-/// Adds a line of another name for each value left.
-fn add_each<A: Allocator + Clone>(
-    headers: &mut Vec<Header<A>, A>,
-    alloc: &A,
-    mut values: Values<'_, '_, A>,
-    other: &[u8],
+/// Appends header lines, the first of them with another value, or left out.
+fn append_changed<A: Allocator, B: Allocator>(
+    out: &mut Vec<u8, B>,
+    headers: &[Header<A>],
+    value: Option<&[u8]>,
 ) -> Result<(), AllocError>
-    ensures { OnOk result
-        (views headers.new.items ≡ views headers.old.items ++ map (line other.now) values.entry) }
+    ensures ok { OnOk result
+        (out.new.items ≡ out.old.items ++ lines_text (changed_first (option_copied value.entry) (views headers.now))) }
+    ensures begins { take (vec_len out.old) out.new.items ≡ out.old.items }
 {
-    while let Some(value) = values.next() {
-        add_line(headers, alloc, other, value)?;
-    }
+    let Some((header, after)) = headers.split_first() else {
+        return Ok(());
+    };
+    append_if_any(out, &header.name, value)?;
+    append_headers(out, after)?;
     Ok(())
 }
 
-/// Adds a line of another name for each header line of a name, with its value.
-pub fn add_values_as<A: Allocator + Clone>(
-    headers: &mut Vec<Header<A>, A>,
-    alloc: &A,
-    message: &Message<A>,
+/// Appends the header lines, the first of that name with another value, or left out.
+pub(crate) fn append_replaced<A: Allocator, B: Allocator>(
+    out: &mut Vec<u8, B>,
+    headers: &[Header<A>],
     name: &[u8],
-    other: &[u8],
+    value: Option<&[u8]>,
 ) -> Result<(), AllocError>
-    ensures { OnOk result
-        (views headers.new.items ≡ views headers.old.items ++ lines_as other.now name.now message.now) }
+    ensures ok { OnOk result
+        (out.new.items ≡ out.old.items ++ lines_text (replaced name.now (option_copied value.entry) (views headers.now))) }
+    ensures begins { take (vec_len out.old) out.new.items ≡ out.old.items }
 {
-    add_each(headers, alloc, message.values(name), other)
+    let (front, back) = headers.split_at(place_of(headers, name));
+    append_headers(out, front)?;
+    append_changed(out, back, value)?;
+    Ok(())
 }

@@ -1,18 +1,19 @@
 //! The ACK for a failure, and the CANCEL of a request that was sent.
 
-ghost use Rattle.std.specs.Prelude.{◌≡◌, ◌++◌, ◌∷◌, IfErr, IfOk};
+ghost use Rattle.std.specs.Prelude.{◌≡◌, ◌++◌, ◌∷◌, IfErr, IfOk, true};
 ghost use Rattle.std.specs.Fmt.{decimal};
 ghost use Rattle.sip_text.specs.Message.{IsMessage};
 ghost use Rattle.sip_text.specs.Seen.{view_start, views};
 ghost use Rattle.sip_text.specs.Text.{MessageText, Request};
 ghost use Rattle.sip_via.specs.declared.own.BuildFault.TheVariants.{NoMemory};
-ghost use Rattle.sip_via.specs.Loop.{cseq_number, request_uri};
-ghost use Rattle.sip_build.specs.Requests.{IsRequest, ack_of, along, cancel_of};
+ghost use Rattle.sip_route.specs.Loop.{cseq_number, request_uri};
+ghost use Rattle.sip_build.specs.Forwarding.{is_request};
+ghost use Rattle.sip_build.specs.Requests.{ack_of, along, cancel_of};
 
-use crate::lines::{add_line, add_made, add_values_as, first_value};
 use itoa::Buffer;
+use sip_route::request_uri;
 use sip_text::{Header, Message, Start};
-use sip_via::{BuildFault, request_uri, top_via};
+use sip_via::{BuildFault, add_line, add_made, add_values_as, first_value, top_via};
 use std::alloc::{AllocError, Allocator};
 
 /// The number of the CSeq of a message, and a method.
@@ -93,7 +94,7 @@ pub fn ack_of<A: Allocator + Clone>(
     sent: &Message<A>,
     response: &Message<A>,
 ) -> Result<Message<A>, BuildFault>
-    requires { IsRequest sent.now.start }
+    requires { is_request sent.now.start ≡ true }
     ensures ok { IfOk result (λ made. made ≡ ack_of sent.now response.now) }
     ensures err { IfErr result (λ fault. fault ≡ NoMemory) }
 {
@@ -112,7 +113,7 @@ pub fn cancel_of<A: Allocator + Clone>(
     alloc: A,
     sent: &Message<A>,
 ) -> Result<Message<A>, BuildFault>
-    requires { IsRequest sent.now.start }
+    requires { is_request sent.now.start ≡ true }
     ensures ok { IfOk result (λ made. made ≡ cancel_of sent.now) }
     ensures err { IfErr result (λ fault. fault ≡ NoMemory) }
 {
@@ -122,10 +123,10 @@ pub fn cancel_of<A: Allocator + Clone>(
 
 /// An ACK is in the grammar of messages, so it is read as it was written.
 pub fn ack_is_message()
-    ensures { (sent response : MessageText) → IsRequest sent.start → IsMessage sent → IsMessage response → IsMessage (ack_of sent response) }
+    ensures { (sent response : MessageText) → is_request sent.start ≡ true → IsMessage sent → IsMessage response → IsMessage (ack_of sent response) }
 {}
 
 /// A CANCEL is in the grammar of messages, so it is read as it was written.
 pub fn cancel_is_message()
-    ensures { (sent : MessageText) → IsRequest sent.start → IsMessage sent → IsMessage (cancel_of sent) }
+    ensures { (sent : MessageText) → is_request sent.start ≡ true → IsMessage sent → IsMessage (cancel_of sent) }
 {}

@@ -7,12 +7,11 @@ ghost use Rattle.sip_text.specs.Text.{MessageText, Response};
 ghost use Rattle.sip_via.specs.declared.own.BuildFault.TheVariants.{NoMemory};
 ghost use Rattle.sip_build.specs.declared.responses.OwnStatus.{OwnStatus};
 ghost use Rattle.sip_build.specs.Generated.{code_of, generated_of, gets_tag, reason_of, tagged, to_lines, unsupported_lines, with_tag};
-ghost use Rattle.sip_build.specs.Lines.{first_line};
+ghost use Rattle.sip_via.specs.Lines.{first_line};
 
-use crate::lines::{add_first, add_line, add_made, add_named, add_values_as, first_named};
 use crate::tag::own_tag;
 use sip_text::{Header, Message, Start};
-use sip_via::BuildFault;
+use sip_via::{BuildFault, add_first, add_line, add_made, add_named, add_values_as, first_named};
 use std::alloc::{AllocError, Allocator};
 
 /// A status that the proxy answers of its own (RFC 3261 section 21).

@@ -5,7 +5,8 @@ ghost use Rattle.std.specs.Fmt.{decimal};
 ghost use Rattle.std.specs.Option.{option_copied};
 ghost use Rattle.md5.specs.Md5.{Holds, md5};
 ghost use Rattle.sip_via.specs.HexPair.{hex_pair, hex_text};
-ghost use Rattle.sip_via.specs.Loop.{field_line, field_lines, or_empty};
+ghost use Rattle.sip_route.specs.Loop.{field_line, field_lines};
+ghost use Rattle.sip_via.specs.ViaParts.{or_empty};
 ghost use Rattle.sip_build.specs.OwnTag.{own_tag, tag_fields};
 
 use itoa::Buffer;

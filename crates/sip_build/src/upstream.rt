@@ -11,12 +11,11 @@ ghost use Rattle.sip_via.specs.SeenMessages.{seen_value};
 ghost use Rattle.sip_via.specs.TopVia.{has_second, via_values};
 ghost use Rattle.sip_build.specs.Upward.{AreKept, challenge_line, challenge_name, contact_lines, is_challenge, others_of, refusal, upward, upward_headers, upward_of, with_contacts, without_top};
 
-use crate::lines::add_line;
 use fork_rank::Challenge;
 use sip_lex::{Shelter, cut_outside};
 use sip_text::{Header, Message};
 use sip_via::{
-    BuildFault, add_copies, add_line_if_any, add_replaced, begins_named, copy_others,
+    BuildFault, add_copies, add_line, add_line_if_any, add_replaced, begins_named, copy_others,
     has_second_via, place_of, with_headers,
 };
 use std::alloc::{AllocError, Allocator};

@@ -1,4 +1,4 @@
-//! Tests of the public calls of `sip_lex`, `sip_uri`, `sip_text`, `sip_via`, `sip_build` and `sip_txn`, a file or a
+//! Tests of the public calls of `sip_lex`, `sip_uri`, `sip_text`, `sip_via`, `sip_route`, `sip_build` and `sip_txn`, a file or a
 //! folder for each. They stand apart from these crates so that none of them is proved twice.
 #![tactic(auto)]
 
@@ -15,14 +15,26 @@ mod lex_numbers;
 #[cfg(test)]
 mod messages;
 #[cfg(test)]
+mod route_more;
+#[cfg(test)]
 mod rows;
 #[cfg(test)]
 mod text;
 #[cfg(test)]
+mod text_more;
+#[cfg(test)]
 mod txn;
 #[cfg(test)]
+mod txn_more;
+#[cfg(test)]
 mod uri;
+#[cfg(test)]
+mod uri_more;
 #[cfg(test)]
 mod via;
 #[cfg(test)]
 mod via_lines;
+#[cfg(test)]
+mod via_more;
+#[cfg(test)]
+mod write_tests;

@@ -1,9 +1,10 @@
 //! Header lines that are copied, changed and left out, and what a message says of its start line and its Via values.
 use crate::holds::holds;
+use sip_route::request_uri;
 use sip_text::{Header, Message};
 use sip_via::{
     BranchName, Own, add_copies, add_line_if_any, add_replaced, begins_named, copy_others,
-    has_second_via, own_via, place_of, request_uri, with_headers,
+    has_second_via, own_via, place_of, with_headers,
 };
 use std::alloc::Global;
 

@@ -1,7 +1,6 @@
 -- What is read is such as may be written.
-use Rattle.std.proofs.Common.{◌≡◌, ℕ, zero, suc, ◌+◌, ◌-◌, ◌≤◌, Bool, true, false, not, cond, eqb, List, [], ◌∷◌, ◌++◌, length, take, drop, reverse, Option, Some, None, Result, Ok, Err, refl, sym, ap, subst, ◌∙◌, inl, inr, arith, length-drop}
+use Rattle.std.proofs.Common.{◌≡◌, ℕ, zero, suc, ◌+◌, ◌-◌, ◌≤◌, Bool, true, false, not, eqb, List, [], ◌∷◌, ◌++◌, length, take, drop, reverse, Option, Some, None, refl, sym, ap, subst, ◌∙◌, inl, inr, arith, length-drop}
 use Rattle.std.specs.Prelude.{◌&&◌}
-use Rattle.std.specs.Char.{is_ascii_digit}
 use Rattle.std.specs.List.{list_all, flat_map, prefix_len, suffix_len, AllByRecursion}
 use Rattle.std.proofs.lemmas.Bool.{and_parts, cases_Bool, cond_both, cond-true, cond-false, ne_eqb, false≢true}
 use Rattle.std.proofs.lemmas.List.{drop_at, length-reverse, reverse-append, take-append-drop}
@@ -9,13 +8,13 @@ use Rattle.std.proofs.lemmas.List.Folds.{list_all-append}
 use Rattle.std.proofs.lemmas.List.Sums.{suffix_len-le-length}
 use Rattle.sip_lex.specs.Bytes.{is_space, is_token, trim, trim_end, trim_start}
 use Rattle.sip_lex.specs.Cut.{cut, is, behind, Lacks}
-use Rattle.sip_lex.specs.Line.{IsLine, line_in, line_of_cut}
+use Rattle.sip_lex.specs.Line.{line_in, line_of_cut}
 use Rattle.sip_lex.specs.Pieces.{pieces}
 use Rattle.sip_lex.proofs.Cuts.{cut_joins, cut_lacks, Lacks-front}
 use Rattle.sip_lex.proofs.Splits.{pieces_lack}
-use Rattle.sip_text.specs.Message.{is_header, is_line, is_line_byte, is_start, is_trimmed}
-use Rattle.sip_text.specs.Reading.{Fault, Group, Headers, Lines, Tail, after_uri, after_version, before_group, begins_with_sip, begins_with_space, closed, grouped, header_of, header_of_cut, headers_at, headers_of_tail, is_status, is_uri, is_version, joined, lines_at, lines_from, number_of, part_text, request_of, response_of, start_of, status_of, tail_at, tail_of_group, tail_of_lines, with_header, with_line}
-use Rattle.sip_text.specs.Text.{HeaderText, StartText, Request, Response}
+use Rattle.sip_text.specs.Message.{is_header, is_line, is_line_byte, is_trimmed}
+use Rattle.sip_text.specs.Reading.{Group, Headers, Lines, before_group, begins_with_space, closed, grouped, header_of, header_of_cut, headers_at, joined, lines_at, lines_from, part_text, tail_at, tail_of_group, tail_of_lines, with_header, with_line}
+use Rattle.sip_text.specs.Text.{HeaderText}
 
 abbrev Cut : Type 0
 Cut = List ℕ × Option (List ℕ)
@@ -44,7 +43,7 @@ line_of_lacks (b ∷ bs) h k =
 all_parts : (p : ℕ → Bool) (n : ℕ) (bs : List ℕ) → list_all p bs ≡ true → (list_all p (take n bs) ≡ true) × (list_all p (drop n bs) ≡ true)
 all_parts p n bs h = and_parts (list_all p (take n bs)) (list_all p (drop n bs)) (sym (list_all-append p (take n bs) (drop n bs)) ∙ ap (list_all p) (take-append-drop n bs) ∙ h)
 
-all_trim : (p : ℕ → Bool) (bs : List ℕ) → list_all p bs ≡ true → list_all p (trim bs) ≡ true
+pub all_trim : (p : ℕ → Bool) (bs : List ℕ) → list_all p bs ≡ true → list_all p (trim bs) ≡ true
 all_trim p bs h =
     let s = trim_start bs in
     (all_parts p (length s - suffix_len is_space s) s (all_parts p (prefix_len is_space bs) bs h).1).0

@@ -2,6 +2,7 @@ pub mod Gaps
 pub mod Good
 pub mod Groups
 pub mod Grown
+pub mod HeaderValues
 pub mod Heads
 pub mod Joins
 pub mod Public
@@ -9,6 +10,7 @@ pub mod Refusals
 pub mod Size
 pub mod Spelled
 pub mod StartAgain
+pub mod StartFaults
 pub mod StartLines
 pub mod Steps
 pub mod Tails

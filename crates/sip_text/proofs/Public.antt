@@ -1,5 +1,5 @@
 -- What reading answered, by the relation.
-use Rattle.std.proofs.Common.{◌≡◌, ℕ, List, Result, Ok, Err, sym, subst, ◌∙◌}
+use Rattle.std.proofs.Common.{ℕ, List, Result, Ok, Err, sym, subst, ◌∙◌}
 use Rattle.std.specs.Prelude.{IfOk}
 use Rattle.sip_text.specs.declared.fault.ReadFault.{ReadFault}
 use Rattle.sip_text.specs.Fault.{FailsAs, Gives, fault_seen}

@@ -1,12 +1,9 @@
 -- Texts that are refused, by the relation and by the function.
-use Rattle.std.proofs.Common.{◌≡◌, ◌≢◌, ℕ, ◌<◌, ◌≤◌, Bool, true, false, cond, eqb, leb, List, [], ◌∷◌, ◌++◌, length, take, get_or, Option, Some, None, Result, Ok, Err, refl, sym, ap, subst, ◌∙◌, inl, inr, arith}
+use Rattle.std.proofs.Common.{◌≡◌, ◌≢◌, ℕ, ◌<◌, ◌≤◌, false, cond, eqb, leb, List, [], ◌∷◌, ◌++◌, length, take, get_or, Option, Some, None, Result, Ok, Err, refl, sym, ap, subst, ◌∙◌, inl, inr, arith}
 use Rattle.std.specs.Prelude.{◌&&◌}
-use Rattle.std.specs.Char.{is_ascii_digit}
-use Rattle.std.specs.List.{flat_map, join_with_byte}
+use Rattle.std.specs.List.{join_with_byte}
 use Rattle.std.proofs.lemmas.Bool.{cases_Bool, cond_both, cond-true, cond-false, false_from_ne_true, false≢true, leb-false, leb-true}
-use Rattle.sip_lex.specs.Bytes.{is_space, is_token}
-use Rattle.sip_lex.specs.Cut.{cut}
-use Rattle.sip_lex.specs.Line.{IsLine, ended, line_at}
+use Rattle.sip_lex.specs.Line.{ended, line_at}
 use Rattle.sip_lex.specs.Pieces.{pieces}
 use Rattle.sip_lex.proofs.Lines.{line_at-again, line_at-takes}
 use Rattle.sip_text.specs.declared.fields.BodyLength.{BodyLength}
@@ -15,14 +12,15 @@ use Rattle.sip_text.specs.declared.needed.Needed.{Needed}
 use Rattle.sip_text.specs.Fields.{cseq_fits, missing, said_length}
 use Rattle.sip_text.specs.Grammar.{blank_lines}
 use Rattle.sip_text.specs.Message.{after_headers, after_line, after_start, body_at, checked, head_of, if_present, read_at}
-use Rattle.sip_text.specs.Reading.{Fault, BadStart, BadHeader, Lacks, BadVersion, BadStatus, Short, BadCSeq, BadLength, Headers, after_uri, begins_with_sip, headers_at, is_status, is_uri, is_version, number_of, request_of, response_of, skip, start_of, status_of}
+use Rattle.sip_text.specs.Reading.{Fault, BadStart, BadHeader, Lacks, BadVersion, BadStatus, Short, BadCSeq, BadLength, Headers, headers_at, skip, start_of}
 use Rattle.sip_text.specs.Refusal.{Begins, FirstLine, HasFields, HasHead, HasHeaders, IsRefused}
-use Rattle.sip_text.specs.Text.{HeaderText, MessageText, StartText, Request, Response}
-use Rattle.sip_text.proofs.Gaps.{Cut}
+use Rattle.sip_text.specs.StartFaults.{HasStartFault}
+use Rattle.sip_text.specs.Text.{HeaderText, MessageText, StartText}
 use Rattle.sip_text.proofs.Good.{found, some_is}
 use Rattle.sip_text.proofs.Heads.{checked_is}
 use Rattle.sip_text.proofs.Joins.{join_pieces}
 use Rattle.sip_text.proofs.StartAgain.{start_again}
+use Rattle.sip_text.proofs.StartFaults.{fault_again, fault_found}
 use Rattle.sip_text.proofs.StartLines.{done, start_found}
 use Rattle.sip_text.proofs.Whole.{headers_found, headers_read, skip_blank, skip_found, skip_line}
 
@@ -65,64 +63,19 @@ first_read text line rest f =
     let front : skip text ≡ ended line ++ rest = ap skip f.whole ∙ skip_blank f.blank (ended line ++ rest) ∙ skip_line line rest f.is_line f.full in
     ap line_at front ∙ line_at-again line rest f.is_line
 
--- ---- the faults of a start line
-
-abbrev IsOfStart : Fault → Type 0
-IsOfStart BadStart = Unit {0}
-IsOfStart BadVersion = Unit {0}
-IsOfStart BadStatus = Unit {0}
-IsOfStart f = ⊥
-
-abbrev FailsAtStart : Result StartText Fault → Type 0
-FailsAtStart (Ok s) = Unit {0}
-FailsAtStart (Err f) = IsOfStart f
-
-status_faults : (rest : List ℕ) → FailsAtStart (status_of rest)
-status_faults [] = tt
-status_faults (a ∷ []) = tt
-status_faults (a ∷ b ∷ []) = tt
-status_faults (a ∷ b ∷ c ∷ []) = tt
-status_faults (a ∷ b ∷ c ∷ gap ∷ reason) =
-    let n = number_of a b c in
-    cond_both (is_ascii_digit a && is_ascii_digit b && is_ascii_digit c && is_space gap) (cond (is_status n) (Ok (Response n reason)) (Err BadStatus)) (Err BadStart) FailsAtStart
-    (λ form. cond_both (is_status n) (Ok (Response n reason)) (Err BadStatus) FailsAtStart (λ e. tt) (λ e. tt))
-    (λ other. tt)
-
-response_faults : (c : Cut) → FailsAtStart (response_of c)
-response_faults (version, None) = cond_both (is_version version) (Err BadStart) (Err BadVersion) FailsAtStart (λ e. tt) (λ e. tt)
-response_faults (version, Some rest) = cond_both (is_version version) (status_of rest) (Err BadVersion) FailsAtStart (λ e. status_faults rest) (λ e. tt)
-
-uri_faults : (method : List ℕ) (c : Cut) → FailsAtStart (after_uri method c)
-uri_faults method (uri, None) = tt
-uri_faults method (uri, Some version) =
-    cond_both (is_version version) (cond (is_token method && is_uri uri) (Ok (Request method uri)) (Err BadStart)) (cond (begins_with_sip version) (Err BadVersion) (Err BadStart)) FailsAtStart
-    (λ e. cond_both (is_token method && is_uri uri) (Ok (Request method uri)) (Err BadStart) FailsAtStart (λ f. tt) (λ f. tt))
-    (λ e. cond_both (begins_with_sip version) (Err BadVersion) (Err BadStart) FailsAtStart (λ f. tt) (λ f. tt))
-
-request_faults : (c : Cut) → FailsAtStart (request_of c)
-request_faults (method, None) = tt
-request_faults (method, Some rest) = uri_faults method (cut is_space rest)
-
-start_faults : (line : List ℕ) → FailsAtStart (start_of line)
-unfolding start_of
-start_faults line =
-    cond_both (begins_with_sip line) (response_of (cut is_space line)) (request_of (cut is_space line)) FailsAtStart
-    (λ e. response_faults (cut is_space line))
-    (λ e. request_faults (cut is_space line))
-
 -- ---- each fault has its cause
 
-start_line_refused : (text line rest : List ℕ) (f : Fault) → IsOfStart f → FirstLine text line rest → start_of line ≡ Err f → IsRefused text f
-start_line_refused text line rest BadStart is first at = λ l r other.
+start_line_refused : (text line rest : List ℕ) (f : Fault) → FirstLine text line rest → HasStartFault line f → IsRefused text f
+start_line_refused text line rest BadStart first fault = λ l r other.
     let same = some_is (line, rest) (l, r) (sym (first_read text line rest first) ∙ first_read text l r other) in
-    ap (λ (p : List ℕ × List ℕ). start_of p.0) (sym same) ∙ at
-start_line_refused text line rest BadVersion is first at = (line, rest, first, at)
-start_line_refused text line rest BadStatus is first at = (line, rest, first, at)
-start_line_refused text line rest BadHeader is first at = absurd is
-start_line_refused text line rest (Lacks name) is first at = absurd is
-start_line_refused text line rest (Short m) is first at = absurd is
-start_line_refused text line rest BadCSeq is first at = absurd is
-start_line_refused text line rest BadLength is first at = absurd is
+    subst (λ (p : List ℕ × List ℕ). HasStartFault p.0 BadStart) same fault
+start_line_refused text line rest BadVersion first fault = (line, rest, first, fault)
+start_line_refused text line rest BadStatus first fault = (line, rest, first, fault)
+start_line_refused text line rest BadHeader first fault = absurd fault
+start_line_refused text line rest (Lacks name) first fault = absurd fault
+start_line_refused text line rest (Short m) first fault = absurd fault
+start_line_refused text line rest BadCSeq first fault = absurd fault
+start_line_refused text line rest BadLength first fault = absurd fault
 
 body_refused : (text : List ℕ) (start : StartText) (hs : List HeaderText) (rest : List ℕ) (said : BodyLength) (f : Fault) → HasHead text start hs rest → HasFields start hs → said_length hs ≡ said → body_at start hs rest said ≡ Err f → IsRefused text f
 unfolding body_at
@@ -160,7 +113,7 @@ headers_refused text start rest (Some x) f begins at e =
 
 start_refused : (text line rest : List ℕ) (r : Result StartText Fault) (f : Fault) → FirstLine text line rest → start_of line ≡ r → after_start r rest ≡ Err f → IsRefused text f
 start_refused text line rest (Ok start) f first at e = headers_refused text start rest (headers_at rest) f (record { line = line; first = first; start_is = start_found line start at }) refl e
-start_refused text line rest (Err g) f first at e = subst (IsRefused text) (same_fault g f e) (start_line_refused text line rest g (subst FailsAtStart at (start_faults line)) first at)
+start_refused text line rest (Err g) f first at e = subst (IsRefused text) (same_fault g f e) (start_line_refused text line rest g first (fault_found line g at))
 
 line_refused : (text : List ℕ) (o : Option (List ℕ × List ℕ)) (f : Fault) → line_at (skip text) ≡ o → after_line o ≡ Err f → IsRefused text f
 line_refused text None f at e = subst (IsRefused text) (same_fault BadStart f e) (λ line rest first. let wrong : None ≡ found (line, rest) = sym at ∙ first_read text line rest first in absurd cc)
@@ -174,7 +127,7 @@ refused_found text f e = line_refused text (line_at (skip text)) f refl e
 
 no_start_line : (text : List ℕ) (o : Option (List ℕ × List ℕ)) → IsRefused text BadStart → line_at (skip text) ≡ o → after_line o ≡ Err BadStart
 no_start_line text None h at = refl
-no_start_line text (Some (line, rest)) h at = ap (λ (x : Result StartText Fault). after_start x rest) (h line rest (first_found text line rest at))
+no_start_line text (Some (line, rest)) h at = ap (λ (x : Result StartText Fault). after_start x rest) (fault_again line BadStart (h line rest (first_found text line rest at)))
 
 first_again : (text line rest : List ℕ) (f : Fault) → FirstLine text line rest → start_of line ≡ Err f → read_at text ≡ Err f
 unfolding read_at
@@ -214,8 +167,8 @@ body_short start hs rest n m fewer same =
 pub refused_again : (text : List ℕ) (f : Fault) → IsRefused text f → read_at text ≡ Err f
 unfolding read_at
 refused_again text BadStart h = no_start_line text (line_at (skip text)) h refl
-refused_again text BadVersion h = first_again text h.0 h.1 BadVersion h.2 h.3
-refused_again text BadStatus h = first_again text h.0 h.1 BadStatus h.2 h.3
+refused_again text BadVersion h = first_again text h.0 h.1 BadVersion h.2 (fault_again h.0 BadVersion h.3)
+refused_again text BadStatus h = first_again text h.0 h.1 BadStatus h.2 (fault_again h.0 BadStatus h.3)
 refused_again text BadHeader h = begins_again text h.0 h.1 h.2 ∙ no_headers h.0 h.1 (headers_at h.1) h.3 refl
 refused_again text (Lacks name) h = head_again text h.0 h.1 h.2 h.3 ∙ checked_by h.0 h.1 h.2 (Some name) h.4
 refused_again text BadCSeq h = head_again text h.0 h.1 h.2 h.3 ∙ checked_by h.0 h.1 h.2 None h.4 ∙ cond-false _ _ _ h.5

@@ -1,12 +1,11 @@
 -- A message's spelling is a text of it.
-use Rattle.std.proofs.Common.{◌≡◌, ◌≢◌, ℕ, ◌+◌, ◌-◌, ◌/◌, ◌%◌, ◌≤◌, Bool, true, false, not, eqb, leb, ltb, List, [], ◌∷◌, ◌++◌, length, map, take, drop, reverse, Ok, refl, sym, ap, ◌∙◌, arith}
-use Rattle.std.specs.Prelude.{◌&&◌, codes}
+use Rattle.std.proofs.Common.{◌≡◌, ◌≢◌, ℕ, ◌+◌, ◌-◌, ◌/◌, ◌%◌, ◌≤◌, Bool, true, false, not, eqb, leb, ltb, List, [], ◌∷◌, ◌++◌, length, map, drop, reverse, Ok, refl, sym, ap, ◌∙◌, arith}
+use Rattle.std.specs.Prelude.{codes}
 use Rattle.std.specs.List.{flat_map, list_all, prefix_len, suffix_len, AllByRecursion}
-use Rattle.std.proofs.lemmas.Bool.{and_parts, cond-false, eq-eqb, eqb-true, false_from_ne_true, false≢true, le-leb, leb-true, not-true}
+use Rattle.std.proofs.lemmas.Bool.{and_parts, cond-false, eq-eqb, eqb-true, false_from_ne_true, false≢true, le-leb, not-true}
 use Rattle.std.proofs.lemmas.List.{append-nil, length-append, take_all}
 use Rattle.std.proofs.lemmas.List.Folds.{list_all-append}
 use Rattle.sip_lex.specs.Bytes.{is_space, is_token, is_token_byte, trim, trim_end, trim_start}
-use Rattle.sip_lex.specs.Cut.{Lacks}
 use Rattle.sip_lex.specs.Line.{IsLine, ended}
 use Rattle.sip_lex.specs.Pieces.{pieces}
 use Rattle.sip_lex.proofs.Cuts.{Lacks-pass}
@@ -15,7 +14,7 @@ use Rattle.sip_text.specs.declared.fields.BodyLength.{BodyLength}
 use Rattle.sip_text.specs.declared.fields.BodyLength.TheVariants.{Unsaid, Bytes, Wrong}
 use Rattle.sip_text.specs.Fields.{said_length}
 use Rattle.sip_text.specs.Grammar.{AreHeaders, IsBody, IsFull, IsHeader, IsStartLine, IsText}
-use Rattle.sip_text.specs.Message.{IsHead, IsMessage, fits_body, is_header, is_line, is_line_byte, is_start, is_trimmed, is_value, read_at}
+use Rattle.sip_text.specs.Message.{IsMessage, fits_body, is_header, is_line, is_line_byte, is_start, is_trimmed, is_value, read_at}
 use Rattle.sip_text.specs.Reading.{begins_with_space, is_printed, is_status, is_uri}
 use Rattle.sip_text.specs.Text.{HeaderText, MessageText, StartText, Request, Response, header_line, header_text, spelling, start_line, status_text}
 use Rattle.sip_text.proofs.Good.{and_both, headers_good, line_of_lacks}

@@ -1,5 +1,5 @@
 -- Start lines that are spelled so are read.
-use Rattle.std.proofs.Common.{◌≡◌, ℕ, suc, ◌+◌, ◌-◌, ◌*◌, ◌/◌, ◌%◌, ◌<◌, ◌≤◌, Bool, true, false, cond, eqb, leb, ltb, List, [], ◌∷◌, ◌++◌, length, take, map, get_or, Option, Some, None, Result, Ok, Err, refl, sym, ap, subst, ◌∙◌, inl, inr, arith}
+use Rattle.std.proofs.Common.{◌≡◌, ℕ, ◌+◌, ◌/◌, ◌%◌, ◌≤◌, Bool, true, false, cond, eqb, leb, ltb, List, [], ◌∷◌, ◌++◌, length, take, map, get_or, Some, Result, Ok, Err, refl, sym, ap, subst, ◌∙◌, inl, inr, arith}
 use Rattle.std.specs.Prelude.{◌&&◌, codes}
 use Rattle.std.specs.Char.{is_ascii_digit, to_ascii_lowercase}
 use Rattle.std.specs.List.{list_all, AllByRecursion}
@@ -10,9 +10,9 @@ use Rattle.sip_lex.specs.Bytes.{is_space, is_token, is_token_byte}
 use Rattle.sip_lex.specs.Cut.{cut}
 use Rattle.sip_lex.proofs.Trims.{token_bytes, token_byte-space}
 use Rattle.sip_text.specs.Grammar.{IsRequestLine, IsStartLine, IsStatusLine}
-use Rattle.sip_text.specs.Reading.{Fault, BadStart, BadStatus, BadVersion, after_uri, after_version, begins_with_sip, is_printed, is_status, is_uri, is_version, number_of, request_of, response_of, start_of, status_of}
+use Rattle.sip_text.specs.Reading.{Fault, BadStatus, after_uri, begins_with_sip, is_printed, is_status, is_uri, is_version, number_of, request_of, response_of, start_of, status_of}
 use Rattle.sip_text.specs.Text.{StartText, Request, Response, status_text}
-use Rattle.sip_text.proofs.Gaps.{Cut, cut_again_at}
+use Rattle.sip_text.proofs.Gaps.{cut_again_at}
 use Rattle.sip_text.proofs.Good.{and_both}
 
 abbrev Apart : List ℕ → Type 0
@@ -58,15 +58,15 @@ lowered_apart (b ∷ bs) (c ∷ cs) e h =
     let rest : map to_ascii_lowercase bs ≡ cs = cc in
     (lower_apart b c first h.0, lowered_apart bs cs rest h.1)
 
-is_sip : (version : List ℕ) → is_version version ≡ true → map to_ascii_lowercase version ≡ sip
+pub is_sip : (version : List ℕ) → is_version version ≡ true → map to_ascii_lowercase version ≡ sip
 is_sip version h = (bytes_eq-Decides (str_to_ascii_lowercase version) sip).0 h
 
-version_apart : (version : List ℕ) → is_version version ≡ true → Apart version
+pub version_apart : (version : List ℕ) → is_version version ≡ true → Apart version
 version_apart version h = lowered_apart version sip (is_sip version h) (refl, (refl, (refl, (refl, (refl, (refl, (refl, tt)))))))
 
 -- ---- a status line begins so
 
-version_begins : (version rest : List ℕ) → map to_ascii_lowercase version ≡ sip → begins_with_sip (version ++ rest) ≡ true
+pub version_begins : (version rest : List ℕ) → map to_ascii_lowercase version ≡ sip → begins_with_sip (version ++ rest) ≡ true
 version_begins [] rest e = absurd cc
 version_begins (a ∷ []) rest e = absurd cc
 version_begins (a ∷ b ∷ []) rest e = absurd cc
@@ -76,7 +76,7 @@ version_begins (a ∷ b ∷ c ∷ d ∷ more) rest e = ap (λ (bs : List ℕ). b
 number_text : (n : ℕ) → n ≤ 699 → number_of (48 + n / 100) (48 + n / 10 % 10) (48 + n % 10) ≡ n
 number_text n h = omega arith
 
-is_digit : (d : ℕ) → d ≤ 9 → is_ascii_digit (48 + d) ≡ true
+pub is_digit : (d : ℕ) → d ≤ 9 → is_ascii_digit (48 + d) ≡ true
 is_digit d h = and_both (leb 48 (48 + d)) (leb (48 + d) 57) (le-leb 48 (48 + d) (omega arith)) (le-leb (48 + d) 57 (omega arith))
 
 status_again : (n gap : ℕ) (reason : List ℕ) → is_status n ≡ true → is_space gap ≡ true → status_of (status_text n ++ (gap ∷ reason)) ≡ Ok (Response n reason)
@@ -105,10 +105,10 @@ no_slash d h =
     (λ upper e. let large : 65 ≤ d = ltb-false d 65 high in omega arith)
     (λ other e. let large : 65 ≤ d = ltb-false d 65 high in omega arith))
 
-gap_differs : (gap n : ℕ) → is_space gap ≡ true → is_space n ≡ false → to_ascii_lowercase gap ≡ n → ⊥
+pub gap_differs : (gap n : ℕ) → is_space gap ≡ true → is_space n ≡ false → to_ascii_lowercase gap ≡ n → ⊥
 gap_differs gap n h apart e = false≢true (sym (ap is_space e ∙ apart) ∙ lower_space gap h)
 
-abbrev lowered_front : List ℕ → List ℕ
+abbrev pub lowered_front : List ℕ → List ℕ
 lowered_front bs = map to_ascii_lowercase (take 4 bs)
 
 method_begins : (method rest : List ℕ) (gap : ℕ) → is_token method ≡ true → is_space gap ≡ true → lowered_front (method ++ gap ∷ rest) ≡ codes "sip/" → ⊥

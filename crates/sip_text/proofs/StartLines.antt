@@ -1,18 +1,15 @@
 -- Start lines, read and spelled.
-use Rattle.std.proofs.Common.{◌≡◌, ℕ, suc, ◌+◌, ◌-◌, ◌*◌, ◌/◌, ◌%◌, ◌<◌, ◌≤◌, Bool, true, false, cond, eqb, leb, List, [], ◌∷◌, ◌++◌, length, take, map, Option, Some, None, Result, Ok, Err, refl, sym, ap, subst, ◌∙◌, inl, inr, arith}
-use Rattle.std.specs.Prelude.{◌&&◌, codes, nat_le}
-use Rattle.std.specs.Char.{is_ascii_digit, to_ascii_lowercase}
-use Rattle.std.specs.List.{list_all, AllByRecursion}
-use Rattle.std.specs.Str.{bytes_eq, str_to_ascii_lowercase}
-use Rattle.std.proofs.lemmas.Bool.{and_parts, cases_Bool, cond_both, cond-true, cond-false, false_from_ne_true, false≢true, eqb-true, leb-true, or_cases}
-use Rattle.std.proofs.lemmas.Slice.Eq.{bytes_eq-Decides}
-use Rattle.sip_lex.specs.Bytes.{is_space, is_token, is_token_byte}
+use Rattle.std.proofs.Common.{◌≡◌, ℕ, ◌+◌, ◌/◌, ◌%◌, ◌≤◌, true, leb, List, [], ◌∷◌, ◌++◌, Option, Some, None, Result, Ok, Err, refl, sym, ap, subst, ◌∙◌, inl, inr, arith}
+use Rattle.std.specs.Prelude.{◌&&◌}
+use Rattle.std.specs.Char.{is_ascii_digit}
+use Rattle.std.proofs.lemmas.Bool.{and_parts, cases_Bool, cond-true, cond-false, leb-true}
+use Rattle.sip_lex.specs.Bytes.{is_space, is_token}
 use Rattle.sip_lex.specs.Cut.{cut}
-use Rattle.sip_text.specs.Grammar.{IsRequestLine, IsStartLine, IsStatusLine}
+use Rattle.sip_text.specs.Grammar.{IsStartLine}
 use Rattle.sip_text.specs.Message.{is_line, is_start}
 use Rattle.sip_text.specs.Reading.{Fault, BadStart, BadStatus, BadVersion, after_uri, after_version, begins_with_sip, is_status, is_uri, is_version, number_of, request_of, response_of, start_of, status_of}
 use Rattle.sip_text.specs.Text.{StartText, Request, Response, status_text}
-use Rattle.sip_text.proofs.Gaps.{Cut, JoinsAt, cut_joins_at, cut_again_at}
+use Rattle.sip_text.proofs.Gaps.{Cut, JoinsAt, cut_joins_at}
 use Rattle.sip_text.proofs.Good.{and_both, behind_line}
 
 abbrev pub done : {A : Type 0} → A → Result A Fault
@@ -26,11 +23,11 @@ no_digits e s P h = absurd cc
 
 -- ---- what is read is spelled so
 
-digit_range : (d : ℕ) → is_ascii_digit d ≡ true → (48 ≤ d) × (d ≤ 57)
+pub digit_range : (d : ℕ) → is_ascii_digit d ≡ true → (48 ≤ d) × (d ≤ 57)
 digit_range d h = let both = and_parts (leb 48 d) (leb d 57) h in (leb-true 48 d both.0, leb-true d 57 both.1)
 
 -- three digits
-digits_text : (a b c : ℕ) → is_ascii_digit a ≡ true → is_ascii_digit b ≡ true → is_ascii_digit c ≡ true → status_text (number_of a b c) ≡ a ∷ b ∷ c ∷ []
+pub digits_text : (a b c : ℕ) → is_ascii_digit a ≡ true → is_ascii_digit b ≡ true → is_ascii_digit c ≡ true → status_text (number_of a b c) ≡ a ∷ b ∷ c ∷ []
 digits_text a b c d e f =
     let x = digit_range a d in let y = digit_range b e in let z = digit_range c f in
     let first : 48 + number_of a b c / 100 ≡ a = omega arith in

@@ -1,11 +1,10 @@
 -- The lines of a text, one by one.
-use Rattle.std.proofs.Common.{◌≡◌, ℕ, zero, suc, ◌+◌, ◌-◌, Bool, true, false, cond, ltb, eqb, List, [], ◌∷◌, ◌++◌, length, take, map, Option, Some, None, Result, Ok, Err, refl, sym, ap, subst, ◌∙◌, append_assoc, arith}
-use Rattle.std.specs.Prelude.{◌&&◌}
+use Rattle.std.proofs.Common.{◌≡◌, ℕ, zero, suc, ◌-◌, true, false, cond, eqb, List, [], ◌∷◌, ◌++◌, length, take, Option, Some, None, Ok, Err, refl, sym, ap, subst, ◌∙◌, append_assoc, arith}
 use Rattle.std.specs.List.{list_all, flat_map, suffix_len}
 use Rattle.std.proofs.lemmas.Bool.{and_parts, cond_both, cond-true, cond-false, eqb-true, false_from_ne_true, false≢true}
 use Rattle.std.proofs.lemmas.List.{append-nil}
 use Rattle.sip_lex.specs.Bytes.{is_space, is_token, is_token_byte, trim, trim_end}
-use Rattle.sip_lex.specs.Cut.{cut, is, behind}
+use Rattle.sip_lex.specs.Cut.{cut, is}
 use Rattle.sip_lex.specs.Line.{IsLine, ended, line_at, line_at_cut, line_in}
 use Rattle.sip_lex.specs.Line as lines
 use Rattle.sip_lex.specs.Pieces.{pieces, pieces_behind}

@@ -1,6 +1,6 @@
 -- Whole texts, by the relation and by the function.
-use Rattle.std.proofs.Common.{◌≡◌, ◌≢◌, ℕ, zero, suc, ◌+◌, ◌≤◌, Bool, true, false, cond, eqb, leb, List, [], ◌∷◌, ◌++◌, length, map, take, drop, Option, Some, None, Result, Ok, Err, refl, sym, ap, subst, ◌∙◌, inl, inr, arith, append_assoc, length-take}
-use Rattle.std.specs.Prelude.{◌&&◌, nat_le}
+use Rattle.std.proofs.Common.{◌≡◌, ◌≢◌, ℕ, zero, suc, ◌≤◌, true, cond, eqb, leb, List, [], ◌∷◌, ◌++◌, length, map, take, drop, Option, Some, None, Result, Ok, Err, refl, sym, ap, subst, ◌∙◌, inl, inr, arith, length-take}
+use Rattle.std.specs.Prelude.{◌&&◌}
 use Rattle.std.specs.List.{flat_map, join_with_byte, AllByRecursion}
 use Rattle.std.proofs.lemmas.Bool.{and_parts, cases_Bool, cond_both, cond-true, cond-false, eqb-true, le-leb, leb-true, ne_eqb}
 use Rattle.std.proofs.lemmas.List.{length-append, take_at, take-append-drop}
@@ -12,11 +12,11 @@ use Rattle.sip_text.specs.declared.fields.BodyLength.{BodyLength}
 use Rattle.sip_text.specs.declared.fields.BodyLength.TheVariants.{Unsaid, Bytes, Wrong}
 use Rattle.sip_text.specs.declared.needed.Needed.{Needed}
 use Rattle.sip_text.specs.Fields.{cseq_fits, missing, said_length}
-use Rattle.sip_text.specs.Grammar.{AreHeaders, IsBody, IsFull, IsStartLine, IsText, blank_lines}
+use Rattle.sip_text.specs.Grammar.{AreHeaders, IsBody, IsFull, IsText, blank_lines}
 use Rattle.sip_text.specs.Message.{after_headers, after_line, after_start, body_at, checked, head_of, if_present, read_at}
 use Rattle.sip_text.specs.Reading.{Fault, BadCSeq, BadHeader, BadLength, BadStart, Group, Headers, Lacks, Lines, Short, closed, grouped, headers_at, lines_at, skip, start_of, tail_at, tail_of_group, tail_of_lines}
 use Rattle.sip_text.specs.Text.{HeaderText, MessageText, StartText}
-use Rattle.sip_text.proofs.Good.{found, some_is}
+use Rattle.sip_text.proofs.Good.{some_is}
 use Rattle.sip_text.proofs.Groups.{grouped_found, headers_again}
 use Rattle.sip_text.proofs.Joins.{join_pieces}
 use Rattle.sip_text.proofs.StartAgain.{start_again}

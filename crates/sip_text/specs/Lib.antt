@@ -8,4 +8,5 @@ pub mod Message
 pub mod Seen
 pub mod Fault
 pub mod Grammar
+pub mod StartFaults
 pub mod Refusal

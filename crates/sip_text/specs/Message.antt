@@ -1,6 +1,6 @@
 -- Reading a whole message, with the first fault; and what a message is (RFC 3261 sections 7, 8.1.1
 -- and 18.3).
-use Rattle.std.specs.Prelude.{◌≡◌, ℕ, Bool, true, false, ◌&&◌, not, List, [], ◌∷◌, length, map, reverse, take, Option, Some, None, Result, Ok, Err, ◌==◌, nat_le, if◌then◌else◌, codes}
+use Rattle.std.specs.Prelude.{◌≡◌, ℕ, Bool, true, false, ◌&&◌, not, List, [], ◌∷◌, length, map, reverse, take, Option, Some, None, Result, Ok, Err, ◌==◌, nat_le, if◌then◌else◌}
 use Rattle.std.specs.List.{list_all, join_with_byte}
 use Rattle.sip_lex.specs.Bytes.{is_token}
 use Rattle.sip_lex.specs.Line.{line_at}

@@ -1,13 +1,13 @@
 -- Why a text is no message: each fault, said of its bytes (RFC 3261 sections 7, 8.1.1 and 18.3).
-use Rattle.std.specs.Prelude.{◌≡◌, ◌≢◌, ◌<◌, ℕ, true, false, List, [], ◌++◌, None, Some, Result, Err, length}
+use Rattle.std.specs.Prelude.{◌≡◌, ◌≢◌, ◌<◌, ℕ, true, false, List, [], ◌++◌, None, Some, length}
 use Rattle.std.specs.List.{flat_map, AllByRecursion}
 use Rattle.sip_lex.specs.Line.{IsLine, ended}
-use Rattle.sip_text.specs.declared.fields.BodyLength.{BodyLength}
 use Rattle.sip_text.specs.declared.fields.BodyLength.TheVariants.{Bytes, Wrong}
 use Rattle.sip_text.specs.Fields.{cseq_fits, missing, said_length}
 use Rattle.sip_text.specs.Grammar.{AreHeaders, IsFull, IsStartLine, blank_lines}
 use Rattle.sip_text.specs.Message.{head_of}
-use Rattle.sip_text.specs.Reading.{Fault, BadStart, BadHeader, Lacks, BadVersion, BadStatus, Short, BadCSeq, BadLength, start_of}
+use Rattle.sip_text.specs.Reading.{Fault, BadStart, BadHeader, Lacks, BadVersion, BadStatus, Short, BadCSeq, BadLength}
+use Rattle.sip_text.specs.StartFaults.{HasStartFault}
 use Rattle.sip_text.specs.Text.{HeaderText, MessageText, StartText}
 
 -- empty lines, a line that isn't, and the rest
@@ -36,9 +36,9 @@ pub record HasHead (text : List ℕ) (start : StartText) (hs : List HeaderText) 
   pub begins : Begins text start behind
   pub headers : HasHeaders behind hs rest
 
--- the first line that isn't empty has that fault, or there is none
+-- the first line that isn't empty has that fault
 abbrev pub FirstLineIs : List ℕ → Fault → Type 0
-FirstLineIs text f = (line rest : List ℕ) × FirstLine text line rest × (start_of line ≡ Err f)
+FirstLineIs text f = (line rest : List ℕ) × FirstLine text line rest × HasStartFault line f
 
 -- all that each message has is there, and its CSeq fits
 pub record HasFields (start : StartText) (hs : List HeaderText) : Type 0 where
@@ -52,9 +52,9 @@ pub record IsShort (m : MessageText) (start : StartText) (hs : List HeaderText) 
   pub fewer : length rest < said
   pub head : m ≡ head_of start hs
 
--- why a text is no message
+-- why a text is no message; where no line stands at its front, there is no start line
 abbrev pub IsRefused : List ℕ → Fault → Type 0
-IsRefused text BadStart = (line rest : List ℕ) → FirstLine text line rest → start_of line ≡ Err BadStart
+IsRefused text BadStart = (line rest : List ℕ) → FirstLine text line rest → HasStartFault line BadStart
 IsRefused text BadVersion = FirstLineIs text BadVersion
 IsRefused text BadStatus = FirstLineIs text BadStatus
 IsRefused text BadHeader = (start : StartText) × (rest : List ℕ) × Begins text start rest × ((hs : List HeaderText) (body : List ℕ) → HasHeaders rest hs body → ⊥)

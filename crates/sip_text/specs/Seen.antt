@@ -1,6 +1,5 @@
 -- What lies in memory, as texts.
-use Rattle.std.specs.Prelude.{ℕ, List, Option, Some, None, map}
-use Rattle.std.specs.Borrow.{Bor}
+use Rattle.std.specs.Prelude.{List, Option, Some, None, map}
 use Rattle.sip_text.specs.declared.parts.Header.{Header}
 use Rattle.sip_text.specs.declared.parts.Start.{Start}
 use Rattle.sip_text.specs.declared.parts.Start.TheVariants as starts

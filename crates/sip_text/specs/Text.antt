@@ -1,5 +1,6 @@
 -- Messages as texts, and how they are spelled (RFC 3261 sections 7 and 25.1).
-use Rattle.std.specs.Prelude.{ℕ, ◌+◌, ◌/◌, ◌%◌, List, [], ◌∷◌, ◌++◌, codes}
+use Rattle.std.specs.Prelude.{ℕ, ◌+◌, ◌-◌, ◌^◌, ◌/◌, ◌%◌, min, List, [], ◌∷◌, ◌++◌, Option, Some, None, codes}
+use Rattle.std.specs.Borrow.{Bor}
 use Rattle.std.specs.List.{flat_map}
 use Rattle.sip_lex.specs.Line.{ended}
 
@@ -18,6 +19,16 @@ pub record MessageText : Type 0 where
   pub headers : List HeaderText
   pub body : List ℕ
 
+-- the method of a request
+abbrev pub method_in : StartText → Option (List ℕ)
+method_in (Request method uri) = Some method
+method_in (Response status reason) = None
+
+-- the status of a response
+abbrev pub status_in : StartText → Option ℕ
+status_in (Request method uri) = None
+status_in (Response status reason) = Some status
+
 -- three digits
 abbrev pub status_text : ℕ → List ℕ
 status_text n = (48 + n / 100) ∷ (48 + n / 10 % 10) ∷ (48 + n % 10) ∷ []
@@ -35,3 +46,12 @@ header_text h = ended (header_line h)
 -- what a message is written as
 abbrev pub spelling : MessageText → List ℕ
 spelling m = ended (start_line m.start) ++ (flat_map header_text m.headers ++ (ended [] ++ m.body))
+
+-- ---- lengths, and texts in pieces
+
+-- a length, as far as a word of 64 bits holds it
+abbrev pub saturated : ℕ → ℕ
+saturated n = min n (2 ^ 64 - 1)
+
+abbrev pub pieces_text : List (Bor (List ℕ)) → List ℕ
+pieces_text ps = flat_map (λ p. p.now) ps

@@ -1,8 +1,11 @@
 //! Laws of reading and writing.
 
-ghost use Rattle.std.specs.Prelude.{◌≡◌, List, Ok, Err, ℕ};
+ghost use Rattle.std.specs.Prelude.{◌≡◌, ◌++◌, List, Ok, Err, true, ℕ};
+ghost use Rattle.std.specs.List.{list_all};
+ghost use Rattle.sip_lex.specs.Bytes.{trim};
 ghost use Rattle.sip_text.specs.Grammar.{IsText};
-ghost use Rattle.sip_text.specs.Message.{IsMessage, read_at};
+ghost use Rattle.sip_text.specs.Message.{IsMessage, is_value, read_at};
+ghost use Rattle.sip_text.specs.Name.{values_of};
 ghost use Rattle.sip_text.specs.Reading.{Fault};
 ghost use Rattle.sip_text.specs.Refusal.{IsRefused};
 ghost use Rattle.sip_text.specs.Text.{MessageText, spelling};
@@ -27,4 +30,14 @@ pub fn round_trip()
 pub fn faults_are_of_the_text()
     ensures found { (text : List ℕ) (f : Fault) → read_at text ≡ Err f → IsRefused text f }
     ensures only { (text : List ℕ) (f : Fault) → IsRefused text f → read_at text ≡ Err f }
+{}
+
+/// The values of a message's headers, of each name, are such as a header may have.
+pub fn header_values_are_values()
+    ensures { (m : MessageText) (name : List ℕ) → IsMessage m → list_all is_value (values_of name m.headers) ≡ true }
+{}
+
+/// A part of a value that a header may have is such a value, too, without the space at its ends.
+pub fn trimmed_part_is_a_value()
+    ensures { (front part back : List ℕ) → is_value (front ++ (part ++ back)) ≡ true → is_value (trim part) ≡ true }
 {}

@@ -5,6 +5,7 @@
 //! it so that reading gives it back.
 #![tactic(auto)]
 
+mod copies;
 mod fault;
 mod fields;
 mod head;
@@ -19,8 +20,15 @@ mod tag;
 mod write;
 
 pub use fault::ReadFault;
-pub use laws::{faults_are_of_the_text, round_trip, spelling_is_text, text_is_message};
+pub use laws::{
+    faults_are_of_the_text, header_values_are_values, round_trip, spelling_is_text,
+    text_is_message, trimmed_part_is_a_value,
+};
 pub use message::Message;
 pub use name::Values;
 pub use needed::Needed;
 pub use parts::{CSeqLine, Header, Start};
+pub use write::{
+    append_end, append_header, append_headers, append_request_line, append_status_line, header_len,
+    headers_len, request_line_len, status_line_len,
+};

@@ -1,5 +1,6 @@
 //! Messages.
 
+use crate::copies::{copied_headers, copied_start};
 use crate::fault::ReadFault;
 use crate::fields::{message_cseq, value_of};
 use crate::name::Values;
@@ -33,7 +34,7 @@ impl<A: Allocator> Model for Message<A> {
 }
 
 impl<A: Allocator> Message<A> {
-    ghost use Rattle.std.specs.Prelude.{◌≡◌, ◌++◌, OnOk, OnErr, Some};
+    ghost use Rattle.std.specs.Prelude.{◌≡◌, ◌+◌, ◌++◌, ◌≤◌, ◌<◌, IfOk, IsOk, OnOk, OnErr, Some, length, vec_capacity, vec_len};
     ghost use Rattle.std.specs.Option.{option_copied};
     ghost use Rattle.sip_text.specs.declared.needed.Needed.TheVariants.{CallId, From, To};
     ghost use Rattle.sip_text.specs.Fields.{message_cseq, value_of};
@@ -41,7 +42,7 @@ impl<A: Allocator> Message<A> {
     ghost use Rattle.sip_text.specs.Name.{values_of};
     ghost use Rattle.sip_text.specs.Seen.{view_cseq, view_start, views};
     ghost use Rattle.sip_text.specs.Tag.{tag_in};
-    ghost use Rattle.sip_text.specs.Text.{spelling};
+    ghost use Rattle.sip_text.specs.Text.{method_in, spelling, status_in};
 
     /// The message of these parts, which have to be such as some text spells.
     pub fn from_parts(start: Start<A>, headers: Vec<Header<A>, A>, body: Vec<u8, A>) -> Message<A>
@@ -62,11 +63,39 @@ impl<A: Allocator> Message<A> {
         let _body = &self.body;
     }
 
+    /// The parts of the message, of which `from_parts` makes it again.
+    pub fn into_parts(self) -> (Start<A>, Vec<Header<A>, A>, Vec<u8, A>)
+        ensures parts { record { start = view_start result.0; headers = views result.1.items; body = result.2.items } ≡ self }
+        ensures message { IsMessage (record { start = view_start result.0; headers = views result.1.items; body = result.2.items }) }
+    {
+        (self.start, self.headers, self.body)
+    }
+
     /// The start line.
     pub fn start(&self) -> &Start<A>
         ensures { view_start result.now ≡ self.now.start }
     {
         &self.start
+    }
+
+    /// The method of a request (RFC 3261 section 7.1); None for a response.
+    pub fn method(&self) -> Option<&[u8]>
+        ensures { option_copied result ≡ method_in self.now.start }
+    {
+        match self.start() {
+            Start::Request { method, .. } => Some(method.as_slice()),
+            Start::Response { .. } => None,
+        }
+    }
+
+    /// The status of a response (RFC 3261 section 7.2); None for a request.
+    pub fn status(&self) -> Option<u16>
+        ensures { result ≡ status_in self.now.start }
+    {
+        match self.start() {
+            Start::Request { .. } => None,
+            Start::Response { status, .. } => Some(*status),
+        }
     }
 
     /// The header lines, in order.
@@ -125,14 +154,31 @@ impl<A: Allocator> Message<A> {
         self.body.as_slice()
     }
 
-    /// Appends the text that spells the message: reading it gives the message back.
+    /// The same message once more, in memory of its own.
     ///
     /// # Errors
     ///
-    /// Only where the growth of `out` is refused; `out` is then unchanged.
+    /// Only where `alloc` refuses.
+    pub fn copy<B: Allocator + Clone>(&self, alloc: B) -> Result<Message<B>, AllocError>
+        ensures { IfOk result (λ m. m ≡ self.now) }
+    {
+        let start = copied_start(&alloc, &self.start)?;
+        let headers = copied_headers(&alloc, &self.headers)?;
+        let body = Vec::from_slice(alloc, &self.body)?;
+        Ok(Message::from_parts(start, headers, body))
+    }
+
+    /// Appends the text that spells the message: reading it gives the message back. `out` grows once
+    /// at most.
+    ///
+    /// # Errors
+    ///
+    /// Only where that growth is refused; `out` is then unchanged.
     pub fn write<B: Allocator>(&self, out: &mut Vec<u8, B>) -> Result<(), AllocError>
         ensures ok { OnOk result (out.new.items ≡ out.old.items ++ spelling self.now) }
         ensures err { OnErr result (out.new.items ≡ out.old.items) }
+        ensures room { vec_len out.old + length (spelling self.now) ≤ vec_capacity out.old → IsOk result }
+        ensures full { OnErr result (vec_capacity out.old < vec_len out.old + length (spelling self.now)) }
     {
         append_message(out, &self.start, &self.headers, &self.body)
     }

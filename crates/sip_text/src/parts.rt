@@ -1,5 +1,6 @@
 //! The parts of a message.
 
+use crate::name::same_name;
 use std::alloc::Allocator;
 
 /// A header line (RFC 3261 section 7.3): its name as received, and its value without the space round
@@ -8,6 +9,20 @@ use std::alloc::Allocator;
 pub struct Header<A: Allocator> {
     pub name: Vec<u8, A>,
     pub value: Vec<u8, A>,
+}
+
+impl<A: Allocator> Header<A> {
+    ghost use Rattle.std.specs.Prelude.{◌≡◌};
+    ghost use Rattle.sip_text.specs.Name.{same_name};
+    ghost use Rattle.sip_text.specs.Seen.{view};
+
+    /// Whether the header has that name, in any case and in long or compact form (RFC 3261 sections
+    /// 7.3.1 and 7.3.3).
+    pub fn is_named(&self, name: &[u8]) -> bool
+        ensures { result ≡ same_name name.now (view self.now).name }
+    {
+        same_name(name, &self.name)
+    }
 }
 
 /// A start line (RFC 3261 sections 7.1 and 7.2).

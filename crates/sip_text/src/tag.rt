@@ -2,9 +2,11 @@
 
 ghost use Rattle.std.specs.Prelude.{◌≡◌};
 ghost use Rattle.std.specs.Option.{option_copied};
-ghost use Rattle.sip_lex.specs.declared.sheltered.Shelter.TheVariants.{QuotesAndAngles};
+ghost use Rattle.sip_lex.specs.declared.sheltered.Place.TheVariants.{Plain};
+ghost use Rattle.sip_lex.specs.declared.sheltered.Shelter.TheVariants.{Quotes, QuotesAndAngles};
 ghost use Rattle.sip_lex.specs.Outside.{pieces_outside_behind};
-ghost use Rattle.sip_text.specs.Tag.{is_tag_name, tag_of, tag_of_params, value_of_cut};
+ghost use Rattle.sip_lex.specs.Sheltered.{cut_outside};
+ghost use Rattle.sip_text.specs.Tag.{behind_angles, is_tag_name, tag_of, tag_of_params, value_of_cut};
 
 use sip_lex::{Shelter, cut_at, cut_outside, trim};
 
@@ -38,10 +40,24 @@ fn tag_of_params(params: Option<&[u8]>) -> Option<&[u8]>
     None
 }
 
+/// What stands behind the address in angle brackets; the whole value where no `<` stands outside
+/// quotes.
+fn behind_angles(value: &[u8]) -> Option<&[u8]>
+    ensures { option_copied result
+        ≡ behind_angles value.now (cut_outside Quotes 60 Plain value.now).1 }
+{
+    match cut_outside(value, b'<', Shelter::Quotes).1 {
+        None => Some(value),
+        Some(inside) => cut_at(inside, b'>').1,
+    }
+}
+
 /// The tag of a From or To value (RFC 3261 section 19.3): the first parameter of that name behind
-/// the address, unless it is empty.
+/// the address, unless it is empty. The address is what the first `<` outside quotes opens; a value
+/// without one is an address up to its first `;`.
 pub fn tag_of(value: &[u8]) -> Option<&[u8]>
     ensures { option_copied result ≡ tag_of value.now }
 {
-    tag_of_params(cut_outside(value, b';', Shelter::QuotesAndAngles).1)
+    let text = behind_angles(value)?;
+    tag_of_params(cut_outside(text, b';', Shelter::QuotesAndAngles).1)
 }

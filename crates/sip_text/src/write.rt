@@ -1,23 +1,163 @@
-//! Writing a message.
+//! Writing a message, whole or part by part.
 
-ghost use Rattle.std.specs.Prelude.{◌≡◌, ◌++◌, ◌<◌, OnOk, OnErr, take, true, vec_len};
+ghost use Rattle.std.specs.Prelude.{◌≡◌, ◌+◌, ◌++◌, ◌≤◌, ◌<◌, ℕ, [], length, IsOk, OnOk, OnErr, take, true, vec_len, vec_capacity};
 ghost use Rattle.std.specs.List.{flat_map};
+ghost use Rattle.sip_lex.specs.Line.{ended};
 ghost use Rattle.sip_text.specs.Message.{is_start};
-ghost use Rattle.sip_text.specs.Text.{header_text, spelling, start_line, status_text};
-ghost use Rattle.sip_text.specs.Seen.{view, view_start, views};
+ghost use Rattle.sip_text.specs.Text.{Request, Response, header_text, pieces_text, saturated, spelling, start_line, status_text};
+ghost use Rattle.sip_text.specs.Seen.{view_start, views};
 
 use crate::parts::{Header, Start};
 use std::alloc::{AllocError, Allocator};
 
-fn append_status<B: Allocator>(out: &mut Vec<u8, B>, status: u16) -> Result<(), AllocError>
-    requires { status < 700 }
-    ensures ok { OnOk result (out.new.items ≡ out.old.items ++ status_text status) }
-    ensures begins { take (vec_len out.old) out.new.items ≡ out.old.items }
+/// Takes back what stands behind the first `before` bytes, unless all was appended.
+fn whole_or_nothing<B: Allocator>(
+    out: &mut Vec<u8, B>,
+    before: usize,
+    done: Result<(), AllocError>,
+) -> Result<(), AllocError>
+    ensures done { result ≡ done }
+    ensures ok { OnOk done (out.new.items ≡ out.old.items) }
+    ensures err { OnErr done (out.new.items ≡ take before out.old.items) }
+    ensures capacity { vec_capacity out.new ≡ vec_capacity out.old }
 {
-    out.push(b'0' + (status / 100) as u8)?;
-    out.push(b'0' + (status / 10 % 10) as u8)?;
-    out.push(b'0' + (status % 10) as u8)?;
+    if done.is_err() {
+        out.truncate(before);
+    }
+    done
+}
+
+fn append_each<B: Allocator>(out: &mut Vec<u8, B>, pieces: &[&[u8]]) -> Result<(), AllocError>
+    ensures ok { OnOk result (out.new.items ≡ out.old.items ++ pieces_text pieces.now) }
+    ensures begins { take (vec_len out.old) out.new.items ≡ out.old.items }
+    ensures full { OnErr result
+        (vec_capacity out.old < vec_len out.old + length (pieces_text pieces.now)) }
+    ensures capacity { vec_capacity out.old ≤ vec_capacity out.new }
+{
+    for piece in pieces {
+        out.extend_from_slice(piece)?;
+    }
     Ok(())
+}
+
+/// How many bytes the pieces are.
+fn len_of(pieces: &[&[u8]]) -> usize
+    ensures { result ≡ saturated (length (pieces_text pieces.now)) }
+{
+    let mut len = 0usize;
+    for piece in pieces {
+        len = len.saturating_add(piece.len());
+    }
+    len
+}
+
+/// Appends the pieces, or nothing; `out` grows once at most.
+fn append_all<B: Allocator>(out: &mut Vec<u8, B>, pieces: &[&[u8]]) -> Result<(), AllocError>
+    ensures ok { OnOk result (out.new.items ≡ out.old.items ++ pieces_text pieces.now) }
+    ensures err { OnErr result (out.new.items ≡ out.old.items) }
+    ensures full { OnErr result
+        (vec_capacity out.old < vec_len out.old + length (pieces_text pieces.now)) }
+    ensures capacity { vec_capacity out.old ≤ vec_capacity out.new }
+{
+    out.reserve(len_of(pieces))?;
+    let before = out.len();
+    let done = append_each(out, pieces);
+    whole_or_nothing(out, before, done)
+}
+
+/// Appends a request line with its end, or nothing (RFC 3261 section 7.1).
+///
+/// # Errors
+///
+/// Only where the growth of `out` is refused; `out` is then unchanged.
+pub fn append_request_line<B: Allocator>(
+    out: &mut Vec<u8, B>,
+    method: &[u8],
+    uri: &[u8],
+) -> Result<(), AllocError>
+    ensures ok { OnOk result
+        (out.new.items ≡ out.old.items ++ ended (start_line (Request method.now uri.now))) }
+    ensures err { OnErr result (out.new.items ≡ out.old.items) }
+    ensures room { vec_len out.old + length (ended (start_line (Request method.now uri.now))) ≤ vec_capacity out.old
+        → IsOk result }
+    ensures full { OnErr result
+        (vec_capacity out.old < vec_len out.old + length (ended (start_line (Request method.now uri.now)))) }
+    ensures capacity { vec_capacity out.old ≤ vec_capacity out.new }
+{
+    append_all(out, &[method, b" ", uri, b" SIP/2.0\r\n"])
+}
+
+/// The digits of a status.
+fn digits_of(status: u16) -> [u8; 3]
+    requires { status < 1000 }
+    ensures { result ≡ status_text status }
+{
+    [
+        b'0' + (status / 100) as u8,
+        b'0' + (status / 10 % 10) as u8,
+        b'0' + (status % 10) as u8,
+    ]
+}
+
+/// Appends a status line with its end, or nothing (RFC 3261 section 7.2).
+///
+/// # Errors
+///
+/// Only where the growth of `out` is refused; `out` is then unchanged.
+pub fn append_status_line<B: Allocator>(
+    out: &mut Vec<u8, B>,
+    status: u16,
+    reason: &[u8],
+) -> Result<(), AllocError>
+    requires { status < 1000 }
+    ensures ok { OnOk result
+        (out.new.items ≡ out.old.items ++ ended (start_line (Response status reason.now))) }
+    ensures err { OnErr result (out.new.items ≡ out.old.items) }
+    ensures room { vec_len out.old + length (ended (start_line (Response status reason.now))) ≤ vec_capacity out.old
+        → IsOk result }
+    ensures full { OnErr result
+        (vec_capacity out.old < vec_len out.old + length (ended (start_line (Response status reason.now)))) }
+    ensures capacity { vec_capacity out.old ≤ vec_capacity out.new }
+{
+    let digits = digits_of(status);
+    append_all(out, &[b"SIP/2.0 ", &digits, b" ", reason, b"\r\n"])
+}
+
+/// Appends a header line with its end, or nothing (RFC 3261 section 7.3).
+///
+/// # Errors
+///
+/// Only where the growth of `out` is refused; `out` is then unchanged.
+pub fn append_header<B: Allocator>(
+    out: &mut Vec<u8, B>,
+    name: &[u8],
+    value: &[u8],
+) -> Result<(), AllocError>
+    ensures ok { OnOk result
+        (out.new.items ≡ out.old.items ++ header_text (record { name = name.now; value = value.now })) }
+    ensures err { OnErr result (out.new.items ≡ out.old.items) }
+    ensures room { vec_len out.old + length (header_text (record { name = name.now; value = value.now })) ≤ vec_capacity out.old
+        → IsOk result }
+    ensures full { OnErr result
+        (vec_capacity out.old < vec_len out.old + length (header_text (record { name = name.now; value = value.now }))) }
+    ensures capacity { vec_capacity out.old ≤ vec_capacity out.new }
+{
+    append_all(out, &[name, b": ", value, b"\r\n"])
+}
+
+/// Appends the empty line behind the headers and the body, or nothing.
+///
+/// # Errors
+///
+/// Only where the growth of `out` is refused; `out` is then unchanged.
+pub fn append_end<B: Allocator>(out: &mut Vec<u8, B>, body: &[u8]) -> Result<(), AllocError>
+    ensures ok { OnOk result (out.new.items ≡ out.old.items ++ (ended [] ++ body.now)) }
+    ensures err { OnErr result (out.new.items ≡ out.old.items) }
+    ensures room { vec_len out.old + length (ended [] ++ body.now) ≤ vec_capacity out.old → IsOk result }
+    ensures full { OnErr result (vec_capacity out.old < vec_len out.old + length (ended [] ++ body.now)) }
+    ensures capacity { vec_capacity out.old ≤ vec_capacity out.new }
+{
+    append_all(out, &[b"\r\n", body])
 }
 
 fn append_start<A: Allocator, B: Allocator>(
@@ -25,55 +165,58 @@ fn append_start<A: Allocator, B: Allocator>(
     start: &Start<A>,
 ) -> Result<(), AllocError>
     requires { is_start (view_start start.now) ≡ true }
-    ensures ok { OnOk result (out.new.items ≡ out.old.items ++ start_line (view_start start.now)) }
-    ensures begins { take (vec_len out.old) out.new.items ≡ out.old.items }
+    ensures ok { OnOk result
+        (out.new.items ≡ out.old.items ++ ended (start_line (view_start start.now))) }
+    ensures err { OnErr result (out.new.items ≡ out.old.items) }
+    ensures full { OnErr result
+        (vec_capacity out.old < vec_len out.old + length (ended (start_line (view_start start.now)))) }
+    ensures capacity { vec_capacity out.old ≤ vec_capacity out.new }
 {
     match start {
-        Start::Request { method, uri } => {
-            out.extend_from_slice(method)?;
-            out.push(b' ')?;
-            out.extend_from_slice(uri)?;
-            out.extend_from_slice(b" SIP/2.0")?;
-        }
-        Start::Response { status, reason } => {
-            out.extend_from_slice(b"SIP/2.0 ")?;
-            append_status(out, *status)?;
-            out.push(b' ')?;
-            out.extend_from_slice(reason)?;
-        }
+        Start::Request { method, uri } => append_request_line(out, method, uri),
+        Start::Response { status, reason } => append_status_line(out, *status, reason),
     }
-    Ok(())
 }
 
-/// Appends a header line; `out` grows once at most.
-fn append_header<A: Allocator, B: Allocator>(
-    out: &mut Vec<u8, B>,
-    header: &Header<A>,
-) -> Result<(), AllocError>
-    ensures ok { OnOk result (out.new.items ≡ out.old.items ++ header_text (view header.now)) }
-    ensures begins { take (vec_len out.old) out.new.items ≡ out.old.items }
-{
-    let text = header.name.len().saturating_add(header.value.len());
-    out.reserve(text.saturating_add(4))?;
-    out.extend_from_slice(&header.name)?;
-    out.extend_from_slice(b": ")?;
-    out.extend_from_slice(&header.value)?;
-    out.extend_from_slice(b"\r\n")?;
-    Ok(())
-}
-
-fn append_headers<A: Allocator, B: Allocator>(
+fn append_lines<A: Allocator, B: Allocator>(
     out: &mut Vec<u8, B>,
     headers: &[Header<A>],
 ) -> Result<(), AllocError>
     ensures ok { OnOk result
         (out.new.items ≡ out.old.items ++ flat_map header_text (views headers.now)) }
     ensures begins { take (vec_len out.old) out.new.items ≡ out.old.items }
+    ensures full { OnErr result
+        (vec_capacity out.old < vec_len out.old + length (flat_map header_text (views headers.now))) }
+    ensures capacity { vec_capacity out.old ≤ vec_capacity out.new }
 {
     for header in headers {
-        append_header(out, header)?;
+        append_header(out, &header.name, &header.value)?;
     }
     Ok(())
+}
+
+/// Appends header lines with their ends in order, or nothing.
+///
+/// # Errors
+///
+/// Only where the growth of `out` is refused; `out` is then unchanged.
+pub fn append_headers<A: Allocator, B: Allocator>(
+    out: &mut Vec<u8, B>,
+    headers: &[Header<A>],
+) -> Result<(), AllocError>
+    ensures ok { OnOk result
+        (out.new.items ≡ out.old.items ++ flat_map header_text (views headers.now)) }
+    ensures err { OnErr result (out.new.items ≡ out.old.items) }
+    ensures room { vec_len out.old + length (flat_map header_text (views headers.now)) ≤ vec_capacity out.old
+        → IsOk result }
+    ensures full { OnErr result
+        (vec_capacity out.old < vec_len out.old + length (flat_map header_text (views headers.now))) }
+    ensures capacity { vec_capacity out.old ≤ vec_capacity out.new }
+{
+    out.reserve(headers_len(headers))?;
+    let before = out.len();
+    let done = append_lines(out, headers);
+    whole_or_nothing(out, before, done)
 }
 
 fn append_parts<A: Allocator, B: Allocator>(
@@ -88,16 +231,17 @@ fn append_parts<A: Allocator, B: Allocator>(
         ≡ out.old.items
         ++ spelling (record { start = view_start start.now; headers = views headers.now; body = body.now })) }
     ensures begins { take (vec_len out.old) out.new.items ≡ out.old.items }
+    ensures full { OnErr result
+        (vec_capacity out.old
+        < vec_len out.old
+        + length (spelling (record { start = view_start start.now; headers = views headers.now; body = body.now }))) }
 {
     append_start(out, start)?;
-    out.extend_from_slice(b"\r\n")?;
     append_headers(out, headers)?;
-    out.extend_from_slice(b"\r\n")?;
-    out.extend_from_slice(body)?;
-    Ok(())
+    append_end(out, body)
 }
 
-/// Appends a message of these parts, or nothing.
+/// Appends a message of these parts, or nothing; `out` grows once at most.
 pub fn append_message<A: Allocator, B: Allocator>(
     out: &mut Vec<u8, B>,
     start: &Start<A>,
@@ -110,11 +254,64 @@ pub fn append_message<A: Allocator, B: Allocator>(
         ≡ out.old.items
         ++ spelling (record { start = view_start start.now; headers = views headers.now; body = body.now })) }
     ensures err { OnErr result (out.new.items ≡ out.old.items) }
+    ensures full { OnErr result
+        (vec_capacity out.old
+        < vec_len out.old
+        + length (spelling (record { start = view_start start.now; headers = views headers.now; body = body.now }))) }
 {
+    out.reserve(message_len(start, headers, body))?;
     let before = out.len();
     let done = append_parts(out, start, headers, body);
-    if done.is_err() {
-        out.truncate(before);
+    whole_or_nothing(out, before, done)
+}
+
+/// How many bytes a request line is with its end.
+pub fn request_line_len(method: &[u8], uri: &[u8]) -> usize
+    ensures { result ≡ saturated (length (ended (start_line (Request method.now uri.now)))) }
+{
+    len_of(&[method, b" ", uri, b" SIP/2.0\r\n"])
+}
+
+/// How many bytes a status line with this reason is with its end.
+pub fn status_line_len(reason: &[u8]) -> usize
+    ensures { (status : ℕ) → result ≡ saturated (length (ended (start_line (Response status reason.now)))) }
+{
+    len_of(&[b"SIP/2.0 200 ", reason, b"\r\n"])
+}
+
+/// How many bytes a header line is with its end.
+pub fn header_len(name: &[u8], value: &[u8]) -> usize
+    ensures { result ≡ saturated (length (header_text (record { name = name.now; value = value.now }))) }
+{
+    len_of(&[name, b": ", value, b"\r\n"])
+}
+
+/// How many bytes header lines are with their ends.
+pub fn headers_len<A: Allocator>(headers: &[Header<A>]) -> usize
+    ensures { result ≡ saturated (length (flat_map header_text (views headers.now))) }
+{
+    let mut len = 0usize;
+    for header in headers {
+        len = len.saturating_add(header_len(&header.name, &header.value));
     }
-    done
+    len
+}
+
+fn start_len<A: Allocator>(start: &Start<A>) -> usize
+    ensures { result ≡ saturated (length (ended (start_line (view_start start.now)))) }
+{
+    match start {
+        Start::Request { method, uri } => request_line_len(method, uri),
+        Start::Response { reason, .. } => status_line_len(reason),
+    }
+}
+
+/// How many bytes a message of these parts is.
+pub fn message_len<A: Allocator>(start: &Start<A>, headers: &[Header<A>], body: &[u8]) -> usize
+    ensures { result
+        ≡ saturated (length (spelling (record { start = view_start start.now; headers = views headers.now; body = body.now }))) }
+{
+    start_len(start)
+        .saturating_add(headers_len(headers))
+        .saturating_add(len_of(&[b"\r\n", body]))
 }

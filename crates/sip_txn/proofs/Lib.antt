@@ -6,3 +6,4 @@ pub mod InviteClientTable
 pub mod OtherClientTable
 pub mod InviteServerTable
 pub mod OtherServerTable
+pub mod DueTicks

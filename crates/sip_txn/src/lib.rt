@@ -5,6 +5,7 @@
 mod event;
 mod invite_client;
 mod invite_server;
+mod laws;
 mod machine;
 mod other_client;
 mod other_server;
@@ -13,6 +14,7 @@ mod timers;
 pub use event::{TxEvent, TxOut, TxPass, TxSend};
 pub use invite_client::{InviteClient, InviteClientState};
 pub use invite_server::{InviteServer, InviteServerState};
+pub use laws::acts_when_due;
 pub use other_client::{OtherClient, OtherClientState};
 pub use other_server::{OtherServer, OtherServerState};
 pub use timers::{T1, T1_TIMES_64, T2, T4, TIMER_D};

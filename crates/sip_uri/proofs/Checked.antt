@@ -1,5 +1,5 @@
 -- Reading in one go gives what reading by the order of faults gives.
-use Rattle.std.proofs.Common.{◌≡◌, ℕ, ◌≤◌, Bool, true, false, not, cond, eqb, leb, ltb, List, [], ◌∷◌, length, map, take, drop, Option, Some, None, Result, Err, refl, sym, ap, subst, ◌∙◌, inl, inr, arith}
+use Rattle.std.proofs.Common.{◌≡◌, ℕ, ◌≤◌, Bool, true, false, not, cond, eqb, leb, ltb, List, [], ◌∷◌, length, map, take, drop, Option, Some, None, Ok, Err, refl, sym, ap, subst, ◌∙◌, inl, inr, arith}
 use Rattle.std.specs.Prelude.{◌||◌, ◌&&◌}
 use Rattle.std.specs.Char.{is_ascii_alphanumeric, is_ascii_digit, is_ascii_hexdigit, to_ascii_lowercase}
 use Rattle.std.specs.Int.{is_in_range}
@@ -9,18 +9,17 @@ use Rattle.sip_lex.specs.Cut.{behind}
 use Rattle.sip_lex.specs.Pieces.{pieces_behind}
 use Rattle.sip_lex.proofs.Splits.{pieces_behind_join}
 use Rattle.sip_uri.specs.declared.fault.UriFault.{UriFault}
-use Rattle.sip_uri.specs.declared.fault.UriFault.TheVariants.{BadHost, BadPort, BadText}
+use Rattle.sip_uri.specs.declared.fault.UriFault.TheVariants.{NotSip, BadHost, BadPort, BadText}
 use Rattle.sip_uri.specs.Checked.{are_bytes_if_any, are_params_if_any, are_texts, checked_uri, is_user_if_any, named_fault, part_fault}
-use Rattle.sip_uri.specs.Fault.{Gives}
 use Rattle.sip_uri.specs.Grammar.{is_uri_byte}
 use Rattle.sip_uri.specs.Host.{IsHost, is_address_byte, is_host, is_host_byte}
 use Rattle.sip_uri.specs.Kept.{IsKept}
 use Rattle.sip_uri.specs.Key.{parts_key}
 use Rattle.sip_uri.specs.Reading.{Parts, fault_of, is_full, is_param, is_port_if_any, is_sip, or_fault, parts_of, read_uri, uri_of}
 use Rattle.sip_uri.specs.Uri.{Uri, params_text, user_text}
-use Rattle.sip_uri.proofs.Found.{passes, port_is, spelled}
+use Rattle.sip_uri.proofs.Found.{passes, port_is, read_parts, spelled}
 use Rattle.sip_uri.proofs.Hosts.{is_host-IsHost, other_than}
-use Rattle.sip_uri.proofs.Readings.{kept, scheme_is}
+use Rattle.sip_uri.proofs.Readings.{long_enough, scheme_is}
 use Rattle.sip_uri.proofs.Requests.{AreBytes, parts, whole}
 
 -- ---- the bytes of schemes, hosts and ports stand in a URI
@@ -224,13 +223,19 @@ checked_reads text =
       | inr other ↦ cond-true _ _ _ (ap not other) ∙ sym (cond-true _ _ _ (ap not other))
     ]
 
-pub gives_read : (text : List ℕ) (r : Result Uri UriFault) → Gives (λ (u : Uri). u) r (checked_uri text) → Gives (λ (u : Uri). u) r (read_uri text)
-gives_read text r h = subst (λ (x : Result Uri UriFault). Gives (λ (u : Uri). u) r x) (checked_reads text) h
+-- a text that is no SIP URI
+pub not_sip : (text : List ℕ) → is_sip text ≡ false → read_uri text ≡ Err NotSip
+unfolding read_uri
+not_sip text other = cond-true _ _ _ (ap not other)
 
--- what is kept of a text without a fault
-pub kept_checked : (text key : List ℕ) → is_sip text ≡ true → named_fault text (part_fault (parts_of (drop 4 text))) ≡ None → key ≡ parts_key (parts_of (drop 4 text)) → IsKept text key
-kept_checked text key sip checked keyed =
-    let p = parts_of (drop 4 text) in
-    let none : cond (not (list_all is_uri_byte text)) (Some BadText) (fault_of p) ≡ None = sym (named text (part_fault p) (fault_of p) (bytes_decide text) (sound_bytes text sip)) ∙ checked in
-    let good = passes (list_all is_uri_byte text) BadText (fault_of p) none in
-    kept text key sip good.0 good.1 keyed
+abbrev fault_by_parts : List ℕ → Option UriFault
+fault_by_parts text = named_fault text (part_fault (parts_of (drop 4 text)))
+
+-- what is read of any other, by the fault of its parts
+pub read_by_parts : (text : List ℕ) (fault : Option UriFault) → is_sip text ≡ true → fault ≡ fault_by_parts text → read_uri text ≡ or_fault fault (uri_of text)
+unfolding checked_uri
+read_by_parts text fault sip e = sym (checked_reads text) ∙ cond-false _ _ _ (ap not sip) ∙ sym (ap (λ f. or_fault f (uri_of text)) e)
+
+-- what is kept of a text that is read
+pub kept_read : (text key : List ℕ) → read_uri text ≡ Ok (uri_of text) → key ≡ parts_key (parts_of (drop 4 text)) → IsKept text key
+kept_read text key read keyed = record { long = long_enough text (read_parts text (uri_of text) read).sip; read = read; keyed = keyed }

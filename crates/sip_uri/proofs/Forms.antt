@@ -1,29 +1,26 @@
 -- The form of an item, by cuts and by the whole item.
-use Rattle.std.proofs.Common.{◌≡◌, ℕ, Bool, true, false, cond, eqb, ltb, List, [], ◌∷◌, ◌++◌, length, Option, Some, None, refl, sym, ap, subst, ◌∙◌, append_assoc, inl, inr}
-use Rattle.std.specs.Prelude.{◌&&◌, OnSome}
-use Rattle.std.specs.List.{list_all, AllByRecursion}
+use Rattle.std.proofs.Common.{◌≡◌, ℕ, true, eqb, ltb, List, [], ◌∷◌, ◌++◌, length, Option, Some, None, refl, sym, ap, subst, ◌∙◌, append_assoc, inl, inr, cond, false}
+use Rattle.std.specs.Prelude.{OnSome}
+use Rattle.std.specs.List.{list_all}
 use Rattle.std.proofs.lemmas.List.{append-nil}
 use Rattle.std.proofs.lemmas.Option.{same_Some}
 use Rattle.std.proofs.lemmas.Bool.{and_parts, cases_Bool, cond-false, cond-true, eqb-true, false_from_ne_true, false≢true, or_cases}
-use Rattle.sip_lex.specs.declared.sheltered.Shelter.TheVariants.{Quotes, QuotesAndAngles}
-use Rattle.sip_lex.specs.declared.sheltered.Place.{Place}
-use Rattle.sip_lex.specs.declared.sheltered.Place.TheVariants.{Plain, Quoted, Angled}
+use Rattle.sip_lex.specs.declared.sheltered.Shelter.TheVariants.{Quotes}
+use Rattle.sip_lex.specs.declared.sheltered.Place.TheVariants.{Plain}
 use Rattle.sip_lex.specs.Bytes.{is_space, trim_end, trim_start}
 use Rattle.sip_lex.specs.Cut.{behind, cut, is, Lacks}
-use Rattle.sip_lex.specs.Sheltered.{LacksOutside, cut_outside, end_place, place_after}
-use Rattle.sip_lex.proofs.Cuts.{cut_again, cut_joins, Lacks-pass}
+use Rattle.sip_lex.specs.Sheltered.{LacksOutside, cut_outside, end_place}
+use Rattle.sip_lex.proofs.Cuts.{cut_again, cut_joins, cut_lacks, Lacks-append, Lacks-pass}
 use Rattle.sip_lex.proofs.Shelters.{cut_outside_again, cut_outside_ends, cut_outside_joins, cut_outside_lacks}
 use Rattle.sip_lex.proofs.Trims.{trim_end-passes, trim_end-whole, trim_start-none, trim_start-spaces, trim_start-whole}
-use Rattle.sip_uri.specs.Contact.{Form, bare_form, behind_brackets, bracketed_form, form_behind, form_of, is_address, is_bare, is_bare_byte}
-use Rattle.sip_uri.specs.Grammar.{is_uri_byte}
+use Rattle.sip_uri.specs.Contact.{Form, bare_form, behind_brackets, bracketed_form, form_behind, form_of, is_bare, is_bare_byte}
 use Rattle.sip_uri.specs.Items.{IsBare, IsBracketed, IsForm}
-use Rattle.sip_uri.proofs.Hosts.{other_than}
 
 abbrev Cut : Type 0
 Cut = List ℕ × Option (List ℕ)
 
-abbrev present : Form → Option Form
-present f = Some f
+abbrev absent : Option Form
+absent = None
 
 -- ---- what is found has the form
 
@@ -36,29 +33,25 @@ behind_found a (b ∷ bs) address params e =
       | inl here ↦
           let pair = same_Some (a, Some bs) (address, params) (sym (cond-true _ _ _ here) ∙ e) in
           (ap (λ (f : Form). f.0) pair, ap (λ c. c ∷ bs) (eqb-true b 59 here) ∙ ap (λ (f : Form). behind 59 f.1) pair)
-      | inr other ↦ let wrong : None ≡ Some (address, params) = sym (cond-false _ _ _ other) ∙ e in absurd cc
+      | inr other ↦ let wrong : absent ≡ Some (address, params) = sym (cond-false _ _ _ other) ∙ e in absurd cc
     ]
 
-bracketed_found : (item display inner address : List ℕ) (params : Option (List ℕ)) (c : Cut) → item ≡ display ++ 60 ∷ inner → LacksOutside Quotes 60 Plain display → end_place Quotes Plain display ≡ Plain → inner ≡ c.0 ++ behind 62 c.1 → bracketed_form c ≡ Some (address, params) → IsBracketed item address params
-bracketed_found item display inner address params (a, None) whole first outside join e = absurd cc
-bracketed_found item display inner address params (a, Some rest) whole first outside join e =
+bracketed_found : (item display inner address : List ℕ) (params : Option (List ℕ)) (c : Cut) → item ≡ display ++ 60 ∷ inner → LacksOutside Quotes 60 Plain display → end_place Quotes Plain display ≡ Plain → inner ≡ c.0 ++ behind 62 c.1 → Lacks 62 c.0 → bracketed_form c ≡ Some (address, params) → IsBracketed item address params
+bracketed_found item display inner address params (a, None) whole first outside join ends e = absurd cc
+bracketed_found item display inner address params (a, Some rest) whole first outside join ends e =
     let t = trim_start-whole rest in
-    elim (cases_Bool (is_address a)) [
-      | inl good ↦
-          let b = behind_found a (trim_start rest) address params (sym (cond-true _ _ _ good) ∙ e) in
-          let after = t.gap ++ behind 59 params in
-          let tail : rest ≡ after = t.whole ∙ ap (λ (x : List ℕ). t.gap ++ x) b.1 in
-          record {
-            display = display;
-            gap = t.gap;
-            spelled = whole ∙ ap (λ (x : List ℕ). display ++ 60 ∷ x) (join ∙ ap (λ (x : List ℕ). a ++ 62 ∷ x) tail ∙ ap (λ (x : List ℕ). x ++ 62 ∷ after) b.0);
-            first = first;
-            outside = outside;
-            written = subst (λ (x : List ℕ). is_address x ≡ true) b.0 good;
-            spaces = t.spaces;
-          }
-      | inr other ↦ let wrong : None ≡ Some (address, params) = sym (cond-false _ _ _ other) ∙ e in absurd cc
-    ]
+    let b = behind_found a (trim_start rest) address params e in
+    let after = t.gap ++ behind 59 params in
+    let tail : rest ≡ after = t.whole ∙ ap (λ (x : List ℕ). t.gap ++ x) b.1 in
+    record {
+      display = display;
+      gap = t.gap;
+      spelled = whole ∙ ap (λ (x : List ℕ). display ++ 60 ∷ x) (join ∙ ap (λ (x : List ℕ). a ++ 62 ∷ x) tail ∙ ap (λ (x : List ℕ). x ++ 62 ∷ after) b.0);
+      first = first;
+      outside = outside;
+      ends = subst (λ (x : List ℕ). Lacks 62 x) b.0 ends;
+      spaces = t.spaces;
+    }
 
 bare_found : (item address : List ℕ) (params : Option (List ℕ)) (c : Cut) → item ≡ c.0 ++ behind 59 c.1 → LacksOutside Quotes 60 Plain item → bare_form c ≡ Some (address, params) → IsBare item address params
 bare_found item address params (front, after) join none e =
@@ -73,15 +66,15 @@ bare_found item address params (front, after) join none e =
             written = subst (λ (f : Form). is_bare f.0 ≡ true) pair good;
             spaces = t.spaces;
           }
-      | inr other ↦ let wrong : None ≡ Some (address, params) = sym (cond-false _ _ _ other) ∙ e in absurd cc
+      | inr other ↦ let wrong : absent ≡ Some (address, params) = sym (cond-false _ _ _ other) ∙ e in absurd cc
     ]
 
 of_cut : (item address : List ℕ) (params : Option (List ℕ)) (c : Cut) → item ≡ c.0 ++ behind 60 c.1 → LacksOutside Quotes 60 Plain c.0 → OnSome c.1 (end_place Quotes Plain c.0 ≡ Plain) → form_behind item c.1 ≡ Some (address, params) → IsForm item address params
 of_cut item address params (front, None) join first outside e =
     let same : front ≡ item = sym (join ∙ append-nil front) in
-    inr (bare_found item address params (cut_outside QuotesAndAngles 59 Plain item) (cut_outside_joins QuotesAndAngles 59 Plain item) (subst (λ (x : List ℕ). LacksOutside Quotes 60 Plain x) same first) e)
+    inr (bare_found item address params (cut (is 59) item) (cut_joins 59 item) (subst (λ (x : List ℕ). LacksOutside Quotes 60 Plain x) same first) e)
 of_cut item address params (display, Some inner) join first outside e =
-    inl (bracketed_found item display inner address params (cut (is 62) inner) join first outside (cut_joins 62 inner) e)
+    inl (bracketed_found item display inner address params (cut (is 62) inner) join first outside (cut_joins 62 inner) (cut_lacks 62 inner) e)
 
 pub form_found : (item address : List ℕ) (params : Option (List ℕ)) → form_of item ≡ Some (address, params) → IsForm item address params
 form_found item address params e =
@@ -102,46 +95,10 @@ bracketed_again item address params h =
     let rest = h.gap ++ behind 59 params in
     let inner = address ++ 62 ∷ rest in
     let front : cut_outside Quotes 60 Plain item ≡ (h.display, Some inner) = ap (cut_outside Quotes 60 Plain) h.spelled ∙ cut_outside_again Quotes 60 Plain h.display (Some inner) h.first h.outside in
-    let lacks : Lacks 62 address = Lacks-pass is_uri_byte 62 address refl (and_parts (ltb 0 (length address)) (list_all is_uri_byte address) h.written).1 in
     ap (λ (c : Cut). form_behind item c.1) front
-    ∙ ap bracketed_form (cut_again 62 address (Some rest) lacks)
-    ∙ cond-true (is_address address) (behind_brackets address (trim_start rest)) None h.written
+    ∙ ap bracketed_form (cut_again 62 address (Some rest) h.ends)
     ∙ ap (behind_brackets address) (trim_start-spaces h.gap (behind 59 params) h.spaces ∙ start_behind params)
     ∙ behind_again address params
-
--- bytes that open nothing and separate nothing
-record IsCalm (b : ℕ) : Type 0 where
-  quote : eqb b 34 ≡ false
-  angle : eqb b 60 ≡ false
-  mark : eqb b 59 ≡ false
-
-calm_by : (p : ℕ → Bool) (b : ℕ) → p 34 ≡ false → p 60 ≡ false → p 59 ≡ false → p b ≡ true → IsCalm b
-calm_by p b q a m h = record { quote = other_than p b 34 q h; angle = other_than p b 60 a h; mark = other_than p b 59 m h }
-
-all_calm : (p : ℕ → Bool) (bs : List ℕ) → p 34 ≡ false → p 60 ≡ false → p 59 ≡ false → list_all p bs ≡ true → AllByRecursion IsCalm bs
-all_calm p [] q a m h = tt
-all_calm p (b ∷ bs) q a m h =
-    let both = and_parts (p b) (list_all p bs) h in
-    (calm_by p b q a m both.0, all_calm p bs q a m both.1)
-
-calm_append : (xs ys : List ℕ) → AllByRecursion IsCalm xs → AllByRecursion IsCalm ys → AllByRecursion IsCalm (xs ++ ys)
-calm_append [] ys h k = k
-calm_append (x ∷ xs) ys h k = (h.0, calm_append xs ys h.1 k)
-
-stays_plain : (b : ℕ) → IsCalm b → place_after QuotesAndAngles Plain b ≡ Plain
-stays_plain b h = cond-false (eqb b 34) Quoted (cond (eqb b 60 && true) Angled Plain) h.quote ∙ cond-false (eqb b 60 && true) Angled Plain (ap (λ t. t && true) h.angle)
-
-calm_lacks : (bs : List ℕ) → AllByRecursion IsCalm bs → LacksOutside QuotesAndAngles 59 Plain bs
-calm_lacks [] h = tt
-calm_lacks (b ∷ bs) h = (h.0.mark, subst (λ (p : Place). LacksOutside QuotesAndAngles 59 p bs) (sym (stays_plain b h.0)) (calm_lacks bs h.1))
-
-calm_ends : (bs : List ℕ) → AllByRecursion IsCalm bs → end_place QuotesAndAngles Plain bs ≡ Plain
-calm_ends [] h = refl
-calm_ends (b ∷ bs) h = ap (λ (p : Place). end_place QuotesAndAngles p bs) (stays_plain b h.0) ∙ calm_ends bs h.1
-
-on_some : (o : Option (List ℕ)) (P : Type 0) → P → OnSome o P
-on_some None P h = tt
-on_some (Some x) P h = h
 
 bare_space : (b : ℕ) → is_bare_byte b ≡ true → is_space b ≡ false
 bare_space b h =
@@ -159,10 +116,9 @@ bare_again item address params h =
     let bytes = (and_parts (ltb 0 (length address)) (list_all is_bare_byte address) h.written).1 in
     let none : cut_outside Quotes 60 Plain item ≡ (item, None) = ap (cut_outside Quotes 60 Plain) (sym (append-nil item)) ∙ cut_outside_again Quotes 60 Plain item None h.no_bracket tt in
     let whole : item ≡ front ++ behind 59 params = h.spelled ∙ sym (append_assoc address h.gap (behind 59 params)) in
-    let calm = calm_append address h.gap (all_calm is_bare_byte address refl refl refl bytes) (all_calm is_space h.gap refl refl refl h.spaces) in
-    let parts : cut_outside QuotesAndAngles 59 Plain item ≡ (front, params) = ap (cut_outside QuotesAndAngles 59 Plain) whole ∙ cut_outside_again QuotesAndAngles 59 Plain front params (calm_lacks front calm) (on_some params _ (calm_ends front calm)) in
+    let lacks = Lacks-append 59 address h.gap (Lacks-pass is_bare_byte 59 address refl bytes) (Lacks-pass is_space 59 h.gap refl h.spaces) in
     ap (λ (c : Cut). form_behind item c.1) none
-    ∙ ap bare_form parts
+    ∙ ap bare_form (ap (cut (is 59)) whole ∙ cut_again 59 front params lacks)
     ∙ ap (bare_at params) (trim_end-passes is_bare_byte bare_space address h.gap bytes h.spaces)
     ∙ cond-true (is_bare address) (Some (address, params)) None h.written
 

@@ -257,3 +257,7 @@ is_found text (Err f) h = tt
 -- the port of a URI that is kept is one
 pub kept_port : (text key : List ℕ) → IsKept text key → is_port_if_any (parts_of (drop 4 text)).port ≡ true
 kept_port text key k = (are_good (parts_of (drop 4 text)) (read_parts text (uri_of text) k.read).parts).port
+
+-- and so is that of a URI that is read
+pub read_port_good : (text : List ℕ) (p : Parts) → p ≡ parts_of (drop 4 text) → read_uri text ≡ Ok (uri_of text) → is_port_if_any p.port ≡ true
+read_port_good text p same e = ap (λ (q : Parts). is_port_if_any q.port) same ∙ (are_good (parts_of (drop 4 text)) (read_parts text (uri_of text) e).parts).port

@@ -3,6 +3,7 @@ pub mod Contacts
 pub mod Forms
 pub mod Found
 pub mod Hosts
+pub mod Items
 pub mod Keys
 pub mod Listed
 pub mod Only
@@ -10,4 +11,5 @@ pub mod Params
 pub mod Readings
 pub mod Requests
 pub mod Sorted
+pub mod Values
 pub mod Written

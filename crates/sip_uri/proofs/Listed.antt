@@ -1,21 +1,22 @@
 -- The items of a value are contacts, and are what stands between its commas.
-use Rattle.std.proofs.Common.{◌≡◌, ℕ, false, List, [], ◌∷◌, map, Option, Some, None, Result, Ok, Err, refl, sym, ap, subst, ◌∙◌, inl, inr}
+use Rattle.std.proofs.Common.{◌≡◌, ℕ, true, false, List, [], ◌∷◌, map, Option, Some, None, Result, Ok, Err, refl, sym, ap, subst, ◌∙◌, inl, inr}
 use Rattle.std.specs.Prelude.{◌&&◌, IfOk}
 use Rattle.std.specs.List.{list_all, AllByRecursion}
-use Rattle.std.proofs.lemmas.Bool.{cases_Bool, cond_both, cond-false, cond-true}
+use Rattle.std.proofs.lemmas.Bool.{and_parts, cases_Bool, cond_both, cond-false, cond-true}
 use Rattle.std.proofs.lemmas.Option.{same_Some}
 use Rattle.sip_lex.specs.declared.sheltered.Shelter.TheVariants.{QuotesAndAngles}
-use Rattle.sip_lex.specs.declared.sheltered.Place.TheVariants.{Plain}
-use Rattle.sip_lex.specs.Outside.{pieces_outside}
 use Rattle.sip_lex.specs.Sheltered.{is_closed}
-use Rattle.sip_lex.proofs.OutsideSplits.{pieces_from_join, pieces_outside_lack}
 use Rattle.sip_uri.specs.declared.fault.UriFault.{UriFault}
 use Rattle.sip_uri.specs.declared.fault.UriFault.TheVariants.{BadText}
 use Rattle.sip_uri.specs.Contact.{ContactText, Form, are_items, contact_of, contact_of_form, contact_params, contacts_of, form_of, is_contact_param, items_behind, q_of, takeable}
 use Rattle.sip_uri.specs.Fault.{Gives}
-use Rattle.sip_uri.specs.Items.{AreItems, IsContact, texts}
+use Rattle.sip_uri.specs.Items.{AreItems, IsContact, IsFormless, texts}
 use Rattle.sip_uri.specs.Reading.{read_uri}
+use Rattle.sip_uri.specs.Uri.{Uri}
+use Rattle.sip_uri.specs.Values.{is_line, is_value}
 use Rattle.sip_uri.proofs.Forms.{form_again, form_found}
+use Rattle.sip_uri.proofs.Items.{items_again, items_are, items_pass}
+use Rattle.sip_uri.proofs.Values.{items_values}
 
 text_of_form : (item : List ℕ) (form : Option Form) → (contact_of_form item form).text ≡ item
 text_of_form item None = refl
@@ -48,29 +49,75 @@ pub all_contacts : (items : List (List ℕ)) → AllByRecursion IsContact (map c
 all_contacts [] = tt
 all_contacts (item ∷ items) = (contact_by_form item (form_of item) refl, all_contacts items)
 
-pub items_are : (value : List ℕ) → AreItems value (items_behind (Some value))
-items_are value = record { pieces = pieces_outside QuotesAndAngles 44 value; spelled = sym (pieces_from_join QuotesAndAngles 44 Plain value); apart = pieces_outside_lack QuotesAndAngles 44 value; trimmed = refl }
-
 abbrev done : List ContactText → Result (List ContactText) UriFault
 done cs = Ok cs
 
 done_is : (a b : List ContactText) → done a ≡ done b → a ≡ b
 done_is a b e = cc
 
-contacts_are : (value : List ℕ) (contacts : List ContactText) → contacts_of value ≡ Ok contacts → contacts ≡ map contact_of (items_behind (Some value))
+record IsListed (value : List ℕ) (contacts : List ContactText) : Type 0 where
+  closed : is_closed QuotesAndAngles value ≡ true
+  full : are_items (items_behind (Some value)) ≡ true
+  contacts_are : contacts ≡ map contact_of (items_behind (Some value))
+
+listed : (value : List ℕ) (contacts : List ContactText) → contacts_of value ≡ Ok contacts → IsListed value contacts
 unfolding contacts_of
-contacts_are value contacts e =
-    let good = is_closed QuotesAndAngles value && are_items (items_behind (Some value)) in
-    elim (cases_Bool good) [
-      | inl here ↦ sym (done_is (map contact_of (items_behind (Some value))) contacts (sym (cond-true _ _ _ here) ∙ e))
+listed value contacts e =
+    elim (cases_Bool (is_closed QuotesAndAngles value && are_items (items_behind (Some value)))) [
+      | inl here ↦
+          let both = and_parts (is_closed QuotesAndAngles value) (are_items (items_behind (Some value))) here in
+          record { closed = both.0; full = both.1; contacts_are = sym (done_is (map contact_of (items_behind (Some value))) contacts (sym (cond-true _ _ _ here) ∙ e)) }
       | inr other ↦ let wrong : Err BadText ≡ done contacts = sym (cond-false _ _ _ other) ∙ e in absurd cc
     ]
 
+texts_are : (value : List ℕ) (contacts : List ContactText) → IsListed value contacts → texts contacts ≡ items_behind (Some value)
+texts_are value contacts h = ap texts h.contacts_are ∙ texts_of (items_behind (Some value))
+
+-- ---- what is a contact is read so
+
+abbrev made : List ℕ → ℕ → Option Uri → ContactText
+made text q uri = record { text = text; q = q; uri = uri }
+
+same_contact : (c : ContactText) (q : ℕ) (uri : Option Uri) → c.q ≡ q → c.uri ≡ uri → c ≡ made c.text q uri
+same_contact c q uri e f = ap (λ n. made c.text n c.uri) e ∙ ap (made c.text q) f
+
+formless_at : (c : ContactText) (form : Option Form) → IsFormless c → form_of c.text ≡ form → c ≡ contact_of_form c.text form
+formless_at c None h e = same_contact c 1000 None h.q h.uri
+formless_at c (Some form) h e =
+    same_contact c 1000 None h.q h.uri ∙ sym (cond-false _ _ _ (h.unnamed form.0 form.1 (form_found c.text form.0 form.1 e)))
+
+contact_again : (c : ContactText) → IsContact c → c ≡ contact_of c.text
+contact_again c (inl h) =
+    same_contact c (q_of (contact_params h.params)) (takeable (read_uri h.address)) h.q h.uri
+    ∙ sym (ap (contact_of_form c.text) (form_again c.text h.address h.params h.form) ∙ cond-true _ _ _ h.named)
+contact_again c (inr h) = formless_at c (form_of c.text) h refl
+
+contacts_again : (cs : List ContactText) → AllByRecursion IsContact cs → map contact_of (texts cs) ≡ cs
+contacts_again [] h = refl
+contacts_again (c ∷ cs) h =
+    ap (λ (x : ContactText). x ∷ map contact_of (texts cs)) (sym (contact_again c h.0)) ∙ ap (λ (xs : List ContactText). c ∷ xs) (contacts_again cs h.1)
+
+list_again : (value : List ℕ) (cs : List ContactText) → AreItems value (texts cs) → AllByRecursion IsContact cs → contacts_of value ≡ Ok cs
+unfolding contacts_of
+list_again value cs items contacts =
+    cond-true _ _ _ (items_pass value (texts cs) items) ∙ ap (λ (xs : List (List ℕ)). done (map contact_of xs)) (items_again value (texts cs) items) ∙ ap done (contacts_again cs contacts)
+
+-- ---- the clauses of what was read
+
 module _ {X : Type 0} where
   pub items_found : (view : X → List ContactText) (value : List ℕ) (r : Result X UriFault) → Gives view r (contacts_of value) → IfOk r (λ x. AreItems value (texts (view x)))
-  items_found view value (Ok x) h = subst (λ (items : List (List ℕ)). AreItems value items) (sym (ap texts (contacts_are value (view x) h) ∙ texts_of (items_behind (Some value)))) (items_are value)
+  items_found view value (Ok x) h =
+      let l = listed value (view x) h in
+      subst (λ (items : List (List ℕ)). AreItems value items) (sym (texts_are value (view x) l)) (items_are value l.closed l.full)
   items_found view value (Err f) h = tt
 
   pub contacts_found : (view : X → List ContactText) (value : List ℕ) (r : Result X UriFault) → Gives view r (contacts_of value) → IfOk r (λ x. AllByRecursion IsContact (view x))
-  contacts_found view value (Ok x) h = subst (λ (cs : List ContactText). AllByRecursion IsContact cs) (sym (contacts_are value (view x) h)) (all_contacts (items_behind (Some value)))
+  contacts_found view value (Ok x) h = subst (λ (cs : List ContactText). AllByRecursion IsContact cs) (sym (listed value (view x) h).contacts_are) (all_contacts (items_behind (Some value)))
   contacts_found view value (Err f) h = tt
+
+  pub values_found : (view : X → List ContactText) (value : List ℕ) (r : Result X UriFault) → Gives view r (contacts_of value) → is_line value ≡ true → IfOk r (λ x. list_all is_value (texts (view x)) ≡ true)
+  values_found view value (Ok x) h line = ap (list_all is_value) (texts_are value (view x) (listed value (view x) h)) ∙ items_values value line
+  values_found view value (Err f) h line = tt
+
+  pub only_contacts : (view : X → List ContactText) (value : List ℕ) (r : Result X UriFault) → Gives view r (contacts_of value) → (cs : List ContactText) → AreItems value (texts cs) → AllByRecursion IsContact cs → Gives view r (Ok cs)
+  only_contacts view value r h cs items contacts = subst (λ (x : Result (List ContactText) UriFault). Gives view r x) (list_again value cs items contacts) h

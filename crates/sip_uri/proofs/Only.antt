@@ -1,6 +1,6 @@
 -- What is a URI is read.
-use Rattle.std.proofs.Common.{◌≡◌, ◌≢◌, ℕ, ◌+◌, Bool, true, false, not, eqb, ltb, List, [], ◌∷◌, ◌++◌, length, map, take, drop, Option, Some, None, Result, Ok, refl, sym, ap, subst, ◌∙◌, append_assoc, inl, inr, arith}
-use Rattle.std.specs.Prelude.{IfSome, IfNone, ◌||◌, ◌&&◌, codes}
+use Rattle.std.proofs.Common.{◌≡◌, ◌≢◌, ℕ, ◌+◌, Bool, true, false, not, eqb, ltb, List, [], ◌∷◌, ◌++◌, length, map, take, drop, Option, Some, None, Result, Ok, Err, refl, sym, ap, subst, ◌∙◌, append_assoc, inl, inr, arith}
+use Rattle.std.specs.Prelude.{◌↔◌, IfSome, IfNone, ◌||◌, ◌&&◌, codes}
 use Rattle.std.specs.Char.{to_ascii_lowercase, is_ascii_digit}
 use Rattle.std.specs.List.{list_all, AllByRecursion}
 use Rattle.std.specs.Str.{bytes_eq}
@@ -12,11 +12,13 @@ use Rattle.sip_lex.specs.Pieces.{pieces_behind}
 use Rattle.sip_lex.proofs.Cuts.{cut_again, Lacks-append, Lacks-pass}
 use Rattle.sip_lex.proofs.Splits.{joined, joined-behind, pieces_again}
 use Rattle.sip_uri.specs.declared.fault.UriFault.{UriFault}
-use Rattle.sip_uri.specs.Fault.{Gives}
-use Rattle.sip_uri.specs.Grammar.{IsParam, IsUri}
+use Rattle.sip_uri.specs.Fault.{Gives, fault_if_refused}
+use Rattle.sip_uri.specs.Grammar.{IsParam, IsUri, IsUriText}
+use Rattle.sip_uri.specs.Hop.{hop_if_read, hop_of}
 use Rattle.sip_uri.specs.Host.{IsHost, IsPort, ends_host, host_len, is_address_byte, is_host, is_host_byte}
 use Rattle.sip_uri.specs.Reading.{Parts, fault_of, is_full, is_param, is_port_if_any, is_sip, parts_of, port_and_params, read_uri, uri_of, user_of}
 use Rattle.sip_uri.specs.Uri.{Uri, params_text, rest_text, spelling, user_text}
+use Rattle.sip_uri.proofs.Found.{found}
 use Rattle.sip_uri.proofs.Hosts.{IsHost-is_host, full-ltb}
 use Rattle.sip_uri.proofs.Readings.{read_ok}
 
@@ -199,3 +201,21 @@ read_again u h =
 
 pub only_read : (text : List ℕ) (r : Result Uri UriFault) → Gives (λ (v : Uri). v) r (read_uri text) → (u : Uri) → IsUri u → text ≡ spelling u → Gives (λ (v : Uri). v) r (Ok u)
 only_read text r h u good spelled = subst (λ (x : Result Uri UriFault). Gives (λ (v : Uri). v) r x) (ap read_uri spelled ∙ read_again u good) h
+
+-- where a request to the URI that a text spells is sent
+pub hop_only : (text : List ℕ) (u : Uri) → IsUri u → text ≡ spelling u → hop_if_read (read_uri text) ≡ hop_of u
+hop_only text u good spelled = ap hop_if_read (ap read_uri spelled ∙ read_again u good)
+
+of_reading : (text : List ℕ) (r : Result Uri UriFault) → read_uri text ≡ r → fault_if_refused r ≡ None → IsUriText text
+of_reading text (Ok u) e h = let both = found text u e in (u, both.0, both.1)
+of_reading text (Err f) e h = absurd cc
+
+abbrev fault_at : List ℕ → Option UriFault
+fault_at text = fault_if_refused (read_uri text)
+
+-- no fault is named exactly of a URI
+pub no_fault_exactly : (text : List ℕ) (fault : Option UriFault) → fault ≡ fault_if_refused (read_uri text) → (fault ≡ None) ↔ IsUriText text
+no_fault_exactly text fault e = (
+  λ none. of_reading text (read_uri text) refl (sym e ∙ none),
+  λ h. e ∙ ap fault_at h.2 ∙ ap (λ (r : Result Uri UriFault). fault_if_refused r) (read_again h.0 h.1),
+)

@@ -1,4 +1,4 @@
--- What a URI keeps once its text was read.
+-- The tests that a text passes which is read.
 use Rattle.std.proofs.Common.{◌≡◌, ℕ, ◌≤◌, true, not, List, length, map, take, drop, None, Ok, sym, ap, ◌∙◌, arith, length-take}
 use Rattle.std.specs.List.{list_all}
 use Rattle.std.specs.Cmp.Lexicographic.{same_text}
@@ -7,8 +7,6 @@ use Rattle.std.proofs.lemmas.Bool.{cond-false}
 use Rattle.std.specs.Prelude.{codes}
 use Rattle.std.specs.Char.{to_ascii_lowercase}
 use Rattle.sip_uri.specs.Grammar.{is_uri_byte}
-use Rattle.sip_uri.specs.Kept.{IsKept}
-use Rattle.sip_uri.specs.Key.{parts_key}
 use Rattle.sip_uri.specs.Reading.{fault_of, is_sip, or_fault, parts_of, read_uri, uri_of}
 
 -- the scheme of a text that passes
@@ -22,6 +20,3 @@ pub read_ok : (text : List ℕ) → is_sip text ≡ true → list_all is_uri_byt
 unfolding read_uri
 read_ok text sip bytes parts =
     cond-false _ _ _ (ap not sip) ∙ cond-false _ _ _ (ap not bytes) ∙ ap (λ f. or_fault f (uri_of text)) parts
-
-pub kept : (text key : List ℕ) → is_sip text ≡ true → list_all is_uri_byte text ≡ true → fault_of (parts_of (drop 4 text)) ≡ None → key ≡ parts_key (parts_of (drop 4 text)) → IsKept text key
-kept text key sip bytes parts keyed = record { long = long_enough text sip; read = read_ok text sip bytes parts; keyed = keyed }

@@ -1,6 +1,6 @@
 -- Parameters appended one by one, and what a growing text begins with.
-use Rattle.std.proofs.Common.{◌≡◌, ℕ, ◌≤◌, true, false, cond, not, List, [], ◌∷◌, ◌++◌, length, take, Option, refl, sym, ap, ◌∙◌, append_assoc, arith, length-take}
-use Rattle.std.proofs.lemmas.List.{append-nil, take-append-le}
+use Rattle.std.proofs.Common.{◌≡◌, ℕ, ◌+◌, ◌≤◌, true, false, cond, not, List, [], ◌∷◌, ◌++◌, length, take, Option, refl, sym, ap, ◌∙◌, append_assoc, arith, length-take}
+use Rattle.std.proofs.lemmas.List.{append-nil, length-append, take-append-le}
 use Rattle.sip_lex.specs.Cut.{cut, is}
 use Rattle.sip_lex.specs.Pieces.{pieces, pieces_behind}
 use Rattle.sip_lex.proofs.Splits.{pieces-cut}
@@ -24,6 +24,13 @@ pub next_text : (old mid all text param : List ℕ) (after : Option (List ℕ)) 
 next_text old mid all text param after e added h =
     let rest = kept_text (pieces_behind 59 after) in
     ap (λ (x : List ℕ). x ++ rest) added ∙ append_assoc old (kept_text (param ∷ [])) rest ∙ ap (λ (x : List ℕ). old ++ x) (sym (kept_text-cons param (pieces_behind 59 after))) ∙ ap (λ (c : Cut). old ++ kept_text (c.0 ∷ pieces_behind 59 c.1)) e ∙ sym (ap (λ (ps : List (List ℕ)). old ++ kept_text ps) (pieces-cut 59 text)) ∙ h
+
+-- and what it adds is no longer than what is still to come
+pub next_fits : (old all text param : List ℕ) (after : Option (List ℕ)) → (param, after) ≡ cut (is 59) text → old ++ kept_text (pieces 59 text) ≡ all → length old + length (kept_text (param ∷ [])) ≤ length all
+next_fits old all text param after e h =
+    let mid = old ++ kept_text (param ∷ []) in
+    let rest = kept_text (pieces_behind 59 after) in
+    omega (arith, ap length (next_text old mid all text param after e refl h), length-append mid rest, length-append old (kept_text (param ∷ [])))
 
 -- a text that grew still begins so
 pub begins_still : (n : ℕ) (old mid new more : List ℕ) → length old ≡ n → take n mid ≡ old → new ≡ mid ++ more → take n new ≡ old

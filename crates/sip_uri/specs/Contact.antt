@@ -5,13 +5,12 @@ use Rattle.std.specs.List.{list_all}
 use Rattle.std.specs.Str.{bytes_eq, str_to_ascii_lowercase}
 use Rattle.sip_lex.specs.declared.sheltered.Shelter.TheVariants.{Quotes, QuotesAndAngles}
 use Rattle.sip_lex.specs.declared.sheltered.Place.TheVariants.{Plain}
-use Rattle.sip_lex.specs.Bytes.{trim, trim_end, trim_start}
+use Rattle.sip_lex.specs.Bytes.{is_space, trim, trim_end, trim_start}
 use Rattle.sip_lex.specs.Cut.{cut, is}
 use Rattle.sip_lex.specs.Outside.{pieces_outside_behind}
 use Rattle.sip_lex.specs.Sheltered.{cut_outside, is_closed}
 use Rattle.sip_uri.specs.declared.fault.UriFault.{UriFault}
 use Rattle.sip_uri.specs.declared.fault.UriFault.TheVariants.{BadText}
-use Rattle.sip_uri.specs.Grammar.{is_uri_byte}
 use Rattle.sip_uri.specs.Hop.{hop_of}
 use Rattle.sip_uri.specs.Reading.{is_full, read_uri}
 use Rattle.sip_uri.specs.Uri.{Uri}
@@ -70,7 +69,7 @@ q_of (param ∷ params) = if is_q param then q_value_if_any (value_of param) els
 abbrev pub contact_params : Option (List ℕ) → List (List ℕ)
 contact_params text = pieces_outside_behind QuotesAndAngles 59 text
 
--- ---- the address and the text of the parameters
+-- ---- the address and the text of the parameters; whether the address is a URI is not asked here
 
 abbrev pub Form : Type 0
 Form = List ℕ × Option (List ℕ)
@@ -80,27 +79,26 @@ abbrev pub behind_brackets : List ℕ → List ℕ → Option Form
 behind_brackets address [] = Some (address, None)
 behind_brackets address (b ∷ params) = if b == 59 then Some (address, Some params) else None
 
--- one or more bytes of a URI, whatever its scheme
-abbrev pub is_address : List ℕ → Bool
-is_address address = nat_lt 0 (length address) && list_all is_uri_byte address
-
+-- the first `>` ends the address, whatever that says
 abbrev pub bracketed_form : List ℕ × Option (List ℕ) → Option Form
 bracketed_form (address, None) = None
-bracketed_form (address, Some rest) = if is_address address then behind_brackets address (trim_start rest) else None
+bracketed_form (address, Some rest) = behind_brackets address (trim_start rest)
 
--- and none of them `;`, `,` or `?`
+-- neither `;`, `,`, `?` nor space
 abbrev pub is_bare_byte : ℕ → Bool
-is_bare_byte b = is_uri_byte b && not (b == 59 || b == 44 || b == 63)
+is_bare_byte b = not (b == 59 || b == 44 || b == 63 || is_space b)
 
+-- one or more of these
 abbrev pub is_bare : List ℕ → Bool
 is_bare address = nat_lt 0 (length address) && list_all is_bare_byte address
 
+-- the first `;` ends the address
 abbrev pub bare_form : List ℕ × Option (List ℕ) → Option Form
 bare_form (front, params) = if is_bare (trim_end front) then Some (trim_end front, params) else None
 
 -- a display part, `<`, the address, `>`, parameters; or the address alone, parameters
 abbrev pub form_behind : List ℕ → Option (List ℕ) → Option Form
-form_behind item None = bare_form (cut_outside QuotesAndAngles 59 Plain item)
+form_behind item None = bare_form (cut (is 59) item)
 form_behind item (Some inner) = bracketed_form (cut (is 62) inner)
 
 abbrev pub form_of : List ℕ → Option Form

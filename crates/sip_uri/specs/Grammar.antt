@@ -31,3 +31,7 @@ pub record IsUri (u : Uri) : Type 0 where
   pub host : IsHost u.host
   pub port : IfSome u.port IsPort
   pub params : AllByRecursion IsParam u.params
+
+-- the text spells a URI
+abbrev pub IsUriText : List ℕ → Type 0
+IsUriText text = (u : Uri) × IsUri u × (text ≡ spelling u)

@@ -1,7 +1,8 @@
 -- Where a request to a URI is sent (RFC 3261 section 19.1.1, over UDP and IPv4 alone).
-use Rattle.std.specs.Prelude.{ℕ, Bool, false, ◌||◌, ◌&&◌, not, List, Option, Some, None, codes, if◌then◌else◌}
+use Rattle.std.specs.Prelude.{ℕ, Bool, false, ◌||◌, ◌&&◌, not, List, Option, Some, None, Result, Ok, Err, codes, if◌then◌else◌}
 use Rattle.std.specs.List.{list_all}
 use Rattle.std.specs.Str.{bytes_eq, str_to_ascii_lowercase}
+use Rattle.sip_uri.specs.declared.fault.UriFault.{UriFault}
 use Rattle.sip_uri.specs.declared.hop.Hop.{Hop}
 use Rattle.sip_lex.specs.Cut.{cut, is}
 use Rattle.sip_lex.specs.Number.{number}
@@ -34,3 +35,8 @@ hop_of u = if list_all allows_udp u.params then hop_at (address_of u.host) (port
 -- the same of the parts of a text
 abbrev pub parts_hop : Parts → Option Hop
 parts_hop p = if list_all allows_udp (pieces_behind 59 p.params) then hop_at (address_of p.host) (port_number p.port) else None
+
+-- where a request to a URI is sent, if a text spells one
+abbrev pub hop_if_read : Result Uri UriFault → Option Hop
+hop_if_read (Ok u) = hop_of u
+hop_if_read (Err f) = None

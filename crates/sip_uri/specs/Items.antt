@@ -1,12 +1,12 @@
 -- Which texts are the items of a Contact value, and their form (RFC 3261 sections 20.10 and 25.1).
-use Rattle.std.specs.Prelude.{◌≡◌, ℕ, false, List, ◌∷◌, ◌++◌, map, Option, None, IsTrue, ◌⊎◌}
+use Rattle.std.specs.Prelude.{◌≡◌, ◌≢◌, ℕ, false, List, [], ◌∷◌, ◌++◌, map, Option, None, IsTrue, ◌⊎◌}
 use Rattle.std.specs.List.{flat_map, list_all, AllByRecursion}
 use Rattle.sip_lex.specs.declared.sheltered.Shelter.TheVariants.{Quotes, QuotesAndAngles}
 use Rattle.sip_lex.specs.declared.sheltered.Place.TheVariants.{Plain}
 use Rattle.sip_lex.specs.Bytes.{is_space, trim}
-use Rattle.sip_lex.specs.Cut.{behind}
+use Rattle.sip_lex.specs.Cut.{behind, Lacks}
 use Rattle.sip_lex.specs.Sheltered.{LacksOutside, end_place}
-use Rattle.sip_uri.specs.Contact.{ContactText, contact_params, is_address, is_bare, is_contact_param, q_of, takeable}
+use Rattle.sip_uri.specs.Contact.{ContactText, contact_params, is_bare, is_contact_param, q_of, takeable}
 use Rattle.sip_uri.specs.Reading.{read_uri}
 
 -- a display part, `<`, the address, `>`, space, and parameters behind their `;`
@@ -17,10 +17,11 @@ pub record IsBracketed (item address : List ℕ) (params : Option (List ℕ)) : 
   -- the `<` is the first outside quotes
   pub first : LacksOutside Quotes 60 Plain display
   pub outside : end_place Quotes Plain display ≡ Plain
-  pub written : IsTrue (is_address address)
+  -- the first `>` ends the address
+  pub ends : Lacks 62 address
   pub spaces : IsTrue (list_all is_space gap)
 
--- the address, space, and parameters behind their `;`
+-- the address, in which no `;`, `,`, `?` or space stands, space, and parameters behind their `;`
 pub record IsBare (item address : List ℕ) (params : Option (List ℕ)) : Type 0 where
   pub gap : List ℕ
   pub spelled : item ≡ address ++ (gap ++ behind 59 params)
@@ -49,12 +50,15 @@ pub record IsFormless (c : ContactText) : Type 0 where
 abbrev pub IsContact : ContactText → Type 0
 IsContact c = IsFormed c ⊎ IsFormless c
 
--- the value is pieces between commas outside quotes and brackets; the items are these, trimmed
+-- the value is pieces between commas outside quotes and brackets, which are closed; the items are these, trimmed, and
+-- none of them is empty
 pub record AreItems (value : List ℕ) (items : List (List ℕ)) : Type 0 where
   pub pieces : List (List ℕ)
   pub spelled : 44 ∷ value ≡ flat_map (λ piece. 44 ∷ piece) pieces
   pub apart : AllByRecursion (λ piece. LacksOutside QuotesAndAngles 44 Plain piece) pieces
+  pub closed : AllByRecursion (λ piece. end_place QuotesAndAngles Plain piece ≡ Plain) pieces
   pub trimmed : items ≡ map trim pieces
+  pub full : AllByRecursion (λ item. item ≢ []) items
 
 abbrev pub texts : List ContactText → List (List ℕ)
 texts contacts = map (λ c. c.text) contacts

@@ -12,3 +12,4 @@ pub mod Reading
 pub mod Seen
 pub mod SeenContact
 pub mod Uri
+pub mod Values

@@ -1,16 +1,17 @@
 //! The contacts of a Contact header field (RFC 3261 section 20.10).
 
-ghost use Rattle.std.specs.Prelude.{◌≡◌, ◌++◌, ◌<◌, IfOk, IfSome, Some, List, map, length};
-ghost use Rattle.std.specs.List.{AllByRecursion};
+ghost use Rattle.std.specs.Prelude.{◌≡◌, ◌<◌, IfErr, IfOk, IfSome, Ok, Some, List, map, length, true};
+ghost use Rattle.std.specs.List.{AllByRecursion, list_all};
 ghost use Rattle.sip_lex.specs.declared.sheltered.Shelter.TheVariants.{QuotesAndAngles};
 ghost use Rattle.sip_lex.specs.declared.sheltered.Place.TheVariants.{Plain};
 ghost use Rattle.sip_lex.specs.Cut.{seen_cut};
 ghost use Rattle.sip_lex.specs.Sheltered.{cut_outside};
 ghost use Rattle.sip_uri.specs.Contact.{ContactText, are_items, contact_of, contact_of_form, contacts_of, items_behind, takeable};
-ghost use Rattle.sip_uri.specs.Fault.{Gives};
+ghost use Rattle.sip_uri.specs.Fault.{Gives, refusal};
 ghost use Rattle.sip_uri.specs.Items.{AreItems, IsContact, texts};
 ghost use Rattle.sip_uri.specs.Reading.{read_uri};
 ghost use Rattle.sip_uri.specs.SeenContact.{seen_form, view_contact, view_contacts};
+ghost use Rattle.sip_uri.specs.Values.{is_line, is_value};
 
 use crate::fault::UriFault;
 use crate::form::{FULL_WEIGHT, are_contact_params, form_of, q_of};
@@ -125,7 +126,8 @@ fn contacts_of<A: Allocator + Clone>(
 
 #[tactic(auto, unfolding(crate::specs::Contact::contacts_of))]
 fn read_all<A: Allocator + Clone>(alloc: &A, value: &[u8]) -> Result<Vec<Contact<A>, A>, UriFault>
-    ensures { Gives (λ cs. view_contacts cs.items) result (contacts_of value.now) }
+    ensures read { Gives (λ cs. view_contacts cs.items) result (contacts_of value.now) }
+    ensures refused { IfErr result (λ fault. fault ≡ refusal (contacts_of value.now)) }
 {
     if !is_closed(value, Shelter::QuotesAndAngles) || !are_items(value) {
         return Err(UriFault::BadText);
@@ -146,7 +148,14 @@ pub fn read_contacts<A: Allocator + Clone>(
 ) -> Result<Vec<Contact<A>, A>, UriFault>
     ensures items { IfOk result (λ cs. AreItems value.now (texts (view_contacts cs.items))) }
     ensures contacts { IfOk result (λ cs. AllByRecursion IsContact (view_contacts cs.items)) }
+    ensures only { (contacts : List ContactText) → AreItems value.now (texts contacts)
+        → AllByRecursion IsContact contacts
+        → Gives (λ cs. view_contacts cs.items) result (Ok contacts) }
     ensures exact { Gives (λ cs. view_contacts cs.items) result (contacts_of value.now) }
+    // a fault of the value comes before want of memory
+    ensures refused { IfErr result (λ fault. fault ≡ refusal (contacts_of value.now)) }
+    ensures values { is_line value.now ≡ true
+        → IfOk result (λ cs. list_all is_value (texts (view_contacts cs.items)) ≡ true) }
 {
     read_all(&alloc, value)
 }

@@ -7,11 +7,10 @@ ghost use Rattle.sip_lex.specs.declared.sheltered.Shelter.TheVariants.{Quotes, Q
 ghost use Rattle.sip_lex.specs.declared.sheltered.Place.TheVariants.{Plain};
 ghost use Rattle.sip_lex.specs.Cut.{cut, is, seen_cut};
 ghost use Rattle.sip_lex.specs.Sheltered.{cut_outside};
-ghost use Rattle.sip_uri.specs.Contact.{are_decimals, bare_form, behind_brackets, bracketed_form, contact_params, form_of, is_address, is_bare, is_bare_byte, is_contact_param, is_q, name_of, q_decimals, q_of, q_value, q_value_if_any, value_of};
+ghost use Rattle.sip_uri.specs.Contact.{are_decimals, bare_form, behind_brackets, bracketed_form, contact_params, form_of, is_bare, is_bare_byte, is_contact_param, is_q, name_of, q_decimals, q_of, q_value, q_value_if_any, value_of};
 ghost use Rattle.sip_uri.specs.SeenContact.{seen_form};
 
-use crate::checks::{are_uri_bytes, is_uri_byte};
-use sip_lex::{Shelter, are_digits, cut_at, cut_outside, trim, trim_end, trim_start};
+use sip_lex::{Shelter, are_digits, cut_at, cut_outside, is_space, trim, trim_end, trim_start};
 
 /// The weight that is given where none is written, or one of another form.
 pub(crate) const FULL_WEIGHT: u16 = 1000;
@@ -140,30 +139,17 @@ fn behind_brackets<'a>(address: &'a [u8], rest: &'a [u8]) -> Option<(&'a [u8], O
     }
 }
 
-fn is_address(address: &[u8]) -> bool
-    ensures { result ≡ is_address address.now }
-{
-    !address.is_empty() && are_uri_bytes(address)
-}
-
 fn bracketed_form(inner: &[u8]) -> Option<(&[u8], Option<&[u8]>)>
     ensures { seen_form result ≡ bracketed_form (cut (is 62) inner.now) }
 {
-    match cut_at(inner, b'>') {
-        (_, None) => None,
-        (address, Some(rest)) => {
-            if !is_address(address) {
-                return None;
-            }
-            behind_brackets(address, trim_start(rest))
-        }
-    }
+    let (address, rest) = cut_at(inner, b'>');
+    behind_brackets(address, trim_start(rest?))
 }
 
 fn is_bare_byte(byte: u8) -> bool
     ensures { result ≡ is_bare_byte byte }
 {
-    is_uri_byte(byte) && !(byte == b';' || byte == b',' || byte == b'?')
+    !(byte == b';' || byte == b',' || byte == b'?' || is_space(byte))
 }
 
 fn are_bare_bytes(bytes: &[u8]) -> bool
@@ -179,9 +165,9 @@ fn is_bare(address: &[u8]) -> bool
 }
 
 fn bare_form(item: &[u8]) -> Option<(&[u8], Option<&[u8]>)>
-    ensures { seen_form result ≡ bare_form (cut_outside QuotesAndAngles 59 Plain item.now) }
+    ensures { seen_form result ≡ bare_form (cut (is 59) item.now) }
 {
-    let (front, params) = cut_param(item);
+    let (front, params) = cut_at(item, b';');
     let address = trim_end(front);
     if !is_bare(address) {
         return None;

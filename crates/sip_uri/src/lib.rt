@@ -14,6 +14,7 @@ mod hop;
 mod host;
 mod key;
 mod next;
+mod text;
 mod uri;
 mod write;
 
@@ -21,4 +22,5 @@ pub use contact::{Contact, read_contacts};
 pub use fault::UriFault;
 pub use hop::Hop;
 pub use host::{cut_host, is_host, read_address, read_port};
+pub use text::{read_hop, uri_fault};
 pub use uri::SipUri;

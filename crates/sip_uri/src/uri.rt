@@ -1,25 +1,24 @@
 //! SIP URIs.
 
-ghost use Rattle.std.specs.Prelude.{◌≡◌, ◌++◌, ◌↔◌, IfOk, OnOk, OnErr, IsTrue, Ok, Bool, List, ℕ};
+ghost use Rattle.std.specs.Prelude.{◌≡◌, ◌+◌, ◌≤◌, ◌++◌, ◌↔◌, IfOk, IfErr, IsOk, OnOk, OnErr, IsTrue, Ok, Bool, List, ℕ, length, vec_capacity, vec_len};
 ghost use Rattle.std.specs.List.{list_all, list_any};
 ghost use Rattle.std.specs.List.Sorted.{IsStrictlySortedBy};
 ghost use Rattle.std.specs.Ordering.{nat_cmp};
 ghost use Rattle.std.specs.Cmp.Lexicographic.{slice_cmp};
 ghost use Rattle.std.specs.Option.{option_copied};
-ghost use Rattle.sip_uri.specs.Checked.{checked_uri};
-ghost use Rattle.sip_uri.specs.Fault.{Gives};
+ghost use Rattle.sip_uri.specs.Fault.{Gives, refusal};
 ghost use Rattle.sip_uri.specs.Grammar.{IsUri, is_uri_byte};
 ghost use Rattle.sip_uri.specs.Hop.{hop_of};
 ghost use Rattle.sip_uri.specs.Key.{counted, key_of, key_params};
 ghost use Rattle.sip_uri.specs.Reading.{read_uri};
 ghost use Rattle.sip_uri.specs.Uri.{Uri, request_uri, spelling};
 
-use crate::checks::{begins_with_sip, first_fault};
 use crate::cut::cut_body;
 use crate::fault::UriFault;
 use crate::hop::Hop;
 use crate::key::make_key;
 use crate::next::hop_of;
+use crate::text::cut_uri;
 use crate::write::append_request_uri;
 use std::alloc::{AllocError, Allocator};
 use std::marker::Model;
@@ -44,17 +43,11 @@ impl<A: Allocator> Model for SipUri<A> {
     ghost invariant = { λ s. IsKept s.text.items s.key.items };
 }
 
-#[tactic(auto, unfolding(crate::specs::Checked::checked_uri))]
 fn read_all<A: Allocator + Clone>(alloc: A, text: &[u8]) -> Result<SipUri<A>, UriFault>
-    ensures { Gives (λ u. u) result (checked_uri text.now) }
+    ensures read { Gives (λ u. u) result (read_uri text.now) }
+    ensures refused { IfErr result (λ fault. fault ≡ refusal (read_uri text.now)) }
 {
-    if !begins_with_sip(text) {
-        return Err(UriFault::NotSip);
-    }
-    let cut = cut_body(&text[4..]);
-    if let Some(fault) = first_fault(text, &cut) {
-        return Err(fault);
-    }
+    let cut = cut_uri(text)?;
     // The key is never longer than the text.
     let key = make_key(&alloc, &cut, text.len())?;
     let text = Vec::from_slice(alloc, text)?;
@@ -74,6 +67,8 @@ impl<A: Allocator + Clone> SipUri<A> {
         ensures only { (u : Uri) → IsUri u → text.now ≡ spelling u
             → Gives (λ v. v) result (Ok u) }
         ensures exact { Gives (λ u. u) result (read_uri text.now) }
+        // a fault of the text comes before want of memory
+        ensures refused { IfErr result (λ fault. fault ≡ refusal (read_uri text.now)) }
     {
         read_all(alloc, text)
     }
@@ -93,6 +88,14 @@ impl<A: Allocator + Clone> SipUri<A> {
         ensures grammar { IsUri self.now }
     {
         cut_body(&self.text[4..]).host
+    }
+
+    /// Each URI that was read keeps the grammar (RFC 3261 section 25.1). A law: it does nothing when it
+    /// runs.
+    pub fn is_uri(&self)
+        ensures { IsUri self.now }
+    {
+        let _text = &self.text;
     }
 
     /// Whether the two are the same target (RFC 3261 section 16.5), as their keys say. This is not
@@ -117,20 +120,30 @@ impl<A: Allocator + Clone> SipUri<A> {
     ///
     /// # Errors
     ///
-    /// Only where the growth of `out` is refused; `out` is then unchanged.
+    /// Only where `out` lacks room for that and its growth is refused; `out` is then unchanged.
     pub fn request_uri<B: Allocator>(&self, out: &mut Vec<u8, B>) -> Result<(), AllocError>
         ensures ok { OnOk result (out.new.items ≡ out.old.items ++ request_uri self.now) }
         ensures bytes { IsTrue (list_all is_uri_byte (request_uri self.now)) }
         ensures err { OnErr result (out.new.items ≡ out.old.items) }
+        ensures room { vec_len out.old + length (request_uri self.now) ≤ vec_capacity out.old
+            → IsOk result }
     {
         append_request_uri(out, &self.text[..4], &cut_body(&self.text[4..]))
     }
 
-    /// Appends the key: two URIs are the same target exactly where their keys are equal.
+    /// The bytes that tell its target from others (RFC 3261 section 16.5): two URIs with the same key
+    /// name one target, and no others do.
+    pub fn key(&self) -> &[u8]
+        ensures { result.now ≡ key_of self.now }
+    {
+        &self.key
+    }
+
+    /// Appends the key.
     ///
     /// # Errors
     ///
-    /// Only where the growth of `out` is refused; `out` is then unchanged.
+    /// Only where `out` lacks room for that and its growth is refused; `out` is then unchanged.
     pub fn target_key<B: Allocator>(&self, out: &mut Vec<u8, B>) -> Result<(), AllocError>
         ensures ok { OnOk result (out.new.items ≡ out.old.items ++ key_of self.now) }
         // Its parameters ascend, and are those that count: a test that passes at one of these
@@ -139,7 +152,25 @@ impl<A: Allocator + Clone> SipUri<A> {
         ensures members { (p : List ℕ → Bool)
             → list_any p (key_params self.now.params) ≡ list_any p (counted self.now.params) }
         ensures err { OnErr result (out.new.items ≡ out.old.items) }
+        ensures room { vec_len out.old + length (key_of self.now) ≤ vec_capacity out.old
+            → IsOk result }
     {
-        out.extend_from_slice(&self.key)
+        out.extend_from_slice(self.key())
+    }
+
+    /// The parameters of a key ascend, each of them once. A law: it does nothing when it runs.
+    pub fn key_params_ascend(&self)
+        ensures { IsStrictlySortedBy (slice_cmp nat_cmp) (key_params self.now.params) }
+    {
+        let _key = &self.key;
+    }
+
+    /// The parameters of a key are those that count: a test that passes at one of these passes at one
+    /// of those, and the other way round. A law: it does nothing when it runs.
+    pub fn key_params_count(&self)
+        ensures { (p : List ℕ → Bool)
+            → list_any p (key_params self.now.params) ≡ list_any p (counted self.now.params) }
+    {
+        let _key = &self.key;
     }
 }

@@ -1,6 +1,6 @@
 //! Appending a URI as it stands in a request.
 
-ghost use Rattle.std.specs.Prelude.{◌≡◌, [], ◌∷◌, ◌++◌, OnOk, OnErr, take, vec_len};
+ghost use Rattle.std.specs.Prelude.{◌≡◌, ◌+◌, ◌≤◌, [], ◌∷◌, ◌++◌, IsOk, OnOk, OnErr, length, take, vec_capacity, vec_len};
 ghost use Rattle.std.specs.Option.{option_copied};
 ghost use Rattle.sip_lex.specs.Cut.{behind};
 ghost use Rattle.sip_lex.specs.Pieces.{pieces_behind};
@@ -20,6 +20,9 @@ pub(crate) fn append_user<B: Allocator>(
     ensures ok { OnOk result
         (out.new.items ≡ out.old.items ++ user_text (option_copied user.entry)) }
     ensures begins { take (vec_len out.old) out.new.items ≡ out.old.items }
+    ensures room { vec_len out.old + length (user_text (option_copied user.entry)) ≤ vec_capacity out.old
+        → IsOk result }
+    ensures capacity { vec_capacity out.old ≤ vec_capacity out.new }
 {
     if let Some(user) = user {
         out.extend_from_slice(user)?;
@@ -32,6 +35,9 @@ fn append_port<B: Allocator>(out: &mut Vec<u8, B>, port: Option<&[u8]>) -> Resul
     ensures ok { OnOk result
         (out.new.items ≡ out.old.items ++ behind 58 (option_copied port.entry)) }
     ensures begins { take (vec_len out.old) out.new.items ≡ out.old.items }
+    ensures room { vec_len out.old + length (behind 58 (option_copied port.entry)) ≤ vec_capacity out.old
+        → IsOk result }
+    ensures capacity { vec_capacity out.old ≤ vec_capacity out.new }
 {
     if let Some(digits) = port {
         out.push(b':')?;
@@ -45,6 +51,9 @@ fn append_param<B: Allocator>(out: &mut Vec<u8, B>, param: &[u8]) -> Result<(), 
     ensures ok { OnOk result
         (out.new.items ≡ out.old.items ++ params_text (without_methods (param.now ∷ []))) }
     ensures begins { take (vec_len out.old) out.new.items ≡ out.old.items }
+    ensures room { vec_len out.old + length (params_text (without_methods (param.now ∷ []))) ≤ vec_capacity out.old
+        → IsOk result }
+    ensures capacity { vec_capacity out.old ≤ vec_capacity out.new }
 {
     if !is_method(param) {
         out.push(b';')?;
@@ -62,6 +71,11 @@ fn append_params<B: Allocator>(
         ≡ out.old.items
         ++ params_text (without_methods (pieces_behind 59 (option_copied params.entry)))) }
     ensures begins { take (vec_len out.old) out.new.items ≡ out.old.items }
+    ensures room { vec_len out.old
+        + length (params_text (without_methods (pieces_behind 59 (option_copied params.entry))))
+        ≤ vec_capacity out.old
+        → IsOk result }
+    ensures capacity { vec_capacity out.old ≤ vec_capacity out.new }
 {
     let mut rest = params;
     while let Some(text) = rest {
@@ -80,6 +94,8 @@ fn append_parts<B: Allocator>(
     ensures ok { OnOk result
         (out.new.items ≡ out.old.items ++ parts_request scheme.now (parts cut.now)) }
     ensures begins { take (vec_len out.old) out.new.items ≡ out.old.items }
+    ensures room { vec_len out.old + length (parts_request scheme.now (parts cut.now)) ≤ vec_capacity out.old
+        → IsOk result }
 {
     out.extend_from_slice(scheme)?;
     append_user(out, cut.user)?;
@@ -98,6 +114,8 @@ pub(crate) fn append_request_uri<B: Allocator>(
     ensures ok { OnOk result
         (out.new.items ≡ out.old.items ++ parts_request scheme.now (parts cut.now)) }
     ensures err { OnErr result (out.new.items ≡ out.old.items) }
+    ensures room { vec_len out.old + length (parts_request scheme.now (parts cut.now)) ≤ vec_capacity out.old
+        → IsOk result }
 {
     let before = out.len();
     let done = append_parts(out, scheme, cut);

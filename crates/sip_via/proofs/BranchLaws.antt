@@ -10,10 +10,11 @@ use Rattle.sip_lex.specs.Cut.{cut, is, behind, Lacks}
 use Rattle.sip_lex.specs.Number.{plain_number_within}
 use Rattle.sip_lex.proofs.Cuts.{cut_again, cut_joins}
 use Rattle.sip_via.specs.BranchParts.{BranchParts, branch_parts, parts_of, parts_text, with_context, with_instance, with_key}
-use Rattle.sip_via.specs.BranchText.{Branch, IsBranch, branch_text, cookie}
-use Rattle.sip_via.proofs.HexLaws.{hex_text_lacks}
+use Rattle.sip_via.specs.declared.branch.BranchName.{BranchName}
+use Rattle.sip_via.specs.BranchText.{IsBranch, branch_text, cookie}
+use Rattle.sip_via.proofs.laws.HexLaws.{hex_text_lacks}
 use Rattle.sip_via.specs.HexPair.{hex_text}
-use Rattle.sip_via.proofs.DecimalLaws.{decimal_lacks, number_read, number_spelled}
+use Rattle.sip_lex.proofs.laws.Numbers.{decimal_lacks, number_read, number_spelled}
 
 abbrev Cut : Type 0
 Cut = List ℕ × Option (List ℕ)
@@ -24,7 +25,7 @@ found p = Some p
 abbrev number_found : ℕ → Option ℕ
 number_found n = Some n
 
-abbrev branch_found : Branch → Option Branch
+abbrev branch_found : BranchName → Option BranchName
 branch_found b = Some b
 
 -- ---- parts
@@ -56,7 +57,7 @@ parts_again p key instance context =
     ∙ ap (with_instance p.key) (cut_again 46 p.instance (Some (p.context ++ (46 ∷ p.target))) instance)
     ∙ ap (with_context p.key p.instance) (cut_again 46 p.context (Some p.target) context)
 
-pub branch_again : (b : Branch) → IsBranch b → parts_of (parts_text (branch_parts b)) ≡ Some (branch_parts b)
+pub branch_again : (b : BranchName) → IsBranch b → parts_of (parts_text (branch_parts b)) ≡ Some (branch_parts b)
 branch_again b is =
     let small : b.instance < 2 ^ 64 = let h = is.instance in omega (arith, h) in
     parts_again (branch_parts b) (hex_text_lacks b.key) (decimal_lacks 46 b.instance refl small) (decimal_lacks 46 b.context refl is.context)
@@ -74,18 +75,18 @@ cookie_there text rest other e = false≢true (sym other ∙ ap (λ (t : List �
 pub cookie_rest : (text rest more : List ℕ) → rest ≡ drop 7 text → text ≡ cookie ++ more → rest ≡ more
 cookie_rest text rest more e is = e ∙ ap (λ (t : List ℕ). drop 7 t) is
 
-pub text_is : (text rest : List ℕ) (p : BranchParts) (b : Branch) → bytes_eq (take 7 text) cookie ≡ true → rest ≡ drop 7 text → Some p ≡ parts_of rest → p ≡ branch_parts b → text ≡ branch_text b
+pub text_is : (text rest : List ℕ) (p : BranchParts) (b : BranchName) → bytes_eq (take 7 text) cookie ≡ true → rest ≡ drop 7 text → Some p ≡ parts_of rest → p ≡ branch_parts b → text ≡ branch_text b
 text_is text rest p b same behind_it cut is =
     cookie_found text rest same behind_it ∙ ap (λ (x : List ℕ). cookie ++ x) (parts_found rest p (sym cut)) ∙ ap (λ (q : BranchParts). cookie ++ parts_text q) is
 
-parts_there : (text rest : List ℕ) (b : Branch) → IsBranch b → rest ≡ drop 7 text → text ≡ branch_text b → parts_of rest ≡ Some (branch_parts b)
+parts_there : (text rest : List ℕ) (b : BranchName) → IsBranch b → rest ≡ drop 7 text → text ≡ branch_text b → parts_of rest ≡ Some (branch_parts b)
 parts_there text rest b is behind_it e = ap parts_of (cookie_rest text rest (parts_text (branch_parts b)) behind_it e) ∙ branch_again b is
 
-pub parts_refused : (text rest : List ℕ) (b : Branch) → IsBranch b → rest ≡ drop 7 text → text ≡ branch_text b → None ≡ parts_of rest → ⊥
+pub parts_refused : (text rest : List ℕ) (b : BranchName) → IsBranch b → rest ≡ drop 7 text → text ≡ branch_text b → None ≡ parts_of rest → ⊥
 parts_refused text rest b is behind_it e refused =
     let wrong : None ≡ found (branch_parts b) = refused ∙ parts_there text rest b is behind_it e in absurd cc
 
-pub parts_same : (text rest : List ℕ) (p : BranchParts) (b : Branch) → IsBranch b → rest ≡ drop 7 text → text ≡ branch_text b → Some p ≡ parts_of rest → p ≡ branch_parts b
+pub parts_same : (text rest : List ℕ) (p : BranchParts) (b : BranchName) → IsBranch b → rest ≡ drop 7 text → text ≡ branch_text b → Some p ≡ parts_of rest → p ≡ branch_parts b
 parts_same text rest p b is behind_it e cut =
     let same : found p ≡ found (branch_parts b) = cut ∙ parts_there text rest b is behind_it e in cc
 
@@ -108,14 +109,14 @@ number_text limit ds n small read = (number_spelled limit ds n small (sym read))
 
 -- ---- all parts
 
-pub parts_is : (p : BranchParts) (b : Branch) → p.key ≡ hex_text b.key → p.instance ≡ decimal b.instance → p.context ≡ decimal b.context → p.target ≡ decimal b.target → p ≡ branch_parts b
+pub parts_is : (p : BranchParts) (b : BranchName) → p.key ≡ hex_text b.key → p.instance ≡ decimal b.instance → p.context ≡ decimal b.context → p.target ≡ decimal b.target → p ≡ branch_parts b
 parts_is p b key instance context target =
     ap (λ (x : List ℕ). record { key = x; instance = p.instance; context = p.context; target = p.target }) key
     ∙ ap (λ (x : List ℕ). record { key = hex_text b.key; instance = x; context = p.context; target = p.target }) instance
     ∙ ap (λ (x : List ℕ). record { key = hex_text b.key; instance = decimal b.instance; context = x; target = p.target }) context
     ∙ ap (λ (x : List ℕ). record { key = hex_text b.key; instance = decimal b.instance; context = decimal b.context; target = x }) target
 
-pub branch_is : (a b : Branch) → a.key ≡ b.key → a.instance ≡ b.instance → a.context ≡ b.context → a.target ≡ b.target → Some a ≡ Some b
+pub branch_is : (a b : BranchName) → a.key ≡ b.key → a.instance ≡ b.instance → a.context ≡ b.context → a.target ≡ b.target → Some a ≡ Some b
 branch_is a b key instance context target =
     ap branch_found
     (ap (λ (x : List ℕ). record { key = x; instance = a.instance; context = a.context; target = a.target }) key

@@ -1,12 +1,12 @@
 -- A Via line whose top value was marked is a header value.
-use Rattle.std.proofs.Common.{◌≡◌, ℕ, zero, suc, ◌+◌, ◌-◌, ◌<◌, ◌^◌, Bool, true, false, not, eqb, cond, List, [], ◌∷◌, ◌++◌, length, take, drop, reverse, Option, Some, None, refl, sym, ap, subst, ◌∙◌, arith, inl, inr}
-use Rattle.std.specs.Prelude.{◌&&◌, codes, slice_index, Result, Ok, Err}
-use Rattle.std.specs.Char.{is_ascii_digit}
+use Rattle.std.proofs.Common.{◌≡◌, ℕ, zero, suc, ◌+◌, ◌-◌, ◌<◌, ◌^◌, Bool, true, false, not, eqb, cond, List, [], ◌∷◌, ◌++◌, length, map, take, drop, reverse, Option, Some, None, refl, sym, ap, subst, ◌∙◌, append_assoc, arith, inl, inr}
+use Rattle.std.specs.Prelude.{◌&&◌, ◌||◌, codes, slice_index, Result, Ok, Err}
+use Rattle.std.specs.Char.{is_ascii_digit, to_ascii_lowercase}
 use Rattle.std.specs.Fmt.{decimal}
 use Rattle.std.specs.List.{flat_map, list_all, onto_first, prefix_len, suffix_len}
 use Rattle.std.proofs.lemmas.Bool.{and_parts, cases_Bool, cond-true, cond-false, cond_both, eqb-true, false_from_ne_true, false≢true}
 use Rattle.std.proofs.lemmas.Fmt.{digits_decimal}
-use Rattle.std.proofs.lemmas.List.{reverse-append, reverse-reverse}
+use Rattle.std.proofs.lemmas.List.{reverse-append, reverse-reverse, take-append-drop}
 use Rattle.std.proofs.lemmas.List.Folds.{list_all-append}
 use Rattle.sip_lex.specs.declared.sheltered.Shelter.TheVariants.{Quotes}
 use Rattle.sip_lex.specs.declared.sheltered.Place.{Place}
@@ -16,19 +16,21 @@ use Rattle.sip_lex.specs.Cut.{behind}
 use Rattle.sip_lex.specs.Outside.{pieces_from, pieces_outside, pieces_outside_behind}
 use Rattle.sip_lex.specs.Sheltered.{cut_outside, is_plain, place_after}
 use Rattle.sip_lex.proofs.Shelters.{cut_outside_joins}
-use Rattle.sip_lex.proofs.Trims.{trim_end-reverse}
+use Rattle.sip_lex.proofs.Trims.{trim_end-reverse, trim_end-whole}
 use Rattle.sip_text.specs.Message.{IsMessage, is_header, is_line, is_line_byte, is_trimmed, is_value}
 use Rattle.sip_text.specs.Name.{first_value}
 use Rattle.sip_text.specs.Text.{HeaderText, MessageText}
 use Rattle.sip_text.specs.Reading.{begins_with_space}
 use Rattle.sip_text.proofs.Good.{and_both, trim_trimmed}
 use Rattle.sip_uri.specs.declared.hop.Hop.{Hop}
+use Rattle.sip_uri.proofs.Hosts.{other_than}
 use Rattle.sip_via.specs.Address.{IsAddress, address_text, dotted}
 use Rattle.sip_via.specs.Received.{IsSource, asks_port, filled, first_via_line, gets_received, line_marked, marked_line, marked_param, marked_parts, marked_value, received_text, with_via_line}
-use Rattle.sip_via.specs.ViaParts.{is_named, is_via, or_empty, params_of, via_of}
-use Rattle.sip_via.proofs.TrimmedValues.{all-parts, all-trim}
-use Rattle.sip_via.proofs.DecimalLaws.{own}
-use Rattle.sip_via.proofs.Replaced.{first-good, with_via-good}
+use Rattle.sip_via.specs.ViaParts.{are_parts, is_named, is_trimmed as is_via_trimmed, is_via, or_empty, params_of, parts_of, via_of}
+use Rattle.sip_via.proofs.ViaFound.{via_found}
+use Rattle.sip_via.proofs.laws.TrimmedValues.{all-parts, all-trim}
+use Rattle.sip_lex.proofs.laws.Numbers.{own}
+use Rattle.sip_via.proofs.laws.Replaced.{first-good, with_via-good}
 use Rattle.sip_via.specs.declared.own.ViaFault.{ViaFault}
 use Rattle.sip_via.specs.declared.own.ViaFault.TheVariants.{BadVia}
 
@@ -83,7 +85,7 @@ drop-spaces (b ∷ bs) =
     (λ e. e)
 
 -- no space stands at the end of a text that was trimmed there
-trim_end-back : (bs : List ℕ) → begins_with_space (reverse (trim_end bs)) ≡ false
+pub trim_end-back : (bs : List ℕ) → begins_with_space (reverse (trim_end bs)) ≡ false
 trim_end-back bs = ap (λ (x : List ℕ). begins_with_space (reverse x)) (trim_end-reverse bs) ∙ ap begins_with_space (reverse-reverse (trim_start (reverse bs))) ∙ drop-spaces (reverse bs)
 
 take-front : (n : ℕ) (bs : List ℕ) → begins_with_space bs ≡ false → begins_with_space (take n bs) ≡ false
@@ -183,39 +185,80 @@ parts-top source host value (front, params) is h k e =
 value-top : (source : Hop) (value : List ℕ) → IsSource source → is_line value ≡ true → begins_with_space value ≡ false → IsTop (marked_value source value)
 value-top source value is h k = parts-top source (via_of value).host value (cut_outside Quotes 59 Plain value) is h k (cut_outside_joins Quotes 59 Plain value)
 
+-- ---- a Via value begins with a letter
+
+-- with neither space nor `;`
+pub record BeginsPlain (bs : List ℕ) : Type 0 where
+  pub first : ℕ
+  pub rest : List ℕ
+  pub is : bs ≡ first ∷ rest
+  pub no_space : is_space first ≡ false
+  pub no_mark : eqb first 59 ≡ false
+
+abbrev head_of : List ℕ → ℕ
+head_of [] = 0
+head_of (b ∷ bs) = b
+
+-- `s` in any case
+abbrev is_first : ℕ → Bool
+is_first b = eqb (to_ascii_lowercase b) 115
+
+pub sip-begins : (name rest : List ℕ) → map to_ascii_lowercase name ≡ codes "sip" → BeginsPlain (name ++ rest)
+sip-begins [] rest e = let k = ap (λ (x : List ℕ). length x) e in absurd (omega (arith, k))
+sip-begins (b ∷ name) rest e =
+    let s : is_first b ≡ true = ap (λ (x : List ℕ). eqb (head_of x) 115) e in
+    record { first = b; rest = name ++ rest; is = refl; no_space = ap (λ t. t || eqb b 9) (other_than is_first b 32 refl s) ∙ other_than is_first b 9 refl s; no_mark = other_than is_first b 59 refl s }
+
+pub via-begins : (value : List ℕ) → is_via value ≡ true → BeginsPlain value
+via-begins value h =
+    let both = and_parts (is_via_trimmed value) (are_parts (parts_of value)) h in
+    let found = via_found value both.0 both.1 in
+    subst BeginsPlain (sym found.spelled) (sip-begins found.gaps.name _ found.spaces.sip)
+
+some-left : (b : ℕ) (bs trimmed gap : List ℕ) → is_space b ≡ false → b ∷ bs ≡ trimmed ++ gap → list_all is_space gap ≡ true → 0 < length trimmed
+some-left b bs [] gap other e spaces = absurd (false≢true (sym other ∙ (and_parts (is_space b) (list_all is_space bs) (ap (list_all is_space) e ∙ spaces)).0))
+some-left b bs (x ∷ trimmed) gap other e spaces = omega arith
+
+trim_end-some : (b : ℕ) (bs : List ℕ) → is_space b ≡ false → 0 < length (trim_end (b ∷ bs))
+trim_end-some b bs other = let t = trim_end-whole (b ∷ bs) in some-left b bs (trim_end (b ∷ bs)) t.gap other t.whole t.spaces
+
+marked-some : (source : Hop) (host value : List ℕ) → BeginsPlain value → 0 < length (marked_parts source host (cut_outside Quotes 59 Plain value))
+marked-some source host value begins =
+    let after = cut_outside Quotes 59 (place_after Quotes Plain begins.first) begins.rest in
+    let cuts : cut_outside Quotes 59 Plain value ≡ (begins.first ∷ after.0, after.1) = ap (cut_outside Quotes 59 Plain) begins.is ∙ cond-false _ _ _ begins.no_mark in
+    subst (λ (c : Cut). 0 < length (marked_parts source host c)) (sym cuts) (trim_end-some begins.first _ begins.no_space)
+
 -- ---- the line
 
-back-behind : (front : List ℕ) (others : Option (List ℕ)) → begins_with_space (reverse (front ++ behind 44 others)) ≡ false → begins_with_space (reverse (behind 44 others)) ≡ false
-back-behind front None h = refl
-back-behind front (Some after) h = begins-front (reverse (44 ∷ after)) (reverse front) (ap begins_with_space (sym (reverse-append front (44 ∷ after))) ∙ h)
+pub front-stays : (xs ys : List ℕ) → 0 < length xs → begins_with_space xs ≡ false → begins_with_space (xs ++ ys) ≡ false
+front-stays [] ys some h = absurd (omega arith)
+front-stays (x ∷ xs) ys some h = h
 
-behind-front : (others : Option (List ℕ)) → begins_with_space (behind 44 others) ≡ false
-behind-front None = refl
-behind-front (Some after) = refl
+-- a value with another top in front of what stood behind the first
+joined-good : (top front tail : List ℕ) → IsTop top → 0 < length top → is_value (front ++ tail) ≡ true → is_value (top ++ tail) ≡ true
+joined-good top front tail is some good =
+    let both = and_parts (is_line (front ++ tail)) (is_trimmed (front ++ tail)) good in
+    let tail_line : is_line tail ≡ true = (and_parts (is_line front) (is_line tail) (sym (list_all-append is_line_byte front tail) ∙ both.0)).1 in
+    let ends : begins_with_space (reverse tail) ≡ false = begins-front (reverse tail) (reverse front) (ap begins_with_space (sym (reverse-append front tail)) ∙ back-of (front ++ tail) both.1) in
+    let first : begins_with_space (top ++ tail) ≡ false = front-stays top tail some is.front in
+    let last : begins_with_space (reverse (top ++ tail)) ≡ false = ap begins_with_space (reverse-append top tail) ∙ begins-append (reverse tail) (reverse top) ends is.back in
+    and_both (is_line (top ++ tail)) (is_trimmed (top ++ tail)) (line-append top tail is.lines tail_line)
+    (and_both (not (begins_with_space (top ++ tail))) (not (begins_with_space (reverse (top ++ tail)))) (ap not first) (ap not last))
 
--- a value with another top in front of its others
-joined-good : (top front : List ℕ) (others : Option (List ℕ)) → IsTop top → is_value (front ++ behind 44 others) ≡ true → is_value (top ++ behind 44 others) ≡ true
-joined-good top front others is good =
-    let value = front ++ behind 44 others in
-    let both = and_parts (is_line value) (is_trimmed value) good in
-    let back_line : is_line (behind 44 others) ≡ true = (and_parts (is_line front) (is_line (behind 44 others)) (sym (list_all-append is_line_byte front (behind 44 others)) ∙ both.0)).1 in
-    let ends : begins_with_space (reverse (behind 44 others)) ≡ false = back-behind front others (back-of value both.1) in
-    let first : begins_with_space (top ++ behind 44 others) ≡ false = begins-append top (behind 44 others) is.front (behind-front others) in
-    let last : begins_with_space (reverse (top ++ behind 44 others)) ≡ false = ap begins_with_space (reverse-append top (behind 44 others)) ∙ begins-append (reverse (behind 44 others)) (reverse top) ends is.back in
-    and_both (is_line (top ++ behind 44 others)) (is_trimmed (top ++ behind 44 others)) (line-append top (behind 44 others) is.lines back_line)
-    (and_both (not (begins_with_space (top ++ behind 44 others))) (not (begins_with_space (reverse (top ++ behind 44 others)))) (ap not first) (ap not last))
-
-line-good : (source : Hop) (line : List ℕ) (c : Cut) → IsSource source → is_value line ≡ true → line ≡ c.0 ++ behind 44 c.1 → is_value (marked_line source c) ≡ true
-line-good source line (top, others) is good e =
-    let kept : is_value (top ++ behind 44 others) ≡ true = ap is_value (sym e) ∙ good in
+line-good : (source : Hop) (line : List ℕ) (c : Cut) → IsSource source → is_value line ≡ true → line ≡ c.0 ++ behind 44 c.1 → is_via (trim c.0) ≡ true → is_value (marked_line source c) ≡ true
+line-good source line (top, others) is good e reads =
+    let value = trim top in
+    let n = length (trim_end top) in
+    let tail = drop n top ++ behind 44 others in
     let both = and_parts (is_line line) (is_trimmed line) good in
     let top_line : is_line top ≡ true = (and_parts (is_line top) (is_line (behind 44 others)) (sym (list_all-append is_line_byte top (behind 44 others)) ∙ ap is_line (sym e) ∙ both.0)).0 in
-    let is_top = value-top source (trim top) is (all-trim is_line_byte top top_line) (front-of (trim top) (trim_trimmed top)) in
-    joined-good (marked_value source (trim top)) top others is_top kept
+    let is_top = value-top source value is (all-trim is_line_byte top top_line) (front-of value (trim_trimmed top)) in
+    let split : line ≡ take n top ++ tail = e ∙ ap (λ (x : List ℕ). x ++ behind 44 others) (sym (take-append-drop n top)) ∙ append_assoc (take n top) (drop n top) (behind 44 others) in
+    joined-good (marked_value source value) (take n top) tail is_top (marked-some source (via_of value).host value (via-begins value reads)) (ap is_value (sym split) ∙ good)
 
 -- the first Via line, marked, is a value
-pub marked_line-good : (source : Hop) (line : List ℕ) → IsSource source → is_value line ≡ true → is_value (marked_line source (cut_outside Quotes 44 Plain line)) ≡ true
-marked_line-good source line is good = line-good source line (cut_outside Quotes 44 Plain line) is good (cut_outside_joins Quotes 44 Plain line)
+marked_line-good : (source : Hop) (line : List ℕ) → IsSource source → is_value line ≡ true → is_via (trim (cut_outside Quotes 44 Plain line).0) ≡ true → is_value (marked_line source (cut_outside Quotes 44 Plain line)) ≡ true
+marked_line-good source line is good reads = line-good source line (cut_outside Quotes 44 Plain line) is good (cut_outside_joins Quotes 44 Plain line) reads
 
 abbrev ok_of : List ℕ → Result (List ℕ) ViaFault
 ok_of x = Ok x
@@ -230,7 +273,7 @@ marked-at-good source line v is good e =
       | inl reads ↦
           let found : ok_of (marked_line source c) ≡ Ok v = sym (cond-true _ _ _ reads) ∙ e in
           let same : marked_line source c ≡ v = cc in
-          sym (ap is_value same) ∙ marked_line-good source line is good
+          sym (ap is_value same) ∙ marked_line-good source line is good reads
       | inr none ↦ let wrong : ok_or BadVia ≡ Ok v = sym (cond-false _ _ _ none) ∙ e in absurd cc
     ]
 

@@ -29,7 +29,7 @@ use Rattle.sip_via.specs.declared.own.ViaFault.{ViaFault}
 use Rattle.sip_via.specs.declared.own.ViaFault.TheVariants.{BadVia}
 use Rattle.sip_via.specs.ViaGrammar.{AreParamGaps, AreViaGaps, IsSpace, IsValue, IsVia, IsViaParam, ParamGaps, ViaGaps, param_spelling, param_text, params_spelling, spaced, spelling, tail_spelling, value_spelling}
 use Rattle.sip_via.specs.ViaParts.{Parts, ViaText, are_parts, is_param, is_port_if_any, is_trimmed, is_value, is_value_byte, is_value_if_any, is_via, is_whole, or_empty, params_of, parts_of, port_and_params, read_via, via_of, via_of_parts}
-use Rattle.sip_via.proofs.Tokens.{all_pass, no_space}
+use Rattle.sip_via.proofs.laws.Tokens.{all_pass, no_space}
 
 abbrev Cut : Type 0
 Cut = List ℕ × Option (List ℕ)
@@ -54,13 +54,13 @@ class_runs_on : (p : ℕ → Bool) → p 58 ≡ false → p 59 ≡ false → p 6
 class_runs_on p colon semicolon question b h =
     ap (λ t. (t || eqb b 59) || eqb b 63) (other_than p b 58 colon h) ∙ ap (λ t. t || eqb b 63) (other_than p b 59 semicolon h) ∙ other_than p b 63 question h
 
-all_joined : (p : ℕ → Bool) (xs ys : List ℕ) → list_all p xs ≡ true → list_all p ys ≡ true → list_all p (xs ++ ys) ≡ true
+pub all_joined : (p : ℕ → Bool) (xs ys : List ℕ) → list_all p xs ≡ true → list_all p ys ≡ true → list_all p (xs ++ ys) ≡ true
 all_joined p xs ys h k = list_all-append p xs ys ∙ and_from (list_all p xs) (list_all p ys) h k
 
 -- ---- texts with space round them
 
 -- a text that begins with another byte than space
-abbrev Starts : List ℕ → Type 0
+abbrev pub Starts : List ℕ → Type 0
 Starts [] = ⊥
 Starts (b ∷ bs) = is_space b ≡ false
 
@@ -69,11 +69,11 @@ start_kept gap [] rest space s = absurd s
 start_kept gap (b ∷ bs) rest space s = trim_start-spaces gap (b ∷ (bs ++ rest)) space ∙ trim_start-none b (bs ++ rest) s
 
 -- a text that begins and ends so
-record IsBare (bs : List ℕ) : Type 0 where
-  starts : Starts bs
-  ends : (gap : List ℕ) → IsSpace gap → trim_end (bs ++ gap) ≡ bs
+pub record IsBare (bs : List ℕ) : Type 0 where
+  pub starts : Starts bs
+  pub ends : (gap : List ℕ) → IsSpace gap → trim_end (bs ++ gap) ≡ bs
 
-bare_trim : (before bs after : List ℕ) → IsSpace before → IsSpace after → IsBare bs → trim (before ++ (bs ++ after)) ≡ bs
+pub bare_trim : (before bs after : List ℕ) → IsSpace before → IsSpace after → IsBare bs → trim (before ++ (bs ++ after)) ≡ bs
 bare_trim before bs after front back h = ap trim_end (start_kept before bs after front h.starts) ∙ h.ends after back
 
 passes_starts : (bs : List ℕ) → bs ≢ [] → list_all no_space bs ≡ true → Starts bs
@@ -86,7 +86,7 @@ no_space_bare bs some h = record { starts = passes_starts bs some h; ends = λ g
 class_bare : (p : ℕ → Bool) → p 32 ≡ false → p 9 ≡ false → (bs : List ℕ) → bs ≢ [] → list_all p bs ≡ true → IsBare bs
 class_bare p space tab bs some h = no_space_bare bs some (all_pass p no_space bs (class_no_space p space tab) h)
 
-all_reverse : (p : ℕ → Bool) (bs : List ℕ) → list_all p bs ≡ true → list_all p (reverse bs) ≡ true
+pub all_reverse : (p : ℕ → Bool) (bs : List ℕ) → list_all p bs ≡ true → list_all p (reverse bs) ≡ true
 all_reverse p [] h = refl
 all_reverse p (b ∷ bs) h =
     let each = and_parts (p b) (list_all p bs) h in
@@ -109,24 +109,24 @@ token_some : (bs : List ℕ) → is_token bs ≡ true → bs ≢ []
 token_some [] h = λ e. absurd (false≢true h)
 token_some (b ∷ bs) h = λ e. absurd cc
 
-token_bare : (bs : List ℕ) → is_token bs ≡ true → IsBare bs
+pub token_bare : (bs : List ℕ) → is_token bs ≡ true → IsBare bs
 token_bare bs h = class_bare is_token_byte refl refl bs (token_some bs h) (token_bytes bs h)
 
-host_bare : (host : List ℕ) → IsHost host → IsBare host
+pub host_bare : (host : List ℕ) → IsHost host → IsBare host
 host_bare host (inl name) = class_bare is_host_byte refl refl host name.0 name.1
 host_bare host (inr r) = subst IsBare (sym r.1) (ended_bare 91 93 r.0 refl refl)
 
-digits_all : (digits : List ℕ) → IsPort digits → list_all is_ascii_digit digits ≡ true
+pub digits_all : (digits : List ℕ) → IsPort digits → list_all is_ascii_digit digits ≡ true
 digits_all digits p = (and_parts (ltb 0 (length digits)) (list_all is_ascii_digit digits) p.digits).1
 
 port_some : (digits : List ℕ) → IsPort digits → digits ≢ []
 port_some [] p = λ e. absurd (false≢true p.digits)
 port_some (d ∷ digits) p = λ e. absurd cc
 
-port_bare : (digits : List ℕ) → IsPort digits → IsBare digits
+pub port_bare : (digits : List ℕ) → IsPort digits → IsBare digits
 port_bare digits p = class_bare is_ascii_digit refl refl digits (port_some digits p) (digits_all digits p)
 
-value_bare : (value : List ℕ) → IsValue value → IsBare value
+pub value_bare : (value : List ℕ) → IsValue value → IsBare value
 value_bare value (inl plain) = class_bare is_value_byte refl refl value plain.0 plain.1
 value_bare value (inr q) = subst IsBare (sym q.1.0) (ended_bare 34 34 q.0 refl refl)
 
@@ -146,7 +146,7 @@ lacks_all (b ∷ bs) h k =
     (ap (λ t. not (t || eqb b 9)) (false_from_ne_true (eqb b 32) (λ e. h.0 (eqb-true b 32 e))) ∙ ap not (false_from_ne_true (eqb b 9) (λ e. k.0 (eqb-true b 9 e))))
     (lacks_all bs h.1 k.1)
 
-sip_lacks : (mark : ℕ) (name : List ℕ) → to_ascii_lowercase mark ≡ mark → is_token_byte mark ≡ false → map to_ascii_lowercase name ≡ codes "sip" → Lacks mark name
+pub sip_lacks : (mark : ℕ) (name : List ℕ) → to_ascii_lowercase mark ≡ mark → is_token_byte mark ≡ false → map to_ascii_lowercase name ≡ codes "sip" → Lacks mark name
 sip_lacks mark name same other e = lowered_lacks mark name same (subst (Lacks mark) (sym e) (Lacks-pass is_token_byte mark (codes "sip") other refl))
 
 sip_no_space : (name : List ℕ) → map to_ascii_lowercase name ≡ codes "sip" → list_all no_space name ≡ true
@@ -154,26 +154,26 @@ sip_no_space name e = lacks_all name (sip_lacks 32 name refl refl e) (sip_lacks 
 
 -- ---- parameters
 
-param_front : (g : ParamGaps) (name : List ℕ) → AreParamGaps g → is_token name ≡ true → Lacks 61 (g.before ++ (name ++ g.behind_name))
+pub param_front : (g : ParamGaps) (name : List ℕ) → AreParamGaps g → is_token name ≡ true → Lacks 61 (g.before ++ (name ++ g.behind_name))
 param_front g name spaces token =
     Lacks-append 61 g.before (name ++ g.behind_name) (space_lacks 61 g.before refl spaces.before)
     (Lacks-append 61 name g.behind_name (Lacks-pass is_token_byte 61 name refl (token_bytes name token)) (space_lacks 61 g.behind_name refl spaces.behind_name))
 
-abbrev value_in : ParamGaps → Option (List ℕ) → Option (List ℕ)
+abbrev pub value_in : ParamGaps → Option (List ℕ) → Option (List ℕ)
 value_in g None = None
 value_in g (Some value) = Some (g.before_value ++ (value ++ g.behind_value))
 
 padded : (before inner after rest : List ℕ) → (before ++ (inner ++ after)) ++ rest ≡ before ++ (inner ++ (after ++ rest))
 padded before inner after rest = append_assoc before (inner ++ after) rest ∙ ap (λ (x : List ℕ). before ++ x) (append_assoc inner after rest)
 
-param_joins : (g : ParamGaps) (name : List ℕ) (value : Option (List ℕ)) → param_spelling g name value ≡ (g.before ++ (name ++ g.behind_name)) ++ behind 61 (value_in g value)
+pub param_joins : (g : ParamGaps) (name : List ℕ) (value : Option (List ℕ)) → param_spelling g name value ≡ (g.before ++ (name ++ g.behind_name)) ++ behind 61 (value_in g value)
 param_joins g name None = sym (append-nil (g.before ++ (name ++ g.behind_name)))
 param_joins g name (Some value) = sym (padded g.before name g.behind_name (61 ∷ (g.before_value ++ (value ++ g.behind_value))))
 
 abbrev some_text : List ℕ → Option (List ℕ)
 some_text text = Some text
 
-value_trims : (g : ParamGaps) (value : Option (List ℕ)) → AreParamGaps g → IfSome value IsValue → option_map trim (value_in g value) ≡ value
+pub value_trims : (g : ParamGaps) (value : Option (List ℕ)) → AreParamGaps g → IfSome value IsValue → option_map trim (value_in g value) ≡ value
 value_trims g None spaces h = refl
 value_trims g (Some value) spaces h = ap some_text (bare_trim g.before_value value g.behind_value spaces.before_value spaces.behind_value (value_bare value h))
 
@@ -204,64 +204,94 @@ params_good : (params : List (List ℕ)) → AllByRecursion IsViaParam params �
 params_good [] h = refl
 params_good (p ∷ ps) h = and_from (is_param p) (list_all is_param ps) (param_good p h.0) (params_good ps h.1)
 
--- ---- no `;` stands in a parameter but in quotes, and its quotes are closed
+-- ---- neither `;` nor `,` stands in a parameter but in quotes, and its quotes are closed
 
-record IsCalm (place : Place) (bs : List ℕ) : Type 0 where
-  lacks : LacksOutside Quotes 59 place bs
-  ends : end_place Quotes place bs ≡ Plain
+pub record IsCalm (mark : ℕ) (place : Place) (bs : List ℕ) : Type 0 where
+  pub lacks : LacksOutside Quotes mark place bs
+  pub ends : end_place Quotes place bs ≡ Plain
 
-abbrev neither : ℕ → Bool
-neither b = not (eqb b 59) && not (eqb b 34)
+-- a byte that is none of `;`, `,` and `"`
+abbrev pub neither : ℕ → Bool
+neither b = not (eqb b 59) && (not (eqb b 44) && not (eqb b 34))
 
-calm_append : (xs : List ℕ) → list_all neither xs ≡ true → (ys : List ℕ) → IsCalm Plain ys → IsCalm Plain (xs ++ ys)
-calm_append [] h ys k = k
-calm_append (b ∷ xs) h ys k =
-    let each = and_parts (neither b) (list_all neither xs) h in
-    let byte = and_parts (not (eqb b 59)) (not (eqb b 34)) each.0 in
-    let semicolon : eqb b 59 ≡ false = not_true (eqb b 59) byte.0 in
-    let stays : place_after Quotes Plain b ≡ Plain = plain_after b (not_true (eqb b 34) byte.1) in
-    let rest = calm_append xs each.1 ys k in
+-- a mark that is no such byte, and no `"`
+pub record IsMark (mark : ℕ) : Type 0 where
+  pub apart : (b : ℕ) → neither b ≡ true → eqb b mark ≡ false
+  pub quote : eqb 34 mark ≡ false
+
+not_true : (t : Bool) → not t ≡ true → t ≡ false
+not_true true e = absurd (false≢true e)
+not_true false e = refl
+
+neither_parts : (b : ℕ) → neither b ≡ true → (eqb b 59 ≡ false) × (eqb b 44 ≡ false) × (eqb b 34 ≡ false)
+neither_parts b h =
+    let first = and_parts (not (eqb b 59)) (not (eqb b 44) && not (eqb b 34)) h in
+    let rest = and_parts (not (eqb b 44)) (not (eqb b 34)) first.1 in
+    (not_true (eqb b 59) first.0, not_true (eqb b 44) rest.0, not_true (eqb b 34) rest.1)
+
+pub semicolon : IsMark 59
+semicolon = record { apart = λ b h. (neither_parts b h).0; quote = refl }
+
+pub comma : IsMark 44
+comma = record { apart = λ b h. (neither_parts b h).1; quote = refl }
+
+no_angle : (t : Bool) → cond (t && false) Angled Plain ≡ Plain
+no_angle true = refl
+no_angle false = refl
+
+plain_after : (b : ℕ) → eqb b 34 ≡ false → place_after Quotes Plain b ≡ Plain
+plain_after b e = cond-false (eqb b 34) Quoted (cond (eqb b 60 && false) Angled Plain) e ∙ no_angle (eqb b 60)
+
+-- a byte before such a text
+pub calm_byte : (mark b : ℕ) (ys : List ℕ) → eqb b mark ≡ false → eqb b 34 ≡ false → IsCalm mark Plain ys → IsCalm mark Plain (b ∷ ys)
+calm_byte mark b ys other quote k =
+    let stays : place_after Quotes Plain b ≡ Plain = plain_after b quote in
     record {
-      lacks = (semicolon, subst (λ (p : Place). LacksOutside Quotes 59 p (xs ++ ys)) (sym stays) rest.lacks);
-      ends = ap (λ (p : Place). end_place Quotes p (xs ++ ys)) stays ∙ rest.ends;
+      lacks = (other, subst (λ (p : Place). LacksOutside Quotes mark p ys) (sym stays) k.lacks);
+      ends = ap (λ (p : Place). end_place Quotes p ys) stays ∙ k.ends;
     }
-  where
-    not_true : (t : Bool) → not t ≡ true → t ≡ false
-    not_true true e = absurd (false≢true e)
-    not_true false e = refl
 
-    no_angle : (t : Bool) → cond (t && false) Angled Plain ≡ Plain
-    no_angle true = refl
-    no_angle false = refl
+pub calm_append : (mark : ℕ) → IsMark mark → (xs : List ℕ) → list_all neither xs ≡ true → (ys : List ℕ) → IsCalm mark Plain ys → IsCalm mark Plain (xs ++ ys)
+calm_append mark m [] h ys k = k
+calm_append mark m (b ∷ xs) h ys k =
+    let each = and_parts (neither b) (list_all neither xs) h in
+    calm_byte mark b (xs ++ ys) (m.apart b each.0) (neither_parts b each.0).2 (calm_append mark m xs each.1 ys k)
 
-    plain_after : (b : ℕ) → eqb b 34 ≡ false → place_after Quotes Plain b ≡ Plain
-    plain_after b e = cond-false (eqb b 34) Quoted (cond (eqb b 60 && false) Angled Plain) e ∙ no_angle (eqb b 60)
+pub calm_empty : (mark : ℕ) → IsCalm mark Plain []
+calm_empty mark = record { lacks = tt; ends = refl }
 
-calm_all : (xs : List ℕ) → list_all neither xs ≡ true → IsCalm Plain xs
-calm_all xs h = subst (IsCalm Plain) (append-nil xs) (calm_append xs h [] (record { lacks = tt; ends = refl }))
+pub calm_all : (mark : ℕ) → IsMark mark → (xs : List ℕ) → list_all neither xs ≡ true → IsCalm mark Plain xs
+calm_all mark m xs h = subst (IsCalm mark Plain) (append-nil xs) (calm_append mark m xs h [] (calm_empty mark))
 
-class_neither : (p : ℕ → Bool) → p 59 ≡ false → p 34 ≡ false → (b : ℕ) → p b ≡ true → neither b ≡ true
-class_neither p semicolon quote b h = ap (λ t. not t && not (eqb b 34)) (other_than p b 59 semicolon h) ∙ ap not (other_than p b 34 quote h)
+-- one such text behind another
+pub calm_join : (mark : ℕ) (place : Place) (xs ys : List ℕ) → IsCalm mark place xs → IsCalm mark Plain ys → IsCalm mark place (xs ++ ys)
+calm_join mark place [] ys h k = subst (λ (p : Place). IsCalm mark p ys) (sym h.ends) k
+calm_join mark place (b ∷ xs) ys h k =
+    let rest = calm_join mark (place_after Quotes place b) xs ys (record { lacks = h.lacks.1; ends = h.ends }) k in
+    record { lacks = (h.lacks.0, rest.lacks); ends = rest.ends }
 
-class_calm : (p : ℕ → Bool) → p 59 ≡ false → p 34 ≡ false → (xs : List ℕ) → list_all p xs ≡ true → list_all neither xs ≡ true
-class_calm p semicolon quote xs h = all_pass p neither xs (class_neither p semicolon quote) h
+class_neither : (p : ℕ → Bool) → p 59 ≡ false → p 44 ≡ false → p 34 ≡ false → (b : ℕ) → p b ≡ true → neither b ≡ true
+class_neither p semicolon comma quote b h = ap (λ t. not t && (not (eqb b 44) && not (eqb b 34))) (other_than p b 59 semicolon h) ∙ ap (λ t. not t && not (eqb b 34)) (other_than p b 44 comma h) ∙ ap not (other_than p b 34 quote h)
+
+pub class_calm : (p : ℕ → Bool) → p 59 ≡ false → p 44 ≡ false → p 34 ≡ false → (xs : List ℕ) → list_all p xs ≡ true → list_all neither xs ≡ true
+class_calm p semicolon comma quote xs h = all_pass p neither xs (class_neither p semicolon comma quote) h
 
 -- inside quotes
 abbrev place_in : Bool → Place
 place_in true = Escaped
 place_in false = Quoted
 
-inside_calm : (escaped : Bool) (inside ys : List ℕ) → IsInside escaped inside → IsCalm Plain ys → IsCalm (place_in escaped) (inside ++ (34 ∷ ys))
-inside_calm true [] ys h k = absurd (false≢true (sym h))
-inside_calm false [] ys h k = record { lacks = (refl, k.lacks); ends = k.ends }
-inside_calm true (b ∷ inside) ys h k =
-    let rest = inside_calm false inside ys h.1 k in
+inside_calm : (mark : ℕ) (escaped : Bool) (inside ys : List ℕ) → IsInside escaped inside → IsCalm mark Plain ys → IsCalm mark (place_in escaped) (inside ++ (34 ∷ ys))
+inside_calm mark true [] ys h k = absurd (false≢true (sym h))
+inside_calm mark false [] ys h k = record { lacks = (refl, k.lacks); ends = k.ends }
+inside_calm mark true (b ∷ inside) ys h k =
+    let rest = inside_calm mark false inside ys h.1 k in
     record { lacks = (refl, rest.lacks); ends = rest.ends }
-inside_calm false (b ∷ inside) ys h k =
-    let rest = inside_calm (eqb b 92) inside ys h.1 k in
+inside_calm mark false (b ∷ inside) ys h k =
+    let rest = inside_calm mark (eqb b 92) inside ys h.1 k in
     let later : place_after Quotes Quoted b ≡ place_in (eqb b 92) = after_quoted (eqb b 92) (eqb b 34) (and_true (eqb b 34) h.0) in
     record {
-      lacks = (refl, subst (λ (p : Place). LacksOutside Quotes 59 p (inside ++ (34 ∷ ys))) (sym later) rest.lacks);
+      lacks = (refl, subst (λ (p : Place). LacksOutside Quotes mark p (inside ++ (34 ∷ ys))) (sym later) rest.lacks);
       ends = ap (λ (p : Place). end_place Quotes p (inside ++ (34 ∷ ys))) later ∙ rest.ends;
     }
   where
@@ -274,43 +304,43 @@ inside_calm false (b ∷ inside) ys h k =
     after_quoted false true e = absurd (false≢true (sym e))
     after_quoted false false e = refl
 
-quoted_calm : (inside ys : List ℕ) → IsInside false inside → IsCalm Plain ys → IsCalm Plain (34 ∷ (inside ++ (34 ∷ ys)))
-quoted_calm inside ys h k = let rest = inside_calm false inside ys h k in record { lacks = (refl, rest.lacks); ends = rest.ends }
+quoted_calm : (mark : ℕ) → IsMark mark → (inside ys : List ℕ) → IsInside false inside → IsCalm mark Plain ys → IsCalm mark Plain (34 ∷ (inside ++ (34 ∷ ys)))
+quoted_calm mark m inside ys h k = let rest = inside_calm mark false inside ys h k in record { lacks = (m.quote, rest.lacks); ends = rest.ends }
 
-value_calm : (value ys : List ℕ) → IsValue value → IsCalm Plain ys → IsCalm Plain (value ++ ys)
-value_calm value ys (inl plain) k = calm_append value (class_calm is_value_byte refl refl value plain.1) ys k
-value_calm value ys (inr q) k =
-    subst (λ (x : List ℕ). IsCalm Plain (x ++ ys)) (sym q.1.0) (subst (λ (x : List ℕ). IsCalm Plain (34 ∷ x)) (sym (append_assoc q.0 (34 ∷ []) ys)) (quoted_calm q.0 ys q.1.1 k))
+value_calm : (mark : ℕ) → IsMark mark → (value ys : List ℕ) → IsValue value → IsCalm mark Plain ys → IsCalm mark Plain (value ++ ys)
+value_calm mark m value ys (inl plain) k = calm_append mark m value (class_calm is_value_byte refl refl refl value plain.1) ys k
+value_calm mark m value ys (inr q) k =
+    subst (λ (x : List ℕ). IsCalm mark Plain (x ++ ys)) (sym q.1.0) (subst (λ (x : List ℕ). IsCalm mark Plain (34 ∷ x)) (sym (append_assoc q.0 (34 ∷ []) ys)) (quoted_calm mark m q.0 ys q.1.1 k))
 
-space_calm : (gap : List ℕ) → IsSpace gap → list_all neither gap ≡ true
-space_calm gap space = class_calm is_space refl refl gap space
+pub space_calm : (gap : List ℕ) → IsSpace gap → list_all neither gap ≡ true
+space_calm gap space = class_calm is_space refl refl refl gap space
 
-tail_calm : (g : ParamGaps) (value : Option (List ℕ)) → AreParamGaps g → IfSome value IsValue → IsCalm Plain (value_spelling g value)
-tail_calm g None spaces h = calm_all g.behind_name (space_calm g.behind_name spaces.behind_name)
-tail_calm g (Some value) spaces h =
-    calm_append g.behind_name (space_calm g.behind_name spaces.behind_name) (61 ∷ (g.before_value ++ (value ++ g.behind_value)))
-    (calm_append (61 ∷ []) refl (g.before_value ++ (value ++ g.behind_value))
-    (calm_append g.before_value (space_calm g.before_value spaces.before_value) (value ++ g.behind_value)
-    (value_calm value g.behind_value h (calm_all g.behind_value (space_calm g.behind_value spaces.behind_value)))))
+tail_calm : (mark : ℕ) → IsMark mark → (g : ParamGaps) (value : Option (List ℕ)) → AreParamGaps g → IfSome value IsValue → IsCalm mark Plain (value_spelling g value)
+tail_calm mark m g None spaces h = calm_all mark m g.behind_name (space_calm g.behind_name spaces.behind_name)
+tail_calm mark m g (Some value) spaces h =
+    calm_append mark m g.behind_name (space_calm g.behind_name spaces.behind_name) (61 ∷ (g.before_value ++ (value ++ g.behind_value)))
+    (calm_append mark m (61 ∷ []) refl (g.before_value ++ (value ++ g.behind_value))
+    (calm_append mark m g.before_value (space_calm g.before_value spaces.before_value) (value ++ g.behind_value)
+    (value_calm mark m value g.behind_value h (calm_all mark m g.behind_value (space_calm g.behind_value spaces.behind_value)))))
 
-param_calm : (param : List ℕ) → IsViaParam param → IsCalm Plain param
-param_calm param h =
-    subst (IsCalm Plain) (sym h.spelled)
-    (calm_append h.gaps.before (space_calm h.gaps.before h.spaces.before) (h.name ++ value_spelling h.gaps h.value)
-    (calm_append h.name (class_calm is_token_byte refl refl h.name (token_bytes h.name h.token)) (value_spelling h.gaps h.value)
-    (tail_calm h.gaps h.value h.spaces h.valued)))
+pub param_calm : (mark : ℕ) → IsMark mark → (param : List ℕ) → IsViaParam param → IsCalm mark Plain param
+param_calm mark m param h =
+    subst (IsCalm mark Plain) (sym h.spelled)
+    (calm_append mark m h.gaps.before (space_calm h.gaps.before h.spaces.before) (h.name ++ value_spelling h.gaps h.value)
+    (calm_append mark m h.name (class_calm is_token_byte refl refl refl h.name (token_bytes h.name h.token)) (value_spelling h.gaps h.value)
+    (tail_calm mark m h.gaps h.value h.spaces h.valued)))
 
 abbrev of_cut : Cut → List (List ℕ)
 of_cut c = c.0 ∷ pieces_outside_behind Quotes 59 c.1
 
-on_some : (o : Option (List ℕ)) (P : Type 0) → P → OnSome o P
+pub on_some : (o : Option (List ℕ)) (P : Type 0) → P → OnSome o P
 on_some None P p = tt
 on_some (Some x) P p = p
 
-params_again : (params : List (List ℕ)) → AllByRecursion IsViaParam params → params_of (joined 59 params) ≡ params
+pub params_again : (params : List (List ℕ)) → AllByRecursion IsViaParam params → params_of (joined 59 params) ≡ params
 params_again [] all = refl
 params_again (p ∷ ps) all =
-    let calm = param_calm p all.0 in
+    let calm = param_calm 59 semicolon p all.0 in
     pieces_outside-cut Quotes 59 (p ++ flat_map param_text ps)
     ∙ ap (λ (x : List ℕ). of_cut (cut_outside Quotes 59 Plain (p ++ x))) (joined-behind 59 ps)
     ∙ ap of_cut (cut_outside_again Quotes 59 Plain p (joined 59 ps) calm.lacks (on_some (joined 59 ps) _ calm.ends))
@@ -434,7 +464,7 @@ slash_again before inner after rest front back lacks =
 abbrev version_text : List ℕ
 version_text = codes "2.0"
 
-abbrev tail_of : ViaGaps → ViaText → List ℕ
+abbrev pub tail_of : ViaGaps → ViaText → List ℕ
 tail_of g via = tail_spelling g.before_port g.before_params via.port via.params
 
 abbrev parts_in : ViaGaps → ViaText → Marks → Parts
@@ -478,10 +508,10 @@ unfolding are_parts
 tests_pass p protocol version transport host port params =
     and_from _ _ (and_from _ _ (and_from _ _ (and_from _ _ (and_from _ _ protocol version) transport) (IsHost-is_host p.host host)) (port_good p.port port)) params
 
-abbrev with_params : ViaText → List (List ℕ) → ViaText
+abbrev pub with_params : ViaText → List (List ℕ) → ViaText
 with_params via params = record { transport = via.transport; host = via.host; port = via.port; params = params }
 
-abbrev ok : ViaText → Result ViaText ViaFault
+abbrev pub ok : ViaText → Result ViaText ViaFault
 ok via = Ok via
 
 pub via_again : (text : List ℕ) (via : ViaText) → IsVia text via → read_via text ≡ Ok via

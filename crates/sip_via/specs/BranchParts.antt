@@ -3,7 +3,7 @@ use Rattle.std.specs.Prelude.{ℕ, List, ◌∷◌, ◌++◌, Option, Some, None
 use Rattle.std.specs.Fmt.{decimal}
 use Rattle.sip_lex.specs.Cut.{cut, is}
 use Rattle.sip_via.specs.declared.branch.Parts.{Parts}
-use Rattle.sip_via.specs.BranchText.{Branch}
+use Rattle.sip_via.specs.declared.branch.BranchName.{BranchName}
 use Rattle.sip_via.specs.HexPair.{hex_text}
 
 pub record BranchParts : Type 0 where
@@ -15,7 +15,7 @@ pub record BranchParts : Type 0 where
 abbrev pub parts_text : BranchParts → List ℕ
 parts_text p = p.key ++ (46 ∷ (p.instance ++ (46 ∷ (p.context ++ (46 ∷ p.target)))))
 
-abbrev pub branch_parts : Branch → BranchParts
+abbrev pub branch_parts : BranchName → BranchParts
 branch_parts b = record { key = hex_text b.key; instance = decimal b.instance; context = decimal b.context; target = decimal b.target }
 
 abbrev pub with_context : List ℕ → List ℕ → List ℕ × Option (List ℕ) → Option BranchParts

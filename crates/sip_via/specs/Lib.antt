@@ -6,13 +6,12 @@ pub mod HexPair
 pub mod BranchText
 pub mod BranchParts
 pub mod OwnVia
-pub mod Loop
 pub mod Edits
+pub mod Lines
 pub mod ViaFaults
 pub mod SeenParts
 pub mod SeenMessages
 pub mod Received
-pub mod Routes
 pub mod Fronts
-pub mod LoopTest
+pub mod OwnPass
 pub mod ViaGrammar

@@ -55,8 +55,9 @@ marked_value source value = marked_parts source (via_of value).host (cut_outside
 
 -- ---- the line that holds it, and the message
 
+-- the space before the comma stays
 abbrev pub marked_line : Hop → List ℕ × Option (List ℕ) → List ℕ
-marked_line source (top, others) = marked_value source (trim top) ++ behind 44 others
+marked_line source (top, others) = marked_value source (trim top) ++ (drop (length (trim_end top)) top ++ behind 44 others)
 
 abbrev pub with_via_line : MessageText → List ℕ → MessageText
 with_via_line m value = with_headers m (replaced (codes "via") (Some value) m.headers)

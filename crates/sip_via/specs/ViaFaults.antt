@@ -14,6 +14,11 @@ abbrev pub Gives : {X Y : Type 0} → (X → Y) → Result X ViaFault → Result
 Gives view (Ok x) read = read ≡ Ok (view x)
 Gives view (Err e) read = Fails e read
 
+-- why nothing was given: the fault, and want of memory only where there is none
+abbrev pub refusal : {Y : Type 0} → Result Y ViaFault → ViaFault
+refusal (Ok y) = via.NoMemory
+refusal (Err f) = f
+
 abbrev pub FailsToBuild : {Y : Type 0} → BuildFault → Result Y BuildFault → Type 0
 FailsToBuild build.NoMemory built = Unit {0}
 FailsToBuild f built = built ≡ Err f

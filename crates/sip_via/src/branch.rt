@@ -5,7 +5,8 @@ ghost use Rattle.std.specs.Fmt.{decimal};
 ghost use Rattle.std.specs.List.{AllByRecursion, list_all};
 ghost use Rattle.sip_lex.specs.Bytes.{is_token_byte};
 ghost use Rattle.sip_via.specs.BranchParts.{branch_parts, parts_of, seen_parts, view_parts};
-ghost use Rattle.sip_via.specs.BranchText.{Branch, IsBranch, branch_text, seen, seen_branch};
+ghost use Rattle.sip_via.specs.declared.branch.BranchName.{BranchName};
+ghost use Rattle.sip_via.specs.BranchText.{IsBranch, branch_text};
 ghost use Rattle.sip_via.specs.HexPair.{hex_text};
 
 use crate::hex_pair::{hex_pair, read_pair};
@@ -40,7 +41,7 @@ fn number_is_token(n: u64)
 impl BranchName {
     /// Shows that the text of the branch is a token.
     fn is_token(&self)
-        ensures { list_all is_token_byte (branch_text (seen_branch self.now)) ≡ true }
+        ensures { list_all is_token_byte (branch_text self.now) ≡ true }
     {
         digits_are_tokens(&self.key);
         number_is_token(u64::from(self.instance));
@@ -78,7 +79,7 @@ fn append_dotted<A: Allocator>(out: &mut Vec<u8, A>, n: u64) -> Result<(), Alloc
 }
 
 fn append_branch<A: Allocator>(out: &mut Vec<u8, A>, name: &BranchName) -> Result<(), AllocError>
-    ensures ok { OnOk result (out.new.items ≡ out.old.items ++ branch_text (seen_branch name.now)) }
+    ensures ok { OnOk result (out.new.items ≡ out.old.items ++ branch_text name.now) }
     ensures begins { take (vec_len out.old) out.new.items ≡ out.old.items }
 {
     out.extend_from_slice(b"z9hG4bK")?;
@@ -95,8 +96,8 @@ fn append_branch<A: Allocator>(out: &mut Vec<u8, A>, name: &BranchName) -> Resul
 ///
 /// Only where the growth of `out` is refused; `out` is then unchanged.
 pub fn write_branch<A: Allocator>(name: &BranchName, out: &mut Vec<u8, A>) -> Result<(), AllocError>
-    ensures ok { OnOk result (out.new.items ≡ out.old.items ++ branch_text (seen_branch name.now)) }
-    ensures token { list_all is_token_byte (branch_text (seen_branch name.now)) ≡ true }
+    ensures ok { OnOk result (out.new.items ≡ out.old.items ++ branch_text name.now) }
+    ensures token { list_all is_token_byte (branch_text name.now) ≡ true }
     ensures err { OnErr result (out.new.items ≡ out.old.items) }
 {
     name.is_token();
@@ -149,8 +150,8 @@ fn split_parts(text: &[u8]) -> Option<Parts<'_>>
 }
 
 fn read_parts(parts: &Parts<'_>) -> Option<BranchName>
-    ensures found { IfSome result (λ name. view_parts parts.now ≡ branch_parts (seen_branch name)) }
-    ensures only { (b : Branch) → IsBranch b → view_parts parts.now ≡ branch_parts b → seen result ≡ Some b }
+    ensures found { IfSome result (λ name. view_parts parts.now ≡ branch_parts name) }
+    ensures only { (b : BranchName) → IsBranch b → view_parts parts.now ≡ branch_parts b → result ≡ Some b }
 {
     let key = read_key(parts.key)?;
     let instance = read_plain_number(parts.instance, u64::from(u32::MAX))? as u32;
@@ -167,8 +168,8 @@ fn read_parts(parts: &Parts<'_>) -> Option<BranchName>
 /// What a branch parameter says; `None` where `write_branch` gives no such text, as where a digit of
 /// the key is an upper case letter or a number begins with a zero too many.
 pub fn read_branch(text: &[u8]) -> Option<BranchName>
-    ensures found { IfSome result (λ name. text.now ≡ branch_text (seen_branch name)) }
-    ensures only { (b : Branch) → IsBranch b → text.now ≡ branch_text b → seen result ≡ Some b }
+    ensures found { IfSome result (λ name. text.now ≡ branch_text name) }
+    ensures only { (b : BranchName) → IsBranch b → text.now ≡ branch_text b → result ≡ Some b }
 {
     let parts = split_parts(text.strip_prefix(b"z9hG4bK")?)?;
     read_parts(&parts)
@@ -176,5 +177,5 @@ pub fn read_branch(text: &[u8]) -> Option<BranchName>
 
 /// A branch parameter is a token (RFC 3261 section 25.1), so it may stand in a Via value as it is.
 pub fn branch_is_token()
-    ensures { (b : Branch) → IsBranch b → list_all is_token_byte (branch_text b) ≡ true }
+    ensures { (b : BranchName) → IsBranch b → list_all is_token_byte (branch_text b) ≡ true }
 {}

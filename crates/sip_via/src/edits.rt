@@ -1,30 +1,26 @@
 //! Copies of header lines of which some are changed or left out.
 
-ghost use Rattle.std.specs.Prelude.{◌≡◌, ◌++◌, [], ◌∷◌, ◌≤◌, length, IfOk, OnOk};
-ghost use Rattle.sip_text.specs.Message.{IsMessage};
+ghost use Rattle.std.specs.Prelude.{◌≡◌, ◌++◌, [], ◌∷◌, ◌≤◌, length, option_map, IfOk, OnErr, OnOk};
 ghost use Rattle.std.specs.Option.{option_copied};
-ghost use Rattle.sip_text.specs.Name.{first_value};
+ghost use Rattle.sip_lex.specs.Bytes.{trim};
+ghost use Rattle.sip_text.specs.Message.{IsMessage};
 ghost use Rattle.sip_text.specs.Seen.{view, view_start, views};
-ghost use Rattle.sip_via.specs.Edits.{begins_named, changed_first, line, line_if_any, place_of, replaced, with_headers};
+ghost use Rattle.sip_via.specs.Edits.{begins_named, changed_first, line_if_any, place_of, replaced, with_headers};
 ghost use Rattle.sip_via.specs.SeenMessages.{seen_value};
 
-use sip_text::{Header, Message, Start, Values};
+use crate::lines::add_made;
+use sip_lex::trim;
+use sip_text::{Header, Message, Start};
 use std::alloc::{AllocError, Allocator};
-
-/// The first value of that name.
-fn first_value<'a, A: Allocator>(headers: &'a [Header<A>], name: &[u8]) -> Option<&'a [u8]>
-    ensures { option_copied result ≡ first_value name.now (views headers.now) }
-{
-    Values::new(name, headers).next()
-}
 
 /// Whether the first of some header lines has that name, in any case and in long or compact form.
 pub fn begins_named<A: Allocator>(headers: &[Header<A>], name: &[u8]) -> bool
-    requires { 1 ≤ length headers.now }
     ensures { result ≡ begins_named name.now (views headers.now) }
 {
-    let (first, _) = headers.split_at(1);
-    first_value(first, name).is_some()
+    match headers.split_first() {
+        None => false,
+        Some((first, _)) => first.is_named(name),
+    }
 }
 
 /// A copy of a start line.
@@ -70,38 +66,24 @@ pub fn add_copies<A: Allocator + Clone>(
     Ok(())
 }
 
-/// Adds a line of that name and value.
-fn add_line<A: Allocator + Clone>(
-    out: &mut Vec<Header<A>, A>,
-    alloc: &A,
-    name: &[u8],
-    value: Vec<u8, A>,
-) -> Result<(), AllocError>
-    ensures { OnOk result
-        (views out.new.items ≡ views out.old.items ++ line name.now value.items ∷ []) }
-{
-    let name = Vec::from_slice(alloc.clone()?, name)?;
-    out.push(Header { name, value })?;
-    Ok(())
-}
-
 /// Adds a line of that name, if there is a value for it.
 ///
 /// # Errors
 ///
-/// Only where the allocator refuses.
+/// Only where the allocator refuses; `out` is then unchanged.
 pub fn add_line_if_any<A: Allocator + Clone>(
     out: &mut Vec<Header<A>, A>,
     alloc: &A,
     name: &[u8],
     value: Option<Vec<u8, A>>,
 ) -> Result<(), AllocError>
-    ensures { OnOk result
+    ensures ok { OnOk result
         (views out.new.items ≡ views out.old.items ++ line_if_any name.now (seen_value value)) }
+    ensures err { OnErr result (out.new.items ≡ out.old.items) }
 {
     match value {
         None => Ok(()),
-        Some(value) => add_line(out, alloc, name, value),
+        Some(value) => add_made(out, alloc, name, value),
     }
 }
 
@@ -176,4 +158,21 @@ pub fn with_headers<A: Allocator + Clone>(
     let start = copy_start(&alloc, message.start())?;
     let body = Vec::from_slice(alloc, message.body())?;
     Ok(Message::from_parts(start, headers, body))
+}
+
+/// A copy of the values that stand behind a comma, without the space round them.
+///
+/// # Errors
+///
+/// Only where the allocator refuses.
+pub fn copy_others<A: Allocator>(
+    alloc: A,
+    others: Option<&[u8]>,
+) -> Result<Option<Vec<u8, A>>, AllocError>
+    ensures { IfOk result (λ copy. seen_value copy ≡ option_map trim (option_copied others.entry)) }
+{
+    match others {
+        None => Ok(None),
+        Some(others) => Ok(Some(Vec::from_slice(alloc, trim(others))?)),
+    }
 }

@@ -2,11 +2,11 @@
 
 ghost use Rattle.std.specs.Prelude.{◌≡◌, IfOk, true};
 ghost use Rattle.sip_text.specs.Message.{is_value};
-ghost use Rattle.sip_via.specs.BranchText.{seen_branch};
 ghost use Rattle.sip_via.specs.OwnVia.{IsOwn, own_via};
 
+use crate::address::{append_address, append_number};
 use crate::branch::{BranchName, write_branch};
-use crate::own::{Own, append_address, append_number};
+use crate::own::Own;
 use std::alloc::{AllocError, Allocator};
 
 /// Shows that the numbers of the own address are bounded.
@@ -25,8 +25,8 @@ pub fn own_via<A: Allocator>(
     own: Own,
     branch: &BranchName,
 ) -> Result<Vec<u8, A>, AllocError>
-    ensures text { IfOk result (λ text. text.items ≡ own_via own (seen_branch branch.now)) }
-    ensures good { IfOk result (λ _. is_value (own_via own (seen_branch branch.now)) ≡ true) }
+    ensures text { IfOk result (λ text. text.items ≡ own_via own branch.now) }
+    ensures good { IfOk result (λ _. is_value (own_via own branch.now) ≡ true) }
 {
     is_own_address(own);
     let mut text = Vec::new(alloc);

@@ -1,21 +1,27 @@
 //! Marking where a request came from, and where its response goes.
 
-ghost use Rattle.std.specs.Prelude.{◌≡◌, ◌++◌, IfOk, OnOk};
+ghost use Rattle.std.specs.Prelude.{◌≡◌, ◌++◌, ◌<◌, IfErr, IfOk, List, Ok, OnOk, Some, length, ℕ};
 ghost use Rattle.std.specs.List.{flat_map, list_any};
 ghost use Rattle.std.specs.Option.{option_copied};
 ghost use Rattle.sip_lex.specs.Cut.{behind};
+ghost use Rattle.sip_text.specs.Seen.{view, views};
+ghost use Rattle.sip_via.specs.Address.{address_text};
+ghost use Rattle.sip_via.specs.Edits.{line, place_of, replaced};
 ghost use Rattle.sip_via.specs.Received.{IsSource, asks_port, filled, first_via_line, gets_received, line_marked, marked, marked_param, marked_value, port_or_default, received_text, reply_of};
-ghost use Rattle.sip_via.specs.ViaFaults.{Gives};
-ghost use Rattle.sip_via.specs.ViaParts.{params_of, via_of};
+ghost use Rattle.sip_via.specs.SeenParts.{seen_parts};
+ghost use Rattle.sip_via.specs.TopVia.{top_value};
+ghost use Rattle.sip_via.specs.ViaFaults.{Gives, refusal};
+ghost use Rattle.sip_via.specs.ViaParts.{params_of, via_of, via_of_parts};
 
-use crate::cut::cut_via;
-use crate::edits::{add_replaced, with_headers};
-use crate::own::{ViaFault, append_address, append_number};
-use crate::params::{Params, is_named, value_of};
-use crate::values::VIA;
+use crate::address::{append_address, append_number, is_address};
+use crate::cut::{Cut, cut_value, cut_via, port_if_any};
+use crate::edits::{add_replaced, place_of, with_headers};
+use crate::own::ViaFault;
+use crate::params::{Params, has_rport, is_named, value_of};
+use crate::values::{VIA, top_via};
 use crate::via::Via;
 use sip_lex::{Shelter, cut_outside, trim, trim_end};
-use sip_text::Message;
+use sip_text::{Header, Message};
 use sip_uri::Hop;
 use std::alloc::{AllocError, Allocator};
 
@@ -35,6 +41,28 @@ pub fn reply_hop<A: Allocator>(via: &Via<A>, source: Hop) -> Hop
     };
     let addr = source.addr;
     Hop { addr, port }
+}
+
+/// Where a response goes to a request with a top value of these parts.
+fn reply_hop_of_parts(cut: &Cut<'_>, source: Hop) -> Hop
+    ensures { result ≡ reply_of (via_of_parts (seen_parts cut.now)) source }
+{
+    let port = if has_rport(cut.params, source.port) {
+        source.port
+    } else {
+        port_if_any(cut.port).unwrap_or(DEFAULT_PORT)
+    };
+    let addr = source.addr;
+    Hop { addr, port }
+}
+
+/// Where a response to a request goes, which came from `source`, by the request's top value: as
+/// `reply_hop` says, and without memory. A top value that is none is read as far as its parts can be
+/// told apart; `marked_value_is_read` shows that the top value of a marked request is one.
+pub fn reply_hop_of<A: Allocator>(message: &Message<A>, source: Hop) -> Hop
+    ensures { result ≡ reply_of (via_of (top_value message.now)) source }
+{
+    reply_hop_of_parts(&cut_value(top_via(message)), source)
 }
 
 /// Whether a parameter is `rport` without a value.
@@ -109,34 +137,38 @@ fn append_params<A: Allocator>(
 }
 
 /// Whether the source's address is to be told.
-fn gets_received(address: &[u8], host: &[u8], text: Option<&[u8]>) -> bool
-    ensures { result ≡ gets_received address.now host.now (params_of (option_copied text.entry)) }
+fn gets_received(address: [u8; 4], host: &[u8], text: Option<&[u8]>) -> bool
+    ensures { result ≡ gets_received (address_text address) host.now (params_of (option_copied text.entry)) }
 {
-    any_asks_port(text) || host != address
+    any_asks_port(text) || !is_address(host, address)
 }
 
 /// Appends the parameter that tells the source's address, where it is wanted.
 fn append_received<A: Allocator>(
     out: &mut Vec<u8, A>,
-    address: &[u8],
+    address: [u8; 4],
     host: &[u8],
     text: Option<&[u8]>,
 ) -> Result<(), AllocError>
     ensures { OnOk result
         (out.new.items
-        ≡ out.old.items ++ received_text address.now host.now (params_of (option_copied text.entry))) }
+        ≡ out.old.items
+        ++ received_text (address_text address) host.now (params_of (option_copied text.entry))) }
 {
     if !gets_received(address, host, text) {
         return Ok(());
     }
     out.extend_from_slice(b";received=")?;
-    out.extend_from_slice(address)?;
-    Ok(())
+    append_address(out, address)
 }
 
-/// The top value as it is after marking.
-fn marked_value<A: Allocator + Clone>(
-    alloc: &A,
+/// How much longer than before a line is that gets the source's address and port, at most.
+const MARKS: usize = 32;
+
+/// The top value as it is after marking, in memory that has room for so many bytes.
+fn marked_value<A: Allocator>(
+    alloc: A,
+    room: usize,
     value: &[u8],
     host: &[u8],
     source: Hop,
@@ -145,25 +177,25 @@ fn marked_value<A: Allocator + Clone>(
     ensures { IfOk result (λ marked. marked.items ≡ marked_value source value.now) }
 {
     let (front, params) = cut_outside(value, b';', Shelter::Quotes);
-    let mut marked = Vec::new(alloc.clone()?);
+    let mut marked = Vec::with_capacity(alloc, room)?;
     marked.extend_from_slice(front)?;
     append_params(&mut marked, params, source.port)?;
-    let mut address = Vec::new(alloc.clone()?);
-    append_address(&mut address, source.addr)?;
-    append_received(&mut marked, &address, host, params)?;
+    append_received(&mut marked, source.addr, host, params)?;
     let end = trim_end(&marked).len();
     marked.truncate(end);
     Ok(marked)
 }
 
-/// Appends the values that stand behind the top one's comma, as they are.
+/// Appends the space behind the top value, and the values that stand behind its comma, as they are.
 fn append_others<A: Allocator>(
     out: &mut Vec<u8, A>,
+    space: &[u8],
     others: Option<&[u8]>,
 ) -> Result<(), AllocError>
     ensures { OnOk result
-        (out.new.items ≡ out.old.items ++ behind 44 (option_copied others.entry)) }
+        (out.new.items ≡ out.old.items ++ (space.now ++ behind 44 (option_copied others.entry))) }
 {
+    out.extend_from_slice(space)?;
     if let Some(others) = others {
         out.push(b',')?;
         out.extend_from_slice(others)?;
@@ -178,21 +210,22 @@ fn via_line<A: Allocator>(message: &Message<A>) -> &[u8]
     message.values(VIA).next().unwrap_or(b"")
 }
 
-/// A Via line with its first value marked.
+/// A Via line with its first value marked. The space before its comma stays.
 fn marked_line<A: Allocator + Clone>(
     alloc: &A,
     line: &[u8],
     source: Hop,
 ) -> Result<Vec<u8, A>, ViaFault>
-    ensures { Gives (λ marked. marked.items) result (line_marked source line.now) }
+    ensures exact { Gives (λ marked. marked.items) result (line_marked source line.now) }
+    ensures refused { IfErr result (λ fault. fault ≡ refusal (line_marked source line.now)) }
 {
     let (top, others) = cut_outside(line, b',', Shelter::Quotes);
-    let top = trim(top);
-    let Some(cut) = cut_via(top) else {
+    let value = trim(top);
+    let Some(cut) = cut_via(value) else {
         return Err(ViaFault::BadVia);
     };
-    let mut marked = marked_value(alloc, top, cut.host, source)?;
-    append_others(&mut marked, others)?;
+    let mut marked = marked_value(alloc.clone()?, line.len() + MARKS, value, cut.host, source)?;
+    append_others(&mut marked, &top[trim_end(top).len()..], others)?;
     Ok(marked)
 }
 
@@ -215,7 +248,8 @@ pub fn mark_received<A: Allocator + Clone>(
     message: &Message<A>,
     source: Hop,
 ) -> Result<Message<A>, ViaFault>
-    ensures { Gives (λ m. m) result (marked message.now source) }
+    ensures exact { Gives (λ m. m) result (marked message.now source) }
+    ensures refused { IfErr result (λ fault. fault ≡ refusal (marked message.now source)) }
 {
     message.is_message();
     is_source(source);
@@ -223,4 +257,74 @@ pub fn mark_received<A: Allocator + Clone>(
     let mut headers = Vec::new(alloc.clone()?);
     add_replaced(&mut headers, &alloc, message.headers(), VIA, Some(line))?;
     Ok(with_headers(alloc, message, headers)?)
+}
+
+/// A message that was not marked, as it was, and why.
+#[derive(Drop)]
+pub struct Unmarked<A: Allocator> {
+    pub message: Message<A>,
+    pub fault: ViaFault,
+}
+
+fn put_value<A: Allocator>(header: &mut Header<A>, value: Vec<u8, A>)
+    ensures { view header.new ≡ line (view header.old).name value.items }
+{
+    header.value = value;
+}
+
+/// The header lines with another value in the one at that place.
+fn with_value_at<A: Allocator>(
+    headers: Vec<Header<A>, A>,
+    place: usize,
+    value: Vec<u8, A>,
+) -> Vec<Header<A>, A>
+    requires { place < length headers.items }
+    ensures { (name : List ℕ) → place ≡ place_of name (views headers.items)
+        → views result.items ≡ replaced name (Some value.items) (views headers.items) }
+{
+    let mut headers = headers;
+    put_value(&mut headers[place], value);
+    headers
+}
+
+/// The header lines with another value in the first line of that name.
+fn with_first_value<A: Allocator>(
+    headers: Vec<Header<A>, A>,
+    name: &[u8],
+    value: Vec<u8, A>,
+) -> Vec<Header<A>, A>
+    ensures { views result.items ≡ replaced name.now (Some value.items) (views headers.items) }
+{
+    let place = place_of(&headers, name);
+    if place < headers.len() {
+        with_value_at(headers, place, value)
+    } else {
+        headers
+    }
+}
+
+/// The request with its source in the top Via value, as `mark_received` gives it, made of the request itself: the
+/// first Via line is allocated anew, and nothing else.
+///
+/// # Errors
+///
+/// The request as it was, with `BadVia` where the top value can't be read; then with `NoMemory`.
+pub fn mark<A: Allocator + Clone>(
+    alloc: A,
+    message: Message<A>,
+    source: Hop,
+) -> Result<Message<A>, Unmarked<A>>
+    ensures ok { IfOk result (λ m. marked message source ≡ Ok m) }
+    ensures err { IfErr result (λ unmarked. unmarked.message ≡ message) }
+    ensures refused { IfErr result (λ unmarked. unmarked.fault ≡ refusal (marked message source)) }
+{
+    message.is_message();
+    is_source(source);
+    let line = match marked_line(&alloc, via_line(&message), source) {
+        Ok(line) => line,
+        Err(fault) => return Err(Unmarked { message, fault }),
+    };
+    let (start, headers, body) = message.into_parts();
+    let headers = with_first_value(headers, VIA, line);
+    Ok(Message::from_parts(start, headers, body))
 }

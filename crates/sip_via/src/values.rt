@@ -14,9 +14,10 @@ use std::marker::Model;
 /// The name of the field, in lower case.
 pub(crate) const VIA: &[u8] = b"via";
 
-/// The Via values that are left, each line's in order.
+/// The Via values of a message, the nearest sender's first (RFC 3261 section 20.42): those that are left,
+/// each line's in order.
 #[derive(Drop)]
-pub(crate) struct ViaValues<'a, A: Allocator> {
+pub struct ViaValues<'a, A: Allocator> {
     line: Option<&'a [u8]>,
     lines: Values<'a, 'static, A>,
 }
@@ -59,7 +60,7 @@ impl<'a, A: Allocator> ViaValues<'a, A> {
     ghost use Rattle.sip_via.specs.TopVia.{via_values};
 
     /// All Via values of a message.
-    pub(crate) fn of(message: &'a Message<A>) -> ViaValues<'a, A>
+    pub fn of(message: &'a Message<A>) -> ViaValues<'a, A>
         ensures { result ≡ via_values message.now }
     {
         ViaValues {
@@ -69,7 +70,7 @@ impl<'a, A: Allocator> ViaValues<'a, A> {
     }
 
     /// The first of those that are left, which then is not.
-    pub(crate) fn next(&mut self) -> Option<&'a [u8]>
+    pub fn next(&mut self) -> Option<&'a [u8]>
         ensures some { IfSome result (λ value. self.old ≡ value.now ∷ self.new) }
         ensures none { IfNone result (self.old ≡ []) }
     {

@@ -1,9 +1,9 @@
 //! Via values.
 
-ghost use Rattle.std.specs.Prelude.{◌≡◌, true, IfOk, Ok};
+ghost use Rattle.std.specs.Prelude.{◌≡◌, true, IfErr, IfOk, Ok};
 ghost use Rattle.std.specs.List.{list_any};
 ghost use Rattle.std.specs.Option.{option_copied};
-ghost use Rattle.sip_via.specs.ViaFaults.{Gives};
+ghost use Rattle.sip_via.specs.ViaFaults.{Gives, refusal};
 ghost use Rattle.sip_via.specs.ViaGrammar.{IsVia};
 ghost use Rattle.sip_via.specs.ViaParts.{ViaText, branch_of, is_rport, port_if_any, read_via};
 
@@ -28,7 +28,8 @@ impl<A: Allocator> Model for Via<A> {
 }
 
 fn read_value<A: Allocator>(alloc: A, value: &[u8]) -> Result<Via<A>, ViaFault>
-    ensures { Gives (λ v. v) result (read_via value.now) }
+    ensures exact { Gives (λ v. v) result (read_via value.now) }
+    ensures refused { IfErr result (λ fault. fault ≡ refusal (read_via value.now)) }
 {
     if cut_via(value).is_none() {
         return Err(ViaFault::BadVia);
@@ -49,6 +50,7 @@ impl<A: Allocator> Via<A> {
         ensures found { IfOk result (λ via. IsVia value.now via) }
         ensures only { (via : ViaText) → IsVia value.now via → Gives (λ v. v) result (Ok via) }
         ensures exact { Gives (λ v. v) result (read_via value.now) }
+        ensures refused { IfErr result (λ fault. fault ≡ refusal (read_via value.now)) }
     {
         read_value(alloc, value)
     }

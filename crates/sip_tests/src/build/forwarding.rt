@@ -1,16 +1,17 @@
 //! Requests that were forwarded, byte for byte.
 ghost use Rattle.std.specs.Prelude.{◌≡◌, IfSome, IsTrue};
 ghost use Rattle.sip_text.specs.Name.{first_value};
-ghost use Rattle.sip_build.specs.Forwarding.{IsHops, hops_name};
+ghost use Rattle.sip_route.specs.Hops.{IsHops, hops_name};
 
 use crate::holds::holds;
 use crate::messages::{OWN, REQUEST, SOURCE, is_written_as, is_written_as_read, message_of};
 use crate::rows::holds_in_row;
 use sip_build::forward;
 use sip_lex::read_number;
+use sip_route::{is_loop, loop_key};
 use sip_text::{Message, Start};
 use sip_uri::SipUri;
-use sip_via::{BranchName, Via, is_loop, loop_key, mark_received, read_branch, top_via};
+use sip_via::{BranchName, Via, mark_received, read_branch, top_via};
 use std::alloc::Global;
 
 const BRANCH: BranchName = BranchName {

@@ -2,7 +2,8 @@
 use crate::holds::holds;
 use crate::messages::{OWN, REQUEST, ROUTED, message_of};
 use crate::rows::holds_in_row;
-use sip_via::{Own, is_loop, loop_key};
+use sip_route::{is_loop, loop_key};
+use sip_via::Own;
 use std::alloc::Global;
 
 /// The loop key of the request of these lines.

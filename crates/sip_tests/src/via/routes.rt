@@ -1,8 +1,8 @@
 //! Requests whose first Route value is the proxy's own, and others.
 use crate::holds::holds;
 use crate::messages::{OWN, REQUEST, is_written_as, message_of};
+use sip_route::strip_route;
 use sip_text::Message;
-use sip_via::strip_route;
 use std::alloc::Global;
 
 /// The request with this Route line, less the proxy's own Route value.

@@ -4,6 +4,7 @@ use Rattle.fork_context.specs.EventView.{event_of}
 use Rattle.fork_context.specs.KindView.{kind_of}
 use Rattle.fork_program.specs.Script.{Script}
 use Rattle.fork_program.specs.Faults.{IsForkReplay}
+use Rattle.fork_program.proofs.Headline.{tells_one_final}
 use Rattle.fork_program.proofs.Outcomes.{is_replay}
 use Rattle.fork_program.proofs.Refusing.{fork_refused, fork_taken}
 use Rattle.fork_program.proofs.replay.replay.Goals as goal
@@ -28,3 +29,6 @@ returns-clause-ok g c =
     in
     let P : Script → Type 0 = λ s. IsForkReplay s c.append_ending.new.text.items in
     subst P (sym seen) right
+
+pub returns-clause-one_final : goal.returns-clause-one_final
+returns-clause-one_final g c = tells_one_final c.the_choice_is_listed_first.ensures c.args.script c.append_ending.new.text.items (returns-clause-ok g c)

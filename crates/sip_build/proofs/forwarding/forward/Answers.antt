@@ -4,9 +4,9 @@ use Rattle.sip_text.specs.declared.parts.Header.{Header}
 use Rattle.sip_text.specs.Name.{first_value}
 use Rattle.sip_text.specs.Seen.{view_start, views}
 use Rattle.sip_text.specs.Text.{HeaderText, StartText}
-use Rattle.sip_via.specs.BranchText.{seen_branch}
 use Rattle.sip_via.specs.Edits.{line}
-use Rattle.sip_build.specs.Forwarding.{hops_lowered, hops_name, to_target}
+use Rattle.sip_build.specs.Forwarding.{hops_lowered, to_target}
+use Rattle.sip_route.specs.Hops.{hops_name}
 use Rattle.sip_build.proofs.Forwarded.{parts-good}
 use Rattle.sip_build.proofs.forwarding.forward.Goals as goal
 
@@ -15,7 +15,7 @@ from_parts-requires g c =
     let m = c.args.message.now in
     let hops = hops_lowered m.headers (first_value hops_name m.headers) in
     let empty = ap (λ (hs : List (Header g.row.A.Denot)). views hs) c.new-headers.ensures.items in
-    let first = c.in_ok-add_made.ensures ∙ ap (λ (hs : List HeaderText). hs ++ line (codes "Via") c.in_ok-via.via.items ∷ []) empty in
+    let first = c.in_ok-add_made.ensures.ok ∙ ap (λ (hs : List HeaderText). hs ++ line (codes "Via") c.in_ok-via.via.items ∷ []) empty in
     let all = c.in_ok-add_lowered.ensures ∙ ap (λ (hs : List HeaderText). hs ++ hops) first ∙ ap (λ (v : List ℕ). line (codes "Via") v ∷ hops) c.in_ok-via.ensures.text in
     let begins = c.in_ok-start.ensures.value ∙ ap (λ (s : StartText). to_target s c.args.target.now) c.start.ensures in
-    parts-good m c.args.target.now c.args.own (seen_branch c.args.branch.now) (view_start c.in_ok-start.start) _ c.in_ok-body.body.items c.is_message.ensures c.requires.request c.requires.hops c.host-host.ensures.grammar c.in_ok-start.ensures.bytes c.in_ok-via.ensures.good begins all (c.in_ok-body.ensures.items ∙ c.body.ensures)
+    parts-good m c.args.target.now c.args.own c.args.branch.now (view_start c.in_ok-start.start) _ c.in_ok-body.body.items c.is_message.ensures c.requires.request c.requires.hops c.host-host.ensures.grammar c.in_ok-start.ensures.bytes c.in_ok-via.ensures.good begins all (c.in_ok-body.ensures.items ∙ c.body.ensures)

@@ -1,8 +1,9 @@
 use Rattle.std.proofs.Common.{◌∙◌, sym, ap, [], ◌∷◌}
 use Rattle.std.specs.Prelude.{codes}
 use Rattle.sip_text.specs.Seen.{views}
-use Rattle.sip_build.specs.Lines.{line, lines_as}
-use Rattle.sip_via.specs.Loop.{or_empty}
+use Rattle.sip_via.specs.Edits.{line}
+use Rattle.sip_via.specs.Lines.{lines_as}
+use Rattle.sip_via.specs.ViaParts.{or_empty}
 use Rattle.sip_build.proofs.Added.{eight}
 use Rattle.sip_build.proofs.RequestsGood.{along_lines}
 use Rattle.sip_build.proofs.requests.headers_along.Goals as goal
@@ -16,5 +17,5 @@ returns g c =
     let call = c.call_id.result.now in
     let seq = c.in_ok-cseq.cseq.items in
     eight _ _ _ _ _ _ _ _ _ (line (codes "Via") via ∷ []) (line (codes "Max-Forwards") (codes "70") ∷ []) (lines_as (codes "Route") (codes "route") sent) (line (codes "From") from ∷ []) (line (codes "To") to ∷ []) (line (codes "Call-ID") call ∷ []) (line (codes "CSeq") seq ∷ []) (line (codes "Content-Length") (codes "0") ∷ [])
-    (ap views c.new-headers.ensures.items) c.in_ok-add_line.ensures c.in_ok-add_line-2.ensures c.in_ok-add_values_as.ensures c.in_ok-add_line-3.ensures c.in_ok-add_line-4.ensures c.in_ok-add_line-5.ensures c.in_ok-add_made.ensures c.in_ok-add_line-6.ensures
+    (ap views c.new-headers.ensures.items) c.in_ok-add_line.ensures.ok c.in_ok-add_line-2.ensures.ok c.in_ok-add_values_as.ensures c.in_ok-add_line-3.ensures.ok c.in_ok-add_line-4.ensures.ok c.in_ok-add_line-5.ensures.ok c.in_ok-add_made.ensures.ok c.in_ok-add_line-6.ensures.ok
     ∙ along_lines c.args.method.now sent to via from call seq c.top_via.ensures c.first_value.ensures (sym (ap or_empty c.call_id.ensures)) c.in_ok-cseq.ensures

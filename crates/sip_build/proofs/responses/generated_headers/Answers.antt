@@ -2,7 +2,8 @@ use Rattle.std.proofs.Common.{ap, [], ◌∷◌}
 use Rattle.std.specs.Prelude.{codes}
 use Rattle.sip_text.specs.Seen.{views}
 use Rattle.sip_build.specs.Generated.{to_lines, unsupported_lines}
-use Rattle.sip_build.specs.Lines.{first_line, line, lines_named}
+use Rattle.sip_via.specs.Edits.{line}
+use Rattle.sip_via.specs.Lines.{first_line, lines_named}
 use Rattle.sip_build.proofs.Added.{seven}
 use Rattle.sip_build.proofs.responses.generated_headers.Goals as goal
 
@@ -10,4 +11,4 @@ pub returns : goal.returns
 returns g c =
     let m = c.args.message.now in
     seven _ _ _ _ _ _ _ _ (lines_named (codes "via") m) (first_line (codes "from") m) (to_lines c.args.status m) (first_line (codes "call-id") m) (first_line (codes "cseq") m) (unsupported_lines c.args.status m) (line (codes "Content-Length") (codes "0") ∷ [])
-    (ap views c.new-headers.ensures.items) c.in_ok-add_named.ensures c.in_ok-add_first.ensures c.in_ok-add_to.ensures c.in_ok-add_first-2.ensures c.in_ok-add_first-3.ensures c.in_ok-add_unsupported.ensures c.in_ok-add_line.ensures
+    (ap views c.new-headers.ensures.items) c.in_ok-add_named.ensures c.in_ok-add_first.ensures.ok c.in_ok-add_to.ensures c.in_ok-add_first-2.ensures.ok c.in_ok-add_first-3.ensures.ok c.in_ok-add_unsupported.ensures c.in_ok-add_line.ensures.ok

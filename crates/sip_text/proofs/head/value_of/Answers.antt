@@ -1,4 +1,4 @@
-use Rattle.std.proofs.Common.{◌≡◌, ◌∙◌, false, refl, sym, ap, arith, List, ℕ}
+use Rattle.std.proofs.Common.{◌∙◌, sym, ap, arith, List, ℕ}
 use Rattle.sip_text.specs.Heads.{continued, or_bad, valued, with_part}
 use Rattle.sip_text.specs.Reading.{begins_with_space, headers_at, tail_at}
 use Rattle.sip_text.proofs.Good.{trim_front}

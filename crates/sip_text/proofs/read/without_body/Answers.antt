@@ -1,5 +1,3 @@
-use Rattle.std.proofs.Common.{◌≡◌, ◌∙◌, sym, ap, subst, map, List, ℕ, length}
-use Rattle.sip_text.specs.Message.{IsHead, IsMessage, head_of, zeroed}
 use Rattle.sip_text.specs.Seen.{view_start, views}
 use Rattle.sip_text.proofs.Zeroed.{without_body_good}
 use Rattle.sip_text.proofs.read.without_body.Goals as goal

@@ -1,4 +1,4 @@
-use Rattle.std.proofs.Common.{◌≡◌, ◌++◌, take, vec_len}
+use Rattle.std.proofs.Common.{◌≡◌, ◌≤◌, ◌++◌, take, vec_capacity, vec_len}
 use Rattle.std.specs.Option.{option_copied}
 use Rattle.sip_lex.specs.Pieces.{pieces_behind}
 use Rattle.sip_uri.specs.Uri.{params_text, without_methods}
@@ -9,6 +9,7 @@ abbrev pub invariant-loop-rest : goal.invariant-loop-rest
 invariant-loop-rest g l = record {
   text : l.out.items ++ params_text (without_methods (pieces_behind 59 (option_copied l.rest))) ≡ l.initial.out.items ++ params_text (without_methods (pieces_behind 59 (option_copied l.params)));
   begins : take (vec_len l.initial.out) l.out.items ≡ l.initial.out.items;
+  capacity : vec_capacity l.initial.out ≤ vec_capacity l.out;
 }
 
 abbrev pub decreases-loop-rest : goal.decreases-loop-rest

@@ -1,5 +1,5 @@
 use Rattle.std.proofs.Common.{arith}
-use Rattle.sip_via.proofs.Tokens.{dotted}
+use Rattle.sip_via.proofs.laws.Tokens.{dotted}
 use Rattle.sip_via.proofs.branch.number_is_token.Goals as goal
 
 pub returns : goal.returns

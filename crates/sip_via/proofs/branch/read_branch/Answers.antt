@@ -1,4 +1,3 @@
-use Rattle.sip_via.specs.BranchText.{seen_branch}
 use Rattle.sip_via.proofs.BranchLaws.{parts_refused, parts_same, some_map, text_is}
 use Rattle.sip_via.proofs.branch.read_branch.Goals as goal
 
@@ -8,7 +7,7 @@ returns-in_err-parts-clause-only c = λ b is e.
 
 pub returns-clause-found : goal.returns-clause-found
 returns-clause-found c =
-    some_map c.read_parts.result _ _ (λ name e. text_is c.args.text.now c.in_ok-strip_prefix.field-0.now _ (seen_branch name) c.in_ok-strip_prefix.ensures.cases.0 c.in_ok-strip_prefix.ensures.cases.1 c.in_ok-parts.ensures e) c.read_parts.ensures.found
+    some_map c.read_parts.result _ _ (λ name e. text_is c.args.text.now c.in_ok-strip_prefix.field-0.now _ name c.in_ok-strip_prefix.ensures.cases.0 c.in_ok-strip_prefix.ensures.cases.1 c.in_ok-parts.ensures e) c.read_parts.ensures.found
 
 pub returns-clause-only : goal.returns-clause-only
 returns-clause-only c = λ b is e.

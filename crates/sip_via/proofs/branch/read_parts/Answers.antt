@@ -1,8 +1,8 @@
 use Rattle.std.proofs.Common.{◌∙◌, arith, ap, sym}
 use Rattle.sip_via.specs.BranchParts.{BranchParts, view_parts}
-use Rattle.sip_via.specs.BranchText.{Branch}
+use Rattle.sip_via.specs.declared.branch.BranchName.{BranchName}
 use Rattle.sip_via.proofs.BranchLaws.{branch_is, number_refused, number_same, number_text, parts_is}
-use Rattle.sip_via.proofs.HexLaws.{hex_text_one}
+use Rattle.sip_via.proofs.laws.HexLaws.{hex_text_one}
 use Rattle.sip_via.proofs.branch.read_parts.Goals as goal
 
 pub returns-in_err-instance-clause-only : goal.returns-in_err-instance-clause-only
@@ -22,7 +22,7 @@ returns-in_err-target-clause-only c = λ b is e.
 
 pub returns-clause-found : goal.returns-clause-found
 returns-clause-found c =
-    let made : Branch = record { key = c.in_ok-key.key; instance = c.in_ok-instance.field-0; context = c.in_ok-context.context; target = c.in_ok-target.field-0 } in
+    let made : BranchName = record { key = c.in_ok-key.key; instance = c.in_ok-instance.field-0; context = c.in_ok-context.context; target = c.in_ok-target.field-0 } in
     parts_is (view_parts c.args.parts.now) made c.in_ok-key.ensures.found
     (number_text _ c.args.parts.now.instance.now made.instance (omega (arith, c.from.ensures)) c.in_ok-instance.ensures)
     (number_text _ c.args.parts.now.context.now made.context (omega arith) c.in_ok-context.ensures)
@@ -30,7 +30,7 @@ returns-clause-found c =
 
 pub returns-clause-only : goal.returns-clause-only
 returns-clause-only c = λ b is e.
-    let made : Branch = record { key = c.in_ok-key.key; instance = c.in_ok-instance.field-0; context = c.in_ok-context.context; target = c.in_ok-target.field-0 } in
+    let made : BranchName = record { key = c.in_ok-key.key; instance = c.in_ok-instance.field-0; context = c.in_ok-context.context; target = c.in_ok-target.field-0 } in
     let instance = is.instance in
     let context = is.context in
     let target = is.target in

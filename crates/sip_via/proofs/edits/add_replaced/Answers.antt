@@ -3,7 +3,7 @@ use Rattle.sip_text.specs.Seen.{views}
 use Rattle.sip_text.specs.Text.{HeaderText}
 use Rattle.sip_via.specs.Edits.{changed_first}
 use Rattle.sip_via.specs.SeenMessages.{seen_value}
-use Rattle.sip_via.proofs.Places.{replaced-split}
+use Rattle.sip_via.proofs.laws.Places.{replaced-split}
 use Rattle.sip_via.proofs.edits.add_replaced.Goals as goal
 
 pub returns : goal.returns

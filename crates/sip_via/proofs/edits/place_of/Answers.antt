@@ -2,7 +2,7 @@ use Rattle.std.proofs.Common.{◌≡◌, ◌∙◌, false, List, drop, sym, ap, 
 use Rattle.sip_text.specs.declared.parts.Header.{Header}
 use Rattle.sip_text.specs.Seen.{views}
 use Rattle.sip_via.specs.Edits.{begins_named}
-use Rattle.sip_via.proofs.Places.{place-later}
+use Rattle.sip_via.proofs.laws.Places.{place-later}
 use Rattle.sip_via.proofs.edits.place_of.Goals as goal
 
 pub loop-i-preserved : goal.loop-i-preserved

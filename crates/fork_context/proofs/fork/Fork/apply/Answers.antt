@@ -1,13 +1,34 @@
-use Rattle.std.proofs.Common.{◌≡◌, ◌≤◌, ◌+◌, Bool, true, false, Option, Some, length, map, arith, ap, subst, sym, ◌∙◌}
+use Rattle.std.proofs.Common.{◌≡◌, ◌≤◌, ◌+◌, ℕ, Bool, true, false, Option, Some, length, map, arith, ap, subst, sym, ◌∙◌}
 use Rattle.std.specs.Prelude.{◌||◌, slice_get}
-use Rattle.fork_model.specs.Table.{Row, Table, State, Idle, Trying, Rung, is_row, most_targets}
+use Rattle.fork_model.specs.Table.{Row, Table, State, Idle, Trying, Rung, Ended, is_row, is_open, most_targets}
 use Rattle.fork_model.specs.Step.{with_effect}
-use Rattle.fork_tree.specs.States.{state_of, has_ended}
+use Rattle.fork_tree.specs.States.{end_of, state_of, has_ended}
 use Rattle.fork_tree.specs.Seats.{seated}
 use Rattle.fork_context.specs.Dressed.{dressed}
 use Rattle.fork_context.specs.Placed.{Placed, may_go}
-use Rattle.fork_context.proofs.Applied.{length_seats, goes_on_alone, none_waits, none_tried}
+use Rattle.fork_context.proofs.Applied.{length_seats, goes_on_alone, goes_to_end, none_waits, none_tried}
 use Rattle.fork_context.proofs.fork.Fork.apply.Goals as goal
+
+pub go_on-requires : goal.go_on-requires
+go_on-requires g c =
+    let rows = c.args.self.now.rows in
+    let is : c.args.effect.effect.state ≡ Rung c.in-Rung.cancelled =
+    sym (ap (λ (p : Placed). p.effect.state) c.effect.view_is)
+    ∙ ap (λ s. state_of s c.effect.inside.left.items c.effect.inside.challenges.items) c.in-Rung.is in
+    let P : State → Type 0 = λ (new : State). is_row (λ s. may_go s new) (slice_get rows c.args.effect.n) ≡ true in
+    let Q : ℕ → Type 0 = λ (m : ℕ). is_row (λ s. may_go s (Rung c.in-Rung.cancelled)) (slice_get rows m) ≡ true in
+    record { goes = subst Q (sym (ap (λ (p : Placed). p.n) c.effect.view_is)) (subst P is c.requires.goes) }
+
+pub end-requires-clause-open_yet : goal.end-requires-clause-open_yet
+end-requires-clause-open_yet g c =
+    let rows = c.args.self.now.rows in
+    let end = end_of c.in-Ended.end c.effect.inside.left.items c.effect.inside.challenges.items in
+    let is : c.args.effect.effect.state ≡ Ended end =
+    sym (ap (λ (p : Placed). p.effect.state) c.effect.view_is)
+    ∙ ap (λ s. state_of s c.effect.inside.left.items c.effect.inside.challenges.items) c.in-Ended.is in
+    let P : State → Type 0 = λ (new : State). is_row (λ s. may_go s new) (slice_get rows c.args.effect.n) ≡ true in
+    let Q : ℕ → Type 0 = λ (m : ℕ). is_row is_open (slice_get rows m) ≡ true in
+    subst Q (sym (ap (λ (p : Placed). p.n) c.effect.view_is)) (goes_to_end (slice_get rows c.args.effect.n) end (subst P is c.requires.goes))
 
 pub end-requires-clause-few : goal.end-requires-clause-few
 end-requires-clause-few g c =

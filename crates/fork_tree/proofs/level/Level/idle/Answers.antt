@@ -1,11 +1,24 @@
-use Rattle.std.proofs.Common.{arith, ap, length}
+use Rattle.std.proofs.Common.{◌≡◌, ◌∙◌, arith, ap, length}
 use Rattle.std.proofs.Common.{None}
 use Rattle.fork_tree.proofs.Opening.{seats_count}
 use Rattle.fork_tree.proofs.level.Level.idle.Goals as goal
+use Rattle.fork_tree.proofs.level.Level.idle.Goals.{then-count-gt0, else-count-gt0}
 
 pub invariant_of-result : goal.invariant_of-result
-invariant_of-result g c = record {
-  seated = c.in_ok-tier.ensures.tier;
-  rising = (c.args.qs.now, c.in_ok-tier.ensures.seats);
-  few = omega (arith, c.requires.few, ap length c.in_ok-tier.ensures.seats, seats_count None 0 0 c.args.qs.now);
-}
+invariant_of-result g c =
+    let many : length c.in_ok-tier.seats.items ≡ length c.args.qs.now = ap length c.in_ok-tier.ensures.seats ∙ seats_count None 0 0 c.args.qs.now in
+    record {
+      level = record {
+        seated = c.in_ok-tier.ensures.tier;
+        rising = (c.args.qs.now, c.in_ok-tier.ensures.seats);
+        few = omega (arith, c.requires.few, ap length c.in_ok-tier.ensures.seats, seats_count None 0 0 c.args.qs.now);
+      };
+      room = record {
+        rows = c.if-count-gt0.rows;
+        has = c.in_ok-room.ensures;
+        enough = elim c.if-count-gt0.branch [
+          | then-count-gt0 w ↦ (λ some. omega (arith, many, w.rows-is))
+          | else-count-gt0 w ↦ (λ some. absurd (omega (arith, many, some, w.if-count-gt0)))
+        ];
+      };
+    }

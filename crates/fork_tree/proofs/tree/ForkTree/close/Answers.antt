@@ -3,7 +3,9 @@ use Rattle.fork_model.specs.Table.{Row}
 use Rattle.fork_tree.specs.Places.{rows_of}
 use Rattle.fork_tree.specs.Closing.{closed_row}
 use Rattle.fork_tree.proofs.ClosesAll.{whole_closed}
-use Rattle.fork_tree.proofs.Known.{quiet_closed}
+use Rattle.std.proofs.Common.{length, arith, sym, subst}
+use Rattle.fork_tree.specs.Search.{AreKnown, AreMet}
+use Rattle.fork_tree.proofs.Ways.{met_closed}
 use Rattle.fork_tree.proofs.Trees.{tree_closed, value_after}
 use Rattle.fork_tree.proofs.tree.ForkTree.close.Goals as goal
 
@@ -14,9 +16,12 @@ invariant_of-self g c = record {
   together = c.self.invariant.together;
   path_room = c.self.invariant.path_room;
   places_room = c.self.invariant.places_room;
-  quiet = quiet_closed (rows_of c.self.inside.places.items c.self.inside.root) (rows_of c.self.inside.places.items c.close-ended.new.self) c.self.inside.quiet c.self.invariant.quiet
-      (ap (rows_of c.self.inside.places.items) c.close-ended.ensures.closed ∙ whole_closed c.self.inside.places.items c.self.inside.root);
-  order = λ e. absurd cc;
+  recent_room = omega (arith, c.self.invariant.recent_room, c.clear.ensures.capacity);
+  recent_few = omega (arith, c.self.invariant.recent_few, ap length c.clear.ensures.items);
+  known = subst (AreKnown (length c.self.inside.places.items)) (sym c.clear.ensures.items) tt;
+  met = subst (AreMet (rows_of c.self.inside.places.items c.close-ended.new.self)) (sym c.clear.ensures.items)
+      (met_closed (rows_of c.self.inside.places.items c.self.inside.root) (rows_of c.self.inside.places.items c.close-ended.new.self)
+      (ap (rows_of c.self.inside.places.items) c.close-ended.ensures.closed ∙ whole_closed c.self.inside.places.items c.self.inside.root));
 }
 
 pub returns : goal.returns

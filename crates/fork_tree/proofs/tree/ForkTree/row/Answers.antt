@@ -1,6 +1,6 @@
-use Rattle.std.proofs.Common.{◌≡◌, ◌<◌, ◌≤◌, ◌++◌, Some, length, slice_get, arith, ap, sym, ◌∙◌}
+use Rattle.std.proofs.Common.{◌≡◌, ◌<◌, ◌≤◌, Some, length, slice_get, arith, ap, sym, ◌∙◌}
 use Rattle.std.specs.Option.{option_map}
-use Rattle.fork_tree.specs.Rows.{find}
+use Rattle.fork_tree.specs.Below.{under}
 use Rattle.fork_tree.specs.Places.{path_of}
 use Rattle.fork_tree.specs.Tree.{Tree, row_ref}
 use Rattle.fork_tree.proofs.Counts.{rows_length}
@@ -18,6 +18,6 @@ returns g c =
     let known : c.args.n < length c.self.inside.places.items = omega (arith, c.if-n-len.false, c.len.ensures) in
     let place : slice_get c.self.inside.places.items c.args.n ≡ Some c.place_of-place.result =
     ap (λ x. slice_get x c.args.n) (sym c.deref.ensures.value) ∙ c.place_of-place.ensures in
-    row_read c.self.inside.places.items c.self.inside.root c.node_at-node.result.now c.args.n c.q.result c.state.result c.place_of-place.result c.self.invariant.tree.placed known place
-    (λ rest. c.node_at-node.ensures rest ∙ ap (λ x. find c.self.inside.root (path_of x c.args.n ++ rest)) c.deref-2.ensures.value) c.q.ensures c.state.ensures
+    row_read c.self.inside.places.items c.self.inside.root c.node_of-node.result.now c.args.n c.q.result c.state.result c.place_of-place.result c.self.invariant.tree.placed known place
+    (c.node_of-node.ensures ∙ ap (λ x. under (path_of x c.args.n) c.self.inside.root) c.deref-2.ensures.value) c.q.ensures c.state.ensures
     ∙ ap (λ (t : Tree). option_map (row_ref c.args.n) (slice_get t.rows c.args.n)) c.self.view_is

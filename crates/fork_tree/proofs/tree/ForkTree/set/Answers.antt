@@ -1,4 +1,4 @@
-use Rattle.std.proofs.Common.{◌≡◌, ◌++◌, ℕ, Bool, if◌then◌else◌, List, [], IsTrue, length, arith, ap, sym, subst, ◌∙◌}
+use Rattle.std.proofs.Common.{◌≡◌, ◌++◌, ℕ, List, [], IsTrue, length, arith, ap, sym, subst, ◌∙◌}
 use Rattle.fork_model.specs.Table.{Row}
 use Rattle.fork_model.specs.Step.{with_state}
 use Rattle.fork_tree.specs.States.{bare_state}
@@ -6,9 +6,7 @@ use Rattle.fork_tree.specs.Rows.{open_at, graft, unanswered}
 use Rattle.fork_tree.specs.Places.{path_of, rows_of}
 use Rattle.fork_tree.specs.Tree.{Tree}
 use Rattle.fork_tree.proofs.Placed.{open_row}
-use Rattle.fork_tree.specs.Quiet.{nothing_known, without_row}
-use Rattle.fork_tree.proofs.Known.{tree_quiet_set}
-use Rattle.fork_tree.proofs.Ordered.{tree_order_set}
+use Rattle.fork_tree.proofs.Ways.{tree_met_set}
 use Rattle.fork_tree.proofs.Trees.{tree_set, rows_set, value_after}
 use Rattle.fork_tree.proofs.tree.ForkTree.set.Goals as goal
 
@@ -43,16 +41,14 @@ invariant_of-self g c =
       together = c.self.invariant.together;
       path_room = omega (arith, c.self.invariant.path_room, c.clear.ensures.capacity, c.trace.ensures.capacity);
       places_room = c.self.invariant.places_room;
-      quiet = tree_quiet_set c.self.inside.places.items c.self.inside.root c.set.new.self c.args.self.now.rows c.args.n c.args.state c.self.inside.quiet c.if_still-self-inside.result
-          c.self.invariant.tree.older (ap (λ (t : Tree). t.rows) c.self.view_is) c.self.invariant.quiet c.requires.there
+      recent_room = c.self.invariant.recent_room;
+      recent_few = c.self.invariant.recent_few;
+      known = c.self.invariant.known;
+      met = tree_met_set c.self.inside.places.items c.self.inside.root c.set.new.self c.args.self.now.rows c.args.n c.args.state c.self.inside.recent.items
+          c.self.invariant.tree.older (ap (λ (t : Tree). t.rows) c.self.view_is) c.self.invariant.met c.requires.there
           (rows_set c.self.inside.places.items c.self.inside.root c.set.new.self c.args.n c.args.state c.self.invariant.tree.placed at.0
           (c.set.ensures.grafted ∙ ap (λ x. graft c.self.inside.root x (unanswered c.args.state) []) p))
-          c.requires.waits (c.if_still-self-inside.ensures ∙ ap (λ (b : Bool). if b then without_row c.self.inside.quiet else nothing_known) c.has_started.ensures);
-      order = λ e. tree_order_set c.self.inside.places.items c.self.inside.root c.set.new.self c.args.self.now.rows c.args.n c.args.state c.self.inside.in_order c.args.tried
-          c.self.invariant.tree.older (ap (λ (t : Tree). t.rows) c.self.view_is) c.self.invariant.quiet.parents c.self.invariant.order c.requires.there c.requires.tried
-          (rows_set c.self.inside.places.items c.self.inside.root c.set.new.self c.args.n c.args.state c.self.invariant.tree.placed at.0
-          (c.set.ensures.grafted ∙ ap (λ x. graft c.self.inside.root x (unanswered c.args.state) []) p))
-          (sym c.both-self-inside.ensures ∙ e);
+          c.requires.waits c.requires.busy;
     }
 
 pub returns : goal.returns

@@ -1,13 +1,9 @@
-use Rattle.sip_uri.proofs.Checked.{gives_read}
 use Rattle.sip_uri.proofs.Found.{is_found}
 use Rattle.sip_uri.proofs.Only.{only_read}
 use Rattle.sip_uri.proofs.uri.SipUri.read.Goals as goal
 
 pub returns-clause-found : goal.returns-clause-found
-returns-clause-found g c = is_found c.args.text.now c.read_all.result (gives_read c.args.text.now c.read_all.result c.read_all.ensures)
+returns-clause-found g c = is_found c.args.text.now c.read_all.result c.read_all.ensures.read
 
 pub returns-clause-only : goal.returns-clause-only
-returns-clause-only g c = only_read c.args.text.now c.read_all.result (gives_read c.args.text.now c.read_all.result c.read_all.ensures)
-
-pub returns-clause-exact : goal.returns-clause-exact
-returns-clause-exact g c = gives_read c.args.text.now c.read_all.result c.read_all.ensures
+returns-clause-only g c = only_read c.args.text.now c.read_all.result c.read_all.ensures.read

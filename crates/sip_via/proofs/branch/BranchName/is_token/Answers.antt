@@ -2,13 +2,12 @@ use Rattle.std.proofs.Common.{◌≡◌, ◌∷◌, ℕ, true, subst}
 use Rattle.std.specs.Fmt.{decimal}
 use Rattle.std.specs.List.{list_all}
 use Rattle.sip_lex.specs.Bytes.{is_token_byte}
-use Rattle.sip_via.specs.BranchText.{seen_branch}
-use Rattle.sip_via.proofs.Tokens.{token_of}
+use Rattle.sip_via.proofs.laws.Tokens.{token_of}
 use Rattle.sip_via.proofs.branch.BranchName.is_token.Goals as goal
 
 pub returns : goal.returns
 returns c =
-    token_of (seen_branch c.args.self.now) c.digits_are_tokens.ensures
+    token_of c.args.self.now c.digits_are_tokens.ensures
     (subst (λ (n : ℕ). list_all is_token_byte (46 ∷ decimal n) ≡ true) c.from.ensures c.number_is_token.ensures)
     c.number_is_token-2.ensures
     (subst (λ (n : ℕ). list_all is_token_byte (46 ∷ decimal n) ≡ true) c.from-2.ensures c.number_is_token-3.ensures)

@@ -1,0 +1,8 @@
+//! Tests of the public calls of the call layer, a file or a folder for each of its crates. They stand apart from these crates
+//! so that none of them is proved twice.
+#![tactic(auto)]
+
+#[cfg(test)]
+mod holds;
+#[cfg(test)]
+mod setup;

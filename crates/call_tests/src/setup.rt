@@ -1,0 +1,293 @@
+//! What a text sets a proxy up with, and which of its lines is malformed.
+use crate::holds::holds;
+use fork_rank::Rules;
+use fork_setup::{Location, Setup, SetupFault, locations_are_targets};
+use sip_lex::append_decimal;
+use sip_uri::Hop;
+use sip_via::Own;
+use std::alloc::{AllocError, Global};
+use std::process::Abort;
+
+/// The lines of one setup.
+const LINES: [&[u8]; 4] = [
+    b"own 192.0.2.9 5060",
+    b"instance 7",
+    b"domain example.com",
+    b"location bob 1000 sip:bob@192.0.2.4",
+];
+
+/// What has to stand before any rule or location.
+const HEAD: &[u8] = b"own 192.0.2.9 5060\ninstance 7\ndomain example.com\n";
+
+/// The lines of that setup, but this one in the place of that of a number from 1.
+fn text_with(alloc: Global, number: usize, other: &[u8]) -> Result<Vec<u8>, AllocError> {
+    let mut text = Vec::new(alloc);
+    for (n, line) in LINES.iter().enumerate() {
+        text.extend_from_slice(if n + 1 == number { other } else { *line })?;
+        text.push(b'\n')?;
+    }
+    Ok(text)
+}
+
+/// These lines behind the first three.
+fn text_behind(alloc: Global, rest: &[u8]) -> Result<Vec<u8>, AllocError> {
+    let mut text = Vec::from_slice(alloc, HEAD)?;
+    text.extend_from_slice(rest)?;
+    Ok(text)
+}
+
+/// The fault that a text has, if any.
+fn fault_of(alloc: Global, text: &[u8]) -> Option<SetupFault> {
+    match Setup::read(alloc, text) {
+        Ok(_) => None,
+        Err(fault) => Some(fault),
+    }
+}
+
+/// The number of the first malformed line, 0 where there is none.
+fn malformed(alloc: Global, text: &[u8]) -> Result<usize, SetupFault> {
+    match fault_of(alloc, text) {
+        None => Ok(0),
+        Some(SetupFault::Line(number)) => Ok(number),
+        Some(fault) => Err(fault),
+    }
+}
+
+/// Whether a location is this user's, at this q, and a request to it goes to this place.
+fn is_location(location: &Location, user: &[u8], q: u16, hop: Hop) -> bool {
+    location.user() == user
+        && location.is_of(user)
+        && location.q() == q
+        && location.uri().next_hop() == Some(hop)
+}
+
+#[test]
+fn four_lines_set_a_proxy_up(rt: HostRuntime) -> Result<(), SetupFault> {
+    let setup = Setup::read(rt.alloc(), &text_with(rt.alloc(), 0, b"")?)?;
+    let own = Own {
+        addr: [192, 0, 2, 9],
+        port: 5060,
+    };
+    holds(&rt, setup.own() == own, "the own address");
+    holds(&rt, setup.instance() == 7, "the instance");
+    holds(
+        &rt,
+        setup.domain() == b"example.com".as_slice(),
+        "the domain",
+    );
+    holds(&rt, setup.rules() == Rules::usual(), "the usual rules");
+    let hop = Hop {
+        addr: [192, 0, 2, 4],
+        port: 5060,
+    };
+    match setup.locations() {
+        [location] => holds(
+            &rt,
+            is_location(location, b"bob", 1000, hop),
+            "the location",
+        ),
+        _ => holds(&rt, false, "one location"),
+    }
+    locations_are_targets();
+    Ok(())
+}
+
+/// Texts, and the number of the malformed line of each, 0 where there is none.
+const TEXTS: [(&[u8], usize); 11] = [
+    (b"", 1),
+    (b"\n", 1),
+    (b"own 192.0.2.9 5060", 1),
+    (b"own 192.0.2.9 5060\n", 2),
+    (b"own 192.0.2.9 5060\ninstance 7\n", 3),
+    (b"own 192.0.2.9 5060\ninstance 7\ndomain example.com", 3),
+    (HEAD, 0),
+    (
+        b"own 192.0.2.9 5060\ninstance 7\nlocation bob 1000 sip:bob@192.0.2.4\n",
+        3,
+    ),
+    (b"instance 7\nown 192.0.2.9 5060\ndomain example.com\n", 1),
+    (b"own 192.0.2.9 5060\ndomain example.com\ninstance 7\n", 2),
+    (b"own 192.0.2.9 5060\nown 192.0.2.9 5060\n", 2),
+];
+
+#[test]
+fn each_line_has_its_place(rt: HostRuntime) {
+    for (text, number) in TEXTS {
+        holds(
+            &rt,
+            malformed(rt.alloc(), text) == Ok(number),
+            "the lines in their order",
+        );
+    }
+}
+
+/// Lines in the place of that of a number, each of which says something else.
+const OTHERS: [(usize, &[u8]); 9] = [
+    (1, b"own 0.0.0.0 1"),
+    (1, b"own 255.255.255.255 65535"),
+    (2, b"instance 0"),
+    (2, b"instance 4294967295"),
+    (3, b"domain [2001:db8::1]"),
+    (3, b"domain 192.0.2.9"),
+    (4, b"location ~ 0 SIP:192.0.2.4:5062;transport=UDP"),
+    (4, b"location <\"> 7 sip:a@192.0.2.4"),
+    (4, b"depth 0"),
+];
+
+/// Lines in the place of that of a number, each of which is malformed.
+const WRONG: [(usize, &[u8]); 30] = [
+    (1, b"own 192.0.2.9 0"),
+    (1, b"own 192.0.2.9 65536"),
+    (1, b"own 192.0.2.9 05060"),
+    (1, b"own 192.0.2.09 5060"),
+    (1, b"own 192.0.2.256 5060"),
+    (1, b"own 192.0.2 5060"),
+    (1, b"own 192.0.2.9.1 5060"),
+    (1, b"own 192.0.2.9"),
+    (1, b"own 192.0.2.9  5060"),
+    (1, b"own\t192.0.2.9 5060"),
+    (1, b"Own 192.0.2.9 5060"),
+    (1, b"own 192.0.2.9 5060\r"),
+    (2, b"instance 07"),
+    (2, b"instance 4294967296"),
+    (2, b"instance -7"),
+    (2, b"instance 7 "),
+    (2, b"instance"),
+    (3, b"domain "),
+    (3, b"domain example_com"),
+    (3, b"domain example.com "),
+    (3, b"domain example.com:5060"),
+    (4, b"location bob 1001 sip:bob@192.0.2.4"),
+    (4, b"location bob 01 sip:bob@192.0.2.4"),
+    (4, b"location  1000 sip:bob@192.0.2.4"),
+    (4, b"location b\x7fb 1000 sip:bob@192.0.2.4"),
+    (4, b"location bob 1000 tel:1"),
+    (4, b"location bob 1000 sip:bob@example.com"),
+    (4, b"location bob 1000 sip:bob@192.0.2.4;transport=tcp"),
+    (4, b"location bob 1000 sip:bob@192.0.2.4 "),
+    (4, b"location bob 1000"),
+];
+
+#[test]
+fn each_line_has_its_form(rt: HostRuntime) -> Result<(), AllocError> {
+    for (number, line) in OTHERS {
+        let text = text_with(rt.alloc(), number, line)?;
+        holds(
+            &rt,
+            malformed(rt.alloc(), &text) == Ok(0),
+            "a line that says something else",
+        );
+    }
+    for (number, line) in WRONG {
+        let text = text_with(rt.alloc(), number, line)?;
+        holds(
+            &rt,
+            malformed(rt.alloc(), &text) == Ok(number),
+            "a malformed line",
+        );
+    }
+    Ok(())
+}
+
+/// Lines behind the first three, and the number of the malformed one, 0 where there is none.
+const BEHIND: [(&[u8], usize); 16] = [
+    (b"prefer 401\ndepth 3\nlocation bob 1000 sip:192.0.2.4\n", 0),
+    (b"depth 3\nprefer 401\n", 5),
+    (b"prefer 401\nprefer 401\n", 5),
+    (b"depth 3\ndepth 3\n", 5),
+    (b"location bob 1000 sip:192.0.2.4\nprefer 401\n", 5),
+    (b"location bob 1000 sip:192.0.2.4\ndepth 3\n", 5),
+    (b"prefer 407,401\n", 4),
+    (b"prefer 401,402,\n", 4),
+    (b"depth 257\n", 4),
+    (b"depth 03\n", 4),
+    (b"location bob 1000 sip:192.0.2.4", 4),
+    (b"location bob 1000 sip:192.0.2.4\n\n", 5),
+    (
+        b"location bob 1000 sip:bob@192.0.2.4\nlocation bob 1000 sip:bob@192.0.2.4\n",
+        5,
+    ),
+    (
+        b"location bob 9 sip:192.0.2.4\nlocation bob 8 SIP:192.0.2.4;method=INVITE?a=b\n",
+        5,
+    ),
+    (
+        b"location bob 9 sip:192.0.2.4\nlocation bob 9 sip:192.0.2.4:5060\n",
+        0,
+    ),
+    (
+        b"location bob 9 sip:192.0.2.4\nlocation Bob 9 sip:192.0.2.4\n",
+        0,
+    ),
+];
+
+#[test]
+fn rules_and_locations_stand_behind(rt: HostRuntime) -> Result<(), AllocError> {
+    for (rest, number) in BEHIND {
+        let text = text_behind(rt.alloc(), rest)?;
+        holds(
+            &rt,
+            malformed(rt.alloc(), &text) == Ok(number),
+            "lines behind the domain",
+        );
+    }
+    Ok(())
+}
+
+/// How many statuses go first in the rules of a text, and its depth.
+fn rules_behind(alloc: Global, rest: &[u8]) -> Result<(usize, u16), SetupFault> {
+    let text = text_behind(alloc, rest)?;
+    let setup = Setup::read(alloc, &text)?;
+    let rules = setup.rules();
+    Ok((rules.preferred().statuses().len(), rules.depth()))
+}
+
+#[test]
+fn a_rule_that_is_left_out_is_the_usual_one(rt: HostRuntime) {
+    let alloc = rt.alloc();
+    holds(&rt, rules_behind(alloc, b"") == Ok((5, 256)), "no rule");
+    holds(
+        &rt,
+        rules_behind(alloc, b"prefer -\n") == Ok((0, 256)),
+        "a list",
+    );
+    holds(
+        &rt,
+        rules_behind(alloc, b"depth 3\n") == Ok((5, 3)),
+        "a depth",
+    );
+    holds(
+        &rt,
+        rules_behind(alloc, b"prefer 401,499\ndepth 0\n") == Ok((2, 0)),
+        "both",
+    );
+}
+
+/// The first three lines, and this many locations of bob, each at another port; then one of eve.
+fn crowd(alloc: Global, count: u16) -> Result<Vec<u8>, AllocError> {
+    let mut text = Vec::from_slice(alloc, HEAD)?;
+    for port in 1..=count {
+        text.extend_from_slice(b"location bob 1000 sip:bob@192.0.2.4:")?;
+        append_decimal(&mut text, u64::from(port))?;
+        text.push(b'\n')?;
+    }
+    text.extend_from_slice(b"location eve 1000 sip:bob@192.0.2.4:1\n")?;
+    Ok(text)
+}
+
+#[test]
+fn a_user_has_no_more_locations_than_may_be_tried(rt: HostRuntime) -> Result<(), SetupFault> {
+    let setup = Setup::read(rt.alloc(), &crowd(rt.alloc(), 256)?)?;
+    holds(
+        &rt,
+        setup.locations().len() == 257,
+        "256 of one, one of another",
+    );
+    let one_more = crowd(rt.alloc(), 257)?;
+    holds(
+        &rt,
+        fault_of(rt.alloc(), &one_more) == Some(SetupFault::Line(260)),
+        "the 257th of one",
+    );
+    Ok(())
+}

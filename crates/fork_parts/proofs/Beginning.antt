@@ -1,0 +1,17 @@
+use Rattle.std.proofs.Common.{◌≡◌, ◌∙◌, ap, refl, List, [], ℕ, map, Option}
+use Rattle.fork_model.specs.Table.{Kind}
+use Rattle.fork_book.specs.Log.{Log, table_of}
+use Rattle.fork_parts.specs.Begun.{begun}
+use Rattle.fork_parts.specs.Call.{Call}
+use Rattle.fork_parts.specs.Fixed.{Fixed, Way, kind_of}
+use Rattle.fork_parts.specs.Leg.{Leg}
+use Rattle.fork_parts.specs.Posting.{no_leg}
+use Rattle.fork_parts.specs.Server.{Owed, Served, first_owed, served_start}
+
+pub begun_is : (fixed : Fixed) (log : Log) (ways : List Way) (legs : List (Option Leg)) (served : Served) (owed : List Owed) (last : List ℕ)
+    → legs ≡ map no_leg (table_of log).rows
+    → served ≡ served_start (kind_of fixed)
+    → owed ≡ first_owed (kind_of fixed)
+    → last ≡ []
+    → record { fixed = fixed; log = log; ways = ways; legs = legs; server = record { machine = served; owed = owed; last = last } } ≡ begun fixed log ways
+begun_is fixed log ways legs served owed last legs_are served_is owed_are last_is = rw (legs_are, served_is, owed_are, last_is) refl

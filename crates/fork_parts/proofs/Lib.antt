@@ -1,0 +1,12 @@
+pub mod LegLists
+pub mod Sends
+pub mod NoRows
+pub mod NotFull
+pub mod Changing
+pub mod Responding
+pub mod RightDatagrams
+pub mod KeptBuilt
+pub mod StepsBuilt
+pub mod StateRows
+pub mod Deeds
+pub mod Beginning

@@ -1,0 +1,111 @@
+use Rattle.std.proofs.Common.{◌≡◌, ◌∙◌, ℕ, zero, suc, ◌<◌, ap, refl, sym, subst, arith, true, false, Bool, List, [], ◌∷◌, ◌++◌, map, length, Option, Some, None, slice_get}
+use Rattle.std.specs.Prelude.{nat_lt, cond, not, ◌||◌, ◌==◌}
+use Rattle.fork_model.specs.Event.{Event}
+use Rattle.fork_model.specs.Reply.{Reply}
+use Rattle.sip_text.specs.Text.{MessageText, spelling}
+use Rattle.sip_txn.specs.declared.event.TxOut.{TxOut}
+use Rattle.sip_txn.specs.declared.event.TxSend.{TxSend}
+use Rattle.sip_txn.specs.declared.event.TxSend.TheVariants as send
+use Rattle.sip_uri.specs.Contact.{ContactText}
+use Rattle.fork_parts.specs.Fixed.{Way}
+use Rattle.fork_parts.specs.Client.{Client, client_after, client_out}
+use Rattle.fork_parts.specs.Leg.{Leg}
+use Rattle.fork_parts.specs.Call.{Call, leg_at, set_leg, with_leg}
+use Rattle.fork_parts.specs.Built.{ack_to, status_of}
+use Rattle.fork_parts.specs.LegInside.{responded, kept, changed_leg, ack_made, answer_if}
+use Rattle.fork_model.specs.Core.{is_full}
+use Rattle.fork_book.specs.Log.{core_of}
+use Rattle.fork_parts.specs.Plain.{PostsAt}
+use Rattle.fork_parts.specs.Response.{contacts_by, contacts_in, event_by, is_bare, is_redirection}
+use Rattle.fork_parts.specs.Posting.{Posts}
+use Rattle.fork_parts.specs.Take.{RespondsOn, Absorbed, Posted, Full, going_up, response_event, is_passed, ack_by, leg_after, leg_posted, timer_c_again, answer_kept}
+use Rattle.fork_parts.proofs.LegLists.{changed_is, found_is}
+use Rattle.fork_parts.proofs.Changing.{at_set, changed_part, posts_part, set_twice, still_there}
+
+pub responded_made : (client : Client) (to : TxSend) (bytes : List ℕ) (leg : Leg) → responded client (ack_made to bytes) leg ≡ record leg { client = client; ack = ack_by to bytes leg.ack }
+responded_made client send.Nothing bytes leg = refl
+responded_made client send.Request bytes leg = refl
+responded_made client send.Ack bytes leg = refl
+responded_made client send.Response bytes leg = refl
+
+bare_by : (cs : List ContactText) (r a b : Bool) → not (r || a || b) ≡ true → cond {A = List ContactText} r cs [] ≡ []
+bare_by cs true true true e = absurd cc
+bare_by cs true true false e = absurd cc
+bare_by cs true false true e = absurd cc
+bare_by cs true false false e = absurd cc
+bare_by cs false a b e = refl
+
+bare_contacts : (status : ℕ) (m : MessageText) → is_bare status ≡ true → contacts_by status m ≡ []
+bare_contacts status m e = bare_by (contacts_in m) (is_redirection status) (status == 401) (status == 407) e
+
+module _ (call : Call) (n now status : ℕ) (m : MessageText) (leg : Leg) (way : Way) (client : Client) (out : TxOut) (ack : Option (List ℕ))
+    (there : leg_at call n ≡ Some leg)
+    (goes : slice_get call.ways n ≡ Some way)
+    (status_is : status ≡ status_of m)
+    (client_is : client ≡ client_after (response_event status) now leg.client)
+    (out_is : out ≡ client_out (response_event status) now leg.client)
+    (ack_is : ack ≡ ack_made out.send (spelling (ack_to call.fixed way n m))) where
+  -- the part that is made is the one that is asked for
+  pub responded_is : responded client ack leg ≡ leg_after call n leg way now m
+  responded_is =
+      let bytes = spelling (ack_to call.fixed way n m) in
+      let made : responded client ack leg ≡ record leg { client = client; ack = ack_by out.send bytes leg.ack } =
+      ap (λ (a : Option (List ℕ)). responded client a leg) ack_is ∙ responded_made client out.send bytes leg in
+      made ∙ rw (client_is, out_is, status_is) refl
+
+  changed_here : changed_leg (responded client ack) call.legs n ≡ with_leg call.legs n (leg_after call n leg way now m)
+  changed_here = changed_is (responded client ack) call.legs n leg (found_is (slice_get call.legs n) leg there) ∙ ap (with_leg call.legs n) responded_is
+
+  passes_by : is_passed (client_out (response_event (status_of m)) now leg.client).pass ≡ is_passed out.pass
+  passes_by = rw (out_is, status_is) refl
+
+  pub absorbed : is_passed out.pass ≡ false → RespondsOn call n now m Absorbed (record call { legs = changed_leg (responded client ack) call.legs n })
+  absorbed kept_back = (leg, way, there, goes, (passes_by ∙ kept_back, ap (λ (ls : List (Option Leg)). record call { legs = ls }) changed_here))
+
+  -- ---- a response that is posted
+
+  abbrev pub leg_last : Leg
+  leg_last = leg_posted (leg_after call n leg way now m) now (status_of m) m
+
+  kept_by : (b : Bool) (at : Option ℕ) (l : Leg) → kept at (cond {A = Option MessageText} b None (Some m)) l ≡ record l { timer_c_at = at; answer = cond {A = Option MessageText} b l.answer (Some m) }
+  kept_by true at l = refl
+  kept_by false at l = refl
+
+  last_is : kept (timer_c_again now status leg.timer_c_at) (answer_if status m) (responded client ack leg) ≡ leg_last
+  last_is =
+      let l = leg_after call n leg way now m in
+      let made : kept (timer_c_again now status leg.timer_c_at) (answer_if status m) (responded client ack leg) ≡ kept (timer_c_again now status leg.timer_c_at) (answer_if status m) l =
+      ap (kept (timer_c_again now status leg.timer_c_at) (answer_if status m)) responded_is in
+      let all : kept (timer_c_again now status leg.timer_c_at) (answer_if status m) l ≡ record l { timer_c_at = timer_c_again now status leg.timer_c_at; answer = answer_kept status m l.answer } =
+      kept_by (nat_lt status 300) _ l in
+      made ∙ all ∙ rw status_is refl
+
+  pub posted : (event : Event) (at : ℕ) (mid new last : Call)
+      → PostsAt call event (going_up status m) at mid
+      → event ≡ event_by n status m
+      → is_bare status ≡ true
+      → is_passed out.pass ≡ true
+      → new ≡ record mid { legs = changed_leg (responded client ack) mid.legs n }
+      → last ≡ record new { legs = changed_leg (kept (timer_c_again now status leg.timer_c_at) (answer_if status m)) new.legs n }
+      → RespondsOn call n now m (Posted at) last
+  posted event at mid new last (reply, at_is, posts) event_is bare passed_on first second =
+      let f = kept (timer_c_again now status leg.timer_c_at) (answer_if status m) in
+      let l = responded client ack leg in
+      let none : contacts_by status m ≡ [] = bare_contacts status m bare in
+      let later : leg_at mid n ≡ Some leg = still_there call mid event [] (going_up status m) reply posts n leg there in
+      let once : new ≡ set_leg mid n l = first ∙ changed_part (responded client ack) mid n leg later in
+      let P : Call → Type 0 = λ x. leg_at x n ≡ Some l in
+      let after : leg_at new n ≡ Some l = subst P (sym once) (at_set mid n leg l later) in
+      let twice : last ≡ set_leg mid n leg_last =
+      second ∙ changed_part f new n l after ∙ ap (λ (x : Call). set_leg x n (f l)) once ∙ set_twice mid n l (f l) ∙ ap (set_leg mid n) last_is in
+      let all : Posts (set_leg call n leg_last) event [] (going_up status m) reply (set_leg mid n leg_last) = posts_part call mid event [] (going_up status m) reply posts n leg leg_last there in
+      let E : Event → Type 0 = λ e. Posts (set_leg call n leg_last) e [] (going_up status m) reply (set_leg mid n leg_last) in
+      let C : List ContactText → Type 0 = λ cs. Posts (set_leg call n leg_last) (event_by n status m) cs (going_up status m) reply (set_leg mid n leg_last) in
+      let S : ℕ → Type 0 = λ s. Posts (set_leg call n leg_last) (event_by n s m) (contacts_by s m) (going_up s m) reply (set_leg mid n leg_last) in
+      let N : Call → Type 0 = λ x. Posts (set_leg call n leg_last) (event_by n (status_of m) m) (contacts_by (status_of m) m) (going_up (status_of m) m) reply x in
+      (leg, way, there, goes, (passes_by ∙ passed_on, reply, at_is, subst N (sym twice) (subst S status_is (subst C (sym none) (subst E event_is all)))))
+
+  pub refused : (event : Event) → event ≡ event_by n status m → is_full (core_of call.log) event ≡ true → is_passed out.pass ≡ true → RespondsOn call n now m Full call
+  refused event event_is full passed_on =
+      let full_by : is_full (core_of call.log) (event_by n (status_of m) m) ≡ true = sym (ap (λ (s : ℕ). is_full (core_of call.log) (event_by n s m)) status_is) ∙ sym (ap (is_full (core_of call.log)) event_is) ∙ full in
+      (leg, way, there, goes, (passes_by ∙ passed_on, full_by, refl))

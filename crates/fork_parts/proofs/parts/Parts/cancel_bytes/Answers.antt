@@ -1,0 +1,11 @@
+use Rattle.std.proofs.Common.{◌≡◌, subst}
+use Rattle.std.specs.Prelude.{IfOk}
+use Rattle.sip_text.specs.Text.{spelling}
+use Rattle.fork_parts.specs.Built.{cancel_to}
+use Rattle.fork_parts.specs.Call.{Call}
+use Rattle.fork_parts.proofs.parts.Parts.cancel_bytes.Goals as goal
+
+pub returns : goal.returns
+returns g c =
+    let P : Call → Type 0 = λ x. IfOk c.cancel_bytes.result (λ bytes. bytes.items ≡ spelling (cancel_to x.fixed c.args.way.now c.args.n)) in
+    subst P c.self.view_is c.cancel_bytes.ensures

@@ -1,0 +1,25 @@
+use Rattle.std.proofs.Common.{◌≡◌, ◌∙◌, ap, sym, true, false}
+use Rattle.fork_book.specs.Log.{table_of}
+use Rattle.fork_model.specs.Table.{is_invite, is_trying}
+use Rattle.fork_parts.specs.Call.{row_passes}
+use Rattle.fork_parts.proofs.Deeds.{timer_c_cancels, timer_c_ends}
+use Rattle.fork_parts.proofs.NoRows.{timer_c_adds_none}
+use Rattle.fork_parts.proofs.NotFull.{timer_c_taken}
+use Rattle.fork_parts.proofs.parts.Parts.fire_timer_c.Goals as goal
+
+pub post_bare-requires : goal.post_bare-requires
+post_bare-requires g c = record { plain = timer_c_adds_none c.args.n; taken = timer_c_taken c.args.self.now c.args.n (ap is_invite c.requires.invite) c.requires.runs }
+
+pub end_part-requires : goal.end_part-requires
+end_part-requires g c =
+    record { there = c.requires.there; plain = timer_c_adds_none c.args.n; taken = timer_c_taken c.args.self.now c.args.n (ap is_invite c.requires.invite) c.requires.runs }
+
+pub returns-then-not-is_trying-clause-ok : goal.returns-then-not-is_trying-clause-ok
+returns-then-not-is_trying-clause-ok g c =
+    let e : row_passes is_trying c.args.self.now c.args.n ≡ false = let a = c.is_trying.ensures in let b = c.if-not-is_trying.true in cc in
+    timer_c_cancels c.args.self.now c.post_bare.new.self c.args.n c.args.now c.part.result.now c.part.ensures c.fed-client.result.0 c.fed-client.ensures.after e c.in_ok-post_bare.ensures.ok
+
+pub returns-clause-ok : goal.returns-clause-ok
+returns-clause-ok g c =
+    let e : row_passes is_trying c.args.self.now c.args.n ≡ true = let a = c.is_trying.ensures in let b = c.if-not-is_trying.false in cc in
+    timer_c_ends c.args.self.now c.end_part.new.self c.args.n c.args.now c.part.result.now c.part.ensures c.fed-client.result.0 c.fed-client.ensures.after e c.in_ok-end_part.ensures.ok

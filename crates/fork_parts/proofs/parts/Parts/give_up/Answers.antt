@@ -1,0 +1,11 @@
+use Rattle.fork_parts.proofs.Deeds.{given_up}
+use Rattle.fork_parts.proofs.NoRows.{give_up_adds_none}
+use Rattle.fork_parts.proofs.NotFull.{give_up_taken}
+use Rattle.fork_parts.proofs.parts.Parts.give_up.Goals as goal
+
+pub end_part-requires : goal.end_part-requires
+end_part-requires g c = record { there = c.requires.there; plain = give_up_adds_none c.args.n; taken = give_up_taken c.args.self.now c.args.n c.requires.cancelled }
+
+pub returns-clause-ok : goal.returns-clause-ok
+returns-clause-ok g c =
+    given_up c.args.self.now c.end_part.new.self c.args.n c.args.now c.part.result.now c.part.ensures c.fed-client.result.0 c.fed-client.ensures.after c.in_ok-end_part.ensures.ok

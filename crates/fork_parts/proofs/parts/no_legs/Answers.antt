@@ -1,0 +1,8 @@
+use Rattle.std.proofs.Common.{◌≡◌, ◌∙◌, ap, arith}
+use Rattle.fork_parts.specs.LegInside.{no_legs}
+use Rattle.fork_parts.proofs.parts.no_legs.Goals as goal
+
+pub returns : goal.returns
+returns g c =
+    let e : c.loop-place.place ≡ c.args.count = omega (arith, c.loop-place.auto.place-end, c.loop-place-test.false) in
+    c.loop-place.invariant ∙ ap no_legs e

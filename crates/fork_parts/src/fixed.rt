@@ -1,0 +1,252 @@
+//! What a call is opened with, and no step changes.
+ghost use Rattle.std.specs.Prelude.{◌≡◌, codes, IfOk, IfSome, true};
+ghost use Rattle.std.specs.Str.{bytes_eq};
+ghost use Rattle.std.specs.Option.{option_map};
+ghost use Rattle.sip_text.specs.Name.{first_value};
+ghost use Rattle.sip_text.specs.Text.{spelling};
+ghost use Rattle.sip_route.specs.Hops.{IsHops, hops_name};
+ghost use Rattle.sip_build.specs.Forwarding.{is_request};
+ghost use Rattle.fork_context.specs.KindView as kinds;
+ghost use Rattle.fork_parts.specs.Built.{ack_to, cancel_to, request_to};
+ghost use Rattle.fork_parts.specs.Fixed.{branch_at, kind_of, method_of};
+ghost use Rattle.fork_parts.specs.LegInside.{ack_made};
+
+use crate::way::Way;
+use fork_context::Kind;
+use sip_build::{ack_of, cancel_of, forward};
+use sip_route::loop_key;
+use sip_text::{Message, Start};
+use sip_txn::TxSend;
+use sip_uri::Hop;
+use sip_via::{BranchName, Own};
+use std::alloc::{AllocError, Allocator, Global};
+use std::marker::Model;
+
+/// What a call is opened with, and no step changes: its request, the numbers that name its branches, and where its
+/// answers go.
+#[derive(Drop)]
+pub struct Fixed<A: Allocator = Global> {
+    number: u64,
+    own: Own,
+    instance: u32,
+    request: Message<A>,
+    caller: Hop,
+    route: Option<Hop>,
+    key: [u8; 16],
+    invite: bool,
+}
+
+impl<A: Allocator> Model for Fixed<A> {
+    ghost use Rattle.fork_parts.specs.Fixed as spec;
+    ghost use Rattle.fork_parts.specs.FixedInside.{IsFixed};
+
+    ghost Value = { spec.Fixed };
+
+    ghost view = { λ f. record { number = f.number; own = f.own; instance = f.instance; request = f.request; caller = f.caller; route = f.route } };
+
+    ghost invariant = { λ f. IsFixed (record { number = f.number; own = f.own; instance = f.instance; request = f.request; caller = f.caller; route = f.route }) f.key f.invite };
+}
+
+/// The text that a message is sent as.
+pub(crate) fn spelled<A: Allocator>(
+    alloc: A,
+    message: &Message<A>,
+) -> Result<Vec<u8, A>, AllocError>
+    ensures { IfOk result (λ bytes. bytes.items ≡ spelling message.now) }
+{
+    let mut bytes = Vec::new(alloc);
+    message.write(&mut bytes)?;
+    Ok(bytes)
+}
+
+/// Whether a request is an INVITE.
+fn is_invite<A: Allocator>(request: &Message<A>) -> bool
+    ensures { result ≡ bytes_eq (method_of request.now.start) (codes "INVITE") }
+{
+    match request.start() {
+        Start::Request { method, .. } => method.as_slice() == b"INVITE".as_slice(),
+        Start::Response { .. } => false,
+    }
+}
+
+impl<A: Allocator> Fixed<A> {
+    /// What a call of this number is opened with: the request as it was marked with its source and stripped of the
+    /// proxy's own Route value, where its answers go, and the hop of its first Route value, if it has one (RFC 3261
+    /// sections 16.3, 16.4 and 18.2.2).
+    pub fn new(
+        number: u64,
+        own: Own,
+        instance: u32,
+        request: Message<A>,
+        caller: Hop,
+        route: Option<Hop>,
+    ) -> Self
+        requires request { is_request request.start ≡ true }
+        requires hops { IfSome (first_value hops_name request.headers) IsHops }
+        ensures { result ≡ record { number = number; own = own; instance = instance; request = request; caller = caller; route = route } }
+    {
+        let key = loop_key(&request);
+        let invite = is_invite(&request);
+        Fixed {
+            number,
+            own,
+            instance,
+            request,
+            caller,
+            route,
+            key,
+            invite,
+        }
+    }
+
+    /// The number that the call was opened with.
+    pub fn number(&self) -> u64
+        ensures { result ≡ self.now.number }
+    {
+        self.number
+    }
+
+    /// The request that the call was opened with.
+    pub fn request(&self) -> &Message<A>
+        ensures { result.now ≡ self.now.request }
+    {
+        &self.request
+    }
+
+    /// Where its answers go.
+    pub(crate) fn caller(&self) -> Hop
+        ensures { result ≡ self.now.caller }
+    {
+        self.caller
+    }
+
+    /// Whether it is an INVITE.
+    pub fn kind(&self) -> Kind
+        ensures { kinds.kind_of result ≡ kind_of self.now }
+    {
+        if self.invite {
+            Kind::Invite
+        } else {
+            Kind::Other
+        }
+    }
+
+    /// What names the branch to target n.
+    fn branch(&self, n: u16) -> BranchName
+        ensures { result ≡ branch_at self.now n }
+    {
+        BranchName {
+            key: self.key,
+            instance: self.instance,
+            context: self.number,
+            target: n,
+        }
+    }
+
+    /// Shows that what is sent to a target is a request.
+    fn request_goes(&self, way: &Way<A>, n: u16)
+        ensures { is_request (request_to self.now way.now n).start ≡ true }
+    {
+        let _invite = &self.invite;
+    }
+}
+
+impl<A: Allocator + Clone> Fixed<A> {
+    /// The request as it goes to target n (RFC 3261 section 16.6).
+    fn request_to(&self, alloc: A, way: &Way<A>, n: u16) -> Result<Message<A>, AllocError>
+        ensures { IfOk result (λ made. made ≡ request_to self.now way.now n) }
+    {
+        let branch = self.branch(n);
+        match forward(alloc, &self.request, way.uri(), self.own, &branch) {
+            Ok(made) => Ok(made),
+            Err(_) => Err(AllocError),
+        }
+    }
+
+    /// The datagram that it is sent as.
+    pub(crate) fn request_bytes(
+        &self,
+        alloc: &A,
+        way: &Way<A>,
+        n: u16,
+    ) -> Result<Vec<u8, A>, AllocError>
+        ensures { IfOk result (λ bytes. bytes.items ≡ spelling (request_to self.now way.now n)) }
+    {
+        let made = self.request_to(alloc.clone()?, way, n)?;
+        spelled(alloc.clone()?, &made)
+    }
+
+    /// The ACK for a failure of branch n (RFC 3261 section 17.1.1.3).
+    fn ack_to(
+        &self,
+        alloc: &A,
+        way: &Way<A>,
+        n: u16,
+        response: &Message<A>,
+    ) -> Result<Message<A>, AllocError>
+        ensures { IfOk result (λ made. made ≡ ack_to self.now way.now n response.now) }
+    {
+        let sent = self.request_to(alloc.clone()?, way, n)?;
+        self.request_goes(way, n);
+        match ack_of(alloc.clone()?, &sent, response) {
+            Ok(ack) => Ok(ack),
+            Err(_) => Err(AllocError),
+        }
+    }
+
+    /// The datagram that it is sent as.
+    pub(crate) fn ack_bytes(
+        &self,
+        alloc: &A,
+        way: &Way<A>,
+        n: u16,
+        response: &Message<A>,
+    ) -> Result<Vec<u8, A>, AllocError>
+        ensures { IfOk result (λ bytes. bytes.items ≡ spelling (ack_to self.now way.now n response.now)) }
+    {
+        let made = self.ack_to(alloc, way, n, response)?;
+        spelled(alloc.clone()?, &made)
+    }
+
+    /// The same where the transaction asks for it.
+    pub(crate) fn ack_if(
+        &self,
+        alloc: &A,
+        way: &Way<A>,
+        n: u16,
+        send: TxSend,
+        response: &Message<A>,
+    ) -> Result<Option<Vec<u8, A>>, AllocError>
+        ensures { IfOk result (λ ack. option_map (λ v. v.items) ack ≡ ack_made send (spelling (ack_to self.now way.now n response.now))) }
+    {
+        match send {
+            TxSend::Ack => Ok(Some(self.ack_bytes(alloc, way, n, response)?)),
+            TxSend::Nothing | TxSend::Request | TxSend::Response => Ok(None),
+        }
+    }
+
+    /// The CANCEL of branch n (RFC 3261 section 9.1).
+    fn cancel_to(&self, alloc: &A, way: &Way<A>, n: u16) -> Result<Message<A>, AllocError>
+        ensures { IfOk result (λ made. made ≡ cancel_to self.now way.now n) }
+    {
+        let sent = self.request_to(alloc.clone()?, way, n)?;
+        self.request_goes(way, n);
+        match cancel_of(alloc.clone()?, &sent) {
+            Ok(cancel) => Ok(cancel),
+            Err(_) => Err(AllocError),
+        }
+    }
+
+    /// The datagram that it is sent as.
+    pub(crate) fn cancel_bytes(
+        &self,
+        alloc: &A,
+        way: &Way<A>,
+        n: u16,
+    ) -> Result<Vec<u8, A>, AllocError>
+        ensures { IfOk result (λ bytes. bytes.items ≡ spelling (cancel_to self.now way.now n)) }
+    {
+        let made = self.cancel_to(alloc, way, n)?;
+        spelled(alloc.clone()?, &made)
+    }
+}

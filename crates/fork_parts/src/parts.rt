@@ -1,0 +1,760 @@
+//! The parts of a call.
+ghost use Rattle.std.specs.Prelude.{◌≡◌, ◌≢◌, ◌<◌, ◌≤◌, ◌∷◌, ◌++◌, [], true, false, length, drop, slice_get, List, None, Some, IfOk, OnOk, OnErr, IsErrOf};
+ghost use Rattle.std.specs.Option.{option_copied, option_map};
+ghost use Rattle.fork_model.specs.Core.{is_full};
+ghost use Rattle.fork_model.specs.Event as event;
+ghost use Rattle.fork_model.specs.Reply as reply;
+ghost use Rattle.fork_model.specs.Table as table;
+ghost use Rattle.fork_context.specs.EventView.{event_of};
+ghost use Rattle.fork_context.specs.KindView as kinds;
+ghost use Rattle.fork_context.specs.ReplyView.{up_of};
+ghost use Rattle.fork_book.specs.Log.{core_of, table_of};
+ghost use Rattle.sip_text.specs.Text.{MessageText, spelling};
+ghost use Rattle.fork_parts.specs.Begun.{begun};
+ghost use Rattle.fork_parts.specs.Built.{ack_to, cancel_to, request_to, status_of};
+ghost use Rattle.fork_parts.specs.Call.{is_cancel_sent, is_sent, leg_at, owes_ack, row_passes, rows_of, runs_timer_c, set_leg};
+ghost use Rattle.fork_parts.specs.Datagrams.{ack_owed};
+ghost use Rattle.fork_parts.specs.Fixed as fixed;
+ghost use Rattle.fork_parts.specs.LegInside.{ack_made, answer_if, cancel_on, cancelled, changed_leg, kept, no_legs, responded, without_ack};
+ghost use Rattle.fork_parts.specs.PartsInside.{IsCancelAgain, IsRequestAgain, answer_to};
+ghost use Rattle.fork_parts.specs.Plain.{AddsNoRow, PostsAt, PostsBare};
+ghost use Rattle.fork_parts.specs.Pump as pump;
+ghost use Rattle.fork_parts.specs.Pump.{AnswersWith, FiresTimerC, GivesUp, OnLeg, OnPart, SendsAck, SendsCancel, SendsRequest, TicksCancel, TicksClient, TicksServer, times_out};
+ghost use Rattle.fork_parts.specs.Response.{is_bare};
+ghost use Rattle.fork_parts.specs.SeenDatagram.{seen};
+ghost use Rattle.fork_parts.specs.SeenStep.{pumped};
+ghost use Rattle.fork_parts.specs.SeenTaken.{seen_taken};
+ghost use Rattle.fork_parts.specs.Server as server;
+ghost use Rattle.fork_parts.specs.Take as take;
+ghost use Rattle.fork_parts.specs.Take.{RespondsOn, going_up, requested_again, served_on};
+ghost use Rattle.fork_parts.specs.StatesShown.{state_shown};
+
+use crate::cause::Cause;
+use crate::client::Client;
+use crate::datagram::Datagram;
+use crate::fault::PostFault;
+use crate::fixed::Fixed;
+use crate::leg::{Cancelling, Leg};
+use crate::legs::{
+    cancel_leg, cancel_on_leg, keep_leg, leg_in, put_leg, respond_leg, take_ack_of, way_at,
+};
+use crate::owed::{Owed, OwedAnswer, again_if, owe, owed_by, pay_first};
+use crate::responses::{
+    answer_event, bare_event, is_passed, is_request, is_response, is_timeout, parted,
+    response_event,
+};
+use crate::served::Served;
+use crate::states::{shows_cancelled, shows_open, shows_timer_c, shows_trying};
+use crate::step::Step;
+use crate::taken::Taken;
+use crate::way::Way;
+use fork_book::Book;
+use fork_context::{Event, Kind, State, Up};
+use sip_text::Message;
+use sip_txn::{OtherClient, TxEvent, TxSend};
+use std::alloc::{AllocError, Allocator, Global};
+use std::marker::Model;
+
+/// A call posts its events under this tag.
+const CALL_TAG: u8 = 0;
+
+/// The parts of a call: what it was opened with, its book, for each row of the table where its request goes and what
+/// stands for it once that was sent, and the side of its caller.
+#[derive(Drop)]
+pub struct Parts<A: Allocator + Clone = Global> {
+    fixed: Fixed<A>,
+    book: Book<A>,
+    ways: Vec<Way<A>, A>,
+    legs: Vec<Option<Leg<A>>, A>,
+    served: Served,
+    owed: Vec<Owed<A>, A>,
+    last: Vec<u8, A>,
+    alloc: A,
+}
+
+impl<A: Allocator + Clone> Model for Parts<A> {
+    ghost use Rattle.fork_parts.specs.Call as spec;
+    ghost use Rattle.fork_parts.specs.PartsInside.{IsSized};
+
+    ghost Value = { spec.Call };
+
+    ghost view = { λ p. record { fixed = p.fixed; log = p.book; ways = p.ways.items; legs = p.legs.items; server = record { machine = p.served; owed = p.owed.items; last = p.last.items } } };
+
+    ghost invariant = { λ p. IsSized p.book p.ways.items p.legs.items };
+}
+
+/// One more branch whose request was not sent.
+fn push_no_leg<A: Allocator>(legs: &mut Vec<Option<Leg<A>>, A>) -> Result<(), AllocError>
+    ensures { OnOk result (legs.new.items ≡ legs.old.items ++ None ∷ []) }
+{
+    match legs.push(None) {
+        Ok(()) => Ok(()),
+        Err(_) => Err(AllocError),
+    }
+}
+
+/// So many branches whose request was not sent.
+#[tactic(auto, using(crate::proofs::LegLists::no_legs_more))]
+fn no_legs<A: Allocator>(alloc: A, count: u16) -> Result<Vec<Option<Leg<A>>, A>, AllocError>
+    ensures { IfOk result (λ legs. legs.items ≡ no_legs count) }
+{
+    let mut legs = Vec::new(alloc);
+    for place in 0..count {
+        push_no_leg(&mut legs)?;
+    }
+    Ok(legs)
+}
+
+/// What is owed to the caller of a request of this kind as its call opens.
+fn first_owed<A: Allocator>(alloc: A, kind: Kind) -> Result<Vec<Owed<A>, A>, AllocError>
+    ensures { IfOk result (λ owed. owed.items ≡ server.first_owed (kinds.kind_of kind)) }
+{
+    let mut owed = Vec::new(alloc);
+    match kind {
+        Kind::Invite => {
+            if owed.push(Owed::new(OwedAnswer::Trying)).is_err() {
+                return Err(AllocError);
+            }
+        }
+        Kind::Other => {}
+    }
+    Ok(owed)
+}
+
+/// What goes up with the event at this position.
+fn up_at<A: Allocator + Clone>(book: &Book<A>, at: u32) -> Up
+    ensures { (reply : reply.Reply) → slice_get book.now.replies at ≡ Some reply → up_of result ≡ reply.up }
+{
+    match book.reply(at) {
+        Some(reply) => reply.up(),
+        None => Up::Nothing,
+    }
+}
+
+/// Where branch n is, if there is one.
+fn state_of<A: Allocator + Clone>(book: &Book<A>, n: u16) -> Option<State>
+    ensures { result ≡ option_map state_shown (slice_get (table_of book.now).rows n) }
+{
+    Some(book.context().look(n)?.row.state)
+}
+
+impl<A: Allocator + Clone> Parts<A> {
+    /// The parts of a call that was opened so, with the book of its fork and, for each row of the table, where its
+    /// request goes. Nothing was sent yet; a 100 is owed to an INVITE (RFC 3261 sections 16.2 and 17.2.1).
+    ///
+    /// # Errors
+    ///
+    /// Only where the allocator refuses.
+    pub fn begin(
+        alloc: A,
+        fixed: Fixed<A>,
+        book: Book<A>,
+        ways: Vec<Way<A>, A>,
+        now: u64,
+    ) -> Result<Self, AllocError>
+        requires ways { length ways.items ≡ length (table_of book).rows }
+        ensures { IfOk result (λ parts. parts ≡ begun fixed book ways.items) }
+    {
+        let legs = no_legs(alloc.clone()?, book.context().count())?;
+        let owed = first_owed(alloc.clone()?, fixed.kind())?;
+        let last = Vec::new(alloc.clone()?);
+        let served = Served::start(fixed.kind(), now);
+        Ok(Parts {
+            fixed,
+            book,
+            ways,
+            legs,
+            served,
+            owed,
+            last,
+            alloc,
+        })
+    }
+
+    /// What the call was opened with.
+    pub fn fixed(&self) -> &Fixed<A>
+        ensures { result.now ≡ self.now.fixed }
+    {
+        &self.fixed
+    }
+
+    /// The events that were posted, and the context that they lead to.
+    pub fn book(&self) -> &Book<A>
+        ensures { result.now ≡ self.now.log }
+    {
+        &self.book
+    }
+
+    /// The answers that are owed to the caller, in the order in which they came to be owed.
+    pub fn owed(&self) -> &[Owed<A>]
+        ensures { result.now ≡ self.now.server.owed }
+    {
+        &self.owed
+    }
+
+    /// Whether the request to target n was sent.
+    pub fn is_sent(&self, n: u16) -> bool
+        ensures { result ≡ is_sent self.now n }
+    {
+        self.leg(n).is_some()
+    }
+
+    /// Whether branch n owes an ACK.
+    pub fn owes_ack(&self, n: u16) -> bool
+        ensures { result ≡ owes_ack self.now n }
+    {
+        match self.leg(n) {
+            Some(leg) => leg.owes_ack(),
+            None => false,
+        }
+    }
+
+    /// Whether the CANCEL of branch n was sent.
+    pub fn is_cancel_sent(&self, n: u16) -> bool
+        ensures { result ≡ is_cancel_sent self.now n }
+    {
+        match self.leg(n) {
+            Some(leg) => leg.cancelling().is_some(),
+            None => false,
+        }
+    }
+
+    /// Where branch n is, if there is one.
+    fn state(&self, n: u16) -> Option<State>
+        ensures { result ≡ option_map state_shown (slice_get (rows_of self.now) n) }
+    {
+        state_of(&self.book, n)
+    }
+
+    /// Whether branch n was tried, and no response to it has come.
+    fn is_trying(&self, n: u16) -> bool
+        ensures { result ≡ row_passes table.is_trying self.now n }
+    {
+        shows_trying(self.state(n))
+    }
+
+    /// Whether branch n was tried, and has not ended.
+    pub fn is_open(&self, n: u16) -> bool
+        ensures { result ≡ row_passes table.is_open self.now n }
+    {
+        shows_open(self.state(n))
+    }
+
+    /// Whether branch n is cancelled, and has not ended.
+    pub fn is_cancelled(&self, n: u16) -> bool
+        ensures { result ≡ row_passes table.is_cancelled self.now n }
+    {
+        shows_cancelled(self.state(n))
+    }
+
+    /// Whether timer C of branch n runs: it was tried, and is neither cancelled nor has it ended (RFC 3261 section
+    /// 16.8).
+    pub fn runs_timer_c(&self, n: u16) -> bool
+        ensures { result ≡ row_passes runs_timer_c self.now n }
+    {
+        shows_timer_c(self.state(n))
+    }
+
+    /// The part of branch n, if its request was sent.
+    fn leg(&self, n: u16) -> Option<&Leg<A>>
+        ensures { option_copied result ≡ leg_at self.now n }
+    {
+        leg_in(&self.legs, n)
+    }
+
+    /// The part of branch n, whose request was sent.
+    fn part(&self, n: u16) -> &Leg<A>
+        requires { is_sent self.now n ≡ true }
+        ensures { leg_at self.now n ≡ Some result.now }
+    {
+        match self.leg(n) {
+            Some(leg) => leg,
+            None => unreachable!(),
+        }
+    }
+
+    /// Where the request of branch n goes, whose part is there.
+    fn way(&self, n: u16) -> &Way<A>
+        requires { is_sent self.now n ≡ true }
+        ensures { slice_get self.now.ways n ≡ Some result.now }
+    {
+        way_at(&self.ways, n)
+    }
+
+    // ---- one change of a part
+
+    /// The transaction of branch n went on, and an ACK is owed where one was made.
+    fn respond_part(&mut self, n: u16, client: Client, ack: Option<Vec<u8, A>>)
+        requires there { n < length self.old.legs }
+        ensures { self.new ≡ record self.old { legs = changed_leg (responded client (option_map (λ v. v.items) ack)) self.old.legs n } }
+    {
+        respond_leg(&mut self.legs, n, client, ack);
+    }
+
+    /// A response of branch n was posted.
+    fn keep_part(&mut self, n: u16, timer_c_at: Option<u64>, answer: Option<Message<A>>)
+        requires there { n < length self.old.legs }
+        ensures { self.new ≡ record self.old { legs = changed_leg (kept timer_c_at answer) self.old.legs n } }
+    {
+        keep_leg(&mut self.legs, n, timer_c_at, answer);
+    }
+
+    /// The CANCEL of branch n was sent.
+    fn cancel_part(&mut self, n: u16, cancelling: Cancelling<A>)
+        requires there { n < length self.old.legs }
+        ensures { self.new ≡ record self.old { legs = changed_leg (cancelled cancelling) self.old.legs n } }
+    {
+        cancel_leg(&mut self.legs, n, cancelling);
+    }
+
+    /// The transaction of branch n's CANCEL went on.
+    fn cancel_on_part(&mut self, n: u16, client: OtherClient)
+        requires there { n < length self.old.legs }
+        ensures { self.new ≡ record self.old { legs = changed_leg (cancel_on client) self.old.legs n } }
+    {
+        cancel_on_leg(&mut self.legs, n, client);
+    }
+
+    /// The ACK that branch n owes, which it owes no more.
+    fn remove_ack(&mut self, n: u16) -> Option<Vec<u8, A>>
+        requires there { n < length self.old.legs }
+        ensures ack { option_map (λ v. v.items) result ≡ ack_owed self.old n }
+        ensures left { self.new ≡ record self.old { legs = changed_leg without_ack self.old.legs n } }
+    {
+        take_ack_of(&mut self.legs, n)
+    }
+
+    /// The server transaction went on.
+    fn serve(&mut self, served: Served)
+        ensures { self.new ≡ record self.old { server = record self.old.server { machine = served } } }
+    {
+        self.served = served;
+    }
+
+    /// The first answer is owed no more.
+    fn pay(&mut self)
+        requires some { 0 < length self.old.server.owed }
+        ensures { self.new ≡ record self.old { server = record self.old.server { owed = drop 1 self.old.server.owed } } }
+    {
+        pay_first(&mut self.owed);
+    }
+
+    // ---- to a branch
+
+    /// Sends the request to target n, whose client transaction and timer C start (RFC 3261 section 16.6).
+    ///
+    /// # Errors
+    ///
+    /// Only where the allocator refuses; then the parts are as they were.
+    pub fn send_request(&mut self, n: u16, now: u64) -> Result<Datagram<A>, AllocError>
+        requires there { n < length (rows_of self.old) }
+        ensures ok { IfOk result (λ d. (way : fixed.Way) × (slice_get self.old.ways n ≡ Some way) × SendsRequest self.old now n way (pump.Send (seen d)) self.new) }
+        ensures err { OnErr result (self.new ≡ self.old) }
+    {
+        let way = way_at(&self.ways, n);
+        let sent = self.fixed.request_bytes(&self.alloc, way, n)?;
+        let bytes = Vec::from_slice(self.alloc.clone()?, &sent)?;
+        let to = way.hop();
+        let leg = Leg::start(self.fixed.kind(), now, sent);
+        put_leg(&mut self.legs, n, leg);
+        Ok(Datagram {
+            to,
+            bytes,
+            cause: Cause::Request(n),
+        })
+    }
+
+    /// The CANCEL of branch n as it is sent.
+    fn cancel_bytes(&self, way: &Way<A>, n: u16) -> Result<Vec<u8, A>, AllocError>
+        ensures { IfOk result (λ bytes. bytes.items ≡ spelling (cancel_to self.now.fixed way.now n)) }
+    {
+        self.fixed.cancel_bytes(&self.alloc, way, n)
+    }
+
+    /// Sends the CANCEL of branch n, which has a client transaction of its own (RFC 3261 section 9.1).
+    ///
+    /// # Errors
+    ///
+    /// Only where the allocator refuses; then the parts are as they were.
+    pub fn send_cancel(&mut self, n: u16, now: u64) -> Result<Datagram<A>, AllocError>
+        requires there { is_sent self.old n ≡ true }
+        ensures ok { IfOk result (λ d. OnLeg self.old n (λ way leg. SendsCancel self.old now n way leg (pump.Send (seen d)) self.new)) }
+        ensures err { OnErr result (self.new ≡ self.old) }
+    {
+        let _part = self.part(n);
+        let to = self.way(n).hop();
+        let sent = self.cancel_bytes(self.way(n), n)?;
+        let bytes = Vec::from_slice(self.alloc.clone()?, &sent)?;
+        self.cancel_part(n, Cancelling::start(now, sent));
+        Ok(Datagram {
+            to,
+            bytes,
+            cause: Cause::Cancel(n),
+        })
+    }
+
+    /// Sends the ACK that branch n owes for the failure that came last (RFC 3261 section 17.1.1.3).
+    pub fn send_ack(&mut self, n: u16) -> Datagram<A>
+        requires owed { owes_ack self.old n ≡ true }
+        ensures { OnLeg self.old n (λ way leg. SendsAck self.old n way leg (pump.Send (seen result)) self.new) }
+    {
+        let _part = self.part(n);
+        let to = self.way(n).hop();
+        let Some(bytes) = self.remove_ack(n) else {
+            unreachable!()
+        };
+        Datagram {
+            to,
+            bytes,
+            cause: Cause::Ack(n),
+        }
+    }
+
+    // ---- timers of a branch
+
+    /// The request of branch n as it was sent, again.
+    fn request_again(&self, n: u16) -> Result<Datagram<A>, AllocError>
+        requires there { is_sent self.now n ≡ true }
+        ensures { IfOk result (λ d. OnLeg self.now n (λ way leg. IsRequestAgain n way leg (seen d))) }
+    {
+        let sent = self.part(n).sent();
+        Ok(Datagram {
+            to: self.way(n).hop(),
+            bytes: Vec::from_slice(self.alloc.clone()?, sent)?,
+            cause: Cause::Request(n),
+        })
+    }
+
+    /// A tick of the client transaction of branch n: timers A and E send its request again, timers B and F end the
+    /// branch, the others end the transaction (RFC 3261 section 17.1).
+    ///
+    /// # Errors
+    ///
+    /// Only where the allocator refuses; then the parts are as they were.
+    pub fn tick_client(&mut self, n: u16, now: u64) -> Result<Step<A>, AllocError>
+        requires there { is_sent self.old n ≡ true }
+        requires open { times_out self.old now n ≡ true → row_passes table.is_open self.old n ≡ true }
+        ensures ok { IfOk result (λ step. OnLeg self.old n (λ way leg. TicksClient self.old now n way leg (pumped step) self.new)) }
+        ensures err { OnErr result (self.new ≡ self.old) }
+    {
+        let _way = self.way(n);
+        let (client, out) = self.part(n).fed(TxEvent::Tick, now);
+        if is_timeout(out.pass) {
+            self.end_part(n, client, Event::Timeout(n))?;
+            return Ok(Step::Did);
+        }
+        if !is_request(out.send) {
+            self.respond_part(n, client, None);
+            return Ok(Step::Did);
+        }
+        let datagram = self.request_again(n)?;
+        self.respond_part(n, client, None);
+        Ok(Step::Send(datagram))
+    }
+
+    /// The CANCEL of branch n as it was sent, again.
+    fn cancel_again(&self, n: u16) -> Result<Datagram<A>, AllocError>
+        requires there { is_cancel_sent self.now n ≡ true }
+        ensures { IfOk result (λ d. OnLeg self.now n (λ way leg. IsCancelAgain n way leg (seen d))) }
+    {
+        let Some(cancelling) = self.part(n).cancelling() else {
+            unreachable!()
+        };
+        Ok(Datagram {
+            to: self.way(n).hop(),
+            bytes: Vec::from_slice(self.alloc.clone()?, cancelling.sent())?,
+            cause: Cause::Cancel(n),
+        })
+    }
+
+    /// A tick of the client transaction of branch n's CANCEL, which sends the CANCEL again or ends; what it passes is
+    /// not posted (RFC 3261 sections 9.1 and 17.1.2).
+    ///
+    /// # Errors
+    ///
+    /// Only where the allocator refuses; then the parts are as they were.
+    pub fn tick_cancel(&mut self, n: u16, now: u64) -> Result<Step<A>, AllocError>
+        requires there { is_cancel_sent self.old n ≡ true }
+        ensures ok { IfOk result (λ step. OnLeg self.old n (λ way leg. TicksCancel self.old now n way leg (pumped step) self.new)) }
+        ensures err { OnErr result (self.new ≡ self.old) }
+    {
+        let _way = self.way(n);
+        let Some(cancelling) = self.part(n).cancelling() else {
+            unreachable!()
+        };
+        let (client, out) = cancelling.fed(TxEvent::Tick, now);
+        if !is_request(out.send) {
+            self.cancel_on_part(n, client);
+            return Ok(Step::Did);
+        }
+        let datagram = self.cancel_again(n)?;
+        self.cancel_on_part(n, client);
+        Ok(Step::Send(datagram))
+    }
+
+    /// Timer C of branch n fires: a branch that has not rung ends, and its transaction is stopped; one that has rung is
+    /// cancelled (RFC 3261 section 16.8).
+    ///
+    /// # Errors
+    ///
+    /// Only where the allocator refuses; then the parts are as they were.
+    pub fn fire_timer_c(&mut self, n: u16, now: u64) -> Result<(), AllocError>
+        requires there { is_sent self.old n ≡ true }
+        requires runs { row_passes runs_timer_c self.old n ≡ true }
+        requires invite { (table_of self.old.log).kind ≡ table.Invite }
+        ensures ok { OnOk result (OnPart self.old n (λ leg. FiresTimerC self.old now n leg (row_passes table.is_trying self.old n) pump.Did self.new)) }
+        ensures err { OnErr result (self.new ≡ self.old) }
+    {
+        let (client, _out) = self.part(n).fed(TxEvent::Stop, now);
+        if !self.is_trying(n) {
+            self.post_bare(Event::TimerC(n))?;
+            return Ok(());
+        }
+        self.end_part(n, client, Event::TimerC(n))?;
+        Ok(())
+    }
+
+    /// Gives up branch n, which was cancelled and whose final response has not come: it ends, and its transaction is
+    /// stopped (RFC 3261 section 9.1).
+    ///
+    /// # Errors
+    ///
+    /// Only where the allocator refuses; then the parts are as they were.
+    pub fn give_up(&mut self, n: u16, now: u64) -> Result<(), AllocError>
+        requires there { is_sent self.old n ≡ true }
+        requires cancelled { row_passes table.is_cancelled self.old n ≡ true }
+        ensures ok { OnOk result (OnPart self.old n (λ leg. GivesUp self.old now n leg pump.Did self.new)) }
+        ensures err { OnErr result (self.new ≡ self.old) }
+    {
+        let (client, _out) = self.part(n).fed(TxEvent::Stop, now);
+        self.end_part(n, client, Event::GiveUp(n))?;
+        Ok(())
+    }
+
+    // ---- posting
+
+    /// Posts an event that adds no row; what goes up is owed to the caller.
+    ///
+    /// # Errors
+    ///
+    /// `Full` where the book takes no more events that change nothing; else only where the allocator refuses. The parts
+    /// are then as they were.
+    fn post_plain(
+        &mut self,
+        event: Event<A>,
+        response: Option<Message<A>>,
+    ) -> Result<u32, PostFault>
+        requires plain { AddsNoRow (event_of event) }
+        ensures ok { IfOk result (λ at. PostsAt self.old (event_of event) response at self.new) }
+        ensures full { IsErrOf result PostFault.Full → is_full (core_of self.old.log) (event_of event) ≡ true }
+        ensures longer { OnOk result (length self.old.legs ≤ length self.new.legs) }
+        ensures err { OnErr result (self.new ≡ self.old) }
+    {
+        if self.book.context().is_full(&event) {
+            return Err(PostFault::Full);
+        }
+        if self.owed.reserve(1).is_err() {
+            return Err(PostFault::NoMemory);
+        }
+        let Ok(at) = self.book.post(CALL_TAG, event) else {
+            return Err(PostFault::NoMemory);
+        };
+        let up = up_at(&self.book, at);
+        owe(&mut self.owed, owed_by(up, response));
+        Ok(at)
+    }
+
+    /// Posts an event that changes the table and adds no row, and that is no response of a branch.
+    fn post_bare(&mut self, event: Event<A>) -> Result<(), AllocError>
+        requires plain { AddsNoRow (event_of event) }
+        requires taken { is_full (core_of self.old.log) (event_of event) ≡ false }
+        ensures ok { OnOk result (PostsBare self.old (event_of event) self.new) }
+        ensures longer { OnOk result (length self.old.legs ≤ length self.new.legs) }
+        ensures err { OnErr result (self.new ≡ self.old) }
+    {
+        match self.post_plain(event, None) {
+            Ok(_) => Ok(()),
+            Err(_) => Err(AllocError),
+        }
+    }
+
+    /// Posts such an event by which branch n ends; its transaction went on.
+    fn end_part(&mut self, n: u16, client: Client, event: Event<A>) -> Result<(), AllocError>
+        requires there { is_sent self.old n ≡ true }
+        requires plain { AddsNoRow (event_of event) }
+        requires taken { is_full (core_of self.old.log) (event_of event) ≡ false }
+        ensures ok { OnOk result (OnPart self.old n (λ leg. PostsBare (set_leg self.old n (record leg { client = client })) (event_of event) self.new)) }
+        ensures err { OnErr result (self.new ≡ self.old) }
+    {
+        let _part = self.part(n);
+        self.post_bare(event)?;
+        self.respond_part(n, client, None);
+        Ok(())
+    }
+
+    // ---- responses of a branch
+
+    /// The ACK of a response to branch n, where its transaction asks for it.
+    fn ack_if(
+        &self,
+        way: &Way<A>,
+        n: u16,
+        send: TxSend,
+        response: &Message<A>,
+    ) -> Result<Option<Vec<u8, A>>, AllocError>
+        ensures { IfOk result (λ ack. option_map (λ v. v.items) ack ≡ ack_made send (spelling (ack_to self.now.fixed way.now n response.now))) }
+    {
+        self.fixed.ack_if(&self.alloc, way, n, send, response)
+    }
+
+    /// Takes a response to branch n that says nothing beside its status: its client transaction absorbs it, or hands it
+    /// up, and it is posted (RFC 3261 sections 16.7 and 17.1). A failure is kept, for it may go up later, and an ACK is
+    /// owed where the transaction says so; a provisional response sets timer C again.
+    ///
+    /// # Errors
+    ///
+    /// `Full` where the book takes no more events that change nothing; else only where the allocator refuses. The parts
+    /// are then as they were.
+    pub fn respond(
+        &mut self,
+        n: u16,
+        status: u16,
+        message: Message<A>,
+        now: u64,
+    ) -> Result<Taken, PostFault>
+        requires there { is_sent self.old n ≡ true }
+        requires status { status ≡ status_of message }
+        requires least { 100 ≤ status }
+        requires most { status ≤ 699 }
+        requires bare { is_bare status ≡ true }
+        ensures ok { IfOk result (λ taken. RespondsOn self.old n now message (seen_taken taken) self.new) }
+        ensures full { IsErrOf result PostFault.Full → RespondsOn self.old n now message take.Full self.new }
+        ensures err { OnErr result (self.new ≡ self.old) }
+    {
+        let leg = self.part(n);
+        let (client, out) = leg.fed(response_event(status), now);
+        let timer_c_at = leg.timer_c_again(status, now);
+        let ack = self.ack_if(self.way(n), n, out.send, &message)?;
+        if !is_passed(out.pass) {
+            self.respond_part(n, client, ack);
+            return Ok(Taken::Absorbed);
+        }
+        let event = bare_event(&self.alloc, n, status)?;
+        let (up, answer) = parted(status, message);
+        let at = match self.post_plain(event, up) {
+            Ok(at) => at,
+            Err(fault) => return Err(fault),
+        };
+        self.respond_part(n, client, ack);
+        self.keep_part(n, timer_c_at, answer);
+        Ok(Taken::Posted(at))
+    }
+
+    // ---- from the caller
+
+    /// Takes the caller's request again: the last answer is owed again where the server transaction sends it (RFC 3261
+    /// section 17.2).
+    ///
+    /// # Errors
+    ///
+    /// Only where the allocator refuses; then the parts are as they were.
+    pub fn take_request(&mut self, now: u64) -> Result<(), AllocError>
+        ensures ok { OnOk result (self.new ≡ requested_again self.old now) }
+        ensures err { OnErr result (self.new ≡ self.old) }
+    {
+        let (served, out) = self.served.fed(TxEvent::Request, now);
+        if self.owed.reserve(1).is_err() {
+            return Err(AllocError);
+        }
+        self.served = served;
+        owe(&mut self.owed, again_if(is_response(out.send)));
+        Ok(())
+    }
+
+    /// Takes the caller's ACK, which the server transaction absorbs (RFC 3261 section 17.2.1).
+    pub fn take_ack(&mut self, now: u64)
+        ensures { self.new ≡ served_on self.old TxEvent.Ack now }
+    {
+        let (served, _out) = self.served.fed(TxEvent::Ack, now);
+        self.serve(served);
+    }
+
+    // ---- to the caller
+
+    /// Hands the first answer that is owed, spelled by these bytes, to the server transaction, which sends it or drops
+    /// it (RFC 3261 section 17.2).
+    ///
+    /// # Errors
+    ///
+    /// Only where the allocator refuses; then the parts are as they were.
+    pub fn send_answer(
+        &mut self,
+        status: u16,
+        text: Vec<u8, A>,
+        now: u64,
+    ) -> Result<Step<A>, AllocError>
+        requires some { 0 < length self.old.server.owed }
+        ensures ok { IfOk result (λ step. (m : MessageText) → status ≡ status_of m → text.items ≡ spelling m
+            → AnswersWith self.old now (drop 1 self.old.server.owed) (Some m) (pumped step) self.new) }
+        ensures err { OnErr result (self.new ≡ self.old) }
+    {
+        let (served, out) = self.served.fed(answer_event(status), now);
+        if !is_response(out.send) {
+            self.served = served;
+            pay_first(&mut self.owed);
+            return Ok(Step::Did);
+        }
+        let bytes = Vec::from_slice(self.alloc.clone()?, &text)?;
+        let to = self.fixed.caller();
+        self.served = served;
+        self.last = text;
+        pay_first(&mut self.owed);
+        Ok(Step::Send(Datagram {
+            to,
+            bytes,
+            cause: Cause::Answer,
+        }))
+    }
+
+    /// What was sent to the caller last, again.
+    fn last_again(&self) -> Result<Datagram<A>, AllocError>
+        ensures { IfOk result (λ d. seen d ≡ answer_to self.now.fixed self.now.server.last) }
+    {
+        answer_again(&self.alloc, &self.fixed, &self.last)
+    }
+
+    /// A tick of the server transaction: timer G sends the last answer again, the others end it; what it passes is not
+    /// posted (RFC 3261 section 17.2).
+    ///
+    /// # Errors
+    ///
+    /// Only where the allocator refuses; then the parts are as they were.
+    pub fn tick_server(&mut self, now: u64) -> Result<Step<A>, AllocError>
+        ensures ok { IfOk result (λ step. TicksServer self.old now (pumped step) self.new) }
+        ensures err { OnErr result (self.new ≡ self.old) }
+    {
+        let (served, out) = self.served.fed(TxEvent::Tick, now);
+        if !is_response(out.send) {
+            self.serve(served);
+            return Ok(Step::Did);
+        }
+        let datagram = self.last_again()?;
+        self.serve(served);
+        Ok(Step::Send(datagram))
+    }
+}
+
+/// These bytes to the caller.
+fn answer_again<A: Allocator + Clone>(
+    alloc: &A,
+    fixed: &Fixed<A>,
+    last: &[u8],
+) -> Result<Datagram<A>, AllocError>
+    ensures { IfOk result (λ d. seen d ≡ answer_to fixed.now last.now) }
+{
+    Ok(Datagram {
+        to: fixed.caller(),
+        bytes: Vec::from_slice(alloc.clone()?, last)?,
+        cause: Cause::Answer,
+    })
+}

@@ -1,0 +1,15 @@
+//! What was done.
+use crate::datagram::Datagram;
+use std::alloc::{Allocator, Global};
+
+/// What comes of a deed of a call.
+#[derive(Drop)]
+#[derive_where(Debug)]
+pub enum Step<A: Allocator = Global> {
+    /// A datagram is to be sent.
+    Send(Datagram<A>),
+    /// Something was done that sends nothing.
+    Did,
+    /// Nothing was to be done.
+    Idle,
+}

@@ -1,0 +1,18 @@
+//! What a proxy is set up with, and the text that sets it up: the address it receives at, the number of this run, the
+//! domain it answers for, the rules of its forks, and where the users of the domain may be reached (RFC 3261 sections 16.5
+//! and 16.6).
+//!
+//! Each line of such a text ends in LF, words are separated by one space, and numbers are decimal without leading zeros.
+#![tactic(auto)]
+
+mod draft;
+mod fault;
+mod laws;
+mod line;
+mod location;
+mod setup;
+
+pub use fault::SetupFault;
+pub use laws::locations_are_targets;
+pub use location::Location;
+pub use setup::Setup;

@@ -1,0 +1,94 @@
+//! Where a user may be reached.
+ghost use Rattle.std.specs.Prelude.{◌≡◌, length};
+ghost use Rattle.std.specs.List.{list_any};
+ghost use Rattle.fork_setup.specs.Reading.{may_follow};
+ghost use Rattle.fork_setup.specs.Setup.{is_of_user, is_same, locations_of};
+
+use fork_rank::MOST_TARGETS;
+use sip_uri::SipUri;
+use std::alloc::{Allocator, Global};
+use std::marker::Model;
+
+/// Where a user of the domain may be reached (RFC 3261 section 16.5).
+#[derive(Drop)]
+pub struct Location<A: Allocator = Global> {
+    pub(crate) user: Vec<u8, A>,
+    pub(crate) q: u16,
+    pub(crate) uri: SipUri<A>,
+}
+
+impl<A: Allocator> Model for Location<A> {
+    ghost use Rattle.fork_setup.specs.Setup as spec;
+
+    ghost Value = { spec.Location };
+
+    ghost view = { λ l. record { user = l.user.items; q = l.q; uri = l.uri } };
+}
+
+impl<A: Allocator> Location<A> {
+    /// The user, as it stands before the `@` of a request's URI (RFC 3261 section 19.1.1).
+    pub fn user(&self) -> &[u8]
+        ensures { result.now ≡ self.now.user }
+    {
+        &self.user
+    }
+
+    /// Whether it is a location of this user.
+    pub fn is_of(&self, user: &[u8]) -> bool
+        ensures { result ≡ is_of_user user.now self.now }
+    {
+        self.user.as_slice() == user
+    }
+
+    /// Which of the user's locations are tried first, in thousandths, 0 to 1000: those with the greatest.
+    pub fn q(&self) -> u16
+        ensures { result ≡ self.now.q }
+    {
+        self.q
+    }
+
+    /// The target of a request to the user.
+    pub fn uri(&self) -> &SipUri<A>
+        ensures { result.now ≡ self.now.uri }
+    {
+        &self.uri
+    }
+}
+
+impl<A: Allocator + Clone> Location<A> {
+    /// Whether the other one is of the same user, and the same target.
+    fn is_same(&self, other: &Location<A>) -> bool
+        ensures { result ≡ is_same self.now other.now }
+    {
+        other.is_of(self.user()) && other.uri.same_target(self.uri())
+    }
+}
+
+/// How many of the locations are the user's.
+fn count_of<A: Allocator>(locations: &[Location<A>], user: &[u8]) -> usize
+    ensures { result ≡ length (locations_of user.now locations.now) }
+{
+    locations
+        .iter()
+        .filter(|location| location.is_of(user))
+        .count()
+}
+
+fn has_same<A: Allocator + Clone>(locations: &[Location<A>], location: &Location<A>) -> bool
+    ensures { result ≡ list_any (is_same location.now) locations.now }
+{
+    locations.iter().any(|other| location.is_same(other))
+}
+
+/// Whether a location may stand behind these: a request can be sent there, its user has not got this target yet, nor as many
+/// locations as may be tried.
+pub(crate) fn may_follow<A: Allocator + Clone>(
+    earlier: &[Location<A>],
+    location: &Location<A>,
+) -> bool
+    ensures { result ≡ may_follow earlier.now location.now }
+{
+    location.uri.next_hop().is_some()
+        && !has_same(earlier, location)
+        && count_of(earlier, &location.user) < usize::from(MOST_TARGETS)
+}

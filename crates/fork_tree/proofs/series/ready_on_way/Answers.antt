@@ -1,0 +1,10 @@
+use Rattle.std.proofs.Common.{sym, subst}
+use Rattle.fork_tree.specs.Places.{rows_of}
+use Rattle.fork_tree.specs.Search.{FindsOnWay}
+use Rattle.fork_tree.proofs.Tiers.{top_finds}
+use Rattle.fork_tree.proofs.series.ready_on_way.Goals as goal
+
+pub returns-in-None : goal.returns-in-None
+returns-in-None g c =
+    subst (λ o. FindsOnWay (rows_of c.args.places.now c.args.root.now) o c.ready.result) (sym c.in-None.is)
+    (top_finds c.args.places.now c.args.root.now c.ready.result c.requires.shape c.ready.ensures)

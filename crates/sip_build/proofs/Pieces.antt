@@ -1,0 +1,84 @@
+-- Texts that grow by pieces, and by header lines.
+use Rattle.std.proofs.Common.{◌≡◌, ℕ, List, [], ◌∷◌, ◌++◌, refl, sym, ap, ◌∙◌, append_assoc}
+use Rattle.std.proofs.lemmas.Grind.{flat_map-append}
+use Rattle.std.proofs.lemmas.List.{append-nil}
+use Rattle.sip_lex.specs.Line.{ended}
+use Rattle.sip_text.specs.Text.{HeaderText, StartText, header_text, spelling, start_line}
+use Rattle.std.specs.Prelude.{codes}
+use Rattle.std.specs.Fmt.{decimal}
+use Rattle.sip_via.specs.declared.own.Own.{Own}
+use Rattle.sip_via.specs.declared.branch.BranchName.{BranchName}
+use Rattle.sip_via.specs.Address.{address_text}
+use Rattle.sip_via.specs.BranchText.{branch_text}
+use Rattle.sip_via.specs.Edits.{line}
+use Rattle.sip_via.specs.OwnVia.{own_via}
+use Rattle.sip_build.specs.Texts.{lines_text}
+
+abbrev pub Text : Type 0
+Text = List ℕ
+
+abbrev pub Lines : Type 0
+Lines = List HeaderText
+
+-- ---- in pieces
+
+pub joined : (old mid new a b all : Text) → mid ≡ old ++ a → new ≡ mid ++ b → a ++ b ≡ all → new ≡ old ++ all
+joined old mid new a b all e h k = h ∙ ap (λ (x : Text). x ++ b) e ∙ append_assoc old a b ∙ ap (λ (x : Text). old ++ x) k
+
+pub three : (old n1 n2 n3 a b d all : Text) → n1 ≡ old ++ a → n2 ≡ n1 ++ b → n3 ≡ n2 ++ d → a ++ (b ++ d) ≡ all → n3 ≡ old ++ all
+three old n1 n2 n3 a b d all e1 e2 e3 k =
+    let rest : n3 ≡ n1 ++ (b ++ d) = e3 ∙ ap (λ (x : Text). x ++ d) e2 ∙ append_assoc n1 b d in
+    joined old n1 n3 a (b ++ d) all e1 rest k
+
+pub four : (old n1 n2 n3 n4 a b d e all : Text) → n1 ≡ old ++ a → n2 ≡ n1 ++ b → n3 ≡ n2 ++ d → n4 ≡ n3 ++ e → a ++ (b ++ (d ++ e)) ≡ all → n4 ≡ old ++ all
+four old n1 n2 n3 n4 a b d e all e1 e2 e3 e4 k =
+    let rest : n4 ≡ n1 ++ (b ++ (d ++ e)) = three n1 n2 n3 n4 b d e (b ++ (d ++ e)) e2 e3 e4 refl in
+    joined old n1 n4 a (b ++ (d ++ e)) all e1 rest k
+
+pub seven : (old n1 n2 n3 n4 n5 n6 n7 a b d e f g h all : Text) → n1 ≡ old ++ a → n2 ≡ n1 ++ b → n3 ≡ n2 ++ d → n4 ≡ n3 ++ e → n5 ≡ n4 ++ f → n6 ≡ n5 ++ g → n7 ≡ n6 ++ h → a ++ (b ++ (d ++ (e ++ (f ++ (g ++ h))))) ≡ all → n7 ≡ old ++ all
+seven old n1 n2 n3 n4 n5 n6 n7 a b d e f g h all e1 e2 e3 e4 e5 e6 e7 k =
+    let back : n7 ≡ n3 ++ (e ++ (f ++ (g ++ h))) = four n3 n4 n5 n6 n7 e f g h (e ++ (f ++ (g ++ h))) e4 e5 e6 e7 refl in
+    let rest : n7 ≡ n1 ++ (b ++ (d ++ (e ++ (f ++ (g ++ h))))) = three n1 n2 n3 n7 b d (e ++ (f ++ (g ++ h))) (b ++ (d ++ (e ++ (f ++ (g ++ h))))) e2 e3 back refl in
+    joined old n1 n7 a (b ++ (d ++ (e ++ (f ++ (g ++ h))))) all e1 rest k
+
+-- ---- in header lines
+
+lines-append : (xs ys : Lines) → lines_text xs ++ lines_text ys ≡ lines_text (xs ++ ys)
+lines-append xs ys = sym (flat_map-append header_text xs ys)
+
+-- one line
+pub one : (old new : Text) (h : HeaderText) → new ≡ old ++ header_text h → new ≡ old ++ lines_text (h ∷ [])
+one old new h e = e ∙ ap (λ (x : Text). old ++ x) (sym (append-nil (header_text h)))
+
+pub two_lines : (old mid new : Text) (xs ys all : Lines) → mid ≡ old ++ lines_text xs → new ≡ mid ++ lines_text ys → xs ++ ys ≡ all → new ≡ old ++ lines_text all
+two_lines old mid new xs ys all e h k = joined old mid new (lines_text xs) (lines_text ys) (lines_text all) e h (lines-append xs ys ∙ ap (λ (zs : Lines). lines_text zs) k)
+
+pub three_lines : (old n1 n2 n3 : Text) (xs ys zs all : Lines) → n1 ≡ old ++ lines_text xs → n2 ≡ n1 ++ lines_text ys → n3 ≡ n2 ++ lines_text zs → xs ++ (ys ++ zs) ≡ all → n3 ≡ old ++ lines_text all
+three_lines old n1 n2 n3 xs ys zs all e1 e2 e3 k = two_lines old n1 n3 xs (ys ++ zs) all e1 (two_lines n1 n2 n3 ys zs (ys ++ zs) e2 e3 refl) k
+
+pub seven_lines : (old n1 n2 n3 n4 n5 n6 n7 : Text) (a b d e f g h all : Lines) → n1 ≡ old ++ lines_text a → n2 ≡ n1 ++ lines_text b → n3 ≡ n2 ++ lines_text d → n4 ≡ n3 ++ lines_text e → n5 ≡ n4 ++ lines_text f → n6 ≡ n5 ++ lines_text g → n7 ≡ n6 ++ lines_text h → a ++ (b ++ (d ++ (e ++ (f ++ (g ++ h))))) ≡ all → n7 ≡ old ++ lines_text all
+seven_lines old n1 n2 n3 n4 n5 n6 n7 a b d e f g h all e1 e2 e3 e4 e5 e6 e7 k =
+    let gh = two_lines n5 n6 n7 g h (g ++ h) e6 e7 refl in
+    let fgh = two_lines n4 n5 n7 f (g ++ h) (f ++ (g ++ h)) e5 gh refl in
+    let efgh = two_lines n3 n4 n7 e (f ++ (g ++ h)) (e ++ (f ++ (g ++ h))) e4 fgh refl in
+    let defgh = two_lines n2 n3 n7 d (e ++ (f ++ (g ++ h))) (d ++ (e ++ (f ++ (g ++ h)))) e3 efgh refl in
+    let rest = two_lines n1 n2 n7 b (d ++ (e ++ (f ++ (g ++ h)))) (b ++ (d ++ (e ++ (f ++ (g ++ h))))) e2 defgh refl in
+    two_lines old n1 n7 a (b ++ (d ++ (e ++ (f ++ (g ++ h))))) all e1 rest k
+
+-- ---- the proxy's own Via line
+
+pub own_line : (proxy : Own) (b : BranchName) → codes "Via: SIP/2.0/UDP " ++ (address_text proxy.addr ++ (58 ∷ (decimal proxy.port ++ (codes ";branch=" ++ (branch_text b ++ 13 ∷ 10 ∷ []))))) ≡ header_text (line (codes "Via") (own_via proxy b))
+own_line proxy b =
+    let tail = 13 ∷ 10 ∷ [] in
+    let branch = codes ";branch=" ++ branch_text b in
+    sym (ap (λ (x : Text). codes "Via: SIP/2.0/UDP " ++ x)
+    (append_assoc (address_text proxy.addr) (58 ∷ (decimal proxy.port ++ branch)) tail
+    ∙ ap (λ (x : Text). address_text proxy.addr ++ (58 ∷ x)) (append_assoc (decimal proxy.port) branch tail)))
+
+-- ---- whole messages: the start line, a line, further lines, and the end
+
+pub whole_text : (made : StartText) (end : Text) (start : StartText) (h : HeaderText) (hs : Lines) (body : Text) → start ≡ made → end ≡ body → ended (start_line made) ++ (header_text h ++ (lines_text hs ++ (ended [] ++ end))) ≡ spelling (record { start = start; headers = h ∷ hs; body = body })
+whole_text made end start h hs body s e =
+    ap (λ (x : StartText). ended (start_line x) ++ (header_text h ++ (lines_text hs ++ (ended [] ++ end)))) (sym s)
+    ∙ ap (λ (x : Text). ended (start_line start) ++ (header_text h ++ (lines_text hs ++ (ended [] ++ x)))) e
+    ∙ ap (λ (x : Text). ended (start_line start) ++ x) (sym (append_assoc (header_text h) (lines_text hs) (ended [] ++ body)))

@@ -1,0 +1,219 @@
+//! Requests as they go to a target, straight as text.
+
+ghost use Rattle.std.specs.Prelude.{◌≡◌, ◌-◌, ◌++◌, ◌∷◌, None, Some, IfSome, OnErr, OnOk, codes, take, true, vec_len};
+ghost use Rattle.std.specs.Fmt.{decimal};
+ghost use Rattle.std.specs.Option.{option_copied};
+ghost use Rattle.sip_lex.specs.Line.{ended};
+ghost use Rattle.sip_lex.specs.Number.{number};
+ghost use Rattle.sip_text.specs.Name.{first_value};
+ghost use Rattle.sip_text.specs.Seen.{views};
+ghost use Rattle.sip_text.specs.Text.{Request, header_text, spelling, start_line};
+ghost use Rattle.sip_uri.specs.Uri.{Uri, request_uri};
+ghost use Rattle.sip_via.specs.Address.{address_text, dotted};
+ghost use Rattle.sip_via.specs.Edits.{line};
+ghost use Rattle.sip_via.specs.OwnVia.{own_via};
+ghost use Rattle.sip_build.specs.Forwarding.{forwarded, hops_lowered, is_request, to_target};
+ghost use Rattle.sip_build.specs.Texts.{lines_text};
+ghost use Rattle.sip_route.specs.Hops.{IsHops, hops_name};
+
+use crate::lines::append_replaced;
+use crate::parts::{ask_for_room, whole_or_nothing};
+use itoa::Buffer;
+use sip_lex::read_number;
+use sip_text::{Header, Message, Start, append_end, append_header, append_headers};
+use sip_uri::SipUri;
+use sip_via::{BranchName, Own, write_branch};
+use std::alloc::{AllocError, Allocator};
+
+const MAX_FORWARDS: &[u8] = b"max-forwards";
+
+/// The method of a request.
+fn method_of<A: Allocator>(message: &Message<A>) -> &[u8]
+    requires { is_request message.now.start ≡ true }
+    ensures { (u : Uri) → to_target message.now.start u ≡ Request result.now (request_uri u) }
+{
+    match message.start() {
+        Start::Request { method, .. } => method,
+        Start::Response { .. } => unreachable!(),
+    }
+}
+
+/// Appends the start line of a request to a target.
+fn append_to_target<A: Allocator + Clone, B: Allocator>(
+    out: &mut Vec<u8, B>,
+    method: &[u8],
+    target: &SipUri<A>,
+) -> Result<(), AllocError>
+    ensures ok { OnOk result
+        (out.new.items ≡ out.old.items ++ ended (start_line (Request method.now (request_uri target.now)))) }
+    ensures begins { take (vec_len out.old) out.new.items ≡ out.old.items }
+{
+    out.extend_from_slice(method)?;
+    out.push(b' ')?;
+    target.request_uri(out)?;
+    out.extend_from_slice(b" SIP/2.0\r\n")?;
+    Ok(())
+}
+
+/// Appends a number in decimal.
+fn append_number<B: Allocator>(out: &mut Vec<u8, B>, n: u32) -> Result<(), AllocError>
+    ensures ok { OnOk result (out.new.items ≡ out.old.items ++ decimal n) }
+    ensures begins { take (vec_len out.old) out.new.items ≡ out.old.items }
+{
+    out.extend_from_slice(Buffer::new().format(n).as_bytes())
+}
+
+/// Appends a number behind a dot.
+fn append_dotted<B: Allocator>(out: &mut Vec<u8, B>, n: u8) -> Result<(), AllocError>
+    ensures ok { OnOk result (out.new.items ≡ out.old.items ++ dotted n) }
+    ensures begins { take (vec_len out.old) out.new.items ≡ out.old.items }
+{
+    out.push(b'.')?;
+    append_number(out, u32::from(n))
+}
+
+/// Appends an address in dotted decimal.
+fn append_address<B: Allocator>(out: &mut Vec<u8, B>, addr: [u8; 4]) -> Result<(), AllocError>
+    ensures ok { OnOk result (out.new.items ≡ out.old.items ++ address_text addr) }
+    ensures begins { take (vec_len out.old) out.new.items ≡ out.old.items }
+{
+    append_number(out, u32::from(addr[0]))?;
+    append_dotted(out, addr[1])?;
+    append_dotted(out, addr[2])?;
+    append_dotted(out, addr[3])?;
+    Ok(())
+}
+
+/// Appends the proxy's own Via line.
+fn append_own_via<B: Allocator>(
+    out: &mut Vec<u8, B>,
+    own: Own,
+    branch: &BranchName,
+) -> Result<(), AllocError>
+    ensures ok { OnOk result
+        (out.new.items ≡ out.old.items ++ header_text (line (codes "Via") (own_via own branch.now))) }
+    ensures begins { take (vec_len out.old) out.new.items ≡ out.old.items }
+{
+    out.extend_from_slice(b"Via: SIP/2.0/UDP ")?;
+    append_address(out, own.addr)?;
+    out.push(b':')?;
+    append_number(out, u32::from(own.port))?;
+    out.extend_from_slice(b";branch=")?;
+    write_branch(branch, out)?;
+    out.extend_from_slice(b"\r\n")?;
+    Ok(())
+}
+
+/// One hop fewer than a Max-Forwards value allows.
+fn one_fewer(value: &[u8]) -> u64
+    requires { IsHops value.now }
+    ensures { result ≡ number value.now - 1 }
+{
+    read_number(value, 255).unwrap_or(1) - 1
+}
+
+/// Appends the header lines with one hop fewer than their first Max-Forwards value allows.
+fn append_fewer<A: Allocator, B: Allocator>(
+    out: &mut Vec<u8, B>,
+    headers: &[Header<A>],
+    value: &[u8],
+) -> Result<(), AllocError>
+    requires { IsHops value.now }
+    ensures ok { OnOk result
+        (out.new.items ≡ out.old.items ++ lines_text (hops_lowered (views headers.now) (Some value.now))) }
+    ensures begins { take (vec_len out.old) out.new.items ≡ out.old.items }
+{
+    let hops = one_fewer(value);
+    let mut buffer = Buffer::new();
+    append_replaced(
+        out,
+        headers,
+        MAX_FORWARDS,
+        Some(buffer.format(hops).as_bytes()),
+    )?;
+    Ok(())
+}
+
+/// Appends the header lines behind the seventy hops that a request begins with.
+fn append_seventy<A: Allocator, B: Allocator>(
+    out: &mut Vec<u8, B>,
+    headers: &[Header<A>],
+) -> Result<(), AllocError>
+    ensures ok { OnOk result
+        (out.new.items ≡ out.old.items ++ lines_text (hops_lowered (views headers.now) None)) }
+    ensures begins { take (vec_len out.old) out.new.items ≡ out.old.items }
+{
+    append_header(out, b"Max-Forwards", b"70")?;
+    append_headers(out, headers)?;
+    Ok(())
+}
+
+/// The first Max-Forwards value.
+fn first_hops<A: Allocator>(message: &Message<A>) -> Option<&[u8]>
+    ensures { option_copied result ≡ first_value hops_name message.now.headers }
+{
+    message.values(MAX_FORWARDS).next()
+}
+
+/// Appends the header lines with one hop fewer than that value allows, or with seventy.
+fn append_lowered<A: Allocator, B: Allocator>(
+    out: &mut Vec<u8, B>,
+    headers: &[Header<A>],
+    first: Option<&[u8]>,
+) -> Result<(), AllocError>
+    requires { IfSome (option_copied first) IsHops }
+    ensures ok { OnOk result
+        (out.new.items ≡ out.old.items ++ lines_text (hops_lowered (views headers.now) (option_copied first.entry))) }
+    ensures begins { take (vec_len out.old) out.new.items ≡ out.old.items }
+{
+    match first {
+        None => append_seventy(out, headers),
+        Some(value) => append_fewer(out, headers, value),
+    }
+}
+
+/// Appends the request as it goes to a target, or a part of it.
+fn append_forwarded<A: Allocator + Clone, B: Allocator>(
+    out: &mut Vec<u8, B>,
+    message: &Message<A>,
+    target: &SipUri<A>,
+    own: Own,
+    branch: &BranchName,
+) -> Result<(), AllocError>
+    requires request { is_request message.now.start ≡ true }
+    requires hops { IfSome (first_value hops_name message.now.headers) IsHops }
+    ensures ok { OnOk result
+        (out.new.items ≡ out.old.items ++ spelling (forwarded message.now target.now own branch.now)) }
+    ensures begins { take (vec_len out.old) out.new.items ≡ out.old.items }
+{
+    append_to_target(out, method_of(message), target)?;
+    append_own_via(out, own, branch)?;
+    append_lowered(out, message.headers(), first_hops(message))?;
+    append_end(out, message.body())?;
+    Ok(())
+}
+
+/// Appends the request as it goes to a target (RFC 3261 section 16.6): the text of what `forward`
+/// builds, with no message between.
+///
+/// # Errors
+///
+/// Only where the growth of `out` is refused; `out` is then unchanged.
+pub fn write_forwarded<A: Allocator + Clone, B: Allocator>(
+    message: &Message<A>,
+    target: &SipUri<A>,
+    own: Own,
+    branch: &BranchName,
+    out: &mut Vec<u8, B>,
+) -> Result<(), AllocError>
+    requires request { is_request message.now.start ≡ true }
+    requires hops { IfSome (first_value hops_name message.now.headers) IsHops }
+    ensures ok { OnOk result
+        (out.new.items ≡ out.old.items ++ spelling (forwarded message.now target.now own branch.now)) }
+    ensures err { OnErr result (out.new.items ≡ out.old.items) }
+{
+    let before = out.len();
+    ask_for_room(out, message);
+    let done = append_forwarded(out, message, target, own, branch);
+    whole_or_nothing(out, before, done)
+}

@@ -1,0 +1,35 @@
+//! What each text that is written straight to `out` needs.
+
+ghost use Rattle.std.specs.Prelude.{◌≡◌, OnErr, OnOk, take};
+
+use sip_text::{Message, headers_len};
+use std::alloc::{AllocError, Allocator};
+
+/// Takes back what stands behind the first `before` bytes, unless all was appended.
+pub fn whole_or_nothing<B: Allocator>(
+    out: &mut Vec<u8, B>,
+    before: usize,
+    done: Result<(), AllocError>,
+) -> Result<(), AllocError>
+    ensures done { result ≡ done }
+    ensures ok { OnOk done (out.new.items ≡ out.old.items) }
+    ensures err { OnErr done (out.new.items ≡ take before out.old.items) }
+{
+    if done.is_err() {
+        out.truncate(before);
+    }
+    done
+}
+
+/// What stands before the header lines and between them that a message has not itself: a start line
+/// with a Request-URI of common length, and the proxy's own Via.
+const FRONT: usize = 256;
+
+/// Asks at once for the room that a text made of a message takes. Where that is refused, each part
+/// asks for its own.
+pub fn ask_for_room<A: Allocator, B: Allocator>(out: &mut Vec<u8, B>, message: &Message<A>)
+    ensures { out.new.items ≡ out.old.items }
+{
+    let len = headers_len(message.headers()).saturating_add(message.body().len());
+    let _granted = out.reserve(len.saturating_add(FRONT));
+}

@@ -1,0 +1,12 @@
+-- Values with commas between them.
+use Rattle.std.proofs.Common.{◌≡◌, ℕ, List, [], ◌∷◌, ◌++◌, refl, sym, ap}
+use Rattle.std.specs.List.{join_with_byte}
+use Rattle.sip_route.specs.Loop.{behind_commas}
+
+pub joined_commas : (v : List ℕ) (vs : List (List ℕ)) → join_with_byte 44 (v ∷ vs) ≡ v ++ behind_commas vs
+joined_commas v [] = sym (nil_end v)
+  where
+    nil_end : (xs : List ℕ) → xs ++ [] ≡ xs
+    nil_end [] = refl
+    nil_end (x ∷ xs) = ap (λ (t : List ℕ). x ∷ t) (nil_end xs)
+joined_commas v (w ∷ vs) = ap (λ (t : List ℕ). v ++ 44 ∷ t) (joined_commas w vs)

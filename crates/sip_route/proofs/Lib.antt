@@ -1,0 +1,10 @@
+pub mod Added
+pub mod Commas
+pub mod HopsPass
+pub mod KeyLaws
+pub mod RouteLaws
+pub mod RoutePieces
+pub mod StripPlaces
+pub mod Stripped
+pub mod TrimmedPieces
+pub mod Walks

@@ -1,0 +1,176 @@
+-- The first header line of a name, changed or taken away at its place.
+use Rattle.std.proofs.Common.{◌≡◌, ℕ, zero, suc, ◌+◌, ◌-◌, ◌<◌, List, [], ◌∷◌, ◌++◌, length, take, drop, get_or, slice_get, slice_set, Option, Some, None, refl, sym, ap, ◌∙◌, arith, inl, inr, append_assoc}
+use Rattle.std.specs.Prelude.{option_map, remove}
+use Rattle.std.specs.List.{prefix_len, suffix_len}
+use Rattle.std.proofs.lemmas.Bool.{cases_Bool, cond-true, cond-false}
+use Rattle.std.proofs.lemmas.List.{drop_at, length-append, take-append-drop}
+use Rattle.sip_lex.specs.Bytes.{is_space, trim, trim_end, trim_start}
+use Rattle.sip_text.specs.declared.parts.Header.{Header}
+use Rattle.sip_text.specs.Name.{first_of, first_value, same_name, values_of}
+use Rattle.sip_text.specs.Seen.{view, views}
+use Rattle.sip_text.specs.Text.{HeaderText}
+use Rattle.sip_via.specs.Edits.{line, place_of, replaced}
+use Rattle.sip_via.specs.declared.own.Own.{Own}
+use Rattle.sip_lex.specs.declared.sheltered.Shelter.TheVariants.{QuotesAndAngles}
+use Rattle.sip_lex.specs.declared.sheltered.Place.TheVariants.{Plain}
+use Rattle.sip_lex.specs.Sheltered.{cut_outside}
+use Rattle.sip_route.specs.declared.stripping.Left.{Left}
+use Rattle.sip_route.specs.declared.stripping.Left.TheVariants.{All, Nothing, Part}
+use Rattle.sip_route.specs.Routes.{route_name, stripped_at, stripped_headers}
+use Rattle.sip_route.specs.Stripping.{Leaves, LineLeaves, part}
+
+-- ---- a part of a text
+
+take-len : (n : ℕ) (xs : List ℕ) → take (length (take n xs)) xs ≡ take n xs
+take-len zero xs = refl
+take-len (suc n) [] = refl
+take-len (suc n) (x ∷ xs) = ap (λ (ys : List ℕ). x ∷ ys) (take-len n xs)
+
+drop-tail : (front back : List ℕ) → drop (length (front ++ back) - length back) (front ++ back) ≡ back
+drop-tail front back =
+    let all : length (front ++ back) ≡ length front + length back = length-append front back in
+    drop_at front back _ (let n : length front ≡ length (front ++ back) - length back = omega arith in n)
+
+-- what stands behind a comma, without the space round it
+pub part-others : (whole front others rest : List ℕ) → whole ≡ front ++ 44 ∷ others → rest ≡ trim_start others → part (length whole - length rest) (length (trim_end rest)) whole ≡ trim others
+part-others whole front others rest e r =
+    let n = prefix_len is_space others in
+    let spaces = take n others in
+    let split : whole ≡ (front ++ 44 ∷ spaces) ++ trim_start others =
+    e ∙ ap (λ (xs : List ℕ). front ++ 44 ∷ xs) (sym (take-append-drop n others)) ∙ sym (append_assoc front (44 ∷ spaces) (trim_start others)) in
+    rw (r, split)
+    (ap (take (length (trim others))) (drop-tail (front ++ 44 ∷ spaces) (trim_start others)) ∙ take-len (length (trim_start others) - suffix_len is_space (trim_start others)) (trim_start others))
+
+-- ---- the value at the place
+
+pub set-views : {A : Type 0} (hs : List (Header A)) (n : ℕ) (h : Header A) → views (slice_set hs n h) ≡ slice_set (views hs) n (view h)
+set-views {A} [] n h = refl
+set-views {A} (x ∷ hs) zero h = refl
+set-views {A} (x ∷ hs) (suc n) h = ap (λ (xs : List HeaderText). view x ∷ xs) (set-views hs n h)
+
+pub at-views : {A : Type 0} (hs : List (Header A)) (n : ℕ) (x : Header A) (h : HeaderText) → x ≡ get_or hs n x → slice_get (views hs) n ≡ Some h → view x ≡ h
+at-views {A} [] n x h e is = absurd cc
+at-views {A} (y ∷ hs) zero x h e is = let same : view y ≡ h = cc in ap (λ (z : Header A). view z) e ∙ same
+at-views {A} (y ∷ hs) (suc n) x h e is = at-views hs n x h e is
+
+-- ---- the first line of the name
+
+-- it has the first value
+first_at : (name : List ℕ) (hs : List HeaderText) (x : HeaderText) → slice_get hs (place_of name hs) ≡ Some x → first_value name hs ≡ Some x.value
+unfolding values_of
+first_at name [] x e = absurd cc
+first_at name (h ∷ hs) x e =
+    let n = place_of name hs in
+    let k : 1 + n ≡ suc n = omega arith in
+    elim (cases_Bool (same_name name h.name)) [
+      | inl same ↦
+          let at : place_of name (h ∷ hs) ≡ 0 = cond-true (same_name name h.name) 0 (1 + n) same in
+          let found : Some h ≡ Some x = sym (ap (λ m. slice_get (h ∷ hs) m) at) ∙ e in
+          let is : h ≡ x = cc in
+          ap first_of (cond-true (same_name name h.name) (h.value ∷ values_of name hs) (values_of name hs) same) ∙ ap (λ (y : HeaderText). Some y.value) is
+      | inr other ↦
+          let at : place_of name (h ∷ hs) ≡ suc n = cond-false (same_name name h.name) 0 (1 + n) other ∙ k in
+          ap first_of (cond-false (same_name name h.name) (h.value ∷ values_of name hs) (values_of name hs) other) ∙ first_at name hs x (sym (ap (λ m. slice_get (h ∷ hs) m) at) ∙ e)
+    ]
+
+first_nowhere : (name : List ℕ) (hs : List HeaderText) → slice_get hs (place_of name hs) ≡ None → first_value name hs ≡ None
+unfolding values_of
+first_nowhere name [] e = refl
+first_nowhere name (h ∷ hs) e =
+    let n = place_of name hs in
+    let k : 1 + n ≡ suc n = omega arith in
+    elim (cases_Bool (same_name name h.name)) [
+      | inl same ↦
+          let at : place_of name (h ∷ hs) ≡ 0 = cond-true (same_name name h.name) 0 (1 + n) same in
+          let found : Some h ≡ None = sym (ap (λ m. slice_get (h ∷ hs) m) at) ∙ e in
+          absurd cc
+      | inr other ↦
+          let at : place_of name (h ∷ hs) ≡ suc n = cond-false (same_name name h.name) 0 (1 + n) other ∙ k in
+          ap first_of (cond-false (same_name name h.name) (h.value ∷ values_of name hs) (values_of name hs) other) ∙ first_nowhere name hs (sym (ap (λ m. slice_get (h ∷ hs) m) at) ∙ e)
+    ]
+
+-- it is left out
+replaced-none : (name : List ℕ) (hs : List HeaderText) (x : HeaderText) → slice_get hs (place_of name hs) ≡ Some x → replaced name None hs ≡ remove hs (place_of name hs)
+replaced-none name [] x e = absurd cc
+replaced-none name (h ∷ hs) x e =
+    let n = place_of name hs in
+    let k : 1 + n ≡ suc n = omega arith in
+    elim (cases_Bool (same_name name h.name)) [
+      | inl same ↦
+          let at : place_of name (h ∷ hs) ≡ 0 = cond-true (same_name name h.name) 0 (1 + n) same in
+          cond-true (same_name name h.name) hs (h ∷ replaced name None hs) same ∙ sym (ap (λ m. remove (h ∷ hs) m) at)
+      | inr other ↦
+          let at : place_of name (h ∷ hs) ≡ suc n = cond-false (same_name name h.name) 0 (1 + n) other ∙ k in
+          cond-false (same_name name h.name) hs (h ∷ replaced name None hs) other
+          ∙ ap (λ (xs : List HeaderText). h ∷ xs) (replaced-none name hs x (sym (ap (λ m. slice_get (h ∷ hs) m) at) ∙ e))
+          ∙ sym (ap (λ m. remove (h ∷ hs) m) at)
+    ]
+
+-- it has another value
+replaced-set : (name v : List ℕ) (hs : List HeaderText) (x : HeaderText) → slice_get hs (place_of name hs) ≡ Some x → replaced name (Some v) hs ≡ slice_set hs (place_of name hs) (line x.name v)
+replaced-set name v [] x e = absurd cc
+replaced-set name v (h ∷ hs) x e =
+    let n = place_of name hs in
+    let k : 1 + n ≡ suc n = omega arith in
+    elim (cases_Bool (same_name name h.name)) [
+      | inl same ↦
+          let at : place_of name (h ∷ hs) ≡ 0 = cond-true (same_name name h.name) 0 (1 + n) same in
+          let found : Some h ≡ Some x = sym (ap (λ m. slice_get (h ∷ hs) m) at) ∙ e in
+          let is : h ≡ x = cc in
+          cond-true (same_name name h.name) (line h.name v ∷ hs) (h ∷ replaced name (Some v) hs) same
+          ∙ ap (λ (y : HeaderText). line y.name v ∷ hs) is
+          ∙ sym (ap (λ m. slice_set (h ∷ hs) m (line x.name v)) at)
+      | inr other ↦
+          let at : place_of name (h ∷ hs) ≡ suc n = cond-false (same_name name h.name) 0 (1 + n) other ∙ k in
+          cond-false (same_name name h.name) (line h.name v ∷ hs) (h ∷ replaced name (Some v) hs) other
+          ∙ ap (λ (xs : List HeaderText). h ∷ xs) (replaced-set name v hs x (sym (ap (λ m. slice_get (h ∷ hs) m) at) ∙ e))
+          ∙ sym (ap (λ m. slice_set (h ∷ hs) m (line x.name v)) at)
+    ]
+
+-- ---- the first Route line
+
+get-views : {A : Type 0} (hs : List (Header A)) (n : ℕ) → slice_get (views hs) n ≡ option_map view (slice_get hs n)
+get-views {A} [] n = refl
+get-views {A} (x ∷ hs) zero = refl
+get-views {A} (x ∷ hs) (suc n) = get-views hs n
+
+get-within : (hs : List HeaderText) (n : ℕ) (x : HeaderText) → slice_get hs n ≡ Some x → n < length hs
+get-within [] n x e = absurd cc
+get-within (h ∷ hs) zero x e = omega arith
+get-within (h ∷ hs) (suc n) x e = let lt = get-within hs n x e in omega (arith, lt)
+
+stripped-at : (own : Own) (hs : List HeaderText) (n : ℕ) (h : HeaderText) → n ≡ place_of route_name hs → slice_get hs n ≡ Some h → stripped_headers own hs ≡ stripped_at own hs (Some h.value)
+stripped-at own hs n h at e = ap (stripped_at own hs) (first_at route_name hs h (ap (λ m. slice_get hs m) (sym at) ∙ e))
+
+line-leaves : (own : Own) (hs : List HeaderText) (n : ℕ) (h : HeaderText) (left : Left) → n ≡ place_of route_name hs → slice_get hs n ≡ Some h → LineLeaves own h.value (cut_outside QuotesAndAngles 44 Plain h.value) left → Leaves own hs n left
+line-leaves own hs n h All at e l = stripped-at own hs n h at e ∙ cond-false _ _ _ l
+line-leaves own hs n h Nothing at e l = (
+  get-within hs n h e,
+  stripped-at own hs n h at e
+      ∙ cond-true _ _ _ l.0
+      ∙ ap (λ (others : Option (List ℕ)). replaced route_name (option_map trim others) hs) l.1
+      ∙ replaced-none route_name hs h (ap (λ m. slice_get hs m) (sym at) ∙ e)
+      ∙ sym (ap (λ m. remove hs m) at),
+)
+line-leaves own hs n h (Part start len) at e l = (
+  h,
+  e,
+  l.1,
+  stripped-at own hs n h at e
+      ∙ cond-true _ _ _ l.0
+      ∙ ap (λ (v : Option (List ℕ)). replaced route_name v hs) l.2
+      ∙ replaced-set route_name (part start len h.value) hs h (ap (λ m. slice_get hs m) (sym at) ∙ e)
+      ∙ sym (ap (λ m. slice_set hs m (line h.name (part start len h.value))) at),
+)
+
+pub leaves-some : {A : Type 0} (own : Own) (hs : List (Header A)) (n : ℕ) (h : Header A) (left : Left) → n ≡ place_of route_name (views hs) → slice_get hs n ≡ Some h → LineLeaves own h.value.items (cut_outside QuotesAndAngles 44 Plain h.value.items) left → Leaves own (views hs) n left
+leaves-some {A} own hs n h left at e l = line-leaves own (views hs) n (view h) left at (get-views hs n ∙ ap (λ (o : Option (Header A)). option_map view o) e) l
+
+pub leaves-none : {A : Type 0} (own : Own) (hs : List (Header A)) (n : ℕ) → n ≡ place_of route_name (views hs) → slice_get hs n ≡ None → Leaves own (views hs) n All
+leaves-none {A} own hs n at e = ap (stripped_at own (views hs)) (first_nowhere route_name (views hs) (ap (λ m. slice_get (views hs) m) (sym at) ∙ get-views hs n ∙ ap (λ (o : Option (Header A)). option_map view o) e))
+
+pub removed-views : {A : Type 0} (hs : List (Header A)) (n : ℕ) → views (remove hs n) ≡ remove (views hs) n
+removed-views {A} [] zero = refl
+removed-views {A} [] (suc n) = refl
+removed-views {A} (h ∷ hs) zero = refl
+removed-views {A} (h ∷ hs) (suc n) = ap (λ (xs : List HeaderText). view h ∷ xs) (removed-views hs n)

@@ -1,0 +1,136 @@
+-- Space at the ends of a text is at the ends of its pieces.
+use Rattle.std.proofs.Common.{◌≡◌, ℕ, suc, ◌+◌, ◌-◌, true, false, cond, eqb, List, [], ◌∷◌, ◌++◌, length, map, take, drop, reverse, refl, sym, ap, subst, ◌∙◌, inl, inr, arith}
+use Rattle.std.specs.Prelude.{◌&&◌}
+use Rattle.std.specs.List.{onto_first, prefix_len}
+use Rattle.std.proofs.lemmas.Bool.{cases_Bool, cond-true, cond-false, eqb-true, false_from_ne_true, false≢true, or_cases}
+use Rattle.std.proofs.lemmas.List.{take_at, take-append-drop, length-drop, length-reverse, reverse-append, reverse-reverse}
+use Rattle.sip_lex.specs.declared.sheltered.Shelter.TheVariants.{QuotesAndAngles}
+use Rattle.sip_lex.specs.declared.sheltered.Place.{Place}
+use Rattle.sip_lex.specs.declared.sheltered.Place.TheVariants.{Plain}
+use Rattle.sip_lex.specs.Bytes.{is_space, trim, trim_end, trim_start}
+use Rattle.sip_lex.specs.Outside.{pieces_from}
+use Rattle.sip_lex.specs.Sheltered.{is_plain, place_after}
+use Rattle.sip_route.specs.RouteValues.{values_in}
+use Rattle.sip_route.proofs.RoutePieces.{pieces_from-cut}
+
+-- ---- space at the ends of a text
+
+trim_start-space : (b : ℕ) (bs : List ℕ) → is_space b ≡ true → trim_start (b ∷ bs) ≡ trim_start bs
+trim_start-space b bs e =
+    let n = prefix_len is_space bs in
+    ap (λ m. drop m (b ∷ bs)) (cond-true (is_space b) (1 + n) 0 e ∙ (let k : 1 + n ≡ suc n = omega arith in k))
+
+trim_start-other : (b : ℕ) (bs : List ℕ) → is_space b ≡ false → trim_start (b ∷ bs) ≡ b ∷ bs
+trim_start-other b bs e = ap (λ m. drop m (b ∷ bs)) (cond-false (is_space b) (1 + prefix_len is_space bs) 0 e)
+
+trim_end-reverse : (bs : List ℕ) → trim_end bs ≡ reverse (trim_start (reverse bs))
+trim_end-reverse bs =
+    let rs = reverse bs in
+    let k = prefix_len is_space rs in
+    let whole : bs ≡ reverse (drop k rs) ++ reverse (take k rs) = sym (reverse-reverse bs) ∙ ap reverse (sym (take-append-drop k rs)) ∙ reverse-append (take k rs) (drop k rs) in
+    let len : length (reverse (drop k rs)) ≡ length bs - k = length-reverse (drop k rs) ∙ length-drop k rs ∙ ap (λ n. n - k) (length-reverse bs) in
+    ap (take (length bs - k)) whole ∙ take_at (reverse (drop k rs)) (reverse (take k rs)) (length bs - k) len
+
+trim_end-space : (bs : List ℕ) (b : ℕ) → is_space b ≡ true → trim_end (bs ++ b ∷ []) ≡ trim_end bs
+trim_end-space bs b e =
+    trim_end-reverse (bs ++ b ∷ [])
+    ∙ ap (λ (xs : List ℕ). reverse (trim_start xs)) (reverse-append bs (b ∷ []))
+    ∙ ap reverse (trim_start-space b (reverse bs) e)
+    ∙ sym (trim_end-reverse bs)
+
+trim-first : (b : ℕ) (bs : List ℕ) → is_space b ≡ true → trim (b ∷ bs) ≡ trim bs
+trim-first b bs e = ap trim_end (trim_start-space b bs e)
+
+trim-last : (bs : List ℕ) (b : ℕ) → is_space b ≡ true → trim (bs ++ b ∷ []) ≡ trim bs
+trim-last [] b e = trim-first b [] e
+trim-last (x ∷ xs) b e =
+    elim (cases_Bool (is_space x)) [
+      | inl space ↦ trim-first x (xs ++ b ∷ []) space ∙ trim-last xs b e ∙ sym (trim-first x xs space)
+      | inr other ↦ ap trim_end (trim_start-other x (xs ++ b ∷ []) other) ∙ trim_end-space (x ∷ xs) b e ∙ sym (ap trim_end (trim_start-other x xs other))
+    ]
+
+-- ---- a byte behind the last piece
+
+abbrev onto_last : ℕ → List (List ℕ) → List (List ℕ)
+onto_last b [] = (b ∷ []) ∷ []
+onto_last b (p ∷ []) = (p ++ b ∷ []) ∷ []
+onto_last b (p ∷ q ∷ ps) = p ∷ onto_last b (q ∷ ps)
+
+both-ends : (c b : ℕ) (ps : List (List ℕ)) → onto_first c (onto_last b ps) ≡ onto_last b (onto_first c ps)
+both-ends c b [] = refl
+both-ends c b (p ∷ []) = refl
+both-ends c b (p ∷ q ∷ ps) = refl
+
+behind-empty : (b : ℕ) (p : List ℕ) (ps all : List (List ℕ)) → all ≡ p ∷ ps → [] ∷ onto_last b all ≡ onto_last b ([] ∷ all)
+behind-empty b p ps all e = rw e refl
+
+not_plain : (place : Place) (b : ℕ) → eqb b 44 ≡ false → (is_plain place && eqb b 44) ≡ false
+not_plain place b e = rw e (elim (is_plain place) as (λ t. (t && false) ≡ false) [ true ↦ refl | false ↦ refl ])
+
+pieces-last : (place : Place) (bs : List ℕ) (b : ℕ) → eqb b 44 ≡ false → pieces_from QuotesAndAngles 44 place (bs ++ b ∷ []) ≡ onto_last b (pieces_from QuotesAndAngles 44 place bs)
+pieces-last place [] b e = cond-false (is_plain place && eqb b 44) ([] ∷ [] ∷ []) ((b ∷ []) ∷ []) (not_plain place b e)
+pieces-last place (c ∷ cs) b e =
+    let later = place_after QuotesAndAngles place c in
+    let plain = pieces_from QuotesAndAngles 44 Plain cs in
+    let rest = pieces_from QuotesAndAngles 44 later cs in
+    elim (is_plain place && eqb c 44) as (λ t. cond {A = List (List ℕ)} t ([] ∷ pieces_from QuotesAndAngles 44 Plain (cs ++ b ∷ [])) (onto_first c (pieces_from QuotesAndAngles 44 later (cs ++ b ∷ []))) ≡ onto_last b (cond {A = List (List ℕ)} t ([] ∷ plain) (onto_first c rest))) [
+      | true ↦ ap (λ (ps : List (List ℕ)). [] ∷ ps) (pieces-last Plain cs b e) ∙ behind-empty b _ _ plain (pieces_from-cut QuotesAndAngles 44 Plain cs)
+      | false ↦ ap (onto_first c) (pieces-last later cs b e) ∙ both-ends c b rest
+    ]
+
+trim-onto_last : (b : ℕ) (p : List ℕ) (ps : List (List ℕ)) → is_space b ≡ true → map trim (onto_last b (p ∷ ps)) ≡ map trim (p ∷ ps)
+trim-onto_last b p [] e = ap (λ (t : List ℕ). t ∷ []) (trim-last p b e)
+trim-onto_last b p (q ∷ ps) e = ap (λ (ts : List (List ℕ)). trim p ∷ ts) (trim-onto_last b q ps e)
+
+no_comma : (b : ℕ) → is_space b ≡ true → eqb b 44 ≡ false
+no_comma b space = false_from_ne_true (eqb b 44) (λ e. let bad : is_space 44 ≡ true = subst (λ x. is_space x ≡ true) (eqb-true b 44 e) space in absurd (false≢true bad))
+
+-- ---- the values of a line with space at its ends
+
+behind : (bs : List ℕ) (b : ℕ) → is_space b ≡ true → map trim (values_in (bs ++ b ∷ [])) ≡ map trim (values_in bs)
+behind bs b e =
+    let cut = pieces_from-cut QuotesAndAngles 44 Plain bs in
+    ap (map trim) (pieces-last Plain bs b (no_comma b e))
+    ∙ ap (λ (ps : List (List ℕ)). map trim (onto_last b ps)) cut
+    ∙ trim-onto_last b _ _ e
+    ∙ sym (ap (map trim) cut)
+
+onto-trim : (b : ℕ) (p : List ℕ) (ps all : List (List ℕ)) → is_space b ≡ true → all ≡ p ∷ ps → map trim (onto_first b all) ≡ map trim all
+onto-trim b p ps all e is = rw is (ap (λ (t : List ℕ). t ∷ map trim ps) (trim-first b p e))
+
+before : (b : ℕ) (bs : List ℕ) → is_space b ≡ true → map trim (values_in (b ∷ bs)) ≡ map trim (values_in bs)
+before b bs e =
+    let cut = pieces_from-cut QuotesAndAngles 44 Plain bs in
+    elim (or_cases (eqb b 32) (eqb b 9) e) [
+      | inl is ↦ ap (λ x. map trim (values_in (x ∷ bs))) (eqb-true b 32 is) ∙ onto-trim 32 _ _ (values_in bs) refl cut
+      | inr is ↦ ap (λ x. map trim (values_in (x ∷ bs))) (eqb-true b 9 is) ∙ onto-trim 9 _ _ (values_in bs) refl cut
+    ]
+
+without_front : (bs : List ℕ) → map trim (values_in (trim_start bs)) ≡ map trim (values_in bs)
+without_front [] = refl
+without_front (b ∷ bs) =
+    elim (cases_Bool (is_space b)) [
+      | inl space ↦ ap (λ (x : List ℕ). map trim (values_in x)) (trim_start-space b bs space) ∙ without_front bs ∙ sym (before b bs space)
+      | inr other ↦ ap (λ (x : List ℕ). map trim (values_in x)) (trim_start-other b bs other)
+    ]
+
+without_back : (rs : List ℕ) → map trim (values_in (reverse (trim_start rs))) ≡ map trim (values_in (reverse rs))
+without_back [] = refl
+without_back (r ∷ rs) =
+    elim (cases_Bool (is_space r)) [
+      | inl space ↦
+          ap (λ (x : List ℕ). map trim (values_in (reverse x))) (trim_start-space r rs space)
+          ∙ without_back rs
+          ∙ sym (behind (reverse rs) r space)
+          ∙ sym (ap (λ (x : List ℕ). map trim (values_in x)) (reverse-append (r ∷ []) rs))
+      | inr other ↦ ap (λ (x : List ℕ). map trim (values_in (reverse x))) (trim_start-other r rs other)
+    ]
+
+-- space at the ends of a line makes no difference
+pub values-trim : (bs : List ℕ) → map trim (values_in (trim bs)) ≡ map trim (values_in bs)
+values-trim bs =
+    let s = trim_start bs in
+    ap (λ (x : List ℕ). map trim (values_in x)) (trim_end-reverse s)
+    ∙ without_back (reverse s)
+    ∙ ap (λ (x : List ℕ). map trim (values_in x)) (reverse-reverse s)
+    ∙ without_front bs

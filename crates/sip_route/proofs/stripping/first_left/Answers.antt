@@ -1,0 +1,15 @@
+use Rattle.std.proofs.Common.{ℕ, List, sym, subst}
+use Rattle.sip_lex.specs.declared.sheltered.Shelter.TheVariants.{QuotesAndAngles}
+use Rattle.sip_lex.specs.declared.sheltered.Place.TheVariants.{Plain}
+use Rattle.sip_lex.specs.Sheltered.{cut_outside}
+use Rattle.sip_route.specs.Stripping.{LineLeaves}
+use Rattle.sip_route.proofs.StripPlaces.{leaves-none, leaves-some}
+use Rattle.sip_route.proofs.stripping.first_left.Goals as goal
+
+pub returns-in-None : goal.returns-in-None
+returns-in-None g c = leaves-none c.args.own c.args.headers.now c.args.place c.requires (sym c.in-None.ensures)
+
+pub returns-in-Some : goal.returns-in-Some
+returns-in-Some g c =
+    let left = c.left_of.result in
+    leaves-some c.args.own c.args.headers.now c.args.place c.in-Some.header.now left c.requires (sym c.in-Some.ensures) (subst (λ (v : List ℕ). LineLeaves c.args.own v (cut_outside QuotesAndAngles 44 Plain v) left) c.deref.ensures.value c.left_of.ensures)

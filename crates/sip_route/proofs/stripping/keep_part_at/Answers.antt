@@ -1,0 +1,17 @@
+use Rattle.std.proofs.Common.{ℕ, List, ap, slice_set, ◌∙◌}
+use Rattle.sip_text.specs.declared.parts.Header.{Header}
+use Rattle.sip_text.specs.Seen.{views}
+use Rattle.sip_text.specs.Text.{HeaderText}
+use Rattle.sip_via.specs.Edits.{line}
+use Rattle.sip_route.specs.Stripping.{part}
+use Rattle.sip_route.proofs.StripPlaces.{at-views, set-views}
+use Rattle.sip_route.proofs.stripping.keep_part_at.Goals as goal
+
+pub returns : goal.returns
+returns g c = λ h is.
+    let hs = c.args.headers.now.items in
+    let old = c.index_mut.result.now in
+    let new : Header g.row.A.Denot = record { name = old.name; value = c.keep_part.new.value } in
+    set-views hs c.args.place new
+    ∙ ap (λ (v : List ℕ). slice_set (views hs) c.args.place (line old.name.items v)) c.keep_part.ensures
+    ∙ ap (λ (y : HeaderText). slice_set (views hs) c.args.place (line y.name (part c.args.start c.args.len y.value))) (at-views hs c.args.place old h c.index_mut.ensures.value is)

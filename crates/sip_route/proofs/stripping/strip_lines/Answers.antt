@@ -1,0 +1,15 @@
+use Rattle.std.proofs.Common.{◌≡◌, List, ap, sym, subst, ◌∙◌}
+use Rattle.std.specs.Prelude.{remove}
+use Rattle.sip_text.specs.declared.parts.Header.{Header}
+use Rattle.sip_text.specs.Seen.{views}
+use Rattle.sip_route.specs.Routes.{stripped_headers}
+use Rattle.sip_route.proofs.StripPlaces.{removed-views}
+use Rattle.sip_route.proofs.stripping.strip_lines.Goals as goal
+
+pub returns-in-Nothing : goal.returns-in-Nothing
+returns-in-Nothing g c =
+    let hs = c.args.headers.now.items in
+    let place = c.place_of-place.result in
+    ap (λ (xs : List (Header g.row.A.Denot)). views xs) c.remove.ensures.items
+    ∙ removed-views hs place
+    ∙ subst (λ (xs : List (Header g.row.A.Denot)). remove (views xs) place ≡ stripped_headers c.args.own (views xs)) c.deref-2.ensures.value (sym c.in-Nothing.ensures.1)

@@ -1,0 +1,115 @@
+//! The key by which a loop is found.
+
+ghost use Rattle.std.specs.Prelude.{◌≡◌, ◌++◌, List, ℕ};
+ghost use Rattle.std.specs.Fmt.{decimal};
+ghost use Rattle.std.specs.List.{join_with_byte};
+ghost use Rattle.std.specs.Option.{option_copied};
+ghost use Rattle.md5.specs.Md5.{Holds};
+ghost use Rattle.sip_route.specs.Loop.{all_values, behind_commas, dialog_fields, field_line, field_lines, loop_key, request_uri, routing_fields};
+ghost use Rattle.sip_via.specs.ViaParts.{or_empty};
+
+use itoa::Buffer;
+use md5::{Digest, Md5};
+use sip_text::{Message, Start, Values};
+use std::alloc::Allocator;
+
+/// The Request-URI of a request; empty for a response.
+pub fn request_uri<A: Allocator>(message: &Message<A>) -> &[u8]
+    ensures { result.now ≡ request_uri message.now.start }
+{
+    match message.start() {
+        Start::Request { uri, .. } => uri,
+        Start::Response { .. } => b"",
+    }
+}
+
+/// Adds a field and the LF behind it.
+fn add_field(hasher: &mut Md5, field: &[u8])
+    ensures { (m : List ℕ) → Holds hasher.old m → Holds hasher.new (m ++ field_line field.now) }
+{
+    hasher.update(field);
+    hasher.update(b"\n");
+}
+
+/// Adds a field that may be missing, and is empty then.
+fn add_optional(hasher: &mut Md5, field: Option<&[u8]>)
+    ensures { (m : List ℕ) → Holds hasher.old m
+        → Holds hasher.new (m ++ field_line (or_empty (option_copied field.entry))) }
+{
+    add_field(hasher, field.unwrap_or(b""));
+}
+
+/// Adds a number in decimal.
+fn add_number(hasher: &mut Md5, n: u32)
+    ensures { (m : List ℕ) → Holds hasher.old m → Holds hasher.new (m ++ field_line (decimal n)) }
+{
+    add_field(hasher, Buffer::new().format(n).as_bytes());
+}
+
+/// Adds the values left, a comma before each.
+fn add_more<A: Allocator>(hasher: &mut Md5, mut values: Values<'_, '_, A>)
+    ensures { (m : List ℕ) → Holds hasher.old m → Holds hasher.new (m ++ behind_commas values.entry) }
+{
+    while let Some(value) = values.next() {
+        hasher.update(b",");
+        hasher.update(value);
+    }
+}
+
+/// Adds the values left, a comma between two.
+fn add_joined<A: Allocator>(hasher: &mut Md5, mut values: Values<'_, '_, A>)
+    ensures { (m : List ℕ) → Holds hasher.old m → Holds hasher.new (m ++ join_with_byte 44 values.entry) }
+{
+    let Some(first) = values.next() else {
+        return;
+    };
+    hasher.update(first);
+    add_more(hasher, values);
+}
+
+/// Adds the values of that name, a comma between two, and the LF behind them.
+fn add_values<A: Allocator>(hasher: &mut Md5, message: &Message<A>, name: &[u8])
+    ensures { (m : List ℕ) → Holds hasher.old m
+        → Holds hasher.new (m ++ field_line (all_values name.now message.now)) }
+{
+    add_joined(hasher, message.values(name));
+    hasher.update(b"\n");
+}
+
+/// Adds the fields that name the request among those of its sender.
+fn add_dialog<A: Allocator>(hasher: &mut Md5, message: &Message<A>)
+    ensures { (m : List ℕ) → Holds hasher.old m
+        → Holds hasher.new (m ++ field_lines (dialog_fields message.now)) }
+{
+    add_optional(hasher, message.from_tag());
+    add_optional(hasher, message.to_tag());
+    add_field(hasher, message.call_id());
+    add_number(hasher, message.cseq().number);
+}
+
+/// Adds the fields that say how the request is routed.
+fn add_routing<A: Allocator>(hasher: &mut Md5, message: &Message<A>)
+    ensures { (m : List ℕ) → Holds hasher.old m
+        → Holds hasher.new (m ++ field_lines (routing_fields message.now)) }
+{
+    add_values(hasher, message, b"route");
+    add_values(hasher, message, b"proxy-require");
+    add_values(hasher, message, b"proxy-authorization");
+}
+
+/// The key that tells two passes of a request through this proxy apart, by what its routing rests on
+/// (RFC 3261 section 16.6 step 8): MD5 of the Request-URI, the tags of From and To, the Call-ID, the
+/// number of the CSeq, and the values of Route, Proxy-Require and Proxy-Authorization, each followed
+/// by LF. What is missing is empty.
+///
+/// The caller has taken the proxy's own Route value away.
+#[tactic(auto, unfolding(crate::specs::Loop::loop_key))]
+pub fn loop_key<A: Allocator>(message: &Message<A>) -> [u8; 16]
+    ensures { result ≡ loop_key message.now }
+{
+    let mut hasher = Md5::new();
+    add_field(&mut hasher, request_uri(message));
+    add_dialog(&mut hasher, message);
+    add_routing(&mut hasher, message);
+    hasher.finalize()
+}

@@ -1,0 +1,214 @@
+//! A message written part by part, questions to it, and tags.
+use crate::bytes::{has, holds_of, is};
+use crate::holds::holds;
+use crate::messages::{REQUEST, message_of, text_of, written};
+use sip_text::{
+    Header, Message, append_end, append_header, append_headers, append_request_line,
+    append_status_line, header_len, header_values_are_values, headers_len, request_line_len,
+    status_line_len, trimmed_part_is_a_value,
+};
+use std::alloc::{AllocError, Global};
+use std::process::Abort;
+
+/// A response.
+const RESPONSE: [&[u8]; 7] = [
+    b"SIP/2.0 486 Busy Here",
+    b"Via: SIP/2.0/UDP 192.0.2.1:5060;branch=z9hG4bKa",
+    b"From: <sip:alice@example.com>;tag=1",
+    b"To: <sip:bob@example.com>;tag=2",
+    b"Call-ID: c1",
+    b"CSeq: 1 OPTIONS",
+    b"",
+];
+
+/// A request of the header lines of another, and one more.
+fn append_request(out: &mut Vec<u8>, headers: &[Header<Global>]) -> Result<(), AllocError> {
+    append_request_line(out, b"OPTIONS", b"sip:bob@example.com")?;
+    append_headers(out, headers)?;
+    append_header(out, b"Subject", b"x")?;
+    append_end(out, b"body")
+}
+
+/// How many bytes that request is.
+fn request_len(headers: &[Header<Global>]) -> usize {
+    request_line_len(b"OPTIONS", b"sip:bob@example.com")
+        .saturating_add(headers_len(headers))
+        .saturating_add(header_len(b"Subject", b"x"))
+        .saturating_add(6)
+}
+
+/// Whether the request is written as these lines and that body, in as many bytes as was said.
+fn is_appended(alloc: Global, lines: &[&[u8]]) -> Option<bool> {
+    let message = message_of(alloc, &REQUEST)?;
+    let mut out = Vec::new(alloc);
+    append_request(&mut out, message.headers()).ok()?;
+    let mut wanted = text_of(alloc, lines)?;
+    wanted.extend_from_slice(b"body").ok()?;
+    Some(*out == *wanted && out.len() == request_len(message.headers()))
+}
+
+#[test]
+fn appends_a_request(rt: HostRuntime) {
+    let lines: [&[u8]; 10] = [
+        REQUEST[0],
+        REQUEST[1],
+        REQUEST[2],
+        REQUEST[3],
+        REQUEST[4],
+        REQUEST[5],
+        REQUEST[6],
+        REQUEST[7],
+        b"Subject: x",
+        b"",
+    ];
+    let well = is_appended(rt.alloc(), &lines);
+    holds(&rt, well.unwrap_or(false), "the request in parts");
+}
+
+/// What a status line of that status is with its end, if it has as many bytes as was said.
+fn status_line(alloc: Global, status: u16, reason: &[u8]) -> Option<Vec<u8>> {
+    if !(status < 1000) {
+        return None;
+    }
+    let mut out = Vec::new(alloc);
+    append_status_line(&mut out, status, reason).ok()?;
+    if out.len() == status_line_len(reason) {
+        Some(out)
+    } else {
+        None
+    }
+}
+
+fn has_status_line(alloc: Global, status: u16, reason: &[u8], wanted: &[u8]) -> bool {
+    match status_line(alloc, status, reason) {
+        None => false,
+        Some(line) => is(&line, wanted),
+    }
+}
+
+#[test]
+fn appends_status_lines(rt: HostRuntime) {
+    let busy = has_status_line(rt.alloc(), 486, b"Busy Here", b"SIP/2.0 486 Busy Here\r\n");
+    holds(&rt, busy, "a reason");
+    let ok = has_status_line(rt.alloc(), 200, b"", b"SIP/2.0 200 \r\n");
+    holds(&rt, ok, "no reason");
+    let low = has_status_line(rt.alloc(), 7, b"x", b"SIP/2.0 007 x\r\n");
+    holds(&rt, low, "three digits");
+}
+
+/// Names, and whether the Via of the request, in its compact form, has each.
+const NAMES: [(&[u8], bool); 6] = [
+    (b"Via", true),
+    (b"VIA", true),
+    (b"v", true),
+    (b"V", true),
+    (b"Vi", false),
+    (b"Via ", false),
+];
+
+#[test]
+fn names_its_headers(rt: HostRuntime) {
+    let message = message_of(rt.alloc(), &REQUEST);
+    for (name, wanted) in NAMES {
+        holds_of(
+            &rt,
+            via_is_named(&message, name) == Some(wanted),
+            "the name",
+            name,
+        );
+    }
+}
+
+fn via_is_named(message: &Option<Message<Global>>, name: &[u8]) -> Option<bool> {
+    match message {
+        None => None,
+        Some(message) => match message.headers() {
+            [] => None,
+            [first, ..] => Some(first.is_named(name)),
+        },
+    }
+}
+
+#[test]
+fn tells_requests_from_responses(rt: HostRuntime) {
+    let request = message_of(rt.alloc(), &REQUEST);
+    let well = match &request {
+        None => false,
+        Some(request) => has(request.method(), b"OPTIONS") && request.status().is_none(),
+    };
+    holds(&rt, well, "a request");
+    let response = message_of(rt.alloc(), &RESPONSE);
+    let well = match &response {
+        None => false,
+        Some(response) => response.method().is_none() && response.status() == Some(486),
+    };
+    holds(&rt, well, "a response");
+}
+
+/// Whether a message is written as these lines once it is copied, and once it is made of its parts.
+fn is_kept(alloc: Global, lines: &[&[u8]]) -> Option<bool> {
+    let message = message_of(alloc, lines)?;
+    let copy = message.copy(alloc).ok()?;
+    let (start, headers, body) = message.into_parts();
+    let again = Message::from_parts(start, headers, body);
+    let text = text_of(alloc, lines)?;
+    Some(*written(alloc, &copy)? == *text && *written(alloc, &again)? == *text)
+}
+
+#[test]
+fn copies_and_takes_apart(rt: HostRuntime) {
+    let request = is_kept(rt.alloc(), &REQUEST);
+    holds(&rt, request.unwrap_or(false), "a request");
+    let response = is_kept(rt.alloc(), &RESPONSE);
+    holds(&rt, response.unwrap_or(false), "a response");
+}
+
+/// From lines, and the tag of each.
+const TAGS: [(&[u8], Option<&[u8]>); 17] = [
+    (b"From: a;tag=0 <sip:x>;tag=1", Some(b"1")),
+    (b"From: \"a;tag=0\" <sip:x>;tag=1", Some(b"1")),
+    (b"From: \"<;tag=0\" <sip:x>;tag=1", Some(b"1")),
+    (b"From: \"\\\"<\" <sip:x>;tag=1", Some(b"1")),
+    (b"From: <sip:x;tag=0>;tag=1", Some(b"1")),
+    (b"From: <sip:\"x>;tag=1", Some(b"1")),
+    (b"From: <sip:x> y z;tag=1", Some(b"1")),
+    (b"From: <sip:x>;a=\"b;tag=0\";TAG = 1", Some(b"1")),
+    (b"From: <sip:x>;a=<b;tag=0>;tag=1;tag=2", Some(b"1")),
+    (b"From: sip:x;tag=1", Some(b"1")),
+    (b"From: a;tag=0 <sip:x>", None),
+    (b"From: a;tag=0 <sip:x", None),
+    (b"From: sip:x;tag=0<y>", None),
+    (b"From: <sip:x;tag=0", None),
+    (b"From: <sip:x>;tag=;tag=0", None),
+    (b"From: <sip:x>;tag", None),
+    (b"From: <sip:x>", None),
+];
+
+/// Whether the request has that tag with this From line.
+fn has_tag(alloc: Global, line: &[u8], wanted: Option<&[u8]>) -> Option<bool> {
+    let mut lines: [&[u8]; 9] = REQUEST;
+    lines[3] = line;
+    let message = message_of(alloc, &lines)?;
+    match wanted {
+        None => Some(message.from_tag().is_none()),
+        Some(wanted) => Some(has(message.from_tag(), wanted)),
+    }
+}
+
+fn tags_are_found(rt: &impl Abort, alloc: Global) {
+    for (line, wanted) in TAGS {
+        let well = has_tag(alloc, line, wanted);
+        holds_of(rt, well.unwrap_or(false), "the tag", line);
+    }
+}
+
+#[test]
+fn finds_tags(rt: HostRuntime) {
+    tags_are_found(&rt, rt.alloc());
+}
+
+#[test]
+fn values_may_be_given_on(_rt: HostRuntime) {
+    header_values_are_values();
+    trimmed_part_is_a_value();
+}

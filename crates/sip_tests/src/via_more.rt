@@ -1,0 +1,334 @@
+//! Branches of the proxy's own, requests that are marked in place, where a reply goes, and header lines that are taken or
+//! made.
+use crate::holds::holds;
+use crate::messages::{OWN, REQUEST, SOURCE, is_written_as, message_of};
+use crate::rows::holds_in_row;
+use sip_text::{Header, Message};
+use sip_uri::Hop;
+use sip_via::{
+    BranchName, ViaFault, ViaValues, add_first, add_line, add_made, add_named, add_values_as,
+    first_named, first_value, mark, mark_received, marked_value_is_read,
+    marking_changes_the_top_value, marking_keeps_the_rest, marking_keeps_the_sender, own_branch,
+    own_branch_of, readable_is_marked, reply_hop_of, top_via,
+};
+use std::alloc::Global;
+
+/// The request with this line in place of its Via line.
+fn request_with(alloc: Global, via: &[u8]) -> Option<Message<Global>> {
+    let mut lines = REQUEST;
+    lines[1] = via;
+    message_of(alloc, &lines)
+}
+
+/// A branch of the proxy's own.
+const BRANCH: BranchName = BranchName {
+    key: [0, 1, 2, 3, 4, 5, 6, 7, 8, 9, 10, 11, 12, 13, 14, 15],
+    instance: 7,
+    context: 3,
+    target: 1,
+};
+
+/// Via values that the proxy put with that branch.
+const OWN_VALUES: [&[u8]; 3] = [
+    b"SIP/2.0/UDP 192.0.2.9:5060;branch=z9hG4bK000102030405060708090a0b0c0d0e0f.7.3.1",
+    b"SIP/2.0/UDP 192.0.2.9;received=h;BRANCH = z9hG4bK000102030405060708090a0b0c0d0e0f.7.3.1",
+    b"sip/2.0/tcp 192.0.2.9 : 05060;branch=z9hG4bK000102030405060708090a0b0c0d0e0f.7.3.1",
+];
+
+/// The same with one change each.
+const OTHER_VALUES: [&[u8]; 11] = [
+    b"",
+    b"SIP/2.0/UDP 192.0.2.9:5061;branch=z9hG4bK000102030405060708090a0b0c0d0e0f.7.3.1",
+    b"SIP/2.0/UDP 192.0.2.8:5060;branch=z9hG4bK000102030405060708090a0b0c0d0e0f.7.3.1",
+    b"SIP/2.0/UDP 192.0.2.09:5060;branch=z9hG4bK000102030405060708090a0b0c0d0e0f.7.3.1",
+    b"SIP/2.0/UDP 192.0.2.90:5060;branch=z9hG4bK000102030405060708090a0b0c0d0e0f.7.3.1",
+    b"SIP/2.0/UDP 192.0.2.9:5060;branch=z9hG4bK000102030405060708090A0b0c0d0e0f.7.3.1",
+    b"SIP/2.0/UDP 192.0.2.9:5060;branch=z9hG4bK000102030405060708090a0b0c0d0e0f.7.3",
+    b"SIP/2.0/UDP 192.0.2.9:5060;branch=z9hG4bK000102030405060708090a0b0c0d0e0f.7.03.1",
+    b"SIP/2.0/UDP 192.0.2.9:5060;brand=z9hG4bK000102030405060708090a0b0c0d0e0f.7.3.1",
+    b"SIP/3.0/UDP 192.0.2.9:5060;branch=z9hG4bK000102030405060708090a0b0c0d0e0f.7.3.1",
+    b"SIP/2.0/UDP 192.0.2.9:5060;branch=z9hG4bK000102030405060708090a0b0c0d0e0f.7.3.1, SIP/2.0/UDP h",
+];
+
+/// The same with another digit in the branch.
+const OTHER_TARGET: &[u8] =
+    b"SIP/2.0/UDP 192.0.2.9:5060;branch=z9hG4bK000102030405060708090a0b0c0d0e0f.7.3.2";
+
+#[test]
+fn finds_its_own_branch(rt: HostRuntime) {
+    for (row, value) in OWN_VALUES.iter().enumerate() {
+        holds_in_row(
+            &rt,
+            own_branch_of(value, OWN) == Some(BRANCH),
+            "a value of the proxy's own",
+            row,
+        );
+    }
+    for (row, value) in OTHER_VALUES.iter().enumerate() {
+        holds_in_row(
+            &rt,
+            own_branch_of(value, OWN).is_none(),
+            "a value that is not the proxy's own",
+            row,
+        );
+    }
+    let target = 2;
+    holds(
+        &rt,
+        own_branch_of(OTHER_TARGET, OWN) == Some(BranchName { target, ..BRANCH }),
+        "one other digit is another branch",
+    );
+}
+
+/// Via lines, and whether the top value is the proxy's own.
+const TOP_VALUES: [(&[u8], bool); 4] = [
+    (
+        b"Via: SIP/2.0/UDP 192.0.2.9;branch=z9hG4bK000102030405060708090a0b0c0d0e0f.7.3.1 , SIP/2.0/UDP h",
+        true,
+    ),
+    (
+        b"v: SIP/2.0/UDP 192.0.2.9;branch=z9hG4bK000102030405060708090a0b0c0d0e0f.7.3.1\r\nVia: SIP/2.0/UDP h",
+        true,
+    ),
+    (
+        b"Via: SIP/2.0/UDP h, SIP/2.0/UDP 192.0.2.9;branch=z9hG4bK000102030405060708090a0b0c0d0e0f.7.3.1",
+        false,
+    ),
+    (
+        b"Via: SIP/2.0/UDP h\r\nv: SIP/2.0/UDP 192.0.2.9;branch=z9hG4bK000102030405060708090a0b0c0d0e0f.7.3.1",
+        false,
+    ),
+];
+
+fn top_branch(alloc: Global, via: &[u8]) -> Option<BranchName> {
+    own_branch(&request_with(alloc, via)?, OWN)
+}
+
+#[test]
+fn looks_at_the_top_value(rt: HostRuntime) {
+    let alloc = rt.alloc();
+    for (row, (via, own)) in TOP_VALUES.iter().enumerate() {
+        let branch = if *own { Some(BRANCH) } else { None };
+        holds_in_row(
+            &rt,
+            top_branch(alloc, via) == branch,
+            "the branch of the top value",
+            row,
+        );
+    }
+}
+
+/// Via lines, and the port that a reply goes to.
+const REPLIES: [(&[u8], u16); 5] = [
+    (b"Via: SIP/2.0/UDP h:5070;rport=40000", 40_000),
+    (b"Via: SIP/2.0/UDP h:5070;rport=40001", 5070),
+    (b"Via: SIP/2.0/UDP h:5070;rport", 5070),
+    (b"Via: SIP/2.0/UDP h, SIP/2.0/UDP i:5070", 5060),
+    (
+        b"Via: SIP/2.0/UDP h:5071\r\nVia: SIP/2.0/UDP i:5070;rport=40000",
+        5071,
+    ),
+];
+
+fn reply_port(alloc: Global, via: &[u8]) -> Option<u16> {
+    let Hop { addr, port } = reply_hop_of(&request_with(alloc, via)?, SOURCE);
+    if addr != SOURCE.addr {
+        return None;
+    }
+    Some(port)
+}
+
+#[test]
+fn replies_by_the_top_value(rt: HostRuntime) {
+    let alloc = rt.alloc();
+    for (row, (via, port)) in REPLIES.iter().enumerate() {
+        holds_in_row(
+            &rt,
+            reply_port(alloc, via) == Some(*port),
+            "a reply goes to the source",
+            row,
+        );
+    }
+}
+
+/// Via lines, each with what stands in it once it is marked.
+const MARKED: [(&[u8], &[u8]); 6] = [
+    (
+        b"Via: SIP/2.0/UDP h , SIP/2.0/UDP i",
+        b"SIP/2.0/UDP h;received=192.0.2.1 , SIP/2.0/UDP i",
+    ),
+    (
+        b"Via: SIP/2.0/UDP h\t ,\tSIP/2.0/UDP i ,x",
+        b"SIP/2.0/UDP h;received=192.0.2.1\t ,\tSIP/2.0/UDP i ,x",
+    ),
+    (
+        b"Via: SIP/2.0/UDP h ;received=x ,SIP/2.0/UDP i",
+        b"SIP/2.0/UDP h ;received=192.0.2.1 ,SIP/2.0/UDP i",
+    ),
+    (
+        b"Via: SIP/2.0/UDP 192.0.2.1 ;received=x ,SIP/2.0/UDP i",
+        b"SIP/2.0/UDP 192.0.2.1 ,SIP/2.0/UDP i",
+    ),
+    (
+        b"Via: SIP/2.0/UDP 192.0.2.1;rport ,SIP/2.0/UDP i",
+        b"SIP/2.0/UDP 192.0.2.1;rport=40000;received=192.0.2.1 ,SIP/2.0/UDP i",
+    ),
+    (
+        b"Via: SIP/2.0/UDP 192.0.2.10",
+        b"SIP/2.0/UDP 192.0.2.10;received=192.0.2.1",
+    ),
+];
+
+/// Whether the request with this Via line has that value in the line once it is marked in place, and all else as
+/// `mark_received` gives it.
+fn is_marked_as(alloc: Global, via: &[u8], value: &[u8]) -> Option<bool> {
+    let copy = mark_received(alloc, &request_with(alloc, via)?, SOURCE).ok()?;
+    let request = mark(alloc, request_with(alloc, via)?, SOURCE).ok()?;
+    let mut text = Vec::new(alloc);
+    request.write(&mut text).ok()?;
+    let mut other = Vec::new(alloc);
+    copy.write(&mut other).ok()?;
+    Some(first_value(&request, b"via") == value && *text == *other)
+}
+
+#[test]
+fn marks_in_place(rt: HostRuntime) {
+    let alloc = rt.alloc();
+    for (row, (via, value)) in MARKED.iter().enumerate() {
+        holds_in_row(
+            &rt,
+            is_marked_as(alloc, via, value) == Some(true),
+            "a Via line is marked in place",
+            row,
+        );
+    }
+}
+
+/// Whether the request comes back as it was, with a `BadVia`.
+fn comes_back(alloc: Global, via: &[u8]) -> Option<bool> {
+    let mut lines = REQUEST;
+    lines[1] = via;
+    match mark(alloc, request_with(alloc, via)?, SOURCE) {
+        Ok(_) => None,
+        Err(unmarked) => Some(
+            unmarked.fault == ViaFault::BadVia
+                && is_written_as(alloc, Some(unmarked.message), &lines),
+        ),
+    }
+}
+
+#[test]
+fn gives_back_what_it_cannot_mark(rt: HostRuntime) {
+    let alloc = rt.alloc();
+    holds(
+        &rt,
+        comes_back(alloc, b"Via: SIP/2.0/UDP, SIP/2.0/UDP h") == Some(true),
+        "a request whose top value is none",
+    );
+}
+
+/// How many Via values the request with this line has once it is marked, and its second one.
+fn second_once_marked(alloc: Global, via: &[u8], value: &[u8]) -> Option<bool> {
+    readable_is_marked();
+    marking_changes_the_top_value();
+    marked_value_is_read();
+    marking_keeps_the_sender();
+    marking_keeps_the_rest();
+    let request = mark(alloc, request_with(alloc, via)?, SOURCE).ok()?;
+    let mut values = ViaValues::of(&request);
+    let top = values.next()?;
+    let second = values.next()?;
+    Some(top == top_via(&request) && second == value && values.next().is_none())
+}
+
+#[test]
+fn marking_leaves_the_other_values(rt: HostRuntime) {
+    let alloc = rt.alloc();
+    holds(
+        &rt,
+        second_once_marked(
+            alloc,
+            b"Via: SIP/2.0/UDP h;x=\"a,b\" , SIP/2.0/UDP i",
+            b"SIP/2.0/UDP i",
+        ) == Some(true),
+        "the second value of the line stays",
+    );
+    holds(
+        &rt,
+        second_once_marked(
+            alloc,
+            b"Via: SIP/2.0/UDP h\r\nv: SIP/2.0/UDP i",
+            b"SIP/2.0/UDP i",
+        ) == Some(true),
+        "the value of the second line stays",
+    );
+}
+
+/// Whether the lines have these names and values.
+fn are(lines: &[Header<Global>], rows: &[(&[u8], &[u8])]) -> bool {
+    let mut given = rows.iter();
+    for line in lines {
+        match given.next() {
+            None => return false,
+            Some((name, value)) => {
+                if *line.name != **name || *line.value != **value {
+                    return false;
+                }
+            }
+        }
+    }
+    given.next().is_none()
+}
+
+const TWO_SUBJECTS: &[u8] = b"Via: SIP/2.0/UDP h\r\nSubject: a\r\nsubject: b";
+
+/// Whether lines are taken from a request, and made, as they should be.
+fn takes_and_makes_lines(alloc: Global) -> Option<bool> {
+    let request = request_with(alloc, TWO_SUBJECTS)?;
+    let mut lines = Vec::new(alloc);
+    add_made(&mut lines, &alloc, b"X", Vec::from_slice(alloc, b"1").ok()?).ok()?;
+    add_line(&mut lines, &alloc, b"Y", b"2").ok()?;
+    add_named(&mut lines, &alloc, &request, b"subject").ok()?;
+    add_first(&mut lines, &alloc, &request, b"subject").ok()?;
+    add_first(&mut lines, &alloc, &request, b"route").ok()?;
+    add_values_as(&mut lines, &alloc, &request, b"SUBJECT", b"Z").ok()?;
+    Some(are(
+        &lines,
+        &[
+            (b"X", b"1"),
+            (b"Y", b"2"),
+            (b"Subject", b"a"),
+            (b"subject", b"b"),
+            (b"Subject", b"a"),
+            (b"Z", b"a"),
+            (b"Z", b"b"),
+        ],
+    ))
+}
+
+/// Whether the first line of a name is found, and none of a name that no line has.
+fn finds_lines(alloc: Global) -> Option<bool> {
+    let request = request_with(alloc, TWO_SUBJECTS)?;
+    let first = first_named(&request, b"subject")?;
+    Some(
+        *first.value == *b"a".as_slice()
+            && first_named(&request, b"route").is_none()
+            && first_value(&request, b"call-id") == b"c1".as_slice()
+            && first_value(&request, b"route").is_empty(),
+    )
+}
+
+#[test]
+fn lines_are_taken_and_made(rt: HostRuntime) {
+    let alloc = rt.alloc();
+    holds(
+        &rt,
+        takes_and_makes_lines(alloc) == Some(true),
+        "lines are added in order",
+    );
+    holds(
+        &rt,
+        finds_lines(alloc) == Some(true),
+        "the first line of a name is found",
+    );
+}

@@ -1,0 +1,6 @@
+use Rattle.std.proofs.Common.{◌≡◌, take, length}
+use Rattle.sip_text.specs.Text.{pieces_text, saturated}
+use Rattle.sip_text.proofs.write.len_of.Given as goal
+
+abbrev pub invariant-loop-piece : goal.invariant-loop-piece
+invariant-loop-piece l = l.len ≡ saturated (length (pieces_text (take l.piece-index l.pieces)))

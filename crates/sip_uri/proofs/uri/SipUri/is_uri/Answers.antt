@@ -1,0 +1,8 @@
+use Rattle.std.proofs.Common.{subst}
+use Rattle.sip_uri.specs.Grammar.{IsUri}
+use Rattle.sip_uri.specs.Uri.{Uri}
+use Rattle.sip_uri.proofs.Requests.{kept_uri}
+use Rattle.sip_uri.proofs.uri.SipUri.is_uri.Goals as goal
+
+pub returns : goal.returns
+returns g c = subst (λ (u : Uri). IsUri u) c.self.view_is (kept_uri c.self.inside.text.items c.self.inside.key.items c.self.invariant)

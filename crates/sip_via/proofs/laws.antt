@@ -1,0 +1,6 @@
+pub mod HexLaws
+pub mod OwnVia
+pub mod Places
+pub mod Replaced
+pub mod Tokens
+pub mod TrimmedValues

@@ -1,0 +1,130 @@
+-- Header lines round the first of a name.
+use Rattle.std.proofs.Common.{◌≡◌, ℕ, zero, suc, ◌+◌, ◌<◌, ◌≤◌, true, false, cond, get_or, List, [], ◌∷◌, ◌++◌, length, take, drop, Option, Some, None, refl, sym, ap, ◌∙◌, arith, inl, inr}
+use Rattle.std.proofs.lemmas.List.{append-nil, drop-map, drop_all, length-map, take-map, take_all}
+use Rattle.std.specs.Borrow.{Bor}
+use Rattle.std.specs.Option.{option_copied}
+use Rattle.std.specs.Prelude.{is_some, slice_set}
+use Rattle.std.proofs.lemmas.Bool.{cases_Bool, cond-true, cond-false, false≢true}
+use Rattle.sip_text.specs.declared.parts.Header.{Header}
+use Rattle.sip_text.specs.Name.{first_of, first_value, same_name, values_of}
+use Rattle.sip_text.specs.Seen.{view, views}
+use Rattle.sip_text.specs.Text.{HeaderText}
+use Rattle.sip_via.specs.Edits.{begins_named, changed_first, line, line_if_any, place_of, replaced}
+
+-- no line has the name
+pub replaced-none : (name : List ℕ) (value : Option (List ℕ)) (hs : List HeaderText) → drop (place_of name hs) hs ≡ [] → replaced name value hs ≡ take (place_of name hs) hs
+replaced-none name value [] e = refl
+replaced-none name value (h ∷ hs) e =
+    let n = place_of name hs in
+    let k : 1 + n ≡ suc n = omega arith in
+    elim (cases_Bool (same_name name h.name)) [
+      | inl same ↦
+          let whole : h ∷ hs ≡ [] = sym (ap (λ m. drop m (h ∷ hs)) (cond-true (same_name name h.name) 0 (1 + n) same)) ∙ e in
+          absurd cc
+      | inr other ↦
+          let at : place_of name (h ∷ hs) ≡ suc n = cond-false (same_name name h.name) 0 (1 + n) other ∙ k in
+          cond-false (same_name name h.name) (line_if_any h.name value ++ hs) (h ∷ replaced name value hs) other
+          ∙ ap (λ (xs : List HeaderText). h ∷ xs) (replaced-none name value hs (sym (ap (λ m. drop m (h ∷ hs)) at) ∙ e))
+          ∙ sym (ap (λ m. take m (h ∷ hs)) at)
+    ]
+
+first_is : (h x : HeaderText) (hs xs : List HeaderText) → h ∷ hs ≡ x ∷ xs → (h ≡ x) × (hs ≡ xs)
+first_is h x hs xs e = (cc, cc)
+
+-- the first line that has it
+pub replaced-some : (name : List ℕ) (value : Option (List ℕ)) (hs after : List HeaderText) (x : HeaderText) → drop (place_of name hs) hs ≡ x ∷ after → replaced name value hs ≡ take (place_of name hs) hs ++ (line_if_any x.name value ++ after)
+replaced-some name value [] after x e = absurd cc
+replaced-some name value (h ∷ hs) after x e =
+    let n = place_of name hs in
+    let k : 1 + n ≡ suc n = omega arith in
+    elim (cases_Bool (same_name name h.name)) [
+      | inl same ↦
+          let at : place_of name (h ∷ hs) ≡ 0 = cond-true (same_name name h.name) 0 (1 + n) same in
+          let both = first_is h x hs after (sym (ap (λ m. drop m (h ∷ hs)) at) ∙ e) in
+          cond-true (same_name name h.name) (line_if_any h.name value ++ hs) (h ∷ replaced name value hs) same
+          ∙ ap (λ (y : HeaderText). line_if_any y.name value ++ hs) both.0
+          ∙ ap (λ (ys : List HeaderText). line_if_any x.name value ++ ys) both.1
+          ∙ sym (ap (λ m. take m (h ∷ hs) ++ (line_if_any x.name value ++ after)) at)
+      | inr other ↦
+          let at : place_of name (h ∷ hs) ≡ suc n = cond-false (same_name name h.name) 0 (1 + n) other ∙ k in
+          cond-false (same_name name h.name) (line_if_any h.name value ++ hs) (h ∷ replaced name value hs) other
+          ∙ ap (λ (xs : List HeaderText). h ∷ xs) (replaced-some name value hs after x (sym (ap (λ m. drop m (h ∷ hs)) at) ∙ e))
+          ∙ sym (ap (λ m. take m (h ∷ hs) ++ (line_if_any x.name value ++ after)) at)
+    ]
+
+-- ---- the place, line by line
+
+pub copied-some : {A : Type 0} (o : Option (Bor A)) → is_some o ≡ is_some (option_copied o)
+copied-some None = refl
+copied-some (Some x) = refl
+
+-- a line alone tells whether it has the name
+pub named-alone : {A : Type 0} (name : List ℕ) (hs : List (Header A)) → is_some (first_value name (views (take 1 hs))) ≡ begins_named name (views hs)
+unfolding values_of
+named-alone name [] = refl
+named-alone name (h ∷ hs) = elim (same_name name (view h).name) as (λ t. is_some (first_of (cond t ((view h).value ∷ []) [])) ≡ t) [
+  | true ↦ refl
+  | false ↦ refl
+]
+
+pub place-here : {A : Type 0} (name : List ℕ) (hs : List (Header A)) (i : ℕ) → begins_named name (views (drop i hs)) ≡ true → place_of name (views (drop i hs)) ≡ 0
+place-here name [] zero b = absurd (false≢true b)
+place-here name [] (suc i) b = absurd (false≢true b)
+place-here name (h ∷ hs) zero b = cond-true _ _ _ b
+place-here name (h ∷ hs) (suc i) b = place-here name hs i b
+
+pub place-later : {A : Type 0} (name : List ℕ) (hs : List (Header A)) (i : ℕ) → i < length hs → begins_named name (views (drop i hs)) ≡ false → place_of name (views (drop i hs)) ≡ 1 + place_of name (views (drop (i + 1) hs))
+place-later name [] i lt b = absurd (omega arith)
+place-later name (h ∷ hs) zero lt b = cond-false _ _ _ b
+place-later name (h ∷ hs) (suc i) lt b =
+    place-later name hs i (omega arith) b ∙ ap (λ n. 1 + place_of name (views (drop n (h ∷ hs)))) (let k : suc (i + 1) ≡ suc i + 1 = omega arith in k)
+
+pub place-none : {A : Type 0} (name : List ℕ) (hs : List (Header A)) (i : ℕ) → length hs ≤ i → place_of name (views (drop i hs)) ≡ 0
+place-none name [] zero le = refl
+place-none name [] (suc i) le = refl
+place-none name (h ∷ hs) zero le = absurd (omega arith)
+place-none name (h ∷ hs) (suc i) le = place-none name hs i (omega arith)
+
+-- ---- the lines before the first of a name, and those from it on
+
+split : (name : List ℕ) (value : Option (List ℕ)) (hs back : List HeaderText) → drop (place_of name hs) hs ≡ back → take (place_of name hs) hs ++ changed_first value back ≡ replaced name value hs
+split name value hs [] e = append-nil (take (place_of name hs) hs) ∙ sym (replaced-none name value hs e)
+split name value hs (x ∷ after) e = sym (replaced-some name value hs after x e)
+
+pub replaced-split : {A : Type 0} (name : List ℕ) (value : Option (List ℕ)) (hs front back : List (Header A)) (n : ℕ) → n ≡ place_of name (views hs) → front ≡ take n hs → back ≡ drop n hs → views front ++ changed_first value (views back) ≡ replaced name value (views hs)
+replaced-split {A} name value hs front back n at f b =
+    let place = place_of name (views hs) in
+    let first : views front ≡ take place (views hs) = ap (λ (xs : List (Header A)). views xs) (f ∙ ap (λ k. take k hs) at) ∙ sym (take-map view place hs) in
+    let rest : drop place (views hs) ≡ views back = drop-map view place hs ∙ ap (λ (xs : List (Header A)). views xs) (sym (b ∙ ap (λ k. drop k hs) at)) in
+    ap (λ (xs : List HeaderText). xs ++ changed_first value (views back)) first ∙ split name value (views hs) (views back) rest
+
+-- ---- another value in that line
+
+pub replaced-at : {A : Type 0} (name v : List ℕ) (hs : List (Header A)) (n : ℕ) (old new : Header A) → n ≡ place_of name (views hs) → n < length hs → old ≡ get_or hs n old → view new ≡ line (view old).name v → views (slice_set hs n new) ≡ replaced name (Some v) (views hs)
+replaced-at {A} name v [] n old new at lt is e = absurd (omega arith)
+replaced-at {A} name v (h ∷ hs) zero old new at lt is e =
+    let n = place_of name (views hs) in
+    elim (cases_Bool (same_name name (view h).name)) [
+      | inl same ↦
+          ap (λ (x : HeaderText). x ∷ views hs) (e ∙ ap (λ (x : Header A). line (view x).name v) is)
+          ∙ sym (cond-true (same_name name (view h).name) (line (view h).name v ∷ views hs) (view h ∷ replaced name (Some v) (views hs)) same)
+      | inr other ↦ let k : 0 ≡ 1 + n = at ∙ cond-false (same_name name (view h).name) 0 (1 + n) other in absurd (omega (arith, k))
+    ]
+replaced-at {A} name v (h ∷ hs) (suc i) old new at lt is e =
+    let n = place_of name (views hs) in
+    elim (cases_Bool (same_name name (view h).name)) [
+      | inl same ↦ let k : suc i ≡ 0 = at ∙ cond-true (same_name name (view h).name) 0 (1 + n) same in absurd (omega (arith, k))
+      | inr other ↦
+          let k : suc i ≡ 1 + n = at ∙ cond-false (same_name name (view h).name) 0 (1 + n) other in
+          let place : i ≡ n = omega (arith, k) in
+          ap (λ (xs : List HeaderText). view h ∷ xs) (replaced-at name v hs i old new place (omega arith) is e)
+          ∙ sym (cond-false (same_name name (view h).name) (line (view h).name v ∷ views hs) (view h ∷ replaced name (Some v) (views hs)) other)
+    ]
+
+-- no line has the name
+pub replaced-nowhere : {A : Type 0} (name v : List ℕ) (hs : List (Header A)) (n : ℕ) → n ≡ place_of name (views hs) → length hs ≤ n → views hs ≡ replaced name (Some v) (views hs)
+replaced-nowhere {A} name v hs n at le =
+    let place = place_of name (views hs) in
+    let size : length (views hs) ≡ length hs = length-map hs view in
+    let past : length (views hs) ≤ place = omega (arith, size, at, le) in
+    sym (replaced-none name (Some v) (views hs) (drop_all place (views hs) past) ∙ take_all place (views hs) past)

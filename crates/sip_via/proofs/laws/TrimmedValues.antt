@@ -1,0 +1,36 @@
+-- Values that a header line may have.
+use Rattle.std.proofs.Common.{◌≡◌, ℕ, ◌-◌, Bool, true, List, ◌++◌, length, take, drop, Option, Some, None, sym, ap, ◌∙◌}
+use Rattle.std.specs.Prelude.{option_map}
+use Rattle.std.specs.List.{list_all, prefix_len, suffix_len}
+use Rattle.std.proofs.lemmas.Bool.{and_parts}
+use Rattle.std.proofs.lemmas.List.{take-append-drop}
+use Rattle.std.proofs.lemmas.List.Folds.{list_all-append}
+use Rattle.sip_lex.specs.declared.sheltered.Shelter.{Shelter}
+use Rattle.sip_lex.specs.declared.sheltered.Place.TheVariants.{Plain}
+use Rattle.sip_lex.specs.Bytes.{is_space, trim, trim_start}
+use Rattle.sip_lex.specs.Cut.{behind}
+use Rattle.sip_lex.specs.Sheltered.{cut_outside}
+use Rattle.sip_lex.proofs.Shelters.{cut_outside_joins}
+use Rattle.sip_text.specs.Message.{is_line, is_line_byte, is_trimmed, is_value}
+use Rattle.sip_text.proofs.Good.{and_both, behind_line, trim_trimmed}
+use Rattle.sip_via.proofs.laws.Replaced.{GoodValue}
+
+pub all-parts : (p : ℕ → Bool) (n : ℕ) (bs : List ℕ) → list_all p bs ≡ true → (list_all p (take n bs) ≡ true) × (list_all p (drop n bs) ≡ true)
+all-parts p n bs h = and_parts (list_all p (take n bs)) (list_all p (drop n bs)) (sym (list_all-append p (take n bs) (drop n bs)) ∙ ap (list_all p) (take-append-drop n bs) ∙ h)
+
+pub all-trim : (p : ℕ → Bool) (bs : List ℕ) → list_all p bs ≡ true → list_all p (trim bs) ≡ true
+all-trim p bs h =
+    let s = trim_start bs in
+    (all-parts p (length s - suffix_len is_space s) s (all-parts p (prefix_len is_space bs) bs h).1).0
+
+-- a line of bytes, trimmed, is a value
+pub trim-value : (bs : List ℕ) → is_line bs ≡ true → is_value (trim bs) ≡ true
+trim-value bs h = and_both (is_line (trim bs)) (is_trimmed (trim bs)) (all-trim is_line_byte bs h) (trim_trimmed bs)
+
+others-cut : (value : List ℕ) (mark : ℕ) (c : List ℕ × Option (List ℕ)) → value ≡ c.0 ++ behind mark c.1 → is_value value ≡ true → GoodValue (option_map trim c.1)
+others-cut value mark (front, None) e h = tt
+others-cut value mark (front, Some after) e h = trim-value after (behind_line value front after mark e (and_parts (is_line value) (is_trimmed value) h).0)
+
+-- what stands behind a comma of a value, trimmed
+pub others-good : (shelter : Shelter) (value : List ℕ) → is_value value ≡ true → GoodValue (option_map trim (cut_outside shelter 44 Plain value).1)
+others-good shelter value h = others-cut value 44 (cut_outside shelter 44 Plain value) (cut_outside_joins shelter 44 Plain value) h

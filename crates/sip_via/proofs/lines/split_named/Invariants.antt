@@ -1,0 +1,13 @@
+use Rattle.std.proofs.Common.{◌≡◌, ◌≤◌, length}
+use Rattle.sip_text.specs.Seen.{views}
+use Rattle.sip_via.specs.Lines.{lines_among}
+use Rattle.sip_via.proofs.lines.split_named.Given as goal
+
+abbrev pub invariant-loop-header : goal.invariant-loop-header
+invariant-loop-header g l = record {
+  same : lines_among l.name (views l.rest) ≡ lines_among l.name (views l.headers);
+  shorter : length l.rest ≤ length l.headers;
+}
+
+abbrev pub decreases-loop-header : goal.decreases-loop-header
+decreases-loop-header g l = length l.rest

@@ -1,0 +1,77 @@
+//! Numbers and IPv4 addresses as text.
+
+ghost use Rattle.std.specs.Prelude.{◌≡◌, ◌++◌, OnOk};
+ghost use Rattle.std.specs.Fmt.{decimal};
+ghost use Rattle.std.specs.Option.{option_copied};
+ghost use Rattle.std.specs.Str.{bytes_eq};
+ghost use Rattle.sip_via.specs.Address.{address_text, dotted};
+ghost use Rattle.sip_via.specs.Fronts.{behind_dotted, behind_number, is_end};
+
+use itoa::Buffer;
+use std::alloc::{AllocError, Allocator};
+
+/// Appends a number in decimal.
+pub(crate) fn append_number<B: Allocator>(out: &mut Vec<u8, B>, n: u64) -> Result<(), AllocError>
+    ensures { OnOk result (out.new.items ≡ out.old.items ++ decimal n) }
+{
+    out.extend_from_slice(Buffer::new().format(n).as_bytes())
+}
+
+/// Appends a number behind a dot.
+fn append_dotted<B: Allocator>(out: &mut Vec<u8, B>, n: u8) -> Result<(), AllocError>
+    ensures { OnOk result (out.new.items ≡ out.old.items ++ dotted n) }
+{
+    out.push(b'.')?;
+    append_number(out, u64::from(n))
+}
+
+/// Appends an address as four decimal numbers with dots between them.
+pub(crate) fn append_address<B: Allocator>(
+    out: &mut Vec<u8, B>,
+    addr: [u8; 4],
+) -> Result<(), AllocError>
+    ensures { OnOk result (out.new.items ≡ out.old.items ++ address_text addr) }
+{
+    append_number(out, u64::from(addr[0]))?;
+    append_dotted(out, addr[1])?;
+    append_dotted(out, addr[2])?;
+    append_dotted(out, addr[3])
+}
+
+/// What stands behind a number in decimal.
+fn behind_number(text: &[u8], n: u8) -> Option<&[u8]>
+    ensures { option_copied result ≡ behind_number n text.now }
+{
+    text.strip_prefix(Buffer::new().format(n).as_bytes())
+}
+
+/// What stands behind a dot and a number.
+fn behind_dotted(text: Option<&[u8]>, n: u8) -> Option<&[u8]>
+    ensures { option_copied result ≡ behind_dotted n (option_copied text.entry) }
+{
+    match text? {
+        [b'.', rest @ ..] => behind_number(rest, n),
+        _ => None,
+    }
+}
+
+/// Whether nothing is left of a text.
+fn is_end(rest: Option<&[u8]>) -> bool
+    ensures { result ≡ is_end (option_copied rest.entry) }
+{
+    match rest {
+        Some([]) => true,
+        _ => false,
+    }
+}
+
+/// Whether a text is that address in dotted decimal.
+pub(crate) fn is_address(text: &[u8], addr: [u8; 4]) -> bool
+    ensures { result ≡ bytes_eq text.now (address_text addr) }
+{
+    let rest = behind_number(text, addr[0]);
+    let rest = behind_dotted(rest, addr[1]);
+    let rest = behind_dotted(rest, addr[2]);
+    let rest = behind_dotted(rest, addr[3]);
+    is_end(rest)
+}

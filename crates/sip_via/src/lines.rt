@@ -1,0 +1,165 @@
+//! Header lines taken from a message, or made.
+
+ghost use Rattle.std.specs.Prelude.{◌≡◌, ◌<◌, ◌++◌, [], ◌∷◌, IfSome, IfNone, OnErr, OnOk, length, map};
+ghost use Rattle.std.specs.Option.{option_copied};
+ghost use Rattle.sip_text.specs.Name.{first_value};
+ghost use Rattle.sip_text.specs.Seen.{view, views};
+ghost use Rattle.sip_via.specs.Edits.{line};
+ghost use Rattle.sip_via.specs.Lines.{first_line, lines_among, lines_as, lines_named};
+ghost use Rattle.sip_via.specs.ViaParts.{or_empty};
+
+use crate::edits::begins_named;
+use sip_text::{Header, Message, Values};
+use std::alloc::{AllocError, Allocator};
+
+/// The value of the first header line of that name; empty where there is none.
+pub fn first_value<'a, A: Allocator>(message: &'a Message<A>, name: &[u8]) -> &'a [u8]
+    ensures { result.now ≡ or_empty (first_value name.now message.now.headers) }
+{
+    message.values(name).next().unwrap_or(b"")
+}
+
+/// The first header line of that name, and the lines behind it.
+fn split_named<'a, A: Allocator>(
+    headers: &'a [Header<A>],
+    name: &[u8],
+) -> Option<(&'a Header<A>, &'a [Header<A>])>
+    ensures found { IfSome result
+        (λ p. lines_among name.now (views headers.now) ≡ view p.0.now ∷ lines_among name.now (views p.1.now)) }
+    ensures shorter { IfSome result (λ p. length p.1.now < length headers.now) }
+    ensures none { IfNone result (lines_among name.now (views headers.now) ≡ []) }
+{
+    let mut rest = headers;
+    while let Some((header, after)) = rest.split_first() {
+        if begins_named(rest, name) {
+            return Some((header, after));
+        }
+        rest = after;
+    }
+    None
+}
+
+/// The first header line of that name.
+pub fn first_named<'a, A: Allocator>(message: &'a Message<A>, name: &[u8]) -> Option<&'a Header<A>>
+    ensures found { IfSome result (λ header. first_line name.now message.now ≡ view header.now ∷ []) }
+    ensures none { IfNone result (first_line name.now message.now ≡ []) }
+{
+    let (header, _) = split_named(message.headers(), name)?;
+    Some(header)
+}
+
+/// Adds a line of that name and value.
+///
+/// # Errors
+///
+/// Only where the allocator refuses; the lines are then unchanged.
+pub fn add_made<A: Allocator + Clone>(
+    headers: &mut Vec<Header<A>, A>,
+    alloc: &A,
+    name: &[u8],
+    value: Vec<u8, A>,
+) -> Result<(), AllocError>
+    ensures ok { OnOk result
+        (views headers.new.items ≡ views headers.old.items ++ line name.now value.items ∷ []) }
+    ensures err { OnErr result (headers.new.items ≡ headers.old.items) }
+{
+    let name = Vec::from_slice(alloc.clone()?, name)?;
+    headers.push(Header { name, value })?;
+    Ok(())
+}
+
+/// Adds a line of that name with a copy of that value.
+///
+/// # Errors
+///
+/// Only where the allocator refuses; the lines are then unchanged.
+pub fn add_line<A: Allocator + Clone>(
+    headers: &mut Vec<Header<A>, A>,
+    alloc: &A,
+    name: &[u8],
+    value: &[u8],
+) -> Result<(), AllocError>
+    ensures ok { OnOk result
+        (views headers.new.items ≡ views headers.old.items ++ line name.now value.now ∷ []) }
+    ensures err { OnErr result (headers.new.items ≡ headers.old.items) }
+{
+    let value = Vec::from_slice(alloc.clone()?, value)?;
+    add_made(headers, alloc, name, value)
+}
+
+/// Adds the header lines of that name as they stand, in order.
+///
+/// # Errors
+///
+/// Only where the allocator refuses; some of the lines may then stand there.
+pub fn add_named<A: Allocator + Clone>(
+    headers: &mut Vec<Header<A>, A>,
+    alloc: &A,
+    message: &Message<A>,
+    name: &[u8],
+) -> Result<(), AllocError>
+    ensures { OnOk result
+        (views headers.new.items ≡ views headers.old.items ++ lines_named name.now message.now) }
+{
+    let mut rest = message.headers();
+    while let Some((header, after)) = split_named(rest, name) {
+        add_line(headers, alloc, &header.name, &header.value)?;
+        rest = after;
+    }
+    Ok(())
+}
+
+/// Adds the first header line of that name as it stands.
+///
+/// # Errors
+///
+/// Only where the allocator refuses; the lines are then unchanged.
+pub fn add_first<A: Allocator + Clone>(
+    headers: &mut Vec<Header<A>, A>,
+    alloc: &A,
+    message: &Message<A>,
+    name: &[u8],
+) -> Result<(), AllocError>
+    ensures ok { OnOk result
+        (views headers.new.items ≡ views headers.old.items ++ first_line name.now message.now) }
+    ensures err { OnErr result (headers.new.items ≡ headers.old.items) }
+{
+    match first_named(message, name) {
+        None => Ok(()),
+        Some(header) => add_line(headers, alloc, &header.name, &header.value),
+    }
+}
+
+/// Adds a line of another name for each value left.
+fn add_each<A: Allocator + Clone>(
+    headers: &mut Vec<Header<A>, A>,
+    alloc: &A,
+    mut values: Values<'_, '_, A>,
+    other: &[u8],
+) -> Result<(), AllocError>
+    ensures { OnOk result
+        (views headers.new.items ≡ views headers.old.items ++ map (line other.now) values.entry) }
+{
+    while let Some(value) = values.next() {
+        add_line(headers, alloc, other, value)?;
+    }
+    Ok(())
+}
+
+/// Adds a line of another name for each header line of a name, with its value.
+///
+/// # Errors
+///
+/// Only where the allocator refuses; some of the lines may then stand there.
+pub fn add_values_as<A: Allocator + Clone>(
+    headers: &mut Vec<Header<A>, A>,
+    alloc: &A,
+    message: &Message<A>,
+    name: &[u8],
+    other: &[u8],
+) -> Result<(), AllocError>
+    ensures { OnOk result
+        (views headers.new.items ≡ views headers.old.items ++ lines_as other.now name.now message.now) }
+{
+    add_each(headers, alloc, message.values(name), other)
+}
