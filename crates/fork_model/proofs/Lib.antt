@@ -19,4 +19,5 @@ pub mod SeriesLemmas
 pub mod OpeningSeries
 pub mod SeriesExamples
 pub mod SourceLemmas
+pub mod BranchLemmas
 pub mod OneOutcome

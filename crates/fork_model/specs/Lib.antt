@@ -17,3 +17,4 @@ pub mod OneReply
 pub mod Steps
 pub mod Series
 pub mod Sources
+pub mod OpenBranches

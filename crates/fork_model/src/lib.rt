@@ -4,6 +4,7 @@
 //! holds of every fork, or a worked history.
 #![tactic(auto)]
 
+mod branches;
 mod headline;
 mod order;
 mod replies;
@@ -12,6 +13,7 @@ mod sources;
 mod steps;
 mod worked;
 
+pub use branches::{open_branches_take_events, others_stay_open};
 pub use headline::{
     exactly_one_final, exactly_one_final_of_context, final_at_the_end, finished_stays,
     opening_is_unfinished,
@@ -54,6 +56,12 @@ mod tests {
         new_rows_are_contacts();
         stored_answers_came();
         replies_list_all_that_became();
+    }
+
+    #[test]
+    fn laws_of_branches_can_be_called() {
+        open_branches_take_events();
+        others_stay_open();
     }
 
     #[test]
