@@ -18,6 +18,7 @@ mod received;
 mod sender;
 mod values;
 mod via;
+mod whole;
 
 pub use branch::{BranchName, branch_is_token, read_branch, write_branch};
 pub use edits::{
