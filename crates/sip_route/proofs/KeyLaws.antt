@@ -11,9 +11,10 @@ use Rattle.sip_lex.specs.Number.{number, plain_number_within}
 use Rattle.sip_lex.proofs.laws.Numbers.{decimal_lacks, number_read}
 use Rattle.sip_uri.specs.Host.{IsHost, IsPort, is_address_byte, is_host_byte, is_port}
 use Rattle.sip_via.specs.Received.{port_or_default}
+use Rattle.sip_via.specs.Sender.{sender_port}
 use Rattle.sip_via.specs.ViaGrammar.{IsVia}
 use Rattle.sip_via.specs.ViaParts.{ViaText, branch_of, port_if_any}
-use Rattle.sip_route.specs.RequestKey.{IsSameSender, key_text, key_with, sender_port, via_key}
+use Rattle.sip_route.specs.RequestKey.{IsSameSender, key_text, key_with, via_key}
 
 -- ---- a host has no space, in lower case either
 

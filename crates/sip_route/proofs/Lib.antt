@@ -2,6 +2,7 @@ pub mod Added
 pub mod Commas
 pub mod HopsPass
 pub mod KeyLaws
+pub mod KeyTexts
 pub mod RouteLaws
 pub mod RoutePieces
 pub mod StripPlaces

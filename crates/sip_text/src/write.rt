@@ -51,10 +51,15 @@ fn len_of(pieces: &[&[u8]]) -> usize
     len
 }
 
-/// Appends the pieces, or nothing; `out` grows once at most.
-fn append_all<B: Allocator>(out: &mut Vec<u8, B>, pieces: &[&[u8]]) -> Result<(), AllocError>
+/// Appends texts one behind the other, or nothing; `out` grows once at most.
+///
+/// # Errors
+///
+/// Only where the growth of `out` is refused; `out` is then unchanged.
+pub fn append_pieces<B: Allocator>(out: &mut Vec<u8, B>, pieces: &[&[u8]]) -> Result<(), AllocError>
     ensures ok { OnOk result (out.new.items ≡ out.old.items ++ pieces_text pieces.now) }
     ensures err { OnErr result (out.new.items ≡ out.old.items) }
+    ensures room { vec_len out.old + length (pieces_text pieces.now) ≤ vec_capacity out.old → IsOk result }
     ensures full { OnErr result
         (vec_capacity out.old < vec_len out.old + length (pieces_text pieces.now)) }
     ensures capacity { vec_capacity out.old ≤ vec_capacity out.new }
@@ -84,7 +89,7 @@ pub fn append_request_line<B: Allocator>(
         (vec_capacity out.old < vec_len out.old + length (ended (start_line (Request method.now uri.now)))) }
     ensures capacity { vec_capacity out.old ≤ vec_capacity out.new }
 {
-    append_all(out, &[method, b" ", uri, b" SIP/2.0\r\n"])
+    append_pieces(out, &[method, b" ", uri, b" SIP/2.0\r\n"])
 }
 
 /// The digits of a status.
@@ -120,7 +125,7 @@ pub fn append_status_line<B: Allocator>(
     ensures capacity { vec_capacity out.old ≤ vec_capacity out.new }
 {
     let digits = digits_of(status);
-    append_all(out, &[b"SIP/2.0 ", &digits, b" ", reason, b"\r\n"])
+    append_pieces(out, &[b"SIP/2.0 ", &digits, b" ", reason, b"\r\n"])
 }
 
 /// Appends a header line with its end, or nothing (RFC 3261 section 7.3).
@@ -142,7 +147,7 @@ pub fn append_header<B: Allocator>(
         (vec_capacity out.old < vec_len out.old + length (header_text (record { name = name.now; value = value.now }))) }
     ensures capacity { vec_capacity out.old ≤ vec_capacity out.new }
 {
-    append_all(out, &[name, b": ", value, b"\r\n"])
+    append_pieces(out, &[name, b": ", value, b"\r\n"])
 }
 
 /// Appends the empty line behind the headers and the body, or nothing.
@@ -157,7 +162,7 @@ pub fn append_end<B: Allocator>(out: &mut Vec<u8, B>, body: &[u8]) -> Result<(),
     ensures full { OnErr result (vec_capacity out.old < vec_len out.old + length (ended [] ++ body.now)) }
     ensures capacity { vec_capacity out.old ≤ vec_capacity out.new }
 {
-    append_all(out, &[b"\r\n", body])
+    append_pieces(out, &[b"\r\n", body])
 }
 
 fn append_start<A: Allocator, B: Allocator>(

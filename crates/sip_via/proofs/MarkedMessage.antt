@@ -1,14 +1,14 @@
 -- What marking does to the Via values of a message, and what it leaves as it was.
-use Rattle.std.proofs.Common.{◌≡◌, ℕ, Bool, true, false, cond, eqb, List, [], ◌∷◌, ◌++◌, length, map, drop, reverse, Option, Some, None, Result, Ok, Err, refl, sym, ap, subst, ◌∙◌, append_assoc, arith, inl, inr}
+use Rattle.std.proofs.Common.{◌≡◌, ℕ, true, false, List, [], ◌∷◌, ◌++◌, length, map, drop, reverse, Option, Some, Result, Ok, Err, refl, sym, ap, subst, ◌∙◌, append_assoc, arith, inl, inr}
 use Rattle.std.specs.Prelude.{IsOk, codes}
 use Rattle.std.specs.List.{AllByRecursion, flat_map, list_all}
-use Rattle.std.proofs.lemmas.Bool.{cases_Bool, cond-false, cond-true, false≢true}
-use Rattle.std.proofs.lemmas.List.{append-nil, drop_at}
+use Rattle.std.proofs.lemmas.Bool.{cases_Bool, cond-false, cond-true}
+use Rattle.std.proofs.lemmas.List.{drop_at}
 use Rattle.sip_lex.specs.declared.sheltered.Shelter.TheVariants.{Quotes}
 use Rattle.sip_lex.specs.declared.sheltered.Place.TheVariants.{Plain}
 use Rattle.sip_lex.specs.Bytes.{is_space, trim, trim_end, trim_start}
 use Rattle.sip_lex.specs.Cut.{behind}
-use Rattle.sip_lex.specs.Outside.{pieces_outside, pieces_outside_behind}
+use Rattle.sip_lex.specs.Outside.{pieces_outside_behind}
 use Rattle.sip_lex.specs.Sheltered.{cut_outside}
 use Rattle.sip_lex.proofs.OutsideSplits.{pieces_outside-cut}
 use Rattle.sip_lex.proofs.Shelters.{cut_outside_again}
@@ -20,13 +20,13 @@ use Rattle.sip_uri.specs.declared.hop.Hop.{Hop}
 use Rattle.sip_via.specs.declared.own.ViaFault.{ViaFault}
 use Rattle.sip_via.specs.declared.own.ViaFault.TheVariants.{BadVia}
 use Rattle.sip_via.specs.Edits.{line, replaced}
-use Rattle.sip_via.specs.Received.{IsSource, first_via_line, line_marked, marked, marked_line, marked_value, marked_with, with_via_line}
+use Rattle.sip_via.specs.Received.{IsSource, first_via_line, marked, marked_line, marked_value, marked_with, with_via_line}
 use Rattle.sip_via.specs.TopVia.{first_or_empty, top_value, values_in, via_lines, via_values}
 use Rattle.sip_via.specs.ViaGrammar.{IsSpace, IsVia, IsViaParam}
-use Rattle.sip_via.specs.ViaParts.{ViaText, branch_of, first_named, is_via, or_empty, read_via, via_of}
+use Rattle.sip_via.specs.ViaParts.{ViaText, branch_of, is_via, or_empty, read_via, via_of}
 use Rattle.sip_via.proofs.Marked.{BeginsPlain, trim_end-back, via-begins}
-use Rattle.sip_via.proofs.MarkedVia.{IsFront, IsMarkedVia, core, core-calm, end-trims, marked-via, spelled, spelling-split}
-use Rattle.sip_via.proofs.ViaOnly.{IsBare, IsCalm, IsMark, Starts, all_joined, bare_trim, calm_all, calm_append, calm_byte, calm_empty, calm_join, comma, neither, on_some, param_calm, space_calm, via_again}
+use Rattle.sip_via.proofs.MarkedVia.{IsFront, core, core-calm, end-trims, marked-via, spelled, spelling-split}
+use Rattle.sip_via.proofs.ViaOnly.{IsBare, IsCalm, Starts, all_joined, bare_trim, calm_all, calm_append, calm_byte, calm_empty, calm_join, comma, neither, on_some, param_calm, space_calm, via_again}
 use Rattle.sip_via.proofs.laws.OwnVia.{IsEnd}
 use Rattle.sip_via.proofs.laws.Replaced.{values-replaced}
 

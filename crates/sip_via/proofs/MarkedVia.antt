@@ -1,7 +1,7 @@
 -- A Via value that was marked is one, and names the same host, port and branch.
-use Rattle.std.proofs.Common.{◌≡◌, ◌≢◌, ℕ, ◌<◌, ◌≤◌, ◌^◌, Bool, true, false, not, cond, eqb, ltb, List, [], ◌∷◌, ◌++◌, length, map, take, drop, reverse, Option, Some, None, Result, Ok, Err, refl, sym, ap, subst, ◌∙◌, append_assoc, arith, inl, inr}
+use Rattle.std.proofs.Common.{◌≡◌, ◌≢◌, ℕ, ◌<◌, ◌≤◌, ◌^◌, Bool, true, false, not, cond, eqb, List, [], ◌∷◌, ◌++◌, length, drop, reverse, Option, Some, None, refl, sym, ap, subst, ◌∙◌, append_assoc, arith, inl, inr}
 use Rattle.std.specs.Prelude.{◌&&◌, IfSome, codes, is_none, nat_le, option_map, slice_index}
-use Rattle.std.specs.Char.{is_ascii_digit, to_ascii_lowercase}
+use Rattle.std.specs.Char.{is_ascii_digit}
 use Rattle.std.specs.Fmt.{decimal}
 use Rattle.std.specs.List.{AllByRecursion, flat_map, list_all}
 use Rattle.std.specs.Str.{bytes_eq, str_to_ascii_lowercase}
@@ -13,7 +13,7 @@ use Rattle.std.proofs.lemmas.Slice.Eq.{bytes_eq-Decides}
 use Rattle.sip_lex.specs.declared.sheltered.Shelter.TheVariants.{Quotes}
 use Rattle.sip_lex.specs.declared.sheltered.Place.TheVariants.{Plain}
 use Rattle.sip_lex.specs.Bytes.{is_space, is_token, is_token_byte, trim, trim_end, trim_start}
-use Rattle.sip_lex.specs.Cut.{behind, cut, is, Lacks}
+use Rattle.sip_lex.specs.Cut.{cut, is, Lacks}
 use Rattle.sip_lex.specs.Sheltered.{cut_outside}
 use Rattle.sip_lex.proofs.Cuts.{cut_again}
 use Rattle.sip_lex.proofs.Shelters.{cut_outside_again}
@@ -26,10 +26,10 @@ use Rattle.sip_uri.specs.Host.{IsHost, IsPort, is_address_byte, is_host_byte}
 use Rattle.sip_via.specs.Address.{IsAddress, address_text, dotted}
 use Rattle.sip_via.specs.Received.{IsSource, asks_port, filled, gets_received, marked_param, marked_parts, marked_value, received_text}
 use Rattle.sip_via.specs.ViaGrammar.{AreParamGaps, AreViaGaps, IsSpace, IsValue, IsVia, IsViaParam, ParamGaps, ViaGaps, param_spelling, param_text, spaced, spelling, tail_spelling}
-use Rattle.sip_via.specs.ViaParts.{ViaText, first_named, are_parts, is_named, is_trimmed, is_value_byte, is_via, name_of, params_of, parts_of, value_of, via_of}
-use Rattle.sip_via.proofs.Marked.{front-stays, sip-begins, trim_end-back}
+use Rattle.sip_via.specs.ViaParts.{ViaText, first_named, are_parts, is_named, is_trimmed, is_value_byte, is_via, name_of, parts_of, value_of, via_of}
+use Rattle.sip_via.proofs.Marked.{sip-begins, trim_end-back}
 use Rattle.sip_via.proofs.ViaFound.{via_found}
-use Rattle.sip_via.proofs.ViaOnly.{IsBare, IsCalm, IsMark, Starts, all_joined, all_reverse, bare_trim, calm_all, calm_append, calm_byte, calm_empty, calm_join, class_calm, digits_all, host_bare, neither, on_some, param_calm, param_front, param_joins, params_again, port_bare, semicolon, sip_lacks, space_calm, tail_of, token_bare, value_bare, value_in, value_trims, with_params}
+use Rattle.sip_via.proofs.ViaOnly.{IsBare, Starts, all_joined, all_reverse, bare_trim, calm_all, class_calm, digits_all, host_bare, neither, on_some, param_front, param_joins, params_again, port_bare, semicolon, sip_lacks, space_calm, tail_of, token_bare, value_bare, value_in, value_trims, with_params}
 use Rattle.sip_via.proofs.laws.OwnVia.{IsEnd, end-behind}
 use Rattle.sip_via.proofs.laws.Tokens.{all_pass}
 

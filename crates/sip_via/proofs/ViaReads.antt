@@ -1,5 +1,5 @@
 -- A text is read exactly where it is a Via value.
-use Rattle.std.proofs.Common.{◌≡◌, ℕ, List, Result, Ok, Err, sym, subst, ◌∙◌, inl, inr}
+use Rattle.std.proofs.Common.{◌≡◌, ℕ, true, false, List, Result, Ok, Err, sym, subst, ◌∙◌, inl, inr}
 use Rattle.std.specs.Prelude.{IfOk}
 use Rattle.std.proofs.lemmas.Bool.{and_parts, cases_Bool, cond-false, cond-true}
 use Rattle.sip_via.specs.declared.own.ViaFault.{ViaFault}
@@ -32,3 +32,10 @@ is_found text (Err f) e = tt
 
 pub only_read : (text : List ℕ) (r : Result ViaText ViaFault) → Gives (λ (v : ViaText). v) r (read_via text) → (via : ViaText) → IsVia text via → Gives (λ (v : ViaText). v) r (Ok via)
 only_read text r h via good = subst (λ (x : Result ViaText ViaFault). Gives (λ (v : ViaText). v) r x) (via_again text via good) h
+
+pub is_one : (text : List ℕ) → is_via text ≡ true → IsVia text (via_of text)
+is_one text so = via_read text (via_of text) (cond-true (is_via text) (ok (via_of text)) (Err BadVia) so)
+
+pub is_none : (text : List ℕ) → is_via text ≡ false → (via : ViaText) → IsVia text via → ⊥
+is_none text other via good =
+    let wrong : Err BadVia ≡ ok via = sym (cond-false (is_via text) (ok (via_of text)) (Err BadVia) other) ∙ via_again text via good in absurd cc

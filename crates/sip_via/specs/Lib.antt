@@ -15,3 +15,4 @@ pub mod Received
 pub mod Fronts
 pub mod OwnPass
 pub mod ViaGrammar
+pub mod Sender

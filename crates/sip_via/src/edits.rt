@@ -1,6 +1,6 @@
 //! Copies of header lines of which some are changed or left out.
 
-ghost use Rattle.std.specs.Prelude.{◌≡◌, ◌++◌, [], ◌∷◌, ◌≤◌, length, option_map, IfOk, OnErr, OnOk};
+ghost use Rattle.std.specs.Prelude.{◌≡◌, ◌++◌, [], ◌∷◌, ◌≤◌, length, option_map, IfOk, OnErr, OnOk, take, vec_len};
 ghost use Rattle.std.specs.Option.{option_copied};
 ghost use Rattle.sip_lex.specs.Bytes.{trim};
 ghost use Rattle.sip_text.specs.Message.{IsMessage};
@@ -9,6 +9,7 @@ ghost use Rattle.sip_via.specs.Edits.{begins_named, changed_first, line_if_any, 
 ghost use Rattle.sip_via.specs.SeenMessages.{seen_value};
 
 use crate::lines::add_made;
+use crate::whole::whole_or_nothing;
 use sip_lex::trim;
 use sip_text::{Header, Message, Start};
 use std::alloc::{AllocError, Allocator};
@@ -48,22 +49,37 @@ fn copy_header<A: Allocator + Clone>(alloc: &A, header: &Header<A>) -> Result<He
     })
 }
 
-/// Adds copies of header lines.
-///
-/// # Errors
-///
-/// Only where the allocator refuses; some of the lines may then stand in `out`.
-pub fn add_copies<A: Allocator + Clone>(
+/// Adds copies of header lines, or of some of them.
+fn append_copies<A: Allocator + Clone>(
     out: &mut Vec<Header<A>, A>,
     alloc: &A,
     headers: &[Header<A>],
 ) -> Result<(), AllocError>
-    ensures { OnOk result (views out.new.items ≡ views out.old.items ++ views headers.now) }
+    ensures ok { OnOk result (views out.new.items ≡ views out.old.items ++ views headers.now) }
+    ensures begins { take (vec_len out.old) out.new.items ≡ out.old.items }
 {
     for header in headers {
         out.push(copy_header(alloc, header)?)?;
     }
     Ok(())
+}
+
+/// Adds copies of header lines.
+///
+/// # Errors
+///
+/// Only where the allocator refuses; `out` is then unchanged.
+pub fn add_copies<A: Allocator + Clone>(
+    out: &mut Vec<Header<A>, A>,
+    alloc: &A,
+    headers: &[Header<A>],
+) -> Result<(), AllocError>
+    ensures ok { OnOk result (views out.new.items ≡ views out.old.items ++ views headers.now) }
+    ensures err { OnErr result (out.new.items ≡ out.old.items) }
+{
+    let before = out.len();
+    let done = append_copies(out, alloc, headers);
+    whole_or_nothing(out, before, done)
 }
 
 /// Adds a line of that name, if there is a value for it.
@@ -80,6 +96,7 @@ pub fn add_line_if_any<A: Allocator + Clone>(
     ensures ok { OnOk result
         (views out.new.items ≡ views out.old.items ++ line_if_any name.now (seen_value value)) }
     ensures err { OnErr result (out.new.items ≡ out.old.items) }
+    ensures begins { take (vec_len out.old) out.new.items ≡ out.old.items }
 {
     match value {
         None => Ok(()),
@@ -102,21 +119,41 @@ pub fn place_of<A: Allocator>(headers: &[Header<A>], name: &[u8]) -> usize
 }
 
 /// Adds copies of some header lines, the first of them with another value, or left out.
-fn add_changed<A: Allocator + Clone>(
+fn append_changed<A: Allocator + Clone>(
     out: &mut Vec<Header<A>, A>,
     alloc: &A,
     headers: &[Header<A>],
     value: Option<Vec<u8, A>>,
 ) -> Result<(), AllocError>
-    ensures { OnOk result
+    ensures ok { OnOk result
         (views out.new.items
         ≡ views out.old.items ++ changed_first (seen_value value) (views headers.now)) }
+    ensures begins { take (vec_len out.old) out.new.items ≡ out.old.items }
 {
     let Some((header, after)) = headers.split_first() else {
         return Ok(());
     };
     add_line_if_any(out, alloc, &header.name, value)?;
-    add_copies(out, alloc, after)?;
+    append_copies(out, alloc, after)?;
+    Ok(())
+}
+
+/// Adds copies of the header lines, the first of that name with another value, or left out; or some of them.
+fn append_replaced<A: Allocator + Clone>(
+    out: &mut Vec<Header<A>, A>,
+    alloc: &A,
+    headers: &[Header<A>],
+    name: &[u8],
+    value: Option<Vec<u8, A>>,
+) -> Result<(), AllocError>
+    ensures ok { OnOk result
+        (views out.new.items
+        ≡ views out.old.items ++ replaced name.now (seen_value value) (views headers.now)) }
+    ensures begins { take (vec_len out.old) out.new.items ≡ out.old.items }
+{
+    let (front, back) = headers.split_at(place_of(headers, name));
+    append_copies(out, alloc, front)?;
+    append_changed(out, alloc, back, value)?;
     Ok(())
 }
 
@@ -124,7 +161,7 @@ fn add_changed<A: Allocator + Clone>(
 ///
 /// # Errors
 ///
-/// Only where the allocator refuses; some of the lines may then stand in `out`.
+/// Only where the allocator refuses; `out` is then unchanged.
 pub fn add_replaced<A: Allocator + Clone>(
     out: &mut Vec<Header<A>, A>,
     alloc: &A,
@@ -132,14 +169,14 @@ pub fn add_replaced<A: Allocator + Clone>(
     name: &[u8],
     value: Option<Vec<u8, A>>,
 ) -> Result<(), AllocError>
-    ensures { OnOk result
+    ensures ok { OnOk result
         (views out.new.items
         ≡ views out.old.items ++ replaced name.now (seen_value value) (views headers.now)) }
+    ensures err { OnErr result (out.new.items ≡ out.old.items) }
 {
-    let (front, back) = headers.split_at(place_of(headers, name));
-    add_copies(out, alloc, front)?;
-    add_changed(out, alloc, back, value)?;
-    Ok(())
+    let before = out.len();
+    let done = append_replaced(out, alloc, headers, name, value);
+    whole_or_nothing(out, before, done)
 }
 
 /// The message with other header lines.

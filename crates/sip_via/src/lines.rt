@@ -1,6 +1,6 @@
 //! Header lines taken from a message, or made.
 
-ghost use Rattle.std.specs.Prelude.{◌≡◌, ◌<◌, ◌++◌, [], ◌∷◌, IfSome, IfNone, OnErr, OnOk, length, map};
+ghost use Rattle.std.specs.Prelude.{◌≡◌, ◌<◌, ◌++◌, [], ◌∷◌, IfSome, IfNone, OnErr, OnOk, length, map, take, vec_len};
 ghost use Rattle.std.specs.Option.{option_copied};
 ghost use Rattle.sip_text.specs.Name.{first_value};
 ghost use Rattle.sip_text.specs.Seen.{view, views};
@@ -9,6 +9,7 @@ ghost use Rattle.sip_via.specs.Lines.{first_line, lines_among, lines_as, lines_n
 ghost use Rattle.sip_via.specs.ViaParts.{or_empty};
 
 use crate::edits::begins_named;
+use crate::whole::whole_or_nothing;
 use sip_text::{Header, Message, Values};
 use std::alloc::{AllocError, Allocator};
 
@@ -62,6 +63,7 @@ pub fn add_made<A: Allocator + Clone>(
     ensures ok { OnOk result
         (views headers.new.items ≡ views headers.old.items ++ line name.now value.items ∷ []) }
     ensures err { OnErr result (headers.new.items ≡ headers.old.items) }
+    ensures begins { take (vec_len headers.old) headers.new.items ≡ headers.old.items }
 {
     let name = Vec::from_slice(alloc.clone()?, name)?;
     headers.push(Header { name, value })?;
@@ -82,24 +84,22 @@ pub fn add_line<A: Allocator + Clone>(
     ensures ok { OnOk result
         (views headers.new.items ≡ views headers.old.items ++ line name.now value.now ∷ []) }
     ensures err { OnErr result (headers.new.items ≡ headers.old.items) }
+    ensures begins { take (vec_len headers.old) headers.new.items ≡ headers.old.items }
 {
     let value = Vec::from_slice(alloc.clone()?, value)?;
     add_made(headers, alloc, name, value)
 }
 
-/// Adds the header lines of that name as they stand, in order.
-///
-/// # Errors
-///
-/// Only where the allocator refuses; some of the lines may then stand there.
-pub fn add_named<A: Allocator + Clone>(
+/// Adds the header lines of that name as they stand, in order, or some of them.
+fn append_named<A: Allocator + Clone>(
     headers: &mut Vec<Header<A>, A>,
     alloc: &A,
     message: &Message<A>,
     name: &[u8],
 ) -> Result<(), AllocError>
-    ensures { OnOk result
+    ensures ok { OnOk result
         (views headers.new.items ≡ views headers.old.items ++ lines_named name.now message.now) }
+    ensures begins { take (vec_len headers.old) headers.new.items ≡ headers.old.items }
 {
     let mut rest = message.headers();
     while let Some((header, after)) = split_named(rest, name) {
@@ -107,6 +107,26 @@ pub fn add_named<A: Allocator + Clone>(
         rest = after;
     }
     Ok(())
+}
+
+/// Adds the header lines of that name as they stand, in order.
+///
+/// # Errors
+///
+/// Only where the allocator refuses; the lines are then unchanged.
+pub fn add_named<A: Allocator + Clone>(
+    headers: &mut Vec<Header<A>, A>,
+    alloc: &A,
+    message: &Message<A>,
+    name: &[u8],
+) -> Result<(), AllocError>
+    ensures ok { OnOk result
+        (views headers.new.items ≡ views headers.old.items ++ lines_named name.now message.now) }
+    ensures err { OnErr result (headers.new.items ≡ headers.old.items) }
+{
+    let before = headers.len();
+    let done = append_named(headers, alloc, message, name);
+    whole_or_nothing(headers, before, done)
 }
 
 /// Adds the first header line of that name as it stands.
@@ -130,15 +150,16 @@ pub fn add_first<A: Allocator + Clone>(
     }
 }
 
-/// Adds a line of another name for each value left.
-fn add_each<A: Allocator + Clone>(
+/// Adds a line of another name for each value left, or for some of them.
+fn append_each<A: Allocator + Clone>(
     headers: &mut Vec<Header<A>, A>,
     alloc: &A,
     mut values: Values<'_, '_, A>,
     other: &[u8],
 ) -> Result<(), AllocError>
-    ensures { OnOk result
+    ensures ok { OnOk result
         (views headers.new.items ≡ views headers.old.items ++ map (line other.now) values.entry) }
+    ensures begins { take (vec_len headers.old) headers.new.items ≡ headers.old.items }
 {
     while let Some(value) = values.next() {
         add_line(headers, alloc, other, value)?;
@@ -150,7 +171,7 @@ fn add_each<A: Allocator + Clone>(
 ///
 /// # Errors
 ///
-/// Only where the allocator refuses; some of the lines may then stand there.
+/// Only where the allocator refuses; the lines are then unchanged.
 pub fn add_values_as<A: Allocator + Clone>(
     headers: &mut Vec<Header<A>, A>,
     alloc: &A,
@@ -158,8 +179,11 @@ pub fn add_values_as<A: Allocator + Clone>(
     name: &[u8],
     other: &[u8],
 ) -> Result<(), AllocError>
-    ensures { OnOk result
+    ensures ok { OnOk result
         (views headers.new.items ≡ views headers.old.items ++ lines_as other.now name.now message.now) }
+    ensures err { OnErr result (headers.new.items ≡ headers.old.items) }
 {
-    add_each(headers, alloc, message.values(name), other)
+    let before = headers.len();
+    let done = append_each(headers, alloc, message.values(name), other);
+    whole_or_nothing(headers, before, done)
 }

@@ -17,5 +17,5 @@ returns g c =
     let call = c.call_id.result.now in
     let seq = c.in_ok-cseq.cseq.items in
     eight _ _ _ _ _ _ _ _ _ (line (codes "Via") via ∷ []) (line (codes "Max-Forwards") (codes "70") ∷ []) (lines_as (codes "Route") (codes "route") sent) (line (codes "From") from ∷ []) (line (codes "To") to ∷ []) (line (codes "Call-ID") call ∷ []) (line (codes "CSeq") seq ∷ []) (line (codes "Content-Length") (codes "0") ∷ [])
-    (ap views c.new-headers.ensures.items) c.in_ok-add_line.ensures.ok c.in_ok-add_line-2.ensures.ok c.in_ok-add_values_as.ensures c.in_ok-add_line-3.ensures.ok c.in_ok-add_line-4.ensures.ok c.in_ok-add_line-5.ensures.ok c.in_ok-add_made.ensures.ok c.in_ok-add_line-6.ensures.ok
+    (ap views c.new-headers.ensures.items) c.in_ok-add_line.ensures.ok c.in_ok-add_line-2.ensures.ok c.in_ok-add_values_as.ensures.ok c.in_ok-add_line-3.ensures.ok c.in_ok-add_line-4.ensures.ok c.in_ok-add_line-5.ensures.ok c.in_ok-add_made.ensures.ok c.in_ok-add_line-6.ensures.ok
     ∙ along_lines c.args.method.now sent to via from call seq c.top_via.ensures c.first_value.ensures (sym (ap or_empty c.call_id.ensures)) c.in_ok-cseq.ensures

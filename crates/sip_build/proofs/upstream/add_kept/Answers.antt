@@ -62,7 +62,7 @@ returns-in_ok-add_exchanged-2 g c =
     let later : length front ≤ place_of (codes "contact") (views front) = omega (arith, c.if-place_of-front.false, c.place_of-2.ensures.value) in
     in_three (views c.args.out.now.items) (views front) (line_if_any (view top).name o) (exchanged (codes "contact") lines (views after))
     _ _ _ (exchanged (codes "contact") lines (replaced (codes "via") o (views hs)))
-    c.in_ok-add_copies.ensures
+    c.in_ok-add_copies.ensures.ok
     (c.in_ok-add_line_if_any-2.ensures.ok ∙ ap (λ (name : List ℕ). views c.add_copies.new.out.items ++ line_if_any name o) c.deref-else-place_of-front.ensures.value)
     c.in_ok-add_exchanged-2.ensures
     (round-later (codes "via") (codes "contact") o lines hs front after top n via-is-no-contact parted later)

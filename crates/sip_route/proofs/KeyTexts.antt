@@ -1,0 +1,72 @@
+-- A text against a key, and two keys against one another.
+use Rattle.std.proofs.Common.{◌≡◌, ℕ, Bool, true, false, eqb, ◌+◌, List, [], ◌∷◌, ◌++◌, length, take, drop, Option, Some, None, refl, sym, ap, ◌∙◌}
+use Rattle.std.specs.Prelude.{◌↔◌, ◌&&◌, ◌==◌, IsTrue, MatchOption}
+use Rattle.std.specs.Borrow.{Bor}
+use Rattle.std.specs.Option.{option_copied}
+use Rattle.std.specs.Str.{bytes_eq, str_to_ascii_lowercase}
+use Rattle.std.proofs.Math.Bool.{and_assoc}
+use Rattle.std.proofs.lemmas.Bool.{and_parts, eq-eqb, eqb-true}
+use Rattle.std.proofs.lemmas.Slice.Eq.{bytes_eq-Decides}
+use Rattle.sip_text.specs.Text.{MessageText}
+use Rattle.sip_via.specs.Sender.{sender_port}
+use Rattle.sip_via.specs.TopVia.{top_value}
+use Rattle.sip_route.specs.RequestKey.{HaveSameKey, IsSameSender, IsSentBy, is_rest, key_text, key_with, via_key}
+use Rattle.sip_route.proofs.KeyLaws.{same_key, same_sender}
+
+-- ---- a text behind its front
+
+-- a text is the front and the rest where its first bytes are the front and the others the rest
+split_at : (front text rest : List ℕ) → bytes_eq text (front ++ rest) ≡ (bytes_eq (take (length front) text) front && bytes_eq (drop (length front) text) rest)
+split_at [] text rest = refl
+split_at (b ∷ bs) [] rest = refl
+split_at (b ∷ bs) (c ∷ cs) rest =
+    ap (λ z. eqb c b && z) (split_at bs cs rest) ∙ sym (and_assoc (eqb c b) (bytes_eq (take (length bs) cs) bs) (bytes_eq (drop (length bs) cs) rest))
+
+pub left_behind : (front text : List ℕ) (o : Option (Bor (List ℕ))) → MatchOption o (bytes_eq (take (length front) text) front ≡ false) (λ x. (bytes_eq (take (length front) text) front ≡ true) × (x.now ≡ drop (length front) text) × (length x.now + length front ≡ length text)) → (rest : List ℕ) → is_rest (option_copied o) rest ≡ bytes_eq text (front ++ rest)
+left_behind front text None other rest = sym (split_at front text rest ∙ ap (λ z. z && bytes_eq (drop (length front) text) rest) other)
+left_behind front text (Some x) found rest =
+    ap (λ t. bytes_eq t rest) found.1 ∙ sym (split_at front text rest ∙ ap (λ z. z && bytes_eq (drop (length front) text) rest) found.0)
+
+-- ---- two keys
+
+abbrev some_key : List ℕ → Option (List ℕ)
+some_key key = Some key
+
+same_parts : (m n : MessageText) (h k x y : List ℕ) (p q : ℕ) (s : IsSentBy m h p x) (t : IsSentBy n k q y) → IsSameSender s.via t.via → (str_to_ascii_lowercase h ≡ str_to_ascii_lowercase k) × (p ≡ q) × (x ≡ y)
+same_parts m n h k x y p q s t same =
+    let branches : some_key x ≡ some_key y = sym s.names_branch ∙ same.branch ∙ t.names_branch in
+    (sym (ap str_to_ascii_lowercase s.names_host) ∙ same.host ∙ ap str_to_ascii_lowercase t.names_host, sym s.names_port ∙ same.port ∙ t.names_port, cc)
+
+same_senders : (m n : MessageText) (h k x y : List ℕ) (p q : ℕ) (s : IsSentBy m h p x) (t : IsSentBy n k q y) → str_to_ascii_lowercase h ≡ str_to_ascii_lowercase k → p ≡ q → x ≡ y → IsSameSender s.via t.via
+same_senders m n h k x y p q s t hosts ports branches = record {
+  host = ap str_to_ascii_lowercase s.names_host ∙ hosts ∙ sym (ap str_to_ascii_lowercase t.names_host);
+  port = s.names_port ∙ ports ∙ sym t.names_port;
+  branch = s.names_branch ∙ ap some_key branches ∙ sym t.names_branch;
+}
+
+of_senders : (m n : MessageText) (h k x y : List ℕ) (p q : ℕ) (s : IsSentBy m h p x) (t : IsSentBy n k q y) → IsSameSender s.via t.via → HaveSameKey m n
+of_senders m n h k x y p q s t same =
+    let is : via_key s.via ≡ Some (key_text s.via.host (sender_port s.via) x) = ap (key_with s.via) s.names_branch in
+    (key_text s.via.host (sender_port s.via) x, s.key ∙ is, t.key ∙ sym (same_key s.via t.via same) ∙ is)
+
+to_senders : (m n : MessageText) (h k x y : List ℕ) (p q : ℕ) (s : IsSentBy m h p x) (t : IsSentBy n k q y) → HaveSameKey m n → IsSameSender s.via t.via
+to_senders m n h k x y p q s t same =
+    let left : via_key s.via ≡ some_key same.0 = sym s.key ∙ same.1 in
+    let right : via_key t.via ≡ some_key same.0 = sym t.key ∙ same.2 in
+    same_sender (top_value m) (top_value n) s.via t.via s.grammar t.grammar (λ none. let wrong : some_key same.0 ≡ None = sym left ∙ none in absurd cc) (left ∙ sym right)
+
+pub are_same : (m n : MessageText) (h k x y : List ℕ) (p q : ℕ) (r : Bool) → IsSentBy m h p x → IsSentBy n k q y → r ≡ (bytes_eq (str_to_ascii_lowercase h) (str_to_ascii_lowercase k) && p == q && bytes_eq x y) → IsTrue r ↔ HaveSameKey m n
+are_same m n h k x y p q r s t is =
+    let hosts = bytes_eq (str_to_ascii_lowercase h) (str_to_ascii_lowercase k) in
+    let branches = bytes_eq x y in (
+      λ e.
+          let all = and_parts (hosts && eqb p q) branches (sym is ∙ e) in
+          let sent = and_parts hosts (eqb p q) all.0 in
+          of_senders m n h k x y p q s t (same_senders m n h k x y p q s t ((bytes_eq-Decides (str_to_ascii_lowercase h) (str_to_ascii_lowercase k)).0 sent.0) (eqb-true p q sent.1) ((bytes_eq-Decides x y).0 all.1)),
+      λ same.
+          let parts = same_parts m n h k x y p q s t (to_senders m n h k x y p q s t same) in
+          is
+          ∙ ap (λ z. (z && eqb p q) && branches) ((bytes_eq-Decides (str_to_ascii_lowercase h) (str_to_ascii_lowercase k)).1 parts.0)
+          ∙ ap (λ z. z && branches) (eq-eqb p q parts.1)
+          ∙ (bytes_eq-Decides x y).1 parts.2,
+    )

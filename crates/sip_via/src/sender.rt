@@ -1,0 +1,44 @@
+//! Who sent a message, by one of its Via values.
+
+ghost use Rattle.std.specs.Prelude.{◌≡◌, IfNone, IfSome, option_map};
+ghost use Rattle.sip_via.specs.Sender.{seen_sender, sender, sender_if_read};
+ghost use Rattle.sip_via.specs.SeenParts.{seen_parts};
+ghost use Rattle.sip_via.specs.ViaGrammar.{IsVia};
+ghost use Rattle.sip_via.specs.ViaParts.{ViaText, read_via, via_of, via_of_parts};
+
+use crate::cut::{Cut, cut_via, port_if_any};
+use crate::params::first_named;
+use crate::received::DEFAULT_PORT;
+
+/// What a Via value says of its sender, as it stands in the text.
+#[derive(Clone, Copy, Debug, PartialEq, Eq)]
+pub struct Sender<'a> {
+    /// The host as written.
+    pub host: &'a [u8],
+    /// The port; 5060 where the value names none (RFC 3261 section 18.2.2).
+    pub port: u16,
+    /// The value of the first parameter `branch`, if it has one.
+    pub branch: Option<&'a [u8]>,
+}
+
+/// The sender that the parts of a Via value name.
+fn sender_in<'a>(cut: &Cut<'a>) -> Sender<'a>
+    ensures { seen_sender result ≡ sender (via_of_parts (seen_parts cut.now)) }
+{
+    Sender {
+        host: cut.host,
+        port: port_if_any(cut.port).unwrap_or(DEFAULT_PORT),
+        branch: first_named(cut.params, b"branch"),
+    }
+}
+
+/// The sender that a text names as a Via value (RFC 3261 section 20.42); `None` where it is none. It takes no
+/// memory.
+pub fn sender_of(value: &[u8]) -> Option<Sender<'_>>
+    ensures exact { option_map seen_sender result ≡ sender_if_read (read_via value.now) }
+    ensures found { IfSome result (λ _. IsVia value.now (via_of value.now)) }
+    ensures none { IfNone result ((via : ViaText) → IsVia value.now via → ⊥) }
+{
+    let cut = cut_via(value)?;
+    Some(sender_in(&cut))
+}

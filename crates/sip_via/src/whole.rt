@@ -1,0 +1,21 @@
+//! A list that grows by all of its new items, or by none.
+
+ghost use Rattle.std.specs.Prelude.{◌≡◌, OnErr, OnOk, take};
+
+use std::alloc::{AllocError, Allocator};
+
+/// Takes back what stands behind the first `before` items, unless all was added.
+pub(crate) fn whole_or_nothing<T: Drop, A: Allocator>(
+    out: &mut Vec<T, A>,
+    before: usize,
+    done: Result<(), AllocError>,
+) -> Result<(), AllocError>
+    ensures done { result ≡ done }
+    ensures ok { OnOk done (out.new.items ≡ out.old.items) }
+    ensures err { OnErr done (out.new.items ≡ take before out.old.items) }
+{
+    if done.is_err() {
+        out.truncate(before);
+    }
+    done
+}
