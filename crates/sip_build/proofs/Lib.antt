@@ -10,3 +10,6 @@ pub mod Exchanged
 pub mod UpwardGood
 pub mod Pieces
 pub mod StrippedSame
+pub mod Grown
+pub mod GroupTexts
+pub mod UpwardTexts

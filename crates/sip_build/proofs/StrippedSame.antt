@@ -1,7 +1,6 @@
 -- A response of the proxy's own is the same once the first Route value is gone.
-use Rattle.std.proofs.Common.{◌≡◌, ℕ, Bool, true, false, cond, List, [], ◌∷◌, ◌++◌, map, take, Option, Some, None, refl, sym, ap, ◌∙◌, inl, inr}
+use Rattle.std.proofs.Common.{◌≡◌, ℕ, Bool, false, cond, List, [], ◌∷◌, ◌++◌, map, take, Option, Some, None, refl, sym, ap, ◌∙◌, inl, inr}
 use Rattle.std.specs.Prelude.{codes, is_none, option_map}
-use Rattle.std.specs.List.{filter}
 use Rattle.std.proofs.lemmas.Bool.{cases_Bool, cond_both, cond-true, cond-false}
 use Rattle.md5.specs.Md5.{md5}
 use Rattle.sip_lex.specs.declared.sheltered.Shelter.TheVariants.{QuotesAndAngles}
@@ -15,7 +14,7 @@ use Rattle.sip_text.specs.Text.{HeaderText, MessageText, Response}
 use Rattle.sip_via.specs.HexPair.{hex_text}
 use Rattle.sip_via.specs.declared.own.Own.{Own}
 use Rattle.sip_via.specs.Edits.{line, line_if_any, replaced, with_headers}
-use Rattle.sip_via.specs.Lines.{first_line, has_name, lines_among, lines_named}
+use Rattle.sip_via.specs.Lines.{lines_among}
 use Rattle.sip_via.specs.ViaParts.{or_empty}
 use Rattle.sip_via.proofs.laws.Replaced.{apart, values-replaced}
 use Rattle.sip_route.specs.Loop.{field_lines, number_text}
@@ -23,7 +22,7 @@ use Rattle.sip_route.specs.Routes.{names_own, route_name, stripped, stripped_at,
 use Rattle.sip_build.specs.declared.responses.OwnStatus.{OwnStatus}
 use Rattle.sip_build.specs.declared.responses.OwnStatus.TheVariants as own
 use Rattle.sip_build.specs.Generated.{code_of, generated_of, gets_tag, reason_of, tagged, to_lines, unsupported_lines}
-use Rattle.sip_build.specs.OwnTag.{own_tag, tag_fields}
+use Rattle.sip_build.specs.OwnTag.{own_tag}
 
 -- ---- lines of another name
 

@@ -1,5 +1,5 @@
 -- A request as it goes to a target (RFC 3261 section 16.6).
-use Rattle.std.specs.Prelude.{ℕ, ◌-◌, Bool, true, false, List, ◌∷◌, ◌++◌, Option, Some, None, codes}
+use Rattle.std.specs.Prelude.{ℕ, ◌-◌, Bool, true, false, List, ◌∷◌, Option, Some, None, codes}
 use Rattle.std.specs.Fmt.{decimal}
 use Rattle.sip_lex.specs.Number.{number}
 use Rattle.sip_text.specs.Name.{first_value}

@@ -6,3 +6,4 @@ pub mod Forwarding
 pub mod Exchanged
 pub mod Upward
 pub mod SeenKept
+pub mod Groups

@@ -1,5 +1,5 @@
 -- A response as it goes upstream (RFC 3261 section 16.7).
-use Rattle.std.specs.Prelude.{◌≡◌, ℕ, Bool, true, false, List, [], ◌∷◌, ◌++◌, map, Option, Some, None, Result, Ok, Err, option_map, if◌then◌else◌, codes}
+use Rattle.std.specs.Prelude.{◌≡◌, ℕ, Bool, true, List, ◌++◌, map, Option, Some, None, Result, Ok, Err, option_map, if◌then◌else◌, codes}
 use Rattle.std.specs.List.{list_all}
 use Rattle.fork_model.specs.Table as table
 use Rattle.sip_lex.specs.declared.sheltered.Shelter.TheVariants.{Quotes}

@@ -5,20 +5,29 @@
 //! function of the message it is built from.
 #![tactic(auto)]
 
+mod along_text;
 mod forwarded_text;
 mod forwarding;
+mod generated_text;
+mod group_lens;
+mod groups;
 mod laws;
 mod lines;
+mod made_text;
 mod parts;
 mod requests;
 mod responses;
 mod tag;
 mod upstream;
+mod upward_text;
 
+pub use along_text::{write_ack, write_cancel};
 pub use forwarded_text::write_forwarded;
 pub use forwarding::forward;
+pub use generated_text::write_generated;
 pub use laws::stripping_keeps_answers;
 pub use requests::{ack_is_message, ack_of, cancel_is_message, cancel_of};
 pub use responses::{OwnStatus, generated, generated_is_message};
 pub use tag::own_tag;
 pub use upstream::upward;
+pub use upward_text::write_upward;

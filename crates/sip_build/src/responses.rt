@@ -82,7 +82,7 @@ impl OwnStatus {
 }
 
 /// Whether a response of that status has the proxy's own tag added to its To.
-fn gets_tag<A: Allocator>(status: OwnStatus, message: &Message<A>) -> bool
+pub(crate) fn gets_tag<A: Allocator>(status: OwnStatus, message: &Message<A>) -> bool
     ensures { result ≡ gets_tag status message.now }
 {
     match status {

@@ -123,7 +123,7 @@ fn add_kept<A: Allocator + Clone>(
 }
 
 /// The name of the header field that a challenge stands in.
-fn challenge_name(proxy: bool) -> &'static [u8]
+pub(crate) fn challenge_name(proxy: bool) -> &'static [u8]
     ensures { result.now ≡ challenge_name proxy }
 {
     if proxy {

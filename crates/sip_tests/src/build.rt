@@ -3,3 +3,4 @@ mod forwarding;
 mod requests;
 mod responses;
 mod upstream;
+mod written;

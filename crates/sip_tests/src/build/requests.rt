@@ -7,7 +7,7 @@ use sip_text::{Message, Start};
 use std::alloc::Global;
 
 /// An INVITE as it was sent on.
-const SENT: [&[u8]; 10] = [
+pub const SENT: [&[u8]; 10] = [
     b"INVITE sip:bob@192.0.2.4 SIP/2.0",
     b"Via: SIP/2.0/UDP 192.0.2.9:5060;branch=z9hG4bK00000000000000000000000000000000.7.3.0",
     b"v: SIP/2.0/UDP 192.0.2.1:5060;branch=z9hG4bKa;rport=40000;received=192.0.2.1",
@@ -73,7 +73,7 @@ fn cancels_on_the_way_of_the_request(rt: HostRuntime) {
 }
 
 /// The request as it was sent on, with a route.
-fn routed() -> [&'static [u8]; 10] {
+pub fn routed() -> [&'static [u8]; 10] {
     let mut lines = SENT;
     lines[3] = b"Route: <sip:a;lr>\r\nRoute: <sip:b;lr>,<sip:c;lr>";
     lines

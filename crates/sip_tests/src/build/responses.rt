@@ -65,7 +65,7 @@ fn trying_has_the_lines_of_the_request(rt: HostRuntime) {
 }
 
 /// The statuses of the proxy's own, each with the line that a response begins with.
-const STATUSES: [(OwnStatus, &[u8]); 11] = [
+pub const STATUSES: [(OwnStatus, &[u8]); 11] = [
     (OwnStatus::Trying, b"SIP/2.0 100 Trying\r\n"),
     (OwnStatus::Okay, b"SIP/2.0 200 OK\r\n"),
     (OwnStatus::BadRequest, b"SIP/2.0 400 Bad Request\r\n"),

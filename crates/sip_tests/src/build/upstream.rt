@@ -8,7 +8,7 @@ use sip_via::BuildFault;
 use std::alloc::Global;
 
 /// A 302 that came with two Via lines and two Contact lines.
-const MOVED: [&[u8]; 11] = [
+pub const MOVED: [&[u8]; 11] = [
     b"SIP/2.0 302 Moved Temporarily",
     b"Via: SIP/2.0/UDP 192.0.2.9:5060;branch=z9hG4bK1",
     b"v: SIP/2.0/UDP 192.0.2.1:5060;branch=z9hG4bKa",
@@ -23,7 +23,7 @@ const MOVED: [&[u8]; 11] = [
 ];
 
 /// A 401 with its Via values in one line.
-const ASKED: [&[u8]; 9] = [
+pub const ASKED: [&[u8]; 9] = [
     b"SIP/2.0 401 Unauthorized",
     b"v: SIP/2.0/UDP 192.0.2.9;a=\",\" , SIP/2.0/UDP 192.0.2.1, SIP/2.0/UDP h",
     b"f: <sip:alice@example.com>;tag=1",
@@ -36,7 +36,7 @@ const ASKED: [&[u8]; 9] = [
 ];
 
 /// A 200 with one Via value.
-const ALONE: [&[u8]; 8] = [
+pub const ALONE: [&[u8]; 8] = [
     b"SIP/2.0 200 OK",
     b"v: SIP/2.0/UDP 192.0.2.9;a=\",\"",
     b"f: <sip:alice@example.com>;tag=1",

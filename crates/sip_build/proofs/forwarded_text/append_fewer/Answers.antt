@@ -1,6 +1,4 @@
-use Rattle.std.proofs.Common.{rules, ◌≡◌, ◌-◌, ◌++◌, ◌∙◌, List, ℕ, Some, ap}
-use Rattle.std.specs.Fmt.{decimal}
-use Rattle.sip_lex.specs.Number.{number}
+use Rattle.std.proofs.Common.{rules, ◌++◌, ◌∙◌, List, ℕ, Some, ap}
 use Rattle.sip_text.specs.Seen.{views}
 use Rattle.sip_via.specs.Edits.{replaced}
 use Rattle.sip_build.specs.Texts.{lines_text}

@@ -1,0 +1,139 @@
+-- Header lines in groups, as lines and as text.
+use Rattle.std.proofs.Common.{◌≡◌, ◌+◌, ◌<◌, ◌≤◌, arith, Option, Some, None, inl, inr, Result, Ok, Err, OnErr, OnOk, length, subst, ℕ, List, [], ◌∷◌, ◌++◌, map, refl, sym, ap, ◌∙◌}
+use Rattle.std.specs.Borrow.{Bor}
+use Rattle.std.specs.List.{filter, flat_map}
+use Rattle.std.proofs.lemmas.Grind.{flat_map-append}
+use Rattle.std.proofs.lemmas.List.Folds.{flat_map-map}
+use Rattle.std.specs.Prelude.{IsOk, codes, if◌then◌else◌}
+use Rattle.std.proofs.lemmas.Bool.{cases_Bool, cond-false, cond-true}
+use Rattle.fork_model.specs.Table as table
+use Rattle.sip_lex.specs.Line.{ended}
+use Rattle.sip_text.specs.Name.{same_name, values_of}
+use Rattle.sip_text.specs.Text.{HeaderText, MessageText, StartText, header_text, saturated, spelling, start_line}
+use Rattle.sip_via.specs.Lines.{lines_among}
+use Rattle.sip_via.specs.Edits.{line}
+use Rattle.std.proofs.lemmas.List.{length-append}
+use Rattle.sip_build.proofs.Pieces.{three}
+use Rattle.sip_build.specs.SeenKept.{texts}
+use Rattle.sip_build.specs.Texts.{lines_text}
+use Rattle.sip_build.specs.Upward.{challenge_line, contact_lines}
+use Rattle.sip_build.specs.declared.groups.Group.{Group}
+use Rattle.sip_build.specs.declared.made_text.Front.{Front}
+use Rattle.sip_build.specs.Exchanged.{is_other}
+use Rattle.sip_build.specs.Groups.{all_lines, lines_of, made_of, start_of, under}
+use Rattle.sip_build.proofs.Exchanged.{filter-named, filter-other}
+
+-- what each part's lines are as text, and the text of all lines
+pub texts-of-lines : {X : Type 0} (f : X → List HeaderText) (xs : List X) → flat_map (λ x. lines_text (f x)) xs ≡ lines_text (flat_map f xs)
+texts-of-lines f [] = refl
+texts-of-lines f (x ∷ xs) = ap (λ (ys : List ℕ). lines_text (f x) ++ ys) (texts-of-lines f xs) ∙ sym (flat_map-append header_text (f x) (flat_map f xs))
+
+pub contacts-text : (ts : List (Bor (List ℕ))) → flat_map (λ (t : Bor (List ℕ)). header_text (line (codes "Contact") t.now)) ts ≡ lines_text (contact_lines (texts ts))
+contacts-text [] = refl
+contacts-text (t ∷ ts) = ap (λ (ys : List ℕ). header_text (line (codes "Contact") t.now) ++ ys) (contacts-text ts)
+
+pub challenges-text : (cs : List table.Challenge) → flat_map (λ c. header_text (challenge_line c)) cs ≡ lines_text (map challenge_line cs)
+challenges-text cs = sym (flat_map-map header_text challenge_line cs)
+
+-- the spelling of a message whose header lines come in groups
+pub spelling_made : {A : Type 0} (front : Front) (groups : List (Group A)) (body : List ℕ) → spelling (made_of front groups body) ≡ ended (start_line (start_of front)) ++ (flat_map (λ g. lines_text (lines_of g)) groups ++ (ended [] ++ body))
+spelling_made front groups body = ap (λ (x : List ℕ). ended (start_line (start_of front)) ++ (x ++ (ended [] ++ body))) (sym (texts-of-lines lines_of groups))
+
+-- ---- another name of the text that was appended
+
+pub ok-as : {E : Type 0} (r : Result Unit E) (old new t s : List ℕ) → OnOk r (new ≡ old ++ t) → t ≡ s → OnOk r (new ≡ old ++ s)
+ok-as r old new t s h e = subst (λ (x : List ℕ). OnOk r (new ≡ old ++ x)) e h
+
+pub full-as : {E : Type 0} (r : Result Unit E) (room len : ℕ) (t s : List ℕ) → OnErr r (room < len + length t) → t ≡ s → OnErr r (room < len + length s)
+full-as r room len t s h e = subst (λ (x : List ℕ). OnErr r (room < len + length x)) e h
+
+-- ---- the parts of a message one behind the other
+
+pub parts-ok : (old n1 n2 n3 : List ℕ) (a b d s : List ℕ) → n1 ≡ old ++ a → n2 ≡ n1 ++ b → n3 ≡ n2 ++ d → s ≡ a ++ (b ++ d) → n3 ≡ old ++ s
+parts-ok old n1 n2 n3 a b d s e1 e2 e3 k = three old n1 n2 n3 a b d s e1 e2 e3 (sym k)
+
+pub first-full : (room len : ℕ) (a b d s : List ℕ) → room < len + length a → s ≡ a ++ (b ++ d) → room < len + length s
+first-full room len a b d s full k =
+    let long : length s ≡ length a + (length b + length d) = ap length k ∙ length-append a (b ++ d) ∙ ap (λ n. length a + n) (length-append b d) in
+    omega (arith, long)
+
+pub second-full : (old n1 : List ℕ) (room0 room1 len0 len1 : ℕ) (a b d s : List ℕ) → len0 ≡ length old → len1 ≡ length n1 → n1 ≡ old ++ a → room0 ≤ room1 → room1 < len1 + length b → s ≡ a ++ (b ++ d) → room0 < len0 + length s
+second-full old n1 room0 room1 len0 len1 a b d s l0 l1 e1 kept full k =
+    let long : length s ≡ length a + (length b + length d) = ap length k ∙ length-append a (b ++ d) ∙ ap (λ n. length a + n) (length-append b d) in
+    let mid : length n1 ≡ length old + length a = ap length e1 ∙ length-append old a in
+    omega (arith, long, mid)
+
+pub third-full : (old n1 n2 : List ℕ) (room0 room1 room2 len0 len2 : ℕ) (a b d s : List ℕ) → len0 ≡ length old → len2 ≡ length n2 → n1 ≡ old ++ a → n2 ≡ n1 ++ b → room0 ≤ room1 → room1 ≤ room2 → room2 < len2 + length d → s ≡ a ++ (b ++ d) → room0 < len0 + length s
+third-full old n1 n2 room0 room1 room2 len0 len2 a b d s l0 l2 e1 e2 kept again full k =
+    let long : length s ≡ length a + (length b + length d) = ap length k ∙ length-append a (b ++ d) ∙ ap (λ n. length a + n) (length-append b d) in
+    let mid : length n1 ≡ length old + length a = ap length e1 ∙ length-append old a in
+    let more : length n2 ≡ length n1 + length b = ap length e2 ∙ length-append n1 b in
+    omega (arith, long, mid, more)
+
+-- ---- lengths
+
+pub length-three : (a b d s : List ℕ) → s ≡ a ++ (b ++ d) → length s ≡ length a + (length b + length d)
+length-three a b d s k = ap length k ∙ length-append a (b ++ d) ∙ ap (λ n. length a + n) (length-append b d)
+
+pub saturated-three : (r1 r2 r3 q1 q2 n1 n2 n3 n : ℕ) → r1 ≡ saturated n1 → r2 ≡ saturated n2 → r3 ≡ saturated n3 → q1 ≡ saturated (r1 + r2) → q2 ≡ saturated (q1 + r3) → n ≡ n1 + (n2 + n3) → q2 ≡ saturated n
+saturated-three r1 r2 r3 q1 q2 n1 n2 n3 n e1 e2 e3 k1 k2 k = omega (arith, e1, e2, e3, k1, k2, k)
+
+-- ---- what is picked of header lines
+
+pub named-lines : (name : List ℕ) (hs : List HeaderText) → flat_map (λ h. under h (if same_name name h.name then Some h.name else None)) hs ≡ lines_among name hs
+named-lines name [] = refl
+named-lines name (h ∷ hs) =
+    let rest = flat_map (λ x. under x (if same_name name x.name then Some x.name else None)) hs in
+    elim (cases_Bool (same_name name h.name)) [
+      | inl same ↦
+          ap (λ (o : Option (List ℕ)). under h o ++ rest) (cond-true (same_name name h.name) (Some h.name) None same)
+          ∙ ap (λ (xs : List HeaderText). h ∷ xs) (named-lines name hs)
+          ∙ sym (cond-true (same_name name h.name) (h ∷ lines_among name hs) (lines_among name hs) same)
+      | inr other ↦
+          ap (λ (o : Option (List ℕ)). under h o ++ rest) (cond-false (same_name name h.name) (Some h.name) None other)
+          ∙ named-lines name hs
+          ∙ sym (cond-false (same_name name h.name) (h ∷ lines_among name hs) (lines_among name hs) other)
+    ]
+
+pub other-lines : (name : List ℕ) (hs : List HeaderText) → flat_map (λ h. under h (if same_name name h.name then None else Some h.name)) hs ≡ filter (is_other name) hs
+other-lines name [] = refl
+other-lines name (h ∷ hs) =
+    let rest = flat_map (λ x. under x (if same_name name x.name then None else Some x.name)) hs in
+    elim (cases_Bool (same_name name h.name)) [
+      | inl same ↦
+          ap (λ (o : Option (List ℕ)). under h o ++ rest) (cond-true (same_name name h.name) None (Some h.name) same)
+          ∙ other-lines name hs
+          ∙ sym (filter-named name h hs same)
+      | inr other ↦
+          ap (λ (o : Option (List ℕ)). under h o ++ rest) (cond-false (same_name name h.name) None (Some h.name) other)
+          ∙ ap (λ (xs : List HeaderText). h ∷ xs) (other-lines name hs)
+          ∙ sym (filter-other name h hs other)
+    ]
+
+pub renamed-lines : (name other : List ℕ) (hs : List HeaderText) → flat_map (λ h. under h (if same_name name h.name then Some other else None)) hs ≡ map (line other) (values_of name hs)
+unfolding values_of
+renamed-lines name other [] = refl
+renamed-lines name other (h ∷ hs) =
+    let rest = flat_map (λ x. under x (if same_name name x.name then Some other else None)) hs in
+    elim (cases_Bool (same_name name h.name)) [
+      | inl same ↦
+          ap (λ (o : Option (List ℕ)). under h o ++ rest) (cond-true (same_name name h.name) (Some other) None same)
+          ∙ ap (λ (xs : List HeaderText). line other h.value ∷ xs) (renamed-lines name other hs)
+          ∙ sym (ap (λ (vs : List (List ℕ)). map (line other) vs) (cond-true (same_name name h.name) (h.value ∷ values_of name hs) (values_of name hs) same))
+      | inr apart ↦
+          ap (λ (o : Option (List ℕ)). under h o ++ rest) (cond-false (same_name name h.name) (Some other) None apart)
+          ∙ renamed-lines name other hs
+          ∙ sym (ap (λ (vs : List (List ℕ)). map (line other) vs) (cond-false (same_name name h.name) (h.value ∷ values_of name hs) (values_of name hs) apart))
+    ]
+
+-- ---- a message that is another by its parts
+
+pub spelled-as : {A : Type 0} (front : Front) (groups : List (Group A)) (body : List ℕ) (m : MessageText) → start_of front ≡ m.start → all_lines groups ≡ m.headers → body ≡ m.body → spelling (made_of front groups body) ≡ spelling m
+spelled-as front groups body m s h b =
+    ap (λ (x : StartText). spelling (record { start = x; headers = all_lines groups; body = body })) s
+    ∙ ap (λ (x : List HeaderText). spelling (record { start = m.start; headers = x; body = body })) h
+    ∙ ap (λ (x : List ℕ). spelling (record { start = m.start; headers = m.headers; body = x })) b
+
+pub room-as : {E : Type 0} (r : Result Unit E) (room len : ℕ) (t s : List ℕ) → OnErr r (room < len + length t) → t ≡ s → len + length s ≤ room → IsOk r
+room-as (Ok x) room len t s full e fits = refl
+room-as (Err x) room len t s full e fits = let same : length t ≡ length s = ap length e in absurd (omega (arith, full, fits, same))

@@ -1,0 +1,4 @@
+use Rattle.sip_build.proofs.made_text.front_len.Goals as goal
+
+pub returns-in-Response : goal.returns-in-Response
+returns-in-Response c = rw c.in-Response.is (c.status_line_len.ensures c.in-Response.field-0)

@@ -1,0 +1,73 @@
+use Rattle.std.proofs.Common.{◌<◌, ◌≤◌, ◌∙◌, ◌++◌, ◌∷◌, [], List, ℕ, length, map, sym, ap, arith}
+use Rattle.std.specs.Prelude.{None, Some, codes, if◌then◌else◌}
+use Rattle.std.specs.List.{flat_map}
+use Rattle.std.specs.Option.{option_copied}
+use Rattle.sip_text.specs.Name.{same_name}
+use Rattle.sip_text.specs.Seen.{views}
+use Rattle.sip_text.specs.Text.{HeaderText}
+use Rattle.sip_via.specs.Edits.{line_if_any, place_of, replaced}
+use Rattle.sip_build.specs.Exchanged.{exchanged}
+use Rattle.sip_build.specs.Groups.{lines_of, under}
+use Rattle.sip_build.specs.SeenKept.{texts}
+use Rattle.sip_build.specs.Upward.{challenge_line, contact_lines}
+use Rattle.sip_build.proofs.Exchanged.{Parted, none-left, round-later, round-none, round-sooner, via-is-no-contact}
+use Rattle.sip_build.proofs.GroupTexts.{other-lines}
+use Rattle.sip_build.proofs.UpwardTexts.{row-later, row-sooner, row-three}
+use Rattle.sip_build.proofs.upward_text.kept_groups.Goals as goal
+
+pub returns-in_default : goal.returns-in_default
+returns-in_default g c =
+    let hs = c.args.headers.now in
+    let o = option_copied c.args.others in
+    let lines = contact_lines (texts c.args.kept.now) in
+    let front = c.split_at.result.0.now in
+    let parted : Parted (codes "via") hs front [] c.place_of.result = record {
+      place = c.place_of.ensures.value;
+      front = c.split_at.ensures.front;
+      back = sym (none-left c.split_at.result.1.now c.in_default.ensures.cases) ∙ c.split_at.ensures.back;
+    } in
+    row-three (lines_of c.exchanged_groups.result.0) (lines_of c.exchanged_groups.result.1) (lines_of c.exchanged_groups.result.2) (map challenge_line c.args.challenges.now) (exchanged (codes "contact") lines (replaced (codes "via") o (views hs)))
+    (c.exchanged_groups.ensures ∙ round-none (codes "via") (codes "contact") o lines hs front c.place_of.result parted)
+
+pub returns-then-place_of-front : goal.returns-then-place_of-front
+returns-then-place_of-front g c =
+    let hs = c.args.headers.now in
+    let o = option_copied c.args.others in
+    let lines = contact_lines (texts c.args.kept.now) in
+    let n = c.place_of.result in
+    let front = c.split_at.result.0.now in
+    let top = c.in-Some.top.now in
+    let after = c.in-Some.after.now in
+    let parted : Parted (codes "via") hs front (top ∷ after) n = record {
+      place = c.place_of.ensures.value;
+      front = c.split_at.ensures.front;
+      back = sym c.in-Some.ensures.cases.0 ∙ c.split_at.ensures.back;
+    } in
+    let sooner : place_of (codes "contact") (views front) < length front = omega (arith, c.if-place_of-front.true, c.place_of-2.ensures.value) in
+    let first = c.group_if_any-top.ensures ∙ ap (λ (name : List ℕ). line_if_any name o) c.deref.ensures.value in
+    let rest = flat_map (λ h. under h (if same_name (codes "contact") h.name then None else Some h.name)) (views after) in
+    row-sooner (lines_of c.exchanged_groups-then-place_of-front.result.0) (lines_of c.exchanged_groups-then-place_of-front.result.1) (lines_of c.exchanged_groups-then-place_of-front.result.2) (lines_of c.group_if_any-top.result) rest (map challenge_line c.args.challenges.now) (exchanged (codes "contact") lines (views front)) (exchanged (codes "contact") lines (replaced (codes "via") o (views hs)))
+    c.exchanged_groups-then-place_of-front.ensures
+    ((λ i. exchanged (codes "contact") lines (views front) ++ (first i ++ other-lines (codes "contact") (views after) i))
+    ∙ round-sooner (codes "via") (codes "contact") o lines hs front after top n via-is-no-contact parted sooner)
+
+pub returns-else-place_of-front : goal.returns-else-place_of-front
+returns-else-place_of-front g c =
+    let hs = c.args.headers.now in
+    let o = option_copied c.args.others in
+    let lines = contact_lines (texts c.args.kept.now) in
+    let n = c.place_of.result in
+    let front = c.split_at.result.0.now in
+    let top = c.in-Some.top.now in
+    let after = c.in-Some.after.now in
+    let parted : Parted (codes "via") hs front (top ∷ after) n = record {
+      place = c.place_of.ensures.value;
+      front = c.split_at.ensures.front;
+      back = sym c.in-Some.ensures.cases.0 ∙ c.split_at.ensures.back;
+    } in
+    let later : length front ≤ place_of (codes "contact") (views front) = omega (arith, c.if-place_of-front.false, c.place_of-2.ensures.value) in
+    let first = c.group_if_any-top.ensures ∙ ap (λ (name : List ℕ). line_if_any name o) c.deref.ensures.value in
+    row-later (views front) (lines_of c.group_if_any-top.result) (lines_of c.exchanged_groups-else-place_of-front.result.0) (lines_of c.exchanged_groups-else-place_of-front.result.1) (lines_of c.exchanged_groups-else-place_of-front.result.2) (map challenge_line c.args.challenges.now) (exchanged (codes "contact") lines (views after)) (exchanged (codes "contact") lines (replaced (codes "via") o (views hs)))
+    c.exchanged_groups-else-place_of-front.ensures
+    (ap (λ (x : List HeaderText). views front ++ (x ++ exchanged (codes "contact") lines (views after))) first
+    ∙ round-later (codes "via") (codes "contact") o lines hs front after top n via-is-no-contact parted later)

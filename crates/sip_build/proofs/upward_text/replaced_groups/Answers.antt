@@ -1,0 +1,30 @@
+use Rattle.std.proofs.Common.{◌∷◌, ◌∙◌, [], ◌++◌, List, ap, map, sym}
+use Rattle.std.specs.Prelude.{codes}
+use Rattle.std.specs.Option.{option_copied}
+use Rattle.sip_text.specs.Seen.{views}
+use Rattle.sip_text.specs.Text.{HeaderText}
+use Rattle.sip_via.specs.Edits.{line_if_any, replaced}
+use Rattle.sip_build.specs.Upward.{challenge_line}
+use Rattle.sip_via.proofs.laws.Places.{replaced-split}
+use Rattle.sip_build.proofs.Exchanged.{none-left}
+use Rattle.sip_build.proofs.UpwardTexts.{row-one, row-three}
+use Rattle.sip_build.proofs.upward_text.replaced_groups.Goals as goal
+
+pub returns-in_default : goal.returns-in_default
+returns-in_default g c =
+    let hs = c.args.headers.now in
+    let o = option_copied c.args.others in
+    let front = c.split_at.result.0.now in
+    row-one (views front) (map challenge_line c.args.challenges.now) (replaced (codes "via") o (views hs))
+    (replaced-split (codes "via") o hs front [] c.place_of.result c.place_of.ensures.value c.split_at.ensures.front (sym (none-left c.split_at.result.1.now c.in_default.ensures.cases) ∙ c.split_at.ensures.back))
+
+pub returns : goal.returns
+returns g c =
+    let hs = c.args.headers.now in
+    let o = option_copied c.args.others in
+    let front = c.split_at.result.0.now in
+    let top = c.in-Some.top.now in
+    let after = c.in-Some.after.now in
+    let split = replaced-split (codes "via") o hs front (top ∷ after) c.place_of.result c.place_of.ensures.value c.split_at.ensures.front (sym c.in-Some.ensures.cases.0 ∙ c.split_at.ensures.back) in
+    row-three (views front) _ (views after) (map challenge_line c.args.challenges.now) (replaced (codes "via") o (views hs))
+    (ap (λ (x : List HeaderText). views front ++ (x ++ views after)) (c.group_if_any-top.ensures ∙ ap (λ name. line_if_any name o) c.deref.ensures.value) ∙ split)

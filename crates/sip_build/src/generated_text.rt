@@ -1,0 +1,113 @@
+//! The proxy's own responses, straight as text.
+
+ghost use Rattle.std.specs.Prelude.{◌≡◌, ◌+◌, ◌++◌, ◌≤◌, codes, length, map, IsOk, OnErr, OnOk, vec_capacity, vec_len};
+ghost use Rattle.sip_text.specs.Text.{spelling};
+ghost use Rattle.sip_via.specs.Lines.{first_line};
+ghost use Rattle.sip_build.specs.Generated.{generated_of, tagged, to_lines, unsupported_lines};
+ghost use Rattle.sip_build.specs.Groups.{all_lines, lines_of};
+ghost use Rattle.sip_build.specs.OwnTag.{own_tag};
+
+use crate::groups::{Group, Pick};
+use crate::made_text::{Front, append_made};
+use crate::responses::{OwnStatus, gets_tag};
+use crate::tag::own_tag;
+use sip_text::Message;
+use sip_via::first_named;
+use std::alloc::{AllocError, Allocator};
+
+/// The first header line of that name as it stands.
+fn first_group<'a, A: Allocator>(message: &'a Message<A>, name: &[u8]) -> Group<'a, A>
+    ensures { lines_of result ≡ first_line name.now message.now }
+{
+    match first_named(message, name) {
+        None => Group::Kept(&[]),
+        Some(header) => Group::Line(&header.name, &header.value),
+    }
+}
+
+/// The first To line with that tag behind it.
+fn tagged_group<'a, A: Allocator>(message: &'a Message<A>, tag: &'a [u8]) -> Group<'a, A>
+    ensures { lines_of result ≡ map (tagged tag.now) (first_line (codes "to") message.now) }
+{
+    match first_named(message, b"to") {
+        None => Group::Kept(&[]),
+        Some(header) => Group::Joined(&header.name, &header.value, b";tag=", tag),
+    }
+}
+
+/// The first To line, with the proxy's own tag where the response has it added.
+fn to_group<'a, A: Allocator>(
+    message: &'a Message<A>,
+    status: OwnStatus,
+    tag: &'a [u8],
+) -> Group<'a, A>
+    requires { tag.now ≡ own_tag message.now }
+    ensures { lines_of result ≡ to_lines status message.now }
+{
+    if gets_tag(status, message) {
+        tagged_group(message, tag)
+    } else {
+        first_group(message, b"to")
+    }
+}
+
+/// What a 420 says that isn't understood.
+fn unsupported_group<A: Allocator>(message: &Message<A>, status: OwnStatus) -> Group<'_, A>
+    ensures { lines_of result ≡ unsupported_lines status message.now }
+{
+    match status {
+        OwnStatus::BadExtension => Group::Picked(
+            message.headers(),
+            Pick::Renamed(b"proxy-require", b"Unsupported"),
+        ),
+        _ => Group::Kept(&[]),
+    }
+}
+
+/// The header lines of a response of the proxy's own.
+fn generated_groups<'a, A: Allocator>(
+    message: &'a Message<A>,
+    status: OwnStatus,
+    tag: &'a [u8],
+) -> [Group<'a, A>; 7]
+    requires { tag.now ≡ own_tag message.now }
+    ensures { all_lines result ≡ (generated_of message.now status).headers }
+{
+    [
+        Group::Picked(message.headers(), Pick::Named(b"via")),
+        first_group(message, b"from"),
+        to_group(message, status, tag),
+        first_group(message, b"call-id"),
+        first_group(message, b"cseq"),
+        unsupported_group(message, status),
+        Group::Line(b"Content-Length", b"0"),
+    ]
+}
+
+/// Appends the proxy's own response of that status to a request (RFC 3261 section 8.2.6): the text of
+/// what `generated` builds, with no message between.
+///
+/// # Errors
+///
+/// Only where the growth of `out`, by as many bytes as the text has, is refused; `out` is then
+/// unchanged.
+pub fn write_generated<A: Allocator, B: Allocator>(
+    message: &Message<A>,
+    status: OwnStatus,
+    out: &mut Vec<u8, B>,
+) -> Result<(), AllocError>
+    ensures ok { OnOk result
+        (out.new.items ≡ out.old.items ++ spelling (generated_of message.now status)) }
+    ensures err { OnErr result (out.new.items ≡ out.old.items) }
+    ensures room { vec_len out.old + length (spelling (generated_of message.now status)) ≤ vec_capacity out.old
+        → IsOk result }
+{
+    let tag = own_tag(message);
+    let groups = generated_groups(message, status, &tag);
+    append_made(
+        out,
+        Front::Response(status.code(), status.reason()),
+        &groups,
+        b"",
+    )
+}

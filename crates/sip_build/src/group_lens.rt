@@ -1,0 +1,102 @@
+//! How many bytes the header lines of a message that is written take.
+
+ghost use Rattle.std.specs.Prelude.{◌≡◌, List, ℕ, codes, length};
+ghost use Rattle.std.specs.Borrow.{Bor};
+ghost use Rattle.std.specs.List.{flat_map};
+ghost use Rattle.std.specs.Option.{option_copied};
+ghost use Rattle.sip_text.specs.Seen.{view, views};
+ghost use Rattle.sip_text.specs.Text.{header_text, pieces_text, saturated};
+ghost use Rattle.sip_via.specs.Edits.{line};
+ghost use Rattle.sip_build.specs.Groups.{lines_of, picked, under};
+ghost use Rattle.sip_build.specs.Texts.{lines_text};
+ghost use Rattle.sip_build.specs.Upward.{challenge_line};
+
+use crate::groups::{Group, Pick, picked_name};
+use crate::upstream::challenge_name;
+use fork_rank::Challenge;
+use sip_text::{Header, header_len, headers_len};
+use std::alloc::Allocator;
+
+/// How many bytes the pieces are.
+pub(crate) fn pieces_len(pieces: &[&[u8]]) -> usize
+    ensures { result ≡ saturated (length (pieces_text pieces.now)) }
+{
+    let mut len = 0usize;
+    for piece in pieces {
+        len = len.saturating_add(piece.len());
+    }
+    len
+}
+
+/// How many bytes a header line under that name is, if it has one.
+fn under_len<A: Allocator>(header: &Header<A>, name: Option<&[u8]>) -> usize
+    ensures { result ≡ saturated (length (lines_text (under (view header.now) (option_copied name.entry)))) }
+{
+    match name {
+        None => 0,
+        Some(name) => header_len(name, &header.value),
+    }
+}
+
+/// How many bytes those of the header lines are that are picked.
+fn picked_len<A: Allocator>(headers: &[Header<A>], pick: Pick<'_>) -> usize
+    ensures { result
+        ≡ saturated (length (flat_map (λ h. lines_text (picked pick.entry h)) (views headers.now))) }
+{
+    let mut len = 0usize;
+    for header in headers {
+        len = len.saturating_add(under_len(header, picked_name(header, pick)));
+    }
+    len
+}
+
+/// How many bytes a Contact line for each text is.
+fn contacts_len(kept: &[&[u8]]) -> usize
+    ensures { result
+        ≡ saturated (length (flat_map (λ (t : Bor (List ℕ)). header_text (line (codes "Contact") t.now)) kept.now)) }
+{
+    let mut len = 0usize;
+    for text in kept {
+        len = len.saturating_add(header_len(b"Contact", text));
+    }
+    len
+}
+
+/// How many bytes a line for each challenge is.
+fn challenges_len<A: Allocator>(challenges: &[Challenge<A>]) -> usize
+    ensures { result
+        ≡ saturated (length (flat_map (λ c. header_text (challenge_line c)) challenges.now)) }
+{
+    let mut len = 0usize;
+    for challenge in challenges {
+        let name = challenge_name(challenge.proxy());
+        len = len.saturating_add(header_len(name, challenge.value()));
+    }
+    len
+}
+
+/// How many bytes the header lines of a group are.
+fn group_len<A: Allocator>(group: &Group<'_, A>) -> usize
+    ensures { result ≡ saturated (length (lines_text (lines_of group.now))) }
+{
+    match group {
+        Group::Kept(headers) => headers_len(headers),
+        Group::Picked(headers, pick) => picked_len(headers, *pick),
+        Group::Line(name, value) => header_len(name, value),
+        Group::Joined(name, a, b, c) => pieces_len(&[name, b": ", a, b, c, b"\r\n"]),
+        Group::Contacts(kept) => contacts_len(kept),
+        Group::Challenges(challenges) => challenges_len(challenges),
+    }
+}
+
+/// How many bytes the header lines of each group are.
+pub(crate) fn groups_len<A: Allocator>(groups: &[Group<'_, A>]) -> usize
+    ensures { result
+        ≡ saturated (length (flat_map (λ g. lines_text (lines_of g)) groups.now)) }
+{
+    let mut len = 0usize;
+    for group in groups {
+        len = len.saturating_add(group_len(group));
+    }
+    len
+}

@@ -1,0 +1,97 @@
+//! Messages that are written straight to a text: a start line, header lines and a body.
+
+ghost use Rattle.std.specs.Prelude.{◌≡◌, ◌+◌, ◌++◌, ◌≤◌, ◌<◌, length, IsOk, OnErr, OnOk, take, vec_capacity, vec_len};
+ghost use Rattle.sip_lex.specs.Line.{ended};
+ghost use Rattle.sip_text.specs.Text.{saturated, spelling, start_line};
+ghost use Rattle.sip_build.specs.Groups.{IsFront, made_of, start_of};
+
+use crate::group_lens::{groups_len, pieces_len};
+use crate::groups::{Group, append_groups};
+use crate::parts::whole_or_nothing;
+use sip_text::{
+    append_end, append_request_line, append_status_line, request_line_len, status_line_len,
+};
+use std::alloc::{AllocError, Allocator};
+
+/// The start line of a message that is written.
+#[derive(Clone, Copy)]
+pub(crate) enum Front<'a> {
+    /// A method and a Request-URI.
+    Request(&'a [u8], &'a [u8]),
+    /// A status and its reason.
+    Response(u16, &'a [u8]),
+}
+
+/// Appends a start line with its end.
+fn append_front<B: Allocator>(out: &mut Vec<u8, B>, front: Front<'_>) -> Result<(), AllocError>
+    requires { IsFront front }
+    ensures ok { OnOk result
+        (out.new.items ≡ out.old.items ++ ended (start_line (start_of front.entry))) }
+    ensures begins { take (vec_len out.old) out.new.items ≡ out.old.items }
+    ensures full { OnErr result
+        (vec_capacity out.old < vec_len out.old + length (ended (start_line (start_of front.entry)))) }
+    ensures capacity { vec_capacity out.old ≤ vec_capacity out.new }
+{
+    match front {
+        Front::Request(method, uri) => append_request_line(out, method, uri),
+        Front::Response(status, reason) => append_status_line(out, status, reason),
+    }
+}
+
+/// How many bytes a start line is with its end.
+fn front_len(front: Front<'_>) -> usize
+    ensures { result ≡ saturated (length (ended (start_line (start_of front.entry)))) }
+{
+    match front {
+        Front::Request(method, uri) => request_line_len(method, uri),
+        Front::Response(_, reason) => status_line_len(reason),
+    }
+}
+
+/// How many bytes the message is.
+fn made_len<A: Allocator>(front: Front<'_>, groups: &[Group<'_, A>], body: &[u8]) -> usize
+    ensures { result ≡ saturated (length (spelling (made_of front.entry groups.now body.now))) }
+{
+    front_len(front)
+        .saturating_add(groups_len(groups))
+        .saturating_add(pieces_len(&[b"\r\n", body]))
+}
+
+/// Appends the message, or a part of it.
+fn append_parts<A: Allocator, B: Allocator>(
+    out: &mut Vec<u8, B>,
+    front: Front<'_>,
+    groups: &[Group<'_, A>],
+    body: &[u8],
+) -> Result<(), AllocError>
+    requires { IsFront front }
+    ensures ok { OnOk result
+        (out.new.items ≡ out.old.items ++ spelling (made_of front.entry groups.now body.now)) }
+    ensures begins { take (vec_len out.old) out.new.items ≡ out.old.items }
+    ensures full { OnErr result
+        (vec_capacity out.old < vec_len out.old + length (spelling (made_of front.entry groups.now body.now))) }
+{
+    append_front(out, front)?;
+    append_groups(out, groups)?;
+    append_end(out, body)
+}
+
+/// Appends the message of these parts, or nothing; `out` grows once at most, before anything is written.
+pub(crate) fn append_made<A: Allocator, B: Allocator>(
+    out: &mut Vec<u8, B>,
+    front: Front<'_>,
+    groups: &[Group<'_, A>],
+    body: &[u8],
+) -> Result<(), AllocError>
+    requires { IsFront front }
+    ensures ok { OnOk result
+        (out.new.items ≡ out.old.items ++ spelling (made_of front.entry groups.now body.now)) }
+    ensures err { OnErr result (out.new.items ≡ out.old.items) }
+    ensures full { OnErr result
+        (vec_capacity out.old < vec_len out.old + length (spelling (made_of front.entry groups.now body.now))) }
+{
+    out.reserve(made_len(front, groups, body))?;
+    let before = out.len();
+    let done = append_parts(out, front, groups, body);
+    whole_or_nothing(out, before, done)
+}
