@@ -18,3 +18,4 @@ pub mod Steps
 pub mod Series
 pub mod Sources
 pub mod OpenBranches
+pub mod Range
