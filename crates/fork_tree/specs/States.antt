@@ -1,5 +1,5 @@
 -- The state that a branch's own state stands for, with the contacts left and the challenges kept beside it.
-use Rattle.std.specs.Prelude.{◌≤◌, Bool, true, false, List, []}
+use Rattle.std.specs.Prelude.{Bool, true, false, List, []}
 use Rattle.fork_model.specs.Table as spec
 use Rattle.fork_tree.specs.declared.row.State.{State}
 use Rattle.fork_tree.specs.declared.row.State.TheVariants as state
@@ -37,20 +37,6 @@ shown spec.Idle = state.Idle
 shown spec.Trying = state.Trying
 shown (spec.Rung cancelled) = state.Rung cancelled
 shown (spec.Ended end) = state.Ended (shown_end end)
-
--- a stored answer is no 2xx
-abbrev pub IsFinalEnd : End → Type 0
-IsFinalEnd (end.Stored status arrival received) = 300 ≤ status
-IsFinalEnd (end.Taken arrival) = Unit {0}
-IsFinalEnd (end.Silent arrival) = Unit {0}
-IsFinalEnd end.Never = Unit {0}
-IsFinalEnd (end.Accepted arrival) = Unit {0}
-
-abbrev pub IsFinal : State → Type 0
-IsFinal state.Idle = Unit {0}
-IsFinal state.Trying = Unit {0}
-IsFinal (state.Rung cancelled) = Unit {0}
-IsFinal (state.Ended end) = IsFinalEnd end
 
 abbrev pub has_ended : State → Bool
 has_ended state.Idle = false
