@@ -14,6 +14,7 @@ pub mod StrictOrder
 pub mod ExactlyOne
 pub mod Worked
 pub mod OneReply
+pub mod OneHistory
 pub mod Steps
 pub mod Series
 pub mod Sources

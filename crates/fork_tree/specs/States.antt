@@ -8,7 +8,7 @@ use Rattle.fork_tree.specs.declared.row.End.TheVariants as end
 
 abbrev pub end_of : End → List spec.Offer → List spec.Challenge → spec.End
 end_of (end.Stored status arrival received) left challenges =
-    spec.Answered (record { status = status; arrival = arrival; received = received; left = left; challenges = challenges })
+    spec.Stored (record { status = status; arrival = arrival; received = received; left = left; challenges = challenges })
 end_of (end.Taken arrival) left challenges = spec.Taken arrival
 end_of (end.Silent arrival) left challenges = spec.Silent arrival
 end_of end.Never left challenges = spec.Never
@@ -26,7 +26,7 @@ bare_state s = state_of s [] []
 
 -- a state without the contacts left and the challenges
 abbrev pub shown_end : spec.End → End
-shown_end (spec.Answered answer) = end.Stored answer.status answer.arrival answer.received
+shown_end (spec.Stored answer) = end.Stored answer.status answer.arrival answer.received
 shown_end (spec.Taken arrival) = end.Taken arrival
 shown_end (spec.Silent arrival) = end.Silent arrival
 shown_end spec.Never = end.Never
