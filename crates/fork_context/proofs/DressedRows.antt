@@ -5,7 +5,7 @@ use Rattle.std.proofs.Math.ListN.{set}
 use Rattle.std.specs.Prelude.{slice_get}
 use Rattle.std.specs.Option.{option_map}
 use Rattle.std.proofs.lemmas.Option.{slice_get-map}
-use Rattle.fork_model.specs.Table.{Offer, Challenge, Answered, Taken, Silent, Never, Accepted, End, State, Idle, Trying, Rung, Ended, Row}
+use Rattle.fork_model.specs.Table.{Offer, Challenge, Stored, Taken, Silent, Never, Accepted, End, State, Idle, Trying, Rung, Ended, Row}
 use Rattle.fork_model.specs.Step.{with_state}
 use Rattle.fork_tree.specs.States.{bare_state, shown}
 use Rattle.fork_tree.specs.Tree.{bare}
@@ -17,7 +17,7 @@ bare_dress_state : (state : State) (b : Beside) → bare_state (shown (dress_sta
 bare_dress_state Idle b = refl
 bare_dress_state Trying b = refl
 bare_dress_state (Rung cancelled) b = refl
-bare_dress_state (Ended (Answered a)) b = refl
+bare_dress_state (Ended (Stored a)) b = refl
 bare_dress_state (Ended (Taken at)) b = refl
 bare_dress_state (Ended (Silent at)) b = refl
 bare_dress_state (Ended Never) b = refl
@@ -80,7 +80,7 @@ dressed_append (row ∷ rows) more (b ∷ besides) fresh same =
     ap (λ (rest : List Row). dress row b ∷ rest) (dressed_append rows more besides fresh (omega arith))
 
 ended_dress : (end : End) (b c : Beside) → b.left ≡ c.left → b.challenges ≡ c.challenges → dress_end end b ≡ dress_end end c
-ended_dress (Answered a) b c l m = (λ i. Answered (record a { left = l i; challenges = m i }))
+ended_dress (Stored a) b c l m = (λ i. Stored (record a { left = l i; challenges = m i }))
 ended_dress (Taken at) b c l m = refl
 ended_dress (Silent at) b c l m = refl
 ended_dress Never b c l m = refl

@@ -2,7 +2,7 @@
 use Rattle.std.proofs.Common.{◌≡◌, ℕ, zero, suc, List, [], ◌∷◌, length, Option, Some, None, refl, ap, arith, ◌∙◌, sym}
 use Rattle.std.specs.Prelude.{slice_get}
 use Rattle.std.specs.Option.{option_map, option_and_then}
-use Rattle.fork_model.specs.Table.{Row, State, Answered, Taken, Silent, Never, Accepted, Idle, Trying, Rung, Ended, stored_of}
+use Rattle.fork_model.specs.Table.{Row, State, Stored, Taken, Silent, Never, Accepted, Idle, Trying, Rung, Ended, stored_of}
 use Rattle.fork_model.specs.Choice.{stored_at}
 use Rattle.fork_tree.specs.declared.row.RowRef.{RowRef}
 use Rattle.fork_tree.specs.States.{bare_state, shown}
@@ -59,7 +59,7 @@ dress_bare : (state : State) (b : Beside) → dress_state (bare_state (shown sta
 dress_bare Idle b = refl
 dress_bare Trying b = refl
 dress_bare (Rung cancelled) b = refl
-dress_bare (Ended (Answered a)) b = refl
+dress_bare (Ended (Stored a)) b = refl
 dress_bare (Ended (Taken at)) b = refl
 dress_bare (Ended (Silent at)) b = refl
 dress_bare (Ended Never) b = refl
@@ -76,7 +76,7 @@ shown_dress : (state : State) (b : Beside) → shown (dress_state state b) ≡ s
 shown_dress Idle b = refl
 shown_dress Trying b = refl
 shown_dress (Rung cancelled) b = refl
-shown_dress (Ended (Answered a)) b = refl
+shown_dress (Ended (Stored a)) b = refl
 shown_dress (Ended (Taken at)) b = refl
 shown_dress (Ended (Silent at)) b = refl
 shown_dress (Ended Never) b = refl

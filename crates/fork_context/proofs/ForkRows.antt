@@ -7,7 +7,7 @@ use Rattle.std.specs.Cmp.Lexicographic.{pointwise}
 use Rattle.std.specs.Option.{option_map}
 use Rattle.std.proofs.lemmas.Option.{slice_get-map, slice_get_within}
 use Rattle.std.proofs.lemmas.List.{length-map}
-use Rattle.fork_model.specs.Table.{Answered, Taken, Silent, Never, Accepted, State, Idle, Trying, Rung, Ended, Row, most_targets, is_trying, is_open, is_ended, is_accepted, is_row, is_finished, is_succeeded}
+use Rattle.fork_model.specs.Table.{Stored, Taken, Silent, Never, Accepted, State, Idle, Trying, Rung, Ended, Row, most_targets, is_trying, is_open, is_ended, is_accepted, is_row, is_finished, is_succeeded}
 use Rattle.fork_model.specs.Waiting.{may_start}
 use Rattle.fork_model.specs.Step.{with_state}
 use Rattle.fork_model.proofs.ContactLemmas.{length-state}
@@ -30,7 +30,7 @@ shown_dress : (state : State) (b : Beside) → shown (dress_state state b) ≡ s
 shown_dress Idle b = refl
 shown_dress Trying b = refl
 shown_dress (Rung cancelled) b = refl
-shown_dress (Ended (Answered a)) b = refl
+shown_dress (Ended (Stored a)) b = refl
 shown_dress (Ended (Taken at)) b = refl
 shown_dress (Ended (Silent at)) b = refl
 shown_dress (Ended Never) b = refl

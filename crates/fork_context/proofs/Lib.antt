@@ -1,6 +1,7 @@
 pub mod KeySteps
 pub mod NumberSteps
 pub mod GroupSteps
+pub mod InRange
 pub mod SoundSteps
 pub mod PlainContacts
 pub mod BareRows

@@ -1,21 +1,25 @@
 -- A context that takes an event keeps its bounds.
-use Rattle.std.proofs.Common.{◌≡◌, ◌≤◌, ◌*◌, ◌+◌, ℕ, suc, Bool, false, List, [], length, arith, subst}
+use Rattle.std.proofs.Common.{◌≡◌, ◌≢◌, ◌≤◌, ◌*◌, ◌+◌, ℕ, suc, Bool, false, List, [], ◌∷◌, ◌++◌, length, arith, subst, refl, ap, sym, ◌∙◌}
 use Rattle.std.specs.Prelude.{if◌then◌else◌}
+use Rattle.std.specs.List.{AllByRecursion}
 use Rattle.fork_model.specs.Table.{Table, most_targets}
 use Rattle.fork_model.specs.Event.{Event}
 use Rattle.fork_model.specs.Step.{next}
-use Rattle.fork_model.specs.Core.{Core, most_strays, is_full, core_next}
+use Rattle.fork_model.specs.Core.{Core, most_strays, is_full, core_next, core_offered, core_after, opening_core}
 use Rattle.fork_model.specs.Steps.{progress, IsWithin}
 use Rattle.fork_model.proofs.StepLemmas.{positions_bounded, progress_bounded}
 use Rattle.fork_model.proofs.ContactLemmas.{targets_bounded}
 use Rattle.fork_model.proofs.Arrivals.{next_arrivals}
 use Rattle.fork_model.specs.Table.{Kind, Rules}
 use Rattle.fork_model.specs.History.{Target, opening}
+use Rattle.fork_model.specs.Range.{IsTargetInRange, IsEventInRange}
 use Rattle.fork_model.proofs.ContactLemmas.{each_target}
 use Rattle.fork_model.proofs.Arrivals.{history_of_arrivals}
 use Rattle.fork_model.proofs.SeriesLemmas.{keeps_series}
 use Rattle.fork_model.proofs.OpeningSeries.{opening_in_series}
+use Rattle.fork_context.specs.Led.{AreRules, IsLedTo}
 use Rattle.fork_context.specs.Sound.{IsSound, IsKept}
+use Rattle.fork_context.proofs.InRange.{all_behind}
 use Rattle.fork_context.proofs.ClosingRows.{keeps_closed}
 
 within_next : (core : Core) (event : Event) → is_full core event ≡ false → IsWithin core → IsWithin (core_next core event)
@@ -39,20 +43,57 @@ taken_small table taken sound =
     let within : taken ≤ most_strays + progress table = sound.within in
     omega arith
 
-pub kept_next : (core : Core) (event : Event) → is_full core event ≡ false → IsKept core.table core.taken
+-- ---- the way here
+
+after_one_more : (core : Core) (events : List Event) (event : Event) → core_after core (events ++ event ∷ []) ≡ core_offered (core_after core events) event
+after_one_more core [] event = refl
+after_one_more core (first ∷ events) event = after_one_more (core_offered core first) events event
+
+led_next : (core : Core) (event : Event) → is_full core event ≡ false → IsEventInRange event → IsLedTo core → IsLedTo (core_next core event)
+led_next core event open_yet in_range led =
+    let taken : core_offered core event ≡ core_next core event = ap (λ (full : Bool). if full then core else core_next core event) open_yet in
+    let start : Core = opening_core led.kind led.rules led.targets in
+    record {
+      kind = led.kind;
+      rules = led.rules;
+      targets = led.targets;
+      events = led.events ++ event ∷ [];
+      some = led.some;
+      few = led.few;
+      set = led.set;
+      targets_in_range = led.targets_in_range;
+      events_in_range = all_behind IsEventInRange led.events event led.events_in_range in_range;
+      led = sym taken ∙ ap (λ (c : Core). core_offered c event) led.led ∙ sym (after_one_more start led.events event);
+    }
+
+pub kept_next : (core : Core) (event : Event) → is_full core event ≡ false → IsEventInRange event → IsKept core.table core.taken
     → IsKept (next core.table event core.taken) (suc core.taken)
-kept_next core event open_yet kept = record {
+kept_next core event open_yet in_range kept = record {
   sound = sound_next core event open_yet kept.sound;
+  led = led_next core event open_yet in_range kept.led;
   series = keeps_series core.table event core.taken kept.series;
   whole = keeps_closed core.table event core.taken kept.whole;
 }
 
 -- the context as it opens
-pub kept_opening : (kind : Kind) (rules : Rules) (targets : List Target) → length targets ≤ most_targets → IsKept (opening kind rules targets) 0
-kept_opening kind rules targets few =
+pub kept_opening : (kind : Kind) (rules : Rules) (targets : List Target) → targets ≢ [] → length targets ≤ most_targets → AreRules rules
+    → AllByRecursion IsTargetInRange targets → IsKept (opening kind rules targets) 0
+kept_opening kind rules targets some few set in_range =
     let each : length (opening kind rules targets).rows ≡ length targets = each_target kind rules targets in
     record {
       sound = record { few = omega arith; within = omega arith; apart = history_of_arrivals kind rules targets [] };
+      led = record {
+        kind = kind;
+        rules = rules;
+        targets = targets;
+        events = [];
+        some = some;
+        few = few;
+        set = set;
+        targets_in_range = in_range;
+        events_in_range = tt;
+        led = refl;
+      };
       series = opening_in_series kind rules targets;
       whole = λ done. absurd cc;
     }

@@ -2,7 +2,7 @@
 use Rattle.std.proofs.Common.{◌≡◌, ℕ, zero, suc, List, [], ◌∷◌, refl, ◌∙◌, sym}
 use Rattle.std.specs.Prelude.{slice_get}
 use Rattle.std.specs.Option.{option_map}
-use Rattle.fork_model.specs.Table.{Row, Rules, State, Answered, Taken, Silent, Never, Accepted, Idle, Trying, Rung, Ended, stored_of}
+use Rattle.fork_model.specs.Table.{Row, Rules, State, Stored, Taken, Silent, Never, Accepted, Idle, Trying, Rung, Ended, stored_of}
 use Rattle.fork_model.specs.Rank.{Score}
 use Rattle.fork_model.specs.Choice.{score_of, stored_at, IsFirst, NoneStored}
 use Rattle.fork_context.specs.Dressed.{Beside, dress_state, dressed}
@@ -11,7 +11,7 @@ score_dress : (state : State) (b : Beside) → option_map score_of (stored_of (d
 score_dress Idle b = refl
 score_dress Trying b = refl
 score_dress (Rung cancelled) b = refl
-score_dress (Ended (Answered a)) b = refl
+score_dress (Ended (Stored a)) b = refl
 score_dress (Ended (Taken at)) b = refl
 score_dress (Ended (Silent at)) b = refl
 score_dress (Ended Never) b = refl

@@ -1,7 +1,7 @@
 -- Whether a 2xx came, as rows change.
 use Rattle.std.proofs.Common.{◌≡◌, ℕ, zero, suc, ◌+◌, ◌<◌, ◌≤◌, Bool, true, false, List, [], ◌∷◌, ◌++◌, map, Some, refl, ap, arith, ◌∙◌, sym}
 use Rattle.std.specs.Prelude.{slice_get, ◌||◌}
-use Rattle.fork_model.specs.Table.{Row, State, Answered, Taken, Silent, Never, Accepted, Idle, Trying, Rung, Ended, is_idle, is_open, is_accepted, is_succeeded}
+use Rattle.fork_model.specs.Table.{Row, State, Stored, Taken, Silent, Never, Accepted, Idle, Trying, Rung, Ended, is_idle, is_open, is_accepted, is_succeeded}
 use Rattle.fork_model.specs.Step.{with_state}
 use Rattle.fork_tree.specs.Ready.{tried}
 use Rattle.fork_context.specs.Closing.{never_state, never_row}
@@ -86,7 +86,7 @@ accepted_dress : (state : State) (b : Beside) → is_accepted (dress_state state
 accepted_dress Idle b = refl
 accepted_dress Trying b = refl
 accepted_dress (Rung cancelled) b = refl
-accepted_dress (Ended (Answered a)) b = refl
+accepted_dress (Ended (Stored a)) b = refl
 accepted_dress (Ended (Taken at)) b = refl
 accepted_dress (Ended (Silent at)) b = refl
 accepted_dress (Ended Never) b = refl

@@ -1,7 +1,7 @@
 -- The rows of a table, of which a tree keeps one part and a list beside it the other.
 use Rattle.std.specs.Prelude.{ℕ, zero, suc, List, [], ◌∷◌, ◌++◌, Option, map, unwrap_or, slice_get}
 use Rattle.std.specs.Option.{option_map, option_to_list}
-use Rattle.fork_model.specs.Table.{Offer, Challenge, End, Answered, Taken, Silent, Never, Accepted, State, Idle, Trying, Rung, Ended, Row}
+use Rattle.fork_model.specs.Table.{Offer, Challenge, End, Stored, Taken, Silent, Never, Accepted, State, Idle, Trying, Rung, Ended, Row}
 
 -- what stands beside a row: what identifies its target, the place that it came in at, and of its stored answer the
 -- contacts left and the challenges
@@ -12,7 +12,7 @@ pub record Beside : Type 0 where
   pub challenges : List Challenge
 
 abbrev pub dress_end : End → Beside → End
-dress_end (Answered answer) b = Answered (record answer { left = b.left; challenges = b.challenges })
+dress_end (Stored answer) b = Stored (record answer { left = b.left; challenges = b.challenges })
 dress_end (Taken arrival) b = Taken arrival
 dress_end (Silent arrival) b = Silent arrival
 dress_end Never b = Never

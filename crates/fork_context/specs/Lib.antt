@@ -3,6 +3,7 @@ pub mod EventView
 pub mod RowShown
 pub mod ReplyView
 pub mod LeftView
+pub mod Led
 pub mod Sound
 pub mod PlainTaking
 pub mod Dressed

@@ -10,6 +10,7 @@ ghost use Rattle.fork_model.specs.Step.{next};
 ghost use Rattle.fork_context.specs.Chosen.{IsChosen, challenges_added};
 ghost use Rattle.fork_context.specs.EventView.{event_of};
 ghost use Rattle.fork_context.specs.KindView.{kind_of};
+ghost use Rattle.fork_context.specs.Led.{IsLedTo};
 ghost use Rattle.fork_context.specs.LeftView.{left_of};
 ghost use Rattle.fork_context.specs.Refusals.{IsTooMany, HasTwice, IsFull, returned};
 ghost use Rattle.fork_context.specs.ReplyView.{choice_of};
@@ -118,6 +119,10 @@ impl<A: Allocator + Clone> Context<A> {
         if has_twice(&targets) {
             return Err(NewFault::Twice);
         }
+        // the rules are such as may be set
+        let preferred = rules.preferred();
+        let _statuses = preferred.statuses();
+        let _depth = rules.depth();
         let Ok(fork) = Fork::opening(&alloc, kind, rules, &targets) else {
             return Err(NewFault::NoMemory);
         };
@@ -144,6 +149,7 @@ impl<A: Allocator + Clone> Context<A> {
         if self.is_full(event) {
             return Err(Refusal::Full);
         }
+        event.read_range();
         let Ok(reply) = self.fork.take(&self.alloc, event, self.taken) else {
             return Err(Refusal::NoMemory);
         };
@@ -243,13 +249,16 @@ impl<A: Allocator + Clone> Context<A> {
     }
 
     /// Which answer goes up, once every branch has ended and none was answered with a 2xx (RFC 3261 section 16.7 step
-    /// 6); the same as went up with the event that ended the last branch.
+    /// 6). Some history has led to the context (`led`), so it is the choice that went up with the event that ended the
+    /// last branch, by the laws of `fork_model` on histories.
     pub fn choice(&self) -> Option<Choice>
         ensures due { IsSome result ↔ ((is_finished self.now.table.rows ≡ true) × (is_succeeded self.now.table.rows ≡ false)) }
         ensures value { IfSome result (λ choice. IsChoice self.now.table.rules self.now.table.rows (choice_of choice)) }
+        ensures led { IsLedTo self.now }
     {
-        if self.finished() && !self.succeeded() {
-            Some(self.fork.choice())
+        let fork = &self.fork;
+        if fork.finished() && !fork.succeeded() {
+            Some(fork.choice())
         } else {
             None
         }

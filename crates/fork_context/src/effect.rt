@@ -5,7 +5,7 @@ ghost use Rattle.fork_model.specs.Table.{Trying, Rung};
 ghost use Rattle.fork_model.specs.Event.{row_named};
 ghost use Rattle.fork_model.specs.Contacts as contacts;
 ghost use Rattle.fork_model.specs.Step as step;
-ghost use Rattle.fork_tree.specs.States.{state_of, bare_state, IsFinal};
+ghost use Rattle.fork_tree.specs.States.{state_of, bare_state};
 ghost use Rattle.fork_tree.specs.Seats.{seated};
 ghost use Rattle.fork_context.specs.Dressed.{dressed};
 ghost use Rattle.fork_context.specs.EventView.{event_of};
@@ -67,7 +67,6 @@ fn moves<A: Allocator + Clone>(
     n: u16,
     state: State,
 ) -> Result<Effect<A>, AllocError>
-    requires { IsFinal state }
     ensures { IfOk result (λ e. e ≡ placed n fork.now (step.moves (state_of state [] []))) }
 {
     Ok(Effect {
@@ -89,7 +88,6 @@ fn assumed<A: Allocator + Clone>(
     status: Status,
     at: u32,
 ) -> Result<Effect<A>, AllocError>
-    requires { 300 ≤ status }
     ensures { IfOk result (λ e. e ≡ placed n fork.now (step.assumed status at)) }
 {
     let end = End::Stored {
@@ -128,7 +126,6 @@ fn stores<A: Allocator + Clone>(
     at: u32,
     answer: &Answer<A>,
 ) -> Result<Effect<A>, AllocError>
-    requires { 300 ≤ answer.now.status }
     ensures { IfOk result (λ e. e ≡ placed n fork.now (step.stores at answer.now)) }
 {
     Ok(Effect {
@@ -170,7 +167,6 @@ fn redirected<A: Allocator + Clone>(
     taken: Taking<A>,
     below: (Level<A>, Vec<Beside<A>, A>),
 ) -> Result<Effect<A>, AllocError>
-    requires stored { 300 ≤ answer.now.status }
     requires rows { dressed (map (seated (Some n)) below.0.seats) below.1.items ≡ contacts.fresh_rows n taken.fresh }
     requires each { length below.1.items ≡ length below.0.seats }
     ensures { IfOk result (λ e. e ≡ record { n = n; first = below.0.first; effect = step.redirects n at answer.now taken }) }
@@ -211,7 +207,6 @@ fn redirects<A: Allocator + Clone>(
     at: u32,
     answer: &Answer<A>,
 ) -> Result<Effect<A>, AllocError>
-    requires stored { 300 ≤ answer.now.status }
     ensures { IfOk result (λ e. e ≡ placed row.now.no fork.now (step.redirects row.now.no at answer.now (contacts.taking_at fork.now (tree_row row.now) answer.now.offers))) }
 {
     let first = fork.count();

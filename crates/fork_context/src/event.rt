@@ -1,5 +1,8 @@
 //! What may happen to a fork.
-ghost use Rattle.std.specs.Prelude.{◌≡◌, ◌++◌, ◌∷◌, [], IfErr, OnOk, OnErr};
+ghost use Rattle.std.specs.Prelude.{◌≡◌, ◌≤◌, ◌++◌, ◌∷◌, [], IfErr, OnOk, OnErr};
+ghost use Rattle.std.specs.List.{AllByRecursion};
+ghost use Rattle.fork_model.specs.Range.{most_q, IsOfferInRange, IsAnswerInRange, IsEventInRange};
+ghost use Rattle.fork_context.specs.EventView.{event_of};
 
 use crate::offer::Offer;
 use fork_rank::{Challenge, RingStatus, Status};
@@ -16,16 +19,21 @@ pub struct Target<A: Allocator = Global> {
 }
 
 impl<A: Allocator> Model for Target<A> {
+    ghost use Rattle.std.specs.Prelude.{◌≤◌};
     ghost use Rattle.fork_model.specs.History as spec;
+    ghost use Rattle.fork_model.specs.Range.{most_q};
 
     ghost Value = { spec.Target };
 
     ghost view = { λ t. record { key = t.key.items; q = t.q } };
+
+    ghost invariant = { λ t. t.q ≤ most_q };
 }
 
 impl<A: Allocator> Target<A> {
-    /// The target of this key, tried at this q.
+    /// The target of this key, tried at this q, 0 to 1000.
     pub fn new(key: Vec<u8, A>, q: u16) -> Self
+        requires { q ≤ most_q }
         ensures { result ≡ record { key = key.items; q = q } }
     {
         Target { key, q }
@@ -38,9 +46,10 @@ impl<A: Allocator> Target<A> {
         &self.key
     }
 
-    /// Its q in thousandths.
+    /// Its q in thousandths, 0 to 1000.
     pub fn q(&self) -> u16
-        ensures { result ≡ self.now.q }
+        ensures value { result ≡ self.now.q }
+        ensures range { result ≤ most_q }
     {
         self.q
     }
@@ -59,10 +68,22 @@ pub struct Answer<A: Allocator = Global> {
 
 impl<A: Allocator> Model for Answer<A> {
     ghost use Rattle.fork_model.specs.Event as spec;
+    ghost use Rattle.fork_model.specs.Range.{IsAnswerInRange};
 
     ghost Value = { spec.FinalAnswer };
 
     ghost view = { λ a. record { status = a.status; offers = a.offers.items; challenges = a.challenges.items } };
+
+    ghost invariant = { λ a. IsAnswerInRange (record { status = a.status; offers = a.offers.items; challenges = a.challenges.items }) };
+}
+
+/// Reads the q of each contact, which is at most 1000.
+fn read_each_q<A: Allocator>(offers: &[Offer<A>])
+    ensures { AllByRecursion IsOfferInRange offers.now }
+{
+    for offer in offers {
+        let _q = offer.q();
+    }
 }
 
 impl<A: Allocator> Answer<A> {
@@ -70,6 +91,9 @@ impl<A: Allocator> Answer<A> {
     pub fn new(status: Status, offers: Vec<Offer<A>, A>, challenges: Vec<Challenge<A>, A>) -> Self
         ensures { result ≡ record { status = status; offers = offers.items; challenges = challenges.items } }
     {
+        // what is known of the parts is kept of the whole
+        read_each_q(&offers);
+        let _code = status.code();
         Answer {
             status,
             offers,
@@ -87,6 +111,7 @@ impl<A: Allocator> Answer<A> {
         ensures returned { IfErr result (λ refused. refused.value ≡ offer) }
         ensures err { OnErr result (self.new ≡ self.old) }
     {
+        let _q = offer.q();
         self.offers.push(offer)
     }
 
@@ -122,7 +147,8 @@ impl<A: Allocator> Answer<A> {
 
     /// Its status.
     pub fn status(&self) -> Status
-        ensures { result ≡ self.now.status }
+        ensures value { result ≡ self.now.status }
+        ensures range { IsAnswerInRange self.now }
     {
         self.status
     }
@@ -146,4 +172,15 @@ pub enum Event<A: Allocator = Global> {
     GiveUp(u16),
     /// The caller cancels its request.
     Cancel,
+}
+
+impl<A: Allocator> Event<A> {
+    /// Reads what is in range of it: the status of an answer, and the q of each contact.
+    pub(crate) fn read_range(&self)
+        ensures { IsEventInRange (event_of self.now) }
+    {
+        if let Event::Answer(_, answer) = self {
+            let _status = answer.status();
+        }
+    }
 }

@@ -11,7 +11,7 @@ ghost use Rattle.fork_model.specs.Groups.{numbers_below};
 ghost use Rattle.fork_model.specs.Waiting.{may_start, line_from, parent_row};
 ghost use Rattle.fork_tree.specs.Below.{parent_of};
 ghost use Rattle.fork_tree.specs.Tree.{is_uncancelled};
-ghost use Rattle.fork_tree.specs.States.{end_of, IsFinalEnd};
+ghost use Rattle.fork_tree.specs.States.{end_of};
 ghost use Rattle.fork_tree.specs.Seats.{seated};
 ghost use Rattle.fork_context.specs.Closing.{never_row, closed_row, is_ringing, cancel_row, gets_cancel};
 ghost use Rattle.fork_context.specs.Dressed.{dressed};
@@ -302,7 +302,6 @@ impl<A: Allocator + Clone> Fork<A> {
         fresh: Vec<Beside<A>, A>,
     ) -> Result<(), AllocError>
         requires open_yet { is_row is_open (slice_get self.old.rows n) ≡ true }
-        requires final_status { IsFinalEnd end }
         requires first { below.first ≡ length self.old.rows }
         requires each { length fresh.items ≡ length below.seats }
         requires few { length self.old.rows + length below.seats ≤ most_targets }

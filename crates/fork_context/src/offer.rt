@@ -1,6 +1,7 @@
 //! The contacts of an answer.
-ghost use Rattle.std.specs.Prelude.{◌≡◌};
+ghost use Rattle.std.specs.Prelude.{◌≡◌, ◌≤◌};
 ghost use Rattle.std.specs.Option.{option_map, option_copied};
+ghost use Rattle.fork_model.specs.Range.{most_q};
 
 use std::alloc::{Allocator, Global};
 use std::marker::Model;
@@ -16,17 +17,22 @@ pub struct Offer<A: Allocator = Global> {
 
 impl<A: Allocator> Model for Offer<A> {
     ghost use Rattle.fork_model.specs.Table as spec;
+    ghost use Rattle.fork_model.specs.Range.{most_q};
+    ghost use Rattle.std.specs.Prelude.{◌≤◌};
     ghost use Rattle.std.specs.Option.{option_map};
 
     ghost Value = { spec.Offer };
 
     ghost view = { λ o. record { text = o.text.items; q = o.q; key = option_map (λ v. v.items) o.key } };
+
+    ghost invariant = { λ o. o.q ≤ most_q };
 }
 
 impl<A: Allocator> Offer<A> {
-    /// A contact with this text and q; the key is that of the target it names, or None where the proxy
+    /// A contact with this text and q, 0 to 1000; the key is that of the target it names, or None where the proxy
     /// cannot try it.
     pub fn new(text: Vec<u8, A>, q: u16, key: Option<Vec<u8, A>>) -> Self
+        requires { q ≤ most_q }
         ensures { result ≡ record { text = text.items; q = q; key = option_map (λ v. v.items) key } }
     {
         Offer { text, q, key }
@@ -41,7 +47,8 @@ impl<A: Allocator> Offer<A> {
 
     /// Its q in thousandths, 0 to 1000 (RFC 3261 section 20.10).
     pub fn q(&self) -> u16
-        ensures { result ≡ self.now.q }
+        ensures value { result ≡ self.now.q }
+        ensures range { result ≤ most_q }
     {
         self.q
     }

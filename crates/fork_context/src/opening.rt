@@ -1,10 +1,11 @@
 //! The fork that a request opens with (RFC 3261 section 16.6).
 ghost use Rattle.std.specs.Prelude.{◌≡◌, ◌≤◌, ◌↔◌, ◌++◌, IsTrue, length, map, nat_eq, IfOk, OnOk};
-ghost use Rattle.std.specs.List.{filter_map, list_any};
+ghost use Rattle.std.specs.List.{filter_map, list_any, AllByRecursion};
 ghost use Rattle.std.specs.Option.{option_to_list};
 ghost use Rattle.std.specs.Cmp.Lexicographic.{pointwise};
 ghost use Rattle.fork_model.specs.Table.{most_targets};
 ghost use Rattle.fork_model.specs.History as history;
+ghost use Rattle.fork_model.specs.Range.{IsTargetInRange};
 ghost use Rattle.fork_context.specs.KindView.{kind_of};
 ghost use Rattle.fork_context.specs.Opening.{beside_target, target_beside, waiting_table};
 ghost use Rattle.fork_context.specs.Refusals.{HasTwice};
@@ -39,7 +40,8 @@ fn has_key<A: Allocator>(targets: &[Target<A>], key: &[u8]) -> bool
 }
 
 fn qs_of<A: Allocator + Clone>(alloc: &A, targets: &[Target<A>]) -> Result<Vec<u16, A>, AllocError>
-    ensures { IfOk result (λ qs. qs.items ≡ map (λ target. target.q) targets.now) }
+    ensures value { IfOk result (λ qs. qs.items ≡ map (λ target. target.q) targets.now) }
+    ensures range { OnOk result (AllByRecursion IsTargetInRange targets.now) }
 {
     let mut qs = Vec::new(alloc.clone()?);
     for target in targets {
@@ -117,7 +119,8 @@ impl<A: Allocator + Clone> Fork<A> {
         targets: &[Target<A>],
     ) -> Result<Fork<A>, AllocError>
         requires few { length targets.now ≤ most_targets }
-        ensures { IfOk result (λ fork. fork ≡ history.opening (kind_of kind) rules targets.now) }
+        ensures value { IfOk result (λ fork. fork ≡ history.opening (kind_of kind) rules targets.now) }
+        ensures range { OnOk result (AllByRecursion IsTargetInRange targets.now) }
     {
         let mut fork = Fork::waiting(alloc, kind, rules, targets)?;
         fork.start_ready();
@@ -132,7 +135,8 @@ impl<A: Allocator + Clone> Fork<A> {
         targets: &[Target<A>],
     ) -> Result<Fork<A>, AllocError>
         requires few { length targets.now ≤ most_targets }
-        ensures { IfOk result (λ fork. fork ≡ waiting_table (kind_of kind) rules targets.now) }
+        ensures value { IfOk result (λ fork. fork ≡ waiting_table (kind_of kind) rules targets.now) }
+        ensures range { OnOk result (AllByRecursion IsTargetInRange targets.now) }
     {
         let qs = qs_of(alloc, targets)?;
         let order = numbered(alloc, &qs)?;

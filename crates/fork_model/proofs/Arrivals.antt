@@ -3,7 +3,7 @@ use Rattle.std.proofs.Common.{◌≡◌, ℕ, zero, suc, ◌+◌, ◌<◌, Bool,
 use Rattle.std.specs.Prelude.{slice_get, not, ◌&&◌, unwrap_or, nat_lt, ◌==◌}
 use Rattle.std.specs.Option.{option_map}
 use Rattle.std.specs.List.{filter_map, cons_option}
-use Rattle.fork_model.specs.Table.{Kind, Rules, Offer, Stored, Row, Table, State, Idle, Trying, Rung, Ended, Answered, Taken, Silent, is_idle, is_invite, stored_of}
+use Rattle.fork_model.specs.Table.{Kind, Rules, Offer, StoredAnswer, Row, Table, State, Idle, Trying, Rung, Ended, Stored, Taken, Silent, is_idle, is_invite, stored_of}
 use Rattle.fork_model.specs.Rank.{Score}
 use Rattle.fork_model.specs.Groups.{numbered}
 use Rattle.fork_model.specs.Event.{FinalAnswer, Event, Ring, Answer, Timeout, Fault, TimerC, GiveUp, Cancel}
@@ -104,11 +104,11 @@ MayArrive at (Some e) = Arrives at e
 moves_none : (at : ℕ) (state : State) → state_score state ≡ None → Arrives at (moves state)
 moves_none at state is = record { stored = λ score e. cc; fresh = no_score_empty }
 
-stored_here : (at : ℕ) (answer : Stored) → answer.arrival ≡ at → (score : Score) → state_score (Ended (Answered answer)) ≡ Some score → score.arrival ≡ at
+stored_here : (at : ℕ) (answer : StoredAnswer) → answer.arrival ≡ at → (score : Score) → state_score (Ended (Stored answer)) ≡ Some score → score.arrival ≡ at
 stored_here at answer is score e = let same : score_of answer ≡ score = cc in ap (λ (s : Score). s.arrival) (sym same) ∙ is
 
-taken_or_stored : (taken : Bool) (at : ℕ) (answer : Stored) → answer.arrival ≡ at → (score : Score)
-    → state_score (Ended (cond taken (Taken at) (Answered answer))) ≡ Some score → score.arrival ≡ at
+taken_or_stored : (taken : Bool) (at : ℕ) (answer : StoredAnswer) → answer.arrival ≡ at → (score : Score)
+    → state_score (Ended (cond taken (Taken at) (Stored answer))) ≡ Some score → score.arrival ≡ at
 taken_or_stored true at answer is score e = absurd cc
 taken_or_stored false at answer is score e = stored_here at answer is score e
 

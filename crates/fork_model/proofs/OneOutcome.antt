@@ -3,8 +3,9 @@ use Rattle.std.proofs.Common.{◌≡◌, suc, Bool, true, false, List, [], ◌�
 use Rattle.fork_model.specs.Table.{Table}
 use Rattle.fork_model.specs.Event.{Event}
 use Rattle.fork_model.specs.Step.{next}
-use Rattle.fork_model.specs.Core.{Core, Outcome, Full, Replied, is_full, core_next, core_after, opening_core, IsOutcome}
+use Rattle.fork_model.specs.Core.{Core, Outcome, Full, Replied, is_full, core_next, core_offered, core_after, opening_core, IsOutcome, AreOutcomes}
 use Rattle.fork_model.specs.OneReply.{AreArrivals, OneOutcome}
+use Rattle.fork_model.specs.OneHistory.{OneHistory}
 use Rattle.fork_model.proofs.Arrivals.{next_arrivals, history_of_arrivals}
 use Rattle.fork_model.proofs.OneReplyLemmas.{one_choice, one_reply}
 
@@ -39,3 +40,25 @@ pub one_outcome : OneOutcome
 one_outcome kind rules targets events event a b x y =
     let core : Core = opening_core kind rules targets in
     outcome_of (core_after core events) event a b (core_arrivals core events (history_of_arrivals kind rules targets [])) x y
+
+-- ---- a whole history
+
+arrivals_offered : (core : Core) (event : Event) → AreArrivals core.table.rows core.taken
+    → AreArrivals (core_offered core event).table.rows (core_offered core event).taken
+arrivals_offered core event kept = core_arrivals core (event ∷ []) kept
+
+outcomes_of : (core : Core) (events : List Event) (a b : List Outcome) → AreArrivals core.table.rows core.taken
+    → AreOutcomes core events a → AreOutcomes core events b → a ≡ b
+outcomes_of core [] [] [] kept x y = refl
+outcomes_of core [] [] (o ∷ b) kept x y = absurd y
+outcomes_of core [] (o ∷ a) b kept x y = absurd x
+outcomes_of core (event ∷ events) [] b kept x y = absurd x
+outcomes_of core (event ∷ events) (o ∷ a) [] kept x y = absurd y
+outcomes_of core (event ∷ events) (o ∷ a) (p ∷ b) kept x y =
+    let first : o ≡ p = outcome_of core event o p kept x.0 y.0 in
+    let rest : a ≡ b = outcomes_of (core_offered core event) events a b (arrivals_offered core event kept) x.1 y.1 in
+    (λ i. first i ∷ rest i)
+
+pub one_history : OneHistory
+one_history kind rules targets events a b x y =
+    outcomes_of (opening_core kind rules targets) events a b (history_of_arrivals kind rules targets []) x y

@@ -4,7 +4,7 @@ use Rattle.std.proofs.lemmas.Bool.{and_from, and_parts, cases_lt}
 use Rattle.std.specs.Prelude.{slice_get, not, ◌&&◌, ◌||◌, unwrap_or, nat_lt, filter_map}
 use Rattle.std.specs.Option.{option_map}
 use Rattle.std.specs.List.{AllByRecursion, cons_option, list_all}
-use Rattle.fork_model.specs.Table.{Kind, Rules, Row, Table, State, Offer, Challenge, Stored, Idle, Trying, Rung, Ended, Taken, Silent, stored_of, is_invite, is_row}
+use Rattle.fork_model.specs.Table.{Kind, Rules, Row, Table, State, Offer, Challenge, StoredAnswer, Idle, Trying, Rung, Ended, Taken, Silent, stored_of, is_invite, is_row}
 use Rattle.fork_model.specs.Event.{Event, FinalAnswer, Ring, Answer, Timeout, Fault, TimerC, GiveUp, Cancel}
 use Rattle.fork_model.specs.Waiting.{may_start, depth_of}
 use Rattle.fork_model.specs.Groups.{numbered, numbers_below}
@@ -144,7 +144,7 @@ fresh_is_bare m fresh place row is =
 pub record Brings (event : Event) (at n : ℕ) (e : Effect) : Type 0 where
   pub rows : (place : ℕ) (row : Row) → slice_get e.fresh place ≡ Some row → IsRowOf (offers_of event) row
   pub bare : (place : ℕ) (row : Row) → slice_get e.fresh place ≡ Some row → stored_of row.state ≡ None
-  pub stored : (stored : Stored) → stored_of e.state ≡ Some stored → IsStoredBy event at n stored
+  pub stored : (stored : StoredAnswer) → stored_of e.state ≡ Some stored → IsStoredBy event at n stored
 
 no_bare : (place : ℕ) (row : Row) → slice_get [] place ≡ Some row → stored_of row.state ≡ None
 no_bare place row is = absurd cc
@@ -174,14 +174,14 @@ row_of_contact n offers taking from place row is =
         })
 
 -- what a 3xx that is stored has
-stored_received : (answer : FinalAnswer) (at : ℕ) (left : List Offer) (stored : Stored) → AllByRecursion (IsOneOf answer.offers) left
+stored_received : (answer : FinalAnswer) (at : ℕ) (left : List Offer) (stored : StoredAnswer) → AllByRecursion (IsOneOf answer.offers) left
     → stored_of (Ended (received answer.status at left answer.challenges)) ≡ Some stored → IsReceived answer at stored
 stored_received answer at left stored all is =
-    let P : Stored → Type 0 = λ s. IsReceived answer at s in
+    let P : StoredAnswer → Type 0 = λ s. IsReceived answer at s in
     let same : record { status = answer.status; arrival = at; received = true; left = left; challenges = answer.challenges } ≡ stored = cc in
     subst P same (record { received = refl; status = refl; arrival = refl; left = all; challenges = refl })
 
-redirected_brings : (answer : FinalAnswer) (at : ℕ) (taking : Taking) (stored : Stored) → AllByRecursion (IsOneOf answer.offers) taking.left
+redirected_brings : (answer : FinalAnswer) (at : ℕ) (taking : Taking) (stored : StoredAnswer) → AllByRecursion (IsOneOf answer.offers) taking.left
     → stored_of (Ended (redirected at answer taking)) ≡ Some stored → IsReceived answer at stored
 redirected_brings answer at taking stored all is = go (is_nonempty answer.offers && not (is_nonempty taking.left)) is
   where
@@ -217,9 +217,9 @@ answers_bring t n row at answer = go (nat_lt answer.status 300) (nat_lt answer.s
         }
     go false false = record { rows = no_rows (Answer n answer); bare = no_bare; stored = λ stored is. (refl, stored_received answer at [] stored tt is) }
 
-assumes : (status at : ℕ) (stored : Stored) → stored_of (assumed status at).state ≡ Some stored → IsAssumed status at stored
+assumes : (status at : ℕ) (stored : StoredAnswer) → stored_of (assumed status at).state ≡ Some stored → IsAssumed status at stored
 assumes status at stored is =
-    let P : Stored → Type 0 = λ s. IsAssumed status at s in
+    let P : StoredAnswer → Type 0 = λ s. IsAssumed status at s in
     let same : record { status = status; arrival = at; received = false; left = []; challenges = [] } ≡ stored = cc in
     subst P same (record { received = refl; status = refl; arrival = refl; left = refl; challenges = refl })
 
@@ -281,7 +281,7 @@ give_up_brings t row at n (Ended end) = tt
 -- where the rows of the table after a change come from
 pub record From (event : Event) (at : ℕ) (t u : Table) : Type 0 where
   pub rows : (n : ℕ) (row : Row) → slice_get t.rows n ≡ None → slice_get u.rows n ≡ Some row → IsRowOf (offers_of event) row
-  pub stored : (n : ℕ) (stored : Stored) → HasStored u n stored → HasStored t n stored ⊎ IsStoredBy event at n stored
+  pub stored : (n : ℕ) (stored : StoredAnswer) → HasStored u n stored → HasStored t n stored ⊎ IsStoredBy event at n stored
 
 from_same : (event : Event) (at : ℕ) (t u : Table) → u.rows ≡ t.rows → From event at t u
 from_same event at t u same = record {
@@ -338,13 +338,13 @@ from_change t u Cancel at is = from_cancelled t u at is
 
 -- ---- settling
 
-closed_stored : (kind : Kind) (state : State) (stored : Stored) → stored_of (closed_state kind state) ≡ Some stored → stored_of state ≡ Some stored
+closed_stored : (kind : Kind) (state : State) (stored : StoredAnswer) → stored_of (closed_state kind state) ≡ Some stored → stored_of state ≡ Some stored
 closed_stored kind Idle stored is = absurd cc
 closed_stored kind Trying stored is = is
 closed_stored kind (Rung cancelled) stored is = absurd cc
 closed_stored kind (Ended end) stored is = is
 
-settled_stored : (u : Table) (row : Row) (stored : Stored) → stored_of (settled_state u row) ≡ Some stored → stored_of row.state ≡ Some stored
+settled_stored : (u : Table) (row : Row) (stored : StoredAnswer) → stored_of (settled_state u row) ≡ Some stored → stored_of row.state ≡ Some stored
 settled_stored u row stored is = go u.closed (may_start u.rows row) is
   where
     go : (a b : Bool) → stored_of (cond a (closed_state u.kind row.state) (cond b Trying row.state)) ≡ Some stored → stored_of row.state ≡ Some stored
@@ -412,11 +412,11 @@ pub events_store : EventsStoreAnswers
 events_store t event at n stored has = (next_from t event at).stored n stored has
 
 -- the event at its arrival stored it, among events from this position on
-abbrev CameAt : ℕ → List Event → ℕ → Stored → Type 0
+abbrev CameAt : ℕ → List Event → ℕ → StoredAnswer → Type 0
 CameAt at events n stored =
     (place : ℕ) × (stored.arrival ≡ at + place) × (event : Event) × (slice_get events place ≡ Some event) × IsStoredBy event stored.arrival n stored
 
-arrival_of : (event : Event) (at n : ℕ) (stored : Stored) → IsStoredBy event at n stored → stored.arrival ≡ at
+arrival_of : (event : Event) (at n : ℕ) (stored : StoredAnswer) → IsStoredBy event at n stored → stored.arrival ≡ at
 arrival_of (Ring m status) at n stored is = absurd is
 arrival_of (Answer m answer) at n stored is = is.1.arrival
 arrival_of (Timeout m) at n stored is = is.1.arrival
@@ -425,7 +425,7 @@ arrival_of (TimerC m) at n stored is = is.1.arrival
 arrival_of (GiveUp m) at n stored is = absurd is
 arrival_of Cancel at n stored is = absurd is
 
-came_after : (t : Table) (at : ℕ) (events : List Event) (n : ℕ) (stored : Stored) → HasStored (after t at events) n stored
+came_after : (t : Table) (at : ℕ) (events : List Event) (n : ℕ) (stored : StoredAnswer) → HasStored (after t at events) n stored
     → HasStored t n stored ⊎ CameAt at events n stored
 came_after t at [] n stored has = inl has
 came_after t at (event ∷ events) n stored has =
@@ -443,7 +443,7 @@ came_after t at (event ∷ events) n stored has =
     ]
 
 -- no initial target has a stored answer
-opening_is_bare : (kind : Kind) (rules : Rules) (targets : List Target) (n : ℕ) (stored : Stored) → HasStored (opening kind rules targets) n stored → ⊥
+opening_is_bare : (kind : Kind) (rules : Rules) (targets : List Target) (n : ℕ) (stored : StoredAnswer) → HasStored (opening kind rules targets) n stored → ⊥
 opening_is_bare kind rules targets n stored has =
     let made = get_filtered (λ (p : ℕ × ℕ). option_map (first_row p.0 p.1) (slice_get targets p.1)) (numbered (map (λ (target : Target). target.q) targets)) n has.0 has.1 in
     go made.0.0 made.0.1 (slice_get targets made.0.1) has.0 made.1 has.2
@@ -478,10 +478,10 @@ left_pass p offers [] all from = refl
 left_pass p offers (offer ∷ left) all from =
     and_from (p offer) (list_all p left) (all_from p offers from.0.0 offer all from.0.1) (left_pass p offers left all from.1)
 
-assumed_pass : (p : Offer → Bool) (r : Challenge → Bool) (status at : ℕ) (stored : Stored) → IsAssumed status at stored → Passes p r stored
+assumed_pass : (p : Offer → Bool) (r : Challenge → Bool) (status at : ℕ) (stored : StoredAnswer) → IsAssumed status at stored → Passes p r stored
 assumed_pass p r status at stored is = (ap (list_all p) is.left, ap (list_all r) is.challenges)
 
-stored_pass : (p : Offer → Bool) (r : Challenge → Bool) (event : Event) (at n : ℕ) (stored : Stored)
+stored_pass : (p : Offer → Bool) (r : Challenge → Bool) (event : Event) (at n : ℕ) (stored : StoredAnswer)
     → list_all p (offers_of event) ≡ true → list_all r (challenges_of event) ≡ true → IsStoredBy event at n stored → Passes p r stored
 stored_pass p r (Ring m status) at n stored ps rs is = absurd is
 stored_pass p r (Answer m answer) at n stored ps rs is = (left_pass p answer.offers stored.left ps is.1.left, ap (list_all r) is.1.challenges ∙ rs)

@@ -1,7 +1,7 @@
 -- Which answer goes up once every branch has ended (RFC 3261 section 16.7 step 6).
 use Rattle.std.specs.Prelude.{◌≡◌, ◌≢◌, ℕ, List, Option, Some, None, slice_get}
 use Rattle.std.specs.Option.{option_map, option_map_or}
-use Rattle.fork_model.specs.Table.{Stored, Row, Rules, stored_of}
+use Rattle.fork_model.specs.Table.{StoredAnswer, Row, Rules, stored_of}
 use Rattle.fork_model.specs.Rank.{Score, Before}
 
 -- the answer stored in row n; 500 in place of the 503 stored in row n, where all that is stored is 503; 408
@@ -11,10 +11,10 @@ pub data Choice : Type 0 where
   Only503 : (n : ℕ) → Choice
   NoAnswer408 : Choice
 
-abbrev pub score_of : Stored → Score
+abbrev pub score_of : StoredAnswer → Score
 score_of answer = record { status = answer.status; arrival = answer.arrival }
 
-abbrev pub stored_at : Option Row → Option Stored
+abbrev pub stored_at : Option Row → Option StoredAnswer
 stored_at None = None
 stored_at (Some row) = stored_of row.state
 

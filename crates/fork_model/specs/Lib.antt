@@ -14,7 +14,9 @@ pub mod StrictOrder
 pub mod ExactlyOne
 pub mod Worked
 pub mod OneReply
+pub mod OneHistory
 pub mod Steps
 pub mod Series
 pub mod Sources
 pub mod OpenBranches
+pub mod Range

@@ -2,7 +2,7 @@
 -- brings contacts adds rows for some of them, and an event that ends a branch stores its answer. Nothing else does.
 use Rattle.std.specs.Prelude.{◌≡◌, ◌↔◌, ◌⊎◌, ℕ, Bool, true, false, List, [], length, Some, None, slice_get}
 use Rattle.std.specs.List.{AllByRecursion, list_all}
-use Rattle.fork_model.specs.Table.{Kind, Rules, Offer, Challenge, Stored, State, Row, Table, stored_of}
+use Rattle.fork_model.specs.Table.{Kind, Rules, Offer, Challenge, StoredAnswer, State, Row, Table, stored_of}
 use Rattle.fork_model.specs.Event.{FinalAnswer, Event, Ring, Answer, Timeout, Fault, TimerC, GiveUp, Cancel}
 use Rattle.fork_model.specs.Step.{next}
 use Rattle.fork_model.specs.Reply.{became, has_become}
@@ -50,7 +50,7 @@ abbrev pub IsOneOf : List Offer → Offer → Type 0
 IsOneOf offers offer = (place : ℕ) × (slice_get offers place ≡ Some offer)
 
 -- the answer as it came at this position: its status, its challenges, and of its contacts those that were left
-pub record IsReceived (answer : FinalAnswer) (at : ℕ) (stored : Stored) : Type 0 where
+pub record IsReceived (answer : FinalAnswer) (at : ℕ) (stored : StoredAnswer) : Type 0 where
   pub received : stored.received ≡ true
   pub status : stored.status ≡ answer.status
   pub arrival : stored.arrival ≡ at
@@ -58,7 +58,7 @@ pub record IsReceived (answer : FinalAnswer) (at : ℕ) (stored : Stored) : Type
   pub challenges : stored.challenges ≡ answer.challenges
 
 -- an answer that did not come, with this status
-pub record IsAssumed (code at : ℕ) (stored : Stored) : Type 0 where
+pub record IsAssumed (code at : ℕ) (stored : StoredAnswer) : Type 0 where
   pub received : stored.received ≡ false
   pub status : stored.status ≡ code
   pub arrival : stored.arrival ≡ at
@@ -66,7 +66,7 @@ pub record IsAssumed (code at : ℕ) (stored : Stored) : Type 0 where
   pub challenges : stored.challenges ≡ []
 
 -- the event at this position stores this for row n: 408 for a timeout, 503 for a transport error (sections 16.8, 16.9)
-abbrev pub IsStoredBy : Event → (at n : ℕ) → Stored → Type 0
+abbrev pub IsStoredBy : Event → (at n : ℕ) → StoredAnswer → Type 0
 IsStoredBy (Ring m status) at n stored = ⊥
 IsStoredBy (Answer m answer) at n stored = (n ≡ m) × IsReceived answer at stored
 IsStoredBy (Timeout m) at n stored = (n ≡ m) × IsAssumed 408 at stored
@@ -76,27 +76,27 @@ IsStoredBy (GiveUp m) at n stored = ⊥
 IsStoredBy Cancel at n stored = ⊥
 
 -- row n has this stored answer
-abbrev pub HasStored : Table → ℕ → Stored → Type 0
+abbrev pub HasStored : Table → ℕ → StoredAnswer → Type 0
 HasStored t n stored = (row : Row) × (slice_get t.rows n ≡ Some row) × (stored_of row.state ≡ Some stored)
 
 abbrev pub EventsStoreAnswers : Type 0
 EventsStoreAnswers =
-    (t : Table) (event : Event) (at n : ℕ) (stored : Stored) → HasStored (next t event at) n stored
+    (t : Table) (event : Event) (at n : ℕ) (stored : StoredAnswer) → HasStored (next t event at) n stored
     → HasStored t n stored ⊎ IsStoredBy event at n stored
 
 -- over a whole history: each stored answer was stored by the event that stands at its arrival
 abbrev pub StoredAnswersCame : Type 0
 StoredAnswersCame =
-    (kind : Kind) (rules : Rules) (targets : List Target) (events : List Event) (n : ℕ) (stored : Stored)
+    (kind : Kind) (rules : Rules) (targets : List Target) (events : List Event) (n : ℕ) (stored : StoredAnswer)
     → HasStored (table kind rules targets events) n stored
     → (event : Event) × (slice_get events stored.arrival ≡ Some event) × IsStoredBy event stored.arrival n stored
 
 -- every contact left passes the one test, every challenge the other
-abbrev pub Passes : (Offer → Bool) → (Challenge → Bool) → Stored → Type 0
+abbrev pub Passes : (Offer → Bool) → (Challenge → Bool) → StoredAnswer → Type 0
 Passes p r stored = (list_all p stored.left ≡ true) × (list_all r stored.challenges ≡ true)
 
 abbrev pub EachPasses : (Offer → Bool) → (Challenge → Bool) → Table → Type 0
-EachPasses p r t = (n : ℕ) (stored : Stored) → HasStored t n stored → Passes p r stored
+EachPasses p r t = (n : ℕ) (stored : StoredAnswer) → HasStored t n stored → Passes p r stored
 
 -- what all contacts and challenges pass that events bring is passed by all that are stored
 abbrev pub StoredAnswersPass : Type 0

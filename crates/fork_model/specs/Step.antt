@@ -1,7 +1,7 @@
 -- One event at a table (RFC 3261 sections 16.7 to 16.10 and 9.1).
 use Rattle.std.specs.Prelude.{ℕ, zero, suc, ◌&&◌, ◌||◌, nat_lt, nat_le, Bool, true, false, not, List, [], ◌∷◌, ◌++◌, Option, Some, None, map, is_none, unwrap_or, slice_get, if◌then◌else◌}
 use Rattle.std.specs.Option.{option_map}
-use Rattle.fork_model.specs.Table.{Offer, Challenge, End, Answered, Taken, Silent, Never, Accepted, State, Idle, Trying, Rung, Ended, Row, Table, Kind, is_invite}
+use Rattle.fork_model.specs.Table.{Offer, Challenge, End, Stored, Taken, Silent, Never, Accepted, State, Idle, Trying, Rung, Ended, Row, Table, Kind, is_invite}
 use Rattle.fork_model.specs.Event.{FinalAnswer, Event, Ring, Answer, Timeout, Fault, TimerC, GiveUp, Cancel}
 use Rattle.fork_model.specs.Waiting.{may_start}
 use Rattle.fork_model.specs.Contacts.{Taking, taking_at, fresh_rows}
@@ -18,12 +18,12 @@ moves state = record { state = state; fresh = []; closes = false }
 -- an answer that the proxy assumes: 408 for a timeout, 503 for a transport error (sections 16.8, 16.9)
 abbrev pub assumed : ℕ → ℕ → Effect
 assumed status at =
-    moves (Ended (Answered (record { status = status; arrival = at; received = false; left = []; challenges = [] })))
+    moves (Ended (Stored (record { status = status; arrival = at; received = false; left = []; challenges = [] })))
 
 -- an answer that came from the branch
 abbrev pub received : ℕ → ℕ → List Offer → List Challenge → End
 received status at left challenges =
-    Answered (record { status = status; arrival = at; received = true; left = left; challenges = challenges })
+    Stored (record { status = status; arrival = at; received = true; left = left; challenges = challenges })
 
 -- a 2xx ends the branch and closes the table (section 16.7 step 5)
 abbrev pub accepts : ℕ → Effect

@@ -21,7 +21,7 @@ pub record Challenge : Type 0 where
 
 -- a stored answer: its arrival is the position of the event that brought it; one that was not received is
 -- assumed by the proxy; the contacts left are those of a 3xx that the proxy does not try itself
-pub record Stored : Type 0 where
+pub record StoredAnswer : Type 0 where
   pub status : ℕ
   pub arrival : ℕ
   pub received : Bool
@@ -31,7 +31,7 @@ pub record Stored : Type 0 where
 -- how a branch ended: with a stored answer; with a 3xx all of whose contacts were taken; cancelled and
 -- given up without an answer; never tried; with a 2xx
 pub data End : Type 0 where
-  Answered : Stored → End
+  Stored : StoredAnswer → End
   Taken : (arrival : ℕ) → End
   Silent : (arrival : ℕ) → End
   Never : End
@@ -106,7 +106,7 @@ is_ended (Rung cancelled) = false
 is_ended (Ended end) = true
 
 abbrev pub is_accepted_end : End → Bool
-is_accepted_end (Answered answer) = false
+is_accepted_end (Stored answer) = false
 is_accepted_end (Taken arrival) = false
 is_accepted_end (Silent arrival) = false
 is_accepted_end Never = false
@@ -118,15 +118,15 @@ is_accepted Trying = false
 is_accepted (Rung cancelled) = false
 is_accepted (Ended end) = is_accepted_end end
 
-abbrev pub stored_end : End → Option Stored
-stored_end (Answered answer) = Some answer
+abbrev pub stored_end : End → Option StoredAnswer
+stored_end (Stored answer) = Some answer
 stored_end (Taken arrival) = None
 stored_end (Silent arrival) = None
 stored_end Never = None
 stored_end (Accepted arrival) = None
 
 -- the stored answer of a branch, if it has one
-abbrev pub stored_of : State → Option Stored
+abbrev pub stored_of : State → Option StoredAnswer
 stored_of Idle = None
 stored_of Trying = None
 stored_of (Rung cancelled) = None

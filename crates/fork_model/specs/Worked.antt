@@ -1,7 +1,7 @@
 -- Worked histories: a small fork each, every event with all that is answered to it, and how the rows stand at the
 -- end (RFC 3261 sections 16.5 to 16.10).
 use Rattle.std.specs.Prelude.{◌≡◌, ℕ, suc, true, false, List, [], ◌∷◌, map, Some, None}
-use Rattle.fork_model.specs.Table.{Kind, Invite, Other, Offer, Challenge, Answered, Taken, Silent, Never, Accepted, State, Rung, Ended, Rules, Table, most_targets}
+use Rattle.fork_model.specs.Table.{Kind, Invite, Other, Offer, Challenge, Stored, Taken, Silent, Never, Accepted, State, Rung, Ended, Rules, Table, most_targets}
 use Rattle.fork_model.specs.Event.{Event, Ring, Answer, Timeout, Fault, TimerC, GiveUp, Cancel}
 use Rattle.fork_model.specs.Choice.{Best, Only503, NoAnswer408, status_sent}
 use Rattle.fork_model.specs.Reply.{Up, Nothing, Provisional, Success, Final, Reply}
@@ -72,15 +72,15 @@ line event started cancelled up = record { event = event; started = started; can
 
 abbrev pub assumed : (status arrival : ℕ) → State
 assumed status arrival =
-    Ended (Answered (record { status = status; arrival = arrival; received = false; left = []; challenges = [] }))
+    Ended (Stored (record { status = status; arrival = arrival; received = false; left = []; challenges = [] }))
 
 abbrev pub received : (status arrival : ℕ) → State
 received status arrival =
-    Ended (Answered (record { status = status; arrival = arrival; received = true; left = []; challenges = [] }))
+    Ended (Stored (record { status = status; arrival = arrival; received = true; left = []; challenges = [] }))
 
 abbrev pub received_with : (status arrival : ℕ) → List Offer → List Challenge → State
 received_with status arrival left challenges =
-    Ended (Answered (record { status = status; arrival = arrival; received = true; left = left; challenges = challenges }))
+    Ended (Stored (record { status = status; arrival = arrival; received = true; left = left; challenges = challenges }))
 
 -- four branches fail, each in its own way: the 407, which the caller can act on, goes up rather than the 404, and
 -- a 4xx rather than the 501 and the 503

@@ -1,5 +1,6 @@
 //! What is answered to an event is determined.
 ghost use Rattle.fork_model.specs.OneReply.{HistoryOfArrivals, SomeChoice, OneChoice, SomeReply, OneReply, OneOutcome};
+ghost use Rattle.fork_model.specs.OneHistory.{OneHistory};
 
 /// In every history the stored answers arrived apart, each by an event of its own (RFC 3261 section 16.7 step 5).
 ///
@@ -17,11 +18,12 @@ pub fn each_history_has_one_choice()
 {}
 
 /// Each event has a reply at each table, and in a history one alone (RFC 3261 section 16.7). So has each event that is
-/// offered to a context: it is refused, or answered in one way.
+/// offered to a context: it is refused, or answered in one way; and so have all events of a history.
 ///
 /// A law over the definitions, with nothing to run: what a caller sees follows from the history.
 pub fn each_event_has_one_reply()
     ensures some { SomeReply }
     ensures one { OneReply }
     ensures of_context { OneOutcome }
+    ensures of_history { OneHistory }
 {}

@@ -1,6 +1,6 @@
 use Rattle.std.proofs.Common.{◌≡◌, refl, true, false, Option, Some, None}
 use Rattle.std.specs.Prelude.{option_map}
-use Rattle.fork_model.specs.Table.{Answered, Taken, Silent, Never, Accepted, End, Row, State, Idle, Trying, Rung, Ended, is_cancelled, is_open, is_row, is_trying}
+use Rattle.fork_model.specs.Table.{Stored, Taken, Silent, Never, Accepted, End, Row, State, Idle, Trying, Rung, Ended, is_cancelled, is_open, is_row, is_trying}
 use Rattle.fork_tree.specs.States.{shown}
 use Rattle.fork_parts.specs.Call.{runs_timer_c}
 use Rattle.fork_parts.specs.StatesShown.{shows_cancelled, shows_open, shows_timer_c, shows_trying, state_shown}

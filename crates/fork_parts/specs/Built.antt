@@ -1,7 +1,7 @@
 -- What a call sends: each datagram, and the message that it spells (RFC 3261 sections 8.2.6, 9.1, 16.6, 16.7 and
 -- 17.1.1.3).
 use Rattle.std.specs.Prelude.{ℕ, nat_lt, Bool, false, List, [], Option, Some, None, map, slice_get, if◌then◌else◌}
-use Rattle.fork_model.specs.Table.{Offer, Stored}
+use Rattle.fork_model.specs.Table.{Offer, StoredAnswer}
 use Rattle.fork_model.specs.Choice.{Choice, Best, Only503, NoAnswer408, stored_at}
 use Rattle.fork_model.specs.Challenges.{challenge_list}
 use Rattle.sip_text.specs.Text.{MessageText, StartText, Request, Response}
@@ -46,14 +46,14 @@ abbrev pub text_of : Offer → List ℕ
 text_of offer = offer.text
 
 -- the contacts of a 3xx that the proxy did not try itself stand in it (section 16.7 step 4)
-abbrev pub kept_of : Stored → Option (List (List ℕ))
+abbrev pub kept_of : StoredAnswer → Option (List (List ℕ))
 kept_of answer = if nat_lt answer.status 400 then Some (map text_of answer.left) else None
 
-abbrev pub kept_at : Option Stored → Option (List (List ℕ))
+abbrev pub kept_at : Option StoredAnswer → Option (List (List ℕ))
 kept_at None = None
 kept_at (Some answer) = kept_of answer
 
-abbrev pub was_received : Option Stored → Bool
+abbrev pub was_received : Option StoredAnswer → Bool
 was_received None = false
 was_received (Some answer) = answer.received
 

@@ -1,5 +1,5 @@
 //! The order of stored answers.
-ghost use Rattle.std.specs.Prelude.{◌≡◌, ◌≤◌, ◌↔◌, IsTrue};
+ghost use Rattle.std.specs.Prelude.{◌≡◌, ◌↔◌, IsTrue};
 ghost use Rattle.fork_model.specs.Rank.{class_of, is_preferred, part_of, rank_of, RanksBefore, Before};
 
 use crate::{Rules, Status};
@@ -26,20 +26,12 @@ impl Model for Rank {
 }
 
 impl Rank {
-    /// The rank of an answer with this status that arrived with the event at this position. A 2xx is never stored,
-    /// so it has none.
+    /// The rank of an answer with this status that arrived with the event at this position. (A 2xx is never stored; it
+    /// would rank as a 3xx does.)
+    #[tactic(auto, unfolding(fork_model::specs::Rank::rank_of))]
     pub fn of(status: Status, at: u32, rules: &Rules) -> Rank
-        requires { 300 ≤ status }
         ensures { result ≡ rank_of rules.now (record { status = status; arrival = at }) }
     {
-        Rank::of_score((status, at), rules)
-    }
-
-    #[tactic(auto, unfolding(fork_model::specs::Rank::rank_of))]
-    fn of_score(score: (Status, u32), rules: &Rules) -> Rank
-        ensures { result ≡ rank_of rules.now (record { status = score.0; arrival = score.1 }) }
-    {
-        let (status, at) = score;
         Rank {
             class: class(status),
             part: part(status, rules),
@@ -99,5 +91,5 @@ pub fn ranks_before(rules: &Rules, a: (Status, u32), b: (Status, u32)) -> bool
     ensures { IsTrue result
         ↔ Before rules.now (record { status = a.0; arrival = a.1 }) (record { status = b.0; arrival = b.1 }) }
 {
-    before(&Rank::of_score(a, rules), &Rank::of_score(b, rules))
+    before(&Rank::of(a.0, a.1, rules), &Rank::of(b.0, b.1, rules))
 }

@@ -3,12 +3,9 @@ use Rattle.std.specs.Prelude.{ℕ, nat_le, List, ◌∷◌, ◌++◌, Option, So
 use Rattle.std.specs.Borrow.{Bor}
 use Rattle.std.specs.Option.{option_map}
 use Rattle.std.specs.Fmt.{decimal}
+pub use Rattle.fork_model.specs.Range.{most_q}
 use Rattle.sip_lex.specs.Cut.{cut, is}
 use Rattle.sip_lex.specs.Number.{plain_number_within}
-
--- q is in thousandths
-abbrev pub most_q : ℕ
-most_q = 1000
 
 -- the number of a branch
 abbrev pub most_number : ℕ

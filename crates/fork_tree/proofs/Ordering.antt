@@ -2,7 +2,6 @@
 use Rattle.std.proofs.Common.{◌≡◌, ℕ, zero, suc, ◌+◌, ◌<◌, ◌≤◌, ◌⊎◌, inl, inr, List, [], ◌∷◌, length, Option, Some, slice_get, refl, ap, sym, ◌∙◌, arith}
 use Rattle.fork_model.specs.Table.{most_targets}
 use Rattle.fork_tree.specs.declared.row.RowRef.{RowRef}
-use Rattle.fork_tree.specs.States.{IsFinal}
 use Rattle.fork_tree.specs.Given.{AreRows, IsBeside, IsParent, IsFirstUnder}
 
 -- a row stands beside the one before it, or is the first under a parent that comes later in some order of the parents
@@ -12,7 +11,6 @@ IsNext order a b = ((a.parent ≡ b.parent) × IsBeside a b) ⊎ ((order a.paren
 pub record AreInOrder (order : Option ℕ → ℕ) (rows : List RowRef) : Type 0 where
   pub few : length rows ≤ most_targets
   pub number : (n : ℕ) (r : RowRef) → slice_get rows n ≡ Some r → r.no ≡ n
-  pub final_end : (n : ℕ) (r : RowRef) → slice_get rows n ≡ Some r → IsFinal r.state
   pub parent : (n m : ℕ) (r : RowRef) → slice_get rows n ≡ Some r → r.parent ≡ Some m → IsParent rows n m
   pub first : (r : RowRef) → slice_get rows 0 ≡ Some r → r.group ≡ 0
   pub next : (n : ℕ) (a b : RowRef) → slice_get rows n ≡ Some a → slice_get rows (suc n) ≡ Some b → IsNext order a b
@@ -67,7 +65,6 @@ pub ordered_rows : (order : Option ℕ → ℕ) (rows : List RowRef) → AreInOr
 ordered_rows order rows h = record {
   few = h.few;
   number = h.number;
-  final_end = h.final_end;
   parent = h.parent;
   together = stand_together order rows h.next;
   first_group = first_in;

@@ -3,7 +3,7 @@ use Rattle.std.specs.Prelude.{◌≡◌, ◌<◌, ◌≤◌, ◌+◌, ℕ, suc, 
 use Rattle.fork_model.specs.Table.{Row, Idle, most_targets, is_row, is_idle}
 use Rattle.fork_tree.specs.declared.row.RowRef.{RowRef}
 use Rattle.fork_tree.specs.declared.row.State.{State}
-use Rattle.fork_tree.specs.States.{bare_state, has_ended, IsFinal}
+use Rattle.fork_tree.specs.States.{bare_state, has_ended}
 use Rattle.fork_tree.specs.Seats.{differs}
 
 -- the row of a tree that is given so
@@ -25,11 +25,10 @@ abbrev pub IsFirstUnder : List RowRef → ℕ → Option ℕ → Type 0
 IsFirstUnder rows n parent = (m : ℕ) (r : RowRef) → m < n → slice_get rows m ≡ Some r → r.parent ≡ parent → ⊥
 
 -- each row has its place in the list as its number; its parent is an older one that has ended; the rows under one
--- parent stand together, the initial ones too, in groups that count from 0; a stored answer is final
+-- parent stand together, the initial ones too, in groups that count from 0
 pub record AreRows (rows : List RowRef) : Type 0 where
   pub few : length rows ≤ most_targets
   pub number : (n : ℕ) (r : RowRef) → slice_get rows n ≡ Some r → r.no ≡ n
-  pub final_end : (n : ℕ) (r : RowRef) → slice_get rows n ≡ Some r → IsFinal r.state
   pub parent : (n m : ℕ) (r : RowRef) → slice_get rows n ≡ Some r → r.parent ≡ Some m → IsParent rows n m
   pub together : (i j k : ℕ) (a b c : RowRef) → i < j → j < k → slice_get rows i ≡ Some a → slice_get rows j ≡ Some b
       → slice_get rows k ≡ Some c → a.parent ≡ c.parent → b.parent ≡ a.parent

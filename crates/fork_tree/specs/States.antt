@@ -1,5 +1,5 @@
 -- The state that a branch's own state stands for, with the contacts left and the challenges kept beside it.
-use Rattle.std.specs.Prelude.{◌≤◌, Bool, true, false, List, []}
+use Rattle.std.specs.Prelude.{Bool, true, false, List, []}
 use Rattle.fork_model.specs.Table as spec
 use Rattle.fork_tree.specs.declared.row.State.{State}
 use Rattle.fork_tree.specs.declared.row.State.TheVariants as state
@@ -8,7 +8,7 @@ use Rattle.fork_tree.specs.declared.row.End.TheVariants as end
 
 abbrev pub end_of : End → List spec.Offer → List spec.Challenge → spec.End
 end_of (end.Stored status arrival received) left challenges =
-    spec.Answered (record { status = status; arrival = arrival; received = received; left = left; challenges = challenges })
+    spec.Stored (record { status = status; arrival = arrival; received = received; left = left; challenges = challenges })
 end_of (end.Taken arrival) left challenges = spec.Taken arrival
 end_of (end.Silent arrival) left challenges = spec.Silent arrival
 end_of end.Never left challenges = spec.Never
@@ -26,7 +26,7 @@ bare_state s = state_of s [] []
 
 -- a state without the contacts left and the challenges
 abbrev pub shown_end : spec.End → End
-shown_end (spec.Answered answer) = end.Stored answer.status answer.arrival answer.received
+shown_end (spec.Stored answer) = end.Stored answer.status answer.arrival answer.received
 shown_end (spec.Taken arrival) = end.Taken arrival
 shown_end (spec.Silent arrival) = end.Silent arrival
 shown_end spec.Never = end.Never
@@ -37,20 +37,6 @@ shown spec.Idle = state.Idle
 shown spec.Trying = state.Trying
 shown (spec.Rung cancelled) = state.Rung cancelled
 shown (spec.Ended end) = state.Ended (shown_end end)
-
--- a stored answer is no 2xx
-abbrev pub IsFinalEnd : End → Type 0
-IsFinalEnd (end.Stored status arrival received) = 300 ≤ status
-IsFinalEnd (end.Taken arrival) = Unit {0}
-IsFinalEnd (end.Silent arrival) = Unit {0}
-IsFinalEnd end.Never = Unit {0}
-IsFinalEnd (end.Accepted arrival) = Unit {0}
-
-abbrev pub IsFinal : State → Type 0
-IsFinal state.Idle = Unit {0}
-IsFinal state.Trying = Unit {0}
-IsFinal (state.Rung cancelled) = Unit {0}
-IsFinal (state.Ended end) = IsFinalEnd end
 
 abbrev pub has_ended : State → Bool
 has_ended state.Idle = false

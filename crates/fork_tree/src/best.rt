@@ -1,7 +1,7 @@
 //! The best stored answer of some branches, and how many of them have not ended.
 ghost use Rattle.std.specs.Prelude.{◌≡◌, ◌≤◌, ◌<◌, ◌+◌, ◌↔◌, ◌^◌, IsTrue, None};
 ghost use Rattle.fork_model.specs.Rank.{RanksBefore};
-ghost use Rattle.fork_tree.specs.States.{IsFinal, IsFinalEnd, closed_state};
+ghost use Rattle.fork_tree.specs.States.{closed_state};
 ghost use Rattle.fork_tree.specs.Tally.{Better, open_state, best_of};
 ghost use Rattle.fork_tree.specs.Closing.{closed_standing};
 ghost use Rattle.fork_tree.specs.Listed.{kept_of, kept_end};
@@ -41,7 +41,6 @@ pub(crate) struct Tally {
 impl Standing {
     /// The standing of row n in this state.
     pub(crate) fn of(n: u16, state: State, rules: &Rules) -> Standing
-        requires { IsFinal state }
         ensures { result ≡ record { state = state; answer = kept_of rules.now n state } }
     {
         let answer = answer_in(n, &state, rules);
@@ -68,7 +67,6 @@ impl Standing {
 
 /// The stored answer of row n in this state.
 fn answer_in(n: u16, state: &State, rules: &Rules) -> Option<Kept>
-    requires { IsFinal state.now }
     ensures { result ≡ kept_of rules.now n state.now }
 {
     match *state {
@@ -78,7 +76,6 @@ fn answer_in(n: u16, state: &State, rules: &Rules) -> Option<Kept>
 }
 
 fn answer_of_end(n: u16, end: End, rules: &Rules) -> Option<Kept>
-    requires { IsFinalEnd end }
     ensures { result ≡ kept_end rules.now n end }
 {
     if let End::Stored {

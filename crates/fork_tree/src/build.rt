@@ -2,7 +2,7 @@
 ghost use Rattle.std.specs.Prelude.{◌≡◌, ◌≤◌, ◌<◌, ◌++◌, true, Some, IfOk, OnOk, IsTrue, Decides, map, length, slice_get};
 ghost use Rattle.fork_model.specs.Table.{most_targets, is_idle, is_row};
 ghost use Rattle.fork_model.specs.Step.{with_state};
-ghost use Rattle.fork_tree.specs.States.{bare_state, has_ended, IsFinal, IsFinalEnd};
+ghost use Rattle.fork_tree.specs.States.{bare_state, has_ended};
 ghost use Rattle.fork_tree.specs.declared.row.State.TheVariants.{Ended};
 ghost use Rattle.fork_tree.specs.Seats.{seated};
 ghost use Rattle.fork_tree.specs.Given.{AreRows, IsHalf, AllHalf, IsRun, IsStanding, given_row};
@@ -33,7 +33,6 @@ impl<A: Allocator + Clone> ForkTree<A> {
     /// Row n, which waits, ends so, and these rows come below it.
     fn finish(&mut self, n: u16, end: End, below: Level<A>)
         requires waits { IsTrue (is_row is_idle (slice_get self.old.rows n)) }
-        requires final_status { IsFinalEnd end }
         requires next { below.first ≡ length self.old.rows }
         ensures { self.new ≡ record self.old {
           rows = with_state self.old.rows n (bare_state (Ended end)) ++ map (seated (Some n)) below.seats;
@@ -57,7 +56,6 @@ impl<A: Allocator + Clone> ForkTree<A> {
     fn settle(&mut self, alloc: &A, row: &RowRef) -> Result<(), AllocError>
         requires few { length self.old.rows ≤ most_targets }
         requires half { IsHalf (slice_get self.old.rows row.now.no) row.now.state }
-        requires final_end { IsFinal row.now.state }
         ensures { OnOk result (self.new ≡ record self.old {
           rows = with_state self.old.rows row.now.no (bare_state row.now.state);
         }) }

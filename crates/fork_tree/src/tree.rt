@@ -4,7 +4,7 @@ ghost use Rattle.std.specs.Option.{option_map};
 ghost use Rattle.fork_model.specs.Table as spec;
 ghost use Rattle.fork_model.specs.Table.{most_targets, is_row, is_idle, is_trying, is_open};
 ghost use Rattle.fork_model.specs.Step.{with_state};
-ghost use Rattle.fork_tree.specs.States.{bare_state, has_ended, IsFinalEnd};
+ghost use Rattle.fork_tree.specs.States.{bare_state, has_ended};
 ghost use Rattle.fork_tree.specs.declared.row.State.TheVariants.{Ended};
 ghost use Rattle.fork_tree.specs.Seats.{seats_of, seated, place_in};
 ghost use Rattle.fork_tree.specs.Closing.{closed_row};
@@ -173,7 +173,6 @@ impl<A: Allocator> ForkTree<A> {
     /// Row n, which was tried, ends so, and these rows, which wait, come below it.
     pub fn end(&mut self, n: u16, end: End, below: Level<A>)
         requires there { IsTrue (is_row is_open (slice_get self.old.rows n)) }
-        requires final_status { IsFinalEnd end }
         requires next { below.first ≡ length self.old.rows }
         ensures { self.new ≡ record self.old {
           rows = with_state self.old.rows n (bare_state (Ended end)) ++ map (seated (Some n)) below.seats;

@@ -4,3 +4,4 @@ pub use Rattle.fork_model.proofs.Arrivals.{history_of_arrivals}
 pub use Rattle.fork_model.proofs.ContextLemmas.{stands_by_its_history, one_final_of_context}
 pub use Rattle.fork_model.proofs.StepLemmas.{rows_always_keep_numbers}
 pub use Rattle.fork_model.proofs.OneReplyLemmas.{one_choice}
+pub use Rattle.fork_model.proofs.OneOutcome.{one_history}

@@ -5,7 +5,7 @@ use Rattle.fork_model.specs.History.{table}
 use Rattle.fork_model.proofs.Arrivals.{next_arrivals, history_of_arrivals}
 use Rattle.fork_model.proofs.ComputedReplies.{reply_to, reply_to_is}
 use Rattle.fork_model.proofs.OneReplyLemmas.{one_choice, one_reply}
-use Rattle.fork_model.proofs.OneOutcome.{one_outcome}
+use Rattle.fork_model.proofs.OneOutcome.{one_outcome, one_history}
 use Rattle.fork_model.proofs.replies.each_event_has_one_reply.Goals as goal
 
 pub returns-clause-some : goal.returns-clause-some
@@ -20,3 +20,6 @@ returns-clause-one c kind rules targets events event a b x y =
 
 pub returns-clause-of_context : goal.returns-clause-of_context
 returns-clause-of_context c = one_outcome
+
+pub returns-clause-of_history : goal.returns-clause-of_history
+returns-clause-of_history c = one_history

@@ -2,7 +2,7 @@ use Rattle.std.proofs.Common.{◌≡◌, ◌++◌, ◌<◌, ℕ, List, Some, len
 use Rattle.fork_model.specs.Table.{Row}
 use Rattle.fork_model.specs.Step.{with_state}
 use Rattle.fork_tree.specs.declared.row.State.TheVariants.{Ended}
-use Rattle.fork_tree.specs.States.{bare_state, IsFinal}
+use Rattle.fork_tree.specs.States.{bare_state}
 use Rattle.fork_tree.specs.Seats.{Waiting, seats_of, seated}
 use Rattle.fork_tree.specs.Tree.{Tree}
 use Rattle.fork_tree.specs.Given.{IsRun, IsStanding}
@@ -32,10 +32,6 @@ finish-requires-clause-waits g c =
     let ic : slice_get c.args.rows.now (length c.args.tree.now.rows) ≡ Some c.row_at-next.result =
     ap (slice_get c.args.rows.now) (sym c.requires.next) ∙ c.row_at-next.ensures in
     next_parent c.args.tree.now.rows c.args.rows.now c.row_at-next.result c.unwrap-parent.result c.requires.given c.requires.standing ic c.unwrap-parent.ensures
-
-pub finish-requires-clause-final_status : goal.finish-requires-clause-final_status
-finish-requires-clause-final_status g c =
-    subst IsFinal c.end_of-end.ensures (c.requires.given.final_end c.unwrap-parent.result c.row_at-redirected.result c.row_at-redirected.ensures)
 
 pub finish-requires-clause-next : goal.finish-requires-clause-next
 finish-requires-clause-next g c = ap (λ (w : Waiting). w.first) c.in_ok-below.ensures ∙ c.requires.next

@@ -15,8 +15,8 @@ use Rattle.fork_context.proofs.fork.Fork.waiting.Goals as goal
 pub new-requires : goal.new-requires
 new-requires g c =
     let targets = c.args.targets.now in
-    let qs : c.deref.result.now ≡ target_qs targets = c.deref.ensures.value ∙ c.in_ok-qs.ensures in
-    let again : c.deref-2.result.now ≡ target_qs targets = c.deref-2.ensures.value ∙ c.in_ok-qs.ensures in
+    let qs : c.deref.result.now ≡ target_qs targets = c.deref.ensures.value ∙ c.in_ok-qs.ensures.value in
+    let again : c.deref-2.result.now ≡ target_qs targets = c.deref-2.ensures.value ∙ c.in_ok-qs.ensures.value in
     let order : c.deref-3.result.now ≡ numbered (target_qs targets) = c.deref-3.ensures.value ∙ c.in_ok-order.ensures ∙ ap numbered qs in
     let ordered : c.deref-4.result.now ≡ map (q_of_pair (target_qs targets)) (numbered (target_qs targets)) =
     c.deref-4.ensures.value ∙ c.in_ok-qs_at.ensures ∙ (λ i. map (q_of_pair (again i)) (order i)) in
@@ -28,7 +28,7 @@ pub besides_by_key-requires : goal.besides_by_key-requires
 besides_by_key-requires g c =
     let targets = c.args.targets.now in
     let pairs = numbered (target_qs targets) in
-    let qs : c.deref.result.now ≡ target_qs targets = c.deref.ensures.value ∙ c.in_ok-qs.ensures in
+    let qs : c.deref.result.now ≡ target_qs targets = c.deref.ensures.value ∙ c.in_ok-qs.ensures.value in
     let order : c.deref-5.result.now ≡ pairs = c.deref-5.ensures.value ∙ c.in_ok-order.ensures ∙ ap numbered qs in
     let long : length c.deref-5.result.now ≡ length pairs = ap (λ (ps : List (ℕ × ℕ)). length ps) order in
     let each : length (map (q_of_pair (target_qs targets)) pairs) ≡ length pairs = length-map pairs (q_of_pair (target_qs targets)) in
@@ -39,8 +39,8 @@ besides_by_key-requires g c =
 pub of-requires : goal.of-requires
 of-requires g c =
     let targets = c.args.targets.now in
-    let qs : c.deref.result.now ≡ target_qs targets = c.deref.ensures.value ∙ c.in_ok-qs.ensures in
-    let again : c.deref-2.result.now ≡ target_qs targets = c.deref-2.ensures.value ∙ c.in_ok-qs.ensures in
+    let qs : c.deref.result.now ≡ target_qs targets = c.deref.ensures.value ∙ c.in_ok-qs.ensures.value in
+    let again : c.deref-2.result.now ≡ target_qs targets = c.deref-2.ensures.value ∙ c.in_ok-qs.ensures.value in
     let order : c.deref-3.result.now ≡ numbered (target_qs targets) = c.deref-3.ensures.value ∙ c.in_ok-order.ensures ∙ ap numbered qs in
     let ordered : c.deref-4.result.now ≡ map (q_of_pair (target_qs targets)) (numbered (target_qs targets)) =
     c.deref-4.ensures.value ∙ c.in_ok-qs_at.ensures ∙ (λ i. map (q_of_pair (again i)) (order i)) in
@@ -52,11 +52,11 @@ of-requires g c =
     let Q : List Beside → Type 0 = λ bs. IsFork c.in_ok-tree.tree.rows bs false in
     subst Q (sym besides) (subst P (sym rows) (opening_fork targets c.requires.few))
 
-pub returns : goal.returns
-returns g c =
+pub returns-clause-value : goal.returns-clause-value
+returns-clause-value g c =
     let targets = c.args.targets.now in
-    let qs : c.deref.result.now ≡ target_qs targets = c.deref.ensures.value ∙ c.in_ok-qs.ensures in
-    let again : c.deref-2.result.now ≡ target_qs targets = c.deref-2.ensures.value ∙ c.in_ok-qs.ensures in
+    let qs : c.deref.result.now ≡ target_qs targets = c.deref.ensures.value ∙ c.in_ok-qs.ensures.value in
+    let again : c.deref-2.result.now ≡ target_qs targets = c.deref-2.ensures.value ∙ c.in_ok-qs.ensures.value in
     let order : c.deref-3.result.now ≡ numbered (target_qs targets) = c.deref-3.ensures.value ∙ c.in_ok-order.ensures ∙ ap numbered qs in
     let ordered : c.deref-4.result.now ≡ map (q_of_pair (target_qs targets)) (numbered (target_qs targets)) =
     c.deref-4.ensures.value ∙ c.in_ok-qs_at.ensures ∙ (λ i. map (q_of_pair (again i)) (order i)) in
@@ -67,3 +67,6 @@ returns g c =
     c.in_ok-besides.ensures ∙ ap (filter_map (target_beside targets)) (c.deref-5.ensures.value ∙ c.in_ok-order.ensures ∙ ap numbered qs) in
     let of_rows : Rules → List Row → Table = λ (rs : Rules) (xs : List Row). record { kind = kind_of c.args.kind; rules = rs; closed = false; rows = xs } in
     c.of.ensures ∙ (λ i. of_rows (rules i) (dressed (rows i) (besides i))) ∙ ap (of_rows c.args.rules) (opening_dressed targets)
+
+pub returns-clause-range : goal.returns-clause-range
+returns-clause-range g c = c.in_ok-qs.ensures.range

@@ -19,9 +19,6 @@ settle-requires-clause-half g c =
     subst (λ (k : ℕ). IsHalf (slice_get c.loop-i.tree.rows k) c.row_at-row.result.state) (sym (c.requires.number c.loop-i.i c.row_at-row.result c.row_at-row.ensures))
     (half_at c.loop-i.tree.rows c.args.rows.now c.loop-i.i c.row_at-row.result c.loop-i.invariant.half c.loop-i.invariant.count c.row_at-row.ensures)
 
-pub settle-requires-clause-final_end : goal.settle-requires-clause-final_end
-settle-requires-clause-final_end g c = c.requires.final_end c.loop-i.i c.row_at-row.result c.row_at-row.ensures
-
 pub loop-i-preserved : goal.loop-i-preserved
 loop-i-preserved g c =
     settled_next c.args.rules c.args.rows.now c.loop-i.i c.loop-i.tree c.settle.new.self c.row_at-row.result c.requires c.loop-i.invariant c.row_at-row.ensures c.in_ok-settle.ensures

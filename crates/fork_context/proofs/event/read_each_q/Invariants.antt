@@ -1,0 +1,7 @@
+use Rattle.std.proofs.Common.{take}
+use Rattle.std.specs.List.{AllByRecursion}
+use Rattle.fork_model.specs.Range.{IsOfferInRange}
+use Rattle.fork_context.proofs.event.read_each_q.Given as goal
+
+abbrev pub invariant-loop-offer : goal.invariant-loop-offer
+invariant-loop-offer g l = AllByRecursion IsOfferInRange (take l.offer-index l.offers)
