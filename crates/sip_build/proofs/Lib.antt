@@ -16,3 +16,4 @@ pub mod UpwardTexts
 pub mod ViaPieces
 pub mod ViasUpward
 pub mod ViasForwarded
+pub mod OwnViaRead

@@ -70,7 +70,7 @@ no-front : (bs : List ℕ) → begins_with_space bs ≡ false → trim_start bs 
 no-front [] h = refl
 no-front (b ∷ bs) h = trim_start-none b bs h
 
-own-trimmed : (proxy : Own) (b : BranchName) → is_value (own_via proxy b) ≡ true → trim_end (trim_start (own_via proxy b)) ≡ own_via proxy b
+pub own-trimmed : (proxy : Own) (b : BranchName) → is_value (own_via proxy b) ≡ true → trim_end (trim_start (own_via proxy b)) ≡ own_via proxy b
 own-trimmed proxy b h =
     let v = own_via proxy b in
     let ends = and_parts (not (begins_with_space v)) (not (begins_with_space (reverse v))) (and_parts (is_line v) (is_trimmed v) h).1 in

@@ -1,12 +1,13 @@
 //! What the messages that are built have to do with one another.
 
-ghost use Rattle.std.specs.Prelude.{◌≡◌, ◌∷◌, ℕ, codes, drop, true, List, Option};
+ghost use Rattle.std.specs.Prelude.{◌≡◌, ◌<◌, ◌≤◌, ◌∷◌, ℕ, codes, drop, true, List, Option};
 ghost use Rattle.fork_model.specs.Table as table;
 ghost use Rattle.sip_text.specs.Text.{MessageText};
 ghost use Rattle.sip_uri.specs.Uri.{Uri};
 ghost use Rattle.sip_via.specs.declared.branch.BranchName.{BranchName};
 ghost use Rattle.sip_via.specs.declared.own.Own.{Own};
 ghost use Rattle.sip_via.specs.BranchText.{IsBranch};
+ghost use Rattle.sip_via.specs.OwnPass.{IsOwnBranch};
 ghost use Rattle.sip_via.specs.OwnVia.{IsOwn, own_via};
 ghost use Rattle.sip_via.specs.TopVia.{has_second, via_values};
 ghost use Rattle.sip_route.specs.Routes.{stripped};
@@ -50,4 +51,11 @@ pub fn cancel_of_a_forwarded_request()
     ensures { (m : MessageText) (target : Uri) (own : Own) (branch : BranchName) → is_request m.start ≡ true
         → IsOwn own → IsBranch branch
         → cancel_of (forwarded m target own branch) ≡ along_to (codes "CANCEL") m target own branch (to_value m) }
+{}
+
+/// The proxy's own Via value is read, and names the proxy's address, its port and the branch that was written, so a
+/// response finds its target by it (RFC 3261 sections 16.7 step 1 and 18.1.2).
+pub fn own_via_is_read()
+    ensures { (own : Own) (branch : BranchName) → IsOwn own → IsBranch branch → 0 < own.port → own.port ≤ 65535
+        → IsOwnBranch own (own_via own branch) branch }
 {}

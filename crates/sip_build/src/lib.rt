@@ -27,7 +27,7 @@ pub use forwarding::forward;
 pub use generated_text::write_generated;
 pub use laws::{
     ack_of_a_forwarded_request, cancel_of_a_forwarded_request, forwarding_puts_the_own_via_first,
-    stripping_keeps_answers, upward_loses_the_top_via,
+    own_via_is_read, stripping_keeps_answers, upward_loses_the_top_via,
 };
 pub use requests::{ack_is_message, ack_of, cancel_is_message, cancel_of};
 pub use responses::{OwnStatus, generated, generated_is_message};
