@@ -61,7 +61,7 @@ hops-good : (hs : List HeaderText) (o : Option (List ℕ)) → list_all is_heade
 hops-good hs None h is = h
 hops-good hs (Some value) h is = all-replaced hops_name (Some (decimal (number value - 1))) hs h (decimal-value (number value - 1) (lowered-small value is))
 
-hops-others : (hs : List HeaderText) (o : Option (List ℕ)) → SameOthers (hops_lowered hs o) hs
+pub hops-others : (hs : List HeaderText) (o : Option (List ℕ)) → SameOthers (hops_lowered hs o) hs
 unfolding full_name values_of
 hops-others hs None = record { from = refl; to = refl; call_id = refl; cseq = refl; length = refl }
 hops-others hs (Some value) =
@@ -73,7 +73,7 @@ hops-others hs (Some value) =
       length = values-replaced length_name hops_name lowered hs refl;
     }
 
-via-others : (v : List ℕ) (hs ks : List HeaderText) → SameOthers hs ks → SameOthers (line (codes "Via") v ∷ hs) ks
+pub via-others : (v : List ℕ) (hs ks : List HeaderText) → SameOthers hs ks → SameOthers (line (codes "Via") v ∷ hs) ks
 unfolding full_name values_of
 via-others v hs ks same = record { from = same.from; to = same.to; call_id = same.call_id; cseq = same.cseq; length = same.length }
 

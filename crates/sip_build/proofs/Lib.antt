@@ -13,3 +13,7 @@ pub mod StrippedSame
 pub mod Grown
 pub mod GroupTexts
 pub mod UpwardTexts
+pub mod ViaPieces
+pub mod ViasUpward
+pub mod ViasForwarded
+pub mod OwnViaRead

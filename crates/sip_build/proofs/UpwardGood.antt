@@ -84,7 +84,7 @@ values-challenges n [] differ = refl
 values-challenges n (c ∷ cs) differ = cond-false (same_name n (challenge_name c.proxy)) (c.value ∷ values_of n (map challenge_line cs)) (values_of n (map challenge_line cs)) (differ c.proxy) ∙ values-challenges n cs differ
 
 -- the first line of the name is gone
-values-dropped : (name : List ℕ) (hs : List HeaderText) → values_of name (replaced name None hs) ≡ drop 1 (values_of name hs)
+pub values-dropped : (name : List ℕ) (hs : List HeaderText) → values_of name (replaced name None hs) ≡ drop 1 (values_of name hs)
 unfolding values_of
 values-dropped name [] = refl
 values-dropped name (h ∷ hs) =
@@ -167,14 +167,14 @@ all-without_top hs h = all-replaced (codes "via") (others_of (first_value (codes
 
 -- ---- the response
 
-contacts-same : (n : List ℕ) (kept : Option (List (List ℕ))) (hs : List HeaderText) → same_name (codes "contact") n ≡ false → same_name n (codes "Contact") ≡ false → values_of n (with_contacts kept hs) ≡ values_of n hs
+pub contacts-same : (n : List ℕ) (kept : Option (List (List ℕ))) (hs : List HeaderText) → same_name (codes "contact") n ≡ false → same_name n (codes "Contact") ≡ false → values_of n (with_contacts kept hs) ≡ values_of n hs
 contacts-same n None hs contact small = refl
 contacts-same n (Some kept) hs contact small = values-exchanged n (codes "contact") (contact_lines kept) hs contact (values-contacts n kept small)
 
-challenges-same : (n : List ℕ) (hs : List HeaderText) (cs : List table.Challenge) → ((p : Bool) → same_name n (challenge_name p) ≡ false) → values_of n (hs ++ map challenge_line cs) ≡ values_of n hs
+pub challenges-same : (n : List ℕ) (hs : List HeaderText) (cs : List table.Challenge) → ((p : Bool) → same_name n (challenge_name p) ≡ false) → values_of n (hs ++ map challenge_line cs) ≡ values_of n hs
 challenges-same n hs cs differ = values-append n hs (map challenge_line cs) ∙ ap (λ (vs : List (List ℕ)). values_of n hs ++ vs) (values-challenges n cs differ) ∙ append-nil (values_of n hs)
 
-either : (n : List ℕ) → same_name n (codes "Proxy-Authenticate") ≡ false → same_name n (codes "WWW-Authenticate") ≡ false → (p : Bool) → same_name n (challenge_name p) ≡ false
+pub either : (n : List ℕ) → same_name n (codes "Proxy-Authenticate") ≡ false → same_name n (codes "WWW-Authenticate") ≡ false → (p : Bool) → same_name n (challenge_name p) ≡ false
 either n proxy server true = proxy
 either n proxy server false = server
 

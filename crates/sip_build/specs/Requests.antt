@@ -4,8 +4,13 @@ use Rattle.std.specs.Prelude.{ℕ, List, [], ◌∷◌, ◌++◌, codes}
 use Rattle.sip_text.specs.declared.needed.Needed.TheVariants.{From, To}
 use Rattle.sip_text.specs.Fields.{value_of}
 use Rattle.sip_text.specs.Text.{MessageText, Request}
+use Rattle.sip_uri.specs.Uri.{Uri}
+use Rattle.sip_uri.specs.Uri as uri
+use Rattle.sip_via.specs.declared.branch.BranchName.{BranchName}
+use Rattle.sip_via.specs.declared.own.Own.{Own}
 use Rattle.sip_via.specs.Edits.{line}
 use Rattle.sip_via.specs.Lines.{lines_as}
+use Rattle.sip_via.specs.OwnVia.{own_via}
 use Rattle.sip_route.specs.Loop.{call_id, cseq_number, request_uri}
 use Rattle.sip_via.specs.ViaParts.{or_empty}
 use Rattle.sip_via.specs.TopVia.{top_value}
@@ -40,3 +45,22 @@ ack_of sent response = along (codes "ACK") sent (to_value response)
 -- with the To of the request
 abbrev pub cancel_of : MessageText → MessageText
 cancel_of sent = along (codes "CANCEL") sent (to_value sent)
+
+-- ---- of a request that was forwarded
+
+-- a request of that method on the way of a request that went to a target: the target's URI, the proxy's own Via value
+-- with that branch, and of the request that came in its Route values, its From, its Call-ID and the number of its CSeq
+abbrev pub along_to : List ℕ → MessageText → Uri → Own → BranchName → (to : List ℕ) → MessageText
+along_to method m target own branch to = record {
+  start = Request method (uri.request_uri target);
+  headers =
+      line (codes "Via") (own_via own branch)
+      ∷ line (codes "Max-Forwards") (codes "70")
+      ∷ (lines_as (codes "Route") (codes "route") m
+      ++ line (codes "From") (from_value m)
+      ∷ line (codes "To") to
+      ∷ line (codes "Call-ID") (call_id m)
+      ∷ line (codes "CSeq") (cseq_number m ++ 32 ∷ method)
+      ∷ line (codes "Content-Length") (codes "0") ∷ []);
+  body = [];
+}

@@ -25,7 +25,10 @@ pub use along_text::{write_ack, write_cancel};
 pub use forwarded_text::write_forwarded;
 pub use forwarding::forward;
 pub use generated_text::write_generated;
-pub use laws::stripping_keeps_answers;
+pub use laws::{
+    ack_of_a_forwarded_request, cancel_of_a_forwarded_request, forwarding_puts_the_own_via_first,
+    own_via_is_read, stripping_keeps_answers, upward_loses_the_top_via,
+};
 pub use requests::{ack_is_message, ack_of, cancel_is_message, cancel_of};
 pub use responses::{OwnStatus, generated, generated_is_message};
 pub use tag::own_tag;

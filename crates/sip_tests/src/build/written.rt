@@ -1,4 +1,9 @@
 //! Responses, ACK and CANCEL that are written straight to a text, against those that are built and then written.
+ghost use Rattle.std.specs.Prelude.{◌≡◌, true};
+ghost use Rattle.std.specs.List.{list_all};
+ghost use Rattle.sip_build.specs.SeenKept.{seen_kept};
+ghost use Rattle.sip_build.specs.Upward.{AreKept, is_challenge};
+
 use crate::build::requests::{SENT, routed};
 use crate::build::responses::STATUSES;
 use crate::build::upstream::{ALONE, ASKED, MOVED};
@@ -95,7 +100,10 @@ fn goes_so(
     response: &Message<Global>,
     kept: Option<&[&[u8]]>,
     challenges: &[Challenge<Global>],
-) -> Option<bool> {
+) -> Option<bool>
+    requires kept { AreKept (seen_kept kept) }
+    requires challenges { list_all is_challenge challenges.now ≡ true }
+{
     let mut out = Vec::from_slice(alloc, b"before").ok()?;
     write_upward(response, kept, challenges, &mut out).ok()?;
     let built = upward(alloc, response, kept, challenges).ok()?;
@@ -103,7 +111,9 @@ fn goes_so(
 }
 
 /// Whether it does, with the contacts that it had, with others and with none.
-fn goes_so_with(alloc: Global, lines: &[&[u8]], challenges: &[Challenge<Global>]) -> Option<bool> {
+fn goes_so_with(alloc: Global, lines: &[&[u8]], challenges: &[Challenge<Global>]) -> Option<bool>
+    requires { list_all is_challenge challenges.now ≡ true }
+{
     let response = message_of(alloc, lines)?;
     let kept: [&[u8]; 2] = [b"<sip:d@192.0.2.7>", b"<sip:e@192.0.2.8>;q=0.1"];
     let as_they_were = goes_so(alloc, &response, None, challenges)?;

@@ -1,0 +1,143 @@
+-- The Via values of a request that was forwarded, and what an ACK or a CANCEL takes of it.
+use Rattle.std.proofs.Common.{◌≡◌, ℕ, ◌<◌, ◌^◌, ◌-◌, true, false, not, List, [], ◌∷◌, ◌++◌, map, reverse, Option, Some, None, refl, ap, ◌∙◌}
+use Rattle.std.specs.Prelude.{codes, slice_index}
+use Rattle.std.specs.Fmt.{decimal}
+use Rattle.std.specs.List.{flat_map, list_all}
+use Rattle.std.proofs.lemmas.Bool.{and_parts, false≢true}
+use Rattle.std.proofs.lemmas.List.{reverse-reverse}
+use Rattle.std.proofs.lemmas.List.Folds.{list_all-append}
+use Rattle.sip_lex.specs.Bytes.{is_token_byte, trim_end, trim_start}
+use Rattle.sip_lex.specs.Number.{number}
+use Rattle.sip_lex.proofs.Trims.{trim_end-reverse, trim_start-none}
+use Rattle.sip_text.specs.Fields.{cseq_in}
+use Rattle.sip_text.specs.Message.{is_line, is_trimmed, is_value}
+use Rattle.sip_text.specs.Name.{first_of, first_value, full_name, values_of}
+use Rattle.sip_text.specs.Reading.{begins_with_space}
+use Rattle.sip_text.specs.Text.{HeaderText, MessageText, Request, Response, StartText}
+use Rattle.sip_text.proofs.Good.{and_both}
+use Rattle.sip_uri.specs.Uri.{Uri}
+use Rattle.sip_uri.specs.Uri as uri
+use Rattle.sip_via.specs.declared.own.Own.{Own}
+use Rattle.sip_via.specs.declared.branch.BranchName.{BranchName}
+use Rattle.sip_via.specs.Address.{address_text}
+use Rattle.sip_via.specs.BranchText.{IsBranch, branch_text}
+use Rattle.sip_via.specs.Edits.{line}
+use Rattle.sip_via.specs.OwnVia.{IsOwn, own_via}
+use Rattle.sip_via.specs.TopVia.{first_or_empty, values_in, via_values}
+use Rattle.sip_via.specs.ViaParts.{or_empty}
+use Rattle.sip_via.proofs.laws.OwnVia.{own_via-good}
+use Rattle.sip_via.proofs.laws.Replaced.{values-replaced}
+use Rattle.sip_via.proofs.laws.Tokens.{all_pass, branch_token, dotted}
+use Rattle.sip_route.specs.Hops.{hops_name}
+use Rattle.sip_route.specs.Loop.{number_text, request_uri}
+use Rattle.sip_build.specs.Forwarding.{forwarded, hops_lowered, is_request, to_target}
+use Rattle.sip_build.specs.Requests.{along, along_to}
+use Rattle.sip_build.proofs.Forwarded.{hops-others, via-others}
+use Rattle.sip_build.proofs.ViaPieces.{calm-class, is-not, is_calm, one-piece}
+
+abbrev Values : Type 0
+Values = List (List ℕ)
+
+-- ---- the own Via value is one value
+
+token-calm : (bs : List ℕ) → list_all is_token_byte bs ≡ true → list_all is_calm bs ≡ true
+token-calm bs h = all_pass is_token_byte is_calm bs (calm-class is_token_byte refl refl) h
+
+both-calm : (xs ys : List ℕ) → list_all is_calm xs ≡ true → list_all is_calm ys ≡ true → list_all is_calm (xs ++ ys) ≡ true
+both-calm xs ys h k = list_all-append is_calm xs ys ∙ and_both (list_all is_calm xs) (list_all is_calm ys) h k
+
+dotted-calm : (n : ℕ) → n < 2 ^ 64 → list_all is_calm (46 ∷ decimal n) ≡ true
+dotted-calm n small = token-calm (46 ∷ decimal n) (dotted n small)
+
+number-calm : (n : ℕ) → n < 2 ^ 64 → list_all is_calm (decimal n) ≡ true
+number-calm n small = (and_parts (is_calm 46) (list_all is_calm (decimal n)) (dotted-calm n small)).1
+
+own-calm : (proxy : Own) (b : BranchName) → IsOwn proxy → IsBranch b → list_all is_calm (own_via proxy b) ≡ true
+own-calm proxy b is named =
+    let n1 = slice_index proxy.addr 1 in
+    let n2 = slice_index proxy.addr 2 in
+    let n3 = slice_index proxy.addr 3 in
+    let tail = codes ";branch=" ++ branch_text b in
+    let end = both-calm (codes ";branch=") (branch_text b) refl (token-calm (branch_text b) (branch_token b named)) in
+    let port = both-calm (decimal proxy.port) tail (number-calm proxy.port is.port) end in
+    let third = both-calm (46 ∷ decimal n2) (46 ∷ decimal n3) (dotted-calm n2 is.address.third) (dotted-calm n3 is.address.fourth) in
+    let second = both-calm (46 ∷ decimal n1) ((46 ∷ decimal n2) ++ (46 ∷ decimal n3)) (dotted-calm n1 is.address.second) third in
+    let address = both-calm (decimal (slice_index proxy.addr 0)) ((46 ∷ decimal n1) ++ ((46 ∷ decimal n2) ++ (46 ∷ decimal n3))) (number-calm (slice_index proxy.addr 0) is.address.first) second in
+    let sent = both-calm (address_text proxy.addr) (58 ∷ (decimal proxy.port ++ tail)) address (and_both (is_calm 58) (list_all is_calm (decimal proxy.port ++ tail)) refl port) in
+    both-calm (codes "SIP/2.0/UDP ") (address_text proxy.addr ++ (58 ∷ (decimal proxy.port ++ tail))) refl sent
+
+no-front : (bs : List ℕ) → begins_with_space bs ≡ false → trim_start bs ≡ bs
+no-front [] h = refl
+no-front (b ∷ bs) h = trim_start-none b bs h
+
+pub own-trimmed : (proxy : Own) (b : BranchName) → is_value (own_via proxy b) ≡ true → trim_end (trim_start (own_via proxy b)) ≡ own_via proxy b
+own-trimmed proxy b h =
+    let v = own_via proxy b in
+    let ends = and_parts (not (begins_with_space v)) (not (begins_with_space (reverse v))) (and_parts (is_line v) (is_trimmed v) h).1 in
+    ap trim_end (no-front v (is-not (begins_with_space v) ends.0))
+    ∙ trim_end-reverse v
+    ∙ ap (λ (x : List ℕ). reverse x) (no-front (reverse v) (is-not (begins_with_space (reverse v)) ends.1))
+    ∙ reverse-reverse v
+
+own-value : (proxy : Own) (b : BranchName) → IsOwn proxy → IsBranch b → values_in (own_via proxy b) ≡ own_via proxy b ∷ []
+own-value proxy b is named =
+    ap (λ (ps : Values). map (λ (p : List ℕ). trim_end (trim_start p)) ps) (one-piece (own_via proxy b) (own-calm proxy b is named))
+    ∙ ap (λ (x : List ℕ). x ∷ []) (own-trimmed proxy b (own_via-good proxy b is (branch_token b named)))
+
+-- ---- and the first
+
+vias-lowered : (hs : List HeaderText) (o : Option (List ℕ)) → values_of (codes "via") (hops_lowered hs o) ≡ values_of (codes "via") hs
+unfolding full_name values_of
+vias-lowered hs None = refl
+vias-lowered hs (Some value) = values-replaced (codes "via") hops_name (Some (decimal (number value - 1))) hs refl
+
+via-line : (v : List ℕ) (hs : List HeaderText) → values_of (codes "via") (line (codes "Via") v ∷ hs) ≡ v ∷ values_of (codes "via") hs
+unfolding full_name values_of
+via-line v hs = refl
+
+pub vias-forwarded : (m : MessageText) (target : Uri) (proxy : Own) (b : BranchName) → IsOwn proxy → IsBranch b → via_values (forwarded m target proxy b) ≡ own_via proxy b ∷ via_values m
+vias-forwarded m target proxy b is named =
+    let o = first_value hops_name m.headers in
+    ap (λ (xs : Values). flat_map values_in xs) (via-line (own_via proxy b) (hops_lowered m.headers o) ∙ ap (λ (xs : Values). own_via proxy b ∷ xs) (vias-lowered m.headers o))
+    ∙ ap (λ (xs : Values). xs ++ via_values m) (own-value proxy b is named)
+
+-- ---- the rest
+
+routes-lowered : (v : List ℕ) (hs : List HeaderText) (o : Option (List ℕ)) → values_of (codes "route") (line (codes "Via") v ∷ hops_lowered hs o) ≡ values_of (codes "route") hs
+unfolding full_name values_of
+routes-lowered v hs None = refl
+routes-lowered v hs (Some value) = values-replaced (codes "route") hops_name (Some (decimal (number value - 1))) hs refl
+
+uri-target : (s : StartText) (target : Uri) → is_request s ≡ true → request_uri (to_target s target) ≡ uri.request_uri target
+uri-target (Request method u) target h = refl
+uri-target (Response status reason) target h = absurd (false≢true h)
+
+pub along-forwarded : (method : List ℕ) (m : MessageText) (target : Uri) (proxy : Own) (b : BranchName) (to : List ℕ) → is_request m.start ≡ true → IsOwn proxy → IsBranch b → along method (forwarded m target proxy b) to ≡ along_to method m target proxy b to
+along-forwarded method m target proxy b to request is named =
+    let o = first_value hops_name m.headers in
+    let same = via-others (own_via proxy b) (hops_lowered m.headers o) m.headers (hops-others m.headers o) in
+    let start = uri-target m.start target request in
+    let top = ap first_or_empty (vias-forwarded m target proxy b is named) in
+    let routes = ap (map (line (codes "Route"))) (routes-lowered (own_via proxy b) m.headers o) in
+    let from = ap (λ (vs : Values). or_empty (first_of vs)) same.from in
+    let call = ap (λ (vs : Values). or_empty (first_of vs)) same.call_id in
+    let cseq = ap (λ (vs : Values). number_text (cseq_in (first_of vs))) same.cseq in
+    λ i. record {
+      start = Request method (start i);
+      headers =
+          line (codes "Via") (top i)
+          ∷ line (codes "Max-Forwards") (codes "70")
+          ∷ (routes i
+          ++ line (codes "From") (from i)
+          ∷ line (codes "To") to
+          ∷ line (codes "Call-ID") (call i)
+          ∷ line (codes "CSeq") (cseq i ++ 32 ∷ method)
+          ∷ line (codes "Content-Length") (codes "0") ∷ []);
+      body = [];
+    }
+
+pub to-forwarded : (m : MessageText) (target : Uri) (proxy : Own) (b : BranchName) → or_empty (first_of (values_of (codes "to") (forwarded m target proxy b).headers)) ≡ or_empty (first_of (values_of (codes "to") m.headers))
+to-forwarded m target proxy b =
+    let o = first_value hops_name m.headers in
+    let same = via-others (own_via proxy b) (hops_lowered m.headers o) m.headers (hops-others m.headers o) in
+    ap (λ (vs : Values). or_empty (first_of vs)) same.to
