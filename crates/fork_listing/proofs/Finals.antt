@@ -3,7 +3,7 @@ use Rattle.std.proofs.Common.{◌≡◌, ℕ, length, Bool, true, false, cond, e
 use Rattle.std.specs.Prelude.{slice_get}
 use Rattle.std.specs.Option.{option_map, option_map_or}
 use Rattle.std.proofs.lemmas.Bool.{eqb-true, eq-eqb, false≢true}
-use Rattle.fork_model.specs.Table.{Rules, Row, Stored}
+use Rattle.fork_model.specs.Table.{Rules, Row, StoredAnswer}
 use Rattle.fork_model.specs.Rank.{Score}
 use Rattle.fork_model.specs.Choice as model
 use Rattle.fork_model.specs.Choice.{Choice, Best, Only503, NoAnswer408, IsChoice, IsFirst, stored_at, status_at}
@@ -23,7 +23,7 @@ some_same e = cc
 none_some : {X : Type 0} {x : X} → None ≡ Some x → ⊥
 none_some e = absurd cc
 
-pub status_seen : (o : Option Stored) (score : Score) → option_map model.score_of o ≡ Some score → option_map_or (λ (answer : Stored). answer.status) o 408 ≡ score.status
+pub status_seen : (o : Option StoredAnswer) (score : Score) → option_map model.score_of o ≡ Some score → option_map_or (λ (answer : StoredAnswer). answer.status) o 408 ≡ score.status
 status_seen None score e = absurd (none_some e)
 status_seen (Some answer) score e = ap (λ (s : Score). s.status) (some_same e)
 

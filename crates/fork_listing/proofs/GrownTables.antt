@@ -21,7 +21,7 @@ use Rattle.fork_listing.specs.declared.line.Target.{Target}
 use Rattle.fork_listing.specs.Targets.{arrival_of, ended_at, is_redirection, IsParent, Follows, FollowsTarget, line_before, IsEarlier, HasDepth, IsInPlace}
 use Rattle.fork_text.specs.Field.{most_q}
 use Rattle.fork_listing.specs.Spelled.{IsStatus}
-use Rattle.fork_listing.specs.Accepted.{IsTargetInRange, IsOfferInRange, IsEventInRange}
+use Rattle.fork_model.specs.Range.{IsTargetInRange, IsOfferInRange, IsEventInRange}
 use Rattle.fork_listing.specs.Listed.{state_shown, targets_from, targets_of}
 use Rattle.fork_listing.proofs.Placing.{inside, there}
 use Rattle.fork_listing.proofs.FallingRows.{fall_at, fresh_fall, opening_fall}
@@ -225,7 +225,7 @@ redirects_ends t n row at answer state open_yet in_range low high =
 
     smaller : (b : Bool) → FreshSmall (cond {A = Taking} b (record { fresh = []; left = answer.offers }) (taking_from (keys_of t.rows) 0 answer.offers)).fresh
     smaller true = tt
-    smaller false = taken_small (keys_of t.rows) 0 answer.offers in_range.1
+    smaller false = taken_small (keys_of t.rows) 0 answer.offers in_range.offers
 
     made : (k : ℕ) (f : Row) → slice_get (fresh_rows n taken.fresh) k ≡ Some f → (f.parent ≡ Some n) × (f.state ≡ Idle) × (f.q ≤ most_q)
     made k f is =
@@ -261,7 +261,7 @@ answers_end t n row at answer state open_yet in_range = first (nat_lt answer.sta
     first false e = second (nat_lt answer.status 400) refl
       where
         low : IsStatus answer.status
-        low = (ltb-false answer.status 300 e, in_range.0)
+        low = (ltb-false answer.status 300 e, in_range.status)
 
         second : (b : Bool) → nat_lt answer.status 400 ≡ b → IsEnding t n at row state (cond b (redirects n at answer (taking_at t row answer.offers)) (stores at answer))
         second true h = redirects_ends t n row at answer state open_yet in_range low h

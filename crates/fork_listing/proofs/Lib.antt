@@ -19,3 +19,4 @@ mod Formed
 mod TreeRows
 mod MalformedLines
 pub mod FirstLines
+pub mod OneListing

@@ -3,7 +3,7 @@ use Rattle.std.proofs.Common.{◌≡◌, ◌≢◌, ℕ, zero, suc, ◌<◌, ◌
 use Rattle.std.specs.Prelude.{slice_get, option_and_then}
 use Rattle.std.specs.Option.{option_map}
 use Rattle.std.specs.List.{AllByRecursion}
-use Rattle.fork_model.specs.Table.{Kind, Rules, Row, Table, State, Idle, Trying, Rung, Ended, Answered, Taken, Silent, Never, Accepted, most_targets, stored_of}
+use Rattle.fork_model.specs.Table.{Kind, Rules, Row, Table, State, Idle, Trying, Rung, Ended, Stored, Taken, Silent, Never, Accepted, most_targets, stored_of}
 use Rattle.fork_model.specs.Rank.{Score, Before}
 use Rattle.fork_model.specs.Event.{Event}
 use Rattle.fork_model.specs.History as history
@@ -29,7 +29,8 @@ use Rattle.fork_listing.specs.Text.{Listing}
 use Rattle.fork_listing.specs.Checking.{AreInOrder, AreListed, IsRight, verdict_of}
 use Rattle.fork_listing.specs.Listed.{targets_of, listing_of, IsListingOf}
 use Rattle.fork_listing.specs.Spelled.{IsStatus, IsEnd, IsNumberOrNone, IsTargetLine, IsRankLine, IsFinalLine, IsLine, IsListing}
-use Rattle.fork_listing.specs.Accepted.{AreRules, IsRightText, ListingsAreRight, AppendsRight}
+use Rattle.fork_context.specs.Led.{AreRules, IsLedTo}
+use Rattle.fork_listing.specs.Accepted.{IsRightText, ListingsAreRight, AppendsRight}
 use Rattle.fork_listing.proofs.Placing.{inside}
 use Rattle.fork_listing.proofs.Finals.{status_seen}
 use Rattle.fork_listing.proofs.Meanings.{same_score}
@@ -85,7 +86,7 @@ state_score : (state : State) → option_map model.score_of (stored_of state) �
 state_score Idle = refl
 state_score Trying = refl
 state_score (Rung cancelled) = refl
-state_score (Ended (Answered answer)) = refl
+state_score (Ended (Stored answer)) = refl
 state_score (Ended (Taken arrival)) = refl
 state_score (Ended (Silent arrival)) = refl
 state_score (Ended Never) = refl
@@ -281,5 +282,5 @@ listings_right core text h listed =
     (subst Q h.led listed)
 
 -- and so is what is appended
-pub appends_right : (core : Core) (old text new : List ℕ) → IsListingOf core.table text → new ≡ old ++ text → AppendsRight core old new
-appends_right core old text new listed joined = λ led. let h = listings_right core text led listed in (text, h.0, joined, h.1)
+pub appends_right : (core : Core) (old text new : List ℕ) → IsLedTo core → IsListingOf core.table text → new ≡ old ++ text → AppendsRight old new
+appends_right core old text new led listed joined = let h = listings_right core text led listed in (text, h.0, joined, h.1)

@@ -7,7 +7,7 @@ use Rattle.fork_model.specs.Table.{Rules, stored_end}
 use Rattle.fork_model.specs.Choice.{score_of, stored_at}
 use Rattle.fork_tree.specs.declared.best.BestRef.{BestRef}
 use Rattle.fork_tree.specs.declared.row.RowRef.{RowRef}
-use Rattle.fork_tree.specs.States.{IsFinal, IsFinalEnd, has_ended, end_of as tree_end_of}
+use Rattle.fork_tree.specs.States.{has_ended, end_of as tree_end_of}
 use Rattle.fork_tree.specs.Tree.{IsBest}
 use Rattle.fork_tree.specs.Given.{AreRows, given_row}
 use Rattle.fork_tree.proofs.Ordering.{IsNext, ordered_rows}
@@ -16,7 +16,6 @@ use Rattle.fork_listing.specs.declared.line.End.TheVariants.{Stored, Taken, Sile
 use Rattle.fork_listing.specs.declared.line.Target.{Target}
 use Rattle.fork_listing.specs.First.{HoldsBelow}
 use Rattle.fork_listing.specs.Ranks.{rows_of, end_of}
-use Rattle.fork_listing.specs.Spelled.{IsEnd}
 use Rattle.fork_listing.specs.Targets.{ended_at, IsParent, IsBefore, Follows, FollowsTarget, IsInPlace, IsPlaced}
 use Rattle.fork_listing.specs.TreeRows.{AreFormed, tree_end, is_same, group_beside, group_behind, group_kept, row_behind, rows_behind, last_row, tree_rows}
 use Rattle.fork_listing.proofs.Placing.{inside}
@@ -173,12 +172,6 @@ next_behind targets a t follows = at (is_same a.parent t.parent) refl
 
 -- ---- so they are the rows of a tree
 
-final_end : (end : End) → IsEnd end → IsFinalEnd (tree_end end)
-final_end (Stored status arrival received) h = h.0.0
-final_end (Taken arrival) h = tt
-final_end (Silent arrival) h = tt
-final_end Never h = tt
-
 pub are_rows : (depth : ℕ) (targets : List Target) (rows : List RowRef) → AreFormed targets → HoldsBelow (IsPlaced depth targets) (length targets)
     → rows ≡ tree_rows targets → AreRows rows
 are_rows depth targets rows formed placed is =
@@ -188,10 +181,6 @@ are_rows depth targets rows formed placed is =
       number = λ n row at.
           let h = row_found None targets n row at in
           ap (λ (x : RowRef). x.no) h.same ∙ (place n h.target h.here).number;
-      final_end = λ n row at.
-          let h = row_found None targets n row at in
-          let Q : RowRef → Type 0 = λ x. IsFinal x.state in
-          subst Q (sym h.same) (final_end h.target.end (formed.ends n h.target h.here));
       parent = λ n m row at e. record {
         older = (parent_of n m row at e).0;
         ended = λ p there. ap (λ (x : RowRef). has_ended x.state) (row_found None targets m p there).same;

@@ -17,3 +17,4 @@ pub mod Ranking
 pub mod Listed
 pub mod Sorting
 pub mod Meaning
+pub mod One

@@ -13,7 +13,7 @@ use Rattle.fork_listing.specs.declared.line.Final.{Final}
 -- the end that a line tells of, without contacts and challenges
 abbrev pub end_of : End → table.End
 end_of (Stored status arrival received) =
-    table.Answered (record { status = status; arrival = arrival; received = received; left = []; challenges = [] })
+    table.Stored (record { status = status; arrival = arrival; received = received; left = []; challenges = [] })
 end_of (Taken arrival) = table.Taken arrival
 end_of (Silent arrival) = table.Silent arrival
 end_of Never = table.Never

@@ -1,6 +1,7 @@
 //! What it means that a listing is right.
 ghost use Rattle.fork_listing.specs.Meaning.{RightTellsTheChoice, AcceptedTellsTheChoice, TheChoiceIsFirst};
 ghost use Rattle.fork_listing.specs.Spelled.{ReadExactly, RefusedByFirst};
+ghost use Rattle.fork_listing.specs.One.{OneRanking, OneListing};
 ghost use Rattle.fork_listing.specs.Accepted.{AcceptedTextsAreRight, RightTextsAreAccepted, ListingsAreRight};
 
 /// Where `check` accepts a text, the answers listed are exactly those stored, each ranks before those behind it, and the
@@ -33,8 +34,7 @@ pub fn right_texts_are_accepted()
     ensures right { RightTextsAreAccepted }
 {}
 
-/// Whatever has happened to a fork, its listing is right, so that `check` accepts it, where each q that it was given is
-/// at most one (RFC 3261 sections 16.5 to 16.7).
+/// Whatever has happened to a fork, its listing is right, so that `check` accepts it (RFC 3261 sections 16.5 to 16.7).
 ///
 /// A law over the definitions, with nothing to run.
 #[tactic(auto, using(crate::proofs::ListedForks::listings_right))]
@@ -48,4 +48,13 @@ pub fn listings_of_forks_are_right()
 /// A law over the definitions, with nothing to run.
 pub fn the_choice_is_listed_first()
     ensures { TheChoiceIsFirst }
+{}
+
+/// A fork that is done without a 2xx has one listing: what it has stored stands in one order of rank (RFC 3261 section
+/// 16.7 step 6).
+///
+/// A law over the definitions, with nothing to run.
+pub fn a_fork_has_one_listing()
+    ensures ranking { OneRanking }
+    ensures listing { OneListing }
 {}

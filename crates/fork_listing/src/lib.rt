@@ -14,7 +14,7 @@ mod targets;
 
 pub use checker::{CheckFault, Verdict, check};
 pub use laws::{
-    accepted_listing_tells_the_choice, listing_is_read_exactly, listings_of_forks_are_right,
-    right_texts_are_accepted, the_choice_is_listed_first,
+    a_fork_has_one_listing, accepted_listing_tells_the_choice, listing_is_read_exactly,
+    listings_of_forks_are_right, right_texts_are_accepted, the_choice_is_listed_first,
 };
 pub use lister::{ListFault, listing};
