@@ -15,6 +15,8 @@ mod lex_numbers;
 #[cfg(test)]
 mod messages;
 #[cfg(test)]
+mod route_keys;
+#[cfg(test)]
 mod route_more;
 #[cfg(test)]
 mod rows;

@@ -3,7 +3,7 @@ use crate::bytes::{has, holds_of, is};
 use crate::holds::holds;
 use crate::messages::{REQUEST, message_of, text_of, written};
 use sip_text::{
-    Header, Message, append_end, append_header, append_headers, append_request_line,
+    Header, Message, append_end, append_header, append_headers, append_pieces, append_request_line,
     append_status_line, header_len, header_values_are_values, headers_len, request_line_len,
     status_line_len, trimmed_part_is_a_value,
 };
@@ -21,11 +21,12 @@ const RESPONSE: [&[u8]; 7] = [
     b"",
 ];
 
-/// A request of the header lines of another, and one more.
+/// A request of the header lines of another, and two more.
 fn append_request(out: &mut Vec<u8>, headers: &[Header<Global>]) -> Result<(), AllocError> {
     append_request_line(out, b"OPTIONS", b"sip:bob@example.com")?;
     append_headers(out, headers)?;
-    append_header(out, b"Subject", b"x")?;
+    append_pieces(out, &[b"Subject", b": ", b"x\r\n"])?;
+    append_header(out, b"Priority", b"urgent")?;
     append_end(out, b"body")
 }
 
@@ -34,6 +35,7 @@ fn request_len(headers: &[Header<Global>]) -> usize {
     request_line_len(b"OPTIONS", b"sip:bob@example.com")
         .saturating_add(headers_len(headers))
         .saturating_add(header_len(b"Subject", b"x"))
+        .saturating_add(header_len(b"Priority", b"urgent"))
         .saturating_add(6)
 }
 
@@ -49,7 +51,7 @@ fn is_appended(alloc: Global, lines: &[&[u8]]) -> Option<bool> {
 
 #[test]
 fn appends_a_request(rt: HostRuntime) {
-    let lines: [&[u8]; 10] = [
+    let lines: [&[u8]; 11] = [
         REQUEST[0],
         REQUEST[1],
         REQUEST[2],
@@ -59,6 +61,7 @@ fn appends_a_request(rt: HostRuntime) {
         REQUEST[6],
         REQUEST[7],
         b"Subject: x",
+        b"Priority: urgent",
         b"",
     ];
     let well = is_appended(rt.alloc(), &lines);

@@ -1,0 +1,222 @@
+//! Senders of messages, and the keys of requests.
+use crate::bytes::holds_of;
+use crate::holds::holds;
+use crate::messages::{REQUEST, message_of};
+use crate::rows::holds_in_row;
+use sip_route::{append_request_key, has_key, has_same_key};
+use sip_text::Message;
+use sip_via::{Sender, sender_of};
+use std::alloc::Global;
+
+/// The request with this line in place of its Via line.
+fn request_with(alloc: Global, via: &[u8]) -> Option<Message<Global>> {
+    let mut lines = REQUEST;
+    lines[1] = via;
+    message_of(alloc, &lines)
+}
+
+/// Via values, and their senders.
+const SENDERS: [(&[u8], Option<Sender<'static>>); 5] = [
+    (
+        b"SIP/2.0/UDP Host.example:5061;x=y;BRANCH=z9hG4bKa",
+        Some(Sender {
+            host: b"Host.example",
+            port: 5061,
+            branch: Some(b"z9hG4bKa"),
+        }),
+    ),
+    (
+        b"SIP/2.0/UDP 192.0.2.1;rport",
+        Some(Sender {
+            host: b"192.0.2.1",
+            port: 5060,
+            branch: None,
+        }),
+    ),
+    (b"SIP/2.0/UDP 192.0.2.1:0;branch=z9hG4bKa", None),
+    (b"SIP/3.0/UDP 192.0.2.1;branch=z9hG4bKa", None),
+    (b"", None),
+];
+
+#[test]
+fn names_the_sender(rt: HostRuntime) {
+    for (row, (value, sender)) in SENDERS.iter().enumerate() {
+        holds_in_row(
+            &rt,
+            sender_of(value) == *sender,
+            "the sender of a value",
+            row,
+        );
+    }
+}
+
+/// Via lines of one sender and one branch, and the key of all of them.
+const KEY: &[u8] = b"host.example:5060 z9hG4bKa1";
+
+const SAME: [&[u8]; 6] = [
+    b"Via: SIP/2.0/UDP host.example:5060;branch=z9hG4bKa1",
+    b"Via: SIP/2.0/UDP host.example;branch=z9hG4bKa1",
+    b"v: sip / 2.0 / TCP HOST.Example ; received=192.0.2.1 ; Branch = z9hG4bKa1",
+    b"Via: SIP/2.0/UDP host.example:05060;rport=9;branch=z9hG4bKa1;branch=z9hG4bKa2",
+    b"Via: SIP/2.0/UDP host.example;branch=z9hG4bKa1, SIP/2.0/UDP other;branch=z9hG4bKb",
+    b"Via: SIP/2.0/UDP host.example;branch=z9hG4bKa1\r\nVia: SIP/2.0/UDP other;branch=z9hG4bKb",
+];
+
+/// Via lines with one change each, and their keys.
+const OTHERS: [(&[u8], &[u8]); 9] = [
+    (
+        b"Via: SIP/2.0/UDP host.example:5061;branch=z9hG4bKa1",
+        b"host.example:5061 z9hG4bKa1",
+    ),
+    (
+        b"Via: SIP/2.0/UDP 192.0.2.1;branch=z9hG4bKa1",
+        b"192.0.2.1:5060 z9hG4bKa1",
+    ),
+    (
+        b"Via: SIP/2.0/UDP 192.0.2.01;branch=z9hG4bKa1",
+        b"192.0.2.01:5060 z9hG4bKa1",
+    ),
+    (
+        b"Via: SIP/2.0/UDP host.example;branch=z9hG4bKa2",
+        b"host.example:5060 z9hG4bKa2",
+    ),
+    (
+        b"Via: SIP/2.0/UDP host.example;branch=z9hG4bKA1",
+        b"host.example:5060 z9hG4bKA1",
+    ),
+    (
+        b"Via: SIP/2.0/UDP host.example;branch=z9hG4bKa",
+        b"host.example:5060 z9hG4bKa",
+    ),
+    (
+        b"Via: SIP/2.0/UDP host.example;branch=z9hG4bKa11",
+        b"host.example:5060 z9hG4bKa11",
+    ),
+    (
+        b"Via: SIP/2.0/UDP other;branch=z9hG4bKb, SIP/2.0/UDP host.example;branch=z9hG4bKa1",
+        b"other:5060 z9hG4bKb",
+    ),
+    (
+        b"Via: SIP/2.0/UDP other;branch=z9hG4bKb\r\nVia: SIP/2.0/UDP host.example;branch=z9hG4bKa1",
+        b"other:5060 z9hG4bKb",
+    ),
+];
+
+/// Via lines of requests without a key.
+const KEYLESS: [&[u8]; 4] = [
+    b"Via: SIP/2.0/UDP host.example:5060",
+    b"Via: SIP/2.0/UDP host.example:5060;branch",
+    b"Via: SIP/2.0/UDP host.example:65536;branch=z9hG4bKa1",
+    b"Via: , SIP/2.0/UDP host.example;branch=z9hG4bKa1",
+];
+
+/// What is appended for a request with that Via line, behind a byte.
+fn key_with(alloc: Global, via: &[u8]) -> Option<(bool, Vec<u8>)> {
+    let mut out = Vec::new(alloc);
+    out.push(b'>').ok()?;
+    let said = append_request_key(&mut out, &request_with(alloc, via)?).ok()?;
+    Some((said, out))
+}
+
+/// Whether a request with that Via line has this key, and says so of these bytes.
+fn is_keyed(alloc: Global, via: &[u8], key: &[u8]) -> bool {
+    let (Some((said, out)), Some(request)) = (key_with(alloc, via), request_with(alloc, via)) else {
+        return false;
+    };
+    said && out.strip_prefix(b">") == Some(key) && has_key(&request, key)
+}
+
+#[test]
+fn spells_keys(rt: HostRuntime) {
+    for via in SAME {
+        holds_of(
+            &rt,
+            is_keyed(rt.alloc(), via, KEY),
+            "the key of one sender",
+            via,
+        );
+    }
+    for (via, key) in OTHERS {
+        holds_of(&rt, is_keyed(rt.alloc(), via, key), "another key", via);
+    }
+}
+
+/// Whether nothing is appended for a request with that Via line, which has not that key.
+fn is_keyless(alloc: Global, via: &[u8]) -> bool {
+    let (Some((said, out)), Some(request)) = (key_with(alloc, via), request_with(alloc, via)) else {
+        return false;
+    };
+    !said
+        && out.len() == 1
+        && !has_key(&request, KEY)
+        && !has_key(&request, b"")
+        && !has_same_key(&request, &request)
+}
+
+#[test]
+fn finds_no_key(rt: HostRuntime) {
+    for via in KEYLESS {
+        holds_of(
+            &rt,
+            is_keyless(rt.alloc(), via),
+            "a request without a key",
+            via,
+        );
+    }
+}
+
+/// Whether requests with these Via lines have one key.
+fn are_same(alloc: Global, via: &[u8], other: &[u8]) -> Option<bool> {
+    Some(has_same_key(&request_with(alloc, via)?, &request_with(alloc, other)?))
+}
+
+#[test]
+fn compares_keys(rt: HostRuntime) {
+    for via in SAME {
+        holds_of(
+            &rt,
+            are_same(rt.alloc(), SAME[0], via) == Some(true),
+            "one key",
+            via,
+        );
+    }
+    for (via, _) in OTHERS {
+        holds_of(
+            &rt,
+            are_same(rt.alloc(), SAME[0], via) == Some(false),
+            "two keys",
+            via,
+        );
+    }
+}
+
+/// Near misses of the key.
+const NEAR_KEYS: [&[u8]; 6] = [
+    b"",
+    b"Host.example:5060 z9hG4bKa1",
+    b"host.example:05060 z9hG4bKa1",
+    b"host.example:5060  z9hG4bKa1",
+    b"host.example:5060 z9hG4bKa1 ",
+    b"host.example:5060 z9hG4bKA1",
+];
+
+fn first_has(alloc: Global, key: &[u8]) -> Option<bool> {
+    Some(has_key(&request_with(alloc, SAME[0])?, key))
+}
+
+#[test]
+fn knows_its_key(rt: HostRuntime) {
+    holds(
+        &rt,
+        first_has(rt.alloc(), KEY) == Some(true),
+        "the key itself",
+    );
+    for key in NEAR_KEYS {
+        holds_of(
+            &rt,
+            first_has(rt.alloc(), key) == Some(false),
+            "no key of the request",
+            key,
+        );
+    }
+}
