@@ -13,8 +13,9 @@ use crate::rows::holds_in_row;
 use bumpalo::Bump;
 use fork_rank::Challenge;
 use sip_build::{
-    OwnStatus, ack_of, cancel_of, generated, upward, write_ack, write_cancel, write_generated,
-    write_upward,
+    OwnStatus, ack_of, ack_of_a_forwarded_request, cancel_of, cancel_of_a_forwarded_request,
+    forwarding_puts_the_own_via_first, generated, own_via_is_read, upward,
+    upward_loses_the_top_via, write_ack, write_cancel, write_generated, write_upward,
 };
 use sip_text::{Message, Start};
 use sip_via::BuildFault;
@@ -77,6 +78,10 @@ fn acknowledges_so(alloc: Global, lines: &[&[u8]], answer: &[&[u8]]) -> Option<b
 
 #[test]
 fn requests_are_written_along_as_they_are_built(rt: HostRuntime) {
+    forwarding_puts_the_own_via_first();
+    own_via_is_read();
+    ack_of_a_forwarded_request();
+    cancel_of_a_forwarded_request();
     let alloc = rt.alloc();
     for (row, lines) in [SENT, routed()].iter().enumerate() {
         holds_in_row(
@@ -130,6 +135,7 @@ fn goes_so_with_challenges(alloc: Global, lines: &[&[u8]]) -> Option<bool> {
 
 #[test]
 fn responses_are_written_as_they_are_built(rt: HostRuntime) {
+    upward_loses_the_top_via();
     let alloc = rt.alloc();
     let mut sooner = MOVED;
     sooner[1] = b"m: <sip:a@192.0.2.5>";
