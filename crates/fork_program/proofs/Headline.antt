@@ -28,7 +28,7 @@ rules_stay script =
     ap (λ (t : Table). t.rules) (closed_is script)
     ∙ (rows_always_keep_numbers (opening script.kind script.rules script.targets) 0 (taken script)).rules
 
-arrivals : (script : Script) → AreArrivals (closed script).table.rows (length (taken script))
+pub arrivals : (script : Script) → AreArrivals (closed script).table.rows (length (taken script))
 arrivals script =
     let P : Table → Type 0 = λ t. AreArrivals t.rows (length (taken script)) in
     subst P (sym (closed_is script)) (history_of_arrivals script.kind script.rules script.targets (taken script))

@@ -9,3 +9,4 @@ pub mod Refusing
 pub mod LineLaws
 pub mod SpelledLines
 pub mod Headline
+pub mod OneReplay

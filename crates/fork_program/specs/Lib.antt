@@ -10,3 +10,4 @@ pub mod Answer
 pub mod Program
 pub mod Input
 pub mod Headline
+pub mod One

@@ -1,10 +1,11 @@
 //! A whole script: what is forked, by which rules and to which targets, and what happens then.
-ghost use Rattle.std.specs.Prelude.{◌≡◌, ◌<◌, ◌^◌, ◌++◌, ◌∷◌, [], length, OnOk, IfOk, Some, None, if◌then◌else◌};
+ghost use Rattle.std.specs.Prelude.{◌≡◌, ◌≤◌, ◌<◌, ◌^◌, ◌++◌, ◌∷◌, [], length, OnOk, IfOk, Some, None, if◌then◌else◌};
 ghost use Rattle.sip_lex.specs.Cut.{is};
 ghost use Rattle.fork_context.specs.KindView.{kind_of};
 ghost use Rattle.fork_context.specs.EventView.{event_of};
 ghost use Rattle.fork_program.specs.Script.{phase_after, with_contact, with_challenge, answer_changed, last_changed, with_line, no_script, no_draft, drafted, has_kind, finished_draft, read_script};
-ghost use Rattle.fork_program.specs.Line.{bare};
+ghost use Rattle.fork_text.specs.Field.{most_q};
+ghost use Rattle.fork_program.specs.Line.{bare, IsLine};
 ghost use Rattle.fork_program.specs.LineView.{line_of};
 ghost use Rattle.fork_program.specs.ReadView.{GivesScript};
 
@@ -205,6 +206,7 @@ impl<A: Allocator + Clone> Script<A> {
 
     /// Adds what a line says.
     fn add(&mut self, alloc: &A, line: Line<'_>) -> Result<(), AllocError>
+        requires { IsLine (line_of line) }
         ensures { OnOk result (self.new ≡ with_line self.old (line_of line.entry)) }
     {
         match line {
@@ -242,6 +244,7 @@ fn bare_answer<A: Allocator + Clone>(alloc: &A, status: Status) -> Result<Answer
 
 /// A contact that the proxy may try.
 fn contact<A: Allocator + Clone>(alloc: &A, q: u16, name: &[u8]) -> Result<Offer<A>, AllocError>
+    requires { q ≤ most_q }
     ensures { IfOk result (λ offer. offer ≡ record { text = name.now; q = q; key = Some name.now }) }
 {
     let key = name.to_vec(alloc.clone()?)?;
@@ -250,6 +253,7 @@ fn contact<A: Allocator + Clone>(alloc: &A, q: u16, name: &[u8]) -> Result<Offer
 
 /// A contact that it may not.
 fn other<A: Allocator + Clone>(alloc: &A, q: u16, text: &[u8]) -> Result<Offer<A>, AllocError>
+    requires { q ≤ most_q }
     ensures { IfOk result (λ offer. offer ≡ record { text = text.now; q = q; key = None }) }
 {
     Ok(Offer::new(text.to_vec(alloc.clone()?)?, q, None))
