@@ -2,6 +2,14 @@ pub mod LegLists
 pub mod Sends
 pub mod NoRows
 pub mod NotFull
+pub mod Waiting
+pub mod SoundTables
+pub mod Failing
+pub mod Cancels
+pub mod SoundValues
+pub mod SoundSteps
+pub mod SoundBegun
+pub mod Firing
 pub mod Changing
 pub mod Responding
 pub mod RightDatagrams
