@@ -16,5 +16,6 @@ pub mod RightDatagrams
 pub mod KeptBuilt
 pub mod StepsBuilt
 pub mod StateRows
+pub mod Paying
 pub mod Deeds
 pub mod Beginning

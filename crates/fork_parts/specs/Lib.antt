@@ -22,4 +22,5 @@ pub mod FixedInside
 pub mod LegInside
 pub mod PartsInside
 pub mod Plain
+pub mod AnswersInside
 pub mod StatesShown

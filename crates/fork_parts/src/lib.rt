@@ -6,6 +6,7 @@
 //! a moment, is for a layer above: no message is read here, and nothing is looked for.
 #![tactic(auto)]
 
+mod answers;
 mod cause;
 mod client;
 mod datagram;

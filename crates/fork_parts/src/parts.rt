@@ -702,12 +702,8 @@ impl<A: Allocator + Clone> Parts<A> {
     // ---- to the caller
 
     /// Hands the first answer that is owed, spelled by these bytes, to the server transaction, which sends it or drops
-    /// it (RFC 3261 section 17.2).
-    ///
-    /// # Errors
-    ///
-    /// Only where the allocator refuses; then the parts are as they were.
-    pub fn send_answer(
+    /// it.
+    pub(crate) fn send_answer(
         &mut self,
         status: u16,
         text: Vec<u8, A>,
