@@ -2,7 +2,7 @@ use Rattle.std.proofs.Common.{◌≡◌, ◌∙◌, ℕ, zero, suc, ap, refl, tr
 use Rattle.std.specs.Prelude.{◌||◌, ◌&&◌, not, nat_lt, unwrap_or, cond}
 use Rattle.std.specs.Option.{option_map}
 use Rattle.fork_model.specs.Table.{Row, State, Idle, Trying, Rung, Ended, Table, Challenge, is_invite}
-use Rattle.fork_model.specs.Event.{Event, Ring, Answer, Timeout, TimerC, GiveUp}
+use Rattle.fork_model.specs.Event.{Event, Ring, Answer, Timeout, Fault, TimerC, GiveUp}
 use Rattle.fork_model.specs.Step.{Effect, change_at, effect, answers, settled, settled_row, with_state, with_effect}
 use Rattle.fork_model.specs.Contacts.{Taking, taking_from, keys_of, fresh_rows}
 use Rattle.fork_model.specs.Waiting.{depth_of}
@@ -56,6 +56,15 @@ timeout_fresh t row at n (Ended end) = tt
 
 pub timeout_adds_none : (n : ℕ) → AddsNoRow (Timeout n)
 timeout_adds_none n = record { none = λ t at. named_at t at n (Timeout n) (λ row. timeout_fresh t row at n row.state) (slice_get t.rows n) }
+
+fault_fresh : (t : Table) (row : Row) (at n : ℕ) (state : State) → NoFresh (effect t row at (Fault n) state)
+fault_fresh t row at n Idle = tt
+fault_fresh t row at n Trying = refl
+fault_fresh t row at n (Rung cancelled) = refl
+fault_fresh t row at n (Ended end) = tt
+
+pub fault_adds_none : (n : ℕ) → AddsNoRow (Fault n)
+fault_adds_none n = record { none = λ t at. named_at t at n (Fault n) (λ row. fault_fresh t row at n row.state) (slice_get t.rows n) }
 
 fresh_if : (b : Bool) (e : Effect) → e.fresh ≡ [] → NoFresh (cond {A = Option Effect} b (Some e) None)
 fresh_if true e h = h

@@ -1,7 +1,7 @@
 use Rattle.std.proofs.Common.{◌≡◌, ◌∙◌, ℕ, ap, refl, true, false, Bool, Option, Some, None, slice_get}
-use Rattle.std.specs.Prelude.{◌&&◌, is_none, nat_le, option_map}
+use Rattle.std.specs.Prelude.{◌&&◌, cond, is_none, nat_le, not, option_map}
 use Rattle.fork_model.specs.Table.{Row, State, Idle, Trying, Rung, Ended, Table, is_cancelled, is_invite, is_open, is_row}
-use Rattle.fork_model.specs.Event.{Event, Timeout, TimerC, GiveUp}
+use Rattle.fork_model.specs.Event.{Event, Timeout, Fault, TimerC, GiveUp, Cancel}
 use Rattle.fork_model.specs.Core.{Core, is_full, most_strays}
 use Rattle.fork_model.specs.Step.{change_at, effect, is_stray, with_effect}
 use Rattle.fork_book.specs.Log.{core_of, table_of}
@@ -27,6 +27,25 @@ timeout_at t at n (Some row) e = timeout_row t row at n row.state e
 
 pub timeout_taken : (call : Call) (n : ℕ) → row_passes is_open call n ≡ true → is_full (core_of call.log) (Timeout n) ≡ false
 timeout_taken call n e = not_full (core_of call.log) (Timeout n) (timeout_at (table_of call.log) _ n (slice_get (rows_of call) n) e)
+
+fault_row : (t : Table) (row : Row) (at n : ℕ) (s : State) → is_open s ≡ true → is_none (option_map (with_effect t n) (effect t row at (Fault n) s)) ≡ false
+fault_row t row at n Idle e = absurd cc
+fault_row t row at n Trying e = refl
+fault_row t row at n (Rung cancelled) e = refl
+fault_row t row at n (Ended end) e = absurd cc
+
+fault_at : (t : Table) (at n : ℕ) (row : Option Row) → is_row is_open row ≡ true → is_none (change_at t at (Fault n) n row) ≡ false
+fault_at t at n None e = absurd cc
+fault_at t at n (Some row) e = fault_row t row at n row.state e
+
+pub fault_taken : (call : Call) (n : ℕ) → row_passes is_open call n ≡ true → is_full (core_of call.log) (Fault n) ≡ false
+fault_taken call n e = not_full (core_of call.log) (Fault n) (fault_at (table_of call.log) _ n (slice_get (rows_of call) n) e)
+
+-- the caller's CANCEL of an INVITE that is not closed
+pub cancel_taken : (call : Call) → (is_invite (table_of call.log).kind && not (table_of call.log).closed) ≡ true → is_full (core_of call.log) Cancel ≡ false
+cancel_taken call e =
+    let some : (b : Bool) (t : Table) → b ≡ true → is_none (cond {A = Option Table} b (Some t) None) ≡ false = λ b t h. rw h refl in
+    not_full (core_of call.log) Cancel (some _ _ e)
 
 give_up_row : (t : Table) (row : Row) (at n : ℕ) (s : State) → is_cancelled s ≡ true → is_none (option_map (with_effect t n) (effect t row at (GiveUp n) s)) ≡ false
 give_up_row t row at n Idle e = absurd cc

@@ -13,6 +13,7 @@ pub mod Pump
 pub mod Failed
 pub mod Step
 pub mod Datagrams
+pub mod Sound
 pub mod Views
 pub mod SeenDatagram
 pub mod SeenTaken
@@ -21,4 +22,5 @@ pub mod FixedInside
 pub mod LegInside
 pub mod PartsInside
 pub mod Plain
+pub mod AnswersInside
 pub mod StatesShown

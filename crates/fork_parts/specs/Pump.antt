@@ -134,14 +134,6 @@ TicksClientBy call now n way leg false pumped new =
     ≡ sent_if (is_request (client_out event.Tick now leg.client).send) (record { to = way.hop; bytes = leg.sent; cause = cause.Request n }))
     × (new ≡ set_leg call n (ticked leg now))
 
--- whether the client transaction of a branch times out by a tick at this moment
-abbrev pub times_out_on : ℕ → Option Leg → Bool
-times_out_on now None = false
-times_out_on now (Some leg) = is_timeout (client_out event.Tick now leg.client).pass
-
-abbrev pub times_out : Call → ℕ → ℕ → Bool
-times_out call now n = times_out_on now (leg_at call n)
-
 abbrev pub TicksClient : Call → ℕ → ℕ → Way → Leg → Pumped → Call → Type 0
 TicksClient call now n way leg pumped new =
     TicksClientBy call now n way leg (is_timeout (client_out event.Tick now leg.client).pass) pumped new

@@ -8,7 +8,7 @@ ghost use Rattle.sip_route.specs.Hops.{IsHops, hops_name};
 ghost use Rattle.sip_build.specs.Forwarding.{is_request};
 ghost use Rattle.fork_context.specs.KindView as kinds;
 ghost use Rattle.fork_parts.specs.Built.{ack_to, cancel_to, request_to};
-ghost use Rattle.fork_parts.specs.Fixed.{branch_at, kind_of, method_of};
+ghost use Rattle.fork_parts.specs.Fixed.{branch_at, is_invite, kind_of, method_of};
 ghost use Rattle.fork_parts.specs.LegInside.{ack_made};
 
 use crate::way::Way;
@@ -118,6 +118,13 @@ impl<A: Allocator> Fixed<A> {
         ensures { result ≡ self.now.caller }
     {
         self.caller
+    }
+
+    /// Whether it is an INVITE.
+    pub(crate) fn is_invite(&self) -> bool
+        ensures { result ≡ is_invite self.now }
+    {
+        self.invite
     }
 
     /// Whether it is an INVITE.

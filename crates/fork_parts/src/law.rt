@@ -1,5 +1,9 @@
 //! What holds of every call.
 ghost use Rattle.fork_parts.specs.Datagrams.{BegunIsBuilt, DatagramsAreRight, StepsKeepBuilt};
+ghost use Rattle.fork_parts.specs.Sound.{BegunIsSound, StepsKeepSound};
+
+use fork_model::{finished_stays, others_stay_open, rows_keep_their_numbers, stored_answers_came};
+use sip_text::header_values_are_values;
 
 /// Each datagram of a call is what its cause says (RFC 3261 sections 8.2.6, 9.1, 16.6, 16.7 and 17.1.1.3).
 ///
@@ -11,3 +15,19 @@ pub fn datagrams_are_right()
     ensures kept { StepsKeepBuilt }
     ensures right { DatagramsAreRight }
 {}
+
+/// A call is sound as it begins to its targets, and each step keeps it so, where what a branch is given is a message with
+/// another Via value behind the proxy's own: a branch whose transaction waits has not ended, an INVITE alone has timer C,
+/// and what is kept for the caller can go up (RFC 3261 sections 16.7, 16.8 and 17.1).
+///
+/// A law over the definitions, with nothing to run.
+pub fn calls_stay_sound()
+    ensures begun { BegunIsSound }
+    ensures kept { StepsKeepSound }
+{
+    stored_answers_came();
+    rows_keep_their_numbers();
+    finished_stays();
+    others_stay_open();
+    header_values_are_values();
+}

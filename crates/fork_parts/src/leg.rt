@@ -132,6 +132,13 @@ impl<A: Allocator> Leg<A> {
         &self.sent
     }
 
+    /// The failure that was posted.
+    pub(crate) fn answer(&self) -> Option<&Message<A>>
+        ensures { option_copied result ≡ self.now.answer }
+    {
+        self.answer.as_ref()
+    }
+
     /// What stands for its CANCEL once that was sent.
     pub(crate) fn cancelling(&self) -> Option<&Cancelling<A>>
         ensures { option_copied result ≡ self.now.cancelling }

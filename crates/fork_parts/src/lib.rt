@@ -6,14 +6,17 @@
 //! a moment, is for a layer above: no message is read here, and nothing is looked for.
 #![tactic(auto)]
 
+mod answers;
 mod cause;
 mod client;
 mod datagram;
+mod failed;
 mod fault;
 mod fixed;
 mod law;
 mod leg;
 mod legs;
+mod look;
 mod owed;
 mod parts;
 mod responses;
@@ -27,7 +30,7 @@ pub use cause::Cause;
 pub use datagram::Datagram;
 pub use fault::PostFault;
 pub use fixed::Fixed;
-pub use law::datagrams_are_right;
+pub use law::{calls_stay_sound, datagrams_are_right};
 pub use owed::{Owed, OwedAnswer};
 pub use parts::Parts;
 pub use step::Step;

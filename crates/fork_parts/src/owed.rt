@@ -1,5 +1,5 @@
 //! The answers that are owed to a caller.
-ghost use Rattle.std.specs.Prelude.{◌≡◌, ◌<◌, ◌++◌, length, drop, vec_len, vec_capacity};
+ghost use Rattle.std.specs.Prelude.{◌≡◌, ◌<◌, ◌≤◌, ◌+◌, ◌++◌, length, drop, vec_len, vec_capacity};
 ghost use Rattle.std.specs.Option.{option_to_list};
 ghost use Rattle.fork_context.specs.ReplyView.{up_of};
 ghost use Rattle.fork_parts.specs.Posting.{owed_by, passed};
@@ -93,7 +93,9 @@ pub(crate) fn again_if<A: Allocator>(sends: bool) -> Option<Owed<A>>
 /// The answer, if there is one, is owed behind the others.
 pub(crate) fn owe<A: Allocator>(owed: &mut Vec<Owed<A>, A>, answer: Option<Owed<A>>)
     requires room { vec_len owed.old < vec_capacity owed.old }
-    ensures { owed.new.items ≡ owed.old.items ++ option_to_list answer }
+    ensures items { owed.new.items ≡ owed.old.items ++ option_to_list answer }
+    ensures len { vec_len owed.new ≤ vec_len owed.old + 1 }
+    ensures capacity { vec_capacity owed.new ≡ vec_capacity owed.old }
 {
     if let Some(answer) = answer {
         owed.push_reserved(answer);

@@ -11,22 +11,24 @@ ghost use Rattle.fork_context.specs.ReplyView.{up_of};
 ghost use Rattle.fork_book.specs.Log.{core_of, table_of};
 ghost use Rattle.sip_text.specs.Text.{MessageText, spelling};
 ghost use Rattle.fork_parts.specs.Begun.{begun};
-ghost use Rattle.fork_parts.specs.Built.{ack_to, cancel_to, request_to, status_of};
+ghost use Rattle.fork_parts.specs.Built.{ack_to, answer_in, cancel_to, request_to, status_of};
 ghost use Rattle.fork_parts.specs.Call.{is_cancel_sent, is_sent, leg_at, owes_ack, row_passes, rows_of, runs_timer_c, set_leg};
 ghost use Rattle.fork_parts.specs.Datagrams.{ack_owed};
+ghost use Rattle.fork_parts.specs.Due.{FireTimerC, is_due_at};
 ghost use Rattle.fork_parts.specs.Fixed as fixed;
 ghost use Rattle.fork_parts.specs.LegInside.{ack_made, answer_if, cancel_on, cancelled, changed_leg, kept, no_legs, responded, without_ack};
 ghost use Rattle.fork_parts.specs.PartsInside.{IsCancelAgain, IsRequestAgain, answer_to};
 ghost use Rattle.fork_parts.specs.Plain.{AddsNoRow, PostsAt, PostsBare};
 ghost use Rattle.fork_parts.specs.Pump as pump;
-ghost use Rattle.fork_parts.specs.Pump.{AnswersWith, FiresTimerC, GivesUp, OnLeg, OnPart, SendsAck, SendsCancel, SendsRequest, TicksCancel, TicksClient, TicksServer, times_out};
+ghost use Rattle.fork_parts.specs.Pump.{AnswersWith, FiresTimerC, GivesUp, OnLeg, OnPart, SendsAck, SendsCancel, SendsRequest, TicksCancel, TicksClient, TicksServer};
 ghost use Rattle.fork_parts.specs.Response.{is_bare};
 ghost use Rattle.fork_parts.specs.SeenDatagram.{seen};
 ghost use Rattle.fork_parts.specs.SeenStep.{pumped};
 ghost use Rattle.fork_parts.specs.SeenTaken.{seen_taken};
 ghost use Rattle.fork_parts.specs.Server as server;
 ghost use Rattle.fork_parts.specs.Take as take;
-ghost use Rattle.fork_parts.specs.Take.{RespondsOn, going_up, requested_again, served_on};
+ghost use Rattle.fork_parts.specs.Take.{CancelledBy, RespondsOn, cancels, going_up, requested_again, served_on};
+ghost use Rattle.fork_parts.specs.Sound.{IsSound};
 ghost use Rattle.fork_parts.specs.StatesShown.{state_shown};
 
 use crate::cause::Cause;
@@ -44,14 +46,15 @@ use crate::responses::{
     response_event,
 };
 use crate::served::Served;
-use crate::states::{shows_cancelled, shows_open, shows_timer_c, shows_trying};
 use crate::step::Step;
 use crate::taken::Taken;
 use crate::way::Way;
 use fork_book::Book;
 use fork_context::{Event, Kind, State, Up};
+use fork_model::new_rows_are_contacts;
 use sip_text::Message;
 use sip_txn::{OtherClient, TxEvent, TxSend};
+use sip_uri::Hop;
 use std::alloc::{AllocError, Allocator, Global};
 use std::marker::Model;
 
@@ -192,71 +195,15 @@ impl<A: Allocator + Clone> Parts<A> {
         &self.owed
     }
 
-    /// Whether the request to target n was sent.
-    pub fn is_sent(&self, n: u16) -> bool
-        ensures { result ≡ is_sent self.now n }
-    {
-        self.leg(n).is_some()
-    }
-
-    /// Whether branch n owes an ACK.
-    pub fn owes_ack(&self, n: u16) -> bool
-        ensures { result ≡ owes_ack self.now n }
-    {
-        match self.leg(n) {
-            Some(leg) => leg.owes_ack(),
-            None => false,
-        }
-    }
-
-    /// Whether the CANCEL of branch n was sent.
-    pub fn is_cancel_sent(&self, n: u16) -> bool
-        ensures { result ≡ is_cancel_sent self.now n }
-    {
-        match self.leg(n) {
-            Some(leg) => leg.cancelling().is_some(),
-            None => false,
-        }
-    }
-
     /// Where branch n is, if there is one.
-    fn state(&self, n: u16) -> Option<State>
+    pub(crate) fn state(&self, n: u16) -> Option<State>
         ensures { result ≡ option_map state_shown (slice_get (rows_of self.now) n) }
     {
         state_of(&self.book, n)
     }
 
-    /// Whether branch n was tried, and no response to it has come.
-    fn is_trying(&self, n: u16) -> bool
-        ensures { result ≡ row_passes table.is_trying self.now n }
-    {
-        shows_trying(self.state(n))
-    }
-
-    /// Whether branch n was tried, and has not ended.
-    pub fn is_open(&self, n: u16) -> bool
-        ensures { result ≡ row_passes table.is_open self.now n }
-    {
-        shows_open(self.state(n))
-    }
-
-    /// Whether branch n is cancelled, and has not ended.
-    pub fn is_cancelled(&self, n: u16) -> bool
-        ensures { result ≡ row_passes table.is_cancelled self.now n }
-    {
-        shows_cancelled(self.state(n))
-    }
-
-    /// Whether timer C of branch n runs: it was tried, and is neither cancelled nor has it ended (RFC 3261 section
-    /// 16.8).
-    pub fn runs_timer_c(&self, n: u16) -> bool
-        ensures { result ≡ row_passes runs_timer_c self.now n }
-    {
-        shows_timer_c(self.state(n))
-    }
-
     /// The part of branch n, if its request was sent.
-    fn leg(&self, n: u16) -> Option<&Leg<A>>
+    pub(crate) fn leg(&self, n: u16) -> Option<&Leg<A>>
         ensures { option_copied result ≡ leg_at self.now n }
     {
         leg_in(&self.legs, n)
@@ -281,10 +228,22 @@ impl<A: Allocator + Clone> Parts<A> {
         way_at(&self.ways, n)
     }
 
+    /// The failure that branch n keeps, if it has one.
+    pub(crate) fn kept_answer(&self, n: u16) -> Option<&Message<A>>
+        ensures { option_copied result ≡ answer_in (leg_at self.now n) }
+    {
+        self.leg(n)?.answer()
+    }
+
+    /// A further owner of the allocator.
+    pub(crate) fn allocator(&self) -> Result<A, AllocError> {
+        self.alloc.clone()
+    }
+
     // ---- one change of a part
 
     /// The transaction of branch n went on, and an ACK is owed where one was made.
-    fn respond_part(&mut self, n: u16, client: Client, ack: Option<Vec<u8, A>>)
+    pub(crate) fn respond_part(&mut self, n: u16, client: Client, ack: Option<Vec<u8, A>>)
         requires there { n < length self.old.legs }
         ensures { self.new ≡ record self.old { legs = changed_leg (responded client (option_map (λ v. v.items) ack)) self.old.legs n } }
     {
@@ -308,7 +267,7 @@ impl<A: Allocator + Clone> Parts<A> {
     }
 
     /// The transaction of branch n's CANCEL went on.
-    fn cancel_on_part(&mut self, n: u16, client: OtherClient)
+    pub(crate) fn cancel_on_part(&mut self, n: u16, client: OtherClient)
         requires there { n < length self.old.legs }
         ensures { self.new ≡ record self.old { legs = changed_leg (cancel_on client) self.old.legs n } }
     {
@@ -331,8 +290,16 @@ impl<A: Allocator + Clone> Parts<A> {
         self.served = served;
     }
 
+    /// The server transaction is fed an event; what it sends and passes is let go.
+    pub(crate) fn feed_server(&mut self, event: TxEvent, now: u64)
+        ensures { self.new ≡ served_on self.old event now }
+    {
+        let (served, _out) = self.served.fed(event, now);
+        self.serve(served);
+    }
+
     /// The first answer is owed no more.
-    fn pay(&mut self)
+    pub(crate) fn pay(&mut self)
         requires some { 0 < length self.old.server.owed }
         ensures { self.new ≡ record self.old { server = record self.old.server { owed = drop 1 self.old.server.owed } } }
     {
@@ -433,7 +400,7 @@ impl<A: Allocator + Clone> Parts<A> {
     /// Only where the allocator refuses; then the parts are as they were.
     pub fn tick_client(&mut self, n: u16, now: u64) -> Result<Step<A>, AllocError>
         requires there { is_sent self.old n ≡ true }
-        requires open { times_out self.old now n ≡ true → row_passes table.is_open self.old n ≡ true }
+        requires sound { IsSound self.old }
         ensures ok { IfOk result (λ step. OnLeg self.old n (λ way leg. TicksClient self.old now n way leg (pumped step) self.new)) }
         ensures err { OnErr result (self.new ≡ self.old) }
     {
@@ -499,9 +466,8 @@ impl<A: Allocator + Clone> Parts<A> {
     ///
     /// Only where the allocator refuses; then the parts are as they were.
     pub fn fire_timer_c(&mut self, n: u16, now: u64) -> Result<(), AllocError>
-        requires there { is_sent self.old n ≡ true }
-        requires runs { row_passes runs_timer_c self.old n ≡ true }
-        requires invite { (table_of self.old.log).kind ≡ table.Invite }
+        requires due { is_due_at self.old now (FireTimerC n) ≡ true }
+        requires sound { IsSound self.old }
         ensures ok { OnOk result (OnPart self.old n (λ leg. FiresTimerC self.old now n leg (row_passes table.is_trying self.old n) pump.Did self.new)) }
         ensures err { OnErr result (self.new ≡ self.old) }
     {
@@ -579,7 +545,12 @@ impl<A: Allocator + Clone> Parts<A> {
     }
 
     /// Posts such an event by which branch n ends; its transaction went on.
-    fn end_part(&mut self, n: u16, client: Client, event: Event<A>) -> Result<(), AllocError>
+    pub(crate) fn end_part(
+        &mut self,
+        n: u16,
+        client: Client,
+        event: Event<A>,
+    ) -> Result<(), AllocError>
         requires there { is_sent self.old n ≡ true }
         requires plain { AddsNoRow (event_of event) }
         requires taken { is_full (core_of self.old.log) (event_of event) ≡ false }
@@ -650,6 +621,20 @@ impl<A: Allocator + Clone> Parts<A> {
         Ok(Taken::Posted(at))
     }
 
+    /// Takes a response to the CANCEL of branch n, with this status: the CANCEL's client transaction absorbs it, and what
+    /// that passes is not posted (RFC 3261 sections 9.1 and 17.1.2).
+    pub fn take_cancel_response(&mut self, n: u16, status: u16, now: u64)
+        requires there { is_cancel_sent self.old n ≡ true }
+        ensures { (m : MessageText) (source : Hop) → status ≡ status_of m
+            → take.TakesAs self.old now m source (take.CancelClient n) take.Absorbed self.new }
+    {
+        let Some(cancelling) = self.part(n).cancelling() else {
+            unreachable!()
+        };
+        let (client, _out) = cancelling.fed(response_event(status), now);
+        self.cancel_on_part(n, client);
+    }
+
     // ---- from the caller
 
     /// Takes the caller's request again: the last answer is owed again where the server transaction sends it (RFC 3261
@@ -675,19 +660,50 @@ impl<A: Allocator + Clone> Parts<A> {
     pub fn take_ack(&mut self, now: u64)
         ensures { self.new ≡ served_on self.old TxEvent.Ack now }
     {
-        let (served, _out) = self.served.fed(TxEvent::Ack, now);
-        self.serve(served);
+        self.feed_server(TxEvent::Ack, now);
+    }
+
+    /// Whether the caller's CANCEL is posted.
+    fn cancels(&self) -> bool
+        ensures { result ≡ cancels self.now }
+    {
+        self.fixed.is_invite() && !self.book.context().closed()
+    }
+
+    /// Takes the caller's CANCEL as it was marked with its source, and where that is answered: a 200 to it is owed, and
+    /// it is posted where the call is an INVITE whose table is not closed (RFC 3261 sections 9.2 and 16.10).
+    ///
+    /// # Errors
+    ///
+    /// Only where the allocator refuses; then the parts are as they were.
+    pub fn take_cancel(&mut self, cancel: Message<A>, to: Hop) -> Result<Taken, AllocError>
+        requires sound { IsSound self.old }
+        ensures ok { IfOk result (λ taken. CancelledBy self.old cancel to (seen_taken taken) self.new) }
+        ensures err { OnErr result (self.new ≡ self.old) }
+    {
+        new_rows_are_contacts();
+        if self.owed.reserve(2).is_err() {
+            return Err(AllocError);
+        }
+        let okay = Owed::new(OwedAnswer::CancelOk(cancel, to));
+        if !self.cancels() {
+            owe(&mut self.owed, Some(okay));
+            return Ok(Taken::Absorbed);
+        }
+        let Ok(at) = self.book.post(CALL_TAG, Event::Cancel) else {
+            return Err(AllocError);
+        };
+        let up = up_at(&self.book, at);
+        owe(&mut self.owed, Some(okay));
+        owe(&mut self.owed, owed_by(up, None));
+        Ok(Taken::Posted(at))
     }
 
     // ---- to the caller
 
     /// Hands the first answer that is owed, spelled by these bytes, to the server transaction, which sends it or drops
-    /// it (RFC 3261 section 17.2).
-    ///
-    /// # Errors
-    ///
-    /// Only where the allocator refuses; then the parts are as they were.
-    pub fn send_answer(
+    /// it.
+    pub(crate) fn send_answer(
         &mut self,
         status: u16,
         text: Vec<u8, A>,
@@ -717,7 +733,7 @@ impl<A: Allocator + Clone> Parts<A> {
     }
 
     /// What was sent to the caller last, again.
-    fn last_again(&self) -> Result<Datagram<A>, AllocError>
+    pub(crate) fn last_again(&self) -> Result<Datagram<A>, AllocError>
         ensures { IfOk result (λ d. seen d ≡ answer_to self.now.fixed self.now.server.last) }
     {
         answer_again(&self.alloc, &self.fixed, &self.last)

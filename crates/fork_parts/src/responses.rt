@@ -2,6 +2,7 @@
 ghost use Rattle.std.specs.Prelude.{◌≡◌, ◌≤◌, true, [], IfOk};
 ghost use Rattle.fork_context.specs.EventView.{event_of};
 ghost use Rattle.sip_text.specs.Text.{MessageText};
+ghost use Rattle.fork_parts.specs.Failed.{is_fault};
 ghost use Rattle.fork_parts.specs.LegInside.{answer_if};
 ghost use Rattle.fork_parts.specs.Plain.{AddsNoRow};
 ghost use Rattle.fork_parts.specs.Pump as pump;
@@ -78,6 +79,16 @@ pub(crate) fn is_timeout(pass: TxPass) -> bool
     match pass {
         TxPass::Timeout => true,
         TxPass::Nothing | TxPass::Response | TxPass::Fault | TxPass::Ack => false,
+    }
+}
+
+/// Whether a transaction has failed.
+pub(crate) fn is_fault(pass: TxPass) -> bool
+    ensures { result ≡ is_fault pass }
+{
+    match pass {
+        TxPass::Fault => true,
+        TxPass::Nothing | TxPass::Response | TxPass::Timeout | TxPass::Ack => false,
     }
 }
 

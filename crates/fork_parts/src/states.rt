@@ -2,7 +2,7 @@
 ghost use Rattle.std.specs.Prelude.{◌≡◌};
 ghost use Rattle.fork_parts.specs.StatesShown as shown;
 
-use fork_context::State;
+use fork_context::{End, State};
 
 /// It was tried, and no response to it has come.
 pub(crate) fn shows_trying(state: Option<State>) -> bool
@@ -42,5 +42,15 @@ pub(crate) fn shows_timer_c(state: Option<State>) -> bool
         Some(State::Trying) => true,
         Some(State::Rung { cancelled }) => !cancelled,
         Some(State::Idle | State::Ended(_)) | None => false,
+    }
+}
+
+/// It ended with an answer that it gave.
+pub(crate) fn shows_received(state: Option<State>) -> bool
+    ensures { result ≡ shown.shows_received state }
+{
+    match state {
+        Some(State::Ended(End::Stored { received, .. })) => received,
+        Some(State::Idle | State::Trying | State::Rung { .. } | State::Ended(_)) | None => false,
     }
 }

@@ -1,0 +1,68 @@
+-- The caller's CANCEL is posted.
+use Rattle.std.proofs.Common.{◌≡◌, ◌∙◌, ℕ, zero, suc, ap, refl, sym, subst, true, false, Bool, List, [], ◌∷◌, ◌++◌, drop, length, Option, Some, None}
+use Rattle.std.specs.Prelude.{◌&&◌, cond, map, not}
+use Rattle.fork_model.specs.Table as table
+use Rattle.fork_model.specs.Event.{Cancel}
+use Rattle.fork_model.specs.Reply.{Reply}
+use Rattle.fork_model.specs.Step.{next}
+use Rattle.fork_book.specs.Log.{IsAdded, Log, added, table_of}
+use Rattle.sip_text.specs.Text.{MessageText}
+use Rattle.sip_uri.specs.declared.hop.Hop.{Hop}
+use Rattle.fork_parts.specs.Call.{Call}
+use Rattle.fork_parts.specs.Fixed as fixed
+use Rattle.fork_parts.specs.Fixed.{Way}
+use Rattle.fork_parts.specs.Leg.{Leg}
+use Rattle.fork_parts.specs.Posting.{call_tag, gone_on, no_leg, owed_by, owes, rows_more, ways_of}
+use Rattle.fork_parts.specs.Server.{Owed, CancelOk}
+use Rattle.fork_parts.specs.Sound.{IsSound}
+use Rattle.fork_parts.specs.Take.{CancelledBy, Posted, cancels, owes_cancel_ok}
+use Rattle.fork_parts.proofs.NotFull.{cancel_taken}
+
+-- an INVITE is one by its table, too
+pub kind_is : (call : Call) → IsSound call → table.is_invite (table_of call.log).kind ≡ fixed.is_invite call.fixed
+kind_is call sound = ap table.is_invite sound.kind ∙ by (fixed.is_invite call.fixed)
+  where
+    by : (b : Bool) → table.is_invite (cond {A = table.Kind} b table.Invite table.Other) ≡ b
+    by true = refl
+    by false = refl
+
+drop_all : (n : ℕ) (rows : List table.Row) → length rows ≡ n → drop n rows ≡ []
+drop_all zero [] e = refl
+drop_all zero (row ∷ rows) e = absurd cc
+drop_all (suc n) [] e = absurd cc
+drop_all (suc n) (row ∷ rows) e = drop_all n rows (let h : suc (length rows) ≡ suc n = e in cc)
+
+no_more : {X : Type 0} (xs : List X) → xs ++ [] ≡ xs
+no_more [] = refl
+no_more (x ∷ xs) = ap (λ (ys : List _). x ∷ ys) (no_more xs)
+
+pub cancel_posts : (call new : Call) (cancel : MessageText) (to : Hop) (reply : Reply) (log : Log) (at : ℕ)
+    → cancels call ≡ true
+    → IsSound call
+    → IsAdded call.log call_tag Cancel reply log
+    → length (next (table_of call.log) Cancel (length call.log.history)).rows ≡ length (table_of call.log).rows
+    → at ≡ length call.log.history
+    → new ≡ record call { log = log; server = record call.server { owed = (call.server.owed ++ CancelOk cancel to ∷ []) ++ owed_by reply.up None } }
+    → CancelledBy call cancel to (Posted at) new
+cancel_posts call new cancel to reply log at closes sound is none at_is new_is =
+    let more = added call.log call_tag Cancel reply in
+    let mid = owes_cancel_ok call cancel to in
+    let same : length (table_of more).rows ≡ length (table_of call.log).rows =
+    ap (λ (l : Log). length (table_of l).rows) (sym is.whole) ∙ ap (λ (t : table.Table). length t.rows) is.goes_on ∙ none in
+    let nothing : rows_more call.log more ≡ [] = drop_all (length (table_of call.log).rows) (table_of more).rows same in
+    let ways : call.ways ≡ call.ways ++ ways_of call.fixed [] (rows_more call.log more) =
+    sym (ap (λ (rs : List table.Row). call.ways ++ ways_of call.fixed [] rs) nothing ∙ no_more call.ways) in
+    let legs : call.legs ≡ call.legs ++ map no_leg (rows_more call.log more) =
+    sym (ap (λ (rs : List table.Row). call.legs ++ map no_leg rs) nothing ∙ no_more call.legs) in
+    let fits : (table.is_invite (table_of call.log).kind && not (table_of call.log).closed) ≡ true =
+    ap (λ (b : Bool). b && not (table_of call.log).closed) (kind_is call sound) ∙ closes in
+    let follows : new ≡ owes (gone_on mid [] more) (owed_by reply.up None) =
+    new_is
+    ∙ ap (λ (l : Log). record mid { log = l; server = record mid.server { owed = mid.server.owed ++ owed_by reply.up None } }) is.whole
+    ∙ ap (λ (ws : List Way). record mid { log = more; ways = ws; server = record mid.server { owed = mid.server.owed ++ owed_by reply.up None } }) ways
+    ∙ ap (λ (ls : List (Option Leg)). record mid { log = more; ways = call.ways ++ ways_of call.fixed [] (rows_more call.log more); legs = ls; server = record mid.server { owed = mid.server.owed ++ owed_by reply.up None } }) legs in
+    (closes, reply, is.replied.position ∙ sym at_is, record { taken = cancel_taken call fits; reply_is = is.replied; follows = follows })
+
+pub owed_both : (first second third fourth ups more : List Owed) (okay : Owed) → second ≡ first → third ≡ second ++ okay ∷ [] → fourth ≡ third ++ ups → ups ≡ more → fourth ≡ (first ++ okay ∷ []) ++ more
+owed_both first second third fourth ups more okay a b d e =
+    d ∙ ap (λ (x : List Owed). third ++ x) e ∙ ap (λ (x : List Owed). x ++ more) (b ∙ ap (λ (x : List Owed). x ++ okay ∷ []) a)

@@ -1,0 +1,27 @@
+-- Timer C fires: its branch was sent to, and it is an INVITE.
+use Rattle.std.proofs.Common.{◌≡◌, ℕ, ap, refl, true, Bool, Option, Some, None}
+use Rattle.std.specs.Prelude.{is_some}
+use Rattle.std.proofs.lemmas.Bool.{and_parts}
+use Rattle.sip_txn.specs.Timers.{is_due}
+use Rattle.fork_parts.specs.Call.{Call, is_sent, leg_at, row_passes, runs_timer_c}
+use Rattle.fork_parts.specs.Due.{FireTimerC, is_due_at, timer_c_at}
+use Rattle.fork_parts.specs.Leg.{Leg}
+
+some_of : (now : ℕ) (at : Option ℕ) → is_due now at ≡ true → is_some at ≡ true
+some_of now None e = absurd cc
+some_of now (Some at) e = refl
+
+part_of : (call : Call) (n now : ℕ) (o : Option Leg) → leg_at call n ≡ o → is_due now (timer_c_at o) ≡ true
+    → (leg : Leg) × (leg_at call n ≡ Some leg) × (is_some leg.timer_c_at ≡ true)
+part_of call n now None h e = absurd cc
+part_of call n now (Some leg) h e = (leg, h, some_of now leg.timer_c_at e)
+
+pub fired_of : (call : Call) (n now : ℕ) → is_due_at call now (FireTimerC n) ≡ true
+    → (row_passes runs_timer_c call n ≡ true) × (leg : Leg) × (leg_at call n ≡ Some leg) × (is_some leg.timer_c_at ≡ true)
+fired_of call n now e =
+    let both = and_parts (row_passes runs_timer_c call n) (is_due now (timer_c_at (leg_at call n))) e in
+    let part = part_of call n now (leg_at call n) refl both.1 in
+    (both.0, part.0, part.1, part.2)
+
+pub fired_is_sent : (call : Call) (n now : ℕ) → is_due_at call now (FireTimerC n) ≡ true → is_sent call n ≡ true
+fired_is_sent call n now e = let f = fired_of call n now e in ap is_some f.2

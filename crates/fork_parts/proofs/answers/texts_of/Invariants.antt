@@ -1,0 +1,7 @@
+use Rattle.std.proofs.Common.{◌≡◌, map, take}
+use Rattle.sip_build.specs.SeenKept.{texts}
+use Rattle.fork_parts.specs.Built.{text_of}
+use Rattle.fork_parts.proofs.answers.texts_of.Given as goal
+
+abbrev pub invariant-loop-offer : goal.invariant-loop-offer
+invariant-loop-offer g l = texts l.made.items ≡ map text_of (take l.offer-index l.offers)

@@ -1,0 +1,18 @@
+use Rattle.std.proofs.Common.{◌≡◌, ◌∷◌, ℕ, ap, subst, sym, List, [], drop, Ok, Err}
+use Rattle.std.specs.Prelude.{IfOk}
+use Rattle.sip_text.specs.Text.{MessageText, spelling}
+use Rattle.fork_parts.specs.AnswersInside.{IsPaid}
+use Rattle.fork_parts.specs.Built.{status_of}
+use Rattle.fork_parts.specs.Call.{Call}
+use Rattle.fork_parts.specs.Pump.{AnswersWith, Pumped, SendsAnswer}
+use Rattle.fork_parts.specs.SeenStep.{pumped}
+use Rattle.fork_parts.specs.declared.answers.Payment.{Payment}
+use Rattle.fork_parts.specs.declared.answers.Payment.TheVariants as payment
+use Rattle.fork_parts.proofs.Paying.{if_ok, paid_text}
+use Rattle.fork_parts.proofs.parts.Parts.send_owed.Goals as goal
+
+pub returns-in-Answer-clause-ok : goal.returns-in-Answer-clause-ok
+returns-in-Answer-clause-ok g c =
+    let P : Payment _ → Type 0 = λ p. IsPaid c.args.self.now c.args.self.now.server.owed p in
+    let paid : IsPaid c.args.self.now c.args.self.now.server.owed (payment.Answer c.in-Answer.status c.in-Answer.text) = subst P c.in-Answer.is c.in_ok-datagram.ensures in
+    if_ok (λ step f. paid_text c.args.self.now c.send_answer.new.self c.args.now c.args.self.now.server.owed (payment.Answer c.in-Answer.status c.in-Answer.text) (pumped step) tt paid (λ m t. f m t.0 t.1)) c.send_answer.result c.send_answer.ensures.ok

@@ -1,0 +1,44 @@
+use Rattle.std.proofs.Common.{◌≡◌, ◌∙◌, ◌∷◌, ◌++◌, [], ap, refl, sym, subst, true, length, List, None, slice_get}
+use Rattle.fork_model.specs.Event.{Cancel}
+use Rattle.fork_model.specs.Reply.{Up}
+use Rattle.fork_model.specs.Table.{Table}
+use Rattle.fork_book.specs.Log.{table_of}
+use Rattle.fork_context.specs.ReplyView.{up_of}
+use Rattle.fork_parts.specs.Call.{Call}
+use Rattle.fork_parts.specs.Posting.{owed_by}
+use Rattle.fork_parts.specs.Server.{CancelOk, Owed}
+use Rattle.fork_parts.specs.Sound.{IsSound}
+use Rattle.fork_parts.specs.Take.{CancelledBy, Posted, cancels}
+use Rattle.fork_parts.proofs.Cancels.{cancel_posts, owed_both}
+use Rattle.fork_parts.proofs.parts.Parts.take_cancel.Goals as goal
+
+pub invariant_of-self-3 : goal.invariant_of-self-3
+invariant_of-self-3 g c =
+    let is = c.in-Ok.ensures.added in
+    let same : length (table_of c.self.inside.book).rows ≡ length (table_of c.post.new.self).rows =
+    sym (ap (λ (t : Table). length t.rows) is.1.goes_on ∙ c.new_rows_are_contacts.ensures.none (table_of c.self.inside.book) Cancel (length c.self.inside.book.history) refl) in
+    record { each_way = c.self.invariant.each_way ∙ same; each_leg = c.self.invariant.each_leg ∙ same }
+
+pub returns-clause-ok : goal.returns-clause-ok
+returns-clause-ok g c =
+    let call : Call = record {
+      fixed = c.self.inside.fixed;
+      log = c.self.inside.book;
+      ways = c.self.inside.ways.items;
+      legs = c.self.inside.legs.items;
+      server = record { machine = c.self.inside.served; owed = c.self.inside.owed.items; last = c.self.inside.last.items };
+    } in
+    let new : Call = record call { log = c.post.new.self; server = record call.server { owed = c.owe-3.new.owed.items } } in
+    let is = c.in-Ok.ensures.added in
+    let up : up_of c.up_at-up.result ≡ is.0.up =
+    c.up_at-up.ensures is.0 (ap (slice_get c.post.new.self.replies) c.in-Ok.ensures.at ∙ is.1.placed) in
+    let owed : c.owe-3.new.owed.items ≡ (c.self.inside.owed.items ++ CancelOk c.args.cancel c.args.to ∷ []) ++ owed_by is.0.up None =
+    owed_both c.self.inside.owed.items c.reserve.new.self.items c.owe-2.new.owed.items c.owe-3.new.owed.items _ (owed_by is.0.up None) c.new-okay.result
+    c.reserve.ensures.items c.owe-2.ensures.items c.owe-3.ensures.items (c.owed_by.ensures ∙ ap (λ (u : Up). owed_by u None) up)
+    ∙ ap (λ (o : Owed). (c.self.inside.owed.items ++ o ∷ []) ++ owed_by is.0.up None) c.new-okay.ensures in
+    let closes : cancels call ≡ true = let a = c.cancels.ensures in let b = c.if-not-cancels.false in cc in
+    let sound : IsSound call = subst IsSound (sym c.self.view_is) c.requires.sound in
+    let none = c.new_rows_are_contacts.ensures.none (table_of c.self.inside.book) Cancel (length c.self.inside.book.history) refl in
+    let P : Call → Type 0 = λ x. CancelledBy x c.args.cancel c.args.to (Posted c.in-Ok.at) new in
+    subst P c.self.view_is
+    (cancel_posts call new c.args.cancel c.args.to is.0 c.post.new.self c.in-Ok.at closes sound is.1 none c.in-Ok.ensures.at (ap (λ (os : List Owed). record call { log = c.post.new.self; server = record call.server { owed = os } }) owed))

@@ -1,0 +1,19 @@
+use Rattle.std.proofs.Common.{◌≡◌, ◌∙◌, ap, sym, Some}
+use Rattle.std.specs.Option.{option_copied}
+use Rattle.sip_txn.specs.declared.event.TxEvent.{TxEvent}
+use Rattle.sip_txn.specs.Machine.{machine_after}
+use Rattle.sip_txn.specs.OtherClient.{other_client}
+use Rattle.fork_parts.specs.Take.{response_event}
+use Rattle.fork_parts.proofs.Failing.{cancel_goes_on}
+use Rattle.fork_parts.proofs.parts.Parts.take_cancel_response.Goals as goal
+
+pub returns : goal.returns
+returns g c = λ m source status_is.
+    let is : c.part.result.now.cancelling ≡ Some c.in-Some.cancelling.now = sym c.cancelling.ensures ∙ ap option_copied c.in-Some.is in
+    let client_is = c.fed-client.ensures.after ∙ ap (λ (e : TxEvent). machine_after other_client e c.args.now c.in-Some.cancelling.now.client) (c.response_event.ensures ∙ ap response_event status_is) in (
+      c.part.result.now,
+      c.in-Some.cancelling.now,
+      c.part.ensures,
+      is,
+      cancel_goes_on c.args.self.now c.args.n c.args.now c.part.result.now c.part.ensures c.cancel_on_part.new.self _ c.in-Some.cancelling.now c.fed-client.result.0 is client_is c.cancel_on_part.ensures,
+    )
