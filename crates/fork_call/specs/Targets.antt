@@ -1,0 +1,78 @@
+-- Where a request may be sent, and by which hop (RFC 3261 sections 16.5 and 16.6).
+use Rattle.std.specs.Prelude.{◌≡◌, ℕ, Bool, ◌||◌, List, [], ◌∷◌, map, Option, Some, None, is_some, slice_get, if◌then◌else◌}
+use Rattle.std.specs.Option.{option_and_then}
+use Rattle.std.specs.Str.{bytes_eq, str_to_ascii_lowercase}
+use Rattle.fork_model.specs.History.{Target}
+use Rattle.fork_model.specs.Table.{Row}
+use Rattle.fork_text.specs.Field.{most_q}
+use Rattle.sip_uri.specs.declared.hop.Hop.{Hop}
+use Rattle.sip_uri.specs.Hop.{hop_of}
+use Rattle.sip_uri.specs.Key.{key_of}
+use Rattle.sip_uri.specs.Uri.{Uri, without_methods}
+use Rattle.sip_via.specs.Address.{address_text}
+use Rattle.sip_route.specs.declared.route_values.FirstRoute.{FirstRoute}
+use Rattle.sip_route.specs.declared.route_values.FirstRoute.TheVariants.{Absent, NoHop, To}
+use Rattle.fork_setup.specs.Setup.{Location, Setup, locations_of}
+use Rattle.fork_parts.specs.Fixed.{Way, way_by}
+
+-- a target, tried at this q, in thousandths
+pub record Choice : Type 0 where
+  pub q : ℕ
+  pub uri : Uri
+
+-- ---- which targets there are (section 16.5)
+
+-- the proxy answers for this host: it is that of its domain, in any case, or its own address as it is written
+abbrev pub is_domain : Setup → List ℕ → Bool
+is_domain setup host =
+    bytes_eq (str_to_ascii_lowercase host) (str_to_ascii_lowercase setup.domain)
+    || bytes_eq host (address_text setup.own.addr)
+
+abbrev pub choice_at : Location → Choice
+choice_at location = record { q = location.q; uri = location.uri }
+
+abbrev pub choices_of : List Location → Option (List ℕ) → List Choice
+choices_of locations None = []
+choices_of locations (Some user) = map choice_at (locations_of user locations)
+
+-- in the domain the locations of the user, else the Request-URI alone
+abbrev pub choices : Setup → Uri → List Choice
+choices setup uri =
+    if is_domain setup uri.host then choices_of setup.locations uri.user else record { q = most_q; uri = uri } ∷ []
+
+abbrev pub target_of : Choice → Target
+target_of choice = record { key = key_of choice.uri; q = choice.q }
+
+abbrev pub targets_of : List Choice → List Target
+targets_of cs = map target_of cs
+
+-- ---- by which hop (section 16.6 steps 6 and 7)
+
+-- by that of the first Route value, if there is one, else by that of the target's URI
+abbrev pub hop_by : FirstRoute → Uri → Option Hop
+hop_by Absent uri = hop_of uri
+hop_by NoHop uri = None
+hop_by (To hop) uri = Some hop
+
+abbrev pub has_hop : FirstRoute → Choice → Bool
+has_hop route choice = is_some (hop_by route choice.uri)
+
+abbrev pub hop_if_any : FirstRoute → Option Hop
+hop_if_any Absent = None
+hop_if_any NoHop = None
+hop_if_any (To hop) = Some hop
+
+-- the URI as it stands in a request: without the parameter `method` and the headers (section 19.1.1)
+abbrev pub requested : Uri → Uri
+requested uri = record uri { params = without_methods uri.params; headers = None }
+
+abbrev pub way_to : FirstRoute → Choice → Option Way
+way_to route choice = way_by (requested choice.uri) (hop_by route choice.uri)
+
+-- the way of the target that a row is for
+abbrev pub way_of_row : FirstRoute → List Choice → Row → Option Way
+way_of_row route cs row = option_and_then (way_to route) (slice_get cs row.place)
+
+-- each row has its way
+abbrev pub AreWays : FirstRoute → List Choice → List Row → List Way → Type 0
+AreWays route cs rows ways = map Some ways ≡ map (way_of_row route cs) rows

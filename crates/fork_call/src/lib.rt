@@ -1,0 +1,18 @@
+//! How a call opens, and which of its transactions a message belongs to (RFC 3261 sections 16.3 to 16.7, 17.1.3 and
+//! 17.2.3). What a call does then is said by its parts, in `fork_parts`.
+#![tactic(auto)]
+
+mod admission;
+mod checks;
+mod fault;
+mod matching;
+mod opening;
+mod recipient;
+mod targets;
+
+pub use admission::admit;
+pub use fault::OpenFault;
+pub use matching::response_recipient;
+pub use opening::open;
+pub use recipient::Recipient;
+pub use targets::is_domain;
