@@ -1,0 +1,169 @@
+//! Values under numbers and keys, each behind a lock of its own.
+ghost use Rattle.std.specs.Prelude.{◌≡◌, ◌+◌, ℕ, Ok, Err, IfOk, IfSome, OnOk, OnErr};
+ghost use Rattle.std.specs.Fn.{FnOnceReturnsAtMut};
+
+use crate::desk::{Desk, Taken};
+use std::alloc::{AllocError, Allocator, Global};
+use std::sync::{Arc, Mutex, Wait};
+use thiserror::Error;
+
+/// A value that knows its number on a shelf.
+pub trait Numbered {
+    ghost number_of: { Self → ℕ };
+
+    /// Its number.
+    fn number(&self) -> u64
+        ensures { result ≡ number_of self.now };
+}
+
+/// Why nothing was put, in the order in which the causes are looked for.
+#[derive(Drop, Error)]
+#[derive_where(Debug)]
+pub enum ShelfFault<E> {
+    /// The key has this number already.
+    #[error("the key has number {0}")]
+    Known(u64),
+    /// No number is left.
+    #[error("no number is left")]
+    Spent,
+    /// What makes the value refused.
+    #[error("the value was not made")]
+    Made(#[derive_where(skip)] E),
+    /// A growth was refused.
+    #[error("out of memory")]
+    NoMemory,
+}
+
+/// The values by number, which is their place.
+type Entries<T, A> = Vec<Arc<Mutex<T>, A>, A>;
+
+/// Values under numbers and keys. The keys have a lock, the list of entries another, which is held for a moment only, and
+/// each value one of its own: who looks at a value waits neither for one that is being made nor for a look at another.
+#[derive(Drop)]
+pub struct Shelf<T: Numbered, A: Allocator = Global> {
+    alloc: A,
+    desk: Mutex<Desk<A>>,
+    entries: Mutex<Entries<T, A>>,
+}
+
+impl<T: Numbered + Drop, A: Allocator + Clone> Shelf<T, A> {
+    /// A shelf with nothing on it. The only error is want of memory.
+    pub fn new(alloc: A) -> Result<Shelf<T, A>, AllocError> {
+        let keys = alloc.clone()?;
+        let entries = alloc.clone()?;
+        Ok(Shelf {
+            alloc,
+            desk: Mutex::new(Desk::new(keys)),
+            entries: Mutex::new(Vec::new(entries)),
+        })
+    }
+
+    /// Puts the value that `make` makes for the next number under a key, and answers the number. Numbers rise from 0. The
+    /// keys are locked while `make` runs, so it may look at the shelf's values, but not at its keys.
+    ///
+    /// # Errors
+    ///
+    /// `Known` where the key has a number; else `Spent` where none is left, without a call of `make`; else `Made` with what
+    /// `make` refused with; `NoMemory` only where the allocator refuses. Then the next number stays what it was.
+    pub fn put<R: Wait, E: Drop, F: FnOnce(u64) -> Result<T, E>>(
+        &self,
+        rt: &R,
+        key: &[u8],
+        make: F,
+    ) -> Result<u64, ShelfFault<E>>
+        requires callable { F.IsAlwaysCallable make }
+        requires numbered { (no : ℕ) (value : T) → F.post make no (Ok value) → T.number_of value ≡ no }
+        ensures made { IfOk result (λ no. (value : T) × F.post make no (Ok value)) }
+    {
+        self.put_at(rt, &mut self.desk.lock(rt), key, make)
+    }
+
+    /// Puts as `put` does, with the keys locked.
+    fn put_at<R: Wait, E: Drop, F: FnOnce(u64) -> Result<T, E>>(
+        &self,
+        rt: &R,
+        desk: &mut Desk<A>,
+        key: &[u8],
+        make: F,
+    ) -> Result<u64, ShelfFault<E>>
+        requires callable { F.IsAlwaysCallable make }
+        requires numbered { (no : ℕ) (value : T) → F.post make no (Ok value) → T.number_of value ≡ no }
+        ensures made { IfOk result (λ no. (value : T) × F.post make no (Ok value)) }
+        ensures number { IfOk result (λ no. no ≡ desk.old.next) }
+        ensures ok { OnOk result (desk.new.next ≡ desk.old.next + 1) }
+        ensures err { OnErr result (desk.new.next ≡ desk.old.next) }
+    {
+        let no = match desk.free(key) {
+            Ok(no) => no,
+            Err(Taken::Known(no)) => return Err(ShelfFault::Known(no)),
+            Err(Taken::Spent) => return Err(ShelfFault::Spent),
+        };
+        let value = match make(no) {
+            Ok(value) => value,
+            Err(refused) => return Err(ShelfFault::Made(refused)),
+        };
+        let Ok(name) = self.name(key) else {
+            return Err(ShelfFault::NoMemory);
+        };
+        let Ok(entry) = self.behind_lock(value) else {
+            return Err(ShelfFault::NoMemory);
+        };
+        let mut entries = self.entries.lock(rt);
+        if entries.reserve(1).is_err() || desk.list(name).is_err() {
+            return Err(ShelfFault::NoMemory);
+        }
+        entries.push_reserved(entry);
+        Ok(no)
+    }
+
+    /// A key in memory of the shelf's own.
+    fn name(&self, key: &[u8]) -> Result<Vec<u8, A>, AllocError>
+        ensures { IfOk result (λ name. name.items ≡ key.now) }
+    {
+        Vec::from_slice(self.alloc.clone()?, key)
+    }
+
+    /// A value behind a lock.
+    fn behind_lock(&self, value: T) -> Result<Arc<Mutex<T>, A>, AllocError> {
+        let alloc = self.alloc.clone()?;
+        match Arc::new(alloc, Mutex::new(value)) {
+            Ok(entry) => Ok(entry),
+            Err(_) => Err(AllocError),
+        }
+    }
+
+    /// The number of a key.
+    pub fn keyed<R: Wait>(&self, rt: &R, key: &[u8]) -> Option<u64> {
+        self.desk.lock(rt).keyed(key)
+    }
+
+    /// The entry of a number, with no lock held.
+    fn entry<R: Wait>(&self, rt: &R, no: u64) -> Option<Arc<Mutex<T>, A>> {
+        let entries = self.entries.lock(rt);
+        let at = usize::try_from(no).ok()?;
+        Arc::try_clone(entries.get(at)?).ok()
+    }
+
+    /// Calls `f` at the value of a number, with that value locked, and answers what it returns. None where there is no such
+    /// number, or no further owner of the entry could be made.
+    pub fn with<R: Wait, U, F: FnOnce(&mut T) -> U>(&self, rt: &R, no: u64, f: F) -> Option<U>
+        requires callable { (x : _) → T.number_of x.now ≡ no → F.pre f x }
+        requires keeps { (old new : T) (r : U) → T.number_of old ≡ no → FnOnceReturnsAtMut F.FnOnce f old r new → T.number_of new ≡ no }
+        ensures { IfSome result (λ r. (old : T) × (new : T) × (T.number_of old ≡ no) × FnOnceReturnsAtMut F.FnOnce f old r new) }
+    {
+        let entry = self.entry(rt, no)?;
+        let mut value = entry.lock(rt);
+        if value.number() != no {
+            return None;
+        }
+        Some(called(f, &mut *value))
+    }
+}
+
+/// What a call of `f` at a value returns.
+fn called<T, U, F: FnOnce(&mut T) -> U>(f: F, x: &mut T) -> U
+    requires { (r : _) → r.now ≡ x.old → F.pre f r }
+    ensures { FnOnceReturnsAtMut F.FnOnce f x.old result x.new }
+{
+    f(x)
+}
