@@ -4,7 +4,7 @@ use Rattle.fork_tree.specs.declared.row.RowRef.{RowRef}
 use Rattle.fork_tree.specs.declared.row.State.TheVariants.{Ended}
 use Rattle.fork_tree.specs.declared.row.End.{End}
 use Rattle.fork_tree.specs.declared.row.End.TheVariants.{Taken, Silent, Never}
-use Rattle.fork_tree.specs.States.{has_ended, IsFinal, IsFinalEnd}
+use Rattle.fork_tree.specs.States.{has_ended}
 use Rattle.fork_tree.specs.Given.{AreRows, IsParent}
 use Rattle.fork_tree.proofs.Ordering.{IsNext, ordered_rows}
 
@@ -67,15 +67,14 @@ order None = 0
 order (Some zero) = 2
 order (Some (suc m)) = 1
 
-sample_rows : (redirection missing busy : End) → IsFinalEnd redirection → IsFinalEnd missing → IsFinalEnd busy → AreRows (sample redirection missing busy)
-sample_rows redirection missing busy x y z =
+sample_rows : (redirection missing busy : End) → AreRows (sample redirection missing busy)
+sample_rows redirection missing busy =
     let rows : List RowRef = sample redirection missing busy in
     let first : 0 < 1 = omega arith in
     let second : 1 < 2 = omega arith in
     ordered_rows order rows (record {
       few = omega arith;
       number = each_row (λ n r. r.no ≡ n) rows (refl, (refl, (refl, (refl, (refl, (refl, tt))))));
-      final_end = each_row (λ n r. IsFinal r.state) rows (tt, (x, (y, (tt, (z, (tt, tt))))));
       parent = λ n m r is. each_row (λ n r. (m : ℕ) → r.parent ≡ Some m → IsParent rows n m) rows (
         (λ m e. under_none rows 0 m e),
         (
@@ -99,7 +98,7 @@ sample_rows redirection missing busy x y z =
 
 pub six_rows : (a b c d e f : RowRef) (redirection missing busy : End) → a ≡ row_with 0 None 0 1000 (Taken 4) → b ≡ row_with 1 None 0 1000 redirection
     → c ≡ row_with 2 (Some 1) 0 700 missing → d ≡ row_with 3 (Some 1) 1 300 (Silent 3) → e ≡ row_with 4 (Some 0) 0 500 busy → f ≡ row_with 5 (Some 0) 0 500 Never
-    → IsFinalEnd redirection → IsFinalEnd missing → IsFinalEnd busy → AreRows (a ∷ b ∷ c ∷ d ∷ e ∷ f ∷ [])
-six_rows a b c d e f redirection missing busy ea eb ec ed ee ef x y z =
+    → AreRows (a ∷ b ∷ c ∷ d ∷ e ∷ f ∷ [])
+six_rows a b c d e f redirection missing busy ea eb ec ed ee ef =
     let same : sample redirection missing busy ≡ (a ∷ b ∷ c ∷ d ∷ e ∷ f ∷ []) = cc in
-    subst AreRows same (sample_rows redirection missing busy x y z)
+    subst AreRows same (sample_rows redirection missing busy)

@@ -8,6 +8,8 @@ mod faults;
 #[cfg(test)]
 mod holds;
 #[cfg(test)]
+mod laws;
+#[cfg(test)]
 mod limits;
 #[cfg(test)]
 mod play;

@@ -115,7 +115,7 @@ pub fn event(alloc: Global, happening: Happening, contacts: &[Contact]) -> Resul
 pub fn targets(alloc: Global, list: &[Aim]) -> Result<Vec<Target>, Fail> {
     let mut targets = Vec::new(alloc);
     for &(number, q) in list {
-        targets.push(Target::new(key_of(number).to_vec(alloc)?, q))?;
+        targets.push(Target::new(key_of(number).to_vec(alloc)?, q.min(1000)))?;
     }
     Ok(targets)
 }

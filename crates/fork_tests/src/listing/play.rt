@@ -89,7 +89,7 @@ fn take(alloc: Global, fork: &mut Context, steps: &[Step<'_>]) -> Result<(), Fai
 fn targets(alloc: Global, aims: &[Aim<'_>]) -> Result<Vec<Target>, AllocError> {
     let mut targets = Vec::new(alloc);
     for &(key, q) in aims {
-        targets.push(Target::new(key.as_bytes().to_vec(alloc)?, q))?;
+        targets.push(Target::new(key.as_bytes().to_vec(alloc)?, q.min(1000)))?;
     }
     Ok(targets)
 }

@@ -1,6 +1,5 @@
 //! A tree from its rows.
 ghost use Rattle.std.specs.Prelude.{◌≡◌, ◌≤◌, IfOk};
-ghost use Rattle.fork_tree.specs.States.{IsFinalEnd};
 ghost use Rattle.fork_tree.specs.declared.row.State.TheVariants.{Ended};
 ghost use Rattle.fork_tree.specs.Given.{AreRows};
 
@@ -23,10 +22,7 @@ fn row(no: u16, parent: Option<u16>, group: u16, q: u16, end: End) -> RowRef
     }
 }
 
-fn stored(code: u16, arrival: u32) -> Result<End, Fail>
-    requires { 300 ≤ code }
-    ensures { IfOk result IsFinalEnd }
-{
+fn stored(code: u16, arrival: u32) -> Result<End, Fail> {
     let status = Status::of(code).ok_or("a status")?;
     Ok(End::Stored {
         status,

@@ -1,7 +1,6 @@
 //! What may be done with a tree, each deed where it is allowed alone.
 ghost use Rattle.std.specs.Prelude.{◌≡◌, IsTrue, slice_get};
 ghost use Rattle.fork_model.specs.Table.{is_idle, is_open, is_row, is_trying};
-ghost use Rattle.fork_tree.specs.States.{IsFinalEnd};
 ghost use Rattle.fork_tree.specs.Tree.{is_uncancelled};
 
 use fork_rank::MOST_TARGETS;
@@ -48,16 +47,6 @@ pub fn goes_on(tree: &ForkTree, n: u16) -> bool
     }
 }
 
-/// Whether what is stored is no 2xx.
-fn is_final(end: &End) -> bool
-    ensures { IsTrue result → IsFinalEnd end.now }
-{
-    match *end {
-        End::Stored { status, .. } => status.code() >= 300,
-        _ => true,
-    }
-}
-
 /// Row n is tried; whether it waited.
 pub fn start(tree: &mut ForkTree, n: u16) -> bool {
     let waits = is_waiting(tree, n);
@@ -97,7 +86,7 @@ pub fn end(
     if first > MOST_TARGETS || qs.len() > (MOST_TARGETS - first) as usize {
         return Ok(false);
     }
-    if !goes_on(tree, n) || !is_final(&end) {
+    if !goes_on(tree, n) {
         return Ok(false);
     }
     let below = Level::idle(alloc, first, qs)?;
