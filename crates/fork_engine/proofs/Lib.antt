@@ -1,0 +1,2 @@
+mod Faulty
+mod Ends

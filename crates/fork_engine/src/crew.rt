@@ -1,0 +1,174 @@
+//! The workers that post to one book, each in a thread of its own.
+ghost use denote.Param.Send.{IsSync};
+ghost use Rattle.std.specs.contracts.sync.Mutex.{the_row as mutex_row};
+ghost use Rattle.fork_engine.specs.contracts.held.Held.{the_row as held_row};
+
+use crate::held::Held;
+use fork_context::Event;
+use std::alloc::Global;
+use std::sync::atomic::{AtomicU64, Ordering};
+use std::sync::{Mutex, Wait};
+use std::thread;
+use std::thread::Threads;
+
+/// What a worker calls around each post.
+pub trait Gate {
+    /// Before the post of the worker's event at this place of its script.
+    fn before(&self, worker: u8, place: u32);
+
+    /// After it.
+    fn after(&self, worker: u8, place: u32);
+}
+
+/// How a worker ended.
+#[derive(Clone, Copy, PartialEq, Eq, Debug)]
+pub(crate) enum Ended {
+    Done,
+    Full,
+    NoMemory,
+}
+
+/// Which refusals the workers met.
+#[derive(Drop)]
+pub(crate) struct Met {
+    full: AtomicU64,
+    memory: AtomicU64,
+}
+
+impl Met {
+    /// None yet.
+    pub(crate) fn new() -> Met {
+        Met {
+            full: AtomicU64::new(0),
+            memory: AtomicU64::new(0),
+        }
+    }
+
+    /// Notes how a worker ended.
+    fn note(&self, ended: Ended) {
+        match ended {
+            Ended::Done => {}
+            Ended::Full => self.full.store(1, Ordering::SeqCst),
+            Ended::NoMemory => self.memory.store(1, Ordering::SeqCst),
+        }
+    }
+
+    /// Whether a worker met a full book.
+    pub(crate) fn full(&self) -> bool {
+        self.full.load(Ordering::SeqCst) == 1
+    }
+
+    /// Whether a worker met want of memory.
+    pub(crate) fn memory(&self) -> bool {
+        self.memory.load(Ordering::SeqCst) == 1
+    }
+}
+
+/// What workers post to.
+pub(crate) trait Posting {
+    /// Posts a copy of an event under a worker's tag.
+    fn post_copy<R: Wait>(&self, rt: &R, alloc: &Global, worker: u8, event: &Event) -> Ended;
+}
+
+impl Posting for Mutex<Held> {
+    fn post_copy<R: Wait>(&self, rt: &R, alloc: &Global, worker: u8, event: &Event) -> Ended {
+        let Ok(copy) = event.copy(alloc) else {
+            return Ended::NoMemory;
+        };
+        self.lock(rt).post(worker, copy)
+    }
+}
+
+/// What each worker does.
+trait Work {
+    /// The work of this worker, whole.
+    fn run(&self, worker: u8);
+}
+
+/// What the workers are given.
+#[derive(Drop)]
+pub(crate) struct Orders<'a, G, R> {
+    pub(crate) rt: &'a R,
+    pub(crate) alloc: &'a Global,
+    pub(crate) scripts: &'a [Vec<Event>],
+    pub(crate) gate: &'a G,
+    pub(crate) met: &'a Met,
+}
+
+/// The workers at one book.
+#[derive(Drop)]
+struct Crew<'a, P, G, R> {
+    book: &'a P,
+    orders: &'a Orders<'a, G, R>,
+}
+
+impl<'a, P: Posting, G: Gate, R: Wait> Crew<'a, P, G, R> {
+    /// Posts a script, up to the first refusal.
+    fn post_all(&self, worker: u8, script: &[Event]) -> Ended {
+        let orders = self.orders;
+        let mut place = 0u32;
+        for event in script {
+            orders.gate.before(worker, place);
+            let ended = self.book.post_copy(orders.rt, orders.alloc, worker, event);
+            orders.gate.after(worker, place);
+            if ended != Ended::Done {
+                return ended;
+            }
+            place = place.saturating_add(1);
+        }
+        Ended::Done
+    }
+}
+
+impl<'a, P: Posting, G: Gate, R: Wait> Work for Crew<'a, P, G, R> {
+    fn run(&self, worker: u8) {
+        if let Some(script) = self.orders.scripts.get(usize::from(worker)) {
+            self.orders
+                .met
+                .note(self.post_all(worker, script.as_slice()));
+        }
+    }
+}
+
+/// Runs so many workers, each in a thread of its own, and in the calling thread where none can be made.
+fn run_workers<W: Work + Sync, R: Threads + Wait + Sync>(rt: &R, count: u8, work: &W) {
+    thread::scope(thread::scope_env(), rt, |scope| {
+        for worker in 0..count {
+            let ran = scope.spawn(move || work.run(worker));
+            if ran.is_err() {
+                work.run(worker);
+            }
+        }
+    });
+}
+
+/// Posts the scripts to one book, a worker for each.
+fn post_scripts<'a, P: Posting + Sync, G: Gate + Sync, R: Threads + Wait + Sync>(
+    book: &'a P,
+    orders: &'a Orders<'a, G, R>,
+) {
+    let count = u8::try_from(orders.scripts.len()).unwrap_or(u8::MAX);
+    let crew = Crew { book, orders };
+    run_workers(orders.rt, count, &crew);
+}
+
+/// That threads may share this.
+fn is_shared<T: Sync>(_: &T)
+    ensures { IsSync T.row }
+{}
+
+/// That threads may share a lock of a book.
+fn lock_is_shared(book: &Mutex<Held>)
+    ensures { IsSync (mutex_row held_row) }
+{
+    is_shared(book);
+}
+
+/// Posts the scripts to a book under a lock, a worker for each.
+pub(crate) fn post_under_lock<'a, G: Gate + Sync, R: Threads + Wait + Sync>(
+    book: &'a Mutex<Held>,
+    orders: &'a Orders<'a, G, R>,
+) {
+    lock_is_shared(book);
+    post_scripts(book, orders);
+}
