@@ -3,7 +3,7 @@ use Rattle.std.proofs.Common.{◌≡◌, ℕ, zero, suc, ◌+◌, ◌≤◌, ◌
 use Rattle.std.specs.Prelude.{unwrap_or}
 use Rattle.std.specs.Option.{option_map}
 use Rattle.std.proofs.lemmas.Bool.Decides.{nat_tests}
-use Rattle.fork_model.specs.Table.{Stored, Answered, State, Idle, Trying, Rung, Ended, Row, Table, is_idle, is_ended}
+use Rattle.fork_model.specs.Table.{StoredAnswer, Stored, State, Idle, Trying, Rung, Ended, Row, Table, is_idle, is_ended}
 use Rattle.fork_model.specs.Event.{Event, FinalAnswer, Ring, Answer, Timeout, Fault, TimerC, GiveUp, Cancel}
 use Rattle.fork_model.specs.Waiting.{may_start}
 use Rattle.fork_model.specs.Contacts.{Taking, taking_at}
@@ -69,7 +69,7 @@ calm_settled t (row ∷ rows) calm =
 
 -- the state that it brings about: an answer of that status is stored
 abbrev pub Stores : State → ℕ → Type 0
-Stores state status = (kept : Stored) × (state ≡ Ended (Answered kept)) × (kept.status ≡ status)
+Stores state status = (kept : StoredAnswer) × (state ≡ Ended (Stored kept)) × (kept.status ≡ status)
 
 -- it stores, adds no row
 pub record IsStoring (e : Effect) (status : ℕ) : Type 0 where
