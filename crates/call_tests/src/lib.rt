@@ -5,4 +5,10 @@
 #[cfg(test)]
 mod holds;
 #[cfg(test)]
+mod matching;
+#[cfg(test)]
+mod opening;
+#[cfg(test)]
+mod requests;
+#[cfg(test)]
 mod setup;
