@@ -6,6 +6,7 @@ use fork_book::Book;
 use fork_context::{Answer, Choice, Event, Kind, NewFault, Target};
 use fork_engine::{DriveFault, Gate, drive};
 use fork_rank::{RingStatus, Rules, Status};
+use std::process::Abort;
 use std::sync::Wait;
 use std::sync::atomic::{AtomicU64, Ordering};
 use std::test::Fail;
@@ -146,43 +147,54 @@ fn came(book: &Book, first: u8, second: u8) -> bool {
     }
 }
 
+/// Drives two workers that answer so, the first of `order` before the second, and looks at what is chosen.
+fn chosen_so<R: Threads + Wait + Sync + Abort>(
+    threads: &R,
+    rt: &HostRuntime,
+    codes: (u16, u16),
+    order: (u8, u8),
+    choice: Option<Choice>,
+) -> Result<(), Fail> {
+    let gate = gate_of(rt, order.0)?;
+    let book = driven(threads, rt, codes, &gate)?;
+    holds(threads, came(&book, order.0, order.1), "the gate's order");
+    holds(threads, book.context().choice() == choice, "what is chosen");
+    holds(
+        threads,
+        book.context().succeeded() == choice.is_none(),
+        "whether a 2xx came",
+    );
+    Ok(())
+}
+
 #[test]
 fn of_equal_answers_the_earlier_is_chosen(rt: HostRuntime) -> Result<(), Fail> {
-    for worker in 0u8..2 {
-        let gate = gate_of(&rt, worker)?;
-        let book = driven(&rt, &rt, (404, 404), &gate)?;
-        holds(&rt, came(&book, worker, 1 - worker), "the gate's order");
-        let choice = Some(Choice::Stored(u16::from(worker)));
-        holds(&rt, book.context().choice() == choice, "the earlier answer");
-    }
-    Ok(())
+    chosen_so(&rt, &rt, (404, 404), (0, 1), Some(Choice::Stored(0)))
 }
 
 #[test]
-fn the_better_answer_is_chosen_in_either_order(rt: HostRuntime) -> Result<(), Fail> {
-    for worker in 0u8..2 {
-        let gate = gate_of(&rt, worker)?;
-        let book = driven(&rt, &rt, (404, 407), &gate)?;
-        holds(&rt, came(&book, worker, 1 - worker), "the gate's order");
-        holds(
-            &rt,
-            book.context().choice() == Some(Choice::Stored(1)),
-            "the 407",
-        );
-    }
-    Ok(())
+fn of_equal_answers_the_earlier_is_chosen_from_the_other(rt: HostRuntime) -> Result<(), Fail> {
+    chosen_so(&rt, &rt, (404, 404), (1, 0), Some(Choice::Stored(1)))
 }
 
 #[test]
-fn a_success_beats_a_failure_in_either_order(rt: HostRuntime) -> Result<(), Fail> {
-    for worker in 0u8..2 {
-        let gate = gate_of(&rt, worker)?;
-        let book = driven(&rt, &rt, (200, 404), &gate)?;
-        holds(&rt, came(&book, worker, 1 - worker), "the gate's order");
-        holds(&rt, book.context().succeeded(), "a 2xx came");
-        holds(&rt, book.context().choice().is_none(), "nothing is chosen");
-    }
-    Ok(())
+fn the_better_answer_is_chosen_where_it_comes_last(rt: HostRuntime) -> Result<(), Fail> {
+    chosen_so(&rt, &rt, (404, 407), (0, 1), Some(Choice::Stored(1)))
+}
+
+#[test]
+fn the_better_answer_is_chosen_where_it_comes_first(rt: HostRuntime) -> Result<(), Fail> {
+    chosen_so(&rt, &rt, (404, 407), (1, 0), Some(Choice::Stored(1)))
+}
+
+#[test]
+fn a_success_before_a_failure_leaves_no_choice(rt: HostRuntime) -> Result<(), Fail> {
+    chosen_so(&rt, &rt, (200, 404), (0, 1), None)
+}
+
+#[test]
+fn a_success_behind_a_failure_leaves_no_choice(rt: HostRuntime) -> Result<(), Fail> {
+    chosen_so(&rt, &rt, (200, 404), (1, 0), None)
 }
 
 #[test]
