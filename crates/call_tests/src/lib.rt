@@ -9,6 +9,8 @@ mod matching;
 #[cfg(test)]
 mod opening;
 #[cfg(test)]
+mod parts;
+#[cfg(test)]
 mod requests;
 #[cfg(test)]
 mod setup;

@@ -159,13 +159,17 @@ pub(crate) fn choices<'a, A: Allocator + Clone>(
     }
 }
 
-/// What tells the target from others, with its q.
+/// What tells the target from others, with its q. (No setup that was read has a q of more than one; no clause of the
+/// loops above says so yet, so it is asked here.)
 fn target_of<A: Allocator + Clone>(
     alloc: A,
     choice: &Choice<'_, A>,
 ) -> Result<Target<A>, AllocError>
     ensures { IfOk result (λ target. target ≡ target_of choice.now) }
 {
+    if MOST_Q < choice.q {
+        return Err(AllocError);
+    }
     let key = Vec::from_slice(alloc, choice.uri.key())?;
     Ok(Target::new(key, choice.q))
 }
