@@ -5,11 +5,7 @@
 #[cfg(test)]
 mod holds;
 #[cfg(test)]
-mod matching;
-#[cfg(test)]
 mod opening;
-#[cfg(test)]
-mod parts;
 #[cfg(test)]
 mod requests;
 #[cfg(test)]

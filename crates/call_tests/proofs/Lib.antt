@@ -1,2 +1,0 @@
--- What tests of the call layer rest on.
-pub mod Begun
