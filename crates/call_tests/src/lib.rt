@@ -7,6 +7,8 @@ mod holds;
 #[cfg(test)]
 mod opening;
 #[cfg(test)]
+mod parts;
+#[cfg(test)]
 mod requests;
 #[cfg(test)]
 mod setup;

@@ -1,0 +1,2 @@
+-- What tests of the call layer rest on.
+pub mod Begun

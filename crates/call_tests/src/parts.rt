@@ -1,0 +1,662 @@
+//! The parts of a call: what each call of theirs sends, and where it leaves the branches.
+ghost use Rattle.std.specs.Prelude.{◌≡◌, IfOk, IfSome, IsTrue};
+ghost use Rattle.sip_text.specs.Name.{first_value};
+ghost use Rattle.sip_route.specs.Hops.{IsHops, hops_name};
+ghost use Rattle.fork_parts.specs.Built.{status_of};
+ghost use Rattle.fork_parts.specs.Response.{is_bare};
+ghost use Rattle.fork_parts.specs.Sound.{IsSound};
+
+use crate::holds::holds;
+use fork_book::Book;
+use fork_context::{Kind, Target};
+use fork_parts::{Cause, Datagram, Fixed, OwedAnswer, Parts, Step, Taken, Way, calls_stay_sound};
+use fork_rank::Rules;
+use sip_lex::read_number;
+use sip_text::{Message, Start};
+use sip_uri::{Hop, SipUri};
+use sip_via::Own;
+use std::alloc::{AllocError, Global};
+
+/// The proxy's own address.
+const OWN: Own = Own {
+    addr: [192, 0, 2, 9],
+    port: 5060,
+};
+
+/// Where the answers go.
+const CALLER: Hop = Hop {
+    addr: [192, 0, 2, 1],
+    port: 40_000,
+};
+
+/// Where the request of the first branch goes.
+const FIRST: Hop = Hop {
+    addr: [192, 0, 2, 4],
+    port: 5060,
+};
+
+/// Where that of the second goes.
+const SECOND: Hop = Hop {
+    addr: [192, 0, 2, 5],
+    port: 5062,
+};
+
+// The lines of a request that was marked with its source.
+const VIA: &[u8] = b"v: SIP/2.0/UDP 192.0.2.1:5060;branch=z9hG4bKa;rport=40000;received=192.0.2.1";
+
+const FROM: &[u8] = b"f: <sip:alice@example.com>;tag=1";
+
+const TO: &[u8] = b"t: <sip:bob@example.com>";
+
+const CALL_ID: &[u8] = b"i: c1";
+
+const CSEQ: &[u8] = b"CSeq: 1 INVITE";
+
+const LENGTH: &[u8] = b"l: 0";
+
+/// An INVITE, marked with its source.
+const INVITE: [&[u8]; 9] = [
+    b"INVITE sip:bob@example.com SIP/2.0",
+    VIA,
+    b"Max-Forwards: 70",
+    FROM,
+    TO,
+    CALL_ID,
+    CSEQ,
+    LENGTH,
+    b"",
+];
+
+/// An OPTIONS request, marked so.
+const OPTIONS: [&[u8]; 9] = [
+    b"OPTIONS sip:bob@example.com SIP/2.0",
+    VIA,
+    b"Max-Forwards: 70",
+    FROM,
+    TO,
+    CALL_ID,
+    b"CSeq: 1 OPTIONS",
+    LENGTH,
+    b"",
+];
+
+/// The Via line of the first branch.
+const FIRST_VIA: &[u8] =
+    b"Via: SIP/2.0/UDP 192.0.2.9:5060;branch=z9hG4bK8c31e71e0ddbf1a0e56f5f0279990857.7.3.0";
+
+/// That of the second.
+const SECOND_VIA: &[u8] =
+    b"Via: SIP/2.0/UDP 192.0.2.9:5060;branch=z9hG4bK8c31e71e0ddbf1a0e56f5f0279990857.7.3.1";
+
+/// The 100 to the INVITE.
+const TRYING: [&[u8]; 8] = [
+    b"SIP/2.0 100 Trying",
+    VIA,
+    FROM,
+    TO,
+    CALL_ID,
+    CSEQ,
+    b"Content-Length: 0",
+    b"",
+];
+
+/// The INVITE as it goes to the first target.
+const TO_FIRST: [&[u8]; 10] = [
+    b"INVITE sip:bob@192.0.2.4 SIP/2.0",
+    FIRST_VIA,
+    VIA,
+    b"Max-Forwards: 69",
+    FROM,
+    TO,
+    CALL_ID,
+    CSEQ,
+    LENGTH,
+    b"",
+];
+
+/// The INVITE as it goes to the second.
+const TO_SECOND: [&[u8]; 10] = [
+    b"INVITE sip:bob@192.0.2.5:5062 SIP/2.0",
+    SECOND_VIA,
+    VIA,
+    b"Max-Forwards: 69",
+    FROM,
+    TO,
+    CALL_ID,
+    CSEQ,
+    LENGTH,
+    b"",
+];
+
+/// The OPTIONS request as it goes to the second.
+const OPTIONS_TO_SECOND: [&[u8]; 10] = [
+    b"OPTIONS sip:bob@192.0.2.5:5062 SIP/2.0",
+    SECOND_VIA,
+    VIA,
+    b"Max-Forwards: 69",
+    FROM,
+    TO,
+    CALL_ID,
+    b"CSeq: 1 OPTIONS",
+    LENGTH,
+    b"",
+];
+
+/// The 180 of the first branch.
+const RINGING: [&[u8]; 9] = [
+    b"SIP/2.0 180 Ringing",
+    FIRST_VIA,
+    VIA,
+    FROM,
+    b"t: <sip:bob@example.com>;tag=9",
+    CALL_ID,
+    CSEQ,
+    LENGTH,
+    b"",
+];
+
+/// The 180 as it goes up.
+const RINGING_UP: [&[u8]; 8] = [
+    b"SIP/2.0 180 Ringing",
+    VIA,
+    FROM,
+    b"t: <sip:bob@example.com>;tag=9",
+    CALL_ID,
+    CSEQ,
+    LENGTH,
+    b"",
+];
+
+/// The 404 of the first branch.
+const NOT_FOUND: [&[u8]; 9] = [
+    b"SIP/2.0 404 Not Found",
+    FIRST_VIA,
+    VIA,
+    FROM,
+    b"t: <sip:bob@example.com>;tag=9",
+    CALL_ID,
+    CSEQ,
+    LENGTH,
+    b"",
+];
+
+/// The ACK for it.
+const ACK: [&[u8]; 9] = [
+    b"ACK sip:bob@192.0.2.4 SIP/2.0",
+    FIRST_VIA,
+    b"Max-Forwards: 70",
+    b"From: <sip:alice@example.com>;tag=1",
+    b"To: <sip:bob@example.com>;tag=9",
+    b"Call-ID: c1",
+    b"CSeq: 1 ACK",
+    b"Content-Length: 0",
+    b"",
+];
+
+/// The CANCEL of the first branch.
+const CANCEL_FIRST: [&[u8]; 9] = [
+    b"CANCEL sip:bob@192.0.2.4 SIP/2.0",
+    FIRST_VIA,
+    b"Max-Forwards: 70",
+    b"From: <sip:alice@example.com>;tag=1",
+    b"To: <sip:bob@example.com>",
+    b"Call-ID: c1",
+    b"CSeq: 1 CANCEL",
+    b"Content-Length: 0",
+    b"",
+];
+
+/// The caller's CANCEL, marked with its source.
+const CANCEL: [&[u8]; 9] = [
+    b"CANCEL sip:bob@example.com SIP/2.0",
+    VIA,
+    b"Max-Forwards: 70",
+    FROM,
+    TO,
+    CALL_ID,
+    b"CSeq: 1 CANCEL",
+    LENGTH,
+    b"",
+];
+
+// ---- how the parts begin
+
+/// The text of these lines.
+fn text_of(alloc: Global, lines: &[&[u8]]) -> Option<Vec<u8>> {
+    let mut text = Vec::new(alloc);
+    for line in lines {
+        text.extend_from_slice(line).ok()?;
+        text.extend_from_slice(b"\r\n").ok()?;
+    }
+    Some(text)
+}
+
+/// The message that these lines spell.
+fn message_of(alloc: Global, lines: &[&[u8]]) -> Option<Message<Global>> {
+    let text = text_of(alloc, lines)?;
+    Message::read(alloc, &text).ok()
+}
+
+/// Whether a value is one to three digits of 1 to 255.
+fn are_hops(value: &[u8]) -> bool
+    ensures { IsTrue result → IsHops value.now }
+{
+    match read_number(value, 255) {
+        None => false,
+        Some(hops) => hops >= 1 && value.len() <= 3,
+    }
+}
+
+/// Whether the first Max-Forwards, if there is one, is such a value.
+fn has_hops(message: &Message<Global>) -> bool
+    ensures { IsTrue result → IfSome (first_value hops_name message.now.headers) IsHops }
+{
+    match message.values(b"max-forwards").next() {
+        None => true,
+        Some(value) => are_hops(value),
+    }
+}
+
+/// What the call of a request is opened with.
+fn fixed_by(request: Message<Global>) -> Option<Fixed> {
+    if !has_hops(&request) {
+        return None;
+    }
+    match request.start() {
+        Start::Request { .. } => Some(Fixed::new(3, OWN, 7, request, CALLER, None)),
+        Start::Response { .. } => None,
+    }
+}
+
+/// What the call of the request of these lines is opened with.
+fn fixed_of(alloc: Global, lines: &[&[u8]]) -> Option<Fixed> {
+    fixed_by(message_of(alloc, lines)?)
+}
+
+/// The two targets, which are tried at once.
+fn targets_of(alloc: Global) -> Option<Vec<Target>> {
+    let mut targets = Vec::new(alloc);
+    for key in [b"a", b"b"] {
+        targets
+            .push(Target::new(Vec::from_slice(alloc, key).ok()?, 1000))
+            .ok()?;
+    }
+    Some(targets)
+}
+
+fn way_of(alloc: Global, uri: &[u8], hop: Hop) -> Option<Way> {
+    Some(Way::new(SipUri::read(alloc, uri).ok()?, hop))
+}
+
+/// Where their requests go.
+fn ways_of(alloc: Global) -> Option<Vec<Way>> {
+    let mut ways = Vec::new(alloc);
+    ways.push(way_of(alloc, b"sip:bob@192.0.2.4", FIRST)?).ok()?;
+    ways.push(way_of(alloc, b"sip:bob@192.0.2.5:5062", SECOND)?)
+        .ok()?;
+    Some(ways)
+}
+
+/// The parts of a call that begins to these targets, which are sound.
+#[tactic(auto, using(crate::proofs::Begun::begins_sound))]
+fn begun_to(
+    alloc: Global,
+    fixed: Fixed,
+    targets: Vec<Target>,
+    ways: Vec<Way>,
+) -> Result<Parts, AllocError>
+    ensures { IfOk result IsSound }
+{
+    calls_stay_sound();
+    let kind = fixed.kind();
+    let Ok(book) = Book::new(alloc, kind, Rules::usual(), targets) else {
+        return Err(AllocError);
+    };
+    if usize::from(book.context().count()) != ways.len() {
+        return Err(AllocError);
+    }
+    Parts::begin(alloc, fixed, book, ways, 0)
+}
+
+/// The parts of the call of the request of these lines to the two targets.
+fn begun(alloc: Global, lines: &[&[u8]]) -> Option<Parts>
+    ensures { IfSome result IsSound }
+{
+    let fixed = fixed_of(alloc, lines)?;
+    let targets = targets_of(alloc)?;
+    let ways = ways_of(alloc)?;
+    match begun_to(alloc, fixed, targets, ways) {
+        Ok(parts) => Some(parts),
+        Err(_) => None,
+    }
+}
+
+// ---- what is done with them
+
+/// Whether a datagram is of this cause, goes there, and spells these lines.
+fn is_sent_as(alloc: Global, sent: &Datagram, to: Hop, cause: Cause, lines: &[&[u8]]) -> bool {
+    match text_of(alloc, lines) {
+        None => false,
+        Some(text) => sent.to == to && sent.cause == cause && *sent.bytes == *text,
+    }
+}
+
+/// Whether a step sends such a datagram.
+fn step_sends(alloc: Global, step: &Step, to: Hop, cause: Cause, lines: &[&[u8]]) -> bool {
+    match step {
+        Step::Send(sent) => is_sent_as(alloc, sent, to, cause, lines),
+        Step::Did | Step::Idle => false,
+    }
+}
+
+/// Whether the request to target n is sent there, as these lines.
+fn sends_request(alloc: Global, parts: &mut Parts, n: u16, to: Hop, lines: &[&[u8]]) -> bool {
+    if n >= parts.book().context().count() {
+        return false;
+    }
+    match parts.send_request(n, 0) {
+        Ok(sent) => is_sent_as(alloc, &sent, to, Cause::Request(n), lines),
+        Err(_) => false,
+    }
+}
+
+/// Whether the CANCEL of the first branch is sent as these lines.
+fn sends_cancel(alloc: Global, parts: &mut Parts, lines: &[&[u8]]) -> bool {
+    if !parts.is_sent(0) {
+        return false;
+    }
+    match parts.send_cancel(0, 20) {
+        Ok(sent) => is_sent_as(alloc, &sent, FIRST, Cause::Cancel(0), lines),
+        Err(_) => false,
+    }
+}
+
+/// Whether the ACK of the first branch is sent as these lines.
+fn sends_ack(alloc: Global, parts: &mut Parts, lines: &[&[u8]]) -> bool {
+    if !parts.owes_ack(0) {
+        return false;
+    }
+    let sent = parts.send_ack(0);
+    is_sent_as(alloc, &sent, FIRST, Cause::Ack(0), lines)
+}
+
+/// The status of a response; 0 of a request.
+fn status_of(message: &Message<Global>) -> u16
+    ensures { result ≡ status_of message.now }
+{
+    match message.start() {
+        Start::Request { .. } => 0,
+        Start::Response { status, .. } => *status,
+    }
+}
+
+/// Whether a response of this status says nothing beside it.
+fn is_bare(status: u16) -> bool
+    ensures { result ≡ is_bare status }
+{
+    !((status >= 300 && status < 400) || status == 401 || status == 407)
+}
+
+/// What comes of a response to the first branch.
+fn taken_from(parts: &mut Parts, response: Message<Global>, now: u64) -> Option<Taken> {
+    let status = status_of(&response);
+    if !parts.is_sent(0) || status < 100 || status > 699 || !is_bare(status) {
+        return None;
+    }
+    parts.respond(0, status, response, now).ok()
+}
+
+/// Whether the response of these lines to the first branch is taken so.
+fn takes(alloc: Global, parts: &mut Parts, now: u64, lines: &[&[u8]], taken: Taken) -> bool {
+    match message_of(alloc, lines) {
+        None => false,
+        Some(response) => taken_from(parts, response, now) == Some(taken),
+    }
+}
+
+/// Whether a tick of the CANCEL's transaction sends these lines.
+fn ticks_cancel(alloc: Global, parts: &mut Parts, now: u64, lines: &[&[u8]]) -> bool {
+    if !parts.is_cancel_sent(0) {
+        return false;
+    }
+    match parts.tick_cancel(0, now) {
+        Ok(step) => step_sends(alloc, &step, FIRST, Cause::Cancel(0), lines),
+        Err(_) => false,
+    }
+}
+
+/// Whether a tick of the server transaction sends nothing.
+fn ticks_server(parts: &mut Parts, now: u64) -> bool {
+    match parts.tick_server(now) {
+        Ok(Step::Did) => true,
+        _ => false,
+    }
+}
+
+// ---- what is owed
+
+/// Whether the second answer that is owed is the 200 to a CANCEL from the caller.
+fn owes_cancel_ok(parts: &Parts) -> bool {
+    match parts.owed().get(1) {
+        None => false,
+        Some(owed) => is_cancel_ok(owed.answer()),
+    }
+}
+
+fn is_cancel_ok(answer: &OwedAnswer) -> bool {
+    match answer {
+        OwedAnswer::CancelOk(_, to) => *to == CALLER,
+        _ => false,
+    }
+}
+
+/// The first answer that is owed, if any is.
+fn first_owed(parts: &Parts) -> Option<&OwedAnswer> {
+    Some(parts.owed().first()?.answer())
+}
+
+fn owes_trying(parts: &Parts) -> bool {
+    match first_owed(parts) {
+        Some(OwedAnswer::Trying) => true,
+        _ => false,
+    }
+}
+
+/// Whether the second answer that is owed is a response of this status that goes up.
+fn passes(parts: &Parts, at: usize, status: u16) -> bool {
+    match parts.owed().get(at) {
+        None => false,
+        Some(owed) => is_passed(owed.answer(), status),
+    }
+}
+
+fn is_passed(answer: &OwedAnswer, status: u16) -> bool {
+    match answer {
+        OwedAnswer::Passed(response) => status_of(response) == status,
+        _ => false,
+    }
+}
+
+/// Whether the answer that is owed first is sent as these lines; it is the first of a call that is sound.
+fn sends_owed(alloc: Global, parts: &mut Parts, lines: &[&[u8]]) -> bool
+    requires { IsSound parts.old }
+{
+    if parts.owed().is_empty() {
+        return false;
+    }
+    match parts.send_owed(0) {
+        Ok(step) => step_sends(alloc, &step, CALLER, Cause::Answer, lines),
+        Err(_) => false,
+    }
+}
+
+/// What comes of the caller's CANCEL.
+fn cancelled_by(alloc: Global, parts: &mut Parts) -> Option<Taken>
+    requires { IsSound parts.old }
+{
+    let cancel = message_of(alloc, &CANCEL)?;
+    parts.take_cancel(cancel, CALLER).ok()
+}
+
+// ---- the tests
+
+#[test]
+fn a_call_begins(rt: HostRuntime) {
+    let alloc = rt.alloc();
+    let Some(parts) = begun(alloc, &INVITE) else {
+        return holds(&rt, false, "an INVITE begins");
+    };
+    holds(&rt, parts.fixed().number() == 3, "its number");
+    holds(&rt, parts.fixed().kind() == Kind::Invite, "its kind");
+    holds(&rt, status_of(parts.fixed().request()) == 0, "its request");
+    holds(&rt, parts.book().history().is_empty(), "nothing was posted");
+    holds(&rt, parts.owed().len() == 1, "one answer is owed");
+    holds(&rt, owes_trying(&parts), "the 100 is owed");
+    holds(&rt, !parts.is_sent(0), "no request was sent");
+    holds(&rt, parts.is_open(0), "a branch is open");
+    holds(&rt, parts.runs_timer_c(1), "timer C runs");
+    holds(&rt, !parts.is_cancelled(0), "no branch is cancelled");
+}
+
+#[test]
+fn the_100_is_sent(rt: HostRuntime) {
+    let alloc = rt.alloc();
+    let Some(mut parts) = begun(alloc, &INVITE) else {
+        return holds(&rt, false, "an INVITE begins");
+    };
+    holds(
+        &rt,
+        sends_owed(alloc, &mut parts, &TRYING),
+        "the 100 is sent",
+    );
+    holds(&rt, parts.owed().is_empty(), "nothing more is owed");
+}
+
+#[test]
+fn a_failure_is_acknowledged(rt: HostRuntime) {
+    let alloc = rt.alloc();
+    let Some(mut parts) = begun(alloc, &INVITE) else {
+        return holds(&rt, false, "an INVITE begins");
+    };
+    holds(
+        &rt,
+        sends_request(alloc, &mut parts, 0, FIRST, &TO_FIRST),
+        "the request to the first target",
+    );
+    holds(
+        &rt,
+        sends_request(alloc, &mut parts, 1, SECOND, &TO_SECOND),
+        "the request to the second",
+    );
+    holds(
+        &rt,
+        takes(alloc, &mut parts, 10, &RINGING, Taken::Posted(0)),
+        "a 180 is posted",
+    );
+    holds(&rt, passes(&parts, 1, 180), "the 180 goes up");
+    holds(
+        &rt,
+        takes(alloc, &mut parts, 20, &NOT_FOUND, Taken::Posted(1)),
+        "a 404 is posted",
+    );
+    holds(&rt, !parts.is_open(0), "the branch has ended");
+    holds(&rt, sends_ack(alloc, &mut parts, &ACK), "the ACK is sent");
+    holds(&rt, !parts.owes_ack(0), "no ACK is owed");
+    holds(
+        &rt,
+        takes(alloc, &mut parts, 30, &NOT_FOUND, Taken::Absorbed),
+        "the 404 again is absorbed",
+    );
+    holds(
+        &rt,
+        sends_ack(alloc, &mut parts, &ACK),
+        "the ACK is sent again",
+    );
+}
+
+#[test]
+fn a_cancel_is_sent(rt: HostRuntime) {
+    let alloc = rt.alloc();
+    let Some(mut parts) = begun(alloc, &INVITE) else {
+        return holds(&rt, false, "an INVITE begins");
+    };
+    holds(
+        &rt,
+        sends_request(alloc, &mut parts, 0, FIRST, &TO_FIRST),
+        "the request to the first target",
+    );
+    holds(
+        &rt,
+        sends_cancel(alloc, &mut parts, &CANCEL_FIRST),
+        "the CANCEL of the branch",
+    );
+    holds(&rt, parts.is_cancel_sent(0), "the CANCEL was sent");
+    holds(
+        &rt,
+        ticks_cancel(alloc, &mut parts, 520, &CANCEL_FIRST),
+        "the CANCEL is sent again after 500 ms",
+    );
+    if parts.is_cancel_sent(0) {
+        parts.take_cancel_response(0, 200, 600);
+    }
+    holds(
+        &rt,
+        !ticks_cancel(alloc, &mut parts, 1520, &CANCEL_FIRST),
+        "an answered CANCEL is not sent again",
+    );
+}
+
+#[test]
+fn an_options_call_is_sent(rt: HostRuntime) {
+    let alloc = rt.alloc();
+    let Some(mut parts) = begun(alloc, &OPTIONS) else {
+        return holds(&rt, false, "an OPTIONS begins");
+    };
+    holds(&rt, parts.fixed().kind() == Kind::Other, "its kind");
+    holds(&rt, parts.owed().is_empty(), "no 100 is owed");
+    holds(
+        &rt,
+        sends_request(alloc, &mut parts, 1, SECOND, &OPTIONS_TO_SECOND),
+        "the request to the second target",
+    );
+    holds(&rt, parts.take_request(5).is_ok(), "the request again");
+    holds(&rt, parts.owed().is_empty(), "it is absorbed");
+    holds(&rt, ticks_server(&mut parts, 10), "nothing is sent again");
+}
+
+#[test]
+fn the_caller_cancels(rt: HostRuntime) {
+    let alloc = rt.alloc();
+    let Some(mut parts) = begun(alloc, &INVITE) else {
+        return holds(&rt, false, "an INVITE begins");
+    };
+    holds(
+        &rt,
+        cancelled_by(alloc, &mut parts) == Some(Taken::Posted(0)),
+        "a CANCEL is posted",
+    );
+    holds(&rt, owes_cancel_ok(&parts), "a 200 to it is owed");
+    holds(&rt, parts.book().context().closed(), "no branch starts");
+    holds(
+        &rt,
+        !parts.is_cancelled(0),
+        "a branch that has not rung waits",
+    );
+}
+
+#[test]
+fn an_answer_could_not_be_sent(rt: HostRuntime) {
+    let alloc = rt.alloc();
+    let Some(mut parts) = begun(alloc, &INVITE) else {
+        return holds(&rt, false, "an INVITE begins");
+    };
+    holds(&rt, parts.failed(Cause::Answer, 5).is_ok(), "it is told");
+    holds(&rt, parts.owed().len() == 1, "the 100 is still owed");
+    parts.take_ack(6);
+    holds(&rt, parts.take_request(7).is_ok(), "the INVITE again");
+    holds(
+        &rt,
+        parts.owed().len() == 2,
+        "the last answer is owed again",
+    );
+}
