@@ -1,7 +1,7 @@
 //! Which requests are admitted, and how each fault is answered.
 use crate::holds::holds;
 use crate::requests::{OWN, REQUEST, SOURCE, request_with, setup_of};
-use fork_call::{OpenFault, admit, is_domain};
+use fork_routing::{OpenFault, admit, is_domain};
 use sip_text::Message;
 use std::alloc::Global;
 

@@ -106,6 +106,13 @@ impl<A: Allocator> Fixed<A> {
         self.number
     }
 
+    /// The address of the proxy that it was opened at.
+    pub fn own(&self) -> Own
+        ensures { result ≡ self.now.own }
+    {
+        self.own
+    }
+
     /// The request that the call was opened with.
     pub fn request(&self) -> &Message<A>
         ensures { result.now ≡ self.now.request }
@@ -138,8 +145,8 @@ impl<A: Allocator> Fixed<A> {
         }
     }
 
-    /// What names the branch to target n.
-    fn branch(&self, n: u16) -> BranchName
+    /// What names the branch to target n (RFC 3261 section 16.6 step 8).
+    pub fn branch(&self, n: u16) -> BranchName
         ensures { result ≡ branch_at self.now n }
     {
         BranchName {

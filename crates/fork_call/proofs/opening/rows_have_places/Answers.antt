@@ -1,6 +1,0 @@
-use Rattle.fork_context.specs.KindView as kinds
-use Rattle.fork_call.proofs.Placed.{places}
-use Rattle.fork_call.proofs.opening.rows_have_places.Goals as goal
-
-pub returns : goal.returns
-returns g c = places c.args.choices.now (kinds.kind_of c.args.kind) c.args.rules c.args.book.now c.requires

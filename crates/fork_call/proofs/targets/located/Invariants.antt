@@ -1,7 +1,0 @@
-use Rattle.std.proofs.Common.{◌≡◌, map, take}
-use Rattle.fork_setup.specs.Setup.{locations_of}
-use Rattle.fork_call.specs.Targets.{choice_at}
-use Rattle.fork_call.proofs.targets.located.Given as goal
-
-abbrev pub invariant-loop-location : goal.invariant-loop-location
-invariant-loop-location g l = l.choices.items ≡ map choice_at (locations_of l.user (take l.location-index l.locations))

@@ -1,6 +1,0 @@
-use Rattle.std.proofs.Common.{◌≡◌, take}
-use Rattle.fork_call.specs.Targets.{targets_of}
-use Rattle.fork_call.proofs.targets.targets_of.Given as goal
-
-abbrev pub invariant-loop-choice : goal.invariant-loop-choice
-invariant-loop-choice g l = l.targets.items ≡ targets_of (take l.choice-index l.choices)

@@ -1,0 +1,106 @@
+-- The branch that a message answers, and who its recipient is.
+use Rattle.std.proofs.Common.{◌≡◌, ℕ, ◌<◌, ◌^◌, Bool, true, false, Option, Some, None, sym, subst, ap, ◌∙◌}
+use Rattle.std.specs.Prelude.{◌&&◌, ◌==◌, codes}
+use Rattle.std.specs.Str.{bytes_eq}
+use Rattle.std.proofs.lemmas.Bool.{and_from, and_parts, eq-eqb, false≢true}
+use Rattle.std.proofs.lemmas.Option.{same_Some}
+use Rattle.std.proofs.lemmas.Slice.Eq.{bytes_eq-Decides}
+use Rattle.std.specs.Option.{option_map}
+use Rattle.sip_via.specs.declared.branch.BranchName.{BranchName}
+use Rattle.sip_via.specs.declared.own.Own.{Own}
+use Rattle.sip_via.specs.BranchText.{IsBranch}
+use Rattle.sip_via.specs.OwnPass.{IsOwnBranch}
+use Rattle.sip_via.specs.TopVia.{has_second, top_value, via_values}
+use Rattle.sip_text.specs.Fields.{message_cseq}
+use Rattle.sip_text.specs.Text.{MessageText}
+use Rattle.fork_parts.specs.Call.{Call, is_cancel_sent, is_sent}
+use Rattle.fork_parts.specs.Fixed.{branch_at, method_of}
+use Rattle.fork_parts.specs.Take.{Client, CancelClient}
+use Rattle.fork_routing.specs.Kinds.{is_response, is_to_method}
+use Rattle.fork_routing.specs.Matching.{BelongsTo, BelongsToNoBranch}
+
+pub numbered : (call : BranchName) (n : ℕ) → IsBranch call → n < 2 ^ 16 → IsBranch (record call { target = n })
+numbered call n h lt = record { sixteen = h.sixteen; bytes = h.bytes; instance = h.instance; context = h.context; target = lt }
+
+pub same_target : (name call : BranchName) (n : ℕ) → Some name ≡ Some (record call { target = n }) → Some name.target ≡ Some n
+same_target name call n e = ap (option_map (λ (b : BranchName). b.target)) e
+
+same_tests : (a b : BranchName) → a ≡ b
+    → (bytes_eq a.key b.key && ((a.instance == b.instance) && ((a.context == b.context) && (a.target == b.target)))) ≡ true
+same_tests a b e =
+    and_from (bytes_eq a.key b.key) _ ((bytes_eq-Decides a.key b.key).1 (ap (λ (x : BranchName). x.key) e))
+    (and_from (a.instance == b.instance) _ (eq-eqb a.instance b.instance (ap (λ (x : BranchName). x.instance) e))
+    (and_from (a.context == b.context) _ (eq-eqb a.context b.context (ap (λ (x : BranchName). x.context) e)) (eq-eqb a.target b.target (ap (λ (x : BranchName). x.target) e))))
+
+-- a branch of the call is known by its key, its instance and its context
+pub known : (name call : BranchName) (n : ℕ) → Some name ≡ Some (record call { target = n })
+    → (bytes_eq name.key call.key
+    && ((name.instance == call.instance) && ((name.context == call.context) && (name.target == name.target))))
+    ≡ true
+known name call n e =
+    let p : name ≡ record call { target = n } = same_Some _ _ e in
+    let q : record call { target = n } ≡ record call { target = name.target } =
+    ap (λ (t : ℕ). record call { target = t }) (sym (ap (λ (x : BranchName). x.target) p)) in
+    same_tests name (record call { target = name.target }) (p ∙ q)
+
+-- ---- responses
+
+abbrev pub for_client : Call → MessageText → ℕ → Bool
+for_client call m n =
+    is_to_method (method_of call.fixed.request.start) (message_cseq m.headers) && has_second (via_values m) && is_sent call n
+
+abbrev pub for_cancel : Call → MessageText → ℕ → Bool
+for_cancel call m n = is_to_method (codes "CANCEL") (message_cseq m.headers) && is_cancel_sent call n
+
+module _ (call : Call) (m : MessageText) where
+  abbrev pub IsHome : ℕ → Type 0
+  IsHome n = IsOwnBranch call.fixed.own (top_value m) (branch_at call.fixed n)
+
+  pub client_found : (n : ℕ) → is_response m.start ≡ true → n < 2 ^ 16 → IsHome n → for_client call m n ≡ true → BelongsTo call m (Client n)
+  client_found n response number home e =
+      let front = (and_parts (is_to_method (method_of call.fixed.request.start) (message_cseq m.headers) && has_second (via_values m)) (is_sent call n) e) in
+      let both = and_parts (is_to_method (method_of call.fixed.request.start) (message_cseq m.headers)) (has_second (via_values m)) front.0 in
+      (record { response = response; number = number; via = home; to_method = both.0 }, both.1, front.1)
+
+  pub cancel_found : (n : ℕ) → is_response m.start ≡ true → n < 2 ^ 16 → IsHome n → for_cancel call m n ≡ true → BelongsTo call m (CancelClient n)
+  cancel_found n response number home e =
+      let both = and_parts (is_to_method (codes "CANCEL") (message_cseq m.headers)) (is_cancel_sent call n) e in
+      (record { response = response; number = number; via = home; to_method = both.0 }, both.1)
+
+  pub no_response : is_response m.start ≡ false → BelongsToNoBranch call m
+  no_response e n = (λ b. false≢true (sym e ∙ b.0.response), λ b. false≢true (sym e ∙ b.0.response))
+
+  pub no_home : ((n : ℕ) → n < 2 ^ 16 → IsHome n → ⊥) → BelongsToNoBranch call m
+  no_home h n = (λ b. h n b.0.number b.0.via, λ b. h n b.0.number b.0.via)
+
+  -- the branch is known, and no transaction of it takes the response
+  pub no_transaction : (k : ℕ) → ((n : ℕ) → n < 2 ^ 16 → IsHome n → Some k ≡ Some n) → for_client call m k ≡ false → for_cancel call m k ≡ false
+      → BelongsToNoBranch call m
+  no_transaction k only e f n = (by_client, by_cancel)
+    where
+      by_client : BelongsTo call m (Client n) → ⊥
+      by_client b =
+          let same : k ≡ n = same_Some k n (only n b.0.number b.0.via) in
+          let well : for_client call m n ≡ true =
+          and_from (is_to_method (method_of call.fixed.request.start) (message_cseq m.headers) && has_second (via_values m)) (is_sent call n)
+          (and_from (is_to_method (method_of call.fixed.request.start) (message_cseq m.headers)) (has_second (via_values m)) b.0.to_method b.1) b.2 in
+          false≢true (sym e ∙ ap (for_client call m) same ∙ well)
+
+      by_cancel : BelongsTo call m (CancelClient n) → ⊥
+      by_cancel b =
+          let same : k ≡ n = same_Some k n (only n b.0.number b.0.via) in
+          let well : for_cancel call m n ≡ true =
+          and_from (is_to_method (codes "CANCEL") (message_cseq m.headers)) (is_cancel_sent call n) b.0.to_method b.1 in
+          false≢true (sym f ∙ ap (for_cancel call m) same ∙ well)
+
+  -- the branch of the call is looked for by its address and by the name of its branches
+  pub at_home : (own : Own) (b : BranchName) (r : Option ℕ) → own ≡ call.fixed.own → b ≡ branch_at call.fixed 0
+      → ((n : ℕ) → n < 2 ^ 16 → IsOwnBranch own (top_value m) (record b { target = n }) → r ≡ Some n)
+      → (n : ℕ) → n < 2 ^ 16 → IsHome n → r ≡ Some n
+  at_home own b r p q only n lt home =
+      let P : BranchName → Type 0 = λ x. IsOwnBranch call.fixed.own (top_value m) (record x { target = n }) in
+      let Q : Own → Type 0 = λ o. IsOwnBranch o (top_value m) (record b { target = n }) in
+      only n lt (subst Q (sym p) (subst P (sym q) home))
+
+  pub none_home : ((n : ℕ) → n < 2 ^ 16 → IsHome n → None ≡ Some n) → BelongsToNoBranch call m
+  none_home only = no_home (λ n lt home. let e = only n lt home in absurd cc)

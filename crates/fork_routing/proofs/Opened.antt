@@ -1,0 +1,105 @@
+-- What is known where a request was admitted, and where it was not.
+use Rattle.std.proofs.Common.{◌≡◌, ◌∙◌, true, false, ℕ, List, [], Option, Result, Ok, Err, ap, subst}
+use Rattle.std.specs.Prelude.{IfErr, IfOk}
+use Rattle.std.specs.List.{list_all}
+use Rattle.fork_model.specs.Table.{Rules}
+use Rattle.sip_text.specs.Text as texts
+use Rattle.sip_text.specs.Text.{MessageText, StartText}
+use Rattle.sip_uri.specs.declared.hop.Hop.{Hop}
+use Rattle.sip_uri.specs.Uri.{Uri}
+use Rattle.sip_via.specs.declared.own.Own.{Own}
+use Rattle.sip_via.specs.Received.{reply_of}
+use Rattle.sip_via.specs.TopVia.{top_value}
+use Rattle.sip_via.specs.ViaParts.{via_of}
+use Rattle.sip_route.specs.declared.route_values.FirstRoute.{FirstRoute}
+use Rattle.sip_route.specs.RouteValues.{first_route}
+use Rattle.sip_build.specs.Forwarding.{is_request}
+use Rattle.fork_setup.specs.Setup.{Setup}
+use Rattle.fork_parts.specs.Call.{Call}
+use Rattle.fork_parts.specs.Fixed.{Fixed}
+use Rattle.fork_routing.specs.declared.fault.OpenFault.{OpenFault}
+use Rattle.fork_routing.specs.declared.fault.OpenFault.TheVariants.{BadRequest, Scheme, Hops, Loop, Extension, NoTarget, NoHop, NoMemory}
+use Rattle.fork_routing.specs.Admission.{IsAdmitted, asks_extension, target_uri}
+use Rattle.fork_routing.specs.Refusing.{IsTurnedAway}
+use Rattle.fork_routing.specs.Opening.{Asks, IsBegun, IsOpenable, IsRefused, IsUnreachable, Opens, Reaches, Refuses, fixed_of}
+use Rattle.fork_routing.specs.Targets.{Choice, choices, has_hop, hop_if_any}
+
+pub openable : (start other : StartText) → start ≡ other → IsOpenable other → is_request start ≡ true
+openable start (texts.Request method uri) e h = ap is_request e
+openable start (texts.Response status reason) e h = absurd h
+
+pub turned_away : (setup : Setup) (m : MessageText) (source : Hop) (fault : OpenFault) → IsTurnedAway setup.own m source fault → Refuses setup m source fault
+turned_away setup m source BadRequest h = h
+turned_away setup m source Scheme h = h
+turned_away setup m source Hops h = h
+turned_away setup m source Loop h = h
+turned_away setup m source Extension h = absurd h
+turned_away setup m source NoTarget h = absurd h
+turned_away setup m source NoHop h = absurd h
+turned_away setup m source NoMemory h = tt
+
+behind : (setup : Setup) (m : MessageText) (source : Hop) (request : MessageText) → IsAdmitted setup.own m source request
+    → (fault : OpenFault) → IsRefused setup request fault → Refuses setup m source fault
+behind setup m source request a BadRequest h = absurd h
+behind setup m source request a Scheme h = absurd h
+behind setup m source request a Hops h = absurd h
+behind setup m source request a Loop h = absurd h
+behind setup m source request a Extension h = (request, a, h)
+behind setup m source request a NoTarget h = (request, a, h)
+behind setup m source request a NoHop h = (request, a, h)
+behind setup m source request a NoMemory h = tt
+
+asked : (setup : Setup) (request : MessageText) (uri : Uri) → asks_extension request ≡ false → target_uri request ≡ Ok uri
+    → (fault : OpenFault) → IsUnreachable setup request uri fault → IsRefused setup request fault
+asked setup request uri a t BadRequest h = absurd h
+asked setup request uri a t Scheme h = absurd h
+asked setup request uri a t Hops h = absurd h
+asked setup request uri a t Loop h = absurd h
+asked setup request uri a t Extension h = absurd h
+asked setup request uri a t NoTarget h = (a, uri, t, h)
+asked setup request uri a t NoHop h = (a, uri, t, h)
+asked setup request uri a t NoMemory h = tt
+
+-- of what is answered for a request that was admitted
+pub opens_if : (setup : Setup) (number : ℕ) (m : MessageText) (source : Hop) (request : MessageText) → IsAdmitted setup.own m source request
+    → (r : Result Call OpenFault) → IfOk r (λ call. Asks request (λ uri. Reaches setup number request source uri call)) → IfOk r (Opens setup number m source)
+opens_if setup number m source request a (Ok call) h = (request, a, h)
+opens_if setup number m source request a (Err fault) h = tt
+
+pub refuses_if : (setup : Setup) (m : MessageText) (source : Hop) (request : MessageText) → IsAdmitted setup.own m source request
+    → (r : Result Call OpenFault) → IfErr r (IsRefused setup request) → IfErr r (Refuses setup m source)
+refuses_if setup m source request a (Ok call) h = tt
+refuses_if setup m source request a (Err fault) h = behind setup m source request a fault h
+
+-- and of one that asks for no extension
+pub asks_if : (setup : Setup) (number : ℕ) (source : Hop) (request : MessageText) (uri : Uri) → asks_extension request ≡ false → target_uri request ≡ Ok uri
+    → (r : Result Call OpenFault) → IfOk r (Reaches setup number request source uri) → IfOk r (λ call. Asks request (λ u. Reaches setup number request source u call))
+asks_if setup number source request uri a t (Ok call) h = (a, uri, t, h)
+asks_if setup number source request uri a t (Err fault) h = tt
+
+pub asked_if : (setup : Setup) (request : MessageText) (uri : Uri) → asks_extension request ≡ false → target_uri request ≡ Ok uri
+    → (r : Result Call OpenFault) → IfErr r (IsUnreachable setup request uri) → IfErr r (IsRefused setup request)
+asked_if setup request uri a t (Ok call) h = tt
+asked_if setup request uri a t (Err fault) h = asked setup request uri a t fault h
+
+-- ---- the call that opens for a request to a URI
+
+pub fixed_so : (setup : Setup) (number : ℕ) (request : MessageText) (source : Hop) (own : Own) (instance : ℕ) (caller : Hop) (route : Option Hop) (first : FirstRoute) (fixed : Fixed)
+    → fixed ≡ record { number = number; own = own; instance = instance; request = request; caller = caller; route = route }
+    → own ≡ setup.own → instance ≡ setup.instance → caller ≡ reply_of (via_of (top_value request)) source
+    → route ≡ hop_if_any first → first ≡ first_route request → fixed ≡ fixed_of setup number request source
+fixed_so setup number request source own instance caller route first fixed e p q r s t =
+    let way : route ≡ hop_if_any (first_route request) = s ∙ ap hop_if_any t in
+    e ∙ (λ k. record { number = number; own = p k; instance = q k; request = request; caller = r k; route = way k })
+
+pub reaches : (setup : Setup) (number : ℕ) (request : MessageText) (source : Hop) (uri : Uri) (rules : Rules) (route : FirstRoute) (fixed : Fixed) (cs : List Choice) (call : Call)
+    → cs ≡ choices setup uri → (cs ≡ [] → ⊥) → list_all (has_hop route) cs ≡ true → rules ≡ setup.rules → route ≡ first_route request
+    → fixed ≡ fixed_of setup number request source → IsBegun rules route fixed cs call → Reaches setup number request source uri call
+reaches setup number request source uri rules route fixed cs call p n h q r s b =
+    let H : List Choice → Type 0 = λ x. list_all (has_hop route) x ≡ true in
+    let K : FirstRoute → Type 0 = λ x. list_all (has_hop x) (choices setup uri) ≡ true in
+    let B : List Choice → Type 0 = λ x. IsBegun rules route fixed x call in
+    let C : Rules → Type 0 = λ x. IsBegun x route fixed (choices setup uri) call in
+    let D : FirstRoute → Type 0 = λ x. IsBegun setup.rules x fixed (choices setup uri) call in
+    let E : Fixed → Type 0 = λ x. IsBegun setup.rules (first_route request) x (choices setup uri) call in
+    record { some = λ e. n (p ∙ e); hops = subst K r (subst H p h); begins = subst E s (subst D r (subst C q (subst B p b))) }

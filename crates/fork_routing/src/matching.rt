@@ -1,0 +1,124 @@
+//! Which transaction of a call a message belongs to.
+ghost use Rattle.std.specs.Prelude.{◌≡◌, ◌<◌, ◌^◌, ◌&&◌, ℕ, codes, IfNone, IfSome, Some};
+ghost use Rattle.sip_text.specs.Fields.{message_cseq};
+ghost use Rattle.sip_via.specs.BranchText.{IsBranch};
+ghost use Rattle.sip_via.specs.OwnPass.{IsOwnBranch};
+ghost use Rattle.sip_via.specs.TopVia.{has_second, top_value, via_values};
+ghost use Rattle.fork_parts.specs.Call.{is_cancel_sent, is_sent};
+ghost use Rattle.fork_parts.specs.Fixed.{branch_at, method_of};
+ghost use Rattle.fork_routing.specs.Kinds.{is_request_of, is_response, is_to_method};
+ghost use Rattle.fork_routing.specs.Matching.{BelongsTo, BelongsToNoBranch};
+ghost use Rattle.fork_routing.specs.SeenRecipient.{seen_recipient};
+
+use crate::recipient::Recipient;
+use fork_parts::Parts;
+use sip_text::{Message, Start};
+use sip_via::{BranchName, Own, has_second_via, own_branch};
+use std::alloc::Allocator;
+
+/// Shows that the numbers of a branch are bounded.
+fn is_branch(name: BranchName)
+    ensures { IsBranch name }
+{}
+
+/// The target that a message answers for, where its top Via value names a branch of the call.
+fn target_of<A: Allocator>(message: &Message<A>, own: Own, call: BranchName) -> Option<u16>
+    ensures found { IfSome result (λ n. IsOwnBranch own (top_value message.now) (record call { target = n })) }
+    ensures bounded { IfSome result (λ n. n < 2 ^ 16) }
+    ensures only { (n : ℕ) → n < 2 ^ 16 → IsOwnBranch own (top_value message.now) (record call { target = n }) → result ≡ Some n }
+{
+    is_branch(call);
+    let name = own_branch(message, own)?;
+    let key = call.key;
+    let ours = BranchName {
+        key,
+        instance: call.instance,
+        context: call.context,
+        target: name.target,
+    };
+    if name == ours {
+        Some(name.target)
+    } else {
+        None
+    }
+}
+
+/// Whether a message is a request of that method.
+fn is_request_of<A: Allocator>(message: &Message<A>, method: &[u8]) -> bool
+    ensures { result ≡ is_request_of method.now message.now.start }
+{
+    match message.start() {
+        Start::Request { method: own, .. } => own.as_slice() == method,
+        Start::Response { .. } => false,
+    }
+}
+
+/// Whether a message is a response.
+fn is_response<A: Allocator>(message: &Message<A>) -> bool
+    ensures { result ≡ is_response message.now.start }
+{
+    match message.start() {
+        Start::Request { .. } => false,
+        Start::Response { .. } => true,
+    }
+}
+
+/// Whether a response answers a request of that method.
+fn is_to_method<A: Allocator>(message: &Message<A>, method: &[u8]) -> bool
+    ensures { result ≡ is_to_method method.now (message_cseq message.now.headers) }
+{
+    message.cseq().method == method
+}
+
+/// The method of the request that the call was opened with.
+fn opening_method<A: Allocator + Clone>(parts: &Parts<A>) -> &[u8]
+    ensures { result.now ≡ method_of parts.now.fixed.request.start }
+{
+    match parts.fixed().request().start() {
+        Start::Request { method, .. } => method,
+        Start::Response { .. } => b"",
+    }
+}
+
+/// Whether a response on branch n is for the client transaction of its request, which was sent. One with a single Via
+/// value was meant for the proxy itself (RFC 3261 section 16.7 step 3).
+fn is_for_client<A: Allocator + Clone>(parts: &Parts<A>, message: &Message<A>, n: u16) -> bool
+    ensures { result ≡ (is_to_method (method_of parts.now.fixed.request.start) (message_cseq message.now.headers)
+        && has_second (via_values message.now) && is_sent parts.now n) }
+{
+    is_to_method(message, opening_method(parts)) && has_second_via(message) && parts.is_sent(n)
+}
+
+/// Whether a response on branch n is for the client transaction of its CANCEL, which was sent.
+fn is_for_cancel<A: Allocator + Clone>(parts: &Parts<A>, message: &Message<A>, n: u16) -> bool
+    ensures { result ≡ (is_to_method (codes "CANCEL") (message_cseq message.now.headers) && is_cancel_sent parts.now n) }
+{
+    is_to_method(message, b"CANCEL") && parts.is_cancel_sent(n)
+}
+
+/// The transaction of a branch that a response is for: its top Via value is the one that the proxy put there with the
+/// request or the CANCEL, which was sent (RFC 3261 sections 16.7 step 1 and 17.1.3). `own` is the address that the call was
+/// opened at, and `call` the name of its branches, with the target 0. It takes no memory.
+pub fn response_recipient<A: Allocator + Clone>(
+    parts: &Parts<A>,
+    own: Own,
+    call: BranchName,
+    message: &Message<A>,
+) -> Option<Recipient>
+    requires own { own ≡ parts.now.fixed.own }
+    requires call { call ≡ branch_at parts.now.fixed 0 }
+    ensures found { IfSome result (λ r. BelongsTo parts.now message.now (seen_recipient r)) }
+    ensures none { IfNone result (BelongsToNoBranch parts.now message.now) }
+{
+    if !is_response(message) {
+        return None;
+    }
+    let n = target_of(message, own, call)?;
+    if is_for_client(parts, message, n) {
+        return Some(Recipient::Client(n));
+    }
+    if is_for_cancel(parts, message, n) {
+        return Some(Recipient::CancelClient(n));
+    }
+    None
+}

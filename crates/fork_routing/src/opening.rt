@@ -1,0 +1,244 @@
+//! How a call opens.
+ghost use Rattle.std.specs.Prelude.{◌≡◌, ◌<◌, ℕ, length, slice_get, true, IfErr, IfOk, IfSome, Ok, Some};
+ghost use Rattle.std.specs.List.{list_all};
+ghost use Rattle.std.specs.Option.{option_and_then, option_map};
+ghost use Rattle.fork_model.specs.Table.{Row};
+ghost use Rattle.sip_text.specs.Name.{first_value};
+ghost use Rattle.sip_route.specs.Hops.{IsHops, hops_name};
+ghost use Rattle.sip_build.specs.Forwarding.{is_request};
+ghost use Rattle.fork_context.specs.KindView as kinds;
+ghost use Rattle.fork_book.specs.Log.{opening_log, table_of};
+ghost use Rattle.fork_routing.specs.Admission.{target_uri};
+ghost use Rattle.fork_routing.specs.Opening.{Asks, IsBegun, IsOpenable, IsRefused, IsUnreachable, Opens, Reaches, Refuses};
+ghost use Rattle.fork_routing.specs.Targets.{AreWays, has_hop, requested, targets_of, way_to};
+
+use crate::admission::admit;
+use crate::checks::asks_extension;
+use crate::fault::OpenFault;
+use crate::targets::{Choice, choices, have_hops, hop_by, hop_if_any, targets_of};
+use fork_book::Book;
+use fork_context::Kind;
+use fork_parts::{Fixed, Parts, Way};
+use fork_rank::Rules;
+use fork_setup::Setup;
+use sip_route::{FirstRoute, first_route, request_uri};
+use sip_text::Message;
+use sip_uri::{Hop, SipUri};
+use sip_via::reply_hop_of;
+use std::alloc::{AllocError, Allocator};
+
+/// The URI of a target as it stands in a request: without the parameter `method` and the headers (RFC 3261 section
+/// 19.1.1).
+fn requested<A: Allocator + Clone>(alloc: A, uri: &SipUri<A>) -> Result<SipUri<A>, AllocError>
+    ensures { IfOk result (λ made. made ≡ requested uri.now) }
+{
+    uri.is_uri();
+    let mut text = Vec::new(alloc.clone()?);
+    uri.request_uri(&mut text)?;
+    match SipUri::read(alloc, &text) {
+        Ok(made) => Ok(made),
+        Err(_) => Err(AllocError),
+    }
+}
+
+/// Where the request to a target goes, which has a hop.
+fn way_to<A: Allocator + Clone>(
+    alloc: A,
+    route: FirstRoute,
+    choice: &Choice<'_, A>,
+) -> Result<Way<A>, AllocError>
+    requires hop { has_hop route choice.now ≡ true }
+    ensures { IfOk result (λ way. way_to route choice.now ≡ Some way) }
+{
+    let Some(hop) = hop_by(route, choice.uri()) else {
+        unreachable!()
+    };
+    Ok(Way::new(requested(alloc, choice.uri())?, hop))
+}
+
+/// The same for the target at that place.
+fn way_at<A: Allocator + Clone>(
+    alloc: A,
+    route: FirstRoute,
+    choices: &[Choice<'_, A>],
+    place: usize,
+) -> Result<Way<A>, AllocError>
+    requires there { place < length choices.now }
+    requires hops { list_all (has_hop route) choices.now ≡ true }
+    ensures { IfOk result (λ way. option_and_then (way_to route) (slice_get choices.now place) ≡ Some way) }
+{
+    way_to(alloc, route, &choices[place])
+}
+
+/// The place of the target that row n is for.
+fn place_of<A: Allocator + Clone>(book: &Book<A>, n: u16) -> usize
+    requires there { n < length (table_of book.now).rows }
+    ensures { option_map (λ row. row.place) (slice_get (table_of book.now).rows n) ≡ Some result }
+{
+    match book.context().look(n) {
+        Some(view) => view.place,
+        None => unreachable!(),
+    }
+}
+
+/// The URI that a request names.
+fn read_target<A: Allocator + Clone>(
+    alloc: A,
+    request: &Message<A>,
+) -> Result<SipUri<A>, AllocError>
+    ensures { IfOk result (λ uri. target_uri request.now ≡ Ok uri) }
+{
+    match SipUri::read(alloc, request_uri(request)) {
+        Ok(uri) => Ok(uri),
+        Err(_) => Err(AllocError),
+    }
+}
+
+/// Where the request of each row goes, in the order of the rows.
+fn ways_of<A: Allocator + Clone>(
+    alloc: &A,
+    route: FirstRoute,
+    choices: &[Choice<'_, A>],
+    book: &Book<A>,
+) -> Result<Vec<Way<A>, A>, AllocError>
+    requires hops { list_all (has_hop route) choices.now ≡ true }
+    requires places { (n : ℕ) (row : Row) → slice_get (table_of book.now).rows n ≡ Some row → row.place < length choices.now }
+    ensures { IfOk result (λ ways. AreWays route choices.now (table_of book.now).rows ways.items) }
+{
+    let mut ways = Vec::new(alloc.clone()?);
+    for n in 0..book.context().count() {
+        let place = place_of(book, n);
+        ways.push(way_at(alloc.clone()?, route, choices, place)?)?;
+    }
+    Ok(ways)
+}
+
+/// The book of a fork to these targets.
+fn book_of<A: Allocator + Clone>(
+    alloc: A,
+    kind: Kind,
+    rules: Rules,
+    choices: &[Choice<'_, A>],
+) -> Result<Book<A>, AllocError>
+    ensures { IfOk result (λ book. book ≡ opening_log (kinds.kind_of kind) rules (targets_of choices.now)) }
+{
+    let targets = targets_of(alloc.clone()?, choices)?;
+    match Book::new(alloc, kind, rules, targets) {
+        Ok(book) => Ok(book),
+        Err(_) => Err(AllocError),
+    }
+}
+
+/// Shows that each row of a book that was opened so is for one of the targets.
+fn rows_have_places<A: Allocator + Clone>(
+    book: &Book<A>,
+    choices: &[Choice<'_, A>],
+    kind: Kind,
+    rules: Rules,
+)
+    requires { book.now ≡ opening_log (kinds.kind_of kind) rules (targets_of choices.now) }
+    ensures { (n : ℕ) (row : Row) → slice_get (table_of book.now).rows n ≡ Some row → row.place < length choices.now }
+{}
+
+/// The parts of a call that begins so, each of whose targets has a hop.
+fn begin<A: Allocator + Clone>(
+    alloc: A,
+    rules: Rules,
+    fixed: Fixed<A>,
+    route: FirstRoute,
+    choices: &[Choice<'_, A>],
+    now: u64,
+) -> Result<Parts<A>, AllocError>
+    requires hops { list_all (has_hop route) choices.now ≡ true }
+    ensures { IfOk result (IsBegun rules route fixed choices.now) }
+{
+    let kind = fixed.kind();
+    let book = book_of(alloc.clone()?, kind, rules, choices)?;
+    rows_have_places(&book, choices, kind, rules);
+    let ways = ways_of(&alloc, route, choices, &book)?;
+    Parts::begin(alloc, fixed, book, ways, now)
+}
+
+/// The parts of the call that opens for a request to this URI, as it was prepared.
+fn open_to<A: Allocator + Clone>(
+    alloc: A,
+    setup: &Setup<A>,
+    number: u64,
+    request: Message<A>,
+    uri: &SipUri<A>,
+    source: Hop,
+    now: u64,
+) -> Result<Parts<A>, OpenFault>
+    requires request { is_request request.start ≡ true }
+    requires hops { IfSome (first_value hops_name request.headers) IsHops }
+    ensures opened { IfOk result (Reaches setup.now number request source uri.now) }
+    ensures refused { IfErr result (IsUnreachable setup.now request uri.now) }
+{
+    let choices = choices(alloc.clone()?, setup, uri)?;
+    if choices.is_empty() {
+        return Err(OpenFault::NoTarget);
+    }
+    let route = first_route(&request);
+    if !have_hops(route, &choices) {
+        return Err(OpenFault::NoHop);
+    }
+    let caller = reply_hop_of(&request, source);
+    let fixed = Fixed::new(
+        number,
+        setup.own(),
+        setup.instance(),
+        request,
+        caller,
+        hop_if_any(route),
+    );
+    match begin(alloc, setup.rules(), fixed, route, &choices, now) {
+        Ok(parts) => Ok(parts),
+        Err(_) => Err(OpenFault::NoMemory),
+    }
+}
+
+/// The parts of the call that opens for a request as it was prepared.
+fn open_prepared<A: Allocator + Clone>(
+    alloc: A,
+    setup: &Setup<A>,
+    number: u64,
+    request: Message<A>,
+    source: Hop,
+    now: u64,
+) -> Result<Parts<A>, OpenFault>
+    requires request { is_request request.start ≡ true }
+    requires hops { IfSome (first_value hops_name request.headers) IsHops }
+    ensures opened { IfOk result (λ call. Asks request (λ uri. Reaches setup.now number request source uri call)) }
+    ensures refused { IfErr result (IsRefused setup.now request) }
+{
+    if asks_extension(&request) {
+        return Err(OpenFault::Extension);
+    }
+    let uri = read_target(alloc.clone()?, &request)?;
+    open_to(alloc, setup, number, request, &uri, source, now)
+}
+
+/// The parts of the call that a request from `source` opens under this number; it is neither an ACK nor a CANCEL. The
+/// targets of a request to the domain are the locations of its user, that of any other is its Request-URI (RFC 3261
+/// sections 16.3 to 16.6). Nothing was sent yet; a 100 is owed to an INVITE.
+///
+/// # Errors
+///
+/// The first of those of [`OpenFault`] that holds; `NoMemory` wherever the allocator refuses.
+pub fn open<A: Allocator + Clone>(
+    alloc: A,
+    setup: &Setup<A>,
+    number: u64,
+    request: Message<A>,
+    source: Hop,
+    now: u64,
+) -> Result<Parts<A>, OpenFault>
+    requires { IsOpenable request.start }
+    ensures opened { IfOk result (Opens setup.now number request source) }
+    ensures refused { IfErr result (Refuses setup.now request source) }
+{
+    match admit(alloc.clone()?, setup.own(), request, source) {
+        Ok(request) => open_prepared(alloc, setup, number, request, source, now),
+        Err(fault) => Err(fault),
+    }
+}

@@ -1,0 +1,222 @@
+//! Where a request may be sent, and by which hop.
+ghost use Rattle.std.specs.Prelude.{◌≡◌, ◌++◌, ◌∷◌, [], map, IfOk, OnOk};
+ghost use Rattle.std.specs.List.{list_all};
+ghost use Rattle.std.specs.Option.{option_copied};
+ghost use Rattle.sip_via.specs.Address.{address_text, dotted};
+ghost use Rattle.fork_text.specs.Field.{most_q};
+ghost use Rattle.fork_setup.specs.Setup.{locations_of};
+ghost use Rattle.fork_routing.specs.Targets.{choice_at, choices, choices_of, has_hop, hop_by, hop_if_any, is_domain, target_of, targets_of};
+
+use fork_context::Target;
+use fork_setup::{Location, Setup};
+use sip_lex::append_decimal;
+use sip_route::FirstRoute;
+use sip_uri::{Hop, SipUri};
+use std::alloc::{AllocError, Allocator};
+use std::marker::Model;
+
+/// The q of a target that no location names.
+const MOST_Q: u16 = 1000;
+
+/// A target, tried at this q.
+#[derive(Drop)]
+pub(crate) struct Choice<'a, A: Allocator> {
+    q: u16,
+    uri: &'a SipUri<A>,
+}
+
+impl<'a, A: Allocator> Model for Choice<'a, A> {
+    ghost use Rattle.fork_routing.specs.Targets as spec;
+
+    ghost Value = { spec.Choice };
+
+    ghost view = { λ c. record { q = c.q; uri = c.uri.now } };
+}
+
+impl<'a, A: Allocator> Choice<'a, A> {
+    /// The URI of the target.
+    pub(crate) fn uri(&self) -> &SipUri<A>
+        ensures { result.now ≡ self.now.uri }
+    {
+        self.uri
+    }
+}
+
+// ---- which targets there are
+
+/// Adds a number behind a dot.
+fn add_dotted<A: Allocator>(text: &mut Vec<u8, A>, n: u8) -> Result<(), AllocError>
+    ensures { OnOk result (text.new.items ≡ text.old.items ++ dotted n) }
+{
+    text.push(b'.')?;
+    append_decimal(text, u64::from(n))
+}
+
+/// An address as four decimal numbers with dots between them.
+fn host_of<A: Allocator>(alloc: A, addr: [u8; 4]) -> Result<Vec<u8, A>, AllocError>
+    ensures { IfOk result (λ text. text.items ≡ address_text addr) }
+{
+    let mut text = Vec::new(alloc);
+    append_decimal(&mut text, u64::from(addr[0]))?;
+    add_dotted(&mut text, addr[1])?;
+    add_dotted(&mut text, addr[2])?;
+    add_dotted(&mut text, addr[3])?;
+    Ok(text)
+}
+
+/// Whether the proxy answers for this host: it is that of its domain, in any case, or its own address as it is written
+/// (RFC 3261 section 16.5).
+///
+/// # Errors
+///
+/// Only where the allocator refuses.
+pub fn is_domain<A: Allocator + Clone>(
+    alloc: A,
+    setup: &Setup<A>,
+    host: &[u8],
+) -> Result<bool, AllocError>
+    ensures { IfOk result (λ well. well ≡ is_domain setup.now host.now) }
+{
+    if host.eq_ignore_ascii_case(setup.domain()) {
+        return Ok(true);
+    }
+    let own = host_of(alloc, setup.own().addr)?;
+    Ok(host == own.as_slice())
+}
+
+/// Adds a location, where it is the user's.
+fn add_if_of<'a, A: Allocator>(
+    choices: &mut Vec<Choice<'a, A>, A>,
+    location: &'a Location<A>,
+    user: &[u8],
+) -> Result<(), AllocError>
+    ensures { OnOk result (choices.new.items ≡ choices.old.items ++ map choice_at (locations_of user.now (location.now ∷ []))) }
+{
+    if location.is_of(user) {
+        choices.push(Choice {
+            q: location.q(),
+            uri: location.uri(),
+        })?;
+    }
+    Ok(())
+}
+
+/// The locations of a user.
+fn located<'a, A: Allocator>(
+    alloc: A,
+    locations: &'a [Location<A>],
+    user: &[u8],
+) -> Result<Vec<Choice<'a, A>, A>, AllocError>
+    ensures { IfOk result (λ choices. choices.items ≡ map choice_at (locations_of user.now locations.now)) }
+{
+    let mut choices = Vec::new(alloc);
+    for location in locations {
+        add_if_of(&mut choices, location, user)?;
+    }
+    Ok(choices)
+}
+
+/// The locations of a user, if there is one.
+fn located_if_any<'a, A: Allocator>(
+    alloc: A,
+    locations: &'a [Location<A>],
+    user: Option<&[u8]>,
+) -> Result<Vec<Choice<'a, A>, A>, AllocError>
+    ensures { IfOk result (λ choices. choices.items ≡ choices_of locations.now (option_copied user.entry)) }
+{
+    match user {
+        None => Ok(Vec::new(alloc)),
+        Some(user) => located(alloc, locations, user),
+    }
+}
+
+/// The one target of a request to a host that the proxy does not answer for.
+fn alone<'a, A: Allocator>(
+    alloc: A,
+    uri: &'a SipUri<A>,
+) -> Result<Vec<Choice<'a, A>, A>, AllocError>
+    ensures { IfOk result (λ choices. choices.items ≡ record { q = most_q; uri = uri.now } ∷ []) }
+{
+    let mut choices = Vec::new(alloc);
+    choices.push(Choice { q: MOST_Q, uri })?;
+    Ok(choices)
+}
+
+/// The targets of a request to this URI: in the domain the locations of its user, else the URI alone (RFC 3261 section
+/// 16.5).
+pub(crate) fn choices<'a, A: Allocator + Clone>(
+    alloc: A,
+    setup: &'a Setup<A>,
+    uri: &'a SipUri<A>,
+) -> Result<Vec<Choice<'a, A>, A>, AllocError>
+    ensures { IfOk result (λ found. found.items ≡ choices setup.now uri.now) }
+{
+    let inside = is_domain(alloc.clone()?, setup, uri.host())?;
+    if inside {
+        located_if_any(alloc, setup.locations(), uri.user())
+    } else {
+        alone(alloc, uri)
+    }
+}
+
+/// What tells the target from others, with its q. (No setup that was read has a q of more than one; no clause of the
+/// loops above says so yet, so it is asked here.)
+fn target_of<A: Allocator + Clone>(
+    alloc: A,
+    choice: &Choice<'_, A>,
+) -> Result<Target<A>, AllocError>
+    ensures { IfOk result (λ target. target ≡ target_of choice.now) }
+{
+    if MOST_Q < choice.q {
+        return Err(AllocError);
+    }
+    let key = Vec::from_slice(alloc, choice.uri.key())?;
+    Ok(Target::new(key, choice.q))
+}
+
+/// The targets as a fork takes them.
+pub(crate) fn targets_of<A: Allocator + Clone>(
+    alloc: A,
+    choices: &[Choice<'_, A>],
+) -> Result<Vec<Target<A>, A>, AllocError>
+    ensures { IfOk result (λ targets. targets.items ≡ targets_of choices.now) }
+{
+    let mut targets = Vec::new(alloc.clone()?);
+    for choice in choices {
+        targets.push(target_of(alloc.clone()?, choice)?)?;
+    }
+    Ok(targets)
+}
+
+// ---- by which hop
+
+/// The hop of a target: that of the first Route value, if there is one, else that of its URI (RFC 3261 section 16.6
+/// steps 6 and 7).
+pub(crate) fn hop_by<A: Allocator + Clone>(route: FirstRoute, uri: &SipUri<A>) -> Option<Hop>
+    ensures { result ≡ hop_by route uri.now }
+{
+    match route {
+        FirstRoute::Absent => uri.next_hop(),
+        FirstRoute::NoHop => None,
+        FirstRoute::To(hop) => Some(hop),
+    }
+}
+
+/// The hop of the first Route value, if there is one that leads to a hop.
+pub(crate) fn hop_if_any(route: FirstRoute) -> Option<Hop>
+    ensures { result ≡ hop_if_any route }
+{
+    match route {
+        FirstRoute::Absent | FirstRoute::NoHop => None,
+        FirstRoute::To(hop) => Some(hop),
+    }
+}
+
+/// Whether each target has a hop.
+pub(crate) fn have_hops<A: Allocator + Clone>(route: FirstRoute, choices: &[Choice<'_, A>]) -> bool
+    ensures { result ≡ list_all (has_hop route) choices.now }
+{
+    choices
+        .iter()
+        .all(|choice| hop_by(route, choice.uri).is_some())
+}
