@@ -1,5 +1,5 @@
 -- The branch that a message answers, and who its recipient is.
-use Rattle.std.proofs.Common.{◌≡◌, ℕ, ◌<◌, ◌^◌, Bool, true, false, Option, Some, None, sym, subst, ap, ◌∙◌}
+use Rattle.std.proofs.Common.{◌≡◌, ◌≢◌, List, ℕ, ◌<◌, ◌^◌, Bool, true, false, Option, Some, None, sym, subst, ap, ◌∙◌}
 use Rattle.std.specs.Prelude.{◌&&◌, ◌==◌, codes}
 use Rattle.std.specs.Str.{bytes_eq}
 use Rattle.std.proofs.lemmas.Bool.{and_from, and_parts, eq-eqb, false≢true}
@@ -12,12 +12,13 @@ use Rattle.sip_via.specs.BranchText.{IsBranch}
 use Rattle.sip_via.specs.OwnPass.{IsOwnBranch}
 use Rattle.sip_via.specs.TopVia.{has_second, top_value, via_values}
 use Rattle.sip_text.specs.Fields.{message_cseq}
-use Rattle.sip_text.specs.Text.{MessageText}
 use Rattle.fork_parts.specs.Call.{Call, is_cancel_sent, is_sent}
-use Rattle.fork_parts.specs.Fixed.{branch_at, method_of}
-use Rattle.fork_parts.specs.Take.{Client, CancelClient}
-use Rattle.fork_routing.specs.Kinds.{is_response, is_to_method}
-use Rattle.fork_routing.specs.Matching.{BelongsTo, BelongsToNoBranch}
+use Rattle.fork_parts.specs.Fixed.{Fixed, branch_at, method_of}
+use Rattle.fork_parts.specs.Take.{Server, ServerAck, ServerCancel, Client, CancelClient}
+use Rattle.sip_text.specs.Text.{MessageText, StartText, Request, Response}
+use Rattle.sip_route.specs.RequestKey.{HaveSameKey, request_key}
+use Rattle.fork_routing.specs.Kinds.{is_request_of, is_response, is_to_method}
+use Rattle.fork_routing.specs.Matching.{BelongsTo, BelongsToNoBranch, BelongsToNoServer, BelongsToNone, Repeats}
 
 pub numbered : (call : BranchName) (n : ℕ) → IsBranch call → n < 2 ^ 16 → IsBranch (record call { target = n })
 numbered call n h lt = record { sixteen = h.sixteen; bytes = h.bytes; instance = h.instance; context = h.context; target = lt }
@@ -70,6 +71,14 @@ module _ (call : Call) (m : MessageText) where
   pub no_response : is_response m.start ≡ false → BelongsToNoBranch call m
   no_response e n = (λ b. false≢true (sym e ∙ b.0.response), λ b. false≢true (sym e ∙ b.0.response))
 
+  -- to no branch, and not to the caller
+  pub to_none : BelongsToNoBranch call m → BelongsToNoServer call m → BelongsToNone call m
+  to_none branch server Server b = server.0 b
+  to_none branch server ServerAck b = server.1 b
+  to_none branch server ServerCancel b = server.2 b
+  to_none branch server (Client n) b = (branch n).0 b
+  to_none branch server (CancelClient n) b = (branch n).1 b
+
   pub no_home : ((n : ℕ) → n < 2 ^ 16 → IsHome n → ⊥) → BelongsToNoBranch call m
   no_home h n = (λ b. h n b.0.number b.0.via, λ b. h n b.0.number b.0.via)
 
@@ -104,3 +113,38 @@ module _ (call : Call) (m : MessageText) where
 
   pub none_home : ((n : ℕ) → n < 2 ^ 16 → IsHome n → None ≡ Some n) → BelongsToNoBranch call m
   none_home only = no_home (λ n lt home. let e = only n lt home in absurd cc)
+
+-- ---- requests
+
+keyed_by : (o own : Option (List ℕ)) → o ≢ None → o ≡ own → (key : List ℕ) × (o ≡ Some key) × (own ≡ Some key)
+keyed_by None own some same = absurd (some refl)
+keyed_by (Some key) own some same = (key, refl, sym same)
+
+never_none : (o : Option (List ℕ)) (key : List ℕ) → o ≡ Some key → o ≢ None
+never_none o key e none = absurd cc
+
+module _ (fixed : Fixed) (method : List ℕ) (m : MessageText) where
+  pub repeats : HaveSameKey m fixed.request → is_request_of method m.start ≡ true → Repeats fixed method m
+  repeats h e = record { request = e; keyed = never_none (request_key m) h.0 h.1; same = h.1 ∙ sym h.2 }
+
+  pub not_keyed : (HaveSameKey m fixed.request → ⊥) → Repeats fixed method m → ⊥
+  not_keyed h r = h (keyed_by (request_key m) (request_key fixed.request) r.keyed r.same)
+
+  pub not_method : is_request_of method m.start ≡ false → Repeats fixed method m → ⊥
+  not_method e r = false≢true (sym e ∙ r.request)
+
+is_no_request : (method : List ℕ) (start : StartText) → is_response start ≡ true → is_request_of method start ≡ false
+is_no_request method (Request own uri) e = absurd cc
+is_no_request method (Response status reason) e = refl
+
+pub no_request : (call : Call) (m : MessageText) → is_response m.start ≡ true → BelongsToNoServer call m
+no_request call m e = (
+  not_method call.fixed (method_of call.fixed.request.start) m (is_no_request _ m.start e),
+  not_method call.fixed (codes "ACK") m (is_no_request _ m.start e),
+  not_method call.fixed (codes "CANCEL") m (is_no_request _ m.start e),
+)
+
+-- the call's own request has another key, or none
+pub not_keyed_server : (call : Call) (m : MessageText) → (HaveSameKey m call.fixed.request → ⊥) → BelongsToNoServer call m
+not_keyed_server call m h =
+    (not_keyed call.fixed (method_of call.fixed.request.start) m h, not_keyed call.fixed (codes "ACK") m h, not_keyed call.fixed (codes "CANCEL") m h)

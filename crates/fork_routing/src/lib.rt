@@ -12,7 +12,7 @@ mod targets;
 
 pub use admission::admit;
 pub use fault::OpenFault;
-pub use matching::response_recipient;
-pub use opening::open;
+pub use matching::recipient;
+pub use opening::{is_openable, open};
 pub use recipient::Recipient;
 pub use targets::is_domain;
