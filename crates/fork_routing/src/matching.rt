@@ -142,10 +142,10 @@ fn request_recipient<A: Allocator + Clone>(
     None
 }
 
-/// The transaction of a call that a message is for, if there is one. A request is for that of the caller where it has the
-/// key of the request that opened the call, and its method or ACK or CANCEL. A response is for that of a branch where
-/// its top Via value is the one that the proxy put into what it sent there (RFC 3261 sections 9.2, 16.7 steps 1 and 3,
-/// 17.1.3 and 17.2.3). It takes no memory.
+/// The transaction of a call that a message is for, if there is one. A request is for the caller's where it has the key of
+/// the request that opened the call, and where its method is that request's, ACK or CANCEL. A response is for that of a
+/// branch where its top Via value is the one that the proxy put into what it sent there (RFC 3261 sections 9.2, 16.7 steps
+/// 1 and 3, 17.1.3 and 17.2.3). It takes no memory.
 pub fn recipient<A: Allocator + Clone>(parts: &Parts<A>, message: &Message<A>) -> Option<Recipient>
     ensures found { IfSome result (λ r. BelongsTo parts.now message.now (seen_recipient r)) }
     ensures none { IfNone result (BelongsToNone parts.now message.now) }
