@@ -10,7 +10,7 @@ ghost use Rattle.fork_routing.specs.Kinds.{is_request_of, is_response, is_to_met
 ghost use Rattle.fork_routing.specs.Matching.{BelongsTo, BelongsToNoBranch, BelongsToNoServer, BelongsToNone};
 ghost use Rattle.fork_routing.specs.SeenRecipient.{seen_recipient};
 
-use crate::recipient::Recipient;
+use crate::transaction::Recipient;
 use fork_parts::Parts;
 use sip_route::has_same_key;
 use sip_text::{Message, Start};
@@ -146,6 +146,7 @@ fn request_recipient<A: Allocator + Clone>(
 /// the request that opened the call, and where its method is that request's, ACK or CANCEL. A response is for that of a
 /// branch where its top Via value is the one that the proxy put into what it sent there (RFC 3261 sections 9.2, 16.7 steps
 /// 1 and 3, 17.1.3 and 17.2.3). It takes no memory.
+#[tactic(auto, using(crate::proofs::Matched::to_none, crate::proofs::Matched::no_request, crate::proofs::Matched::no_response))]
 pub fn recipient<A: Allocator + Clone>(parts: &Parts<A>, message: &Message<A>) -> Option<Recipient>
     ensures found { IfSome result (λ r. BelongsTo parts.now message.now (seen_recipient r)) }
     ensures none { IfNone result (BelongsToNone parts.now message.now) }
