@@ -1,8 +1,8 @@
 -- The branch that a message answers, and who its recipient is.
-use Rattle.std.proofs.Common.{◌≡◌, ◌≢◌, refl, List, ℕ, ◌<◌, ◌^◌, Bool, true, false, Option, Some, None, sym, subst, ap, ◌∙◌}
+use Rattle.std.proofs.Common.{◌≡◌, refl, List, ℕ, ◌<◌, ◌^◌, Bool, true, false, Option, Some, None, sym, subst, ap, ◌∙◌}
 use Rattle.std.specs.Prelude.{◌&&◌, ◌==◌, codes}
 use Rattle.std.specs.Str.{bytes_eq}
-use Rattle.std.proofs.lemmas.Bool.{and_from, and_parts, eq-eqb, false≢true}
+use Rattle.std.proofs.lemmas.Bool.{and_from, eq-eqb, false≢true}
 use Rattle.std.proofs.lemmas.Option.{same_Some}
 use Rattle.std.proofs.lemmas.Slice.Eq.{bytes_eq-Decides}
 use Rattle.std.specs.Option.{option_map}
@@ -16,7 +16,6 @@ use Rattle.fork_parts.specs.Call.{Call, is_cancel_sent, is_sent}
 use Rattle.fork_parts.specs.Fixed.{Fixed, branch_at, method_of}
 use Rattle.fork_parts.specs.Take.{Server, ServerAck, ServerCancel, Client, CancelClient}
 use Rattle.sip_text.specs.Text.{MessageText, StartText, Request, Response}
-use Rattle.sip_route.specs.RequestKey.{HaveSameKey, request_key}
 use Rattle.fork_routing.specs.Kinds.{is_request_of, is_response, is_to_method}
 use Rattle.fork_routing.specs.Matching.{BelongsTo, BelongsToNoBranch, BelongsToNoServer, BelongsToNone, Repeats}
 
@@ -57,17 +56,6 @@ module _ (call : Call) (m : MessageText) where
   abbrev pub IsHome : ℕ → Type 0
   IsHome n = IsOwnBranch call.fixed.own (top_value m) (branch_at call.fixed n)
 
-  pub client_found : (n : ℕ) → is_response m.start ≡ true → n < 2 ^ 16 → IsHome n → for_client call m n ≡ true → BelongsTo call m (Client n)
-  client_found n response number home e =
-      let front = (and_parts (is_to_method (method_of call.fixed.request.start) (message_cseq m.headers) && has_second (via_values m)) (is_sent call n) e) in
-      let both = and_parts (is_to_method (method_of call.fixed.request.start) (message_cseq m.headers)) (has_second (via_values m)) front.0 in
-      (record { response = response; number = number; via = home; to_method = both.0 }, both.1, front.1)
-
-  pub cancel_found : (n : ℕ) → is_response m.start ≡ true → n < 2 ^ 16 → IsHome n → for_cancel call m n ≡ true → BelongsTo call m (CancelClient n)
-  cancel_found n response number home e =
-      let both = and_parts (is_to_method (codes "CANCEL") (message_cseq m.headers)) (is_cancel_sent call n) e in
-      (record { response = response; number = number; via = home; to_method = both.0 }, both.1)
-
   pub no_response : is_response m.start ≡ false → BelongsToNoBranch call m
   no_response e n = (λ b. false≢true (sym e ∙ b.0.response), λ b. false≢true (sym e ∙ b.0.response))
 
@@ -79,7 +67,7 @@ module _ (call : Call) (m : MessageText) where
   to_none branch server (Client n) b = (branch n).0 b
   to_none branch server (CancelClient n) b = (branch n).1 b
 
-  pub no_home : ((n : ℕ) → n < 2 ^ 16 → IsHome n → ⊥) → BelongsToNoBranch call m
+  no_home : ((n : ℕ) → n < 2 ^ 16 → IsHome n → ⊥) → BelongsToNoBranch call m
   no_home h n = (λ b. h n b.0.number b.0.via, λ b. h n b.0.number b.0.via)
 
   -- the branch is known, and no transaction of it takes the response
@@ -117,22 +105,8 @@ module _ (call : Call) (m : MessageText) where
 
 -- ---- requests
 
-keyed_by : (o own : Option (List ℕ)) → o ≢ None → o ≡ own → (key : List ℕ) × (o ≡ Some key) × (own ≡ Some key)
-keyed_by None own some same = absurd (some refl)
-keyed_by (Some key) own some same = (key, refl, sym same)
-
-never_none : (o : Option (List ℕ)) (key : List ℕ) → o ≡ Some key → o ≢ None
-never_none o key e none = absurd cc
-
-module _ (fixed : Fixed) (method : List ℕ) (m : MessageText) where
-  pub repeats : HaveSameKey m fixed.request → is_request_of method m.start ≡ true → Repeats fixed method m
-  repeats h e = record { request = e; keyed = never_none (request_key m) h.0 h.1; same = h.1 ∙ sym h.2 }
-
-  pub not_keyed : (HaveSameKey m fixed.request → ⊥) → Repeats fixed method m → ⊥
-  not_keyed h r = h (keyed_by (request_key m) (request_key fixed.request) r.keyed r.same)
-
-  pub not_method : is_request_of method m.start ≡ false → Repeats fixed method m → ⊥
-  not_method e r = false≢true (sym e ∙ r.request)
+not_method : (fixed : Fixed) (method : List ℕ) (m : MessageText) → is_request_of method m.start ≡ false → Repeats fixed method m → ⊥
+not_method fixed method m e r = false≢true (sym e ∙ r.request)
 
 is_no_request : (method : List ℕ) (start : StartText) → is_response start ≡ true → is_request_of method start ≡ false
 is_no_request method (Request own uri) e = absurd cc
@@ -144,8 +118,3 @@ no_request call m e = (
   not_method call.fixed (codes "ACK") m (is_no_request _ m.start e),
   not_method call.fixed (codes "CANCEL") m (is_no_request _ m.start e),
 )
-
--- the call's own request has another key, or none
-pub not_keyed_server : (call : Call) (m : MessageText) → (HaveSameKey m call.fixed.request → ⊥) → BelongsToNoServer call m
-not_keyed_server call m h =
-    (not_keyed call.fixed (method_of call.fixed.request.start) m h, not_keyed call.fixed (codes "ACK") m h, not_keyed call.fixed (codes "CANCEL") m h)
