@@ -19,3 +19,7 @@ pub mod StateRows
 pub mod Paying
 pub mod Deeds
 pub mod Beginning
+pub mod NewPlaces
+pub mod NewWays
+pub mod Weights
+pub mod NewRows
