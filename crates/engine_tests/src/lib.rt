@@ -1,5 +1,5 @@
-//! Tests of the public calls of `fork_mixing` and `fork_engine`, a file for each. They stand apart from these crates so that none
-//! of them is proved twice.
+//! Tests of the public calls of `fork_mixing`, `fork_engine` and `fork_shelf`, a file for each. They stand apart from these
+//! crates so that none of them is proved twice.
 #![tactic(auto)]
 
 #[cfg(test)]

@@ -1,5 +1,5 @@
 use Rattle.std.proofs.Common.{◌≡◌}
-use Rattle.fork_engine.proofs.shelf.Shelf.with.Goals as goal
+use Rattle.fork_shelf.proofs.shelf.Shelf.with.Goals as goal
 
 pub returns : goal.returns
 returns g c =
