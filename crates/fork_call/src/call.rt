@@ -16,6 +16,7 @@ use fork_book::Book;
 use fork_parts::{Cause, Parts, Step, Taken};
 use fork_routing::OpenFault;
 use fork_setup::Setup;
+use fork_shelf::Numbered;
 use sip_text::Message;
 use sip_uri::Hop;
 use std::alloc::{AllocError, Allocator, Global};
@@ -115,6 +116,15 @@ impl<A: Allocator + Clone> Call<A> {
     pub fn number(&self) -> u64
         ensures { result ≡ self.now.fixed.number }
     {
+        self.parts.fixed().number()
+    }
+}
+
+impl<A: Allocator + Clone> Numbered for Call<A> {
+    ghost number_of = { λ call. call.fixed.number };
+
+    /// The number that it was opened with.
+    fn number(&self) -> u64 {
         self.parts.fixed().number()
     }
 }

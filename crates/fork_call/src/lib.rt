@@ -4,7 +4,13 @@
 
 mod call;
 mod fault;
+mod port;
 mod schedule;
 
 pub use call::Call;
 pub use fault::TakeFault;
+pub use fork_book::Book;
+pub use fork_parts::{Cause, Datagram, Step, Taken};
+pub use fork_routing::OpenFault;
+pub use fork_setup::{Setup, SetupFault};
+pub use port::{Carried, Port, carry};
