@@ -1,3 +1,5 @@
 pub mod Idle
 pub mod Carrying
 pub mod LeastDue
+pub mod Retimed
+pub mod Moving
