@@ -15,15 +15,15 @@ use Rattle.fork_call.proofs.Idle.{both_later, idle}
 -- ---- the moments of rows
 
 -- the moment of a row stands at its number; where no row is, there is none
-pub moment_at : (rows : List Row) (legs : List (Option Leg)) (n : ℕ) → length legs ≡ length rows
+pub moment_stands : (rows : List Row) (legs : List (Option Leg)) (n : ℕ) → length legs ≡ length rows
     → (slice_get (moments_of rows legs) n ≡ Some (due_of (slice_get rows n) (found (slice_get legs n))))
     ⊎ ((slice_get (moments_of rows legs) n ≡ None) × (due_of (slice_get rows n) (found (slice_get legs n)) ≡ None))
-moment_at [] [] n e = inr (refl, refl)
-moment_at [] (leg ∷ legs) n e = absurd cc
-moment_at (row ∷ rows) [] n e = absurd cc
-moment_at (row ∷ rows) (None ∷ legs) zero e = inl refl
-moment_at (row ∷ rows) (Some leg ∷ legs) zero e = inl refl
-moment_at (row ∷ rows) (leg ∷ legs) (suc n) e = moment_at rows legs n (let h : length legs ≡ length rows = cc in h)
+moment_stands [] [] n e = inr (refl, refl)
+moment_stands [] (leg ∷ legs) n e = absurd cc
+moment_stands (row ∷ rows) [] n e = absurd cc
+moment_stands (row ∷ rows) (None ∷ legs) zero e = inl refl
+moment_stands (row ∷ rows) (Some leg ∷ legs) zero e = inl refl
+moment_stands (row ∷ rows) (leg ∷ legs) (suc n) e = moment_stands rows legs n (let h : length legs ≡ length rows = cc in h)
 
 -- ---- the earliest
 
@@ -116,7 +116,7 @@ module _ (call : Call) (none : call.server.owed ≡ []) (sized : length call.leg
   row_quiet : (now : ℕ) → is_due now (least_of (scheduled call)) ≡ false → (n : ℕ) → is_due now (due_of (slice_get (rows_of call) n) (leg_at call n)) ≡ false
   row_quiet now quiet n =
       let P : Option ℕ → Type 0 = λ m. is_due now m ≡ false in
-      elim (moment_at (rows_of call) call.legs n sized) [
+      elim (moment_stands (rows_of call) call.legs n sized) [
         | inl h ↦ (none_came now (scheduled call) None quiet).1 n _ h
         | inr h ↦ subst P (sym h.1) refl
       ]
@@ -152,7 +152,7 @@ module _ (call : Call) (none : call.server.owed ≡ []) (sized : length call.leg
   moment_deed : (n at : ℕ) → slice_get (scheduled call) n ≡ Some (Some at) → (deed : Deed) × (is_due_at call at deed ≡ true)
   moment_deed n at there =
       let P : Option ℕ → Type 0 = λ m. is_due at m ≡ true in
-      elim (moment_at (rows_of call) call.legs n sized) [
+      elim (moment_stands (rows_of call) call.legs n sized) [
         | inl h ↦
             let same : Some at ≡ due_of (slice_get (rows_of call) n) (leg_at call n) = cc in
             row_deed n at (subst P same (le-leb at at (omega arith)))

@@ -1,5 +1,7 @@
 pub mod Idle
 pub mod Carrying
 pub mod LeastDue
+pub mod Retimed
+pub mod Moving
 pub mod Touching
 pub mod Timed

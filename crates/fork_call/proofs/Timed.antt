@@ -6,21 +6,23 @@ use Rattle.std.proofs.lemmas.Option.{slice_get_within}
 use Rattle.std.proofs.lemmas.List.{length-replicate}
 use Rattle.fork_model.specs.Core.{Core, core_next, core_offered, is_full}
 use Rattle.fork_model.specs.Event.{Event, row_named}
-use Rattle.fork_model.specs.History.{after}
 use Rattle.fork_model.specs.Reply.{Reply}
-use Rattle.fork_model.specs.Sources.{IsNumberIn, offers_of}
+use Rattle.fork_model.specs.OpenBranches.{OthersAreLeft}
+use Rattle.fork_model.specs.Sources.{BecameIsExact, IsNumberIn}
 use Rattle.fork_model.specs.Sources as sources
 use Rattle.fork_model.specs.Step.{next}
 use Rattle.fork_model.specs.Steps.{IsWithin, PositionsAreBounded}
 use Rattle.fork_model.specs.Table.{Row, Table}
-use Rattle.fork_book.specs.Log.{Log, Posted, added, core_of, event_posted, events_of, table_of}
+use Rattle.fork_book.specs.Log.{Log, Posted, added, core_of, table_of}
 use Rattle.sip_text.specs.Text.{MessageText}
 use Rattle.sip_uri.specs.Contact.{ContactText}
 use Rattle.fork_parts.specs.Call.{Call, found, leg_at, rows_of}
 use Rattle.fork_parts.specs.Leg.{Leg}
 use Rattle.fork_parts.specs.Posting.{Posts, call_tag}
-use Rattle.fork_call.specs.Scheduled.{due_of, moments_of, scheduled}
-use Rattle.fork_call.specs.Timing.{moment_at, retimed, row_list, rows_in, timed, timed_at, touched}
+use Rattle.fork_parts.proofs.laws.Logs.{table_added}
+use Rattle.fork_call.specs.Scheduled.{IsTimedBut, due_of, moments_of, rows_in, scheduled}
+use Rattle.fork_call.specs.Timing.{row_moment, retimed, row_list, timed, timed_at, touched}
+use Rattle.fork_call.proofs.Retimed.{length_moments, posts_timed, timed_at_once}
 use Rattle.fork_call.proofs.Touching.{Touches}
 
 -- ---- lists
@@ -101,36 +103,31 @@ in_either (x ∷ xs) ys k none =
 -- the length stays
 length_timed : (call : Call) (rows : List ℕ) (moments : List (Option ℕ)) → length (timed call rows moments) ≡ length moments
 length_timed call [] moments = refl
-length_timed call (n ∷ rows) moments = length_timed call rows (timed_at call moments n) ∙ length_set moments n (moment_at call n)
+length_timed call (n ∷ rows) moments = length_timed call rows (timed_at call moments n) ∙ length_set moments n (row_moment call n)
 
 -- a row has its moment where it had it before, or was timed
 timed_has : (call : Call) (rows : List ℕ) (moments : List (Option ℕ)) (k : ℕ) → k < length moments
-    → ((IsNumberIn rows k → ⊥) → slice_get moments k ≡ Some (moment_at call k))
-    → slice_get (timed call rows moments) k ≡ Some (moment_at call k)
+    → ((IsNumberIn rows k → ⊥) → slice_get moments k ≡ Some (row_moment call k))
+    → slice_get (timed call rows moments) k ≡ Some (row_moment call k)
 timed_has call [] moments k lt had = had (λ h. absurd (let e = h.1 in cc))
 timed_has call (n ∷ rows) moments k lt had =
-    let size : length (timed_at call moments n) ≡ length moments = length_set moments n (moment_at call n) in
+    let size : length (timed_at call moments n) ≡ length moments = length_set moments n (row_moment call n) in
     timed_has call rows (timed_at call moments n) k (omega (arith, size)) now_has
   where
     not_first : (k ≡ n → ⊥) → (IsNumberIn rows k → ⊥) → IsNumberIn (n ∷ rows) k → ⊥
     not_first d later (zero, e) = d (let same : n ≡ k = cc in sym same)
     not_first d later (suc place, e) = later (place, e)
 
-    now_has : (IsNumberIn rows k → ⊥) → slice_get (timed_at call moments n) k ≡ Some (moment_at call k)
+    now_has : (IsNumberIn rows k → ⊥) → slice_get (timed_at call moments n) k ≡ Some (row_moment call k)
     now_has later = elim (same_or_not k n) [
       | inl e ↦
-          let P : ℕ → Type 0 = λ x. slice_get (timed_at call moments n) x ≡ Some (moment_at call x) in
+          let P : ℕ → Type 0 = λ x. slice_get (timed_at call moments n) x ≡ Some (row_moment call x) in
           let Q : ℕ → Type 0 = λ x. x < length moments in
-          subst P (sym e) (set_here moments n (moment_at call n) (subst Q e lt))
-      | inr d ↦ set_beside moments n k (moment_at call n) d ∙ had (not_first d later)
+          subst P (sym e) (set_here moments n (row_moment call n) (subst Q e lt))
+      | inr d ↦ set_beside moments n k (row_moment call n) d ∙ had (not_first d later)
     ]
 
 -- ---- the moments of a call
-
-length_moments : (rows : List Row) (legs : List (Option Leg)) → length (moments_of rows legs) ≡ length rows
-length_moments [] legs = refl
-length_moments (row ∷ rows) [] = ap suc (length_moments rows [])
-length_moments (row ∷ rows) (leg ∷ legs) = ap suc (length_moments rows legs)
 
 moments_have : (rows : List Row) (legs : List (Option Leg)) (k : ℕ) → k < length rows
     → slice_get (moments_of rows legs) k ≡ Some (due_of (slice_get rows k) (found (slice_get legs k)))
@@ -141,42 +138,22 @@ moments_have (row ∷ rows) (Some leg ∷ legs) zero lt = refl
 moments_have (row ∷ rows) [] (suc k) lt = moments_have rows [] k (omega arith)
 moments_have (row ∷ rows) (leg ∷ legs) (suc k) lt = moments_have rows legs k (omega arith)
 
-pub scheduled_has : (call : Call) (k : ℕ) → k < length (rows_of call) → slice_get (scheduled call) k ≡ Some (moment_at call k)
+pub scheduled_has : (call : Call) (k : ℕ) → k < length (rows_of call) → slice_get (scheduled call) k ≡ Some (row_moment call k)
 scheduled_has call k lt = moments_have (rows_of call) call.legs k lt
 
 pub length_scheduled : (call : Call) → length (scheduled call) ≡ length (rows_of call)
 length_scheduled call = length_moments (rows_of call) call.legs
 
 -- a moment that stands in the schedule is that of its row
-pub scheduled_is : (call : Call) (k : ℕ) (moment : Option ℕ) → slice_get (scheduled call) k ≡ Some moment → moment_at call k ≡ moment
+pub scheduled_is : (call : Call) (k : ℕ) (moment : Option ℕ) → slice_get (scheduled call) k ≡ Some moment → row_moment call k ≡ moment
 scheduled_is call k moment is =
     let below : k < length (scheduled call) = slice_get_within (scheduled call) k moment is in
     let size = length_scheduled call in
     let has = scheduled_has call k (omega (arith, size, below)) in
-    let same : Some (moment_at call k) ≡ Some moment = sym has ∙ is in
+    let same : Some (row_moment call k) ≡ Some moment = sym has ∙ is in
     cc
 
 -- ---- an event more
-
-after_more : (t : Table) (at : ℕ) (events : List Event) (event : Event) → after t at (events ++ event ∷ []) ≡ next (after t at events) event (at + length events)
-after_more t at [] event = let e : at + 0 ≡ at = omega arith in rw e refl
-after_more t at (e ∷ events) event =
-    let place : suc at + length events ≡ at + suc (length events) = omega arith in
-    after_more (next t e at) (suc at) events event ∙ ap (next (after (next t e at) (suc at) events) event) place
-
-events_more : (history : List Posted) (post : Posted) → events_of (history ++ post ∷ []) ≡ events_of history ++ event_posted post ∷ []
-events_more [] post = refl
-events_more (p ∷ history) post = ap (λ (es : List Event). event_posted p ∷ es) (events_more history post)
-
-length_events : (history : List Posted) → length (events_of history) ≡ length history
-length_events [] = refl
-length_events (p ∷ history) = ap suc (length_events history)
-
-pub table_added : (log : Log) (tag : ℕ) (event : Event) (reply : Reply) → table_of (added log tag event reply) ≡ next (table_of log) event (length log.history)
-table_added log tag event reply =
-    ap (after log.opening 0) (events_more log.history (record { tag = tag; event = event }))
-    ∙ after_more log.opening 0 (events_of log.history) event
-    ∙ ap (next (table_of log) event) (let z : 0 + length (events_of log.history) ≡ length (events_of log.history) = omega arith in z ∙ length_events log.history)
 
 core_added : (log : Log) (tag : ℕ) (event : Event) (reply : Reply) → core_of (added log tag event reply) ≡ core_next (core_of log) event
 core_added log tag event reply =
@@ -211,23 +188,38 @@ still_within bounded call new row quiet (inr posted) within =
 
 -- ---- the rows of a step
 
--- what an event leaves as it was: a row that it does not name keeps its moment, and a row that it adds has none yet
-abbrev pub OthersKeepTheirMoments : Type 0
-OthersKeepTheirMoments =
-    (call new : Call) (event : Event) (contacts : List ContactText) (response : Option MessageText) (reply : Reply) (k : ℕ)
-    → Posts call event contacts response reply new
-    → (row_named event ≡ Some k → ⊥) → (IsNumberIn reply.started k → ⊥) → (IsNumberIn reply.cancelled k → ⊥)
-    → k < length (rows_of call)
-    → moment_at new k ≡ moment_at call k
+found_some : (m : Option ℕ) → found (Some m) ≡ m
+found_some None = refl
+found_some (Some at) = refl
 
-abbrev pub NewRowsHaveNone : Type 0
-NewRowsHaveNone =
-    (call new : Call) (event : Event) (contacts : List ContactText) (response : Option MessageText) (reply : Reply) (k : ℕ)
-    → length call.legs ≡ length (rows_of call)
-    → Posts call event contacts response reply new
-    → (IsNumberIn reply.started k → ⊥)
-    → length (rows_of call) ≤ k
-    → moment_at new k ≡ None
+named_in : (event : Event) (k : ℕ) → row_named event ≡ Some k → IsNumberIn (row_list (row_named event)) k
+named_in event k e = let P : Option ℕ → Type 0 = λ row. IsNumberIn (row_list row) k in subst P (sym e) (zero, refl)
+
+-- a row that an event neither names nor starts nor cancels keeps its moment, and a new one has none yet
+module _ (left : OthersAreLeft) (exact : BecameIsExact) (call new : Call) (event : Event) (contacts : List ContactText) (response : Option MessageText) (reply : Reply)
+    (sized : length call.legs ≡ length (rows_of call)) (posts : Posts call event contacts response reply new) where
+  event_leaves : (k : ℕ) → (row_named event ≡ Some k → ⊥) → (IsNumberIn reply.started k → ⊥) → (IsNumberIn reply.cancelled k → ⊥)
+      → found (slice_get (scheduled call) k) ≡ row_moment new k
+  event_leaves k other started cancelled =
+      let first = timed_at_once call sized in
+      let rows = row_list (row_named event) in
+      let but : IsTimedBut call rows (scheduled call) = record { timed = λ n free. first.timed n (λ h. absurd (let e = h.1 in cc)) } in
+      (posts_timed left exact call new event contacts response reply rows (scheduled call) sized posts (named_in event) but).timed k
+      (λ h. either_not (row_named event) other started cancelled h)
+    where
+      in_more : (xs ys : List ℕ) → IsNumberIn (xs ++ ys) k → IsNumberIn xs k ⊎ IsNumberIn ys k
+      in_more [] ys h = inr h
+      in_more (x ∷ xs) ys (zero, e) = inl (zero, e)
+      in_more (x ∷ xs) ys (suc place, e) = elim (in_more xs ys (place, e)) [ inl h ↦ inl (suc h.0, h.1) | inr h ↦ inr h ]
+
+      both_not : (IsNumberIn reply.started k → ⊥) → (IsNumberIn reply.cancelled k → ⊥) → IsNumberIn (reply.started ++ reply.cancelled) k → ⊥
+      both_not s c h = elim (in_more reply.started reply.cancelled h) [ inl a ↦ s a | inr b ↦ c b ]
+
+      either_not : (row : Option ℕ) → (row ≡ Some k → ⊥) → (IsNumberIn reply.started k → ⊥) → (IsNumberIn reply.cancelled k → ⊥)
+          → IsNumberIn (row_list row ++ (reply.started ++ reply.cancelled)) k → ⊥
+      either_not None o s c h = both_not s c h
+      either_not (Some n) o s c (zero, e) = o e
+      either_not (Some n) o s c (suc place, e) = both_not s c (place, e)
 
 -- without contacts there are no more rows
 pub no_more_rows : (none : sources.AddsNoRow) (call new : Call) (row : Option ℕ) (quiet : Type 0) → Touches call new row quiet → quiet → length (rows_of new) ≡ length (rows_of call)
@@ -242,7 +234,7 @@ row_other : (row : Option ℕ) (k : ℕ) → (IsNumberIn (row_list row) k → �
 row_other None k none e = absurd cc
 row_other (Some n) k none e = none (zero, e)
 
-module _ (keeps : OthersKeepTheirMoments) (fresh : NewRowsHaveNone) (call new : Call) (row : Option ℕ) (quiet : Type 0) (p : ℕ)
+module _ (left : OthersAreLeft) (exact : BecameIsExact) (call new : Call) (row : Option ℕ) (quiet : Type 0) (p : ℕ)
     (sized : length call.legs ≡ length (rows_of call)) (replied : length call.log.replies ≡ length call.log.history)
     (room : length (rows_of new) ≤ length (rows_of call) + p) where
   abbrev padded : List (Option ℕ)
@@ -259,7 +251,7 @@ module _ (keeps : OthersKeepTheirMoments) (fresh : NewRowsHaveNone) (call new : 
       length_take (length (rows_of new)) padded (omega (arith, a, b, c, room))
 
   -- before the rows are timed anew
-  cut_old : (k : ℕ) → k < length (rows_of new) → k < length (rows_of call) → slice_get cut k ≡ Some (moment_at call k)
+  cut_old : (k : ℕ) → k < length (rows_of new) → k < length (rows_of call) → slice_get cut k ≡ Some (row_moment call k)
   cut_old k lt below =
       let b = length_scheduled call in
       get_take (length (rows_of new)) padded k lt ∙ get_before (scheduled call) (replicate p None) k (omega (arith, b)) ∙ scheduled_has call k below
@@ -271,12 +263,12 @@ module _ (keeps : OthersKeepTheirMoments) (fresh : NewRowsHaveNone) (call new : 
 
   -- a row that the step does not touch has its moment as before
   untouched : Touches call new row quiet → (k : ℕ) → k < length (rows_of new) → (IsNumberIn (touched new row (length call.log.history)) k → ⊥)
-      → slice_get cut k ≡ Some (moment_at new k)
+      → slice_get cut k ≡ Some (row_moment new k)
   untouched (inl beside) k lt other =
       let rows : rows_of new ≡ rows_of call = ap (λ (l : Log). (table_of l).rows) beside.log in
       let below : k < length (rows_of call) = let e = ap (λ (rs : List Row). length rs) rows in omega (arith, e, lt) in
       let apart = row_other row k (in_either (row_list row) (rows_in (slice_get new.log.replies (length call.log.history))) k other).0 in
-      let same : moment_at new k ≡ moment_at call k =
+      let same : row_moment new k ≡ row_moment call k =
       ap (λ (rs : List Row). due_of (slice_get rs k) (leg_at new k)) rows ∙ ap (due_of (slice_get (rows_of call) k)) (beside.legs k apart) in
       cut_old k lt below ∙ ap (λ (m : Option ℕ). Some m) (sym same)
   untouched (inr posted) k lt other =
@@ -294,17 +286,18 @@ module _ (keeps : OthersKeepTheirMoments) (fresh : NewRowsHaveNone) (call new : 
       let apart = row_other row k parts.0 in
       let rows : rows_of mid ≡ rows_of call = ap (λ (l : Log). (table_of l).rows) posted.beside.log in
       let sizes : length (rows_of mid) ≡ length (rows_of call) = ap (λ (rs : List Row). length rs) rows in
+      let legs : length mid.legs ≡ length (rows_of mid) = posted.beside.size ∙ sized ∙ sym sizes in
+      let leaves = event_leaves left exact mid new posted.event posted.contacts posted.response posted.reply legs posted.posts k (posted.named k apart) both.0 both.1 in
       elim (cases_lt k (length (rows_of call))) [
         | inl below ↦
-            let kept : moment_at new k ≡ moment_at mid k =
-            keeps mid new posted.event posted.contacts posted.response posted.reply k posted.posts (posted.named k apart) both.0 both.1 (omega (arith, sizes, below)) in
-            let same : moment_at mid k ≡ moment_at call k =
+            let kept : row_moment mid k ≡ row_moment new k =
+            sym (found_some (row_moment mid k)) ∙ sym (ap found (scheduled_has mid k (omega (arith, sizes, below)))) ∙ leaves in
+            let same : row_moment mid k ≡ row_moment call k =
             ap (λ (rs : List Row). due_of (slice_get rs k) (leg_at mid k)) rows ∙ ap (due_of (slice_get (rows_of call) k)) (posted.beside.legs k apart) in
-            cut_old k lt below ∙ ap (λ (m : Option ℕ). Some m) (sym (kept ∙ same))
+            cut_old k lt below ∙ ap (λ (m : Option ℕ). Some m) (sym same ∙ kept)
         | inr above ↦
-            let legs : length mid.legs ≡ length (rows_of mid) = posted.beside.size ∙ sized ∙ sym sizes in
-            let none : moment_at new k ≡ None =
-            fresh mid new posted.event posted.contacts posted.response posted.reply k legs posted.posts both.0 (omega (arith, sizes, above)) in
+            let past = length_scheduled mid in
+            let none : row_moment new k ≡ None = sym leaves ∙ ap found (slice_get_past (scheduled mid) k (omega (arith, past, sizes, above))) in
             cut_new k lt above ∙ ap (λ (m : Option ℕ). Some m) (sym none)
       ]
 

@@ -1,6 +1,5 @@
 -- A step of a call touches few rows: these alone are timed anew.
 use Rattle.std.specs.Prelude.{◌≡◌, ℕ, ◌++◌, List, [], ◌∷◌, Option, Some, None, fold, length, slice_get, slice_set, take}
-use Rattle.fork_model.specs.Reply.{Reply}
 use Rattle.fork_model.specs.Steps.{IsWithin}
 use Rattle.fork_book.specs.Log.{core_of}
 use Rattle.fork_parts.specs.declared.cause.Cause.{Cause}
@@ -11,15 +10,15 @@ use Rattle.fork_parts.specs.Due.{Deed}
 use Rattle.fork_parts.specs.Sound.{IsSound}
 use Rattle.fork_parts.specs.Take as to
 use Rattle.fork_parts.specs.Take.{Recipient}
-use Rattle.fork_call.specs.Scheduled.{due_of, scheduled}
+use Rattle.fork_call.specs.Scheduled.{due_of, rows_in, scheduled}
 
--- from when on something is to be done on row n
-abbrev pub moment_at : Call → ℕ → Option ℕ
-moment_at call n = due_of (slice_get (rows_of call) n) (leg_at call n)
+-- from when on something is to be done on row n of a call
+abbrev pub row_moment : Call → ℕ → Option ℕ
+row_moment call n = due_of (slice_get (rows_of call) n) (leg_at call n)
 
 -- these rows are timed anew
 abbrev pub timed_at : Call → List (Option ℕ) → ℕ → List (Option ℕ)
-timed_at call moments n = slice_set moments n (moment_at call n)
+timed_at call moments n = slice_set moments n (row_moment call n)
 
 abbrev pub timed : Call → List ℕ → List (Option ℕ) → List (Option ℕ)
 timed call rows moments = fold (timed_at call) moments rows
@@ -57,11 +56,6 @@ row_of_cause cause.CancelOk = None
 abbrev pub row_list : Option ℕ → List ℕ
 row_list None = []
 row_list (Some n) = n ∷ []
-
--- those that a reply starts or cancels
-abbrev pub rows_in : Option Reply → List ℕ
-rows_in None = []
-rows_in (Some reply) = reply.started ++ reply.cancelled
 
 -- the step's own row, and what the event at this position starts or cancels, if one was posted there
 abbrev pub touched : Call → Option ℕ → (at : ℕ) → List ℕ

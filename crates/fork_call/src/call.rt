@@ -17,7 +17,10 @@ use crate::fault::TakeFault;
 use crate::schedule::{Schedule, is_due};
 use crate::timing::{schedule_of, time_step};
 use fork_book::Book;
-use fork_model::{events_make_progress, new_rows_are_contacts, positions_are_bounded};
+use fork_model::{
+    events_make_progress, new_rows_are_contacts, others_stay_open, positions_are_bounded,
+    replies_list_all_that_became,
+};
 use fork_parts::{Cause, Parts, Step, Taken, calls_stay_sound};
 use fork_routing::OpenFault;
 use fork_setup::Setup;
@@ -145,6 +148,8 @@ impl<A: Allocator + Clone> Call<A> {
         calls_stay_sound();
         positions_are_bounded();
         new_rows_are_contacts();
+        others_stay_open();
+        replies_list_all_that_became();
         let step = deed.perform(&mut self.parts, now)?;
         time_step(&mut self.schedule, &self.parts, deed.row(), at);
         Ok(step)
@@ -164,6 +169,8 @@ impl<A: Allocator + Clone> Call<A> {
         calls_stay_sound();
         positions_are_bounded();
         new_rows_are_contacts();
+        others_stay_open();
+        replies_list_all_that_became();
         self.parts.failed(cause, now)?;
         time_step(&mut self.schedule, &self.parts, row_of(cause), at);
         Ok(())

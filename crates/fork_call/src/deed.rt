@@ -7,7 +7,7 @@ ghost use Rattle.fork_parts.specs.Pump.{Does};
 ghost use Rattle.fork_parts.specs.SeenStep.{pumped};
 ghost use Rattle.fork_parts.specs.Sound.{IsSound};
 ghost use Rattle.fork_call.specs.SeenDeed.{seen_deed};
-ghost use Rattle.fork_call.specs.Timing.{moment_at, row_of_deed};
+ghost use Rattle.fork_call.specs.Timing.{row_moment, row_of_deed};
 
 use crate::schedule::is_due;
 use fork_parts::{Parts, Step};
@@ -54,7 +54,7 @@ impl Deed {
     /// What is to be done on row n, whose moment has come: what is owed before the timers, and the ends of waiting before
     /// the ticks.
     pub(crate) fn on_row<A: Allocator + Clone>(parts: &Parts<A>, n: u16, now: u64) -> Deed
-        requires due { is_due now (moment_at parts.now n) ≡ true }
+        requires due { is_due now (row_moment parts.now n) ≡ true }
         ensures { is_due_at parts.now now (seen_deed result) ≡ true }
     {
         if parts.owes_ack(n) {

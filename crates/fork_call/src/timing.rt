@@ -1,7 +1,7 @@
 //! From when on something is to be done on the rows of a call.
 ghost use Rattle.std.specs.Prelude.{◌≡◌, IfOk};
 ghost use Rattle.fork_call.specs.Scheduled.{if_runs, scheduled};
-ghost use Rattle.fork_call.specs.Timing.{moment_at, retimed, timed, timed_at};
+ghost use Rattle.fork_call.specs.Timing.{row_moment, retimed, timed, timed_at};
 
 use crate::schedule::{Schedule, earlier};
 use fork_parts::Parts;
@@ -15,8 +15,8 @@ fn if_runs(runs: bool, at: Option<u64>) -> Option<u64>
 }
 
 /// From when on something is to be done on row n: what is owed is to be done at any moment.
-fn moment_at<A: Allocator + Clone>(parts: &Parts<A>, n: u16) -> Option<u64>
-    ensures { result ≡ moment_at parts.now n }
+fn row_moment<A: Allocator + Clone>(parts: &Parts<A>, n: u16) -> Option<u64>
+    ensures { result ≡ row_moment parts.now n }
 {
     if !parts.is_sent(n) {
         return if_runs(parts.is_trying(n), Some(0));
@@ -44,7 +44,7 @@ pub(crate) fn schedule_of<A: Allocator + Clone>(
 {
     let mut schedule = Schedule::new(alloc);
     for n in 0..parts.book().context().count() {
-        schedule.push(moment_at(parts, n))?;
+        schedule.push(row_moment(parts, n))?;
     }
     Ok(schedule)
 }
@@ -53,7 +53,7 @@ pub(crate) fn schedule_of<A: Allocator + Clone>(
 fn time_row<A: Allocator + Clone>(schedule: &mut Schedule<A>, parts: &Parts<A>, n: u16)
     ensures { schedule.new ≡ timed_at parts.now schedule.old n }
 {
-    schedule.set(n, moment_at(parts, n));
+    schedule.set(n, row_moment(parts, n));
 }
 
 /// These rows are timed anew.

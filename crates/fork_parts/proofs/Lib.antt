@@ -19,3 +19,4 @@ pub mod StateRows
 pub mod Paying
 pub mod Deeds
 pub mod Beginning
+pub mod laws
