@@ -2,7 +2,7 @@
 use Rattle.std.proofs.Common.{◌≡◌, ◌∙◌, ◌⊎◌, ℕ, zero, suc, ◌+◌, ◌<◌, ◌≤◌, ap, refl, sym, subst, inl, inr, arith, List, [], ◌∷◌, ◌++◌, length, length-append, replicate, take, Option, Some, None, slice_get, slice_set}
 use Rattle.std.specs.Prelude.{false}
 use Rattle.std.proofs.lemmas.Bool.{cases_lt}
-use Rattle.std.proofs.lemmas.Option.{slice_get_within}
+use Rattle.std.proofs.lemmas.Option.{slice_get_past, slice_get_within}
 use Rattle.std.proofs.lemmas.List.{length-replicate}
 use Rattle.fork_model.specs.Core.{Core, core_next, core_offered, is_full}
 use Rattle.fork_model.specs.Event.{Event, row_named}
