@@ -3,3 +3,4 @@ pub mod Carrying
 pub mod LeastDue
 pub mod Retimed
 pub mod Moving
+pub mod Moved
