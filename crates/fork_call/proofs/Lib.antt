@@ -2,5 +2,6 @@ pub mod Idle
 pub mod Carrying
 pub mod LeastDue
 pub mod Retimed
-pub mod Moving
-pub mod Moved
+pub mod Touching
+pub mod Timed
+pub mod Leasts

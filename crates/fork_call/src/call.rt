@@ -1,6 +1,6 @@
 //! Calls.
-ghost use Rattle.std.specs.Prelude.{◌≡◌, ℕ, IfErr, IfOk, IsErrOf, OnErr, OnOk};
-ghost use Rattle.fork_parts.specs.Due.{IsLeastDue, IsOver};
+ghost use Rattle.std.specs.Prelude.{◌≡◌, ◌↔◌, ℕ, length, true, IfErr, IfNone, IfOk, IfSome, IsErrOf, IsTrue, OnErr, OnOk};
+ghost use Rattle.fork_parts.specs.Due.{IsIdle, IsLeastDue, IsOver, is_due_at};
 ghost use Rattle.fork_parts.specs.Failed.{Fails};
 ghost use Rattle.fork_parts.specs.Pump.{Pumps};
 ghost use Rattle.fork_parts.specs.SeenStep.{pumped};
@@ -8,12 +8,20 @@ ghost use Rattle.fork_parts.specs.SeenTaken.{seen_taken};
 ghost use Rattle.fork_parts.specs.Take as take;
 ghost use Rattle.fork_routing.specs.Matching.{BelongsToNone};
 ghost use Rattle.fork_routing.specs.Opening.{IsOpenable, Opens, Refuses};
+ghost use Rattle.fork_call.specs.SeenDeed.{seen_deed};
 ghost use Rattle.fork_call.specs.Takes.{Takes};
+ghost use Rattle.fork_call.specs.Timing.{row_of_cause};
 
+use crate::deed::Deed;
 use crate::fault::TakeFault;
-use crate::schedule::Schedule;
+use crate::schedule::{Schedule, is_due};
+use crate::timing::{schedule_of, time_step};
 use fork_book::Book;
-use fork_parts::{Cause, Parts, Step, Taken};
+use fork_model::{
+    events_make_progress, new_rows_are_contacts, others_stay_open, positions_are_bounded,
+    replies_list_all_that_became,
+};
+use fork_parts::{Cause, Parts, Step, Taken, calls_stay_sound};
 use fork_routing::OpenFault;
 use fork_setup::Setup;
 use fork_shelf::Numbered;
@@ -21,6 +29,16 @@ use sip_text::Message;
 use sip_uri::Hop;
 use std::alloc::{AllocError, Allocator, Global};
 use std::marker::Model;
+
+/// The row whose datagram could not be sent.
+fn row_of(cause: Cause) -> Option<u16>
+    ensures { result ≡ row_of_cause cause }
+{
+    match cause {
+        Cause::Request(n) | Cause::Cancel(n) | Cause::Ack(n) => Some(n),
+        Cause::Answer | Cause::CancelOk => None,
+    }
+}
 
 /// A forked request with its transactions: it takes messages and moments, and gives datagrams (RFC 3261 section 16).
 #[derive(Drop)]
@@ -30,16 +48,14 @@ pub struct Call<A: Allocator + Clone = Global> {
 }
 
 impl<A: Allocator + Clone> Model for Call<A> {
-    ghost use Rattle.std.specs.Prelude.{◌≡◌};
     ghost use Rattle.fork_parts.specs.Call as spec;
-    ghost use Rattle.fork_parts.specs.Sound.{IsSound};
-    ghost use Rattle.fork_call.specs.Scheduled.{scheduled};
+    ghost use Rattle.fork_call.specs.Timing.{IsTimed};
 
     ghost Value = { spec.Call };
 
     ghost view = { λ c. c.parts };
 
-    ghost invariant = { λ c. IsSound c.parts × (c.schedule ≡ scheduled c.parts) };
+    ghost invariant = { λ c. IsTimed c.parts c.schedule };
 }
 
 impl<A: Allocator + Clone> Call<A> {
@@ -62,7 +78,41 @@ impl<A: Allocator + Clone> Call<A> {
         ensures opened { IfOk result (Opens setup.now number request source) }
         ensures refused { IfErr result (Refuses setup.now request source) }
     {
-        Err(OpenFault::NoMemory)
+        calls_stay_sound();
+        let rest: Result<A, AllocError> = alloc.clone();
+        let parts = match fork_routing::open(alloc, setup, number, request, source, now) {
+            Ok(parts) => parts,
+            Err(fault) => return Err(fault),
+        };
+        let schedule = schedule_of(rest?, &parts)?;
+        Ok(Call { parts, schedule })
+    }
+
+    /// How many events were posted.
+    fn posted(&self) -> u32
+        ensures { result ≡ length self.now.log.history }
+    {
+        events_make_progress();
+        let _rows = self.parts.book().context().count();
+        self.parts.book().history().len() as u32
+    }
+
+    /// What is to be done next, if something is due: what is owed to the caller first, then the caller's transaction, then
+    /// the rows.
+    fn next_deed(&self, now: u64) -> Option<Deed>
+        ensures some { IfSome result (λ deed. is_due_at self.now now (seen_deed deed) ≡ true) }
+        ensures none { IfNone result (IsIdle self.now now) }
+    {
+        if !self.parts.owed().is_empty() {
+            return Some(Deed::SendAnswer);
+        }
+        if is_due(self.parts.server_due(), now) {
+            return Some(Deed::TickServer);
+        }
+        self.parts.is_sized();
+        let _rows = self.parts.book().context().count();
+        let n = self.schedule.first_due(now)?;
+        Some(Deed::on_row(&self.parts, n as u16, now))
     }
 
     /// Takes a message that came from `source`, by the one transaction that it belongs to (RFC 3261 sections 16.7, 17.1.3 and
@@ -90,7 +140,19 @@ impl<A: Allocator + Clone> Call<A> {
         ensures step { IfOk result (λ did. Pumps self.old now (pumped did) self.new) }
         ensures err { OnErr result (self.new ≡ self.old) }
     {
-        Err(AllocError)
+        let Some(deed) = self.next_deed(now) else {
+            return Ok(Step::Idle);
+        };
+        let at = self.posted();
+        self.parts.is_sized();
+        calls_stay_sound();
+        positions_are_bounded();
+        new_rows_are_contacts();
+        others_stay_open();
+        replies_list_all_that_became();
+        let step = deed.perform(&mut self.parts, now)?;
+        time_step(&mut self.schedule, &self.parts, deed.row(), at);
+        Ok(step)
     }
 
     /// Tells the transaction of a datagram that it could not be sent (RFC 3261 sections 16.9 and 17.1.4).
@@ -102,7 +164,16 @@ impl<A: Allocator + Clone> Call<A> {
         ensures step { OnOk result (Fails self.old now cause self.new) }
         ensures err { OnErr result (self.new ≡ self.old) }
     {
-        Err(AllocError)
+        let at = self.posted();
+        self.parts.is_sized();
+        calls_stay_sound();
+        positions_are_bounded();
+        new_rows_are_contacts();
+        others_stay_open();
+        replies_list_all_that_became();
+        self.parts.failed(cause, now)?;
+        time_step(&mut self.schedule, &self.parts, row_of(cause), at);
+        Ok(())
     }
 
     /// The events that were posted, and the context that they lead to.

@@ -3,9 +3,11 @@
 #![tactic(auto)]
 
 mod call;
+mod deed;
 mod fault;
 mod port;
 mod schedule;
+mod timing;
 
 pub use call::Call;
 pub use fault::TakeFault;
