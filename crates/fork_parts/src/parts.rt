@@ -205,7 +205,9 @@ impl<A: Allocator + Clone> Parts<A> {
     /// Shows that each row of the table has its way, and room for its part.
     pub fn is_sized(&self)
         ensures { IsSized self.now.log self.now.ways self.now.legs }
-    {}
+    {
+        let _ways = &self.ways;
+    }
 
     /// Where branch n is, if there is one.
     pub(crate) fn state(&self, n: u16) -> Option<State>
