@@ -2,6 +2,7 @@ pub mod Idle
 pub mod Carrying
 pub mod LeastDue
 pub mod Retimed
-pub mod Moving
 pub mod Touching
 pub mod Timed
+pub mod Leasts
+pub mod Stepping

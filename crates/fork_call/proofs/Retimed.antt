@@ -1,7 +1,6 @@
 -- A row's moment changes by its part, and by the events that name, start or cancel it: nothing else changes it.
-use Rattle.std.proofs.Common.{◌≡◌, ◌∙◌, ◌⊎◌, ℕ, zero, suc, ◌<◌, ◌≤◌, inl, inr, ap, refl, sym, subst, arith, true, false, Bool, List, [], ◌∷◌, ◌++◌, map, length, Option, Some, None, slice_get, slice_set}
+use Rattle.std.proofs.Common.{◌≡◌, ◌∙◌, ℕ, zero, suc, inl, inr, ap, refl, sym, subst, true, false, Bool, List, [], ◌∷◌, ◌++◌, map, length, Option, Some, None, slice_get}
 use Rattle.std.specs.Prelude.{◌&&◌, not}
-use Rattle.std.proofs.lemmas.Bool.{cases_lt}
 use Rattle.fork_model.specs.Table.{State, Idle, Trying, Rung, Ended, Row, Table, is_row, is_trying, is_cancelled}
 use Rattle.fork_model.specs.Event.{Event, row_named}
 use Rattle.fork_model.specs.OpenBranches.{IsLeftAt, OthersAreLeft}
@@ -12,7 +11,7 @@ use Rattle.fork_book.specs.Log.{added, table_of}
 use Rattle.sip_text.specs.Text.{MessageText}
 use Rattle.sip_uri.specs.Contact.{ContactText}
 use Rattle.fork_parts.specs.Leg.{Leg}
-use Rattle.fork_parts.specs.Call.{Call, found, leg_at, rows_of, runs_timer_c, set_leg, with_leg}
+use Rattle.fork_parts.specs.Call.{Call, found, leg_at, rows_of, runs_timer_c}
 use Rattle.fork_parts.specs.Posting.{Posts, call_tag, no_leg, rows_more}
 use Rattle.fork_parts.proofs.laws.Logs.{table_added}
 use Rattle.fork_call.specs.Scheduled.{IsTimedBut, due_of, if_runs, row_due, moment_at, moments_of, scheduled}
@@ -70,13 +69,6 @@ leg_past (row ∷ rows) [] n e none = absurd cc
 leg_past (row ∷ rows) (leg ∷ legs) zero e none = absurd cc
 leg_past (row ∷ rows) (leg ∷ legs) (suc n) e none = leg_past rows legs n (let h : length legs ≡ length rows = cc in h) none
 
-leg_beside : (legs : List (Option Leg)) (n m : ℕ) (leg : Leg) → (m ≡ n → ⊥) → found (slice_get (with_leg legs n leg) m) ≡ found (slice_get legs m)
-leg_beside [] n m leg apart = refl
-leg_beside (l ∷ legs) zero zero leg apart = absurd (apart refl)
-leg_beside (l ∷ legs) zero (suc m) leg apart = refl
-leg_beside (l ∷ legs) (suc n) zero leg apart = refl
-leg_beside (l ∷ legs) (suc n) (suc m) leg apart = leg_beside legs n m leg (λ e. apart (ap suc e))
-
 number_first : (rows more : List ℕ) (n : ℕ) → IsNumberIn rows n → IsNumberIn (rows ++ more) n
 number_first [] more n (place, h) = absurd cc
 number_first (row ∷ rows) more n (zero, h) = (zero, h)
@@ -100,94 +92,10 @@ timed_at_once call sized = record {
     found_moment None = refl
     found_moment (Some at) = refl
 
--- row n was timed
-moment_here : (moments : List (Option ℕ)) (n : ℕ) (m : Option ℕ) → (n < length moments) ⊎ (m ≡ None) → moment_at (slice_set moments n m) n ≡ m
-moment_here [] n m (inl lt) = absurd (omega arith)
-moment_here [] n m (inr e) = sym e
-moment_here (x ∷ moments) zero None h = refl
-moment_here (x ∷ moments) zero (Some at) h = refl
-moment_here (x ∷ moments) (suc n) m (inl lt) = moment_here moments n m (inl (omega arith))
-moment_here (x ∷ moments) (suc n) m (inr e) = moment_here moments n m (inr e)
-
-moment_beside : (moments : List (Option ℕ)) (n k : ℕ) (m : Option ℕ) → (k ≡ n → ⊥) → moment_at (slice_set moments n m) k ≡ moment_at moments k
-moment_beside [] n k m apart = refl
-moment_beside (x ∷ moments) zero zero m apart = absurd (apart refl)
-moment_beside (x ∷ moments) zero (suc k) m apart = refl
-moment_beside (x ∷ moments) (suc n) zero m apart = refl
-moment_beside (x ∷ moments) (suc n) (suc k) m apart = moment_beside moments n k m (λ e. apart (ap suc e))
-
-same_number : (n k : ℕ) → (n ≡ k) ⊎ (n ≡ k → ⊥)
-same_number n k = elim (cases_lt n k) [
-  | inl h ↦ inr (λ e. omega arith)
-  | inr h ↦ elim (cases_lt k n) [ inl j ↦ inr (λ e. omega arith) | inr j ↦ inl (omega arith) ]
-]
-
-row_past : (rows : List Row) (legs : List (Option Leg)) (n : ℕ) → length legs ≡ length rows → length rows ≤ n → due_of (slice_get rows n) (found (slice_get legs n)) ≡ None
-row_past [] [] n e le = refl
-row_past [] (leg ∷ legs) n e le = absurd cc
-row_past (row ∷ rows) [] n e le = absurd cc
-row_past (row ∷ rows) (leg ∷ legs) zero e le = absurd (omega arith)
-row_past (row ∷ rows) (leg ∷ legs) (suc n) e le = row_past rows legs n (let h : length legs ≡ length rows = cc in h) (omega arith)
-
-not_first : (n k : ℕ) (rows : List ℕ) → (k ≡ n → ⊥) → (IsNumberIn rows k → ⊥) → IsNumberIn (n ∷ rows) k → ⊥
-not_first n k rows apart free (zero, h) = apart (let e : n ≡ k = cc in sym e)
-not_first n k rows apart free (suc place, h) = free (place, h)
-
-timed_by : (call : Call) (n : ℕ) (m : Option ℕ) (rows : List ℕ) (moments : List (Option ℕ)) → m ≡ due_of (slice_get (rows_of call) n) (leg_at call n)
-    → (n < length moments) ⊎ (m ≡ None) → IsTimedBut call (n ∷ rows) moments
-    → (k : ℕ) → (IsNumberIn rows k → ⊥) → (k ≡ n) ⊎ (k ≡ n → ⊥) → moment_at (slice_set moments n m) k ≡ due_of (slice_get (rows_of call) k) (leg_at call k)
-timed_by call n m rows moments e there is k free (inl same) =
-    let P : ℕ → Type 0 = λ x. moment_at (slice_set moments n m) x ≡ due_of (slice_get (rows_of call) x) (leg_at call x) in
-    subst P (sym same) (moment_here moments n m there ∙ e)
-timed_by call n m rows moments e there is k free (inr apart) = moment_beside moments n k m apart ∙ is.timed k (not_first n k rows apart free)
-
-pub timed_one : (call : Call) (n : ℕ) (rows : List ℕ) (moments : List (Option ℕ)) → length call.legs ≡ length (rows_of call) → length moments ≡ length (rows_of call)
-    → IsTimedBut call (n ∷ rows) moments → IsTimedBut call rows (slice_set moments n (due_of (slice_get (rows_of call) n) (leg_at call n)))
-timed_one call n rows moments sized long is =
-    let m : Option ℕ = due_of (slice_get (rows_of call) n) (leg_at call n) in
-    let there : (n < length moments) ⊎ (m ≡ None) =
-    elim (cases_lt n (length moments)) [ inl h ↦ inl h | inr h ↦ inr (row_past (rows_of call) call.legs n sized (omega arith)) ] in
-    record { timed = λ k free. timed_by call n m rows moments refl there is k free (same_number k n) }
-
--- all were timed
-same_moments : (a b : List (Option ℕ)) → length a ≡ length b → ((n : ℕ) → moment_at a n ≡ moment_at b n) → a ≡ b
-same_moments [] [] e h = refl
-same_moments [] (y ∷ b) e h = absurd cc
-same_moments (x ∷ a) [] e h = absurd cc
-same_moments (x ∷ a) (y ∷ b) e h =
-    let here : x ≡ y = sym (found_moment x) ∙ h zero ∙ found_moment y in
-    let rest : a ≡ b = same_moments a b (let l : length a ≡ length b = cc in l) (λ n. h (suc n)) in
-    cc
-  where
-    found_moment : (m : Option ℕ) → found (Some m) ≡ m
-    found_moment None = refl
-    found_moment (Some at) = refl
-
 pub length_moments : (rows : List Row) (legs : List (Option Leg)) → length (moments_of rows legs) ≡ length rows
 length_moments [] legs = refl
 length_moments (row ∷ rows) [] = ap suc (length_moments rows [])
 length_moments (row ∷ rows) (leg ∷ legs) = ap suc (length_moments rows legs)
-
-pub all_timed : (call : Call) (moments : List (Option ℕ)) → length call.legs ≡ length (rows_of call) → length moments ≡ length (rows_of call) → IsTimedBut call [] moments
-    → moments ≡ scheduled call
-all_timed call moments sized long is =
-    let first = timed_at_once call sized in
-    let free : (n : ℕ) → IsNumberIn [] n → ⊥ = none_in in
-    same_moments moments (scheduled call) (long ∙ sym (length_moments (rows_of call) call.legs)) (λ n. is.timed n (free n) ∙ sym (first.timed n (free n)))
-  where
-    none_in : (n : ℕ) → IsNumberIn [] n → ⊥
-    none_in n (place, h) = absurd cc
-
--- ---- what a step leaves
-
--- another part for branch n
-pub part_timed : (call : Call) (n : ℕ) (leg : Leg) (rows : List ℕ) (moments : List (Option ℕ)) → IsTimedBut call rows moments → IsTimedBut (set_leg call n leg) (n ∷ rows) moments
-part_timed call n leg rows moments is = record {
-  timed = λ k free.
-      let beside : found (slice_get (with_leg call.legs n leg) k) ≡ found (slice_get call.legs k) = leg_beside call.legs n k leg (λ e. free (zero, ap (λ (x : ℕ). Some x) (sym e))) in
-      let before = is.timed k (λ h. free (suc h.0, h.1)) in
-      before ∙ ap (λ (l : Option Leg). due_of (slice_get (rows_of call) k) l) (sym beside);
-}
 
 -- ---- an event that is posted
 

@@ -1,9 +1,9 @@
 -- How a call knows at once whether something is due: a moment for each row, and the least of them.
-use Rattle.std.specs.Prelude.{ℕ, ◌&&◌, Bool, true, false, ◌≡◌, List, [], ◌∷◌, ◌++◌, length, Option, Some, None, is_none, fold, slice_get, if◌then◌else◌}
+use Rattle.std.specs.Prelude.{ℕ, ◌&&◌, Bool, true, false, ◌≡◌, List, [], ◌∷◌, ◌++◌, Option, Some, None, is_none, fold, slice_get, if◌then◌else◌}
 use Rattle.fork_model.specs.Table.{Row, is_row, is_trying, is_cancelled}
 use Rattle.fork_model.specs.Reply.{Reply}
 use Rattle.fork_model.specs.Sources.{IsNumberIn}
-use Rattle.sip_txn.specs.Timers.{earlier}
+use Rattle.sip_txn.specs.Timers.{earlier, is_due}
 use Rattle.fork_parts.specs.Client as client
 use Rattle.fork_parts.specs.Leg.{Leg}
 use Rattle.fork_parts.specs.Call.{Call, found, leg_at, rows_of, runs_timer_c, give_up_of, owes_ack_on}
@@ -60,9 +60,6 @@ abbrev pub rows_in : Option Reply → List ℕ
 rows_in None = []
 rows_in (Some reply) = reply.started ++ reply.cancelled
 
--- what one step did at these rows: it posted one event at most, and no moment changed but theirs and those of the rows
--- that the reply names
-pub record MovesOn (old : Call) (rows : List ℕ) (new : Call) : Type 0 where
-  pub posted : Option Reply
-  pub reply_is : slice_get new.log.replies (length old.log.replies) ≡ posted
-  pub others : IsTimedBut new (rows ++ rows_in posted) (scheduled old)
+-- the moment at this place has come
+abbrev pub IsDueAt : List (Option ℕ) → (now n : ℕ) → Type 0
+IsDueAt moments now n = (moment : Option ℕ) × (slice_get moments n ≡ Some moment) × (is_due now moment ≡ true)
