@@ -18,7 +18,7 @@ ghost use Rattle.fork_parts.specs.Datagrams.{ack_owed};
 ghost use Rattle.fork_parts.specs.Due.{FireTimerC, is_due_at};
 ghost use Rattle.fork_parts.specs.Fixed as fixed;
 ghost use Rattle.fork_parts.specs.LegInside.{ack_made, answer_if, cancel_on, cancelled, changed_leg, kept, no_legs, responded, without_ack};
-ghost use Rattle.fork_parts.specs.PartsInside.{IsCancelAgain, IsRequestAgain, answer_to};
+ghost use Rattle.fork_parts.specs.PartsInside.{IsCancelAgain, IsRequestAgain, IsSized, answer_to};
 ghost use Rattle.fork_parts.specs.Plain.{AddsNoRow, PostsAt, PostsBare};
 ghost use Rattle.fork_parts.specs.Pump as pump;
 ghost use Rattle.fork_parts.specs.Pump.{AnswersWith, FiresTimerC, GivesUp, OnLeg, OnPart, SendsAck, SendsCancel, SendsRequest, TicksCancel, TicksClient, TicksServer};
@@ -195,6 +195,20 @@ impl<A: Allocator + Clone> Parts<A> {
         ensures { result.now ≡ self.now.server.owed }
     {
         &self.owed
+    }
+
+    /// The server transaction.
+    pub(crate) fn served(&self) -> &Served
+        ensures { result.now ≡ self.now.server.machine }
+    {
+        &self.served
+    }
+
+    /// Shows that each row of the table has its way, and room for its part.
+    pub fn is_sized(&self)
+        ensures { IsSized self.now.log self.now.ways self.now.legs }
+    {
+        let _ways = &self.ways;
     }
 
     /// Where branch n is, if there is one.

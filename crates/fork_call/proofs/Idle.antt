@@ -1,0 +1,105 @@
+use Rattle.std.proofs.Common.{◌≡◌, ℕ, ◌<◌, refl, arith, true, false, Bool, [], Option, Some, None, slice_get}
+use Rattle.std.proofs.lemmas.Bool.{leb-false, lt-leb}
+use Rattle.std.proofs.Math.Dec.{leb-zero}
+use Rattle.std.specs.Prelude.{nat_le, ◌&&◌, is_none, min, cond}
+use Rattle.fork_model.specs.Table.{is_row, is_trying, is_cancelled}
+use Rattle.sip_txn.specs.Timers.{earlier, is_due}
+use Rattle.fork_parts.specs.Client as client
+use Rattle.fork_parts.specs.Leg.{Leg}
+use Rattle.fork_parts.specs.Server as server
+use Rattle.fork_parts.specs.Call.{Call, rows_of, leg_at, lacks_cancel, owes_ack_on, runs_timer_c, give_up_of}
+use Rattle.fork_parts.specs.Due.{SendRequest, SendCancel, SendAck, SendAnswer, TickServer, TickClient, TickCancel, FireTimerC, GiveUp, IsIdle, client_at, cancel_at, timer_c_at, give_up_at, cancel_client_due}
+use Rattle.fork_call.specs.Scheduled.{if_runs, leg_waits, row_due, due_of}
+
+-- ---- the earlier of two moments
+
+pub both_later : (now : ℕ) (a b : Option ℕ) → is_due now (earlier a b) ≡ false → (is_due now a ≡ false) × (is_due now b ≡ false)
+both_later now None b e = (refl, e)
+both_later now (Some a) None e = (e, refl)
+both_later now (Some a) (Some b) e =
+    let later : now < min a b = leb-false (min a b) now e in
+    let first : now < a = omega arith in
+    let second : now < b = omega arith in
+    (lt-leb a now first, lt-leb b now second)
+
+-- ---- one row
+
+-- what is known where nothing is due on a row with this part
+record Quiet (now : ℕ) (trying cancelled runs_c : Bool) (leg : Option Leg) : Type 0 where
+  request : (trying && is_none leg) ≡ false
+  cancel : (cancelled && lacks_cancel leg) ≡ false
+  ack : owes_ack_on leg ≡ false
+  client : is_due now (client_at leg) ≡ false
+  cancelling : is_due now (cancel_at leg) ≡ false
+  timer_c : (runs_c && is_due now (timer_c_at leg)) ≡ false
+  give_up : (cancelled && is_due now (give_up_at leg)) ≡ false
+
+and_false : (b : Bool) → (b && false) ≡ false
+and_false true = refl
+and_false false = refl
+
+quiet_none : (now : ℕ) (trying cancelled runs_c : Bool) → is_due now (row_due trying cancelled runs_c None) ≡ false → Quiet now trying cancelled runs_c None
+quiet_none now true cancelled runs_c e = absurd (let h : nat_le 0 now ≡ true = leb-zero now in cc)
+quiet_none now false cancelled runs_c e = record {
+  request = refl;
+  cancel = and_false cancelled;
+  ack = refl;
+  client = refl;
+  cancelling = refl;
+  timer_c = and_false runs_c;
+  give_up = and_false cancelled;
+}
+
+run_later : (now : ℕ) (b : Bool) (at : Option ℕ) → is_due now (if_runs b at) ≡ false → (b && is_due now at) ≡ false
+run_later now true at e = e
+run_later now false at e = refl
+
+-- where no part of it is due
+quiet_waits : (now : ℕ) (trying cancelled runs_c : Bool) (leg : Leg) → owes_ack_on (Some leg) ≡ false → (cancelled && is_none leg.cancelling) ≡ false
+    → is_due now (leg_waits cancelled runs_c leg) ≡ false → Quiet now trying cancelled runs_c (Some leg)
+quiet_waits now trying cancelled runs_c leg no_ack no_cancel e =
+    let a = both_later now (client.client_due leg.client) _ e in
+    let b = both_later now (cancel_client_due leg.cancelling) _ a.1 in
+    let c = both_later now (if_runs runs_c leg.timer_c_at) _ b.1 in
+    record {
+      request = and_false trying;
+      cancel = no_cancel;
+      ack = no_ack;
+      client = a.0;
+      cancelling = b.0;
+      timer_c = run_later now runs_c leg.timer_c_at c.0;
+      give_up = run_later now cancelled (give_up_of leg.cancelling) c.1;
+    }
+
+by_tests : (now : ℕ) (x y : Bool) (w : Option ℕ) → is_due now (cond {A = Option ℕ} x (Some 0) (cond {A = Option ℕ} y (Some 0) w)) ≡ false → (x ≡ false) × (y ≡ false) × (is_due now w ≡ false)
+by_tests now true y w e = absurd (let h : nat_le 0 now ≡ true = leb-zero now in cc)
+by_tests now false true w e = absurd (let h : nat_le 0 now ≡ true = leb-zero now in cc)
+by_tests now false false w e = (refl, refl, e)
+
+quiet : (now : ℕ) (trying cancelled runs_c : Bool) (leg : Option Leg) → is_due now (row_due trying cancelled runs_c leg) ≡ false → Quiet now trying cancelled runs_c leg
+quiet now trying cancelled runs_c None e = quiet_none now trying cancelled runs_c e
+quiet now trying cancelled runs_c (Some leg) e =
+    let t = by_tests now (owes_ack_on (Some leg)) (cancelled && is_none leg.cancelling) (leg_waits cancelled runs_c leg) e in
+    quiet_waits now trying cancelled runs_c leg t.0 t.1 t.2
+
+-- ---- the whole call
+
+-- where nothing is owed to the caller, and no moment of the caller's transaction or of a row has come, nothing is due
+pub idle : (call : Call) (now : ℕ) → call.server.owed ≡ [] → is_due now (server.served_due call.server.machine) ≡ false
+    → ((n : ℕ) → is_due now (due_of (slice_get (rows_of call) n) (leg_at call n)) ≡ false)
+    → IsIdle call now
+idle call now none served rows = by_deed
+  where
+    at : (n : ℕ) → Quiet now (is_row is_trying (slice_get (rows_of call) n)) (is_row is_cancelled (slice_get (rows_of call) n)) (is_row runs_timer_c (slice_get (rows_of call) n)) (leg_at call n)
+    at n = quiet now _ _ _ (leg_at call n) (rows n)
+
+    by_deed : IsIdle call now
+    by_deed (SendRequest n) = (at n).request
+    by_deed (SendCancel n) = (at n).cancel
+    by_deed (SendAck n) = (at n).ack
+    by_deed SendAnswer = rw none refl
+    by_deed TickServer = served
+    by_deed (TickClient n) = (at n).client
+    by_deed (TickCancel n) = (at n).cancelling
+    by_deed (FireTimerC n) = (at n).timer_c
+    by_deed (GiveUp n) = (at n).give_up

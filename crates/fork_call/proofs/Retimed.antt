@@ -1,0 +1,161 @@
+-- A row's moment changes by its part, and by the events that name, start or cancel it: nothing else changes it.
+use Rattle.std.proofs.Common.{◌≡◌, ◌∙◌, ℕ, zero, suc, inl, inr, ap, refl, sym, subst, true, false, Bool, List, [], ◌∷◌, ◌++◌, map, length, Option, Some, None, slice_get}
+use Rattle.std.specs.Prelude.{◌&&◌, not}
+use Rattle.fork_model.specs.Table.{State, Idle, Trying, Rung, Ended, Row, Table, is_row, is_trying, is_cancelled}
+use Rattle.fork_model.specs.Event.{Event, row_named}
+use Rattle.fork_model.specs.OpenBranches.{IsLeftAt, OthersAreLeft}
+use Rattle.fork_model.specs.Reply.{Reply, became, has_become}
+use Rattle.fork_model.specs.Sources.{BecameIsExact, IsNumberIn}
+use Rattle.fork_model.specs.Step.{next}
+use Rattle.fork_book.specs.Log.{added, table_of}
+use Rattle.sip_text.specs.Text.{MessageText}
+use Rattle.sip_uri.specs.Contact.{ContactText}
+use Rattle.fork_parts.specs.Leg.{Leg}
+use Rattle.fork_parts.specs.Call.{Call, found, leg_at, rows_of, runs_timer_c}
+use Rattle.fork_parts.specs.Posting.{Posts, call_tag, no_leg, rows_more}
+use Rattle.fork_parts.proofs.laws.Logs.{table_added}
+use Rattle.fork_call.specs.Scheduled.{IsTimedBut, due_of, if_runs, row_due, moment_at, moments_of, scheduled}
+use Rattle.fork_call.proofs.LeastDue as due
+
+-- ---- a branch that an event does not name
+
+not_new : (b : Bool) → (true && not b) ≡ false → true ≡ b
+not_new true e = refl
+not_new false e = absurd cc
+
+-- where it is not started and not cancelled, the timers that its moment rests on run as before
+record RunsAs (old new : State) : Type 0 where
+  trying : is_trying new ≡ is_trying old
+  cancelled : is_cancelled new ≡ is_cancelled old
+  timer_c : runs_timer_c new ≡ runs_timer_c old
+
+same_state : (old new : State) → new ≡ old → RunsAs old new
+same_state old new e = record { trying = ap is_trying e; cancelled = ap is_cancelled e; timer_c = ap runs_timer_c e }
+
+left_so : (t : Table) (old new : State) → IsLeftAt t old new → (is_trying new && not (is_trying old)) ≡ false → (is_cancelled new && not (is_cancelled old)) ≡ false → RunsAs old new
+left_so t Idle new left started cancelled = elim left [
+  | inl e ↦ same_state Idle new e
+  | inr h ↦ elim h [
+    | inl e ↦ absurd (let P : State → Type 0 = λ s. (is_trying s && true) ≡ false in let x = subst P e.0 started in cc)
+    | inr e ↦ record { trying = ap is_trying e.0; cancelled = ap is_cancelled e.0; timer_c = ap runs_timer_c e.0 }
+  ]
+]
+left_so t Trying new left started cancelled = same_state Trying new left
+left_so t (Rung true) new left started cancelled = elim left [
+  | inl e ↦ same_state (Rung true) new e
+  | inr e ↦ same_state (Rung true) new e.0
+]
+left_so t (Rung false) new left started cancelled = elim left [
+  | inl e ↦ same_state (Rung false) new e
+  | inr e ↦ absurd (let P : State → Type 0 = λ s. (is_cancelled s && true) ≡ false in let x = subst P e.0 cancelled in cc)
+]
+left_so t (Ended end) new left started cancelled = same_state (Ended end) new left
+
+-- ---- lists
+
+-- more branches whose requests were not sent
+leg_more : (legs : List (Option Leg)) (rows : List Row) (n : ℕ) → found (slice_get (legs ++ map no_leg rows) n) ≡ found (slice_get legs n)
+leg_more [] [] n = refl
+leg_more [] (row ∷ rows) zero = refl
+leg_more [] (row ∷ rows) (suc n) = leg_more [] rows n
+leg_more (leg ∷ legs) rows zero = refl
+leg_more (leg ∷ legs) rows (suc n) = leg_more legs rows n
+
+-- no part is there where no row is
+leg_past : (rows : List Row) (legs : List (Option Leg)) (n : ℕ) → length legs ≡ length rows → slice_get rows n ≡ None → found (slice_get legs n) ≡ None
+leg_past [] [] n e none = refl
+leg_past [] (leg ∷ legs) n e none = absurd cc
+leg_past (row ∷ rows) [] n e none = absurd cc
+leg_past (row ∷ rows) (leg ∷ legs) zero e none = absurd cc
+leg_past (row ∷ rows) (leg ∷ legs) (suc n) e none = leg_past rows legs n (let h : length legs ≡ length rows = cc in h) none
+
+number_first : (rows more : List ℕ) (n : ℕ) → IsNumberIn rows n → IsNumberIn (rows ++ more) n
+number_first [] more n (place, h) = absurd cc
+number_first (row ∷ rows) more n (zero, h) = (zero, h)
+number_first (row ∷ rows) more n (suc place, h) = let rest = number_first rows more n (place, h) in (suc rest.0, rest.1)
+
+number_second : (rows more : List ℕ) (n : ℕ) → IsNumberIn more n → IsNumberIn (rows ++ more) n
+number_second [] more n h = h
+number_second (row ∷ rows) more n h = let rest = number_second rows more n h in (suc rest.0, rest.1)
+
+-- ---- which rows are still to be timed
+
+pub timed_at_once : (call : Call) → length call.legs ≡ length (rows_of call) → IsTimedBut call [] (scheduled call)
+timed_at_once call sized = record {
+  timed = λ n free. elim (due.moment_stands (rows_of call) call.legs n sized) [
+    | inl h ↦ ap found h ∙ found_moment (due_of (slice_get (rows_of call) n) (leg_at call n))
+    | inr h ↦ ap found h.0 ∙ sym h.1
+  ];
+}
+  where
+    found_moment : (m : Option ℕ) → found (Some m) ≡ m
+    found_moment None = refl
+    found_moment (Some at) = refl
+
+pub length_moments : (rows : List Row) (legs : List (Option Leg)) → length (moments_of rows legs) ≡ length rows
+length_moments [] legs = refl
+length_moments (row ∷ rows) [] = ap suc (length_moments rows [])
+length_moments (row ∷ rows) (leg ∷ legs) = ap suc (length_moments rows legs)
+
+-- ---- an event that is posted
+
+no_start : (b : Bool) → (b && true) ≡ false → if_runs b (Some 0) ≡ None
+no_start true e = absurd cc
+no_start false e = refl
+
+not_become : (test : State → Bool) (old new : List Row) (n : ℕ) → BecameIsExact → (IsNumberIn (became test old new) n → ⊥) → has_become test old new n ≡ false
+not_become test old new n exact free = false_by (has_become test old new n) (λ h. free ((exact test old new n).1 h))
+  where
+    false_by : (b : Bool) → (b ≡ true → ⊥) → b ≡ false
+    false_by true h = absurd (h refl)
+    false_by false h = refl
+
+runs_so : (old new : Row) (leg : Option Leg) → RunsAs old.state new.state → due_of (Some new) leg ≡ due_of (Some old) leg
+runs_so old new leg is =
+    ap (λ (b : Bool). row_due b (is_cancelled new.state) (runs_timer_c new.state) leg) is.trying
+    ∙ ap (λ (b : Bool). row_due (is_trying old.state) b (runs_timer_c new.state) leg) is.cancelled
+    ∙ ap (λ (b : Bool). row_due (is_trying old.state) (is_cancelled old.state) b leg) is.timer_c
+
+row_stays : OthersAreLeft → (t : Table) (event : Event) (at n : ℕ) (leg : Option Leg) (old new : Option Row)
+    → slice_get t.rows n ≡ old → slice_get (next t event at).rows n ≡ new
+    → (row_named event ≡ Some n → ⊥)
+    → (is_row is_trying new && not (is_row is_trying old)) ≡ false
+    → (is_row is_cancelled new && not (is_row is_cancelled old)) ≡ false
+    → (old ≡ None → leg ≡ None)
+    → due_of new leg ≡ due_of old leg
+row_stays left t event at n leg None None before after other started cancelled none = refl
+row_stays left t event at n leg None (Some row) before after other started cancelled none =
+    rw (none refl) (no_start (is_trying row.state) started)
+row_stays left t event at n leg (Some old) new before after other started cancelled none =
+    let stands = left t event at n old other before in
+    let same : new ≡ Some stands.0 = sym after ∙ stands.1 in
+    let P : Option Row → Type 0 = λ r. (is_row is_trying r && not (is_trying old.state)) ≡ false in
+    let Q : Option Row → Type 0 = λ r. (is_row is_cancelled r && not (is_cancelled old.state)) ≡ false in
+    let runs = left_so (next t event at) old.state (stands.0).state stands.2 (subst P same started) (subst Q same cancelled) in
+    ap (λ (r : Option Row). due_of r leg) same ∙ runs_so old stands.0 leg runs
+
+module _ (left : OthersAreLeft) (exact : BecameIsExact) where
+  pub posts_timed : (call new : Call) (event : Event) (contacts : List ContactText) (response : Option MessageText) (reply : Reply) (rows : List ℕ) (moments : List (Option ℕ))
+      → length call.legs ≡ length (rows_of call)
+      → Posts call event contacts response reply new
+      → ((n : ℕ) → row_named event ≡ Some n → IsNumberIn rows n)
+      → IsTimedBut call rows moments
+      → IsTimedBut new (rows ++ (reply.started ++ reply.cancelled)) moments
+  posts_timed call new event contacts response reply rows moments sized posts named is = record { timed = λ n free. at n free }
+    where
+      at : (n : ℕ) → (IsNumberIn (rows ++ (reply.started ++ reply.cancelled)) n → ⊥) → moment_at moments n ≡ due_of (slice_get (rows_of new) n) (leg_at new n)
+      at n free =
+          let log = added call.log call_tag event reply in
+          let t = table_of call.log in
+          let u = next t event (length call.log.history) in
+          let rows_are : rows_of new ≡ u.rows = ap (λ (x : Call). rows_of x) posts.follows ∙ ap (λ (x : Table). x.rows) (table_added call.log call_tag event reply) in
+          let leg_is : leg_at new n ≡ leg_at call n = ap (λ (x : Call). leg_at x n) posts.follows ∙ leg_more call.legs (rows_more call.log log) n in
+          let P : List ℕ → Type 0 = λ ns. IsNumberIn ns n in
+          let started = not_become is_trying t.rows u.rows n exact (λ h. free (number_second rows (reply.started ++ reply.cancelled) n (number_first reply.started reply.cancelled n (subst P (sym posts.reply_is.started) h)))) in
+          let cancelled = not_become is_cancelled t.rows u.rows n exact (λ h. free (number_second rows (reply.started ++ reply.cancelled) n (number_second reply.started reply.cancelled n (subst P (sym posts.reply_is.cancelled) h)))) in
+          let stays = row_stays left t event (length call.log.history) n (leg_at call n) (slice_get t.rows n) (slice_get u.rows n) refl refl
+          (λ e. free (number_first rows (reply.started ++ reply.cancelled) n (named n e))) started cancelled (leg_past t.rows call.legs n sized) in
+          let before = is.timed n (λ h. free (number_first rows (reply.started ++ reply.cancelled) n h)) in
+          before ∙ sym stays
+          ∙ ap (λ (rs : List Row). due_of (slice_get rs n) (leg_at call n)) (sym rows_are)
+          ∙ ap (λ (l : Option Leg). due_of (slice_get (rows_of new) n) l) (sym leg_is)

@@ -1,0 +1,291 @@
+-- What a step touches: the part of its own row, and, where it posts an event, the rows of that.
+use Rattle.std.proofs.Common.{◌≡◌, ◌∙◌, ◌⊎◌, ℕ, zero, suc, ap, refl, sym, inl, inr, true, false, Bool, List, [], ◌∷◌, length, map, Option, Some, None, slice_get}
+use Rattle.std.specs.Prelude.{cond, nat_lt}
+use Rattle.fork_model.specs.Event as fork
+use Rattle.fork_model.specs.Event.{Event, FinalAnswer, row_named}
+use Rattle.fork_model.specs.Reply.{Reply}
+use Rattle.fork_model.specs.Sources.{offers_of}
+use Rattle.sip_text.specs.Text.{MessageText}
+use Rattle.sip_uri.specs.Contact.{ContactText}
+use Rattle.sip_uri.specs.declared.hop.Hop.{Hop}
+use Rattle.fork_parts.specs.declared.cause.Cause.{Cause}
+use Rattle.fork_parts.specs.declared.cause.Cause.TheVariants as cause
+use Rattle.fork_parts.specs.Built.{answer_of, status_of}
+use Rattle.fork_parts.specs.Call.{Call, found, leg_at, set_leg, with_leg}
+use Rattle.fork_parts.specs.Due as due
+use Rattle.fork_parts.specs.Due.{Deed}
+use Rattle.fork_parts.specs.Failed.{Fails, FaultsBy, FaultsClient, cancel_faulted, faulted, faulted_cancel}
+use Rattle.fork_parts.specs.Leg.{Leg}
+use Rattle.fork_parts.specs.Fixed.{Way}
+use Rattle.fork_parts.specs.Posting.{Posts}
+use Rattle.fork_parts.specs.Pump.{AnswersBy, AnswersWith, Did, Does, FiresTimerC, Idle, Pumped, Pumps, Send, SendsAnswer, TicksClientBy, sent_if, stopped, ticked}
+use Rattle.fork_parts.specs.Response.{challenges_by, contacts_by, event_by, is_redirection, offer_of}
+use Rattle.fork_parts.specs.Server.{Again, CancelOk, Final, Owed, Passed, Server, Trying, answer_event, served_after, served_out}
+use Rattle.fork_parts.specs.Take as to
+use Rattle.fork_parts.specs.Take.{CancelledBy, Recipient, Responds, Taken, TakesAs, going_up, leg_after, leg_posted, owes_cancel_ok}
+use Rattle.fork_call.specs.Timing.{row_of_cause, row_of_deed, row_of_recipient}
+
+-- the log is the same, and the parts of all rows but this one
+pub record IsBeside (call mid : Call) (row : Option ℕ) : Type 0 where
+  pub log : mid.log ≡ call.log
+  pub size : length mid.legs ≡ length call.legs
+  pub legs : (k : ℕ) → (row ≡ Some k → ⊥) → leg_at mid k ≡ leg_at call k
+
+-- an event was posted besides, which names no other row; where this holds, it brings no contacts
+pub record IsPosted (call new : Call) (row : Option ℕ) (quiet : Type 0) : Type 0 where
+  pub mid : Call
+  pub event : Event
+  pub contacts : List ContactText
+  pub response : Option MessageText
+  pub reply : Reply
+  pub beside : IsBeside call mid row
+  pub named : (k : ℕ) → (row ≡ Some k → ⊥) → row_named event ≡ Some k → ⊥
+  pub plain : quiet → offers_of event ≡ []
+  pub posts : Posts mid event contacts response reply new
+
+abbrev pub Touches : Call → Call → Option ℕ → Type 0 → Type 0
+Touches call new row quiet = IsBeside call new row ⊎ IsPosted call new row quiet
+
+-- ---- one part
+
+leg_beside : (legs : List (Option Leg)) (n k : ℕ) (leg : Leg) → (k ≡ n → ⊥) → found (slice_get (with_leg legs n leg) k) ≡ found (slice_get legs k)
+leg_beside [] n k leg d = refl
+leg_beside (x ∷ legs) zero zero leg d = absurd (d refl)
+leg_beside (x ∷ legs) zero (suc k) leg d = refl
+leg_beside (x ∷ legs) (suc n) zero leg d = refl
+leg_beside (x ∷ legs) (suc n) (suc k) leg d = leg_beside legs n k leg (λ e. d (ap suc e))
+
+length_beside : (legs : List (Option Leg)) (n : ℕ) (leg : Leg) → length (with_leg legs n leg) ≡ length legs
+length_beside [] n leg = refl
+length_beside (x ∷ legs) zero leg = refl
+length_beside (x ∷ legs) (suc n) leg = ap suc (length_beside legs n leg)
+
+pub beside_same : (call new : Call) (row : Option ℕ) → new ≡ call → IsBeside call new row
+beside_same call new row e = record {
+  log = ap (λ (x : Call). x.log) e;
+  size = ap (λ (x : Call). length x.legs) e;
+  legs = λ k d. ap (λ (x : Call). leg_at x k) e;
+}
+
+beside_server : (call new : Call) (s : Server) (row : Option ℕ) → new ≡ record call { server = s } → IsBeside call new row
+beside_server call new s row e = record {
+  log = ap (λ (x : Call). x.log) e;
+  size = ap (λ (x : Call). length x.legs) e;
+  legs = λ k d. ap (λ (x : Call). leg_at x k) e;
+}
+
+beside_leg : (call new : Call) (n : ℕ) (leg : Leg) → new ≡ set_leg call n leg → IsBeside call new (Some n)
+beside_leg call new n leg e = record {
+  log = ap (λ (x : Call). x.log) e;
+  size = ap (λ (x : Call). length x.legs) e ∙ length_beside call.legs n leg;
+  legs = λ k d. ap (λ (x : Call). leg_at x k) e ∙ leg_beside call.legs n k leg (λ h. d (ap (λ (x : ℕ). Some x) (sym h)));
+}
+
+-- ---- events that name their row
+
+of_row : (n : ℕ) (event : Event) → row_named event ≡ Some n → (k : ℕ) → (Some n ≡ Some k → ⊥) → row_named event ≡ Some k → ⊥
+of_row n event is k d e = d (sym is ∙ e)
+
+-- an event of row n, whose part was changed before
+posted_leg : (call new : Call) (n : ℕ) (leg : Leg) (event : Event) (reply : Reply) → row_named event ≡ Some n → offers_of event ≡ []
+    → Posts (set_leg call n leg) event [] None reply new → Touches call new (Some n) (Unit {0})
+posted_leg call new n leg event reply named plain posts = inr (record {
+  mid = set_leg call n leg;
+  event = event;
+  contacts = [];
+  response = None;
+  reply = reply;
+  beside = beside_leg call (set_leg call n leg) n leg refl;
+  named = of_row n event named;
+  plain = λ u. plain;
+  posts = posts;
+})
+
+-- ---- deeds
+
+answers_by : (call new : Call) (now : ℕ) (rest : List Owed) (answer : MessageText) (sends : Bool) (pumped : Pumped)
+    → AnswersBy call now rest answer sends pumped new → IsBeside call new None
+answers_by call new now rest answer true pumped (out, e) =
+    beside_server call new (record { machine = served_after (answer_event (status_of answer)) now call.server.machine; owed = rest; last = _ }) None e
+answers_by call new now rest answer false pumped (out, e) =
+    beside_server call new (record call.server { machine = served_after (answer_event (status_of answer)) now call.server.machine; owed = rest }) None e
+
+answers_with : (call new : Call) (now : ℕ) (rest : List Owed) (answer : Option MessageText) (pumped : Pumped)
+    → AnswersWith call now rest answer pumped new → IsBeside call new None
+answers_with call new now rest None pumped h = absurd h
+answers_with call new now rest (Some answer) pumped h =
+    answers_by call new now rest answer (to.is_response (served_out (answer_event (status_of answer)) now call.server.machine).send) pumped h
+
+sends_answer : (call new : Call) (now : ℕ) (owed : List Owed) (pumped : Pumped) → SendsAnswer call now owed pumped new → IsBeside call new None
+sends_answer call new now [] pumped h = absurd h
+sends_answer call new now (Again ∷ rest) pumped (out, e) = beside_server call new (record call.server { owed = rest }) None e
+sends_answer call new now (CancelOk cancel hop ∷ rest) pumped (out, e) = beside_server call new (record call.server { owed = rest }) None e
+sends_answer call new now (Trying ∷ rest) pumped h = answers_with call new now rest (answer_of call Trying) pumped h
+sends_answer call new now (Passed m ∷ rest) pumped h = answers_with call new now rest (answer_of call (Passed m)) pumped h
+sends_answer call new now (Final choice ∷ rest) pumped h = answers_with call new now rest (answer_of call (Final choice)) pumped h
+
+ticks_client : (call new : Call) (now n : ℕ) (way : Way) (leg : Leg) (timeout : Bool) (pumped : Pumped)
+    → TicksClientBy call now n way leg timeout pumped new → Touches call new (Some n) (Unit {0})
+ticks_client call new now n way leg true pumped (out, reply, posts) = posted_leg call new n (ticked leg now) (fork.Timeout n) reply refl refl posts
+ticks_client call new now n way leg false pumped (out, e) = inl (beside_leg call new n (ticked leg now) e)
+
+fires_timer_c : (call new : Call) (now n : ℕ) (leg : Leg) (trying : Bool) (pumped : Pumped)
+    → FiresTimerC call now n leg trying pumped new → Touches call new (Some n) (Unit {0})
+fires_timer_c call new now n leg true pumped (out, reply, posts) = posted_leg call new n (stopped leg now) (fork.TimerC n) reply refl refl posts
+fires_timer_c call new now n leg false pumped (out, reply, posts) = inr (record {
+  mid = call;
+  event = fork.TimerC n;
+  contacts = [];
+  response = None;
+  reply = reply;
+  beside = beside_same call call (Some n) refl;
+  named = of_row n (fork.TimerC n) refl;
+  plain = λ u. refl;
+  posts = posts;
+})
+
+pub does_touch : (call new : Call) (now : ℕ) (deed : Deed) (pumped : Pumped) → Does call now deed pumped new → Touches call new (row_of_deed deed) (Unit {0})
+does_touch call new now (due.SendRequest n) pumped (way, w, (out, e)) = inl (beside_leg call new n _ e)
+does_touch call new now (due.SendCancel n) pumped (way, leg, w, l, (out, e)) = inl (beside_leg call new n _ e)
+does_touch call new now (due.SendAck n) pumped (way, leg, w, l, (ack, a, out, e)) = inl (beside_leg call new n _ e)
+does_touch call new now due.SendAnswer pumped h = inl (sends_answer call new now call.server.owed pumped h)
+does_touch call new now due.TickServer pumped (out, e) = inl (beside_server call new _ None e)
+does_touch call new now (due.TickClient n) pumped (way, leg, w, l, h) = ticks_client call new now n way leg _ pumped h
+does_touch call new now (due.TickCancel n) pumped (way, leg, w, l, (cancelling, c, out, e)) = inl (beside_leg call new n _ e)
+does_touch call new now (due.FireTimerC n) pumped (leg, l, h) = fires_timer_c call new now n leg _ pumped h
+does_touch call new now (due.GiveUp n) pumped (leg, l, (out, reply, posts)) = posted_leg call new n (stopped leg now) (fork.GiveUp n) reply refl refl posts
+
+-- ---- datagrams that could not be sent
+
+faults_by : (call new : Call) (now n : ℕ) (leg : Leg) (fault : Bool) → FaultsBy call now n leg fault new → Touches call new (Some n) (Unit {0})
+faults_by call new now n leg true (reply, posts) = posted_leg call new n (faulted leg now) (fork.Fault n) reply refl refl posts
+faults_by call new now n leg false e = inl (beside_leg call new n (faulted leg now) e)
+
+faults_client : (call new : Call) (now n : ℕ) (leg : Option Leg) → FaultsClient call now n leg new → Touches call new (Some n) (Unit {0})
+faults_client call new now n None e = inl (beside_same call new (Some n) e)
+faults_client call new now n (Some leg) h = faults_by call new now n leg _ h
+
+faults_cancel : (call new : Call) (now n : ℕ) (leg : Option Leg) → new ≡ cancel_faulted call now n leg → Touches call new (Some n) (Unit {0})
+faults_cancel call new now n None e = inl (beside_same call new (Some n) e)
+faults_cancel call new now n (Some leg) e = inl (beside_leg call new n (faulted_cancel leg now leg.cancelling) e)
+
+pub fails_touch : (call new : Call) (now : ℕ) (why : Cause) → Fails call now why new → Touches call new (row_of_cause why) (Unit {0})
+fails_touch call new now (cause.Request n) h = faults_client call new now n (leg_at call n) h
+fails_touch call new now (cause.Ack n) h = faults_client call new now n (leg_at call n) h
+fails_touch call new now (cause.Cancel n) e = faults_cancel call new now n (leg_at call n) e
+fails_touch call new now cause.Answer e = inl (beside_server call new _ None e)
+fails_touch call new now cause.CancelOk e = inl (beside_same call new None e)
+
+-- ---- messages
+
+abbrev answer_by : (status : ℕ) → MessageText → FinalAnswer
+answer_by status m = record { status = status; offers = map offer_of (contacts_by status m); challenges = challenges_by status m }
+
+event_named : (n status : ℕ) (m : MessageText) → row_named (event_by n status m) ≡ Some n
+event_named n status m = by_test (nat_lt status 200)
+  where
+    by_test : (ring : Bool) → row_named (cond {A = Event} ring (fork.Ring n status) (fork.Answer n (answer_by status m))) ≡ Some n
+    by_test true = refl
+    by_test false = refl
+
+bare_offers : (n status : ℕ) (m : MessageText) → is_redirection status ≡ false → offers_of (event_by n status m) ≡ []
+bare_offers n status m e = by_test (nat_lt status 200)
+  where
+    none : contacts_by status m ≡ []
+    none = rw e refl
+
+    by_test : (ring : Bool) → offers_of (cond {A = Event} ring (fork.Ring n status) (fork.Answer n (answer_by status m))) ≡ []
+    by_test true = refl
+    by_test false = ap (map offer_of) none
+
+cancel_touches : (call new : Call) (cancel : MessageText) (hop : Hop) (taken : Taken) (quiet : Type 0) → CancelledBy call cancel hop taken new → Touches call new None quiet
+cancel_touches call new cancel hop to.Absorbed quiet (c, e) = inl (beside_server call new _ None e)
+cancel_touches call new cancel hop (to.Posted at) quiet (c, reply, placed, posts) = inr (record {
+  mid = owes_cancel_ok call cancel hop;
+  event = fork.Cancel;
+  contacts = [];
+  response = None;
+  reply = reply;
+  beside = beside_server call (owes_cancel_ok call cancel hop) _ None refl;
+  named = λ k d e. absurd cc;
+  plain = λ q. refl;
+  posts = posts;
+})
+cancel_touches call new cancel hop to.Full quiet h = absurd h
+
+response_touches : (call new : Call) (now n : ℕ) (leg : Leg) (way : Way) (m : MessageText) (taken : Taken)
+    → Responds call n leg way now m taken new → Touches call new (Some n) (is_redirection (status_of m) ≡ false)
+response_touches call new now n leg way m to.Absorbed (p, e) = inl (beside_leg call new n _ e)
+response_touches call new now n leg way m (to.Posted at) (p, reply, placed, posts) = inr (record {
+  mid = set_leg call n (leg_posted (leg_after call n leg way now m) now (status_of m) m);
+  event = event_by n (status_of m) m;
+  contacts = contacts_by (status_of m) m;
+  response = going_up (status_of m) m;
+  reply = reply;
+  beside = beside_leg call _ n _ refl;
+  named = of_row n (event_by n (status_of m) m) (event_named n (status_of m) m);
+  plain = bare_offers n (status_of m) m;
+  posts = posts;
+})
+response_touches call new now n leg way m to.Full (p, f, e) = inl (beside_same call new (Some n) e)
+
+pub takes_touch : (call new : Call) (now : ℕ) (m : MessageText) (source : Hop) (r : Recipient) (taken : Taken)
+    → TakesAs call now m source r taken new → Touches call new (row_of_recipient r) (is_redirection (status_of m) ≡ false)
+takes_touch call new now m source to.Server to.Absorbed e = inl (beside_server call new _ None e)
+takes_touch call new now m source to.Server (to.Posted at) h = absurd h
+takes_touch call new now m source to.Server to.Full h = absurd h
+takes_touch call new now m source to.ServerAck to.Absorbed e = inl (beside_server call new _ None e)
+takes_touch call new now m source to.ServerAck (to.Posted at) h = absurd h
+takes_touch call new now m source to.ServerAck to.Full h = absurd h
+takes_touch call new now m source to.ServerCancel taken (cancel, marked, by) = cancel_touches call new cancel _ taken _ by
+takes_touch call new now m source (to.Client n) taken (leg, way, l, w, responds) = response_touches call new now n leg way m taken responds
+takes_touch call new now m source (to.CancelClient n) to.Absorbed (leg, cancelling, l, c, e) = inl (beside_leg call new n _ e)
+takes_touch call new now m source (to.CancelClient n) (to.Posted at) h = absurd h
+takes_touch call new now m source (to.CancelClient n) to.Full h = absurd h
+
+-- ---- a pump that did something
+
+nothing_answered : (call new : Call) (now : ℕ) (rest : List Owed) (answer : MessageText) (sends : Bool) → AnswersBy call now rest answer sends Idle new → ⊥
+nothing_answered call new now rest answer true (out, e) = absurd cc
+nothing_answered call new now rest answer false (out, e) = absurd cc
+
+nothing_with : (call new : Call) (now : ℕ) (rest : List Owed) (answer : Option MessageText) → AnswersWith call now rest answer Idle new → ⊥
+nothing_with call new now rest None h = h
+nothing_with call new now rest (Some answer) h = nothing_answered call new now rest answer (to.is_response (served_out (answer_event (status_of answer)) now call.server.machine).send) h
+
+nothing_sent : (call new : Call) (now : ℕ) (owed : List Owed) → SendsAnswer call now owed Idle new → ⊥
+nothing_sent call new now [] h = h
+nothing_sent call new now (Again ∷ rest) (out, e) = absurd cc
+nothing_sent call new now (CancelOk cancel hop ∷ rest) (out, e) = absurd cc
+nothing_sent call new now (Trying ∷ rest) h = nothing_with call new now rest (answer_of call Trying) h
+nothing_sent call new now (Passed m ∷ rest) h = nothing_with call new now rest (answer_of call (Passed m)) h
+nothing_sent call new now (Final choice ∷ rest) h = nothing_with call new now rest (answer_of call (Final choice)) h
+
+not_idle : (b : Bool) (d : _) → Idle ≡ sent_if b d → ⊥
+not_idle true d e = absurd cc
+not_idle false d e = absurd cc
+
+no_tick : (call new : Call) (now n : ℕ) (way : Way) (leg : Leg) (timeout : Bool) → TicksClientBy call now n way leg timeout Idle new → ⊥
+no_tick call new now n way leg true (out, reply, h) = absurd cc
+no_tick call new now n way leg false (out, e) = not_idle _ _ out
+
+no_fire : (call new : Call) (now n : ℕ) (leg : Leg) (trying : Bool) → FiresTimerC call now n leg trying Idle new → ⊥
+no_fire call new now n leg true (out, reply, h) = absurd cc
+no_fire call new now n leg false (out, reply, h) = absurd cc
+
+-- a deed is never nothing
+never_idle : (call new : Call) (now : ℕ) (deed : Deed) → Does call now deed Idle new → ⊥
+never_idle call new now (due.SendRequest n) (way, w, (out, e)) = absurd cc
+never_idle call new now (due.SendCancel n) (way, leg, w, l, (out, e)) = absurd cc
+never_idle call new now (due.SendAck n) (way, leg, w, l, (ack, a, out, e)) = absurd cc
+never_idle call new now due.SendAnswer h = nothing_sent call new now call.server.owed h
+never_idle call new now due.TickServer (out, e) = not_idle _ _ out
+never_idle call new now (due.TickClient n) (way, leg, w, l, h) = no_tick call new now n way leg _ h
+never_idle call new now (due.TickCancel n) (way, leg, w, l, (cancelling, c, out, e)) = not_idle _ _ out
+never_idle call new now (due.FireTimerC n) (leg, l, h) = no_fire call new now n leg _ h
+never_idle call new now (due.GiveUp n) (leg, l, (out, reply, h)) = absurd cc
+
+pub does_pump : (call new : Call) (now : ℕ) (deed : Deed) (pumped : Pumped) → due.is_due_at call now deed ≡ true → Does call now deed pumped new → Pumps call now pumped new
+does_pump call new now deed (Send d) is h = (deed, is, h)
+does_pump call new now deed Did is h = (deed, is, h)
+does_pump call new now deed Idle is h = absurd (never_idle call new now deed h)

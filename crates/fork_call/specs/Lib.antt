@@ -1,0 +1,5 @@
+pub mod Scheduled
+pub mod Timing
+pub mod SeenDeed
+pub mod Takes
+pub mod Carry

@@ -1,0 +1,202 @@
+//! Calls.
+ghost use Rattle.std.specs.Prelude.{◌≡◌, ◌↔◌, ℕ, length, true, IfErr, IfNone, IfOk, IfSome, IsErrOf, IsTrue, OnErr, OnOk};
+ghost use Rattle.fork_parts.specs.Due.{IsIdle, IsLeastDue, IsOver, is_due_at};
+ghost use Rattle.fork_parts.specs.Failed.{Fails};
+ghost use Rattle.fork_parts.specs.Pump.{Pumps};
+ghost use Rattle.fork_parts.specs.SeenStep.{pumped};
+ghost use Rattle.fork_parts.specs.SeenTaken.{seen_taken};
+ghost use Rattle.fork_parts.specs.Take as take;
+ghost use Rattle.fork_routing.specs.Matching.{BelongsToNone};
+ghost use Rattle.fork_routing.specs.Opening.{IsOpenable, Opens, Refuses};
+ghost use Rattle.fork_call.specs.SeenDeed.{seen_deed};
+ghost use Rattle.fork_call.specs.Takes.{Takes};
+ghost use Rattle.fork_call.specs.Timing.{row_of_cause};
+
+use crate::deed::Deed;
+use crate::fault::TakeFault;
+use crate::schedule::{Schedule, is_due};
+use crate::timing::{schedule_of, time_step};
+use fork_book::Book;
+use fork_model::{
+    events_make_progress, new_rows_are_contacts, others_stay_open, positions_are_bounded,
+    replies_list_all_that_became,
+};
+use fork_parts::{Cause, Parts, Step, Taken, calls_stay_sound};
+use fork_routing::OpenFault;
+use fork_setup::Setup;
+use fork_shelf::Numbered;
+use sip_text::Message;
+use sip_uri::Hop;
+use std::alloc::{AllocError, Allocator, Global};
+use std::marker::Model;
+
+/// The row whose datagram could not be sent.
+fn row_of(cause: Cause) -> Option<u16>
+    ensures { result ≡ row_of_cause cause }
+{
+    match cause {
+        Cause::Request(n) | Cause::Cancel(n) | Cause::Ack(n) => Some(n),
+        Cause::Answer | Cause::CancelOk => None,
+    }
+}
+
+/// A forked request with its transactions: it takes messages and moments, and gives datagrams (RFC 3261 section 16).
+#[derive(Drop)]
+pub struct Call<A: Allocator + Clone = Global> {
+    parts: Parts<A>,
+    schedule: Schedule<A>,
+}
+
+impl<A: Allocator + Clone> Model for Call<A> {
+    ghost use Rattle.fork_parts.specs.Call as spec;
+    ghost use Rattle.fork_call.specs.Timing.{IsTimed};
+
+    ghost Value = { spec.Call };
+
+    ghost view = { λ c. c.parts };
+
+    ghost invariant = { λ c. IsTimed c.parts c.schedule };
+}
+
+impl<A: Allocator + Clone> Call<A> {
+    /// The call that a request from `source` opens under this number; it is neither an ACK nor a CANCEL. The targets of a
+    /// request to the domain are the locations of its user, that of any other is its Request-URI (RFC 3261 sections 16.3 to
+    /// 16.6). Nothing was sent yet; a 100 is owed to an INVITE.
+    ///
+    /// # Errors
+    ///
+    /// The first of those of [`OpenFault`] that holds; `NoMemory` wherever the allocator refuses.
+    pub fn open(
+        alloc: A,
+        setup: &Setup<A>,
+        number: u64,
+        request: Message<A>,
+        source: Hop,
+        now: u64,
+    ) -> Result<Call<A>, OpenFault>
+        requires { IsOpenable request.start }
+        ensures opened { IfOk result (Opens setup.now number request source) }
+        ensures refused { IfErr result (Refuses setup.now request source) }
+    {
+        calls_stay_sound();
+        let rest: Result<A, AllocError> = alloc.clone();
+        let parts = match fork_routing::open(alloc, setup, number, request, source, now) {
+            Ok(parts) => parts,
+            Err(fault) => return Err(fault),
+        };
+        let schedule = schedule_of(rest?, &parts)?;
+        Ok(Call { parts, schedule })
+    }
+
+    /// How many events were posted; each has its reply.
+    fn posted(&self) -> u32
+        ensures at { result ≡ length self.now.log.history }
+        ensures replied { length self.now.log.replies ≡ length self.now.log.history }
+    {
+        events_make_progress();
+        let _rows = self.parts.book().context().count();
+        self.parts.book().history().len() as u32
+    }
+
+    /// What is to be done next, if something is due: what is owed to the caller first, then the caller's transaction, then
+    /// the rows.
+    fn next_deed(&self, now: u64) -> Option<Deed>
+        ensures some { IfSome result (λ deed. is_due_at self.now now (seen_deed deed) ≡ true) }
+        ensures none { IfNone result (IsIdle self.now now) }
+    {
+        if !self.parts.owed().is_empty() {
+            return Some(Deed::SendAnswer);
+        }
+        if is_due(self.parts.server_due(), now) {
+            return Some(Deed::TickServer);
+        }
+        self.parts.is_sized();
+        let _rows = self.parts.book().context().count();
+        let n = self.schedule.first_due(now)?;
+        Some(Deed::on_row(&self.parts, n as u16, now))
+    }
+
+    /// Takes a message that came from `source`, by the one transaction that it belongs to (RFC 3261 sections 16.7, 17.1.3 and
+    /// 17.2.3).
+    ///
+    /// # Errors
+    ///
+    /// `Stray` where it belongs to none, `Full` where the book takes no more events that change nothing; else only where
+    /// the allocator refuses. The call is then as it was.
+    pub fn take(&mut self, message: Message<A>, source: Hop, now: u64) -> Result<Taken, TakeFault>
+        ensures step { IfOk result (λ taken. Takes self.old now message source (seen_taken taken) self.new) }
+        ensures stray { IsErrOf result TakeFault.Stray → BelongsToNone self.old message }
+        ensures full { IsErrOf result TakeFault.Full → Takes self.old now message source take.Full self.old }
+        ensures err { OnErr result (self.new ≡ self.old) }
+    {
+        Err(TakeFault::NoMemory)
+    }
+
+    /// Does one thing that is due; where nothing is, nothing changes.
+    ///
+    /// # Errors
+    ///
+    /// Only where the allocator refuses; then the call is as it was.
+    pub fn pump(&mut self, now: u64) -> Result<Step<A>, AllocError>
+        ensures step { IfOk result (λ did. Pumps self.old now (pumped did) self.new) }
+        ensures err { OnErr result (self.new ≡ self.old) }
+    {
+        let Some(deed) = self.next_deed(now) else {
+            return Ok(Step::Idle);
+        };
+        let at = self.posted();
+        self.parts.is_sized();
+        calls_stay_sound();
+        positions_are_bounded();
+        new_rows_are_contacts();
+        others_stay_open();
+        replies_list_all_that_became();
+        let step = deed.perform(&mut self.parts, now)?;
+        time_step(&mut self.schedule, &self.parts, deed.row(), at);
+        Ok(step)
+    }
+
+    /// Tells the transaction of a datagram that it could not be sent (RFC 3261 sections 16.9 and 17.1.4).
+    ///
+    /// # Errors
+    ///
+    /// Only where the allocator refuses; then the call is as it was.
+    pub fn failed(&mut self, cause: Cause, now: u64) -> Result<(), AllocError>
+        ensures step { OnOk result (Fails self.old now cause self.new) }
+        ensures err { OnErr result (self.new ≡ self.old) }
+    {
+        let at = self.posted();
+        self.parts.is_sized();
+        calls_stay_sound();
+        positions_are_bounded();
+        new_rows_are_contacts();
+        others_stay_open();
+        replies_list_all_that_became();
+        self.parts.failed(cause, now)?;
+        time_step(&mut self.schedule, &self.parts, row_of(cause), at);
+        Ok(())
+    }
+
+    /// The events that were posted, and the context that they lead to.
+    pub fn book(&self) -> &Book<A>
+        ensures { result.now ≡ self.now.log }
+    {
+        self.parts.book()
+    }
+
+    /// The number that it was opened with.
+    pub fn number(&self) -> u64
+        ensures { result ≡ self.now.fixed.number }
+    {
+        self.parts.fixed().number()
+    }
+}
+
+impl<A: Allocator + Clone> Numbered for Call<A> {
+    ghost number_of = { λ call. call.fixed.number };
+
+    /// The number that it was opened with.
+    fn number(&self) -> u64 {
+        self.parts.fixed().number()
+    }
+}

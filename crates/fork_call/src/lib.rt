@@ -1,0 +1,18 @@
+//! Calls: a forked request with its transactions takes messages and moments, and gives datagrams (RFC 3261 sections 16 and
+//! 17).
+#![tactic(auto)]
+
+mod call;
+mod deed;
+mod fault;
+mod port;
+mod schedule;
+mod timing;
+
+pub use call::Call;
+pub use fault::TakeFault;
+pub use fork_book::Book;
+pub use fork_parts::{Cause, Datagram, Step, Taken};
+pub use fork_routing::OpenFault;
+pub use fork_setup::{Setup, SetupFault};
+pub use port::{Carried, Port, carry};
