@@ -2,6 +2,9 @@ pub mod Line
 pub mod LineView
 pub mod Reading
 pub mod Script
+pub mod Spelling
+pub mod Malformed
+pub mod Grammar
 pub mod ReadView
 pub mod Replay
 pub mod FaultView
