@@ -12,4 +12,5 @@ pub mod DraftedLines
 pub mod SpelledScripts
 pub mod SpelledOnce
 pub mod Headline
+pub mod RightListings
 pub mod OneReplay

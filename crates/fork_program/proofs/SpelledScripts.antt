@@ -83,7 +83,7 @@ record FoundLines (draft : Draft) (text : List ℕ) (script : Script) : Type 0 w
   same : next.script ≡ script
   spelled : text ≡ text_of lines
 
-ok_is : {x y : Script} → found_as x ≡ found_as y → x ≡ y
+pub ok_is : {x y : Script} → found_as x ≡ found_as y → x ≡ y
 ok_is e = cc
 
 found_end : (number : ℕ) (draft : Draft) (script : Script) (b : Bool) → has_kind draft.phase ≡ b → cond b (found_as draft.script) (Err number) ≡ Ok script → FoundLines draft [] script

@@ -13,4 +13,5 @@ pub mod Answer
 pub mod Program
 pub mod Input
 pub mod Headline
+pub mod RightListing
 pub mod One

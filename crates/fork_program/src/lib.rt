@@ -17,6 +17,7 @@ pub use command::Command;
 pub use fault::{Fault, ProgFault};
 pub use input::read_input;
 pub use laws::{
-    a_script_has_one_replay, script_is_read_exactly, texts_of_one_script_say_the_same,
+    a_script_has_one_replay, replays_are_answered_yes, script_is_read_exactly,
+    texts_of_one_script_say_the_same,
 };
 pub use replay::{MOST_TEXT, replay_text};
