@@ -3,14 +3,14 @@ use Rattle.std.proofs.Common.{◌≡◌, ◌≢◌, ◌≤◌, ℕ, List, [], �
 use Rattle.std.specs.Prelude.{codes, ◌<◌}
 use Rattle.std.specs.List.{flat_map, AllByRecursion}
 use Rattle.fork_rank.specs.Preferred.{IsPreferredList, usual_preferred}
-use Rattle.fork_model.specs.Table.{Table, Rules, most_targets}
+use Rattle.fork_model.specs.Table.{Table, most_targets}
 use Rattle.fork_model.specs.Choice.{IsChoice}
 use Rattle.fork_model.specs.Challenges.{challenge_list}
 use Rattle.fork_model.specs.Event.{Event, Ring, Answer, Timeout, Fault, TimerC, GiveUp, Cancel}
 use Rattle.fork_model.specs.History.{Target}
 use Rattle.fork_model.specs.Range.{IsTargetInRange, IsOfferInRange, IsEventInRange}
 use Rattle.fork_context.specs.declared.context.NewFault.TheVariants as setup
-use Rattle.fork_context.specs.Led.{AreRules, IsLedTo}
+use Rattle.fork_context.specs.Led.{IsLedTo}
 use Rattle.fork_text.proofs.laws.Preferred.{preferred_found}
 use Rattle.fork_text.specs.RuleLines.{ended}
 use Rattle.fork_listing.specs.declared.checker.Verdict.{Verdict}
@@ -19,14 +19,14 @@ use Rattle.fork_listing.specs.declared.checker.CheckFault.TheVariants as check
 use Rattle.fork_listing.specs.Text.{listing_text}
 use Rattle.fork_listing.specs.Listed.{IsListingOf, listing_of, targets_of}
 use Rattle.fork_listing.specs.Ranking.{IsRanking}
-use Rattle.fork_listing.specs.Accepted.{ListingsAreRight, IsRightText, RightTextsAreAccepted, IsOkElseNoMemory}
+use Rattle.fork_listing.specs.Accepted.{ListingsAreRight, RightTextsAreAccepted, IsOkElseNoMemory}
 use Rattle.fork_listing.specs.Meaning.{TheChoiceIsFirst}
 use Rattle.fork_program.specs.Line.{Line, EventLine, IsLine}
 use Rattle.fork_program.specs.Script.{Script}
-use Rattle.fork_program.specs.Spelling.{Detail, ContactDetail, OtherDetail, ChallengeDetail, Told, Spelling, prefer_lines, depth_lines, target_line, detail_line, told_lines, lines_of, IsSpelling, preferred_said, depth_said, offers_said, event_said, script_of, Spells}
+use Rattle.fork_program.specs.Spelling.{Detail, ContactDetail, OtherDetail, ChallengeDetail, Told, Spelling, prefer_lines, depth_lines, target_line, detail_line, told_lines, IsSpelling, preferred_said, depth_said, offers_said, event_said, script_of, Spells}
 use Rattle.fork_program.specs.Faults.{IsForkReplay}
 use Rattle.fork_program.specs.Replay.{opened, closed, opening_text, outcomes_text, added_lines}
-use Rattle.fork_program.specs.Answer.{IsAnswer, AppendsAnswer}
+use Rattle.fork_program.specs.Answer.{IsAnswer}
 use Rattle.fork_program.specs.Headline.{IsDone, TellsOneFinal}
 use Rattle.fork_program.specs.RightListing.{EndsInRightListing, ReplaysEndInRightListings, RightListingsAreAnsweredYes}
 use Rattle.fork_program.proofs.DraftedLines.{all_back, body_of, history_lines}

@@ -1,12 +1,12 @@
 -- A text is spelled in one way, and two are read as one script where their spellings say the same.
-use Rattle.std.proofs.Common.{◌≡◌, ℕ, List, [], ◌∷◌, ◌++◌, map, Option, Some, None, Result, Ok, refl, sym, ap, subst, ◌∙◌, append_assoc}
+use Rattle.std.proofs.Common.{◌≡◌, ℕ, List, [], ◌∷◌, ◌++◌, map, Option, Some, None, Result, Ok, refl, sym, ap, ◌∙◌, append_assoc}
 use Rattle.std.specs.List.{flat_map, AllByRecursion}
 use Rattle.std.proofs.lemmas.Option.{same_Some}
 use Rattle.sip_lex.specs.Cut.{cut, is}
 use Rattle.sip_lex.proofs.Cuts.{cut_again}
 use Rattle.fork_text.specs.RuleLines.{ended}
-use Rattle.fork_model.specs.Table.{Kind, Invite, Rules, Offer, Challenge}
-use Rattle.fork_model.specs.Event.{FinalAnswer, Event, Ring, Answer, Timeout, Fault, TimerC, GiveUp, Cancel}
+use Rattle.fork_model.specs.Table.{Kind, Invite, Offer, Challenge}
+use Rattle.fork_model.specs.Event.{Event, Ring, Answer, Timeout, Fault, TimerC, GiveUp, Cancel}
 use Rattle.fork_model.specs.History.{Target}
 use Rattle.fork_program.specs.Line.{Line, KindLine, PreferLine, DepthLine, TargetLine, EventLine, ContactLine, OtherLine, ChallengeLine, line_text, bare, IsLine}
 use Rattle.fork_program.specs.Reading.{read_line}

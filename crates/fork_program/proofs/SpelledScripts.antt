@@ -14,7 +14,7 @@ use Rattle.fork_program.specs.Line.{Line, line_text, IsLine, IsSpelledBy}
 use Rattle.fork_program.specs.Reading.{read_line}
 use Rattle.fork_program.specs.Script.{Script, Draft, no_draft, drafted_line, drafted, has_kind, with_next, read_from, read_script}
 use Rattle.fork_program.specs.Spelling.{Spelling, lines_of, text_of, script_of, IsSpelledAs, Spells}
-use Rattle.fork_program.specs.Malformed.{Begins, IsMalformedAt}
+use Rattle.fork_program.specs.Malformed.{IsMalformedAt}
 use Rattle.fork_program.specs.Grammar.{ReadExactly, RefusedByFirst}
 use Rattle.fork_program.specs.ReadView.{GivesScript, IsFaultOf}
 use Rattle.fork_program.proofs.LineLaws.{line_found}

@@ -12,8 +12,8 @@
 -- targets and of events. Right behind an answer stand its contacts and its challenges, in any order.
 use Rattle.std.specs.Prelude.{◌≡◌, ℕ, Bool, List, [], ◌∷◌, ◌++◌, map, Option, Some, None}
 use Rattle.std.specs.List.{flat_map, filter_map, AllByRecursion}
-use Rattle.fork_model.specs.Table.{Kind, Rules, Offer, Challenge, most_targets}
-use Rattle.fork_model.specs.Event.{FinalAnswer, Event, Answer}
+use Rattle.fork_model.specs.Table.{Kind, Offer, Challenge, most_targets}
+use Rattle.fork_model.specs.Event.{Event, Answer}
 use Rattle.fork_model.specs.History.{Target}
 use Rattle.fork_rank.specs.Preferred.{usual_preferred}
 use Rattle.fork_text.specs.RuleLines.{ended}
