@@ -23,7 +23,7 @@ taken script = taken_of (opened script) script.events
 closed_is : (script : Script) → (closed script).table ≡ table script.kind script.rules script.targets (taken script)
 closed_is script = stands_by_its_history (opened script) script.events
 
-rules_stay : (script : Script) → (closed script).table.rules ≡ script.rules
+pub rules_stay : (script : Script) → (closed script).table.rules ≡ script.rules
 rules_stay script =
     ap (λ (t : Table). t.rules) (closed_is script)
     ∙ (rows_always_keep_numbers (opening script.kind script.rules script.targets) 0 (taken script)).rules

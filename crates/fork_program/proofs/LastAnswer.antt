@@ -4,7 +4,7 @@ use Rattle.std.specs.Prelude.{OnOk}
 use Rattle.fork_model.specs.Event.{FinalAnswer, Event}
 use Rattle.fork_program.specs.Script.{Script, answer_changed, last_changed}
 
-last_changed-snoc : (change : FinalAnswer → FinalAnswer) (events : List Event) (event : Event) → last_changed change (events ++ event ∷ []) ≡ events ++ answer_changed change event ∷ []
+pub last_changed-snoc : (change : FinalAnswer → FinalAnswer) (events : List Event) (event : Event) → last_changed change (events ++ event ∷ []) ≡ events ++ answer_changed change event ∷ []
 last_changed-snoc change [] event = refl
 last_changed-snoc change (first ∷ []) event = refl
 last_changed-snoc change (first ∷ next ∷ events) event = ap (λ (es : List Event). first ∷ es) (last_changed-snoc change (next ∷ events) event)

@@ -8,5 +8,9 @@ pub mod Answering
 pub mod Refusing
 pub mod LineLaws
 pub mod SpelledLines
+pub mod DraftedLines
+pub mod SpelledScripts
+pub mod SpelledOnce
 pub mod Headline
+pub mod RightListings
 pub mod OneReplay

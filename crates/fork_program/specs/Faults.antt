@@ -1,5 +1,5 @@
 -- Why a text is not replayed, in the order in which the causes are looked for.
-use Rattle.std.specs.Prelude.{◌≡◌, ◌<◌, ◌≤◌, ℕ, List, [], ◌++◌, length, Ok, Err}
+use Rattle.std.specs.Prelude.{◌≡◌, ◌<◌, ◌≤◌, ℕ, List, [], ◌++◌, length}
 use Rattle.fork_model.specs.Table.{most_targets}
 use Rattle.fork_model.specs.History.{Target}
 use Rattle.fork_context.specs.declared.context.NewFault.{NewFault}
@@ -7,7 +7,9 @@ use Rattle.fork_context.specs.declared.context.NewFault.TheVariants as setup
 use Rattle.fork_context.specs.Refusals.{HasTwice, IsTooMany}
 use Rattle.fork_program.specs.declared.fault.ProgFault.{ProgFault}
 use Rattle.fork_program.specs.declared.fault.ProgFault.TheVariants as prog
-use Rattle.fork_program.specs.Script.{Script, read_script}
+use Rattle.fork_program.specs.Script.{Script}
+use Rattle.fork_program.specs.Spelling.{Spells}
+use Rattle.fork_program.specs.Malformed.{IsMalformedAt}
 use Rattle.fork_program.specs.Replay.{IsReplay}
 
 -- no more bytes than these are read of a script
@@ -23,9 +25,9 @@ IsSetupFault targets setup.NoMemory = ⊥
 
 abbrev pub IsFault : List ℕ → ProgFault → Type 0
 IsFault text prog.TooLong = most_text < length text
-IsFault text (prog.Line number) = (length text ≤ most_text) × (read_script text ≡ Err number)
+IsFault text (prog.Line number) = (length text ≤ most_text) × IsMalformedAt text number
 IsFault text (prog.New fault) =
-    (length text ≤ most_text) × (script : Script) × (read_script text ≡ Ok script) × IsSetupFault script.targets fault
+    (length text ≤ most_text) × (script : Script) × Spells text script × IsSetupFault script.targets fault
 IsFault text prog.NoMemory = Unit {0}
 
 -- these targets are a fork, and what was printed is the script's replay
@@ -39,11 +41,11 @@ IsForkRefusal script (prog.Line number) = ⊥
 IsForkRefusal script (prog.New fault) = IsSetupFault script.targets fault
 IsForkRefusal script prog.NoMemory = Unit {0}
 
--- the text is a script whose targets are a fork, and its replay was appended
+-- the text spells a script whose targets are a fork, and its replay was appended
 pub record AppendsReplay (text old new : List ℕ) : Type 0 where
   pub short : length text ≤ most_text
   pub script : Script
-  pub read : read_script text ≡ Ok script
+  pub read : Spells text script
   pub printed : List ℕ
   pub right : IsForkReplay script printed
   pub spelled : new ≡ old ++ printed

@@ -1,6 +1,6 @@
 -- What the program prints of a fork that is done: one final answer, and all that is stored with that answer first (RFC
 -- 3261 section 16.7 steps 5, 6 and 10).
-use Rattle.std.specs.Prelude.{◌≡◌, ℕ, true, false, List, [], ◌∷◌, ◌++◌, Ok}
+use Rattle.std.specs.Prelude.{◌≡◌, ℕ, true, false, List, [], ◌∷◌, ◌++◌}
 use Rattle.fork_model.specs.Table.{is_finished, is_succeeded}
 use Rattle.fork_model.specs.Choice.{Choice, IsChoice}
 use Rattle.fork_model.specs.History.{finals}
@@ -10,7 +10,8 @@ use Rattle.fork_listing.specs.declared.line.Ranked.{Ranked}
 use Rattle.fork_listing.specs.Listed.{targets_of}
 use Rattle.fork_listing.specs.Ranking.{IsRanking}
 use Rattle.fork_listing.specs.Meaning.{FirstLineIs, row_chosen}
-use Rattle.fork_program.specs.Script.{Script, read_script}
+use Rattle.fork_program.specs.Script.{Script}
+use Rattle.fork_program.specs.Spelling.{Spells}
 use Rattle.fork_program.specs.Replay.{Listed, opened, closed, replay_text}
 
 -- every branch has ended, and none with a 2xx
@@ -30,8 +31,8 @@ pub record TellsOneFinal (script : Script) (printed : List ℕ) : Type 0 where
   pub first : FirstLineIs ranks (row_chosen choice)
   pub spelled : printed ≡ replay_text script outcomes (Listed ranks choice)
 
--- where the text is a script whose fork is done, what was appended tells its one final answer
+-- where the text spells a script whose fork is done, what was appended tells its one final answer
 abbrev pub AppendsOneFinal : (text old new : List ℕ) → Type 0
 AppendsOneFinal text old new =
-    (script : Script) → read_script text ≡ Ok script → IsDone script
+    (script : Script) → Spells text script → IsDone script
     → (printed : List ℕ) × (new ≡ old ++ printed) × TellsOneFinal script printed

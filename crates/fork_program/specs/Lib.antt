@@ -2,6 +2,9 @@ pub mod Line
 pub mod LineView
 pub mod Reading
 pub mod Script
+pub mod Spelling
+pub mod Malformed
+pub mod Grammar
 pub mod ReadView
 pub mod Replay
 pub mod FaultView
@@ -10,4 +13,5 @@ pub mod Answer
 pub mod Program
 pub mod Input
 pub mod Headline
+pub mod RightListing
 pub mod One

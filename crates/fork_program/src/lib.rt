@@ -16,5 +16,8 @@ pub use check::{append_found, check_text};
 pub use command::Command;
 pub use fault::{Fault, ProgFault};
 pub use input::read_input;
-pub use laws::a_script_has_one_replay;
+pub use laws::{
+    a_script_has_one_replay, replays_are_answered_yes, script_is_read_exactly,
+    texts_of_one_script_say_the_same,
+};
 pub use replay::{MOST_TEXT, replay_text};

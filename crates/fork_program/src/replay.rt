@@ -7,8 +7,10 @@ ghost use Rattle.fork_program.specs.Script.{Script};
 ghost use Rattle.fork_program.specs.Faults.{most_text, IsFault, IsForkReplay, IsForkRefusal, AppendsReplay};
 ghost use Rattle.fork_program.specs.FaultView.{fault_set_up};
 ghost use Rattle.fork_program.specs.Headline.{IsDone, TellsOneFinal, AppendsOneFinal};
+ghost use Rattle.fork_program.specs.RightListing.{AppendsRightListing};
 
 use crate::fault::ProgFault;
+use crate::laws::replays_are_answered_yes;
 use crate::print::{append_ending, append_full, append_opening, append_reply};
 use crate::script::Script;
 use fork_context::{Context, Event, PostError};
@@ -74,7 +76,8 @@ fn replay<A: Allocator + Clone>(alloc: A, script: Script<A>) -> Result<Vec<u8, A
 ///
 /// Where every branch of the fork has ended and no 2xx came, exactly one of the replies printed is final: the stored
 /// answer that none stored ranks before, 408 if there is none, 500 in place of a 503; and the list printed behind the
-/// replies holds all stored answers in order of rank, that one first (RFC 3261 section 16.7 steps 5, 6 and 10).
+/// replies holds all stored answers in order of rank, that one first (RFC 3261 section 16.7 steps 5, 6 and 10). That list is
+/// right: a check of what was appended from its line `fork` on says yes.
 ///
 /// # Errors
 ///
@@ -88,10 +91,12 @@ pub fn replay_text<A: Allocator + Clone>(
     ensures status { IfOk result (λ status. status ≡ 0) }
     ensures replayed { OnOk result (AppendsReplay text.now out.old.items out.new.items) }
     ensures one_final { OnOk result (AppendsOneFinal text.now out.old.items out.new.items) }
+    ensures right_listing { OnOk result (AppendsRightListing text.now out.old.items out.new.items) }
     ensures fault { IfErr result (IsFault text.now) }
     ensures too_long { IsErrOf result ProgFault.TooLong ↔ (most_text < length text.now) }
     ensures err { OnErr result (out.new.items ≡ out.old.items) }
 {
+    replays_are_answered_yes();
     if text.len() > MOST_TEXT {
         return Err(ProgFault::TooLong);
     }

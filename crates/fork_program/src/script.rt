@@ -1,5 +1,5 @@
 //! A whole script: what is forked, by which rules and to which targets, and what happens then.
-ghost use Rattle.std.specs.Prelude.{◌≡◌, ◌≤◌, ◌<◌, ◌^◌, ◌++◌, ◌∷◌, [], length, OnOk, IfOk, Some, None, if◌then◌else◌};
+ghost use Rattle.std.specs.Prelude.{◌≡◌, ◌≤◌, ◌<◌, ◌^◌, ◌++◌, ◌∷◌, [], length, Ok, OnOk, IfOk, IfErr, Some, None, if◌then◌else◌};
 ghost use Rattle.sip_lex.specs.Cut.{is};
 ghost use Rattle.fork_context.specs.KindView.{kind_of};
 ghost use Rattle.fork_context.specs.EventView.{event_of};
@@ -7,7 +7,9 @@ ghost use Rattle.fork_program.specs.Script.{phase_after, with_contact, with_chal
 ghost use Rattle.fork_text.specs.Field.{most_q};
 ghost use Rattle.fork_program.specs.Line.{bare, IsLine};
 ghost use Rattle.fork_program.specs.LineView.{line_of};
-ghost use Rattle.fork_program.specs.ReadView.{GivesScript};
+ghost use Rattle.fork_program.specs.ReadView.{GivesScript, IsFaultOf};
+ghost use Rattle.fork_program.specs.Script as spec;
+ghost use Rattle.fork_program.specs.Spelling.{Spells};
 
 use crate::line::{Line, read_line};
 use fork_context::{Answer, Event, Kind, Offer, Target};
@@ -312,13 +314,9 @@ impl<A: Allocator + Clone> Draft<A> {
 }
 
 impl<A: Allocator + Clone> Script<A> {
-    /// The script that a text spells: each line ends in LF, and nothing stands behind the last.
-    ///
-    /// # Errors
-    ///
-    /// The first malformed line, counted from 1, a missing one by the number that it would have; or want of memory.
+    /// The script that the lines of a text say, one after the other.
     #[tactic(auto, unfolding(crate::specs::Script::read_script))]
-    pub fn read(alloc: &A, text: &[u8]) -> Result<Self, ReadFault>
+    fn read_lines(alloc: &A, text: &[u8]) -> Result<Self, ReadFault>
         requires { length text.now < 2 ^ 31 }
         ensures { GivesScript (read_script text.now) result }
     {
@@ -336,5 +334,19 @@ impl<A: Allocator + Clone> Script<A> {
             number += 1;
             rest = after;
         }
+    }
+
+    /// The script that a text spells: each line ends in LF, and nothing stands behind the last.
+    ///
+    /// # Errors
+    ///
+    /// The first malformed line, counted from 1, a missing one by the number that it would have; or want of memory.
+    pub fn read(alloc: &A, text: &[u8]) -> Result<Self, ReadFault>
+        requires { length text.now < 2 ^ 31 }
+        ensures found { IfOk result (Spells text.now) }
+        ensures only { (script : spec.Script) → Spells text.now script → GivesScript (Ok script) result }
+        ensures fault { IfErr result (IsFaultOf text.now) }
+    {
+        Script::read_lines(alloc, text)
     }
 }

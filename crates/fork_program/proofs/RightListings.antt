@@ -1,0 +1,153 @@
+-- The listing that the replay of a script ends in is right, and is answered with yes.
+use Rattle.std.proofs.Common.{◌≡◌, ◌≢◌, ◌≤◌, ℕ, List, [], ◌∷◌, ◌++◌, map, length, Option, Some, None, Result, Ok, Err, refl, sym, ap, subst, ◌∙◌, arith, append_assoc}
+use Rattle.std.specs.Prelude.{codes, ◌<◌}
+use Rattle.std.specs.List.{flat_map, AllByRecursion}
+use Rattle.fork_rank.specs.Preferred.{IsPreferredList, usual_preferred}
+use Rattle.fork_model.specs.Table.{Table, most_targets}
+use Rattle.fork_model.specs.Choice.{IsChoice}
+use Rattle.fork_model.specs.Challenges.{challenge_list}
+use Rattle.fork_model.specs.Event.{Event, Ring, Answer, Timeout, Fault, TimerC, GiveUp, Cancel}
+use Rattle.fork_model.specs.History.{Target}
+use Rattle.fork_model.specs.Range.{IsTargetInRange, IsOfferInRange, IsEventInRange}
+use Rattle.fork_context.specs.declared.context.NewFault.TheVariants as setup
+use Rattle.fork_context.specs.Led.{IsLedTo}
+use Rattle.fork_text.proofs.laws.Preferred.{preferred_found}
+use Rattle.fork_text.specs.RuleLines.{ended}
+use Rattle.fork_listing.specs.declared.checker.Verdict.{Verdict}
+use Rattle.fork_listing.specs.declared.checker.CheckFault.{CheckFault}
+use Rattle.fork_listing.specs.declared.checker.CheckFault.TheVariants as check
+use Rattle.fork_listing.specs.Text.{listing_text}
+use Rattle.fork_listing.specs.Listed.{IsListingOf, listing_of, targets_of}
+use Rattle.fork_listing.specs.Ranking.{IsRanking}
+use Rattle.fork_listing.specs.Accepted.{ListingsAreRight, RightTextsAreAccepted, IsOkElseNoMemory}
+use Rattle.fork_listing.specs.Meaning.{TheChoiceIsFirst}
+use Rattle.fork_program.specs.Line.{Line, EventLine, IsLine}
+use Rattle.fork_program.specs.Script.{Script}
+use Rattle.fork_program.specs.Spelling.{Detail, ContactDetail, OtherDetail, ChallengeDetail, Told, Spelling, prefer_lines, depth_lines, target_line, detail_line, told_lines, IsSpelling, preferred_said, depth_said, offers_said, event_said, script_of, Spells}
+use Rattle.fork_program.specs.Faults.{IsForkReplay}
+use Rattle.fork_program.specs.Replay.{opened, closed, opening_text, outcomes_text, added_lines}
+use Rattle.fork_program.specs.Answer.{IsAnswer}
+use Rattle.fork_program.specs.Headline.{IsDone, TellsOneFinal}
+use Rattle.fork_program.specs.RightListing.{EndsInRightListing, ReplaysEndInRightListings, RightListingsAreAnsweredYes}
+use Rattle.fork_program.proofs.DraftedLines.{all_back, body_of, history_lines}
+use Rattle.fork_program.proofs.Headline.{rules_stay, tells_one_final}
+
+-- ---- what a script says is in range
+
+usual_list : IsPreferredList usual_preferred
+usual_list = (preferred_found (codes "401,407,415,420,484") usual_preferred refl).1
+
+preferred_is : (prefer : Option (List ℕ)) (more : List Line) → AllByRecursion IsLine (prefer_lines prefer ++ more) → IsPreferredList (preferred_said prefer)
+preferred_is None more h = usual_list
+preferred_is (Some statuses) more h = h.0
+
+depth_is : (depth : Option ℕ) (more : List Line) → AllByRecursion IsLine (depth_lines depth ++ more) → depth_said depth ≤ most_targets
+depth_is None more h = omega arith
+depth_is (Some depth) more h = h.0
+
+targets_are : (targets : List Target) (more : List Line) → AllByRecursion IsLine (map target_line targets ++ more) → AllByRecursion IsTargetInRange targets
+targets_are [] more h = tt
+targets_are (target ∷ targets) more h = (h.0.0, targets_are targets more h.1)
+
+offers_are : (details : List Detail) (more : List Line) → AllByRecursion IsLine (map detail_line details ++ more) → AllByRecursion IsOfferInRange (offers_said details)
+offers_are [] more h = tt
+offers_are (ContactDetail q name ∷ details) more h = (h.0.0, offers_are details more h.1)
+offers_are (OtherDetail q text ∷ details) more h = (h.0.0, offers_are details more h.1)
+offers_are (ChallengeDetail proxy value ∷ details) more h = offers_are details more h.1
+
+abbrev said : Told → Event
+said told = event_said told.event told.details
+
+event_is : (told : Told) (more : List Line) → AllByRecursion IsLine (told_lines told ++ more) → IsEventInRange (said told)
+event_is told more h = go told.event h.0
+  where
+    go : (event : Event) → IsLine (EventLine event) → IsEventInRange (event_said event told.details)
+    go (Ring n status) line = tt
+    go (Answer n answer) line = record { status = line.2; offers = offers_are told.details more h.1 }
+    go (Timeout n) line = tt
+    go (Fault n) line = tt
+    go (TimerC n) line = tt
+    go (GiveUp n) line = tt
+    go Cancel line = tt
+
+events_are : (history : List Told) → AllByRecursion IsLine (flat_map told_lines history) → AllByRecursion IsEventInRange (map said history)
+events_are [] h = tt
+events_are (told ∷ history) h =
+    (event_is told (flat_map told_lines history) h, events_are history (all_back IsLine (told_lines told) (flat_map told_lines history) h))
+
+spelled_leads : (s : Spelling) → IsSpelling s → s.targets ≢ [] → length s.targets ≤ most_targets → IsLedTo (closed (script_of s))
+spelled_leads s h some few =
+    let behind_prefer : AllByRecursion IsLine (depth_lines s.depth ++ body_of s.targets s.history) = all_back IsLine (prefer_lines s.prefer) (depth_lines s.depth ++ body_of s.targets s.history) h.lines.1 in
+    let behind_depth : AllByRecursion IsLine (body_of s.targets s.history) = all_back IsLine (depth_lines s.depth) (body_of s.targets s.history) behind_prefer in
+    record {
+      kind = s.kind;
+      rules = (script_of s).rules;
+      targets = s.targets;
+      events = (script_of s).events;
+      some = some;
+      few = few;
+      set = record {
+        preferred = preferred_is s.prefer (depth_lines s.depth ++ body_of s.targets s.history) h.lines.1;
+        depth = depth_is s.depth (body_of s.targets s.history) behind_prefer;
+      };
+      targets_in_range = targets_are s.targets (flat_map told_lines s.history) behind_depth;
+      events_in_range = events_are s.history (history_lines s h.lines);
+      led = refl;
+    }
+
+within : (most n : ℕ) → (most < n → ⊥) → n ≤ most
+within most n never = omega (arith, never)
+
+script_leads : (text printed : List ℕ) (script : Script) → Spells text script → IsForkReplay script printed → IsLedTo (closed script)
+script_leads text printed script spells replay =
+    let P : Script → Type 0 = λ s. IsLedTo (closed s) in
+    let same : script_of spells.0 ≡ script = spells.2 in
+    let targets : spells.0.targets ≡ script.targets = ap (λ (s : Script). s.targets) same in
+    let some : spells.0.targets ≢ [] = λ none. replay.set_up setup.NoTargets (sym targets ∙ none) in
+    let few : length script.targets ≤ most_targets = within most_targets (length script.targets) (replay.set_up setup.TooMany) in
+    subst P same (spelled_leads spells.0 spells.1.0 some (subst (λ (ts : List Target). length ts ≤ most_targets) (sym targets) few))
+
+-- ---- what it tells ends in a right listing
+
+ends_right : ListingsAreRight → (script : Script) (printed : List ℕ) → IsLedTo (closed script) → IsDone script → TellsOneFinal script printed → EndsInRightListing script printed
+ends_right listings_right script printed led done told =
+    let t : Table = (closed script).table in
+    let listed : List ℕ = listing_text (listing_of t told.ranks told.choice) in
+    let added : List ℕ = added_lines (challenge_list t.rows told.choice) in
+    let before : List ℕ = ended (opening_text (opened script).table) ++ outcomes_text (opened script) script.events told.outcomes in
+    let listing : IsListingOf t listed = record {
+      finished = done.0;
+      failed = done.1;
+      ranks = told.ranks;
+      choice = told.choice;
+      ranking = subst (λ rules. IsRanking rules (targets_of t.rows) told.ranks) (sym (rules_stay script)) told.ranking;
+      chosen = subst (λ rules. IsChoice rules t.rows told.choice) (sym (rules_stay script)) told.chosen;
+      spelled = refl;
+    } in
+    let right = listings_right (closed script) listed led listing in
+    record {
+      front = before ++ added;
+      listed = listed;
+      joined = told.spelled ∙ sym (append_assoc before added listed);
+      listing = listing;
+      verdict = right.0;
+      right = right.1;
+    }
+
+pub replays_end_right : TheChoiceIsFirst → ListingsAreRight → ReplaysEndInRightListings
+replays_end_right listed_first listings_right text printed script spells replay done =
+    ends_right listings_right script printed (script_leads text printed script spells replay) done (tells_one_final listed_first script printed replay done)
+
+-- ---- and is answered with yes
+
+pub answered_yes : RightTextsAreAccepted → RightListingsAreAnsweredYes
+answered_yes accepted listed old new verdict status right answer = go answer.found (accepted listed verdict answer.found right answer.right) answer.printed.answer
+  where
+    go : (found : Result Verdict CheckFault) → IsOkElseNoMemory verdict found → IsAnswer found status answer.printed.line → (status ≡ 0) × (new ≡ old ++ ended (codes "yes"))
+    go (Ok told) is line = (line.0, answer.printed.spelled ∙ ap (λ (text : List ℕ). old ++ ended text) line.1)
+    go (Err check.NoMemory) is line = absurd line
+    go (Err (check.Line n)) is line = absurd is
+    go (Err (check.Tree n)) is line = absurd is
+    go (Err (check.Order n)) is line = absurd is
+    go (Err (check.Absent n)) is line = absurd is
+    go (Err check.FinalLine) is line = absurd is
