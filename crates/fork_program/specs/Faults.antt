@@ -21,11 +21,14 @@ IsSetupFault targets setup.TooMany = IsTooMany targets
 IsSetupFault targets setup.Twice = (length targets ≤ most_targets) × HasTwice targets
 IsSetupFault targets setup.NoMemory = ⊥
 
+-- a replay has no workers, so it is neither stopped nor torn
 abbrev pub IsFault : List ℕ → ProgFault → Type 0
 IsFault text prog.TooLong = most_text < length text
 IsFault text (prog.Line number) = (length text ≤ most_text) × (read_script text ≡ Err number)
 IsFault text (prog.New fault) =
     (length text ≤ most_text) × (script : Script) × (read_script text ≡ Ok script) × IsSetupFault script.targets fault
+IsFault text prog.Stopped = ⊥
+IsFault text prog.Torn = ⊥
 IsFault text prog.NoMemory = Unit {0}
 
 -- these targets are a fork, and what was printed is the script's replay
@@ -37,6 +40,8 @@ abbrev pub IsForkRefusal : Script → ProgFault → Type 0
 IsForkRefusal script prog.TooLong = ⊥
 IsForkRefusal script (prog.Line number) = ⊥
 IsForkRefusal script (prog.New fault) = IsSetupFault script.targets fault
+IsForkRefusal script prog.Stopped = ⊥
+IsForkRefusal script prog.Torn = ⊥
 IsForkRefusal script prog.NoMemory = Unit {0}
 
 -- the text is a script whose targets are a fork, and its replay was appended

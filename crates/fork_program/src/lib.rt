@@ -17,4 +17,6 @@ pub use command::Command;
 pub use fault::{Fault, ProgFault};
 pub use input::read_input;
 pub use laws::a_script_has_one_replay;
+pub use print::{append_ending, append_opening, append_reply};
 pub use replay::{MOST_TEXT, replay_text};
+pub use script::{Draft, Phase, ReadFault, Script};
