@@ -23,11 +23,14 @@ IsSetupFault targets setup.TooMany = IsTooMany targets
 IsSetupFault targets setup.Twice = (length targets ≤ most_targets) × HasTwice targets
 IsSetupFault targets setup.NoMemory = ⊥
 
+-- a replay has no workers, so it is neither stopped nor torn
 abbrev pub IsFault : List ℕ → ProgFault → Type 0
 IsFault text prog.TooLong = most_text < length text
 IsFault text (prog.Line number) = (length text ≤ most_text) × IsMalformedAt text number
 IsFault text (prog.New fault) =
     (length text ≤ most_text) × (script : Script) × Spells text script × IsSetupFault script.targets fault
+IsFault text prog.Stopped = ⊥
+IsFault text prog.Torn = ⊥
 IsFault text prog.NoMemory = Unit {0}
 
 -- these targets are a fork, and what was printed is the script's replay
@@ -39,6 +42,8 @@ abbrev pub IsForkRefusal : Script → ProgFault → Type 0
 IsForkRefusal script prog.TooLong = ⊥
 IsForkRefusal script (prog.Line number) = ⊥
 IsForkRefusal script (prog.New fault) = IsSetupFault script.targets fault
+IsForkRefusal script prog.Stopped = ⊥
+IsForkRefusal script prog.Torn = ⊥
 IsForkRefusal script prog.NoMemory = Unit {0}
 
 -- the text spells a script whose targets are a fork, and its replay was appended

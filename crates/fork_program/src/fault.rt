@@ -19,6 +19,12 @@ pub enum ProgFault {
     /// It has more bytes than are read.
     #[error("too long")]
     TooLong,
+    /// Workers met a full context: together they have more events than it takes.
+    #[error("stopped")]
+    Stopped,
+    /// Workers left a history that is not that of what they were given.
+    #[error("torn")]
+    Torn,
     /// A growth was refused.
     #[error("want of memory")]
     NoMemory,

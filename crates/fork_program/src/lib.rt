@@ -20,4 +20,6 @@ pub use laws::{
     a_script_has_one_replay, replays_are_answered_yes, script_is_read_exactly,
     texts_of_one_script_say_the_same,
 };
+pub use print::{append_ending, append_opening, append_reply};
 pub use replay::{MOST_TEXT, replay_text};
+pub use script::{Draft, Phase, ReadFault, Script};

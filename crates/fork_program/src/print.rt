@@ -76,6 +76,10 @@ fn append_up<A: Allocator + Clone>(
 }
 
 /// Appends a line that is ended by LF: the reply to an event, by the context after it.
+///
+/// # Errors
+///
+/// Want of memory.
 pub fn append_reply<A: Allocator + Clone>(
     text: &mut Vec<u8, A>,
     context: &Context<A>,
@@ -146,6 +150,10 @@ fn branches_left<A: Allocator + Clone>(context: &Context<A>) -> u16
 }
 
 /// Appends the first line: the rows that are tried at once.
+///
+/// # Errors
+///
+/// Want of memory.
 pub fn append_opening<A: Allocator + Clone>(
     alloc: A,
     text: &mut Vec<u8, A>,
@@ -236,6 +244,10 @@ fn append_listed<A: Allocator + Clone>(
 }
 
 /// Appends the last lines: how the fork stands.
+///
+/// # Errors
+///
+/// Want of memory.
 pub fn append_ending<A: Allocator + Clone>(
     alloc: A,
     text: &mut Vec<u8, A>,

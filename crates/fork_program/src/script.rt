@@ -67,7 +67,8 @@ impl Phase {
         }
     }
 
-    fn has_kind(self) -> bool
+    /// Whether the kind was read.
+    pub fn has_kind(self) -> bool
         ensures { result ≡ has_kind self }
     {
         !matches!(self, Phase::AtKind)
@@ -96,10 +97,10 @@ impl From<AllocError> for ReadFault {
 /// A script: the fork's kind, rules and targets, and the events in their order.
 #[derive(Drop)]
 pub struct Script<A: Allocator> {
-    pub(crate) kind: Kind,
-    pub(crate) rules: Rules,
-    pub(crate) targets: Vec<Target<A>, A>,
-    pub(crate) events: VecDeque<Event<A>, A>,
+    pub kind: Kind,
+    pub rules: Rules,
+    pub targets: Vec<Target<A>, A>,
+    pub events: VecDeque<Event<A>, A>,
 }
 
 impl<A: Allocator> Model for Script<A> {
@@ -261,11 +262,11 @@ fn other<A: Allocator + Clone>(alloc: &A, q: u16, text: &[u8]) -> Result<Offer<A
     Ok(Offer::new(text.to_vec(alloc.clone()?)?, q, None))
 }
 
-/// The lines read so far.
+/// The lines read so far: which may come next, and what those before it say.
 #[derive(Drop)]
-struct Draft<A: Allocator> {
-    phase: Phase,
-    script: Script<A>,
+pub struct Draft<A: Allocator> {
+    pub phase: Phase,
+    pub script: Script<A>,
 }
 
 impl<A: Allocator> Model for Draft<A> {
@@ -277,7 +278,12 @@ impl<A: Allocator> Model for Draft<A> {
 }
 
 impl<A: Allocator + Clone> Draft<A> {
-    fn new(alloc: &A) -> Result<Self, AllocError>
+    /// No line was read.
+    ///
+    /// # Errors
+    ///
+    /// Want of memory.
+    pub fn new(alloc: &A) -> Result<Self, AllocError>
         ensures { IfOk result (λ draft. draft ≡ no_draft) }
     {
         Ok(Draft {
@@ -287,7 +293,11 @@ impl<A: Allocator + Clone> Draft<A> {
     }
 
     /// Adds a line, and answers whether it is one and may come here.
-    fn add(&mut self, alloc: &A, text: &[u8]) -> Result<bool, AllocError>
+    ///
+    /// # Errors
+    ///
+    /// Want of memory.
+    pub fn add(&mut self, alloc: &A, text: &[u8]) -> Result<bool, AllocError>
         ensures { IfOk result (λ added. (if added then Some self.new else None) ≡ drafted self.old text.now) }
     {
         let Some(line) = read_line(text) else {

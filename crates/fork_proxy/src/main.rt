@@ -1,18 +1,19 @@
-//! `forkproxy`: reads standard input, calls the command that the arguments name (`fork_program`), and writes what it
-//! answers.
+//! `forkproxy`: reads standard input, calls the command that the arguments name (`fork_drive`, `fork_program`), and writes
+//! what it answers.
 #![tactic(auto)]
 
 ghost use Rattle.std.specs.Prelude.{◌≡◌, ◌⊎◌, IfOk, IfErr};
 ghost use Rattle.std.specs.Process.{exit_status};
 ghost use Rattle.fork_program.specs.Program.{IsUsageFault, status_of};
 
-use fork_program::{Command, Fault, ProgFault, read_input};
+use fork_drive::Asked;
+use fork_program::{Fault, ProgFault, read_input};
 use std::env;
 use std::io::ErrorKind;
 use std::process::ExitCode;
 
 /// What the arguments ask for, found before anything is read.
-fn asked(rt: &HostRuntime) -> Result<Command, Fault>
+fn asked(rt: &HostRuntime) -> Result<Asked, Fault>
     ensures { IfErr result IsUsageFault }
 {
     let words: Vec<String> = match env::args(rt) {
@@ -22,8 +23,8 @@ fn asked(rt: &HostRuntime) -> Result<Command, Fault>
         )),
         Err(_) => return Err(Fault::Usage),
     };
-    match Command::of(&words) {
-        Some(command) => Ok(command),
+    match Asked::of(&words) {
+        Some(asked) => Ok(asked),
         None => Err(Fault::Usage),
     }
 }
@@ -36,10 +37,10 @@ fn asked(rt: &HostRuntime) -> Result<Command, Fault>
 fn run(rt: &HostRuntime) -> Result<u8, Fault>
     ensures { IfOk result (λ status. (status ≡ 0) ⊎ (status ≡ 4)) }
 {
-    let command = asked(rt)?;
+    let asked = asked(rt)?;
     let text = read_input(rt.alloc(), &mut rt.reader())?;
     let mut out = Vec::new(rt.alloc());
-    let status = command.run(rt.alloc(), &text, &mut out)?;
+    let status = asked.run(rt, rt.alloc(), &text, &mut out)?;
     match rt.write_all(&out) {
         Ok(()) => Ok(status),
         Err(_) => Err(Fault::Write),

@@ -6,7 +6,7 @@ use std::alloc::{AllocError, Global};
 use std::test::Fail;
 
 /// The program's faults, with the exit status and the text of each.
-const FAULTS: [(Fault, u8, &str); 9] = [
+const FAULTS: [(Fault, u8, &str); 11] = [
     (
         Fault::Usage,
         2,
@@ -16,6 +16,8 @@ const FAULTS: [(Fault, u8, &str); 9] = [
     (Fault::Write, 5, "write fault"),
     (Fault::Text(ProgFault::NoMemory), 3, "want of memory"),
     (Fault::Text(ProgFault::TooLong), 1, "too long"),
+    (Fault::Text(ProgFault::Stopped), 1, "stopped"),
+    (Fault::Text(ProgFault::Torn), 1, "torn"),
     (Fault::Text(ProgFault::Line(12)), 1, "line 12: malformed"),
     (
         Fault::Text(ProgFault::New(NewFault::NoTargets)),

@@ -1,8 +1,10 @@
-//! Tests of the commands of `fork_program`. They stand apart from it so that it is not proved twice.
+//! Tests of the commands of `fork_program` and `fork_drive`. They stand apart from these so that neither is proved twice.
 #![tactic(auto)]
 
 #[cfg(test)]
 mod answers;
+#[cfg(test)]
+mod drives;
 #[cfg(test)]
 mod faults;
 #[cfg(test)]

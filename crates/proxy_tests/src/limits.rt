@@ -13,7 +13,7 @@ fn filled(alloc: Global, count: usize) -> Result<Vec<u8>, AllocError> {
 }
 
 /// A text with a line between its head and its end so many times.
-fn repeated(
+pub fn repeated(
     alloc: Global,
     head: &str,
     line: &str,

@@ -93,7 +93,7 @@ pub fn holds_answered(
 }
 
 /// The listing that an output ends in, if one does.
-fn listing_in(alloc: Global, out: &str) -> Result<Option<String>, AllocError> {
+pub fn listing_in(alloc: Global, out: &str) -> Result<Option<String>, AllocError> {
     match out.split_once("\nfork ") {
         Some((_, rest)) => Ok(Some(format!(in alloc; "fork {rest}")?)),
         None => Ok(None),

@@ -4,7 +4,7 @@ use fork_program::ProgFault;
 use std::test::Fail;
 
 /// Which answer goes up.
-const BEST: [(&str, &str); 10] = [
+pub const BEST: [(&str, &str); 10] = [
     (
         "kind INVITE\ntarget 1000 a\nanswer 0 404\n",
         "opening start 0\n0 start - cancel - up final 404 0\nfork 3 1\nprefer 401,407,415,420,484\ndepth 256\ntarget 0 - 1000 stored 404 0 received\nrank 404 0 0\nfinal 404 0\n",
@@ -48,7 +48,7 @@ const BEST: [(&str, &str); 10] = [
 ];
 
 /// A 6xx, a 2xx and a CANCEL close the fork; branches that are cancelled.
-const CLOSING: [(&str, &str); 12] = [
+pub const CLOSING: [(&str, &str); 12] = [
     (
         "kind INVITE\ntarget 1000 a\ntarget 1000 b\ntarget 1000 c\nring 2 180\nanswer 0 401\nanswer 1 603\nanswer 2 487\n",
         "opening start 0,1,2\n0 start - cancel - up provisional 2\n1 start - cancel - up -\n2 start - cancel 2 up -\n3 start - cancel - up final 603 1\nfork 3 3\nprefer 401,407,415,420,484\ndepth 256\ntarget 0 - 1000 stored 401 1 received\ntarget 1 - 1000 stored 603 2 received\ntarget 2 - 1000 stored 487 3 received\nrank 603 1 2\nrank 401 0 1\nrank 487 2 3\nfinal 603 1\n",
@@ -100,7 +100,7 @@ const CLOSING: [(&str, &str); 12] = [
 ];
 
 /// The contacts of a 3xx.
-const CONTACTS: [(&str, &str); 7] = [
+pub const CONTACTS: [(&str, &str); 7] = [
     (
         "kind INVITE\ntarget 1000 a\nanswer 0 302\ncontact 1000 b\ncontact 1000 c\nanswer 1 404\ntimeout 2\n",
         "opening start 0\n0 start 1,2 cancel - up -\n1 start - cancel - up -\n2 start - cancel - up final 404 1\nfork 3 3\nprefer 401,407,415,420,484\ndepth 256\ntarget 0 - 1000 taken 0\ntarget 1 0 1000 stored 404 1 received\ntarget 2 0 1000 stored 408 2 assumed\nrank 404 1 1\nrank 408 2 2\nfinal 404 1\n",
@@ -132,7 +132,7 @@ const CONTACTS: [(&str, &str); 7] = [
 ];
 
 /// The challenges of a 401 and a 407.
-const CHALLENGES: [(&str, &str); 4] = [
+pub const CHALLENGES: [(&str, &str); 4] = [
     (
         "kind INVITE\ntarget 1000 a\ntarget 1000 b\ntarget 1000 c\nanswer 0 486\nanswer 1 401\nchallenge W Digest realm=\"a\"\nanswer 2 407\nchallenge P Digest realm=\"b\"\n",
         "opening start 0,1,2\n0 start - cancel - up -\n1 start - cancel - up -\n2 start - cancel - up final 401 1\nadd Proxy-Authenticate: Digest realm=\"b\"\nfork 3 3\nprefer 401,407,415,420,484\ndepth 256\ntarget 0 - 1000 stored 486 0 received\ntarget 1 - 1000 stored 401 1 received\ntarget 2 - 1000 stored 407 2 received\nrank 401 1 1\nrank 407 2 2\nrank 486 0 0\nfinal 401 1\n",

@@ -1,0 +1,6 @@
+mod Posts
+mod Counting
+mod Drafting
+mod Pieces
+mod Running
+mod Done

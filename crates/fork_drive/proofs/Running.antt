@@ -1,0 +1,59 @@
+-- What is printed of a run of workers, in steps, and why there is no run.
+use Rattle.std.proofs.Common.{◌≡◌, ◌≤◌, ℕ, List, [], ◌++◌, length, refl, ap, subst, ◌∙◌}
+use Rattle.std.specs.Prelude.{◌↔◌}
+use Rattle.fork_model.specs.Table.{Table, most_targets}
+use Rattle.fork_model.specs.Core.{Core}
+use Rattle.fork_model.specs.History.{Target}
+use Rattle.fork_context.specs.declared.context.NewFault.TheVariants as setup
+use Rattle.fork_context.specs.Refusals.{HasTwice, IsTooMany}
+use Rattle.fork_book.specs.Log.{Log, core_of, table_of}
+use Rattle.fork_engine.specs.declared.fault.DriveFault.{DriveFault}
+use Rattle.fork_engine.specs.declared.fault.DriveFault.TheVariants as run
+use Rattle.fork_engine.specs.Faults.{IsNew, IsTrueFault}
+use Rattle.fork_text.specs.RuleLines.{ended}
+use Rattle.fork_program.specs.Replay.{IsEnding, EndsWith, opening_text, ending_lines}
+use Rattle.fork_drive.specs.Workers.{Workers}
+use Rattle.fork_drive.specs.Run.{IsPrinted, posts_text}
+use Rattle.fork_drive.specs.FaultView.{fault_driven}
+use Rattle.fork_drive.specs.Faults.{IsFork, IsRunFault}
+
+pub is_fork : (targets : List Target) → (targets ≡ [] → ⊥) → (IsTooMany targets → ⊥) → ((length targets ≤ most_targets) × HasTwice targets → ⊥) → IsFork targets
+is_fork targets none many twice setup.NoTargets is = none is
+is_fork targets none many twice setup.TooMany is = many is
+is_fork targets none many twice setup.Twice is = twice is
+is_fork targets none many twice setup.NoMemory is = is
+
+module _ {A : Type 0} where
+  pub run_refused : (workers : Workers) (fault : DriveFault A)
+      → (IsNew setup.NoTargets fault ↔ (workers.targets ≡ []))
+      → (IsNew setup.TooMany fault ↔ IsTooMany workers.targets)
+      → (IsNew setup.Twice fault ↔ ((length workers.targets ≤ most_targets) × HasTwice workers.targets))
+      → IsTrueFault workers.kind workers.rules workers.targets workers.scripts fault
+      → IsRunFault workers (fault_driven fault)
+  run_refused workers (run.New setup.NoTargets) none many twice is = none.0 refl
+  run_refused workers (run.New setup.TooMany) none many twice is = many.0 refl
+  run_refused workers (run.New setup.Twice) none many twice is = twice.0 refl
+  run_refused workers (run.New setup.NoMemory) none many twice is = tt
+  run_refused workers run.Full none many twice is = (is_fork workers.targets none.1 many.1 twice.1, is)
+  run_refused workers run.NoMemory none many twice is = tt
+  run_refused workers (run.Torn book) none many twice is = is_fork workers.targets none.1 many.1 twice.1
+
+-- an opening line, a line for each event and the last lines are what is printed of a log
+pub is_printed : (log : Log) (core : Core) (first : Table) (empty begun told whole : List ℕ) → core ≡ core_of log → first ≡ log.opening → empty ≡ []
+    → begun ≡ empty ++ ended (opening_text first) → told ≡ begun ++ posts_text log.opening 0 log.history log.replies → EndsWith core.table told whole → IsPrinted log whole
+is_printed log core first empty begun told whole stands opens none front posts ends =
+    let P : Table → Type 0 = λ t. IsEnding t ends.ending in
+    let table : core.table ≡ table_of log = ap (λ (c : Core). c.table) stands in
+    let alone : begun ≡ ended (opening_text log.opening) =
+    front
+    ∙ ap (λ (text : List ℕ). text ++ ended (opening_text first)) none
+    ∙ ap (λ (t : Table). ended (opening_text t)) opens
+    in
+    record {
+      ending = ends.ending;
+      last = subst P table ends.right;
+      spelled =
+          ends.spelled
+          ∙ ap (λ (t : Table). told ++ ending_lines t ends.ending) table
+          ∙ ap (λ (text : List ℕ). text ++ ending_lines (table_of log) ends.ending) (posts ∙ ap (λ (text : List ℕ). text ++ posts_text log.opening 0 log.history log.replies) alone);
+    }

@@ -1,0 +1,40 @@
+-- What is printed of workers whose fork is done: one final answer, and all that is stored with that answer first (RFC 3261
+-- section 16.7 steps 5, 6 and 10).
+use Rattle.std.specs.Prelude.{◌≡◌, ℕ, true, false, List, [], ◌∷◌, ◌++◌, Ok}
+use Rattle.fork_model.specs.Table.{is_finished, is_succeeded}
+use Rattle.fork_model.specs.Choice.{Choice, IsChoice}
+use Rattle.fork_model.specs.History.{finals}
+use Rattle.fork_book.specs.Log.{Log, table_of}
+use Rattle.fork_listing.specs.declared.line.Ranked.{Ranked}
+use Rattle.fork_listing.specs.Listed.{targets_of}
+use Rattle.fork_listing.specs.Ranking.{IsRanking}
+use Rattle.fork_listing.specs.Meaning.{FirstLineIs, row_chosen}
+use Rattle.fork_program.specs.Replay.{Listed}
+use Rattle.fork_drive.specs.Workers.{Workers, read_workers}
+use Rattle.fork_drive.specs.Run.{IsRun, IsPrinted, log_text}
+
+-- every branch has ended, and none with a 2xx
+abbrev pub IsDone : Log → Type 0
+IsDone log = (is_finished (table_of log).rows ≡ true) × (is_succeeded (table_of log).rows ≡ false)
+
+-- of the replies printed exactly one is final; its choice is the table's; what is printed ends in the listing of all that
+-- is stored, in order of rank, whose first rank line is that answer's and whose last line tells that choice
+pub record TellsOneFinal (workers : Workers) (log : Log) (printed : List ℕ) : Type 0 where
+  pub ranks : List Ranked
+  pub choice : Choice
+  pub once : finals log.replies ≡ choice ∷ []
+  pub chosen : IsChoice workers.rules (table_of log).rows choice
+  pub ranking : IsRanking workers.rules (targets_of (table_of log).rows) ranks
+  pub first : FirstLineIs ranks (row_chosen choice)
+  pub spelled : printed ≡ log_text log (Listed ranks choice)
+
+-- whatever run of the workers it is that was appended: where its fork is done, its one final answer was told
+abbrev pub AppendsOneFinal : (text old new : List ℕ) → Type 0
+AppendsOneFinal text old new =
+    (workers : Workers) (log : Log) (printed : List ℕ)
+    → read_workers text ≡ Ok workers
+    → IsRun workers log
+    → IsPrinted log printed
+    → new ≡ old ++ printed
+    → IsDone log
+    → TellsOneFinal workers log printed

@@ -1,0 +1,51 @@
+//! What the program is asked for, `drive` among it.
+ghost use Rattle.std.specs.Prelude.{◌≡◌, IfOk, OnErr, map, string_bytes};
+ghost use Rattle.fork_drive.specs.Asked.{asked_for, AppendsAsked};
+
+use crate::run::drive_text;
+use fork_program::{Command, ProgFault};
+use std::alloc::Global;
+use std::sync::Wait;
+use std::thread::Threads;
+
+/// What is done with standard input.
+#[derive(Clone, Copy, Debug, PartialEq, Eq)]
+pub enum Asked {
+    /// The workers of a script are run.
+    Drive,
+    /// What takes one thread.
+    Alone(Command),
+}
+
+impl Asked {
+    /// What the arguments ask for, the program's name among them; where nothing stands behind it, a replay.
+    pub fn of(words: &[String]) -> Option<Asked>
+        ensures { result ≡ asked_for (map string_bytes words.now) }
+    {
+        match words {
+            [_, word] if word.as_str() == "drive" => Some(Asked::Drive),
+            _ => Some(Asked::Alone(Command::of(words)?)),
+        }
+    }
+
+    /// Appends what the program prints for a text, and answers the exit status.
+    ///
+    /// # Errors
+    ///
+    /// Those of `drive_text` and of `Command::run`. After each `out` is as it was.
+    pub fn run<R: Threads + Wait + Sync>(
+        self,
+        rt: &R,
+        alloc: Global,
+        text: &[u8],
+        out: &mut Vec<u8>,
+    ) -> Result<u8, ProgFault>
+        ensures appended { IfOk result (AppendsAsked self text.now out.old.items out.new.items) }
+        ensures err { OnErr result (out.new.items ≡ out.old.items) }
+    {
+        match self {
+            Asked::Drive => drive_text(rt, alloc, text, out),
+            Asked::Alone(command) => command.run(alloc, text, out),
+        }
+    }
+}

@@ -1,0 +1,137 @@
+//! Running the workers of a script.
+ghost use Rattle.std.specs.Prelude.{◌≡◌, ◌<◌, ◌≤◌, ◌↔◌, ◌++◌, length, OnOk, OnErr, IfOk, IfErr, IsErrOf};
+ghost use Rattle.fork_context.specs.KindView.{kind_of};
+ghost use Rattle.fork_model.specs.History.{opening};
+ghost use Rattle.fork_program.specs.Faults.{most_text, IsSetupFault};
+ghost use Rattle.fork_program.specs.Replay.{opening_text};
+ghost use Rattle.fork_text.specs.RuleLines.{ended};
+ghost use Rattle.fork_drive.specs.Workers.{Workers};
+ghost use Rattle.fork_drive.specs.Faults.{IsFirstFault, IsRunFault, IsDriveFault, PrintsRun, AppendsRun};
+ghost use Rattle.fork_drive.specs.Headline.{AppendsOneFinal};
+ghost use Rattle.fork_drive.specs.FaultView.{fault_driven};
+
+use crate::print::append_posts;
+use crate::workers::Workers;
+use fork_context::{Context, Kind, Target};
+use fork_engine::{DriveFault, Gate, drive};
+use fork_listing::the_choice_is_listed_first;
+use fork_model::exactly_one_final;
+use fork_program::{MOST_TEXT, ProgFault, append_ending, append_opening};
+use fork_rank::Rules;
+use std::alloc::{AllocError, Global};
+use std::sync::Wait;
+use std::thread::Threads;
+
+/// A gate that holds nobody.
+#[derive(Drop)]
+struct Open;
+
+impl Gate for Open {
+    fn before(&self, _worker: u8, _place: u32) {}
+
+    fn after(&self, _worker: u8, _place: u32) {}
+}
+
+/// Equal targets in memory of their own.
+fn copied_targets(alloc: Global, targets: &[Target]) -> Result<Vec<Target>, AllocError>
+    ensures { IfOk result (λ copies. copies.items ≡ targets.now) }
+{
+    let mut copies = Vec::new(alloc);
+    for target in targets {
+        copies.push(Target::new(target.key().to_vec(alloc)?, target.q()))?;
+    }
+    Ok(copies)
+}
+
+/// Appends the first line: which targets are tried at once.
+fn append_first(
+    alloc: Global,
+    text: &mut Vec<u8>,
+    kind: Kind,
+    rules: Rules,
+    targets: &[Target],
+) -> Result<(), ProgFault>
+    ensures appended { OnOk result (text.new.items ≡ text.old.items ++ ended (opening_text (opening (kind_of kind) rules targets.now))) }
+    ensures fault { IfErr result (IsFirstFault targets.now) }
+{
+    let context = Context::new(alloc, kind, rules, copied_targets(alloc, targets)?)?;
+    append_opening(alloc, text, &context)?;
+    Ok(())
+}
+
+/// The program's fault for that of a run.
+fn fault_of(fault: DriveFault) -> ProgFault
+    ensures { result ≡ fault_driven fault }
+{
+    match fault {
+        DriveFault::New(fault) => ProgFault::from(fault),
+        DriveFault::Full => ProgFault::Stopped,
+        DriveFault::NoMemory => ProgFault::NoMemory,
+        DriveFault::Torn(_) => ProgFault::Torn,
+    }
+}
+
+/// What a run of the workers prints.
+fn printed<R: Threads + Wait + Sync>(
+    rt: &R,
+    alloc: Global,
+    workers: Workers,
+) -> Result<Vec<u8>, ProgFault>
+    ensures ok { IfOk result (λ text. PrintsRun workers text.items) }
+    ensures fault { IfErr result (IsRunFault workers) }
+{
+    let Workers {
+        kind,
+        rules,
+        targets,
+        scripts,
+    } = workers;
+    let mut text = Vec::new(alloc);
+    append_first(alloc, &mut text, kind, rules, &targets)?;
+    match drive(rt, alloc, kind, rules, targets, scripts, &Open) {
+        Ok(book) => {
+            append_posts(&mut text, &book)?;
+            append_ending(alloc, &mut text, book.context())?;
+            Ok(text)
+        }
+        Err(fault) => Err(fault_of(fault)),
+    }
+}
+
+/// Runs the workers of a script, a thread for each, which post their events to one fork, and appends what the proxy does:
+/// which targets are tried at once, the reply to each event in the order in which they came, with its worker's number before
+/// it, and how the fork stands at the end, with the listing of a fork that is done. The exit status is 0. The text is built
+/// apart, so that `out` is as it was where the run is refused.
+///
+/// Whatever the order: where every branch of the fork has ended and no 2xx came, exactly one of the replies printed is
+/// final, the stored answer that none stored ranks before, 408 if there is none, 500 in place of a 503; and the list printed
+/// behind the replies holds all stored answers in order of rank, that one first (RFC 3261 section 16.7 steps 5, 6 and 10).
+///
+/// # Errors
+///
+/// In this order: `TooLong` over `MOST_TEXT` bytes; `Line` with the first malformed line; `New` where the targets are no
+/// fork; `Stopped` where the workers together have more than 4,096 events and one of them met a full context. `NoMemory` where a growth
+/// was refused; `Torn` where the history is not one of the script.
+pub fn drive_text<R: Threads + Wait + Sync>(
+    rt: &R,
+    alloc: Global,
+    text: &[u8],
+    out: &mut Vec<u8>,
+) -> Result<u8, ProgFault>
+    ensures status { IfOk result (λ status. status ≡ 0) }
+    ensures driven { OnOk result (AppendsRun text.now out.old.items out.new.items) }
+    ensures one_final { OnOk result (AppendsOneFinal text.now out.old.items out.new.items) }
+    ensures fault { IfErr result (IsDriveFault text.now) }
+    ensures too_long { IsErrOf result ProgFault.TooLong ↔ (most_text < length text.now) }
+    ensures err { OnErr result (out.new.items ≡ out.old.items) }
+{
+    the_choice_is_listed_first();
+    exactly_one_final();
+    if text.len() > MOST_TEXT {
+        return Err(ProgFault::TooLong);
+    }
+    let workers = Workers::read(alloc, text)?;
+    let printed = printed(rt, alloc, workers)?;
+    out.extend_from_slice(&printed)?;
+    Ok(0)
+}

@@ -1,0 +1,217 @@
+//! A script with workers: what is forked, by which rules and to which targets, and what each worker has happen then.
+ghost use Rattle.std.specs.Prelude.{◌≡◌, ◌<◌, ◌^◌, ◌+◌, ◌∷◌, ◌++◌, [], IfOk, map, length};
+ghost use Rattle.fork_context.specs.EventView.{event_of};
+ghost use Rattle.fork_drive.specs.Workers.{is_at_work, with_worker, drafted, no_draft, finished_draft, read_workers, event_count};
+ghost use Rattle.fork_drive.specs.ReadView.{GivesWorkers};
+
+use fork_context::{Event, Kind, Target};
+use fork_program::{Draft, Phase, ReadFault, Script};
+use fork_rank::Rules;
+use sip_lex::cut_at;
+use std::alloc::{AllocError, Global};
+use std::collections::VecDeque;
+use std::marker::Model;
+
+/// No more workers than these post to one fork.
+const MOST_WORKERS: usize = 8;
+
+/// A script with workers: the fork's kind, rules and targets, and each worker's events in their order.
+#[derive(Drop)]
+pub(crate) struct Workers {
+    pub(crate) kind: Kind,
+    pub(crate) rules: Rules,
+    pub(crate) targets: Vec<Target>,
+    pub(crate) scripts: Vec<Vec<Event>>,
+}
+
+impl Model for Workers {
+    ghost use Rattle.std.specs.Prelude.{map};
+    ghost use Rattle.fork_context.specs.KindView.{kind_of};
+    ghost use Rattle.fork_context.specs.EventView.{event_of};
+    ghost use Rattle.fork_drive.specs.Workers as spec;
+    ghost use Rattle.fork_drive.specs.Workers.{AreFew};
+
+    ghost Value = { spec.Workers };
+
+    ghost view = { λ w. record {
+      kind = kind_of w.kind;
+      rules = w.rules;
+      targets = w.targets.items;
+      scripts = map (λ s. map event_of s.items) w.scripts.items;
+    } };
+
+    ghost invariant = { λ w. AreFew (map (λ s. map event_of s.items) w.scripts.items) };
+}
+
+/// Whether a worker has begun.
+fn is_at_work(phase: Phase) -> bool
+    ensures { result ≡ is_at_work phase }
+{
+    matches!(phase, Phase::AtEvents | Phase::AtAnswer)
+}
+
+/// The events, in their order.
+fn listed(alloc: Global, mut events: VecDeque<Event>) -> Result<Vec<Event>, AllocError>
+    ensures { IfOk result (λ list. list.items ≡ events.items) }
+{
+    let mut list = Vec::new(alloc);
+    while let Some(event) = events.pop_front() {
+        list.push(event)?;
+    }
+    Ok(list)
+}
+
+/// The workers' events, with those of one worker more behind them.
+fn with_events(
+    alloc: Global,
+    mut before: Vec<Vec<Event>>,
+    events: VecDeque<Event>,
+) -> Result<Vec<Vec<Event>>, AllocError>
+    ensures events { IfOk result (λ all. map (λ s. map event_of s.items) all.items ≡ map (λ s. map event_of s.items) before.items ++ map event_of events.items ∷ []) }
+    ensures count { IfOk result (λ all. length all.items ≡ length before.items + 1) }
+{
+    before.push(listed(alloc, events)?)?;
+    Ok(before)
+}
+
+/// The lines read so far: what is forked with the last worker's events, and the events of the workers before it.
+#[derive(Drop)]
+struct WorkersDraft {
+    last: Draft<Global>,
+    before: Vec<Vec<Event>>,
+}
+
+impl Model for WorkersDraft {
+    ghost use Rattle.std.specs.Prelude.{◌<◌, map, length};
+    ghost use Rattle.fork_context.specs.EventView.{event_of};
+    ghost use Rattle.fork_drive.specs.Workers as spec;
+    ghost use Rattle.fork_drive.specs.Workers.{most_workers};
+
+    ghost Value = { spec.Draft };
+
+    ghost view = { λ d. record { last = d.last; before = map (λ s. map event_of s.items) d.before.items } };
+
+    ghost invariant = { λ d. length d.before.items < most_workers };
+}
+
+impl WorkersDraft {
+    /// No line was read.
+    fn new(alloc: Global) -> Result<Self, AllocError>
+        ensures { IfOk result (λ draft. draft ≡ no_draft) }
+    {
+        Ok(WorkersDraft {
+            last: Draft::new(&alloc)?,
+            before: Vec::new(alloc),
+        })
+    }
+
+    /// Begins the next worker; `None` where none may begin.
+    fn with_worker(self, alloc: Global) -> Result<Option<Self>, AllocError>
+        ensures { IfOk result (λ next. next ≡ with_worker self) }
+    {
+        let WorkersDraft { last, before } = self;
+        let Draft { phase, script } = last;
+        if !phase.has_kind() {
+            return Ok(None);
+        }
+        if !is_at_work(phase) {
+            let last = Draft {
+                phase: Phase::AtEvents,
+                script,
+            };
+            return Ok(Some(WorkersDraft { last, before }));
+        }
+        if before.len() + 1 >= MOST_WORKERS {
+            return Ok(None);
+        }
+        let Script {
+            kind,
+            rules,
+            targets,
+            events,
+        } = script;
+        let before = with_events(alloc, before, events)?;
+        let last = Draft {
+            phase: Phase::AtEvents,
+            script: Script {
+                kind,
+                rules,
+                targets,
+                events: VecDeque::new(alloc),
+            },
+        };
+        Ok(Some(WorkersDraft { last, before }))
+    }
+
+    /// With one more line; `None` where it is none, or may not come.
+    fn with_line(self, alloc: Global, line: &[u8]) -> Result<Option<Self>, AllocError>
+        ensures { IfOk result (λ next. next ≡ drafted self line.now) }
+    {
+        if line == b"worker".as_slice() {
+            return self.with_worker(alloc);
+        }
+        let WorkersDraft { mut last, before } = self;
+        let was_at_work = is_at_work(last.phase);
+        if !last.add(&alloc, line)? {
+            return Ok(None);
+        }
+        if is_at_work(last.phase) && !was_at_work {
+            return Ok(None);
+        }
+        Ok(Some(WorkersDraft { last, before }))
+    }
+
+    /// The whole script, where nothing stands behind its last LF and a worker has begun.
+    fn finished(self, alloc: Global, number: u32, rest: &[u8]) -> Result<Workers, ReadFault>
+        requires { event_count self < number }
+        ensures { GivesWorkers (finished_draft number self rest.now) result }
+    {
+        let WorkersDraft { last, before } = self;
+        let Draft { phase, script } = last;
+        if !rest.is_empty() || !is_at_work(phase) {
+            return Err(ReadFault::Line(number));
+        }
+        let Script {
+            kind,
+            rules,
+            targets,
+            events,
+        } = script;
+        let scripts = with_events(alloc, before, events)?;
+        Ok(Workers {
+            kind,
+            rules,
+            targets,
+            scripts,
+        })
+    }
+}
+
+impl Workers {
+    /// The script with workers that a text spells: each line ends in LF, and nothing stands behind the last.
+    ///
+    /// # Errors
+    ///
+    /// The first malformed line, counted from 1, a missing one by the number that it would have; or want of memory.
+    #[tactic(auto, unfolding(crate::specs::Workers::read_workers))]
+    pub(crate) fn read(alloc: Global, text: &[u8]) -> Result<Self, ReadFault>
+        requires { length text.now < 2 ^ 31 }
+        ensures { GivesWorkers (read_workers text.now) result }
+    {
+        let mut draft = WorkersDraft::new(alloc)?;
+        let mut number = 1;
+        let mut rest = text;
+        loop {
+            let (line, more) = cut_at(rest, b'\n');
+            let Some(after) = more else {
+                return draft.finished(alloc, number, line);
+            };
+            let Some(next) = draft.with_line(alloc, line)? else {
+                return Err(ReadFault::Line(number));
+            };
+            draft = next;
+            number += 1;
+            rest = after;
+        }
+    }
+}
