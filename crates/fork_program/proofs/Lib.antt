@@ -12,5 +12,6 @@ pub mod DraftedLines
 pub mod SpelledScripts
 pub mod SpelledOnce
 pub mod Headline
+pub mod ShortListings
 pub mod RightListings
 pub mod OneReplay

@@ -8,6 +8,7 @@ use Rattle.fork_model.specs.Choice.{IsChoice}
 use Rattle.fork_model.specs.Challenges.{challenge_list}
 use Rattle.fork_model.specs.Event.{Event, Ring, Answer, Timeout, Fault, TimerC, GiveUp, Cancel}
 use Rattle.fork_model.specs.History.{Target}
+use Rattle.fork_model.specs.StrictOrder.{Irreflexive}
 use Rattle.fork_model.specs.Range.{IsTargetInRange, IsOfferInRange, IsEventInRange}
 use Rattle.fork_context.specs.declared.context.NewFault.TheVariants as setup
 use Rattle.fork_context.specs.Led.{IsLedTo}
@@ -20,7 +21,7 @@ use Rattle.fork_listing.specs.Text.{listing_text}
 use Rattle.fork_listing.specs.Listed.{IsListingOf, listing_of, targets_of}
 use Rattle.fork_listing.specs.Ranking.{IsRanking}
 use Rattle.fork_listing.specs.Accepted.{ListingsAreRight, RightTextsAreAccepted, IsOkElseNoMemory}
-use Rattle.fork_listing.specs.Meaning.{TheChoiceIsFirst}
+use Rattle.fork_listing.specs.Meaning.{TheChoiceIsFirst, RightTellsTheChoice}
 use Rattle.fork_program.specs.Line.{Line, EventLine, IsLine}
 use Rattle.fork_program.specs.Script.{Script}
 use Rattle.fork_program.specs.Spelling.{Detail, ContactDetail, OtherDetail, ChallengeDetail, Told, Spelling, prefer_lines, depth_lines, target_line, detail_line, told_lines, IsSpelling, preferred_said, depth_said, offers_said, event_said, script_of, Spells}
@@ -31,6 +32,7 @@ use Rattle.fork_program.specs.Headline.{IsDone, TellsOneFinal}
 use Rattle.fork_program.specs.RightListing.{EndsInRightListing, ReplaysEndInRightListings, RightListingsAreAnsweredYes}
 use Rattle.fork_program.proofs.DraftedLines.{all_back, body_of, history_lines}
 use Rattle.fork_program.proofs.Headline.{rules_stay, tells_one_final}
+use Rattle.fork_program.proofs.ShortListings.{right_is_short}
 
 -- ---- what a script says is in range
 
@@ -109,8 +111,8 @@ script_leads text printed script spells replay =
 
 -- ---- what it tells ends in a right listing
 
-ends_right : ListingsAreRight → (script : Script) (printed : List ℕ) → IsLedTo (closed script) → IsDone script → TellsOneFinal script printed → EndsInRightListing script printed
-ends_right listings_right script printed led done told =
+ends_right : RightTellsTheChoice → Irreflexive → ListingsAreRight → (script : Script) (printed : List ℕ) → IsLedTo (closed script) → IsDone script → TellsOneFinal script printed → EndsInRightListing script printed
+ends_right tells irreflexive listings_right script printed led done told =
     let t : Table = (closed script).table in
     let listed : List ℕ = listing_text (listing_of t told.ranks told.choice) in
     let added : List ℕ = added_lines (challenge_list t.rows told.choice) in
@@ -132,11 +134,12 @@ ends_right listings_right script printed led done told =
       listing = listing;
       verdict = right.0;
       right = right.1;
+      short = right_is_short tells irreflexive listed right.0 right.1;
     }
 
-pub replays_end_right : TheChoiceIsFirst → ListingsAreRight → ReplaysEndInRightListings
-replays_end_right listed_first listings_right text printed script spells replay done =
-    ends_right listings_right script printed (script_leads text printed script spells replay) done (tells_one_final listed_first script printed replay done)
+pub replays_end_right : TheChoiceIsFirst → RightTellsTheChoice → Irreflexive → ListingsAreRight → ReplaysEndInRightListings
+replays_end_right listed_first tells irreflexive listings_right text printed script spells replay done =
+    ends_right tells irreflexive listings_right script printed (script_leads text printed script spells replay) done (tells_one_final listed_first script printed replay done)
 
 -- ---- and is answered with yes
 

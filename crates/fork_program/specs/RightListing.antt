@@ -1,6 +1,6 @@
 -- What the program prints of a fork that is done ends in its listing, and a check of that says yes (RFC 3261 section 16.7
 -- steps 5 and 6).
-use Rattle.std.specs.Prelude.{◌≡◌, ℕ, List, ◌++◌, codes}
+use Rattle.std.specs.Prelude.{◌≡◌, ◌≤◌, ℕ, List, ◌++◌, length, codes}
 use Rattle.fork_listing.specs.declared.checker.Verdict.{Verdict}
 use Rattle.fork_listing.specs.Listed.{IsListingOf}
 use Rattle.fork_listing.specs.Accepted.{IsRightText}
@@ -8,11 +8,11 @@ use Rattle.fork_text.specs.RuleLines.{ended}
 use Rattle.fork_program.specs.Script.{Script}
 use Rattle.fork_program.specs.Spelling.{Spells}
 use Rattle.fork_program.specs.Replay.{closed}
-use Rattle.fork_program.specs.Faults.{IsForkReplay}
+use Rattle.fork_program.specs.Faults.{most_text, IsForkReplay}
 use Rattle.fork_program.specs.Answer.{AppendsAnswer}
 use Rattle.fork_program.specs.Headline.{IsDone}
 
--- what is printed from the line `fork` on is the listing of the fork, and that is right
+-- what is printed from the line `fork` on is the listing of the fork; that is right, and no longer than what is checked
 pub record EndsInRightListing (script : Script) (printed : List ℕ) : Type 0 where
   pub front : List ℕ
   pub listed : List ℕ
@@ -20,6 +20,7 @@ pub record EndsInRightListing (script : Script) (printed : List ℕ) : Type 0 wh
   pub listing : IsListingOf (closed script).table listed
   pub verdict : Verdict
   pub right : IsRightText listed verdict
+  pub short : length listed ≤ most_text
 
 -- where the text spells a script whose fork is done, what was appended ends so
 abbrev pub AppendsRightListing : (text old new : List ℕ) → Type 0

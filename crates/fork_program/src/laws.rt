@@ -4,8 +4,10 @@ ghost use Rattle.fork_program.specs.One.{OneReplay};
 ghost use Rattle.fork_program.specs.RightListing.{ReplaysEndInRightListings, RightListingsAreAnsweredYes};
 
 use fork_listing::{
-    listings_of_forks_are_right, right_texts_are_accepted, the_choice_is_listed_first,
+    accepted_listing_tells_the_choice, listings_of_forks_are_right, right_texts_are_accepted,
+    the_choice_is_listed_first,
 };
+use fork_model::order_is_strict_and_total;
 
 /// A script is read of exactly the texts that spell it: what is spelled is read, and nothing else. Any other text is
 /// refused by exactly its first malformed line: some script begins with the lines before it, none with that line behind
@@ -35,15 +37,18 @@ pub fn a_script_has_one_replay()
     ensures { OneReplay }
 {}
 
-/// Where the fork of a script is done without a 2xx, what a replay prints from its line `fork` on is a right listing; and where
-/// such a text is checked, the answer is `yes`, with the status 0 (RFC 3261 section 16.7 steps 5 and 6).
+/// Where the fork of a script is done without a 2xx, what a replay prints from its line `fork` on is a right listing, not too long
+/// to be checked; and where such a text is checked, the answer is `yes`, with the status 0 (RFC 3261 section 16.7 steps 5
+/// and 6).
 ///
 /// A law over the definitions, with nothing to run.
 pub fn replays_are_answered_yes()
     ensures right { ReplaysEndInRightListings }
     ensures answered { RightListingsAreAnsweredYes }
 {
+    order_is_strict_and_total();
     the_choice_is_listed_first();
+    accepted_listing_tells_the_choice();
     listings_of_forks_are_right();
     right_texts_are_accepted();
 }
