@@ -11,6 +11,8 @@ use fork_program::{Fault, ProgFault, read_input};
 use std::env;
 use std::io::ErrorKind;
 use std::process::ExitCode;
+use std::sync::Wait;
+use std::thread::Threads;
 
 /// What the arguments ask for, found before anything is read.
 fn asked(rt: &HostRuntime) -> Result<Asked, Fault>
@@ -29,18 +31,19 @@ fn asked(rt: &HostRuntime) -> Result<Asked, Fault>
     }
 }
 
-/// Reads the text, and writes what the command makes of it. The exit status is 0, or 4 where a check says no.
+/// Reads the text, and writes what the command makes of it; `threads` starts those that it needs. The exit status is 0, or
+/// 4 where a check says no.
 ///
 /// # Errors
 ///
 /// In this order: `Usage`, `Read`, `Text` with what the command refuses, `Write`; want of memory anywhere.
-fn run(rt: &HostRuntime) -> Result<u8, Fault>
+fn run<R: Threads + Wait + Sync>(threads: &R, rt: &HostRuntime) -> Result<u8, Fault>
     ensures { IfOk result (λ status. (status ≡ 0) ⊎ (status ≡ 4)) }
 {
     let asked = asked(rt)?;
     let text = read_input(rt.alloc(), &mut rt.reader())?;
     let mut out = Vec::new(rt.alloc());
-    let status = asked.run(rt, rt.alloc(), &text, &mut out)?;
+    let status = asked.run(threads, rt.alloc(), &text, &mut out)?;
     match rt.write_all(&out) {
         Ok(()) => Ok(status),
         Err(_) => Err(Fault::Write),
@@ -61,5 +64,5 @@ fn ended(rt: &HostRuntime, ran: Result<u8, Fault>) -> ExitCode
 }
 
 fn main(rt: HostRuntime) -> ExitCode {
-    ended(&rt, run(&rt))
+    ended(&rt, run(&rt, &rt))
 }
