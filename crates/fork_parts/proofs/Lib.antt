@@ -23,3 +23,4 @@ pub mod NewPlaces
 pub mod NewWays
 pub mod Weights
 pub mod NewRows
+pub mod laws

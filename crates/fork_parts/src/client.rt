@@ -1,10 +1,10 @@
 //! The client transaction of a branch.
-ghost use Rattle.std.specs.Prelude.{◌≡◌};
+ghost use Rattle.std.specs.Prelude.{◌≡◌, ◌↔◌, IsTrue};
 ghost use Rattle.fork_context.specs.KindView.{kind_of};
-ghost use Rattle.fork_parts.specs.Client.{client_start, client_after, client_out, client_due};
+ghost use Rattle.fork_parts.specs.Client.{client_start, client_after, client_out, client_due, is_over};
 
 use fork_context::Kind;
-use sip_txn::{InviteClient, OtherClient, TxEvent, TxOut};
+use sip_txn::{InviteClient, InviteClientState, OtherClient, OtherClientState, TxEvent, TxOut};
 use std::marker::Model;
 
 /// The client transaction of an INVITE, or of another request.
@@ -69,6 +69,16 @@ impl Client {
         match &self.machine {
             ClientMachine::Invite(client) => client.due(),
             ClientMachine::Other(client) => client.due(),
+        }
+    }
+
+    /// Whether it has ended.
+    pub(crate) fn is_over(&self) -> bool
+        ensures { IsTrue result ↔ is_over self.now }
+    {
+        match &self.machine {
+            ClientMachine::Invite(client) => client.state() == InviteClientState::Terminated,
+            ClientMachine::Other(client) => client.state() == OtherClientState::Terminated,
         }
     }
 }

@@ -1,11 +1,12 @@
 //! What stands for a branch once its request was sent.
-ghost use Rattle.std.specs.Prelude.{◌≡◌, None, Some};
+ghost use Rattle.std.specs.Prelude.{◌≡◌, ◌↔◌, IsTrue, None, Some};
 ghost use Rattle.std.specs.Option.{option_copied, option_map};
 ghost use Rattle.fork_context.specs.KindView.{kind_of};
 ghost use Rattle.sip_txn.specs.Machine.{machine_after, out_of};
 ghost use Rattle.sip_txn.specs.OtherClient.{other_client};
 ghost use Rattle.fork_parts.specs.Call.{owes_ack_on};
-ghost use Rattle.fork_parts.specs.Client.{client_after, client_out};
+ghost use Rattle.fork_parts.specs.Client.{client_after, client_due, client_out};
+ghost use Rattle.fork_parts.specs.Due.{IsOverCancelling, IsOverLeg, cancel_client_due};
 ghost use Rattle.fork_parts.specs.Leg.{cancel_start, leg_start, timer_c_from};
 ghost use Rattle.fork_parts.specs.LegInside.{cancel_on, cancelled, kept, responded, without_ack};
 ghost use Rattle.fork_parts.specs.Take.{timer_c_again};
@@ -13,7 +14,7 @@ ghost use Rattle.fork_parts.specs.Take.{timer_c_again};
 use crate::client::Client;
 use fork_context::Kind;
 use sip_text::Message;
-use sip_txn::{OtherClient, T1_TIMES_64, TxEvent, TxOut};
+use sip_txn::{OtherClient, OtherClientState, T1_TIMES_64, TxEvent, TxOut};
 use std::alloc::Allocator;
 use std::marker::Model;
 
@@ -63,6 +64,27 @@ impl<A: Allocator> Cancelling<A> {
         ensures { result.now ≡ self.now.sent }
     {
         &self.sent
+    }
+
+    /// The moment at which its transaction wants a tick.
+    pub(crate) fn due(&self) -> Option<u64>
+        ensures { result ≡ cancel_client_due (Some self.now) }
+    {
+        self.client.due()
+    }
+
+    /// From when on its branch is given up.
+    pub(crate) fn give_up_at(&self) -> u64
+        ensures { result ≡ self.now.give_up_at }
+    {
+        self.give_up_at
+    }
+
+    /// Whether its transaction has ended.
+    fn is_over(&self) -> bool
+        ensures { IsTrue result ↔ IsOverCancelling (Some self.now) }
+    {
+        self.client.state() == OtherClientState::Terminated
     }
 
     /// Its transaction went on.
@@ -152,6 +174,31 @@ impl<A: Allocator> Leg<A> {
         ensures out { result.1 ≡ client_out event now self.now.client }
     {
         self.client.fed(event, now)
+    }
+
+    /// The moment at which its transaction wants a tick.
+    pub(crate) fn due(&self) -> Option<u64>
+        ensures { result ≡ client_due self.now.client }
+    {
+        self.client.due()
+    }
+
+    /// When timer C fires, of an INVITE.
+    pub(crate) fn timer_c_at(&self) -> Option<u64>
+        ensures { result ≡ self.now.timer_c_at }
+    {
+        self.timer_c_at
+    }
+
+    /// Whether its transactions have ended.
+    pub(crate) fn is_over(&self) -> bool
+        ensures { IsTrue result ↔ IsOverLeg self.now }
+    {
+        let cancelling = match &self.cancelling {
+            Some(cancelling) => cancelling.is_over(),
+            None => true,
+        };
+        self.client.is_over() && cancelling
     }
 
     /// When timer C fires that a response with this status sets again, but for a 100.

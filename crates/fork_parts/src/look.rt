@@ -1,7 +1,10 @@
-//! What was sent to a branch, what it owes, and where it is.
-ghost use Rattle.std.specs.Prelude.{◌≡◌};
+//! What was sent to a branch, what it owes, where it is, and what is waited for.
+ghost use Rattle.std.specs.Prelude.{◌≡◌, ◌↔◌, IsTrue, Some};
 ghost use Rattle.fork_model.specs.Table as table;
-ghost use Rattle.fork_parts.specs.Call.{is_cancel_sent, is_sent, owes_ack, row_passes, runs_timer_c};
+ghost use Rattle.fork_parts.specs.Call.{is_cancel_sent, is_sent, leg_at, owes_ack, row_passes, runs_timer_c};
+ghost use Rattle.fork_parts.specs.Due.{IsOverLeg, cancel_at, client_at, give_up_at, timer_c_at};
+ghost use Rattle.fork_parts.specs.Leg.{Leg};
+ghost use Rattle.fork_parts.specs.Server as server;
 
 use crate::parts::Parts;
 use crate::states::{shows_cancelled, shows_open, shows_timer_c, shows_trying};
@@ -36,7 +39,7 @@ impl<A: Allocator + Clone> Parts<A> {
     }
 
     /// Whether branch n was tried, and no response to it has come.
-    pub(crate) fn is_trying(&self, n: u16) -> bool
+    pub fn is_trying(&self, n: u16) -> bool
         ensures { result ≡ row_passes table.is_trying self.now n }
     {
         shows_trying(self.state(n))
@@ -62,5 +65,57 @@ impl<A: Allocator + Clone> Parts<A> {
         ensures { result ≡ row_passes runs_timer_c self.now n }
     {
         shows_timer_c(self.state(n))
+    }
+
+    /// The moment at which the caller's transaction wants a tick.
+    pub fn server_due(&self) -> Option<u64>
+        ensures { result ≡ server.served_due self.now.server.machine }
+    {
+        self.served().due()
+    }
+
+    /// The moment at which the client transaction of branch n wants a tick.
+    pub fn client_at(&self, n: u16) -> Option<u64>
+        ensures { result ≡ client_at (leg_at self.now n) }
+    {
+        self.leg(n)?.due()
+    }
+
+    /// The moment at which that of its CANCEL wants one.
+    pub fn cancel_at(&self, n: u16) -> Option<u64>
+        ensures { result ≡ cancel_at (leg_at self.now n) }
+    {
+        self.leg(n)?.cancelling()?.due()
+    }
+
+    /// When timer C of branch n fires, where it runs (RFC 3261 section 16.8).
+    pub fn timer_c_at(&self, n: u16) -> Option<u64>
+        ensures { result ≡ timer_c_at (leg_at self.now n) }
+    {
+        self.leg(n)?.timer_c_at()
+    }
+
+    /// From when on branch n is given up, where it is cancelled (RFC 3261 section 9.1).
+    pub fn give_up_at(&self, n: u16) -> Option<u64>
+        ensures { result ≡ give_up_at (leg_at self.now n) }
+    {
+        Some(self.leg(n)?.cancelling()?.give_up_at())
+    }
+
+    /// Whether the caller's transaction has ended.
+    pub fn is_server_over(&self) -> bool
+        ensures { IsTrue result ↔ server.is_over self.now.server.machine }
+    {
+        self.served().is_over()
+    }
+
+    /// Whether the transactions of branch n have ended, or its request was not sent.
+    pub fn is_branch_over(&self, n: u16) -> bool
+        ensures { IsTrue result ↔ ((leg : Leg) → leg_at self.now n ≡ Some leg → IsOverLeg leg) }
+    {
+        match self.leg(n) {
+            Some(leg) => leg.is_over(),
+            None => true,
+        }
     }
 }

@@ -1,10 +1,10 @@
 //! The server transaction of a call.
-ghost use Rattle.std.specs.Prelude.{◌≡◌};
+ghost use Rattle.std.specs.Prelude.{◌≡◌, ◌↔◌, IsTrue};
 ghost use Rattle.fork_context.specs.KindView.{kind_of};
-ghost use Rattle.fork_parts.specs.Server.{served_start, served_after, served_out, served_due};
+ghost use Rattle.fork_parts.specs.Server.{is_over, served_start, served_after, served_out, served_due};
 
 use fork_context::Kind;
-use sip_txn::{InviteServer, OtherServer, TxEvent, TxOut};
+use sip_txn::{InviteServer, InviteServerState, OtherServer, OtherServerState, TxEvent, TxOut};
 use std::marker::Model;
 
 /// The server transaction of an INVITE, or of another request.
@@ -69,6 +69,16 @@ impl Served {
         match &self.machine {
             ServerMachine::Invite(server) => server.due(),
             ServerMachine::Other(server) => server.due(),
+        }
+    }
+
+    /// Whether it has ended.
+    pub(crate) fn is_over(&self) -> bool
+        ensures { IsTrue result ↔ is_over self.now }
+    {
+        match &self.machine {
+            ServerMachine::Invite(server) => server.state() == InviteServerState::Terminated,
+            ServerMachine::Other(server) => server.state() == OtherServerState::Terminated,
         }
     }
 }
