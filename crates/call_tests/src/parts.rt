@@ -3,7 +3,6 @@ ghost use Rattle.std.specs.Prelude.{◌≡◌, IfOk, IfSome, IsTrue};
 ghost use Rattle.sip_text.specs.Name.{first_value};
 ghost use Rattle.sip_route.specs.Hops.{IsHops, hops_name};
 ghost use Rattle.fork_parts.specs.Built.{status_of};
-ghost use Rattle.fork_parts.specs.Response.{is_bare};
 ghost use Rattle.fork_parts.specs.Sound.{IsSound};
 
 use crate::holds::holds;
@@ -24,38 +23,39 @@ const OWN: Own = Own {
 };
 
 /// Where the answers go.
-const CALLER: Hop = Hop {
+pub(crate) const CALLER: Hop = Hop {
     addr: [192, 0, 2, 1],
     port: 40_000,
 };
 
 /// Where the request of the first branch goes.
-const FIRST: Hop = Hop {
+pub(crate) const FIRST: Hop = Hop {
     addr: [192, 0, 2, 4],
     port: 5060,
 };
 
 /// Where that of the second goes.
-const SECOND: Hop = Hop {
+pub(crate) const SECOND: Hop = Hop {
     addr: [192, 0, 2, 5],
     port: 5062,
 };
 
 // The lines of a request that was marked with its source.
-const VIA: &[u8] = b"v: SIP/2.0/UDP 192.0.2.1:5060;branch=z9hG4bKa;rport=40000;received=192.0.2.1";
+pub(crate) const VIA: &[u8] =
+    b"v: SIP/2.0/UDP 192.0.2.1:5060;branch=z9hG4bKa;rport=40000;received=192.0.2.1";
 
-const FROM: &[u8] = b"f: <sip:alice@example.com>;tag=1";
+pub(crate) const FROM: &[u8] = b"f: <sip:alice@example.com>;tag=1";
 
-const TO: &[u8] = b"t: <sip:bob@example.com>";
+pub(crate) const TO: &[u8] = b"t: <sip:bob@example.com>";
 
-const CALL_ID: &[u8] = b"i: c1";
+pub(crate) const CALL_ID: &[u8] = b"i: c1";
 
-const CSEQ: &[u8] = b"CSeq: 1 INVITE";
+pub(crate) const CSEQ: &[u8] = b"CSeq: 1 INVITE";
 
-const LENGTH: &[u8] = b"l: 0";
+pub(crate) const LENGTH: &[u8] = b"l: 0";
 
 /// An INVITE, marked with its source.
-const INVITE: [&[u8]; 9] = [
+pub(crate) const INVITE: [&[u8]; 9] = [
     b"INVITE sip:bob@example.com SIP/2.0",
     VIA,
     b"Max-Forwards: 70",
@@ -81,15 +81,15 @@ const OPTIONS: [&[u8]; 9] = [
 ];
 
 /// The Via line of the first branch.
-const FIRST_VIA: &[u8] =
+pub(crate) const FIRST_VIA: &[u8] =
     b"Via: SIP/2.0/UDP 192.0.2.9:5060;branch=z9hG4bK8c31e71e0ddbf1a0e56f5f0279990857.7.3.0";
 
 /// That of the second.
-const SECOND_VIA: &[u8] =
+pub(crate) const SECOND_VIA: &[u8] =
     b"Via: SIP/2.0/UDP 192.0.2.9:5060;branch=z9hG4bK8c31e71e0ddbf1a0e56f5f0279990857.7.3.1";
 
 /// The 100 to the INVITE.
-const TRYING: [&[u8]; 8] = [
+pub(crate) const TRYING: [&[u8]; 8] = [
     b"SIP/2.0 100 Trying",
     VIA,
     FROM,
@@ -101,7 +101,7 @@ const TRYING: [&[u8]; 8] = [
 ];
 
 /// The INVITE as it goes to the first target.
-const TO_FIRST: [&[u8]; 10] = [
+pub(crate) const TO_FIRST: [&[u8]; 10] = [
     b"INVITE sip:bob@192.0.2.4 SIP/2.0",
     FIRST_VIA,
     VIA,
@@ -115,7 +115,7 @@ const TO_FIRST: [&[u8]; 10] = [
 ];
 
 /// The INVITE as it goes to the second.
-const TO_SECOND: [&[u8]; 10] = [
+pub(crate) const TO_SECOND: [&[u8]; 10] = [
     b"INVITE sip:bob@192.0.2.5:5062 SIP/2.0",
     SECOND_VIA,
     VIA,
@@ -143,7 +143,7 @@ const OPTIONS_TO_SECOND: [&[u8]; 10] = [
 ];
 
 /// The 180 of the first branch.
-const RINGING: [&[u8]; 9] = [
+pub(crate) const RINGING: [&[u8]; 9] = [
     b"SIP/2.0 180 Ringing",
     FIRST_VIA,
     VIA,
@@ -168,7 +168,7 @@ const RINGING_UP: [&[u8]; 8] = [
 ];
 
 /// The 404 of the first branch.
-const NOT_FOUND: [&[u8]; 9] = [
+pub(crate) const NOT_FOUND: [&[u8]; 9] = [
     b"SIP/2.0 404 Not Found",
     FIRST_VIA,
     VIA,
@@ -181,7 +181,7 @@ const NOT_FOUND: [&[u8]; 9] = [
 ];
 
 /// The ACK for it.
-const ACK: [&[u8]; 9] = [
+pub(crate) const ACK: [&[u8]; 9] = [
     b"ACK sip:bob@192.0.2.4 SIP/2.0",
     FIRST_VIA,
     b"Max-Forwards: 70",
@@ -194,7 +194,7 @@ const ACK: [&[u8]; 9] = [
 ];
 
 /// The CANCEL of the first branch.
-const CANCEL_FIRST: [&[u8]; 9] = [
+pub(crate) const CANCEL_FIRST: [&[u8]; 9] = [
     b"CANCEL sip:bob@192.0.2.4 SIP/2.0",
     FIRST_VIA,
     b"Max-Forwards: 70",
@@ -222,7 +222,7 @@ const CANCEL: [&[u8]; 9] = [
 // ---- how the parts begin
 
 /// The text of these lines.
-fn text_of(alloc: Global, lines: &[&[u8]]) -> Option<Vec<u8>> {
+pub(crate) fn text_of(alloc: Global, lines: &[&[u8]]) -> Option<Vec<u8>> {
     let mut text = Vec::new(alloc);
     for line in lines {
         text.extend_from_slice(line).ok()?;
@@ -232,7 +232,7 @@ fn text_of(alloc: Global, lines: &[&[u8]]) -> Option<Vec<u8>> {
 }
 
 /// The message that these lines spell.
-fn message_of(alloc: Global, lines: &[&[u8]]) -> Option<Message<Global>> {
+pub(crate) fn message_of(alloc: Global, lines: &[&[u8]]) -> Option<Message<Global>> {
     let text = text_of(alloc, lines)?;
     Message::read(alloc, &text).ok()
 }
@@ -319,7 +319,7 @@ fn begun_to(
 }
 
 /// The parts of the call of the request of these lines to the two targets.
-fn begun(alloc: Global, lines: &[&[u8]]) -> Option<Parts>
+pub(crate) fn begun(alloc: Global, lines: &[&[u8]]) -> Option<Parts>
     ensures { IfSome result IsSound }
 {
     let fixed = fixed_of(alloc, lines)?;
@@ -334,7 +334,13 @@ fn begun(alloc: Global, lines: &[&[u8]]) -> Option<Parts>
 // ---- what is done with them
 
 /// Whether a datagram is of this cause, goes there, and spells these lines.
-fn is_sent_as(alloc: Global, sent: &Datagram, to: Hop, cause: Cause, lines: &[&[u8]]) -> bool {
+pub(crate) fn is_sent_as(
+    alloc: Global,
+    sent: &Datagram,
+    to: Hop,
+    cause: Cause,
+    lines: &[&[u8]],
+) -> bool {
     match text_of(alloc, lines) {
         None => false,
         Some(text) => sent.to == to && sent.cause == cause && *sent.bytes == *text,
@@ -342,7 +348,13 @@ fn is_sent_as(alloc: Global, sent: &Datagram, to: Hop, cause: Cause, lines: &[&[
 }
 
 /// Whether a step sends such a datagram.
-fn step_sends(alloc: Global, step: &Step, to: Hop, cause: Cause, lines: &[&[u8]]) -> bool {
+pub(crate) fn step_sends(
+    alloc: Global,
+    step: &Step,
+    to: Hop,
+    cause: Cause,
+    lines: &[&[u8]],
+) -> bool {
     match step {
         Step::Send(sent) => is_sent_as(alloc, sent, to, cause, lines),
         Step::Did | Step::Idle => false,
@@ -350,7 +362,13 @@ fn step_sends(alloc: Global, step: &Step, to: Hop, cause: Cause, lines: &[&[u8]]
 }
 
 /// Whether the request to target n is sent there, as these lines.
-fn sends_request(alloc: Global, parts: &mut Parts, n: u16, to: Hop, lines: &[&[u8]]) -> bool {
+pub(crate) fn sends_request(
+    alloc: Global,
+    parts: &mut Parts,
+    n: u16,
+    to: Hop,
+    lines: &[&[u8]],
+) -> bool {
     if n >= parts.book().context().count() {
         return false;
     }
@@ -361,7 +379,7 @@ fn sends_request(alloc: Global, parts: &mut Parts, n: u16, to: Hop, lines: &[&[u
 }
 
 /// Whether the CANCEL of the first branch is sent as these lines.
-fn sends_cancel(alloc: Global, parts: &mut Parts, lines: &[&[u8]]) -> bool {
+pub(crate) fn sends_cancel(alloc: Global, parts: &mut Parts, lines: &[&[u8]]) -> bool {
     if !parts.is_sent(0) {
         return false;
     }
@@ -372,7 +390,7 @@ fn sends_cancel(alloc: Global, parts: &mut Parts, lines: &[&[u8]]) -> bool {
 }
 
 /// Whether the ACK of the first branch is sent as these lines.
-fn sends_ack(alloc: Global, parts: &mut Parts, lines: &[&[u8]]) -> bool {
+pub(crate) fn sends_ack(alloc: Global, parts: &mut Parts, lines: &[&[u8]]) -> bool {
     if !parts.owes_ack(0) {
         return false;
     }
@@ -381,7 +399,7 @@ fn sends_ack(alloc: Global, parts: &mut Parts, lines: &[&[u8]]) -> bool {
 }
 
 /// The status of a response; 0 of a request.
-fn status_of(message: &Message<Global>) -> u16
+pub(crate) fn status_of(message: &Message<Global>) -> u16
     ensures { result ≡ status_of message.now }
 {
     match message.start() {
@@ -390,17 +408,10 @@ fn status_of(message: &Message<Global>) -> u16
     }
 }
 
-/// Whether a response of this status says nothing beside it.
-fn is_bare(status: u16) -> bool
-    ensures { result ≡ is_bare status }
-{
-    !((status >= 300 && status < 400) || status == 401 || status == 407)
-}
-
 /// What comes of a response to the first branch.
 fn taken_from(parts: &mut Parts, response: Message<Global>, now: u64) -> Option<Taken> {
     let status = status_of(&response);
-    if !parts.is_sent(0) || status < 100 || status > 699 || !is_bare(status) {
+    if !parts.is_sent(0) || status < 100 || status > 699 {
         return None;
     }
     parts.respond(0, status, response, now).ok()

@@ -1,16 +1,41 @@
 //! The parts of the branches of a call, by the numbers of their rows.
-ghost use Rattle.std.specs.Prelude.{◌≡◌, ◌<◌, ◌++◌, length, map, slice_get, Some, OnOk};
+ghost use Rattle.std.specs.Prelude.{◌≡◌, ◌<◌, ◌∷◌, ◌++◌, [], length, map, slice_get, None, Some, IfOk, OnOk};
 ghost use Rattle.std.specs.Option.{option_copied, option_map};
 ghost use Rattle.fork_parts.specs.Call.{found, with_leg};
 ghost use Rattle.fork_parts.specs.Datagrams.{ack_on};
-ghost use Rattle.fork_parts.specs.LegInside.{cancel_on, cancelled, changed_leg, kept, responded, without_ack};
+ghost use Rattle.fork_parts.specs.LegInside.{cancel_on, cancelled, changed_leg, kept, no_legs, responded, without_ack};
 
 use crate::client::Client;
 use crate::leg::{Cancelling, Leg};
 use crate::way::Way;
 use sip_text::Message;
 use sip_txn::OtherClient;
-use std::alloc::Allocator;
+use std::alloc::{AllocError, Allocator};
+
+/// One more branch whose request was not sent.
+fn push_no_leg<A: Allocator>(legs: &mut Vec<Option<Leg<A>>, A>) -> Result<(), AllocError>
+    ensures { OnOk result (legs.new.items ≡ legs.old.items ++ None ∷ []) }
+{
+    match legs.push(None) {
+        Ok(()) => Ok(()),
+        Err(_) => Err(AllocError),
+    }
+}
+
+/// So many branches whose request was not sent.
+#[tactic(auto, using(crate::proofs::LegLists::no_legs_more))]
+pub(crate) fn no_legs<A: Allocator>(
+    alloc: A,
+    count: u16,
+) -> Result<Vec<Option<Leg<A>>, A>, AllocError>
+    ensures { IfOk result (λ legs. legs.items ≡ no_legs count) }
+{
+    let mut legs = Vec::new(alloc);
+    for place in 0..count {
+        push_no_leg(&mut legs)?;
+    }
+    Ok(legs)
+}
 
 /// Where the request to target n goes.
 pub(crate) fn way_at<A: Allocator>(ways: &[Way<A>], n: u16) -> &Way<A>

@@ -1,14 +1,16 @@
 //! The answers that are owed to a caller.
-ghost use Rattle.std.specs.Prelude.{◌≡◌, ◌<◌, ◌≤◌, ◌+◌, ◌++◌, length, drop, vec_len, vec_capacity};
+ghost use Rattle.std.specs.Prelude.{◌≡◌, ◌<◌, ◌≤◌, ◌+◌, ◌++◌, length, drop, vec_len, vec_capacity, IfOk};
 ghost use Rattle.std.specs.Option.{option_to_list};
+ghost use Rattle.fork_context.specs.KindView as kinds;
 ghost use Rattle.fork_context.specs.ReplyView.{up_of};
 ghost use Rattle.fork_parts.specs.Posting.{owed_by, passed};
+ghost use Rattle.fork_parts.specs.Server as server;
 ghost use Rattle.fork_parts.specs.Take.{again_if};
 
-use fork_context::{Choice, Up};
+use fork_context::{Choice, Kind, Up};
 use sip_text::Message;
 use sip_uri::Hop;
-use std::alloc::{Allocator, Global};
+use std::alloc::{AllocError, Allocator, Global};
 use std::marker::Model;
 
 /// What an answer is made of that is owed to the caller (RFC 3261 sections 9.2, 16.7 and 17.2).
@@ -57,6 +59,22 @@ impl<A: Allocator> Owed<A> {
     {
         &self.answer
     }
+}
+
+/// What is owed to the caller of a request of this kind as its call opens.
+pub(crate) fn first_owed<A: Allocator>(alloc: A, kind: Kind) -> Result<Vec<Owed<A>, A>, AllocError>
+    ensures { IfOk result (λ owed. owed.items ≡ server.first_owed (kinds.kind_of kind)) }
+{
+    let mut owed = Vec::new(alloc);
+    match kind {
+        Kind::Invite => {
+            if owed.push(Owed::new(OwedAnswer::Trying)).is_err() {
+                return Err(AllocError);
+            }
+        }
+        Kind::Other => {}
+    }
+    Ok(owed)
 }
 
 /// What is owed by what goes up, where a response goes up that a branch gave.

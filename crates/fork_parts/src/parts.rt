@@ -41,9 +41,9 @@ use crate::fault::PostFault;
 use crate::fixed::Fixed;
 use crate::leg::{Cancelling, Leg};
 use crate::legs::{
-    cancel_leg, cancel_on_leg, keep_leg, leg_in, put_leg, respond_leg, take_ack_of, way_at,
+    cancel_leg, cancel_on_leg, keep_leg, leg_in, no_legs, put_leg, respond_leg, take_ack_of, way_at,
 };
-use crate::owed::{Owed, OwedAnswer, again_if, owe, owed_by, pay_first};
+use crate::owed::{Owed, OwedAnswer, again_if, first_owed, owe, owed_by, pay_first};
 use crate::responses::{answer_event, is_request, is_response, is_timeout, response_event};
 use crate::rows::add_rows;
 use crate::said::Said;
@@ -86,44 +86,6 @@ impl<A: Allocator + Clone> Model for Parts<A> {
     ghost view = { λ p. record { fixed = p.fixed; log = p.book; ways = p.ways.items; legs = p.legs.items; server = record { machine = p.served; owed = p.owed.items; last = p.last.items } } };
 
     ghost invariant = { λ p. IsSized p.book p.ways.items p.legs.items };
-}
-
-/// One more branch whose request was not sent.
-fn push_no_leg<A: Allocator>(legs: &mut Vec<Option<Leg<A>>, A>) -> Result<(), AllocError>
-    ensures { OnOk result (legs.new.items ≡ legs.old.items ++ None ∷ []) }
-{
-    match legs.push(None) {
-        Ok(()) => Ok(()),
-        Err(_) => Err(AllocError),
-    }
-}
-
-/// So many branches whose request was not sent.
-#[tactic(auto, using(crate::proofs::LegLists::no_legs_more))]
-fn no_legs<A: Allocator>(alloc: A, count: u16) -> Result<Vec<Option<Leg<A>>, A>, AllocError>
-    ensures { IfOk result (λ legs. legs.items ≡ no_legs count) }
-{
-    let mut legs = Vec::new(alloc);
-    for place in 0..count {
-        push_no_leg(&mut legs)?;
-    }
-    Ok(legs)
-}
-
-/// What is owed to the caller of a request of this kind as its call opens.
-fn first_owed<A: Allocator>(alloc: A, kind: Kind) -> Result<Vec<Owed<A>, A>, AllocError>
-    ensures { IfOk result (λ owed. owed.items ≡ server.first_owed (kinds.kind_of kind)) }
-{
-    let mut owed = Vec::new(alloc);
-    match kind {
-        Kind::Invite => {
-            if owed.push(Owed::new(OwedAnswer::Trying)).is_err() {
-                return Err(AllocError);
-            }
-        }
-        Kind::Other => {}
-    }
-    Ok(owed)
 }
 
 /// What goes up with the event at this position.

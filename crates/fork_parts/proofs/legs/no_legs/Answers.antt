@@ -1,6 +1,6 @@
 use Rattle.std.proofs.Common.{◌≡◌, ◌∙◌, ap, arith}
 use Rattle.fork_parts.specs.LegInside.{no_legs}
-use Rattle.fork_parts.proofs.parts.no_legs.Goals as goal
+use Rattle.fork_parts.proofs.legs.no_legs.Goals as goal
 
 pub returns : goal.returns
 returns g c =

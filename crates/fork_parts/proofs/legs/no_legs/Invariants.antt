@@ -1,6 +1,6 @@
 use Rattle.std.proofs.Common.{◌≡◌}
 use Rattle.fork_parts.specs.LegInside.{no_legs}
-use Rattle.fork_parts.proofs.parts.no_legs.Given as goal
+use Rattle.fork_parts.proofs.legs.no_legs.Given as goal
 
 abbrev pub invariant-loop-place : goal.invariant-loop-place
 invariant-loop-place g l = l.legs.items ≡ no_legs l.place
