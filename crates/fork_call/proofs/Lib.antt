@@ -5,3 +5,4 @@ pub mod Retimed
 pub mod Touching
 pub mod Timed
 pub mod Leasts
+pub mod Stepping

@@ -2,7 +2,7 @@
 use Rattle.std.proofs.Common.{◌≡◌, ◌∙◌, ◌⊎◌, ℕ, zero, suc, ◌+◌, ◌<◌, ◌≤◌, ap, refl, sym, subst, inl, inr, arith, List, [], ◌∷◌, ◌++◌, length, length-append, replicate, take, Option, Some, None, slice_get, slice_set}
 use Rattle.std.specs.Prelude.{false}
 use Rattle.std.proofs.lemmas.Bool.{cases_lt}
-use Rattle.std.proofs.lemmas.Option.{slice_get_within}
+use Rattle.std.proofs.lemmas.Option.{slice_get_past, slice_get_within}
 use Rattle.std.proofs.lemmas.List.{length-replicate}
 use Rattle.fork_model.specs.Core.{Core, core_next, core_offered, is_full}
 use Rattle.fork_model.specs.Event.{Event, row_named}
@@ -311,3 +311,24 @@ module _ (left : OthersAreLeft) (exact : BecameIsExact) (call new : Call) (row :
       let below : k < length (rows_of new) = omega (arith, size, lt) in
       let cut_is = length_cut in
       timed_has new rows cut k (omega (arith, cut_is, below)) (untouched touches k below) ∙ sym (scheduled_has new k below))
+
+-- ---- each row in turn
+
+-- one more row has its moment
+pub take_more : (call : Call) (n : ℕ) → n < length (rows_of call) → take n (scheduled call) ++ row_moment call n ∷ [] ≡ take (n + 1) (scheduled call)
+take_more call n lt = more (scheduled call) n (row_moment call n) (scheduled_has call n lt) ∙ ap (λ (k : ℕ). take k (scheduled call)) (let e : suc n ≡ n + 1 = omega arith in e)
+  where
+    more : (xs : List (Option ℕ)) (n : ℕ) (x : Option ℕ) → slice_get xs n ≡ Some x → take n xs ++ x ∷ [] ≡ take (suc n) xs
+    more [] n x there = absurd cc
+    more (y ∷ xs) zero x there =
+        let same : y ≡ x = cc in
+        rw same refl
+    more (y ∷ xs) (suc n) x there = ap (λ (ms : List (Option ℕ)). y ∷ ms) (more xs n x there)
+
+-- at the end all have
+pub take_whole : (call : Call) (n : ℕ) → n ≡ length (rows_of call) → take n (scheduled call) ≡ scheduled call
+take_whole call n e = ap (λ (k : ℕ). take k (scheduled call)) (e ∙ sym (length_scheduled call)) ∙ whole (scheduled call)
+  where
+    whole : (xs : List (Option ℕ)) → take (length xs) xs ≡ xs
+    whole [] = refl
+    whole (x ∷ xs) = ap (λ (ms : List (Option ℕ)). x ∷ ms) (whole xs)

@@ -88,9 +88,10 @@ impl<A: Allocator + Clone> Call<A> {
         Ok(Call { parts, schedule })
     }
 
-    /// How many events were posted.
+    /// How many events were posted; each has its reply.
     fn posted(&self) -> u32
-        ensures { result ≡ length self.now.log.history }
+        ensures at { result ≡ length self.now.log.history }
+        ensures replied { length self.now.log.replies ≡ length self.now.log.history }
     {
         events_make_progress();
         let _rows = self.parts.book().context().count();

@@ -36,6 +36,7 @@ fn row_moment<A: Allocator + Clone>(parts: &Parts<A>, n: u16) -> Option<u64>
 /// # Errors
 ///
 /// Only where the allocator refuses.
+#[tactic(auto, using(crate::proofs::Timed::take_more, crate::proofs::Timed::take_whole))]
 pub(crate) fn schedule_of<A: Allocator + Clone>(
     alloc: A,
     parts: &Parts<A>,

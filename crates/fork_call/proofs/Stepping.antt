@@ -1,0 +1,138 @@
+-- What is next to be done on a call, and how a step leaves it.
+use Rattle.std.proofs.Common.{◌≡◌, ◌∙◌, ℕ, zero, suc, ◌+◌, ◌<◌, ◌≤◌, ap, refl, sym, subst, inl, inr, arith, true, false, Bool, List, [], ◌∷◌, ◌++◌, length, replicate, take, Option, Some, None, slice_get}
+use Rattle.std.specs.Prelude.{IfNone, IfSome, not, ◌||◌, ◌==◌}
+use Rattle.std.specs.List.{list_any}
+use Rattle.std.proofs.lemmas.Bool.{eqb-true}
+use Rattle.std.proofs.lemmas.Option.{slice_get_within}
+use Rattle.fork_model.specs.Event.{Event}
+use Rattle.fork_model.specs.History.{AreReplies}
+use Rattle.fork_model.specs.OpenBranches.{OthersAreLeft}
+use Rattle.fork_model.specs.Reply.{Reply}
+use Rattle.fork_model.specs.Sources as sources
+use Rattle.fork_model.specs.Sources.{BecameIsExact}
+use Rattle.fork_model.specs.Step.{next}
+use Rattle.fork_model.specs.Steps.{PositionsAreBounded}
+use Rattle.fork_model.specs.Table.{Table}
+use Rattle.fork_book.specs.Log.{IsLog, Log, Posted, events_of}
+use Rattle.sip_txn.specs.Timers.{is_due}
+use Rattle.fork_parts.specs.declared.cause.Cause.{Cause}
+use Rattle.fork_parts.specs.Call.{Call, found, leg_at, rows_of}
+use Rattle.fork_parts.specs.Due.{Deed, IsIdle, is_due_at}
+use Rattle.fork_parts.specs.Failed.{Fails}
+use Rattle.fork_parts.specs.Pump.{Does, Pumped}
+use Rattle.fork_parts.specs.Server as server
+use Rattle.fork_parts.specs.Server.{Owed}
+use Rattle.fork_parts.specs.Sound.{IsSound, StepsKeepSound}
+use Rattle.fork_parts.specs.Step as step
+use Rattle.fork_call.specs.Scheduled.{due_of, scheduled}
+use Rattle.fork_call.specs.Timing.{IsTimed, retimed, row_moment, row_of_cause, row_of_deed}
+use Rattle.fork_call.proofs.Idle.{idle}
+use Rattle.fork_call.proofs.LeastDue.{moment_stands}
+use Rattle.fork_call.proofs.Timed.{length_scheduled, no_more_rows, retimed_is, scheduled_is, still_within}
+use Rattle.fork_call.proofs.Touching.{Touches, does_pump, does_touch, fails_touch}
+
+-- ---- what is next
+
+pub if_none : {A : Type 0} → (r : Option A) (P : Type 0) → P → IfNone r P
+if_none None P p = p
+if_none (Some x) P p = _
+
+pub empty_by : {A : Type 0} → (xs : List A) (b : Bool) → b ≡ (length xs == 0) → not b ≡ false → xs ≡ []
+empty_by [] b is test = refl
+empty_by (x ∷ xs) true is test = absurd (let h : suc (length xs) ≡ 0 = eqb-true (suc (length xs)) 0 (sym is) in omega arith)
+empty_by (x ∷ xs) false is test = absurd cc
+
+none_any : (now : ℕ) (moments : List (Option ℕ)) → list_any (is_due now) moments ≡ false
+    → (k : ℕ) (moment : Option ℕ) → slice_get moments k ≡ Some moment → is_due now moment ≡ false
+none_any now [] none k moment there = absurd cc
+none_any now (m ∷ moments) none k moment there = by_test (is_due now m) refl none (λ n k there. none_any now moments n k moment there) k there
+  where
+    by_test : (b : Bool) → is_due now m ≡ b → (b || list_any (is_due now) moments) ≡ false
+        → (list_any (is_due now) moments ≡ false → (k : ℕ) → slice_get moments k ≡ Some moment → is_due now moment ≡ false) → (k : ℕ) → slice_get (m ∷ moments) k ≡ Some moment → is_due now moment ≡ false
+    by_test true e none rest k there = absurd cc
+    by_test false e none rest zero there =
+        let same : m ≡ moment = cc in
+        ap (is_due now) (sym same) ∙ e
+    by_test false e none rest (suc k) there = rest none k there
+
+pub idle_by : (call : Call) (now : ℕ) (moments : List (Option ℕ)) → moments ≡ scheduled call → length call.legs ≡ length (rows_of call)
+    → call.server.owed ≡ [] → is_due now (server.served_due call.server.machine) ≡ false → list_any (is_due now) moments ≡ false
+    → IsIdle call now
+idle_by call now moments times sized none served any =
+    idle call now none served (λ n. elim (moment_stands (rows_of call) call.legs n sized) [
+      | inl h ↦ none_any now (scheduled call) (ap (list_any (is_due now)) (sym times) ∙ any) n (due_of (slice_get (rows_of call) n) (leg_at call n)) h
+      | inr h ↦ ap (is_due now) h.1
+    ])
+
+-- a moment that stands in the schedule is that of a row
+pub due_by : (call : Call) (now k : ℕ) (moments : List (Option ℕ)) → moments ≡ scheduled call
+    → (moment : Option ℕ) × (slice_get moments k ≡ Some moment) × (is_due now moment ≡ true)
+    → is_due now (row_moment call k) ≡ true
+due_by call now k moments times (moment, there, due) =
+    let listed : slice_get (scheduled call) k ≡ Some moment = ap (λ (ms : List (Option ℕ)). slice_get ms k) (sym times) ∙ there in
+    ap (is_due now) (scheduled_is call k moment listed) ∙ due
+
+pub row_by : (call : Call) (now k : ℕ) (moments : List (Option ℕ)) → moments ≡ scheduled call
+    → (moment : Option ℕ) × (slice_get moments k ≡ Some moment) × (is_due now moment ≡ true)
+    → k < length (rows_of call)
+row_by call now k moments times (moment, there, due) =
+    let below = slice_get_within moments k moment there in
+    let size : length moments ≡ length (rows_of call) = ap (λ (ms : List (Option ℕ)). length ms) times ∙ length_scheduled call in
+    omega (arith, below, size)
+
+-- ---- as many replies as events
+
+as_many : (t : Table) (at : ℕ) (events : List Event) (replies : List Reply) → AreReplies t at events replies → length replies ≡ length events
+as_many t at [] [] h = refl
+as_many t at [] (reply ∷ replies) h = absurd h
+as_many t at (event ∷ events) [] h = absurd h
+as_many t at (event ∷ events) (reply ∷ replies) h = ap suc (as_many (next t event at) (suc at) events replies h.1)
+
+pub replied_each : (log : Log) → IsLog log → length log.replies ≡ length log.history
+replied_each log is = as_many log.opening 0 (events_of log.history) log.replies is.answered ∙ each log.history
+  where
+    each : (history : List Posted) → length (events_of history) ≡ length history
+    each [] = refl
+    each (p ∷ history) = ap suc (each history)
+
+-- ---- after a step
+
+pub no_padding : (moments : List (Option ℕ)) → moments ++ replicate 0 None ≡ moments
+no_padding [] = refl
+no_padding (m ∷ moments) = ap (λ (ms : List (Option ℕ)). m ∷ ms) (no_padding moments)
+
+module _ (kept : StepsKeepSound) (bounded : PositionsAreBounded) (none : sources.AddsNoRow) (left : OthersAreLeft) (exact : BecameIsExact)
+    (call new : Call) (moments after : List (Option ℕ)) (timed : IsTimed call moments)
+    (sized : length call.legs ≡ length (rows_of call)) (replied : length call.log.replies ≡ length call.log.history) where
+  pub timed_after : (row : Option ℕ) (quiet : Type 0) (p : ℕ) → Touches call new row quiet → IsSound new
+      → length (rows_of new) ≤ length (rows_of call) + p
+      → after ≡ retimed new row (length call.log.history) (moments ++ replicate p None)
+      → IsTimed new after
+  timed_after row quiet p touches sound room is = record {
+    sound = sound;
+    times = is
+    ∙ ap (λ (ms : List (Option ℕ)). retimed new row (length call.log.history) (ms ++ replicate p None)) timed.times
+    ∙ retimed_is left exact call new row quiet p sized replied room touches;
+    within = still_within bounded call new row quiet touches timed.within;
+  }
+
+  -- without more rows
+  same_after : (row : Option ℕ) → Touches call new row (Unit {0}) → IsSound new → after ≡ retimed new row (length call.log.history) moments → IsTimed new after
+  same_after row touches sound is =
+      let rows : length (rows_of new) ≡ length (rows_of call) = no_more_rows none call new row (Unit {0}) touches _ in
+      timed_after row (Unit {0}) 0 touches sound (omega (arith, rows))
+      (is ∙ ap (λ (ms : List (Option ℕ)). retimed new row (length call.log.history) ms) (sym (no_padding moments)))
+
+  pub pumped_timed : (now : ℕ) (deed : Deed) (pumped : Pumped) → is_due_at call now deed ≡ true → Does call now deed pumped new
+      → after ≡ retimed new (row_of_deed deed) (length call.log.history) moments
+      → IsTimed new after
+  pumped_timed now deed pumped due does is =
+      same_after (row_of_deed deed) (does_touch call new now deed pumped does)
+      (kept (record { now = now; input = step.Pump; output = step.Did pumped }) call new timed.sound _ (does_pump call new now deed pumped due does)) is
+
+  pub failed_timed : (now : ℕ) (why : Cause) → Fails call now why new
+      → after ≡ retimed new (row_of_cause why) (length call.log.history) moments
+      → IsTimed new after
+  failed_timed now why fails is =
+      same_after (row_of_cause why) (fails_touch call new now why fails)
+      (kept (record { now = now; input = step.Failed why; output = step.Told }) call new timed.sound _ fails) is

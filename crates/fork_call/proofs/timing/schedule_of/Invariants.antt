@@ -1,0 +1,7 @@
+use Rattle.std.proofs.Common.{◌≡◌, take}
+use Rattle.fork_call.specs.Scheduled.{scheduled}
+use Rattle.fork_call.proofs.timing.schedule_of.Given as goal
+
+-- the rows before this one have their moments
+abbrev pub invariant-loop-n : goal.invariant-loop-n
+invariant-loop-n g l = l.schedule ≡ take l.n (scheduled l.parts)

@@ -1,0 +1,7 @@
+use Rattle.std.proofs.Common.{◌≡◌, take}
+use Rattle.fork_call.specs.Timing.{timed}
+use Rattle.fork_call.proofs.timing.time_rows.Given as goal
+
+-- the rows before this one are timed anew
+abbrev pub invariant-loop-n : goal.invariant-loop-n
+invariant-loop-n g l = l.schedule ≡ timed l.parts (take l.n-index l.rows) l.fn.schedule
