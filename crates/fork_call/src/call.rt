@@ -14,7 +14,7 @@ ghost use Rattle.fork_call.specs.Timing.{row_of_cause};
 
 use crate::deed::Deed;
 use crate::fault::TakeFault;
-use crate::schedule::{Schedule, is_due};
+use crate::schedule::{Schedule, earlier, is_due};
 use crate::timing::{schedule_of, time_step};
 use fork_book::Book;
 use fork_model::{
@@ -175,6 +175,17 @@ impl<A: Allocator + Clone> Call<A> {
         self.parts.failed(cause, now)?;
         time_step(&mut self.schedule, &self.parts, row_of(cause), at);
         Ok(())
+    }
+
+    /// The earliest moment at which something is to be done; what is owed is to be done at any.
+    pub fn due(&self) -> Option<u64>
+        ensures { IsLeastDue self.now result }
+    {
+        if !self.parts.owed().is_empty() {
+            return Some(0);
+        }
+        self.parts.is_sized();
+        earlier(self.parts.server_due(), self.schedule.least())
     }
 
     /// The events that were posted, and the context that they lead to.
