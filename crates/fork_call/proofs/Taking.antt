@@ -53,9 +53,10 @@ module _ (kept : StepsKeepSound) (bounded : PositionsAreBounded) (none : sources
   -- it was taken, or the call is as it was
   outcome : (result : Result Taken TakeFault) → IfOk result (λ taken. TakesAs call now m source r (seen_taken taken) new) → OnErr result (new ≡ call) → IsGivenTo r m
       → Touches call new (row_of_recipient r) (is_redirection (status_of m) ≡ false) × IsSound new
-  outcome (Ok taken) takes same given =
-      (takes_touch call new now m source r (seen_taken taken) takes,
-      kept (record { now = now; input = step.Take r m source; output = step.Took (seen_taken taken) }) call new timed.sound given takes)
+  outcome (Ok taken) takes same given = (
+    takes_touch call new now m source r (seen_taken taken) takes,
+    kept (record { now = now; input = step.Take r m source; output = step.Took (seen_taken taken) }) call new timed.sound given takes,
+  )
   outcome (Err fault) takes same given = (inl (beside_same call new (row_of_recipient r) same), subst IsSound (sym same) timed.sound)
 
   room : (status : ℕ) → length (rows_of new) ≤ most_targets → (is_redirection status ≡ false → length (rows_of new) ≡ length (rows_of call))
