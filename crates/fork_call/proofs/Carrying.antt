@@ -1,7 +1,12 @@
-use Rattle.std.proofs.Common.{◌≡◌, ◌∙◌, ℕ, suc, ◌+◌, ◌≤◌, refl, subst, arith, true, false, List, [], ◌∷◌, ◌++◌, length, length-append}
-use Rattle.fork_parts.specs.Call.{Call}
-use Rattle.fork_parts.specs.Due.{IsIdle}
-use Rattle.fork_call.specs.Carry.{Carrying, Sent, Lost, Silent, Carries, CarriesAll, sent_in, lost_in, most_steps, IsCarried, IsRunOut, IsSoFar}
+use Rattle.std.proofs.Common.{◌≡◌, ◌∙◌, ℕ, suc, ◌+◌, ◌<◌, ◌≤◌, refl, subst, sym, arith, true, false, Bool, Option, Some, None, List, [], ◌∷◌, ◌++◌, length, length-append}
+use Rattle.std.proofs.lemmas.Bool.{le-leb, leb-false, leb-true}
+use Rattle.std.specs.Prelude.{◌&&◌, not}
+use Rattle.fork_model.specs.Table.{is_cancelled}
+use Rattle.sip_txn.specs.Timers.{is_due}
+use Rattle.fork_parts.specs.Call.{Call, leg_at, row_passes, runs_timer_c}
+use Rattle.fork_parts.specs.Due.{Deed, SendRequest, SendCancel, SendAck, SendAnswer, TickServer, TickClient, TickCancel, FireTimerC, GiveUp, IsIdle, IsLeastDue, cancel_at, client_at, give_up_at, is_due_at, timer_c_at}
+use Rattle.fork_parts.specs.Server.{served_due}
+use Rattle.fork_call.specs.Carry.{Carrying, Sent, Lost, Silent, Carries, CarriesAll, sent_in, lost_in, most_steps, IsCarried, IsCarriedOut, IsRunOut, IsSoFar}
 
 carries_more : (now : ℕ) (call mid new : Call) (steps : List Carrying) (step : Carrying) → CarriesAll now call steps mid → Carries now mid step new → CarriesAll now call (steps ++ step ∷ []) new
 carries_more now call mid new [] step run last =
@@ -67,4 +72,65 @@ run_long now call new count sent failed far e = record {
   failed_are = far.failed_are;
   done = λ h. absurd cc;
   long = λ h. far.count_is ∙ e;
+}
+
+-- ---- whether something is still due
+
+moment_stays : (at now : ℕ) (moment : Option ℕ) → at ≤ now → is_due at moment ≡ true → is_due now moment ≡ true
+moment_stays at now None le due = absurd cc
+moment_stays at now (Some m) le due = le-leb m now (let h : m ≤ at = leb-true m at due in omega arith)
+
+both_stay : (at now : ℕ) (runs : Bool) (moment : Option ℕ) → at ≤ now → (runs && is_due at moment) ≡ true → (runs && is_due now moment) ≡ true
+both_stay at now true moment le due = moment_stays at now moment le due
+both_stay at now false moment le due = absurd cc
+
+-- what is due at a moment is so at each later one
+due_stays : (call : Call) (at now : ℕ) (deed : Deed) → at ≤ now → is_due_at call at deed ≡ true → is_due_at call now deed ≡ true
+due_stays call at now (SendRequest n) le due = due
+due_stays call at now (SendCancel n) le due = due
+due_stays call at now (SendAck n) le due = due
+due_stays call at now SendAnswer le due = due
+due_stays call at now TickServer le due = moment_stays at now (served_due call.server.machine) le due
+due_stays call at now (TickClient n) le due = moment_stays at now (client_at (leg_at call n)) le due
+due_stays call at now (TickCancel n) le due = moment_stays at now (cancel_at (leg_at call n)) le due
+due_stays call at now (FireTimerC n) le due = both_stay at now (row_passes runs_timer_c call n) (timer_c_at (leg_at call n)) le due
+due_stays call at now (GiveUp n) le due = both_stay at now (row_passes is_cancelled call n) (give_up_at (leg_at call n)) le due
+
+idle_by : (b : Bool) → (b ≡ true → ⊥) → b ≡ false
+idle_by true h = absurd (h refl)
+idle_by false h = refl
+
+pub idle_before : (call : Call) (now : ℕ) (least : Option ℕ) → IsLeastDue call least → is_due now least ≡ false → IsIdle call now
+idle_before call now None is quiet = is now
+idle_before call now (Some at) is quiet =
+    let before : now < at = leb-false at now quiet in
+    λ deed. idle_by (is_due_at call now deed) (λ h. absurd (let le = is.2 now deed h in omega arith))
+
+pub busy_from : (call : Call) (now : ℕ) (least : Option ℕ) → IsLeastDue call least → is_due now least ≡ true → IsIdle call now → ⊥
+busy_from call now None is due idle = absurd cc
+busy_from call now (Some at) is due idle =
+    let came : at ≤ now = leb-true at now due in
+    let quiet = idle is.0 in
+    let busy = due_stays call at now is.0 came is.1 in
+    absurd cc
+
+pub carried_out : (now : ℕ) (call new : Call) (sent failed : ℕ) (idle : Bool) (least : Option ℕ) → IsRunOut now call new sent failed idle → IsLeastDue new least
+    → (more : Bool) → more ≡ (not idle && is_due now least) → IsCarriedOut now call new sent failed more
+carried_out now call new sent failed true least run is more e = record {
+  steps = run.steps;
+  run = run.run;
+  few = run.few;
+  sent_are = run.sent_are;
+  failed_are = run.failed_are;
+  done = λ h. run.done refl;
+  not_done = λ h. absurd cc;
+}
+carried_out now call new sent failed false least run is more e = record {
+  steps = run.steps;
+  run = run.run;
+  few = run.few;
+  sent_are = run.sent_are;
+  failed_are = run.failed_are;
+  done = λ h. idle_before new now least is (sym e ∙ h);
+  not_done = λ h. (run.long refl, busy_from new now least is (sym e ∙ h));
 }

@@ -6,3 +6,6 @@ pub mod Touching
 pub mod Timed
 pub mod Leasts
 pub mod Stepping
+pub mod Opened
+pub mod Taking
+pub mod Ending

@@ -3,6 +3,7 @@ ghost use Rattle.std.specs.Prelude.{◌≡◌, ◌≤◌, ◌<◌, ◌+◌, ℕ,
 ghost use Rattle.fork_call.specs.Carry.{IsCarried, IsCarriedOut, IsRunOut};
 
 use crate::call::Call;
+use crate::schedule::is_due;
 use fork_parts::{Datagram, Step};
 use std::alloc::{AllocError, Allocator};
 
@@ -45,9 +46,13 @@ pub fn carry<A: Allocator + Clone, P: Port>(
     ensures done { IfOk result (λ c. IsCarriedOut now call.old call.new c.sent c.failed c.more) }
     ensures told { IfOk result (λ c. P.count port.old + c.failed ≤ P.count port.new) }
 {
-    // to be written: the contract alone is settled here
-    let _ = (now, port.failures());
-    Err(AllocError)
+    let run = run_out(call, port, now)?;
+    let more = !run.idle && is_due(call.due(), now);
+    Ok(Carried {
+        sent: run.sent,
+        failed: run.failed,
+        more,
+    })
 }
 
 /// Hands a datagram to the port, and says whether it is lost: the port says so, and has counted it.

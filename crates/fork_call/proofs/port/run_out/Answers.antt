@@ -2,9 +2,9 @@ use Rattle.std.proofs.Common.{◌+◌, refl, sym, subst, arith}
 use Rattle.fork_parts.specs.Call.{Call}
 use Rattle.fork_call.specs.Carry.{IsCarried, Carries, Sent, Lost, Silent}
 use Rattle.fork_parts.specs.Pump.{Pumps, Send}
-use Rattle.fork_call.specs.SeenDatagram.{seen}
-use Rattle.fork_call.specs.SeenStep.{pumped}
-use Rattle.fork_call.specs.declared.step.Step.{Step}
+use Rattle.fork_parts.specs.SeenDatagram.{seen}
+use Rattle.fork_parts.specs.SeenStep.{pumped}
+use Rattle.fork_parts.specs.declared.step.Step.{Step}
 use Rattle.fork_call.proofs.Carrying.{carried, so_far_sent, so_far_lost, so_far_silent}
 use Rattle.fork_call.proofs.port.run_out.Goals.{in-Did, in-Send, then-is_lost+in_ok-failed-in-Send, else-is_lost}
 use Rattle.fork_call.proofs.port.run_out.Goals as goal
