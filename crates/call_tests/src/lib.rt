@@ -3,6 +3,8 @@
 #![tactic(auto)]
 
 #[cfg(test)]
+mod carrying;
+#[cfg(test)]
 mod holds;
 #[cfg(test)]
 mod opening;
