@@ -11,6 +11,8 @@ mod opening;
 #[cfg(test)]
 mod parts;
 #[cfg(test)]
+mod recipients;
+#[cfg(test)]
 mod requests;
 #[cfg(test)]
 mod setup;

@@ -1,8 +1,13 @@
-//! Which requests are admitted, and how each fault is answered.
+//! Which requests are admitted and open a call, and how each fault is answered.
 use crate::holds::holds;
-use crate::requests::{OWN, REQUEST, SOURCE, request_with, setup_of};
-use fork_routing::{OpenFault, admit, is_domain};
+use crate::requests::{
+    Change, OWN, SETUP, SOURCE, opened, request_with, sent_to, setup_of, text_of,
+};
+use fork_context::Kind;
+use fork_parts::{Cause, Datagram, Parts};
+use fork_routing::{OpenFault, admit, is_domain, is_openable};
 use sip_text::Message;
+use sip_uri::Hop;
 use std::alloc::Global;
 
 #[test]
@@ -24,7 +29,7 @@ fn each_fault_has_its_status(rt: HostRuntime) {
 
 /// Whether the request is admitted, and begins with its own start line then.
 fn is_admitted(alloc: Global) -> Option<bool> {
-    let message = request_with(alloc, 0, REQUEST[0])?;
+    let message = request_with(alloc, &[])?;
     let request: Message<Global> = admit(alloc, OWN, message, SOURCE).ok()?;
     Some(request.method() == Some(b"OPTIONS".as_slice()))
 }
@@ -40,7 +45,7 @@ fn a_request_is_admitted(rt: HostRuntime) {
 
 /// Whether the proxy answers for a host.
 fn answers_for(alloc: Global, host: &[u8]) -> Option<bool> {
-    let setup = setup_of(alloc)?;
+    let setup = setup_of(alloc, SETUP)?;
     is_domain(alloc, &setup, host).ok()
 }
 
@@ -58,6 +63,268 @@ fn the_domain_and_the_own_address_are_answered_for(rt: HostRuntime) {
             &rt,
             answers_for(rt.alloc(), host) == Some(well),
             "a host that the proxy answers for",
+        );
+    }
+}
+
+// ---- which requests may open a call
+
+/// Whether the request with this start line and this CSeq may open a call.
+fn may_open(alloc: Global, start: &'static [u8], cseq: &'static [u8]) -> Option<bool> {
+    let message = request_with(alloc, &[(0, start), (6, cseq)])?;
+    Some(is_openable(&message))
+}
+
+#[test]
+fn an_ack_and_a_cancel_open_no_call(rt: HostRuntime) {
+    let given: [(&'static [u8], &'static [u8], bool); 6] = [
+        (
+            b"INVITE sip:bob@example.com SIP/2.0",
+            b"CSeq: 1 INVITE",
+            true,
+        ),
+        (b"BYE sip:bob@example.com SIP/2.0", b"CSeq: 1 BYE", true),
+        (b"Ack sip:bob@example.com SIP/2.0", b"CSeq: 1 Ack", true),
+        (b"ACK sip:bob@example.com SIP/2.0", b"CSeq: 1 ACK", false),
+        (
+            b"CANCEL sip:bob@example.com SIP/2.0",
+            b"CSeq: 1 CANCEL",
+            false,
+        ),
+        (b"SIP/2.0 200 OK", b"CSeq: 1 INVITE", false),
+    ];
+    for (start, cseq, well) in given {
+        holds(
+            &rt,
+            may_open(rt.alloc(), start, cseq) == Some(well),
+            "a message that may open a call",
+        );
+    }
+}
+
+// ---- a call that opens
+
+/// The parts of the call that the request with these changes opens.
+fn opened_with(alloc: Global, changes: &[Change]) -> Option<Result<Parts, OpenFault>> {
+    let setup = setup_of(alloc, SETUP)?;
+    opened(alloc, &setup, request_with(alloc, changes)?)
+}
+
+/// The same, where it opens.
+fn call_with(alloc: Global, changes: &[Change]) -> Option<Parts> {
+    match opened_with(alloc, changes)? {
+        Ok(parts) => Some(parts),
+        Err(_) => None,
+    }
+}
+
+/// The request as it goes to the location of its user.
+const FORWARDED: [&[u8]; 10] = [
+    b"OPTIONS sip:bob@192.0.2.4 SIP/2.0",
+    b"Via: SIP/2.0/UDP 192.0.2.9:5060;branch=z9hG4bK8c31e71e0ddbf1a0e56f5f0279990857.7.3.0",
+    b"v: SIP/2.0/UDP 192.0.2.1:5060;branch=z9hG4bKa;rport=40000;received=192.0.2.1",
+    b"Max-Forwards: 69",
+    b"f: <sip:alice@example.com>;tag=1",
+    b"t: <sip:bob@example.com>",
+    b"i: c1",
+    b"CSeq: 1 OPTIONS",
+    b"l: 0",
+    b"",
+];
+
+/// Whether a datagram takes the request of the first branch there, as this text.
+fn is_sent_as(sent: &Datagram, to: Hop, text: &[u8]) -> bool {
+    sent.to == to && sent.cause == Cause::Request(0) && sent.bytes.as_slice() == text
+}
+
+/// Whether the request of the first branch goes there, as these lines.
+fn sends(alloc: Global, parts: &mut Parts, to: Hop, lines: &[&[u8]]) -> Option<bool> {
+    let sent = sent_to(parts, 0)?;
+    let text = text_of(alloc, lines)?;
+    Some(is_sent_as(&sent, to, &text))
+}
+
+#[test]
+fn a_request_opens_a_call(rt: HostRuntime) {
+    let alloc = rt.alloc();
+    let Some(mut parts) = call_with(alloc, &[]) else {
+        return holds(&rt, false, "a request opens a call");
+    };
+    holds(&rt, parts.fixed().number() == 3, "its number");
+    holds(&rt, parts.fixed().own() == OWN, "its address");
+    holds(&rt, parts.fixed().kind() == Kind::Other, "its kind");
+    holds(&rt, parts.book().context().count() == 1, "one branch");
+    holds(&rt, parts.owed().is_empty(), "nothing is owed");
+    let to = Hop {
+        addr: [192, 0, 2, 4],
+        port: 5060,
+    };
+    holds(
+        &rt,
+        sends(alloc, &mut parts, to, &FORWARDED) == Some(true),
+        "the request to the location",
+    );
+}
+
+/// How many answers are owed in a call that the request with these changes opens.
+fn owed_with(alloc: Global, changes: &[Change]) -> Option<usize> {
+    let parts = call_with(alloc, changes)?;
+    Some(parts.owed().len())
+}
+
+#[test]
+fn an_invite_is_owed_a_100(rt: HostRuntime) {
+    let changes: [Change; 2] = [
+        (0, b"INVITE sip:bob@example.com SIP/2.0"),
+        (6, b"CSeq: 1 INVITE"),
+    ];
+    holds(
+        &rt,
+        owed_with(rt.alloc(), &changes) == Some(1),
+        "one answer is owed",
+    );
+}
+
+/// Where the request of the first branch goes in the call that the request with these changes opens.
+fn hop_with(alloc: Global, changes: &[Change]) -> Option<Hop> {
+    let mut parts = call_with(alloc, changes)?;
+    Some(sent_to(&mut parts, 0)?.to)
+}
+
+/// Changes of the request, and the last number of the address and the port that it goes to.
+const WAYS: [(Change, u8, u16); 9] = [
+    ((0, b"OPTIONS sip:bob@EXAMPLE.com SIP/2.0"), 4, 5060),
+    ((0, b"OPTIONS sip:bob@192.0.2.9 SIP/2.0"), 4, 5060),
+    ((0, b"OPTIONS sip:bob@192.0.2.7:5061 SIP/2.0"), 7, 5061),
+    ((0, b"OPTIONS sip:192.0.2.7 SIP/2.0"), 7, 5060),
+    ((2, b"Max-Forwards: 1"), 4, 5060),
+    ((2, b"Subject: x"), 4, 5060),
+    ((7, b"Route: <sip:192.0.2.8;lr>"), 8, 5060),
+    ((7, b"Route: <sip:192.0.2.9;lr>"), 4, 5060),
+    (
+        (7, b"Route: <sip:192.0.2.9;lr>, <sip:192.0.2.8:5062;lr>"),
+        8,
+        5062,
+    ),
+];
+
+#[test]
+fn each_request_goes_its_way(rt: HostRuntime) {
+    for (change, last, port) in WAYS {
+        let to = Hop {
+            addr: [192, 0, 2, last],
+            port,
+        };
+        holds(
+            &rt,
+            hop_with(rt.alloc(), &[change]) == Some(to),
+            "where a request goes",
+        );
+    }
+}
+
+// ---- why none opens
+
+/// The fault with which the request with these changes opens no call.
+fn fault_with(alloc: Global, changes: &[Change]) -> Option<OpenFault> {
+    match opened_with(alloc, changes)? {
+        Ok(_) => None,
+        Err(fault) => Some(fault),
+    }
+}
+
+/// The Via line of a branch of the proxy, for the request as it stands.
+const PASSED: &[u8] =
+    b"v: SIP/2.0/UDP 192.0.2.9:5060;branch=z9hG4bK8c31e71e0ddbf1a0e56f5f0279990857.7.3.0";
+
+/// The same, for the request with `Proxy-Require: x`.
+const PASSED_REQUIRING: &[u8] =
+    b"v: SIP/2.0/UDP 192.0.2.9:5060;branch=z9hG4bK7a3f7bd1f95a0cbf8f999f148e0ab728.7.3.0";
+
+/// Changes of the request, and the fault that each makes.
+const FAULTS: [(Change, OpenFault); 15] = [
+    (
+        (1, b"v: SIP/2.0/UDP 192.0.2.1:5060;branch=a;rport"),
+        OpenFault::BadRequest,
+    ),
+    (
+        (1, b"v: SIP/2.0/UDP 192.0.2.1:5060;rport"),
+        OpenFault::BadRequest,
+    ),
+    ((1, b"v: SIP/2.0/UDP"), OpenFault::BadRequest),
+    ((2, b"Max-Forwards: x"), OpenFault::BadRequest),
+    ((2, b"Max-Forwards: 256"), OpenFault::BadRequest),
+    ((7, b"Route: sip:192.0.2.8"), OpenFault::BadRequest),
+    ((0, b"OPTIONS sip:a@h:0 SIP/2.0"), OpenFault::BadRequest),
+    ((0, b"OPTIONS tel:1 SIP/2.0"), OpenFault::Scheme),
+    ((2, b"Max-Forwards: 0"), OpenFault::Hops),
+    ((7, PASSED), OpenFault::Loop),
+    ((7, b"Proxy-Require: x"), OpenFault::Extension),
+    (
+        (0, b"OPTIONS sip:eve@example.com SIP/2.0"),
+        OpenFault::NoTarget,
+    ),
+    ((0, b"OPTIONS sip:example.com SIP/2.0"), OpenFault::NoTarget),
+    (
+        (0, b"OPTIONS sip:x@other.example SIP/2.0"),
+        OpenFault::NoHop,
+    ),
+    ((7, b"Route: <sip:other.example;lr>"), OpenFault::NoHop),
+];
+
+#[test]
+fn each_fault_is_told(rt: HostRuntime) {
+    for (change, fault) in FAULTS {
+        holds(
+            &rt,
+            fault_with(rt.alloc(), &[change]) == Some(fault),
+            "why a request opens no call",
+        );
+    }
+}
+
+/// Two changes of the request, each of which makes a fault, and that which is told.
+const ORDER: [(Change, Change, OpenFault); 7] = [
+    (
+        (0, b"OPTIONS tel:1 SIP/2.0"),
+        (2, b"Max-Forwards: x"),
+        OpenFault::BadRequest,
+    ),
+    (
+        (0, b"OPTIONS tel:1 SIP/2.0"),
+        (2, b"Max-Forwards: 0"),
+        OpenFault::Scheme,
+    ),
+    ((2, b"Max-Forwards: 0"), (7, PASSED), OpenFault::Hops),
+    (
+        (2, b"Proxy-Require: x"),
+        (7, PASSED_REQUIRING),
+        OpenFault::Loop,
+    ),
+    (
+        (0, b"OPTIONS sip:eve@example.com SIP/2.0"),
+        (7, b"Proxy-Require: x"),
+        OpenFault::Extension,
+    ),
+    (
+        (0, b"OPTIONS sip:x@other.example SIP/2.0"),
+        (7, b"Proxy-Require: x"),
+        OpenFault::Extension,
+    ),
+    (
+        (0, b"OPTIONS sip:eve@example.com SIP/2.0"),
+        (7, b"Route: <sip:other.example;lr>"),
+        OpenFault::NoTarget,
+    ),
+];
+
+#[test]
+fn the_first_fault_is_told(rt: HostRuntime) {
+    for (first, second, fault) in ORDER {
+        holds(
+            &rt,
+            fault_with(rt.alloc(), &[first, second]) == Some(fault),
+            "which of two faults is told",
         );
     }
 }

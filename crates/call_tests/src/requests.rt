@@ -1,4 +1,6 @@
-//! A setup and a request of one of its users, as texts.
+//! A setup, a request of one of its users, and the call that it opens.
+use fork_parts::{Datagram, Parts};
+use fork_routing::{OpenFault, is_openable, open};
 use fork_setup::Setup;
 use sip_text::Message;
 use sip_uri::Hop;
@@ -18,7 +20,7 @@ pub const OWN: Own = Own {
 };
 
 /// What the proxy is set up with.
-const SETUP: &[u8] =
+pub const SETUP: &[u8] =
     b"own 192.0.2.9 5060\ninstance 7\ndomain example.com\nlocation bob 1000 sip:bob@192.0.2.4\n";
 
 /// A request, line by line.
@@ -34,28 +36,59 @@ pub const REQUEST: [&[u8]; 9] = [
     b"",
 ];
 
-/// The setup.
-pub fn setup_of(alloc: Global) -> Option<Setup<Global>> {
-    Setup::read(alloc, SETUP).ok()
+/// Another line of the request, by its index.
+pub type Change = (usize, &'static [u8]);
+
+/// The setup that a text spells.
+pub fn setup_of(alloc: Global, text: &[u8]) -> Option<Setup<Global>> {
+    Setup::read(alloc, text).ok()
 }
 
-/// The message of these lines.
-pub fn message_of(alloc: Global, lines: &[&[u8]]) -> Option<Message<Global>> {
+/// The text of these lines.
+pub fn text_of(alloc: Global, lines: &[&[u8]]) -> Option<Vec<u8>> {
     let mut text = Vec::new(alloc);
     for line in lines {
         text.extend_from_slice(line).ok()?;
         text.extend_from_slice(b"\r\n").ok()?;
     }
-    Message::read(alloc, &text).ok()
+    Some(text)
 }
 
-/// The request with this line in the place of that of this index.
-pub fn request_with(alloc: Global, place: usize, line: &[u8]) -> Option<Message<Global>> {
+/// The line of this index with these changes.
+fn line_with(changes: &[Change], index: usize, line: &'static [u8]) -> &'static [u8] {
+    match changes.iter().find(|(place, _)| *place == index) {
+        None => line,
+        Some((_, other)) => *other,
+    }
+}
+
+/// The request with these changes.
+pub fn request_with(alloc: Global, changes: &[Change]) -> Option<Message<Global>> {
     let mut text = Vec::new(alloc);
-    for (n, own) in REQUEST.iter().enumerate() {
-        text.extend_from_slice(if n == place { line } else { *own })
+    for (index, line) in REQUEST.iter().enumerate() {
+        text.extend_from_slice(line_with(changes, index, *line))
             .ok()?;
         text.extend_from_slice(b"\r\n").ok()?;
     }
     Message::read(alloc, &text).ok()
+}
+
+/// The parts of the call that a request opens as number 3, or the fault. None where it is no request that may open a call.
+pub fn opened(
+    alloc: Global,
+    setup: &Setup<Global>,
+    request: Message<Global>,
+) -> Option<Result<Parts, OpenFault>> {
+    if !is_openable(&request) {
+        return None;
+    }
+    Some(open(alloc, setup, 3, request, SOURCE, 0))
+}
+
+/// The datagram that the request becomes for target n, if there is one.
+pub fn sent_to(parts: &mut Parts, n: u16) -> Option<Datagram> {
+    if n >= parts.book().context().count() {
+        return None;
+    }
+    parts.send_request(n, 0).ok()
 }

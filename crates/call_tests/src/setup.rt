@@ -19,14 +19,24 @@ const LINES: [&[u8]; 4] = [
 /// What has to stand before any rule or location.
 const HEAD: &[u8] = b"own 192.0.2.9 5060\ninstance 7\ndomain example.com\n";
 
-/// The lines of that setup, but this one in the place of that of a number from 1.
-fn text_with(alloc: Global, number: usize, other: &[u8]) -> Result<Vec<u8>, AllocError> {
+/// The text of these lines, but this one in the place of that of a number from 1.
+fn lines_with(
+    alloc: Global,
+    lines: &[&[u8]],
+    number: usize,
+    other: &[u8],
+) -> Result<Vec<u8>, AllocError> {
     let mut text = Vec::new(alloc);
-    for (n, line) in LINES.iter().enumerate() {
+    for (n, line) in lines.iter().enumerate() {
         text.extend_from_slice(if n + 1 == number { other } else { *line })?;
         text.push(b'\n')?;
     }
     Ok(text)
+}
+
+/// That of the lines of one setup.
+fn text_with(alloc: Global, number: usize, other: &[u8]) -> Result<Vec<u8>, AllocError> {
+    lines_with(alloc, &LINES, number, other)
 }
 
 /// These lines behind the first three.
@@ -187,6 +197,57 @@ fn each_line_has_its_form(rt: HostRuntime) -> Result<(), AllocError> {
         );
     }
     Ok(())
+}
+
+/// One line of each kind, in their order.
+const ALL: [&[u8]; 6] = [
+    b"own 192.0.2.9 5060",
+    b"instance 7",
+    b"domain example.com",
+    b"prefer 401,407",
+    b"depth 3",
+    b"location bob 1000 sip:bob@192.0.2.4;transport=udp",
+];
+
+/// A line with a NUL byte at this place.
+fn spoilt(alloc: Global, line: &[u8], place: usize) -> Option<Vec<u8>> {
+    let mut other = Vec::from_slice(alloc, line).ok()?;
+    *other.get_mut(place)? = 0;
+    Some(other)
+}
+
+/// The fault of all lines with such a byte in that of a number from 1.
+fn fault_at(alloc: Global, number: usize, line: &[u8], place: usize) -> Option<SetupFault> {
+    let other = spoilt(alloc, line, place)?;
+    let text = lines_with(alloc, &ALL, number, &other).ok()?;
+    fault_of(alloc, &text)
+}
+
+/// Whether a NUL byte makes the line of a number malformed, wherever it stands there.
+fn is_told(alloc: Global, number: usize, line: &[u8]) -> bool {
+    for place in 0..line.len() {
+        if fault_at(alloc, number, line, place) != Some(SetupFault::Line(number)) {
+            return false;
+        }
+    }
+    true
+}
+
+/// Whether the lines as they are set a proxy up.
+fn is_well(alloc: Global) -> bool {
+    match lines_with(alloc, &ALL, 0, b"") {
+        Ok(text) => malformed(alloc, &text) == Ok(0),
+        Err(_) => false,
+    }
+}
+
+#[test]
+fn a_wrong_byte_is_told_by_its_line(rt: HostRuntime) {
+    let alloc = rt.alloc();
+    holds(&rt, is_well(alloc), "all lines as they are");
+    for (n, line) in ALL.iter().enumerate() {
+        holds(&rt, is_told(alloc, n + 1, line), "a NUL byte in a line");
+    }
 }
 
 /// Lines behind the first three, and the number of the malformed one, 0 where there is none.

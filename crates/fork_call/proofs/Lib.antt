@@ -6,3 +6,4 @@ pub mod Touching
 pub mod Timed
 pub mod Leasts
 pub mod Stepping
+pub mod Opened

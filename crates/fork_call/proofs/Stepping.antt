@@ -1,6 +1,6 @@
 -- What is next to be done on a call, and how a step leaves it.
 use Rattle.std.proofs.Common.{◌≡◌, ◌∙◌, ℕ, zero, suc, ◌+◌, ◌<◌, ◌≤◌, ap, refl, sym, subst, inl, inr, arith, true, false, Bool, List, [], ◌∷◌, ◌++◌, length, replicate, take, Option, Some, None, slice_get}
-use Rattle.std.specs.Prelude.{IfNone, IfSome, not, ◌||◌, ◌==◌}
+use Rattle.std.specs.Prelude.{IfNone, ◌||◌, ◌==◌}
 use Rattle.std.specs.List.{list_any}
 use Rattle.std.proofs.lemmas.Bool.{eqb-true}
 use Rattle.std.proofs.lemmas.Option.{slice_get_within}
@@ -37,7 +37,7 @@ pub if_none : {A : Type 0} → (r : Option A) (P : Type 0) → P → IfNone r P
 if_none None P p = p
 if_none (Some x) P p = _
 
-pub empty_by : {A : Type 0} → (xs : List A) (b : Bool) → b ≡ (length xs == 0) → not b ≡ false → xs ≡ []
+pub empty_by : {A : Type 0} → (xs : List A) (b : Bool) → b ≡ (length xs == 0) → b ≡ true → xs ≡ []
 empty_by [] b is test = refl
 empty_by (x ∷ xs) true is test = absurd (let h : suc (length xs) ≡ 0 = eqb-true (suc (length xs)) 0 (sym is) in omega arith)
 empty_by (x ∷ xs) false is test = absurd cc
@@ -111,8 +111,8 @@ module _ (kept : StepsKeepSound) (bounded : PositionsAreBounded) (none : sources
   timed_after row quiet p touches sound room is = record {
     sound = sound;
     times = is
-    ∙ ap (λ (ms : List (Option ℕ)). retimed new row (length call.log.history) (ms ++ replicate p None)) timed.times
-    ∙ retimed_is left exact call new row quiet p sized replied room touches;
+        ∙ ap (λ (ms : List (Option ℕ)). retimed new row (length call.log.history) (ms ++ replicate p None)) timed.times
+        ∙ retimed_is left exact call new row quiet p sized replied room touches;
     within = still_within bounded call new row quiet touches timed.within;
   }
 

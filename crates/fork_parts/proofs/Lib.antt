@@ -19,4 +19,8 @@ pub mod StateRows
 pub mod Paying
 pub mod Deeds
 pub mod Beginning
+pub mod NewPlaces
+pub mod NewWays
+pub mod Weights
+pub mod NewRows
 pub mod laws

@@ -1,12 +1,10 @@
-use Rattle.std.proofs.Common.{◌≡◌, ◌∙◌, ℕ, zero, suc, ◌<◌, ap, refl, sym, subst, arith, true, false, Bool, List, [], ◌∷◌, ◌++◌, map, length, Option, Some, None, slice_get}
-use Rattle.std.specs.Prelude.{nat_lt, cond, not, ◌||◌, ◌==◌}
+use Rattle.std.proofs.Common.{◌≡◌, ◌∙◌, ℕ, ap, refl, sym, subst, true, false, Bool, List, Option, Some, None, slice_get}
+use Rattle.std.specs.Prelude.{nat_lt, cond}
 use Rattle.fork_model.specs.Event.{Event}
-use Rattle.fork_model.specs.Reply.{Reply}
 use Rattle.sip_text.specs.Text.{MessageText, spelling}
 use Rattle.sip_txn.specs.declared.event.TxOut.{TxOut}
 use Rattle.sip_txn.specs.declared.event.TxSend.{TxSend}
 use Rattle.sip_txn.specs.declared.event.TxSend.TheVariants as send
-use Rattle.sip_uri.specs.Contact.{ContactText}
 use Rattle.fork_parts.specs.Fixed.{Way}
 use Rattle.fork_parts.specs.Client.{Client, client_after, client_out}
 use Rattle.fork_parts.specs.Leg.{Leg}
@@ -15,8 +13,8 @@ use Rattle.fork_parts.specs.Built.{ack_to, status_of}
 use Rattle.fork_parts.specs.LegInside.{responded, kept, changed_leg, ack_made, answer_if}
 use Rattle.fork_model.specs.Core.{is_full}
 use Rattle.fork_book.specs.Log.{core_of}
-use Rattle.fork_parts.specs.Plain.{PostsAt}
-use Rattle.fork_parts.specs.Response.{contacts_by, contacts_in, event_by, is_bare, is_redirection}
+use Rattle.fork_parts.specs.NewWays.{PostsSaid}
+use Rattle.fork_parts.specs.Response.{contacts_by, event_by}
 use Rattle.fork_parts.specs.Posting.{Posts}
 use Rattle.fork_parts.specs.Take.{RespondsOn, Absorbed, Posted, Full, going_up, response_event, is_passed, ack_by, leg_after, leg_posted, timer_c_again, answer_kept}
 use Rattle.fork_parts.proofs.LegLists.{changed_is, found_is}
@@ -27,16 +25,6 @@ responded_made client send.Nothing bytes leg = refl
 responded_made client send.Request bytes leg = refl
 responded_made client send.Ack bytes leg = refl
 responded_made client send.Response bytes leg = refl
-
-bare_by : (cs : List ContactText) (r a b : Bool) → not (r || a || b) ≡ true → cond {A = List ContactText} r cs [] ≡ []
-bare_by cs true true true e = absurd cc
-bare_by cs true true false e = absurd cc
-bare_by cs true false true e = absurd cc
-bare_by cs true false false e = absurd cc
-bare_by cs false a b e = refl
-
-bare_contacts : (status : ℕ) (m : MessageText) → is_bare status ≡ true → contacts_by status m ≡ []
-bare_contacts status m e = bare_by (contacts_in m) (is_redirection status) (status == 401) (status == 407) e
 
 module _ (call : Call) (n now status : ℕ) (m : MessageText) (leg : Leg) (way : Way) (client : Client) (out : TxOut) (ack : Option (List ℕ))
     (there : leg_at call n ≡ Some leg)
@@ -81,29 +69,27 @@ module _ (call : Call) (n now status : ℕ) (m : MessageText) (leg : Leg) (way :
       made ∙ all ∙ rw status_is refl
 
   pub posted : (event : Event) (at : ℕ) (mid new last : Call)
-      → PostsAt call event (going_up status m) at mid
+      → PostsSaid call event (contacts_by status m) (going_up status m) at mid
       → event ≡ event_by n status m
-      → is_bare status ≡ true
       → is_passed out.pass ≡ true
       → new ≡ record mid { legs = changed_leg (responded client ack) mid.legs n }
       → last ≡ record new { legs = changed_leg (kept (timer_c_again now status leg.timer_c_at) (answer_if status m)) new.legs n }
       → RespondsOn call n now m (Posted at) last
-  posted event at mid new last (reply, at_is, posts) event_is bare passed_on first second =
+  posted event at mid new last (reply, at_is, posts) event_is passed_on first second =
       let f = kept (timer_c_again now status leg.timer_c_at) (answer_if status m) in
       let l = responded client ack leg in
-      let none : contacts_by status m ≡ [] = bare_contacts status m bare in
-      let later : leg_at mid n ≡ Some leg = still_there call mid event [] (going_up status m) reply posts n leg there in
+      let cs = contacts_by status m in
+      let later : leg_at mid n ≡ Some leg = still_there call mid event cs (going_up status m) reply posts n leg there in
       let once : new ≡ set_leg mid n l = first ∙ changed_part (responded client ack) mid n leg later in
       let P : Call → Type 0 = λ x. leg_at x n ≡ Some l in
       let after : leg_at new n ≡ Some l = subst P (sym once) (at_set mid n leg l later) in
       let twice : last ≡ set_leg mid n leg_last =
       second ∙ changed_part f new n l after ∙ ap (λ (x : Call). set_leg x n (f l)) once ∙ set_twice mid n l (f l) ∙ ap (set_leg mid n) last_is in
-      let all : Posts (set_leg call n leg_last) event [] (going_up status m) reply (set_leg mid n leg_last) = posts_part call mid event [] (going_up status m) reply posts n leg leg_last there in
-      let E : Event → Type 0 = λ e. Posts (set_leg call n leg_last) e [] (going_up status m) reply (set_leg mid n leg_last) in
-      let C : List ContactText → Type 0 = λ cs. Posts (set_leg call n leg_last) (event_by n status m) cs (going_up status m) reply (set_leg mid n leg_last) in
+      let all : Posts (set_leg call n leg_last) event cs (going_up status m) reply (set_leg mid n leg_last) = posts_part call mid event cs (going_up status m) reply posts n leg leg_last there in
+      let E : Event → Type 0 = λ e. Posts (set_leg call n leg_last) e cs (going_up status m) reply (set_leg mid n leg_last) in
       let S : ℕ → Type 0 = λ s. Posts (set_leg call n leg_last) (event_by n s m) (contacts_by s m) (going_up s m) reply (set_leg mid n leg_last) in
       let N : Call → Type 0 = λ x. Posts (set_leg call n leg_last) (event_by n (status_of m) m) (contacts_by (status_of m) m) (going_up (status_of m) m) reply x in
-      (leg, way, there, goes, (passes_by ∙ passed_on, reply, at_is, subst N (sym twice) (subst S status_is (subst C (sym none) (subst E event_is all)))))
+      (leg, way, there, goes, (passes_by ∙ passed_on, reply, at_is, subst N (sym twice) (subst S status_is (subst E event_is all))))
 
   pub refused : (event : Event) → event ≡ event_by n status m → is_full (core_of call.log) event ≡ true → is_passed out.pass ≡ true → RespondsOn call n now m Full call
   refused event event_is full passed_on =

@@ -1,7 +1,6 @@
 -- What the datagrams of a call are made of, over whole runs (RFC 3261 sections 8.2.6, 9.1, 16.6, 16.7 and 17.1.1.3).
 use Rattle.std.specs.Prelude.{◌≡◌, ◌⊎◌, ℕ, List, ◌∷◌, Option, Some, None, IfSome, slice_get}
 use Rattle.sip_text.specs.Text.{MessageText, spelling}
-use Rattle.sip_uri.specs.declared.hop.Hop.{Hop}
 use Rattle.sip_build.specs.declared.responses.OwnStatus.TheVariants as own
 use Rattle.sip_build.specs.Generated.{generated_of}
 use Rattle.fork_parts.specs.declared.cause.Cause.{Cause}

@@ -6,6 +6,7 @@ pub mod Call
 pub mod Built
 pub mod Response
 pub mod Posting
+pub mod NewWays
 pub mod Begun
 pub mod Due
 pub mod Take

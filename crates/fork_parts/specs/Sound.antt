@@ -1,8 +1,8 @@
 -- What holds of a call from its opening on, and what its steps rest on: a transaction that waits has a branch that is
 -- open, and what is kept to be sent can be sent (RFC 3261 sections 16.7, 16.8 and 17.1).
-use Rattle.std.specs.Prelude.{◌≡◌, ℕ, Bool, true, false, List, Option, Some, IfSome, is_some, slice_get}
+use Rattle.std.specs.Prelude.{◌≡◌, ℕ, Bool, true, false, List, Some, IfSome, is_some, slice_get}
 use Rattle.std.specs.List.{AllByRecursion}
-use Rattle.fork_model.specs.Table.{Kind, Offer, Rules, Table, is_invite, is_open, is_row}
+use Rattle.fork_model.specs.Table.{Offer, Rules, Table, is_invite, is_open, is_row}
 use Rattle.fork_model.specs.Sources.{EachPasses}
 use Rattle.fork_model.specs.History.{Target}
 use Rattle.fork_context.specs.Chosen.{IsChosen}

@@ -1,5 +1,5 @@
 -- Where a branch is, as its row is shown.
-use Rattle.std.specs.Prelude.{Bool, not, true, false, Option, Some, None}
+use Rattle.std.specs.Prelude.{Bool, not, true, false, Option, Some}
 use Rattle.fork_model.specs.Table.{Row}
 use Rattle.fork_tree.specs.declared.row.State.{State}
 use Rattle.fork_tree.specs.declared.row.State.TheVariants as state

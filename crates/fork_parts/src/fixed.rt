@@ -127,6 +127,13 @@ impl<A: Allocator> Fixed<A> {
         self.caller
     }
 
+    /// The hop of its first Route value, if it has one.
+    pub(crate) fn route(&self) -> Option<Hop>
+        ensures { result ≡ self.now.route }
+    {
+        self.route
+    }
+
     /// Whether it is an INVITE.
     pub(crate) fn is_invite(&self) -> bool
         ensures { result ≡ is_invite self.now }

@@ -7,8 +7,10 @@
 #![tactic(auto)]
 
 mod answers;
+mod branch;
 mod cause;
 mod client;
+mod contacts;
 mod datagram;
 mod failed;
 mod fault;
@@ -20,6 +22,8 @@ mod look;
 mod owed;
 mod parts;
 mod responses;
+mod rows;
+mod said;
 mod served;
 mod states;
 mod step;

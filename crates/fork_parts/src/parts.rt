@@ -1,5 +1,5 @@
 //! The parts of a call.
-ghost use Rattle.std.specs.Prelude.{◌≡◌, ◌≢◌, ◌<◌, ◌≤◌, ◌∷◌, ◌++◌, [], true, false, length, drop, slice_get, List, None, Some, IfOk, OnOk, OnErr, IsErrOf};
+ghost use Rattle.std.specs.Prelude.{◌≡◌, ◌≢◌, ◌<◌, ◌≤◌, ◌∷◌, ◌++◌, [], true, false, length, drop, map, slice_get, List, None, Some, IfOk, OnOk, OnErr, IsErrOf};
 ghost use Rattle.std.specs.Option.{option_copied, option_map};
 ghost use Rattle.fork_model.specs.Core.{is_full};
 ghost use Rattle.fork_model.specs.Event as event;
@@ -10,6 +10,7 @@ ghost use Rattle.fork_context.specs.KindView as kinds;
 ghost use Rattle.fork_context.specs.ReplyView.{up_of};
 ghost use Rattle.fork_book.specs.Log.{core_of, table_of};
 ghost use Rattle.sip_text.specs.Text.{MessageText, spelling};
+ghost use Rattle.sip_uri.specs.Contact.{ContactText};
 ghost use Rattle.fork_parts.specs.Begun.{begun};
 ghost use Rattle.fork_parts.specs.Built.{ack_to, answer_in, cancel_to, request_to, status_of};
 ghost use Rattle.fork_parts.specs.Call.{is_cancel_sent, is_sent, leg_at, owes_ack, row_passes, rows_of, runs_timer_c, set_leg};
@@ -21,13 +22,15 @@ ghost use Rattle.fork_parts.specs.PartsInside.{IsCancelAgain, IsRequestAgain, Is
 ghost use Rattle.fork_parts.specs.Plain.{AddsNoRow, PostsAt, PostsBare};
 ghost use Rattle.fork_parts.specs.Pump as pump;
 ghost use Rattle.fork_parts.specs.Pump.{AnswersWith, FiresTimerC, GivesUp, OnLeg, OnPart, SendsAck, SendsCancel, SendsRequest, TicksCancel, TicksClient, TicksServer};
-ghost use Rattle.fork_parts.specs.Response.{is_bare};
+ghost use Rattle.fork_parts.specs.NewWays.{GivesWays, PostsSaid};
+ghost use Rattle.fork_parts.specs.Posting.{way_of_contact};
+ghost use Rattle.fork_parts.specs.Response.{contacts_by, event_by};
 ghost use Rattle.fork_parts.specs.SeenDatagram.{seen};
 ghost use Rattle.fork_parts.specs.SeenStep.{pumped};
 ghost use Rattle.fork_parts.specs.SeenTaken.{seen_taken};
 ghost use Rattle.fork_parts.specs.Server as server;
 ghost use Rattle.fork_parts.specs.Take as take;
-ghost use Rattle.fork_parts.specs.Take.{CancelledBy, RespondsOn, cancels, going_up, requested_again, served_on};
+ghost use Rattle.fork_parts.specs.Take.{CancelledBy, cancels, requested_again, served_on};
 ghost use Rattle.fork_parts.specs.Sound.{IsSound};
 ghost use Rattle.fork_parts.specs.StatesShown.{state_shown};
 
@@ -41,17 +44,16 @@ use crate::legs::{
     cancel_leg, cancel_on_leg, keep_leg, leg_in, put_leg, respond_leg, take_ack_of, way_at,
 };
 use crate::owed::{Owed, OwedAnswer, again_if, owe, owed_by, pay_first};
-use crate::responses::{
-    answer_event, bare_event, is_passed, is_request, is_response, is_timeout, parted,
-    response_event,
-};
+use crate::responses::{answer_event, is_request, is_response, is_timeout, response_event};
+use crate::rows::add_rows;
+use crate::said::Said;
 use crate::served::Served;
 use crate::step::Step;
 use crate::taken::Taken;
 use crate::way::Way;
 use fork_book::Book;
 use fork_context::{Event, Kind, State, Up};
-use fork_model::new_rows_are_contacts;
+use fork_model::{new_rows_are_contacts, rows_keep_their_numbers};
 use sip_text::Message;
 use sip_txn::{OtherClient, TxEvent, TxSend};
 use sip_uri::Hop;
@@ -224,7 +226,7 @@ impl<A: Allocator + Clone> Parts<A> {
     }
 
     /// The part of branch n, whose request was sent.
-    fn part(&self, n: u16) -> &Leg<A>
+    pub(crate) fn part(&self, n: u16) -> &Leg<A>
         requires { is_sent self.now n ≡ true }
         ensures { leg_at self.now n ≡ Some result.now }
     {
@@ -235,7 +237,7 @@ impl<A: Allocator + Clone> Parts<A> {
     }
 
     /// Where the request of branch n goes, whose part is there.
-    fn way(&self, n: u16) -> &Way<A>
+    pub(crate) fn way(&self, n: u16) -> &Way<A>
         requires { is_sent self.now n ≡ true }
         ensures { slice_get self.now.ways n ≡ Some result.now }
     {
@@ -265,7 +267,7 @@ impl<A: Allocator + Clone> Parts<A> {
     }
 
     /// A response of branch n was posted.
-    fn keep_part(&mut self, n: u16, timer_c_at: Option<u64>, answer: Option<Message<A>>)
+    pub(crate) fn keep_part(&mut self, n: u16, timer_c_at: Option<u64>, answer: Option<Message<A>>)
         requires there { n < length self.old.legs }
         ensures { self.new ≡ record self.old { legs = changed_leg (kept timer_c_at answer) self.old.legs n } }
     {
@@ -579,8 +581,24 @@ impl<A: Allocator + Clone> Parts<A> {
 
     // ---- responses of a branch
 
+    /// What a response with this status says to the fork as one of branch n.
+    pub(crate) fn said(
+        &self,
+        n: u16,
+        status: u16,
+        message: &Message<A>,
+    ) -> Result<Said<A>, AllocError>
+        requires least { 100 ≤ status }
+        requires most { status ≤ 699 }
+        ensures event { IfOk result (λ said. event_of said.event ≡ event_by n status message.now) }
+        ensures ways { IfOk result (λ said. said.ways.items ≡ map (way_of_contact self.now.fixed) (contacts_by status message.now)) }
+        ensures gives { IfOk result (λ said. GivesWays (event_of said.event) said.ways.items) }
+    {
+        Said::of(&self.alloc, &self.fixed, n, status, message)
+    }
+
     /// The ACK of a response to branch n, where its transaction asks for it.
-    fn ack_if(
+    pub(crate) fn ack_if(
         &self,
         way: &Way<A>,
         n: u16,
@@ -592,47 +610,41 @@ impl<A: Allocator + Clone> Parts<A> {
         self.fixed.ack_if(&self.alloc, way, n, send, response)
     }
 
-    /// Takes a response to branch n that says nothing beside its status: its client transaction absorbs it, or hands it
-    /// up, and it is posted (RFC 3261 sections 16.7 and 17.1). A failure is kept, for it may go up later, and an ACK is
-    /// owed where the transaction says so; a provisional response sets timer C again.
+    /// Posts the event that a response of a branch is: each new row gets the way of its contact, and what goes up is owed
+    /// to the caller.
     ///
     /// # Errors
     ///
     /// `Full` where the book takes no more events that change nothing; else only where the allocator refuses. The parts
     /// are then as they were.
-    pub fn respond(
+    pub(crate) fn post_said(
         &mut self,
-        n: u16,
-        status: u16,
-        message: Message<A>,
-        now: u64,
-    ) -> Result<Taken, PostFault>
-        requires there { is_sent self.old n ≡ true }
-        requires status { status ≡ status_of message }
-        requires least { 100 ≤ status }
-        requires most { status ≤ 699 }
-        requires bare { is_bare status ≡ true }
-        ensures ok { IfOk result (λ taken. RespondsOn self.old n now message (seen_taken taken) self.new) }
-        ensures full { IsErrOf result PostFault.Full → RespondsOn self.old n now message take.Full self.new }
+        said: Said<A>,
+        response: Option<Message<A>>,
+    ) -> Result<u32, PostFault>
+        requires gives { GivesWays (event_of said.event) said.ways.items }
+        ensures ok { (contacts : List ContactText) → said.ways.items ≡ map (way_of_contact self.old.fixed) contacts
+            → IfOk result (λ at. PostsSaid self.old (event_of said.event) contacts response at self.new) }
+        ensures full { IsErrOf result PostFault.Full → is_full (core_of self.old.log) (event_of said.event) ≡ true }
+        ensures longer { OnOk result (length self.old.legs ≤ length self.new.legs) }
         ensures err { OnErr result (self.new ≡ self.old) }
     {
-        let leg = self.part(n);
-        let (client, out) = leg.fed(response_event(status), now);
-        let timer_c_at = leg.timer_c_again(status, now);
-        let ack = self.ack_if(self.way(n), n, out.send, &message)?;
-        if !is_passed(out.pass) {
-            self.respond_part(n, client, ack);
-            return Ok(Taken::Absorbed);
+        rows_keep_their_numbers();
+        let Said { event, ways } = said;
+        if self.book.context().is_full(&event) {
+            return Err(PostFault::Full);
         }
-        let event = bare_event(&self.alloc, n, status)?;
-        let (up, answer) = parted(status, message);
-        let at = match self.post_plain(event, up) {
-            Ok(at) => at,
-            Err(fault) => return Err(fault),
+        self.owed.reserve(1)?;
+        self.ways.reserve(ways.len())?;
+        self.legs.reserve(ways.len())?;
+        let first = self.book.context().count();
+        let Ok(at) = self.book.post(CALL_TAG, event) else {
+            return Err(PostFault::NoMemory);
         };
-        self.respond_part(n, client, ack);
-        self.keep_part(n, timer_c_at, answer);
-        Ok(Taken::Posted(at))
+        add_rows(&self.book, first, ways, &mut self.ways, &mut self.legs);
+        let up = up_at(&self.book, at);
+        owe(&mut self.owed, owed_by(up, response));
+        Ok(at)
     }
 
     /// Takes a response to the CANCEL of branch n, with this status: the CANCEL's client transaction absorbs it, and what

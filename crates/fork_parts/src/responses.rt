@@ -1,20 +1,14 @@
 //! What a response is to a transaction and to the fork.
-ghost use Rattle.std.specs.Prelude.{◌≡◌, ◌≤◌, true, [], IfOk};
-ghost use Rattle.fork_context.specs.EventView.{event_of};
-ghost use Rattle.sip_text.specs.Text.{MessageText};
+ghost use Rattle.std.specs.Prelude.{◌≡◌};
 ghost use Rattle.fork_parts.specs.Failed.{is_fault};
 ghost use Rattle.fork_parts.specs.LegInside.{answer_if};
-ghost use Rattle.fork_parts.specs.Plain.{AddsNoRow};
 ghost use Rattle.fork_parts.specs.Pump as pump;
-ghost use Rattle.fork_parts.specs.Response.{event_by, is_bare};
 ghost use Rattle.fork_parts.specs.Server as server;
 ghost use Rattle.fork_parts.specs.Take as take;
 
-use fork_context::{Answer, Event};
-use fork_rank::{RingStatus, Status};
 use sip_text::Message;
 use sip_txn::{TxEvent, TxPass, TxSend};
-use std::alloc::{AllocError, Allocator};
+use std::alloc::Allocator;
 
 /// The class of a response.
 pub(crate) fn response_event(status: u16) -> TxEvent
@@ -105,42 +99,4 @@ pub(crate) fn parted<A: Allocator>(
     } else {
         (None, Some(message))
     }
-}
-
-/// The final response of branch n that says nothing beside its status.
-#[tactic(auto, using(crate::proofs::NoRows::answer_adds_none))]
-fn bare_answer<A: Allocator + Clone>(
-    alloc: &A,
-    n: u16,
-    status: Status,
-) -> Result<Event<A>, AllocError>
-    requires { is_bare status ≡ true }
-    ensures value { IfOk result (λ event. (m : MessageText) → event_of event ≡ event_by n status m) }
-    ensures plain { IfOk result (λ event. AddsNoRow (event_of event)) }
-{
-    let offers = Vec::new(alloc.clone()?);
-    let challenges = Vec::new(alloc.clone()?);
-    Ok(Event::Answer(n, Answer::new(status, offers, challenges)))
-}
-
-/// The event that a response of branch n is, which says nothing beside its status.
-#[tactic(auto, using(crate::proofs::NoRows::ring_adds_none))]
-pub(crate) fn bare_event<A: Allocator + Clone>(
-    alloc: &A,
-    n: u16,
-    status: u16,
-) -> Result<Event<A>, AllocError>
-    requires least { 100 ≤ status }
-    requires most { status ≤ 699 }
-    requires bare { is_bare status ≡ true }
-    ensures value { IfOk result (λ event. (m : MessageText) → event_of event ≡ event_by n status m) }
-    ensures plain { IfOk result (λ event. AddsNoRow (event_of event)) }
-{
-    if let Some(status) = RingStatus::of(status) {
-        return Ok(Event::Ring(n, status));
-    }
-    let Some(status) = Status::of(status) else {
-        unreachable!()
-    };
-    bare_answer(alloc, n, status)
 }

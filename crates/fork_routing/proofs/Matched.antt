@@ -1,8 +1,8 @@
 -- The branch that a message answers, and who its recipient is.
-use Rattle.std.proofs.Common.{◌≡◌, ℕ, ◌<◌, ◌^◌, Bool, true, false, Option, Some, None, sym, subst, ap, ◌∙◌}
+use Rattle.std.proofs.Common.{◌≡◌, refl, List, ℕ, ◌<◌, ◌^◌, Bool, true, false, Option, Some, None, sym, subst, ap, ◌∙◌}
 use Rattle.std.specs.Prelude.{◌&&◌, ◌==◌, codes}
 use Rattle.std.specs.Str.{bytes_eq}
-use Rattle.std.proofs.lemmas.Bool.{and_from, and_parts, eq-eqb, false≢true}
+use Rattle.std.proofs.lemmas.Bool.{and_from, eq-eqb, false≢true}
 use Rattle.std.proofs.lemmas.Option.{same_Some}
 use Rattle.std.proofs.lemmas.Slice.Eq.{bytes_eq-Decides}
 use Rattle.std.specs.Option.{option_map}
@@ -12,12 +12,12 @@ use Rattle.sip_via.specs.BranchText.{IsBranch}
 use Rattle.sip_via.specs.OwnPass.{IsOwnBranch}
 use Rattle.sip_via.specs.TopVia.{has_second, top_value, via_values}
 use Rattle.sip_text.specs.Fields.{message_cseq}
-use Rattle.sip_text.specs.Text.{MessageText}
 use Rattle.fork_parts.specs.Call.{Call, is_cancel_sent, is_sent}
-use Rattle.fork_parts.specs.Fixed.{branch_at, method_of}
-use Rattle.fork_parts.specs.Take.{Client, CancelClient}
-use Rattle.fork_routing.specs.Kinds.{is_response, is_to_method}
-use Rattle.fork_routing.specs.Matching.{BelongsTo, BelongsToNoBranch}
+use Rattle.fork_parts.specs.Fixed.{Fixed, branch_at, method_of}
+use Rattle.fork_parts.specs.Take.{Server, ServerAck, ServerCancel, Client, CancelClient}
+use Rattle.sip_text.specs.Text.{MessageText, StartText, Request, Response}
+use Rattle.fork_routing.specs.Kinds.{is_request_of, is_response, is_to_method}
+use Rattle.fork_routing.specs.Matching.{BelongsTo, BelongsToNoBranch, BelongsToNoServer, BelongsToNone, Repeats}
 
 pub numbered : (call : BranchName) (n : ℕ) → IsBranch call → n < 2 ^ 16 → IsBranch (record call { target = n })
 numbered call n h lt = record { sixteen = h.sixteen; bytes = h.bytes; instance = h.instance; context = h.context; target = lt }
@@ -56,21 +56,18 @@ module _ (call : Call) (m : MessageText) where
   abbrev pub IsHome : ℕ → Type 0
   IsHome n = IsOwnBranch call.fixed.own (top_value m) (branch_at call.fixed n)
 
-  pub client_found : (n : ℕ) → is_response m.start ≡ true → n < 2 ^ 16 → IsHome n → for_client call m n ≡ true → BelongsTo call m (Client n)
-  client_found n response number home e =
-      let front = (and_parts (is_to_method (method_of call.fixed.request.start) (message_cseq m.headers) && has_second (via_values m)) (is_sent call n) e) in
-      let both = and_parts (is_to_method (method_of call.fixed.request.start) (message_cseq m.headers)) (has_second (via_values m)) front.0 in
-      (record { response = response; number = number; via = home; to_method = both.0 }, both.1, front.1)
-
-  pub cancel_found : (n : ℕ) → is_response m.start ≡ true → n < 2 ^ 16 → IsHome n → for_cancel call m n ≡ true → BelongsTo call m (CancelClient n)
-  cancel_found n response number home e =
-      let both = and_parts (is_to_method (codes "CANCEL") (message_cseq m.headers)) (is_cancel_sent call n) e in
-      (record { response = response; number = number; via = home; to_method = both.0 }, both.1)
-
   pub no_response : is_response m.start ≡ false → BelongsToNoBranch call m
   no_response e n = (λ b. false≢true (sym e ∙ b.0.response), λ b. false≢true (sym e ∙ b.0.response))
 
-  pub no_home : ((n : ℕ) → n < 2 ^ 16 → IsHome n → ⊥) → BelongsToNoBranch call m
+  -- to no branch, and not to the caller
+  pub to_none : BelongsToNoBranch call m → BelongsToNoServer call m → BelongsToNone call m
+  to_none branch server Server b = server.0 b
+  to_none branch server ServerAck b = server.1 b
+  to_none branch server ServerCancel b = server.2 b
+  to_none branch server (Client n) b = (branch n).0 b
+  to_none branch server (CancelClient n) b = (branch n).1 b
+
+  no_home : ((n : ℕ) → n < 2 ^ 16 → IsHome n → ⊥) → BelongsToNoBranch call m
   no_home h n = (λ b. h n b.0.number b.0.via, λ b. h n b.0.number b.0.via)
 
   -- the branch is known, and no transaction of it takes the response
@@ -94,13 +91,30 @@ module _ (call : Call) (m : MessageText) where
           false≢true (sym f ∙ ap (for_cancel call m) same ∙ well)
 
   -- the branch of the call is looked for by its address and by the name of its branches
-  pub at_home : (own : Own) (b : BranchName) (r : Option ℕ) → own ≡ call.fixed.own → b ≡ branch_at call.fixed 0
+  pub at_home : (fixed : Fixed) (own : Own) (b : BranchName) (r : Option ℕ) → fixed ≡ call.fixed → own ≡ fixed.own → b ≡ branch_at fixed 0
       → ((n : ℕ) → n < 2 ^ 16 → IsOwnBranch own (top_value m) (record b { target = n }) → r ≡ Some n)
       → (n : ℕ) → n < 2 ^ 16 → IsHome n → r ≡ Some n
-  at_home own b r p q only n lt home =
-      let P : BranchName → Type 0 = λ x. IsOwnBranch call.fixed.own (top_value m) (record x { target = n }) in
+  at_home fixed own b r s p q only n lt home =
+      let P : BranchName → Type 0 = λ x. IsOwnBranch fixed.own (top_value m) (record x { target = n }) in
       let Q : Own → Type 0 = λ o. IsOwnBranch o (top_value m) (record b { target = n }) in
-      only n lt (subst Q (sym p) (subst P (sym q) home))
+      let R : Fixed → Type 0 = λ f. IsOwnBranch f.own (top_value m) (branch_at f n) in
+      only n lt (subst Q (sym p) (subst P (sym q) (subst R (sym s) home)))
 
   pub none_home : ((n : ℕ) → n < 2 ^ 16 → IsHome n → None ≡ Some n) → BelongsToNoBranch call m
   none_home only = no_home (λ n lt home. let e = only n lt home in absurd cc)
+
+-- ---- requests
+
+not_method : (fixed : Fixed) (method : List ℕ) (m : MessageText) → is_request_of method m.start ≡ false → Repeats fixed method m → ⊥
+not_method fixed method m e r = false≢true (sym e ∙ r.request)
+
+is_no_request : (method : List ℕ) (start : StartText) → is_response start ≡ true → is_request_of method start ≡ false
+is_no_request method (Request own uri) e = absurd cc
+is_no_request method (Response status reason) e = refl
+
+pub no_request : (call : Call) (m : MessageText) → is_response m.start ≡ true → BelongsToNoServer call m
+no_request call m e = (
+  not_method call.fixed (method_of call.fixed.request.start) m (is_no_request _ m.start e),
+  not_method call.fixed (codes "ACK") m (is_no_request _ m.start e),
+  not_method call.fixed (codes "CANCEL") m (is_no_request _ m.start e),
+)

@@ -1,7 +1,7 @@
 -- A recipient in memory.
 use Rattle.fork_parts.specs.Take as take
-use Rattle.fork_routing.specs.declared.recipient.Recipient.{Recipient}
-use Rattle.fork_routing.specs.declared.recipient.Recipient.TheVariants as recipient
+use Rattle.fork_routing.specs.declared.transaction.Recipient.{Recipient}
+use Rattle.fork_routing.specs.declared.transaction.Recipient.TheVariants as recipient
 
 abbrev pub seen_recipient : Recipient → take.Recipient
 seen_recipient recipient.Server = take.Server

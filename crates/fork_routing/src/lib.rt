@@ -7,12 +7,12 @@ mod checks;
 mod fault;
 mod matching;
 mod opening;
-mod recipient;
 mod targets;
+mod transaction;
 
 pub use admission::admit;
 pub use fault::OpenFault;
-pub use matching::response_recipient;
-pub use opening::open;
-pub use recipient::Recipient;
+pub use matching::recipient;
+pub use opening::{is_openable, open};
 pub use targets::is_domain;
+pub use transaction::Recipient;

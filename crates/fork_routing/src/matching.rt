@@ -1,17 +1,18 @@
 //! Which transaction of a call a message belongs to.
-ghost use Rattle.std.specs.Prelude.{◌≡◌, ◌<◌, ◌^◌, ◌&&◌, ℕ, codes, IfNone, IfSome, Some};
+ghost use Rattle.std.specs.Prelude.{◌≡◌, ◌<◌, ◌^◌, ◌&&◌, ℕ, codes, true, IfNone, IfSome, Some};
 ghost use Rattle.sip_text.specs.Fields.{message_cseq};
 ghost use Rattle.sip_via.specs.BranchText.{IsBranch};
 ghost use Rattle.sip_via.specs.OwnPass.{IsOwnBranch};
 ghost use Rattle.sip_via.specs.TopVia.{has_second, top_value, via_values};
 ghost use Rattle.fork_parts.specs.Call.{is_cancel_sent, is_sent};
-ghost use Rattle.fork_parts.specs.Fixed.{branch_at, method_of};
+ghost use Rattle.fork_parts.specs.Fixed.{method_of};
 ghost use Rattle.fork_routing.specs.Kinds.{is_request_of, is_response, is_to_method};
-ghost use Rattle.fork_routing.specs.Matching.{BelongsTo, BelongsToNoBranch};
+ghost use Rattle.fork_routing.specs.Matching.{BelongsTo, BelongsToNoBranch, BelongsToNoServer, BelongsToNone};
 ghost use Rattle.fork_routing.specs.SeenRecipient.{seen_recipient};
 
-use crate::recipient::Recipient;
+use crate::transaction::Recipient;
 use fork_parts::Parts;
+use sip_route::has_same_key;
 use sip_text::{Message, Start};
 use sip_via::{BranchName, Own, has_second_via, own_branch};
 use std::alloc::Allocator;
@@ -97,23 +98,17 @@ fn is_for_cancel<A: Allocator + Clone>(parts: &Parts<A>, message: &Message<A>, n
 }
 
 /// The transaction of a branch that a response is for: its top Via value is the one that the proxy put there with the
-/// request or the CANCEL, which was sent (RFC 3261 sections 16.7 step 1 and 17.1.3). `own` is the address that the call was
-/// opened at, and `call` the name of its branches, with the target 0. It takes no memory.
-pub fn response_recipient<A: Allocator + Clone>(
+/// request or the CANCEL, which was sent (RFC 3261 sections 16.7 step 1 and 17.1.3).
+fn response_recipient<A: Allocator + Clone>(
     parts: &Parts<A>,
-    own: Own,
-    call: BranchName,
     message: &Message<A>,
 ) -> Option<Recipient>
-    requires own { own ≡ parts.now.fixed.own }
-    requires call { call ≡ branch_at parts.now.fixed 0 }
+    requires { is_response message.now.start ≡ true }
     ensures found { IfSome result (λ r. BelongsTo parts.now message.now (seen_recipient r)) }
     ensures none { IfNone result (BelongsToNoBranch parts.now message.now) }
 {
-    if !is_response(message) {
-        return None;
-    }
-    let n = target_of(message, own, call)?;
+    let fixed = parts.fixed();
+    let n = target_of(message, fixed.own(), fixed.branch(0))?;
     if is_for_client(parts, message, n) {
         return Some(Recipient::Client(n));
     }
@@ -121,4 +116,44 @@ pub fn response_recipient<A: Allocator + Clone>(
         return Some(Recipient::CancelClient(n));
     }
     None
+}
+
+/// The part that a request plays in the caller's transaction: it has the key of the call's own request, and is that
+/// request again, its ACK or its CANCEL (RFC 3261 sections 9.2 and 17.2.3).
+fn request_recipient<A: Allocator + Clone>(
+    parts: &Parts<A>,
+    message: &Message<A>,
+) -> Option<Recipient>
+    ensures found { IfSome result (λ r. BelongsTo parts.now message.now (seen_recipient r)) }
+    ensures none { IfNone result (BelongsToNoServer parts.now message.now) }
+{
+    if !has_same_key(message, parts.fixed().request()) {
+        return None;
+    }
+    if is_request_of(message, opening_method(parts)) {
+        return Some(Recipient::Server);
+    }
+    if is_request_of(message, b"ACK") {
+        return Some(Recipient::ServerAck);
+    }
+    if is_request_of(message, b"CANCEL") {
+        return Some(Recipient::ServerCancel);
+    }
+    None
+}
+
+/// The transaction of a call that a message is for, if there is one. A request is for the caller's where it has the key of
+/// the request that opened the call, and where its method is that request's, ACK or CANCEL. A response is for that of a
+/// branch where its top Via value is the one that the proxy put into what it sent there (RFC 3261 sections 9.2, 16.7 steps
+/// 1 and 3, 17.1.3 and 17.2.3). It takes no memory.
+#[tactic(auto, using(crate::proofs::Matched::to_none, crate::proofs::Matched::no_request, crate::proofs::Matched::no_response))]
+pub fn recipient<A: Allocator + Clone>(parts: &Parts<A>, message: &Message<A>) -> Option<Recipient>
+    ensures found { IfSome result (λ r. BelongsTo parts.now message.now (seen_recipient r)) }
+    ensures none { IfNone result (BelongsToNone parts.now message.now) }
+{
+    if is_response(message) {
+        response_recipient(parts, message)
+    } else {
+        request_recipient(parts, message)
+    }
 }

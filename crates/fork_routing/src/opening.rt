@@ -1,5 +1,5 @@
 //! How a call opens.
-ghost use Rattle.std.specs.Prelude.{◌≡◌, ◌<◌, ℕ, length, slice_get, true, IfErr, IfOk, IfSome, Ok, Some};
+ghost use Rattle.std.specs.Prelude.{◌≡◌, ◌<◌, ◌↔◌, ℕ, length, slice_get, true, IfErr, IfOk, IfSome, IsTrue, Ok, Some};
 ghost use Rattle.std.specs.List.{list_all};
 ghost use Rattle.std.specs.Option.{option_and_then, option_map};
 ghost use Rattle.fork_model.specs.Table.{Row};
@@ -22,7 +22,7 @@ use fork_parts::{Fixed, Parts, Way};
 use fork_rank::Rules;
 use fork_setup::Setup;
 use sip_route::{FirstRoute, first_route, request_uri};
-use sip_text::Message;
+use sip_text::{Message, Start};
 use sip_uri::{Hop, SipUri};
 use sip_via::reply_hop_of;
 use std::alloc::{AllocError, Allocator};
@@ -216,6 +216,19 @@ fn open_prepared<A: Allocator + Clone>(
     }
     let uri = read_target(alloc.clone()?, &request)?;
     open_to(alloc, setup, number, request, &uri, source, now)
+}
+
+/// Whether a message is a request that may open a call: neither an ACK nor a CANCEL, which are for a call that was opened
+/// (RFC 3261 sections 9.2 and 17.2.1).
+pub fn is_openable<A: Allocator>(message: &Message<A>) -> bool
+    ensures { IsTrue result ↔ IsOpenable message.now.start }
+{
+    match message.start() {
+        Start::Request { method, .. } => {
+            method.as_slice() != b"ACK".as_slice() && method.as_slice() != b"CANCEL".as_slice()
+        }
+        Start::Response { .. } => false,
+    }
 }
 
 /// The parts of the call that a request from `source` opens under this number; it is neither an ACK nor a CANCEL. The

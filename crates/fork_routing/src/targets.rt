@@ -26,11 +26,15 @@ pub(crate) struct Choice<'a, A: Allocator> {
 }
 
 impl<'a, A: Allocator> Model for Choice<'a, A> {
+    ghost use Rattle.std.specs.Prelude.{◌≤◌};
+    ghost use Rattle.fork_text.specs.Field.{most_q};
     ghost use Rattle.fork_routing.specs.Targets as spec;
 
     ghost Value = { spec.Choice };
 
     ghost view = { λ c. record { q = c.q; uri = c.uri.now } };
+
+    ghost invariant = { λ c. c.q ≤ most_q };
 }
 
 impl<'a, A: Allocator> Choice<'a, A> {
@@ -39,6 +43,16 @@ impl<'a, A: Allocator> Choice<'a, A> {
         ensures { result.now ≡ self.now.uri }
     {
         self.uri
+    }
+}
+
+impl<'a, A: Allocator + Clone> Choice<'a, A> {
+    /// What tells the target from others, with its q.
+    fn target(&self, alloc: A) -> Result<Target<A>, AllocError>
+        ensures { IfOk result (λ target. target ≡ target_of self.now) }
+    {
+        let key = Vec::from_slice(alloc, self.uri.key())?;
+        Ok(Target::new(key, self.q))
     }
 }
 
@@ -159,21 +173,6 @@ pub(crate) fn choices<'a, A: Allocator + Clone>(
     }
 }
 
-/// What tells the target from others, with its q. (No setup that was read has a q of more than one; no clause of the
-/// loops above says so yet, so it is asked here.)
-fn target_of<A: Allocator + Clone>(
-    alloc: A,
-    choice: &Choice<'_, A>,
-) -> Result<Target<A>, AllocError>
-    ensures { IfOk result (λ target. target ≡ target_of choice.now) }
-{
-    if MOST_Q < choice.q {
-        return Err(AllocError);
-    }
-    let key = Vec::from_slice(alloc, choice.uri.key())?;
-    Ok(Target::new(key, choice.q))
-}
-
 /// The targets as a fork takes them.
 pub(crate) fn targets_of<A: Allocator + Clone>(
     alloc: A,
@@ -183,7 +182,7 @@ pub(crate) fn targets_of<A: Allocator + Clone>(
 {
     let mut targets = Vec::new(alloc.clone()?);
     for choice in choices {
-        targets.push(target_of(alloc.clone()?, choice)?)?;
+        targets.push(choice.target(alloc.clone()?)?)?;
     }
     Ok(targets)
 }

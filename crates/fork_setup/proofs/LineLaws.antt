@@ -1,5 +1,5 @@
 -- A line is read exactly where it is the spelling of a line: what is read is spelled so.
-use Rattle.std.proofs.Common.{◌≡◌, ℕ, ◌≤◌, Bool, true, false, cond, List, [], ◌∷◌, ◌++◌, length, Option, Some, None, refl, ap, subst, ◌∙◌, arith}
+use Rattle.std.proofs.Common.{◌≡◌, ℕ, ◌≤◌, Bool, true, false, cond, List, [], ◌∷◌, ◌++◌, length, Option, Some, None, refl, ap, sym, subst, ◌∙◌, arith}
 use Rattle.std.specs.Prelude.{codes}
 use Rattle.std.specs.Option.{option_map}
 use Rattle.std.specs.List.{AllByRecursion}
@@ -159,3 +159,7 @@ line_found text line e = parts (cut (is 32) text) (cut_joins 32 text) e
         let h = rest_found w rest line is in
         (whole ∙ ap (λ (word : List ℕ). word ++ 32 ∷ rest) (word_found front w at) ∙ h.0, h.1))
         e
+
+-- what was read is a line
+pub read_is_line : (text : List ℕ) (line : Line) → Some line ≡ read_line text → IsLine line
+read_is_line text line e = (line_found text line (sym e)).1

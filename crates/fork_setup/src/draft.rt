@@ -1,7 +1,9 @@
 //! Reading a configuration, a line after the other.
-ghost use Rattle.std.specs.Prelude.{◌≡◌, IfOk, Some, None, if◌then◌else◌};
+ghost use Rattle.std.specs.Prelude.{◌≡◌, ◌≤◌, IfOk, Some, None, if◌then◌else◌};
 ghost use Rattle.std.specs.Option.{option_map};
 ghost use Rattle.sip_uri.specs.Reading.{read_uri};
+ghost use Rattle.fork_text.specs.Field.{most_q};
+ghost use Rattle.fork_setup.specs.Line.{IsLine};
 ghost use Rattle.fork_setup.specs.LineView.{line_of};
 ghost use Rattle.fork_setup.specs.Reading.{IsSound, added, drafted, finished_draft, is_whole, no_draft, no_setup, phase_after, read_setup, uri_if, with_line, with_location};
 ghost use Rattle.fork_setup.specs.ReadView.{GivesSetup};
@@ -157,6 +159,7 @@ impl<A: Allocator + Clone> Parts<A> {
         q: u16,
         uri: &[u8],
     ) -> Result<bool, AllocError>
+        requires { q ≤ most_q }
         ensures { IfOk result (λ done.
             (if done then Some self.new else None)
             ≡ option_map (λ locations. record self.old { locations = locations })
@@ -166,11 +169,12 @@ impl<A: Allocator + Clone> Parts<A> {
             return Ok(false);
         };
         let user = user.to_vec(alloc.clone()?)?;
-        self.push_location(Location { user, q, uri })
+        self.push_location(Location::new(user, q, uri))
     }
 
     /// Adds what a line says, and answers whether that may stand here.
     fn add(&mut self, alloc: &A, line: Line<'_>) -> Result<bool, AllocError>
+        requires { IsLine (line_of line) }
         ensures { IfOk result (λ done. (if done then Some self.new else None) ≡ with_line self.old (line_of line.entry)) }
     {
         match line {
@@ -211,6 +215,7 @@ impl<A: Allocator + Clone> Draft<A> {
     }
 
     /// Adds a line, and answers whether it is one and may come here.
+    #[tactic(auto, using(crate::proofs::LineLaws::read_is_line))]
     fn add(&mut self, alloc: &A, text: &[u8]) -> Result<bool, AllocError>
         ensures { IfOk result (λ done. (if done then Some self.new else None) ≡ drafted self.old text.now) }
     {

@@ -1,6 +1,7 @@
 //! Where a user may be reached.
-ghost use Rattle.std.specs.Prelude.{◌≡◌, length};
+ghost use Rattle.std.specs.Prelude.{◌≡◌, ◌≤◌, length};
 ghost use Rattle.std.specs.List.{list_any};
+ghost use Rattle.fork_text.specs.Field.{most_q};
 ghost use Rattle.fork_setup.specs.Reading.{may_follow};
 ghost use Rattle.fork_setup.specs.Setup.{is_of_user, is_same, locations_of};
 
@@ -12,20 +13,31 @@ use std::marker::Model;
 /// Where a user of the domain may be reached (RFC 3261 section 16.5).
 #[derive(Drop)]
 pub struct Location<A: Allocator = Global> {
-    pub(crate) user: Vec<u8, A>,
-    pub(crate) q: u16,
-    pub(crate) uri: SipUri<A>,
+    user: Vec<u8, A>,
+    q: u16,
+    uri: SipUri<A>,
 }
 
 impl<A: Allocator> Model for Location<A> {
+    ghost use Rattle.std.specs.Prelude.{◌≤◌};
+    ghost use Rattle.fork_text.specs.Field.{most_q};
     ghost use Rattle.fork_setup.specs.Setup as spec;
 
     ghost Value = { spec.Location };
 
     ghost view = { λ l. record { user = l.user.items; q = l.q; uri = l.uri } };
+
+    ghost invariant = { λ l. l.q ≤ most_q };
 }
 
 impl<A: Allocator> Location<A> {
+    pub(crate) fn new(user: Vec<u8, A>, q: u16, uri: SipUri<A>) -> Self
+        requires { q ≤ most_q }
+        ensures { result ≡ record { user = user.items; q = q; uri = uri } }
+    {
+        Location { user, q, uri }
+    }
+
     /// The user, as it stands before the `@` of a request's URI (RFC 3261 section 19.1.1).
     pub fn user(&self) -> &[u8]
         ensures { result.now ≡ self.now.user }
@@ -42,7 +54,8 @@ impl<A: Allocator> Location<A> {
 
     /// Which of the user's locations are tried first, in thousandths, 0 to 1000: those with the greatest.
     pub fn q(&self) -> u16
-        ensures { result ≡ self.now.q }
+        ensures value { result ≡ self.now.q }
+        ensures most { result ≤ most_q }
     {
         self.q
     }

@@ -5,12 +5,17 @@ use Rattle.fork_routing.proofs.matching.response_recipient.Goals as goal
 pub returns-in_err-n-clause-none : goal.returns-in_err-n-clause-none
 returns-in_err-n-clause-none g c =
     let call = c.args.parts.now in
-    let only = at_home call c.args.message.now c.args.own c.args.call None c.requires.own c.requires.call c.in_err-n.ensures.only in
-    rw c.from_residual.ensures (none_home call c.args.message.now only)
+    let m = c.args.message.now in
+    rw c.from_residual.ensures
+    (none_home call m
+    (at_home call m c.fixed-fixed.result.now c.own.result c.branch-fixed.result None c.fixed-fixed.ensures c.own.ensures c.branch-fixed.ensures
+    c.in_err-n.ensures.only))
 
 pub returns-clause-none : goal.returns-clause-none
 returns-clause-none g c =
     let call = c.args.parts.now in
-    no_transaction call c.args.message.now c.in_ok-n.n
-    (at_home call c.args.message.now c.args.own c.args.call (Some c.in_ok-n.n) c.requires.own c.requires.call c.in_ok-n.ensures.only)
+    let m = c.args.message.now in
+    no_transaction call m c.in_ok-n.n
+    (at_home call m c.fixed-fixed.result.now c.own.result c.branch-fixed.result (Some c.in_ok-n.n) c.fixed-fixed.ensures c.own.ensures
+    c.branch-fixed.ensures c.in_ok-n.ensures.only)
     (sym c.is_for_client.ensures ∙ c.if-is_for_client.false) (sym c.is_for_cancel.ensures ∙ c.if-is_for_cancel.false)

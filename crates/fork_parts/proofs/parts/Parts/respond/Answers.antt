@@ -5,7 +5,8 @@ use Rattle.fork_parts.specs.Call.{Call}
 use Rattle.fork_parts.specs.Client.{client_after, client_out}
 use Rattle.fork_parts.specs.Leg.{Leg}
 use Rattle.sip_text.specs.Text.{MessageText}
-use Rattle.fork_parts.specs.Plain.{PostsAt}
+use Rattle.fork_parts.specs.NewWays.{PostsSaid}
+use Rattle.fork_parts.specs.Response.{contacts_by}
 use Rattle.fork_context.specs.EventView.{event_of}
 use Rattle.fork_parts.specs.LegInside.{changed_leg, responded, kept, answer_if}
 use Rattle.fork_parts.specs.Take.{RespondsOn, response_event, is_passed, going_up, timer_c_again, Absorbed, Full}
@@ -36,22 +37,22 @@ returns-in-Err-clause-full g c = λ refusing.
     let passed_on : is_passed c.fed-client.result.1.pass ≡ true = let a = c.is_passed.ensures in let b = c.if-not-is_passed.false in cc in
     let N : Call → Type 0 = λ x. RespondsOn c.args.self.now c.args.n c.args.now c.args.message Full x in
     subst N (sym c.in-Err.ensures.err) (refused c.args.self.now c.args.n c.args.now c.args.status c.args.message c.part-leg.result.now c.way.result.now c.fed-client.result.0 c.fed-client.result.1 ack
-    c.part-leg.ensures c.way.ensures c.requires.status client_is out_is c.in_ok-ack.ensures (event_of c.in_ok-event.event) (c.in_ok-event.ensures.value c.args.message) (c.in-Err.ensures.full (let r = refusing in cc)) passed_on)
+    c.part-leg.ensures c.way.ensures c.requires.status client_is out_is c.in_ok-ack.ensures (event_of c.in_ok-said.said.event) c.in_ok-said.ensures.event (c.in-Err.ensures.full (let r = refusing in cc)) passed_on)
 
 pub respond_part-requires-2 : goal.respond_part-requires-2
 respond_part-requires-2 g c =
     let below : c.args.n < length c.args.self.now.legs = leg_below c.args.self.now c.args.n c.part-leg.result.now c.part-leg.ensures in
-    let longer : length c.args.self.now.legs ≤ length c.post_plain.new.self.legs = c.in-Ok.ensures.longer in
+    let longer : length c.args.self.now.legs ≤ length c.post_said.new.self.legs = c.in-Ok.ensures.longer in
     record { there = omega (arith, below, longer) }
 
 pub keep_part-requires : goal.keep_part-requires
 keep_part-requires g c =
     let L : Call → Type 0 = λ x. c.args.n < length x.legs in
     let below : c.args.n < length c.args.self.now.legs = leg_below c.args.self.now c.args.n c.part-leg.result.now c.part-leg.ensures in
-    let longer : length c.args.self.now.legs ≤ length c.post_plain.new.self.legs = c.in-Ok.ensures.longer in
+    let longer : length c.args.self.now.legs ≤ length c.post_said.new.self.legs = c.in-Ok.ensures.longer in
     let f = responded c.fed-client.result.0 (option_map (λ v. v.items) c.in_ok-ack.ack) in
-    let same : length (changed_leg f c.post_plain.new.self.legs c.args.n) ≡ length c.post_plain.new.self.legs = length_changed f c.post_plain.new.self.legs c.args.n in
-    let lt : c.args.n < length (changed_leg f c.post_plain.new.self.legs c.args.n) = omega (arith, below) in
+    let same : length (changed_leg f c.post_said.new.self.legs c.args.n) ≡ length c.post_said.new.self.legs = length_changed f c.post_said.new.self.legs c.args.n in
+    let lt : c.args.n < length (changed_leg f c.post_said.new.self.legs c.args.n) = omega (arith, below) in
     record { there = subst L (sym c.respond_part-2.ensures) lt }
 
 pub returns-clause-ok : goal.returns-clause-ok
@@ -62,14 +63,14 @@ returns-clause-ok g c =
     c.fed-client.ensures.out ∙ ap (λ (e : TxEvent). client_out e c.args.now c.part-leg.result.now.client) c.response_event.ensures in
     let ack = option_map (λ v. v.items) c.in_ok-ack.ack in
     let passed_on : is_passed c.fed-client.result.1.pass ≡ true = let a = c.is_passed.ensures in let b = c.if-not-is_passed.false in cc in
-    let post : PostsAt c.args.self.now (event_of c.in_ok-event.event) (going_up c.args.status c.args.message) c.in-Ok.at c.post_plain.new.self =
-    let U : Option MessageText → Type 0 = λ up. PostsAt c.args.self.now (event_of c.in_ok-event.event) up c.in-Ok.at c.post_plain.new.self in
-    subst U c.parted-up.ensures.up c.in-Ok.ensures.ok in
+    let post : PostsSaid c.args.self.now (event_of c.in_ok-said.said.event) (contacts_by c.args.status c.args.message) (going_up c.args.status c.args.message) c.in-Ok.at c.post_said.new.self =
+    let U : Option MessageText → Type 0 = λ up. PostsSaid c.args.self.now (event_of c.in_ok-said.said.event) (contacts_by c.args.status c.args.message) up c.in-Ok.at c.post_said.new.self in
+    subst U c.parted-up.ensures.up (c.in-Ok.ensures.ok (contacts_by c.args.status c.args.message) c.in_ok-said.ensures.ways) in
     let mid = c.respond_part-2.new.self in
     let by_timer : kept c.timer_c_again-timer_c_at.result c.parted-up.result.1 ≡ kept (timer_c_again c.args.now c.args.status c.part-leg.result.now.timer_c_at) (answer_if c.args.status c.args.message) =
     rw (c.timer_c_again-timer_c_at.ensures, c.parted-up.ensures.kept) refl in
     let last : c.keep_part.new.self ≡ record mid { legs = changed_leg (kept (timer_c_again c.args.now c.args.status c.part-leg.result.now.timer_c_at) (answer_if c.args.status c.args.message)) mid.legs c.args.n } =
     c.keep_part.ensures ∙ ap (λ (f : Leg → Leg). record mid { legs = changed_leg f mid.legs c.args.n }) by_timer in
     posted c.args.self.now c.args.n c.args.now c.args.status c.args.message c.part-leg.result.now c.way.result.now c.fed-client.result.0 c.fed-client.result.1 ack
-    c.part-leg.ensures c.way.ensures c.requires.status client_is out_is c.in_ok-ack.ensures (event_of c.in_ok-event.event) c.in-Ok.at c.post_plain.new.self c.respond_part-2.new.self c.keep_part.new.self
-    post (c.in_ok-event.ensures.value c.args.message) c.requires.bare passed_on c.respond_part-2.ensures last
+    c.part-leg.ensures c.way.ensures c.requires.status client_is out_is c.in_ok-ack.ensures (event_of c.in_ok-said.said.event) c.in-Ok.at c.post_said.new.self c.respond_part-2.new.self c.keep_part.new.self
+    post c.in_ok-said.ensures.event passed_on c.respond_part-2.ensures last

@@ -1,0 +1,31 @@
+-- A call as it opens.
+use Rattle.std.proofs.Common.{◌≡◌, ℕ, sym, refl, subst, arith, List, Option}
+use Rattle.fork_model.specs.Steps.{IsWithin}
+use Rattle.fork_book.specs.Log.{core_of}
+use Rattle.sip_text.specs.Text.{MessageText}
+use Rattle.sip_uri.specs.declared.hop.Hop.{Hop}
+use Rattle.sip_uri.specs.Uri.{Uri}
+use Rattle.fork_setup.specs.Setup.{Setup}
+use Rattle.sip_route.specs.RouteValues.{first_route}
+use Rattle.fork_parts.specs.Call.{Call}
+use Rattle.fork_parts.specs.Sound.{BegunIsSound}
+use Rattle.fork_routing.specs.Opening.{Admitted, Asks, IsBegun, Opens, Reaches, fixed_of}
+use Rattle.fork_routing.specs.Targets.{choices, targets_of}
+use Rattle.fork_call.specs.Scheduled.{scheduled}
+use Rattle.fork_call.specs.Timing.{IsTimed}
+
+pub opened_timed : (begun : BegunIsSound) (setup : Setup) (number : ℕ) (m : MessageText) (source : Hop) (call : Call) (moments : List (Option ℕ))
+    → Opens setup number m source call → moments ≡ scheduled call → IsTimed call moments
+opened_timed begun setup number m source call moments opens times =
+    let request = opens.0 in
+    let uri = opens.2.1 in
+    let reaches = opens.2.3 in
+    let begins = reaches.begins in
+    let P : Call → Type 0 = λ x. IsTimed x (scheduled x) in
+    let Q : List (Option ℕ) → Type 0 = λ ms. IsTimed call ms in
+    let fixed = fixed_of setup number request source in
+    subst Q (sym times) (subst P (sym begins.2) (record {
+      sound = begun fixed setup.rules (targets_of (choices setup uri)) begins.0;
+      times = refl;
+      within = omega arith;
+    }))

@@ -1,0 +1,22 @@
+use Rattle.std.proofs.Common.{◌≡◌, ◌∙◌, ℕ, ap, length, subst, sym, true, Option}
+use Rattle.fork_parts.specs.Call.{Call}
+use Rattle.fork_parts.specs.Due.{is_due_at}
+use Rattle.fork_parts.specs.SeenStep.{pumped}
+use Rattle.fork_call.specs.SeenDeed.{seen_deed}
+use Rattle.fork_call.specs.Timing.{retimed, row_of_deed}
+use Rattle.fork_call.proofs.Stepping.{pumped_timed}
+use Rattle.fork_call.proofs.call.Call.pump.Goals as goal
+
+pub invariant_of-self-2 : goal.invariant_of-self-2
+invariant_of-self-2 g c =
+    let call = c.self.inside.parts in
+    let R : Call → Type 0 = λ x. length x.log.replies ≡ length x.log.history in
+    let D : Call → Type 0 = λ x. is_due_at x c.args.now (seen_deed c.in-Some.deed) ≡ true in
+    let at : c.posted-at.result ≡ length call.log.history = c.posted-at.ensures.at ∙ sym (ap (λ (x : Call). length x.log.history) c.self.view_is) in
+    let times : c.time_step.new.schedule ≡ retimed c.perform.new.parts (row_of_deed (seen_deed c.in-Some.deed)) (length call.log.history) c.self.inside.schedule =
+    c.time_step.ensures
+    ∙ ap (λ (r : Option ℕ). retimed c.perform.new.parts r c.posted-at.result c.self.inside.schedule) c.row.ensures
+    ∙ ap (λ (k : ℕ). retimed c.perform.new.parts (row_of_deed (seen_deed c.in-Some.deed)) k c.self.inside.schedule) at in
+    pumped_timed c.calls_stay_sound.ensures.kept c.positions_are_bounded.ensures.by_event c.new_rows_are_contacts.ensures.none c.others_stay_open.ensures.exact c.replies_list_all_that_became.ensures
+    call c.perform.new.parts c.self.inside.schedule c.time_step.new.schedule c.self.invariant c.is_sized.ensures.each_leg (subst R (sym c.self.view_is) c.posted-at.ensures.replied)
+    c.args.now (seen_deed c.in-Some.deed) (pumped c.in_ok-step.step) (subst D (sym c.self.view_is) c.in-Some.ensures.some) c.in_ok-step.ensures.step times

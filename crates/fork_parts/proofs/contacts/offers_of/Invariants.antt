@@ -1,0 +1,14 @@
+use Rattle.std.proofs.Common.{◌≡◌, ◌++◌, length, map}
+use Rattle.std.specs.Vec.Iter.{into_iter_items, into_iter_len}
+use Rattle.sip_uri.specs.SeenContact.{view_contacts}
+use Rattle.fork_parts.specs.Posting.{way_of_contact}
+use Rattle.fork_parts.specs.Response.{offer_of}
+use Rattle.fork_parts.proofs.contacts.offers_of.Given as goal
+
+abbrev pub invariant-loop-contact : goal.invariant-loop-contact
+invariant-loop-contact g l = record {
+  offers : l.made.offers.items ≡ map offer_of (view_contacts l.yielded);
+  ways : l.made.ways.items ≡ map (way_of_contact l.fixed) (view_contacts l.yielded);
+  rest : l.fn.contacts.items ≡ l.yielded ++ into_iter_items l.contact-iterator;
+  len : into_iter_len l.contact-iterator ≡ length (into_iter_items l.contact-iterator);
+}
