@@ -13,7 +13,7 @@ use Rattle.fork_call.specs.Scheduled.{if_runs, leg_waits, row_due, due_of}
 
 -- ---- the earlier of two moments
 
-both_later : (now : ℕ) (a b : Option ℕ) → is_due now (earlier a b) ≡ false → (is_due now a ≡ false) × (is_due now b ≡ false)
+pub both_later : (now : ℕ) (a b : Option ℕ) → is_due now (earlier a b) ≡ false → (is_due now a ≡ false) × (is_due now b ≡ false)
 both_later now None b e = (refl, e)
 both_later now (Some a) None e = (e, refl)
 both_later now (Some a) (Some b) e =
