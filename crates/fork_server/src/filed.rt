@@ -1,19 +1,19 @@
 //! The moments at which calls are next due, by number.
-ghost use Rattle.std.specs.Prelude.{◌≡◌, ◌≤◌, ◌<◌, ◌≢◌, ℕ, Option, Some, None, length, slice_set, slice_index_or, IfSome, IfNone, OnOk, OnErr, OnSome, IsTrue};
-ghost use Rattle.std.specs.BinaryHeap.{heap_items, IsHeap};
+ghost use Rattle.std.specs.Prelude.{◌≡◌, ◌≢◌, ◌<◌, ℕ, Some, None, length, slice_set, IfSome, IfNone, OnOk, OnErr};
 ghost use Rattle.std.specs.Bool.{OnTrue, OnFalse};
-ghost use Rattle.fork_server.specs.Filed.{moment_of, filed, without, entry_order, AreListed, IsDueFirst, AreLater};
+ghost use Rattle.std.specs.BinaryHeap.{heap_items, IsHeap};
+ghost use Rattle.fork_server.specs.Filed.{moment_of, entry_order, AreLater, AreListed, AreSame, IsDueFirst, IsFiled, IsFirst, IsWithout};
 
 use std::alloc::{AllocError, Allocator};
 use std::cmp::Reverse;
 use std::collections::BinaryHeap;
 use std::marker::Model;
 
-/// A moment and the number that was filed with it. The earliest comes first.
+/// A moment, and the number that it was filed with. In a heap the earliest comes first.
 type Entry = Reverse<(u64, u64)>;
 
 /// For each number the moment that is filed with it, if one is. Each filed moment stands in the heap; so may others, which
-/// were filed once and no longer count.
+/// were filed once and count no longer.
 #[derive(Drop)]
 pub(crate) struct Filed<A: Allocator> {
     heap: BinaryHeap<Entry, A>,
@@ -21,63 +21,68 @@ pub(crate) struct Filed<A: Allocator> {
 }
 
 impl<A: Allocator> Model for Filed<A> {
-    ghost use Rattle.std.specs.Prelude.{ℕ, Option};
+    ghost use Rattle.std.specs.Prelude.{List, Option, ℕ};
     ghost use Rattle.std.specs.BinaryHeap.{heap_items, IsHeap};
-    ghost use Rattle.fork_server.specs.Filed.{moment_of, entry_order, AreListed};
+    ghost use Rattle.fork_server.specs.Filed.{entry_order, AreListed};
 
-    ghost Value = { ℕ → Option ℕ };
+    ghost Value = { List (Option ℕ) };
 
-    ghost view = { λ f. moment_of f.moments.items };
+    ghost view = { λ f. f.moments.items };
 
     ghost invariant = { λ f. IsHeap entry_order (heap_items f.heap) × AreListed (heap_items f.heap) f.moments.items };
 }
 
-/// Makes room for a number's moment.
+/// Makes room for the moment of the number at this place.
 fn extend_to<A: Allocator>(moments: &mut Vec<Option<u64>, A>, at: usize) -> Result<(), AllocError>
-    ensures same { (n : ℕ) → moment_of moments.new.items n ≡ moment_of moments.old.items n }
+    ensures same { AreSame moments.old.items moments.new.items }
     ensures there { OnOk result (at < length moments.new.items) }
 {
-    while moments.len() <= at {
-        moments.push(None)?;
+    if at < moments.len() {
+        return Ok(());
     }
-    Ok(())
+    let Some(count) = at.checked_add(1) else {
+        return Err(AllocError);
+    };
+    moments.resize(count, None)
 }
 
-/// Takes a number's moment away where it is this one, and says whether it is.
-fn forget(moments: &mut [Option<u64>], number: u64, due: u64) -> bool
-    ensures found { OnTrue result ((moment_of moments.old number ≡ Some due) × ((n : ℕ) → moment_of moments.new n ≡ without (moment_of moments.old) number n)) }
-    ensures other { OnFalse result ((moments.new ≡ moments.old) × (moment_of moments.old number ≢ Some due)) }
+/// Takes a number's moment away where it is this one, and says whether it was.
+#[tactic(auto, using(crate::proofs::Filing::set_moment))]
+fn forget<A: Allocator>(moments: &mut Vec<Option<u64>, A>, number: u64, due: u64) -> bool
+    ensures was { OnTrue result ((number < length moments.old.items) × (moment_of moments.old.items number ≡ Some due) × (moments.new.items ≡ slice_set moments.old.items number None)) }
+    ensures other { OnFalse result ((moments.new.items ≡ moments.old.items) × (moment_of moments.old.items number ≢ Some due)) }
 {
     let Ok(at) = usize::try_from(number) else {
         return false;
     };
-    match moments.get_mut(at) {
-        Some(moment) if *moment == Some(due) => {
-            *moment = None;
-            true
-        }
-        _ => false,
+    if at < moments.len() && moments[at] == Some(due) {
+        moments[at] = None;
+        true
+    } else {
+        false
     }
 }
 
-/// Takes the first number that is due by now.
+/// Takes a number whose moment has come, the first of all; entries that count no longer go with it.
 fn take_due<A: Allocator>(
     heap: &mut BinaryHeap<Entry, A>,
-    moments: &mut [Option<u64>],
+    moments: &mut Vec<Option<u64>, A>,
     now: u64,
 ) -> Option<u64>
     requires heap { IsHeap entry_order (heap_items heap.old) }
-    requires listed { AreListed (heap_items heap.old) moments.old }
+    requires listed { AreListed (heap_items heap.old) moments.old.items }
     ensures heap { IsHeap entry_order (heap_items heap.new) }
-    ensures listed { AreListed (heap_items heap.new) moments.new }
-    ensures some { IfSome result (λ number. IsDueFirst (moment_of moments.old) now number × ((n : ℕ) → moment_of moments.new n ≡ without (moment_of moments.old) number n)) }
-    ensures none { IfNone result ((moments.new ≡ moments.old) × AreLater now (moment_of moments.old)) }
+    ensures listed { AreListed (heap_items heap.new) moments.new.items }
+    ensures some { IfSome result (λ number. IsDueFirst moments.old.items now number × IsWithout moments.old.items number moments.new.items) }
+    ensures none { IfNone result (AreLater now moments.old.items × (moments.new.items ≡ moments.old.items)) }
 {
-    while let Some(Reverse((due, number))) = heap.peek().copied() {
-        if due > now {
+    while let Some(Reverse((first, _))) = heap.peek().copied() {
+        if first > now {
             return None;
         }
-        heap.pop();
+        let Some(Reverse((due, number))) = heap.pop() else {
+            return None;
+        };
         if forget(moments, number, due) {
             return Some(number);
         }
@@ -85,10 +90,34 @@ fn take_due<A: Allocator>(
     None
 }
 
+/// Lists a moment with the number at this place.
+fn list<A: Allocator>(
+    heap: &mut BinaryHeap<Entry, A>,
+    moments: &mut Vec<Option<u64>, A>,
+    at: usize,
+    due: u64,
+) -> Result<(), AllocError>
+    requires heap { IsHeap entry_order (heap_items heap.old) }
+    requires listed { AreListed (heap_items heap.old) moments.old.items }
+    requires there { at < length moments.old.items }
+    ensures heap { IsHeap entry_order (heap_items heap.new) }
+    ensures listed { AreListed (heap_items heap.new) moments.new.items }
+    ensures ok { OnOk result (moments.new.items ≡ slice_set moments.old.items at (Some due)) }
+    ensures err { OnErr result (moments.new.items ≡ moments.old.items) }
+{
+    match heap.push(Reverse((due, at as u64))) {
+        Ok(()) => {
+            moments[at] = Some(due);
+            Ok(())
+        }
+        Err(_) => Err(AllocError),
+    }
+}
+
 impl<A: Allocator> Filed<A> {
     /// Nothing is filed.
     pub(crate) fn new(heap: A, moments: A) -> Filed<A>
-        ensures { (n : ℕ) → result n ≡ None }
+        ensures { (n : ℕ) → moment_of result n ≡ None }
     {
         Filed {
             heap: BinaryHeap::new(heap),
@@ -100,10 +129,10 @@ impl<A: Allocator> Filed<A> {
     ///
     /// # Errors
     ///
-    /// Only where the allocator refuses; then what is filed stays the same.
+    /// Only where the allocator refuses; then what is filed stays as it was.
     pub(crate) fn file(&mut self, number: u64, due: u64) -> Result<(), AllocError>
-        ensures ok { OnOk result ((n : ℕ) → self.new n ≡ filed self.old number due n) }
-        ensures err { OnErr result ((n : ℕ) → self.new n ≡ self.old n) }
+        ensures ok { OnOk result (IsFiled self.old number due self.new) }
+        ensures err { OnErr result (AreSame self.old self.new) }
     {
         let Ok(at) = usize::try_from(number) else {
             return Err(AllocError);
@@ -114,25 +143,21 @@ impl<A: Allocator> Filed<A> {
                 return Ok(());
             }
         }
-        if self.heap.push(Reverse((due, number))).is_err() {
-            return Err(AllocError);
-        }
-        self.moments[at] = Some(due);
-        Ok(())
+        list(&mut self.heap, &mut self.moments, at, due)
     }
 
-    /// Takes a number whose moment has come, the earliest first. None where none has.
+    /// Takes a number whose moment has come, the first of all. None where no moment has.
     pub(crate) fn take(&mut self, now: u64) -> Option<u64>
-        ensures some { IfSome result (λ number. IsDueFirst self.old now number × ((n : ℕ) → self.new n ≡ without self.old number n)) }
-        ensures none { IfNone result (AreLater now self.old × ((n : ℕ) → self.new n ≡ self.old n)) }
+        ensures some { IfSome result (λ number. IsDueFirst self.old now number × IsWithout self.old number self.new) }
+        ensures none { IfNone result (AreLater now self.old × (self.new ≡ self.old)) }
     {
-        take_due(&mut self.heap, self.moments.as_mut_slice(), now)
+        take_due(&mut self.heap, &mut self.moments, now)
     }
 
-    /// A moment that none of those filed is before; none where nothing is filed.
+    /// A moment that no filed one is before; none where nothing is filed.
     pub(crate) fn first(&self) -> Option<u64>
-        ensures some { IfSome result (λ first. (n due : ℕ) → self.now n ≡ Some due → first ≤ due) }
-        ensures none { IfNone result ((n : ℕ) → self.now n ≡ None) }
+        ensures some { IfSome result (IsFirst self.now) }
+        ensures none { IfNone result ((n : ℕ) → moment_of self.now n ≡ None) }
     {
         match self.heap.peek() {
             Some(Reverse((due, _))) => Some(*due),
