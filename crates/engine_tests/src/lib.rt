@@ -7,4 +7,6 @@ mod drive;
 #[cfg(test)]
 mod holds;
 #[cfg(test)]
+mod inbox;
+#[cfg(test)]
 mod shelf;

@@ -132,6 +132,11 @@ impl<T: Numbered + Drop, A: Allocator + Clone> Shelf<T, A> {
         }
     }
 
+    /// How many values were put: each number below it has one.
+    pub fn count<R: Wait>(&self, rt: &R) -> u64 {
+        self.desk.lock(rt).next
+    }
+
     /// The number of a key.
     pub fn keyed<R: Wait>(&self, rt: &R, key: &[u8]) -> Option<u64> {
         self.desk.lock(rt).keyed(key)
