@@ -11,6 +11,7 @@ use std::sync::Wait;
 
 /// A request by its edits, the status that it is answered with, what the answer does not have in common with the others, and
 /// where it goes.
+#[derive(Drop)]
 struct Answered<'a> {
     edits: &'a [Edit<'a>],
     status: u16,

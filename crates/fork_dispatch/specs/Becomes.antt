@@ -35,25 +35,25 @@ use Rattle.fork_dispatch.specs.Sent.{answer_of}
 
 -- the top Via value of a response is one that this run of the proxy put, for the call of that number (section 16.7 step 1)
 abbrev pub IsHome : Setup → ℕ → MessageText → Type 0
-IsHome setup no m =
+IsHome setup number m =
     (branch : BranchName)
     × IsBranch branch
     × IsOwnBranch setup.own (top_value m) branch
     × (branch.instance ≡ setup.instance)
-    × (branch.context ≡ no)
+    × (branch.context ≡ number)
 
 -- the call of that number took it, by the one transaction that it belongs to (sections 17.1.3 and 17.2.3)
-pub record IsTaken (no : ℕ) (m : MessageText) (source : Hop) (now : ℕ) : Type 0 where
+pub record IsTaken (number : ℕ) (m : MessageText) (source : Hop) (now : ℕ) : Type 0 where
   pub before : Call
   pub after : Call
   pub taken : Taken
-  pub number : before.fixed.number ≡ no
+  pub number_is : before.fixed.number ≡ number
   pub takes : Takes before now m source (seen_taken taken) after
 
 -- a response names the call that takes it; a request is known to it by its key
 abbrev pub IsFor : Setup → ℕ → MessageText → Option Purpose → Type 0
-IsFor setup no m None = IsHome setup no m
-IsFor setup no m (Some purpose) = request_key m ≢ None
+IsFor setup number m None = IsHome setup number m
+IsFor setup number m (Some purpose) = request_key m ≢ None
 
 -- ---- no call takes it
 
@@ -88,10 +88,10 @@ MessageBecomes setup m source now Passed sent =
     × (datagram : Datagram)
     × (sent ≡ Some datagram)
     × Passes setup m source (Some datagram)
-MessageBecomes setup m source now (Opened no) sent =
-    (purpose_of m.start ≡ Some Opening) × (call : Call) × Opens setup no m source call × (sent ≡ None)
-MessageBecomes setup m source now (Fed no) sent =
-    IsFor setup no m (purpose_of m.start) × IsTaken no m source now × (sent ≡ None)
+MessageBecomes setup m source now (Opened number) sent =
+    (purpose_of m.start ≡ Some Opening) × (call : Call) × Opens setup number m source call × (sent ≡ None)
+MessageBecomes setup m source now (Fed number) sent =
+    IsFor setup number m (purpose_of m.start) × IsTaken number m source now × (sent ≡ None)
 
 -- of a text that is no message: a request whose body is cut short is answered 400, made of what stands before the body
 abbrev pub FaultBecomes : Fault → Hop → Handled → Option Datagram → Type 0

@@ -1,0 +1,3 @@
+pub mod Takes
+pub mod Opened
+pub mod Keyless
