@@ -1,3 +1,4 @@
 pub mod Takes
 pub mod Opened
 pub mod Keyless
+pub mod Purposes

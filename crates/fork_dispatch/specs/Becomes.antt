@@ -23,8 +23,8 @@ use Rattle.fork_routing.specs.declared.fault.OpenFault.{OpenFault}
 use Rattle.fork_routing.specs.Opening.{Opens, Refuses}
 use Rattle.fork_routing.specs.Refusing.{status_of_fault}
 use Rattle.fork_call.specs.Takes.{Takes}
-use Rattle.fork_dispatch.specs.declared.handle.Handled.{Handled}
-use Rattle.fork_dispatch.specs.declared.handle.Handled.TheVariants.{Dropped, Absorbed, Answered, Passed, Opened, Fed}
+use Rattle.fork_dispatch.specs.declared.datagrams.Handled.{Handled}
+use Rattle.fork_dispatch.specs.declared.datagrams.Handled.TheVariants.{Dropped, Absorbed, Answered, Passed, Opened, Fed}
 use Rattle.fork_dispatch.specs.declared.purpose.Purpose.{Purpose}
 use Rattle.fork_dispatch.specs.declared.purpose.Purpose.TheVariants.{Ack, Cancel, Opening}
 use Rattle.fork_dispatch.specs.Purpose.{is_fault_answered, purpose_of}

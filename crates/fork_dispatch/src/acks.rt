@@ -6,13 +6,13 @@ ghost use Rattle.sip_build.specs.Forwarding.{is_request};
 ghost use Rattle.fork_parts.specs.SeenDatagram.{seen};
 ghost use Rattle.fork_routing.specs.Admission.{target_uri};
 ghost use Rattle.fork_routing.specs.Targets.{hop_by};
-ghost use Rattle.fork_dispatch.specs.declared.purpose.Purpose.TheVariants as purpose;
+ghost use Rattle.fork_dispatch.specs.declared.purpose.Purpose.TheVariants as purposes;
 ghost use Rattle.fork_dispatch.specs.Becomes.{MessageBecomes};
 ghost use Rattle.fork_dispatch.specs.Passing.{GoesOn, HasOwnTag, Passes};
 ghost use Rattle.fork_dispatch.specs.Purpose.{purpose_of};
 ghost use Rattle.fork_dispatch.specs.Sent.{passed_on, passing_branch, seen_sent};
 
-use crate::handle::Handled;
+use crate::datagrams::Handled;
 use crate::outcome::{Outcome, Received};
 use fork_call::{Cause, Datagram, OpenFault, Setup};
 use fork_routing::{admit, is_domain};
@@ -142,7 +142,7 @@ pub(crate) fn acknowledged<A: Allocator + Clone>(
     ack: Message<A>,
     received: &Received<'_>,
 ) -> Result<Outcome<A>, AllocError>
-    requires { purpose_of ack.start ≡ Some purpose.Ack }
+    requires { purpose_of ack.start ≡ Some purposes.Ack }
     ensures { IfOk result (λ outcome.
         MessageBecomes setup.now ack received.now.source received.now.at outcome.handled (seen_sent outcome.datagram)) }
 {

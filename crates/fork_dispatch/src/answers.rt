@@ -4,10 +4,10 @@ ghost use Rattle.std.specs.Option.{option_map};
 ghost use Rattle.sip_build.specs.Generated.{code_of};
 ghost use Rattle.fork_parts.specs.SeenDatagram.{seen};
 ghost use Rattle.fork_routing.specs.Refusing.{status_of_fault};
-ghost use Rattle.fork_dispatch.specs.declared.handle.Handled.TheVariants as handled;
+ghost use Rattle.fork_dispatch.specs.declared.datagrams.Handled.TheVariants as handled;
 ghost use Rattle.fork_dispatch.specs.Sent.{answer_of, seen_sent};
 
-use crate::handle::Handled;
+use crate::datagrams::Handled;
 use crate::outcome::Outcome;
 use fork_call::{Cause, Datagram, OpenFault};
 use sip_build::{OwnStatus, write_generated};

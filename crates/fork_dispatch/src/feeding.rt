@@ -5,7 +5,7 @@ ghost use Rattle.fork_dispatch.specs.Becomes.{IsDropped, IsFor, IsTaken, Message
 ghost use Rattle.fork_dispatch.specs.Purpose.{purpose_of};
 ghost use Rattle.fork_dispatch.specs.Sent.{seen_sent};
 
-use crate::handle::Handled;
+use crate::datagrams::Handled;
 use crate::outcome::{Outcome, Received};
 use fork_call::{Call, TakeFault};
 use fork_shelf::Shelf;

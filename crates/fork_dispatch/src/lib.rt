@@ -4,11 +4,11 @@
 
 mod acks;
 mod answers;
+mod datagrams;
 mod feeding;
-mod handle;
 mod outcome;
 mod purpose;
 mod requests;
 mod responses;
 
-pub use handle::{Handled, handle};
+pub use datagrams::{Handled, handle};

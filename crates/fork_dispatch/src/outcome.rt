@@ -1,7 +1,7 @@
 //! What comes of a datagram, before anything is sent.
 ghost use Rattle.std.specs.Prelude.{◌≡◌, None};
 
-use crate::handle::Handled;
+use crate::datagrams::Handled;
 use fork_call::Datagram;
 use sip_uri::Hop;
 use std::alloc::Allocator;

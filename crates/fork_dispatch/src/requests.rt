@@ -7,15 +7,15 @@ ghost use Rattle.fork_parts.specs.Call as parts;
 ghost use Rattle.fork_shelf.specs.declared.shelf.ShelfFault.TheVariants as shelf_fault;
 ghost use Rattle.fork_routing.specs.declared.fault.OpenFault.{OpenFault};
 ghost use Rattle.fork_routing.specs.Opening.{Opens, Refuses};
-ghost use Rattle.fork_dispatch.specs.declared.purpose.Purpose.TheVariants as purpose;
+ghost use Rattle.fork_dispatch.specs.declared.purpose.Purpose.TheVariants as purposes;
 ghost use Rattle.fork_dispatch.specs.Becomes.{MessageBecomes};
 ghost use Rattle.fork_dispatch.specs.Purpose.{purpose_of};
 ghost use Rattle.fork_dispatch.specs.Sent.{seen_sent};
 
 use crate::acks::acknowledged;
 use crate::answers::{answered, status_of};
+use crate::datagrams::Handled;
 use crate::feeding::feed;
-use crate::handle::Handled;
 use crate::outcome::{Outcome, Received};
 use crate::purpose::Purpose;
 use fork_call::{Call, OpenFault, Setup};
@@ -48,7 +48,7 @@ fn open_call<A: Allocator + Clone, R: Wait>(
     request: Message<A>,
     received: &Received<'_>,
 ) -> Result<u64, ShelfFault<OpenFault>>
-    requires { purpose_of request.start ≡ Some purpose.Opening }
+    requires { purpose_of request.start ≡ Some purposes.Opening }
     ensures opened { IfOk result (λ no. (call : parts.Call) × Opens setup.now no request received.now.source call) }
     ensures refused { (fault : OpenFault) → IsErrOf result (shelf_fault.Made fault) → Refuses setup.now request received.now.source fault }
 {
@@ -83,7 +83,7 @@ fn refused<A: Allocator + Clone>(
     received: &Received<'_>,
     fault: OpenFault,
 ) -> Result<Outcome<A>, AllocError>
-    requires opening { purpose_of request.start ≡ Some purpose.Opening }
+    requires opening { purpose_of request.start ≡ Some purposes.Opening }
     requires refused { Refuses setup.now request received.now.source fault }
     ensures { IfOk result (λ outcome.
         MessageBecomes setup.now request received.now.source received.now.at outcome.handled (seen_sent outcome.datagram)) }
@@ -104,7 +104,7 @@ fn opened<A: Allocator + Clone, R: Wait>(
     request: Message<A>,
     received: &Received<'_>,
 ) -> Result<Outcome<A>, AllocError>
-    requires opening { purpose_of request.start ≡ Some purpose.Opening }
+    requires opening { purpose_of request.start ≡ Some purposes.Opening }
     requires key { request_key request ≢ None }
     requires read { read_at received.now.bytes.now ≡ Ok request }
     ensures { IfOk result (λ outcome.

@@ -4,8 +4,8 @@ ghost use Rattle.fork_dispatch.specs.Becomes.{IsHome, MessageBecomes};
 ghost use Rattle.fork_dispatch.specs.Purpose.{purpose_of};
 ghost use Rattle.fork_dispatch.specs.Sent.{seen_sent};
 
+use crate::datagrams::Handled;
 use crate::feeding::feed;
-use crate::handle::Handled;
 use crate::outcome::{Outcome, Received};
 use fork_call::{Call, Setup};
 use fork_shelf::Shelf;
