@@ -2,3 +2,4 @@ pub mod Takes
 pub mod Opened
 pub mod Keyless
 pub mod Purposes
+pub mod Becoming

@@ -7,4 +7,4 @@ use Rattle.fork_parts.specs.Call.{Call}
 use Rattle.fork_routing.specs.Opening.{Opens}
 
 pub numbered : (setup : Setup) (number : ℕ) (m : MessageText) (source : Hop) (call : Call) → Opens setup number m source call → call.fixed.number ≡ number
-numbered setup number m source call (request, admitted, asks, uri, names, reaches) = ap (λ (c : Call). c.fixed.number) reaches.begins.2
+numbered setup number m source call (request, admitted, (asks, uri, names, reaches)) = ap (λ (c : Call). c.fixed.number) reaches.begins.2

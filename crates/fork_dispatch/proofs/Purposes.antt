@@ -24,9 +24,10 @@ no_other false false e = (refl, refl)
 -- it is a request of another method than ACK and CANCEL
 pub openable : (start : StartText) → purpose_of start ≡ Some Opening → IsOpenable start
 openable (Request method uri) e =
-    let other = no_other (bytes_eq method (codes "ACK")) (bytes_eq method (codes "CANCEL")) (same_Some _ _ e) in
-    (λ p. false≢true (sym other.0 ∙ (bytes_eq-Decides method (codes "ACK")).1 p),
-    λ p. false≢true (sym other.1 ∙ (bytes_eq-Decides method (codes "CANCEL")).1 p))
+    let other = no_other (bytes_eq method (codes "ACK")) (bytes_eq method (codes "CANCEL")) (same_Some _ _ e) in (
+      λ p. false≢true (sym other.0 ∙ (bytes_eq-Decides method (codes "ACK")).1 p),
+      λ p. false≢true (sym other.1 ∙ (bytes_eq-Decides method (codes "CANCEL")).1 p),
+    )
 openable (Response status reason) e = absurd cc
 
 pub requests : (start : StartText) (purpose : Purpose) → purpose_of start ≡ Some purpose → is_request start ≡ true

@@ -1,5 +1,5 @@
 -- Which ACKs are sent on without a call (RFC 3261 sections 16.3, 16.6 and 16.11).
-use Rattle.std.specs.Prelude.{◌≡◌, ◌≢◌, ◌⊎◌, true, false, Option, Some, None, Ok}
+use Rattle.std.specs.Prelude.{◌≡◌, ◌⊎◌, ℕ, true, false, Option, Some, None, Ok}
 use Rattle.sip_text.specs.declared.needed.Needed.TheVariants.{To}
 use Rattle.sip_text.specs.Fields.{value_of}
 use Rattle.sip_text.specs.Tag.{tag_in}
@@ -11,9 +11,8 @@ use Rattle.sip_build.specs.OwnTag.{own_tag}
 use Rattle.fork_setup.specs.Setup.{Setup}
 use Rattle.fork_parts.specs.Built.{Datagram}
 use Rattle.fork_routing.specs.declared.fault.OpenFault.{OpenFault}
-use Rattle.fork_routing.specs.declared.fault.OpenFault.TheVariants.{NoMemory}
 use Rattle.fork_routing.specs.Admission.{IsAdmitted, target_uri}
-use Rattle.fork_routing.specs.Refusing.{IsTurnedAway}
+use Rattle.fork_routing.specs.Refusing.{IsTurnedAway, status_of_fault}
 use Rattle.fork_routing.specs.Targets.{hop_by, is_domain}
 use Rattle.fork_dispatch.specs.Sent.{passed_on}
 
@@ -38,7 +37,7 @@ GoesOn setup request (Some datagram) =
 -- what is sent on of an ACK: nothing where one of the first four steps of section 16.3 stops it
 abbrev pub Passes : Setup → MessageText → Hop → Option Datagram → Type 0
 Passes setup m source None =
-    ((fault : OpenFault) × (fault ≢ NoMemory) × IsTurnedAway setup.own m source fault)
+    ((fault : OpenFault) × (status : ℕ) × IsTurnedAway setup.own m source fault × (status_of_fault fault ≡ Some status))
     ⊎ ((request : MessageText) × IsAdmitted setup.own m source request × GoesOn setup request None)
 Passes setup m source (Some datagram) =
     (request : MessageText) × IsAdmitted setup.own m source request × GoesOn setup request (Some datagram)

@@ -1,5 +1,5 @@
 -- What the proxy sends without a call (RFC 3261 sections 8.2.6, 16.11 and 18.2.2).
-use Rattle.std.specs.Prelude.{Option, Some, None, Result, Ok, Err}
+use Rattle.std.specs.Prelude.{ℕ, List, Option, Some, None, Result, Ok, Err}
 use Rattle.sip_text.specs.Text.{MessageText, spelling}
 use Rattle.sip_uri.specs.declared.hop.Hop.{Hop}
 use Rattle.sip_uri.specs.Uri.{Uri}
@@ -39,12 +39,12 @@ abbrev pub passing_branch : Setup → MessageText → BranchName
 passing_branch setup request =
     record { key = loop_key request; instance = setup.instance; context = 0; target = 65535 }
 
+abbrev pub passed_text : Setup → MessageText → Uri → List ℕ
+passed_text setup request uri = spelling (forwarded request uri setup.own (passing_branch setup request))
+
 abbrev pub passed_on : Setup → MessageText → Uri → Hop → Datagram
-passed_on setup request uri hop = record {
-  to = hop;
-  bytes = spelling (forwarded request uri setup.own (passing_branch setup request));
-  cause = cause.Request 65535;
-}
+passed_on setup request uri hop =
+    record { to = hop; bytes = passed_text setup request uri; cause = cause.Request 65535 }
 
 -- ---- in memory
 

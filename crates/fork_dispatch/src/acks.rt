@@ -10,11 +10,11 @@ ghost use Rattle.fork_dispatch.specs.declared.purpose.Purpose.TheVariants as pur
 ghost use Rattle.fork_dispatch.specs.Becomes.{MessageBecomes};
 ghost use Rattle.fork_dispatch.specs.Passing.{GoesOn, HasOwnTag, Passes};
 ghost use Rattle.fork_dispatch.specs.Purpose.{purpose_of};
-ghost use Rattle.fork_dispatch.specs.Sent.{passed_on, passing_branch, seen_sent};
+ghost use Rattle.fork_dispatch.specs.Sent.{passed_on, passed_text, passing_branch, seen_sent};
 
 use crate::datagrams::Handled;
 use crate::outcome::{Outcome, Received};
-use fork_call::{Cause, Datagram, OpenFault, Setup};
+use fork_call::{Cause, Datagram, Setup};
 use fork_routing::{admit, is_domain};
 use sip_build::{own_tag, write_forwarded};
 use sip_route::{FirstRoute, first_route, loop_key, request_uri};
@@ -74,7 +74,24 @@ fn passing_branch<A: Allocator>(setup: &Setup<A>, request: &Message<A>) -> Branc
     }
 }
 
-/// The request as it goes on to this URI by this hop (RFC 3261 section 16.6).
+/// The text of a request as it goes on to this URI (RFC 3261 section 16.6).
+fn passed_text<A: Allocator + Clone>(
+    alloc: A,
+    setup: &Setup<A>,
+    request: &Message<A>,
+    uri: &SipUri<A>,
+) -> Result<Vec<u8, A>, AllocError>
+    requires request { is_request request.now.start ≡ true }
+    requires hops { IfSome (first_value hops_name request.now.headers) IsHops }
+    ensures { IfOk result (λ text. text.items ≡ passed_text setup.now request.now uri.now) }
+{
+    let branch = passing_branch(setup, request);
+    let mut text = Vec::new(alloc);
+    write_forwarded(request, uri, setup.own(), &branch, &mut text)?;
+    Ok(text)
+}
+
+/// The request as it goes on to this URI by this hop.
 fn passed_on<A: Allocator + Clone>(
     alloc: A,
     setup: &Setup<A>,
@@ -86,9 +103,7 @@ fn passed_on<A: Allocator + Clone>(
     requires hops { IfSome (first_value hops_name request.now.headers) IsHops }
     ensures { IfOk result (λ datagram. seen datagram ≡ passed_on setup.now request.now uri.now hop) }
 {
-    let branch = passing_branch(setup, request);
-    let mut bytes = Vec::new(alloc);
-    write_forwarded(request, uri, setup.own(), &branch, &mut bytes)?;
+    let bytes = passed_text(alloc, setup, request, uri)?;
     Ok(Datagram {
         to: hop,
         bytes,
@@ -129,8 +144,10 @@ fn passing<A: Allocator + Clone>(
 {
     match admit(alloc.clone()?, setup.own(), ack, source) {
         Ok(request) => going_on(alloc, setup, &request),
-        Err(OpenFault::NoMemory) => Err(AllocError),
-        Err(_) => Ok(None),
+        Err(fault) => match fault.status() {
+            Some(_) => Ok(None),
+            None => Err(AllocError),
+        },
     }
 }
 

@@ -1,11 +1,12 @@
 //! Requests that the proxy answers without a call.
 ghost use Rattle.std.specs.Prelude.{◌≡◌, IfOk, Some};
 ghost use Rattle.std.specs.Option.{option_map};
-ghost use Rattle.sip_build.specs.Generated.{code_of};
+ghost use Rattle.sip_text.specs.Text.{spelling};
+ghost use Rattle.sip_build.specs.Generated.{code_of, generated_of};
 ghost use Rattle.fork_parts.specs.SeenDatagram.{seen};
 ghost use Rattle.fork_routing.specs.Refusing.{status_of_fault};
 ghost use Rattle.fork_dispatch.specs.declared.datagrams.Handled.TheVariants as handled;
-ghost use Rattle.fork_dispatch.specs.Sent.{answer_of, seen_sent};
+ghost use Rattle.fork_dispatch.specs.Sent.{answer_of, answer_to, seen_sent};
 
 use crate::datagrams::Handled;
 use crate::outcome::Outcome;
@@ -16,7 +17,20 @@ use sip_uri::Hop;
 use sip_via::{ViaFault, mark, reply_hop_of};
 use std::alloc::{AllocError, Allocator};
 
-/// An answer of the proxy's own to this request, to that hop (RFC 3261 section 8.2.6).
+/// The text of an answer of the proxy's own to this request (RFC 3261 section 8.2.6).
+fn answer_text<A: Allocator>(
+    alloc: A,
+    request: &Message<A>,
+    status: OwnStatus,
+) -> Result<Vec<u8, A>, AllocError>
+    ensures { IfOk result (λ text. text.items ≡ spelling (generated_of request.now status)) }
+{
+    let mut text = Vec::new(alloc);
+    write_generated(request, status, &mut text)?;
+    Ok(text)
+}
+
+/// An answer of the proxy's own to this request, to that hop.
 fn answer_to<A: Allocator>(
     alloc: A,
     request: &Message<A>,
@@ -25,8 +39,7 @@ fn answer_to<A: Allocator>(
 ) -> Result<Datagram<A>, AllocError>
     ensures { IfOk result (λ datagram. seen datagram ≡ answer_to request.now status to) }
 {
-    let mut bytes = Vec::new(alloc);
-    write_generated(request, status, &mut bytes)?;
+    let bytes = answer_text(alloc, request, status)?;
     Ok(Datagram {
         to,
         bytes,

@@ -1,8 +1,9 @@
 //! Datagrams that a proxy receives.
-ghost use Rattle.std.specs.Prelude.{◌≡◌, IfOk, Ok, Option};
+ghost use Rattle.std.specs.Prelude.{◌≡◌, IfOk, Ok, Option, Some};
 ghost use Rattle.sip_text.specs.Message.{read_at};
 ghost use Rattle.fork_parts.specs.Built as built;
-ghost use Rattle.sip_text.specs.Reading.{Short};
+ghost use Rattle.sip_text.specs.Fault.{fault_seen};
+ghost use Rattle.sip_text.specs.Reading.{Fault, Short};
 ghost use Rattle.fork_dispatch.specs.Becomes.{Becomes, FaultBecomes, MessageBecomes};
 ghost use Rattle.fork_dispatch.specs.Sent.{seen_sent};
 
@@ -14,7 +15,7 @@ use crate::responses::responded;
 use fork_call::{Call, Port, Setup};
 use fork_shelf::Shelf;
 use sip_build::OwnStatus;
-use sip_text::{Message, ReadFault};
+use sip_text::{Message, ReadFault, faults_are_of_the_text};
 use sip_uri::Hop;
 use std::alloc::{AllocError, Allocator};
 use std::sync::Wait;
@@ -70,6 +71,28 @@ fn of_head<A: Allocator + Clone>(
     }
 }
 
+/// What becomes of a text that is no message.
+fn of_fault<A: Allocator + Clone>(
+    alloc: A,
+    fault: ReadFault<A>,
+    source: Hop,
+) -> Result<Outcome<A>, AllocError>
+    ensures { IfOk result (λ outcome. (seen : Fault) × (fault_seen fault ≡ Some seen)
+        × FaultBecomes seen source outcome.handled (seen_sent outcome.datagram)) }
+{
+    match fault {
+        ReadFault::ShortBody(head) => of_head(alloc, head, source),
+        ReadFault::NoMemory => Err(AllocError),
+        ReadFault::StartLine
+        | ReadFault::HeaderLine
+        | ReadFault::Missing(_)
+        | ReadFault::Version
+        | ReadFault::Status
+        | ReadFault::CSeq
+        | ReadFault::Length => Ok(Outcome::silent(Handled::Dropped)),
+    }
+}
+
 /// What becomes of a datagram.
 fn outcome_of<A: Allocator + Clone, R: Wait>(
     rt: &R,
@@ -81,11 +104,10 @@ fn outcome_of<A: Allocator + Clone, R: Wait>(
     ensures { IfOk result (λ outcome.
         Becomes setup.now received.now.bytes.now received.now.source received.now.at outcome.handled (seen_sent outcome.datagram)) }
 {
+    faults_are_of_the_text();
     match Message::read(alloc.clone()?, received.bytes) {
         Ok(message) => of_message(rt, alloc, shelf, setup, message, received),
-        Err(ReadFault::ShortBody(head)) => of_head(alloc, head, received.source),
-        Err(ReadFault::NoMemory) => Err(AllocError),
-        Err(_) => Ok(Outcome::silent(Handled::Dropped)),
+        Err(fault) => of_fault(alloc, fault, received.source),
     }
 }
 
