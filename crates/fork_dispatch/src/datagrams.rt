@@ -1,10 +1,10 @@
 //! Datagrams that a proxy receives.
-ghost use Rattle.std.specs.Prelude.{◌≡◌, IfOk, Ok, Option, Some};
+ghost use Rattle.std.specs.Prelude.{◌≡◌, IfOk, Ok, Option};
 ghost use Rattle.sip_text.specs.Message.{read_at};
 ghost use Rattle.fork_parts.specs.Built as built;
 ghost use Rattle.sip_text.specs.Fault.{fault_seen};
-ghost use Rattle.sip_text.specs.Reading.{Fault, Short};
-ghost use Rattle.fork_dispatch.specs.Becomes.{Becomes, FaultBecomes, MessageBecomes};
+ghost use Rattle.sip_text.specs.Reading.{Short};
+ghost use Rattle.fork_dispatch.specs.Becomes.{Becomes, FaultBecomes, MessageBecomes, ToldBecomes};
 ghost use Rattle.fork_dispatch.specs.Sent.{seen_sent};
 
 use crate::answers::answered;
@@ -77,8 +77,7 @@ fn of_fault<A: Allocator + Clone>(
     fault: ReadFault<A>,
     source: Hop,
 ) -> Result<Outcome<A>, AllocError>
-    ensures { IfOk result (λ outcome. (seen : Fault) × (fault_seen fault ≡ Some seen)
-        × FaultBecomes seen source outcome.handled (seen_sent outcome.datagram)) }
+    ensures { IfOk result (λ outcome. ToldBecomes (fault_seen fault) source outcome.handled (seen_sent outcome.datagram)) }
 {
     match fault {
         ReadFault::ShortBody(head) => of_head(alloc, head, source),
