@@ -1,5 +1,6 @@
 //! Which datagrams the call of a request takes.
-ghost use Rattle.std.specs.Prelude.{◌≡◌, IfSome};
+ghost use Rattle.std.specs.Prelude.{◌≡◌, ◌↔◌, IfSome, IsTrue};
+ghost use Rattle.fork_routing.specs.Opening.{IsOpenable};
 
 use crate::holds::holds;
 use crate::outbox::Outbox;
@@ -9,7 +10,7 @@ use crate::texts::{
 use fork_call::{Call, carry};
 use fork_dispatch::Handled;
 use fork_shelf::{Shelf, ShelfFault};
-use sip_text::Message;
+use sip_text::{Message, Start};
 use std::alloc::Global;
 use std::sync::Wait;
 
@@ -74,6 +75,18 @@ fn a_request_opens_one_call(rt: HostRuntime) {
     );
 }
 
+/// Whether a message is a request that may open a call.
+fn is_openable(message: &Message<Global>) -> bool
+    ensures { IsTrue result ↔ IsOpenable message.now.start }
+{
+    match message.start() {
+        Start::Request { method, .. } => {
+            method.as_slice() != b"ACK".as_slice() && method.as_slice() != b"CANCEL".as_slice()
+        }
+        Start::Response { .. } => false,
+    }
+}
+
 /// The call of the request under that number, whose request was sent.
 fn sent_call(alloc: Global, number: u64, outbox: &mut Outbox) -> Option<Call<Global>>
     ensures { IfSome result (λ call. call.fixed.number ≡ number) }
@@ -81,7 +94,7 @@ fn sent_call(alloc: Global, number: u64, outbox: &mut Outbox) -> Option<Call<Glo
     let setup = setup_of(alloc)?;
     let text = request_of(alloc, &[])?;
     let request = Message::read(alloc, &text).ok()?;
-    if request.method() != Some(b"OPTIONS".as_slice()) {
+    if !is_openable(&request) {
         return None;
     }
     let mut call = Call::open(alloc, &setup, number, request, SOURCE, 0).ok()?;

@@ -120,10 +120,13 @@ fn opened<A: Allocator + Clone, R: Wait>(
         // another worker opened it meanwhile
         Err(ShelfFault::Known(no)) => feed(rt, shelf, no, read_again(alloc, received)?, received),
         Err(ShelfFault::Spent) => Ok(Outcome::silent(Handled::Dropped)),
-        Err(ShelfFault::Made(fault)) => {
-            let request = read_again(alloc.clone()?, received)?;
-            refused(alloc, setup, request, received, fault)
-        }
+        Err(ShelfFault::Made(fault)) => refused(
+            alloc.clone()?,
+            setup,
+            read_again(alloc, received)?,
+            received,
+            fault,
+        ),
         Err(ShelfFault::NoMemory) => Err(AllocError),
     }
 }
