@@ -1,6 +1,7 @@
 //! Values under numbers and keys, each behind a lock of its own.
-ghost use Rattle.std.specs.Prelude.{◌≡◌, ◌+◌, ℕ, Ok, Err, IfOk, IfSome, OnOk, OnErr};
+ghost use Rattle.std.specs.Prelude.{◌≡◌, ◌+◌, ℕ, Ok, Err, IfErr, IfOk, IfSome, OnOk, OnErr};
 ghost use Rattle.std.specs.Fn.{FnOnceReturnsAtMut};
+ghost use Rattle.fork_shelf.specs.Faults.{IfMade};
 
 use crate::desk::{Desk, Taken};
 use std::alloc::{AllocError, Allocator, Global};
@@ -74,6 +75,7 @@ impl<T: Numbered + Drop, A: Allocator + Clone> Shelf<T, A> {
         requires callable { F.IsAlwaysCallable make }
         requires numbered { (no : ℕ) (value : T) → F.post make no (Ok value) → T.number_of value ≡ no }
         ensures made { IfOk result (λ no. (value : T) × F.post make no (Ok value)) }
+        ensures refused { IfErr result (IfMade (λ refused. (no : ℕ) × F.post make no (Err refused))) }
     {
         self.put_at(rt, &mut self.desk.lock(rt), key, make)
     }
@@ -89,6 +91,7 @@ impl<T: Numbered + Drop, A: Allocator + Clone> Shelf<T, A> {
         requires callable { F.IsAlwaysCallable make }
         requires numbered { (no : ℕ) (value : T) → F.post make no (Ok value) → T.number_of value ≡ no }
         ensures made { IfOk result (λ no. (value : T) × F.post make no (Ok value)) }
+        ensures refused { IfErr result (IfMade (λ refused. (no : ℕ) × F.post make no (Err refused))) }
         ensures number { IfOk result (λ no. no ≡ desk.old.next) }
         ensures ok { OnOk result (desk.new.next ≡ desk.old.next + 1) }
         ensures err { OnErr result (desk.new.next ≡ desk.old.next) }

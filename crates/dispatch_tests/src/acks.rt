@@ -1,0 +1,203 @@
+//! ACKs that no call takes.
+use crate::holds::holds;
+use crate::outbox::Outbox;
+use crate::texts::{CALL_ID, FROM, MARKED, TAGGED, VIA, lines_become, text_of};
+use fork_call::Call;
+use fork_dispatch::Handled;
+use fork_shelf::Shelf;
+use sip_uri::Hop;
+use std::alloc::Global;
+use std::sync::Wait;
+
+const CSEQ: &[u8] = b"CSeq: 1 ACK";
+
+/// A To line with the tag of who answered.
+const ANSWERED: &[u8] = b"t: <sip:bob@example.com>;tag=9";
+
+const SEVENTY: &[u8] = b"Max-Forwards: 70";
+
+/// What becomes of an ACK of these lines, where nothing is to be sent.
+fn becomes_silently<R: Wait>(rt: &R, alloc: Global, lines: &[&[u8]]) -> Option<Handled> {
+    let shelf: Shelf<Call<Global>> = Shelf::new(alloc).ok()?;
+    let mut outbox = Outbox::new(alloc);
+    let handled = lines_become(rt, alloc, &shelf, lines, &mut outbox)?;
+    if outbox.is_empty() {
+        Some(handled)
+    } else {
+        None
+    }
+}
+
+#[test]
+fn an_ack_for_the_proxys_own_answer_is_absorbed(rt: HostRuntime) {
+    // also where it could not go on
+    let lines: [&[&[u8]]; 3] = [
+        &[
+            b"ACK sip:bob@192.0.2.4 SIP/2.0",
+            VIA,
+            SEVENTY,
+            FROM,
+            TAGGED,
+            CALL_ID,
+            CSEQ,
+            b"",
+        ],
+        &[
+            b"ACK sip:bob@example.com SIP/2.0",
+            VIA,
+            b"Max-Forwards: 0",
+            FROM,
+            TAGGED,
+            CALL_ID,
+            CSEQ,
+            b"",
+        ],
+        &[
+            b"ACK sip:bob@192.0.2.4 SIP/2.0",
+            b"v: nonsense",
+            FROM,
+            TAGGED,
+            CALL_ID,
+            CSEQ,
+            b"",
+        ],
+    ];
+    for ack in lines {
+        holds(
+            &rt,
+            becomes_silently(&rt, rt.alloc(), ack) == Some(Handled::Absorbed),
+            "an ACK with the proxy's own tag",
+        );
+    }
+}
+
+#[test]
+fn an_ack_that_cannot_go_on_is_dropped(rt: HostRuntime) {
+    let lines: [&[&[u8]]; 6] = [
+        // for the domain
+        &[
+            b"ACK sip:bob@Example.com SIP/2.0",
+            VIA,
+            SEVENTY,
+            FROM,
+            ANSWERED,
+            CALL_ID,
+            CSEQ,
+            b"",
+        ],
+        // no hop leads further
+        &[
+            b"ACK sip:bob@example.org SIP/2.0",
+            VIA,
+            SEVENTY,
+            FROM,
+            ANSWERED,
+            CALL_ID,
+            CSEQ,
+            b"",
+        ],
+        // no more proxy may pass it on
+        &[
+            b"ACK sip:bob@192.0.2.4 SIP/2.0",
+            VIA,
+            b"Max-Forwards: 0",
+            FROM,
+            ANSWERED,
+            CALL_ID,
+            CSEQ,
+            b"",
+        ],
+        // of another scheme
+        &[
+            b"ACK tel:1 SIP/2.0",
+            VIA,
+            SEVENTY,
+            FROM,
+            ANSWERED,
+            CALL_ID,
+            CSEQ,
+            b"",
+        ],
+        // its top Via value cannot be read
+        &[
+            b"ACK sip:bob@192.0.2.4 SIP/2.0",
+            b"v: nonsense",
+            SEVENTY,
+            FROM,
+            ANSWERED,
+            CALL_ID,
+            CSEQ,
+            b"",
+        ],
+        // its body is cut short
+        &[
+            b"ACK sip:bob@192.0.2.4 SIP/2.0",
+            VIA,
+            SEVENTY,
+            FROM,
+            ANSWERED,
+            CALL_ID,
+            CSEQ,
+            b"l: 5",
+            b"",
+        ],
+    ];
+    for ack in lines {
+        holds(
+            &rt,
+            becomes_silently(&rt, rt.alloc(), ack) == Some(Handled::Dropped),
+            "an ACK that cannot go on",
+        );
+    }
+}
+
+/// An ACK for the answer of another, which leads out of the domain.
+const ACK: [&[u8]; 9] = [
+    b"ACK sip:bob@192.0.2.4;method=ACK SIP/2.0",
+    VIA,
+    SEVENTY,
+    b"Route: <sip:192.0.2.9;lr>, <sip:192.0.2.5:5062;lr>",
+    FROM,
+    ANSWERED,
+    CALL_ID,
+    CSEQ,
+    b"",
+];
+
+/// The same as it goes on.
+const GONE_ON: [&[u8]; 10] = [
+    b"ACK sip:bob@192.0.2.4 SIP/2.0",
+    b"Via: SIP/2.0/UDP 192.0.2.9:5060;branch=z9hG4bKb2d0abfaf1e08f4822d9c3aa7e678aa5.7.0.65535",
+    MARKED,
+    b"Max-Forwards: 69",
+    b"Route: <sip:192.0.2.5:5062;lr>",
+    FROM,
+    ANSWERED,
+    CALL_ID,
+    CSEQ,
+    b"",
+];
+
+/// The hop of its second Route value.
+const FURTHER: Hop = Hop {
+    addr: [192, 0, 2, 5],
+    port: 5062,
+};
+
+/// Whether the ACK goes on so.
+fn goes_on<R: Wait>(rt: &R, alloc: Global) -> Option<bool> {
+    let shelf: Shelf<Call<Global>> = Shelf::new(alloc).ok()?;
+    let mut outbox = Outbox::new(alloc);
+    let handled = lines_become(rt, alloc, &shelf, &ACK, &mut outbox)?;
+    let text = text_of(alloc, &GONE_ON)?;
+    Some(handled == Handled::Passed && outbox.has_sent(FURTHER, &text))
+}
+
+#[test]
+fn an_ack_for_the_answer_of_another_goes_on(rt: HostRuntime) {
+    holds(
+        &rt,
+        goes_on(&rt, rt.alloc()) == Some(true),
+        "an ACK that leads out of the domain",
+    );
+}

@@ -1,0 +1,16 @@
+//! Tests of `fork_dispatch`: what becomes of each kind of datagram. They stand apart from that crate so that it is not proved
+//! twice.
+#![tactic(auto)]
+
+#[cfg(test)]
+mod acks;
+#[cfg(test)]
+mod answers;
+#[cfg(test)]
+mod calls;
+#[cfg(test)]
+mod holds;
+#[cfg(test)]
+mod outbox;
+#[cfg(test)]
+mod texts;

@@ -1,0 +1,112 @@
+//! A setup, a request and its parts, as texts.
+use crate::outbox::Outbox;
+use fork_call::{Call, Setup};
+use fork_dispatch::{Handled, handle};
+use fork_shelf::Shelf;
+use sip_uri::Hop;
+use std::alloc::Global;
+use std::sync::Wait;
+
+/// Where the datagrams come from.
+pub const SOURCE: Hop = Hop {
+    addr: [192, 0, 2, 1],
+    port: 40_000,
+};
+
+/// What the proxy is set up with.
+const SETUP: &[u8] =
+    b"own 192.0.2.9 5060\ninstance 7\ndomain example.com\nlocation bob 1000 sip:bob@192.0.2.4\n";
+
+/// The lines that its answers have from a request.
+pub const FROM: &[u8] = b"f: <sip:alice@example.com>;tag=1";
+
+pub const TO: &[u8] = b"t: <sip:bob@example.com>";
+
+pub const CALL_ID: &[u8] = b"i: c1";
+
+/// Its To line with the proxy's own tag.
+pub const TAGGED: &[u8] = b"t: <sip:bob@example.com>;tag=fpa54465d48fc852fc";
+
+/// Its Via line, and the same with its source.
+pub const VIA: &[u8] = b"v: SIP/2.0/UDP 192.0.2.1:5060;branch=z9hG4bKa;rport";
+
+pub const MARKED: &[u8] =
+    b"v: SIP/2.0/UDP 192.0.2.1:5060;branch=z9hG4bKa;rport=40000;received=192.0.2.1";
+
+/// A request, line by line.
+pub const REQUEST: [&[u8]; 9] = [
+    b"OPTIONS sip:bob@example.com SIP/2.0",
+    VIA,
+    b"Max-Forwards: 70",
+    FROM,
+    TO,
+    CALL_ID,
+    b"CSeq: 1 OPTIONS",
+    b"l: 0",
+    b"",
+];
+
+/// A line in the place of one of the request's.
+pub type Edit<'a> = (usize, &'a [u8]);
+
+/// The setup.
+pub fn setup_of(alloc: Global) -> Option<Setup<Global>> {
+    Setup::read(alloc, SETUP).ok()
+}
+
+/// The text of these lines.
+pub fn text_of(alloc: Global, lines: &[&[u8]]) -> Option<Vec<u8>> {
+    let mut text = Vec::new(alloc);
+    for line in lines {
+        text.extend_from_slice(line).ok()?;
+        text.extend_from_slice(b"\r\n").ok()?;
+    }
+    Some(text)
+}
+
+/// The line of the last edit of that place, or the request's own.
+fn line_at<'a>(place: usize, own: &'a [u8], edits: &[Edit<'a>]) -> &'a [u8] {
+    let mut line = own;
+    for edit in edits {
+        if edit.0 == place {
+            line = edit.1;
+        }
+    }
+    line
+}
+
+/// The request with these edits.
+pub fn request_of(alloc: Global, edits: &[Edit<'_>]) -> Option<Vec<u8>> {
+    let mut text = Vec::new(alloc);
+    for (place, own) in REQUEST.iter().enumerate() {
+        text.extend_from_slice(line_at(place, own, edits)).ok()?;
+        text.extend_from_slice(b"\r\n").ok()?;
+    }
+    Some(text)
+}
+
+/// What becomes of the request with these edits.
+pub fn becomes<R: Wait>(
+    rt: &R,
+    alloc: Global,
+    shelf: &Shelf<Call<Global>>,
+    edits: &[Edit<'_>],
+    outbox: &mut Outbox,
+) -> Option<Handled> {
+    let setup = setup_of(alloc)?;
+    let text = request_of(alloc, edits)?;
+    handle(rt, alloc, shelf, &setup, &text, SOURCE, 0, outbox).ok()
+}
+
+/// What becomes of the text of these lines.
+pub fn lines_become<R: Wait>(
+    rt: &R,
+    alloc: Global,
+    shelf: &Shelf<Call<Global>>,
+    lines: &[&[u8]],
+    outbox: &mut Outbox,
+) -> Option<Handled> {
+    let setup = setup_of(alloc)?;
+    let text = text_of(alloc, lines)?;
+    handle(rt, alloc, shelf, &setup, &text, SOURCE, 0, outbox).ok()
+}

@@ -1,0 +1,5 @@
+pub mod Takes
+pub mod Opened
+pub mod Keyless
+pub mod Purposes
+pub mod Becoming

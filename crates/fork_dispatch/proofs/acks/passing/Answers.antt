@@ -1,0 +1,20 @@
+use Rattle.std.proofs.Common.{inl, subst, sym, ◌∙◌}
+use Rattle.std.proofs.lemmas.Result.{IfOk-weaker}
+use Rattle.sip_via.specs.declared.own.Own.{Own}
+use Rattle.fork_routing.specs.Admission.{IsAdmitted}
+use Rattle.fork_routing.specs.Refusing.{IsTurnedAway}
+use Rattle.fork_dispatch.specs.Sent.{seen_sent}
+use Rattle.fork_dispatch.proofs.Becoming.{passes_if}
+use Rattle.fork_dispatch.proofs.acks.passing.Goals as goal
+
+pub returns-in-Ok : goal.returns-in-Ok
+returns-in-Ok g c =
+    let P : Own → Type 0 = λ own. IsAdmitted own c.args.ack c.args.source c.in-Ok.request in
+    IfOk-weaker c.going_on.result _ _
+    (λ sent h. passes_if c.args.setup.now c.args.ack c.args.source c.in-Ok.request (subst P c.own.ensures.value c.in-Ok.ensures.admitted) (seen_sent sent) h)
+    c.going_on.ensures
+
+pub returns-in-Some : goal.returns-in-Some
+returns-in-Some g c =
+    let P : Own → Type 0 = λ own. IsTurnedAway own c.args.ack c.args.source c.in-Err.fault in
+    inl (c.in-Err.fault, _, subst P c.own.ensures.value c.in-Err.ensures.refused, sym c.status.ensures ∙ c.in-Some.is)

@@ -1,0 +1,4 @@
+pub mod Purpose
+pub mod Sent
+pub mod Passing
+pub mod Becomes

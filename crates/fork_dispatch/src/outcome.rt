@@ -1,0 +1,46 @@
+//! What comes of a datagram, before anything is sent.
+ghost use Rattle.std.specs.Prelude.{◌≡◌, None};
+
+use crate::datagrams::Handled;
+use fork_call::Datagram;
+use sip_uri::Hop;
+use std::alloc::Allocator;
+
+/// A datagram: its bytes, where it came from, and when.
+#[derive(Clone, Copy)]
+pub(crate) struct Received<'a> {
+    pub(crate) bytes: &'a [u8],
+    pub(crate) source: Hop,
+    pub(crate) at: u64,
+}
+
+/// What becomes of a datagram, and what is sent for it at once.
+#[derive(Drop)]
+pub(crate) struct Outcome<A: Allocator> {
+    pub(crate) handled: Handled,
+    pub(crate) datagram: Option<Datagram<A>>,
+}
+
+impl<A: Allocator> Outcome<A> {
+    /// Nothing is sent.
+    pub(crate) fn silent(handled: Handled) -> Outcome<A>
+        ensures handled { result.handled ≡ handled }
+        ensures silent { result.datagram ≡ None }
+    {
+        Outcome {
+            handled,
+            datagram: None,
+        }
+    }
+
+    /// That is sent.
+    pub(crate) fn sends(handled: Handled, datagram: Datagram<A>) -> Outcome<A>
+        ensures handled { result.handled ≡ handled }
+        ensures sends { result.datagram ≡ Some datagram }
+    {
+        Outcome {
+            handled,
+            datagram: Some(datagram),
+        }
+    }
+}
