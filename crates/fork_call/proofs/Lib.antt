@@ -7,3 +7,5 @@ pub mod Timed
 pub mod Leasts
 pub mod Stepping
 pub mod Opened
+pub mod Taking
+pub mod Ending

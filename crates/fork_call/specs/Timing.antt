@@ -1,5 +1,5 @@
 -- A step of a call touches few rows: these alone are timed anew.
-use Rattle.std.specs.Prelude.{◌≡◌, ℕ, ◌++◌, List, [], ◌∷◌, Option, Some, None, fold, length, slice_get, slice_set, take}
+use Rattle.std.specs.Prelude.{◌≡◌, ℕ, ◌++◌, List, [], ◌∷◌, Option, Some, None, fold, length, slice_get, slice_set, take, if◌then◌else◌}
 use Rattle.fork_model.specs.Steps.{IsWithin}
 use Rattle.fork_book.specs.Log.{core_of}
 use Rattle.fork_parts.specs.declared.cause.Cause.{Cause}
@@ -7,6 +7,8 @@ use Rattle.fork_parts.specs.declared.cause.Cause.TheVariants as cause
 use Rattle.fork_parts.specs.Call.{Call, leg_at, rows_of}
 use Rattle.fork_parts.specs.Due as due
 use Rattle.fork_parts.specs.Due.{Deed}
+use Rattle.fork_model.specs.Table.{most_targets}
+use Rattle.fork_parts.specs.Response.{is_redirection}
 use Rattle.fork_parts.specs.Sound.{IsSound}
 use Rattle.fork_parts.specs.Take as to
 use Rattle.fork_parts.specs.Take.{Recipient}
@@ -64,6 +66,10 @@ touched call row at = row_list row ++ rows_in (slice_get call.log.replies at)
 -- as many moments as there are rows, and the rows timed anew that a step touched
 abbrev pub retimed : Call → Option ℕ → (at : ℕ) → List (Option ℕ) → List (Option ℕ)
 retimed call row at moments = timed call (touched call row at) (take (length (rows_of call)) moments)
+
+-- how many rows a response with this status may add: contacts of a 3xx may become targets
+abbrev pub room_for : (status : ℕ) → ℕ
+room_for status = if is_redirection status then most_targets else 0
 
 -- ---- what holds of every call
 

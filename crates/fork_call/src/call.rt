@@ -10,11 +10,13 @@ ghost use Rattle.fork_routing.specs.Matching.{BelongsToNone};
 ghost use Rattle.fork_routing.specs.Opening.{IsOpenable, Opens, Refuses};
 ghost use Rattle.fork_call.specs.SeenDeed.{seen_deed};
 ghost use Rattle.fork_call.specs.Takes.{Takes};
+ghost use Rattle.fork_call.specs.Ending.{AreOver};
 ghost use Rattle.fork_call.specs.Timing.{row_of_cause};
 
 use crate::deed::Deed;
 use crate::fault::TakeFault;
 use crate::schedule::{Schedule, earlier, is_due};
+use crate::taking::{give, room_for, row_of as row_to, status_of};
 use crate::timing::{schedule_of, time_step};
 use fork_book::Book;
 use fork_model::{
@@ -22,7 +24,7 @@ use fork_model::{
     replies_list_all_that_became,
 };
 use fork_parts::{Cause, Parts, Step, Taken, calls_stay_sound};
-use fork_routing::OpenFault;
+use fork_routing::{OpenFault, recipient};
 use fork_setup::Setup;
 use fork_shelf::Numbered;
 use sip_text::Message;
@@ -40,11 +42,25 @@ fn row_of(cause: Cause) -> Option<u16>
     }
 }
 
+/// Whether the transactions of every branch have ended.
+fn branches_are_over<A: Allocator + Clone>(parts: &Parts<A>) -> bool
+    ensures { IsTrue result ↔ AreOver parts.now }
+{
+    parts.is_sized();
+    for n in 0..parts.book().context().count() {
+        if !parts.is_branch_over(n) {
+            return false;
+        }
+    }
+    true
+}
+
 /// A forked request with its transactions: it takes messages and moments, and gives datagrams (RFC 3261 section 16).
 #[derive(Drop)]
 pub struct Call<A: Allocator + Clone = Global> {
     parts: Parts<A>,
     schedule: Schedule<A>,
+    alloc: A,
 }
 
 impl<A: Allocator + Clone> Model for Call<A> {
@@ -84,8 +100,13 @@ impl<A: Allocator + Clone> Call<A> {
             Ok(parts) => parts,
             Err(fault) => return Err(fault),
         };
-        let schedule = schedule_of(rest?, &parts)?;
-        Ok(Call { parts, schedule })
+        let alloc = rest?;
+        let schedule = schedule_of(alloc.clone()?, &parts)?;
+        Ok(Call {
+            parts,
+            schedule,
+            alloc,
+        })
     }
 
     /// How many events were posted; each has its reply.
@@ -129,7 +150,23 @@ impl<A: Allocator + Clone> Call<A> {
         ensures full { IsErrOf result TakeFault.Full → Takes self.old now message source take.Full self.old }
         ensures err { OnErr result (self.new ≡ self.old) }
     {
-        Err(TakeFault::NoMemory)
+        let Some(to) = recipient(&self.parts, &message) else {
+            return Err(TakeFault::Stray);
+        };
+        let at = self.posted();
+        self.parts.is_sized();
+        message.is_message();
+        calls_stay_sound();
+        positions_are_bounded();
+        new_rows_are_contacts();
+        others_stay_open();
+        replies_list_all_that_became();
+        let alloc = self.alloc.clone()?;
+        self.schedule.pad(room_for(status_of(&message)))?;
+        let taken = give(&mut self.parts, alloc, to, message, source, now);
+        let _rows = self.parts.book().context().count();
+        time_step(&mut self.schedule, &self.parts, row_to(to), at);
+        taken
     }
 
     /// Does one thing that is due; where nothing is, nothing changes.
@@ -186,6 +223,22 @@ impl<A: Allocator + Clone> Call<A> {
         }
         self.parts.is_sized();
         earlier(self.parts.server_due(), self.schedule.least())
+    }
+
+    /// Whether every branch has ended, every transaction is over, and nothing is owed or will be due.
+    pub fn over(&self) -> bool
+        ensures { IsTrue result ↔ IsOver self.now }
+    {
+        if self.due().is_some() {
+            return false;
+        }
+        if !self.parts.book().context().finished() {
+            return false;
+        }
+        if !self.parts.is_server_over() {
+            return false;
+        }
+        branches_are_over(&self.parts)
     }
 
     /// The events that were posted, and the context that they lead to.

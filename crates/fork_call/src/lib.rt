@@ -7,6 +7,7 @@ mod deed;
 mod fault;
 mod port;
 mod schedule;
+mod taking;
 mod timing;
 
 pub use call::Call;

@@ -1,0 +1,146 @@
+//! A message comes to a transaction of a call.
+ghost use Rattle.std.specs.Prelude.{◌≡◌, ◌≢◌, ◌≤◌, true, IfErr, IfOk, IsErrOf, OnErr};
+ghost use Rattle.sip_text.specs.Message.{IsMessage};
+ghost use Rattle.fork_parts.specs.Built.{status_of};
+ghost use Rattle.fork_parts.specs.Call.{is_sent};
+ghost use Rattle.fork_parts.specs.SeenTaken.{seen_taken};
+ghost use Rattle.fork_parts.specs.Sound.{IsSound};
+ghost use Rattle.fork_parts.specs.Take as take;
+ghost use Rattle.fork_parts.specs.Take.{RespondsOn, TakesAs, TakesCancel};
+ghost use Rattle.fork_routing.specs.Matching.{BelongsTo};
+ghost use Rattle.fork_routing.specs.SeenRecipient.{seen_recipient};
+ghost use Rattle.fork_call.specs.Timing.{room_for, row_of_recipient};
+
+use crate::fault::TakeFault;
+use fork_parts::{Parts, PostFault, Taken};
+use fork_routing::Recipient;
+use sip_text::Message;
+use sip_uri::Hop;
+use sip_via::{mark, reply_hop_of};
+use std::alloc::Allocator;
+
+/// A call has at most so many targets.
+const MOST_TARGETS: u16 = 256;
+
+/// The status of a response; 0 of a request.
+pub(crate) fn status_of<A: Allocator>(message: &Message<A>) -> u16
+    ensures { result ≡ status_of message.now }
+{
+    match message.status() {
+        Some(status) => status,
+        None => 0,
+    }
+}
+
+/// How many rows a response with this status may add: contacts of a 3xx may become targets (RFC 3261 section 16.5).
+pub(crate) fn room_for(status: u16) -> u16
+    ensures { result ≡ room_for status }
+{
+    if status >= 300 && status < 400 {
+        MOST_TARGETS
+    } else {
+        0
+    }
+}
+
+/// The row that a message comes to.
+pub(crate) fn row_of(to: Recipient) -> Option<u16>
+    ensures { result ≡ row_of_recipient (seen_recipient to) }
+{
+    match to {
+        Recipient::Server => None,
+        Recipient::ServerAck => None,
+        Recipient::ServerCancel => None,
+        Recipient::Client(n) => Some(n),
+        Recipient::CancelClient(n) => Some(n),
+    }
+}
+
+/// The caller's CANCEL is marked with its source and taken (RFC 3261 sections 9.2, 16.10 and 18.2.1). It has the key of
+/// the call's request, so its top Via value can be read, and only want of memory keeps it from being marked.
+fn take_cancel<A: Allocator + Clone>(
+    parts: &mut Parts<A>,
+    alloc: A,
+    message: Message<A>,
+    source: Hop,
+) -> Result<Taken, TakeFault>
+    requires sound { IsSound parts.old }
+    ensures step { IfOk result (λ taken. TakesCancel parts.old message source (seen_taken taken) parts.new) }
+    ensures refused { IfErr result (λ fault. fault ≡ TakeFault.NoMemory) }
+    ensures err { OnErr result (parts.new ≡ parts.old) }
+{
+    let cancel = match mark(alloc, message, source) {
+        Ok(cancel) => cancel,
+        Err(_) => return Err(TakeFault::NoMemory),
+    };
+    let to = reply_hop_of(&cancel, source);
+    match parts.take_cancel(cancel, to) {
+        Ok(taken) => Ok(taken),
+        Err(_) => Err(TakeFault::NoMemory),
+    }
+}
+
+/// A response is taken by the client transaction of branch n (RFC 3261 sections 16.7 and 17.1).
+fn respond<A: Allocator + Clone>(
+    parts: &mut Parts<A>,
+    n: u16,
+    status: u16,
+    message: Message<A>,
+    now: u64,
+) -> Result<Taken, TakeFault>
+    requires there { is_sent parts.old n ≡ true }
+    requires status { status ≡ status_of message }
+    requires least { 100 ≤ status }
+    requires most { status ≤ 699 }
+    ensures step { IfOk result (λ taken. RespondsOn parts.old n now message (seen_taken taken) parts.new) }
+    ensures full { IsErrOf result TakeFault.Full → RespondsOn parts.old n now message take.Full parts.new }
+    ensures refused { IfErr result (λ fault. fault ≢ TakeFault.Stray) }
+    ensures err { OnErr result (parts.new ≡ parts.old) }
+{
+    match parts.respond(n, status, message, now) {
+        Ok(taken) => Ok(taken),
+        Err(PostFault::Full) => Err(TakeFault::Full),
+        Err(PostFault::NoMemory) => Err(TakeFault::NoMemory),
+    }
+}
+
+/// A message is taken by the transaction that it belongs to.
+///
+/// # Errors
+///
+/// `Full` where the book takes no more events that change nothing; else only where the allocator refuses. The parts are
+/// then as they were.
+pub(crate) fn give<A: Allocator + Clone>(
+    parts: &mut Parts<A>,
+    alloc: A,
+    to: Recipient,
+    message: Message<A>,
+    source: Hop,
+    now: u64,
+) -> Result<Taken, TakeFault>
+    requires sound { IsSound parts.old }
+    requires message { IsMessage message }
+    requires belongs { BelongsTo parts.old message (seen_recipient to) }
+    ensures step { IfOk result (λ taken. TakesAs parts.old now message source (seen_recipient to) (seen_taken taken) parts.new) }
+    ensures full { IsErrOf result TakeFault.Full → TakesAs parts.old now message source (seen_recipient to) take.Full parts.new }
+    ensures refused { IfErr result (λ fault. fault ≢ TakeFault.Stray) }
+    ensures err { OnErr result (parts.new ≡ parts.old) }
+{
+    let status = status_of(&message);
+    match to {
+        Recipient::Server => match parts.take_request(now) {
+            Ok(()) => Ok(Taken::Absorbed),
+            Err(_) => Err(TakeFault::NoMemory),
+        },
+        Recipient::ServerAck => {
+            parts.take_ack(now);
+            Ok(Taken::Absorbed)
+        }
+        Recipient::ServerCancel => take_cancel(parts, alloc, message, source),
+        Recipient::Client(n) => respond(parts, n, status, message, now),
+        Recipient::CancelClient(n) => {
+            parts.take_cancel_response(n, status, now);
+            Ok(Taken::Absorbed)
+        }
+    }
+}
