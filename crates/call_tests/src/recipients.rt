@@ -7,32 +7,32 @@ use sip_text::Message;
 use std::alloc::Global;
 
 /// A setup with two locations of one user.
-const SETUP: &[u8] = b"own 192.0.2.9 5060\ninstance 7\ndomain example.com\n\
+pub const SETUP: &[u8] = b"own 192.0.2.9 5060\ninstance 7\ndomain example.com\n\
 location bob 1000 sip:bob@192.0.2.4\nlocation bob 1000 sip:bob@192.0.2.5\n";
 
 /// The Via line of the caller.
-const CALLER: &[u8] = b"v: SIP/2.0/UDP 192.0.2.1:5060;branch=z9hG4bKa";
+pub const CALLER: &[u8] = b"v: SIP/2.0/UDP 192.0.2.1:5060;branch=z9hG4bKa";
 
 /// That of the first branch.
-const FIRST: &[u8] =
+pub const FIRST: &[u8] =
     b"Via: SIP/2.0/UDP 192.0.2.9:5060;branch=z9hG4bK8c31e71e0ddbf1a0e56f5f0279990857.7.3.0";
 
 /// That of the second.
-const SECOND: &[u8] =
+pub const SECOND: &[u8] =
     b"Via: SIP/2.0/UDP 192.0.2.9:5060;branch=z9hG4bK8c31e71e0ddbf1a0e56f5f0279990857.7.3.1";
 
-const INVITE: &[u8] = b"INVITE sip:bob@example.com SIP/2.0";
+pub const INVITE: &[u8] = b"INVITE sip:bob@example.com SIP/2.0";
 
-const INVITING: &[u8] = b"CSeq: 1 INVITE";
+pub const INVITING: &[u8] = b"CSeq: 1 INVITE";
 
-const CANCELLING: &[u8] = b"CSeq: 1 CANCEL";
+pub const CANCELLING: &[u8] = b"CSeq: 1 CANCEL";
 
-const RINGING: &[u8] = b"SIP/2.0 180 Ringing";
+pub const RINGING: &[u8] = b"SIP/2.0 180 Ringing";
 
-const OKAY: &[u8] = b"SIP/2.0 200 OK";
+pub const OKAY: &[u8] = b"SIP/2.0 200 OK";
 
 /// A message by its start line, its Via lines, of which the second may be another header, and its CSeq line.
-fn message_of(
+pub fn message_of(
     alloc: Global,
     start: &[u8],
     vias: (&[u8], &[u8]),
@@ -52,7 +52,7 @@ fn message_of(
 }
 
 /// A line that is none of Via.
-const NO_VIA: &[u8] = b"Subject: x";
+pub const NO_VIA: &[u8] = b"Subject: x";
 
 /// The call that the INVITE opens, whose request was sent to the first of two branches.
 fn called(alloc: Global) -> Option<Parts> {

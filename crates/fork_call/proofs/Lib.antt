@@ -7,5 +7,6 @@ pub mod Timed
 pub mod Leasts
 pub mod Stepping
 pub mod Opened
-pub mod Taking
+pub mod Arriving
 pub mod Ending
+pub mod Running

@@ -4,3 +4,4 @@ pub mod Ending
 pub mod SeenDeed
 pub mod Takes
 pub mod Carry
+pub mod Runs

@@ -95,17 +95,19 @@ impl<A: Allocator + Clone> Call<A> {
         ensures refused { IfErr result (Refuses setup.now request source) }
     {
         calls_stay_sound();
-        let rest: Result<A, AllocError> = alloc.clone();
+        let own = alloc.clone()?;
+        let rest = alloc.clone()?;
         let parts = match fork_routing::open(alloc, setup, number, request, source, now) {
             Ok(parts) => parts,
             Err(fault) => return Err(fault),
         };
-        let alloc = rest?;
-        let schedule = schedule_of(alloc.clone()?, &parts)?;
+        let Ok(schedule) = schedule_of(rest, &parts) else {
+            return Err(OpenFault::NoMemory);
+        };
         Ok(Call {
             parts,
             schedule,
-            alloc,
+            alloc: own,
         })
     }
 
@@ -261,6 +263,6 @@ impl<A: Allocator + Clone> Numbered for Call<A> {
 
     /// The number that it was opened with.
     fn number(&self) -> u64 {
-        self.parts.fixed().number()
+        Call::number(self)
     }
 }

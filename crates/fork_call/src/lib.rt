@@ -5,6 +5,7 @@
 mod call;
 mod deed;
 mod fault;
+mod law;
 mod port;
 mod schedule;
 mod taking;
@@ -16,4 +17,5 @@ pub use fork_book::Book;
 pub use fork_parts::{Cause, Datagram, Step, Taken};
 pub use fork_routing::OpenFault;
 pub use fork_setup::{Setup, SetupFault};
+pub use law::calls_are_runs;
 pub use port::{Carried, Port, carry};

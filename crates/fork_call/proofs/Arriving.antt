@@ -23,6 +23,8 @@ use Rattle.fork_parts.specs.Take.{Recipient, TakesAs}
 use Rattle.fork_routing.specs.Kinds.{is_response}
 use Rattle.fork_routing.specs.Matching.{BelongsTo}
 use Rattle.fork_call.specs.declared.fault.TakeFault.{TakeFault}
+use Rattle.fork_call.specs.declared.fault.TakeFault.TheVariants.{Full}
+use Rattle.fork_call.specs.Takes.{Takes}
 use Rattle.fork_call.specs.Timing.{IsTimed, retimed, room_for, row_of_recipient}
 use Rattle.fork_call.proofs.Stepping.{timed_after}
 use Rattle.fork_call.proofs.Timed.{no_more_rows}
@@ -77,3 +79,28 @@ module _ (kept : StepsKeepSound) (bounded : PositionsAreBounded) (none : sources
       let came = outcome result takes same (given_by call m r belongs is) in
       timed_after kept bounded none left exact call new moments after timed sized replied (row_of_recipient r) quiet (room_for (status_of m)) came.0 came.1
       (room (status_of m) few (λ q. no_more_rows none call new (row_of_recipient r) quiet came.0 q)) times
+
+-- ---- what is answered
+
+pub on_err : {T E : Type 0} → (r : Result T E) (P : Type 0) → P → OnErr r P
+on_err (Ok x) P p = _
+on_err (Err e) P p = p
+
+pub same_on_err : {T E : Type 0} → (r : Result T E) (new call old : Call) → call ≡ old → OnErr r (new ≡ call) → OnErr r (new ≡ old)
+same_on_err (Ok x) new call old e same = _
+same_on_err (Err f) new call old e same = same ∙ e
+
+module _ (call new old : Call) (view : call ≡ old) (now : ℕ) (m : MessageText) (source : Hop) (r : Recipient) (belongs : BelongsTo call m r) where
+  pub ok_takes : (result : Result Taken TakeFault) → IfOk result (λ taken. TakesAs call now m source r (seen_taken taken) new)
+      → IfOk result (λ taken. Takes old now m source (seen_taken taken) new)
+  ok_takes (Ok taken) takes = let P : Call → Type 0 = λ x. Takes x now m source (seen_taken taken) new in subst P view (r, belongs, takes)
+  ok_takes (Err fault) takes = _
+
+  pub full_takes : (result : Result Taken TakeFault) → OnErr result (new ≡ call)
+      → (result ≡ Err Full → TakesAs call now m source r to.Full new)
+      → result ≡ Err Full → Takes old now m source to.Full old
+  full_takes result same full e =
+      let P : Call → Type 0 = λ x. Takes x now m source to.Full x in
+      let S : Result Taken TakeFault → Type 0 = λ x. OnErr x (new ≡ call) in
+      let Q : Call → Type 0 = λ x. TakesAs call now m source r to.Full x in
+      subst P view (r, belongs, subst Q (subst S e same) (full e))

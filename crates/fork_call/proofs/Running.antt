@@ -1,0 +1,43 @@
+-- Any list of calls is a run, and its book holds what the steps post.
+use Rattle.std.proofs.Common.{◌≡◌, ◌∙◌, ◌⊎◌, ℕ, ap, refl, subst, sym, inl, inr, List, [], ◌∷◌, length, Option}
+use Rattle.fork_model.specs.Reply.{IsReply}
+use Rattle.fork_book.specs.Log.{Log, added, table_of}
+use Rattle.fork_parts.specs.Call.{Call}
+use Rattle.fork_parts.specs.Posting.{call_tag}
+use Rattle.fork_parts.specs.Pump as pump
+use Rattle.fork_parts.specs.Step as step
+use Rattle.fork_parts.specs.Step.{Input, Output, Run, Step, Turn}
+use Rattle.fork_call.specs.Runs.{Answer, Answers, AnswersAll, CallsAreRuns, Came, Logs, LogsAll, Lost, May, Said}
+use Rattle.fork_call.proofs.Touching.{Touches, does_touch, fails_touch, takes_touch}
+
+-- what a step touches says what it posts
+logged : (call new : Call) (row : Option ℕ) (quiet : Type 0) → Touches call new row quiet → Logs call.log new.log
+logged call new row quiet (inl beside) = inl beside.log
+logged call new row quiet (inr p) =
+    let posts = p.posts in
+    let log : new.log ≡ added p.mid.log call_tag p.event p.reply = ap (λ (x : Call). x.log) posts.follows in
+    let R : Log → Type 0 = λ l. IsReply (table_of l) p.event (length l.history) p.reply in
+    inr (p.event, p.reply, subst R p.beside.log posts.reply_is, log ∙ ap (λ (l : Log). added l call_tag p.event p.reply) p.beside.log)
+
+-- one call is one step
+stepped : (now : ℕ) (call new : Call) (said : Said) (output : Output) → Answers now call said output new
+    → (input : Input) × Step now call input new output × Logs call.log new.log
+stepped now call new (Came m source) (step.Took taken) (r, belongs, takes) =
+    (step.Take r m source, takes, logged call new _ _ (takes_touch call new now m source r taken takes))
+stepped now call new May (step.Did (pump.Send d)) (deed, due, does) = (step.Pump, (deed, due, does), logged call new _ _ (does_touch call new now deed (pump.Send d) does))
+stepped now call new May (step.Did pump.Did) (deed, due, does) = (step.Pump, (deed, due, does), logged call new _ _ (does_touch call new now deed pump.Did does))
+stepped now call new May (step.Did pump.Idle) (idle, same) = (step.Pump, (idle, same), inl (ap (λ (x : Call). x.log) same))
+stepped now call new (Lost why) step.Told fails = (step.Failed why, fails, logged call new _ _ (fails_touch call new now why fails))
+stepped now call new (Came m source) (step.Did pumped) h = absurd h
+stepped now call new (Came m source) step.Told h = absurd h
+stepped now call new May (step.Took taken) h = absurd h
+stepped now call new May step.Told h = absurd h
+stepped now call new (Lost why) (step.Took taken) h = absurd h
+stepped now call new (Lost why) (step.Did pumped) h = absurd h
+
+pub calls_are_runs : CallsAreRuns
+calls_are_runs call new [] same = ([], same, ap (λ (x : Call). x.log) same)
+calls_are_runs call new (answer ∷ answers) (mid, first, rest) =
+    let one = stepped answer.now call mid answer.said answer.output first in
+    let later = calls_are_runs mid new answers rest in
+    (record { now = answer.now; input = one.0; output = answer.output } ∷ later.0, (mid, one.1, later.1), (mid.log, one.2, later.2))

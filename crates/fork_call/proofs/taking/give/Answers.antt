@@ -1,0 +1,10 @@
+use Rattle.std.proofs.Common.{subst, sym}
+use Rattle.fork_parts.specs.Take.{Absorbed, TakesAs}
+use Rattle.fork_routing.specs.declared.transaction.Recipient.{Recipient}
+use Rattle.fork_routing.specs.SeenRecipient.{seen_recipient}
+use Rattle.fork_call.proofs.taking.give.Goals as goal
+
+pub returns-clause-step : goal.returns-clause-step
+returns-clause-step g c =
+    let T : Recipient → Type 0 = λ r. TakesAs c.args.parts.now c.args.now c.args.message c.args.source (seen_recipient r) Absorbed c.take_cancel_response.new.self in
+    subst T (sym c.in-CancelClient.is) (c.take_cancel_response.ensures c.args.message c.args.source c.status_of-status.ensures)
