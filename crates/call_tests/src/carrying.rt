@@ -1,11 +1,9 @@
 //! What a call sends through a port, and what becomes of a send that fails (RFC 3261 sections 16.9 and 18).
-ghost use Rattle.std.specs.Prelude.{IsTrue};
-ghost use Rattle.fork_routing.specs.Opening.{IsOpenable};
-
 use crate::holds::holds;
-use crate::requests::{REQUEST, SOURCE, message_of, setup_of};
+use crate::requests::{Change, SETUP, SOURCE, request_with, setup_of, text_of};
 use fork_call::{Call, Carried, Datagram, Port, carry};
-use sip_text::{Message, Start};
+use fork_routing::is_openable;
+use sip_text::Message;
 use sip_uri::Hop;
 use std::alloc::{Allocator, Global};
 
@@ -15,17 +13,11 @@ const TARGET: Hop = Hop {
     port: 5060,
 };
 
-/// An INVITE to the same user.
-const INVITE: [&[u8]; 9] = [
-    b"INVITE sip:bob@example.com SIP/2.0",
-    b"v: SIP/2.0/UDP 192.0.2.1:5060;branch=z9hG4bKa;rport",
-    b"Max-Forwards: 70",
-    b"f: <sip:alice@example.com>;tag=1",
-    b"t: <sip:bob@example.com>",
-    b"i: c1",
-    b"CSeq: 1 INVITE",
-    b"l: 0",
-    b"",
+/// The request as it is, and as an INVITE.
+const OPTIONS: &[Change] = &[];
+const INVITE: &[Change] = &[
+    (0, b"INVITE sip:bob@example.com SIP/2.0"),
+    (6, b"CSeq: 1 INVITE"),
 ];
 
 /// The 180 of its branch, where the call has number 3.
@@ -91,22 +83,10 @@ impl Port for Memory {
 
 // ---- calls
 
-/// Whether a request may open a call: it is neither an ACK nor a CANCEL.
-fn is_openable(message: &Message<Global>) -> bool
-    ensures { IsTrue result → IsOpenable message.now.start }
-{
-    match message.start() {
-        Start::Request { method, .. } => {
-            method.as_slice() != b"ACK".as_slice() && method.as_slice() != b"CANCEL".as_slice()
-        }
-        Start::Response { .. } => false,
-    }
-}
-
-/// The call that the request of these lines opens under number 3.
-fn opened(alloc: Global, lines: &[&[u8]]) -> Option<Call<Global>> {
-    let setup = setup_of(alloc)?;
-    let request = message_of(alloc, lines)?;
+/// The call that the request with these changes opens under number 3.
+fn opened(alloc: Global, changes: &[Change]) -> Option<Call<Global>> {
+    let setup = setup_of(alloc, SETUP)?;
+    let request = request_with(alloc, changes)?;
     if !is_openable(&request) {
         return None;
     }
@@ -124,7 +104,7 @@ fn carries(call: &mut Call<Global>, port: &mut Memory, now: u64, wanted: Carried
 /// What a call sends as it opens, where the send of this number fails.
 #[derive(Clone, Copy)]
 struct Opening {
-    lines: &'static [&'static [u8]],
+    changes: &'static [Change],
     fails: u64,
     sent: u32,
     failed: u32,
@@ -139,7 +119,7 @@ fn opens_so(alloc: Global, opening: Opening) -> bool {
         failed: opening.failed,
         more: false,
     };
-    match opened(alloc, opening.lines) {
+    match opened(alloc, opening.changes) {
         Some(mut call) => carries(&mut call, &mut port, 0, wanted) && port.start == *opening.last,
         None => false,
     }
@@ -151,35 +131,35 @@ fn opens_so(alloc: Global, opening: Opening) -> bool {
 fn a_send_that_fails_is_told_to_its_transaction(rt: HostRuntime) {
     let openings = [
         Opening {
-            lines: &REQUEST,
+            changes: OPTIONS,
             fails: 0,
             sent: 1,
             failed: 0,
             last: b"OPTIONS sip:",
         },
         Opening {
-            lines: &REQUEST,
+            changes: OPTIONS,
             fails: 1,
             sent: 1,
             failed: 1,
             last: b"SIP/2.0 500 ",
         },
         Opening {
-            lines: &INVITE,
+            changes: INVITE,
             fails: 0,
             sent: 2,
             failed: 0,
             last: b"INVITE sip:b",
         },
         Opening {
-            lines: &INVITE,
+            changes: INVITE,
             fails: 1,
             sent: 1,
             failed: 1,
             last: b"INVITE sip:b",
         },
         Opening {
-            lines: &INVITE,
+            changes: INVITE,
             fails: 2,
             sent: 2,
             failed: 1,
@@ -197,9 +177,14 @@ fn a_send_that_fails_is_told_to_its_transaction(rt: HostRuntime) {
 
 // ---- more steps than are made at a time
 
+/// The 180.
+fn ringing(alloc: Global) -> Option<Message<Global>> {
+    Message::read(alloc, &text_of(alloc, &RINGING)?).ok()
+}
+
 /// Whether the branch takes a 180.
 fn rings(alloc: Global, call: &mut Call<Global>) -> bool {
-    match message_of(alloc, &RINGING) {
+    match ringing(alloc) {
         Some(response) => call.take(response, TARGET, 20).is_ok(),
         None => false,
     }
@@ -216,7 +201,7 @@ fn rings_often(alloc: Global, call: &mut Call<Global>, times: u32) -> bool {
 
 /// Whether 1,030 answers that are owed go out by 1,024 and by 6.
 fn sends_by_parts(alloc: Global) -> Option<bool> {
-    let mut call = opened(alloc, &INVITE)?;
+    let mut call = opened(alloc, INVITE)?;
     let mut port = Memory::failing(0);
     let steps = [(2, false), (1024, true), (6, false), (0, false)];
     let mut well = true;
