@@ -120,6 +120,11 @@ fn is_shared<T: Sync>(_: &T)
 fn server_is_shared(server: &Server)
     ensures { IsSync server_row }
 {
+    let proxy = &server.proxy;
+    is_shared(&proxy.socket);
+    is_shared(&proxy.schedule);
+    is_shared(&proxy.setup);
+    is_shared(&proxy.calls);
     is_shared(server);
 }
 
@@ -165,13 +170,12 @@ fn server_of<R: Net>(rt: &R, alloc: Global, setup: Setup) -> Result<Server, Serv
     ensures { IfErr result IsSystemFault }
 {
     let own = setup.own();
-    let socket = Socket::bind(
-        rt,
-        Hop {
-            addr: own.addr,
-            port: own.port,
-        },
-    )?;
+    let addr = own.addr;
+    let hop = Hop {
+        addr,
+        port: own.port,
+    };
+    let socket = Socket::bind(rt, hop)?;
     let proxy = Proxy::new(alloc, setup, socket)?;
     Ok(Server { proxy })
 }
