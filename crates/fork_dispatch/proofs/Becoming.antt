@@ -19,12 +19,10 @@ use Rattle.sip_build.specs.Forwarding.{forwarded}
 use Rattle.sip_build.specs.Generated.{code_of}
 use Rattle.fork_setup.specs.Setup.{Setup}
 use Rattle.fork_parts.specs.Built.{Datagram}
-use Rattle.fork_parts.specs.Call.{Call}
 use Rattle.fork_routing.specs.Admission.{IsAdmitted}
-use Rattle.fork_routing.specs.Opening.{Opens}
 use Rattle.fork_routing.specs.declared.fault.OpenFault.TheVariants.{BadRequest}
 use Rattle.fork_dispatch.specs.declared.datagrams.Handled.{Handled}
-use Rattle.fork_dispatch.specs.declared.datagrams.Handled.TheVariants.{Answered, Opened}
+use Rattle.fork_dispatch.specs.declared.datagrams.Handled.TheVariants.{Answered}
 use Rattle.fork_dispatch.specs.declared.purpose.Purpose.{Purpose}
 use Rattle.fork_dispatch.specs.declared.purpose.Purpose.TheVariants.{Ack, Cancel, Opening}
 use Rattle.fork_dispatch.specs.Becomes.{Becomes, IsAnswered, IsDropped, IsFor, MessageBecomes, ToldBecomes}
@@ -88,10 +86,6 @@ pub answered_so : {X Y : Type 0} (r : Result X Y) (handled : X → Handled) (sen
 answered_so (Ok x) handled sent setup m source now own a e f =
     becomes_at setup m source now (handled x) (Answered (code_of own)) (sent x) (Some (answer_of m source own)) e f (a, (own, refl, refl))
 answered_so (Err y) handled sent setup m source now own a e f = tt
-
-pub opened_becomes : (setup : Setup) (number : ℕ) (m : MessageText) (source : Hop) (now : ℕ) → purpose_of m.start ≡ Some Opening
-    → ((call : Call) × Opens setup number m source call) → MessageBecomes setup m source now (Opened number) None
-opened_becomes setup number m source now e (call, h) = (e, call, h, refl)
 
 pub none_key : {T : Type 0} (f : T → List ℕ) (key : Option T) (k : Option (List ℕ)) → option_map f key ≡ k → key ≡ None → k ≡ None
 none_key f key k e n = sym e ∙ ap (option_map f) n

@@ -1,5 +1,5 @@
 //! Requests: known by their keys, or new.
-ghost use Rattle.std.specs.Prelude.{◌≡◌, ◌≢◌, IfOk, IsErrOf, None, Ok, Some};
+ghost use Rattle.std.specs.Prelude.{◌≡◌, ◌≢◌, ℕ, IfOk, IsErrOf, None, Ok, Some};
 ghost use Rattle.std.specs.Option.{option_map};
 ghost use Rattle.sip_text.specs.Message.{read_at};
 ghost use Rattle.sip_route.specs.RequestKey.{request_key};
@@ -54,9 +54,11 @@ fn open_call<A: Allocator + Clone, R: Wait>(
 {
     let source = received.source;
     let now = received.at;
-    shelf.put(rt, key, |no| {
-        Call::open(alloc, setup, no, request, source, now)
-    })
+    shelf.put(
+        rt,
+        key,
+        |no| Call::open(alloc, setup, no, request, source, now),
+    )
 }
 
 /// The message of a datagram that was read before. A call that is not opened keeps its request, so it is read again for
@@ -108,25 +110,15 @@ fn opened<A: Allocator + Clone, R: Wait>(
     ensures { IfOk result (λ outcome.
         MessageBecomes setup.now request received.now.source received.now.at outcome.handled (seen_sent outcome.datagram)) }
 {
-    let source = received.source;
-    let now = received.at;
-    let inner = alloc.clone()?;
-    match shelf.put(
-        rt,
-        key,
-        |no| Call::open(inner, setup, no, request, source, now),
-    ) {
+    match open_call(rt, alloc.clone()?, shelf, setup, key, request, received) {
         Ok(no) => Ok(Outcome::silent(Handled::Opened(no))),
         // another worker opened it meanwhile
         Err(ShelfFault::Known(no)) => feed(rt, shelf, no, read_again(alloc, received)?, received),
         Err(ShelfFault::Spent) => Ok(Outcome::silent(Handled::Dropped)),
-        Err(ShelfFault::Made(fault)) => refused(
-            alloc.clone()?,
-            setup,
-            read_again(alloc, received)?,
-            received,
-            fault,
-        ),
+        Err(ShelfFault::Made(fault)) => {
+            let request = read_again(alloc.clone()?, received)?;
+            refused(alloc, setup, request, received, fault)
+        }
         Err(ShelfFault::NoMemory) => Err(AllocError),
     }
 }
