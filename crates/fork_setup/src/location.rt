@@ -31,6 +31,7 @@ impl<A: Allocator> Model for Location<A> {
 }
 
 impl<A: Allocator> Location<A> {
+    /// Where this user may be reached, at a q of at most one.
     pub(crate) fn new(user: Vec<u8, A>, q: u16, uri: SipUri<A>) -> Self
         requires { q ≤ most_q }
         ensures { result ≡ record { user = user.items; q = q; uri = uri } }
