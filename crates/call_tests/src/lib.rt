@@ -5,6 +5,8 @@
 #[cfg(test)]
 mod calls;
 #[cfg(test)]
+mod carrying;
+#[cfg(test)]
 mod holds;
 #[cfg(test)]
 mod opening;
