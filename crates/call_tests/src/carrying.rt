@@ -15,6 +15,7 @@ const TARGET: Hop = Hop {
 
 /// The request as it is, and as an INVITE.
 const OPTIONS: &[Change] = &[];
+
 const INVITE: &[Change] = &[
     (0, b"INVITE sip:bob@example.com SIP/2.0"),
     (6, b"CSeq: 1 INVITE"),
