@@ -1,5 +1,3 @@
-pub mod Takes
-pub mod Opened
 pub mod Keyless
 pub mod Purposes
 pub mod Becoming
