@@ -1,22 +1,23 @@
 -- What a test does with a call that is sound leaves it sound.
-use Rattle.std.proofs.Common.{◌≡◌, ℕ, refl, true, false, Bool, List, [], ◌∷◌, Option, Some, None, sym, subst, slice_get}
-use Rattle.std.specs.Prelude.{◌&&◌, is_none, is_some, not}
+use Rattle.std.proofs.Common.{◌≡◌, ℕ, refl, true, false, Bool, List, [], ◌∷◌, Option, Some, None, slice_get}
+use Rattle.std.specs.Prelude.{is_none, is_some}
 use Rattle.std.proofs.lemmas.Bool.{and_from}
 use Rattle.fork_model.specs.Table.{is_trying}
 use Rattle.sip_text.specs.Message.{IsMessage}
 use Rattle.sip_text.specs.Text.{MessageText}
-use Rattle.fork_parts.specs.Built.{Datagram}
-use Rattle.fork_parts.specs.Call.{Call, is_sent, leg_at, owes_request, row_passes}
+use Rattle.fork_parts.specs.Built.{Datagram, answer_of, status_of}
+use Rattle.fork_parts.specs.Call.{Call, is_sent, leg_at, row_passes}
 use Rattle.fork_parts.specs.Due.{SendAnswer, SendRequest, is_any}
 use Rattle.fork_parts.specs.Fixed.{Way}
 use Rattle.fork_parts.specs.Leg.{Leg}
 use Rattle.fork_parts.specs.Pump as pump
 use Rattle.fork_parts.specs.Pump.{AnswersBy, AnswersWith, Does, Pumped, SendsAnswer, SendsRequest}
 use Rattle.fork_parts.specs.Server as server
+use Rattle.fork_parts.specs.Server.{answer_event, served_out}
 use Rattle.fork_parts.specs.Sound.{IsForward, IsSound, StepsKeepSound}
 use Rattle.fork_parts.specs.Step.{Did, Pump, Take, Took}
 use Rattle.fork_parts.specs.Take as take
-use Rattle.fork_parts.specs.Take.{RespondsOn}
+use Rattle.fork_parts.specs.Take.{RespondsOn, is_response}
 
 pub request_keeps : StepsKeepSound → (call new : Call) (now n : ℕ) (d : Datagram) → IsSound call → row_passes is_trying call n ≡ true → is_sent call n ≡ false
     → (way : Way) × (slice_get call.ways n ≡ Some way) × SendsRequest call now n way (pump.Send d) new → IsSound new
@@ -38,15 +39,15 @@ not_idle_by call now rest m false new (is, same) = absurd cc
 
 not_idle_with : (call : Call) (now : ℕ) (rest : List server.Owed) (m : Option MessageText) (new : Call) → AnswersWith call now rest m pump.Idle new → ⊥
 not_idle_with call now rest None new e = e
-not_idle_with call now rest (Some m) new e = not_idle_by call now rest m _ new e
+not_idle_with call now rest (Some m) new e = not_idle_by call now rest m (is_response (served_out (answer_event (status_of m)) now call.server.machine).send) new e
 
 not_idle : (call : Call) (now : ℕ) (owed : List server.Owed) (new : Call) → SendsAnswer call now owed pump.Idle new → ⊥
 not_idle call now [] new e = e
 not_idle call now (server.Again ∷ rest) new (is, same) = absurd cc
 not_idle call now (server.CancelOk cancel to ∷ rest) new (is, same) = absurd cc
-not_idle call now (server.Trying ∷ rest) new e = not_idle_with call now rest _ new e
-not_idle call now (server.Passed m ∷ rest) new e = not_idle_with call now rest _ new e
-not_idle call now (server.Final choice ∷ rest) new e = not_idle_with call now rest _ new e
+not_idle call now (server.Trying ∷ rest) new e = not_idle_with call now rest (answer_of call server.Trying) new e
+not_idle call now (server.Passed m ∷ rest) new e = not_idle_with call now rest (answer_of call (server.Passed m)) new e
+not_idle call now (server.Final choice ∷ rest) new e = not_idle_with call now rest (answer_of call (server.Final choice)) new e
 
 some_owed : (call : Call) (now : ℕ) (owed : List server.Owed) (p : Pumped) (new : Call) → SendsAnswer call now owed p new → is_any owed ≡ true
 some_owed call now [] p new e = absurd e

@@ -1,5 +1,4 @@
 //! What comes of a branch: its timers, and the responses that bring contacts or challenges.
-ghost use Rattle.std.specs.Prelude.{IfSome};
 ghost use Rattle.fork_parts.specs.Sound.{IsSound};
 
 use crate::holds::holds;
@@ -9,6 +8,7 @@ use crate::parts::{
     status_of, step_sends,
 };
 use fork_parts::{Cause, Datagram, Parts, Step, Taken, calls_stay_sound};
+use sip_text::Message;
 use sip_uri::Hop;
 use sip_via::has_second_via;
 use std::alloc::Global;
@@ -171,13 +171,18 @@ const UNAUTHORIZED_UP: [&[u8]; 10] = [
 // ---- what is done with a call that stays sound
 
 /// Sends the request to target n, where that is owed.
-#[tactic(auto, using(crate::proofs::Kept::request_keeps))]
 fn sent_to(parts: &mut Parts, n: u16) -> Option<Datagram>
     requires { IsSound parts.old }
     ensures { IsSound parts.new }
 {
     calls_stay_sound();
-    if n >= parts.book().context().count() || !parts.is_trying(n) || parts.is_sent(n) {
+    if n >= parts.book().context().count() {
+        return None;
+    }
+    if !parts.is_trying(n) {
+        return None;
+    }
+    if parts.is_sent(n) {
         return None;
     }
     match parts.send_request(n, 0) {
@@ -197,19 +202,18 @@ fn starts(alloc: Global, parts: &mut Parts, n: u16, to: Hop, lines: &[&[u8]]) ->
     }
 }
 
-/// What comes of the response of these lines to branch n.
-#[tactic(auto, using(crate::proofs::Kept::response_keeps))]
-fn taken_by(alloc: Global, parts: &mut Parts, n: u16, now: u64, lines: &[&[u8]]) -> Option<Taken>
+/// What comes of a response to branch n.
+fn taken_from(parts: &mut Parts, n: u16, now: u64, response: Message<Global>) -> Option<Taken>
     requires { IsSound parts.old }
     ensures { IsSound parts.new }
 {
     calls_stay_sound();
-    let Some(response) = message_of(alloc, lines) else {
-        return None;
-    };
     response.is_message();
     let status = status_of(&response);
-    if !parts.is_sent(n) || status < 100 || status > 699 || !has_second_via(&response) {
+    if !parts.is_sent(n) || status < 100 || status > 699 {
+        return None;
+    }
+    if !has_second_via(&response) {
         return None;
     }
     match parts.respond(n, status, response, now) {
@@ -218,19 +222,40 @@ fn taken_by(alloc: Global, parts: &mut Parts, n: u16, now: u64, lines: &[&[u8]])
     }
 }
 
-/// Whether the answer that is owed first is sent as these lines.
-#[tactic(auto, using(crate::proofs::Kept::answer_keeps))]
-fn answers(alloc: Global, parts: &mut Parts, lines: &[&[u8]]) -> bool
+/// What comes of the response of these lines to branch n.
+fn taken_by(alloc: Global, parts: &mut Parts, n: u16, now: u64, lines: &[&[u8]]) -> Option<Taken>
+    requires { IsSound parts.old }
+    ensures { IsSound parts.new }
+{
+    match message_of(alloc, lines) {
+        None => None,
+        Some(response) => taken_from(parts, n, now, response),
+    }
+}
+
+/// The step by which the answer that is owed first is sent.
+fn answered(parts: &mut Parts) -> Option<Step>
     requires { IsSound parts.old }
     ensures { IsSound parts.new }
 {
     calls_stay_sound();
     if parts.owed().is_empty() {
-        return false;
+        return None;
     }
     match parts.send_owed(0) {
-        Ok(step) => step_sends(alloc, &step, CALLER, Cause::Answer, lines),
-        Err(_) => false,
+        Ok(step) => Some(step),
+        Err(_) => None,
+    }
+}
+
+/// Whether it is sent as these lines.
+fn answers(alloc: Global, parts: &mut Parts, lines: &[&[u8]]) -> bool
+    requires { IsSound parts.old }
+    ensures { IsSound parts.new }
+{
+    match answered(parts) {
+        None => false,
+        Some(step) => step_sends(alloc, &step, CALLER, Cause::Answer, lines),
     }
 }
 
