@@ -1,5 +1,5 @@
 -- A message that comes to a call, and how it leaves it.
-use Rattle.std.proofs.Common.{◌≡◌, ◌∙◌, ◌⊎◌, ℕ, ◌+◌, ◌≤◌, ap, refl, sym, subst, inl, inr, arith, true, false, Bool, List, ◌++◌, length, replicate, Option, Some, None, Result, Ok, Err}
+use Rattle.std.proofs.Common.{◌≡◌, ◌∙◌, ℕ, ◌+◌, ◌≤◌, refl, sym, subst, inl, arith, true, false, Bool, List, ◌++◌, length, replicate, Option, None, Result, Ok, Err}
 use Rattle.std.specs.Prelude.{◌&&◌, IfOk, OnErr, cond, nat_le}
 use Rattle.std.proofs.lemmas.Bool.{and_parts, leb-true}
 use Rattle.fork_model.specs.OpenBranches.{OthersAreLeft}

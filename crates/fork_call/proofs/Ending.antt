@@ -1,12 +1,11 @@
 -- When a call is over.
-use Rattle.std.proofs.Common.{◌≡◌, ◌∙◌, ◌⊎◌, ℕ, zero, suc, ◌+◌, ◌<◌, ◌≤◌, ap, refl, sym, subst, inl, inr, arith, true, false, Bool, List, [], ◌∷◌, length, Option, Some, None, slice_get}
-use Rattle.std.specs.Prelude.{◌↔◌, IsTrue, is_some}
+use Rattle.std.proofs.Common.{◌≡◌, ℕ, ◌+◌, ap, subst, inl, inr, arith, true, false, length, Option, Some, None, slice_get}
+use Rattle.std.specs.Prelude.{is_some}
 use Rattle.std.proofs.lemmas.Bool.{cases_lt}
 use Rattle.std.proofs.lemmas.Option.{slice_get_past}
 use Rattle.fork_model.specs.Table.{is_finished}
 use Rattle.fork_parts.specs.Call.{Call, found, leg_at, rows_of}
 use Rattle.fork_parts.specs.Due.{IsLeastDue, IsOver}
-use Rattle.fork_parts.specs.Leg.{Leg}
 use Rattle.fork_parts.specs.Server as server
 use Rattle.fork_call.specs.Ending.{AreOver, AreOverBelow, IsOverAt}
 

@@ -1,15 +1,11 @@
 -- A call as it opens.
 use Rattle.std.proofs.Common.{◌≡◌, ℕ, sym, refl, subst, arith, List, Option}
-use Rattle.fork_model.specs.Steps.{IsWithin}
-use Rattle.fork_book.specs.Log.{core_of}
 use Rattle.sip_text.specs.Text.{MessageText}
 use Rattle.sip_uri.specs.declared.hop.Hop.{Hop}
-use Rattle.sip_uri.specs.Uri.{Uri}
 use Rattle.fork_setup.specs.Setup.{Setup}
-use Rattle.sip_route.specs.RouteValues.{first_route}
 use Rattle.fork_parts.specs.Call.{Call}
 use Rattle.fork_parts.specs.Sound.{BegunIsSound}
-use Rattle.fork_routing.specs.Opening.{Admitted, Asks, IsBegun, Opens, Reaches, fixed_of}
+use Rattle.fork_routing.specs.Opening.{Opens, fixed_of}
 use Rattle.fork_routing.specs.Targets.{choices, targets_of}
 use Rattle.fork_call.specs.Scheduled.{scheduled}
 use Rattle.fork_call.specs.Timing.{IsTimed}

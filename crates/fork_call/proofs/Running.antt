@@ -1,5 +1,5 @@
 -- Any list of calls is a run, and its book holds what the steps post.
-use Rattle.std.proofs.Common.{◌≡◌, ◌∙◌, ◌⊎◌, ℕ, ap, refl, subst, sym, inl, inr, List, [], ◌∷◌, length, Option}
+use Rattle.std.proofs.Common.{◌≡◌, ◌∙◌, ℕ, ap, subst, inl, inr, [], ◌∷◌, length, Option}
 use Rattle.fork_model.specs.Reply.{IsReply}
 use Rattle.fork_book.specs.Log.{Log, added, table_of}
 use Rattle.fork_parts.specs.Call.{Call}
@@ -7,7 +7,7 @@ use Rattle.fork_parts.specs.Posting.{call_tag}
 use Rattle.fork_parts.specs.Pump as pump
 use Rattle.fork_parts.specs.Step as step
 use Rattle.fork_parts.specs.Step.{Input, Output, Run, Step, Turn}
-use Rattle.fork_call.specs.Runs.{Answer, Answers, AnswersAll, CallsAreRuns, Came, Logs, LogsAll, Lost, May, Said}
+use Rattle.fork_call.specs.Runs.{Answers, CallsAreRuns, Came, Logs, Lost, May, Said}
 use Rattle.fork_call.proofs.Touching.{Touches, does_touch, fails_touch, takes_touch}
 
 -- what a step touches says what it posts

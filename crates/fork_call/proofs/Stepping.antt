@@ -1,5 +1,5 @@
 -- What is next to be done on a call, and how a step leaves it.
-use Rattle.std.proofs.Common.{◌≡◌, ◌∙◌, ℕ, zero, suc, ◌+◌, ◌<◌, ◌≤◌, ap, refl, sym, subst, inl, inr, arith, true, false, Bool, List, [], ◌∷◌, ◌++◌, length, replicate, take, Option, Some, None, slice_get}
+use Rattle.std.proofs.Common.{◌≡◌, ◌∙◌, ℕ, zero, suc, ◌+◌, ◌<◌, ◌≤◌, ap, refl, sym, inl, inr, arith, true, false, Bool, List, [], ◌∷◌, ◌++◌, length, replicate, Option, Some, None, slice_get}
 use Rattle.std.specs.Prelude.{IfNone, ◌||◌, ◌==◌}
 use Rattle.std.specs.List.{list_any}
 use Rattle.std.proofs.lemmas.Bool.{eqb-true}
@@ -16,7 +16,7 @@ use Rattle.fork_model.specs.Table.{Table}
 use Rattle.fork_book.specs.Log.{IsLog, Log, Posted, events_of}
 use Rattle.sip_txn.specs.Timers.{is_due}
 use Rattle.fork_parts.specs.declared.cause.Cause.{Cause}
-use Rattle.fork_parts.specs.Call.{Call, found, leg_at, rows_of}
+use Rattle.fork_parts.specs.Call.{Call, leg_at, rows_of}
 use Rattle.fork_parts.specs.Due.{Deed, IsIdle, is_due_at}
 use Rattle.fork_parts.specs.Failed.{Fails}
 use Rattle.fork_parts.specs.Pump.{Does, Pumped}

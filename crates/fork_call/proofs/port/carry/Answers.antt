@@ -1,5 +1,5 @@
-use Rattle.std.proofs.Common.{◌≡◌, ◌∙◌, Bool, false, true, refl, sym, ap}
-use Rattle.std.specs.Prelude.{◌&&◌, not}
+use Rattle.std.proofs.Common.{◌∙◌, Bool, sym, ap}
+use Rattle.std.specs.Prelude.{◌&&◌}
 use Rattle.sip_txn.specs.Timers.{is_due}
 use Rattle.fork_call.proofs.Carrying.{carried_out}
 use Rattle.fork_call.proofs.port.carry.Goals as goal

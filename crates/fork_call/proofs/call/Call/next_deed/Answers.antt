@@ -1,5 +1,5 @@
 use Rattle.std.proofs.Common.{◌≡◌, ◌∙◌, ◌<◌, ap, length, subst, sym, arith, true, false, []}
-use Rattle.fork_book.specs.Log.{Log, core_of, table_of}
+use Rattle.fork_book.specs.Log.{Log, table_of}
 use Rattle.fork_model.specs.Core.{Core}
 use Rattle.sip_txn.specs.Timers.{is_due}
 use Rattle.fork_parts.specs.Call.{Call, rows_of}
