@@ -29,48 +29,50 @@ fn plays<R: Wait>(rt: &R, alloc: Global, steps: &[Step<'_>]) -> Option<bool> {
     Some(well && outbox.is_empty())
 }
 
+/// A request, what else has its key, and what has another.
+const KEYED: [Step<'static>; 8] = [
+    (&[], Handled::Opened(0)),
+    (&[], Handled::Fed(0)),
+    (
+        &[
+            (0, b"CANCEL sip:bob@example.com SIP/2.0"),
+            (6, b"CSeq: 1 CANCEL"),
+        ],
+        Handled::Fed(0),
+    ),
+    (
+        &[(0, b"ACK sip:bob@example.com SIP/2.0"), (6, b"CSeq: 1 ACK")],
+        Handled::Fed(0),
+    ),
+    // another method with its key
+    (
+        &[
+            (0, b"INVITE sip:bob@example.com SIP/2.0"),
+            (6, b"CSeq: 1 INVITE"),
+        ],
+        Handled::Dropped,
+    ),
+    // another branch, and another host
+    (
+        &[(1, b"v: SIP/2.0/UDP 192.0.2.1:5060;branch=z9hG4bKb;rport")],
+        Handled::Opened(1),
+    ),
+    (
+        &[(1, b"v: SIP/2.0/UDP 192.0.2.2:5060;branch=z9hG4bKa;rport")],
+        Handled::Opened(2),
+    ),
+    // 5060 is the port where none is named
+    (
+        &[(1, b"v: SIP/2.0/UDP 192.0.2.2;branch=z9hG4bKa;rport")],
+        Handled::Fed(2),
+    ),
+];
+
 #[test]
 fn a_request_opens_one_call(rt: HostRuntime) {
-    let steps: [Step<'_>; 8] = [
-        (&[], Handled::Opened(0)),
-        (&[], Handled::Fed(0)),
-        (
-            &[
-                (0, b"CANCEL sip:bob@example.com SIP/2.0"),
-                (6, b"CSeq: 1 CANCEL"),
-            ],
-            Handled::Fed(0),
-        ),
-        (
-            &[(0, b"ACK sip:bob@example.com SIP/2.0"), (6, b"CSeq: 1 ACK")],
-            Handled::Fed(0),
-        ),
-        // another method with its key
-        (
-            &[
-                (0, b"INVITE sip:bob@example.com SIP/2.0"),
-                (6, b"CSeq: 1 INVITE"),
-            ],
-            Handled::Dropped,
-        ),
-        // another branch, and another host
-        (
-            &[(1, b"v: SIP/2.0/UDP 192.0.2.1:5060;branch=z9hG4bKb;rport")],
-            Handled::Opened(1),
-        ),
-        (
-            &[(1, b"v: SIP/2.0/UDP 192.0.2.2:5060;branch=z9hG4bKa;rport")],
-            Handled::Opened(2),
-        ),
-        // 5060 is the port where none is named
-        (
-            &[(1, b"v: SIP/2.0/UDP 192.0.2.2;branch=z9hG4bKa;rport")],
-            Handled::Fed(2),
-        ),
-    ];
     holds(
         &rt,
-        plays(&rt, rt.alloc(), &steps) == Some(true),
+        plays(&rt, rt.alloc(), &KEYED) == Some(true),
         "requests, known by their keys",
     );
 }
