@@ -1,5 +1,5 @@
--- Any list of calls is a run, and its book holds what the steps post.
-use Rattle.std.proofs.Common.{◌≡◌, ◌∙◌, ℕ, ap, subst, inl, inr, [], ◌∷◌, length, Option}
+-- Any list of calls is a run, turn by turn.
+use Rattle.std.proofs.Common.{◌≡◌, ◌∙◌, ℕ, refl, ap, subst, inl, inr, [], ◌∷◌, length, Option}
 use Rattle.fork_model.specs.Reply.{IsReply}
 use Rattle.fork_book.specs.Log.{Log, added, table_of}
 use Rattle.fork_parts.specs.Call.{Call}
@@ -7,7 +7,7 @@ use Rattle.fork_parts.specs.Posting.{call_tag}
 use Rattle.fork_parts.specs.Pump as pump
 use Rattle.fork_parts.specs.Step as step
 use Rattle.fork_parts.specs.Step.{Input, Output, Run, Step, Turn}
-use Rattle.fork_call.specs.Runs.{Answers, CallsAreRuns, Came, Logs, Lost, May, Said}
+use Rattle.fork_call.specs.Runs.{Answers, CallsAreRuns, Came, IsInput, IsTurn, Logs, Lost, May, Said}
 use Rattle.fork_call.proofs.Touching.{Touches, does_touch, fails_touch, takes_touch}
 
 -- what a step touches says what it posts
@@ -21,13 +21,13 @@ logged call new row quiet (inr p) =
 
 -- one call is one step
 stepped : (now : ℕ) (call new : Call) (said : Said) (output : Output) → Answers now call said output new
-    → (input : Input) × Step now call input new output × Logs call.log new.log
+    → (input : Input) × IsInput call said input × Step now call input new output × Logs call.log new.log
 stepped now call new (Came m source) (step.Took taken) (r, belongs, takes) =
-    (step.Take r m source, takes, logged call new _ _ (takes_touch call new now m source r taken takes))
-stepped now call new May (step.Did (pump.Send d)) (deed, due, does) = (step.Pump, (deed, due, does), logged call new _ _ (does_touch call new now deed (pump.Send d) does))
-stepped now call new May (step.Did pump.Did) (deed, due, does) = (step.Pump, (deed, due, does), logged call new _ _ (does_touch call new now deed pump.Did does))
-stepped now call new May (step.Did pump.Idle) (idle, same) = (step.Pump, (idle, same), inl (ap (λ (x : Call). x.log) same))
-stepped now call new (Lost why) step.Told fails = (step.Failed why, fails, logged call new _ _ (fails_touch call new now why fails))
+    (step.Take r m source, (belongs, refl, refl), takes, logged call new _ _ (takes_touch call new now m source r taken takes))
+stepped now call new May (step.Did (pump.Send d)) (deed, due, does) = (step.Pump, tt, (deed, due, does), logged call new _ _ (does_touch call new now deed (pump.Send d) does))
+stepped now call new May (step.Did pump.Did) (deed, due, does) = (step.Pump, tt, (deed, due, does), logged call new _ _ (does_touch call new now deed pump.Did does))
+stepped now call new May (step.Did pump.Idle) (idle, same) = (step.Pump, tt, (idle, same), inl (ap (λ (x : Call). x.log) same))
+stepped now call new (Lost why) step.Told fails = (step.Failed why, refl, fails, logged call new _ _ (fails_touch call new now why fails))
 stepped now call new (Came m source) (step.Did pumped) h = absurd h
 stepped now call new (Came m source) step.Told h = absurd h
 stepped now call new May (step.Took taken) h = absurd h
@@ -36,8 +36,10 @@ stepped now call new (Lost why) (step.Took taken) h = absurd h
 stepped now call new (Lost why) (step.Did pumped) h = absurd h
 
 pub calls_are_runs : CallsAreRuns
-calls_are_runs call new [] same = ([], same, ap (λ (x : Call). x.log) same)
+calls_are_runs call new [] same = ([], same, same)
 calls_are_runs call new (answer ∷ answers) (mid, first, rest) =
     let one = stepped answer.now call mid answer.said answer.output first in
     let later = calls_are_runs mid new answers rest in
-    (record { now = answer.now; input = one.0; output = answer.output } ∷ later.0, (mid, one.1, later.1), (mid.log, one.2, later.2))
+    let turn : Turn = record { now = answer.now; input = one.0; output = answer.output } in
+    let is_turn : IsTurn call answer turn mid = record { now = refl; input = one.1; output = refl; steps = one.2; logs = one.3 } in
+    (turn ∷ later.0, (mid, one.2, later.1), (mid, is_turn, later.2))

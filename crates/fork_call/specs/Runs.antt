@@ -1,5 +1,5 @@
--- Any list of calls on a call is a run of its relation, and its book holds the events that the steps of this run post,
--- with the replies to them (RFC 3261 section 16.7).
+-- Any list of calls on a call is a run of its relation, turn by turn: each turn has the moment, what was said and the output
+-- of its call, and its step posts at most one event, which then stands last in the book with its reply (RFC 3261 section 16.7).
 use Rattle.std.specs.Prelude.{◌≡◌, ◌⊎◌, ℕ, List, [], ◌∷◌, length}
 use Rattle.fork_model.specs.Event.{Event}
 use Rattle.fork_model.specs.Reply.{Reply, IsReply}
@@ -11,7 +11,8 @@ use Rattle.fork_parts.specs.Call.{Call}
 use Rattle.fork_parts.specs.Failed.{Fails}
 use Rattle.fork_parts.specs.Posting.{call_tag}
 use Rattle.fork_parts.specs.Pump.{Pumps}
-use Rattle.fork_parts.specs.Step.{Output, Took, Did, Told, Turn, Run}
+use Rattle.fork_parts.specs.Step.{Input, Take, Pump, Failed, Output, Took, Did, Told, Step, Turn, Run}
+use Rattle.fork_routing.specs.Matching.{BelongsTo}
 use Rattle.fork_call.specs.Takes.{Takes}
 
 -- ---- calls
@@ -40,7 +41,14 @@ AnswersAll call [] new = new ≡ call
 AnswersAll call (answer ∷ answers) new =
     (mid : Call) × Answers answer.now call answer.said answer.output mid × AnswersAll mid answers new
 
--- ---- what the steps post
+-- ---- turns of a run
+
+-- what was said is this input of the relation: a message is for a transaction that it belongs to
+abbrev pub IsInput : Call → Said → Input → Type 0
+IsInput call (Came m source) (Take to n hop) = BelongsTo call m to × (n ≡ m) × (hop ≡ source)
+IsInput call May Pump = Unit {0}
+IsInput call (Lost cause) (Failed why) = why ≡ cause
+IsInput call said input = ⊥
 
 -- the log stays, or has one event more, with the reply to it
 abbrev pub Logs : Log → Log → Type 0
@@ -51,14 +59,24 @@ Logs log new =
     × IsReply (table_of log) event (length log.history) reply
     × (new ≡ added log call_tag event reply))
 
--- step by step
-abbrev pub LogsAll : Log → List Turn → Log → Type 0
-LogsAll log [] new = new ≡ log
-LogsAll log (turn ∷ turns) new = (mid : Log) × Logs log mid × LogsAll mid turns new
+-- the turn is that of the answer, and a step, which posts one event at most
+pub record IsTurn (call : Call) (answer : Answer) (turn : Turn) (new : Call) : Type 0 where
+  pub now : turn.now ≡ answer.now
+  pub input : IsInput call answer.said turn.input
+  pub output : turn.output ≡ answer.output
+  pub steps : Step turn.now call turn.input new turn.output
+  pub logs : Logs call.log new.log
+
+-- one after another, as many turns as answers
+abbrev pub AreTurns : Call → List Answer → List Turn → Call → Type 0
+AreTurns call [] [] new = new ≡ call
+AreTurns call [] (turn ∷ turns) new = ⊥
+AreTurns call (answer ∷ answers) [] new = ⊥
+AreTurns call (answer ∷ answers) (turn ∷ turns) new = (mid : Call) × IsTurn call answer turn mid × AreTurns mid answers turns new
 
 -- ---- law
 
 abbrev pub CallsAreRuns : Type 0
 CallsAreRuns =
     (call new : Call) (answers : List Answer) → AnswersAll call answers new
-    → (turns : List Turn) × Run call turns new × LogsAll call.log turns new.log
+    → (turns : List Turn) × Run call turns new × AreTurns call answers turns new
