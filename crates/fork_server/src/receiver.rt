@@ -1,0 +1,158 @@
+//! The turns of a proxy: what comes in is given to the workers.
+ghost use Rattle.std.specs.Prelude.{IfErr};
+ghost use Rattle.fork_server.specs.Faults.{IsSystemFault};
+
+use crate::fault::ServeFault;
+use crate::job::Job;
+use crate::jobs::JobSender;
+use crate::socket::TURN;
+use crate::worker::Proxy;
+use log::Log;
+use sip_uri::Hop;
+use std::alloc::Allocator;
+use std::sync::Wait;
+
+/// How often the receiver lets others run before it gives a datagram to a full inbox all the same: some milliseconds, so that
+/// a worker that is held up does not hold up the other one.
+const PATIENCE: u32 = 10_000;
+
+/// Which workers run: those whose threads could be made.
+#[derive(Clone, Copy)]
+pub(crate) struct Running {
+    pub(crate) first: bool,
+    pub(crate) second: bool,
+    pub(crate) timer: bool,
+}
+
+/// The ways to the workers.
+#[derive(Drop)]
+pub(crate) struct Senders<'a, A: Allocator> {
+    first: JobSender<'a, A>,
+    second: JobSender<'a, A>,
+    timer: JobSender<'a, A>,
+    /// Whether the next datagram is for the first of the two that handle datagrams.
+    is_first: bool,
+}
+
+/// Gives a datagram's job, once there is room or the receiver's patience is at its end, and says whether it was taken.
+fn give_with_patience<R: Wait, A: Allocator>(
+    rt: &R,
+    sender: &mut JobSender<'_, A>,
+    job: Job<A>,
+) -> bool {
+    sender.make_room(PATIENCE);
+    sender.give(rt, job).is_ok()
+}
+
+impl<'a, A: Allocator> Senders<'a, A> {
+    /// The ways to two workers that handle datagrams, and to the one that does what is due.
+    pub(crate) fn new(
+        first: JobSender<'a, A>,
+        second: JobSender<'a, A>,
+        timer: JobSender<'a, A>,
+    ) -> Senders<'a, A> {
+        Senders {
+            first,
+            second,
+            timer,
+            is_first: true,
+        }
+    }
+
+    /// Gives a datagram's job to the next worker in turn, and says whether it was taken.
+    fn give_packet<R: Wait>(&mut self, rt: &R, job: Job<A>) -> bool {
+        let is_first = self.is_first;
+        self.is_first = !is_first;
+        if is_first {
+            give_with_patience(rt, &mut self.first, job)
+        } else {
+            give_with_patience(rt, &mut self.second, job)
+        }
+    }
+
+    /// Tells the timer's worker the time. It is told again after the next turn if its inbox is full.
+    fn give_tick<R: Wait>(&mut self, rt: &R, now: u64) {
+        let _ = self.timer.give(rt, Job::Tick(now));
+    }
+
+    /// Ends the workers that run.
+    pub(crate) fn finish<R: Wait>(&mut self, rt: &R, running: Running) {
+        if running.first {
+            self.first.finish(rt);
+        }
+        if running.second {
+            self.second.finish(rt);
+        }
+        if running.timer {
+            self.timer.finish(rt);
+        }
+    }
+}
+
+/// Gives a datagram to the next worker. Where that is not possible it is dropped, and counted.
+fn pass_on<R: Wait + Log, A: Allocator + Clone>(
+    rt: &R,
+    proxy: &Proxy<A>,
+    senders: &mut Senders<'_, A>,
+    bytes: &[u8],
+    source: Hop,
+    now: u64,
+) {
+    let Ok(alloc) = proxy.alloc.clone() else {
+        return proxy.refused.note(rt, "datagrams left for want of memory");
+    };
+    match Job::packet(alloc, bytes, source, now) {
+        Ok(job) => {
+            if !senders.give_packet(rt, job) {
+                proxy
+                    .crowded_out
+                    .note(rt, "datagrams dropped at a full inbox");
+            }
+        }
+        Err(_) => proxy.refused.note(rt, "datagrams left for want of memory"),
+    }
+}
+
+/// One turn: a receive of at most 10 ms, and then a tick where something is due. Says whether a datagram came.
+fn turn<R: Wait + Log, A: Allocator + Clone>(
+    rt: &R,
+    proxy: &Proxy<A>,
+    senders: &mut Senders<'_, A>,
+    buffer: &mut [u8],
+    now: u64,
+) -> Result<bool, ServeFault>
+    ensures { IfErr result IsSystemFault }
+{
+    let came = proxy.socket.receive(buffer)?;
+    let has_come = came.is_some();
+    if let Some((count, source)) = came {
+        pass_on(rt, proxy, senders, &buffer[..count], source, now);
+    }
+    if proxy.schedule.is_due(now) {
+        senders.give_tick(rt, now);
+    }
+    Ok(has_come)
+}
+
+/// So many turns. The time is 10 ms for each turn before in which nothing came.
+///
+/// # Errors
+///
+/// `Socket` where a receive failed; no turn follows it.
+pub(crate) fn receive_all<R: Wait + Log, A: Allocator + Clone>(
+    rt: &R,
+    proxy: &Proxy<A>,
+    senders: &mut Senders<'_, A>,
+    buffer: &mut [u8],
+    turns: u32,
+) -> Result<(), ServeFault>
+    ensures { IfErr result IsSystemFault }
+{
+    let mut now = 0u64;
+    for _ in 0..turns {
+        if !turn(rt, proxy, senders, buffer, now)? {
+            now = now.saturating_add(TURN);
+        }
+    }
+    Ok(())
+}
