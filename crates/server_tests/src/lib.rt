@@ -1,0 +1,15 @@
+//! Tests of the public calls of `fork_server`, a file for each. They stand apart from it so that it is not proved twice.
+#![tactic(auto)]
+
+#[cfg(test)]
+mod calling;
+#[cfg(test)]
+mod holds;
+#[cfg(test)]
+mod jobs;
+#[cfg(test)]
+mod printed;
+#[cfg(test)]
+mod schedule;
+#[cfg(test)]
+mod serving;

@@ -1,0 +1,36 @@
+//! A proxy that is set up, serves and ends.
+use crate::holds::holds;
+use crate::printed::Printed;
+use fork_server::{ServeFault, serve_to};
+use std::test::Fail;
+
+/// A configuration with a user at two telephones.
+const CONFIGURATION: &[u8] =
+    b"own 127.0.0.1 47311\ninstance 7\ndomain example.com\nlocation bob 1000 sip:bob@127.0.0.1:47312\nlocation bob 500 sip:bob@127.0.0.1:47313\n";
+
+#[test]
+fn one_turn_is_served(rt: HostRuntime) -> Result<(), Fail> {
+    let printed = Printed::new(rt, rt.alloc());
+    let served = serve_to(&rt, &printed, rt.alloc(), CONFIGURATION, 1);
+    holds(&rt, served.is_ok(), "a proxy serves");
+    holds(
+        &rt,
+        printed.is(b"listening 127.0.0.1 47311\nturns 1\n"),
+        "it says where it listens, and how many turns there were",
+    );
+    Ok(())
+}
+
+#[test]
+fn a_malformed_line_is_named(rt: HostRuntime) -> Result<(), Fail> {
+    let printed = Printed::new(rt, rt.alloc());
+    let text = b"own 127.0.0.1 47314\ninstance seven\n";
+    let served = serve_to(&rt, &printed, rt.alloc(), text, 1);
+    holds(
+        &rt,
+        served == Err(ServeFault::Line(2)),
+        "line 2 is malformed",
+    );
+    holds(&rt, printed.is(b""), "nothing is printed");
+    Ok(())
+}
