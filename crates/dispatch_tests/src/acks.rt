@@ -71,12 +71,26 @@ fn an_ack_for_the_proxys_own_answer_is_absorbed(rt: HostRuntime) {
     }
 }
 
+/// The Via line that the ACK below goes on with.
+const OWN_VIA: &[u8] =
+    b"Via: SIP/2.0/UDP 192.0.2.9:5060;branch=z9hG4bKb2d0abfaf1e08f4822d9c3aa7e678aa5.7.0.65535";
+
 #[test]
 fn an_ack_that_cannot_go_on_is_dropped(rt: HostRuntime) {
-    let lines: [&[&[u8]]; 6] = [
-        // for the domain
+    let lines: [&[&[u8]]; 13] = [
+        // for the domain, and for the proxy's own address
         &[
             b"ACK sip:bob@Example.com SIP/2.0",
+            VIA,
+            SEVENTY,
+            FROM,
+            ANSWERED,
+            CALL_ID,
+            CSEQ,
+            b"",
+        ],
+        &[
+            b"ACK sip:bob@192.0.2.9 SIP/2.0",
             VIA,
             SEVENTY,
             FROM,
@@ -90,6 +104,17 @@ fn an_ack_that_cannot_go_on_is_dropped(rt: HostRuntime) {
             b"ACK sip:bob@example.org SIP/2.0",
             VIA,
             SEVENTY,
+            FROM,
+            ANSWERED,
+            CALL_ID,
+            CSEQ,
+            b"",
+        ],
+        &[
+            b"ACK sip:bob@192.0.2.4 SIP/2.0",
+            VIA,
+            SEVENTY,
+            b"Route: <sip:example.org;lr>",
             FROM,
             ANSWERED,
             CALL_ID,
@@ -123,6 +148,62 @@ fn an_ack_that_cannot_go_on_is_dropped(rt: HostRuntime) {
             b"ACK sip:bob@192.0.2.4 SIP/2.0",
             b"v: nonsense",
             SEVENTY,
+            FROM,
+            ANSWERED,
+            CALL_ID,
+            CSEQ,
+            b"",
+        ],
+        // its branch is none of RFC 3261
+        &[
+            b"ACK sip:bob@192.0.2.4 SIP/2.0",
+            b"v: SIP/2.0/UDP 192.0.2.1;branch=a",
+            SEVENTY,
+            FROM,
+            ANSWERED,
+            CALL_ID,
+            CSEQ,
+            b"",
+        ],
+        // so many proxies may not pass it on
+        &[
+            b"ACK sip:bob@192.0.2.4 SIP/2.0",
+            VIA,
+            b"Max-Forwards: 256",
+            FROM,
+            ANSWERED,
+            CALL_ID,
+            CSEQ,
+            b"",
+        ],
+        // its Route value, or its URI, cannot be read
+        &[
+            b"ACK sip:bob@192.0.2.4 SIP/2.0",
+            VIA,
+            SEVENTY,
+            b"Route: sip:192.0.2.5",
+            FROM,
+            ANSWERED,
+            CALL_ID,
+            CSEQ,
+            b"",
+        ],
+        &[
+            b"ACK sip:bob@ SIP/2.0",
+            VIA,
+            SEVENTY,
+            FROM,
+            ANSWERED,
+            CALL_ID,
+            CSEQ,
+            b"",
+        ],
+        // the proxy sent it on before
+        &[
+            b"ACK sip:bob@192.0.2.4;method=ACK SIP/2.0",
+            OWN_VIA,
+            SEVENTY,
+            b"Route: <sip:192.0.2.5:5062;lr>",
             FROM,
             ANSWERED,
             CALL_ID,
@@ -167,7 +248,7 @@ const ACK: [&[u8]; 9] = [
 /// The same as it goes on.
 const GONE_ON: [&[u8]; 10] = [
     b"ACK sip:bob@192.0.2.4 SIP/2.0",
-    b"Via: SIP/2.0/UDP 192.0.2.9:5060;branch=z9hG4bKb2d0abfaf1e08f4822d9c3aa7e678aa5.7.0.65535",
+    OWN_VIA,
     MARKED,
     b"Max-Forwards: 69",
     b"Route: <sip:192.0.2.5:5062;lr>",

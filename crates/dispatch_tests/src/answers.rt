@@ -51,7 +51,7 @@ fn is_answered<R: Wait>(rt: &R, alloc: Global, case: &Answered<'_>) -> Option<bo
 
 #[test]
 fn a_request_that_opens_no_call_is_answered(rt: HostRuntime) {
-    let cases: [Answered<'_>; 7] = [
+    let cases: [Answered<'_>; 10] = [
         Answered {
             edits: &[(2, b"Max-Forwards: 256")],
             status: 400,
@@ -111,6 +111,34 @@ fn a_request_that_opens_no_call_is_answered(rt: HostRuntime) {
             cseq: OPTIONS,
             to: SOURCE,
         },
+        Answered {
+            edits: &[
+                (0, b"CANCEL sip:bob@example.com SIP/2.0"),
+                (6, b"CSeq: 1 CANCEL"),
+                (7, b"l: 9"),
+            ],
+            status: 400,
+            line: b"SIP/2.0 400 Bad Request",
+            via: MARKED,
+            cseq: b"CSeq: 1 CANCEL",
+            to: SOURCE,
+        },
+        Answered {
+            edits: &[(7, b"Route: sip:192.0.2.5")],
+            status: 400,
+            line: b"SIP/2.0 400 Bad Request",
+            via: MARKED,
+            cseq: OPTIONS,
+            to: SOURCE,
+        },
+        Answered {
+            edits: &[(0, b"OPTIONS sip:bob@ SIP/2.0")],
+            status: 400,
+            line: b"SIP/2.0 400 Bad Request",
+            via: MARKED,
+            cseq: OPTIONS,
+            to: SOURCE,
+        },
     ];
     for case in &cases {
         holds(
@@ -123,7 +151,7 @@ fn a_request_that_opens_no_call_is_answered(rt: HostRuntime) {
 
 #[test]
 fn an_answer_goes_back_by_the_top_via_value(rt: HostRuntime) {
-    let cases: [Answered<'_>; 5] = [
+    let cases: [Answered<'_>; 6] = [
         // it cannot be read
         Answered {
             edits: &[(1, b"v: nonsense")],
@@ -162,7 +190,15 @@ fn an_answer_goes_back_by_the_top_via_value(rt: HostRuntime) {
             cseq: OPTIONS,
             to: SOURCE,
         },
-        // the proxy put it, when the request passed before
+        // it has a branch that is none of RFC 3261, by which it has a key
+        Answered {
+            edits: &[(1, b"v: SIP/2.0/UDP 192.0.2.1;rport;branch=a")],
+            status: 400,
+            line: b"SIP/2.0 400 Bad Request",
+            via: b"v: SIP/2.0/UDP 192.0.2.1;rport=40000;branch=a;received=192.0.2.1",
+            cseq: OPTIONS,
+            to: SOURCE,
+        },
         // the proxy put it when the request passed before
         Answered {
             edits: &[(1, OWN_VIA)],
@@ -228,11 +264,64 @@ fn is_dropped<R: Wait>(rt: &R, alloc: Global, lines: &[&[u8]]) -> Option<bool> {
 
 #[test]
 fn what_cannot_be_read_is_dropped(rt: HostRuntime) {
-    let texts: [&[&[u8]]; 5] = [
+    let texts: [&[&[u8]]; 10] = [
         &[b""],
         &[b"OPTIONS sip:bob@example.com", b""],
         // a request without a Via line
         &[b"OPTIONS sip:bob@example.com SIP/2.0", FROM, b""],
+        // a header line without a colon
+        &[
+            b"OPTIONS sip:bob@example.com SIP/2.0",
+            MARKED,
+            FROM,
+            TAGGED,
+            CALL_ID,
+            OPTIONS,
+            b"Subject",
+            b"",
+        ],
+        // the CSeq of another method
+        &[
+            b"OPTIONS sip:bob@example.com SIP/2.0",
+            MARKED,
+            FROM,
+            TAGGED,
+            CALL_ID,
+            b"CSeq: 1 INVITE",
+            b"",
+        ],
+        // no length of a body, and two
+        &[
+            b"OPTIONS sip:bob@example.com SIP/2.0",
+            MARKED,
+            FROM,
+            TAGGED,
+            CALL_ID,
+            OPTIONS,
+            b"l: x",
+            b"",
+        ],
+        &[
+            b"OPTIONS sip:bob@example.com SIP/2.0",
+            MARKED,
+            FROM,
+            TAGGED,
+            CALL_ID,
+            OPTIONS,
+            b"l: 0",
+            b"l: 1",
+            b"",
+        ],
+        // a response of no class
+        &[
+            b"SIP/2.0 700 Out of range",
+            MARKED,
+            FROM,
+            TAGGED,
+            CALL_ID,
+            OPTIONS,
+            b"",
+        ],
         // a response of another version
         &[
             b"SIP/3.0 200 OK",

@@ -9,8 +9,18 @@ mod answers;
 #[cfg(test)]
 mod calls;
 #[cfg(test)]
+mod carrying;
+#[cfg(test)]
+mod failing;
+#[cfg(test)]
 mod holds;
 #[cfg(test)]
+mod mutated;
+#[cfg(test)]
+mod noise;
+#[cfg(test)]
 mod outbox;
+#[cfg(test)]
+mod strays;
 #[cfg(test)]
 mod texts;

@@ -42,6 +42,11 @@ impl Outbox {
         self.to == Some(to) && self.bytes.as_slice() == bytes
     }
 
+    /// What was sent last.
+    pub fn bytes(&self) -> &[u8] {
+        &self.bytes
+    }
+
     /// Whether nothing was sent.
     pub fn is_empty(&self) -> bool {
         self.to.is_none()
