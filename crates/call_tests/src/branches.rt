@@ -127,7 +127,7 @@ const CHALLENGE: &[u8] = b"WWW-Authenticate: Digest realm=\"a\", nonce=\"1\"";
 const PROXY_CHALLENGE: &[u8] = b"Proxy-Authenticate: Digest realm=\"b\", nonce=\"2\"";
 
 /// The 401 of the first branch.
-const UNAUTHORIZED: [&[u8]; 10] = [
+pub(crate) const UNAUTHORIZED: [&[u8]; 10] = [
     b"SIP/2.0 401 Unauthorized",
     FIRST_VIA,
     VIA,
@@ -141,7 +141,7 @@ const UNAUTHORIZED: [&[u8]; 10] = [
 ];
 
 /// The 407 of the second.
-const PROXY_UNAUTHORIZED: [&[u8]; 10] = [
+pub(crate) const PROXY_UNAUTHORIZED: [&[u8]; 10] = [
     b"SIP/2.0 407 Proxy Authentication Required",
     SECOND_VIA,
     VIA,
@@ -155,7 +155,7 @@ const PROXY_UNAUTHORIZED: [&[u8]; 10] = [
 ];
 
 /// The 401 as it goes up, with the challenges of both.
-const UNAUTHORIZED_UP: [&[u8]; 10] = [
+pub(crate) const UNAUTHORIZED_UP: [&[u8]; 10] = [
     b"SIP/2.0 401 Unauthorized",
     VIA,
     FROM,
@@ -192,7 +192,7 @@ fn sent_to(parts: &mut Parts, n: u16) -> Option<Datagram>
 }
 
 /// Whether the request to target n is sent there, as these lines.
-fn starts(alloc: Global, parts: &mut Parts, n: u16, to: Hop, lines: &[&[u8]]) -> bool
+pub(crate) fn starts(alloc: Global, parts: &mut Parts, n: u16, to: Hop, lines: &[&[u8]]) -> bool
     requires { IsSound parts.old }
     ensures { IsSound parts.new }
 {
@@ -223,7 +223,13 @@ fn taken_from(parts: &mut Parts, n: u16, now: u64, response: Message<Global>) ->
 }
 
 /// What comes of the response of these lines to branch n.
-fn taken_by(alloc: Global, parts: &mut Parts, n: u16, now: u64, lines: &[&[u8]]) -> Option<Taken>
+pub(crate) fn taken_by(
+    alloc: Global,
+    parts: &mut Parts,
+    n: u16,
+    now: u64,
+    lines: &[&[u8]],
+) -> Option<Taken>
     requires { IsSound parts.old }
     ensures { IsSound parts.new }
 {
@@ -249,7 +255,7 @@ fn answered(parts: &mut Parts) -> Option<Step>
 }
 
 /// Whether it is sent as these lines.
-fn answers(alloc: Global, parts: &mut Parts, lines: &[&[u8]]) -> bool
+pub(crate) fn answers(alloc: Global, parts: &mut Parts, lines: &[&[u8]]) -> bool
     requires { IsSound parts.old }
     ensures { IsSound parts.new }
 {

@@ -9,7 +9,11 @@ mod calls;
 #[cfg(test)]
 mod carrying;
 #[cfg(test)]
+mod histories;
+#[cfg(test)]
 mod holds;
+#[cfg(test)]
+mod looking;
 #[cfg(test)]
 mod opening;
 #[cfg(test)]

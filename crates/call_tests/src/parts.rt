@@ -437,7 +437,7 @@ fn ticks_cancel(alloc: Global, parts: &mut Parts, now: u64, lines: &[&[u8]]) -> 
 }
 
 /// Whether a tick of the server transaction sends nothing.
-fn ticks_server(parts: &mut Parts, now: u64) -> bool {
+pub(crate) fn ticks_server(parts: &mut Parts, now: u64) -> bool {
     match parts.tick_server(now) {
         Ok(Step::Did) => true,
         _ => false,

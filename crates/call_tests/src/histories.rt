@@ -1,0 +1,12 @@
+//! Whole calls, from the request that opens each to its end: every message that comes, every datagram that goes, byte for
+//! byte, and the moments between them.
+mod accepting;
+mod failing;
+mod four_targets;
+mod groups;
+mod one_target;
+mod playing;
+mod refusing;
+mod texts;
+mod timers;
+mod two_calls;

@@ -1,0 +1,61 @@
+//! Requests that open no call, and the status with which each is answered (RFC 3261 sections 16.3 to 16.6).
+use crate::holds::holds;
+use crate::requests::{Change, SETUP, SOURCE, request_with, setup_of};
+use fork_call::{Call, OpenFault};
+use fork_routing::is_openable;
+use std::alloc::Global;
+
+/// What opening a call comes to for the request with this change.
+fn opening(alloc: Global, change: Change) -> Option<Result<Call<Global>, OpenFault>> {
+    let setup = setup_of(alloc, SETUP)?;
+    let request = request_with(alloc, &[change])?;
+    if !is_openable(&request) {
+        return None;
+    }
+    Some(Call::open(alloc, &setup, 3, request, SOURCE, 0))
+}
+
+/// The fault with which the request with this change opens no call.
+fn fault_with(alloc: Global, change: Change) -> Option<OpenFault> {
+    match opening(alloc, change)? {
+        Ok(_) => None,
+        Err(fault) => Some(fault),
+    }
+}
+
+/// A change of the request, the fault that it makes, and its status.
+const FAULTS: [(Change, OpenFault, u16); 7] = [
+    ((2, b"Max-Forwards: 0"), OpenFault::Hops, 483),
+    (
+        (
+            7,
+            b"v: SIP/2.0/UDP 192.0.2.9:5060;branch=z9hG4bK8c31e71e0ddbf1a0e56f5f0279990857.7.3.0",
+        ),
+        OpenFault::Loop,
+        482,
+    ),
+    ((7, b"Proxy-Require: x"), OpenFault::Extension, 420),
+    (
+        (0, b"OPTIONS sip:eve@example.com SIP/2.0"),
+        OpenFault::NoTarget,
+        480,
+    ),
+    ((0, b"OPTIONS tel:1 SIP/2.0"), OpenFault::Scheme, 416),
+    (
+        (0, b"OPTIONS sip:x@other.example SIP/2.0"),
+        OpenFault::NoHop,
+        500,
+    ),
+    ((2, b"Max-Forwards: x"), OpenFault::BadRequest, 400),
+];
+
+#[test]
+fn each_refusal_has_its_status(rt: HostRuntime) {
+    for (change, fault, status) in FAULTS {
+        holds(
+            &rt,
+            fault_with(rt.alloc(), change) == Some(fault) && fault.status() == Some(status),
+            "why a request opens no call",
+        );
+    }
+}
