@@ -12,9 +12,9 @@ use sip_uri::Hop;
 use std::alloc::Allocator;
 use std::sync::Wait;
 
-/// How often the receiver lets others run before it gives a datagram to a full inbox all the same: some milliseconds, so that
-/// a worker that is held up does not hold up the other one.
-const PATIENCE: u32 = 10_000;
+/// How often the receiver lets others run before it gives a datagram to inboxes that are all full: some hundred milliseconds, in
+/// which datagrams wait in the socket.
+const PATIENCE: u32 = 1_000_000;
 
 /// Which workers run: those whose threads could be made.
 #[derive(Clone, Copy)]
@@ -34,14 +34,22 @@ pub(crate) struct Senders<'a, A: Allocator> {
     is_first: bool,
 }
 
-/// Gives a datagram's job, once there is room or the receiver's patience is at its end, and says whether it was taken.
-fn give_with_patience<R: Wait, A: Allocator>(
+/// Gives a datagram's job to the next worker in turn, to the other one where that has no room, or, where neither has, to the next
+/// once there is room or the receiver's patience is at its end. Says whether it was taken.
+fn give_to_either<R: Wait, A: Allocator>(
     rt: &R,
-    sender: &mut JobSender<'_, A>,
+    next: &mut JobSender<'_, A>,
+    other: &mut JobSender<'_, A>,
     job: Job<A>,
 ) -> bool {
-    sender.make_room(PATIENCE);
-    sender.give(rt, job).is_ok()
+    let Err(job) = next.give(rt, job) else {
+        return true;
+    };
+    let Err(job) = other.give(rt, job) else {
+        return true;
+    };
+    next.make_room(PATIENCE);
+    next.give(rt, job).is_ok()
 }
 
 impl<'a, A: Allocator> Senders<'a, A> {
@@ -59,14 +67,14 @@ impl<'a, A: Allocator> Senders<'a, A> {
         }
     }
 
-    /// Gives a datagram's job to the next worker in turn, and says whether it was taken.
+    /// Gives a datagram's job to one of the two workers, the next in turn first, and says whether it was taken.
     fn give_packet<R: Wait>(&mut self, rt: &R, job: Job<A>) -> bool {
         let is_first = self.is_first;
         self.is_first = !is_first;
         if is_first {
-            give_with_patience(rt, &mut self.first, job)
+            give_to_either(rt, &mut self.first, &mut self.second, job)
         } else {
-            give_with_patience(rt, &mut self.second, job)
+            give_to_either(rt, &mut self.second, &mut self.first, job)
         }
     }
 
