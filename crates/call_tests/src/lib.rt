@@ -13,14 +13,20 @@ mod histories;
 #[cfg(test)]
 mod holds;
 #[cfg(test)]
+mod laws;
+#[cfg(test)]
 mod looking;
 #[cfg(test)]
 mod opening;
 #[cfg(test)]
 mod parts;
 #[cfg(test)]
+mod places;
+#[cfg(test)]
 mod recipients;
 #[cfg(test)]
 mod requests;
 #[cfg(test)]
 mod setup;
+#[cfg(test)]
+mod ways;

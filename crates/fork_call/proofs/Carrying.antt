@@ -1,12 +1,14 @@
-use Rattle.std.proofs.Common.{◌≡◌, ◌∙◌, ℕ, suc, ◌+◌, ◌<◌, ◌≤◌, refl, subst, sym, arith, true, false, Bool, Option, Some, None, List, [], ◌∷◌, ◌++◌, length, length-append}
+use Rattle.std.proofs.Common.{◌≡◌, ◌∙◌, ℕ, suc, ◌+◌, ◌<◌, ◌≤◌, inl, inr, refl, subst, sym, arith, true, false, Bool, Option, Some, None, List, [], ◌∷◌, ◌++◌, length, length-append}
 use Rattle.std.proofs.lemmas.Bool.{le-leb, leb-false, leb-true}
 use Rattle.std.specs.Prelude.{◌&&◌, not}
 use Rattle.fork_model.specs.Table.{is_cancelled}
 use Rattle.sip_txn.specs.Timers.{is_due}
+use Rattle.fork_parts.specs.Built.{Datagram}
 use Rattle.fork_parts.specs.Call.{Call, leg_at, row_passes, runs_timer_c}
 use Rattle.fork_parts.specs.Due.{Deed, SendRequest, SendCancel, SendAck, SendAnswer, TickServer, TickClient, TickCancel, FireTimerC, GiveUp, IsIdle, IsLeastDue, cancel_at, client_at, give_up_at, is_due_at, timer_c_at}
+use Rattle.fork_parts.specs.Pump.{Pumps, Send}
 use Rattle.fork_parts.specs.Server.{served_due}
-use Rattle.fork_call.specs.Carry.{Carrying, Sent, Lost, Silent, Carries, CarriesAll, sent_in, lost_in, most_steps, IsCarried, IsCarriedOut, IsRunOut, IsSoFar}
+use Rattle.fork_call.specs.Carry.{Carrying, Sent, Lost, Silent, Carries, CarriesAll, Sends, SendsOne, Hands, HandsAll, sent_in, lost_in, most_steps, IsCarriedOut, IsCutOff, IsRunOut, IsSoFar}
 
 carries_more : (now : ℕ) (call mid new : Call) (steps : List Carrying) (step : Carrying) → CarriesAll now call steps mid → Carries now mid step new → CarriesAll now call (steps ++ step ∷ []) new
 carries_more now call mid new [] step run last =
@@ -14,65 +16,93 @@ carries_more now call mid new [] step run last =
     (new, subst P run last, refl)
 carries_more now call mid new (s ∷ steps) step run last = (run.0, run.1, carries_more now run.0 mid new steps step run.2 last)
 
+hands_more : {P : Type 0} (sends : Sends P) (count : P → ℕ) (port mid new : P) (steps : List Carrying) (step : Carrying) → HandsAll sends count port steps mid → Hands sends count mid step new
+    → HandsAll sends count port (steps ++ step ∷ []) new
+hands_more sends count port mid new [] step run last = (new, subst (λ x. Hands sends count x step new) run last, refl)
+hands_more sends count port mid new (s ∷ steps) step run last = (run.0, run.1, hands_more sends count run.0 mid new steps step run.2 last)
+
 sent_more : (steps : List Carrying) (step : Carrying) → sent_in (steps ++ step ∷ []) ≡ sent_in steps + sent_in (step ∷ [])
 sent_more [] step = let e : sent_in (step ∷ []) ≡ 0 + sent_in (step ∷ []) = omega arith in e
-sent_more (Sent ∷ steps) step = let e : sent_in (steps ++ step ∷ []) ≡ sent_in steps + sent_in (step ∷ []) = sent_more steps step in let r : suc (sent_in (steps ++ step ∷ [])) ≡ suc (sent_in steps) + sent_in (step ∷ []) = omega (arith, e) in r
-sent_more (Lost ∷ steps) step = sent_more steps step
+sent_more (Sent d ∷ steps) step = let e : sent_in (steps ++ step ∷ []) ≡ sent_in steps + sent_in (step ∷ []) = sent_more steps step in let r : suc (sent_in (steps ++ step ∷ [])) ≡ suc (sent_in steps) + sent_in (step ∷ []) = omega (arith, e) in r
+sent_more (Lost d ∷ steps) step = sent_more steps step
 sent_more (Silent ∷ steps) step = sent_more steps step
 
 lost_more : (steps : List Carrying) (step : Carrying) → lost_in (steps ++ step ∷ []) ≡ lost_in steps + lost_in (step ∷ [])
 lost_more [] step = let e : lost_in (step ∷ []) ≡ 0 + lost_in (step ∷ []) = omega arith in e
-lost_more (Sent ∷ steps) step = lost_more steps step
-lost_more (Lost ∷ steps) step = let e : lost_in (steps ++ step ∷ []) ≡ lost_in steps + lost_in (step ∷ []) = lost_more steps step in let r : suc (lost_in (steps ++ step ∷ [])) ≡ suc (lost_in steps) + lost_in (step ∷ []) = omega (arith, e) in r
+lost_more (Sent d ∷ steps) step = lost_more steps step
+lost_more (Lost d ∷ steps) step = let e : lost_in (steps ++ step ∷ []) ≡ lost_in steps + lost_in (step ∷ []) = lost_more steps step in let r : suc (lost_in (steps ++ step ∷ [])) ≡ suc (lost_in steps) + lost_in (step ∷ []) = omega (arith, e) in r
 lost_more (Silent ∷ steps) step = lost_more steps step
 
-pub so_far_start : (now : ℕ) (call : Call) → IsSoFar now call call 0 0 0
-so_far_start now call = record { steps = []; run = refl; count_is = refl; sent_are = refl; failed_are = refl }
+module _ {P : Type 0} (sends : Sends P) (count : P → ℕ) (now : ℕ) (call : Call) (port : P) where
+  abbrev SoFar : Call → P → ℕ → ℕ → ℕ → Type 0
+  SoFar new new_port made sent failed = IsSoFar sends count now call port new new_port made sent failed
 
--- one more step
-so_far_more : (now : ℕ) (call mid new : Call) (count sent failed s f : ℕ) (step : Carrying) → IsSoFar now call mid count sent failed → Carries now mid step new
-    → s ≡ sent + sent_in (step ∷ []) → f ≡ failed + lost_in (step ∷ []) → IsSoFar now call new (count + 1) s f
-so_far_more now call mid new count sent failed s f step far last es ef = record {
-  steps = far.steps ++ step ∷ [];
-  run = carries_more now call mid new far.steps step far.run last;
-  count_is = let e : length (far.steps ++ step ∷ []) ≡ length far.steps + 1 = omega (arith, length-append {A = Carrying}) in omega (arith, e, far.count_is);
-  sent_are = let e = sent_more far.steps step in omega (arith, e, es, far.sent_are);
-  failed_are = let e = lost_more far.steps step in omega (arith, e, ef, far.failed_are);
-}
+  pub so_far_start : IsSoFar sends count now call port call port 0 0 0
+  so_far_start = record { steps = []; run = refl; handed = refl; made_is = refl; sent_are = refl; failed_are = refl }
 
-pub so_far_sent : (now : ℕ) (call mid new : Call) (count sent failed : ℕ) → IsSoFar now call mid count sent failed → Carries now mid Sent new → IsSoFar now call new (count + 1) (sent + 1) failed
-so_far_sent now call mid new count sent failed far last = so_far_more now call mid new count sent failed (sent + 1) failed Sent far last (omega arith) (omega arith)
+  -- one more step
+  so_far_more : (mid new : Call) (mid_port new_port : P) (made sent failed s f : ℕ) (step : Carrying) → SoFar mid mid_port made sent failed
+      → Carries now mid step new → Hands sends count mid_port step new_port
+      → s ≡ sent + sent_in (step ∷ []) → f ≡ failed + lost_in (step ∷ []) → SoFar new new_port (made + 1) s f
+  so_far_more mid new mid_port new_port made sent failed s f step far last hands es ef = record {
+    steps = far.steps ++ step ∷ [];
+    run = carries_more now call mid new far.steps step far.run last;
+    handed = hands_more sends count port mid_port new_port far.steps step far.handed hands;
+    made_is = let e : length (far.steps ++ step ∷ []) ≡ length far.steps + 1 = omega (arith, length-append {A = Carrying}) in omega (arith, e, far.made_is);
+    sent_are = let e = sent_more far.steps step in omega (arith, e, es, far.sent_are);
+    failed_are = let e = lost_more far.steps step in omega (arith, e, ef, far.failed_are);
+  }
 
-pub so_far_lost : (now : ℕ) (call mid new : Call) (count sent failed : ℕ) → IsSoFar now call mid count sent failed → Carries now mid Lost new → IsSoFar now call new (count + 1) sent (failed + 1)
-so_far_lost now call mid new count sent failed far last = so_far_more now call mid new count sent failed sent (failed + 1) Lost far last (omega arith) (omega arith)
+  pub so_far_sent : (mid new : Call) (mid_port new_port : P) (made sent failed : ℕ) (d : Datagram) → SoFar mid mid_port made sent failed
+      → Carries now mid (Sent d) new → SendsOne sends count mid_port d false new_port → SoFar new new_port (made + 1) (sent + 1) failed
+  so_far_sent mid new mid_port new_port made sent failed d far last hands =
+      so_far_more mid new mid_port new_port made sent failed (sent + 1) failed (Sent d) far last hands (omega arith) (omega arith)
 
-pub so_far_silent : (now : ℕ) (call mid new : Call) (count sent failed : ℕ) → IsSoFar now call mid count sent failed → Carries now mid Silent new → IsSoFar now call new (count + 1) sent failed
-so_far_silent now call mid new count sent failed far last = so_far_more now call mid new count sent failed sent failed Silent far last (omega arith) (omega arith)
+  pub so_far_lost : (mid new : Call) (mid_port new_port : P) (made sent failed : ℕ) (d : Datagram) → SoFar mid mid_port made sent failed
+      → Carries now mid (Lost d) new → SendsOne sends count mid_port d true new_port → SoFar new new_port (made + 1) sent (failed + 1)
+  so_far_lost mid new mid_port new_port made sent failed d far last hands =
+      so_far_more mid new mid_port new_port made sent failed sent (failed + 1) (Lost d) far last hands (omega arith) (omega arith)
 
-pub carried : (now : ℕ) (call new : Call) (count sent failed : ℕ) → IsSoFar now call new count sent failed → count ≤ most_steps → IsCarried now call new
-carried now call new count sent failed far le = (far.steps, omega (arith, far.count_is), far.run)
+  pub so_far_silent : (mid new : Call) (mid_port : P) (made sent failed : ℕ) → SoFar mid mid_port made sent failed
+      → Carries now mid Silent new → SoFar new mid_port (made + 1) sent failed
+  so_far_silent mid new mid_port made sent failed far last =
+      so_far_more mid new mid_port mid_port made sent failed sent failed Silent far last refl (omega arith) (omega arith)
 
-pub run_idle : (now : ℕ) (call new : Call) (count sent failed : ℕ) → IsSoFar now call new count sent failed → count ≤ most_steps → IsIdle new now → IsRunOut now call new sent failed true
-run_idle now call new count sent failed far le idle = record {
-  steps = far.steps;
-  run = far.run;
-  few = omega (arith, far.count_is);
-  sent_are = far.sent_are;
-  failed_are = far.failed_are;
-  done = λ e. idle;
-  long = λ e. absurd cc;
-}
+  pub cut_before : (mid new : Call) (new_port : P) (made sent failed : ℕ) → SoFar mid new_port made sent failed → made < most_steps
+      → new ≡ mid → IsCutOff sends count now call port new new_port
+  cut_before mid new new_port made sent failed far le same =
+      (far.steps, mid, new_port, omega (arith, le, far.made_is), far.run, far.handed, inl (same, refl))
 
-pub run_long : (now : ℕ) (call new : Call) (count sent failed : ℕ) → IsSoFar now call new count sent failed → count ≡ most_steps → IsRunOut now call new sent failed false
-run_long now call new count sent failed far e = record {
-  steps = far.steps;
-  run = far.run;
-  few = omega (arith, far.count_is, e);
-  sent_are = far.sent_are;
-  failed_are = far.failed_are;
-  done = λ h. absurd cc;
-  long = λ h. far.count_is ∙ e;
-}
+  pub cut_untold : (mid new : Call) (mid_port new_port : P) (made sent failed : ℕ) (d : Datagram) → SoFar mid mid_port made sent failed → made < most_steps
+      → Pumps mid now (Send d) new → SendsOne sends count mid_port d true new_port → IsCutOff sends count now call port new new_port
+  cut_untold mid new mid_port new_port made sent failed d far le pumps lost =
+      (far.steps, mid, mid_port, omega (arith, le, far.made_is), far.run, far.handed, inr (d, pumps, lost))
+
+  pub run_idle : (new : Call) (new_port : P) (made sent failed : ℕ) → SoFar new new_port made sent failed → made ≤ most_steps → IsIdle new now
+      → IsRunOut sends count now call port new new_port sent failed true
+  run_idle new new_port made sent failed far le idle = record {
+    steps = far.steps;
+    run = far.run;
+    handed = far.handed;
+    few = omega (arith, far.made_is);
+    sent_are = far.sent_are;
+    failed_are = far.failed_are;
+    done = λ e. idle;
+    long = λ e. absurd cc;
+  }
+
+  pub run_long : (new : Call) (new_port : P) (made sent failed : ℕ) → SoFar new new_port made sent failed → made ≡ most_steps
+      → IsRunOut sends count now call port new new_port sent failed false
+  run_long new new_port made sent failed far e = record {
+    steps = far.steps;
+    run = far.run;
+    handed = far.handed;
+    few = omega (arith, far.made_is, e);
+    sent_are = far.sent_are;
+    failed_are = far.failed_are;
+    done = λ h. absurd cc;
+    long = λ h. far.made_is ∙ e;
+  }
 
 -- ---- whether something is still due
 
@@ -114,23 +144,26 @@ busy_from call now (Some at) is due idle =
     let busy = due_stays call at now is.0 came is.1 in
     absurd cc
 
-pub carried_out : (now : ℕ) (call new : Call) (sent failed : ℕ) (idle : Bool) (least : Option ℕ) → IsRunOut now call new sent failed idle → IsLeastDue new least
-    → (more : Bool) → more ≡ (not idle && is_due now least) → IsCarriedOut now call new sent failed more
-carried_out now call new sent failed true least run is more e = record {
-  steps = run.steps;
-  run = run.run;
-  few = run.few;
-  sent_are = run.sent_are;
-  failed_are = run.failed_are;
-  done = λ h. run.done refl;
-  not_done = λ h. absurd cc;
-}
-carried_out now call new sent failed false least run is more e = record {
-  steps = run.steps;
-  run = run.run;
-  few = run.few;
-  sent_are = run.sent_are;
-  failed_are = run.failed_are;
-  done = λ h. idle_before new now least is (sym e ∙ h);
-  not_done = λ h. (run.long refl, busy_from new now least is (sym e ∙ h));
-}
+module _ {P : Type 0} (sends : Sends P) (count : P → ℕ) (now : ℕ) (call : Call) (port : P) where
+  pub carried_out : (new : Call) (new_port : P) (sent failed : ℕ) (idle : Bool) (least : Option ℕ) → IsRunOut sends count now call port new new_port sent failed idle
+      → IsLeastDue new least → (more : Bool) → more ≡ (not idle && is_due now least) → IsCarriedOut sends count now call port new new_port sent failed more
+  carried_out new new_port sent failed true least run is more e = record {
+    steps = run.steps;
+    run = run.run;
+    handed = run.handed;
+    few = run.few;
+    sent_are = run.sent_are;
+    failed_are = run.failed_are;
+    done = λ h. run.done refl;
+    not_done = λ h. absurd cc;
+  }
+  carried_out new new_port sent failed false least run is more e = record {
+    steps = run.steps;
+    run = run.run;
+    handed = run.handed;
+    few = run.few;
+    sent_are = run.sent_are;
+    failed_are = run.failed_are;
+    done = λ h. idle_before new now least is (sym e ∙ h);
+    not_done = λ h. (run.long refl, busy_from new now least is (sym e ∙ h));
+  }

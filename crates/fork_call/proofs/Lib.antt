@@ -1,5 +1,6 @@
 pub mod Idle
 pub mod Carrying
+pub mod Kept
 pub mod LeastDue
 pub mod Retimed
 pub mod Touching

@@ -1,5 +1,5 @@
 -- A call is pumped until nothing is due, and what it sends is handed to a port.
-use Rattle.std.specs.Prelude.{◌≡◌, ◌≤◌, ℕ, suc, List, [], ◌∷◌, length, Bool, true, false}
+use Rattle.std.specs.Prelude.{◌≡◌, ◌≤◌, ◌<◌, ◌⊎◌, ◌&&◌, ℕ, suc, List, [], ◌∷◌, length, Bool, true, false, not, nat_lt}
 use Rattle.fork_parts.specs.Call.{Call}
 use Rattle.fork_parts.specs.Built.{Datagram}
 use Rattle.fork_parts.specs.Due.{IsIdle}
@@ -12,13 +12,13 @@ most_steps = 1024
 
 -- a datagram that counts as sent; one whose failure the call was told; a step without a datagram
 pub data Carrying : Type 0 where
-  Sent : Carrying
-  Lost : Carrying
+  Sent : Datagram → Carrying
+  Lost : Datagram → Carrying
   Silent : Carrying
 
 abbrev pub Carries : ℕ → Call → Carrying → Call → Type 0
-Carries now call Sent new = (d : Datagram) × Pumps call now (Send d) new
-Carries now call Lost new = (d : Datagram) × (mid : Call) × Pumps call now (Send d) mid × Fails mid now d.cause new
+Carries now call (Sent d) new = Pumps call now (Send d) new
+Carries now call (Lost d) new = (mid : Call) × Pumps call now (Send d) mid × Fails mid now d.cause new
 Carries now call Silent new = Pumps call now Did new
 
 abbrev pub CarriesAll : ℕ → Call → List Carrying → Call → Type 0
@@ -27,44 +27,81 @@ CarriesAll now call (step ∷ steps) new = (mid : Call) × Carries now call step
 
 abbrev pub sent_in : List Carrying → ℕ
 sent_in [] = 0
-sent_in (Sent ∷ steps) = suc (sent_in steps)
-sent_in (Lost ∷ steps) = sent_in steps
+sent_in (Sent d ∷ steps) = suc (sent_in steps)
+sent_in (Lost d ∷ steps) = sent_in steps
 sent_in (Silent ∷ steps) = sent_in steps
 
 abbrev pub lost_in : List Carrying → ℕ
 lost_in [] = 0
-lost_in (Sent ∷ steps) = lost_in steps
-lost_in (Lost ∷ steps) = suc (lost_in steps)
+lost_in (Sent d ∷ steps) = lost_in steps
+lost_in (Lost d ∷ steps) = suc (lost_in steps)
 lost_in (Silent ∷ steps) = lost_in steps
 
--- some run of at most so many steps leads there
-abbrev pub IsCarried : ℕ → Call → Call → Type 0
-IsCarried now call new = (steps : List Carrying) × (length steps ≤ most_steps) × CarriesAll now call steps new
+-- ---- what the port is handed
 
--- so many were sent, and so many lost; nothing is due any more, or the run is as long as may be
-pub record IsCarriedOut (now : ℕ) (call new : Call) (sent failed : ℕ) (more : Bool) : Type 0 where
-  pub steps : List Carrying
-  pub run : CarriesAll now call steps new
-  pub few : length steps ≤ most_steps
-  pub sent_are : sent ≡ sent_in steps
-  pub failed_are : failed ≡ lost_in steps
-  pub done : more ≡ false → IsIdle new now
-  pub not_done : more ≡ true → (length steps ≡ most_steps) × (IsIdle new now → ⊥)
+-- each send of a port: the port before, the datagram, whether it went out, the port after
+abbrev pub Sends : Type 0 → Type 1
+Sends P = P → Datagram → Bool → P → Type 0
 
--- the same before it was asked whether something is still due: idle, or as long as may be
-pub record IsRunOut (now : ℕ) (call new : Call) (sent failed : ℕ) (idle : Bool) : Type 0 where
-  pub steps : List Carrying
-  pub run : CarriesAll now call steps new
-  pub few : length steps ≤ most_steps
-  pub sent_are : sent ≡ sent_in steps
-  pub failed_are : failed ≡ lost_in steps
-  pub done : idle ≡ true → IsIdle new now
-  pub long : idle ≡ false → length steps ≡ most_steps
+module _ {P : Type 0} (sends : Sends P) (count : P → ℕ) where
+  -- the port is handed a datagram by one send: it is lost where the port says that it did not go out, and has counted it
+  abbrev pub SendsOne : P → Datagram → (lost : Bool) → P → Type 0
+  SendsOne port d lost new = (went : Bool) × sends port d went new × (lost ≡ (not went && nat_lt (count port) (count new)))
 
--- so far: so many steps were made
-pub record IsSoFar (now : ℕ) (call new : Call) (count sent failed : ℕ) : Type 0 where
-  pub steps : List Carrying
-  pub run : CarriesAll now call steps new
-  pub count_is : length steps ≡ count
-  pub sent_are : sent ≡ sent_in steps
-  pub failed_are : failed ≡ lost_in steps
+  -- it is handed the datagram of the step, if it has one; nothing else is done with it
+  abbrev pub Hands : P → Carrying → P → Type 0
+  Hands port (Sent d) new = SendsOne port d false new
+  Hands port (Lost d) new = SendsOne port d true new
+  Hands port Silent new = new ≡ port
+
+  abbrev pub HandsAll : P → List Carrying → P → Type 0
+  HandsAll port [] new = new ≡ port
+  HandsAll port (step ∷ steps) new = (mid : P) × Hands port step mid × HandsAll mid steps new
+
+-- ---- a call and its port
+
+module _ {P : Type 0} (sends : Sends P) (count : P → ℕ) (now : ℕ) (call : Call) (port : P) where
+  -- some steps were made, and then the allocator refused: before the next one, or as the call was to be told of a datagram that
+  -- was lost
+  abbrev pub IsCutOff : Call → P → Type 0
+  IsCutOff new new_port =
+      (steps : List Carrying)
+      × (mid : Call)
+      × (mid_port : P)
+      × (length steps < most_steps)
+      × CarriesAll now call steps mid
+      × HandsAll sends count port steps mid_port
+      × (((new ≡ mid) × (new_port ≡ mid_port))
+      ⊎ ((d : Datagram) × Pumps mid now (Send d) new × SendsOne sends count mid_port d true new_port))
+
+  -- so many were sent, and so many lost, each handed to the port once, in the order of the steps; nothing is due any more, or
+  -- the run is as long as may be
+  pub record IsCarriedOut (new : Call) (new_port : P) (sent failed : ℕ) (more : Bool) : Type 0 where
+    pub steps : List Carrying
+    pub run : CarriesAll now call steps new
+    pub handed : HandsAll sends count port steps new_port
+    pub few : length steps ≤ most_steps
+    pub sent_are : sent ≡ sent_in steps
+    pub failed_are : failed ≡ lost_in steps
+    pub done : more ≡ false → IsIdle new now
+    pub not_done : more ≡ true → (length steps ≡ most_steps) × (IsIdle new now → ⊥)
+
+  -- the same before it was asked whether something is still due: idle, or as long as may be
+  pub record IsRunOut (new : Call) (new_port : P) (sent failed : ℕ) (idle : Bool) : Type 0 where
+    pub steps : List Carrying
+    pub run : CarriesAll now call steps new
+    pub handed : HandsAll sends count port steps new_port
+    pub few : length steps ≤ most_steps
+    pub sent_are : sent ≡ sent_in steps
+    pub failed_are : failed ≡ lost_in steps
+    pub done : idle ≡ true → IsIdle new now
+    pub long : idle ≡ false → length steps ≡ most_steps
+
+  -- so far: so many steps were made
+  pub record IsSoFar (new : Call) (new_port : P) (made sent failed : ℕ) : Type 0 where
+    pub steps : List Carrying
+    pub run : CarriesAll now call steps new
+    pub handed : HandsAll sends count port steps new_port
+    pub made_is : length steps ≡ made
+    pub sent_are : sent ≡ sent_in steps
+    pub failed_are : failed ≡ lost_in steps

@@ -1,6 +1,8 @@
 //! A call and the port that its datagrams go to.
-ghost use Rattle.std.specs.Prelude.{◌≡◌, ◌≤◌, ◌<◌, ◌+◌, ℕ, true, IfOk};
-ghost use Rattle.fork_call.specs.Carry.{IsCarried, IsCarriedOut, IsRunOut};
+ghost use Rattle.std.specs.Prelude.{◌≡◌, ◌≤◌, ◌<◌, ◌+◌, ℕ, Bool, true, IfOk, OnErr};
+ghost use Rattle.fork_parts.specs.Built as built;
+ghost use Rattle.fork_parts.specs.SeenDatagram.{seen};
+ghost use Rattle.fork_call.specs.Carry.{IsCarriedOut, IsCutOff, IsRunOut, SendsOne};
 
 use crate::call::Call;
 use crate::schedule::is_due;
@@ -15,9 +17,14 @@ pub trait Port {
     /// How many sends have failed.
     ghost count: { Self → ℕ };
 
+    /// What one send is: the port before, the datagram, whether it went out, and the port after. What is proved of every
+    /// port can show it by a `send` alone.
+    ghost sends: { Self → built.Datagram → Bool → Self → Type 0 } = { λ _ _ _ _. Unit {0} };
+
     /// Sends a datagram, and says whether it went out.
     fn send<A: Allocator>(&mut self, datagram: &Datagram<A>) -> bool
-        ensures { Self.count self.old ≤ Self.count self.new };
+        ensures rises { Self.count self.old ≤ Self.count self.new }
+        ensures sends { Self.sends self.old (seen datagram.now) result self.new };
 
     /// How many sends have failed.
     fn failures(&self) -> u64
@@ -32,18 +39,21 @@ pub struct Carried {
     pub more: bool,
 }
 
-/// Pumps the call and sends what it gives, at most 1,024 steps. A send failed where the port says so and has counted it.
+/// Pumps the call and sends what it gives, at most 1,024 steps: the port is handed each datagram of a step once, in order, and
+/// nothing else. A send failed where the port says so and has counted it.
 ///
 /// # Errors
 ///
-/// Only where the allocator refuses; the steps before stand.
+/// Only where the allocator refuses; the steps before stand. A datagram that was lost just then is not told to the call.
+#[tactic(auto, using(crate::proofs::Kept::run_out_keeps_number))]
 pub fn carry<A: Allocator + Clone, P: Port>(
     call: &mut Call<A>,
     port: &mut P,
     now: u64,
 ) -> Result<Carried, AllocError>
-    ensures run { IsCarried now call.old call.new }
-    ensures done { IfOk result (λ c. IsCarriedOut now call.old call.new c.sent c.failed c.more) }
+    ensures cut { OnErr result (IsCutOff P.sends P.count now call.old port.old call.new port.new) }
+    ensures done { IfOk result (λ c. IsCarriedOut P.sends P.count now call.old port.old call.new port.new c.sent c.failed c.more) }
+    ensures number { call.new.fixed.number ≡ call.old.fixed.number }
     ensures told { IfOk result (λ c. P.count port.old + c.failed ≤ P.count port.new) }
 {
     let run = run_out(call, port, now)?;
@@ -59,6 +69,7 @@ pub fn carry<A: Allocator + Clone, P: Port>(
 fn is_lost<A: Allocator, P: Port>(port: &mut P, datagram: &Datagram<A>) -> bool
     ensures falls { P.count port.old ≤ P.count port.new }
     ensures lost { result ≡ true → P.count port.old < P.count port.new }
+    ensures handed { SendsOne P.sends P.count port.old (seen datagram.now) result port.new }
 {
     let before = port.failures();
     let went = port.send(datagram);
@@ -79,8 +90,8 @@ fn run_out<A: Allocator + Clone, P: Port>(
     port: &mut P,
     now: u64,
 ) -> Result<RunOut, AllocError>
-    ensures run { IsCarried now call.old call.new }
-    ensures done { IfOk result (λ c. IsRunOut now call.old call.new c.sent c.failed c.idle) }
+    ensures cut { OnErr result (IsCutOff P.sends P.count now call.old port.old call.new port.new) }
+    ensures done { IfOk result (λ c. IsRunOut P.sends P.count now call.old port.old call.new port.new c.sent c.failed c.idle) }
     ensures told { IfOk result (λ c. P.count port.old + c.failed ≤ P.count port.new) }
 {
     let mut sent = 0;

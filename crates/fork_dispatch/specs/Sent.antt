@@ -1,5 +1,5 @@
 -- What the proxy sends without a call (RFC 3261 sections 8.2.6, 16.11 and 18.2.2).
-use Rattle.std.specs.Prelude.{ℕ, List, Option, Some, None, Result, Ok, Err}
+use Rattle.std.specs.Prelude.{◌≡◌, ℕ, Bool, List, Option, Some, None, Result, Ok, Err}
 use Rattle.sip_text.specs.Text.{MessageText, spelling}
 use Rattle.sip_uri.specs.declared.hop.Hop.{Hop}
 use Rattle.sip_uri.specs.Uri.{Uri}
@@ -17,6 +17,7 @@ use Rattle.fork_parts.specs.Built.{Datagram}
 use Rattle.fork_parts.specs.declared.cause.Cause.TheVariants as cause
 use Rattle.fork_parts.specs.declared.datagram.Datagram as memory
 use Rattle.fork_parts.specs.SeenDatagram.{seen}
+use Rattle.fork_call.specs.Carry.{Sends}
 
 -- ---- an answer of the proxy's own
 
@@ -45,6 +46,13 @@ passed_text setup request uri = spelling (forwarded request uri setup.own (passi
 abbrev pub passed_on : Setup → MessageText → Uri → Hop → Datagram
 passed_on setup request uri hop =
     record { to = hop; bytes = passed_text setup request uri; cause = cause.Request 65535 }
+
+-- ---- by a port
+
+-- the port is handed what there is to send by one send, and nothing else is done with it
+abbrev pub IsHanded : {P : Type 0} → Sends P → P → Option Datagram → P → Type 0
+IsHanded sends port None new = new ≡ port
+IsHanded sends port (Some datagram) new = (went : Bool) × sends port datagram went new
 
 -- ---- in memory
 

@@ -1,11 +1,9 @@
 //! ACKs that no call takes: those of the proxy's own answers, and those of answers that went up, which go on.
-ghost use Rattle.std.specs.Prelude.{◌≡◌, ◌↔◌, IfOk, IfSome, IsTrue, Ok, Some, true};
+ghost use Rattle.std.specs.Prelude.{◌≡◌, ◌↔◌, IfOk, IfSome, IsTrue, Some, true};
 ghost use Rattle.sip_text.specs.Name.{first_value};
 ghost use Rattle.sip_route.specs.Hops.{IsHops, hops_name};
 ghost use Rattle.sip_build.specs.Forwarding.{is_request};
 ghost use Rattle.fork_parts.specs.SeenDatagram.{seen};
-ghost use Rattle.fork_routing.specs.Admission.{target_uri};
-ghost use Rattle.fork_routing.specs.Targets.{hop_by};
 ghost use Rattle.fork_dispatch.specs.declared.purpose.Purpose.TheVariants as purposes;
 ghost use Rattle.fork_dispatch.specs.Becomes.{MessageBecomes};
 ghost use Rattle.fork_dispatch.specs.Passing.{GoesOn, HasOwnTag, Passes};
@@ -15,9 +13,9 @@ ghost use Rattle.fork_dispatch.specs.Sent.{passed_on, passed_text, passing_branc
 use crate::datagrams::Handled;
 use crate::outcome::{Outcome, Received};
 use fork_call::{Cause, Datagram, Setup};
-use fork_routing::{admit, is_domain};
+use fork_routing::{admit, hop_by, is_domain, read_target};
 use sip_build::{own_tag, write_forwarded};
-use sip_route::{FirstRoute, first_route, loop_key, request_uri};
+use sip_route::{first_route, loop_key};
 use sip_text::Message;
 use sip_uri::{Hop, SipUri};
 use sip_via::BranchName;
@@ -35,31 +33,6 @@ fn has_own_tag<A: Allocator>(request: &Message<A>) -> bool
 {
     let own = own_tag(request);
     request.to_tag() == Some(own.as_slice())
-}
-
-/// The URI that a request names.
-fn read_target<A: Allocator + Clone>(
-    alloc: A,
-    request: &Message<A>,
-) -> Result<SipUri<A>, AllocError>
-    ensures { IfOk result (λ uri. target_uri request.now ≡ Ok uri) }
-{
-    match SipUri::read(alloc, request_uri(request)) {
-        Ok(uri) => Ok(uri),
-        Err(_) => Err(AllocError),
-    }
-}
-
-/// The hop that a request to this URI goes by: that of its first Route value, if there is one, else that of the URI (RFC
-/// 3261 section 16.6 steps 6 and 7).
-fn hop_by<A: Allocator + Clone>(route: FirstRoute, uri: &SipUri<A>) -> Option<Hop>
-    ensures { result ≡ hop_by route uri.now }
-{
-    match route {
-        FirstRoute::Absent => uri.next_hop(),
-        FirstRoute::NoHop => None,
-        FirstRoute::To(hop) => Some(hop),
-    }
 }
 
 /// The branch of an ACK that goes on.

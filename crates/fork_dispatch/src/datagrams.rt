@@ -1,18 +1,18 @@
 //! Datagrams that a proxy receives.
-ghost use Rattle.std.specs.Prelude.{◌≡◌, IfOk, Ok, Option};
+ghost use Rattle.std.specs.Prelude.{◌≡◌, IfOk, Ok, OnErr, Option};
 ghost use Rattle.sip_text.specs.Message.{read_at};
 ghost use Rattle.fork_parts.specs.Built as built;
 ghost use Rattle.sip_text.specs.Fault.{fault_seen};
 ghost use Rattle.sip_text.specs.Reading.{Short};
 ghost use Rattle.fork_dispatch.specs.Becomes.{Becomes, FaultBecomes, MessageBecomes, ToldBecomes};
-ghost use Rattle.fork_dispatch.specs.Sent.{seen_sent};
+ghost use Rattle.fork_dispatch.specs.Sent.{IsHanded, seen_sent};
 
 use crate::answers::answered;
 use crate::outcome::{Outcome, Received};
 use crate::purpose::{is_answered, purpose_of};
 use crate::requests::requested;
 use crate::responses::responded;
-use fork_call::{Call, Port, Setup};
+use fork_call::{Call, Datagram, Port, Setup};
 use fork_shelf::Shelf;
 use sip_build::OwnStatus;
 use sip_text::{Message, ReadFault, faults_are_of_the_text};
@@ -110,13 +110,23 @@ fn outcome_of<A: Allocator + Clone, R: Wait>(
     }
 }
 
+/// Hands what there is to send to the port.
+fn hand<A: Allocator, P: Port>(port: &mut P, sent: &Option<Datagram<A>>)
+    ensures { IsHanded P.sends port.old (seen_sent sent.now) port.new }
+{
+    if let Some(datagram) = sent {
+        port.send(datagram);
+    }
+}
+
 /// Handles a datagram that came from `source` at `now`, in milliseconds (RFC 3261 sections 16.2, 16.7, 16.11, 17.1.3, 17.2.3
 /// and 18): the call that it belongs to takes it, or it opens one, or it is answered, sent on or dropped without one. An answer
-/// or an ACK that cannot be sent is lost, as on the way. What a call then has to send is for `carry`.
+/// or an ACK that cannot be sent is lost, as on the way. Nothing else is handed to the port: what a call then has to send is for
+/// `carry`.
 ///
 /// # Errors
 ///
-/// Only where the allocator refuses; no call has changed then, and none was opened.
+/// Only where the allocator refuses; no call has changed then, none was opened, and nothing was sent.
 pub fn handle<A: Allocator + Clone, P: Port, R: Wait>(
     rt: &R,
     alloc: A,
@@ -127,7 +137,9 @@ pub fn handle<A: Allocator + Clone, P: Port, R: Wait>(
     now: u64,
     port: &mut P,
 ) -> Result<Handled, AllocError>
-    ensures { IfOk result (λ handled. (sent : Option built.Datagram) × Becomes setup.now packet.now source now handled sent) }
+    ensures became { IfOk result (λ handled.
+        (sent : Option built.Datagram) × Becomes setup.now packet.now source now handled sent × IsHanded P.sends port.old sent port.new) }
+    ensures err { OnErr result (port.new ≡ port.old) }
 {
     let received = Received {
         bytes: packet,
@@ -135,8 +147,6 @@ pub fn handle<A: Allocator + Clone, P: Port, R: Wait>(
         at: now,
     };
     let outcome = outcome_of(rt, alloc, shelf, setup, &received)?;
-    if let Some(datagram) = &outcome.datagram {
-        port.send(datagram);
-    }
+    hand(port, &outcome.datagram);
     Ok(outcome.handled)
 }

@@ -1,10 +1,11 @@
 //! What the program is asked for, `drive` among it.
-ghost use Rattle.std.specs.Prelude.{◌≡◌, IfOk, OnErr, map, string_bytes};
-ghost use Rattle.fork_drive.specs.Asked.{asked_for, AppendsAsked};
+ghost use Rattle.std.specs.Prelude.{◌≡◌, IfOk, IfErr, OnErr, map, string_bytes};
+ghost use Rattle.fork_drive.specs.Asked.{asked_for, AppendsAsked, IsAskedFault, IsAnswerFault, Writes};
 
 use crate::run::drive_text;
-use fork_program::{Command, ProgFault};
+use fork_program::{Command, Fault, ProgFault, read_input};
 use std::alloc::Global;
+use std::io::{Read, Write};
 use std::sync::Wait;
 use std::thread::Threads;
 
@@ -41,11 +42,37 @@ impl Asked {
         out: &mut Vec<u8>,
     ) -> Result<u8, ProgFault>
         ensures appended { IfOk result (AppendsAsked self text.now out.old.items out.new.items) }
+        ensures fault { IfErr result (IsAskedFault self text.now) }
         ensures err { OnErr result (out.new.items ≡ out.old.items) }
     {
         match self {
             Asked::Drive => drive_text(rt, alloc, text, out),
             Asked::Alone(command) => command.run(alloc, text, out),
+        }
+    }
+    /// Reads a text to its end, and writes what the program prints for it, which is found before anything is written. The
+    /// exit status is 0, or 4 where a check says no.
+    ///
+    /// # Errors
+    ///
+    /// In this order: `Read`, where the input cannot be read; `Text` with what [`Asked::run`] refuses; `Write`, where the
+    /// output takes not all. `Text` with want of memory anywhere before that.
+    pub fn answer<R: Threads + Wait + Sync, I: Read, O: Write>(
+        self,
+        rt: &R,
+        alloc: Global,
+        input: &mut I,
+        output: &mut O,
+    ) -> Result<u8, Fault>
+        ensures written { IfOk result (Writes self (I.remaining input.old) (O.contents output.old) (O.contents output.new)) }
+        ensures fault { IfErr result (IsAnswerFault self (I.remaining input.old)) }
+    {
+        let text = read_input(alloc, input)?;
+        let mut printed = Vec::new(alloc);
+        let status = self.run(rt, alloc, &text, &mut printed)?;
+        match output.write_all(&printed) {
+            Ok(()) => Ok(status),
+            Err(_) => Err(Fault::Write),
         }
     }
 }

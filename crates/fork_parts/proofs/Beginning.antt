@@ -1,8 +1,6 @@
-use Rattle.std.proofs.Common.{◌≡◌, ◌∙◌, ap, refl, List, [], ℕ, map, Option}
-use Rattle.fork_model.specs.Table.{Kind}
+use Rattle.std.proofs.Common.{◌≡◌, refl, List, [], ℕ, map, Option}
 use Rattle.fork_book.specs.Log.{Log, table_of}
 use Rattle.fork_parts.specs.Begun.{begun}
-use Rattle.fork_parts.specs.Call.{Call}
 use Rattle.fork_parts.specs.Fixed.{Fixed, Way, kind_of}
 use Rattle.fork_parts.specs.Leg.{Leg}
 use Rattle.fork_parts.specs.Posting.{no_leg}

@@ -1,11 +1,13 @@
 -- The caller's CANCEL is posted.
-use Rattle.std.proofs.Common.{◌≡◌, ◌∙◌, ℕ, zero, suc, ap, refl, sym, subst, true, false, Bool, List, [], ◌∷◌, ◌++◌, drop, length, Option, Some, None}
+use Rattle.std.proofs.Common.{◌≡◌, ◌∙◌, ℕ, ap, refl, sym, true, false, Bool, List, [], ◌∷◌, ◌++◌, drop, length, Option, None, append-nil}
 use Rattle.std.specs.Prelude.{◌&&◌, cond, map, not}
+use Rattle.std.proofs.Math.Seq.{drop-length}
 use Rattle.fork_model.specs.Table as table
 use Rattle.fork_model.specs.Event.{Cancel}
+use Rattle.fork_model.specs.OpenBranches.{FittingEventsAreTaken}
 use Rattle.fork_model.specs.Reply.{Reply}
 use Rattle.fork_model.specs.Step.{next}
-use Rattle.fork_book.specs.Log.{IsAdded, Log, added, table_of}
+use Rattle.fork_book.specs.Log.{IsAdded, Log, added, core_of, table_of}
 use Rattle.sip_text.specs.Text.{MessageText}
 use Rattle.sip_uri.specs.declared.hop.Hop.{Hop}
 use Rattle.fork_parts.specs.Call.{Call}
@@ -16,7 +18,6 @@ use Rattle.fork_parts.specs.Posting.{call_tag, gone_on, no_leg, owed_by, owes, r
 use Rattle.fork_parts.specs.Server.{Owed, CancelOk}
 use Rattle.fork_parts.specs.Sound.{IsSound}
 use Rattle.fork_parts.specs.Take.{CancelledBy, Posted, cancels, owes_cancel_ok}
-use Rattle.fork_parts.proofs.NotFull.{cancel_taken}
 
 -- an INVITE is one by its table, too
 pub kind_is : (call : Call) → IsSound call → table.is_invite (table_of call.log).kind ≡ fixed.is_invite call.fixed
@@ -26,17 +27,7 @@ kind_is call sound = ap table.is_invite sound.kind ∙ by (fixed.is_invite call.
     by true = refl
     by false = refl
 
-drop_all : (n : ℕ) (rows : List table.Row) → length rows ≡ n → drop n rows ≡ []
-drop_all zero [] e = refl
-drop_all zero (row ∷ rows) e = absurd cc
-drop_all (suc n) [] e = absurd cc
-drop_all (suc n) (row ∷ rows) e = drop_all n rows (let h : suc (length rows) ≡ suc n = e in cc)
-
-no_more : {X : Type 0} (xs : List X) → xs ++ [] ≡ xs
-no_more [] = refl
-no_more (x ∷ xs) = ap (λ (ys : List _). x ∷ ys) (no_more xs)
-
-pub cancel_posts : (call new : Call) (cancel : MessageText) (to : Hop) (reply : Reply) (log : Log) (at : ℕ)
+pub cancel_posts : FittingEventsAreTaken → (call new : Call) (cancel : MessageText) (to : Hop) (reply : Reply) (log : Log) (at : ℕ)
     → cancels call ≡ true
     → IsSound call
     → IsAdded call.log call_tag Cancel reply log
@@ -44,16 +35,17 @@ pub cancel_posts : (call new : Call) (cancel : MessageText) (to : Hop) (reply : 
     → at ≡ length call.log.history
     → new ≡ record call { log = log; server = record call.server { owed = (call.server.owed ++ CancelOk cancel to ∷ []) ++ owed_by reply.up None } }
     → CancelledBy call cancel to (Posted at) new
-cancel_posts call new cancel to reply log at closes sound is none at_is new_is =
+cancel_posts taken call new cancel to reply log at closes sound is none at_is new_is =
     let more = added call.log call_tag Cancel reply in
     let mid = owes_cancel_ok call cancel to in
     let same : length (table_of more).rows ≡ length (table_of call.log).rows =
     ap (λ (l : Log). length (table_of l).rows) (sym is.whole) ∙ ap (λ (t : table.Table). length t.rows) is.goes_on ∙ none in
-    let nothing : rows_more call.log more ≡ [] = drop_all (length (table_of call.log).rows) (table_of more).rows same in
+    let nothing : rows_more call.log more ≡ [] =
+    ap (λ (n : ℕ). drop n (table_of more).rows) (sym same) ∙ drop-length (table_of more).rows in
     let ways : call.ways ≡ call.ways ++ ways_of call.fixed [] (rows_more call.log more) =
-    sym (ap (λ (rs : List table.Row). call.ways ++ ways_of call.fixed [] rs) nothing ∙ no_more call.ways) in
+    sym (ap (λ (rs : List table.Row). call.ways ++ ways_of call.fixed [] rs) nothing ∙ append-nil call.ways) in
     let legs : call.legs ≡ call.legs ++ map no_leg (rows_more call.log more) =
-    sym (ap (λ (rs : List table.Row). call.legs ++ map no_leg rs) nothing ∙ no_more call.legs) in
+    sym (ap (λ (rs : List table.Row). call.legs ++ map no_leg rs) nothing ∙ append-nil call.legs) in
     let fits : (table.is_invite (table_of call.log).kind && not (table_of call.log).closed) ≡ true =
     ap (λ (b : Bool). b && not (table_of call.log).closed) (kind_is call sound) ∙ closes in
     let follows : new ≡ owes (gone_on mid [] more) (owed_by reply.up None) =
@@ -61,7 +53,7 @@ cancel_posts call new cancel to reply log at closes sound is none at_is new_is =
     ∙ ap (λ (l : Log). record mid { log = l; server = record mid.server { owed = mid.server.owed ++ owed_by reply.up None } }) is.whole
     ∙ ap (λ (ws : List Way). record mid { log = more; ways = ws; server = record mid.server { owed = mid.server.owed ++ owed_by reply.up None } }) ways
     ∙ ap (λ (ls : List (Option Leg)). record mid { log = more; ways = call.ways ++ ways_of call.fixed [] (rows_more call.log more); legs = ls; server = record mid.server { owed = mid.server.owed ++ owed_by reply.up None } }) legs in
-    (closes, reply, is.replied.position ∙ sym at_is, record { taken = cancel_taken call fits; reply_is = is.replied; follows = follows })
+    (closes, reply, is.replied.position ∙ sym at_is, record { taken = taken (core_of call.log) Cancel fits; reply_is = is.replied; follows = follows })
 
 pub owed_both : (first second third fourth ups more : List Owed) (okay : Owed) → second ≡ first → third ≡ second ++ okay ∷ [] → fourth ≡ third ++ ups → ups ≡ more → fourth ≡ (first ++ okay ∷ []) ++ more
 owed_both first second third fourth ups more okay a b d e =

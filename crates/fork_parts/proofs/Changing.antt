@@ -1,5 +1,4 @@
-use Rattle.std.proofs.Common.{◌≡◌, ◌∙◌, ℕ, ◌<◌, ap, refl, sym, subst, true, List, [], ◌++◌, map, length, Option, Some, None, slice_get}
-use Rattle.std.specs.Prelude.{is_some}
+use Rattle.std.proofs.Common.{◌≡◌, ◌∙◌, ℕ, ◌<◌, ap, sym, subst, List, [], ◌++◌, map, length, Option, Some, None, slice_get}
 use Rattle.fork_model.specs.Event.{Event}
 use Rattle.fork_model.specs.Reply.{Reply}
 use Rattle.fork_book.specs.Log.{added}
@@ -21,13 +20,6 @@ changed_part f call n leg there =
 
 pub leg_below : (call : Call) (n : ℕ) (leg : Leg) → leg_at call n ≡ Some leg → n < length call.legs
 leg_below call n leg there = get_below call.legs n leg (found_is (slice_get call.legs n) leg there)
-
-has_below_at : (legs : List (Option Leg)) (n : ℕ) (l : Option Leg) → found (slice_get legs n) ≡ l → is_some l ≡ true → n < length legs
-has_below_at legs n None e h = absurd cc
-has_below_at legs n (Some leg) e h = get_below legs n leg (found_is (slice_get legs n) leg e)
-
-pub has_below : (legs : List (Option Leg)) (n : ℕ) → is_some (found (slice_get legs n)) ≡ true → n < length legs
-has_below legs n h = has_below_at legs n (found (slice_get legs n)) refl h
 
 pub at_set : (call : Call) (n : ℕ) (leg new : Leg) → leg_at call n ≡ Some leg → leg_at (set_leg call n new) n ≡ Some new
 at_set call n leg new there = ap found (get_with call.legs n new (leg_below call n leg there))

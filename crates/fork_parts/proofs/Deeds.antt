@@ -17,7 +17,6 @@ use Rattle.fork_parts.specs.Datagrams.{ack_on, ack_owed}
 use Rattle.fork_parts.specs.Fixed.{Way}
 use Rattle.fork_parts.specs.Leg.{Cancelling, Leg, cancel_start}
 use Rattle.fork_parts.specs.LegInside.{cancel_on, cancelled, changed_leg, responded, with_client, without_ack}
-use Rattle.fork_parts.specs.PartsInside.{IsRequestAgain}
 use Rattle.fork_parts.specs.Plain.{PostsBare}
 use Rattle.fork_parts.specs.Posting.{Posts}
 use Rattle.fork_parts.specs.Pump.{Did, FiresTimerC, GivesUp, OnLeg, OnPart, Pumped, Send, SendsAck, SendsCancel, TicksCancel, TicksClient, TicksClientBy, is_request, is_timeout, sent_if, stopped, ticked}

@@ -1,11 +1,16 @@
 -- Timer C fires: its branch was sent to, and it is an INVITE.
-use Rattle.std.proofs.Common.{◌≡◌, ℕ, ap, refl, true, Bool, Option, Some, None}
+use Rattle.std.proofs.Common.{◌≡◌, ℕ, ap, refl, true, false, Option, Some, None, slice_get}
 use Rattle.std.specs.Prelude.{is_some}
-use Rattle.std.proofs.lemmas.Bool.{and_parts}
+use Rattle.std.proofs.lemmas.Bool.{and_from, and_parts}
+use Rattle.fork_model.specs.Event.{TimerC}
+use Rattle.fork_model.specs.OpenBranches.{fits, is_pending}
+use Rattle.fork_model.specs.Table.{Ended, Idle, Row, Rung, State, Trying, is_invite, is_row}
+use Rattle.fork_book.specs.Log.{table_of}
 use Rattle.sip_txn.specs.Timers.{is_due}
-use Rattle.fork_parts.specs.Call.{Call, is_sent, leg_at, row_passes, runs_timer_c}
+use Rattle.fork_parts.specs.Call.{Call, is_sent, leg_at, row_passes, rows_of, runs_timer_c}
 use Rattle.fork_parts.specs.Due.{FireTimerC, is_due_at, timer_c_at}
 use Rattle.fork_parts.specs.Leg.{Leg}
+use Rattle.fork_parts.specs.Sound.{IsSound}
 
 some_of : (now : ℕ) (at : Option ℕ) → is_due now at ≡ true → is_some at ≡ true
 some_of now None e = absurd cc
@@ -16,7 +21,7 @@ part_of : (call : Call) (n now : ℕ) (o : Option Leg) → leg_at call n ≡ o �
 part_of call n now None h e = absurd cc
 part_of call n now (Some leg) h e = (leg, h, some_of now leg.timer_c_at e)
 
-pub fired_of : (call : Call) (n now : ℕ) → is_due_at call now (FireTimerC n) ≡ true
+fired_of : (call : Call) (n now : ℕ) → is_due_at call now (FireTimerC n) ≡ true
     → (row_passes runs_timer_c call n ≡ true) × (leg : Leg) × (leg_at call n ≡ Some leg) × (is_some leg.timer_c_at ≡ true)
 fired_of call n now e =
     let both = and_parts (row_passes runs_timer_c call n) (is_due now (timer_c_at (leg_at call n))) e in
@@ -25,3 +30,21 @@ fired_of call n now e =
 
 pub fired_is_sent : (call : Call) (n now : ℕ) → is_due_at call now (FireTimerC n) ≡ true → is_sent call n ≡ true
 fired_is_sent call n now e = let f = fired_of call n now e in ap is_some f.2
+
+-- timer C runs where the branch is open and has no CANCEL
+pending : (state : State) → runs_timer_c state ≡ true → is_pending state ≡ true
+pending Idle e = absurd cc
+pending Trying e = refl
+pending (Rung true) e = absurd cc
+pending (Rung false) e = refl
+pending (Ended end) e = absurd cc
+
+pending_row : (row : Option Row) → is_row runs_timer_c row ≡ true → is_row is_pending row ≡ true
+pending_row None e = absurd cc
+pending_row (Some row) e = pending row.state e
+
+pub fired_fits : (call : Call) (n now : ℕ) → is_due_at call now (FireTimerC n) ≡ true → IsSound call → fits (table_of call.log) (TimerC n) ≡ true
+fired_fits call n now e sound =
+    let f = fired_of call n now e in
+    and_from (is_invite (table_of call.log).kind) (is_row is_pending (slice_get (rows_of call) n))
+    ((sound.legs n f.1 f.2).timer_c f.3) (pending_row (slice_get (rows_of call) n) f.0)

@@ -37,15 +37,12 @@ at_more [] (row ∷ rows) (suc m) l e = at_more [] rows m l e
 at_more (x ∷ legs) rows zero l e = e
 at_more (x ∷ legs) rows (suc m) l e = at_more legs rows m l e
 
-way_more : (ways more : List Way) (m : ℕ) (way : Way) → slice_get ways m ≡ Some way → slice_get (ways ++ more) m ≡ Some way
+pub way_more : (ways more : List Way) (m : ℕ) (way : Way) → slice_get ways m ≡ Some way → slice_get (ways ++ more) m ≡ Some way
 way_more [] more m way e = absurd cc
 way_more (w ∷ ways) more zero way e = e
 way_more (w ∷ ways) more (suc m) way e = way_more ways more m way e
 
 -- ---- the whole
-
-pub BuiltAt : Call → ℕ → Leg → Type 0
-BuiltAt call n leg = (way : Way) × (slice_get call.ways n ≡ Some way) × IsBuiltLeg call n way leg
 
 pub built_leg : (call : Call) (n : ℕ) (leg : Leg) → IsBuilt call → (way : Way) → slice_get call.ways n ≡ Some way → IsBuiltLeg call n way leg → IsBuilt (set_leg call n leg)
 built_leg call n leg built way goes is = record { legs = λ m l e. one m l (at_with call.legs n m leg l e) }

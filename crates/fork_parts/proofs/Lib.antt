@@ -1,7 +1,5 @@
 pub mod LegLists
 pub mod Sends
-pub mod NoRows
-pub mod NotFull
 pub mod Waiting
 pub mod SoundTables
 pub mod Failing
@@ -15,6 +13,8 @@ pub mod Responding
 pub mod RightDatagrams
 pub mod KeptBuilt
 pub mod StepsBuilt
+pub mod Repeated
+pub mod Behind
 pub mod StateRows
 pub mod Paying
 pub mod Deeds

@@ -1,6 +1,7 @@
 -- A response that is posted, with the rows that it adds.
-use Rattle.std.proofs.Common.{◌≡◌, ◌∙◌, ℕ, ◌+◌, ◌-◌, ◌≤◌, ap, refl, sym, suc, arith, false, List, [], ◌∷◌, ◌++◌, drop, map, length, length-append, length-drop, Option}
+use Rattle.std.proofs.Common.{◌≡◌, ◌∙◌, ℕ, ◌+◌, ◌-◌, ◌≤◌, ap, sym, arith, false, List, ◌++◌, drop, map, length, length-append, length-drop, Option}
 use Rattle.std.specs.Prelude.{filter_map}
+use Rattle.std.proofs.lemmas.List.{length-map}
 use Rattle.fork_model.specs.Core.{is_full}
 use Rattle.fork_model.specs.Event.{Event}
 use Rattle.fork_model.specs.Reply.{Reply}
@@ -16,10 +17,6 @@ use Rattle.fork_parts.specs.PartsInside.{IsSized}
 use Rattle.fork_parts.specs.Posting.{call_tag, gone_on, no_leg, owed_by, owes, rows_more, way_of_contact, ways_of}
 use Rattle.fork_parts.specs.Server.{Owed}
 use Rattle.fork_parts.proofs.NewWays.{each_goes, ways_are}
-
-length_mapped : (f : Row → Option Leg) (rows : List Row) → length (map f rows) ≡ length rows
-length_mapped f [] = refl
-length_mapped f (row ∷ rows) = ap suc (length_mapped f rows)
 
 -- each row has its way and room for its part, those that were added too
 pub sized_more : (old new : Log) (ways all_ways : List Way) (legs all_legs : List (Option Leg)) (made : List (Option Way)) (first : ℕ)
@@ -37,7 +34,7 @@ sized_more old new ways all_ways legs all_legs made first sized first_is le have
     let old_ways : length ways ≡ length (table_of old).rows = sized.each_way in
     let old_legs : length legs ≡ length (table_of old).rows = sized.each_leg in
     let new_ways : length (filter_map (way_for made) more) ≡ length more = each_goes made more have.each in
-    let new_legs : length (map no_leg more) ≡ length more = length_mapped no_leg more in
+    let new_legs : length (map no_leg more) ≡ length more = length-map more no_leg in
     let sum_ways : length (ways ++ filter_map (way_for made) more) ≡ length ways + length (filter_map (way_for made) more) = length-append ways (filter_map (way_for made) more) in
     let sum_legs : length (legs ++ map no_leg more) ≡ length legs + length (map no_leg more) = length-append legs (map no_leg more) in
     let same_ways : length all_ways ≡ length (ways ++ filter_map (way_for made) more) = ap (λ (ws : List Way). length ws) ways_is in

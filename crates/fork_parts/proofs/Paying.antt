@@ -1,5 +1,5 @@
 -- The first answer that is owed, as it is sent.
-use Rattle.std.proofs.Common.{◌≡◌, ◌∙◌, ℕ, zero, suc, ap, refl, sym, subst, true, false, Bool, List, [], ◌∷◌, ◌++◌, map, drop, filter, Option, Some, None, option_map, slice_get}
+use Rattle.std.proofs.Common.{◌≡◌, ◌∙◌, ℕ, ap, refl, sym, subst, true, false, Bool, List, [], ◌∷◌, map, drop, filter, Option, Some, None, option_map, slice_get}
 use Rattle.std.specs.Prelude.{◌&&◌, ◌==◌, Result, Ok, Err, IfOk, cond, length, nat_lt}
 use Rattle.std.specs.List.{cons_option, filter_map, flat_map, list_all}
 use Rattle.std.specs.Option.{option_and_then}
@@ -7,26 +7,23 @@ use Rattle.std.proofs.lemmas.Bool.{and_from, and_parts, cond-true}
 use Rattle.std.proofs.lemmas.List.Folds.{list_all-append}
 use Rattle.fork_model.specs.Challenges.{added_to, asks_credentials, by_arrival, challenge_list, other_askers, stored_beside, with_arrival}
 use Rattle.fork_model.specs.Groups.{numbers_below}
-use Rattle.fork_model.specs.Choice.{Best, Choice, stored_at}
-use Rattle.fork_model.specs.Table.{Challenge, End, Stored, Taken, Silent, Never, Accepted, Offer, Row, State, Idle, Trying, Rung, Ended, StoredAnswer, Table, stored_end, stored_of}
+use Rattle.fork_model.specs.Choice.{Best, stored_at}
+use Rattle.fork_model.specs.Table.{Challenge, Offer, Row, StoredAnswer, Table, stored_of}
 use Rattle.fork_context.specs.LeftView.{left_of, left_of_answer}
-use Rattle.fork_book.specs.Log.{table_of}
 use Rattle.sip_text.specs.Message.{is_value}
-use Rattle.sip_text.specs.Text.{MessageText, spelling}
+use Rattle.sip_text.specs.Text.{MessageText}
 use Rattle.sip_build.specs.declared.responses.OwnStatus.TheVariants as own
 use Rattle.sip_build.specs.Upward.{is_challenge, upward_of}
 use Rattle.fork_parts.specs.AnswersInside.{IsPaid, IsText}
-use Rattle.fork_parts.specs.Built.{answer_in, best_of, final_of, generated, kept_at, kept_of, status_of, text_of, was_received}
+use Rattle.fork_parts.specs.Built.{answer_in, best_of, final_of, generated, kept_at, kept_of, text_of, was_received}
 use Rattle.fork_parts.specs.Call.{Call, leg_at, rows_of}
 use Rattle.fork_parts.specs.Leg.{Leg}
-use Rattle.fork_parts.specs.Pump.{AnswersWith, Pumped, Send, SendsAnswer}
-use Rattle.fork_parts.specs.SeenDatagram.{seen}
+use Rattle.fork_parts.specs.Pump.{AnswersWith, Pumped, SendsAnswer}
 use Rattle.fork_parts.specs.Server as server
 use Rattle.fork_parts.specs.Server.{Owed}
 use Rattle.fork_parts.specs.Sound.{IsForward, IsSound, StoresValues, is_text}
 use Rattle.fork_parts.specs.declared.answers.Payment.{Payment}
 use Rattle.fork_parts.specs.declared.answers.Payment.TheVariants as payment
-use Rattle.fork_parts.specs.declared.datagram.Datagram.{Datagram}
 use Rattle.fork_parts.proofs.RightDatagrams.{some_as}
 
 -- ---- the response that a branch keeps may go up
@@ -152,15 +149,6 @@ left_pass t n left values e = by_row (slice_get t.rows n) refl e
 -- ---- what is sent
 
 module _ {A : Type 0} where
-  pub paid_sent : (call new : Call) (now : ℕ) (owed : List Owed) (d : Datagram A) → IsPaid call owed (payment.Sent d) → new ≡ record call { server = record call.server { owed = drop 1 owed } }
-      → SendsAnswer call now owed (Send (seen d)) new
-  paid_sent call new now [] d paid e = absurd paid
-  paid_sent call new now (server.Again ∷ rest) d paid e = (ap Send paid, e)
-  paid_sent call new now (server.CancelOk cancel to ∷ rest) d paid e = (ap Send paid, e)
-  paid_sent call new now (server.Trying ∷ rest) d paid e = absurd paid
-  paid_sent call new now (server.Passed m ∷ rest) d paid e = absurd paid
-  paid_sent call new now (server.Final choice ∷ rest) d paid e = absurd paid
-
   abbrev pub IsAnswer : Payment A → Type 0
   IsAnswer (payment.Sent d) = ⊥
   IsAnswer (payment.Answer status text) = Unit {0}

@@ -1,12 +1,10 @@
 -- A call begins sound.
-use Rattle.std.proofs.Common.{◌≡◌, ℕ, ap, refl, subst, true, List, [], Option, Some, None, slice_get}
-use Rattle.fork_model.specs.Event.{Event}
+use Rattle.std.proofs.Common.{◌≡◌, ℕ, refl, List, [], Some, None}
 use Rattle.fork_model.specs.History.{Target}
 use Rattle.fork_model.specs.Sources.{HasStored, StoredAnswersCame}
 use Rattle.fork_model.specs.Table.{Kind, Invite, Other, Rules, StoredAnswer}
 use Rattle.fork_book.specs.Log.{opening_log, table_of}
-use Rattle.fork_parts.specs.Begun.{begun}
-use Rattle.fork_parts.specs.Fixed.{Fixed, Way, kind_of}
+use Rattle.fork_parts.specs.Fixed.{kind_of}
 use Rattle.fork_parts.specs.Server.{first_owed}
 use Rattle.fork_parts.specs.Sound.{BegunIsSound, IsSoundOwed}
 use Rattle.fork_parts.proofs.KeptBuilt.{at_more}

@@ -1,6 +1,6 @@
 -- Each step of a call keeps it sound.
-use Rattle.std.proofs.Common.{◌≡◌, ◌∙◌, ◌⊎◌, ℕ, zero, suc, ap, refl, sym, subst, inl, inr, true, false, Bool, List, [], ◌∷◌, ◌++◌, map, length, Option, Some, None, slice_get}
-use Rattle.std.specs.Prelude.{◌&&◌, cond, nat_lt, is_some, IfSome}
+use Rattle.std.proofs.Common.{◌≡◌, ◌∙◌, ◌⊎◌, ℕ, zero, suc, ap, refl, sym, subst, inl, inr, true, false, Bool, List, [], ◌∷◌, ◌++◌, length, Option, Some, None, slice_get}
+use Rattle.std.specs.Prelude.{cond, nat_lt, is_some, IfSome}
 use Rattle.std.specs.List.{AllByRecursion, list_all}
 use Rattle.std.proofs.lemmas.Bool.{and_parts, cond-false, cond-true}
 use Rattle.fork_model.specs.Event as fork
@@ -19,7 +19,6 @@ use Rattle.sip_text.specs.Name.{values_of}
 use Rattle.sip_text.specs.Text.{MessageText}
 use Rattle.sip_txn.specs.declared.event.TxEvent.{TxEvent}
 use Rattle.sip_txn.specs.declared.event.TxEvent.TheVariants as event
-use Rattle.sip_txn.specs.Timers.{later}
 use Rattle.sip_uri.specs.Contact.{ContactText}
 use Rattle.sip_uri.specs.declared.hop.Hop.{Hop}
 use Rattle.sip_build.specs.Upward.{is_challenge}
@@ -30,9 +29,9 @@ use Rattle.fork_parts.specs.Call.{Call, leg_at, owes_request, row_passes, set_le
 use Rattle.fork_parts.specs.Client.{Client, client_after, client_out}
 use Rattle.fork_parts.specs.Due.{Deed, SendRequest, SendCancel, SendAck, SendAnswer, TickServer, TickClient, TickCancel, FireTimerC, GiveUp, is_due_at}
 use Rattle.fork_parts.specs.Failed.{Fails, FaultsBy, FaultsClient, cancel_faulted, faulted, faulted_cancel, is_fault}
-use Rattle.fork_parts.specs.Fixed.{Fixed, Way, kind_of}
+use Rattle.fork_parts.specs.Fixed.{Way, kind_of}
 use Rattle.fork_parts.specs.Leg.{Cancelling, Leg, leg_start, timer_c_from}
-use Rattle.fork_parts.specs.Posting.{Posts, call_tag, gone_on, owed_by, owes}
+use Rattle.fork_parts.specs.Posting.{Posts, call_tag, owed_by}
 use Rattle.fork_parts.specs.Pump.{AnswersBy, AnswersWith, Did, Does, FiresTimerC, Idle, Pumped, Pumps, Send, SendsAnswer, TicksClientBy, is_timeout, stopped, ticked}
 use Rattle.fork_parts.specs.Response.{contacts_by, event_by}
 use Rattle.fork_parts.specs.Server.{Again, CancelOk, Final, Owed, Passed, Server, Trying}
@@ -40,7 +39,6 @@ use Rattle.fork_parts.specs.Sound.{IsForward, IsGiven, IsGivenTo, IsSound, IsSou
 use Rattle.fork_parts.specs.Step as step
 use Rattle.fork_parts.specs.Take as to
 use Rattle.fork_parts.specs.Take.{Absorbed, Full, Posted, Responds, Taken, TakesAs, answer_kept, going_up, leg_after, leg_posted, response_event, timer_c_again}
-use Rattle.fork_parts.proofs.Cancels.{kind_is}
 use Rattle.fork_parts.proofs.KeptBuilt.{at_more}
 use Rattle.fork_parts.proofs.SoundTables.{IsOpenAt, all_more, owed_sound, ring_stays, table_added, timer_c_stays}
 use Rattle.fork_parts.proofs.SoundValues.{event_values}

@@ -1,16 +1,16 @@
 -- What an event leaves sound of a call's table, and of what rests on it.
-use Rattle.std.proofs.Common.{◌≡◌, ◌∙◌, ◌+◌, ◌⊎◌, ℕ, zero, suc, ap, refl, sym, subst, arith, inl, inr, true, false, Bool, List, [], ◌∷◌, ◌++◌, map, length, Option, Some, None, slice_get}
+use Rattle.std.proofs.Common.{◌≡◌, ◌∙◌, ◌+◌, ℕ, zero, suc, ap, refl, sym, subst, arith, true, false, Bool, List, [], ◌∷◌, ◌++◌, map, length, Option, Some, None, slice_get}
 use Rattle.std.specs.Prelude.{◌&&◌, not, cond, unwrap_or, IfSome}
 use Rattle.std.specs.List.{AllByRecursion}
 use Rattle.std.specs.Option.{option_map}
 use Rattle.std.proofs.lemmas.Bool.{and_from, and_parts}
 use Rattle.fork_model.specs.Table.{Kind, Row, State, Idle, Trying, Rung, Ended, Table, is_finished, is_invite, is_open, is_row, is_succeeded, is_trying}
-use Rattle.fork_model.specs.Event.{Event, Ring, TimerC, Cancel}
+use Rattle.fork_model.specs.Event.{Event, Ring, TimerC}
 use Rattle.fork_model.specs.ExactlyOne.{RowsStay}
 use Rattle.fork_model.specs.History.{after}
 use Rattle.fork_model.specs.Reply.{Up, Nothing, Provisional, Success, Final, Reply, IsReply, IsUp, finishes}
-use Rattle.fork_model.specs.Choice.{Choice, Best, Only503, NoAnswer408, IsChoice}
-use Rattle.fork_model.specs.Step.{Effect, change_at, closed_state, effect, next, settled, settled_row, settled_state, with_effect, with_state}
+use Rattle.fork_model.specs.Choice.{Choice, IsChoice}
+use Rattle.fork_model.specs.Step.{Effect, change_at, closed_state, effect, next, settled, settled_row, with_effect, with_state}
 use Rattle.fork_model.specs.Waiting.{may_start}
 use Rattle.fork_model.specs.Steps.{RowsKeepTheirNumbers}
 use Rattle.fork_context.specs.Chosen.{IsChosen, is_due}

@@ -1,5 +1,5 @@
 -- The contacts and the challenges of a message are values that a header line may have.
-use Rattle.std.proofs.Common.{◌≡◌, ◌∙◌, ℕ, ap, refl, sym, subst, true, false, Bool, List, [], ◌∷◌, ◌++◌, map, eqb, Option, None, Some}
+use Rattle.std.proofs.Common.{◌≡◌, ◌∙◌, ℕ, ap, refl, subst, true, false, Bool, List, [], ◌∷◌, map, eqb, Option, None, Some}
 use Rattle.std.specs.Prelude.{◌&&◌, cond, nat_lt, ◌||◌, ◌==◌, Result, Ok, Err, codes}
 use Rattle.std.specs.List.{flat_map, list_all, onto_first}
 use Rattle.std.proofs.lemmas.Bool.{and_from, and_parts, cond_both}
@@ -16,8 +16,7 @@ use Rattle.sip_lex.specs.declared.sheltered.Shelter.TheVariants.{QuotesAndAngles
 use Rattle.sip_text.specs.Message.{IsMessage, is_header, is_line, is_line_byte, is_trimmed, is_value}
 use Rattle.sip_text.specs.Name.{same_name, values_of}
 use Rattle.sip_text.specs.Text.{HeaderText, MessageText}
-use Rattle.sip_uri.specs.Contact.{ContactText, Form, are_items, contact_of, contact_of_form, contact_params, contacts_of, form_of, is_contact_param, items_behind, q_of, takeable}
-use Rattle.sip_uri.specs.Reading.{read_uri}
+use Rattle.sip_uri.specs.Contact.{ContactText, Form, are_items, contact_of, contact_of_form, contact_params, contacts_of, form_of, is_contact_param, items_behind}
 use Rattle.sip_uri.specs.declared.fault.UriFault.{UriFault}
 use Rattle.sip_uri.specs.declared.fault.UriFault.TheVariants.{BadText}
 use Rattle.sip_via.proofs.laws.TrimmedValues.{trim-value}

@@ -5,7 +5,6 @@ use Rattle.std.proofs.lemmas.Bool.{and_parts}
 use Rattle.sip_txn.specs.declared.event.TxEvent.{TxEvent}
 use Rattle.sip_txn.specs.declared.event.TxEvent.TheVariants as event
 use Rattle.sip_txn.specs.declared.event.TxPass.{TxPass}
-use Rattle.sip_txn.specs.declared.event.TxPass.TheVariants as pass
 use Rattle.sip_txn.specs.declared.timers.Input.{Input}
 use Rattle.sip_txn.specs.declared.timers.Input.TheVariants as input
 use Rattle.sip_txn.specs.declared.machine.Row.{Row}
@@ -14,7 +13,7 @@ use Rattle.sip_txn.specs.declared.invite_client.InviteClientState.{InviteClientS
 use Rattle.sip_txn.specs.declared.invite_client.InviteClientState.TheVariants as invite
 use Rattle.sip_txn.specs.declared.other_client.OtherClientState.{OtherClientState}
 use Rattle.sip_txn.specs.declared.other_client.OtherClientState.TheVariants as other
-use Rattle.sip_txn.specs.Machine.{Table, row_machine, row_out}
+use Rattle.sip_txn.specs.Machine.{row_machine, row_out}
 use Rattle.sip_txn.specs.Timers.{input_of}
 use Rattle.sip_txn.specs.InviteClient.{invite_client}
 use Rattle.sip_txn.specs.OtherClient.{other_client}

@@ -1,5 +1,5 @@
 -- What the first answer that is owed becomes, in memory.
-use Rattle.std.specs.Prelude.{◌≡◌, ℕ, List, [], ◌∷◌, Option, Some, None}
+use Rattle.std.specs.Prelude.{◌≡◌, List, [], ◌∷◌, Option, Some, None}
 use Rattle.sip_text.specs.Text.{MessageText, spelling}
 use Rattle.sip_uri.specs.declared.hop.Hop.{Hop}
 use Rattle.sip_build.specs.declared.responses.OwnStatus.TheVariants.{Okay}
@@ -11,7 +11,7 @@ use Rattle.fork_parts.specs.Built.{answer_of, status_of}
 use Rattle.fork_parts.specs.Call.{Call}
 use Rattle.fork_parts.specs.PartsInside.{answer_to}
 use Rattle.fork_parts.specs.SeenDatagram.{seen}
-use Rattle.fork_parts.specs.Server.{Owed, Again, CancelOk, Trying, Passed, Final}
+use Rattle.fork_parts.specs.Server.{Owed, Again, CancelOk}
 
 -- the answer m, by its status and its text
 abbrev pub IsText : {A : Type 0} → MessageText → Payment A → Type 0

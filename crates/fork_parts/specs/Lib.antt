@@ -14,7 +14,9 @@ pub mod Pump
 pub mod Failed
 pub mod Step
 pub mod Datagrams
+pub mod Again
 pub mod Sound
+pub mod Behind
 pub mod Views
 pub mod SeenDatagram
 pub mod SeenTaken

@@ -18,13 +18,13 @@ ghost use Rattle.fork_parts.specs.Sound.{IsSound};
 
 use crate::cause::Cause;
 use crate::datagram::Datagram;
-use crate::fixed::{Fixed, spelled};
+use crate::fixed::Fixed;
 use crate::owed::OwedAnswer;
 use crate::parts::Parts;
 use crate::states::shows_received;
 use crate::step::Step;
 use fork_context::{Challenge, Choice, Offer};
-use sip_build::{OwnStatus, generated, upward};
+use sip_build::{OwnStatus, write_generated, write_upward};
 use sip_text::{Message, Start};
 use sip_uri::Hop;
 use std::alloc::{AllocError, Allocator};
@@ -47,29 +47,21 @@ fn status_of<A: Allocator>(message: &Message<A>) -> u16
     }
 }
 
-/// A message as an answer.
-fn answer_of<A: Allocator>(alloc: A, message: &Message<A>) -> Result<Payment<A>, AllocError>
-    ensures { IfOk result (IsText message.now) }
-{
-    Ok(Payment::Answer(status_of(message), spelled(alloc, message)?))
-}
-
 /// The proxy's own answer of this status.
-fn own_answer<A: Allocator + Clone>(
+fn own_answer<A: Allocator>(
     alloc: A,
     fixed: &Fixed<A>,
     status: OwnStatus,
 ) -> Result<Payment<A>, AllocError>
     ensures { IfOk result (IsText (generated fixed.now status)) }
 {
-    match generated(alloc.clone()?, fixed.request(), status) {
-        Ok(made) => answer_of(alloc, &made),
-        Err(_) => Err(AllocError),
-    }
+    let mut text = Vec::new(alloc);
+    write_generated(fixed.request(), status, &mut text)?;
+    Ok(Payment::Answer(status.code(), text))
 }
 
 /// A response as it goes up.
-fn upward_answer<'a, A: Allocator + Clone>(
+fn upward_answer<'a, A: Allocator>(
     alloc: A,
     response: &Message<A>,
     kept: Option<&'a [&'a [u8]]>,
@@ -80,8 +72,9 @@ fn upward_answer<'a, A: Allocator + Clone>(
     requires challenges { list_all is_challenge challenges.now ≡ true }
     ensures { IfOk result (IsText (upward_of response.now (seen_kept kept.entry) challenges.now)) }
 {
-    match upward(alloc.clone()?, response, kept, challenges) {
-        Ok(made) => answer_of(alloc, &made),
+    let mut text = Vec::new(alloc);
+    match write_upward(response, kept, challenges, &mut text) {
+        Ok(()) => Ok(Payment::Answer(status_of(response), text)),
         Err(_) => Err(AllocError),
     }
 }
@@ -99,21 +92,16 @@ fn passed_answer<A: Allocator + Clone>(
 }
 
 /// The 200 to a CANCEL.
-fn cancel_ok<A: Allocator + Clone>(
-    alloc: A,
-    cancel: &Message<A>,
-    to: Hop,
-) -> Result<Payment<A>, AllocError>
+fn cancel_ok<A: Allocator>(alloc: A, cancel: &Message<A>, to: Hop) -> Result<Payment<A>, AllocError>
     ensures { IfOk result (IsPaidOk cancel.now to) }
 {
-    match generated(alloc.clone()?, cancel, OwnStatus::Okay) {
-        Ok(made) => Ok(Payment::Sent(Datagram {
-            to,
-            bytes: spelled(alloc, &made)?,
-            cause: Cause::CancelOk,
-        })),
-        Err(_) => Err(AllocError),
-    }
+    let mut bytes = Vec::new(alloc);
+    write_generated(cancel, OwnStatus::Okay, &mut bytes)?;
+    Ok(Payment::Sent(Datagram {
+        to,
+        bytes,
+        cause: Cause::CancelOk,
+    }))
 }
 
 /// The texts of these contacts.
@@ -123,7 +111,7 @@ fn texts_of<'a, A: Allocator>(
 ) -> Result<Vec<&'a [u8], A>, AllocError>
     ensures { IfOk result (λ made. texts made.items ≡ map text_of offers.now) }
 {
-    let mut made = Vec::new(alloc);
+    let mut made = Vec::with_capacity(alloc, offers.len())?;
     for offer in offers {
         made.push(offer.text())?;
     }

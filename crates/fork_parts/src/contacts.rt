@@ -32,7 +32,7 @@ pub(crate) struct Offered<A: Allocator> {
 fn unread<A: Allocator + Clone>(alloc: &A, value: &[u8]) -> Result<Vec<Contact<A>, A>, AllocError>
     ensures { IfOk result (λ cs. view_contacts cs.items ≡ record { text = value.now; q = 1000; uri = None } ∷ []) }
 {
-    let mut contacts = Vec::new(alloc.clone()?);
+    let mut contacts = Vec::with_capacity(alloc.clone()?, 1)?;
     contacts.push(Contact {
         text: Vec::from_slice(alloc.clone()?, value)?,
         q: FULL_WEIGHT,
@@ -171,8 +171,8 @@ fn offers_of<A: Allocator + Clone>(
     ensures ways { IfOk result (λ o. o.ways.items ≡ map (way_of_contact fixed.now) (view_contacts contacts.items)) }
 {
     let mut made = Offered {
-        offers: Vec::new(alloc.clone()?),
-        ways: Vec::new(alloc.clone()?),
+        offers: Vec::with_capacity(alloc.clone()?, contacts.len())?,
+        ways: Vec::with_capacity(alloc.clone()?, contacts.len())?,
     };
     for contact in contacts {
         made.push(alloc, fixed, contact)?;

@@ -13,7 +13,7 @@ ghost use Rattle.fork_parts.specs.LegInside.{ack_made};
 
 use crate::way::Way;
 use fork_context::Kind;
-use sip_build::{ack_of, cancel_of, forward};
+use sip_build::{write_forwarded, write_forwarded_ack, write_forwarded_cancel};
 use sip_route::loop_key;
 use sip_text::{Message, Start};
 use sip_txn::TxSend;
@@ -45,18 +45,6 @@ impl<A: Allocator> Model for Fixed<A> {
     ghost view = { λ f. record { number = f.number; own = f.own; instance = f.instance; request = f.request; caller = f.caller; route = f.route } };
 
     ghost invariant = { λ f. IsFixed (record { number = f.number; own = f.own; instance = f.instance; request = f.request; caller = f.caller; route = f.route }) f.key f.invite };
-}
-
-/// The text that a message is sent as.
-pub(crate) fn spelled<A: Allocator>(
-    alloc: A,
-    message: &Message<A>,
-) -> Result<Vec<u8, A>, AllocError>
-    ensures { IfOk result (λ bytes. bytes.items ≡ spelling message.now) }
-{
-    let mut bytes = Vec::new(alloc);
-    message.write(&mut bytes)?;
-    Ok(bytes)
 }
 
 /// Whether a request is an INVITE.
@@ -163,28 +151,10 @@ impl<A: Allocator> Fixed<A> {
             target: n,
         }
     }
-
-    /// Shows that what is sent to a target is a request.
-    fn request_goes(&self, way: &Way<A>, n: u16)
-        ensures { is_request (request_to self.now way.now n).start ≡ true }
-    {
-        let _invite = &self.invite;
-    }
 }
 
 impl<A: Allocator + Clone> Fixed<A> {
-    /// The request as it goes to target n (RFC 3261 section 16.6).
-    fn request_to(&self, alloc: A, way: &Way<A>, n: u16) -> Result<Message<A>, AllocError>
-        ensures { IfOk result (λ made. made ≡ request_to self.now way.now n) }
-    {
-        let branch = self.branch(n);
-        match forward(alloc, &self.request, way.uri(), self.own, &branch) {
-            Ok(made) => Ok(made),
-            Err(_) => Err(AllocError),
-        }
-    }
-
-    /// The datagram that it is sent as.
+    /// The request as it is sent to target n (RFC 3261 section 16.6).
     pub(crate) fn request_bytes(
         &self,
         alloc: &A,
@@ -193,29 +163,13 @@ impl<A: Allocator + Clone> Fixed<A> {
     ) -> Result<Vec<u8, A>, AllocError>
         ensures { IfOk result (λ bytes. bytes.items ≡ spelling (request_to self.now way.now n)) }
     {
-        let made = self.request_to(alloc.clone()?, way, n)?;
-        spelled(alloc.clone()?, &made)
+        let branch = self.branch(n);
+        let mut bytes = Vec::new(alloc.clone()?);
+        write_forwarded(&self.request, way.uri(), self.own, &branch, &mut bytes)?;
+        Ok(bytes)
     }
 
-    /// The ACK for a failure of branch n (RFC 3261 section 17.1.1.3).
-    fn ack_to(
-        &self,
-        alloc: &A,
-        way: &Way<A>,
-        n: u16,
-        response: &Message<A>,
-    ) -> Result<Message<A>, AllocError>
-        ensures { IfOk result (λ made. made ≡ ack_to self.now way.now n response.now) }
-    {
-        let sent = self.request_to(alloc.clone()?, way, n)?;
-        self.request_goes(way, n);
-        match ack_of(alloc.clone()?, &sent, response) {
-            Ok(ack) => Ok(ack),
-            Err(_) => Err(AllocError),
-        }
-    }
-
-    /// The datagram that it is sent as.
+    /// The ACK for a failure of branch n, as it is sent (RFC 3261 section 17.1.1.3).
     pub(crate) fn ack_bytes(
         &self,
         alloc: &A,
@@ -225,8 +179,11 @@ impl<A: Allocator + Clone> Fixed<A> {
     ) -> Result<Vec<u8, A>, AllocError>
         ensures { IfOk result (λ bytes. bytes.items ≡ spelling (ack_to self.now way.now n response.now)) }
     {
-        let made = self.ack_to(alloc, way, n, response)?;
-        spelled(alloc.clone()?, &made)
+        let branch = self.branch(n);
+        let mut bytes = Vec::new(alloc.clone()?);
+        let request = &self.request;
+        write_forwarded_ack(request, way.uri(), self.own, &branch, response, &mut bytes)?;
+        Ok(bytes)
     }
 
     /// The same where the transaction asks for it.
@@ -246,19 +203,7 @@ impl<A: Allocator + Clone> Fixed<A> {
         }
     }
 
-    /// The CANCEL of branch n (RFC 3261 section 9.1).
-    fn cancel_to(&self, alloc: &A, way: &Way<A>, n: u16) -> Result<Message<A>, AllocError>
-        ensures { IfOk result (λ made. made ≡ cancel_to self.now way.now n) }
-    {
-        let sent = self.request_to(alloc.clone()?, way, n)?;
-        self.request_goes(way, n);
-        match cancel_of(alloc.clone()?, &sent) {
-            Ok(cancel) => Ok(cancel),
-            Err(_) => Err(AllocError),
-        }
-    }
-
-    /// The datagram that it is sent as.
+    /// The CANCEL of branch n, as it is sent (RFC 3261 section 9.1).
     pub(crate) fn cancel_bytes(
         &self,
         alloc: &A,
@@ -267,7 +212,9 @@ impl<A: Allocator + Clone> Fixed<A> {
     ) -> Result<Vec<u8, A>, AllocError>
         ensures { IfOk result (λ bytes. bytes.items ≡ spelling (cancel_to self.now way.now n)) }
     {
-        let made = self.cancel_to(alloc, way, n)?;
-        spelled(alloc.clone()?, &made)
+        let branch = self.branch(n);
+        let mut bytes = Vec::new(alloc.clone()?);
+        write_forwarded_cancel(&self.request, way.uri(), self.own, &branch, &mut bytes)?;
+        Ok(bytes)
     }
 }

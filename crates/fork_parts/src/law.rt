@@ -1,4 +1,6 @@
 //! What holds of every call.
+ghost use Rattle.fork_parts.specs.Again.{LastAnswerIsKept, RepeatsAreTheSame};
+ghost use Rattle.fork_parts.specs.Behind.{BegunKeepsAnswers, StepsKeepAnswers};
 ghost use Rattle.fork_parts.specs.Datagrams.{BegunIsBuilt, DatagramsAreRight, StepsKeepBuilt};
 ghost use Rattle.fork_parts.specs.Sound.{BegunIsSound, StepsKeepSound};
 
@@ -16,6 +18,16 @@ pub fn datagrams_are_right()
     ensures right { DatagramsAreRight }
 {}
 
+/// What a call sends again is what it sent first: whatever happens to it, all requests that it sends to a branch are one
+/// datagram, byte for byte and to one hop, and so are all CANCELs; and what it keeps to send to its caller again is the
+/// answer that it sent last (RFC 3261 sections 9.1, 17.1.1.2, 17.1.2.2 and 17.2).
+///
+/// A law over the definitions, with nothing to run.
+pub fn repeats_are_the_same()
+    ensures branches { RepeatsAreTheSame }
+    ensures caller { LastAnswerIsKept }
+{}
+
 /// A call is sound as it begins to its targets, and each step keeps it so, where what a branch is given is a message with
 /// another Via value behind the proxy's own: a branch whose transaction waits has not ended, an INVITE alone has timer C,
 /// and what is kept for the caller can go up (RFC 3261 sections 16.7, 16.8 and 17.1).
@@ -30,4 +42,16 @@ pub fn calls_stay_sound()
     finished_stays();
     others_stay_open();
     header_values_are_values();
+}
+
+/// The failure that a branch keeps, which may go up as the final answer, is the response behind its stored answer: it was
+/// posted as the event at the arrival of that answer. So it is as a call begins, and each step of a sound call keeps it so
+/// (RFC 3261 section 16.7 steps 4 to 6).
+///
+/// A law over the definitions, with nothing to run.
+pub fn branches_keep_their_answers()
+    ensures begun { BegunKeepsAnswers }
+    ensures kept { StepsKeepAnswers }
+{
+    stored_answers_came();
 }

@@ -30,7 +30,7 @@ pub(crate) fn no_legs<A: Allocator>(
 ) -> Result<Vec<Option<Leg<A>>, A>, AllocError>
     ensures { IfOk result (λ legs. legs.items ≡ no_legs count) }
 {
-    let mut legs = Vec::new(alloc);
+    let mut legs = Vec::with_capacity(alloc, count as usize)?;
     for place in 0..count {
         push_no_leg(&mut legs)?;
     }

@@ -34,9 +34,12 @@ pub use cause::Cause;
 pub use datagram::Datagram;
 pub use fault::PostFault;
 pub use fixed::Fixed;
-pub use law::{calls_stay_sound, datagrams_are_right};
+pub use law::{
+    branches_keep_their_answers, calls_stay_sound, datagrams_are_right, repeats_are_the_same,
+};
 pub use owed::{Owed, OwedAnswer};
 pub use parts::Parts;
+pub use rows::place_of;
 pub use step::Step;
 pub use taken::Taken;
 pub use way::Way;

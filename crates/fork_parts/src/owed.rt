@@ -65,7 +65,7 @@ impl<A: Allocator> Owed<A> {
 pub(crate) fn first_owed<A: Allocator>(alloc: A, kind: Kind) -> Result<Vec<Owed<A>, A>, AllocError>
     ensures { IfOk result (λ owed. owed.items ≡ server.first_owed (kinds.kind_of kind)) }
 {
-    let mut owed = Vec::new(alloc);
+    let mut owed = Vec::with_capacity(alloc, 1)?;
     match kind {
         Kind::Invite => {
             if owed.push(Owed::new(OwedAnswer::Trying)).is_err() {

@@ -3,7 +3,9 @@ ghost use Rattle.std.specs.Prelude.{◌≡◌, ◌≢◌, ◌<◌, ◌≤◌, �
 ghost use Rattle.std.specs.Option.{option_copied, option_map};
 ghost use Rattle.fork_model.specs.Core.{is_full};
 ghost use Rattle.fork_model.specs.Event as event;
+ghost use Rattle.fork_model.specs.OpenBranches.{fits};
 ghost use Rattle.fork_model.specs.Reply as reply;
+ghost use Rattle.fork_model.specs.Sources.{offers_of};
 ghost use Rattle.fork_model.specs.Table as table;
 ghost use Rattle.fork_context.specs.EventView.{event_of};
 ghost use Rattle.fork_context.specs.KindView as kinds;
@@ -19,7 +21,7 @@ ghost use Rattle.fork_parts.specs.Due.{FireTimerC, is_due_at};
 ghost use Rattle.fork_parts.specs.Fixed as fixed;
 ghost use Rattle.fork_parts.specs.LegInside.{ack_made, answer_if, cancel_on, cancelled, changed_leg, kept, no_legs, responded, without_ack};
 ghost use Rattle.fork_parts.specs.PartsInside.{IsCancelAgain, IsRequestAgain, IsSized, answer_to};
-ghost use Rattle.fork_parts.specs.Plain.{AddsNoRow, PostsAt, PostsBare};
+ghost use Rattle.fork_parts.specs.Plain.{PostsBare};
 ghost use Rattle.fork_parts.specs.Pump as pump;
 ghost use Rattle.fork_parts.specs.Pump.{AnswersWith, FiresTimerC, GivesUp, OnLeg, OnPart, SendsAck, SendsCancel, SendsRequest, TicksCancel, TicksClient, TicksServer};
 ghost use Rattle.fork_parts.specs.NewWays.{GivesWays, PostsSaid};
@@ -53,7 +55,7 @@ use crate::taken::Taken;
 use crate::way::Way;
 use fork_book::Book;
 use fork_context::{Event, Kind, State, Up};
-use fork_model::{new_rows_are_contacts, rows_keep_their_numbers};
+use fork_model::{new_rows_are_contacts, open_branches_take_events, rows_keep_their_numbers};
 use sip_text::Message;
 use sip_txn::{OtherClient, TxEvent, TxSend};
 use sip_uri::Hop;
@@ -297,8 +299,8 @@ impl<A: Allocator + Clone> Parts<A> {
         ensures err { OnErr result (self.new ≡ self.old) }
     {
         let way = way_at(&self.ways, n);
-        let sent = self.fixed.request_bytes(&self.alloc, way, n)?;
-        let bytes = Vec::from_slice(self.alloc.clone()?, &sent)?;
+        let bytes = self.fixed.request_bytes(&self.alloc, way, n)?;
+        let sent = Vec::from_slice(self.alloc.clone()?, &bytes)?;
         let to = way.hop();
         let leg = Leg::start(self.fixed.kind(), now, sent);
         put_leg(&mut self.legs, n, leg);
@@ -477,49 +479,26 @@ impl<A: Allocator + Clone> Parts<A> {
 
     // ---- posting
 
-    /// Posts an event that adds no row; what goes up is owed to the caller.
-    ///
-    /// # Errors
-    ///
-    /// `Full` where the book takes no more events that change nothing; else only where the allocator refuses. The parts
-    /// are then as they were.
-    fn post_plain(
-        &mut self,
-        event: Event<A>,
-        response: Option<Message<A>>,
-    ) -> Result<u32, PostFault>
-        requires plain { AddsNoRow (event_of event) }
-        ensures ok { IfOk result (λ at. PostsAt self.old (event_of event) response at self.new) }
-        ensures full { IsErrOf result PostFault.Full → is_full (core_of self.old.log) (event_of event) ≡ true }
-        ensures longer { OnOk result (length self.old.legs ≤ length self.new.legs) }
-        ensures err { OnErr result (self.new ≡ self.old) }
-    {
-        if self.book.context().is_full(&event) {
-            return Err(PostFault::Full);
-        }
-        if self.owed.reserve(1).is_err() {
-            return Err(PostFault::NoMemory);
-        }
-        let Ok(at) = self.book.post(CALL_TAG, event) else {
-            return Err(PostFault::NoMemory);
-        };
-        let up = up_at(&self.book, at);
-        owe(&mut self.owed, owed_by(up, response));
-        Ok(at)
-    }
-
-    /// Posts an event that changes the table and adds no row, and that is no response of a branch.
+    /// Posts an event that changes the table and adds no row, and that is no response of a branch; what goes up is owed to
+    /// the caller.
     fn post_bare(&mut self, event: Event<A>) -> Result<(), AllocError>
-        requires plain { AddsNoRow (event_of event) }
-        requires taken { is_full (core_of self.old.log) (event_of event) ≡ false }
+        requires plain { offers_of (event_of event) ≡ [] }
+        requires fits { fits (table_of self.old.log) (event_of event) ≡ true }
         ensures ok { OnOk result (PostsBare self.old (event_of event) self.new) }
         ensures longer { OnOk result (length self.old.legs ≤ length self.new.legs) }
         ensures err { OnErr result (self.new ≡ self.old) }
     {
-        match self.post_plain(event, None) {
-            Ok(_) => Ok(()),
-            Err(_) => Err(AllocError),
+        new_rows_are_contacts();
+        open_branches_take_events();
+        if self.owed.reserve(1).is_err() {
+            return Err(AllocError);
         }
+        let Ok(at) = self.book.post(CALL_TAG, event) else {
+            return Err(AllocError);
+        };
+        let up = up_at(&self.book, at);
+        owe(&mut self.owed, owed_by(up, None));
+        Ok(())
     }
 
     /// Posts such an event by which branch n ends; its transaction went on.
@@ -530,8 +509,8 @@ impl<A: Allocator + Clone> Parts<A> {
         event: Event<A>,
     ) -> Result<(), AllocError>
         requires there { is_sent self.old n ≡ true }
-        requires plain { AddsNoRow (event_of event) }
-        requires taken { is_full (core_of self.old.log) (event_of event) ≡ false }
+        requires plain { offers_of (event_of event) ≡ [] }
+        requires fits { fits (table_of self.old.log) (event_of event) ≡ true }
         ensures ok { OnOk result (OnPart self.old n (λ leg. PostsBare (set_leg self.old n (record leg { client = client })) (event_of event) self.new)) }
         ensures err { OnErr result (self.new ≡ self.old) }
     {
@@ -670,6 +649,7 @@ impl<A: Allocator + Clone> Parts<A> {
         ensures err { OnErr result (self.new ≡ self.old) }
     {
         new_rows_are_contacts();
+        open_branches_take_events();
         if self.owed.reserve(2).is_err() {
             return Err(AllocError);
         }

@@ -11,8 +11,8 @@ use crate::way::Way;
 use fork_book::Book;
 use std::alloc::Allocator;
 
-/// The place of the contact that row n is for.
-fn place_of<A: Allocator + Clone>(book: &Book<A>, n: u16) -> usize
+/// The place of the target or the contact that row n is for, among those that it came with (RFC 3261 section 16.5).
+pub fn place_of<A: Allocator + Clone>(book: &Book<A>, n: u16) -> usize
     requires there { n < length (table_of book.now).rows }
     ensures { option_map (λ row. row.place) (slice_get (table_of book.now).rows n) ≡ Some result }
 {

@@ -1,13 +1,14 @@
 -- How the program is called, what it prints, and how it ends.
-use Rattle.std.specs.Prelude.{◌≡◌, ◌⊎◌, ℕ, List, [], ◌∷◌, bytes_eq, codes, Option, Some, None, Result, Ok, Err, if◌then◌else◌}
+use Rattle.std.specs.Prelude.{◌≡◌, ◌⊎◌, ℕ, List, [], ◌∷◌, bytes_eq, codes, Option, Some, None, if◌then◌else◌}
 use Rattle.fork_program.specs.declared.command.Command.{Command}
 use Rattle.fork_program.specs.declared.command.Command.TheVariants.{Replay, Check}
+use Rattle.fork_program.specs.declared.fault.ProgFault.{ProgFault}
 use Rattle.fork_program.specs.declared.fault.ProgFault.TheVariants as prog
 use Rattle.fork_program.specs.declared.fault.Fault.{Fault}
 use Rattle.fork_program.specs.declared.fault.Fault.TheVariants as fault
-use Rattle.fork_program.specs.FaultView.{exit_status}
-use Rattle.fork_program.specs.Faults.{AppendsReplay}
-use Rattle.fork_program.specs.Answer.{AppendsAnswer}
+use Rattle.fork_program.specs.Faults.{AppendsReplay, IsFault}
+use Rattle.fork_program.specs.Headline.{AppendsOneFinal}
+use Rattle.fork_program.specs.Answer.{AppendsAnswer, IsCheckRefusal}
 
 abbrev pub command_named : List ℕ → Option Command
 command_named word =
@@ -24,8 +25,13 @@ command_of (name ∷ word ∷ other ∷ words) = None
 
 -- what a command appends of a text, and the status that it ends with
 abbrev pub Appends : Command → List ℕ → List ℕ → List ℕ → ℕ → Type 0
-Appends Replay text old new status = (status ≡ 0) × AppendsReplay text old new
+Appends Replay text old new status = (status ≡ 0) × AppendsReplay text old new × AppendsOneFinal text old new
 Appends Check text old new status = AppendsAnswer text old new status
+
+-- why a command refuses a text
+abbrev pub IsCommandFault : Command → List ℕ → ProgFault → Type 0
+IsCommandFault Replay text refused = IsFault text refused
+IsCommandFault Check text refused = IsCheckRefusal text refused
 
 -- the arguments are no command, or a growth was refused
 abbrev pub IsUsageFault : Fault → Type 0
@@ -34,8 +40,3 @@ IsUsageFault f = (f ≡ fault.Usage) ⊎ (f ≡ fault.Text prog.NoMemory)
 -- the input could not be read, or a growth was refused
 abbrev pub IsReadFault : Fault → Type 0
 IsReadFault f = (f ≡ fault.Read) ⊎ (f ≡ fault.Text prog.NoMemory)
-
--- the status that the program ends with: what its run gives, or that of the fault
-abbrev pub status_of : Result ℕ Fault → ℕ
-status_of (Ok status) = status
-status_of (Err f) = exit_status f

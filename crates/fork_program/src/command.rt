@@ -1,6 +1,6 @@
 //! What the program is asked for.
-ghost use Rattle.std.specs.Prelude.{◌≡◌, IfOk, OnErr, map, string_bytes};
-ghost use Rattle.fork_program.specs.Program.{command_named, command_of, Appends};
+ghost use Rattle.std.specs.Prelude.{◌≡◌, IfOk, IfErr, OnErr, map, string_bytes};
+ghost use Rattle.fork_program.specs.Program.{command_named, command_of, Appends, IsCommandFault};
 
 use crate::check::check_text;
 use crate::fault::ProgFault;
@@ -47,6 +47,7 @@ impl Command {
     /// Those of `replay_text` and `check_text`. After each `out` is as it was.
     pub fn run(self, alloc: Global, text: &[u8], out: &mut Vec<u8>) -> Result<u8, ProgFault>
         ensures appended { IfOk result (Appends self text.now out.old.items out.new.items) }
+        ensures fault { IfErr result (IsCommandFault self text.now) }
         ensures err { OnErr result (out.new.items ≡ out.old.items) }
     {
         match self {

@@ -2,20 +2,35 @@
 //! `fork_program`), whose answer it writes, or the server (`fork_server`), which the text sets up.
 #![tactic(auto)]
 
-ghost use Rattle.std.specs.Prelude.{◌≡◌, ◌⊎◌, IfOk, IfErr};
+ghost use Rattle.std.specs.Prelude.{◌≡◌, ◌↔◌, None, IfOk, IfErr, IfSome, IsErrOf, map, string_bytes};
 ghost use Rattle.std.specs.Process.{exit_status};
-ghost use Rattle.fork_program.specs.Program.{IsUsageFault, status_of};
+ghost use Rattle.fork_program.specs.Program.{IsUsageFault};
+ghost use Rattle.fork_drive.specs.Asked.{asked_for, Writes, IsAnswerFault};
+ghost use Rattle.fork_proxy.specs.Ending.{Serves, IsServeFailure, status_of};
 
 use fork_drive::Asked;
 use fork_program::{Fault, ProgFault, read_input};
-use fork_server::{serve, turns_asked};
+use fork_server::{ServeFault, serve, turns_asked};
 use log::Log;
-use std::env;
-use std::io::{ErrorKind, Print};
+use std::alloc::Global;
+use std::io::{ErrorKind, Print, Read, Write};
 use std::net::Net;
 use std::process::ExitCode;
 use std::sync::Wait;
 use std::thread::Threads;
+use std::{env, io};
+use thiserror::Error;
+
+/// Why the program ends without what it was asked for, with the words that it prints.
+#[derive(Clone, Copy, Debug, Error)]
+enum Failure {
+    /// The arguments ask for nothing, or the input's text has no answer.
+    #[error(transparent)]
+    Answer(Fault),
+    /// The input's text is served no longer, or not at all.
+    #[error(transparent)]
+    Serve(ServeFault),
+}
 
 /// The words of the command line, the program's name first.
 fn words(rt: &HostRuntime) -> Result<Vec<String>, Fault>
@@ -30,70 +45,83 @@ fn words(rt: &HostRuntime) -> Result<Vec<String>, Fault>
     }
 }
 
-/// Reads the text, and writes what the command makes of it that the arguments ask for, which is found before anything is
-/// read; `threads` starts those that it needs. The exit status is 0, or 4 where a check says no.
+/// Reads the input's text, and writes what the command makes of it that the words ask for, which is found before anything
+/// is read; `rt` starts the threads that it needs. The exit status is 0, or 4 where a check says no.
 ///
 /// # Errors
 ///
-/// In this order: `Usage`, `Read`, `Text` with what the command refuses, `Write`; want of memory anywhere.
-fn run<R: Threads + Wait + Sync>(
-    threads: &R,
-    rt: &HostRuntime,
+/// `Usage`, where the words ask for no command; then those of [`Asked::answer`].
+fn answered<R: Threads + Wait + Sync, I: Read, O: Write>(
+    rt: &R,
+    alloc: Global,
     words: &[String],
+    input: &mut I,
+    output: &mut O,
 ) -> Result<u8, Fault>
-    ensures { IfOk result (λ status. (status ≡ 0) ⊎ (status ≡ 4)) }
+    ensures usage { IsErrOf result Fault.Usage ↔ (asked_for (map string_bytes words.now) ≡ None) }
+    ensures written { IfOk result (λ status. IfSome (asked_for (map string_bytes words.now)) (λ asked. Writes asked (I.remaining input.old) (O.contents output.old) (O.contents output.new) status)) }
+    ensures fault { IfErr result (λ fault. IfSome (asked_for (map string_bytes words.now)) (λ asked. IsAnswerFault asked (I.remaining input.old) fault)) }
 {
-    let Some(asked) = Asked::of(words) else {
-        return Err(Fault::Usage);
-    };
-    let text = read_input(rt.alloc(), &mut rt.reader())?;
-    let mut out = Vec::new(rt.alloc());
-    let status = asked.run(threads, rt.alloc(), &text, &mut out)?;
-    match rt.write_all(&out) {
-        Ok(()) => Ok(status),
-        Err(_) => Err(Fault::Write),
+    match Asked::of(words) {
+        Some(asked) => asked.answer(rt, alloc, input, output),
+        None => Err(Fault::Usage),
     }
 }
 
-/// How the program ends after a run, whose fault it prints on standard error.
-fn ended(rt: &HostRuntime, ran: Result<u8, Fault>) -> ExitCode
+/// Serves for so many turns, set up by the input's text. The exit status is 0.
+///
+/// # Errors
+///
+/// `Answer`, where the input cannot be read; `Serve` with what [`serve`] refuses.
+fn served<R: Threads + Wait + Net + Print + Log + Sync, I: Read>(
+    rt: &R,
+    alloc: Global,
+    input: &mut I,
+    turns: u32,
+) -> Result<u8, Failure>
+    ensures served { IfOk result (Serves (I.remaining input.old)) }
+    ensures failure { IfErr result (IsServeFailure (I.remaining input.old)) }
+{
+    match read_input(alloc, input) {
+        Ok(text) => match serve(rt, alloc, &text, turns) {
+            Ok(()) => Ok(0),
+            Err(fault) => Err(Failure::Serve(fault)),
+        },
+        Err(fault) => Err(Failure::Answer(fault)),
+    }
+}
+
+/// How the program ends after a run, whose failure it prints on standard error.
+fn ended(rt: &HostRuntime, ran: Result<u8, Failure>) -> ExitCode
     ensures { exit_status result ≡ status_of ran }
 {
     match ran {
         Ok(status) => ExitCode::from(status),
-        Err(fault) => {
-            let _ = rt.eprintln(fault);
-            ExitCode::from(fault.status())
+        Err(failure) => {
+            let _ = rt.eprintln(failure);
+            ExitCode::from(match failure {
+                Failure::Answer(fault) => fault.status(),
+                Failure::Serve(fault) => fault.status(),
+            })
         }
     }
 }
 
-/// Serves for so many turns, set up by the text that is read, and ends; `handle` has the threads and the socket.
-fn served<R: Threads + Wait + Net + Print + Log + Sync>(
+/// Does what the arguments ask for; `handle` has the threads and the socket.
+fn run<R: Threads + Wait + Net + Print + Log + Sync>(
     handle: &R,
     rt: &HostRuntime,
-    turns: u32,
-) -> ExitCode {
-    let text = match read_input(rt.alloc(), &mut rt.reader()) {
-        Ok(text) => text,
-        Err(fault) => return ended(rt, Err(fault)),
-    };
-    match serve(handle, rt.alloc(), &text, turns) {
-        Ok(()) => ExitCode::from(0),
-        Err(refused) => {
-            let _ = rt.eprintln(refused);
-            ExitCode::from(refused.status())
-        }
+) -> Result<u8, Failure> {
+    let words = words(rt).map_err(Failure::Answer)?;
+    let input = &mut rt.reader();
+    match turns_asked(&words) {
+        Some(turns) => served(handle, rt.alloc(), input, turns),
+        None => answered(handle, rt.alloc(), &words, input, &mut io::writer(handle)).map_err(
+            Failure::Answer,
+        ),
     }
 }
 
 fn main(rt: HostRuntime) -> ExitCode {
-    let words = match words(&rt) {
-        Ok(words) => words,
-        Err(fault) => return ended(&rt, Err(fault)),
-    };
-    match turns_asked(&words) {
-        Some(turns) => served(&rt, &rt, turns),
-        None => ended(&rt, run(&rt, &rt, &words)),
-    }
+    ended(&rt, run(&rt, &rt))
 }

@@ -39,12 +39,11 @@ fn prepared<A: Allocator + Clone>(
 }
 
 /// Whether a request can be routed as it stands: the first three steps of RFC 3261 section 16.3.
-fn routable<A: Allocator + Clone>(alloc: &A, message: &Message<A>) -> Result<(), OpenFault>
+fn routable<A: Allocator>(message: &Message<A>) -> Result<(), OpenFault>
     ensures well { IfOk result (λ _. IsRoutable message.now) }
     ensures refused { IfErr result (IsUnroutable message.now) }
 {
-    let formed = is_well_formed(alloc, message)?;
-    if !formed {
+    if !is_well_formed(message) {
         return Err(OpenFault::BadRequest);
     }
     if is_of_another_scheme(request_uri(message)) {
@@ -73,7 +72,7 @@ pub fn admit<A: Allocator + Clone>(
     ensures hops { IfOk result (λ request. IfSome (first_value hops_name request.headers) IsHops) }
     ensures refused { IfErr result (IsTurnedAway own message source) }
 {
-    routable(&alloc, &message)?;
+    routable(&message)?;
     let request = prepared(alloc, own, message, source)?;
     if is_loop(&request, own) {
         return Err(OpenFault::Loop);

@@ -1,5 +1,5 @@
 //! What a proxy asks of a request before it routes it.
-ghost use Rattle.std.specs.Prelude.{◌≡◌, ◌↔◌, is_some, Err, IfOk, IsTrue, true};
+ghost use Rattle.std.specs.Prelude.{◌≡◌, ◌↔◌, is_some, Err, IsTrue, true};
 ghost use Rattle.std.specs.Option.{option_copied};
 ghost use Rattle.sip_uri.specs.declared.fault.UriFault.TheVariants as uris;
 ghost use Rattle.sip_uri.specs.Reading.{read_uri};
@@ -10,8 +10,8 @@ ghost use Rattle.fork_routing.specs.Admission.{are_hops, asks_extension, begins_
 use sip_route::{Hops, hops_of, request_uri, routes_are_readable};
 use sip_text::Message;
 use sip_uri::{UriFault, uri_fault};
-use sip_via::{Via, ViaFault, top_via};
-use std::alloc::{AllocError, Allocator};
+use sip_via::{sender_of, top_via};
+use std::alloc::Allocator;
 
 /// Whether a branch begins with the cookie of RFC 3261 section 8.1.1.7.
 fn begins_with_cookie(branch: Option<&[u8]>) -> bool
@@ -24,21 +24,20 @@ fn begins_with_cookie(branch: Option<&[u8]>) -> bool
 }
 
 /// Whether a Via value can be read, and its branch begins so.
-fn has_cookie<A: Allocator>(alloc: A, value: &[u8]) -> Result<bool, AllocError>
-    ensures { IfOk result (λ well. well ≡ has_cookie (read_via value.now)) }
+fn has_cookie(value: &[u8]) -> bool
+    ensures { result ≡ has_cookie (read_via value.now) }
 {
-    match Via::read(alloc, value) {
-        Ok(via) => Ok(begins_with_cookie(via.branch())),
-        Err(ViaFault::BadVia) => Ok(false),
-        Err(ViaFault::NoMemory) => Err(AllocError),
+    match sender_of(value) {
+        Some(sender) => begins_with_cookie(sender.branch),
+        None => false,
     }
 }
 
 /// Whether the top Via value of a request can be read, and its branch begins as RFC 3261 has it.
-fn has_via<A: Allocator + Clone>(alloc: &A, message: &Message<A>) -> Result<bool, AllocError>
-    ensures { IfOk result (λ well. well ≡ has_via message.now) }
+fn has_via<A: Allocator>(message: &Message<A>) -> bool
+    ensures { result ≡ has_via message.now }
 {
-    has_cookie(alloc.clone()?, top_via(message))
+    has_cookie(top_via(message))
 }
 
 /// Whether Max-Forwards, where it is said, is said well.
@@ -70,18 +69,13 @@ pub(crate) fn is_of_another_scheme(text: &[u8]) -> bool
 
 /// Whether a request has all that routing asks for: a top Via value with a branch, a Max-Forwards value that is a
 /// number, URIs in its Route values, and a Request-URI (RFC 3261 section 16.3 step 1).
-pub(crate) fn is_well_formed<A: Allocator + Clone>(
-    alloc: &A,
-    message: &Message<A>,
-) -> Result<bool, AllocError>
-    ensures { IfOk result (λ well. well ≡ is_well_formed message.now) }
+pub(crate) fn is_well_formed<A: Allocator>(message: &Message<A>) -> bool
+    ensures { result ≡ is_well_formed message.now }
 {
-    Ok(
-        has_via(alloc, message)?
-            && are_hops(hops_of(message))
-            && routes_are_readable(message)
-            && is_uri_or_other(request_uri(message)),
-    )
+    has_via(message)
+        && are_hops(hops_of(message))
+        && routes_are_readable(message)
+        && is_uri_or_other(request_uri(message))
 }
 
 /// Whether so many proxies are none.

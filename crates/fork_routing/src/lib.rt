@@ -13,6 +13,6 @@ mod transaction;
 pub use admission::admit;
 pub use fault::OpenFault;
 pub use matching::recipient;
-pub use opening::{is_openable, open};
-pub use targets::is_domain;
+pub use opening::{is_openable, open, read_target};
+pub use targets::{hop_by, is_domain};
 pub use transaction::Recipient;

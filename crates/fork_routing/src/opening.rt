@@ -1,7 +1,7 @@
 //! How a call opens.
 ghost use Rattle.std.specs.Prelude.{◌≡◌, ◌<◌, ◌↔◌, ℕ, length, slice_get, true, IfErr, IfOk, IfSome, IsTrue, Ok, Some};
 ghost use Rattle.std.specs.List.{list_all};
-ghost use Rattle.std.specs.Option.{option_and_then, option_map};
+ghost use Rattle.std.specs.Option.{option_and_then};
 ghost use Rattle.fork_model.specs.Table.{Row};
 ghost use Rattle.sip_text.specs.Name.{first_value};
 ghost use Rattle.sip_route.specs.Hops.{IsHops, hops_name};
@@ -18,7 +18,7 @@ use crate::fault::OpenFault;
 use crate::targets::{Choice, choices, have_hops, hop_by, hop_if_any, targets_of};
 use fork_book::Book;
 use fork_context::Kind;
-use fork_parts::{Fixed, Parts, Way};
+use fork_parts::{Fixed, Parts, Way, place_of};
 use fork_rank::Rules;
 use fork_setup::Setup;
 use sip_route::{FirstRoute, first_route, request_uri};
@@ -70,19 +70,12 @@ fn way_at<A: Allocator + Clone>(
     way_to(alloc, route, &choices[place])
 }
 
-/// The place of the target that row n is for.
-fn place_of<A: Allocator + Clone>(book: &Book<A>, n: u16) -> usize
-    requires there { n < length (table_of book.now).rows }
-    ensures { option_map (λ row. row.place) (slice_get (table_of book.now).rows n) ≡ Some result }
-{
-    match book.context().look(n) {
-        Some(view) => view.place,
-        None => unreachable!(),
-    }
-}
-
-/// The URI that a request names.
-fn read_target<A: Allocator + Clone>(
+/// The URI that a request names, where it can be read (RFC 3261 section 16.5).
+///
+/// # Errors
+///
+/// Where the Request-URI cannot be read, and where the allocator refuses.
+pub fn read_target<A: Allocator + Clone>(
     alloc: A,
     request: &Message<A>,
 ) -> Result<SipUri<A>, AllocError>
@@ -105,7 +98,8 @@ fn ways_of<A: Allocator + Clone>(
     requires places { (n : ℕ) (row : Row) → slice_get (table_of book.now).rows n ≡ Some row → row.place < length choices.now }
     ensures { IfOk result (λ ways. AreWays route choices.now (table_of book.now).rows ways.items) }
 {
-    let mut ways = Vec::new(alloc.clone()?);
+    let count = book.context().count();
+    let mut ways = Vec::with_capacity(alloc.clone()?, count as usize)?;
     for n in 0..book.context().count() {
         let place = place_of(book, n);
         ways.push(way_at(alloc.clone()?, route, choices, place)?)?;

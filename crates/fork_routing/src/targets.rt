@@ -151,7 +151,7 @@ fn alone<'a, A: Allocator>(
 ) -> Result<Vec<Choice<'a, A>, A>, AllocError>
     ensures { IfOk result (λ choices. choices.items ≡ record { q = most_q; uri = uri.now } ∷ []) }
 {
-    let mut choices = Vec::new(alloc);
+    let mut choices = Vec::with_capacity(alloc, 1)?;
     choices.push(Choice { q: MOST_Q, uri })?;
     Ok(choices)
 }
@@ -180,7 +180,7 @@ pub(crate) fn targets_of<A: Allocator + Clone>(
 ) -> Result<Vec<Target<A>, A>, AllocError>
     ensures { IfOk result (λ targets. targets.items ≡ targets_of choices.now) }
 {
-    let mut targets = Vec::new(alloc.clone()?);
+    let mut targets = Vec::with_capacity(alloc.clone()?, choices.len())?;
     for choice in choices {
         targets.push(choice.target(alloc.clone()?)?)?;
     }
@@ -189,9 +189,9 @@ pub(crate) fn targets_of<A: Allocator + Clone>(
 
 // ---- by which hop
 
-/// The hop of a target: that of the first Route value, if there is one, else that of its URI (RFC 3261 section 16.6
-/// steps 6 and 7).
-pub(crate) fn hop_by<A: Allocator + Clone>(route: FirstRoute, uri: &SipUri<A>) -> Option<Hop>
+/// The hop that a request to this URI goes by: that of its first Route value, if there is one, else that of the URI; None
+/// where that leads to no hop (RFC 3261 section 16.6 steps 6 and 7).
+pub fn hop_by<A: Allocator + Clone>(route: FirstRoute, uri: &SipUri<A>) -> Option<Hop>
     ensures { result ≡ hop_by route uri.now }
 {
     match route {

@@ -1,15 +1,15 @@
 -- Entries are added to the heap and taken off it, and each filed moment stays listed.
-use Rattle.std.proofs.Common.{◌≡◌, ◌≢◌, ◌≤◌, ◌<◌, ◌⊎◌, inl, inr, subst, Ordering, rules, ℕ, zero, suc, Option, Some, None, List, [], ◌∷◌, ◌++◌, length, set, take, replicate, get_or, sym, refl, ap, ◌∙◌, ⊎_elim, true, false, arith}
+use Rattle.std.proofs.Common.{◌≡◌, ◌≢◌, ◌≤◌, ◌<◌, ◌⊎◌, inl, inr, subst, Ordering, rules, ℕ, zero, suc, Option, Some, None, List, [], ◌∷◌, length, set, get_or, sym, refl, ap, ◌∙◌, ⊎_elim, false, arith}
 use mathlib.Core.Logic.{dite}
 use native.Mathlib.Decide.{ℕ_discrete}
-use Rattle.std.specs.List.{Contains, AllByRecursion}
+use Rattle.std.specs.List.{Contains}
 use Rattle.std.specs.List.Sorted.{IsPermutation}
 use Rattle.std.specs.BinaryHeap.{IsUpperBound}
 use Rattle.std.specs.Ordering.{nat_cmp, is_lt, ordering_then}
-use Rattle.std.proofs.lemmas.List.{get_or-set_same, get_or-set_other, get_or_past}
+use Rattle.std.proofs.lemmas.List.{get_or-set_same, get_or-set_other}
 use Rattle.std.proofs.lemmas.List.Sorted.{Contains-permutation, length_permutation}
 use Rattle.std.proofs.lemmas.Option.{none-some, same_Some}
-use Rattle.fork_server.specs.Filed.{moment_of, earlier, AreSame, AreSameBut, IsFiled, IsWithout, IsFirst, IsDueFirst, AreLater, Entry, entry_order, AreListed}
+use Rattle.fork_server.specs.Filed.{moment_of, AreSame, AreSameBut, IsWithout, IsFirst, IsDueFirst, Entry, entry_order, AreListed}
 
 -- an element of a list is its first or one of the others
 contains_cons : {X : Type 0} (y : X) (ys : List X) (x : X) → Contains (y ∷ ys) x → (y ≡ x) ⊎ Contains ys x

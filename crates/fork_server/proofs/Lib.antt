@@ -1,3 +1,2 @@
-pub mod Carried
 pub mod Filing
 pub mod Sharing

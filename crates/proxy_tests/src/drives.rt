@@ -5,7 +5,7 @@ use crate::play::{answered, is_text, listing_in};
 use crate::replays::{BEST, CHALLENGES, CLOSING, CONTACTS};
 use fork_context::NewFault;
 use fork_drive::{Asked, drive_text};
-use fork_program::{Command, ProgFault};
+use fork_program::{Command, Fault, ProgFault};
 use std::alloc::{AllocError, Global};
 use std::process::Abort;
 use std::sync::Wait;
@@ -376,5 +376,33 @@ fn what_is_asked_for_is_appended(rt: HostRuntime) -> Result<(), Fail> {
         ),
         "each command appends its answer",
     );
+    Ok(())
+}
+
+/// Answers a script that is read from memory; the status.
+fn passed_on<R: Threads + Wait + Sync>(
+    rt: &R,
+    alloc: Global,
+    asked: Asked,
+    mut script: &[u8],
+    out: &mut Vec<u8>,
+) -> Result<u8, Fault> {
+    asked.answer(rt, alloc, &mut script, out)
+}
+
+#[test]
+fn what_is_asked_for_goes_from_an_input_to_an_output(rt: HostRuntime) -> Result<(), Fail> {
+    let mut out = Vec::new(rt.alloc());
+    let script = b"kind INVITE\ntarget 1000 a\nworker\ncancel\n";
+    let status = passed_on(&rt, rt.alloc(), Asked::Drive, script, &mut out)?;
+    holds(&rt, status == 0, "a run ends with 0");
+    let refused = passed_on(&rt, rt.alloc(), Asked::Drive, b"kind BYE\n", &mut out);
+    holds(
+        &rt,
+        refused == Err(Fault::Text(ProgFault::Line(1))),
+        "the first malformed line is told",
+    );
+    let text = "opening start 0\n0: 0 start - cancel - up -\nunfinished 1\n";
+    holds(&rt, is_text(&out, text), "what is refused writes nothing");
     Ok(())
 }

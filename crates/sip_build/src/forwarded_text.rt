@@ -39,7 +39,7 @@ fn method_of<A: Allocator>(message: &Message<A>) -> &[u8]
 }
 
 /// Appends the start line of a request to a target.
-fn append_to_target<A: Allocator + Clone, B: Allocator>(
+pub(crate) fn append_to_target<A: Allocator + Clone, B: Allocator>(
     out: &mut Vec<u8, B>,
     method: &[u8],
     target: &SipUri<A>,
@@ -85,7 +85,7 @@ fn append_address<B: Allocator>(out: &mut Vec<u8, B>, addr: [u8; 4]) -> Result<(
 }
 
 /// Appends the proxy's own Via line.
-fn append_own_via<B: Allocator>(
+pub(crate) fn append_own_via<B: Allocator>(
     out: &mut Vec<u8, B>,
     own: Own,
     branch: &BranchName,

@@ -1,9 +1,9 @@
 //! The proxy's own responses, straight as text.
 
-ghost use Rattle.std.specs.Prelude.{◌≡◌, ◌+◌, ◌++◌, ◌≤◌, codes, length, map, IsOk, OnErr, OnOk, vec_capacity, vec_len};
+ghost use Rattle.std.specs.Prelude.{◌≡◌, ◌+◌, ◌++◌, ◌≤◌, codes, length, map, true, IsOk, OnErr, OnOk, vec_capacity, vec_len};
 ghost use Rattle.sip_text.specs.Text.{spelling};
 ghost use Rattle.sip_via.specs.Lines.{first_line};
-ghost use Rattle.sip_build.specs.Generated.{generated_of, tagged, to_lines, unsupported_lines};
+ghost use Rattle.sip_build.specs.Generated.{generated_of, gets_tag, tagged, to_lines, unsupported_lines};
 ghost use Rattle.sip_build.specs.Groups.{all_lines, lines_of};
 ghost use Rattle.sip_build.specs.OwnTag.{own_tag};
 
@@ -35,13 +35,24 @@ fn tagged_group<'a, A: Allocator>(message: &'a Message<A>, tag: &'a [u8]) -> Gro
     }
 }
 
+/// The proxy's own tag, where a response of that status has it added. It is not made for any other.
+fn tag_if_added<A: Allocator>(message: &Message<A>, status: OwnStatus) -> [u8; 18]
+    ensures { gets_tag status message.now ≡ true → result ≡ own_tag message.now }
+{
+    if gets_tag(status, message) {
+        own_tag(message)
+    } else {
+        [0; 18]
+    }
+}
+
 /// The first To line, with the proxy's own tag where the response has it added.
 fn to_group<'a, A: Allocator>(
     message: &'a Message<A>,
     status: OwnStatus,
     tag: &'a [u8],
 ) -> Group<'a, A>
-    requires { tag.now ≡ own_tag message.now }
+    requires { gets_tag status message.now ≡ true → tag.now ≡ own_tag message.now }
     ensures { lines_of result ≡ to_lines status message.now }
 {
     if gets_tag(status, message) {
@@ -70,7 +81,7 @@ fn generated_groups<'a, A: Allocator>(
     status: OwnStatus,
     tag: &'a [u8],
 ) -> [Group<'a, A>; 7]
-    requires { tag.now ≡ own_tag message.now }
+    requires { gets_tag status message.now ≡ true → tag.now ≡ own_tag message.now }
     ensures { all_lines result ≡ (generated_of message.now status).headers }
 {
     [
@@ -102,7 +113,7 @@ pub fn write_generated<A: Allocator, B: Allocator>(
     ensures room { vec_len out.old + length (spelling (generated_of message.now status)) ≤ vec_capacity out.old
         → IsOk result }
 {
-    let tag = own_tag(message);
+    let tag = tag_if_added(message, status);
     let groups = generated_groups(message, status, &tag);
     append_made(
         out,

@@ -5,6 +5,7 @@
 //! function of the message it is built from.
 #![tactic(auto)]
 
+mod along_forwarded;
 mod along_text;
 mod forwarded_text;
 mod forwarding;
@@ -21,6 +22,7 @@ mod tag;
 mod upstream;
 mod upward_text;
 
+pub use along_forwarded::{write_forwarded_ack, write_forwarded_cancel};
 pub use along_text::{write_ack, write_cancel};
 pub use forwarded_text::write_forwarded;
 pub use forwarding::forward;

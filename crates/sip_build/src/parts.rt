@@ -25,11 +25,19 @@ pub fn whole_or_nothing<B: Allocator>(
 /// with a Request-URI of common length, and the proxy's own Via.
 const FRONT: usize = 256;
 
+/// Asks at once for the room of header lines of that length and of what stands before and between them. Where
+/// that is refused, each part asks for its own.
+pub fn ask_for_lines<B: Allocator>(out: &mut Vec<u8, B>, len: usize)
+    ensures { out.new.items ≡ out.old.items }
+{
+    let _granted = out.reserve(len.saturating_add(FRONT));
+}
+
 /// Asks at once for the room that a text made of a message takes. Where that is refused, each part
 /// asks for its own.
 pub fn ask_for_room<A: Allocator, B: Allocator>(out: &mut Vec<u8, B>, message: &Message<A>)
     ensures { out.new.items ≡ out.old.items }
 {
     let len = headers_len(message.headers()).saturating_add(message.body().len());
-    let _granted = out.reserve(len.saturating_add(FRONT));
+    ask_for_lines(out, len);
 }

@@ -1,4 +1,5 @@
 pub mod laws
+pub mod Bare
 pub mod Cuts
 pub mod Lines
 pub mod Numbers

@@ -1,10 +1,14 @@
 //! Marks outside quotes and angle brackets.
 
+ghost use Rattle.memchr.specs.Find.{is_byte3};
 ghost use Rattle.std.specs.Prelude.{◌≡◌, ◌≤◌, ◌<◌, ◌++◌, length, IfSome, OnSome};
+ghost use Rattle.std.specs.List.{position_or_len};
 ghost use Rattle.std.specs.Option.{option_copied};
 ghost use Rattle.sip_lex.specs.declared.sheltered.Place.TheVariants.{Plain};
 ghost use Rattle.sip_lex.specs.Cut.{behind, seen_cut};
 ghost use Rattle.sip_lex.specs.Sheltered.{LacksOutside, cut_outside, end_place, is_closed, is_plain, outside_len, place_after};
+
+use memchr::memchr3;
 
 /// What shelters a mark: a quoted text, in which a backslash takes the next byte with it, or also a
 /// text in angle brackets, in which a quote is a byte as any other.
@@ -49,8 +53,16 @@ impl Place {
     }
 }
 
-/// How many bytes stand before the first mark outside.
-fn outside_len(text: &[u8], mark: u8, shelter: Shelter) -> usize
+/// How many bytes stand before the first that is the mark, a quote or an opening bracket.
+fn bare_len(text: &[u8], mark: u8) -> usize
+    ensures value { result ≡ position_or_len (is_byte3 mark 34 60) text.now }
+    ensures within { result ≤ length text.now }
+{
+    memchr3(mark, b'"', b'<', text).unwrap_or(text.len())
+}
+
+/// How many bytes stand before the first mark outside, found byte by byte.
+fn walked_len(text: &[u8], mark: u8, shelter: Shelter) -> usize
     ensures value { result ≡ outside_len shelter mark Plain text.now }
     ensures within { result ≤ length text.now }
 {
@@ -62,6 +74,15 @@ fn outside_len(text: &[u8], mark: u8, shelter: Shelter) -> usize
         place = place.after(shelter, *byte);
     }
     text.len()
+}
+
+/// How many bytes stand before the first mark outside. Only what a quote or bracket begins is walked.
+fn outside_len(text: &[u8], mark: u8, shelter: Shelter) -> usize
+    ensures value { result ≡ outside_len shelter mark Plain text.now }
+    ensures within { result ≤ length text.now }
+{
+    let bare = bare_len(text, mark);
+    bare + walked_len(&text[bare..], mark, shelter)
 }
 
 fn split_outside(text: &[u8], mark: u8, shelter: Shelter) -> (&[u8], Option<&[u8]>)

@@ -5,7 +5,10 @@ ghost use Rattle.sip_route.specs.Hops.{IsHops, hops_name};
 
 use crate::holds::holds;
 use crate::messages::{OWN, REQUEST, ROUTED, message_of, written};
-use sip_build::{forward, write_forwarded};
+use crate::rows::holds_in_row;
+use sip_build::{
+    ack_of, cancel_of, forward, write_forwarded, write_forwarded_ack, write_forwarded_cancel,
+};
 use sip_lex::read_number;
 use sip_text::{Message, Start};
 use sip_uri::SipUri;
@@ -59,6 +62,55 @@ fn is_written_so(
     Some(out.strip_prefix(b"before")? == written(alloc, &built)?.as_slice())
 }
 
+/// The request as it goes to that target.
+fn forwarded(
+    alloc: Global,
+    request: &Message<Global>,
+    target: &SipUri<Global>,
+) -> Option<Message<Global>> {
+    if !has_hops(request) {
+        return None;
+    }
+    let Start::Request { .. } = request.start() else {
+        return None;
+    };
+    forward(alloc, request, target, OWN, &BRANCH).ok()
+}
+
+/// Whether the ACK and the CANCEL of the request that goes to that target are written as what is built of the
+/// request as it goes, the one behind the other.
+fn are_written_along_so(
+    alloc: Global,
+    request: &Message<Global>,
+    target: &SipUri<Global>,
+    response: &Message<Global>,
+) -> Option<bool> {
+    let sent = forwarded(alloc, request, target)?;
+    let (Start::Request { .. }, Start::Request { .. }) = (request.start(), sent.start()) else {
+        return None;
+    };
+    let ack = ack_of(alloc, &sent, response).ok()?;
+    let cancel = cancel_of(alloc, &sent).ok()?;
+    let mut out = Vec::from_slice(alloc, b"before").ok()?;
+    write_forwarded_ack(request, target, OWN, &BRANCH, response, &mut out).ok()?;
+    write_forwarded_cancel(request, target, OWN, &BRANCH, &mut out).ok()?;
+    let behind = out
+        .strip_prefix(b"before")?
+        .strip_prefix(written(alloc, &ack)?.as_slice())?;
+    Some(behind == written(alloc, &cancel)?.as_slice())
+}
+
+/// Whether they are for the request of these lines and a 486 with another tag.
+fn are_written_along(alloc: Global, lines: &[&[u8]; 9]) -> Option<bool> {
+    let request = message_of(alloc, lines)?;
+    let mut answer = *lines;
+    answer[0] = b"SIP/2.0 486 Busy Here";
+    answer[4] = b"t: <sip:bob@example.com>;tag=7";
+    let response = message_of(alloc, &answer)?;
+    let target = SipUri::read(alloc, TARGET).ok()?;
+    are_written_along_so(alloc, &request, &target, &response)
+}
+
 /// Whether the request of these lines is.
 fn are_written_so(alloc: Global, lines: &[&[u8]]) -> bool {
     let Some(request) = message_of(alloc, lines) else {
@@ -92,4 +144,17 @@ fn requests_are_written_as_they_are_built(rt: HostRuntime) {
     lines[7] = b"Content-Length: 4\r\n\r\nbody";
     lines[8] = b"dropped";
     holds(&rt, are_written_so(alloc, &lines), "a body");
+}
+
+#[test]
+fn requests_along_are_written_as_they_are_built(rt: HostRuntime) {
+    let alloc = rt.alloc();
+    for (row, lines) in [REQUEST, ROUTED].iter().enumerate() {
+        holds_in_row(
+            &rt,
+            are_written_along(alloc, lines).unwrap_or(false),
+            "an ACK and a CANCEL",
+            row,
+        );
+    }
 }

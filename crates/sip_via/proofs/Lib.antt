@@ -1,10 +1,12 @@
 pub mod laws
 pub mod BranchLaws
 pub mod ViaWalk
+pub mod KeyDigits
 pub mod Marked
 pub mod MarkedMessage
 pub mod MarkedVia
 pub mod FrontLaws
+pub mod TrimmedLen
 pub mod ViaFound
 pub mod ViaOnly
 pub mod ViaReads

@@ -50,15 +50,18 @@ impl BranchName {
     }
 }
 
-/// Appends bytes in hexadecimal digits.
-fn append_hex<A: Allocator>(out: &mut Vec<u8, A>, bytes: &[u8]) -> Result<(), AllocError>
-    ensures ok { OnOk result (out.new.items ≡ out.old.items ++ hex_text bytes.now) }
-    ensures begins { take (vec_len out.old) out.new.items ≡ out.old.items }
+/// The hexadecimal digits of a key.
+fn key_digits(key: &[u8]) -> [u8; 32]
+    requires { length key.now ≡ 16 }
+    ensures { result ≡ hex_text key.now }
 {
-    for byte in bytes {
-        out.extend_from_slice(&hex_pair(*byte))?;
+    let mut digits = [0; 32];
+    for i in 0..16 {
+        let [upper, lower] = hex_pair(key[i]);
+        digits[2 * i] = upper;
+        digits[2 * i + 1] = lower;
     }
-    Ok(())
+    digits
 }
 
 /// Appends a number in decimal.
@@ -83,7 +86,7 @@ fn append_branch<A: Allocator>(out: &mut Vec<u8, A>, name: &BranchName) -> Resul
     ensures begins { take (vec_len out.old) out.new.items ≡ out.old.items }
 {
     out.extend_from_slice(b"z9hG4bK")?;
-    append_hex(out, &name.key)?;
+    out.extend_from_slice(&key_digits(&name.key))?;
     append_dotted(out, u64::from(name.instance))?;
     append_dotted(out, name.context)?;
     append_dotted(out, u64::from(name.target))

@@ -89,7 +89,7 @@ fn are_parts(cut: &Cut<'_>) -> bool
 fn is_trimmed(text: &[u8]) -> bool
     ensures { result ≡ is_trimmed text.now }
 {
-    trim(text) == text
+    trim(text).len() == text.len()
 }
 
 /// The parts of a Via value (RFC 3261 section 20.42); `None` where the text is none.

@@ -1,22 +1,21 @@
-use Rattle.std.proofs.Common.{◌≡◌, ◌∙◌, ◌++◌, ℕ, ap, refl, sym, subst, true, List, [], map, Option, Some, None, option_map, slice_get}
+use Rattle.std.proofs.Common.{◌≡◌, ◌∙◌, ◌++◌, ℕ, ap, sym, subst, true, List, map, Some, None, option_map, slice_get}
 use Rattle.std.specs.Prelude.{IfOk}
 use Rattle.std.specs.List.{list_all}
 use Rattle.std.specs.Option.{option_and_then, option_copied}
 use Rattle.fork_model.specs.Challenges.{challenge_list}
 use Rattle.fork_model.specs.Choice.{Best, stored_at}
 use Rattle.fork_model.specs.Core.{Core}
-use Rattle.fork_model.specs.Table.{Challenge, Offer, Row, Table}
+use Rattle.fork_model.specs.Table.{Challenge, Offer}
 use Rattle.fork_context.specs.Chosen.{IsChosen}
 use Rattle.fork_context.specs.LeftView.{left_of}
-use Rattle.fork_book.specs.Log.{Log, core_of, table_of}
+use Rattle.fork_book.specs.Log.{core_of, table_of}
 use Rattle.sip_text.specs.Message.{is_value}
 use Rattle.sip_text.specs.Text.{MessageText}
 use Rattle.sip_build.specs.SeenKept.{texts}
-use Rattle.sip_build.specs.Upward.{is_challenge, upward_of}
+use Rattle.sip_build.specs.Upward.{is_challenge}
 use Rattle.fork_parts.specs.AnswersInside.{IsText}
-use Rattle.fork_parts.specs.Built.{answer_in, best_of, kept_at, text_of, was_received}
-use Rattle.fork_parts.specs.Call.{leg_at, rows_of}
-use Rattle.fork_parts.specs.Sound.{IsForward}
+use Rattle.fork_parts.specs.Built.{answer_in, kept_at, text_of, was_received}
+use Rattle.fork_parts.specs.Call.{leg_at}
 use Rattle.fork_parts.proofs.Paying.{best_made, challenges_pass, forward_of, kept_left, left_pass, texts_pass}
 use Rattle.fork_parts.proofs.StateRows.{received_shown}
 use Rattle.fork_parts.proofs.parts.Parts.best_answer.Goals as goal

@@ -3,8 +3,6 @@ use Rattle.std.specs.Option.{option_copied}
 use Rattle.fork_parts.specs.Call.{leg_at}
 use Rattle.fork_parts.specs.Failed.{is_fault}
 use Rattle.fork_parts.proofs.Failing.{fault_is_open, faulted_silent}
-use Rattle.fork_parts.proofs.NoRows.{fault_adds_none}
-use Rattle.fork_parts.proofs.NotFull.{fault_taken}
 use Rattle.fork_parts.proofs.parts.Parts.fault_client.Goals as goal
 
 pub returns-then-not-is_fault-clause-ok : goal.returns-then-not-is_fault-clause-ok
@@ -14,11 +12,8 @@ returns-then-not-is_fault-clause-ok g c =
     faulted_silent c.args.self.now c.args.n c.args.now c.in-Some.leg.now there c.respond_part.new.self c.fed-client.result.0 c.fed-client.result.1
     c.fed-client.ensures.after c.fed-client.ensures.out q c.respond_part.ensures
 
-pub end_part-requires-clause-plain : goal.end_part-requires-clause-plain
-end_part-requires-clause-plain g c = fault_adds_none c.args.n
-
-pub end_part-requires-clause-taken : goal.end_part-requires-clause-taken
-end_part-requires-clause-taken g c =
+pub end_part-requires-clause-fits : goal.end_part-requires-clause-fits
+end_part-requires-clause-fits g c =
     let there : leg_at c.args.self.now c.args.n ≡ Some c.in-Some.leg.now = sym c.leg.ensures ∙ ap option_copied c.in-Some.is in
     let e : is_fault c.fed-client.result.1.pass ≡ true = let a = c.is_fault.ensures in let b = c.if-not-is_fault.false in cc in
-    fault_taken c.args.self.now c.args.n (fault_is_open c.args.self.now c.args.n c.args.now c.in-Some.leg.now there c.fed-client.result.1 c.requires.sound c.fed-client.ensures.out e)
+    fault_is_open c.args.self.now c.args.n c.args.now c.in-Some.leg.now there c.fed-client.result.1 c.requires.sound c.fed-client.ensures.out e

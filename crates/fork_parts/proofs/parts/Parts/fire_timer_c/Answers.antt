@@ -1,27 +1,22 @@
-use Rattle.std.proofs.Common.{◌≡◌, ◌∙◌, ap, sym, true, false}
+use Rattle.std.proofs.Common.{◌≡◌, refl, true, false}
 use Rattle.fork_model.specs.Table.{is_trying}
 use Rattle.fork_parts.specs.Call.{row_passes}
 use Rattle.fork_parts.proofs.Deeds.{timer_c_cancels, timer_c_ends}
-use Rattle.fork_parts.proofs.Firing.{fired_is_sent, fired_of}
-use Rattle.fork_parts.proofs.NoRows.{timer_c_adds_none}
-use Rattle.fork_parts.proofs.NotFull.{timer_c_taken}
+use Rattle.fork_parts.proofs.Firing.{fired_fits, fired_is_sent}
 use Rattle.fork_parts.proofs.parts.Parts.fire_timer_c.Goals as goal
 
 pub part-requires : goal.part-requires
 part-requires g c = fired_is_sent c.args.self.now c.args.n c.args.now c.requires.due
 
 pub post_bare-requires : goal.post_bare-requires
-post_bare-requires g c =
-    let f = fired_of c.args.self.now c.args.n c.args.now c.requires.due in
-    record { plain = timer_c_adds_none c.args.n; taken = timer_c_taken c.args.self.now c.args.n ((c.requires.sound.legs c.args.n f.1 f.2).timer_c f.3) f.0 }
+post_bare-requires g c = record { plain = refl; fits = fired_fits c.args.self.now c.args.n c.args.now c.requires.due c.requires.sound }
 
 pub end_part-requires : goal.end_part-requires
 end_part-requires g c =
-    let f = fired_of c.args.self.now c.args.n c.args.now c.requires.due in
     record {
       there = fired_is_sent c.args.self.now c.args.n c.args.now c.requires.due;
-      plain = timer_c_adds_none c.args.n;
-      taken = timer_c_taken c.args.self.now c.args.n ((c.requires.sound.legs c.args.n f.1 f.2).timer_c f.3) f.0;
+      plain = refl;
+      fits = fired_fits c.args.self.now c.args.n c.args.now c.requires.due c.requires.sound;
     }
 
 pub returns-then-not-is_trying-clause-ok : goal.returns-then-not-is_trying-clause-ok

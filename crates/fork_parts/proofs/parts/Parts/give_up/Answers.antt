@@ -1,10 +1,9 @@
+use Rattle.std.proofs.Common.{refl}
 use Rattle.fork_parts.proofs.Deeds.{given_up}
-use Rattle.fork_parts.proofs.NoRows.{give_up_adds_none}
-use Rattle.fork_parts.proofs.NotFull.{give_up_taken}
 use Rattle.fork_parts.proofs.parts.Parts.give_up.Goals as goal
 
 pub end_part-requires : goal.end_part-requires
-end_part-requires g c = record { there = c.requires.there; plain = give_up_adds_none c.args.n; taken = give_up_taken c.args.self.now c.args.n c.requires.cancelled }
+end_part-requires g c = record { there = c.requires.there; plain = refl; fits = c.requires.cancelled }
 
 pub returns-clause-ok : goal.returns-clause-ok
 returns-clause-ok g c =

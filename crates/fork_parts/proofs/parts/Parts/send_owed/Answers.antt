@@ -1,10 +1,5 @@
-use Rattle.std.proofs.Common.{◌≡◌, ◌∷◌, ℕ, ap, subst, sym, List, [], drop, Ok, Err}
-use Rattle.std.specs.Prelude.{IfOk}
-use Rattle.sip_text.specs.Text.{MessageText, spelling}
+use Rattle.std.proofs.Common.{subst}
 use Rattle.fork_parts.specs.AnswersInside.{IsPaid}
-use Rattle.fork_parts.specs.Built.{status_of}
-use Rattle.fork_parts.specs.Call.{Call}
-use Rattle.fork_parts.specs.Pump.{AnswersWith, Pumped, SendsAnswer}
 use Rattle.fork_parts.specs.SeenStep.{pumped}
 use Rattle.fork_parts.specs.declared.answers.Payment.{Payment}
 use Rattle.fork_parts.specs.declared.answers.Payment.TheVariants as payment

@@ -20,7 +20,8 @@ invariant_of-self g c = sized_leg c.self.inside.book c.self.inside.ways.items c.
 pub returns-clause-ok : goal.returns-clause-ok
 returns-clause-ok g c =
     let P : List Way → Type 0 = λ ws. slice_get ws c.args.n ≡ Some c.way_at-way.result.now in
+    let copied : c.in_ok-sent.sent.items ≡ c.in_ok-bytes.bytes.items = c.in_ok-sent.ensures.items ∙ c.deref-2.ensures.value in
     request_sent c.self.inside.fixed c.self.inside.book c.self.inside.ways.items c.self.inside.legs.items c.put_leg.new.legs.items
     (record { machine = c.self.inside.served; owed = c.self.inside.owed.items; last = c.self.inside.last.items }) c.args.self.now
     c.args.n c.args.now c.way_at-way.result.now c.hop-to.result c.in_ok-bytes.bytes.items c.in_ok-sent.sent.items (kinds.kind_of c.kind.result) c.start-leg.result
-    c.self.view_is (subst P c.deref.ensures.value c.way_at-way.ensures) c.hop-to.ensures (c.in_ok-bytes.ensures.items ∙ c.deref-2.ensures.value) c.in_ok-sent.ensures c.kind.ensures c.start-leg.ensures c.put_leg.ensures
+    c.self.view_is (subst P c.deref.ensures.value c.way_at-way.ensures) c.hop-to.ensures (sym copied) (copied ∙ c.in_ok-bytes.ensures) c.kind.ensures c.start-leg.ensures c.put_leg.ensures

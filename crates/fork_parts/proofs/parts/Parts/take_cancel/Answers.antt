@@ -41,4 +41,4 @@ returns-clause-ok g c =
     let none = c.new_rows_are_contacts.ensures.none (table_of c.self.inside.book) Cancel (length c.self.inside.book.history) refl in
     let P : Call → Type 0 = λ x. CancelledBy x c.args.cancel c.args.to (Posted c.in-Ok.at) new in
     subst P c.self.view_is
-    (cancel_posts call new c.args.cancel c.args.to is.0 c.post.new.self c.in-Ok.at closes sound is.1 none c.in-Ok.ensures.at (ap (λ (os : List Owed). record call { log = c.post.new.self; server = record call.server { owed = os } }) owed))
+    (cancel_posts c.open_branches_take_events.ensures.never_refused call new c.args.cancel c.args.to is.0 c.post.new.self c.in-Ok.at closes sound is.1 none c.in-Ok.ensures.at (ap (λ (os : List Owed). record call { log = c.post.new.self; server = record call.server { owed = os } }) owed))

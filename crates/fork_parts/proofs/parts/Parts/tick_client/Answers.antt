@@ -1,4 +1,4 @@
-use Rattle.std.proofs.Common.{◌≡◌, ◌∙◌, ap, subst, true, false}
+use Rattle.std.proofs.Common.{◌≡◌, refl, subst, true, false}
 use Rattle.sip_txn.specs.declared.event.TxEvent.TheVariants as event
 use Rattle.fork_parts.specs.Client.{client_after, client_out}
 use Rattle.fork_parts.specs.Leg.{Leg}
@@ -8,8 +8,6 @@ use Rattle.fork_parts.specs.Pump.{is_request, is_timeout}
 use Rattle.fork_parts.specs.SeenDatagram.{seen}
 use Rattle.fork_parts.proofs.Deeds.{client_ticked_sent, client_ticked_silent, client_timed_out, same_leg}
 use Rattle.fork_parts.proofs.Failing.{timeout_is_open}
-use Rattle.fork_parts.proofs.NoRows.{timeout_adds_none}
-use Rattle.fork_parts.proofs.NotFull.{timeout_taken}
 use Rattle.fork_parts.proofs.parts.Parts.tick_client.Goals as goal
 
 pub end_part-requires : goal.end_part-requires
@@ -17,7 +15,7 @@ end_part-requires g c =
     let e : is_timeout c.fed-client.result.1.pass ≡ true = let a = c.is_timeout.ensures in let b = c.if-is_timeout.true in cc in
     let still : row_passes is_open c.args.self.now c.args.n ≡ true =
     timeout_is_open c.args.self.now c.args.n c.args.now c.part.result.now c.part.ensures c.fed-client.result.1 c.requires.sound c.fed-client.ensures.out e in
-    record { there = c.requires.there; plain = timeout_adds_none c.args.n; taken = timeout_taken c.args.self.now c.args.n still }
+    record { there = c.requires.there; plain = refl; fits = still }
 
 pub returns-then-is_timeout-clause-ok : goal.returns-then-is_timeout-clause-ok
 returns-then-is_timeout-clause-ok g c =

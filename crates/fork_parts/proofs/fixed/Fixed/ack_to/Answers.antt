@@ -1,7 +1,0 @@
-use Rattle.std.proofs.Common.{◌∙◌, ap}
-use Rattle.sip_text.specs.Text.{MessageText}
-use Rattle.sip_build.specs.Requests.{ack_of}
-use Rattle.fork_parts.proofs.fixed.Fixed.ack_to.Goals as goal
-
-pub returns-in-Ok : goal.returns-in-Ok
-returns-in-Ok g c = c.in-Ok.ensures.ok ∙ ap (λ (sent : MessageText). ack_of sent c.args.response.now) c.in_ok-sent.ensures

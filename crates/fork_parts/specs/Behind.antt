@@ -1,0 +1,33 @@
+-- The failure that a branch keeps is the response behind its stored answer (RFC 3261 section 16.7 steps 4 to 6).
+use Rattle.std.specs.Prelude.{◌≡◌, ℕ, true, List, Some, slice_get}
+use Rattle.fork_model.specs.Sources.{HasStored}
+use Rattle.fork_model.specs.Table.{Rules, StoredAnswer}
+use Rattle.fork_model.specs.History.{Target}
+use Rattle.fork_book.specs.Log.{events_of, opening_log, table_of}
+use Rattle.sip_text.specs.Text.{MessageText}
+use Rattle.fork_parts.specs.Begun.{begun}
+use Rattle.fork_parts.specs.Built.{answer_in, status_of}
+use Rattle.fork_parts.specs.Call.{Call, leg_at}
+use Rattle.fork_parts.specs.Fixed.{Fixed, Way, kind_of}
+use Rattle.fork_parts.specs.Response.{event_by}
+use Rattle.fork_parts.specs.Sound.{IsSound}
+use Rattle.fork_parts.specs.Step.{Turn, Step}
+
+-- branch n keeps a response, which was posted as the event at this position
+abbrev pub KeepsEvent : Call → (n at : ℕ) → Type 0
+KeepsEvent call n at =
+    (m : MessageText) × (answer_in (leg_at call n) ≡ Some m) × (slice_get (events_of call.log.history) at ≡ Some (event_by n (status_of m) m))
+
+-- each branch with a stored answer that came keeps the response that the answer was
+abbrev pub KeepsAnswers : Call → Type 0
+KeepsAnswers call =
+    (n : ℕ) (stored : StoredAnswer) → HasStored (table_of call.log) n stored → stored.received ≡ true → KeepsEvent call n stored.arrival
+
+abbrev pub BegunKeepsAnswers : Type 0
+BegunKeepsAnswers =
+    (fixed : Fixed) (rules : Rules) (targets : List Target) (ways : List Way)
+    → KeepsAnswers (begun fixed (opening_log (kind_of fixed) rules targets) ways)
+
+abbrev pub StepsKeepAnswers : Type 0
+StepsKeepAnswers =
+    (turn : Turn) (call new : Call) → IsSound call → KeepsAnswers call → Step turn.now call turn.input new turn.output → KeepsAnswers new

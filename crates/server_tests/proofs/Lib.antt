@@ -1,0 +1,2 @@
+-- What tests of the server rest on.
+pub mod Sharing

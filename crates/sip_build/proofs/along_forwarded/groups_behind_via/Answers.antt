@@ -1,0 +1,15 @@
+use Rattle.std.proofs.Common.{◌∙◌, ◌++◌, ◌∷◌, [], List, ap, map, sym}
+use Rattle.std.specs.Prelude.{codes}
+use Rattle.sip_text.specs.Name.{values_of}
+use Rattle.sip_text.specs.Text.{HeaderText}
+use Rattle.sip_via.specs.Edits.{line}
+use Rattle.sip_via.specs.OwnVia.{own_via}
+use Rattle.sip_via.specs.ViaParts.{or_empty}
+use Rattle.sip_build.proofs.GroupTexts.{renamed-lines}
+use Rattle.sip_build.proofs.along_forwarded.groups_behind_via.Goals as goal
+
+pub returns : goal.returns
+returns g c target proxy branch =
+    let routes = renamed-lines (codes "route") (codes "Route") _ ∙ ap (λ (hs : List HeaderText). map (line (codes "Route")) (values_of (codes "route") hs)) c.headers.ensures in
+    let call = sym (ap or_empty c.call_id.ensures) in
+    λ i. line (codes "Via") (own_via proxy branch) ∷ line (codes "Max-Forwards") (codes "70") ∷ (routes i ++ line (codes "From") (c.first_value.ensures i) ∷ line (codes "To") c.args.to.now ∷ line (codes "Call-ID") (call i) ∷ line (codes "CSeq") (c.requires i ++ 32 ∷ c.args.method.now) ∷ line (codes "Content-Length") (codes "0") ∷ [])

@@ -1,0 +1,139 @@
+//! The ACK for a failure and the CANCEL of a request that was forwarded, straight as text.
+
+ghost use Rattle.std.specs.Prelude.{◌≡◌, ◌++◌, ◌∷◌, codes, take, true, OnErr, OnOk, vec_len};
+ghost use Rattle.sip_text.specs.Text.{spelling};
+ghost use Rattle.sip_uri.specs.Uri.{Uri};
+ghost use Rattle.sip_via.specs.declared.branch.BranchName.{BranchName};
+ghost use Rattle.sip_via.specs.declared.own.Own.{Own};
+ghost use Rattle.sip_via.specs.BranchText.{IsBranch};
+ghost use Rattle.sip_via.specs.Edits.{line};
+ghost use Rattle.sip_via.specs.OwnVia.{IsOwn, own_via};
+ghost use Rattle.sip_route.specs.Loop.{cseq_number};
+ghost use Rattle.sip_build.specs.Forwarding.{forwarded, is_request};
+ghost use Rattle.sip_build.specs.Groups.{all_lines};
+ghost use Rattle.sip_build.specs.Requests.{ack_of, along_to, cancel_of};
+
+use crate::forwarded_text::{append_own_via, append_to_target};
+use crate::group_lens::groups_len;
+use crate::groups::{Group, Pick, append_groups};
+use crate::laws::{ack_of_a_forwarded_request, cancel_of_a_forwarded_request};
+use crate::parts::{ask_for_lines, whole_or_nothing};
+use itoa::Buffer;
+use sip_text::{Message, append_end};
+use sip_uri::SipUri;
+use sip_via::{BranchName, Own, first_value};
+use std::alloc::{AllocError, Allocator};
+
+/// Shows that the numbers of the proxy's address are bounded.
+fn is_own(own: Own)
+    ensures { IsOwn own }
+{}
+
+/// Shows that the numbers of a branch are bounded.
+fn is_branch(name: BranchName)
+    ensures { IsBranch name }
+{}
+
+/// The header lines behind the Via line of a request of that method on the way of one that went to a
+/// target, and whose CSeq has that number.
+fn groups_behind_via<'a, A: Allocator>(
+    method: &'a [u8],
+    message: &'a Message<A>,
+    to: &'a [u8],
+    number: &'a [u8],
+) -> [Group<'a, A>; 7]
+    requires { number.now ≡ cseq_number message.now }
+    ensures { (target : Uri) (own : Own) (branch : BranchName)
+        → line (codes "Via") (own_via own branch) ∷ all_lines result
+        ≡ (along_to method.now message.now target own branch to.now).headers }
+{
+    [
+        Group::Line(b"Max-Forwards", b"70"),
+        Group::Picked(message.headers(), Pick::Renamed(b"route", b"Route")),
+        Group::Line(b"From", first_value(message, b"from")),
+        Group::Line(b"To", to),
+        Group::Line(b"Call-ID", message.call_id()),
+        Group::Joined(b"CSeq", number, b" ", method),
+        Group::Line(b"Content-Length", b"0"),
+    ]
+}
+
+/// Appends a request of that method on the way of one that went to a target, or a part of it.
+fn append_along_to<A: Allocator + Clone, B: Allocator>(
+    out: &mut Vec<u8, B>,
+    method: &[u8],
+    message: &Message<A>,
+    target: &SipUri<A>,
+    own: Own,
+    branch: &BranchName,
+    to: &[u8],
+) -> Result<(), AllocError>
+    ensures ok { OnOk result
+        (out.new.items ≡ out.old.items ++ spelling (along_to method.now message.now target.now own branch.now to.now)) }
+    ensures begins { take (vec_len out.old) out.new.items ≡ out.old.items }
+{
+    let mut buffer = Buffer::new();
+    let number = buffer.format(message.cseq().number).as_bytes();
+    let groups = groups_behind_via(method, message, to, number);
+    ask_for_lines(out, groups_len(&groups));
+    append_to_target(out, method, target)?;
+    append_own_via(out, own, branch)?;
+    append_groups(out, &groups)?;
+    append_end(out, b"")?;
+    Ok(())
+}
+
+/// Appends the ACK for a response of 300 to 699 to a request that went to a target (RFC 3261 section
+/// 17.1.1.3): the text of what `ack_of` builds of what `forward` builds, with no message between.
+///
+/// # Errors
+///
+/// Only where the growth of `out` is refused; `out` is then unchanged.
+pub fn write_forwarded_ack<A: Allocator + Clone, B: Allocator>(
+    message: &Message<A>,
+    target: &SipUri<A>,
+    own: Own,
+    branch: &BranchName,
+    response: &Message<A>,
+    out: &mut Vec<u8, B>,
+) -> Result<(), AllocError>
+    requires { is_request message.now.start ≡ true }
+    ensures ok { OnOk result
+        (out.new.items ≡ out.old.items ++ spelling (ack_of (forwarded message.now target.now own branch.now) response.now)) }
+    ensures err { OnErr result (out.new.items ≡ out.old.items) }
+{
+    is_own(own);
+    is_branch(*branch);
+    ack_of_a_forwarded_request();
+    let before = out.len();
+    let to = first_value(response, b"to");
+    let done = append_along_to(out, b"ACK", message, target, own, branch, to);
+    whole_or_nothing(out, before, done)
+}
+
+/// Appends the CANCEL of a request that went to a target (RFC 3261 section 9.1): the text of what
+/// `cancel_of` builds of what `forward` builds, with no message between.
+///
+/// # Errors
+///
+/// Only where the growth of `out` is refused; `out` is then unchanged.
+pub fn write_forwarded_cancel<A: Allocator + Clone, B: Allocator>(
+    message: &Message<A>,
+    target: &SipUri<A>,
+    own: Own,
+    branch: &BranchName,
+    out: &mut Vec<u8, B>,
+) -> Result<(), AllocError>
+    requires { is_request message.now.start ≡ true }
+    ensures ok { OnOk result
+        (out.new.items ≡ out.old.items ++ spelling (cancel_of (forwarded message.now target.now own branch.now))) }
+    ensures err { OnErr result (out.new.items ≡ out.old.items) }
+{
+    is_own(own);
+    is_branch(*branch);
+    cancel_of_a_forwarded_request();
+    let before = out.len();
+    let to = first_value(message, b"to");
+    let done = append_along_to(out, b"CANCEL", message, target, own, branch, to);
+    whole_or_nothing(out, before, done)
+}
