@@ -1,5 +1,5 @@
 -- Header lines in groups, as lines and as text.
-use Rattle.std.proofs.Common.{◌≡◌, ◌+◌, ◌<◌, ◌≤◌, arith, Option, Some, None, inl, inr, Result, Ok, Err, OnErr, OnOk, length, subst, ℕ, List, [], ◌∷◌, ◌++◌, map, refl, sym, ap, ◌∙◌}
+use Rattle.std.proofs.Common.{◌≡◌, ◌+◌, ◌-◌, ◌^◌, ◌<◌, ◌≤◌, arith, Option, Some, None, inl, inr, Result, Ok, Err, OnErr, OnOk, length, min, subst, ℕ, List, [], ◌∷◌, ◌++◌, map, refl, sym, ap, ◌∙◌}
 use Rattle.std.specs.Borrow.{Bor}
 use Rattle.std.specs.List.{filter, flat_map}
 use Rattle.std.proofs.lemmas.Grind.{flat_map-append}
@@ -137,3 +137,16 @@ spelled-as front groups body m s h b =
 pub room-as : {E : Type 0} (r : Result Unit E) (room len : ℕ) (t s : List ℕ) → OnErr r (room < len + length t) → t ≡ s → len + length s ≤ room → IsOk r
 room-as (Ok x) room len t s full e fits = refl
 room-as (Err x) room len t s full e fits = let same : length t ≡ length s = ap length e in absurd (omega (arith, full, fits, same))
+
+-- ---- a start line and what stands behind it
+
+pub behind-full : (old n1 : List ℕ) (room0 room1 len0 len1 : ℕ) (a t s : List ℕ) → len0 ≡ length old → len1 ≡ length n1 → n1 ≡ old ++ a → room0 ≤ room1 → room1 < len1 + length t → s ≡ a ++ t → room0 < len0 + length s
+behind-full old n1 room0 room1 len0 len1 a t s l0 l1 e1 kept full k =
+    let long : length s ≡ length a + length t = ap length k ∙ length-append a t in
+    let mid : length n1 ≡ length old + length a = ap length e1 ∙ length-append old a in
+    omega (arith, long, mid)
+
+pub two-full : (room len all front tail : ℕ) (a t s : List ℕ) → front ≡ saturated (length a) → tail ≡ saturated (length t) → all ≡ min (front + tail) (2 ^ 64 - 1) → room < len + all → s ≡ a ++ t → room < len + length s
+two-full room len all front tail a t s f e sum full k =
+    let long : length s ≡ length a + length t = ap length k ∙ length-append a t in
+    omega (arith, long, f, e, sum, full)

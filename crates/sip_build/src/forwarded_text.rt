@@ -16,13 +16,13 @@ ghost use Rattle.sip_build.specs.Forwarding.{forwarded, hops_lowered, is_request
 ghost use Rattle.sip_build.specs.Texts.{lines_text};
 ghost use Rattle.sip_route.specs.Hops.{IsHops, hops_name};
 
-use crate::lines::append_replaced;
-use crate::parts::{ask_for_room, whole_or_nothing};
+use crate::groups::{Group, append_tail, tail_len};
+use crate::parts::{ask_for_lines, whole_or_nothing};
 use itoa::Buffer;
 use sip_lex::read_number;
-use sip_text::{Header, Message, Start, append_end, append_header, append_headers};
+use sip_text::{Header, Message, Start};
 use sip_uri::SipUri;
-use sip_via::{BranchName, Own, write_branch};
+use sip_via::{BranchName, Own, place_of, write_branch};
 use std::alloc::{AllocError, Allocator};
 
 const MAX_FORWARDS: &[u8] = b"max-forwards";
@@ -112,42 +112,6 @@ fn one_fewer(value: &[u8]) -> u64
     read_number(value, 255).unwrap_or(1) - 1
 }
 
-/// Appends the header lines with one hop fewer than their first Max-Forwards value allows.
-fn append_fewer<A: Allocator, B: Allocator>(
-    out: &mut Vec<u8, B>,
-    headers: &[Header<A>],
-    value: &[u8],
-) -> Result<(), AllocError>
-    requires { IsHops value.now }
-    ensures ok { OnOk result
-        (out.new.items ≡ out.old.items ++ lines_text (hops_lowered (views headers.now) (Some value.now))) }
-    ensures begins { take (vec_len out.old) out.new.items ≡ out.old.items }
-{
-    let hops = one_fewer(value);
-    let mut buffer = Buffer::new();
-    append_replaced(
-        out,
-        headers,
-        MAX_FORWARDS,
-        Some(buffer.format(hops).as_bytes()),
-    )?;
-    Ok(())
-}
-
-/// Appends the header lines behind the seventy hops that a request begins with.
-fn append_seventy<A: Allocator, B: Allocator>(
-    out: &mut Vec<u8, B>,
-    headers: &[Header<A>],
-) -> Result<(), AllocError>
-    ensures ok { OnOk result
-        (out.new.items ≡ out.old.items ++ lines_text (hops_lowered (views headers.now) None)) }
-    ensures begins { take (vec_len out.old) out.new.items ≡ out.old.items }
-{
-    append_header(out, b"Max-Forwards", b"70")?;
-    append_headers(out, headers)?;
-    Ok(())
-}
-
 /// The first Max-Forwards value.
 fn first_hops<A: Allocator>(message: &Message<A>) -> Option<&[u8]>
     ensures { option_copied result ≡ first_value hops_name message.now.headers }
@@ -155,20 +119,36 @@ fn first_hops<A: Allocator>(message: &Message<A>) -> Option<&[u8]>
     message.values(MAX_FORWARDS).next()
 }
 
-/// Appends the header lines with one hop fewer than that value allows, or with seventy.
-fn append_lowered<A: Allocator, B: Allocator>(
-    out: &mut Vec<u8, B>,
-    headers: &[Header<A>],
-    first: Option<&[u8]>,
-) -> Result<(), AllocError>
+/// The hops that a request goes on with: one fewer than its first Max-Forwards value allows, or the seventy that
+/// it begins with.
+fn hops_left(first: Option<&[u8]>) -> u64
     requires { IfSome (option_copied first) IsHops }
-    ensures ok { OnOk result
-        (out.new.items ≡ out.old.items ++ lines_text (hops_lowered (views headers.now) (option_copied first.entry))) }
-    ensures begins { take (vec_len out.old) out.new.items ≡ out.old.items }
+    ensures { result ≡ hops_left (option_copied first) }
 {
     match first {
-        None => append_seventy(out, headers),
-        Some(value) => append_fewer(out, headers, value),
+        None => 70,
+        Some(value) => one_fewer(value),
+    }
+}
+
+/// The header lines with that number of hops in the first Max-Forwards line, or in a line of their own before them.
+fn lowered_groups<'a, A: Allocator>(
+    headers: &'a [Header<A>],
+    hops: &'a [u8],
+) -> [Group<'a, A>; 3]
+{
+    let (front, back) = headers.split_at(place_of(headers, MAX_FORWARDS));
+    match back.split_first() {
+        None => [
+            Group::Line(b"Max-Forwards", hops),
+            Group::Kept(headers),
+            Group::Kept(&[]),
+        ],
+        Some((header, after)) => [
+            Group::Kept(front),
+            Group::Line(&header.name, hops),
+            Group::Kept(after),
+        ],
     }
 }
 
@@ -186,11 +166,14 @@ fn append_forwarded<A: Allocator + Clone, B: Allocator>(
         (out.new.items ≡ out.old.items ++ spelling (forwarded message.now target.now own branch.now)) }
     ensures begins { take (vec_len out.old) out.new.items ≡ out.old.items }
 {
+    let mut buffer = Buffer::new();
+    let hops = buffer.format(hops_left(first_hops(message))).as_bytes();
+    let groups = lowered_groups(message.headers(), hops);
+    let len = tail_len(&groups, message.body());
+    ask_for_lines(out, len);
     append_to_target(out, method_of(message), target)?;
     append_own_via(out, own, branch)?;
-    append_lowered(out, message.headers(), first_hops(message))?;
-    append_end(out, message.body())?;
-    Ok(())
+    append_tail(out, &groups, message.body(), len)
 }
 
 /// Appends the request as it goes to a target (RFC 3261 section 16.6): the text of what `forward`
@@ -213,7 +196,6 @@ pub fn write_forwarded<A: Allocator + Clone, B: Allocator>(
     ensures err { OnErr result (out.new.items ≡ out.old.items) }
 {
     let before = out.len();
-    ask_for_room(out, message);
     let done = append_forwarded(out, message, target, own, branch);
     whole_or_nothing(out, before, done)
 }
