@@ -18,3 +18,4 @@ pub mod ViasUpward
 pub mod ViasForwarded
 pub mod OwnViaRead
 pub mod Placed
+pub mod FirstHops

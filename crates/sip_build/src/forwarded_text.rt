@@ -1,6 +1,6 @@
 //! Requests as they go to a target, straight as text.
 
-ghost use Rattle.std.specs.Prelude.{◌≡◌, ◌-◌, ◌++◌, ◌∷◌, None, Some, IfSome, OnErr, OnOk, codes, take, true, vec_len};
+ghost use Rattle.std.specs.Prelude.{◌≡◌, ◌-◌, ◌≤◌, ◌++◌, ◌∷◌, IfSome, OnErr, OnOk, codes, length, take, true, vec_len};
 ghost use Rattle.std.specs.Fmt.{decimal};
 ghost use Rattle.std.specs.Option.{option_copied};
 ghost use Rattle.sip_lex.specs.Line.{ended};
@@ -10,10 +10,10 @@ ghost use Rattle.sip_text.specs.Seen.{views};
 ghost use Rattle.sip_text.specs.Text.{Request, header_text, spelling, start_line};
 ghost use Rattle.sip_uri.specs.Uri.{Uri, request_uri};
 ghost use Rattle.sip_via.specs.Address.{address_text, dotted};
-ghost use Rattle.sip_via.specs.Edits.{line};
+ghost use Rattle.sip_via.specs.Edits.{line, place_of};
 ghost use Rattle.sip_via.specs.OwnVia.{own_via};
-ghost use Rattle.sip_build.specs.Forwarding.{forwarded, hops_lowered, is_request, to_target};
-ghost use Rattle.sip_build.specs.Texts.{lines_text};
+ghost use Rattle.sip_build.specs.Forwarding.{forwarded, hops_left, hops_lowered, is_request, to_target};
+ghost use Rattle.sip_build.specs.Groups.{all_lines};
 ghost use Rattle.sip_route.specs.Hops.{IsHops, hops_name};
 
 use crate::groups::{Group, append_tail, tail_len};
@@ -112,18 +112,24 @@ fn one_fewer(value: &[u8]) -> u64
     read_number(value, 255).unwrap_or(1) - 1
 }
 
-/// The first Max-Forwards value.
-fn first_hops<A: Allocator>(message: &Message<A>) -> Option<&[u8]>
-    ensures { option_copied result ≡ first_value hops_name message.now.headers }
+/// The value of the header line at the place of the first Max-Forwards line, if there is one.
+fn value_at<A: Allocator>(headers: &[Header<A>], place: usize) -> Option<&[u8]>
+    requires place { place ≡ place_of hops_name (views headers.now) }
+    requires within { place ≤ length headers.now }
+    ensures { option_copied result ≡ first_value hops_name (views headers.now) }
 {
-    message.values(MAX_FORWARDS).next()
+    let (_, back) = headers.split_at(place);
+    let Some((header, _)) = back.split_first() else {
+        return None;
+    };
+    Some(&header.value)
 }
 
 /// The hops that a request goes on with: one fewer than its first Max-Forwards value allows, or the seventy that
 /// it begins with.
 fn hops_left(first: Option<&[u8]>) -> u64
     requires { IfSome (option_copied first) IsHops }
-    ensures { result ≡ hops_left (option_copied first) }
+    ensures { result ≡ hops_left (option_copied first.entry) }
 {
     match first {
         None => 70,
@@ -131,25 +137,24 @@ fn hops_left(first: Option<&[u8]>) -> u64
     }
 }
 
-/// The header lines with that number of hops in the first Max-Forwards line, or in a line of their own before them.
+/// The header lines with these hops in the first Max-Forwards line, or in a line before them where there is none.
 fn lowered_groups<'a, A: Allocator>(
     headers: &'a [Header<A>],
+    place: usize,
     hops: &'a [u8],
 ) -> [Group<'a, A>; 3]
+    requires place { place ≡ place_of hops_name (views headers.now) }
+    requires within { place ≤ length headers.now }
+    requires hops { hops.now ≡ decimal (hops_left (first_value hops_name (views headers.now))) }
+    ensures { all_lines result ≡ hops_lowered (views headers.now) (first_value hops_name (views headers.now)) }
 {
-    let (front, back) = headers.split_at(place_of(headers, MAX_FORWARDS));
-    match back.split_first() {
-        None => [
-            Group::Line(b"Max-Forwards", hops),
-            Group::Kept(headers),
-            Group::Kept(&[]),
-        ],
-        Some((header, after)) => [
-            Group::Kept(front),
-            Group::Line(&header.name, hops),
-            Group::Kept(after),
-        ],
-    }
+    let (front, back) = headers.split_at(place);
+    let Some((header, after)) = back.split_first() else {
+        let seventy = Group::Line(b"Max-Forwards", hops);
+        return [seventy, Group::Kept(headers), Group::Kept(&[])];
+    };
+    let lowered = Group::Line(&header.name, hops);
+    [Group::Kept(front), lowered, Group::Kept(after)]
 }
 
 /// Appends the request as it goes to a target, or a part of it.
@@ -166,9 +171,11 @@ fn append_forwarded<A: Allocator + Clone, B: Allocator>(
         (out.new.items ≡ out.old.items ++ spelling (forwarded message.now target.now own branch.now)) }
     ensures begins { take (vec_len out.old) out.new.items ≡ out.old.items }
 {
+    let headers = message.headers();
+    let place = place_of(headers, MAX_FORWARDS);
     let mut buffer = Buffer::new();
-    let hops = buffer.format(hops_left(first_hops(message))).as_bytes();
-    let groups = lowered_groups(message.headers(), hops);
+    let hops = buffer.format(hops_left(value_at(headers, place))).as_bytes();
+    let groups = lowered_groups(headers, place, hops);
     let len = tail_len(&groups, message.body());
     ask_for_lines(out, len);
     append_to_target(out, method_of(message), target)?;
