@@ -13,14 +13,14 @@ use Rattle.sip_text.specs.Text.{HeaderText, MessageText, StartText, header_text,
 use Rattle.sip_via.specs.Lines.{lines_among}
 use Rattle.sip_via.specs.Edits.{line}
 use Rattle.std.proofs.lemmas.List.{length-append}
-use Rattle.sip_build.proofs.Pieces.{three}
+use Rattle.sip_build.proofs.Pieces.{three, whole_text}
 use Rattle.sip_build.specs.SeenKept.{texts}
 use Rattle.sip_build.specs.Texts.{lines_text}
 use Rattle.sip_build.specs.Upward.{challenge_line, contact_lines}
 use Rattle.sip_build.specs.declared.groups.Group.{Group}
 use Rattle.sip_build.specs.declared.made_text.Front.{Front}
 use Rattle.sip_build.specs.Exchanged.{is_other}
-use Rattle.sip_build.specs.Groups.{all_lines, lines_of, made_of, start_of, under}
+use Rattle.sip_build.specs.Groups.{all_lines, lines_of, made_of, start_of, tail_text, under}
 use Rattle.sip_build.proofs.Exchanged.{filter-named, filter-other}
 
 -- what each part's lines are as text, and the text of all lines
@@ -150,3 +150,12 @@ pub two-full : (room len all front tail : ℕ) (a t s : List ℕ) → front ≡ 
 two-full room len all front tail a t s f e sum full k =
     let long : length s ≡ length a + length t = ap length k ∙ length-append a t in
     omega (arith, long, f, e, sum, full)
+
+-- ---- a start line, a line, and what stands behind it
+
+pub behind-line : {A : Type 0} (old n1 n2 n3 n4 : List ℕ) (made start : StartText) (h : HeaderText) (groups : List (Group A)) (hs : List HeaderText) (end body : List ℕ) → n1 ≡ old → n2 ≡ n1 ++ ended (start_line made) → n3 ≡ n2 ++ header_text h → n4 ≡ n3 ++ tail_text groups end → all_lines groups ≡ hs → start ≡ made → end ≡ body → n4 ≡ old ++ spelling (record { start = start; headers = h ∷ hs; body = body })
+behind-line old n1 n2 n3 n4 made start h groups hs end body e1 e2 e3 e4 lines s b =
+    let first : n2 ≡ old ++ ended (start_line made) = e2 ∙ ap (λ (x : List ℕ). x ++ ended (start_line made)) e1 in
+    let text : flat_map (λ g. lines_text (lines_of g)) groups ≡ lines_text hs = texts-of-lines lines_of groups ∙ ap lines_text lines in
+    let whole : ended (start_line made) ++ (header_text h ++ tail_text groups end) ≡ spelling (record { start = start; headers = h ∷ hs; body = body }) = ap (λ (x : List ℕ). ended (start_line made) ++ (header_text h ++ (x ++ (ended [] ++ end)))) text ∙ whole_text made end start h hs body s b in
+    three old n2 n3 n4 (ended (start_line made)) (header_text h) (tail_text groups end) _ first e3 e4 whole

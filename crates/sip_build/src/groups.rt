@@ -190,11 +190,11 @@ fn append_blank<B: Allocator>(out: &mut Vec<u8, B>, len: usize) -> Result<(), Al
     ensures full { OnErr result (vec_capacity out.old < vec_len out.old + len) }
 {
     out.reserve(len)?;
-    let blank = [0; 512];
+    let blank = [0; 1024];
     let mut left = len;
-    while left > 512 {
+    while left > 1024 {
         out.extend_from_slice(&blank)?;
-        left -= 512;
+        left -= 1024;
     }
     out.extend_from_slice(&blank[..left])
 }
