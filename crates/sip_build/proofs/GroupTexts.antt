@@ -44,40 +44,6 @@ spelling_made front groups body = ap (λ (x : List ℕ). ended (start_line (star
 pub ok-as : {E : Type 0} (r : Result Unit E) (old new t s : List ℕ) → OnOk r (new ≡ old ++ t) → t ≡ s → OnOk r (new ≡ old ++ s)
 ok-as r old new t s h e = subst (λ (x : List ℕ). OnOk r (new ≡ old ++ x)) e h
 
-pub full-as : {E : Type 0} (r : Result Unit E) (room len : ℕ) (t s : List ℕ) → OnErr r (room < len + length t) → t ≡ s → OnErr r (room < len + length s)
-full-as r room len t s h e = subst (λ (x : List ℕ). OnErr r (room < len + length x)) e h
-
--- ---- the parts of a message one behind the other
-
-pub parts-ok : (old n1 n2 n3 : List ℕ) (a b d s : List ℕ) → n1 ≡ old ++ a → n2 ≡ n1 ++ b → n3 ≡ n2 ++ d → s ≡ a ++ (b ++ d) → n3 ≡ old ++ s
-parts-ok old n1 n2 n3 a b d s e1 e2 e3 k = three old n1 n2 n3 a b d s e1 e2 e3 (sym k)
-
-pub first-full : (room len : ℕ) (a b d s : List ℕ) → room < len + length a → s ≡ a ++ (b ++ d) → room < len + length s
-first-full room len a b d s full k =
-    let long : length s ≡ length a + (length b + length d) = ap length k ∙ length-append a (b ++ d) ∙ ap (λ n. length a + n) (length-append b d) in
-    omega (arith, long)
-
-pub second-full : (old n1 : List ℕ) (room0 room1 len0 len1 : ℕ) (a b d s : List ℕ) → len0 ≡ length old → len1 ≡ length n1 → n1 ≡ old ++ a → room0 ≤ room1 → room1 < len1 + length b → s ≡ a ++ (b ++ d) → room0 < len0 + length s
-second-full old n1 room0 room1 len0 len1 a b d s l0 l1 e1 kept full k =
-    let long : length s ≡ length a + (length b + length d) = ap length k ∙ length-append a (b ++ d) ∙ ap (λ n. length a + n) (length-append b d) in
-    let mid : length n1 ≡ length old + length a = ap length e1 ∙ length-append old a in
-    omega (arith, long, mid)
-
-pub third-full : (old n1 n2 : List ℕ) (room0 room1 room2 len0 len2 : ℕ) (a b d s : List ℕ) → len0 ≡ length old → len2 ≡ length n2 → n1 ≡ old ++ a → n2 ≡ n1 ++ b → room0 ≤ room1 → room1 ≤ room2 → room2 < len2 + length d → s ≡ a ++ (b ++ d) → room0 < len0 + length s
-third-full old n1 n2 room0 room1 room2 len0 len2 a b d s l0 l2 e1 e2 kept again full k =
-    let long : length s ≡ length a + (length b + length d) = ap length k ∙ length-append a (b ++ d) ∙ ap (λ n. length a + n) (length-append b d) in
-    let mid : length n1 ≡ length old + length a = ap length e1 ∙ length-append old a in
-    let more : length n2 ≡ length n1 + length b = ap length e2 ∙ length-append n1 b in
-    omega (arith, long, mid, more)
-
--- ---- lengths
-
-pub length-three : (a b d s : List ℕ) → s ≡ a ++ (b ++ d) → length s ≡ length a + (length b + length d)
-length-three a b d s k = ap length k ∙ length-append a (b ++ d) ∙ ap (λ n. length a + n) (length-append b d)
-
-pub saturated-three : (r1 r2 r3 q1 q2 n1 n2 n3 n : ℕ) → r1 ≡ saturated n1 → r2 ≡ saturated n2 → r3 ≡ saturated n3 → q1 ≡ saturated (r1 + r2) → q2 ≡ saturated (q1 + r3) → n ≡ n1 + (n2 + n3) → q2 ≡ saturated n
-saturated-three r1 r2 r3 q1 q2 n1 n2 n3 n e1 e2 e3 k1 k2 k = omega (arith, e1, e2, e3, k1, k2, k)
-
 -- ---- what is picked of header lines
 
 pub named-lines : (name : List ℕ) (hs : List HeaderText) → flat_map (λ h. under h (if same_name name h.name then Some h.name else None)) hs ≡ lines_among name hs

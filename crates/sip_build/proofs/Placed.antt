@@ -1,21 +1,8 @@
 -- Bytes that were written at a place, piece by piece.
-use Rattle.std.proofs.Common.{◌≡◌, ◌∙◌, ℕ, ◌+◌, ◌<◌, ◌≤◌, List, [], ◌∷◌, ◌++◌, length, take, get_or, map, refl, ap, arith, subst, sym, append_assoc}
+use Rattle.std.proofs.Common.{◌≡◌, ◌∙◌, ℕ, ◌+◌, ◌<◌, ◌≤◌, List, length, take, get_or, map, ap, arith, subst}
 use Rattle.std.specs.List.{flat_map}
-use Rattle.std.proofs.lemmas.List.{append-nil, length-append, take_all}
 use Rattle.std.proofs.lemmas.List.Folds.{flat_map-map, length-flat_map-take}
 use Rattle.sip_build.specs.Placed.{Placed}
-
--- nothing was written
-pub placed-none : (old : List ℕ) (at : ℕ) → Placed old old at [] at
-placed-none old at = record { bytes = sym (append-nil (take at old)); moved = omega arith; len = refl }
-
--- one text behind another
-pub placed-then : (old mid new : List ℕ) (at next end : ℕ) (a b : List ℕ) → Placed old mid at a next → Placed mid new next b end → Placed old new at (a ++ b) end
-placed-then old mid new at next end a b first second = record {
-  bytes = second.bytes ∙ ap (λ (x : List ℕ). x ++ b) first.bytes ∙ append_assoc (take at old) a b;
-  moved = omega (arith, first.moved, second.moved, length-append a b);
-  len = second.len ∙ first.len;
-}
 
 -- under another name of the text
 pub placed-as : (old new : List ℕ) (at end : ℕ) (a b : List ℕ) → Placed old new at a end → a ≡ b → Placed old new at b end
@@ -42,9 +29,3 @@ fits-seen text seen old mid xs i at next x part below placed fits is same =
 -- another name of a text that fits
 pub fits-as : (at room : ℕ) (t s : List ℕ) → at + length s ≤ room → t ≡ s → at + length t ≤ room
 fits-as at room t s fits e = let same : length t ≡ length s = ap length e in omega (arith, fits, same)
-
--- what was written over to its end
-pub placed-all : (start old new text : List ℕ) (at end : ℕ) → at ≡ length start → take at old ≡ start → length old ≡ at + length text → Placed old new at text end → new ≡ start ++ text
-placed-all start old new text at end before begins whole placed =
-    let long : length new ≤ end = omega (arith, placed.moved, placed.len, whole) in
-    sym (take_all end new long) ∙ placed.bytes ∙ ap (λ (x : List ℕ). x ++ text) begins

@@ -174,7 +174,9 @@ fn append_forwarded<A: Allocator + Clone, B: Allocator>(
     let headers = message.headers();
     let place = place_of(headers, MAX_FORWARDS);
     let mut buffer = Buffer::new();
-    let hops = buffer.format(hops_left(value_at(headers, place))).as_bytes();
+    let hops = buffer
+        .format(hops_left(value_at(headers, place)))
+        .as_bytes();
     let groups = lowered_groups(headers, place, hops);
     let len = tail_len(&groups, message.body());
     ask_for_lines(out, len);

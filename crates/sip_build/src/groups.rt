@@ -12,10 +12,10 @@ ghost use Rattle.sip_build.specs.Placed.{Placed};
 ghost use Rattle.sip_build.specs.Texts.{lines_text};
 ghost use Rattle.sip_build.specs.Upward.{challenge_line};
 
-use crate::upstream::challenge_name;
-use fork_rank::Challenge;
 use crate::group_lens::{groups_len, pieces_len};
 use crate::place::{place_line, place_pieces};
+use crate::upstream::challenge_name;
+use fork_rank::Challenge;
 use sip_text::Header;
 use std::alloc::{AllocError, Allocator};
 
@@ -119,11 +119,7 @@ fn place_contacts(out: &mut [u8], at: usize, kept: &[&[u8]]) -> usize
 }
 
 /// Writes a line for each challenge.
-fn place_challenges<A: Allocator>(
-    out: &mut [u8],
-    at: usize,
-    challenges: &[Challenge<A>],
-) -> usize
+fn place_challenges<A: Allocator>(out: &mut [u8], at: usize, challenges: &[Challenge<A>]) -> usize
     requires { at + length (flat_map (λ c. header_text (challenge_line c)) challenges.now) ≤ length out.old }
     ensures { Placed out.old out.new at (flat_map (λ c. header_text (challenge_line c)) challenges.now) result }
 {

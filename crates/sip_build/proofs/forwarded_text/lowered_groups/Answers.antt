@@ -1,11 +1,10 @@
 use Rattle.std.proofs.Common.{◌∷◌, ◌∙◌, [], ◌++◌, List, ℕ, Option, ap, sym}
-use Rattle.std.specs.Prelude.{Some, None, codes}
+use Rattle.std.specs.Prelude.{Some, codes}
 use Rattle.std.specs.Fmt.{decimal}
 use Rattle.std.proofs.lemmas.List.{append-nil}
-use Rattle.sip_text.specs.Name.{first_value}
 use Rattle.sip_text.specs.Seen.{view, views}
 use Rattle.sip_text.specs.Text.{HeaderText}
-use Rattle.sip_via.specs.Edits.{line, replaced}
+use Rattle.sip_via.specs.Edits.{line}
 use Rattle.sip_route.specs.Hops.{hops_name}
 use Rattle.sip_via.proofs.laws.Places.{replaced-split}
 use Rattle.sip_build.specs.Forwarding.{hops_left, hops_lowered}

@@ -2,7 +2,7 @@ use Rattle.std.proofs.Common.{sym}
 use Rattle.sip_lex.specs.Line.{ended}
 use Rattle.sip_text.specs.Text.{start_line}
 use Rattle.sip_build.specs.Groups.{start_of, tail_text}
-use Rattle.sip_build.proofs.Grown.{begins_longer, on_err, on_ok}
+use Rattle.sip_build.proofs.Grown.{on_err, on_ok}
 use Rattle.sip_build.proofs.GroupTexts.{behind-full, spelling_made}
 use Rattle.sip_build.proofs.Pieces.{joined}
 use Rattle.sip_build.proofs.made_text.append_parts.Goals as goal
