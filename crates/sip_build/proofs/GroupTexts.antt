@@ -1,5 +1,5 @@
 -- Header lines in groups, as lines and as text.
-use Rattle.std.proofs.Common.{◌≡◌, ◌+◌, ◌<◌, ◌≤◌, arith, Option, Some, None, inl, inr, Result, Ok, Err, OnErr, OnOk, length, subst, ℕ, List, [], ◌∷◌, ◌++◌, map, refl, sym, ap, ◌∙◌}
+use Rattle.std.proofs.Common.{◌≡◌, ◌+◌, ◌-◌, ◌^◌, ◌<◌, ◌≤◌, arith, Option, Some, None, inl, inr, Result, Ok, Err, OnErr, OnOk, length, min, subst, ℕ, List, [], ◌∷◌, ◌++◌, map, refl, sym, ap, ◌∙◌}
 use Rattle.std.specs.Borrow.{Bor}
 use Rattle.std.specs.List.{filter, flat_map}
 use Rattle.std.proofs.lemmas.Grind.{flat_map-append}
@@ -13,14 +13,14 @@ use Rattle.sip_text.specs.Text.{HeaderText, MessageText, StartText, header_text,
 use Rattle.sip_via.specs.Lines.{lines_among}
 use Rattle.sip_via.specs.Edits.{line}
 use Rattle.std.proofs.lemmas.List.{length-append}
-use Rattle.sip_build.proofs.Pieces.{three}
+use Rattle.sip_build.proofs.Pieces.{three, whole_text}
 use Rattle.sip_build.specs.SeenKept.{texts}
 use Rattle.sip_build.specs.Texts.{lines_text}
 use Rattle.sip_build.specs.Upward.{challenge_line, contact_lines}
 use Rattle.sip_build.specs.declared.groups.Group.{Group}
 use Rattle.sip_build.specs.declared.made_text.Front.{Front}
 use Rattle.sip_build.specs.Exchanged.{is_other}
-use Rattle.sip_build.specs.Groups.{all_lines, lines_of, made_of, start_of, under}
+use Rattle.sip_build.specs.Groups.{all_lines, lines_of, made_of, start_of, tail_text, under}
 use Rattle.sip_build.proofs.Exchanged.{filter-named, filter-other}
 
 -- what each part's lines are as text, and the text of all lines
@@ -43,40 +43,6 @@ spelling_made front groups body = ap (λ (x : List ℕ). ended (start_line (star
 
 pub ok-as : {E : Type 0} (r : Result Unit E) (old new t s : List ℕ) → OnOk r (new ≡ old ++ t) → t ≡ s → OnOk r (new ≡ old ++ s)
 ok-as r old new t s h e = subst (λ (x : List ℕ). OnOk r (new ≡ old ++ x)) e h
-
-pub full-as : {E : Type 0} (r : Result Unit E) (room len : ℕ) (t s : List ℕ) → OnErr r (room < len + length t) → t ≡ s → OnErr r (room < len + length s)
-full-as r room len t s h e = subst (λ (x : List ℕ). OnErr r (room < len + length x)) e h
-
--- ---- the parts of a message one behind the other
-
-pub parts-ok : (old n1 n2 n3 : List ℕ) (a b d s : List ℕ) → n1 ≡ old ++ a → n2 ≡ n1 ++ b → n3 ≡ n2 ++ d → s ≡ a ++ (b ++ d) → n3 ≡ old ++ s
-parts-ok old n1 n2 n3 a b d s e1 e2 e3 k = three old n1 n2 n3 a b d s e1 e2 e3 (sym k)
-
-pub first-full : (room len : ℕ) (a b d s : List ℕ) → room < len + length a → s ≡ a ++ (b ++ d) → room < len + length s
-first-full room len a b d s full k =
-    let long : length s ≡ length a + (length b + length d) = ap length k ∙ length-append a (b ++ d) ∙ ap (λ n. length a + n) (length-append b d) in
-    omega (arith, long)
-
-pub second-full : (old n1 : List ℕ) (room0 room1 len0 len1 : ℕ) (a b d s : List ℕ) → len0 ≡ length old → len1 ≡ length n1 → n1 ≡ old ++ a → room0 ≤ room1 → room1 < len1 + length b → s ≡ a ++ (b ++ d) → room0 < len0 + length s
-second-full old n1 room0 room1 len0 len1 a b d s l0 l1 e1 kept full k =
-    let long : length s ≡ length a + (length b + length d) = ap length k ∙ length-append a (b ++ d) ∙ ap (λ n. length a + n) (length-append b d) in
-    let mid : length n1 ≡ length old + length a = ap length e1 ∙ length-append old a in
-    omega (arith, long, mid)
-
-pub third-full : (old n1 n2 : List ℕ) (room0 room1 room2 len0 len2 : ℕ) (a b d s : List ℕ) → len0 ≡ length old → len2 ≡ length n2 → n1 ≡ old ++ a → n2 ≡ n1 ++ b → room0 ≤ room1 → room1 ≤ room2 → room2 < len2 + length d → s ≡ a ++ (b ++ d) → room0 < len0 + length s
-third-full old n1 n2 room0 room1 room2 len0 len2 a b d s l0 l2 e1 e2 kept again full k =
-    let long : length s ≡ length a + (length b + length d) = ap length k ∙ length-append a (b ++ d) ∙ ap (λ n. length a + n) (length-append b d) in
-    let mid : length n1 ≡ length old + length a = ap length e1 ∙ length-append old a in
-    let more : length n2 ≡ length n1 + length b = ap length e2 ∙ length-append n1 b in
-    omega (arith, long, mid, more)
-
--- ---- lengths
-
-pub length-three : (a b d s : List ℕ) → s ≡ a ++ (b ++ d) → length s ≡ length a + (length b + length d)
-length-three a b d s k = ap length k ∙ length-append a (b ++ d) ∙ ap (λ n. length a + n) (length-append b d)
-
-pub saturated-three : (r1 r2 r3 q1 q2 n1 n2 n3 n : ℕ) → r1 ≡ saturated n1 → r2 ≡ saturated n2 → r3 ≡ saturated n3 → q1 ≡ saturated (r1 + r2) → q2 ≡ saturated (q1 + r3) → n ≡ n1 + (n2 + n3) → q2 ≡ saturated n
-saturated-three r1 r2 r3 q1 q2 n1 n2 n3 n e1 e2 e3 k1 k2 k = omega (arith, e1, e2, e3, k1, k2, k)
 
 -- ---- what is picked of header lines
 
@@ -137,3 +103,25 @@ spelled-as front groups body m s h b =
 pub room-as : {E : Type 0} (r : Result Unit E) (room len : ℕ) (t s : List ℕ) → OnErr r (room < len + length t) → t ≡ s → len + length s ≤ room → IsOk r
 room-as (Ok x) room len t s full e fits = refl
 room-as (Err x) room len t s full e fits = let same : length t ≡ length s = ap length e in absurd (omega (arith, full, fits, same))
+
+-- ---- a start line and what stands behind it
+
+pub behind-full : (old n1 : List ℕ) (room0 room1 len0 len1 : ℕ) (a t s : List ℕ) → len0 ≡ length old → len1 ≡ length n1 → n1 ≡ old ++ a → room0 ≤ room1 → room1 < len1 + length t → s ≡ a ++ t → room0 < len0 + length s
+behind-full old n1 room0 room1 len0 len1 a t s l0 l1 e1 kept full k =
+    let long : length s ≡ length a + length t = ap length k ∙ length-append a t in
+    let mid : length n1 ≡ length old + length a = ap length e1 ∙ length-append old a in
+    omega (arith, long, mid)
+
+pub two-full : (room len all front tail : ℕ) (a t s : List ℕ) → front ≡ saturated (length a) → tail ≡ saturated (length t) → all ≡ min (front + tail) (2 ^ 64 - 1) → room < len + all → s ≡ a ++ t → room < len + length s
+two-full room len all front tail a t s f e sum full k =
+    let long : length s ≡ length a + length t = ap length k ∙ length-append a t in
+    omega (arith, long, f, e, sum, full)
+
+-- ---- a start line, a line, and what stands behind it
+
+pub behind-line : {A : Type 0} (old n1 n2 n3 n4 : List ℕ) (made start : StartText) (h : HeaderText) (groups : List (Group A)) (hs : List HeaderText) (end body : List ℕ) → n1 ≡ old → n2 ≡ n1 ++ ended (start_line made) → n3 ≡ n2 ++ header_text h → n4 ≡ n3 ++ tail_text groups end → all_lines groups ≡ hs → start ≡ made → end ≡ body → n4 ≡ old ++ spelling (record { start = start; headers = h ∷ hs; body = body })
+behind-line old n1 n2 n3 n4 made start h groups hs end body e1 e2 e3 e4 lines s b =
+    let first : n2 ≡ old ++ ended (start_line made) = e2 ∙ ap (λ (x : List ℕ). x ++ ended (start_line made)) e1 in
+    let text : flat_map (λ g. lines_text (lines_of g)) groups ≡ lines_text hs = texts-of-lines lines_of groups ∙ ap lines_text lines in
+    let whole : ended (start_line made) ++ (header_text h ++ tail_text groups end) ≡ spelling (record { start = start; headers = h ∷ hs; body = body }) = ap (λ (x : List ℕ). ended (start_line made) ++ (header_text h ++ (x ++ (ended [] ++ end)))) text ∙ whole_text made end start h hs body s b in
+    three old n2 n3 n4 (ended (start_line made)) (header_text h) (tail_text groups end) _ first e3 e4 whole

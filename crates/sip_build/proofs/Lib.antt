@@ -17,3 +17,5 @@ pub mod ViaPieces
 pub mod ViasUpward
 pub mod ViasForwarded
 pub mod OwnViaRead
+pub mod Placed
+pub mod FirstHops

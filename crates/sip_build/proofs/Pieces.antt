@@ -1,7 +1,5 @@
--- Texts that grow by pieces, and by header lines.
+-- Texts that grow by pieces.
 use Rattle.std.proofs.Common.{◌≡◌, ℕ, List, [], ◌∷◌, ◌++◌, refl, sym, ap, ◌∙◌, append_assoc}
-use Rattle.std.proofs.lemmas.Grind.{flat_map-append}
-use Rattle.std.proofs.lemmas.List.{append-nil}
 use Rattle.sip_lex.specs.Line.{ended}
 use Rattle.sip_text.specs.Text.{HeaderText, StartText, header_text, spelling, start_line}
 use Rattle.std.specs.Prelude.{codes}
@@ -40,30 +38,6 @@ seven old n1 n2 n3 n4 n5 n6 n7 a b d e f g h all e1 e2 e3 e4 e5 e6 e7 k =
     let back : n7 ≡ n3 ++ (e ++ (f ++ (g ++ h))) = four n3 n4 n5 n6 n7 e f g h (e ++ (f ++ (g ++ h))) e4 e5 e6 e7 refl in
     let rest : n7 ≡ n1 ++ (b ++ (d ++ (e ++ (f ++ (g ++ h))))) = three n1 n2 n3 n7 b d (e ++ (f ++ (g ++ h))) (b ++ (d ++ (e ++ (f ++ (g ++ h))))) e2 e3 back refl in
     joined old n1 n7 a (b ++ (d ++ (e ++ (f ++ (g ++ h))))) all e1 rest k
-
--- ---- in header lines
-
-lines-append : (xs ys : Lines) → lines_text xs ++ lines_text ys ≡ lines_text (xs ++ ys)
-lines-append xs ys = sym (flat_map-append header_text xs ys)
-
--- one line
-pub one : (old new : Text) (h : HeaderText) → new ≡ old ++ header_text h → new ≡ old ++ lines_text (h ∷ [])
-one old new h e = e ∙ ap (λ (x : Text). old ++ x) (sym (append-nil (header_text h)))
-
-pub two_lines : (old mid new : Text) (xs ys all : Lines) → mid ≡ old ++ lines_text xs → new ≡ mid ++ lines_text ys → xs ++ ys ≡ all → new ≡ old ++ lines_text all
-two_lines old mid new xs ys all e h k = joined old mid new (lines_text xs) (lines_text ys) (lines_text all) e h (lines-append xs ys ∙ ap (λ (zs : Lines). lines_text zs) k)
-
-pub three_lines : (old n1 n2 n3 : Text) (xs ys zs all : Lines) → n1 ≡ old ++ lines_text xs → n2 ≡ n1 ++ lines_text ys → n3 ≡ n2 ++ lines_text zs → xs ++ (ys ++ zs) ≡ all → n3 ≡ old ++ lines_text all
-three_lines old n1 n2 n3 xs ys zs all e1 e2 e3 k = two_lines old n1 n3 xs (ys ++ zs) all e1 (two_lines n1 n2 n3 ys zs (ys ++ zs) e2 e3 refl) k
-
-pub seven_lines : (old n1 n2 n3 n4 n5 n6 n7 : Text) (a b d e f g h all : Lines) → n1 ≡ old ++ lines_text a → n2 ≡ n1 ++ lines_text b → n3 ≡ n2 ++ lines_text d → n4 ≡ n3 ++ lines_text e → n5 ≡ n4 ++ lines_text f → n6 ≡ n5 ++ lines_text g → n7 ≡ n6 ++ lines_text h → a ++ (b ++ (d ++ (e ++ (f ++ (g ++ h))))) ≡ all → n7 ≡ old ++ lines_text all
-seven_lines old n1 n2 n3 n4 n5 n6 n7 a b d e f g h all e1 e2 e3 e4 e5 e6 e7 k =
-    let gh = two_lines n5 n6 n7 g h (g ++ h) e6 e7 refl in
-    let fgh = two_lines n4 n5 n7 f (g ++ h) (f ++ (g ++ h)) e5 gh refl in
-    let efgh = two_lines n3 n4 n7 e (f ++ (g ++ h)) (e ++ (f ++ (g ++ h))) e4 fgh refl in
-    let defgh = two_lines n2 n3 n7 d (e ++ (f ++ (g ++ h))) (d ++ (e ++ (f ++ (g ++ h)))) e3 efgh refl in
-    let rest = two_lines n1 n2 n7 b (d ++ (e ++ (f ++ (g ++ h)))) (b ++ (d ++ (e ++ (f ++ (g ++ h))))) e2 defgh refl in
-    two_lines old n1 n7 a (b ++ (d ++ (e ++ (f ++ (g ++ h))))) all e1 rest k
 
 -- ---- the proxy's own Via line
 

@@ -13,6 +13,8 @@ use Rattle.sip_build.specs.declared.groups.Group.TheVariants.{Kept, Picked, Line
 use Rattle.sip_build.specs.declared.made_text.Front.{Front}
 use Rattle.sip_build.specs.declared.made_text.Front.TheVariants.{Request, Response}
 use Rattle.sip_build.specs.SeenKept.{texts}
+use Rattle.sip_build.specs.Texts.{lines_text}
+use Rattle.sip_lex.specs.Line.{ended}
 use Rattle.sip_build.specs.Upward.{challenge_line, contact_lines}
 
 -- the name that a header line is written under, if it is written
@@ -51,3 +53,7 @@ IsFront (Response status reason) = status < 1000
 -- the message of a start line, header lines and a body
 abbrev pub made_of : {A : Type 0} → Front → List (Group A) → List ℕ → MessageText
 made_of front groups body = record { start = start_of front; headers = all_lines groups; body = body }
+
+-- what stands behind the start line of a message of these header lines and that body
+abbrev pub tail_text : {A : Type 0} → List (Group A) → List ℕ → List ℕ
+tail_text groups body = flat_map (λ g. lines_text (lines_of g)) groups ++ (ended [] ++ body)

@@ -7,3 +7,4 @@ pub mod Exchanged
 pub mod Upward
 pub mod SeenKept
 pub mod Groups
+pub mod Placed

@@ -14,12 +14,11 @@ ghost use Rattle.sip_build.specs.Groups.{all_lines};
 ghost use Rattle.sip_build.specs.Requests.{ack_of, along_to, cancel_of};
 
 use crate::forwarded_text::{append_own_via, append_to_target};
-use crate::group_lens::groups_len;
-use crate::groups::{Group, Pick, append_groups};
+use crate::groups::{Group, Pick, append_tail, tail_len};
 use crate::laws::{ack_of_a_forwarded_request, cancel_of_a_forwarded_request};
 use crate::parts::{ask_for_lines, whole_or_nothing};
 use itoa::Buffer;
-use sip_text::{Message, append_end};
+use sip_text::Message;
 use sip_uri::SipUri;
 use sip_via::{BranchName, Own, first_value};
 use std::alloc::{AllocError, Allocator};
@@ -75,11 +74,11 @@ fn append_along_to<A: Allocator + Clone, B: Allocator>(
     let mut buffer = Buffer::new();
     let number = buffer.format(message.cseq().number).as_bytes();
     let groups = groups_behind_via(method, message, to, number);
-    ask_for_lines(out, groups_len(&groups));
+    let len = tail_len(&groups, b"");
+    ask_for_lines(out, len);
     append_to_target(out, method, target)?;
     append_own_via(out, own, branch)?;
-    append_groups(out, &groups)?;
-    append_end(out, b"")?;
+    append_tail(out, &groups, b"", len)?;
     Ok(())
 }
 

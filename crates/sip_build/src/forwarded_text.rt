@@ -1,6 +1,6 @@
 //! Requests as they go to a target, straight as text.
 
-ghost use Rattle.std.specs.Prelude.{◌≡◌, ◌-◌, ◌++◌, ◌∷◌, None, Some, IfSome, OnErr, OnOk, codes, take, true, vec_len};
+ghost use Rattle.std.specs.Prelude.{◌≡◌, ◌-◌, ◌≤◌, ◌++◌, ◌∷◌, IfSome, OnErr, OnOk, codes, length, take, true, vec_len};
 ghost use Rattle.std.specs.Fmt.{decimal};
 ghost use Rattle.std.specs.Option.{option_copied};
 ghost use Rattle.sip_lex.specs.Line.{ended};
@@ -10,19 +10,19 @@ ghost use Rattle.sip_text.specs.Seen.{views};
 ghost use Rattle.sip_text.specs.Text.{Request, header_text, spelling, start_line};
 ghost use Rattle.sip_uri.specs.Uri.{Uri, request_uri};
 ghost use Rattle.sip_via.specs.Address.{address_text, dotted};
-ghost use Rattle.sip_via.specs.Edits.{line};
+ghost use Rattle.sip_via.specs.Edits.{line, place_of};
 ghost use Rattle.sip_via.specs.OwnVia.{own_via};
-ghost use Rattle.sip_build.specs.Forwarding.{forwarded, hops_lowered, is_request, to_target};
-ghost use Rattle.sip_build.specs.Texts.{lines_text};
+ghost use Rattle.sip_build.specs.Forwarding.{forwarded, hops_left, hops_lowered, is_request, to_target};
+ghost use Rattle.sip_build.specs.Groups.{all_lines};
 ghost use Rattle.sip_route.specs.Hops.{IsHops, hops_name};
 
-use crate::lines::append_replaced;
-use crate::parts::{ask_for_room, whole_or_nothing};
+use crate::groups::{Group, append_tail, tail_len};
+use crate::parts::{ask_for_lines, whole_or_nothing};
 use itoa::Buffer;
 use sip_lex::read_number;
-use sip_text::{Header, Message, Start, append_end, append_header, append_headers};
+use sip_text::{Header, Message, Start};
 use sip_uri::SipUri;
-use sip_via::{BranchName, Own, write_branch};
+use sip_via::{BranchName, Own, place_of, write_branch};
 use std::alloc::{AllocError, Allocator};
 
 const MAX_FORWARDS: &[u8] = b"max-forwards";
@@ -112,64 +112,49 @@ fn one_fewer(value: &[u8]) -> u64
     read_number(value, 255).unwrap_or(1) - 1
 }
 
-/// Appends the header lines with one hop fewer than their first Max-Forwards value allows.
-fn append_fewer<A: Allocator, B: Allocator>(
-    out: &mut Vec<u8, B>,
-    headers: &[Header<A>],
-    value: &[u8],
-) -> Result<(), AllocError>
-    requires { IsHops value.now }
-    ensures ok { OnOk result
-        (out.new.items ≡ out.old.items ++ lines_text (hops_lowered (views headers.now) (Some value.now))) }
-    ensures begins { take (vec_len out.old) out.new.items ≡ out.old.items }
+/// The value of the header line at the place of the first Max-Forwards line, if there is one.
+fn value_at<A: Allocator>(headers: &[Header<A>], place: usize) -> Option<&[u8]>
+    requires place { place ≡ place_of hops_name (views headers.now) }
+    requires within { place ≤ length headers.now }
+    ensures { option_copied result ≡ first_value hops_name (views headers.now) }
 {
-    let hops = one_fewer(value);
-    let mut buffer = Buffer::new();
-    append_replaced(
-        out,
-        headers,
-        MAX_FORWARDS,
-        Some(buffer.format(hops).as_bytes()),
-    )?;
-    Ok(())
+    let (_, back) = headers.split_at(place);
+    let Some((header, _)) = back.split_first() else {
+        return None;
+    };
+    Some(&header.value)
 }
 
-/// Appends the header lines behind the seventy hops that a request begins with.
-fn append_seventy<A: Allocator, B: Allocator>(
-    out: &mut Vec<u8, B>,
-    headers: &[Header<A>],
-) -> Result<(), AllocError>
-    ensures ok { OnOk result
-        (out.new.items ≡ out.old.items ++ lines_text (hops_lowered (views headers.now) None)) }
-    ensures begins { take (vec_len out.old) out.new.items ≡ out.old.items }
-{
-    append_header(out, b"Max-Forwards", b"70")?;
-    append_headers(out, headers)?;
-    Ok(())
-}
-
-/// The first Max-Forwards value.
-fn first_hops<A: Allocator>(message: &Message<A>) -> Option<&[u8]>
-    ensures { option_copied result ≡ first_value hops_name message.now.headers }
-{
-    message.values(MAX_FORWARDS).next()
-}
-
-/// Appends the header lines with one hop fewer than that value allows, or with seventy.
-fn append_lowered<A: Allocator, B: Allocator>(
-    out: &mut Vec<u8, B>,
-    headers: &[Header<A>],
-    first: Option<&[u8]>,
-) -> Result<(), AllocError>
+/// The hops that a request goes on with: one fewer than its first Max-Forwards value allows, or the seventy that
+/// it begins with.
+fn hops_left(first: Option<&[u8]>) -> u64
     requires { IfSome (option_copied first) IsHops }
-    ensures ok { OnOk result
-        (out.new.items ≡ out.old.items ++ lines_text (hops_lowered (views headers.now) (option_copied first.entry))) }
-    ensures begins { take (vec_len out.old) out.new.items ≡ out.old.items }
+    ensures { result ≡ hops_left (option_copied first.entry) }
 {
     match first {
-        None => append_seventy(out, headers),
-        Some(value) => append_fewer(out, headers, value),
+        None => 70,
+        Some(value) => one_fewer(value),
     }
+}
+
+/// The header lines with these hops in the first Max-Forwards line, or in a line before them where there is none.
+fn lowered_groups<'a, A: Allocator>(
+    headers: &'a [Header<A>],
+    place: usize,
+    hops: &'a [u8],
+) -> [Group<'a, A>; 3]
+    requires place { place ≡ place_of hops_name (views headers.now) }
+    requires within { place ≤ length headers.now }
+    requires hops { hops.now ≡ decimal (hops_left (first_value hops_name (views headers.now))) }
+    ensures { all_lines result ≡ hops_lowered (views headers.now) (first_value hops_name (views headers.now)) }
+{
+    let (front, back) = headers.split_at(place);
+    let Some((header, after)) = back.split_first() else {
+        let seventy = Group::Line(b"Max-Forwards", hops);
+        return [seventy, Group::Kept(headers), Group::Kept(&[])];
+    };
+    let lowered = Group::Line(&header.name, hops);
+    [Group::Kept(front), lowered, Group::Kept(after)]
 }
 
 /// Appends the request as it goes to a target, or a part of it.
@@ -186,11 +171,18 @@ fn append_forwarded<A: Allocator + Clone, B: Allocator>(
         (out.new.items ≡ out.old.items ++ spelling (forwarded message.now target.now own branch.now)) }
     ensures begins { take (vec_len out.old) out.new.items ≡ out.old.items }
 {
+    let headers = message.headers();
+    let place = place_of(headers, MAX_FORWARDS);
+    let mut buffer = Buffer::new();
+    let hops = buffer
+        .format(hops_left(value_at(headers, place)))
+        .as_bytes();
+    let groups = lowered_groups(headers, place, hops);
+    let len = tail_len(&groups, message.body());
+    ask_for_lines(out, len);
     append_to_target(out, method_of(message), target)?;
     append_own_via(out, own, branch)?;
-    append_lowered(out, message.headers(), first_hops(message))?;
-    append_end(out, message.body())?;
-    Ok(())
+    append_tail(out, &groups, message.body(), len)
 }
 
 /// Appends the request as it goes to a target (RFC 3261 section 16.6): the text of what `forward`
@@ -213,7 +205,6 @@ pub fn write_forwarded<A: Allocator + Clone, B: Allocator>(
     ensures err { OnErr result (out.new.items ≡ out.old.items) }
 {
     let before = out.len();
-    ask_for_room(out, message);
     let done = append_forwarded(out, message, target, own, branch);
     whole_or_nothing(out, before, done)
 }

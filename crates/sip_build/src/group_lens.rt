@@ -14,7 +14,7 @@ ghost use Rattle.sip_build.specs.Upward.{challenge_line};
 use crate::groups::{Group, Pick, picked_name};
 use crate::upstream::challenge_name;
 use fork_rank::Challenge;
-use sip_text::{Header, header_len, headers_len};
+use sip_text::Header;
 use std::alloc::Allocator;
 
 /// How many bytes the pieces are.
@@ -28,13 +28,31 @@ pub(crate) fn pieces_len(pieces: &[&[u8]]) -> usize
     len
 }
 
+/// How many bytes a header line is.
+fn line_len(name: &[u8], value: &[u8]) -> usize
+    ensures { result ≡ saturated (length (header_text (line name.now value.now))) }
+{
+    name.len().saturating_add(value.len()).saturating_add(4)
+}
+
+/// How many bytes the header lines are.
+fn kept_len<A: Allocator>(headers: &[Header<A>]) -> usize
+    ensures { result ≡ saturated (length (lines_text (views headers.now))) }
+{
+    let mut len = 0usize;
+    for header in headers {
+        len = len.saturating_add(line_len(&header.name, &header.value));
+    }
+    len
+}
+
 /// How many bytes a header line under that name is, if it has one.
 fn under_len<A: Allocator>(header: &Header<A>, name: Option<&[u8]>) -> usize
     ensures { result ≡ saturated (length (lines_text (under (view header.now) (option_copied name.entry)))) }
 {
     match name {
         None => 0,
-        Some(name) => header_len(name, &header.value),
+        Some(name) => line_len(name, &header.value),
     }
 }
 
@@ -57,7 +75,7 @@ fn contacts_len(kept: &[&[u8]]) -> usize
 {
     let mut len = 0usize;
     for text in kept {
-        len = len.saturating_add(header_len(b"Contact", text));
+        len = len.saturating_add(line_len(b"Contact", text));
     }
     len
 }
@@ -70,7 +88,7 @@ fn challenges_len<A: Allocator>(challenges: &[Challenge<A>]) -> usize
     let mut len = 0usize;
     for challenge in challenges {
         let name = challenge_name(challenge.proxy());
-        len = len.saturating_add(header_len(name, challenge.value()));
+        len = len.saturating_add(line_len(name, challenge.value()));
     }
     len
 }
@@ -80,9 +98,9 @@ fn group_len<A: Allocator>(group: &Group<'_, A>) -> usize
     ensures { result ≡ saturated (length (lines_text (lines_of group.now))) }
 {
     match group {
-        Group::Kept(headers) => headers_len(headers),
+        Group::Kept(headers) => kept_len(headers),
         Group::Picked(headers, pick) => picked_len(headers, *pick),
-        Group::Line(name, value) => header_len(name, value),
+        Group::Line(name, value) => line_len(name, value),
         Group::Joined(name, a, b, c) => pieces_len(&[name, b": ", a, b, c, b"\r\n"]),
         Group::Contacts(kept) => contacts_len(kept),
         Group::Challenges(challenges) => challenges_len(challenges),

@@ -5,15 +5,18 @@ ghost use Rattle.std.specs.Borrow.{Bor};
 ghost use Rattle.std.specs.List.{flat_map};
 ghost use Rattle.std.specs.Option.{option_copied};
 ghost use Rattle.sip_text.specs.Seen.{view, views};
-ghost use Rattle.sip_text.specs.Text.{header_text, pieces_text};
+ghost use Rattle.sip_text.specs.Text.{header_text, saturated};
 ghost use Rattle.sip_via.specs.Edits.{line};
-ghost use Rattle.sip_build.specs.Groups.{lines_of, picked, picked_name, under};
+ghost use Rattle.sip_build.specs.Groups.{lines_of, picked, picked_name, tail_text, under};
+ghost use Rattle.sip_build.specs.Placed.{Placed};
 ghost use Rattle.sip_build.specs.Texts.{lines_text};
 ghost use Rattle.sip_build.specs.Upward.{challenge_line};
 
+use crate::group_lens::{groups_len, pieces_len};
+use crate::place::{place_line, place_pieces};
 use crate::upstream::challenge_name;
 use fork_rank::Challenge;
-use sip_text::{Header, append_header, append_headers};
+use sip_text::Header;
 use std::alloc::{AllocError, Allocator};
 
 /// Which header lines are written, and under which name.
@@ -44,23 +47,6 @@ pub(crate) enum Group<'a, A: Allocator> {
     Challenges(&'a [Challenge<A>]),
 }
 
-/// Appends the pieces, or a part of them.
-pub(crate) fn append_pieces<B: Allocator>(
-    out: &mut Vec<u8, B>,
-    pieces: &[&[u8]],
-) -> Result<(), AllocError>
-    ensures ok { OnOk result (out.new.items ≡ out.old.items ++ pieces_text pieces.now) }
-    ensures begins { take (vec_len out.old) out.new.items ≡ out.old.items }
-    ensures full { OnErr result
-        (vec_capacity out.old < vec_len out.old + length (pieces_text pieces.now)) }
-    ensures capacity { vec_capacity out.old ≤ vec_capacity out.new }
-{
-    for piece in pieces {
-        out.extend_from_slice(piece)?;
-    }
-    Ok(())
-}
-
 /// The name that a header line is written under, if it is written.
 pub(crate) fn picked_name<'a, A: Allocator>(
     header: &'a Header<A>,
@@ -75,112 +61,156 @@ pub(crate) fn picked_name<'a, A: Allocator>(
     }
 }
 
-/// Appends a header line under that name, if it has one.
-fn append_under<A: Allocator, B: Allocator>(
-    out: &mut Vec<u8, B>,
+/// Writes a header line under that name, if it has one.
+fn place_under<A: Allocator>(
+    out: &mut [u8],
+    at: usize,
     header: &Header<A>,
     name: Option<&[u8]>,
-) -> Result<(), AllocError>
-    ensures ok { OnOk result
-        (out.new.items ≡ out.old.items ++ lines_text (under (view header.now) (option_copied name.entry))) }
-    ensures begins { take (vec_len out.old) out.new.items ≡ out.old.items }
-    ensures full { OnErr result
-        (vec_capacity out.old < vec_len out.old + length (lines_text (under (view header.now) (option_copied name.entry)))) }
-    ensures capacity { vec_capacity out.old ≤ vec_capacity out.new }
+) -> usize
+    requires { at + length (lines_text (under (view header.now) (option_copied name))) ≤ length out.old }
+    ensures { Placed out.old out.new at (lines_text (under (view header.now) (option_copied name.entry))) result }
 {
     match name {
-        None => Ok(()),
-        Some(name) => append_header(out, name, &header.value),
+        None => at,
+        Some(name) => place_line(out, at, name, &header.value),
     }
 }
 
-/// Appends those of the header lines that are picked.
-fn append_picked<A: Allocator, B: Allocator>(
-    out: &mut Vec<u8, B>,
+/// Writes the header lines.
+fn place_headers<A: Allocator>(out: &mut [u8], at: usize, headers: &[Header<A>]) -> usize
+    requires { at + length (lines_text (views headers.now)) ≤ length out.old }
+    ensures { Placed out.old out.new at (lines_text (views headers.now)) result }
+{
+    let mut end = at;
+    for header in headers {
+        end = place_line(out, end, &header.name, &header.value);
+    }
+    end
+}
+
+/// Writes those of the header lines that are picked.
+fn place_picked<A: Allocator>(
+    out: &mut [u8],
+    at: usize,
     headers: &[Header<A>],
     pick: Pick<'_>,
-) -> Result<(), AllocError>
-    ensures ok { OnOk result
-        (out.new.items ≡ out.old.items ++ flat_map (λ h. lines_text (picked pick.entry h)) (views headers.now)) }
-    ensures begins { take (vec_len out.old) out.new.items ≡ out.old.items }
-    ensures full { OnErr result
-        (vec_capacity out.old < vec_len out.old + length (flat_map (λ h. lines_text (picked pick.entry h)) (views headers.now))) }
-    ensures capacity { vec_capacity out.old ≤ vec_capacity out.new }
+) -> usize
+    requires { at + length (flat_map (λ h. lines_text (picked pick h)) (views headers.now)) ≤ length out.old }
+    ensures { Placed out.old out.new at (flat_map (λ h. lines_text (picked pick.entry h)) (views headers.now)) result }
 {
+    let mut end = at;
     for header in headers {
-        append_under(out, header, picked_name(header, pick))?;
+        end = place_under(out, end, header, picked_name(header, pick));
     }
-    Ok(())
+    end
 }
 
-/// Appends a Contact line for each text.
-fn append_contacts<B: Allocator>(out: &mut Vec<u8, B>, kept: &[&[u8]]) -> Result<(), AllocError>
-    ensures ok { OnOk result
-        (out.new.items ≡ out.old.items ++ flat_map (λ (t : Bor (List ℕ)). header_text (line (codes "Contact") t.now)) kept.now) }
-    ensures begins { take (vec_len out.old) out.new.items ≡ out.old.items }
-    ensures full { OnErr result
-        (vec_capacity out.old < vec_len out.old + length (flat_map (λ (t : Bor (List ℕ)). header_text (line (codes "Contact") t.now)) kept.now)) }
-    ensures capacity { vec_capacity out.old ≤ vec_capacity out.new }
+/// Writes a Contact line for each text.
+fn place_contacts(out: &mut [u8], at: usize, kept: &[&[u8]]) -> usize
+    requires { at + length (flat_map (λ (t : Bor (List ℕ)). header_text (line (codes "Contact") t.now)) kept.now) ≤ length out.old }
+    ensures { Placed out.old out.new at (flat_map (λ (t : Bor (List ℕ)). header_text (line (codes "Contact") t.now)) kept.now) result }
 {
+    let mut end = at;
     for text in kept {
-        append_header(out, b"Contact", text)?;
+        end = place_line(out, end, b"Contact", text);
     }
-    Ok(())
+    end
 }
 
-/// Appends a line for each challenge.
-fn append_challenges<A: Allocator, B: Allocator>(
-    out: &mut Vec<u8, B>,
-    challenges: &[Challenge<A>],
-) -> Result<(), AllocError>
-    ensures ok { OnOk result
-        (out.new.items ≡ out.old.items ++ flat_map (λ c. header_text (challenge_line c)) challenges.now) }
-    ensures begins { take (vec_len out.old) out.new.items ≡ out.old.items }
-    ensures full { OnErr result
-        (vec_capacity out.old < vec_len out.old + length (flat_map (λ c. header_text (challenge_line c)) challenges.now)) }
-    ensures capacity { vec_capacity out.old ≤ vec_capacity out.new }
+/// Writes a line for each challenge.
+fn place_challenges<A: Allocator>(out: &mut [u8], at: usize, challenges: &[Challenge<A>]) -> usize
+    requires { at + length (flat_map (λ c. header_text (challenge_line c)) challenges.now) ≤ length out.old }
+    ensures { Placed out.old out.new at (flat_map (λ c. header_text (challenge_line c)) challenges.now) result }
 {
+    let mut end = at;
     for challenge in challenges {
-        append_header(out, challenge_name(challenge.proxy()), challenge.value())?;
+        let name = challenge_name(challenge.proxy());
+        end = place_line(out, end, name, challenge.value());
     }
-    Ok(())
+    end
 }
 
-/// Appends the header lines of a group, or a part of them.
-fn append_group<A: Allocator, B: Allocator>(
-    out: &mut Vec<u8, B>,
-    group: &Group<'_, A>,
-) -> Result<(), AllocError>
-    ensures ok { OnOk result (out.new.items ≡ out.old.items ++ lines_text (lines_of group.now)) }
-    ensures begins { take (vec_len out.old) out.new.items ≡ out.old.items }
-    ensures full { OnErr result
-        (vec_capacity out.old < vec_len out.old + length (lines_text (lines_of group.now))) }
-    ensures capacity { vec_capacity out.old ≤ vec_capacity out.new }
+/// Writes the header lines of a group.
+fn place_group<A: Allocator>(out: &mut [u8], at: usize, group: &Group<'_, A>) -> usize
+    requires { at + length (lines_text (lines_of group.now)) ≤ length out.old }
+    ensures { Placed out.old out.new at (lines_text (lines_of group.now)) result }
 {
     match group {
-        Group::Kept(headers) => append_headers(out, headers),
-        Group::Picked(headers, pick) => append_picked(out, headers, *pick),
-        Group::Line(name, value) => append_header(out, name, value),
-        Group::Joined(name, a, b, c) => append_pieces(out, &[name, b": ", a, b, c, b"\r\n"]),
-        Group::Contacts(kept) => append_contacts(out, kept),
-        Group::Challenges(challenges) => append_challenges(out, challenges),
+        Group::Kept(headers) => place_headers(out, at, headers),
+        Group::Picked(headers, pick) => place_picked(out, at, headers, *pick),
+        Group::Line(name, value) => place_line(out, at, name, value),
+        Group::Joined(name, a, b, c) => place_pieces(out, at, &[name, b": ", a, b, c, b"\r\n"]),
+        Group::Contacts(kept) => place_contacts(out, at, kept),
+        Group::Challenges(challenges) => place_challenges(out, at, challenges),
     }
 }
 
-/// Appends the header lines of each group in order, or a part of them.
-pub(crate) fn append_groups<A: Allocator, B: Allocator>(
+/// Writes the header lines of each group in order.
+fn place_groups<A: Allocator>(out: &mut [u8], at: usize, groups: &[Group<'_, A>]) -> usize
+    requires { at + length (flat_map (λ g. lines_text (lines_of g)) groups.now) ≤ length out.old }
+    ensures { Placed out.old out.new at (flat_map (λ g. lines_text (lines_of g)) groups.now) result }
+{
+    let mut end = at;
+    for group in groups {
+        end = place_group(out, end, group);
+    }
+    end
+}
+
+/// Writes the header lines of the groups, the empty line and the body.
+fn place_tail<A: Allocator>(
+    out: &mut [u8],
+    at: usize,
+    groups: &[Group<'_, A>],
+    body: &[u8],
+) -> usize
+    requires { at + length (tail_text groups.now body.now) ≤ length out.old }
+    ensures { Placed out.old out.new at (tail_text groups.now body.now) result }
+{
+    let end = place_groups(out, at, groups);
+    place_pieces(out, end, &[b"\r\n", body])
+}
+
+/// How many bytes the header lines of the groups, the empty line and the body are.
+pub(crate) fn tail_len<A: Allocator>(groups: &[Group<'_, A>], body: &[u8]) -> usize
+    ensures { result ≡ saturated (length (tail_text groups.now body.now)) }
+{
+    groups_len(groups).saturating_add(pieces_len(&[b"\r\n", body]))
+}
+
+/// Appends that many bytes, which are written over, or a part of them.
+fn append_blank<B: Allocator>(out: &mut Vec<u8, B>, len: usize) -> Result<(), AllocError>
+    ensures len { OnOk result (vec_len out.new ≡ vec_len out.old + len) }
+    ensures begins { take (vec_len out.old) out.new.items ≡ out.old.items }
+    ensures full { OnErr result (vec_capacity out.old < vec_len out.old + len) }
+{
+    out.reserve(len)?;
+    let blank = [0; 1024];
+    let mut left = len;
+    while left > 1024 {
+        out.extend_from_slice(&blank)?;
+        left -= 1024;
+    }
+    out.extend_from_slice(&blank[..left])
+}
+
+/// Appends the header lines of the groups, the empty line and the body, which are that many bytes, or
+/// a part of them; `out` grows once at most.
+pub(crate) fn append_tail<A: Allocator, B: Allocator>(
     out: &mut Vec<u8, B>,
     groups: &[Group<'_, A>],
+    body: &[u8],
+    len: usize,
 ) -> Result<(), AllocError>
-    ensures ok { OnOk result
-        (out.new.items ≡ out.old.items ++ flat_map (λ g. lines_text (lines_of g)) groups.now) }
+    requires { len ≡ saturated (length (tail_text groups.now body.now)) }
+    ensures ok { OnOk result (out.new.items ≡ out.old.items ++ tail_text groups.now body.now) }
     ensures begins { take (vec_len out.old) out.new.items ≡ out.old.items }
     ensures full { OnErr result
-        (vec_capacity out.old < vec_len out.old + length (flat_map (λ g. lines_text (lines_of g)) groups.now)) }
-    ensures capacity { vec_capacity out.old ≤ vec_capacity out.new }
+        (vec_capacity out.old < vec_len out.old + length (tail_text groups.now body.now)) }
 {
-    for group in groups {
-        append_group(out, group)?;
-    }
+    let before = out.len();
+    append_blank(out, len)?;
+    let _end = place_tail(out, before, groups, body);
     Ok(())
 }

@@ -3,14 +3,11 @@
 ghost use Rattle.std.specs.Prelude.{◌≡◌, ◌+◌, ◌++◌, ◌≤◌, ◌<◌, length, IsOk, OnErr, OnOk, take, vec_capacity, vec_len};
 ghost use Rattle.sip_lex.specs.Line.{ended};
 ghost use Rattle.sip_text.specs.Text.{saturated, spelling, start_line};
-ghost use Rattle.sip_build.specs.Groups.{IsFront, made_of, start_of};
+ghost use Rattle.sip_build.specs.Groups.{IsFront, made_of, start_of, tail_text};
 
-use crate::group_lens::{groups_len, pieces_len};
-use crate::groups::{Group, append_groups};
+use crate::groups::{Group, append_tail, tail_len};
 use crate::parts::whole_or_nothing;
-use sip_text::{
-    append_end, append_request_line, append_status_line, request_line_len, status_line_len,
-};
+use sip_text::{append_request_line, append_status_line, request_line_len, status_line_len};
 use std::alloc::{AllocError, Allocator};
 
 /// The start line of a message that is written.
@@ -48,23 +45,16 @@ fn front_len(front: Front<'_>) -> usize
     }
 }
 
-/// How many bytes the message is.
-fn made_len<A: Allocator>(front: Front<'_>, groups: &[Group<'_, A>], body: &[u8]) -> usize
-    ensures { result ≡ saturated (length (spelling (made_of front.entry groups.now body.now))) }
-{
-    front_len(front)
-        .saturating_add(groups_len(groups))
-        .saturating_add(pieces_len(&[b"\r\n", body]))
-}
-
-/// Appends the message, or a part of it.
+/// Appends the message, of whose bytes that many stand behind the start line, or a part of it.
 fn append_parts<A: Allocator, B: Allocator>(
     out: &mut Vec<u8, B>,
     front: Front<'_>,
     groups: &[Group<'_, A>],
     body: &[u8],
+    tail: usize,
 ) -> Result<(), AllocError>
-    requires { IsFront front }
+    requires front { IsFront front }
+    requires tail { tail ≡ saturated (length (tail_text groups.now body.now)) }
     ensures ok { OnOk result
         (out.new.items ≡ out.old.items ++ spelling (made_of front.entry groups.now body.now)) }
     ensures begins { take (vec_len out.old) out.new.items ≡ out.old.items }
@@ -72,8 +62,7 @@ fn append_parts<A: Allocator, B: Allocator>(
         (vec_capacity out.old < vec_len out.old + length (spelling (made_of front.entry groups.now body.now))) }
 {
     append_front(out, front)?;
-    append_groups(out, groups)?;
-    append_end(out, body)
+    append_tail(out, groups, body, tail)
 }
 
 /// Appends the message of these parts, or nothing; `out` grows once at most, before anything is written.
@@ -90,8 +79,9 @@ pub(crate) fn append_made<A: Allocator, B: Allocator>(
     ensures full { OnErr result
         (vec_capacity out.old < vec_len out.old + length (spelling (made_of front.entry groups.now body.now))) }
 {
-    out.reserve(made_len(front, groups, body))?;
+    let tail = tail_len(groups, body);
+    out.reserve(front_len(front).saturating_add(tail))?;
     let before = out.len();
-    let done = append_parts(out, front, groups, body);
+    let done = append_parts(out, front, groups, body, tail);
     whole_or_nothing(out, before, done)
 }

@@ -2,7 +2,6 @@
 
 ghost use Rattle.std.specs.Prelude.{◌≡◌, OnErr, OnOk, take};
 
-use sip_text::{Message, headers_len};
 use std::alloc::{AllocError, Allocator};
 
 /// Takes back what stands behind the first `before` bytes, unless all was appended.
@@ -31,13 +30,4 @@ pub fn ask_for_lines<B: Allocator>(out: &mut Vec<u8, B>, len: usize)
     ensures { out.new.items ≡ out.old.items }
 {
     let _granted = out.reserve(len.saturating_add(FRONT));
-}
-
-/// Asks at once for the room that a text made of a message takes. Where that is refused, each part
-/// asks for its own.
-pub fn ask_for_room<A: Allocator, B: Allocator>(out: &mut Vec<u8, B>, message: &Message<A>)
-    ensures { out.new.items ≡ out.old.items }
-{
-    let len = headers_len(message.headers()).saturating_add(message.body().len());
-    ask_for_lines(out, len);
 }

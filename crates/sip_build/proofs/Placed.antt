@@ -1,0 +1,31 @@
+-- Bytes that were written at a place, piece by piece.
+use Rattle.std.proofs.Common.{◌≡◌, ◌∙◌, ℕ, ◌+◌, ◌<◌, ◌≤◌, List, length, take, get_or, map, ap, arith, subst}
+use Rattle.std.specs.List.{flat_map}
+use Rattle.std.proofs.lemmas.List.Folds.{flat_map-map, length-flat_map-take}
+use Rattle.sip_build.specs.Placed.{Placed}
+
+-- under another name of the text
+pub placed-as : (old new : List ℕ) (at end : ℕ) (a b : List ℕ) → Placed old new at a end → a ≡ b → Placed old new at b end
+placed-as old new at end a b placed e = subst (λ (x : List ℕ). Placed old new at x end) e placed
+
+-- the text of the next part fits behind those before it
+pub fits-next : {X : Type 0} (text : X → List ℕ) (old mid : List ℕ) (xs : List X) (i at next : ℕ) (d : X) → i < length xs → Placed old mid at (flat_map text (take i xs)) next → at + length (flat_map text xs) ≤ length old → next + length (text (get_or xs i d)) ≤ length mid
+fits-next text old mid xs i at next d below placed fits =
+    omega (arith, placed.moved, placed.len, length-flat_map-take text xs i d below)
+
+-- the same of a part that is read from the list, and of parts that are seen as values
+pub fits-item : {X : Type 0} (text : X → List ℕ) (old mid : List ℕ) (xs : List X) (i at next : ℕ) (x : X) (part : List ℕ) → i < length xs → Placed old mid at (flat_map text (take i xs)) next → at + length (flat_map text xs) ≤ length old → x ≡ get_or xs i x → part ≡ text x → next + length part ≤ length mid
+fits-item text old mid xs i at next x part below placed fits is same =
+    let whole : length part ≡ length (text (get_or xs i x)) = ap length same ∙ ap (λ y. length (text y)) is in
+    omega (arith, whole, fits-next text old mid xs i at next x below placed fits)
+
+pub fits-seen : {X Y : Type 0} (text : Y → List ℕ) (seen : X → Y) (old mid : List ℕ) (xs : List X) (i at next : ℕ) (x : X) (part : List ℕ) → i < length xs → Placed old mid at (flat_map text (map seen (take i xs))) next → at + length (flat_map text (map seen xs)) ≤ length old → x ≡ get_or xs i x → part ≡ text (seen x) → next + length part ≤ length mid
+fits-seen text seen old mid xs i at next x part below placed fits is same =
+    fits-item (λ y. text (seen y)) old mid xs i at next x part below
+    (placed-as old mid at next _ _ placed (flat_map-map text seen (take i xs)))
+    (subst (λ (y : List ℕ). at + length y ≤ length old) (flat_map-map text seen xs) fits)
+    is same
+
+-- another name of a text that fits
+pub fits-as : (at room : ℕ) (t s : List ℕ) → at + length s ≤ room → t ≡ s → at + length t ≤ room
+fits-as at room t s fits e = let same : length t ≡ length s = ap length e in omega (arith, fits, same)

@@ -1,0 +1,39 @@
+use Rattle.std.proofs.Common.{◌∷◌, ◌∙◌, [], ◌++◌, List, ℕ, Option, ap, sym}
+use Rattle.std.specs.Prelude.{Some, codes}
+use Rattle.std.specs.Fmt.{decimal}
+use Rattle.std.proofs.lemmas.List.{append-nil}
+use Rattle.sip_text.specs.Seen.{view, views}
+use Rattle.sip_text.specs.Text.{HeaderText}
+use Rattle.sip_via.specs.Edits.{line}
+use Rattle.sip_route.specs.Hops.{hops_name}
+use Rattle.sip_via.proofs.laws.Places.{replaced-split}
+use Rattle.sip_build.specs.Forwarding.{hops_left, hops_lowered}
+use Rattle.sip_build.proofs.Exchanged.{none-left}
+use Rattle.sip_build.proofs.FirstHops.{first-nowhere, first-there, seventy-text}
+use Rattle.sip_build.proofs.forwarded_text.lowered_groups.Goals as goal
+
+pub returns-in_default : goal.returns-in_default
+returns-in_default g c =
+    let hs = views c.args.headers.now in
+    let none = first-nowhere hops_name c.args.headers.now c.args.place c.requires.place (sym (none-left c.split_at.result.1.now c.in_default.ensures.cases) ∙ c.split_at.ensures.back) in
+    let seventy = c.requires.hops ∙ ap (λ (o : Option (List ℕ)). decimal (hops_left o)) none ∙ seventy-text in
+    ap (λ (v : List ℕ). line (codes "Max-Forwards") v ∷ (hs ++ [])) seventy
+    ∙ ap (λ (xs : List HeaderText). line (codes "Max-Forwards") (codes "70") ∷ xs) (append-nil hs)
+    ∙ sym (ap (λ (o : Option (List ℕ)). hops_lowered hs o) none)
+
+pub returns : goal.returns
+returns g c =
+    let hs = c.args.headers.now in
+    let front = c.split_at.result.0.now in
+    let header = c.in-Some.header.now in
+    let after = c.in-Some.after.now in
+    let back = sym c.in-Some.ensures.cases.0 ∙ c.split_at.ensures.back in
+    let some = first-there hops_name hs after header c.args.place c.requires.place back in
+    let hops = c.requires.hops ∙ ap (λ (o : Option (List ℕ)). decimal (hops_left o)) some in
+    let fewer = decimal (hops_left (Some (view header).value)) in
+    let split = replaced-split hops_name (Some fewer) hs front (header ∷ after) c.args.place c.requires.place c.split_at.ensures.front back in
+    ap (λ (name : List ℕ). views front ++ (line name c.args.hops.now ∷ (views after ++ []))) c.deref.ensures.value
+    ∙ ap (λ (v : List ℕ). views front ++ (line (view header).name v ∷ (views after ++ []))) hops
+    ∙ ap (λ (xs : List HeaderText). views front ++ (line (view header).name fewer ∷ xs)) (append-nil (views after))
+    ∙ split
+    ∙ sym (ap (λ (o : Option (List ℕ)). hops_lowered (views hs) o) some)

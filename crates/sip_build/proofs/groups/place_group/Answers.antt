@@ -1,0 +1,31 @@
+use Rattle.std.proofs.Common.{◌∙◌, ap, sym}
+use Rattle.sip_text.specs.Seen.{views}
+use Rattle.sip_build.specs.Groups.{lines_of, picked}
+use Rattle.sip_build.specs.Texts.{lines_text}
+use Rattle.sip_build.proofs.GroupTexts.{challenges-text, contacts-text, texts-of-lines}
+use Rattle.sip_build.proofs.Placed.{fits-as, placed-as}
+use Rattle.sip_build.proofs.groups.place_group.Goals as goal
+
+pub place_picked-requires : goal.place_picked-requires
+place_picked-requires g c =
+    fits-as c.args.at _ _ _ c.requires (texts-of-lines (picked c.in-Picked.pick) (views c.in-Picked.headers.now) ∙ ap (λ x. lines_text (lines_of x)) (sym c.in-Picked.is))
+
+pub returns-in-Picked : goal.returns-in-Picked
+returns-in-Picked g c =
+    placed-as _ _ _ _ _ _ c.place_picked.ensures (texts-of-lines (picked c.in-Picked.pick) (views c.in-Picked.headers.now) ∙ ap (λ x. lines_text (lines_of x)) (sym c.in-Picked.is))
+
+pub place_contacts-requires : goal.place_contacts-requires
+place_contacts-requires g c =
+    fits-as c.args.at _ _ _ c.requires (contacts-text c.in-Contacts.kept.now ∙ ap (λ x. lines_text (lines_of x)) (sym c.in-Contacts.is))
+
+pub returns-in-Contacts : goal.returns-in-Contacts
+returns-in-Contacts g c =
+    placed-as _ _ _ _ _ _ c.place_contacts.ensures (contacts-text c.in-Contacts.kept.now ∙ ap (λ x. lines_text (lines_of x)) (sym c.in-Contacts.is))
+
+pub place_challenges-requires : goal.place_challenges-requires
+place_challenges-requires g c =
+    fits-as c.args.at _ _ _ c.requires (challenges-text c.in-Challenges.challenges.now ∙ ap (λ x. lines_text (lines_of x)) (sym c.in-Challenges.is))
+
+pub returns-in-Challenges : goal.returns-in-Challenges
+returns-in-Challenges g c =
+    placed-as _ _ _ _ _ _ c.place_challenges.ensures (challenges-text c.in-Challenges.challenges.now ∙ ap (λ x. lines_text (lines_of x)) (sym c.in-Challenges.is))

@@ -1,0 +1,7 @@
+use Rattle.std.proofs.Common.{take}
+use Rattle.sip_text.specs.Text.{pieces_text}
+use Rattle.sip_build.specs.Placed.{Placed}
+use Rattle.sip_build.proofs.place.place_pieces.Given as goal
+
+abbrev pub invariant-loop-piece : goal.invariant-loop-piece
+invariant-loop-piece l = Placed l.fn.out l.out l.at (pieces_text (take l.piece-index l.pieces)) l.end
