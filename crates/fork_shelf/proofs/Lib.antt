@@ -1,1 +1,2 @@
 mod InOrder
+pub mod Listing

@@ -1,6 +1,7 @@
 //! Values under numbers and keys, each behind a lock of its own.
 ghost use Rattle.std.specs.Prelude.{◌≡◌, ◌+◌, ℕ, Ok, Err, IfErr, IfOk, IfSome, OnOk, OnErr};
 ghost use Rattle.std.specs.Fn.{FnOnceReturnsAtMut};
+ghost use Rattle.fork_shelf.specs.Desk.{IsListed, IsSame};
 ghost use Rattle.fork_shelf.specs.Faults.{IfMade};
 
 use crate::desk::{Desk, Taken};
@@ -50,11 +51,12 @@ pub struct Shelf<T: Numbered, A: Allocator = Global> {
 impl<T: Numbered + Drop, A: Allocator + Clone> Shelf<T, A> {
     /// A shelf with nothing on it. The only error is want of memory.
     pub fn new(alloc: A) -> Result<Shelf<T, A>, AllocError> {
-        let keys = alloc.clone()?;
+        let firsts = alloc.clone()?;
+        let others = alloc.clone()?;
         let entries = alloc.clone()?;
         Ok(Shelf {
             alloc,
-            desk: Mutex::new(Desk::new(keys)),
+            desk: Mutex::new(Desk::new(firsts, others)),
             entries: Mutex::new(Vec::new(entries)),
         })
     }
@@ -93,8 +95,8 @@ impl<T: Numbered + Drop, A: Allocator + Clone> Shelf<T, A> {
         ensures made { IfOk result (λ no. (value : T) × F.post make no (Ok value)) }
         ensures refused { IfErr result (IfMade (λ refused. (no : ℕ) × F.post make no (Err refused))) }
         ensures number { IfOk result (λ no. no ≡ desk.old.next) }
-        ensures ok { OnOk result (desk.new.next ≡ desk.old.next + 1) }
-        ensures err { OnErr result (desk.new.next ≡ desk.old.next) }
+        ensures ok { OnOk result (IsListed key.now desk.old desk.new) }
+        ensures err { OnErr result (IsSame desk.old desk.new) }
     {
         let no = match desk.free(key) {
             Ok(no) => no,
