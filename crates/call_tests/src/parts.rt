@@ -470,6 +470,14 @@ fn owes_trying(parts: &Parts) -> bool {
     }
 }
 
+/// Whether the second answer that is owed is what was sent last.
+fn owes_again(parts: &Parts) -> bool {
+    match second_owed(parts) {
+        Some(OwedAnswer::Again) => true,
+        _ => false,
+    }
+}
+
 /// Whether the second answer that is owed is a response of this status that goes up.
 fn passes(parts: &Parts, status: u16) -> bool {
     match second_owed(parts) {
@@ -660,4 +668,18 @@ fn an_answer_could_not_be_sent(rt: HostRuntime) {
         parts.owed().len() == 2,
         "the last answer is owed again",
     );
+}
+
+#[test]
+fn more_than_four_answers_are_owed(rt: HostRuntime) {
+    let alloc = rt.alloc();
+    let Some(mut parts) = begun(alloc, &INVITE) else {
+        return holds(&rt, false, "an INVITE begins");
+    };
+    for now in 1..6 {
+        holds(&rt, parts.take_request(now).is_ok(), "the INVITE again");
+    }
+    holds(&rt, parts.owed().len() == 6, "each is owed an answer");
+    holds(&rt, owes_trying(&parts), "the 100 first");
+    holds(&rt, owes_again(&parts), "then the last answer again");
 }
