@@ -315,7 +315,7 @@ fn begun_to(
     if usize::from(book.context().count()) != ways.len() {
         return Err(AllocError);
     }
-    Parts::begin(alloc, fixed, book, ways, 0)
+    Parts::begin(alloc, alloc, fixed, book, ways, 0)
 }
 
 /// The parts of the call of the request of these lines to the two targets.
@@ -446,44 +446,42 @@ pub(crate) fn ticks_server(parts: &mut Parts, now: u64) -> bool {
 
 // ---- what is owed
 
-/// Whether the second answer that is owed is the 200 to a CANCEL from the caller.
-fn owes_cancel_ok(parts: &Parts) -> bool {
-    match parts.owed().get(1) {
-        None => false,
-        Some(owed) => is_cancel_ok(owed.answer()),
+/// The second answer that is owed, if there is one.
+fn second_owed(parts: &Parts) -> Option<OwedAnswer<'_>> {
+    let owed = parts.owed();
+    if owed.is_empty() {
+        return None;
     }
+    owed.rest().first()
 }
 
-fn is_cancel_ok(answer: &OwedAnswer) -> bool {
-    match answer {
-        OwedAnswer::CancelOk(_, to) => *to == CALLER,
+/// Whether the second answer that is owed is the 200 to a CANCEL from the caller.
+fn owes_cancel_ok(parts: &Parts) -> bool {
+    match second_owed(parts) {
+        Some(OwedAnswer::CancelOk(_, to)) => to == CALLER,
         _ => false,
     }
 }
 
-/// The first answer that is owed, if any is.
-fn first_owed(parts: &Parts) -> Option<&OwedAnswer> {
-    Some(parts.owed().first()?.answer())
-}
-
 fn owes_trying(parts: &Parts) -> bool {
-    match first_owed(parts) {
+    match parts.owed().first() {
         Some(OwedAnswer::Trying) => true,
         _ => false,
     }
 }
 
-/// Whether the second answer that is owed is a response of this status that goes up.
-fn passes(parts: &Parts, at: usize, status: u16) -> bool {
-    match parts.owed().get(at) {
-        None => false,
-        Some(owed) => is_passed(owed.answer(), status),
+/// Whether the second answer that is owed is what was sent last.
+fn owes_again(parts: &Parts) -> bool {
+    match second_owed(parts) {
+        Some(OwedAnswer::Again) => true,
+        _ => false,
     }
 }
 
-fn is_passed(answer: &OwedAnswer, status: u16) -> bool {
-    match answer {
-        OwedAnswer::Passed(response) => status_of(response) == status,
+/// Whether the second answer that is owed is a response of this status that goes up.
+fn passes(parts: &Parts, status: u16) -> bool {
+    match second_owed(parts) {
+        Some(OwedAnswer::Passed(response)) => status_of(response) == status,
         _ => false,
     }
 }
@@ -564,7 +562,7 @@ fn a_failure_is_acknowledged(rt: HostRuntime) {
         takes(alloc, &mut parts, 10, &RINGING, Taken::Posted(0)),
         "a 180 is posted",
     );
-    holds(&rt, passes(&parts, 1, 180), "the 180 goes up");
+    holds(&rt, passes(&parts, 180), "the 180 goes up");
     holds(
         &rt,
         takes(alloc, &mut parts, 20, &NOT_FOUND, Taken::Posted(1)),
@@ -670,4 +668,18 @@ fn an_answer_could_not_be_sent(rt: HostRuntime) {
         parts.owed().len() == 2,
         "the last answer is owed again",
     );
+}
+
+#[test]
+fn more_than_four_answers_are_owed(rt: HostRuntime) {
+    let alloc = rt.alloc();
+    let Some(mut parts) = begun(alloc, &INVITE) else {
+        return holds(&rt, false, "an INVITE begins");
+    };
+    for now in 1..6 {
+        holds(&rt, parts.take_request(now).is_ok(), "the INVITE again");
+    }
+    holds(&rt, parts.owed().len() == 6, "each is owed an answer");
+    holds(&rt, owes_trying(&parts), "the 100 first");
+    holds(&rt, owes_again(&parts), "then the last answer again");
 }

@@ -1,3 +1,4 @@
+pub mod Queues
 pub mod LegLists
 pub mod Sends
 pub mod Waiting

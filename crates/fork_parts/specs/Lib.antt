@@ -17,6 +17,7 @@ pub mod Datagrams
 pub mod Again
 pub mod Sound
 pub mod Behind
+pub mod Queue
 pub mod Views
 pub mod SeenDatagram
 pub mod SeenTaken

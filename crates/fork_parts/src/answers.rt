@@ -19,8 +19,8 @@ ghost use Rattle.fork_parts.specs.Sound.{IsSound};
 use crate::cause::Cause;
 use crate::datagram::Datagram;
 use crate::fixed::Fixed;
-use crate::owed::OwedAnswer;
 use crate::parts::Parts;
+use crate::queue::OwedAnswer;
 use crate::states::shows_received;
 use crate::step::Step;
 use fork_context::{Challenge, Choice, Offer};
@@ -168,12 +168,12 @@ impl<A: Allocator + Clone> Parts<A> {
         let Some(first) = self.owed().first() else {
             unreachable!()
         };
-        match first.answer() {
+        match first {
             OwedAnswer::Trying => own_answer(self.allocator()?, self.fixed(), OwnStatus::Trying),
             OwedAnswer::Passed(response) => passed_answer(self.allocator()?, response),
-            OwedAnswer::Final(choice) => self.final_answer(*choice),
+            OwedAnswer::Final(choice) => self.final_answer(choice),
             OwedAnswer::Again => Ok(Payment::Sent(self.last_again()?)),
-            OwedAnswer::CancelOk(cancel, to) => cancel_ok(self.allocator()?, cancel, *to),
+            OwedAnswer::CancelOk(cancel, to) => cancel_ok(self.allocator()?, cancel, to),
         }
     }
 

@@ -21,6 +21,7 @@ mod legs;
 mod look;
 mod owed;
 mod parts;
+mod queue;
 mod responses;
 mod rows;
 mod said;
@@ -37,8 +38,8 @@ pub use fixed::Fixed;
 pub use law::{
     branches_keep_their_answers, calls_stay_sound, datagrams_are_right, repeats_are_the_same,
 };
-pub use owed::{Owed, OwedAnswer};
 pub use parts::Parts;
+pub use queue::{OwedAnswer, OwedAnswers};
 pub use rows::place_of;
 pub use step::Step;
 pub use taken::Taken;

@@ -45,7 +45,8 @@ use crate::leg::{Cancelling, Leg};
 use crate::legs::{
     cancel_leg, cancel_on_leg, keep_leg, leg_in, no_legs, put_leg, respond_leg, take_ack_of, way_at,
 };
-use crate::owed::{Owed, OwedAnswer, again_if, first_owed, owe, owed_by, pay_first};
+use crate::owed::{again_if, count_of, first_owed, owed_by};
+use crate::queue::{NewAnswer, OwedAnswers, Queue};
 use crate::responses::{answer_event, is_request, is_response, is_timeout, response_event};
 use crate::rows::add_rows;
 use crate::said::Said;
@@ -74,7 +75,7 @@ pub struct Parts<A: Allocator + Clone = Global> {
     ways: Vec<Way<A>, A>,
     legs: Vec<Option<Leg<A>>, A>,
     served: Served,
-    owed: Vec<Owed<A>, A>,
+    owed: Queue<A>,
     last: Vec<u8, A>,
     alloc: A,
 }
@@ -109,13 +110,15 @@ fn state_of<A: Allocator + Clone>(book: &Book<A>, n: u16) -> Option<State>
 
 impl<A: Allocator + Clone> Parts<A> {
     /// The parts of a call that was opened so, with the book of its fork and, for each row of the table, where its
-    /// request goes. Nothing was sent yet; a 100 is owed to an INVITE (RFC 3261 sections 16.2 and 17.2.1).
+    /// request goes. Nothing was sent yet; a 100 is owed to an INVITE (RFC 3261 sections 16.2 and 17.2.1). `heap` is for
+    /// the order in which more than four answers are owed at once, `alloc` for all else.
     ///
     /// # Errors
     ///
     /// Only where the allocator refuses.
     pub fn begin(
         alloc: A,
+        heap: Global,
         fixed: Fixed<A>,
         book: Book<A>,
         ways: Vec<Way<A>, A>,
@@ -125,7 +128,7 @@ impl<A: Allocator + Clone> Parts<A> {
         ensures { IfOk result (λ parts. parts ≡ begun fixed book ways.items) }
     {
         let legs = no_legs(alloc.clone()?, book.context().count())?;
-        let owed = first_owed(alloc.clone()?, fixed.kind())?;
+        let owed = first_owed(alloc.clone()?, heap, fixed.kind());
         let last = Vec::new(alloc.clone()?);
         let served = Served::start(fixed.kind(), now);
         Ok(Parts {
@@ -155,10 +158,10 @@ impl<A: Allocator + Clone> Parts<A> {
     }
 
     /// The answers that are owed to the caller, in the order in which they came to be owed.
-    pub fn owed(&self) -> &[Owed<A>]
-        ensures { result.now ≡ self.now.server.owed }
+    pub fn owed(&self) -> OwedAnswers<'_, A>
+        ensures { result ≡ self.now.server.owed }
     {
-        &self.owed
+        self.owed.answers()
     }
 
     /// The server transaction.
@@ -283,7 +286,7 @@ impl<A: Allocator + Clone> Parts<A> {
         requires some { 0 < length self.old.server.owed }
         ensures { self.new ≡ record self.old { server = record self.old.server { owed = drop 1 self.old.server.owed } } }
     {
-        pay_first(&mut self.owed);
+        self.owed.pay_first();
     }
 
     // ---- to a branch
@@ -490,14 +493,14 @@ impl<A: Allocator + Clone> Parts<A> {
     {
         new_rows_are_contacts();
         open_branches_take_events();
-        if self.owed.reserve(1).is_err() {
+        if self.owed.reserve(1, 0).is_err() {
             return Err(AllocError);
         }
         let Ok(at) = self.book.post(CALL_TAG, event) else {
             return Err(AllocError);
         };
         let up = up_at(&self.book, at);
-        owe(&mut self.owed, owed_by(up, None));
+        self.owed.owe_if(owed_by(up, None));
         Ok(())
     }
 
@@ -575,7 +578,7 @@ impl<A: Allocator + Clone> Parts<A> {
         if self.book.context().is_full(&event) {
             return Err(PostFault::Full);
         }
-        self.owed.reserve(1)?;
+        self.owed.reserve(1, count_of(&response))?;
         self.ways.reserve(ways.len())?;
         self.legs.reserve(ways.len())?;
         let first = self.book.context().count();
@@ -584,7 +587,7 @@ impl<A: Allocator + Clone> Parts<A> {
         };
         add_rows(&self.book, first, ways, &mut self.ways, &mut self.legs);
         let up = up_at(&self.book, at);
-        owe(&mut self.owed, owed_by(up, response));
+        self.owed.owe_if(owed_by(up, response));
         Ok(at)
     }
 
@@ -615,11 +618,11 @@ impl<A: Allocator + Clone> Parts<A> {
         ensures err { OnErr result (self.new ≡ self.old) }
     {
         let (served, out) = self.served.fed(TxEvent::Request, now);
-        if self.owed.reserve(1).is_err() {
+        if self.owed.reserve(1, 0).is_err() {
             return Err(AllocError);
         }
         self.served = served;
-        owe(&mut self.owed, again_if(is_response(out.send)));
+        self.owed.owe_if(again_if(is_response(out.send)));
         Ok(())
     }
 
@@ -650,20 +653,20 @@ impl<A: Allocator + Clone> Parts<A> {
     {
         new_rows_are_contacts();
         open_branches_take_events();
-        if self.owed.reserve(2).is_err() {
+        if self.owed.reserve(2, 1).is_err() {
             return Err(AllocError);
         }
-        let okay = Owed::new(OwedAnswer::CancelOk(cancel, to));
+        let okay = NewAnswer::CancelOk(cancel, to);
         if !self.cancels() {
-            owe(&mut self.owed, Some(okay));
+            self.owed.owe(okay);
             return Ok(Taken::Absorbed);
         }
         let Ok(at) = self.book.post(CALL_TAG, Event::Cancel) else {
             return Err(AllocError);
         };
         let up = up_at(&self.book, at);
-        owe(&mut self.owed, Some(okay));
-        owe(&mut self.owed, owed_by(up, None));
+        self.owed.owe(okay);
+        self.owed.owe_if(owed_by(up, None));
         Ok(Taken::Posted(at))
     }
 
@@ -685,14 +688,14 @@ impl<A: Allocator + Clone> Parts<A> {
         let (served, out) = self.served.fed(answer_event(status), now);
         if !is_response(out.send) {
             self.served = served;
-            pay_first(&mut self.owed);
+            self.owed.pay_first();
             return Ok(Step::Did);
         }
         let bytes = Vec::from_slice(self.alloc.clone()?, &text)?;
         let to = self.fixed.caller();
         self.served = served;
         self.last = text;
-        pay_first(&mut self.owed);
+        self.owed.pay_first();
         Ok(Step::Send(Datagram {
             to,
             bytes,

@@ -15,8 +15,8 @@ invariant_of-result g c =
 pub returns : goal.returns
 returns g c =
     let count : c.count.result ≡ length (table_of c.args.book).rows = c.count.ensures.value ∙ ap (λ (x : Core). length x.table.rows) c.context.ensures.stands in
-    begun_is c.args.fixed c.args.book c.args.ways.items c.in_ok-legs.legs.items c.start-served.result c.in_ok-owed.owed.items c.new-last.result.items
+    begun_is c.args.fixed c.args.book c.args.ways.items c.in_ok-legs.legs.items c.start-served.result c.first_owed-owed.result.items c.new-last.result.items
     (c.in_ok-legs.ensures ∙ ap no_legs count ∙ no_legs_of (table_of c.args.book).rows)
     (c.start-served.ensures ∙ ap served_start c.kind-2.ensures)
-    (c.in_ok-owed.ensures ∙ ap first_owed c.kind.ensures)
+    (c.first_owed-owed.ensures ∙ ap first_owed c.kind.ensures)
     c.new-last.ensures.items

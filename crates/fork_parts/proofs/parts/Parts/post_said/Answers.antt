@@ -1,6 +1,5 @@
 use Rattle.std.proofs.Common.{◌≡◌, ◌≤◌, ◌∙◌, ℕ, ◌++◌, ap, drop, false, length, map, slice_get, subst, sym, List, Option}
 use Rattle.std.specs.Prelude.{filter_map}
-use Rattle.std.specs.Option.{option_to_list}
 use Rattle.fork_model.specs.Core.{Core, is_full}
 use Rattle.fork_model.specs.Reply.{Up}
 use Rattle.fork_model.specs.Table.{Table}
@@ -10,6 +9,7 @@ use Rattle.fork_context.specs.ReplyView.{up_of}
 use Rattle.fork_parts.specs.Call.{Call}
 use Rattle.fork_parts.specs.NewWays.{HaveWays, PostsSaid, way_for}
 use Rattle.fork_parts.specs.Posting.{no_leg, owed_by, way_of_contact}
+use Rattle.fork_parts.specs.Queue.{news_of}
 use Rattle.fork_parts.specs.Fixed.{Way}
 use Rattle.fork_parts.specs.Leg.{Leg}
 use Rattle.fork_parts.specs.Server.{Owed}
@@ -48,21 +48,21 @@ returns-clause-ok g c = λ contacts made.
       log = c.post.new.self;
       ways = c.add_rows.new.ways.items;
       legs = c.add_rows.new.legs.items;
-      server = record call.server { owed = c.owe.new.owed.items };
+      server = record call.server { owed = c.owe_if.new.self.items };
     } in
     let first : c.count-first.result ≡ length (table_of old).rows = c.count-first.ensures.value ∙ ap (λ (x : Core). length x.table.rows) c.context-2.ensures.stands in
     let taken : is_full (core_of old) (event_of c.args.said.event) ≡ false =
     ap (λ (x : Core). is_full x (event_of c.args.said.event)) (sym c.context.ensures.stands) ∙ sym c.is_full.ensures ∙ c.if-is_full.false in
     let up : up_of c.up_at-up.result ≡ is.0.up = c.up_at-up.ensures is.0 (ap (slice_get c.post.new.self.replies) c.in-Ok.ensures.at ∙ is.1.placed) in
-    let owed : c.owe.new.owed.items ≡ c.self.inside.owed.items ++ owed_by is.0.up c.args.response =
-    c.owe.ensures.items
-    ∙ ap (λ (os : List Owed). os ++ option_to_list c.owed_by.result) c.reserve.ensures.items
-    ∙ ap (λ (os : List Owed). c.self.inside.owed.items ++ os) (c.owed_by.ensures ∙ ap (λ (u : Up). owed_by u c.args.response) up) in
+    let owed : c.owe_if.new.self.items ≡ c.self.inside.owed.items ++ owed_by is.0.up c.args.response =
+    c.owe_if.ensures.items
+    ∙ ap (λ (os : List Owed). os ++ news_of c.owed_by.result) c.reserve.ensures.items
+    ∙ ap (λ (os : List Owed). c.self.inside.owed.items ++ os) (c.owed_by.ensures.answer ∙ ap (λ (u : Up). owed_by u c.args.response) up) in
     let same : c.args.said.ways.items ≡ map (way_of_contact call.fixed) contacts =
     made ∙ ap (λ (x : Call). map (way_of_contact x.fixed) contacts) (sym c.self.view_is) in
     let P : Call → Type 0 = λ x. PostsSaid x (event_of c.args.said.event) contacts c.args.response c.in-Ok.at new in
     subst P c.self.view_is
-    (said_posts call (event_of c.args.said.event) contacts c.args.response is.0 c.post.new.self c.add_rows.new.ways.items c.add_rows.new.legs.items c.owe.new.owed.items
+    (said_posts call (event_of c.args.said.event) contacts c.args.response is.0 c.post.new.self c.add_rows.new.ways.items c.add_rows.new.legs.items c.owe_if.new.self.items
     c.args.said.ways.items c.count-first.result c.in-Ok.at taken is.1 first same
     (c.add_rows.ensures.ways ∙ ap (λ (ws : List Way). ws ++ filter_map (way_for c.args.said.ways.items) (drop c.count-first.result (table_of c.post.new.self).rows)) c.reserve-2.ensures.items)
     (c.add_rows.ensures.legs ∙ ap (λ (ls : List (Option Leg)). ls ++ map no_leg (drop c.count-first.result (table_of c.post.new.self).rows)) c.reserve-3.ensures.items)

@@ -28,14 +28,13 @@ returns-clause-ok g c =
       legs = c.self.inside.legs.items;
       server = record { machine = c.self.inside.served; owed = c.self.inside.owed.items; last = c.self.inside.last.items };
     } in
-    let new : Call = record call { log = c.post.new.self; server = record call.server { owed = c.owe-3.new.owed.items } } in
+    let new : Call = record call { log = c.post.new.self; server = record call.server { owed = c.owe_if.new.self.items } } in
     let is = c.in-Ok.ensures.added in
     let up : up_of c.up_at-up.result ≡ is.0.up =
     c.up_at-up.ensures is.0 (ap (slice_get c.post.new.self.replies) c.in-Ok.ensures.at ∙ is.1.placed) in
-    let owed : c.owe-3.new.owed.items ≡ (c.self.inside.owed.items ++ CancelOk c.args.cancel c.args.to ∷ []) ++ owed_by is.0.up None =
-    owed_both c.self.inside.owed.items c.reserve.new.self.items c.owe-2.new.owed.items c.owe-3.new.owed.items _ (owed_by is.0.up None) c.new-okay.result
-    c.reserve.ensures.items c.owe-2.ensures.items c.owe-3.ensures.items (c.owed_by.ensures ∙ ap (λ (u : Up). owed_by u None) up)
-    ∙ ap (λ (o : Owed). (c.self.inside.owed.items ++ o ∷ []) ++ owed_by is.0.up None) c.new-okay.ensures in
+    let owed : c.owe_if.new.self.items ≡ (c.self.inside.owed.items ++ CancelOk c.args.cancel c.args.to ∷ []) ++ owed_by is.0.up None =
+    owed_both c.self.inside.owed.items c.reserve.new.self.items c.owe-2.new.self.items c.owe_if.new.self.items _ (owed_by is.0.up None) (CancelOk c.args.cancel c.args.to)
+    c.reserve.ensures.items c.owe-2.ensures.items c.owe_if.ensures.items (c.owed_by.ensures.answer ∙ ap (λ (u : Up). owed_by u None) up) in
     let closes : cancels call ≡ true = let a = c.cancels.ensures in let b = c.if-not-cancels.false in cc in
     let sound : IsSound call = subst IsSound (sym c.self.view_is) c.requires.sound in
     let none = c.new_rows_are_contacts.ensures.none (table_of c.self.inside.book) Cancel (length c.self.inside.book.history) refl in
