@@ -25,7 +25,7 @@ use sip_route::{first_route, request_uri};
 use sip_text::{Message, Start};
 use sip_uri::{Hop, SipUri};
 use sip_via::reply_hop_of;
-use std::alloc::{AllocError, Allocator};
+use std::alloc::{AllocError, Allocator, Global};
 
 /// The text of most URIs is no longer.
 const USUAL_URI: usize = 64;
@@ -144,6 +144,7 @@ fn rows_have_places<A: Allocator + Clone>(
 /// The parts of a call that begins so, each of whose targets has a hop.
 fn begin<A: Allocator + Clone>(
     alloc: A,
+    heap: Global,
     rules: Rules,
     fixed: Fixed<A>,
     choices: &[Choice<'_, A>],
@@ -156,12 +157,13 @@ fn begin<A: Allocator + Clone>(
     let book = book_of(alloc.clone()?, kind, rules, choices)?;
     rows_have_places(&book, choices, kind, rules);
     let ways = ways_of(&alloc, choices, &book)?;
-    Parts::begin(alloc, fixed, book, ways, now)
+    Parts::begin(alloc, heap, fixed, book, ways, now)
 }
 
 /// The parts of the call that opens for a request to this URI, as it was prepared.
 fn open_to<A: Allocator + Clone>(
     alloc: A,
+    heap: Global,
     setup: &Setup<A>,
     number: u64,
     request: Message<A>,
@@ -191,7 +193,7 @@ fn open_to<A: Allocator + Clone>(
         caller,
         hop_if_any(route),
     );
-    match begin(alloc, setup.rules(), fixed, &choices, now) {
+    match begin(alloc, heap, setup.rules(), fixed, &choices, now) {
         Ok(parts) => Ok(parts),
         Err(_) => Err(OpenFault::NoMemory),
     }
@@ -200,6 +202,7 @@ fn open_to<A: Allocator + Clone>(
 /// The parts of the call that opens for a request as it was prepared.
 fn open_prepared<A: Allocator + Clone>(
     alloc: A,
+    heap: Global,
     setup: &Setup<A>,
     number: u64,
     request: Message<A>,
@@ -215,7 +218,7 @@ fn open_prepared<A: Allocator + Clone>(
         return Err(OpenFault::Extension);
     }
     let uri = read_target(alloc.clone()?, &request)?;
-    open_to(alloc, setup, number, request, &uri, source, now)
+    open_to(alloc, heap, setup, number, request, &uri, source, now)
 }
 
 /// Whether a message is a request that may open a call: neither an ACK nor a CANCEL, which are for a call that was opened
@@ -233,13 +236,15 @@ pub fn is_openable<A: Allocator>(message: &Message<A>) -> bool
 
 /// The parts of the call that a request from `source` opens under this number; it is neither an ACK nor a CANCEL. The
 /// targets of a request to the domain are the locations of its user, that of any other is its Request-URI (RFC 3261
-/// sections 16.3 to 16.6). Nothing was sent yet; a 100 is owed to an INVITE.
+/// sections 16.3 to 16.6). Nothing was sent yet; a 100 is owed to an INVITE. The queue of what is owed to the caller lies on
+/// `heap`, all else in `alloc`.
 ///
 /// # Errors
 ///
 /// The first of those of [`OpenFault`] that holds; `NoMemory` wherever the allocator refuses.
 pub fn open<A: Allocator + Clone>(
     alloc: A,
+    heap: Global,
     setup: &Setup<A>,
     number: u64,
     request: Message<A>,
@@ -251,7 +256,7 @@ pub fn open<A: Allocator + Clone>(
     ensures refused { IfErr result (Refuses setup.now request source) }
 {
     match admit(alloc.clone()?, setup.own(), request, source) {
-        Ok(request) => open_prepared(alloc, setup, number, request, source, now),
+        Ok(request) => open_prepared(alloc, heap, setup, number, request, source, now),
         Err(fault) => Err(fault),
     }
 }
