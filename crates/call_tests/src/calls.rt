@@ -15,7 +15,7 @@ fn opened(alloc: Global) -> Option<Call> {
     if !is_openable(&invite) {
         return None;
     }
-    Call::open(alloc, &setup, 3, invite, SOURCE, 0).ok()
+    Call::open(alloc, alloc, &setup, 3, invite, SOURCE, 0).ok()
 }
 
 /// What the next datagram is sent for, where the next pump sends one.

@@ -91,7 +91,7 @@ fn opened(alloc: Global, changes: &[Change]) -> Option<Call<Global>> {
     if !is_openable(&request) {
         return None;
     }
-    Call::open(alloc, &setup, 3, request, SOURCE, 0).ok()
+    Call::open(alloc, alloc, &setup, 3, request, SOURCE, 0).ok()
 }
 
 /// Whether the call sends so many datagrams at this moment and so many fail, and whether more is due then.

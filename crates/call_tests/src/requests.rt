@@ -82,7 +82,7 @@ pub fn opened(
     if !is_openable(&request) {
         return None;
     }
-    Some(open(alloc, setup, 3, request, SOURCE, 0))
+    Some(open(alloc, alloc, setup, 3, request, SOURCE, 0))
 }
 
 /// The datagram that the request becomes for target n, if there is one.

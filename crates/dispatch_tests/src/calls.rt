@@ -99,7 +99,7 @@ fn sent_call(alloc: Global, number: u64, outbox: &mut Outbox) -> Option<Call<Glo
     if !is_openable(&request) {
         return None;
     }
-    let mut call = Call::open(alloc, &setup, number, request, SOURCE, 0).ok()?;
+    let mut call = Call::open(alloc, alloc, &setup, number, request, SOURCE, 0).ok()?;
     carry(&mut call, outbox, 0).ok()?;
     if call.number() == number {
         Some(call)

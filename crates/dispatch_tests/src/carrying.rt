@@ -41,7 +41,7 @@ pub fn serves<R: Abort + Wait, P: Port>(
     now: u64,
     port: &mut P,
 ) -> Option<Handled> {
-    let handled = handle(rt, alloc, shelf, setup, text, SOURCE, now, port).ok()?;
+    let handled = handle(rt, alloc, alloc, shelf, setup, text, SOURCE, now, port).ok()?;
     match handled {
         Handled::Opened(number) | Handled::Fed(number) => {
             if carries(rt, shelf, number, port, now) {

@@ -19,7 +19,18 @@ fn is_wanted<R: Wait>(
 ) -> Option<bool> {
     let shelf: Shelf<Call<Global>> = Shelf::new(alloc).ok()?;
     let mut outbox = Outbox::new(alloc);
-    let handled = handle(rt, alloc, &shelf, setup, text, SOURCE, 0, &mut outbox).ok()?;
+    let handled = handle(
+        rt,
+        alloc,
+        alloc,
+        &shelf,
+        setup,
+        text,
+        SOURCE,
+        0,
+        &mut outbox,
+    )
+    .ok()?;
     let calls = if wanted == Handled::Opened(0) { 1 } else { 0 };
     let is_answered = matches!(wanted, Handled::Answered(_));
     Some(handled == wanted && shelf.count(rt) == calls && outbox.is_empty() != is_answered)

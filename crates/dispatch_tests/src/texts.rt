@@ -95,7 +95,7 @@ pub fn becomes<R: Wait>(
 ) -> Option<Handled> {
     let setup = setup_of(alloc)?;
     let text = request_of(alloc, edits)?;
-    handle(rt, alloc, shelf, &setup, &text, SOURCE, 0, outbox).ok()
+    handle(rt, alloc, alloc, shelf, &setup, &text, SOURCE, 0, outbox).ok()
 }
 
 /// What becomes of the text of these lines.
@@ -108,5 +108,5 @@ pub fn lines_become<R: Wait>(
 ) -> Option<Handled> {
     let setup = setup_of(alloc)?;
     let text = text_of(alloc, lines)?;
-    handle(rt, alloc, shelf, &setup, &text, SOURCE, 0, outbox).ok()
+    handle(rt, alloc, alloc, shelf, &setup, &text, SOURCE, 0, outbox).ok()
 }

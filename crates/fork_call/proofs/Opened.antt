@@ -5,8 +5,8 @@ use Rattle.sip_uri.specs.declared.hop.Hop.{Hop}
 use Rattle.fork_setup.specs.Setup.{Setup}
 use Rattle.fork_parts.specs.Call.{Call}
 use Rattle.fork_parts.specs.Sound.{BegunIsSound}
-use Rattle.fork_routing.specs.Opening.{Opens, fixed_of}
-use Rattle.fork_routing.specs.Targets.{choices, targets_of}
+use Rattle.fork_routing.specs.Opening.{Opens, choices_for, fixed_of}
+use Rattle.fork_routing.specs.Targets.{targets_of}
 use Rattle.fork_call.specs.Scheduled.{scheduled}
 use Rattle.fork_call.specs.Timing.{IsTimed}
 
@@ -21,7 +21,7 @@ opened_timed begun setup number m source call moments opens times =
     let Q : List (Option ℕ) → Type 0 = λ ms. IsTimed call ms in
     let fixed = fixed_of setup number request source in
     subst Q (sym times) (subst P (sym begins.2) (record {
-      sound = begun fixed setup.rules (targets_of (choices setup uri)) begins.0;
+      sound = begun fixed setup.rules (targets_of (choices_for setup request uri)) begins.0;
       times = refl;
       within = omega arith;
     }))

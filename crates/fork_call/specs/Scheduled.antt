@@ -1,5 +1,5 @@
 -- How a call knows at once whether something is due: a moment for each row, and the least of them.
-use Rattle.std.specs.Prelude.{ℕ, ◌&&◌, Bool, true, false, ◌≡◌, List, [], ◌∷◌, ◌++◌, Option, Some, None, is_none, fold, slice_get, if◌then◌else◌}
+use Rattle.std.specs.Prelude.{ℕ, ◌&&◌, Bool, true, false, ◌≡◌, List, [], ◌∷◌, ◌++◌, Option, Some, None, is_none, fold, nat_lt, slice_get, if◌then◌else◌}
 use Rattle.fork_model.specs.Table.{Row, is_row, is_trying, is_cancelled}
 use Rattle.fork_model.specs.Reply.{Reply}
 use Rattle.fork_model.specs.Sources.{IsNumberIn}
@@ -59,6 +59,12 @@ pub record IsTimedBut (call : Call) (rows : List ℕ) (moments : List (Option �
 abbrev pub rows_in : Option Reply → List ℕ
 rows_in None = []
 rows_in (Some reply) = reply.started ++ reply.cancelled
+
+-- a moment comes before another; none comes after all
+abbrev pub comes_before : Option ℕ → Option ℕ → Bool
+comes_before None other = false
+comes_before (Some at) None = true
+comes_before (Some at) (Some other) = nat_lt at other
 
 -- the moment at this place has come
 abbrev pub IsDueAt : List (Option ℕ) → (now n : ℕ) → Type 0

@@ -77,13 +77,15 @@ impl<A: Allocator + Clone> Model for Call<A> {
 impl<A: Allocator + Clone> Call<A> {
     /// The call that a request from `source` opens under this number; it is neither an ACK nor a CANCEL. The targets of a
     /// request to the domain are the locations of its user, that of any other is its Request-URI (RFC 3261 sections 16.3 to
-    /// 16.6). Nothing was sent yet; a 100 is owed to an INVITE.
+    /// 16.6). Nothing was sent yet; a 100 is owed to an INVITE. The queue of what is owed to the caller lies on `heap`, all
+    /// else in `alloc`.
     ///
     /// # Errors
     ///
     /// The first of those of [`OpenFault`] that holds; `NoMemory` wherever the allocator refuses.
     pub fn open(
         alloc: A,
+        heap: Global,
         setup: &Setup<A>,
         number: u64,
         request: Message<A>,
@@ -97,7 +99,7 @@ impl<A: Allocator + Clone> Call<A> {
         calls_stay_sound();
         let own = alloc.clone()?;
         let rest = alloc.clone()?;
-        let parts = match fork_routing::open(alloc, setup, number, request, source, now) {
+        let parts = match fork_routing::open(alloc, heap, setup, number, request, source, now) {
             Ok(parts) => parts,
             Err(fault) => return Err(fault),
         };

@@ -17,7 +17,7 @@ use fork_shelf::Shelf;
 use sip_build::OwnStatus;
 use sip_text::{Message, ReadFault, faults_are_of_the_text};
 use sip_uri::Hop;
-use std::alloc::{AllocError, Allocator};
+use std::alloc::{AllocError, Allocator, Global};
 use std::sync::Wait;
 
 /// What became of a datagram.
@@ -41,6 +41,7 @@ pub enum Handled {
 fn of_message<A: Allocator + Clone, R: Wait>(
     rt: &R,
     alloc: A,
+    heap: Global,
     shelf: &Shelf<Call<A>, A>,
     setup: &Setup<A>,
     message: Message<A>,
@@ -52,7 +53,7 @@ fn of_message<A: Allocator + Clone, R: Wait>(
 {
     match purpose_of(&message) {
         None => responded(rt, shelf, setup, message, received),
-        Some(purpose) => requested(rt, alloc, shelf, setup, message, purpose, received),
+        Some(purpose) => requested(rt, alloc, heap, shelf, setup, message, purpose, received),
     }
 }
 
@@ -96,6 +97,7 @@ fn of_fault<A: Allocator + Clone>(
 fn outcome_of<A: Allocator + Clone, R: Wait>(
     rt: &R,
     alloc: A,
+    heap: Global,
     shelf: &Shelf<Call<A>, A>,
     setup: &Setup<A>,
     received: &Received<'_>,
@@ -105,7 +107,7 @@ fn outcome_of<A: Allocator + Clone, R: Wait>(
 {
     faults_are_of_the_text();
     match Message::read(alloc.clone()?, received.bytes) {
-        Ok(message) => of_message(rt, alloc, shelf, setup, message, received),
+        Ok(message) => of_message(rt, alloc, heap, shelf, setup, message, received),
         Err(fault) => of_fault(alloc, fault, received.source),
     }
 }
@@ -122,7 +124,7 @@ fn hand<A: Allocator, P: Port>(port: &mut P, sent: &Option<Datagram<A>>)
 /// Handles a datagram that came from `source` at `now`, in milliseconds (RFC 3261 sections 16.2, 16.7, 16.11, 17.1.3, 17.2.3
 /// and 18): the call that it belongs to takes it, or it opens one, or it is answered, sent on or dropped without one. An answer
 /// or an ACK that cannot be sent is lost, as on the way. Nothing else is handed to the port: what a call then has to send is for
-/// `carry`.
+/// `carry`. A call that is opened has its queue of what is owed to the caller on `heap`, all else in `alloc`.
 ///
 /// # Errors
 ///
@@ -130,6 +132,7 @@ fn hand<A: Allocator, P: Port>(port: &mut P, sent: &Option<Datagram<A>>)
 pub fn handle<A: Allocator + Clone, P: Port, R: Wait>(
     rt: &R,
     alloc: A,
+    heap: Global,
     shelf: &Shelf<Call<A>, A>,
     setup: &Setup<A>,
     packet: &[u8],
@@ -146,7 +149,7 @@ pub fn handle<A: Allocator + Clone, P: Port, R: Wait>(
         source,
         at: now,
     };
-    let outcome = outcome_of(rt, alloc, shelf, setup, &received)?;
+    let outcome = outcome_of(rt, alloc, heap, shelf, setup, &received)?;
     hand(port, &outcome.datagram);
     Ok(outcome.handled)
 }

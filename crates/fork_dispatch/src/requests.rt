@@ -23,7 +23,7 @@ use fork_shelf::{Shelf, ShelfFault};
 use sip_build::OwnStatus;
 use sip_route::append_request_key;
 use sip_text::Message;
-use std::alloc::{AllocError, Allocator};
+use std::alloc::{AllocError, Allocator, Global};
 use std::sync::Wait;
 
 /// The key of a request, by which it is known when it comes again, with its ACK and its CANCEL (RFC 3261 section 17.2.3).
@@ -42,6 +42,7 @@ fn key_of<A: Allocator>(alloc: A, request: &Message<A>) -> Result<Option<Vec<u8,
 fn open_call<A: Allocator + Clone, R: Wait>(
     rt: &R,
     alloc: A,
+    heap: Global,
     shelf: &Shelf<Call<A>, A>,
     setup: &Setup<A>,
     key: &[u8],
@@ -57,7 +58,7 @@ fn open_call<A: Allocator + Clone, R: Wait>(
     shelf.put(
         rt,
         key,
-        |no| Call::open(alloc, setup, no, request, source, now),
+        |no| Call::open(alloc, heap, setup, no, request, source, now),
     )
 }
 
@@ -98,6 +99,7 @@ fn refused<A: Allocator + Clone>(
 fn opened<A: Allocator + Clone, R: Wait>(
     rt: &R,
     alloc: A,
+    heap: Global,
     shelf: &Shelf<Call<A>, A>,
     setup: &Setup<A>,
     key: &[u8],
@@ -110,7 +112,16 @@ fn opened<A: Allocator + Clone, R: Wait>(
     ensures { IfOk result (λ outcome.
         MessageBecomes setup.now request received.now.source received.now.at outcome.handled (seen_sent outcome.datagram)) }
 {
-    match open_call(rt, alloc.clone()?, shelf, setup, key, request, received) {
+    match open_call(
+        rt,
+        alloc.clone()?,
+        heap,
+        shelf,
+        setup,
+        key,
+        request,
+        received,
+    ) {
         Ok(no) => Ok(Outcome::silent(Handled::Opened(no))),
         // another worker opened it meanwhile
         Err(ShelfFault::Known(no)) => feed(rt, shelf, no, read_again(alloc, received)?, received),
@@ -133,6 +144,7 @@ fn opened<A: Allocator + Clone, R: Wait>(
 pub(crate) fn requested<A: Allocator + Clone, R: Wait>(
     rt: &R,
     alloc: A,
+    heap: Global,
     shelf: &Shelf<Call<A>, A>,
     setup: &Setup<A>,
     request: Message<A>,
@@ -162,7 +174,7 @@ pub(crate) fn requested<A: Allocator + Clone, R: Wait>(
             answered(alloc, request, received.source, OwnStatus::BadRequest)
         }
         (Purpose::Opening, Some(key)) => {
-            opened(rt, alloc, shelf, setup, &key, request, received)
+            opened(rt, alloc, heap, shelf, setup, &key, request, received)
         }
     }
 }

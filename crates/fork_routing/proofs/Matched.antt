@@ -91,14 +91,16 @@ module _ (call : Call) (m : MessageText) where
           false≢true (sym f ∙ ap (for_cancel call m) same ∙ well)
 
   -- the branch of the call is looked for by its address and by the name of its branches
-  pub at_home : (fixed : Fixed) (own : Own) (b : BranchName) (r : Option ℕ) → fixed ≡ call.fixed → own ≡ fixed.own → b ≡ branch_at fixed 0
-      → ((n : ℕ) → n < 2 ^ 16 → IsOwnBranch own (top_value m) (record b { target = n }) → r ≡ Some n)
+  pub at_home : (fixed : Fixed) (own : Own) (value : List ℕ) (b : BranchName) (r : Option ℕ) → fixed ≡ call.fixed → own ≡ fixed.own
+      → value ≡ top_value m → b ≡ branch_at fixed 0
+      → ((n : ℕ) → n < 2 ^ 16 → IsOwnBranch own value (record b { target = n }) → r ≡ Some n)
       → (n : ℕ) → n < 2 ^ 16 → IsHome n → r ≡ Some n
-  at_home fixed own b r s p q only n lt home =
+  at_home fixed own value b r s p v q only n lt home =
       let P : BranchName → Type 0 = λ x. IsOwnBranch fixed.own (top_value m) (record x { target = n }) in
       let Q : Own → Type 0 = λ o. IsOwnBranch o (top_value m) (record b { target = n }) in
       let R : Fixed → Type 0 = λ f. IsOwnBranch f.own (top_value m) (branch_at f n) in
-      only n lt (subst Q (sym p) (subst P (sym q) (subst R (sym s) home)))
+      let V : List ℕ → Type 0 = λ x. IsOwnBranch own x (record b { target = n }) in
+      only n lt (subst V (sym v) (subst Q (sym p) (subst P (sym q) (subst R (sym s) home))))
 
   pub none_home : ((n : ℕ) → n < 2 ^ 16 → IsHome n → None ≡ Some n) → BelongsToNoBranch call m
   none_home only = no_home (λ n lt home. let e = only n lt home in absurd cc)

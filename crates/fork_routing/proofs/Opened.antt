@@ -21,7 +21,7 @@ use Rattle.fork_routing.specs.declared.fault.OpenFault.{OpenFault}
 use Rattle.fork_routing.specs.declared.fault.OpenFault.TheVariants.{BadRequest, Scheme, Hops, Loop, Extension, NoTarget, NoHop, NoMemory}
 use Rattle.fork_routing.specs.Admission.{IsAdmitted, asks_extension, target_uri}
 use Rattle.fork_routing.specs.Refusing.{IsTurnedAway}
-use Rattle.fork_routing.specs.Opening.{Asks, IsBegun, IsOpenable, IsRefused, IsUnreachable, Opens, Reaches, Refuses, fixed_of}
+use Rattle.fork_routing.specs.Opening.{Asks, IsBegun, IsOpenable, IsRefused, IsUnreachable, Opens, Reaches, Refuses, choices_for, fixed_of}
 use Rattle.fork_routing.specs.Targets.{Choice, choices, has_hop, hop_if_any}
 
 pub openable : (start other : StartText) → start ≡ other → IsOpenable other → is_request start ≡ true
@@ -93,13 +93,12 @@ fixed_so setup number request source own instance caller route first fixed e p q
     e ∙ (λ k. record { number = number; own = p k; instance = q k; request = request; caller = r k; route = way k })
 
 pub reaches : (setup : Setup) (number : ℕ) (request : MessageText) (source : Hop) (uri : Uri) (rules : Rules) (route : FirstRoute) (fixed : Fixed) (cs : List Choice) (call : Call)
-    → cs ≡ choices setup uri → (cs ≡ [] → ⊥) → list_all (has_hop route) cs ≡ true → rules ≡ setup.rules → route ≡ first_route request
-    → fixed ≡ fixed_of setup number request source → IsBegun rules route fixed cs call → Reaches setup number request source uri call
+    → cs ≡ choices setup route uri → (cs ≡ [] → ⊥) → list_all has_hop cs ≡ true → rules ≡ setup.rules → route ≡ first_route request
+    → fixed ≡ fixed_of setup number request source → IsBegun rules fixed cs call → Reaches setup number request source uri call
 reaches setup number request source uri rules route fixed cs call p n h q r s b =
-    let H : List Choice → Type 0 = λ x. list_all (has_hop route) x ≡ true in
-    let K : FirstRoute → Type 0 = λ x. list_all (has_hop x) (choices setup uri) ≡ true in
-    let B : List Choice → Type 0 = λ x. IsBegun rules route fixed x call in
-    let C : Rules → Type 0 = λ x. IsBegun x route fixed (choices setup uri) call in
-    let D : FirstRoute → Type 0 = λ x. IsBegun setup.rules x fixed (choices setup uri) call in
-    let E : Fixed → Type 0 = λ x. IsBegun setup.rules (first_route request) x (choices setup uri) call in
-    record { some = λ e. n (p ∙ e); hops = subst K r (subst H p h); begins = subst E s (subst D r (subst C q (subst B p b))) }
+    let whole : cs ≡ choices_for setup request uri = p ∙ ap (λ (x : FirstRoute). choices setup x uri) r in
+    let H : List Choice → Type 0 = λ x. list_all has_hop x ≡ true in
+    let B : List Choice → Type 0 = λ x. IsBegun rules fixed x call in
+    let C : Rules → Type 0 = λ x. IsBegun x fixed (choices_for setup request uri) call in
+    let E : Fixed → Type 0 = λ x. IsBegun setup.rules x (choices_for setup request uri) call in
+    record { some = λ e. n (whole ∙ e); hops = subst H whole h; begins = subst E s (subst C q (subst B whole b)) }

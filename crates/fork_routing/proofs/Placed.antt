@@ -8,7 +8,6 @@ use Rattle.std.proofs.lemmas.Option.{same_Some, slice_get_within}
 use Rattle.fork_model.specs.Groups.{numbered}
 use Rattle.fork_model.specs.History.{Target, first_row, opening_rows}
 use Rattle.fork_model.specs.Table.{Kind, Row, Rules}
-use Rattle.sip_route.specs.declared.route_values.FirstRoute.{FirstRoute}
 use Rattle.fork_parts.specs.Begun.{begun}
 use Rattle.fork_parts.specs.Call.{Call}
 use Rattle.fork_parts.specs.Fixed.{Fixed, Way, kind_of}
@@ -76,18 +75,18 @@ module _ {X Y : Type 0} (f : X → Y) where
       let on : suc n + 1 ≡ suc (n + 1) = omega arith in
       ap (λ (k : ℕ). map f (take k (y ∷ xs))) on ∙ ap (λ (l : List Y). f y ∷ l) (one_more xs n x e)
 
-pub ways_more : (route : FirstRoute) (cs : List Choice) (rows : List Row) (ways new : List Way) (n k : ℕ) (way : Way)
-    → map Some ways ≡ map (way_of_row route cs) (take n rows) → new ≡ ways ++ way ∷ []
-    → option_map (λ (row : Row). row.place) (slice_get rows n) ≡ Some k → option_and_then (way_to route) (slice_get cs k) ≡ Some way
-    → map Some new ≡ map (way_of_row route cs) (take (n + 1) rows)
-ways_more route cs rows ways new n k way so_far e at this =
+pub ways_more : (cs : List Choice) (rows : List Row) (ways new : List Way) (n k : ℕ) (way : Way)
+    → map Some ways ≡ map (way_of_row cs) (take n rows) → new ≡ ways ++ way ∷ []
+    → option_map (λ (row : Row). row.place) (slice_get rows n) ≡ Some k → option_and_then way_to (slice_get cs k) ≡ Some way
+    → map Some new ≡ map (way_of_row cs) (take (n + 1) rows)
+ways_more cs rows ways new n k way so_far e at this =
     let found = named (slice_get rows n) k at in
-    let of_row : way_of_row route cs found.0 ≡ Some way =
-    ap (λ (x : ℕ). option_and_then (way_to route) (slice_get cs x)) found.2 ∙ this in
+    let of_row : way_of_row cs found.0 ≡ Some way =
+    ap (λ (x : ℕ). option_and_then way_to (slice_get cs x)) found.2 ∙ this in
     ap (map Some) e ∙ map_push Some ways way
     ∙ ap (λ (l : List (Option Way)). l ++ Some way ∷ []) so_far
-    ∙ ap (λ (o : Option Way). map (way_of_row route cs) (take n rows) ++ o ∷ []) (sym of_row)
-    ∙ sym (one_more (way_of_row route cs) rows n found.0 found.1)
+    ∙ ap (λ (o : Option Way). map (way_of_row cs) (take n rows) ++ o ∷ []) (sym of_row)
+    ∙ sym (one_more (way_of_row cs) rows n found.0 found.1)
 
 -- ---- how the call begins
 
@@ -99,11 +98,11 @@ as_many f (y ∷ ys) (x ∷ xs) e =
     let rest : map Some ys ≡ map f xs = ap (drop 1) e in
     ap suc (as_many f ys xs rest)
 
-pub begun_so : {E : Type 0} (rules : Rules) (route : FirstRoute) (fixed : Fixed) (cs : List Choice) (ways : List Way) (log : Log) (kind : Kind)
+pub begun_so : {E : Type 0} (rules : Rules) (fixed : Fixed) (cs : List Choice) (ways : List Way) (log : Log) (kind : Kind)
     (r : Result Call E) → IfOk r (λ call. call ≡ begun fixed log ways) → log ≡ opening_log kind rules (targets_of cs) → kind ≡ kind_of fixed
-    → AreWays route cs (table_of log).rows ways → IfOk r (IsBegun rules route fixed cs)
-begun_so rules route fixed cs ways log kind (Err fault) e p q w = tt
-begun_so rules route fixed cs ways log kind (Ok call) e p q w =
+    → AreWays cs (table_of log).rows ways → IfOk r (IsBegun rules fixed cs)
+begun_so rules fixed cs ways log kind (Err fault) e p q w = tt
+begun_so rules fixed cs ways log kind (Ok call) e p q w =
     let whole : log ≡ opening_log (kind_of fixed) rules (targets_of cs) = p ∙ ap (λ (k : Kind). opening_log k rules (targets_of cs)) q in
-    let P : Log → Type 0 = λ l. AreWays route cs (table_of l).rows ways in
+    let P : Log → Type 0 = λ l. AreWays cs (table_of l).rows ways in
     (ways, subst P whole w, e ∙ ap (λ (l : Log). begun fixed l ways) whole)

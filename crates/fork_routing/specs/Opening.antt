@@ -11,7 +11,6 @@ use Rattle.sip_uri.specs.Uri.{Uri}
 use Rattle.sip_via.specs.Received.{reply_of}
 use Rattle.sip_via.specs.TopVia.{top_value}
 use Rattle.sip_via.specs.ViaParts.{via_of}
-use Rattle.sip_route.specs.declared.route_values.FirstRoute.{FirstRoute}
 use Rattle.sip_route.specs.RouteValues.{first_route}
 use Rattle.fork_setup.specs.Setup.{Setup}
 use Rattle.fork_parts.specs.Begun.{begun}
@@ -40,19 +39,23 @@ fixed_of setup number request source = record {
 }
 
 -- a fork to these targets, of which nothing was sent yet
-abbrev pub IsBegun : Rules → FirstRoute → Fixed → List Choice → Call → Type 0
-IsBegun rules route fixed cs call =
+abbrev pub IsBegun : Rules → Fixed → List Choice → Call → Type 0
+IsBegun rules fixed cs call =
     (ways : List Way)
-    × AreWays route cs (opening_rows (targets_of cs)) ways
+    × AreWays cs (opening_rows (targets_of cs)) ways
     × (call ≡ begun fixed (opening_log (kind_of fixed) rules (targets_of cs)) ways)
 
 -- ---- the first fault, or the call
 
+-- where the request may be sent, by its first Route value or by the targets themselves
+abbrev pub choices_for : Setup → MessageText → Uri → List Choice
+choices_for setup request uri = choices setup (first_route request) uri
+
 -- why a request as it was prepared is not sent on to the targets that its URI leads to (sections 16.5 and 16.6)
 abbrev pub IsUnreachable : Setup → MessageText → Uri → OpenFault → Type 0
-IsUnreachable setup request uri NoTarget = choices setup uri ≡ []
+IsUnreachable setup request uri NoTarget = choices_for setup request uri ≡ []
 IsUnreachable setup request uri NoHop =
-    (choices setup uri ≢ []) × (list_all (has_hop (first_route request)) (choices setup uri) ≡ false)
+    (choices_for setup request uri ≢ []) × (list_all has_hop (choices_for setup request uri) ≡ false)
 -- want of memory says nothing
 IsUnreachable setup request uri NoMemory = Unit {0}
 -- the others come before these steps
@@ -60,9 +63,9 @@ IsUnreachable setup request uri _ = ⊥
 
 -- or it is, as this call
 pub record Reaches (setup : Setup) (number : ℕ) (request : MessageText) (source : Hop) (uri : Uri) (call : Call) : Type 0 where
-  pub some : choices setup uri ≢ []
-  pub hops : list_all (has_hop (first_route request)) (choices setup uri) ≡ true
-  pub begins : IsBegun setup.rules (first_route request) (fixed_of setup number request source) (choices setup uri) call
+  pub some : choices_for setup request uri ≢ []
+  pub hops : list_all has_hop (choices_for setup request uri) ≡ true
+  pub begins : IsBegun setup.rules (fixed_of setup number request source) (choices_for setup request uri) call
 
 -- it asks for no extension (section 16.3 step 5), and this is the URI that it names
 abbrev pub Asks : MessageText → (Uri → Type 0) → Type 0

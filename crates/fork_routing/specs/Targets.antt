@@ -15,10 +15,19 @@ use Rattle.sip_route.specs.declared.route_values.FirstRoute.TheVariants.{Absent,
 use Rattle.fork_setup.specs.Setup.{Location, Setup, locations_of}
 use Rattle.fork_parts.specs.Fixed.{Way, way_by}
 
--- a target, tried at this q, in thousandths
+-- ---- by which hop (section 16.6 steps 6 and 7)
+
+-- by that of the first Route value, if there is one, else by that of the target's URI
+abbrev pub hop_by : FirstRoute → Uri → Option Hop
+hop_by Absent uri = hop_of uri
+hop_by NoHop uri = None
+hop_by (To hop) uri = Some hop
+
+-- a target, tried at this q, in thousandths, and the hop by which it is reached, if there is one
 pub record Choice : Type 0 where
   pub q : ℕ
   pub uri : Uri
+  pub hop : Option Hop
 
 -- ---- which targets there are (section 16.5)
 
@@ -28,17 +37,18 @@ is_domain setup host =
     bytes_eq (str_to_ascii_lowercase host) (str_to_ascii_lowercase setup.domain)
     || bytes_eq host (address_text setup.own.addr)
 
-abbrev pub choice_at : Location → Choice
-choice_at location = record { q = location.q; uri = location.uri }
+abbrev pub choice_at : FirstRoute → Location → Choice
+choice_at route location = record { q = location.q; uri = location.uri; hop = hop_by route location.uri }
 
-abbrev pub choices_of : List Location → Option (List ℕ) → List Choice
-choices_of locations None = []
-choices_of locations (Some user) = map choice_at (locations_of user locations)
+abbrev pub choices_of : FirstRoute → List Location → Option (List ℕ) → List Choice
+choices_of route locations None = []
+choices_of route locations (Some user) = map (choice_at route) (locations_of user locations)
 
 -- in the domain the locations of the user, else the Request-URI alone
-abbrev pub choices : Setup → Uri → List Choice
-choices setup uri =
-    if is_domain setup uri.host then choices_of setup.locations uri.user else record { q = most_q; uri = uri } ∷ []
+abbrev pub choices : Setup → FirstRoute → Uri → List Choice
+choices setup route uri =
+    if is_domain setup uri.host then choices_of route setup.locations uri.user
+    else record { q = most_q; uri = uri; hop = hop_by route uri } ∷ []
 
 abbrev pub target_of : Choice → Target
 target_of choice = record { key = key_of choice.uri; q = choice.q }
@@ -46,16 +56,8 @@ target_of choice = record { key = key_of choice.uri; q = choice.q }
 abbrev pub targets_of : List Choice → List Target
 targets_of cs = map target_of cs
 
--- ---- by which hop (section 16.6 steps 6 and 7)
-
--- by that of the first Route value, if there is one, else by that of the target's URI
-abbrev pub hop_by : FirstRoute → Uri → Option Hop
-hop_by Absent uri = hop_of uri
-hop_by NoHop uri = None
-hop_by (To hop) uri = Some hop
-
-abbrev pub has_hop : FirstRoute → Choice → Bool
-has_hop route choice = is_some (hop_by route choice.uri)
+abbrev pub has_hop : Choice → Bool
+has_hop choice = is_some choice.hop
 
 abbrev pub hop_if_any : FirstRoute → Option Hop
 hop_if_any Absent = None
@@ -66,13 +68,13 @@ hop_if_any (To hop) = Some hop
 abbrev pub requested : Uri → Uri
 requested uri = record uri { params = without_methods uri.params; headers = None }
 
-abbrev pub way_to : FirstRoute → Choice → Option Way
-way_to route choice = way_by (requested choice.uri) (hop_by route choice.uri)
+abbrev pub way_to : Choice → Option Way
+way_to choice = way_by (requested choice.uri) choice.hop
 
 -- the way of the target that a row is for
-abbrev pub way_of_row : FirstRoute → List Choice → Row → Option Way
-way_of_row route cs row = option_and_then (way_to route) (slice_get cs row.place)
+abbrev pub way_of_row : List Choice → Row → Option Way
+way_of_row cs row = option_and_then way_to (slice_get cs row.place)
 
 -- each row has its way
-abbrev pub AreWays : FirstRoute → List Choice → List Row → List Way → Type 0
-AreWays route cs rows ways = map Some ways ≡ map (way_of_row route cs) rows
+abbrev pub AreWays : List Choice → List Row → List Way → Type 0
+AreWays cs rows ways = map Some ways ≡ map (way_of_row cs) rows

@@ -5,11 +5,11 @@ ghost use Rattle.sip_route.specs.Hops.{IsHops, hops_name};
 ghost use Rattle.fork_routing.specs.Admission.{IsAdmitted, IsPrepared, IsRoutable};
 ghost use Rattle.fork_routing.specs.Refusing.{IsTurnedAway, IsUnroutable};
 
-use crate::checks::{is_at_its_end, is_of_another_scheme, is_well_formed};
+use crate::checks::{is_of_another_scheme, is_spent, is_well_formed};
 use crate::fault::OpenFault;
 use sip_route::{hops_of, is_loop, request_uri, strip, stripping_keeps_the_rest};
 use sip_text::Message;
-use sip_uri::Hop;
+use sip_uri::{Hop, uri_fault};
 use sip_via::{Own, ViaFault, mark, marking_keeps_the_rest, readable_is_marked};
 use std::alloc::{AllocError, Allocator};
 
@@ -21,6 +21,7 @@ fn prepared<A: Allocator + Clone>(
     source: Hop,
 ) -> Result<Message<A>, AllocError>
     requires routable { IsRoutable message }
+    requires hops { IfSome (first_value hops_name message.headers) IsHops }
     ensures prepared { IfOk result (IsPrepared own message source) }
     ensures start { IfOk result (λ request. request.start ≡ message.start) }
     ensures hops { IfOk result (λ request. IfSome (first_value hops_name request.headers) IsHops) }
@@ -28,7 +29,6 @@ fn prepared<A: Allocator + Clone>(
     readable_is_marked();
     marking_keeps_the_rest();
     stripping_keeps_the_rest();
-    let _hops = hops_of(&message);
     match mark(alloc, message, source) {
         Ok(marked) => Ok(strip(marked, own)),
         Err(unmarked) => match unmarked.fault {
@@ -41,15 +41,18 @@ fn prepared<A: Allocator + Clone>(
 /// Whether a request can be routed as it stands: the first three steps of RFC 3261 section 16.3.
 fn routable<A: Allocator>(message: &Message<A>) -> Result<(), OpenFault>
     ensures well { IfOk result (λ _. IsRoutable message.now) }
+    ensures hops { IfOk result (λ _. IfSome (first_value hops_name message.now.headers) IsHops) }
     ensures refused { IfErr result (IsUnroutable message.now) }
 {
-    if !is_well_formed(message) {
+    let hops = hops_of(message);
+    let fault = uri_fault(request_uri(message));
+    if !is_well_formed(message, hops, fault) {
         return Err(OpenFault::BadRequest);
     }
-    if is_of_another_scheme(request_uri(message)) {
+    if is_of_another_scheme(fault) {
         return Err(OpenFault::Scheme);
     }
-    if is_at_its_end(message) {
+    if is_spent(hops) {
         return Err(OpenFault::Hops);
     }
     Ok(())

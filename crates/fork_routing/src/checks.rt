@@ -1,15 +1,18 @@
 //! What a proxy asks of a request before it routes it.
-ghost use Rattle.std.specs.Prelude.{◌≡◌, ◌↔◌, is_some, Err, IsTrue, true};
+ghost use Rattle.std.specs.Prelude.{◌≡◌, ◌↔◌, is_some, IsTrue, Result, Some};
 ghost use Rattle.std.specs.Option.{option_copied};
 ghost use Rattle.sip_uri.specs.declared.fault.UriFault.TheVariants as uris;
-ghost use Rattle.sip_uri.specs.Reading.{read_uri};
+ghost use Rattle.sip_uri.specs.declared.fault.UriFault.{UriFault};
+ghost use Rattle.sip_uri.specs.Fault.{fault_if_refused};
+ghost use Rattle.sip_uri.specs.Uri.{Uri};
+ghost use Rattle.sip_route.specs.Hops.{hops_of};
 ghost use Rattle.sip_via.specs.BranchText.{cookie};
 ghost use Rattle.sip_via.specs.ViaParts.{or_empty, read_via};
-ghost use Rattle.fork_routing.specs.Admission.{are_hops, asks_extension, begins_with, has_cookie, has_via, is_at_its_end, is_spent, is_uri_or_other, is_well_formed, target_uri};
+ghost use Rattle.fork_routing.specs.Admission.{are_hops, asks_extension, begins_with, has_cookie, has_via, is_spent, is_uri_or_other, is_well_formed, target_uri};
 
-use sip_route::{Hops, hops_of, request_uri, routes_are_readable};
+use sip_route::{Hops, routes_are_readable};
 use sip_text::Message;
-use sip_uri::{UriFault, uri_fault};
+use sip_uri::UriFault;
 use sip_via::{sender_of, top_via};
 use std::alloc::Allocator;
 
@@ -50,49 +53,45 @@ fn are_hops(hops: Hops) -> bool
     }
 }
 
-/// Whether a text is a SIP URI, or one of another scheme.
-fn is_uri_or_other(text: &[u8]) -> bool
-    ensures { result ≡ is_uri_or_other (read_uri text.now) }
+/// Whether a text with this fault is of another scheme than `sip:`.
+pub(crate) fn is_of_another_scheme(fault: Option<UriFault>) -> bool
+    ensures { IsTrue result ↔ (fault ≡ Some uris.NotSip) }
 {
-    match uri_fault(text) {
+    fault == Some(UriFault::NotSip)
+}
+
+/// Whether a text with this fault is a SIP URI, or one of another scheme.
+fn is_uri_or_other(fault: Option<UriFault>) -> bool
+    ensures { (uri : Result Uri UriFault) → fault ≡ fault_if_refused uri → result ≡ is_uri_or_other uri }
+{
+    match fault {
         None => true,
         Some(fault) => fault == UriFault::NotSip,
     }
 }
 
-/// Whether a text is of another scheme than `sip:`.
-pub(crate) fn is_of_another_scheme(text: &[u8]) -> bool
-    ensures { IsTrue result ↔ (read_uri text.now ≡ Err uris.NotSip) }
-{
-    uri_fault(text) == Some(UriFault::NotSip)
-}
-
-/// Whether a request has all that routing asks for: a top Via value with a branch, a Max-Forwards value that is a
-/// number, URIs in its Route values, and a Request-URI (RFC 3261 section 16.3 step 1).
-pub(crate) fn is_well_formed<A: Allocator>(message: &Message<A>) -> bool
+/// Whether a request whose Request-URI has this fault has all that routing asks for: a top Via value with a branch, a
+/// Max-Forwards value that is a number, URIs in its Route values, and a Request-URI (RFC 3261 section 16.3 step 1).
+pub(crate) fn is_well_formed<A: Allocator>(
+    message: &Message<A>,
+    hops: Hops,
+    fault: Option<UriFault>,
+) -> bool
+    requires hops { hops ≡ hops_of message.now }
+    requires fault { fault ≡ fault_if_refused (target_uri message.now) }
     ensures { result ≡ is_well_formed message.now }
 {
-    has_via(message)
-        && are_hops(hops_of(message))
-        && routes_are_readable(message)
-        && is_uri_or_other(request_uri(message))
+    has_via(message) && are_hops(hops) && routes_are_readable(message) && is_uri_or_other(fault)
 }
 
 /// Whether so many proxies are none.
-fn is_spent(hops: Hops) -> bool
+pub(crate) fn is_spent(hops: Hops) -> bool
     ensures { result ≡ is_spent hops }
 {
     match hops {
         Hops::Unsaid | Hops::Wrong => false,
         Hops::Said(n) => n == 0,
     }
-}
-
-/// Whether no more proxy may pass the request on (RFC 3261 section 16.3 step 3).
-pub(crate) fn is_at_its_end<A: Allocator>(message: &Message<A>) -> bool
-    ensures { result ≡ is_at_its_end message.now }
-{
-    is_spent(hops_of(message))
 }
 
 /// Whether the request asks the proxy for an extension (RFC 3261 section 16.3 step 5).

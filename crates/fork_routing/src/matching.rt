@@ -14,7 +14,7 @@ use crate::transaction::Recipient;
 use fork_parts::Parts;
 use sip_route::has_same_key;
 use sip_text::{Message, Start};
-use sip_via::{BranchName, Own, has_second_via, own_branch};
+use sip_via::{BranchName, Own, ViaValues, own_branch_of};
 use std::alloc::Allocator;
 
 /// Shows that the numbers of a branch are bounded.
@@ -22,14 +22,26 @@ fn is_branch(name: BranchName)
     ensures { IsBranch name }
 {}
 
-/// The target that a message answers for, where its top Via value names a branch of the call.
-fn target_of<A: Allocator>(message: &Message<A>, own: Own, call: BranchName) -> Option<u16>
-    ensures found { IfSome result (λ n. IsOwnBranch own (top_value message.now) (record call { target = n })) }
+/// The top Via value of a message, and whether another stands behind it.
+fn top_of<A: Allocator>(message: &Message<A>) -> (&[u8], bool)
+    ensures top { result.0.now ≡ top_value message.now }
+    ensures second { result.1 ≡ has_second (via_values message.now) }
+{
+    let mut values = ViaValues::of(message);
+    match values.next() {
+        Some(top) => (top, values.next().is_some()),
+        None => (b"", false),
+    }
+}
+
+/// The target that a Via value names, where it names a branch of the call.
+fn target_of(value: &[u8], own: Own, call: BranchName) -> Option<u16>
+    ensures found { IfSome result (λ n. IsOwnBranch own value.now (record call { target = n })) }
     ensures bounded { IfSome result (λ n. n < 2 ^ 16) }
-    ensures only { (n : ℕ) → n < 2 ^ 16 → IsOwnBranch own (top_value message.now) (record call { target = n }) → result ≡ Some n }
+    ensures only { (n : ℕ) → n < 2 ^ 16 → IsOwnBranch own value.now (record call { target = n }) → result ≡ Some n }
 {
     is_branch(call);
-    let name = own_branch(message, own)?;
+    let name = own_branch_of(value, own)?;
     let key = call.key;
     let ours = BranchName {
         key,
@@ -82,12 +94,17 @@ fn opening_method<A: Allocator + Clone>(parts: &Parts<A>) -> &[u8]
 }
 
 /// Whether a response on branch n is for the client transaction of its request, which was sent. One with a single Via
-/// value was meant for the proxy itself (RFC 3261 section 16.7 step 3).
-fn is_for_client<A: Allocator + Clone>(parts: &Parts<A>, message: &Message<A>, n: u16) -> bool
+/// value, with no `second`, was meant for the proxy itself (RFC 3261 section 16.7 step 3).
+fn is_for_client<A: Allocator + Clone>(
+    parts: &Parts<A>,
+    message: &Message<A>,
+    second: bool,
+    n: u16,
+) -> bool
     ensures { result ≡ (is_to_method (method_of parts.now.fixed.request.start) (message_cseq message.now.headers)
-        && has_second (via_values message.now) && is_sent parts.now n) }
+        && second && is_sent parts.now n) }
 {
-    is_to_method(message, opening_method(parts)) && has_second_via(message) && parts.is_sent(n)
+    is_to_method(message, opening_method(parts)) && second && parts.is_sent(n)
 }
 
 /// Whether a response on branch n is for the client transaction of its CANCEL, which was sent.
@@ -108,8 +125,9 @@ fn response_recipient<A: Allocator + Clone>(
     ensures none { IfNone result (BelongsToNoBranch parts.now message.now) }
 {
     let fixed = parts.fixed();
-    let n = target_of(message, fixed.own(), fixed.branch(0))?;
-    if is_for_client(parts, message, n) {
+    let (top, second) = top_of(message);
+    let n = target_of(top, fixed.own(), fixed.branch(0))?;
+    if is_for_client(parts, message, second, n) {
         return Some(Recipient::Client(n));
     }
     if is_for_cancel(parts, message, n) {

@@ -15,27 +15,34 @@ ghost use Rattle.fork_routing.specs.Targets.{AreWays, has_hop, requested, target
 use crate::admission::admit;
 use crate::checks::asks_extension;
 use crate::fault::OpenFault;
-use crate::targets::{Choice, choices, have_hops, hop_by, hop_if_any, targets_of};
+use crate::targets::{Choice, choices, have_hops, hop_if_any, targets_of};
 use fork_book::Book;
 use fork_context::Kind;
 use fork_parts::{Fixed, Parts, Way, place_of};
 use fork_rank::Rules;
 use fork_setup::Setup;
-use sip_route::{FirstRoute, first_route, request_uri};
+use sip_route::{first_route, request_uri};
 use sip_text::{Message, Start};
 use sip_uri::{Hop, SipUri};
 use sip_via::reply_hop_of;
-use std::alloc::{AllocError, Allocator};
+use std::alloc::{AllocError, Allocator, Global};
+
+/// The text of most URIs is no longer.
+const USUAL_URI: usize = 64;
 
 /// The URI of a target as it stands in a request: without the parameter `method` and the headers (RFC 3261 section
-/// 19.1.1).
-fn requested<A: Allocator + Clone>(alloc: A, uri: &SipUri<A>) -> Result<SipUri<A>, AllocError>
+/// 19.1.1); `text` is written over.
+fn requested<A: Allocator + Clone>(
+    alloc: A,
+    text: &mut Vec<u8, A>,
+    uri: &SipUri<A>,
+) -> Result<SipUri<A>, AllocError>
     ensures { IfOk result (λ made. made ≡ requested uri.now) }
 {
     uri.is_uri();
-    let mut text = Vec::new(alloc.clone()?);
-    uri.request_uri(&mut text)?;
-    match SipUri::read(alloc, &text) {
+    text.clear();
+    uri.request_uri(text)?;
+    match SipUri::read(alloc, text) {
         Ok(made) => Ok(made),
         Err(_) => Err(AllocError),
     }
@@ -44,30 +51,30 @@ fn requested<A: Allocator + Clone>(alloc: A, uri: &SipUri<A>) -> Result<SipUri<A
 /// Where the request to a target goes, which has a hop.
 fn way_to<A: Allocator + Clone>(
     alloc: A,
-    route: FirstRoute,
+    text: &mut Vec<u8, A>,
     choice: &Choice<'_, A>,
 ) -> Result<Way<A>, AllocError>
-    requires hop { has_hop route choice.now ≡ true }
-    ensures { IfOk result (λ way. way_to route choice.now ≡ Some way) }
+    requires hop { has_hop choice.now ≡ true }
+    ensures { IfOk result (λ way. way_to choice.now ≡ Some way) }
 {
-    let Some(hop) = hop_by(route, choice.uri()) else {
+    let Some(hop) = choice.hop() else {
         unreachable!()
     };
-    Ok(Way::new(requested(alloc, choice.uri())?, hop))
+    Ok(Way::new(requested(alloc, text, choice.uri())?, hop))
 }
 
 /// The same for the target at that place.
 fn way_at<A: Allocator + Clone>(
     alloc: A,
-    route: FirstRoute,
+    text: &mut Vec<u8, A>,
     choices: &[Choice<'_, A>],
     place: usize,
 ) -> Result<Way<A>, AllocError>
     requires there { place < length choices.now }
-    requires hops { list_all (has_hop route) choices.now ≡ true }
-    ensures { IfOk result (λ way. option_and_then (way_to route) (slice_get choices.now place) ≡ Some way) }
+    requires hops { list_all has_hop choices.now ≡ true }
+    ensures { IfOk result (λ way. option_and_then way_to (slice_get choices.now place) ≡ Some way) }
 {
-    way_to(alloc, route, &choices[place])
+    way_to(alloc, text, &choices[place])
 }
 
 /// The URI that a request names, where it can be read (RFC 3261 section 16.5).
@@ -90,19 +97,19 @@ pub fn read_target<A: Allocator + Clone>(
 /// Where the request of each row goes, in the order of the rows.
 fn ways_of<A: Allocator + Clone>(
     alloc: &A,
-    route: FirstRoute,
     choices: &[Choice<'_, A>],
     book: &Book<A>,
 ) -> Result<Vec<Way<A>, A>, AllocError>
-    requires hops { list_all (has_hop route) choices.now ≡ true }
+    requires hops { list_all has_hop choices.now ≡ true }
     requires places { (n : ℕ) (row : Row) → slice_get (table_of book.now).rows n ≡ Some row → row.place < length choices.now }
-    ensures { IfOk result (λ ways. AreWays route choices.now (table_of book.now).rows ways.items) }
+    ensures { IfOk result (λ ways. AreWays choices.now (table_of book.now).rows ways.items) }
 {
     let count = book.context().count();
     let mut ways = Vec::with_capacity(alloc.clone()?, count as usize)?;
+    let mut text = Vec::with_capacity(alloc.clone()?, USUAL_URI)?;
     for n in 0..book.context().count() {
         let place = place_of(book, n);
-        ways.push(way_at(alloc.clone()?, route, choices, place)?)?;
+        ways.push(way_at(alloc.clone()?, &mut text, choices, place)?)?;
     }
     Ok(ways)
 }
@@ -137,25 +144,26 @@ fn rows_have_places<A: Allocator + Clone>(
 /// The parts of a call that begins so, each of whose targets has a hop.
 fn begin<A: Allocator + Clone>(
     alloc: A,
+    heap: Global,
     rules: Rules,
     fixed: Fixed<A>,
-    route: FirstRoute,
     choices: &[Choice<'_, A>],
     now: u64,
 ) -> Result<Parts<A>, AllocError>
-    requires hops { list_all (has_hop route) choices.now ≡ true }
-    ensures { IfOk result (IsBegun rules route fixed choices.now) }
+    requires hops { list_all has_hop choices.now ≡ true }
+    ensures { IfOk result (IsBegun rules fixed choices.now) }
 {
     let kind = fixed.kind();
     let book = book_of(alloc.clone()?, kind, rules, choices)?;
     rows_have_places(&book, choices, kind, rules);
-    let ways = ways_of(&alloc, route, choices, &book)?;
-    Parts::begin(alloc, fixed, book, ways, now)
+    let ways = ways_of(&alloc, choices, &book)?;
+    Parts::begin(alloc, heap, fixed, book, ways, now)
 }
 
 /// The parts of the call that opens for a request to this URI, as it was prepared.
 fn open_to<A: Allocator + Clone>(
     alloc: A,
+    heap: Global,
     setup: &Setup<A>,
     number: u64,
     request: Message<A>,
@@ -168,12 +176,12 @@ fn open_to<A: Allocator + Clone>(
     ensures opened { IfOk result (Reaches setup.now number request source uri.now) }
     ensures refused { IfErr result (IsUnreachable setup.now request uri.now) }
 {
-    let choices = choices(alloc.clone()?, setup, uri)?;
+    let route = first_route(&request);
+    let choices = choices(alloc.clone()?, setup, route, uri)?;
     if choices.is_empty() {
         return Err(OpenFault::NoTarget);
     }
-    let route = first_route(&request);
-    if !have_hops(route, &choices) {
+    if !have_hops(&choices) {
         return Err(OpenFault::NoHop);
     }
     let caller = reply_hop_of(&request, source);
@@ -185,7 +193,7 @@ fn open_to<A: Allocator + Clone>(
         caller,
         hop_if_any(route),
     );
-    match begin(alloc, setup.rules(), fixed, route, &choices, now) {
+    match begin(alloc, heap, setup.rules(), fixed, &choices, now) {
         Ok(parts) => Ok(parts),
         Err(_) => Err(OpenFault::NoMemory),
     }
@@ -194,6 +202,7 @@ fn open_to<A: Allocator + Clone>(
 /// The parts of the call that opens for a request as it was prepared.
 fn open_prepared<A: Allocator + Clone>(
     alloc: A,
+    heap: Global,
     setup: &Setup<A>,
     number: u64,
     request: Message<A>,
@@ -209,7 +218,7 @@ fn open_prepared<A: Allocator + Clone>(
         return Err(OpenFault::Extension);
     }
     let uri = read_target(alloc.clone()?, &request)?;
-    open_to(alloc, setup, number, request, &uri, source, now)
+    open_to(alloc, heap, setup, number, request, &uri, source, now)
 }
 
 /// Whether a message is a request that may open a call: neither an ACK nor a CANCEL, which are for a call that was opened
@@ -227,13 +236,15 @@ pub fn is_openable<A: Allocator>(message: &Message<A>) -> bool
 
 /// The parts of the call that a request from `source` opens under this number; it is neither an ACK nor a CANCEL. The
 /// targets of a request to the domain are the locations of its user, that of any other is its Request-URI (RFC 3261
-/// sections 16.3 to 16.6). Nothing was sent yet; a 100 is owed to an INVITE.
+/// sections 16.3 to 16.6). Nothing was sent yet; a 100 is owed to an INVITE. The queue of what is owed to the caller lies on
+/// `heap`, all else in `alloc`.
 ///
 /// # Errors
 ///
 /// The first of those of [`OpenFault`] that holds; `NoMemory` wherever the allocator refuses.
 pub fn open<A: Allocator + Clone>(
     alloc: A,
+    heap: Global,
     setup: &Setup<A>,
     number: u64,
     request: Message<A>,
@@ -245,7 +256,7 @@ pub fn open<A: Allocator + Clone>(
     ensures refused { IfErr result (Refuses setup.now request source) }
 {
     match admit(alloc.clone()?, setup.own(), request, source) {
-        Ok(request) => open_prepared(alloc, setup, number, request, source, now),
+        Ok(request) => open_prepared(alloc, heap, setup, number, request, source, now),
         Err(fault) => Err(fault),
     }
 }

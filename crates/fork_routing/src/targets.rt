@@ -1,5 +1,5 @@
 //! Where a request may be sent, and by which hop.
-ghost use Rattle.std.specs.Prelude.{◌≡◌, ◌++◌, ◌∷◌, [], map, IfOk, OnOk};
+ghost use Rattle.std.specs.Prelude.{◌≡◌, ◌≤◌, ◌++◌, ◌∷◌, [], map, IfOk, OnOk};
 ghost use Rattle.std.specs.List.{list_all};
 ghost use Rattle.std.specs.Option.{option_copied};
 ghost use Rattle.sip_via.specs.Address.{address_text, dotted};
@@ -18,11 +18,12 @@ use std::marker::Model;
 /// The q of a target that no location names.
 const MOST_Q: u16 = 1000;
 
-/// A target, tried at this q.
+/// A target, tried at this q, and the hop by which it is reached, if there is one.
 #[derive(Drop)]
 pub(crate) struct Choice<'a, A: Allocator> {
     q: u16,
     uri: &'a SipUri<A>,
+    hop: Option<Hop>,
 }
 
 impl<'a, A: Allocator> Model for Choice<'a, A> {
@@ -32,7 +33,7 @@ impl<'a, A: Allocator> Model for Choice<'a, A> {
 
     ghost Value = { spec.Choice };
 
-    ghost view = { λ c. record { q = c.q; uri = c.uri.now } };
+    ghost view = { λ c. record { q = c.q; uri = c.uri.now; hop = c.hop } };
 
     ghost invariant = { λ c. c.q ≤ most_q };
 }
@@ -44,9 +45,28 @@ impl<'a, A: Allocator> Choice<'a, A> {
     {
         self.uri
     }
+
+    /// The hop by which it is reached, if there is one.
+    pub(crate) fn hop(&self) -> Option<Hop>
+        ensures { result ≡ self.now.hop }
+    {
+        self.hop
+    }
 }
 
 impl<'a, A: Allocator + Clone> Choice<'a, A> {
+    /// A target that is tried at this q, where the request has this first Route value.
+    fn new(route: FirstRoute, q: u16, uri: &'a SipUri<A>) -> Choice<'a, A>
+        requires { q ≤ most_q }
+        ensures { result ≡ record { q = q; uri = uri.now; hop = hop_by route uri.now } }
+    {
+        Choice {
+            q,
+            uri,
+            hop: hop_by(route, uri),
+        }
+    }
+
     /// What tells the target from others, with its q.
     fn target(&self, alloc: A) -> Result<Target<A>, AllocError>
         ensures { IfOk result (λ target. target ≡ target_of self.now) }
@@ -99,77 +119,79 @@ pub fn is_domain<A: Allocator + Clone>(
 }
 
 /// Adds a location, where it is the user's.
-fn add_if_of<'a, A: Allocator>(
+fn add_if_of<'a, A: Allocator + Clone>(
     choices: &mut Vec<Choice<'a, A>, A>,
+    route: FirstRoute,
     location: &'a Location<A>,
     user: &[u8],
 ) -> Result<(), AllocError>
-    ensures { OnOk result (choices.new.items ≡ choices.old.items ++ map choice_at (locations_of user.now (location.now ∷ []))) }
+    ensures { OnOk result (choices.new.items ≡ choices.old.items ++ map (choice_at route) (locations_of user.now (location.now ∷ []))) }
 {
     if location.is_of(user) {
-        choices.push(Choice {
-            q: location.q(),
-            uri: location.uri(),
-        })?;
+        choices.push(Choice::new(route, location.q(), location.uri()))?;
     }
     Ok(())
 }
 
 /// The locations of a user.
-fn located<'a, A: Allocator>(
+fn located<'a, A: Allocator + Clone>(
     alloc: A,
+    route: FirstRoute,
     locations: &'a [Location<A>],
     user: &[u8],
 ) -> Result<Vec<Choice<'a, A>, A>, AllocError>
-    ensures { IfOk result (λ choices. choices.items ≡ map choice_at (locations_of user.now locations.now)) }
+    ensures { IfOk result (λ choices. choices.items ≡ map (choice_at route) (locations_of user.now locations.now)) }
 {
     let mut choices = Vec::new(alloc);
     for location in locations {
-        add_if_of(&mut choices, location, user)?;
+        add_if_of(&mut choices, route, location, user)?;
     }
     Ok(choices)
 }
 
 /// The locations of a user, if there is one.
-fn located_if_any<'a, A: Allocator>(
+fn located_if_any<'a, A: Allocator + Clone>(
     alloc: A,
+    route: FirstRoute,
     locations: &'a [Location<A>],
     user: Option<&[u8]>,
 ) -> Result<Vec<Choice<'a, A>, A>, AllocError>
-    ensures { IfOk result (λ choices. choices.items ≡ choices_of locations.now (option_copied user.entry)) }
+    ensures { IfOk result (λ choices. choices.items ≡ choices_of route locations.now (option_copied user.entry)) }
 {
     match user {
         None => Ok(Vec::new(alloc)),
-        Some(user) => located(alloc, locations, user),
+        Some(user) => located(alloc, route, locations, user),
     }
 }
 
 /// The one target of a request to a host that the proxy does not answer for.
-fn alone<'a, A: Allocator>(
+fn alone<'a, A: Allocator + Clone>(
     alloc: A,
+    route: FirstRoute,
     uri: &'a SipUri<A>,
 ) -> Result<Vec<Choice<'a, A>, A>, AllocError>
-    ensures { IfOk result (λ choices. choices.items ≡ record { q = most_q; uri = uri.now } ∷ []) }
+    ensures { IfOk result (λ choices. choices.items ≡ record { q = most_q; uri = uri.now; hop = hop_by route uri.now } ∷ []) }
 {
     let mut choices = Vec::with_capacity(alloc, 1)?;
-    choices.push(Choice { q: MOST_Q, uri })?;
+    choices.push(Choice::new(route, MOST_Q, uri))?;
     Ok(choices)
 }
 
-/// The targets of a request to this URI: in the domain the locations of its user, else the URI alone (RFC 3261 section
-/// 16.5).
+/// The targets of a request to this URI with this first Route value: in the domain the locations of its user, else the URI
+/// alone (RFC 3261 section 16.5).
 pub(crate) fn choices<'a, A: Allocator + Clone>(
     alloc: A,
     setup: &'a Setup<A>,
+    route: FirstRoute,
     uri: &'a SipUri<A>,
 ) -> Result<Vec<Choice<'a, A>, A>, AllocError>
-    ensures { IfOk result (λ found. found.items ≡ choices setup.now uri.now) }
+    ensures { IfOk result (λ found. found.items ≡ choices setup.now route uri.now) }
 {
     let inside = is_domain(alloc.clone()?, setup, uri.host())?;
     if inside {
-        located_if_any(alloc, setup.locations(), uri.user())
+        located_if_any(alloc, route, setup.locations(), uri.user())
     } else {
-        alone(alloc, uri)
+        alone(alloc, route, uri)
     }
 }
 
@@ -212,10 +234,8 @@ pub(crate) fn hop_if_any(route: FirstRoute) -> Option<Hop>
 }
 
 /// Whether each target has a hop.
-pub(crate) fn have_hops<A: Allocator + Clone>(route: FirstRoute, choices: &[Choice<'_, A>]) -> bool
-    ensures { result ≡ list_all (has_hop route) choices.now }
+pub(crate) fn have_hops<A: Allocator>(choices: &[Choice<'_, A>]) -> bool
+    ensures { result ≡ list_all has_hop choices.now }
 {
-    choices
-        .iter()
-        .all(|choice| hop_by(route, choice.uri).is_some())
+    choices.iter().all(|choice| choice.hop.is_some())
 }

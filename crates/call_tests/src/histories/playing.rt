@@ -42,7 +42,7 @@ pub fn opened(alloc: Global, setup: &[u8], number: u64, request: &[u8]) -> Optio
     if !is_openable(&request) {
         return None;
     }
-    Call::open(alloc, &setup, number, request, SOURCE, 0).ok()
+    Call::open(alloc, alloc, &setup, number, request, SOURCE, 0).ok()
 }
 
 // ---- a turn

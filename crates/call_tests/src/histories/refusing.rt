@@ -12,7 +12,7 @@ fn opening(alloc: Global, change: Change) -> Option<Result<Call<Global>, OpenFau
     if !is_openable(&request) {
         return None;
     }
-    Some(Call::open(alloc, &setup, 3, request, SOURCE, 0))
+    Some(Call::open(alloc, alloc, &setup, 3, request, SOURCE, 0))
 }
 
 /// The fault with which the request with this change opens no call.

@@ -1,8 +1,7 @@
-use Rattle.std.proofs.Common.{◌∙◌, sym, subst}
+use Rattle.std.proofs.Common.{◌∙◌, sym}
 use Rattle.sip_via.specs.Received.{marked}
-use Rattle.sip_route.specs.declared.hops.Hops.{Hops}
-use Rattle.sip_route.specs.Hops.{MayPass, hops_name}
-use Rattle.fork_routing.proofs.Admitting.{may_pass, not_via, ok_refused, readable, same_start, still_passes}
+use Rattle.sip_route.specs.Hops.{hops_name}
+use Rattle.fork_routing.proofs.Admitting.{not_via, ok_refused, readable, same_start, still_passes}
 use Rattle.fork_routing.proofs.admission.prepared.Goals as goal
 
 pub unreachable-requires : goal.unreachable-requires
@@ -19,9 +18,6 @@ returns-in-Ok-clause-start g c =
 
 pub returns-in-Ok-clause-hops : goal.returns-in-Ok-clause-hops
 returns-in-Ok-clause-hops g c =
-    let P : Hops → Type 0 = λ hops. MayPass hops in
-    let may : MayPass c.hops_of-hops.result =
-    subst P (sym c.hops_of-hops.ensures.value) (may_pass c.args.message c.requires.routable.formed c.requires.routable.hops) in
-    still_passes c.args.message c.in-Ok.marked c.strip.result c.args.own (c.hops_of-hops.ensures.passes.0 may)
+    still_passes c.args.message c.in-Ok.marked c.strip.result c.args.own c.requires.hops
     (c.marking_keeps_the_rest.ensures.others c.args.message c.in-Ok.marked c.args.source c.in-Ok.ensures.ok hops_name not_via)
     (c.stripping_keeps_the_rest.ensures.hops c.in-Ok.marked c.args.own) c.strip.ensures

@@ -1,4 +1,9 @@
-use Rattle.std.proofs.Common.{◌∙◌, Some, None, sym}
+use Rattle.std.proofs.Common.{◌∙◌, Bool, Some, None, ap, sym}
+use Rattle.std.specs.Prelude.{◌&&◌}
+use Rattle.sip_text.specs.Fields.{message_cseq}
+use Rattle.fork_parts.specs.Call.{is_sent}
+use Rattle.fork_parts.specs.Fixed.{method_of}
+use Rattle.fork_routing.specs.Kinds.{is_to_method}
 use Rattle.fork_routing.proofs.Matched.{at_home, no_transaction, none_home}
 use Rattle.fork_routing.proofs.matching.response_recipient.Goals as goal
 
@@ -8,14 +13,16 @@ returns-in_err-n-clause-none g c =
     let m = c.args.message.now in
     rw c.from_residual.ensures
     (none_home call m
-    (at_home call m c.fixed-fixed.result.now c.own.result c.branch-fixed.result None c.fixed-fixed.ensures c.own.ensures c.branch-fixed.ensures
-    c.in_err-n.ensures.only))
+    (at_home call m c.fixed-fixed.result.now c.own.result c.top_of-second.result.0.now c.branch-fixed.result None c.fixed-fixed.ensures c.own.ensures
+    c.top_of-second.ensures.top c.branch-fixed.ensures c.in_err-n.ensures.only))
 
 pub returns-clause-none : goal.returns-clause-none
 returns-clause-none g c =
     let call = c.args.parts.now in
     let m = c.args.message.now in
+    let second = ap (λ (b : Bool). is_to_method (method_of call.fixed.request.start) (message_cseq m.headers) && b && is_sent call c.in_ok-n.n)
+    (sym c.top_of-second.ensures.second) in
     no_transaction call m c.in_ok-n.n
-    (at_home call m c.fixed-fixed.result.now c.own.result c.branch-fixed.result (Some c.in_ok-n.n) c.fixed-fixed.ensures c.own.ensures
-    c.branch-fixed.ensures c.in_ok-n.ensures.only)
-    (sym c.is_for_client.ensures ∙ c.if-is_for_client.false) (sym c.is_for_cancel.ensures ∙ c.if-is_for_cancel.false)
+    (at_home call m c.fixed-fixed.result.now c.own.result c.top_of-second.result.0.now c.branch-fixed.result (Some c.in_ok-n.n) c.fixed-fixed.ensures
+    c.own.ensures c.top_of-second.ensures.top c.branch-fixed.ensures c.in_ok-n.ensures.only)
+    (second ∙ sym c.is_for_client.ensures ∙ c.if-is_for_client.false) (sym c.is_for_cancel.ensures ∙ c.if-is_for_cancel.false)

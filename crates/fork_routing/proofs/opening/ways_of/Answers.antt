@@ -8,6 +8,6 @@ way_at-requires-clause-there g c =
 
 pub loop-n-preserved : goal.loop-n-preserved
 loop-n-preserved g c =
-    ways_more c.args.route c.args.choices.now (table_of c.args.book.now).rows c.loop-n.ways.items c.push.new.self.items
+    ways_more c.args.choices.now (table_of c.args.book.now).rows c.loop-n.ways.items c.push.new.self.items
     c.loop-n.n c.place_of-place.result c.in_ok-way_at.field-0
     c.loop-n.invariant c.in_ok-push.ensures.items c.place_of-place.ensures c.in_ok-way_at.ensures

@@ -4,4 +4,4 @@ use Rattle.fork_routing.specs.Targets.{choice_at}
 use Rattle.fork_routing.proofs.targets.located.Given as goal
 
 abbrev pub invariant-loop-location : goal.invariant-loop-location
-invariant-loop-location g l = l.choices.items ≡ map choice_at (locations_of l.user (take l.location-index l.locations))
+invariant-loop-location g l = l.choices.items ≡ map (choice_at l.route) (locations_of l.user (take l.location-index l.locations))

@@ -28,8 +28,8 @@ pub returns : goal.returns
 returns g c =
     let P : Call → Type 0 = λ x. IsLeastDue x c.earlier.result in
     let Q : Option ℕ → Type 0 = λ least. IsLeastDue c.self.inside.parts least in
-    let size : (length c.owed.result.now == 0) ≡ true = sym c.is_empty.ensures ∙ c.if-not-is_empty.false in
-    let none : c.self.inside.parts.server.owed ≡ [] = sym c.owed.ensures ∙ none_owed c.owed.result.now size in
+    let size : (length c.owed.result == 0) ≡ true = sym c.is_empty.ensures ∙ c.if-not-is_empty.false in
+    let none : c.self.inside.parts.server.owed ≡ [] = sym c.owed.ensures ∙ none_owed c.owed.result size in
     let least = least_due c.self.inside.parts none c.is_sized.ensures.each_leg in
     let moments = ap (λ (ms : List (Option ℕ)). least_of ms) c.self.invariant.times in
     let same = ap (λ (x : Option ℕ). earlier (server.served_due c.self.inside.parts.server.machine) x) (sym moments ∙ sym c.least.ensures)

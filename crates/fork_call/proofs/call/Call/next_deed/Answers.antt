@@ -12,7 +12,7 @@ use Rattle.fork_call.proofs.call.Call.next_deed.Goals as goal
 pub returns-in_err-n-clause-none : goal.returns-in_err-n-clause-none
 returns-in_err-n-clause-none g c =
     let none : c.self.inside.parts.server.owed ≡ [] =
-    sym c.owed.ensures ∙ empty_by c.owed.result.now c.is_empty.result c.is_empty.ensures c.if-not-is_empty.false in
+    sym c.owed.ensures ∙ empty_by c.owed.result c.is_empty.result c.is_empty.ensures c.if-not-is_empty.false in
     let served : is_due c.args.now (served_due c.self.inside.parts.server.machine) ≡ false =
     ap (is_due c.args.now) (sym c.server_due.ensures) ∙ sym c.is_due.ensures ∙ c.if-is_due.false in
     let P : Call → Type 0 = λ x. IsIdle x c.args.now in
