@@ -88,6 +88,43 @@ fn numbers_rise_and_none_is_lost(rt: HostRuntime) -> Result<(), Fail> {
     Ok(())
 }
 
+/// A key whose digest is 0 whatever its last eight bytes are: the first eight are what the hash begins with at 16 bytes.
+fn of_digest_zero(last: u8) -> [u8; 16] {
+    let [a, b, c, d, e, f, g, h] = 0x243f_6a88_85a3_08e3u64.to_le_bytes();
+    [
+        a, b, c, d, e, f, g, h, last, last, last, last, last, last, last, last,
+    ]
+}
+
+#[test]
+fn keys_of_one_digest_are_told_apart(rt: HostRuntime) -> Result<(), Fail> {
+    let shelf = Shelf::new(rt.alloc())?;
+    for last in 0..4u8 {
+        let put = put(&rt, &shelf, &of_digest_zero(last));
+        holds(&rt, matches!(put, Ok(_)), "each is new");
+    }
+    for last in 0..4u8 {
+        let number = shelf.keyed(&rt, &of_digest_zero(last));
+        holds(
+            &rt,
+            number == Some(u64::from(last)),
+            "each has its own number",
+        );
+        let again = put(&rt, &shelf, &of_digest_zero(last));
+        holds(
+            &rt,
+            matches!(again, Err(ShelfFault::Known(_))),
+            "each is known",
+        );
+    }
+    holds(
+        &rt,
+        shelf.keyed(&rt, &of_digest_zero(4)).is_none(),
+        "another one is not",
+    );
+    Ok(())
+}
+
 #[test]
 fn a_look_finds_what_was_put(rt: HostRuntime) -> Result<(), Fail> {
     let shelf = Shelf::new(rt.alloc())?;

@@ -12,7 +12,7 @@ use Rattle.fork_parts.proofs.fixed.Fixed.TheSendSync as fixed
 use Rattle.fork_parts.proofs.way.Way.TheSendSync as way
 use Rattle.fork_parts.proofs.leg.Leg.TheSendSync as leg
 use Rattle.fork_parts.proofs.served.Served.TheSendSync as served
-use Rattle.fork_parts.proofs.owed.Owed.TheSendSync as owed
+use Rattle.fork_parts.proofs.queue.Queue.TheSendSync as queue
 use Rattle.fork_parts.specs.contracts.parts.Parts.{the_row as parts_row}
 use Rattle.fork_call.proofs.schedule.Schedule.TheSendSync as schedule
 use Rattle.fork_call.specs.contracts.call.Call.{the_row as call_row}
@@ -28,7 +28,7 @@ book_send : (h : clone.Ghosts heap_row.Denot) → IsSend (book_row heap_row ghos
 book_send h = search (crosses, knot.crosses, sendable) depth 60 fits 20000
 
 parts_send : (h : clone.Ghosts heap_row.Denot) → IsSend (parts_row heap_row ghosts h)
-parts_send h = search (book_send, fixed.the_send, way.the_send, leg.the_send, served.the_send, owed.the_send, option.the_send, crosses, sendable) depth 60 fits 20000
+parts_send h = search (book_send, fixed.the_send, way.the_send, leg.the_send, served.the_send, queue.the_send, option.the_send, crosses, sendable) depth 60 fits 20000
 
 pub call_send : (h : clone.Ghosts heap_row.Denot) → IsSend (call_row heap_row ghosts h)
 call_send h = search (parts_send, schedule.the_send, crosses, sendable) depth 60 fits 20000

@@ -62,11 +62,16 @@ impl<'a, A: Allocator> JobSender<'a, A> {
         Ok(())
     }
 
+    /// How many jobs were given that the worker has not received yet.
+    pub(crate) fn held(&self) -> u64 {
+        self.given
+            .wrapping_sub(self.waker.received.load(Ordering::SeqCst))
+    }
+
     /// Lets others run while the inbox is full, so many times at most.
     pub fn make_room(&self, patience: u32) {
         for _ in 0..patience {
-            let received = self.waker.received.load(Ordering::SeqCst);
-            if self.given.wrapping_sub(received) < MOST_JOBS as u64 {
+            if self.held() < MOST_JOBS as u64 {
                 return;
             }
             thread::yield_now();

@@ -16,6 +16,9 @@ use std::sync::Wait;
 /// which datagrams wait in the socket.
 const PATIENCE: u32 = 1_000_000;
 
+/// A worker that holds so many jobs has enough to do: the next datagram is the other one's.
+const ENOUGH_JOBS: u64 = 4;
+
 /// Which workers run: those whose threads could be made.
 #[derive(Clone, Copy)]
 pub(crate) struct Running {
@@ -30,26 +33,26 @@ pub(crate) struct Senders<'a, A: Allocator> {
     first: JobSender<'a, A>,
     second: JobSender<'a, A>,
     timer: JobSender<'a, A>,
-    /// Whether the next datagram is for the first of the two that handle datagrams.
+    /// Whether the last datagram was for the first of the two that handle datagrams.
     is_first: bool,
 }
 
-/// Gives a datagram's job to the next worker in turn, to the other one where that has no room, or, where neither has, to the next
-/// once there is room or the receiver's patience is at its end. Says whether it was taken.
+/// Gives a datagram's job to this worker, to the other one where it has no room, or, where neither has, to this one once there is
+/// room or the receiver's patience is at its end. Says whether it was taken.
 fn give_to_either<R: Wait, A: Allocator>(
     rt: &R,
-    next: &mut JobSender<'_, A>,
+    worker: &mut JobSender<'_, A>,
     other: &mut JobSender<'_, A>,
     job: Job<A>,
 ) -> bool {
-    let Err(job) = next.give(rt, job) else {
+    let Err(job) = worker.give(rt, job) else {
         return true;
     };
     let Err(job) = other.give(rt, job) else {
         return true;
     };
-    next.make_room(PATIENCE);
-    next.give(rt, job).is_ok()
+    worker.make_room(PATIENCE);
+    worker.give(rt, job).is_ok()
 }
 
 impl<'a, A: Allocator> Senders<'a, A> {
@@ -67,11 +70,23 @@ impl<'a, A: Allocator> Senders<'a, A> {
         }
     }
 
-    /// Gives a datagram's job to one of the two workers, the next in turn first, and says whether it was taken.
+    /// Whether the worker that the last datagram was for has enough to do.
+    fn is_busy(&self) -> bool {
+        let last = if self.is_first {
+            &self.first
+        } else {
+            &self.second
+        };
+        last.held() >= ENOUGH_JOBS
+    }
+
+    /// Gives a datagram's job to one of the two workers, and says whether it was taken: to the one that the last was for, or the
+    /// other one where that has enough to do. So one of them stays awake while there is little to do, and the other asleep.
     fn give_packet<R: Wait>(&mut self, rt: &R, job: Job<A>) -> bool {
-        let is_first = self.is_first;
-        self.is_first = !is_first;
-        if is_first {
+        if self.is_busy() {
+            self.is_first = !self.is_first;
+        }
+        if self.is_first {
             give_to_either(rt, &mut self.first, &mut self.second, job)
         } else {
             give_to_either(rt, &mut self.second, &mut self.first, job)

@@ -59,7 +59,7 @@ struct Server {
 
 impl Crew for Server {
     fn do_jobs<R: Wait + Log>(&self, rt: &R, jobs: JobReceiver<'_, Global>) {
-        self.proxy.work(rt, jobs);
+        self.proxy.work(rt, self.proxy.alloc, jobs);
     }
 
     fn receive<R: Wait + Log>(

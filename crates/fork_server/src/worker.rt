@@ -74,6 +74,7 @@ impl<A: Allocator + Clone> Proxy<A> {
     fn take<R: Wait + Log, P: Port>(
         &self,
         rt: &R,
+        heap: Global,
         port: &mut P,
         bytes: &[u8],
         source: Hop,
@@ -85,6 +86,7 @@ impl<A: Allocator + Clone> Proxy<A> {
         match handle(
             rt,
             alloc,
+            heap,
             &self.calls,
             &self.setup,
             bytes,
@@ -118,13 +120,14 @@ impl<A: Allocator + Clone> Proxy<A> {
         }
     }
 
-    /// Does the jobs that a worker is given, until the end job.
-    pub(crate) fn work<R: Wait + Log>(&self, rt: &R, mut jobs: JobReceiver<'_, A>) {
+    /// Does the jobs that a worker is given, until the end job. The queues of the calls that it opens lie on `heap`.
+    pub(crate) fn work<R: Wait + Log>(&self, rt: &R, heap: Global, mut jobs: JobReceiver<'_, A>) {
         let mut port = SocketPort::new(&self.socket);
         for _ in rt.forever() {
             match jobs.receive(rt) {
                 Job::Packet { bytes, source, now } => self.take(
                     rt,
+                    heap,
                     &mut port,
                     bytes.as_slice(),
                     source,

@@ -180,6 +180,7 @@ impl Taking for Desk {
         match handle(
             rt,
             self.alloc,
+            self.alloc,
             &self.calls,
             &self.setup,
             text,

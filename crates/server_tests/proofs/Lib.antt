@@ -1,2 +1,0 @@
--- What tests of the server rest on.
-pub mod Sharing
