@@ -1,8 +1,13 @@
-//! The way of jobs to a worker, which sleeps while there are none.
+//! The way of jobs to a worker, which sleeps while there are none. Who gives it jobs sleeps where its inbox is full.
 //!
-//! No wake-up is lost. `receive` answers None only where the inbox was empty at one moment of the call; a job that is given
-//! after that moment wakes the worker after it was given; the wake-up is kept where the worker does not sleep yet, and its
-//! next sleep ends at once. A wake-up too many costs one more `receive`. (No clause says this: it is shown by a test.)
+//! No wake-up of a worker is lost. `receive` answers None only where the inbox was empty at one moment of the call; a job
+//! that is given after that moment wakes the worker after it was given; the wake-up is kept where the worker does not sleep
+//! yet, and its next sleep ends at once. A wake-up too many costs one more `receive`. (No clause says this: it is shown by a
+//! test.)
+//!
+//! The giving end writes down how many received jobs it waits for, then looks how many there are, and then sleeps; the worker
+//! counts a job, and then looks how many are waited for. So one of the two sees what the other wrote. Where a wake-up were
+//! lost all the same, it would be made up for in 10 ms: no sleep of the giving end is longer.
 ghost use Rattle.std.specs.Prelude.{◌≡◌, IfErr};
 
 use crate::job::Job;
@@ -10,14 +15,28 @@ use fork_shelf::{InboxIn, InboxOut, MOST_JOBS};
 use std::alloc::{Allocator, Global};
 use std::sync::Wait;
 use std::sync::atomic::{AtomicU64, Ordering};
-use std::thread;
 use std::thread::Parker;
+use std::time::Duration;
 
-/// What wakes a worker, and how many jobs it has received. Each worker has one of its own.
+/// A worker that holds so many jobs has few left: its giving end is woken.
+const FEW_JOBS: u64 = 32;
+
+/// How often the giving end sleeps at a full inbox.
+const SLEEPS: u32 = 10;
+
+/// How long it sleeps each time at most, in milliseconds.
+const LONGEST_SLEEP: u64 = 10;
+
+/// What wakes a worker, and the one that gives it jobs. Each worker has one of its own.
 #[derive(Drop)]
 pub struct Waker {
     parker: Parker,
+    /// How many jobs the worker has received.
     received: AtomicU64,
+    /// What the giving end sleeps on.
+    giver: Parker,
+    /// How many received jobs the giving end waits for.
+    awaited: AtomicU64,
 }
 
 impl Waker {
@@ -26,6 +45,16 @@ impl Waker {
         Waker {
             parker: Parker::new(),
             received: AtomicU64::new(0),
+            giver: Parker::new(),
+            awaited: AtomicU64::new(0),
+        }
+    }
+
+    /// Counts a received job, and wakes the giving end where it waits for this one.
+    fn count_received(&self) {
+        let received = self.received.fetch_add(1, Ordering::SeqCst).wrapping_add(1);
+        if received == self.awaited.load(Ordering::SeqCst) {
+            self.giver.unpark();
         }
     }
 }
@@ -68,13 +97,19 @@ impl<'a, A: Allocator> JobSender<'a, A> {
             .wrapping_sub(self.waker.received.load(Ordering::SeqCst))
     }
 
-    /// Lets others run while the inbox is full, so many times at most.
-    pub fn make_room(&self, patience: u32) {
-        for _ in 0..patience {
-            if self.held() < MOST_JOBS as u64 {
+    /// Where the inbox is full, sleeps until the worker has few jobs left, some hundred milliseconds at most.
+    pub fn make_room<R: Wait>(&self, rt: &R) {
+        if self.held() < MOST_JOBS as u64 {
+            return;
+        }
+        let awaited = self.given.wrapping_sub(FEW_JOBS);
+        self.waker.awaited.store(awaited, Ordering::SeqCst);
+        for _ in 0..SLEEPS {
+            if self.held() <= FEW_JOBS {
                 return;
             }
-            thread::yield_now();
+            let longest = Duration::from_millis(LONGEST_SLEEP);
+            self.waker.giver.park_timeout(rt, longest);
         }
     }
 
@@ -84,7 +119,7 @@ impl<'a, A: Allocator> JobSender<'a, A> {
             if self.give(rt, Job::Finish).is_ok() {
                 return;
             }
-            thread::yield_now();
+            self.make_room(rt);
         }
     }
 }
@@ -106,7 +141,7 @@ impl<'a, A: Allocator> JobReceiver<'a, A> {
     pub fn receive<R: Wait>(&mut self, rt: &R) -> Job<A> {
         for _ in rt.forever() {
             if let Some(job) = self.inbox.receive(rt) {
-                self.waker.received.fetch_add(1, Ordering::SeqCst);
+                self.waker.count_received();
                 return job;
             }
             self.waker.parker.park(rt);

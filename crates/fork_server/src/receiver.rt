@@ -12,10 +12,6 @@ use sip_uri::Hop;
 use std::alloc::Allocator;
 use std::sync::Wait;
 
-/// How often the receiver lets others run before it gives a datagram to inboxes that are all full: some hundred milliseconds, in
-/// which datagrams wait in the socket.
-const PATIENCE: u32 = 1_000_000;
-
 /// A worker that holds so many jobs has enough to do: the next datagram is the other one's.
 const ENOUGH_JOBS: u64 = 4;
 
@@ -37,8 +33,8 @@ pub(crate) struct Senders<'a, A: Allocator> {
     is_first: bool,
 }
 
-/// Gives a datagram's job to this worker, to the other one where it has no room, or, where neither has, to this one once there is
-/// room or the receiver's patience is at its end. Says whether it was taken.
+/// Gives a datagram's job to this worker, to the other one where it has no room, or, where neither has, to this one once it has
+/// few jobs left or some hundred milliseconds are over, in which datagrams wait in the socket. Says whether it was taken.
 fn give_to_either<R: Wait, A: Allocator>(
     rt: &R,
     worker: &mut JobSender<'_, A>,
@@ -51,7 +47,7 @@ fn give_to_either<R: Wait, A: Allocator>(
     let Err(job) = other.give(rt, job) else {
         return true;
     };
-    worker.make_room(PATIENCE);
+    worker.make_room(rt);
     worker.give(rt, job).is_ok()
 }
 

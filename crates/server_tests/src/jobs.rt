@@ -80,7 +80,7 @@ fn the_end_waits_for_room(rt: HostRuntime) -> Result<(), Fail> {
     let mut receiver = JobReceiver::new(receiving, &waker);
     let taken = fill(&rt, &mut sender);
     holds(&rt, taken == MOST_JOBS as u64, "64 jobs are taken");
-    sender.make_room(10);
+    sender.make_room(&rt);
     holds(
         &rt,
         sender.give(&rt, Job::Tick(9)).is_err(),
@@ -89,5 +89,49 @@ fn the_end_waits_for_room(rt: HostRuntime) -> Result<(), Fail> {
     holds(&rt, ticks(&rt, &mut receiver, 0), "the first comes first");
     sender.finish(&rt);
     holds(&rt, ticks(&rt, &mut receiver, 1), "then the second");
+    Ok(())
+}
+
+/// Gives this tick and those after it up to `ROUNDS`, each once there is room, then the end job. Says how many were refused.
+fn give_all<R: Wait>(rt: &R, mut sender: JobSender<'_, Global>, first: u64) -> u64 {
+    let mut refused = 0u64;
+    for number in first..ROUNDS {
+        sender.make_room(rt);
+        if sender.give(rt, Job::Tick(number)).is_err() {
+            refused = refused.wrapping_add(1);
+        }
+    }
+    sender.finish(rt);
+    refused
+}
+
+/// Receives until the end job, and says how many ticks came in order.
+fn take_all<R: Wait>(rt: &R, mut receiver: JobReceiver<'_, Global>) -> u64 {
+    let mut came = 0u64;
+    for _ in rt.forever() {
+        match receiver.receive(rt) {
+            Job::Tick(at) if at == came => came = came.wrapping_add(1),
+            Job::Finish => return came,
+            _ => {}
+        }
+    }
+    unreachable!()
+}
+
+// The inbox is full as the two begin.
+#[test]
+fn who_waits_for_room_goes_on(rt: HostRuntime) -> Result<(), Fail> {
+    let waker = Waker::new();
+    let (giving, receiving) = Inbox::new(rt.alloc())?;
+    let mut sender = JobSender::new(giving, &waker);
+    let receiver = JobReceiver::new(receiving, &waker);
+    let taken = fill(&rt, &mut sender);
+    let (refused, came) = join(
+        &rt,
+        || give_all(&rt, sender, taken),
+        || take_all(&rt, receiver),
+    );
+    holds(&rt, refused == 0, "no job is refused");
+    holds(&rt, came == ROUNDS, "each job comes in order");
     Ok(())
 }
