@@ -60,7 +60,7 @@ impl Deed {
         if parts.owes_ack(n) {
             return Deed::SendAck(n);
         }
-        if parts.is_cancelled(n) && parts.is_sent(n) && !parts.is_cancel_sent(n) {
+        if parts.is_sent(n) && !parts.is_cancel_sent(n) && parts.is_cancelled(n) {
             return Deed::SendCancel(n);
         }
         if parts.is_trying(n) && !parts.is_sent(n) {

@@ -21,8 +21,11 @@ fn row_moment<A: Allocator + Clone>(parts: &Parts<A>, n: u16) -> Option<u64>
     if !parts.is_sent(n) {
         return if_runs(parts.is_trying(n), Some(0));
     }
+    if parts.owes_ack(n) {
+        return Some(0);
+    }
     let cancelled = parts.is_cancelled(n);
-    if parts.owes_ack(n) || (cancelled && !parts.is_cancel_sent(n)) {
+    if cancelled && !parts.is_cancel_sent(n) {
         return Some(0);
     }
     let timer_c = if_runs(parts.runs_timer_c(n), parts.timer_c_at(n));

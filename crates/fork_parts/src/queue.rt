@@ -227,6 +227,7 @@ impl<A: Allocator> Queue<A> {
         let entry = self.entries.remove(0);
         if entry.takes_message() {
             let _message = self.messages.remove(0);
+            self.messages.shrink_to_fit();
         }
     }
 

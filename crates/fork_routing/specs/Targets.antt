@@ -8,7 +8,7 @@ use Rattle.fork_text.specs.Field.{most_q}
 use Rattle.sip_uri.specs.declared.hop.Hop.{Hop}
 use Rattle.sip_uri.specs.Hop.{hop_of}
 use Rattle.sip_uri.specs.Key.{key_of}
-use Rattle.sip_uri.specs.Uri.{Uri, without_methods}
+use Rattle.sip_uri.specs.Uri.{Uri, requested}
 use Rattle.sip_via.specs.Address.{address_text}
 use Rattle.sip_route.specs.declared.route_values.FirstRoute.{FirstRoute}
 use Rattle.sip_route.specs.declared.route_values.FirstRoute.TheVariants.{Absent, NoHop, To}
@@ -63,10 +63,6 @@ abbrev pub hop_if_any : FirstRoute → Option Hop
 hop_if_any Absent = None
 hop_if_any NoHop = None
 hop_if_any (To hop) = Some hop
-
--- the URI as it stands in a request: without the parameter `method` and the headers (section 19.1.1)
-abbrev pub requested : Uri → Uri
-requested uri = record uri { params = without_methods uri.params; headers = None }
 
 abbrev pub way_to : Choice → Option Way
 way_to choice = way_by (requested choice.uri) choice.hop

@@ -10,7 +10,7 @@ ghost use Rattle.fork_context.specs.KindView as kinds;
 ghost use Rattle.fork_book.specs.Log.{opening_log, table_of};
 ghost use Rattle.fork_routing.specs.Admission.{target_uri};
 ghost use Rattle.fork_routing.specs.Opening.{Asks, IsBegun, IsOpenable, IsRefused, IsUnreachable, Opens, Reaches, Refuses};
-ghost use Rattle.fork_routing.specs.Targets.{AreWays, has_hop, requested, targets_of, way_to};
+ghost use Rattle.fork_routing.specs.Targets.{AreWays, has_hop, targets_of, way_to};
 
 use crate::admission::admit;
 use crate::checks::asks_extension;
@@ -27,46 +27,20 @@ use sip_uri::{Hop, SipUri};
 use sip_via::reply_hop_of;
 use std::alloc::{AllocError, Allocator, Global};
 
-/// The text of most URIs is no longer.
-const USUAL_URI: usize = 64;
-
-/// The URI of a target as it stands in a request: without the parameter `method` and the headers (RFC 3261 section
-/// 19.1.1); `text` is written over.
-fn requested<A: Allocator + Clone>(
-    alloc: A,
-    text: &mut Vec<u8, A>,
-    uri: &SipUri<A>,
-) -> Result<SipUri<A>, AllocError>
-    ensures { IfOk result (λ made. made ≡ requested uri.now) }
-{
-    uri.is_uri();
-    text.clear();
-    uri.request_uri(text)?;
-    match SipUri::read(alloc, text) {
-        Ok(made) => Ok(made),
-        Err(_) => Err(AllocError),
-    }
-}
-
 /// Where the request to a target goes, which has a hop.
-fn way_to<A: Allocator + Clone>(
-    alloc: A,
-    text: &mut Vec<u8, A>,
-    choice: &Choice<'_, A>,
-) -> Result<Way<A>, AllocError>
+fn way_to<A: Allocator + Clone>(alloc: A, choice: &Choice<'_, A>) -> Result<Way<A>, AllocError>
     requires hop { has_hop choice.now ≡ true }
     ensures { IfOk result (λ way. way_to choice.now ≡ Some way) }
 {
     let Some(hop) = choice.hop() else {
         unreachable!()
     };
-    Ok(Way::new(requested(alloc, text, choice.uri())?, hop))
+    Ok(Way::new(choice.uri().requested(alloc)?, hop))
 }
 
 /// The same for the target at that place.
 fn way_at<A: Allocator + Clone>(
     alloc: A,
-    text: &mut Vec<u8, A>,
     choices: &[Choice<'_, A>],
     place: usize,
 ) -> Result<Way<A>, AllocError>
@@ -74,7 +48,7 @@ fn way_at<A: Allocator + Clone>(
     requires hops { list_all has_hop choices.now ≡ true }
     ensures { IfOk result (λ way. option_and_then way_to (slice_get choices.now place) ≡ Some way) }
 {
-    way_to(alloc, text, &choices[place])
+    way_to(alloc, &choices[place])
 }
 
 /// The URI that a request names, where it can be read (RFC 3261 section 16.5).
@@ -106,10 +80,9 @@ fn ways_of<A: Allocator + Clone>(
 {
     let count = book.context().count();
     let mut ways = Vec::with_capacity(alloc.clone()?, count as usize)?;
-    let mut text = Vec::with_capacity(alloc.clone()?, USUAL_URI)?;
     for n in 0..book.context().count() {
         let place = place_of(book, n);
-        ways.push(way_at(alloc.clone()?, &mut text, choices, place)?)?;
+        ways.push(way_at(alloc.clone()?, choices, place)?)?;
     }
     Ok(ways)
 }

@@ -113,3 +113,18 @@ fn weighs_contacts_without_a_uri(rt: HostRuntime) {
         holds_of(&rt, found == wanted, "the q of what is not taken", value);
     }
 }
+
+/// Whether the URI of a target stands in a request as this text, and names the same target there.
+fn stands_in_a_request(alloc: Global, wanted: &[u8]) -> Result<bool, UriFault> {
+    let uri = SipUri::read(alloc, WHOLE)?;
+    let made = uri.requested(alloc)?;
+    let mut out = Vec::new(alloc);
+    made.request_uri(&mut out)?;
+    Ok(is(&out, wanted) && made.same_target(&uri))
+}
+
+#[test]
+fn stands_in_requests_without_method_and_headers(rt: HostRuntime) {
+    let found = stands_in_a_request(rt.alloc(), b"sip:Bob@H:05062;b;a");
+    holds(&rt, found == Ok(true), "the URI in a request");
+}

@@ -9,6 +9,7 @@ pub mod Listed
 pub mod Only
 pub mod Params
 pub mod Readings
+pub mod Requested
 pub mod Requests
 pub mod Sorted
 pub mod Values

@@ -48,3 +48,7 @@ without_methods params = filter (λ p. not (is_method p)) params
 
 abbrev pub request_uri : Uri → List ℕ
 request_uri u = u.scheme ++ (user_text u.user ++ (u.host ++ (behind 58 u.port ++ params_text (without_methods u.params))))
+
+-- the URI as it stands in a request: without the parameter `method` and the headers (section 19.1.1)
+abbrev pub requested : Uri → Uri
+requested uri = record uri { params = without_methods uri.params; headers = None }

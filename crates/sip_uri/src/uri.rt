@@ -11,7 +11,7 @@ ghost use Rattle.sip_uri.specs.Grammar.{IsUri, is_uri_byte};
 ghost use Rattle.sip_uri.specs.Hop.{hop_of};
 ghost use Rattle.sip_uri.specs.Key.{counted, key_of, key_params};
 ghost use Rattle.sip_uri.specs.Reading.{read_uri};
-ghost use Rattle.sip_uri.specs.Uri.{Uri, request_uri, spelling};
+ghost use Rattle.sip_uri.specs.Uri.{Uri, request_uri, requested, spelling};
 
 use crate::cut::cut_body;
 use crate::fault::UriFault;
@@ -127,8 +127,24 @@ impl<A: Allocator + Clone> SipUri<A> {
         ensures err { OnErr result (out.new.items ≡ out.old.items) }
         ensures room { vec_len out.old + length (request_uri self.now) ≤ vec_capacity out.old
             → IsOk result }
+        ensures capacity { vec_capacity out.old ≤ vec_capacity out.new }
     {
         append_request_uri(out, &self.text[..4], &cut_body(&self.text[4..]))
+    }
+
+    /// The URI as it stands in a request: without `method` parameters and headers (RFC 3261 section
+    /// 19.1.1). It names the same target.
+    ///
+    /// # Errors
+    ///
+    /// Only where the allocator refuses.
+    pub fn requested(&self, alloc: A) -> Result<SipUri<A>, AllocError>
+        ensures { IfOk result (λ made. made ≡ requested self.now) }
+    {
+        let mut text = Vec::with_capacity(alloc.clone()?, self.text.len())?;
+        self.request_uri(&mut text)?;
+        let key = Vec::from_slice(alloc, &self.key)?;
+        Ok(SipUri { text, key })
     }
 
     /// The bytes that tell its target from others (RFC 3261 section 16.5): two URIs with the same key

@@ -96,6 +96,7 @@ fn append_parts<B: Allocator>(
     ensures begins { take (vec_len out.old) out.new.items ≡ out.old.items }
     ensures room { vec_len out.old + length (parts_request scheme.now (parts cut.now)) ≤ vec_capacity out.old
         → IsOk result }
+    ensures capacity { vec_capacity out.old ≤ vec_capacity out.new }
 {
     out.extend_from_slice(scheme)?;
     append_user(out, cut.user)?;
@@ -116,6 +117,7 @@ pub(crate) fn append_request_uri<B: Allocator>(
     ensures err { OnErr result (out.new.items ≡ out.old.items) }
     ensures room { vec_len out.old + length (parts_request scheme.now (parts cut.now)) ≤ vec_capacity out.old
         → IsOk result }
+    ensures capacity { vec_capacity out.old ≤ vec_capacity out.new }
 {
     let before = out.len();
     let done = append_parts(out, scheme, cut);

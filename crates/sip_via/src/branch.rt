@@ -1,6 +1,6 @@
 //! The branch parameter of the proxy's own Via.
 
-ghost use Rattle.std.specs.Prelude.{◌≡◌, true, ◌≢◌, ◌++◌, ◌∷◌, ◌^◌, ◌<◌, List, ℕ, Some, OnOk, OnErr, IfSome, IfNone, take, length, vec_len};
+ghost use Rattle.std.specs.Prelude.{◌≡◌, true, ◌≢◌, ◌+◌, ◌++◌, ◌∷◌, ◌^◌, ◌<◌, ◌≤◌, List, ℕ, Some, IsOk, OnOk, OnErr, IfSome, IfNone, take, length, vec_capacity, vec_len};
 ghost use Rattle.std.specs.Fmt.{decimal};
 ghost use Rattle.std.specs.List.{AllByRecursion, list_all};
 ghost use Rattle.sip_lex.specs.Bytes.{is_token_byte};
@@ -68,6 +68,8 @@ fn key_digits(key: &[u8]) -> [u8; 32]
 fn append_number<A: Allocator>(out: &mut Vec<u8, A>, n: u64) -> Result<(), AllocError>
     ensures ok { OnOk result (out.new.items ≡ out.old.items ++ decimal n) }
     ensures begins { take (vec_len out.old) out.new.items ≡ out.old.items }
+    ensures room { vec_len out.old + length (decimal n) ≤ vec_capacity out.old → IsOk result }
+    ensures capacity { vec_capacity out.old ≤ vec_capacity out.new }
 {
     out.extend_from_slice(Buffer::new().format(n).as_bytes())
 }
@@ -76,6 +78,8 @@ fn append_number<A: Allocator>(out: &mut Vec<u8, A>, n: u64) -> Result<(), Alloc
 fn append_dotted<A: Allocator>(out: &mut Vec<u8, A>, n: u64) -> Result<(), AllocError>
     ensures ok { OnOk result (out.new.items ≡ out.old.items ++ 46 ∷ decimal n) }
     ensures begins { take (vec_len out.old) out.new.items ≡ out.old.items }
+    ensures room { vec_len out.old + length (46 ∷ decimal n) ≤ vec_capacity out.old → IsOk result }
+    ensures capacity { vec_capacity out.old ≤ vec_capacity out.new }
 {
     out.push(b'.')?;
     append_number(out, n)
@@ -84,6 +88,8 @@ fn append_dotted<A: Allocator>(out: &mut Vec<u8, A>, n: u64) -> Result<(), Alloc
 fn append_branch<A: Allocator>(out: &mut Vec<u8, A>, name: &BranchName) -> Result<(), AllocError>
     ensures ok { OnOk result (out.new.items ≡ out.old.items ++ branch_text name.now) }
     ensures begins { take (vec_len out.old) out.new.items ≡ out.old.items }
+    ensures room { vec_len out.old + length (branch_text name.now) ≤ vec_capacity out.old → IsOk result }
+    ensures capacity { vec_capacity out.old ≤ vec_capacity out.new }
 {
     out.extend_from_slice(b"z9hG4bK")?;
     out.extend_from_slice(&key_digits(&name.key))?;
@@ -102,6 +108,8 @@ pub fn write_branch<A: Allocator>(name: &BranchName, out: &mut Vec<u8, A>) -> Re
     ensures ok { OnOk result (out.new.items ≡ out.old.items ++ branch_text name.now) }
     ensures token { list_all is_token_byte (branch_text name.now) ≡ true }
     ensures err { OnErr result (out.new.items ≡ out.old.items) }
+    ensures room { vec_len out.old + length (branch_text name.now) ≤ vec_capacity out.old → IsOk result }
+    ensures capacity { vec_capacity out.old ≤ vec_capacity out.new }
 {
     name.is_token();
     let before = out.len();
