@@ -1,5 +1,5 @@
 -- Header lines in groups, as lines and as text.
-use Rattle.std.proofs.Common.{◌≡◌, ◌+◌, ◌-◌, ◌^◌, ◌<◌, ◌≤◌, arith, Option, Some, None, inl, inr, Result, Ok, Err, OnErr, OnOk, length, min, subst, ℕ, List, [], ◌∷◌, ◌++◌, map, refl, sym, ap, ◌∙◌}
+use Rattle.std.proofs.Common.{◌≡◌, ◌+◌, ◌-◌, ◌^◌, ◌<◌, ◌≤◌, arith, Option, Some, None, inl, inr, Result, Ok, Err, OnErr, OnOk, length, min, subst, ℕ, List, [], ◌∷◌, ◌++◌, map, refl, sym, ap, ◌∙◌, append_assoc}
 use Rattle.std.specs.Borrow.{Bor}
 use Rattle.std.specs.List.{filter, flat_map}
 use Rattle.std.proofs.lemmas.Grind.{flat_map-append}
@@ -9,11 +9,14 @@ use Rattle.std.proofs.lemmas.Bool.{cases_Bool, cond-false, cond-true}
 use Rattle.fork_model.specs.Table as table
 use Rattle.sip_lex.specs.Line.{ended}
 use Rattle.sip_text.specs.Name.{same_name, values_of}
-use Rattle.sip_text.specs.Text.{HeaderText, MessageText, StartText, header_text, saturated, spelling, start_line}
+use Rattle.sip_text.specs.Text.{HeaderText, MessageText, Request, StartText, header_text, saturated, spelling, start_line}
+use Rattle.sip_uri.specs.Uri.{Uri, request_uri}
+use Rattle.sip_via.specs.declared.branch.BranchName.{BranchName}
+use Rattle.sip_via.specs.declared.own.Own.{Own}
 use Rattle.sip_via.specs.Lines.{lines_among}
+use Rattle.sip_via.specs.OwnVia.{own_via}
 use Rattle.sip_via.specs.Edits.{line}
 use Rattle.std.proofs.lemmas.List.{length-append}
-use Rattle.sip_build.proofs.Pieces.{three, whole_text}
 use Rattle.sip_build.specs.SeenKept.{texts}
 use Rattle.sip_build.specs.Texts.{lines_text}
 use Rattle.sip_build.specs.Upward.{challenge_line, contact_lines}
@@ -21,6 +24,7 @@ use Rattle.sip_build.specs.declared.groups.Group.{Group}
 use Rattle.sip_build.specs.declared.made_text.Front.{Front}
 use Rattle.sip_build.specs.Exchanged.{is_other}
 use Rattle.sip_build.specs.Groups.{all_lines, lines_of, made_of, start_of, tail_text, under}
+use Rattle.sip_build.specs.ToTarget.{request_to}
 use Rattle.sip_build.proofs.Exchanged.{filter-named, filter-other}
 
 -- what each part's lines are as text, and the text of all lines
@@ -117,11 +121,21 @@ two-full room len all front tail a t s f e sum full k =
     let long : length s ≡ length a + length t = ap length k ∙ length-append a t in
     omega (arith, long, f, e, sum, full)
 
--- ---- a start line, a line, and what stands behind it
+-- ---- a request line, the proxy's own Via line, and what stands behind them
 
-pub behind-line : {A : Type 0} (old n1 n2 n3 n4 : List ℕ) (made start : StartText) (h : HeaderText) (groups : List (Group A)) (hs : List HeaderText) (end body : List ℕ) → n1 ≡ old → n2 ≡ n1 ++ ended (start_line made) → n3 ≡ n2 ++ header_text h → n4 ≡ n3 ++ tail_text groups end → all_lines groups ≡ hs → start ≡ made → end ≡ body → n4 ≡ old ++ spelling (record { start = start; headers = h ∷ hs; body = body })
-behind-line old n1 n2 n3 n4 made start h groups hs end body e1 e2 e3 e4 lines s b =
-    let first : n2 ≡ old ++ ended (start_line made) = e2 ∙ ap (λ (x : List ℕ). x ++ ended (start_line made)) e1 in
-    let text : flat_map (λ g. lines_text (lines_of g)) groups ≡ lines_text hs = texts-of-lines lines_of groups ∙ ap lines_text lines in
-    let whole : ended (start_line made) ++ (header_text h ++ tail_text groups end) ≡ spelling (record { start = start; headers = h ∷ hs; body = body }) = ap (λ (x : List ℕ). ended (start_line made) ++ (header_text h ++ (x ++ (ended [] ++ end)))) text ∙ whole_text made end start h hs body s b in
-    three old n2 n3 n4 (ended (start_line made)) (header_text h) (tail_text groups end) _ first e3 e4 whole
+pub request_text : {A : Type 0} (method : List ℕ) (target : Uri) (proxy : Own) (branch : BranchName) (groups : List (Group A)) (body : List ℕ) → spelling (request_to method target proxy branch groups body) ≡ ended (start_line (Request method (request_uri target))) ++ (header_text (line (codes "Via") (own_via proxy branch)) ++ tail_text groups body)
+request_text method target proxy branch groups body =
+    let via = header_text (line (codes "Via") (own_via proxy branch)) in
+    ap (λ (x : List ℕ). ended (start_line (Request method (request_uri target))) ++ x)
+    (append_assoc via (lines_text (all_lines groups)) (ended [] ++ body)
+    ∙ ap (λ (x : List ℕ). via ++ (x ++ (ended [] ++ body))) (sym (texts-of-lines lines_of groups)))
+
+pub request-as : {A : Type 0} (method : List ℕ) (target : Uri) (proxy : Own) (branch : BranchName) (groups : List (Group A)) (body : List ℕ) (m : MessageText) → Request method (request_uri target) ≡ m.start → line (codes "Via") (own_via proxy branch) ∷ all_lines groups ≡ m.headers → body ≡ m.body → spelling (request_to method target proxy branch groups body) ≡ spelling m
+request-as method target proxy branch groups body m s h b =
+    ap (λ (x : StartText). spelling (record { start = x; headers = line (codes "Via") (own_via proxy branch) ∷ all_lines groups; body = body })) s
+    ∙ ap (λ (x : List HeaderText). spelling (record { start = m.start; headers = x; body = body })) h
+    ∙ ap (λ (x : List ℕ). spelling (record { start = m.start; headers = m.headers; body = x })) b
+
+-- room for a text, under another name of it
+pub room-under : {E : Type 0} (r : Result Unit E) (room len : ℕ) (t s : List ℕ) → (len + length t ≤ room → IsOk r) → t ≡ s → len + length s ≤ room → IsOk r
+room-under r room len t s h e = subst (λ (x : List ℕ). len + length x ≤ room → IsOk r) e h

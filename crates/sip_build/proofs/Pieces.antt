@@ -1,7 +1,6 @@
 -- Texts that grow by pieces.
 use Rattle.std.proofs.Common.{◌≡◌, ℕ, List, [], ◌∷◌, ◌++◌, refl, sym, ap, ◌∙◌, append_assoc}
-use Rattle.sip_lex.specs.Line.{ended}
-use Rattle.sip_text.specs.Text.{HeaderText, StartText, header_text, spelling, start_line}
+use Rattle.sip_text.specs.Text.{header_text}
 use Rattle.std.specs.Prelude.{codes}
 use Rattle.std.specs.Fmt.{decimal}
 use Rattle.sip_via.specs.declared.own.Own.{Own}
@@ -10,13 +9,9 @@ use Rattle.sip_via.specs.Address.{address_text}
 use Rattle.sip_via.specs.BranchText.{branch_text}
 use Rattle.sip_via.specs.Edits.{line}
 use Rattle.sip_via.specs.OwnVia.{own_via}
-use Rattle.sip_build.specs.Texts.{lines_text}
 
 abbrev pub Text : Type 0
 Text = List ℕ
-
-abbrev pub Lines : Type 0
-Lines = List HeaderText
 
 -- ---- in pieces
 
@@ -48,11 +43,3 @@ own_line proxy b =
     sym (ap (λ (x : Text). codes "Via: SIP/2.0/UDP " ++ x)
     (append_assoc (address_text proxy.addr) (58 ∷ (decimal proxy.port ++ branch)) tail
     ∙ ap (λ (x : Text). address_text proxy.addr ++ (58 ∷ x)) (append_assoc (decimal proxy.port) branch tail)))
-
--- ---- whole messages: the start line, a line, further lines, and the end
-
-pub whole_text : (made : StartText) (end : Text) (start : StartText) (h : HeaderText) (hs : Lines) (body : Text) → start ≡ made → end ≡ body → ended (start_line made) ++ (header_text h ++ (lines_text hs ++ (ended [] ++ end))) ≡ spelling (record { start = start; headers = h ∷ hs; body = body })
-whole_text made end start h hs body s e =
-    ap (λ (x : StartText). ended (start_line x) ++ (header_text h ++ (lines_text hs ++ (ended [] ++ end)))) (sym s)
-    ∙ ap (λ (x : Text). ended (start_line start) ++ (header_text h ++ (lines_text hs ++ (ended [] ++ x)))) e
-    ∙ ap (λ (x : Text). ended (start_line start) ++ x) (sym (append_assoc (header_text h) (lines_text hs) (ended [] ++ body)))

@@ -8,3 +8,4 @@ pub mod Upward
 pub mod SeenKept
 pub mod Groups
 pub mod Placed
+pub mod ToTarget

@@ -1,6 +1,6 @@
 //! The ACK for a failure and the CANCEL of a request that was forwarded, straight as text.
 
-ghost use Rattle.std.specs.Prelude.{◌≡◌, ◌++◌, ◌∷◌, codes, take, true, OnErr, OnOk, vec_len};
+ghost use Rattle.std.specs.Prelude.{◌≡◌, ◌+◌, ◌++◌, ◌∷◌, ◌≤◌, codes, length, true, IsOk, OnErr, OnOk, vec_capacity, vec_len};
 ghost use Rattle.sip_text.specs.Text.{spelling};
 ghost use Rattle.sip_uri.specs.Uri.{Uri};
 ghost use Rattle.sip_via.specs.declared.branch.BranchName.{BranchName};
@@ -13,10 +13,9 @@ ghost use Rattle.sip_build.specs.Forwarding.{forwarded, is_request};
 ghost use Rattle.sip_build.specs.Groups.{all_lines};
 ghost use Rattle.sip_build.specs.Requests.{ack_of, along_to, cancel_of};
 
-use crate::forwarded_text::{append_own_via, append_to_target};
-use crate::groups::{Group, Pick, append_tail, tail_len};
+use crate::groups::{Group, Pick};
 use crate::laws::{ack_of_a_forwarded_request, cancel_of_a_forwarded_request};
-use crate::parts::{ask_for_lines, whole_or_nothing};
+use crate::to_target::append_to_target;
 use itoa::Buffer;
 use sip_text::Message;
 use sip_uri::SipUri;
@@ -57,7 +56,7 @@ fn groups_behind_via<'a, A: Allocator>(
     ]
 }
 
-/// Appends a request of that method on the way of one that went to a target, or a part of it.
+/// Appends a request of that method on the way of one that went to a target, or nothing.
 fn append_along_to<A: Allocator + Clone, B: Allocator>(
     out: &mut Vec<u8, B>,
     method: &[u8],
@@ -69,17 +68,14 @@ fn append_along_to<A: Allocator + Clone, B: Allocator>(
 ) -> Result<(), AllocError>
     ensures ok { OnOk result
         (out.new.items ≡ out.old.items ++ spelling (along_to method.now message.now target.now own branch.now to.now)) }
-    ensures begins { take (vec_len out.old) out.new.items ≡ out.old.items }
+    ensures err { OnErr result (out.new.items ≡ out.old.items) }
+    ensures room { vec_len out.old + length (spelling (along_to method.now message.now target.now own branch.now to.now)) ≤ vec_capacity out.old
+        → IsOk result }
 {
     let mut buffer = Buffer::new();
     let number = buffer.format(message.cseq().number).as_bytes();
     let groups = groups_behind_via(method, message, to, number);
-    let len = tail_len(&groups, b"");
-    ask_for_lines(out, len);
-    append_to_target(out, method, target)?;
-    append_own_via(out, own, branch)?;
-    append_tail(out, &groups, b"", len)?;
-    Ok(())
+    append_to_target(out, method, target, own, branch, &groups, b"")
 }
 
 /// Appends the ACK for a response of 300 to 699 to a request that went to a target (RFC 3261 section
@@ -87,7 +83,7 @@ fn append_along_to<A: Allocator + Clone, B: Allocator>(
 ///
 /// # Errors
 ///
-/// Only where the growth of `out` is refused; `out` is then unchanged.
+/// Only where `out` lacks room for the text and its growth is refused; `out` is then unchanged.
 pub fn write_forwarded_ack<A: Allocator + Clone, B: Allocator>(
     message: &Message<A>,
     target: &SipUri<A>,
@@ -100,14 +96,14 @@ pub fn write_forwarded_ack<A: Allocator + Clone, B: Allocator>(
     ensures ok { OnOk result
         (out.new.items ≡ out.old.items ++ spelling (ack_of (forwarded message.now target.now own branch.now) response.now)) }
     ensures err { OnErr result (out.new.items ≡ out.old.items) }
+    ensures room { vec_len out.old + length (spelling (ack_of (forwarded message.now target.now own branch.now) response.now)) ≤ vec_capacity out.old
+        → IsOk result }
 {
     is_own(own);
     is_branch(*branch);
     ack_of_a_forwarded_request();
-    let before = out.len();
     let to = first_value(response, b"to");
-    let done = append_along_to(out, b"ACK", message, target, own, branch, to);
-    whole_or_nothing(out, before, done)
+    append_along_to(out, b"ACK", message, target, own, branch, to)
 }
 
 /// Appends the CANCEL of a request that went to a target (RFC 3261 section 9.1): the text of what
@@ -115,7 +111,7 @@ pub fn write_forwarded_ack<A: Allocator + Clone, B: Allocator>(
 ///
 /// # Errors
 ///
-/// Only where the growth of `out` is refused; `out` is then unchanged.
+/// Only where `out` lacks room for the text and its growth is refused; `out` is then unchanged.
 pub fn write_forwarded_cancel<A: Allocator + Clone, B: Allocator>(
     message: &Message<A>,
     target: &SipUri<A>,
@@ -127,12 +123,12 @@ pub fn write_forwarded_cancel<A: Allocator + Clone, B: Allocator>(
     ensures ok { OnOk result
         (out.new.items ≡ out.old.items ++ spelling (cancel_of (forwarded message.now target.now own branch.now))) }
     ensures err { OnErr result (out.new.items ≡ out.old.items) }
+    ensures room { vec_len out.old + length (spelling (cancel_of (forwarded message.now target.now own branch.now))) ≤ vec_capacity out.old
+        → IsOk result }
 {
     is_own(own);
     is_branch(*branch);
     cancel_of_a_forwarded_request();
-    let before = out.len();
     let to = first_value(message, b"to");
-    let done = append_along_to(out, b"CANCEL", message, target, own, branch, to);
-    whole_or_nothing(out, before, done)
+    append_along_to(out, b"CANCEL", message, target, own, branch, to)
 }

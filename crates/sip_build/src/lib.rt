@@ -14,11 +14,13 @@ mod group_lens;
 mod groups;
 mod laws;
 mod made_text;
+mod own_line;
 mod parts;
 mod place;
 mod requests;
 mod responses;
 mod tag;
+mod to_target;
 mod upstream;
 mod upward_text;
 

@@ -1,6 +1,6 @@
 //! What each text that is written straight to `out` needs.
 
-ghost use Rattle.std.specs.Prelude.{◌≡◌, OnErr, OnOk, take};
+ghost use Rattle.std.specs.Prelude.{◌≡◌, ◌≤◌, OnErr, OnOk, take, vec_capacity};
 
 use std::alloc::{AllocError, Allocator};
 
@@ -27,7 +27,8 @@ const FRONT: usize = 256;
 /// Asks at once for the room of header lines of that length and of what stands before and between them. Where
 /// that is refused, each part asks for its own.
 pub fn ask_for_lines<B: Allocator>(out: &mut Vec<u8, B>, len: usize)
-    ensures { out.new.items ≡ out.old.items }
+    ensures items { out.new.items ≡ out.old.items }
+    ensures capacity { vec_capacity out.old ≤ vec_capacity out.new }
 {
     let _granted = out.reserve(len.saturating_add(FRONT));
 }

@@ -4,7 +4,7 @@ use Rattle.std.specs.Fmt.{decimal}
 use Rattle.sip_via.specs.Address.{address_text}
 use Rattle.sip_via.specs.BranchText.{branch_text}
 use Rattle.sip_build.proofs.Pieces.{own_line, seven}
-use Rattle.sip_build.proofs.forwarded_text.append_own_via.Goals as goal
+use Rattle.sip_build.proofs.own_line.append_own_via.Goals as goal
 
 pub returns-clause-ok : goal.returns-clause-ok
 returns-clause-ok g c =

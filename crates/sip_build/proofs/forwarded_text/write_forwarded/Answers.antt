@@ -1,0 +1,27 @@
+use Rattle.std.proofs.Common.{◌∙◌, ◌∷◌, List, ℕ, Option, ap, subst, sym}
+use Rattle.std.specs.Prelude.{IfSome, codes}
+use Rattle.sip_text.specs.Name.{first_value}
+use Rattle.sip_text.specs.Text.{HeaderText}
+use Rattle.sip_via.specs.Edits.{line}
+use Rattle.sip_via.specs.OwnVia.{own_via}
+use Rattle.sip_route.specs.Hops.{IsHops, hops_name}
+use Rattle.sip_build.specs.Forwarding.{forwarded, hops_lowered}
+use Rattle.sip_build.proofs.GroupTexts.{ok-as, request-as, room-under}
+use Rattle.sip_build.proofs.forwarded_text.write_forwarded.Goals as goal
+
+pub hops_left-requires : goal.hops_left-requires
+hops_left-requires g c =
+    let first = c.value_at.ensures ∙ ap (λ (hs : List HeaderText). first_value hops_name hs) c.headers-headers.ensures in
+    subst (λ (o : Option (List ℕ)). IfSome o IsHops) (sym first) c.requires.hops
+
+pub returns-clause-ok : goal.returns-clause-ok
+returns-clause-ok g c =
+    let made = forwarded c.args.message.now c.args.target.now c.args.own c.args.branch.now in
+    let lines = c.lowered_groups-groups.ensures ∙ ap (λ (hs : List HeaderText). hops_lowered hs (first_value hops_name hs)) c.headers-headers.ensures in
+    ok-as c.append_to_target.result _ _ _ _ c.append_to_target.ensures.ok (request-as c.method_of-method.result.now c.args.target.now c.args.own c.args.branch.now c.lowered_groups-groups.result c.body.result.now made (sym (c.method_of-method.ensures c.args.target.now)) (ap (λ (hs : List HeaderText). line (codes "Via") (own_via c.args.own c.args.branch.now) ∷ hs) lines) c.body.ensures)
+
+pub returns-clause-room : goal.returns-clause-room
+returns-clause-room g c =
+    let made = forwarded c.args.message.now c.args.target.now c.args.own c.args.branch.now in
+    let lines = c.lowered_groups-groups.ensures ∙ ap (λ (hs : List HeaderText). hops_lowered hs (first_value hops_name hs)) c.headers-headers.ensures in
+    room-under c.append_to_target.result _ _ _ _ c.append_to_target.ensures.room (request-as c.method_of-method.result.now c.args.target.now c.args.own c.args.branch.now c.lowered_groups-groups.result c.body.result.now made (sym (c.method_of-method.ensures c.args.target.now)) (ap (λ (hs : List HeaderText). line (codes "Via") (own_via c.args.own c.args.branch.now) ∷ hs) lines) c.body.ensures)

@@ -1,0 +1,29 @@
+use Rattle.std.proofs.Common.{◌++◌, ◌∙◌, append_assoc, arith, refl, sym}
+use Rattle.std.specs.Prelude.{codes}
+use Rattle.sip_lex.specs.Line.{ended}
+use Rattle.sip_text.specs.Text.{Request, header_text, start_line}
+use Rattle.sip_uri.specs.Uri.{request_uri}
+use Rattle.sip_via.specs.Edits.{line}
+use Rattle.sip_via.specs.OwnVia.{own_via}
+use Rattle.sip_build.specs.Groups.{tail_text}
+use Rattle.sip_build.proofs.Grown.{on_err, on_ok}
+use Rattle.sip_build.proofs.GroupTexts.{behind-full, request_text, room-as}
+use Rattle.sip_build.proofs.Pieces.{joined, three}
+use Rattle.sip_build.proofs.to_target.append_parts.Goals as goal
+
+pub returns-clause-ok : goal.returns-clause-ok
+returns-clause-ok g c =
+    let first = ended (start_line (Request c.args.method.now (request_uri c.args.target.now))) in
+    let via = header_text (line (codes "Via") (own_via c.args.own c.args.branch.now)) in
+    let tail = tail_text c.args.groups.now c.args.body.now in
+    let whole = request_text c.args.method.now c.args.target.now c.args.own c.args.branch.now c.args.groups.now c.args.body.now in
+    on_ok c.append_tail.result (λ end. three c.args.out.now.items c.append_request_line.new.out.items c.append_own_via.new.out.items c.append_tail.new.out.items first via tail _ c.in_ok-append_request_line.ensures.ok c.in_ok-append_own_via.ensures.ok end (sym whole)) c.append_tail.ensures.ok
+
+pub returns-clause-room : goal.returns-clause-room
+returns-clause-room g c =
+    let first = ended (start_line (Request c.args.method.now (request_uri c.args.target.now))) in
+    let via = header_text (line (codes "Via") (own_via c.args.own c.args.branch.now)) in
+    let tail = tail_text c.args.groups.now c.args.body.now in
+    let whole = request_text c.args.method.now c.args.target.now c.args.own c.args.branch.now c.args.groups.now c.args.body.now in
+    let front = joined c.args.out.now.items c.append_request_line.new.out.items c.append_own_via.new.out.items first via (first ++ via) c.in_ok-append_request_line.ensures.ok c.in_ok-append_own_via.ensures.ok refl in
+    room-as c.append_tail.result _ _ _ _ (on_err c.append_tail.result (λ full. behind-full c.args.out.now.items c.append_own_via.new.out.items _ _ _ _ (first ++ via) tail _ c.args.out.now.ok.0 c.append_own_via.new.out.ok.0 front (omega (arith, c.append_request_line.ensures.capacity, c.append_own_via.ensures.capacity)) full (whole ∙ sym (append_assoc first via tail))) c.append_tail.ensures.full) refl
