@@ -17,6 +17,19 @@ use std::sync::Wait;
 /// How many calls one tick carries at most.
 const MOST_CARRIED: u32 = 4_096;
 
+/// How many bytes of memory a worker has the allocator hold ready.
+const READY: usize = 8_388_608;
+
+/// After how many jobs it does so again: they keep less than that.
+const JOBS_BETWEEN: u32 = 256;
+
+/// Asks the allocator for memory and gives it back, so that it holds some ready for what a worker keeps. Else the C library gets
+/// each page of a thread's memory by a system call of its own.
+fn hold_ready(heap: Global) {
+    let asked: Result<Vec<u8, Global>, AllocError> = Vec::with_capacity(heap, READY);
+    drop(asked);
+}
+
 /// What the threads of a proxy share.
 #[derive(Drop)]
 pub(crate) struct Proxy<A: Allocator + Clone = Global> {
@@ -123,7 +136,13 @@ impl<A: Allocator + Clone> Proxy<A> {
     /// Does the jobs that a worker is given, until the end job. The queues of the calls that it opens lie on `heap`.
     pub(crate) fn work<R: Wait + Log>(&self, rt: &R, heap: Global, mut jobs: JobReceiver<'_, A>) {
         let mut port = SocketPort::new(&self.socket);
+        let mut left = 0u32;
         for _ in rt.forever() {
+            if left == 0 {
+                hold_ready(heap);
+                left = JOBS_BETWEEN;
+            }
+            left = left.wrapping_sub(1);
             match jobs.receive(rt) {
                 Job::Packet { bytes, source, now } => self.take(
                     rt,
