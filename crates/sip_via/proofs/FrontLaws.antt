@@ -1,13 +1,15 @@
 -- A text is an address where four numbers with dots between them can be taken from its front.
-use Rattle.std.proofs.Common.{◌≡◌, ℕ, Bool, true, false, eqb, List, [], ◌∷◌, ◌++◌, length, take, drop, Option, Some, None, refl, sym, ap, ◌∙◌, inl, inr}
-use Rattle.std.specs.Prelude.{slice_index}
+use Rattle.std.proofs.Common.{◌≡◌, ℕ, Bool, true, false, eqb, List, [], ◌∷◌, ◌++◌, length, take, drop, Option, Some, None, refl, sym, ap, ◌∙◌, append_assoc, inl, inr}
+use Rattle.std.specs.Prelude.{IfSome, slice_index}
+use Rattle.std.specs.Borrow.{Bor}
 use Rattle.std.specs.Fmt.{decimal}
+use Rattle.std.specs.Option.{option_copied}
 use Rattle.std.specs.Str.{bytes_eq}
 use Rattle.std.proofs.lemmas.Bool.{cases_Bool, cond-true, cond-false, eqb-true}
 use Rattle.std.proofs.lemmas.List.{append-nil, drop_at, take-append-drop, take_at}
 use Rattle.std.proofs.lemmas.Slice.Eq.{bytes_eq-Decides}
 use Rattle.sip_via.specs.Address.{address_text, dotted}
-use Rattle.sip_via.specs.Fronts.{behind_dotted, behind_number, behind_text, is_address, is_end}
+use Rattle.sip_via.specs.Fronts.{behind_address, behind_marked, behind_number, behind_text, is_address, is_end}
 
 abbrev some : List ℕ → Option (List ℕ)
 some text = Some text
@@ -34,27 +36,34 @@ front_again front rest =
     let same : bytes_eq (take n (front ++ rest)) front ≡ true = ap (λ (x : List ℕ). bytes_eq x front) (take_at front rest n refl) ∙ (bytes_eq-Decides front front).1 refl in
     cond-true _ (some (drop n (front ++ rest))) None same ∙ ap some (drop_at front rest n refl)
 
--- ---- a dot and a number at the front
+-- ---- a mark and a number at the front
 
-pub record IsBehindDotted (n : ℕ) (text : Option (List ℕ)) (rest : List ℕ) : Type 0 where
+pub marked_step : (mark m n : ℕ) (o text : Option (List ℕ)) {r : Option (List ℕ)} → r ≡ behind_marked mark m o → m ≡ n → o ≡ text → r ≡ behind_marked mark n text
+marked_step mark m n o text e number same = e ∙ ap (λ k. behind_marked mark k o) number ∙ ap (behind_marked mark n) same
+
+pub if_copied : (r : Option (Bor (List ℕ))) (o : Option (List ℕ)) (P : List ℕ → Type 0) → ((rest : List ℕ) → o ≡ Some rest → P rest) → option_copied r ≡ o → IfSome r (λ rest. P rest.now)
+if_copied None o P f e = tt
+if_copied (Some rest) o P f e = f rest.now (sym e)
+
+pub record IsBehindMarked (mark n : ℕ) (text : Option (List ℕ)) (rest : List ℕ) : Type 0 where
   pub whole : List ℕ
   pub there : text ≡ Some whole
-  pub joins : whole ≡ dotted n ++ rest
+  pub joins : whole ≡ (mark ∷ decimal n) ++ rest
 
-pub dotted_found : (n : ℕ) (text : Option (List ℕ)) (rest : List ℕ) → behind_dotted n text ≡ Some rest → IsBehindDotted n text rest
-dotted_found n None rest e = absurd cc
-dotted_found n (Some []) rest e = absurd cc
-dotted_found n (Some (b ∷ bs)) rest e =
-    elim (cases_Bool (eqb b 46)) [
-      | inl dot ↦ record {
+pub marked_found : (mark n : ℕ) (text : Option (List ℕ)) (rest : List ℕ) → behind_marked mark n text ≡ Some rest → IsBehindMarked mark n text rest
+marked_found mark n None rest e = absurd cc
+marked_found mark n (Some []) rest e = absurd cc
+marked_found mark n (Some (b ∷ bs)) rest e =
+    elim (cases_Bool (eqb b mark)) [
+      | inl there ↦ record {
         whole = b ∷ bs;
         there = refl;
-        joins = ap (λ (c : ℕ). c ∷ bs) (eqb-true b 46 dot) ∙ ap (λ (x : List ℕ). 46 ∷ x) (front_found (decimal n) bs rest (sym (cond-true _ (behind_number n bs) None dot) ∙ e));
+        joins = ap (λ (c : ℕ). c ∷ bs) (eqb-true b mark there) ∙ ap (λ (x : List ℕ). mark ∷ x) (front_found (decimal n) bs rest (sym (cond-true _ (behind_number n bs) None there) ∙ e));
       }
       | inr other ↦ let wrong : None ≡ some rest = sym (cond-false _ (behind_number n bs) None other) ∙ e in absurd cc
     ]
 
-pub dotted_again : (n : ℕ) (rest : List ℕ) → behind_dotted n (Some (dotted n ++ rest)) ≡ Some rest
+pub dotted_again : (n : ℕ) (rest : List ℕ) → behind_marked 46 n (Some (dotted n ++ rest)) ≡ Some rest
 dotted_again n rest = front_again (decimal n) rest
 
 end_found : (o : Option (List ℕ)) → is_end o ≡ true → o ≡ Some []
@@ -67,22 +76,26 @@ end_found (Some (b ∷ bs)) e = absurd cc
 address_joins : (a b c d : List ℕ) → a ++ (b ++ (c ++ (d ++ []))) ≡ a ++ (b ++ (c ++ d))
 address_joins a b c d = ap (λ (x : List ℕ). a ++ (b ++ (c ++ x))) (append-nil d)
 
-pub address_found : (addr text : List ℕ) → is_address addr text ≡ true → text ≡ address_text addr
-address_found addr text e =
+pub address_front : (addr text rest : List ℕ) → behind_address addr text ≡ Some rest → text ≡ address_text addr ++ rest
+address_front addr text rest e =
     let a = slice_index addr 0 in
     let b = slice_index addr 1 in
     let c = slice_index addr 2 in
     let d = slice_index addr 3 in
     let one = behind_number a text in
-    let two = behind_dotted b one in
-    let three = behind_dotted c two in
-    let last = dotted_found d three [] (end_found (behind_dotted d three) e) in
-    let third = dotted_found c two last.whole last.there in
-    let second = dotted_found b one third.whole third.there in
+    let two = behind_marked 46 b one in
+    let three = behind_marked 46 c two in
+    let last = marked_found 46 d three rest e in
+    let third = marked_found 46 c two last.whole last.there in
+    let second = marked_found 46 b one third.whole third.there in
     let first = front_found (decimal a) text second.whole second.there in
     first
     ∙ ap (λ (x : List ℕ). decimal a ++ x) (second.joins ∙ ap (λ (x : List ℕ). dotted b ++ x) (third.joins ∙ ap (λ (x : List ℕ). dotted c ++ x) last.joins))
-    ∙ address_joins (decimal a) (dotted b) (dotted c) (dotted d)
+    ∙ sym (append_assoc (decimal a) (dotted b ++ (dotted c ++ dotted d)) rest
+    ∙ ap (λ (x : List ℕ). decimal a ++ x) (append_assoc (dotted b) (dotted c ++ dotted d) rest ∙ ap (λ (x : List ℕ). dotted b ++ x) (append_assoc (dotted c) (dotted d) rest)))
+
+pub address_found : (addr text : List ℕ) → is_address addr text ≡ true → text ≡ address_text addr
+address_found addr text e = address_front addr text [] (end_found (behind_address addr text) e) ∙ append-nil (address_text addr)
 
 pub address_again : (addr : List ℕ) → is_address addr (address_text addr) ≡ true
 address_again addr =
@@ -91,9 +104,9 @@ address_again addr =
     let c = slice_index addr 2 in
     let d = slice_index addr 3 in
     ap (is_address addr) (sym (address_joins (decimal a) (dotted b) (dotted c) (dotted d)))
-    ∙ ap (λ (o : Option (List ℕ)). is_end (behind_dotted d (behind_dotted c (behind_dotted b o)))) (front_again (decimal a) (dotted b ++ (dotted c ++ (dotted d ++ []))))
-    ∙ ap (λ (o : Option (List ℕ)). is_end (behind_dotted d (behind_dotted c o))) (dotted_again b (dotted c ++ (dotted d ++ [])))
-    ∙ ap (λ (o : Option (List ℕ)). is_end (behind_dotted d o)) (dotted_again c (dotted d ++ []))
+    ∙ ap (λ (o : Option (List ℕ)). is_end (behind_marked 46 d (behind_marked 46 c (behind_marked 46 b o)))) (front_again (decimal a) (dotted b ++ (dotted c ++ (dotted d ++ []))))
+    ∙ ap (λ (o : Option (List ℕ)). is_end (behind_marked 46 d (behind_marked 46 c o))) (dotted_again b (dotted c ++ (dotted d ++ [])))
+    ∙ ap (λ (o : Option (List ℕ)). is_end (behind_marked 46 d o)) (dotted_again c (dotted d ++ []))
     ∙ ap is_end (dotted_again d [])
 
 same_tests : (p q : Bool) → (p ≡ true → q ≡ true) → (q ≡ true → p ≡ true) → p ≡ q
@@ -106,3 +119,10 @@ address_is addr text =
     same_tests (is_address addr text) (bytes_eq text (address_text addr))
     (λ e. (bytes_eq-Decides text (address_text addr)).1 (address_found addr text e))
     (λ e. ap (is_address addr) ((bytes_eq-Decides text (address_text addr)).0 e) ∙ address_again addr)
+
+-- ---- an address, a colon and a port
+
+pub sent_by_found : (addr text : List ℕ) (port : ℕ) (rest : List ℕ) → behind_marked 58 port (behind_address addr text) ≡ Some rest → text ≡ address_text addr ++ (58 ∷ (decimal port ++ rest))
+sent_by_found addr text port rest e =
+    let last = marked_found 58 port (behind_address addr text) rest e in
+    address_front addr text last.whole last.there ∙ ap (λ (x : List ℕ). address_text addr ++ x) last.joins

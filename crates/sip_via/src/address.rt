@@ -1,11 +1,11 @@
 //! Numbers and IPv4 addresses as text.
 
-ghost use Rattle.std.specs.Prelude.{◌≡◌, ◌++◌, OnOk};
+ghost use Rattle.std.specs.Prelude.{◌≡◌, ◌++◌, ◌∷◌, IfSome, OnOk};
 ghost use Rattle.std.specs.Fmt.{decimal};
 ghost use Rattle.std.specs.Option.{option_copied};
 ghost use Rattle.std.specs.Str.{bytes_eq};
 ghost use Rattle.sip_via.specs.Address.{address_text, dotted};
-ghost use Rattle.sip_via.specs.Fronts.{behind_dotted, behind_number, is_end};
+ghost use Rattle.sip_via.specs.Fronts.{behind_address, behind_marked, behind_number, is_end};
 
 use itoa::Buffer;
 use std::alloc::{AllocError, Allocator};
@@ -39,18 +39,18 @@ pub(crate) fn append_address<B: Allocator>(
 }
 
 /// What stands behind a number in decimal.
-fn behind_number(text: &[u8], n: u8) -> Option<&[u8]>
+fn behind_number(text: &[u8], n: u16) -> Option<&[u8]>
     ensures { option_copied result ≡ behind_number n text.now }
 {
     text.strip_prefix(Buffer::new().format(n).as_bytes())
 }
 
-/// What stands behind a dot and a number.
-fn behind_dotted(text: Option<&[u8]>, n: u8) -> Option<&[u8]>
-    ensures { option_copied result ≡ behind_dotted n (option_copied text.entry) }
+/// What stands behind a mark and a number.
+fn behind_marked(text: Option<&[u8]>, mark: u8, n: u16) -> Option<&[u8]>
+    ensures { option_copied result ≡ behind_marked mark n (option_copied text.entry) }
 {
     match text? {
-        [b'.', rest @ ..] => behind_number(rest, n),
+        [first, rest @ ..] if *first == mark => behind_number(rest, n),
         _ => None,
     }
 }
@@ -65,13 +65,27 @@ fn is_end(rest: Option<&[u8]>) -> bool
     }
 }
 
+/// What stands behind an address in dotted decimal.
+fn behind_address(text: &[u8], addr: [u8; 4]) -> Option<&[u8]>
+    ensures { option_copied result ≡ behind_address addr text.now }
+{
+    let rest = behind_number(text, u16::from(addr[0]));
+    let rest = behind_marked(rest, b'.', u16::from(addr[1]));
+    let rest = behind_marked(rest, b'.', u16::from(addr[2]));
+    behind_marked(rest, b'.', u16::from(addr[3]))
+}
+
 /// Whether a text is that address in dotted decimal.
 pub(crate) fn is_address(text: &[u8], addr: [u8; 4]) -> bool
     ensures { result ≡ bytes_eq text.now (address_text addr) }
 {
-    let rest = behind_number(text, addr[0]);
-    let rest = behind_dotted(rest, addr[1]);
-    let rest = behind_dotted(rest, addr[2]);
-    let rest = behind_dotted(rest, addr[3]);
-    is_end(rest)
+    is_end(behind_address(text, addr))
+}
+
+/// What stands behind an address, a colon and a port.
+pub(crate) fn behind_sent_by(text: &[u8], addr: [u8; 4], port: u16) -> Option<&[u8]>
+    ensures { IfSome result
+        (λ rest. text.now ≡ address_text addr ++ (58 ∷ (decimal port ++ rest.now))) }
+{
+    behind_marked(behind_address(text, addr), b':', port)
 }

@@ -74,7 +74,7 @@ fn is_port_if_any(port: Option<&[u8]>) -> bool
 
 /// Whether the parts are those of a Via value.
 #[tactic(auto, unfolding(crate::specs::ViaParts::are_parts))]
-fn are_parts(cut: &Cut<'_>) -> bool
+pub(crate) fn are_parts(cut: &Cut<'_>) -> bool
     ensures { result ≡ are_parts (seen_parts cut.now) }
 {
     cut.protocol.eq_ignore_ascii_case(b"sip")
@@ -86,7 +86,7 @@ fn are_parts(cut: &Cut<'_>) -> bool
 }
 
 /// Whether no space stands at the ends of a text.
-fn is_trimmed(text: &[u8]) -> bool
+pub(crate) fn is_trimmed(text: &[u8]) -> bool
     ensures { result ≡ is_trimmed text.now }
 {
     trim(text).len() == text.len()

@@ -12,10 +12,11 @@ ghost use Rattle.sip_via.specs.SeenParts.{seen_parts};
 ghost use Rattle.sip_via.specs.TopVia.{top_value};
 ghost use Rattle.sip_via.specs.ViaParts.{branch_of, port_if_any, via_of_parts};
 
-use crate::address::is_address;
+use crate::address::{behind_sent_by, is_address};
 use crate::branch::{BranchName, read_branch};
-use crate::cut::{Cut, cut_via, port_if_any};
+use crate::cut::{Cut, are_parts, cut_value, is_trimmed, port_if_any};
 use crate::own::Own;
+use crate::own_value::is_own_address;
 use crate::params::first_named;
 use crate::received::DEFAULT_PORT;
 use crate::values::top_via;
@@ -56,6 +57,39 @@ fn own_branch_in(cut: &Cut<'_>, own: Own) -> Option<BranchName>
     branch_in(cut)
 }
 
+/// The branch of a Via value in the spelling that the proxy gives its own, with no parameter behind it. A proxy
+/// at port 0 has none, since no Via value names that port.
+fn plain_own_branch(value: &[u8], own: Own) -> Option<BranchName>
+    ensures found { IfSome result (λ b. IsOwnBranch own value.now b) }
+    ensures bounded { IfSome result (λ b. IsBranch b) }
+{
+    if own.port == 0 {
+        return None;
+    }
+    is_own_address(own);
+    let sent_by = value.strip_prefix(b"SIP/2.0/UDP ")?;
+    let rest = behind_sent_by(sent_by, own.addr, own.port)?;
+    let name = read_branch(rest.strip_prefix(b";branch=")?)?;
+    is_branch(name);
+    Some(name)
+}
+
+/// The branch of a Via value in any spelling. The host is asked first, and the grammar last, since most values
+/// name another host.
+fn spelled_own_branch(value: &[u8], own: Own) -> Option<BranchName>
+    ensures found { IfSome result (λ b. IsOwnBranch own value.now b) }
+    ensures bounded { IfSome result (λ b. IsBranch b) }
+    ensures only { (b : BranchName) → IsBranch b → IsOwnBranch own value.now b → result ≡ Some b }
+{
+    let cut = cut_value(value);
+    let name = own_branch_in(&cut, own)?;
+    if !is_trimmed(value) || !are_parts(&cut) {
+        return None;
+    }
+    is_branch(name);
+    Some(name)
+}
+
 /// The branch of a Via value that this proxy put: its host is the proxy's address, its port the proxy's
 /// (5060 where it names none), its branch one of the proxy's own (RFC 3261 sections 16.3 step 4 and 16.6
 /// step 8). `None` for any other text.
@@ -65,10 +99,10 @@ pub fn own_branch_of(value: &[u8], own: Own) -> Option<BranchName>
     ensures only { (b : BranchName) → IsBranch b → IsOwnBranch own value.now b → result ≡ Some b }
     ensures none { IfNone result ((b : BranchName) → IsBranch b → IsOwnBranch own value.now b → ⊥) }
 {
-    let cut = cut_via(value)?;
-    let name = own_branch_in(&cut, own)?;
-    is_branch(name);
-    Some(name)
+    if let Some(name) = plain_own_branch(value, own) {
+        return Some(name);
+    }
+    spelled_own_branch(value, own)
 }
 
 /// The branch of the top Via value, where this proxy put it: a response comes home by it (RFC 3261

@@ -10,7 +10,7 @@ use crate::own::Own;
 use std::alloc::{AllocError, Allocator};
 
 /// Shows that the numbers of the own address are bounded.
-fn is_own_address(own: Own)
+pub(crate) fn is_own_address(own: Own)
     ensures { IsOwn own }
 {}
 
