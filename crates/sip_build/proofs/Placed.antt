@@ -1,5 +1,6 @@
 -- Bytes that were written at a place, piece by piece.
-use Rattle.std.proofs.Common.{◌≡◌, ◌∙◌, ℕ, ◌+◌, ◌<◌, ◌≤◌, List, length, take, get_or, map, ap, arith, subst}
+use Rattle.std.proofs.Common.{◌≡◌, ◌∙◌, ℕ, ◌+◌, ◌<◌, ◌≤◌, List, ◌++◌, length, take, get_or, map, ap, append_assoc, arith, subst}
+use Rattle.std.proofs.lemmas.List.{length-append}
 use Rattle.std.specs.List.{flat_map}
 use Rattle.std.proofs.lemmas.List.Folds.{flat_map-map, length-flat_map-take}
 use Rattle.sip_build.specs.Placed.{Placed}
@@ -7,6 +8,14 @@ use Rattle.sip_build.specs.Placed.{Placed}
 -- under another name of the text
 pub placed-as : (old new : List ℕ) (at end : ℕ) (a b : List ℕ) → Placed old new at a end → a ≡ b → Placed old new at b end
 placed-as old new at end a b placed e = subst (λ (x : List ℕ). Placed old new at x end) e placed
+
+-- a text behind another one
+pub placed-then : (old mid new : List ℕ) (at next end : ℕ) (a b : List ℕ) → Placed old mid at a next → Placed mid new next b end → Placed old new at (a ++ b) end
+placed-then old mid new at next end a b first second = record {
+  bytes = second.bytes ∙ ap (λ (x : List ℕ). x ++ b) first.bytes ∙ append_assoc (take at old) a b;
+  moved = omega (arith, first.moved, second.moved, length-append a b);
+  len = second.len ∙ first.len;
+}
 
 -- the text of the next part fits behind those before it
 pub fits-next : {X : Type 0} (text : X → List ℕ) (old mid : List ℕ) (xs : List X) (i at next : ℕ) (d : X) → i < length xs → Placed old mid at (flat_map text (take i xs)) next → at + length (flat_map text xs) ≤ length old → next + length (text (get_or xs i d)) ≤ length mid

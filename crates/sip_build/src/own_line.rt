@@ -1,49 +1,61 @@
 //! The proxy's own Via line.
 
-ghost use Rattle.std.specs.Prelude.{◌≡◌, ◌+◌, ◌++◌, ◌≤◌, codes, length, IsOk, OnOk, take, vec_capacity, vec_len};
+ghost use Rattle.std.specs.Prelude.{◌≡◌, ◌∷◌, ◌+◌, ◌++◌, ◌≤◌, codes, length, IsOk, OnOk, take, vec_capacity, vec_len};
 ghost use Rattle.std.specs.Fmt.{decimal};
 ghost use Rattle.sip_text.specs.Text.{header_text};
 ghost use Rattle.sip_via.specs.Address.{address_text, dotted};
 ghost use Rattle.sip_via.specs.Edits.{line};
 ghost use Rattle.sip_via.specs.OwnVia.{own_via};
+ghost use Rattle.sip_build.specs.Placed.{Placed};
 
+use crate::place::place;
 use itoa::Buffer;
 use sip_via::{BranchName, Own, write_branch};
 use std::alloc::{AllocError, Allocator};
 
-/// Appends a number in decimal.
-fn append_number<B: Allocator>(out: &mut Vec<u8, B>, n: u32) -> Result<(), AllocError>
-    ensures ok { OnOk result (out.new.items ≡ out.old.items ++ decimal n) }
-    ensures begins { take (vec_len out.old) out.new.items ≡ out.old.items }
-    ensures room { vec_len out.old + length (decimal n) ≤ vec_capacity out.old → IsOk result }
-    ensures capacity { vec_capacity out.old ≤ vec_capacity out.new }
+/// Writes a number in decimal from that place on, which is ten digits at most.
+fn place_number(out: &mut [u8], at: usize, n: u32) -> usize
+    requires { at + 10 ≤ length out.old }
+    ensures placed { Placed out.old out.new at (decimal n) result }
+    ensures short { result ≤ at + 10 }
 {
-    out.extend_from_slice(Buffer::new().format(n).as_bytes())
+    place(out, at, Buffer::new().format(n).as_bytes())
 }
 
-/// Appends a number behind a dot.
-fn append_dotted<B: Allocator>(out: &mut Vec<u8, B>, n: u8) -> Result<(), AllocError>
-    ensures ok { OnOk result (out.new.items ≡ out.old.items ++ dotted n) }
-    ensures begins { take (vec_len out.old) out.new.items ≡ out.old.items }
-    ensures room { vec_len out.old + length (dotted n) ≤ vec_capacity out.old → IsOk result }
-    ensures capacity { vec_capacity out.old ≤ vec_capacity out.new }
+/// Writes a number behind a dot from that place on.
+fn place_dotted(out: &mut [u8], at: usize, n: u8) -> usize
+    requires { at + 11 ≤ length out.old }
+    ensures placed { Placed out.old out.new at (dotted n) result }
+    ensures short { result ≤ at + 11 }
 {
-    out.push(b'.')?;
-    append_number(out, u32::from(n))
+    let at = place(out, at, b".");
+    place_number(out, at, u32::from(n))
 }
 
-/// Appends an address in dotted decimal.
-fn append_address<B: Allocator>(out: &mut Vec<u8, B>, addr: [u8; 4]) -> Result<(), AllocError>
-    ensures ok { OnOk result (out.new.items ≡ out.old.items ++ address_text addr) }
-    ensures begins { take (vec_len out.old) out.new.items ≡ out.old.items }
-    ensures room { vec_len out.old + length (address_text addr) ≤ vec_capacity out.old → IsOk result }
-    ensures capacity { vec_capacity out.old ≤ vec_capacity out.new }
+/// Writes an address in dotted decimal from that place on.
+fn place_address(out: &mut [u8], at: usize, addr: [u8; 4]) -> usize
+    requires { at + 43 ≤ length out.old }
+    ensures placed { Placed out.old out.new at (address_text addr) result }
+    ensures short { result ≤ at + 43 }
 {
-    append_number(out, u32::from(addr[0]))?;
-    append_dotted(out, addr[1])?;
-    append_dotted(out, addr[2])?;
-    append_dotted(out, addr[3])?;
-    Ok(())
+    let at = place_number(out, at, u32::from(addr[0]));
+    let at = place_dotted(out, at, addr[1]);
+    let at = place_dotted(out, at, addr[2]);
+    place_dotted(out, at, addr[3])
+}
+
+/// Writes the line up to the branch to the front of `out`.
+fn place_front(out: &mut [u8], own: Own) -> usize
+    requires { 79 ≤ length out.old }
+    ensures text { take result out.new
+        ≡ codes "Via: SIP/2.0/UDP " ++ (address_text own.addr ++ (58 ∷ (decimal own.port ++ codes ";branch="))) }
+    ensures within { result ≤ length out.new }
+{
+    let at = place(out, 0, b"Via: SIP/2.0/UDP ");
+    let at = place_address(out, at, own.addr);
+    let at = place(out, at, b":");
+    let at = place_number(out, at, u32::from(own.port));
+    place(out, at, b";branch=")
 }
 
 /// Appends the proxy's own Via line, or a part of it.
@@ -59,11 +71,9 @@ pub(crate) fn append_own_via<B: Allocator>(
         → IsOk result }
     ensures capacity { vec_capacity out.old ≤ vec_capacity out.new }
 {
-    out.extend_from_slice(b"Via: SIP/2.0/UDP ")?;
-    append_address(out, own.addr)?;
-    out.push(b':')?;
-    append_number(out, u32::from(own.port))?;
-    out.extend_from_slice(b";branch=")?;
+    let mut front = [0; 79];
+    let end = place_front(&mut front, own);
+    out.extend_from_slice(&front[..end])?;
     write_branch(branch, out)?;
     out.extend_from_slice(b"\r\n")?;
     Ok(())

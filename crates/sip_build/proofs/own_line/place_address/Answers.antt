@@ -1,0 +1,10 @@
+use Rattle.std.proofs.Common.{ap}
+use Rattle.std.specs.Fmt.{decimal}
+use Rattle.sip_build.proofs.Placed.{placed-as, placed-then}
+use Rattle.sip_build.proofs.own_line.place_address.Goals as goal
+
+pub returns-clause-placed : goal.returns-clause-placed
+returns-clause-placed c =
+    placed-then _ _ _ _ _ _ _ _ (placed-as _ _ _ _ _ _ c.place_number-at.ensures.placed (ap decimal c.from.ensures))
+    (placed-then _ _ _ _ _ _ _ _ c.place_dotted-at.ensures.placed
+    (placed-then _ _ _ _ _ _ _ _ c.place_dotted-at-2.ensures.placed c.place_dotted.ensures.placed))
