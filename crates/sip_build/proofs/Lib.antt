@@ -16,6 +16,5 @@ pub mod UpwardTexts
 pub mod ViaPieces
 pub mod ViasUpward
 pub mod ViasForwarded
-pub mod OwnViaRead
 pub mod Placed
 pub mod FirstHops

@@ -1,4 +1,4 @@
-use Rattle.sip_build.proofs.OwnViaRead.{own-read}
+use Rattle.sip_via.proofs.laws.PlainVia.{own-read}
 use Rattle.sip_build.proofs.laws.own_via_is_read.Goals as goal
 
 pub returns : goal.returns
