@@ -12,5 +12,6 @@ pub mod Readings
 pub mod Requested
 pub mod Requests
 pub mod Sorted
+pub mod Tails
 pub mod Values
 pub mod Written

@@ -75,18 +75,18 @@ host_len-host host tail (inr r) ends =
 
 -- ---- the tail is cut into port, parameters and headers
 
-digits_lack : (mark : ℕ) (port : List ℕ) → is_ascii_digit mark ≡ false → IsPort port → Lacks mark port
+pub digits_lack : (mark : ℕ) (port : List ℕ) → is_ascii_digit mark ≡ false → IsPort port → Lacks mark port
 digits_lack mark port fails p = Lacks-pass is_ascii_digit mark port fails (and_parts (ltb 0 (length port)) (list_all is_ascii_digit port) p.digits).1
 
 port_lacks : (port : Option (List ℕ)) → IfSome port IsPort → Lacks 63 (behind 58 port)
 port_lacks None h = tt
 port_lacks (Some digits) h = (eqb-false 58 63 refl, digits_lack 63 digits refl h)
 
-params_lack : (params : List (List ℕ)) → AllByRecursion IsParam params → Lacks 63 (params_text params)
+pub params_lack : (params : List (List ℕ)) → AllByRecursion IsParam params → Lacks 63 (params_text params)
 params_lack [] h = tt
 params_lack (p ∷ ps) h = (eqb-false 59 63 refl, Lacks-append 63 p (params_text ps) h.0.no_question (params_lack ps h.1))
 
-each_lacks : (params : List (List ℕ)) → AllByRecursion IsParam params → AllByRecursion (Lacks 59) params
+pub each_lacks : (params : List (List ℕ)) → AllByRecursion IsParam params → AllByRecursion (Lacks 59) params
 each_lacks [] h = tt
 each_lacks (p ∷ ps) h = (h.0.no_semicolon, each_lacks ps h.1)
 

@@ -11,5 +11,6 @@ pub mod Progress
 pub mod Reading
 pub mod Seen
 pub mod SeenContact
+pub mod Tail
 pub mod Uri
 pub mod Values

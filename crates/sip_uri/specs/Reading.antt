@@ -1,14 +1,14 @@
 -- Cutting a text into the parts of a URI, and its first fault.
-use Rattle.std.specs.Prelude.{ℕ, Bool, true, false, ◌&&◌, not, List, [], ◌∷◌, ◌++◌, length, take, drop, Option, Some, None, Result, Ok, Err, nat_lt, ◌==◌, if◌then◌else◌, codes}
+use Rattle.std.specs.Prelude.{ℕ, Bool, true, false, ◌&&◌, not, List, [], ◌∷◌, length, take, drop, Option, Some, None, Result, Ok, Err, nat_lt, ◌==◌, if◌then◌else◌, codes}
 use Rattle.std.specs.List.{list_all}
 use Rattle.std.specs.Str.{bytes_eq, str_to_ascii_lowercase}
 use Rattle.sip_uri.specs.declared.fault.UriFault.{UriFault}
 use Rattle.sip_uri.specs.declared.fault.UriFault.TheVariants.{NotSip, BadHost, BadPort, BadText}
-use Rattle.sip_lex.specs.Cut.{behind, cut, is}
+use Rattle.sip_lex.specs.Cut.{cut, is}
 use Rattle.sip_lex.specs.Pieces.{pieces_behind}
 use Rattle.sip_uri.specs.Grammar.{is_uri_byte}
 use Rattle.sip_uri.specs.Host.{host_len, is_host, is_port}
-use Rattle.sip_uri.specs.Uri.{Uri, params_text, user_text, without_methods}
+use Rattle.sip_uri.specs.Uri.{Uri}
 
 -- ---- the parts of any text behind its scheme
 
@@ -78,8 +78,3 @@ read_uri text =
     if not (is_sip text) then Err NotSip
     else (if not (list_all is_uri_byte text) then Err BadText
     else or_fault (fault_of (parts_of (drop 4 text))) (uri_of text))
-
--- ---- the parts as a request writes them
-
-abbrev pub parts_request : List ℕ → Parts → List ℕ
-parts_request scheme p = scheme ++ (user_text p.user ++ (p.host ++ (behind 58 p.port ++ params_text (without_methods (pieces_behind 59 p.params)))))

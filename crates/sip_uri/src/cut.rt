@@ -34,7 +34,7 @@ fn port_and_params(tail: &[u8]) -> (Option<&[u8]>, Option<&[u8]>)
 }
 
 /// The user, and what stands behind it.
-fn user_and_rest(body: &[u8]) -> (Option<&[u8]>, &[u8])
+pub(crate) fn user_and_rest(body: &[u8]) -> (Option<&[u8]>, &[u8])
     ensures user { option_copied result.0 ≡ (user_of (cut (is 64) body.now)).0 }
     ensures rest { result.1.now ≡ (user_of (cut (is 64) body.now)).1 }
 {

@@ -129,7 +129,7 @@ impl<A: Allocator + Clone> SipUri<A> {
             → IsOk result }
         ensures capacity { vec_capacity out.old ≤ vec_capacity out.new }
     {
-        append_request_uri(out, &self.text[..4], &cut_body(&self.text[4..]))
+        append_request_uri(out, &self.text)
     }
 
     /// The URI as it stands in a request: without `method` parameters and headers (RFC 3261 section

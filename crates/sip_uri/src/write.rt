@@ -2,13 +2,13 @@
 
 ghost use Rattle.std.specs.Prelude.{◌≡◌, ◌+◌, ◌≤◌, [], ◌∷◌, ◌++◌, IsOk, OnOk, OnErr, length, take, vec_capacity, vec_len};
 ghost use Rattle.std.specs.Option.{option_copied};
-ghost use Rattle.sip_lex.specs.Cut.{behind};
 ghost use Rattle.sip_lex.specs.Pieces.{pieces_behind};
-ghost use Rattle.sip_uri.specs.Reading.{parts_request};
-ghost use Rattle.sip_uri.specs.Seen.{parts};
-ghost use Rattle.sip_uri.specs.Uri.{params_text, user_text, without_methods};
+ghost use Rattle.sip_uri.specs.Grammar.{IsUri};
+ghost use Rattle.sip_uri.specs.Reading.{uri_of};
+ghost use Rattle.sip_uri.specs.Tail.{front_len, params_in, tail_of};
+ghost use Rattle.sip_uri.specs.Uri.{params_text, request_uri, user_text, without_methods};
 
-use crate::cut::Cut;
+use crate::cut::user_and_rest;
 use crate::key::is_method;
 use sip_lex::cut_at;
 use std::alloc::{AllocError, Allocator};
@@ -27,21 +27,6 @@ pub(crate) fn append_user<B: Allocator>(
     if let Some(user) = user {
         out.extend_from_slice(user)?;
         out.push(b'@')?;
-    }
-    Ok(())
-}
-
-fn append_port<B: Allocator>(out: &mut Vec<u8, B>, port: Option<&[u8]>) -> Result<(), AllocError>
-    ensures ok { OnOk result
-        (out.new.items ≡ out.old.items ++ behind 58 (option_copied port.entry)) }
-    ensures begins { take (vec_len out.old) out.new.items ≡ out.old.items }
-    ensures room { vec_len out.old + length (behind 58 (option_copied port.entry)) ≤ vec_capacity out.old
-        → IsOk result }
-    ensures capacity { vec_capacity out.old ≤ vec_capacity out.new }
-{
-    if let Some(digits) = port {
-        out.push(b':')?;
-        out.extend_from_slice(digits)?;
     }
     Ok(())
 }
@@ -86,41 +71,88 @@ fn append_params<B: Allocator>(
     Ok(())
 }
 
+/// How many bytes stand before the first `;` or `?`.
+fn front_len(text: &[u8]) -> usize
+    ensures value { result ≡ front_len text.now }
+    ensures within { result ≤ length text.now }
+{
+    for (i, byte) in text.iter().enumerate() {
+        if *byte == b';' || *byte == b'?' {
+            return i;
+        }
+    }
+    text.len()
+}
+
+/// The parameters and headers of a URI, as they stand behind its host and port.
+fn tail_of(text: &[u8]) -> &[u8]
+    requires { 4 ≤ length text.now }
+    ensures value { result.now ≡ tail_of text.now }
+    ensures within { length result.now ≤ length text.now }
+{
+    let (_, rest) = user_and_rest(&text[4..]);
+    &rest[front_len(rest)..]
+}
+
+/// The parameters at the front of such a text.
+fn params_in(tail: &[u8]) -> Option<&[u8]>
+    ensures { option_copied result ≡ params_in tail.now }
+{
+    match cut_at(tail, b'?').0 {
+        [] => None,
+        [_, params @ ..] => Some(params),
+    }
+}
+
+/// What stands before the parameters of a URI, and its parameters.
+fn cut_params(text: &[u8]) -> (&[u8], Option<&[u8]>)
+    requires long { 4 ≤ length text.now }
+    requires uri { IsUri (uri_of text.now) }
+    ensures { request_uri (uri_of text.now)
+        ≡ result.0.now ++ params_text (without_methods (pieces_behind 59 (option_copied result.1))) }
+{
+    let tail = tail_of(text);
+    let head = &text[..text.len() - tail.len()];
+    (head, params_in(tail))
+}
+
 fn append_parts<B: Allocator>(
     out: &mut Vec<u8, B>,
-    scheme: &[u8],
-    cut: &Cut<'_>,
+    head: &[u8],
+    params: Option<&[u8]>,
 ) -> Result<(), AllocError>
     ensures ok { OnOk result
-        (out.new.items ≡ out.old.items ++ parts_request scheme.now (parts cut.now)) }
+        (out.new.items
+        ≡ out.old.items
+        ++ (head.now ++ params_text (without_methods (pieces_behind 59 (option_copied params.entry))))) }
     ensures begins { take (vec_len out.old) out.new.items ≡ out.old.items }
-    ensures room { vec_len out.old + length (parts_request scheme.now (parts cut.now)) ≤ vec_capacity out.old
+    ensures room { vec_len out.old
+        + length (head.now ++ params_text (without_methods (pieces_behind 59 (option_copied params.entry))))
+        ≤ vec_capacity out.old
         → IsOk result }
     ensures capacity { vec_capacity out.old ≤ vec_capacity out.new }
 {
-    out.extend_from_slice(scheme)?;
-    append_user(out, cut.user)?;
-    out.extend_from_slice(cut.host)?;
-    append_port(out, cut.port)?;
-    append_params(out, cut.params)?;
+    out.extend_from_slice(head)?;
+    append_params(out, params)?;
     Ok(())
 }
 
-/// Appends a URI of these parts without `method` parameters and headers, or nothing.
+/// Appends a URI without `method` parameters and headers, or nothing.
 pub(crate) fn append_request_uri<B: Allocator>(
     out: &mut Vec<u8, B>,
-    scheme: &[u8],
-    cut: &Cut<'_>,
+    text: &[u8],
 ) -> Result<(), AllocError>
-    ensures ok { OnOk result
-        (out.new.items ≡ out.old.items ++ parts_request scheme.now (parts cut.now)) }
+    requires long { 4 ≤ length text.now }
+    requires uri { IsUri (uri_of text.now) }
+    ensures ok { OnOk result (out.new.items ≡ out.old.items ++ request_uri (uri_of text.now)) }
     ensures err { OnErr result (out.new.items ≡ out.old.items) }
-    ensures room { vec_len out.old + length (parts_request scheme.now (parts cut.now)) ≤ vec_capacity out.old
+    ensures room { vec_len out.old + length (request_uri (uri_of text.now)) ≤ vec_capacity out.old
         → IsOk result }
     ensures capacity { vec_capacity out.old ≤ vec_capacity out.new }
 {
+    let (head, params) = cut_params(text);
     let before = out.len();
-    let done = append_parts(out, scheme, cut);
+    let done = append_parts(out, head, params);
     if done.is_err() {
         out.truncate(before);
     }

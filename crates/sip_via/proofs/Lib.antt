@@ -1,5 +1,6 @@
 pub mod laws
 pub mod BranchLaws
+pub mod BranchPlaced
 pub mod ViaWalk
 pub mod KeyDigits
 pub mod Marked

@@ -1,6 +1,6 @@
 //! The branch parameter of the proxy's own Via.
 
-ghost use Rattle.std.specs.Prelude.{◌≡◌, true, ◌≢◌, ◌+◌, ◌++◌, ◌∷◌, ◌^◌, ◌<◌, ◌≤◌, List, ℕ, Some, IsOk, OnOk, OnErr, IfSome, IfNone, take, length, vec_capacity, vec_len};
+ghost use Rattle.std.specs.Prelude.{◌≡◌, true, ◌≢◌, ◌+◌, ◌++◌, ◌∷◌, ◌^◌, ◌<◌, ◌≤◌, List, ℕ, Some, IsOk, OnOk, OnErr, IfSome, IfNone, drop, length, vec_capacity, vec_len};
 ghost use Rattle.std.specs.Fmt.{decimal};
 ghost use Rattle.std.specs.List.{AllByRecursion, list_all};
 ghost use Rattle.sip_lex.specs.Bytes.{is_token_byte};
@@ -10,7 +10,7 @@ ghost use Rattle.sip_via.specs.BranchText.{IsBranch, branch_text};
 ghost use Rattle.sip_via.specs.HexPair.{hex_text};
 
 use crate::hex_pair::{hex_pair, read_pair};
-use itoa::Buffer;
+use itoa::write_digits;
 use sip_lex::{cut_at, read_plain_number};
 use std::alloc::{AllocError, Allocator};
 
@@ -64,38 +64,44 @@ fn key_digits(key: &[u8]) -> [u8; 32]
     digits
 }
 
-/// Appends a number in decimal.
-fn append_number<A: Allocator>(out: &mut Vec<u8, A>, n: u64) -> Result<(), AllocError>
-    ensures ok { OnOk result (out.new.items ≡ out.old.items ++ decimal n) }
-    ensures begins { take (vec_len out.old) out.new.items ≡ out.old.items }
-    ensures room { vec_len out.old + length (decimal n) ≤ vec_capacity out.old → IsOk result }
-    ensures capacity { vec_capacity out.old ≤ vec_capacity out.new }
+/// The longest branch parameter is no longer than this: the cookie, the digits of the key, and three
+/// numbers of up to twenty digits behind a dot each.
+const MOST: usize = 7 + 32 + 3 * 21;
+
+/// Writes a text so that it ends at `end`, and says where it begins.
+#[inline(always)]
+fn place_text(out: &mut [u8], end: usize, text: &[u8]) -> usize
+    requires { (length text.now ≤ end) × (end ≤ length out.old) }
+    ensures start { result + length text.now ≡ end }
+    ensures text { drop result out.new ≡ text.now ++ drop end out.old }
 {
-    out.extend_from_slice(Buffer::new().format(n).as_bytes())
+    let start = end - text.len();
+    out[start..end].copy_from_slice(text);
+    start
 }
 
-/// Appends a dot and a number in decimal.
-fn append_dotted<A: Allocator>(out: &mut Vec<u8, A>, n: u64) -> Result<(), AllocError>
-    ensures ok { OnOk result (out.new.items ≡ out.old.items ++ 46 ∷ decimal n) }
-    ensures begins { take (vec_len out.old) out.new.items ≡ out.old.items }
-    ensures room { vec_len out.old + length (46 ∷ decimal n) ≤ vec_capacity out.old → IsOk result }
-    ensures capacity { vec_capacity out.old ≤ vec_capacity out.new }
+/// Writes a dot and a number in decimal so that they end at `end`, and says where they begin.
+fn place_dotted(out: &mut [u8], end: usize, n: u64) -> usize
+    requires { (21 ≤ end) × (end ≤ length out.old) }
+    ensures start { (result ≤ end) × (end ≤ result + 21) }
+    ensures text { drop result out.new ≡ 46 ∷ (decimal n ++ drop end out.old) }
 {
-    out.push(b'.')?;
-    append_number(out, n)
+    let start = write_digits(n, out, end) - 1;
+    out[start] = b'.';
+    start
 }
 
-fn append_branch<A: Allocator>(out: &mut Vec<u8, A>, name: &BranchName) -> Result<(), AllocError>
-    ensures ok { OnOk result (out.new.items ≡ out.old.items ++ branch_text name.now) }
-    ensures begins { take (vec_len out.old) out.new.items ≡ out.old.items }
-    ensures room { vec_len out.old + length (branch_text name.now) ≤ vec_capacity out.old → IsOk result }
-    ensures capacity { vec_capacity out.old ≤ vec_capacity out.new }
+/// Writes the text of the branch so that it ends at the end of `out`, and says where it begins.
+fn place_branch(out: &mut [u8], name: &BranchName) -> usize
+    requires { length out.old ≡ 102 }
+    ensures start { result ≤ 102 }
+    ensures text { drop result out.new ≡ branch_text name.now }
 {
-    out.extend_from_slice(b"z9hG4bK")?;
-    out.extend_from_slice(&key_digits(&name.key))?;
-    append_dotted(out, u64::from(name.instance))?;
-    append_dotted(out, name.context)?;
-    append_dotted(out, u64::from(name.target))
+    let start = place_dotted(out, MOST, u64::from(name.target));
+    let start = place_dotted(out, start, name.context);
+    let start = place_dotted(out, start, u64::from(name.instance));
+    let start = place_text(out, start, &key_digits(&name.key));
+    place_text(out, start, b"z9hG4bK")
 }
 
 /// Appends the branch parameter of that name (RFC 3261 section 8.1.1.7): the magic cookie, the key
@@ -112,12 +118,9 @@ pub fn write_branch<A: Allocator>(name: &BranchName, out: &mut Vec<u8, A>) -> Re
     ensures capacity { vec_capacity out.old ≤ vec_capacity out.new }
 {
     name.is_token();
-    let before = out.len();
-    let done = append_branch(out, name);
-    if done.is_err() {
-        out.truncate(before);
-    }
-    done
+    let mut text = [0; MOST];
+    let start = place_branch(&mut text, name);
+    out.extend_from_slice(&text[start..])
 }
 
 /// The key that thirty-two digits spell.

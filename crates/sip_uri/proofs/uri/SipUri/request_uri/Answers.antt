@@ -1,6 +1,7 @@
-use Rattle.std.proofs.Common.{◌≡◌, true, subst}
+use Rattle.std.proofs.Common.{◌≡◌, List, true, sym, subst, ℕ}
 use Rattle.std.specs.List.{list_all}
-use Rattle.sip_uri.specs.Grammar.{is_uri_byte}
+use Rattle.sip_uri.specs.Grammar.{IsUri, is_uri_byte}
+use Rattle.sip_uri.specs.Reading.{uri_of}
 use Rattle.sip_uri.specs.Uri.{Uri, request_uri}
 use Rattle.sip_uri.proofs.Requests.{kept_uri, request_bytes}
 use Rattle.sip_uri.proofs.uri.SipUri.request_uri.Goals as goal
@@ -8,3 +9,8 @@ use Rattle.sip_uri.proofs.uri.SipUri.request_uri.Goals as goal
 pub returns-clause-bytes : goal.returns-clause-bytes
 returns-clause-bytes g c =
     subst (λ (u : Uri). list_all is_uri_byte (request_uri u) ≡ true) c.self.view_is (request_bytes _ (kept_uri c.self.inside.text.items c.self.inside.key.items c.self.invariant))
+
+pub append_request_uri-requires-clause-uri : goal.append_request_uri-requires-clause-uri
+append_request_uri-requires-clause-uri g c =
+    let good = kept_uri c.self.inside.text.items c.self.inside.key.items c.self.invariant in
+    subst (λ (t : List ℕ). IsUri (uri_of t)) (sym c.deref.ensures.value) good
