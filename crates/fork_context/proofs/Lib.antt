@@ -24,6 +24,7 @@ pub mod ForkStart
 pub mod OpeningStarts
 pub mod BelowLists
 pub mod ChallengeSteps
+pub mod FirstRows
 pub mod StepLaws
 pub mod OpeningFork
 pub mod ForkReads

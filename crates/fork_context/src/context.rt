@@ -7,7 +7,7 @@ ghost use Rattle.fork_model.specs.Choice.{IsChoice};
 ghost use Rattle.fork_model.specs.Core.{opening_core, core_next, is_full};
 ghost use Rattle.fork_model.specs.Reply.{IsReply};
 ghost use Rattle.fork_model.specs.Step.{next};
-ghost use Rattle.fork_context.specs.Chosen.{IsChosen, challenges_added};
+ghost use Rattle.fork_context.specs.Chosen.{HasFirst, IsChosen, challenges_added};
 ghost use Rattle.fork_context.specs.EventView.{event_of};
 ghost use Rattle.fork_context.specs.KindView.{kind_of};
 ghost use Rattle.fork_context.specs.Led.{IsLedTo};
@@ -261,6 +261,18 @@ impl<A: Allocator + Clone> Context<A> {
             Some(fork.choice())
         } else {
             None
+        }
+    }
+
+    /// Whether row n has a stored answer, and no stored answer ranks before it: of what has come so far it is the one
+    /// that would go up (RFC 3261 section 16.7 step 6).
+    pub fn is_first(&self, n: u16) -> bool
+        ensures { IsTrue result ↔ HasFirst self.now.table n }
+    {
+        match self.fork.choice() {
+            Choice::Stored(first) => first == n,
+            Choice::Only503(first) => first == n,
+            Choice::NoAnswer408 => false,
         }
     }
 

@@ -1,16 +1,18 @@
 -- What each step leaves of the failures that branches keep.
 use Rattle.std.proofs.Common.{◌≡◌, ◌∙◌, ◌⊎◌, ℕ, zero, suc, ap, refl, sym, subst, inl, inr, true, false, Bool, List, [], ◌∷◌, ◌++◌, map, length, Option, Some, None, slice_get}
-use Rattle.std.specs.Prelude.{cond, is_none, nat_lt, unwrap_or}
+use Rattle.std.specs.Prelude.{◌↔◌, IsTrue, cond, is_none, nat_lt, unwrap_or}
 use Rattle.std.specs.Option.{option_map}
 use Rattle.std.proofs.lemmas.Bool.{and_parts, cond-false, cond-true}
 use Rattle.fork_model.specs.Event as fork
 use Rattle.fork_model.specs.Event.{Event, FinalAnswer}
 use Rattle.fork_model.specs.Reply.{Reply}
 use Rattle.fork_model.specs.Sources.{EventsStoreAnswers, HasStored, IsStoredBy, StoredAnswersCame}
+use Rattle.fork_model.specs.Steps.{BranchesGoOn, RowsKeepTheirNumbers}
 use Rattle.fork_model.specs.Step.{Effect, answers, change_at, closed_state, effect, next, settled, settled_row, with_effect, with_state}
 use Rattle.fork_model.specs.Table as table
 use Rattle.fork_model.specs.Table.{Kind, Row, State, StoredAnswer, Table, is_open, is_row, stored_of}
 use Rattle.fork_model.specs.Waiting.{may_start}
+use Rattle.fork_context.specs.Chosen.{HasFirst}
 use Rattle.fork_book.specs.Log.{Log, Posted, added, event_posted, events_of, table_of}
 use Rattle.sip_text.specs.Text.{MessageText}
 use Rattle.sip_uri.specs.Contact.{ContactText}
@@ -44,6 +46,7 @@ use Rattle.fork_parts.specs.Sound.{IsSound, awaits, invite_awaits, other_awaits}
 use Rattle.fork_parts.specs.Step as step
 use Rattle.fork_parts.specs.Take as to
 use Rattle.fork_parts.specs.Take.{CancelledBy, Responds, Taken, TakesAs, is_passed, leg_after, leg_posted, response_event}
+use Rattle.fork_parts.proofs.FirstStays.{first_before}
 use Rattle.fork_parts.proofs.SoundTables.{table_added}
 
 -- ---- parts
@@ -101,9 +104,10 @@ last_event (q ∷ history) p = last_event history p
 -- ---- without an event
 
 kept_same : (call new : Call) → new.log ≡ call.log → SameAnswers call new → KeepsAnswers call → KeepsAnswers new
-kept_same call new e same kept n stored has came =
+kept_same call new e same kept n stored has came first =
     let H : Log → Type 0 = λ l. HasStored (table_of l) n stored in
-    let old = kept n stored (subst H e has) came in
+    let F : Log → Type 0 = λ l. HasFirst (table_of l) n in
+    let old = kept n stored (subst H e has) came (subst F e first) in
     (old.0, same n ∙ old.1, ap (λ (l : Log). slice_get (events_of l.history) stored.arrival) e ∙ old.2)
 
 kept_as : (call new x : Call) → new ≡ x → x.log ≡ call.log → SameAnswers call x → KeepsAnswers call → KeepsAnswers new
@@ -113,12 +117,12 @@ kept_as call new x e l same kept =
 
 -- ---- with an event
 
-module _ (stores : EventsStoreAnswers) where
-  -- an answer that came and that the event may store was stored before, or is kept now
+module _ (stores : EventsStoreAnswers) (goes_on : BranchesGoOn) (grows : RowsKeepTheirNumbers) where
+  -- an answer that came, is first and that the event may store was stored before, or is kept now
   abbrev pub StoresAs : Call → Event → Call → Type 0
   StoresAs call ev new =
       (n : ℕ) (stored : StoredAnswer) → HasStored (next (table_of call.log) ev (length call.log.history)) n stored → IsStoredBy ev (length call.log.history) n stored
-      → stored.received ≡ true → HasStored (table_of call.log) n stored ⊎ KeepsEvent new n stored.arrival
+      → stored.received ≡ true → HasFirst (table_of new.log) n → HasStored (table_of call.log) n stored ⊎ KeepsEvent new n stored.arrival
 
   posted : (call mid new : Call) (ev : Event) (contacts : List ContactText) (response : Option MessageText) (reply : Reply)
       → mid.log ≡ call.log
@@ -126,18 +130,23 @@ module _ (stores : EventsStoreAnswers) where
       → Posts mid ev contacts response reply new
       → StoresAs call ev new
       → KeepsAnswers call → KeepsAnswers new
-  posted call mid new ev contacts response reply l same posts by kept n stored has came =
+  posted call mid new ev contacts response reply l same posts by kept n stored has came leads =
       let log : new.log ≡ added call.log call_tag ev reply = ap (λ (x : Call). x.log) posts.follows ∙ ap (λ (x : Log). added x call_tag ev reply) l in
       let goes : table_of new.log ≡ next (table_of call.log) ev (length call.log.history) = ap table_of log ∙ table_added call.log call_tag ev reply in
       let T : Table → Type 0 = λ t. HasStored t n stored in
       let now : HasStored (next (table_of call.log) ev (length call.log.history)) n stored = subst T goes has in
-      first now (stores (table_of call.log) ev (length call.log.history) n stored now)
+      by_source now (stores (table_of call.log) ev (length call.log.history) n stored now)
     where
       at_last : HasStored (table_of call.log) n stored ⊎ KeepsEvent new n stored.arrival → KeepsEvent new n stored.arrival
       at_last (inr keeps) = keeps
       at_last (inl old) =
           let log : new.log ≡ added call.log call_tag ev reply = ap (λ (x : Call). x.log) posts.follows ∙ ap (λ (x : Log). added x call_tag ev reply) l in
-          let before = kept n stored old came in
+          let goes : table_of new.log ≡ next (table_of call.log) ev (length call.log.history) = ap table_of log ∙ table_added call.log call_tag ev reply in
+          let F : Table → Type 0 = λ t. HasFirst t n in
+          let led : HasFirst (table_of call.log) n =
+          first_before (table_of call.log) (next (table_of call.log) ev (length call.log.history)) (goes_on (table_of call.log) ev (length call.log.history))
+          (grows (table_of call.log) ev (length call.log.history)).rules n stored old (subst F goes leads) in
+          let before = kept n stored old came led in
           let legs : answer_in (leg_at new n) ≡ answer_in (leg_at mid n) = ap (λ (x : Call). answer_in (leg_at x n)) posts.follows ∙ ap answer_in (leg_more mid.legs _ n) in (
             before.0,
             legs ∙ same n stored old ∙ before.1,
@@ -146,10 +155,10 @@ module _ (stores : EventsStoreAnswers) where
                 ∙ more_there (events_of call.log.history) _ stored.arrival _ before.2,
           )
 
-      first : HasStored (next (table_of call.log) ev (length call.log.history)) n stored → HasStored (table_of call.log) n stored ⊎ IsStoredBy ev (length call.log.history) n stored
+      by_source : HasStored (next (table_of call.log) ev (length call.log.history)) n stored → HasStored (table_of call.log) n stored ⊎ IsStoredBy ev (length call.log.history) n stored
           → KeepsEvent new n stored.arrival
-      first now (inl old) = at_last (inl old)
-      first now (inr is) = at_last (by n stored now is came)
+      by_source now (inl old) = at_last (inl old)
+      by_source now (inr is) = at_last (by n stored now is came leads)
 
   -- an event that is no response stores nothing that came
   assumed : (call mid new : Call) (ev : Event) (contacts : List ContactText) (response : Option MessageText) (reply : Reply)
@@ -157,7 +166,7 @@ module _ (stores : EventsStoreAnswers) where
       → ((at n : ℕ) (stored : StoredAnswer) → IsStoredBy ev at n stored → stored.received ≡ true → ⊥)
       → Posts mid ev contacts response reply new → KeepsAnswers call → KeepsAnswers new
   assumed call mid new ev contacts response reply l same never posts kept =
-      posted call mid new ev contacts response reply l (λ n stored has. same n) posts (λ n stored has is came. absurd (never _ n stored is came)) kept
+      posted call mid new ev contacts response reply l (λ n stored has. same n) posts (λ n stored has is came leads. absurd (never _ n stored is came)) kept
 
   no_timeout : (k at n : ℕ) (stored : StoredAnswer) → IsStoredBy (fork.Timeout k) at n stored → stored.received ≡ true → ⊥
   no_timeout k at n stored by came = let e : false ≡ true = sym by.1.received ∙ came in absurd cc
@@ -328,10 +337,11 @@ module _ (stores : EventsStoreAnswers) where
       up (inl e) = inl (ap suc e)
       up (inr e) = inr e
 
-  module _ (call new : Call) (n : ℕ) (leg : Leg) (way : Way) (now : ℕ) (m : MessageText) (reply : Reply) (sound : IsSound call) (there : leg_at call n ≡ Some leg)
+  module _ (call new : Call) (n : ℕ) (leg : Leg) (way : Way) (now : ℕ) (m : MessageText) (reply : Reply) (first : Bool) (leads : IsTrue first ↔ HasFirst (table_of new.log) n)
+      (sound : IsSound call) (there : leg_at call n ≡ Some leg)
       (passes : is_passed (client_out (response_event (status_of m)) now leg.client).pass ≡ true) (kept : KeepsAnswers call) where
     abbrev posted_part : Leg
-    posted_part = leg_posted (leg_after call n leg way now m) now (status_of m) m
+    posted_part = leg_posted first (leg_after call n leg way now m) now (status_of m) m
 
     abbrev posted_mid : Call
     posted_mid = set_leg call n posted_part
@@ -353,10 +363,11 @@ module _ (stores : EventsStoreAnswers) where
         by (inr e) = ap answer_in e
 
     kept_here : (ev : Event) → Posts posted_mid ev (contacts_by (status_of m) m) (to.going_up (status_of m) m) reply new → nat_lt (status_of m) 300 ≡ false → ev ≡ event_by n (status_of m) m
-        → (k at : ℕ) → k ≡ n → at ≡ length call.log.history → KeepsEvent new k at
-    kept_here ev posts e is k at k_is at_is =
+        → (k at : ℕ) → k ≡ n → at ≡ length call.log.history → HasFirst (table_of new.log) k → KeepsEvent new k at
+    kept_here ev posts e is k at k_is at_is led =
         let log : new.log ≡ added call.log call_tag ev reply = ap (λ (x : Call). x.log) posts.follows in
-        let part_is : posted_part.answer ≡ Some m = cond-false _ _ _ e in
+        let F : ℕ → Type 0 = λ i. HasFirst (table_of new.log) i in
+        let part_is : posted_part.answer ≡ Some m = cond-false _ _ _ e ∙ cond-true _ _ _ (leads.1 (subst F k_is led)) in
         let legs : answer_in (leg_at new n) ≡ Some m =
         ap (λ (x : Call). answer_in (leg_at x n)) posts.follows ∙ ap answer_in (leg_more posted_mid.legs _ n ∙ here_with call.legs n leg posted_part there) ∙ part_is in
         let last : slice_get (events_of new.log.history) (length call.log.history) ≡ Some (event_by n (status_of m) m) =
@@ -372,17 +383,17 @@ module _ (stores : EventsStoreAnswers) where
         at_answer : (b : Bool) → nat_lt (status_of m) 300 ≡ b → fork.Answer n answer_by ≡ event_by n (status_of m) m
             → Posts posted_mid (fork.Answer n answer_by) (contacts_by (status_of m) m) (to.going_up (status_of m) m) reply new
             → StoresAs call (fork.Answer n answer_by) new
-        at_answer true e is posts k stored has now came =
+        at_answer true e is posts k stored has now came led =
             let H : ℕ → Type 0 = λ i. HasStored (next (table_of call.log) (fork.Answer n answer_by) (length call.log.history)) i stored in
             let B : ℕ → Type 0 = λ i. HasStored (table_of call.log) i stored in
             inl (subst B (sym now.0) (accepted (table_of call.log) n (length call.log.history) answer_by stored e (subst H now.0 has)))
-        at_answer false e is posts k stored has now came = inr (kept_here (fork.Answer n answer_by) posts e is k stored.arrival now.0 now.1.arrival)
+        at_answer false e is posts k stored has now came led = inr (kept_here (fork.Answer n answer_by) posts e is k stored.arrival now.0 now.1.arrival led)
 
         by : (b : Bool) → nat_lt (status_of m) 200 ≡ b → KeepsAnswers new
         by true e =
             let is : event_by n (status_of m) m ≡ fork.Ring n (status_of m) = cond-true _ _ _ e in
             let P : Event → Type 0 = λ v. Posts posted_mid v (contacts_by (status_of m) m) (to.going_up (status_of m) m) reply new in
-            posted call posted_mid new (fork.Ring n (status_of m)) _ _ reply refl same_stored (subst P is posts) (λ k stored has now came. absurd now) kept
+            posted call posted_mid new (fork.Ring n (status_of m)) _ _ reply refl same_stored (subst P is posts) (λ k stored has now came led. absurd now) kept
         by false e =
             let is : event_by n (status_of m) m ≡ fork.Answer n answer_by = cond-false _ _ _ e in
             let P : Event → Type 0 = λ v. Posts posted_mid v (contacts_by (status_of m) m) (to.going_up (status_of m) m) reply new in
@@ -392,7 +403,7 @@ module _ (stores : EventsStoreAnswers) where
   responded : (call : Call) (n : ℕ) (leg : Leg) (way : Way) (now : ℕ) (m : MessageText) (t : Taken) (new : Call) → IsSound call → leg_at call n ≡ Some leg
       → Responds call n leg way now m t new → KeepsAnswers call → KeepsAnswers new
   responded call n leg way now m to.Absorbed new sound there (p, e) kept = kept_as call new _ e refl (same_leg call n leg _ there refl) kept
-  responded call n leg way now m (to.Posted at) new sound there (p, reply, placed, posts) kept = keeps_posted call new n leg way now m reply sound there p kept posts
+  responded call n leg way now m (to.Posted at) new sound there (p, reply, placed, first, leads, posts) kept = keeps_posted call new n leg way now m reply first leads sound there p kept posts
   responded call n leg way now m to.Full new sound there (p, f, e) kept = kept_as call new call e refl (λ k. refl) kept
 
   -- ---- a message
@@ -459,6 +470,6 @@ module _ (stores : EventsStoreAnswers) where
 -- ---- before anything was posted
 
 pub begun_keeps : StoredAnswersCame → BegunKeepsAnswers
-begun_keeps came fixed rules targets ways n stored has received =
+begun_keeps came fixed rules targets ways n stored has received first =
     let event = came (kind_of fixed) rules targets [] n stored has in
     absurd (let h : None ≡ Some event.0 = event.1 in cc)

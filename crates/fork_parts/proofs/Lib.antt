@@ -16,6 +16,7 @@ pub mod KeptBuilt
 pub mod StepsBuilt
 pub mod Repeated
 pub mod Behind
+pub mod FirstStays
 pub mod StateRows
 pub mod Paying
 pub mod Deeds

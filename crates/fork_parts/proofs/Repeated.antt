@@ -132,7 +132,7 @@ pumped call now Did new (deed, is, h) = done call now deed Did new h
 
 responded : (call : Call) (n : ℕ) (leg : Leg) (way : Way) (now : ℕ) (m : MessageText) (t : Taken) (new : Call) → Responds call n leg way now m t new → Keeps call new (step.Took t)
 responded call n leg way now m to.Absorbed new (p, e) = keeps call new _ e (step.Took to.Absorbed) refl refl refl
-responded call n leg way now m (to.Posted at) new (p, reply, placed, posts) = posted call _ new _ _ _ reply (step.Took (to.Posted at)) refl refl refl posts
+responded call n leg way now m (to.Posted at) new (p, reply, placed, first, leads, posts) = posted call _ new _ _ _ reply (step.Took (to.Posted at)) refl refl refl posts
 responded call n leg way now m to.Full new (p, f, e) = keeps call new call e (step.Took to.Full) refl refl refl
 
 cancelled : (call new : Call) (cancel : MessageText) (hop : Hop) (t : Taken) → CancelledBy call cancel hop t new → Keeps call new (step.Took t)

@@ -1,5 +1,5 @@
 use Rattle.std.proofs.Common.{◌≡◌, ◌∙◌, ℕ, ap, refl, sym, subst, true, false, Bool, List, Option, Some, None, slice_get}
-use Rattle.std.specs.Prelude.{nat_lt, cond}
+use Rattle.std.specs.Prelude.{◌↔◌, IsTrue, nat_lt, cond}
 use Rattle.fork_model.specs.Event.{Event}
 use Rattle.sip_text.specs.Text.{MessageText, spelling}
 use Rattle.sip_txn.specs.declared.event.TxOut.{TxOut}
@@ -10,9 +10,10 @@ use Rattle.fork_parts.specs.Client.{Client, client_after, client_out}
 use Rattle.fork_parts.specs.Leg.{Leg}
 use Rattle.fork_parts.specs.Call.{Call, leg_at, set_leg, with_leg}
 use Rattle.fork_parts.specs.Built.{ack_to, status_of}
-use Rattle.fork_parts.specs.LegInside.{responded, kept, changed_leg, ack_made, answer_if}
+use Rattle.fork_parts.specs.LegInside.{responded, kept, changed_leg, ack_made, answer_if, kept_if}
 use Rattle.fork_model.specs.Core.{is_full}
-use Rattle.fork_book.specs.Log.{core_of}
+use Rattle.fork_context.specs.Chosen.{HasFirst}
+use Rattle.fork_book.specs.Log.{core_of, table_of}
 use Rattle.fork_parts.specs.NewWays.{PostsSaid}
 use Rattle.fork_parts.specs.Response.{contacts_by, event_by}
 use Rattle.fork_parts.specs.Posting.{Posts}
@@ -52,44 +53,51 @@ module _ (call : Call) (n now status : ℕ) (m : MessageText) (leg : Leg) (way :
 
   -- ---- a response that is posted
 
-  abbrev pub leg_last : Leg
-  leg_last = leg_posted (leg_after call n leg way now m) now (status_of m) m
+  abbrev pub leg_last : (first : Bool) → Leg
+  leg_last first = leg_posted first (leg_after call n leg way now m) now (status_of m) m
 
-  kept_by : (b : Bool) (at : Option ℕ) (l : Leg) → kept at (cond {A = Option MessageText} b None (Some m)) l ≡ record l { timer_c_at = at; answer = cond {A = Option MessageText} b l.answer (Some m) }
-  kept_by true at l = refl
-  kept_by false at l = refl
+  kept_by : (b first : Bool) (at : Option ℕ) (l : Leg) → kept at (kept_if first (cond {A = Option MessageText} b None (Some m))) l
+      ≡ record l { timer_c_at = at; answer = cond {A = Option MessageText} b l.answer (cond first (Some m) l.answer) }
+  kept_by true true at l = refl
+  kept_by true false at l = refl
+  kept_by false true at l = refl
+  kept_by false false at l = refl
 
-  last_is : kept (timer_c_again now status leg.timer_c_at) (answer_if status m) (responded client ack leg) ≡ leg_last
-  last_is =
+  last_is : (first : Bool) → kept (timer_c_again now status leg.timer_c_at) (kept_if first (answer_if status m)) (responded client ack leg) ≡ leg_last first
+  last_is first =
       let l = leg_after call n leg way now m in
-      let made : kept (timer_c_again now status leg.timer_c_at) (answer_if status m) (responded client ack leg) ≡ kept (timer_c_again now status leg.timer_c_at) (answer_if status m) l =
-      ap (kept (timer_c_again now status leg.timer_c_at) (answer_if status m)) responded_is in
-      let all : kept (timer_c_again now status leg.timer_c_at) (answer_if status m) l ≡ record l { timer_c_at = timer_c_again now status leg.timer_c_at; answer = answer_kept status m l.answer } =
-      kept_by (nat_lt status 300) _ l in
+      let failure = kept_if first (answer_if status m) in
+      let made : kept (timer_c_again now status leg.timer_c_at) failure (responded client ack leg) ≡ kept (timer_c_again now status leg.timer_c_at) failure l =
+      ap (kept (timer_c_again now status leg.timer_c_at) failure) responded_is in
+      let all : kept (timer_c_again now status leg.timer_c_at) failure l ≡ record l { timer_c_at = timer_c_again now status leg.timer_c_at; answer = answer_kept first status m l.answer } =
+      kept_by (nat_lt status 300) first _ l in
       made ∙ all ∙ rw status_is refl
 
-  pub posted : (event : Event) (at : ℕ) (mid new last : Call)
+  pub posted : (event : Event) (at : ℕ) (first : Bool) (mid new last : Call)
       → PostsSaid call event (contacts_by status m) (going_up status m) at mid
       → event ≡ event_by n status m
       → is_passed out.pass ≡ true
       → new ≡ record mid { legs = changed_leg (responded client ack) mid.legs n }
-      → last ≡ record new { legs = changed_leg (kept (timer_c_again now status leg.timer_c_at) (answer_if status m)) new.legs n }
+      → (IsTrue first ↔ HasFirst (table_of mid.log) n)
+      → last ≡ record new { legs = changed_leg (kept (timer_c_again now status leg.timer_c_at) (kept_if first (answer_if status m))) new.legs n }
       → RespondsOn call n now m (Posted at) last
-  posted event at mid new last (reply, at_is, posts) event_is passed_on first second =
-      let f = kept (timer_c_again now status leg.timer_c_at) (answer_if status m) in
+  posted event at first mid new last (reply, at_is, posts) event_is passed_on went leads second =
+      let f = kept (timer_c_again now status leg.timer_c_at) (kept_if first (answer_if status m)) in
+      let part = leg_last first in
       let l = responded client ack leg in
       let cs = contacts_by status m in
       let later : leg_at mid n ≡ Some leg = still_there call mid event cs (going_up status m) reply posts n leg there in
-      let once : new ≡ set_leg mid n l = first ∙ changed_part (responded client ack) mid n leg later in
+      let once : new ≡ set_leg mid n l = went ∙ changed_part (responded client ack) mid n leg later in
       let P : Call → Type 0 = λ x. leg_at x n ≡ Some l in
       let after : leg_at new n ≡ Some l = subst P (sym once) (at_set mid n leg l later) in
-      let twice : last ≡ set_leg mid n leg_last =
-      second ∙ changed_part f new n l after ∙ ap (λ (x : Call). set_leg x n (f l)) once ∙ set_twice mid n l (f l) ∙ ap (set_leg mid n) last_is in
-      let all : Posts (set_leg call n leg_last) event cs (going_up status m) reply (set_leg mid n leg_last) = posts_part call mid event cs (going_up status m) reply posts n leg leg_last there in
-      let E : Event → Type 0 = λ e. Posts (set_leg call n leg_last) e cs (going_up status m) reply (set_leg mid n leg_last) in
-      let S : ℕ → Type 0 = λ s. Posts (set_leg call n leg_last) (event_by n s m) (contacts_by s m) (going_up s m) reply (set_leg mid n leg_last) in
-      let N : Call → Type 0 = λ x. Posts (set_leg call n leg_last) (event_by n (status_of m) m) (contacts_by (status_of m) m) (going_up (status_of m) m) reply x in
-      (leg, way, there, goes, (passes_by ∙ passed_on, reply, at_is, subst N (sym twice) (subst S status_is (subst E event_is all))))
+      let twice : last ≡ set_leg mid n part =
+      second ∙ changed_part f new n l after ∙ ap (λ (x : Call). set_leg x n (f l)) once ∙ set_twice mid n l (f l) ∙ ap (set_leg mid n) (last_is first) in
+      let all : Posts (set_leg call n part) event cs (going_up status m) reply (set_leg mid n part) = posts_part call mid event cs (going_up status m) reply posts n leg part there in
+      let E : Event → Type 0 = λ e. Posts (set_leg call n part) e cs (going_up status m) reply (set_leg mid n part) in
+      let S : ℕ → Type 0 = λ s. Posts (set_leg call n part) (event_by n s m) (contacts_by s m) (going_up s m) reply (set_leg mid n part) in
+      let N : Call → Type 0 = λ x. Posts (set_leg call n part) (event_by n (status_of m) m) (contacts_by (status_of m) m) (going_up (status_of m) m) reply x in
+      let L : Call → Type 0 = λ x. IsTrue first ↔ HasFirst (table_of x.log) n in
+      (leg, way, there, goes, (passes_by ∙ passed_on, reply, at_is, first, subst L (sym twice) leads, subst N (sym twice) (subst S status_is (subst E event_is all))))
 
   pub refused : (event : Event) → event ≡ event_by n status m → is_full (core_of call.log) event ≡ true → is_passed out.pass ≡ true → RespondsOn call n now m Full call
   refused event event_is full passed_on =

@@ -296,31 +296,33 @@ module _ (passes : StoredAnswersPass) (grows : RowsKeepTheirNumbers) (stay : Row
   timer_kept now status None e = e
   timer_kept now status (Some at) e = refl
 
-  kept_forward : (b : Bool) (m : MessageText) (kept : Option MessageText) → IsForward m → IfSome kept IsForward → IfSome (cond {A = Option MessageText} b kept (Some m)) IsForward
-  kept_forward true m kept h k = k
-  kept_forward false m kept h k = h
+  kept_forward : (b first : Bool) (m : MessageText) (kept : Option MessageText) → IsForward m → IfSome kept IsForward
+      → IfSome (cond {A = Option MessageText} b kept (cond first (Some m) kept)) IsForward
+  kept_forward true first m kept h k = k
+  kept_forward false true m kept h k = h
+  kept_forward false false m kept h k = k
 
   up_forward : (b : Bool) (m : MessageText) → IsForward m → IfSome (cond {A = Option MessageText} b (Some m) None) IsForward
   up_forward true m h = h
   up_forward false m h = tt
 
-  posted : (call : Call) (n : ℕ) (leg : Leg) (way : Way) (now : ℕ) (m : MessageText) (reply : Reply) (new : Call) → IsSound call → leg_at call n ≡ Some leg → IsMessage m → IsForward m
-      → Posts (set_leg call n (leg_posted (leg_after call n leg way now m) now (status_of m) m)) (event_by n (status_of m) m) (contacts_by (status_of m) m) (going_up (status_of m) m) reply new
+  posted : (call : Call) (n : ℕ) (leg : Leg) (way : Way) (now : ℕ) (m : MessageText) (reply : Reply) (first : Bool) (new : Call) → IsSound call → leg_at call n ≡ Some leg → IsMessage m → IsForward m
+      → Posts (set_leg call n (leg_posted first (leg_after call n leg way now m) now (status_of m) m)) (event_by n (status_of m) m) (contacts_by (status_of m) m) (going_up (status_of m) m) reply new
       → IsSound new
-  posted call n leg way now m reply new is there message forward posts =
-      let l = leg_posted (leg_after call n leg way now m) now (status_of m) m in
+  posted call n leg way now m reply first new is there message forward posts =
+      let l = leg_posted first (leg_after call n leg way now m) now (status_of m) m in
       let ev = event_by n (status_of m) m in
       let values = event_values values_are n (status_of m) m message in
       let part = is.legs n leg there in
-      let answer = kept_forward (nat_lt (status_of m) 300) m leg.answer forward part.answer in
+      let answer = kept_forward (nat_lt (status_of m) 300) first m leg.answer forward part.answer in
       let timer = timer_kept now (status_of m) leg.timer_c_at in
       posts_sound call (set_leg call n l) new ev (contacts_by (status_of m) m) (going_up (status_of m) m) reply is refl refl is.owed
       (by (nat_lt (status_of m) 200) refl answer) values.0 values.1 (up_forward (nat_lt (status_of m) 300) m forward) posts
     where
-      by : (b : Bool) → nat_lt (status_of m) 200 ≡ b → IfSome (answer_kept (status_of m) m leg.answer) IsForward
-          → IsSoundAll (after_event call (event_by n (status_of m) m)) (set_leg call n (leg_posted (leg_after call n leg way now m) now (status_of m) m))
+      by : (b : Bool) → nat_lt (status_of m) 200 ≡ b → IfSome (answer_kept first (status_of m) m leg.answer) IsForward
+          → IsSoundAll (after_event call (event_by n (status_of m) m)) (set_leg call n (leg_posted first (leg_after call n leg way now m) now (status_of m) m))
       by true e answer =
-          let l = leg_posted (leg_after call n leg way now m) now (status_of m) m in
+          let l = leg_posted first (leg_after call n leg way now m) now (status_of m) m in
           let t = table_of call.log in
           let ring : event_by n (status_of m) m ≡ fork.Ring n (status_of m) = cond-true _ _ _ e in
           let here : IsSoundLeg t n l = next_sound t n leg l (is.legs n leg there) (waiting.waited (response_event (status_of m)) now leg.client) (timer_kept now (status_of m) leg.timer_c_at) answer in
@@ -328,7 +330,7 @@ module _ (passes : StoredAnswersPass) (grows : RowsKeepTheirNumbers) (stay : Row
           subst P (sym ring) (open_all call (set_leg call n l) (fork.Ring n (status_of m)) (set_sound t call n l here (λ k x d h. is.legs k x h))
           (λ k. ring_stays t (length call.log.history) n k (status_of m)))
       by false e answer =
-          let l = leg_posted (leg_after call n leg way now m) now (status_of m) m in
+          let l = leg_posted first (leg_after call n leg way now m) now (status_of m) m in
           let named : row_named (event_by n (status_of m) m) ≡ Some n = ap row_named (cond-false _ _ _ e) in
           ended_all call n l (event_by n (status_of m) m) is named (awaits_after now (status_of m) leg.client e)
           (λ h. (is.legs n leg there).timer_c (timer_kept now (status_of m) leg.timer_c_at h)) answer
@@ -336,7 +338,7 @@ module _ (passes : StoredAnswersPass) (grows : RowsKeepTheirNumbers) (stay : Row
   responded : (call : Call) (n : ℕ) (leg : Leg) (way : Way) (now : ℕ) (m : MessageText) (k : Taken) (new : Call) → IsSound call → leg_at call n ≡ Some leg → IsMessage m → IsForward m → Responds call n leg way now m k new → IsSound new
   responded call n leg way now m Absorbed new is there message forward out =
       same_sound new _ out.1 (leg_sound call n _ is (next_sound _ n leg _ (is.legs n leg there) (waiting.waited (response_event (status_of m)) now leg.client) (λ h. h) (is.legs n leg there).answer))
-  responded call n leg way now m (Posted at) new is there message forward (passed, reply, at_is, posts) = posted call n leg way now m reply new is there message forward posts
+  responded call n leg way now m (Posted at) new is there message forward (passed, reply, at_is, first, leads, posts) = posted call n leg way now m reply first new is there message forward posts
   responded call n leg way now m Full new is there message forward (passed, full, same) = same_sound new _ same is
 
   -- ---- a message

@@ -92,7 +92,7 @@ responded : (call : Call) (n : ℕ) (leg : Leg) (way : Way) (now : ℕ) (m : Mes
     → Responds call n leg way now m t new → IsBuilt new
 responded call n leg way now m Absorbed new built goes b out =
     same_as new _ out.1 (built_leg call n _ built way goes (record { request = b.request; ack = ack_built call n way m _ leg.ack b.ack; cancel = b.cancel }))
-responded call n leg way now m (Posted at) new built goes b (passed, reply, at_is, posts) =
+responded call n leg way now m (Posted at) new built goes b (passed, reply, at_is, first, leads, posts) =
     built_posts _ new _ _ _ reply (built_leg call n _ built way goes (record { request = b.request; ack = ack_built call n way m _ leg.ack b.ack; cancel = b.cancel })) posts
 responded call n leg way now m Full new built goes b (passed, full, same) = same_as new _ same built
 

@@ -1,8 +1,9 @@
--- The failure that a branch keeps is the response behind its stored answer (RFC 3261 section 16.7 steps 4 to 6).
+-- The failure that the first branch keeps is the response behind its stored answer (RFC 3261 section 16.7 steps 4 to 6).
 use Rattle.std.specs.Prelude.{◌≡◌, ℕ, true, List, Some, slice_get}
 use Rattle.fork_model.specs.Sources.{HasStored}
 use Rattle.fork_model.specs.Table.{Rules, StoredAnswer}
 use Rattle.fork_model.specs.History.{Target}
+use Rattle.fork_context.specs.Chosen.{HasFirst}
 use Rattle.fork_book.specs.Log.{events_of, opening_log, table_of}
 use Rattle.sip_text.specs.Text.{MessageText}
 use Rattle.fork_parts.specs.Begun.{begun}
@@ -18,10 +19,11 @@ abbrev pub KeepsEvent : Call → (n at : ℕ) → Type 0
 KeepsEvent call n at =
     (m : MessageText) × (answer_in (leg_at call n) ≡ Some m) × (slice_get (events_of call.log.history) at ≡ Some (event_by n (status_of m) m))
 
--- each branch with a stored answer that came keeps the response that the answer was
+-- a branch with a stored answer that came, and that no stored answer ranks before, keeps the response that it was
 abbrev pub KeepsAnswers : Call → Type 0
 KeepsAnswers call =
-    (n : ℕ) (stored : StoredAnswer) → HasStored (table_of call.log) n stored → stored.received ≡ true → KeepsEvent call n stored.arrival
+    (n : ℕ) (stored : StoredAnswer) → HasStored (table_of call.log) n stored → stored.received ≡ true
+    → HasFirst (table_of call.log) n → KeepsEvent call n stored.arrival
 
 abbrev pub BegunKeepsAnswers : Type 0
 BegunKeepsAnswers =

@@ -15,6 +15,10 @@ pub record Call : Type 0 where
   pub legs : List (Option Leg)
   pub server : Server
 
+-- the same call under another number
+abbrev pub numbered : ℕ → Call → Call
+numbered number call = record call { fixed = record call.fixed { number = number } }
+
 abbrev pub rows_of : Call → List Row
 rows_of call = (table_of call.log).rows
 

@@ -31,7 +31,7 @@ pub record Leg : Type 0 where
   -- when timer C fires, of an INVITE; it has stopped where the branch was cancelled or has ended
   pub timer_c_at : Option ℕ
   pub cancelling : Option Cancelling
-  -- the failure that was posted
+  -- the failure that was posted, if it was then the first of all
   pub answer : Option MessageText
 
 abbrev pub timer_c_from : Kind → ℕ → Option ℕ

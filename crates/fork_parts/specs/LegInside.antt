@@ -1,5 +1,5 @@
 -- How the part of a branch is changed in its place.
-use Rattle.std.specs.Prelude.{ℕ, zero, suc, nat_lt, List, [], ◌∷◌, Option, Some, None, option_map, if◌then◌else◌}
+use Rattle.std.specs.Prelude.{ℕ, zero, suc, nat_lt, Bool, List, [], ◌∷◌, Option, Some, None, option_map, if◌then◌else◌}
 use Rattle.sip_text.specs.Text.{MessageText}
 use Rattle.sip_txn.specs.declared.event.TxSend.{TxSend}
 use Rattle.sip_txn.specs.declared.event.TxSend.TheVariants as send
@@ -28,9 +28,13 @@ abbrev pub ack_made : TxSend → List ℕ → Option (List ℕ)
 ack_made send.Ack ack = Some ack
 ack_made _ ack = None
 
--- a failure is kept, any other response may go up
+-- a failure may be kept, any other response may go up
 abbrev pub answer_if : ℕ → MessageText → Option MessageText
 answer_if status m = if nat_lt status 300 then None else Some m
+
+-- one that another ranks before never goes up
+abbrev pub kept_if : (first : Bool) → Option MessageText → Option MessageText
+kept_if first failure = if first then failure else None
 
 -- its ACK is owed no more
 abbrev pub without_ack : Leg → Leg

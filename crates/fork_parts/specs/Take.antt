@@ -1,8 +1,9 @@
 -- A message that comes to a transaction of a call (RFC 3261 sections 9.2, 16.7, 17.1 and 17.2).
-use Rattle.std.specs.Prelude.{◌≡◌, ℕ, ◌&&◌, not, nat_lt, Bool, true, false, List, [], ◌∷◌, Option, Some, None, Ok, slice_get, if◌then◌else◌}
+use Rattle.std.specs.Prelude.{◌≡◌, ◌↔◌, ℕ, ◌&&◌, not, nat_lt, IsTrue, Bool, true, false, List, [], ◌∷◌, Option, Some, None, Ok, slice_get, if◌then◌else◌}
 use Rattle.fork_model.specs.Event.{Cancel}
 use Rattle.fork_model.specs.Core.{is_full}
 use Rattle.fork_model.specs.Reply.{Reply}
+use Rattle.fork_context.specs.Chosen.{HasFirst}
 use Rattle.fork_book.specs.Log.{core_of, table_of}
 use Rattle.sip_text.specs.Text.{MessageText, spelling}
 use Rattle.sip_uri.specs.declared.hop.Hop.{Hop}
@@ -112,18 +113,19 @@ abbrev pub timer_c_again : ℕ → ℕ → Option ℕ → Option ℕ
 timer_c_again now status None = None
 timer_c_again now status (Some at) = if nat_lt 100 status && nat_lt status 200 then Some (later now timer_c) else Some at
 
--- a failure is kept, for it may go up later; any other response goes up at once, or never
-abbrev pub answer_kept : ℕ → MessageText → Option MessageText → Option MessageText
-answer_kept status m kept = if nat_lt status 300 then kept else Some m
+-- a failure is kept where it is the first of all that is stored, for it may go up later; one that another ranks before
+-- never does. Any other response goes up at once, or never
+abbrev pub answer_kept : (first : Bool) → ℕ → MessageText → Option MessageText → Option MessageText
+answer_kept first status m kept = if nat_lt status 300 then kept else (if first then Some m else kept)
 
 abbrev pub going_up : ℕ → MessageText → Option MessageText
 going_up status m = if nat_lt status 300 then Some m else None
 
 -- what a response that was posted leaves in the branch's part
-abbrev pub leg_posted : Leg → ℕ → ℕ → MessageText → Leg
-leg_posted leg now status m = record leg {
+abbrev pub leg_posted : (first : Bool) → Leg → ℕ → ℕ → MessageText → Leg
+leg_posted first leg now status m = record leg {
   timer_c_at = timer_c_again now status leg.timer_c_at;
-  answer = answer_kept status m leg.answer;
+  answer = answer_kept first status m leg.answer;
 }
 
 -- the response as the client transaction of branch n takes it, with its part and its way
@@ -135,13 +137,15 @@ abbrev pub Responds : Call → ℕ → Leg → Way → ℕ → MessageText → T
 Responds call n leg way now m Absorbed new =
     (is_passed (client_out (response_event (status_of m)) now leg.client).pass ≡ false)
     × (new ≡ set_leg call n (leg_after call n leg way now m))
--- it hands it up, and it is posted
+-- it hands it up, and it is posted; the branch may then be the first of those with a stored answer (section 16.7 step 6)
 Responds call n leg way now m (Posted at) new =
     (is_passed (client_out (response_event (status_of m)) now leg.client).pass ≡ true)
     × (reply : Reply)
     × (reply.at ≡ at)
+    × (first : Bool)
+    × (IsTrue first ↔ HasFirst (table_of new.log) n)
     × Posts
-    (set_leg call n (leg_posted (leg_after call n leg way now m) now (status_of m) m))
+    (set_leg call n (leg_posted first (leg_after call n leg way now m) now (status_of m) m))
     (event_by n (status_of m) m)
     (contacts_by (status_of m) m)
     (going_up (status_of m) m)

@@ -8,15 +8,15 @@ ghost use Rattle.fork_parts.specs.Take.{RespondsOn};
 
 use crate::fault::PostFault;
 use crate::parts::Parts;
-use crate::responses::{is_passed, parted, response_event};
+use crate::responses::{is_passed, kept_if, parted, response_event};
 use crate::taken::Taken;
 use sip_text::Message;
 use std::alloc::Allocator;
 
 impl<A: Allocator + Clone> Parts<A> {
     /// Takes a response to branch n: its client transaction absorbs it, or hands it up, and it is posted (RFC 3261
-    /// sections 16.7 and 17.1). A failure is kept, for it may go up later, and an ACK is owed where the transaction says
-    /// so; a provisional response sets timer C again. Contacts of a 3xx may become further targets, whose requests are
+    /// sections 16.7 and 17.1). A failure is kept where no stored answer ranks before it, for it may go up later, and an
+    /// ACK is owed where the transaction says so; a provisional response sets timer C again. Contacts of a 3xx may become further targets, whose requests are
     /// then to be sent; the challenges of a 401 or a 407 are stored with it.
     ///
     /// # Errors
@@ -47,13 +47,14 @@ impl<A: Allocator + Clone> Parts<A> {
             return Ok(Taken::Absorbed);
         }
         let said = self.said(n, status, &message)?;
-        let (up, answer) = parted(status, message);
+        let (up, failure) = parted(status, message);
         let at = match self.post_said(said, up) {
             Ok(at) => at,
             Err(fault) => return Err(fault),
         };
         self.respond_part(n, client, ack);
-        self.keep_part(n, timer_c_at, answer);
+        let first = self.book().context().is_first(n);
+        self.keep_part(n, timer_c_at, kept_if(first, failure));
         Ok(Taken::Posted(at))
     }
 }

@@ -87,6 +87,13 @@ impl<A: Allocator> Fixed<A> {
         }
     }
 
+    /// The call goes under this number.
+    pub(crate) fn set_number(&mut self, number: u64)
+        ensures { self.new ≡ record self.old { number = number } }
+    {
+        self.number = number;
+    }
+
     /// The number that the call was opened with.
     pub fn number(&self) -> u64
         ensures { result ≡ self.now.number }

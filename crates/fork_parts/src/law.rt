@@ -4,7 +4,9 @@ ghost use Rattle.fork_parts.specs.Behind.{BegunKeepsAnswers, StepsKeepAnswers};
 ghost use Rattle.fork_parts.specs.Datagrams.{BegunIsBuilt, DatagramsAreRight, StepsKeepBuilt};
 ghost use Rattle.fork_parts.specs.Sound.{BegunIsSound, StepsKeepSound};
 
-use fork_model::{finished_stays, others_stay_open, rows_keep_their_numbers, stored_answers_came};
+use fork_model::{
+    branches_go_on, finished_stays, others_stay_open, rows_keep_their_numbers, stored_answers_came,
+};
 use sip_text::header_values_are_values;
 
 /// Each datagram of a call is what its cause says (RFC 3261 sections 8.2.6, 9.1, 16.6, 16.7 and 17.1.1.3).
@@ -44,9 +46,10 @@ pub fn calls_stay_sound()
     header_values_are_values();
 }
 
-/// The failure that a branch keeps, which may go up as the final answer, is the response behind its stored answer: it was
-/// posted as the event at the arrival of that answer. So it is as a call begins, and each step of a sound call keeps it so
-/// (RFC 3261 section 16.7 steps 4 to 6).
+/// The failure that the first branch keeps, which may go up as the final answer, is the response behind its stored answer:
+/// where no stored answer ranks before that of a branch, and it came, then what the branch keeps was posted as the event
+/// at its arrival. So it is as a call begins, and each step of a sound call keeps it so (RFC 3261 section 16.7 steps 4 to
+/// 6).
 ///
 /// A law over the definitions, with nothing to run.
 pub fn branches_keep_their_answers()
@@ -54,4 +57,6 @@ pub fn branches_keep_their_answers()
     ensures kept { StepsKeepAnswers }
 {
     stored_answers_came();
+    branches_go_on();
+    rows_keep_their_numbers();
 }

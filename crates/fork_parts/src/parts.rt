@@ -15,7 +15,7 @@ ghost use Rattle.sip_text.specs.Text.{MessageText, spelling};
 ghost use Rattle.sip_uri.specs.Contact.{ContactText};
 ghost use Rattle.fork_parts.specs.Begun.{begun};
 ghost use Rattle.fork_parts.specs.Built.{ack_to, answer_in, cancel_to, request_to, status_of};
-ghost use Rattle.fork_parts.specs.Call.{is_cancel_sent, is_sent, leg_at, owes_ack, row_passes, rows_of, runs_timer_c, set_leg};
+ghost use Rattle.fork_parts.specs.Call.{is_cancel_sent, is_sent, leg_at, numbered, owes_ack, row_passes, rows_of, runs_timer_c, set_leg};
 ghost use Rattle.fork_parts.specs.Datagrams.{ack_owed};
 ghost use Rattle.fork_parts.specs.Due.{FireTimerC, is_due_at};
 ghost use Rattle.fork_parts.specs.Fixed as fixed;
@@ -141,6 +141,13 @@ impl<A: Allocator + Clone> Parts<A> {
             last,
             alloc,
         })
+    }
+
+    /// The call goes under this number. Its branches are named by the number, so it is set before anything is sent.
+    pub fn set_number(&mut self, number: u64)
+        ensures { self.new ≡ numbered number self.old }
+    {
+        self.fixed.set_number(number);
     }
 
     /// What the call was opened with.

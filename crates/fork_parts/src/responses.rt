@@ -1,7 +1,7 @@
 //! What a response is to a transaction and to the fork.
 ghost use Rattle.std.specs.Prelude.{◌≡◌};
 ghost use Rattle.fork_parts.specs.Failed.{is_fault};
-ghost use Rattle.fork_parts.specs.LegInside.{answer_if};
+ghost use Rattle.fork_parts.specs.LegInside.{answer_if, kept_if};
 ghost use Rattle.fork_parts.specs.Pump as pump;
 ghost use Rattle.fork_parts.specs.Server as server;
 ghost use Rattle.fork_parts.specs.Take as take;
@@ -99,4 +99,11 @@ pub(crate) fn parted<A: Allocator>(
     } else {
         (None, Some(message))
     }
+}
+
+/// What is kept of a failure: one that a stored answer ranks before never goes up.
+pub(crate) fn kept_if<A: Allocator>(first: bool, failure: Option<Message<A>>) -> Option<Message<A>>
+    ensures { result ≡ kept_if first failure }
+{
+    if first { failure } else { None }
 }

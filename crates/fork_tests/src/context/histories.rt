@@ -10,9 +10,15 @@ use std::test::Fail;
 fn a_preferred_4xx_goes_first(rt: HostRuntime) -> Result<(), Fail> {
     let steps = [
         Step::HasChoice(None),
+        Step::IsFirst(0, false),
         Step::Comes(Happening::Answers(0, 503), Up::Nothing),
+        Step::IsFirst(0, true),
         Step::Comes(Happening::Answers(1, 407), Up::Nothing),
+        Step::IsFirst(0, false),
+        Step::IsFirst(1, true),
         Step::Comes(Happening::Answers(2, 501), Up::Nothing),
+        Step::IsFirst(1, true),
+        Step::IsFirst(2, false),
         Step::HasFinished(false),
         Step::Comes(Happening::Answers(3, 404), Up::Final(Choice::Stored(1))),
         Step::HasFinished(true),

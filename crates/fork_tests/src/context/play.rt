@@ -29,6 +29,8 @@ pub enum Step {
     HasFinished(bool),
     HasSucceeded(bool),
     HasChoice(Option<Choice>),
+    /// The row has a stored answer that no stored answer ranks before, or not.
+    IsFirst(u16, bool),
     /// The key of the row's target is that of this number; None: there is no such row.
     HasKey(u16, Option<u16>),
     /// The row is in this state.
@@ -238,6 +240,7 @@ fn row_is_so(fork: &Context, step: Step) -> bool {
         Step::HasReceived(n, code, at) => has_stored(fork, n, code, at, true),
         Step::HasAssumed(n, code, at) => has_stored(fork, n, code, at, false),
         Step::Leaves(n, number) => leaves(fork, n, number),
+        Step::IsFirst(n, wanted) => fork.is_first(n) == wanted,
         _ => false,
     }
 }

@@ -1,4 +1,4 @@
-use Rattle.std.proofs.Common.{◌≡◌, ◌<◌, ◌≤◌, ◌∙◌, ap, sym, subst, arith, length, Option, refl, true, false}
+use Rattle.std.proofs.Common.{◌≡◌, ◌↔◌, ◌<◌, ◌≤◌, ◌∙◌, IsTrue, ap, sym, subst, arith, length, Option, refl, true, false}
 use Rattle.std.specs.Option.{option_map}
 use Rattle.sip_txn.specs.declared.event.TxEvent.{TxEvent}
 use Rattle.fork_parts.specs.Call.{Call}
@@ -7,8 +7,11 @@ use Rattle.fork_parts.specs.Leg.{Leg}
 use Rattle.sip_text.specs.Text.{MessageText}
 use Rattle.fork_parts.specs.NewWays.{PostsSaid}
 use Rattle.fork_parts.specs.Response.{contacts_by}
+use Rattle.fork_context.specs.Chosen.{HasFirst}
 use Rattle.fork_context.specs.EventView.{event_of}
-use Rattle.fork_parts.specs.LegInside.{changed_leg, responded, kept, answer_if}
+use Rattle.fork_book.specs.Log.{core_of, table_of}
+use Rattle.fork_model.specs.Core.{Core}
+use Rattle.fork_parts.specs.LegInside.{changed_leg, responded, kept, answer_if, kept_if}
 use Rattle.fork_parts.specs.Take.{RespondsOn, response_event, is_passed, going_up, timer_c_again, Absorbed, Full}
 use Rattle.fork_parts.proofs.LegLists.{length_changed}
 use Rattle.fork_parts.proofs.Changing.{leg_below}
@@ -67,10 +70,16 @@ returns-clause-ok g c =
     let U : Option MessageText → Type 0 = λ up. PostsSaid c.args.self.now (event_of c.in_ok-said.said.event) (contacts_by c.args.status c.args.message) up c.in-Ok.at c.post_said.new.self in
     subst U c.parted-up.ensures.up (c.in-Ok.ensures.ok (contacts_by c.args.status c.args.message) c.in_ok-said.ensures.ways) in
     let mid = c.respond_part-2.new.self in
-    let by_timer : kept c.timer_c_again-timer_c_at.result c.parted-up.result.1 ≡ kept (timer_c_again c.args.now c.args.status c.part-leg.result.now.timer_c_at) (answer_if c.args.status c.args.message) =
-    rw (c.timer_c_again-timer_c_at.ensures, c.parted-up.ensures.kept) refl in
-    let last : c.keep_part.new.self ≡ record mid { legs = changed_leg (kept (timer_c_again c.args.now c.args.status c.part-leg.result.now.timer_c_at) (answer_if c.args.status c.args.message)) mid.legs c.args.n } =
+    let first = c.is_first-first.result in
+    let B : Core → Type 0 = λ core. IsTrue first ↔ HasFirst core.table c.args.n in
+    let L : Call → Type 0 = λ x. IsTrue first ↔ HasFirst (table_of x.log) c.args.n in
+    let here : L c.respond_part-2.new.self = subst B (c.context.ensures.stands ∙ ap core_of c.book.ensures) c.is_first-first.ensures in
+    let leads : L c.post_said.new.self = subst L c.respond_part-2.ensures here in
+    let failure_is : c.kept_if.result ≡ kept_if first (answer_if c.args.status c.args.message) = c.kept_if.ensures ∙ ap (kept_if first) c.parted-up.ensures.kept in
+    let by_timer : kept c.timer_c_again-timer_c_at.result c.kept_if.result ≡ kept (timer_c_again c.args.now c.args.status c.part-leg.result.now.timer_c_at) (kept_if first (answer_if c.args.status c.args.message)) =
+    rw (c.timer_c_again-timer_c_at.ensures, failure_is) refl in
+    let last : c.keep_part.new.self ≡ record mid { legs = changed_leg (kept (timer_c_again c.args.now c.args.status c.part-leg.result.now.timer_c_at) (kept_if first (answer_if c.args.status c.args.message))) mid.legs c.args.n } =
     c.keep_part.ensures ∙ ap (λ (f : Leg → Leg). record mid { legs = changed_leg f mid.legs c.args.n }) by_timer in
     posted c.args.self.now c.args.n c.args.now c.args.status c.args.message c.part-leg.result.now c.way.result.now c.fed-client.result.0 c.fed-client.result.1 ack
-    c.part-leg.ensures c.way.ensures c.requires.status client_is out_is c.in_ok-ack.ensures (event_of c.in_ok-said.said.event) c.in-Ok.at c.post_said.new.self c.respond_part-2.new.self c.keep_part.new.self
-    post c.in_ok-said.ensures.event passed_on c.respond_part-2.ensures last
+    c.part-leg.ensures c.way.ensures c.requires.status client_is out_is c.in_ok-ack.ensures (event_of c.in_ok-said.said.event) c.in-Ok.at first c.post_said.new.self c.respond_part-2.new.self c.keep_part.new.self
+    post c.in_ok-said.ensures.event passed_on c.respond_part-2.ensures leads last

@@ -1,0 +1,57 @@
+-- The row that is first, as the choice names it.
+use Rattle.std.proofs.Common.{◌≡◌, ◌≢◌, eqb-true, ℕ, true, refl, ap, arith, ◌∙◌, sym, subst, inl, inr, ◌⊎◌, nat_eq, false, rules, IsTrue, Option, Some, None}
+use Rattle.fork_model.specs.Table.{Table}
+use Rattle.fork_model.specs.Choice.{Choice, Best, Only503, NoAnswer408, IsChoice, IsFirst, NoneStored}
+use Rattle.fork_model.proofs.OneReplyLemmas.{one_choice}
+use Rattle.fork_context.specs.Chosen.{HasFirst}
+use Rattle.fork_context.specs.Sound.{IsSound}
+
+-- the row whose answer is chosen, a 503 included
+abbrev pub row_of : Choice → Option ℕ
+row_of (Best n) = Some n
+row_of (Only503 n) = Some n
+row_of NoAnswer408 = None
+
+same_or : (a b : ℕ) → (a ≡ b) ⊎ (a ≢ b)
+same_or a b = grind arith
+
+-- a row that is first is the choice
+first_choice : (t : Table) (n : ℕ) → HasFirst t n → (choice : Choice) × IsChoice t.rules t.rows choice × (row_of choice ≡ Some n)
+first_choice t n (score, first) =
+    elim (same_or score.status 503) [
+      | inl is ↦ (Only503 n, (score, first, is), refl)
+      | inr differs ↦ (Best n, (score, first, differs), refl)
+    ]
+
+choice_first : (t : Table) (n : ℕ) (choice : Choice) → IsChoice t.rules t.rows choice → row_of choice ≡ Some n → HasFirst t n
+choice_first t n (Best m) is e = let same : m ≡ n = cc in let P : ℕ → Type 0 = λ k. HasFirst t k in subst P same (is.0, is.1)
+choice_first t n (Only503 m) is e = let same : m ≡ n = cc in let P : ℕ → Type 0 = λ k. HasFirst t k in subst P same (is.0, is.1)
+choice_first t n NoAnswer408 is e = absurd cc
+
+some_eq : (m n : ℕ) → Some m ≡ Some n → m ≡ n
+some_eq m n e = cc
+
+eq_refl : (n : ℕ) → nat_eq n n ≡ true
+eq_refl n = search rules
+
+-- in a context: the row of its choice is first, and no other is
+pub first_row : (t : Table) (taken : ℕ) → IsSound t taken → (choice : Choice) → IsChoice t.rules t.rows choice → (m n : ℕ) → row_of choice ≡ Some m
+    → (IsTrue (nat_eq m n) → HasFirst t n) × (HasFirst t n → IsTrue (nat_eq m n))
+first_row t taken sound choice is m n row = (there, only)
+  where
+    there : IsTrue (nat_eq m n) → HasFirst t n
+    there e = choice_first t n choice is (row ∙ ap Some (eqb-true m n e))
+
+    only : HasFirst t n → IsTrue (nat_eq m n)
+    only first =
+        let other = first_choice t n first in
+        let same : other.0 ≡ choice = one_choice t.rules t.rows taken sound.apart other.0 choice other.1 is in
+        let eq : m ≡ n = some_eq m n (sym row ∙ ap row_of (sym same) ∙ other.2) in
+        subst (λ k. IsTrue (nat_eq m k)) eq (eq_refl m)
+
+-- where nothing is stored no row is first
+pub none_first : (t : Table) (n : ℕ) → NoneStored t.rows → (IsTrue false → HasFirst t n) × (HasFirst t n → IsTrue false)
+none_first t n none = (λ e. absurd (no e), λ first. absurd (none n first.0 first.1.stored))
+  where
+    no : IsTrue false → ⊥
+    no e = cc
