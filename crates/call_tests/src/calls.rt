@@ -4,7 +4,7 @@ use crate::recipients::{
     CALLER, CANCELLING, FIRST, INVITE, INVITING, NO_VIA, OKAY, RINGING, SECOND, SETUP, message_of,
 };
 use crate::requests::{SOURCE, setup_of};
-use fork_call::{Call, Cause, Step, TakeFault, Taken};
+use fork_call::{Call, Cause, Prepared, Step, TakeFault, Taken};
 use fork_routing::is_openable;
 use std::alloc::Global;
 
@@ -16,6 +16,34 @@ fn opened(alloc: Global) -> Option<Call> {
         return None;
     }
     Call::open(alloc, alloc, &setup, 3, invite, SOURCE, 0).ok()
+}
+
+/// The same call, prepared before it has its number.
+fn prepared(alloc: Global) -> Option<Call> {
+    let invite = message_of(alloc, INVITE, (CALLER, NO_VIA), INVITING)?;
+    let setup = setup_of(alloc, SETUP)?;
+    if !is_openable(&invite) {
+        return None;
+    }
+    match Prepared::new(alloc, alloc, &setup, invite, SOURCE, 0) {
+        Ok(prepared) => Some(prepared.numbered(3)),
+        Err(_) => None,
+    }
+}
+
+/// Whether the next datagrams of two calls are the same, so many of them.
+fn send_alike(one: &mut Call, other: &mut Call, count: u32) -> bool {
+    for _ in 0..count {
+        match (one.pump(0), other.pump(0)) {
+            (Ok(Step::Send(first)), Ok(Step::Send(second))) => {
+                if first.to != second.to || first.bytes != second.bytes {
+                    return false;
+                }
+            }
+            _ => return false,
+        }
+    }
+    true
 }
 
 /// What the next datagram is sent for, where the next pump sends one.
@@ -84,6 +112,22 @@ fn a_call_sends_what_is_due(rt: HostRuntime) {
             );
             holds(&rt, !call.over(), "it is not over");
         }
+    }
+}
+
+#[test]
+fn a_prepared_call_is_the_one_that_opens(rt: HostRuntime) {
+    let alloc = rt.alloc();
+    match (opened(alloc), prepared(alloc)) {
+        (Some(mut call), Some(mut other)) => {
+            holds(&rt, other.number() == 3, "the number that it got");
+            holds(
+                &rt,
+                send_alike(&mut call, &mut other, 3),
+                "the 100 and the requests",
+            );
+        }
+        _ => holds(&rt, false, "both open"),
     }
 }
 

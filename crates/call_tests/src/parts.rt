@@ -512,10 +512,12 @@ fn cancelled_by(alloc: Global, parts: &mut Parts) -> Option<Taken>
 #[test]
 fn a_call_begins(rt: HostRuntime) {
     let alloc = rt.alloc();
-    let Some(parts) = begun(alloc, &INVITE) else {
+    let Some(mut parts) = begun(alloc, &INVITE) else {
         return holds(&rt, false, "an INVITE begins");
     };
     holds(&rt, parts.fixed().number() == 3, "its number");
+    parts.set_number(4);
+    holds(&rt, parts.fixed().number() == 4, "its later number");
     holds(&rt, parts.fixed().kind() == Kind::Invite, "its kind");
     holds(&rt, status_of(parts.fixed().request()) == 0, "its request");
     holds(&rt, parts.book().history().is_empty(), "nothing was posted");

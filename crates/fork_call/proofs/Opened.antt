@@ -1,9 +1,9 @@
 -- A call as it opens.
-use Rattle.std.proofs.Common.{◌≡◌, ℕ, sym, refl, subst, arith, List, Option}
+use Rattle.std.proofs.Common.{◌≡◌, ℕ, ap, sym, refl, subst, arith, List, Option}
 use Rattle.sip_text.specs.Text.{MessageText}
 use Rattle.sip_uri.specs.declared.hop.Hop.{Hop}
 use Rattle.fork_setup.specs.Setup.{Setup}
-use Rattle.fork_parts.specs.Call.{Call}
+use Rattle.fork_parts.specs.Call.{Call, numbered}
 use Rattle.fork_parts.specs.Sound.{BegunIsSound}
 use Rattle.fork_routing.specs.Opening.{Opens, choices_for, fixed_of}
 use Rattle.fork_routing.specs.Targets.{targets_of}
@@ -25,3 +25,11 @@ opened_timed begun setup number m source call moments opens times =
       times = refl;
       within = omega arith;
     }))
+
+-- what opens under one number opens under any
+pub opens_numbered : (setup : Setup) (first number : ℕ) (m : MessageText) (source : Hop) (call : Call)
+    → Opens setup first m source call → Opens setup number m source (numbered number call)
+opens_numbered setup first number m source call opens =
+    let reaches = opens.2.3 in
+    let begins = reaches.begins in
+    (opens.0, opens.1, (opens.2.0, opens.2.1, opens.2.2, record { some = reaches.some; hops = reaches.hops; begins = (begins.0, begins.1, ap (numbered number) begins.2) }))

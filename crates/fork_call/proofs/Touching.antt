@@ -216,8 +216,8 @@ cancel_touches call new cancel hop to.Full quiet h = absurd h
 response_touches : (call new : Call) (now n : ℕ) (leg : Leg) (way : Way) (m : MessageText) (taken : Taken)
     → Responds call n leg way now m taken new → Touches call new (Some n) (is_redirection (status_of m) ≡ false)
 response_touches call new now n leg way m to.Absorbed (p, e) = inl (beside_leg call new n _ e)
-response_touches call new now n leg way m (to.Posted at) (p, reply, placed, posts) = inr (record {
-  mid = set_leg call n (leg_posted (leg_after call n leg way now m) now (status_of m) m);
+response_touches call new now n leg way m (to.Posted at) (p, reply, placed, first, leads, posts) = inr (record {
+  mid = set_leg call n (leg_posted first (leg_after call n leg way now m) now (status_of m) m);
   event = event_by n (status_of m) m;
   contacts = contacts_by (status_of m) m;
   response = going_up (status_of m) m;

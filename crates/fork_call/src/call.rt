@@ -11,13 +11,14 @@ ghost use Rattle.fork_routing.specs.Opening.{IsOpenable, Opens, Refuses};
 ghost use Rattle.fork_call.specs.SeenDeed.{seen_deed};
 ghost use Rattle.fork_call.specs.Takes.{Takes};
 ghost use Rattle.fork_call.specs.Ending.{AreOver};
-ghost use Rattle.fork_call.specs.Timing.{row_of_cause};
+ghost use Rattle.fork_call.specs.Timing.{IsTimed, row_of_cause};
 
 use crate::deed::Deed;
 use crate::fault::TakeFault;
+use crate::prepared::Prepared;
 use crate::schedule::{Schedule, earlier, is_due};
 use crate::taking::{give, room_for, row_of as row_to, status_of};
-use crate::timing::{schedule_of, time_step};
+use crate::timing::time_step;
 use fork_book::Book;
 use fork_model::{
     events_make_progress, new_rows_are_contacts, others_stay_open, positions_are_bounded,
@@ -96,21 +97,22 @@ impl<A: Allocator + Clone> Call<A> {
         ensures opened { IfOk result (Opens setup.now number request source) }
         ensures refused { IfErr result (Refuses setup.now request source) }
     {
-        calls_stay_sound();
-        let own = alloc.clone()?;
-        let rest = alloc.clone()?;
-        let parts = match fork_routing::open(alloc, heap, setup, number, request, source, now) {
-            Ok(parts) => parts,
-            Err(fault) => return Err(fault),
-        };
-        let Ok(schedule) = schedule_of(rest, &parts) else {
-            return Err(OpenFault::NoMemory);
-        };
-        Ok(Call {
+        match Prepared::new(alloc, heap, setup, request, source, now) {
+            Ok(prepared) => Ok(prepared.numbered(number)),
+            Err(fault) => Err(fault),
+        }
+    }
+
+    /// The call of these parts, whose rows have these moments.
+    pub(crate) fn of(parts: Parts<A>, schedule: Schedule<A>, alloc: A) -> Call<A>
+        requires { IsTimed parts schedule }
+        ensures { result ≡ parts }
+    {
+        Call {
             parts,
             schedule,
-            alloc: own,
-        })
+            alloc,
+        }
     }
 
     /// How many events were posted; each has its reply.

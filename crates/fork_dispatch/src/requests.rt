@@ -18,7 +18,7 @@ use crate::datagrams::Handled;
 use crate::feeding::feed;
 use crate::outcome::{Outcome, Received};
 use crate::purpose::Purpose;
-use fork_call::{Call, OpenFault, Setup};
+use fork_call::{Call, OpenFault, Prepared, Setup};
 use fork_shelf::{Shelf, ShelfFault};
 use sip_build::OwnStatus;
 use sip_route::append_request_key;
@@ -38,7 +38,7 @@ fn key_of<A: Allocator>(alloc: A, request: &Message<A>) -> Result<Option<Vec<u8,
     }
 }
 
-/// Opens a call under that key.
+/// Opens a call under that key. It is prepared before the keys are locked, so nobody waits for that.
 fn open_call<A: Allocator + Clone, R: Wait>(
     rt: &R,
     alloc: A,
@@ -55,11 +55,11 @@ fn open_call<A: Allocator + Clone, R: Wait>(
 {
     let source = received.source;
     let now = received.at;
-    shelf.put(
-        rt,
-        key,
-        |no| Call::open(alloc, heap, setup, no, request, source, now),
-    )
+    let prepared = match Prepared::new(alloc, heap, setup, request, source, now) {
+        Ok(prepared) => prepared,
+        Err(fault) => return Err(ShelfFault::Made(fault)),
+    };
+    shelf.put(rt, key, |no| Ok(prepared.numbered(no)))
 }
 
 /// The message of a datagram that was read before. A call that is not opened keeps its request, so it is read again for

@@ -1,6 +1,9 @@
-use Rattle.fork_call.proofs.Opened.{opened_timed}
+use Rattle.std.proofs.Common.{sym, subst}
+use Rattle.fork_parts.specs.Call.{Call}
+use Rattle.fork_routing.specs.Opening.{Opens}
 use Rattle.fork_call.proofs.call.Call.open.Goals as goal
 
-pub invariant_of-result : goal.invariant_of-result
-invariant_of-result g c =
-    opened_timed c.calls_stay_sound.ensures.begun c.args.setup.now c.args.number c.args.request c.args.source c.in-Ok.parts c.in-Ok-schedule_of.schedule c.in-Ok.ensures.opened c.in-Ok-schedule_of.ensures
+pub returns-in-Ok-clause-opened : goal.returns-in-Ok-clause-opened
+returns-in-Ok-clause-opened g c =
+    let O : Call → Type 0 = λ x. Opens c.args.setup.now c.args.number c.args.request c.args.source x in
+    subst O (sym c.numbered.ensures) (c.in-Ok.ensures.opened c.args.number)

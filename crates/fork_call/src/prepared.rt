@@ -1,0 +1,80 @@
+//! Calls that have no number yet.
+ghost use Rattle.std.specs.Prelude.{◌≡◌, ℕ, IfErr, IfOk};
+ghost use Rattle.fork_parts.specs.Call.{numbered};
+ghost use Rattle.fork_routing.specs.Opening.{IsOpenable, Opens, Refuses};
+
+use crate::call::Call;
+use crate::schedule::Schedule;
+use crate::timing::schedule_of;
+use fork_parts::{Parts, calls_stay_sound};
+use fork_routing::OpenFault;
+use fork_setup::Setup;
+use sip_text::Message;
+use sip_uri::Hop;
+use std::alloc::{Allocator, Global};
+use std::marker::Model;
+
+/// What a request opens, but for its number. So a call takes its number in no time, where others wait for theirs meanwhile.
+#[derive(Drop)]
+pub struct Prepared<A: Allocator + Clone = Global> {
+    parts: Parts<A>,
+    schedule: Schedule<A>,
+    alloc: A,
+}
+
+impl<A: Allocator + Clone> Model for Prepared<A> {
+    ghost use Rattle.std.specs.Prelude.{ℕ};
+    ghost use Rattle.fork_parts.specs.Call as spec;
+    ghost use Rattle.fork_call.specs.Timing.{IsTimed};
+
+    ghost Value = { spec.Call };
+
+    ghost view = { λ p. p.parts };
+
+    ghost invariant = { λ p. (number : ℕ) → IsTimed (spec.numbered number p.parts) p.schedule };
+}
+
+impl<A: Allocator + Clone> Prepared<A> {
+    /// What a request from `source` opens, as [`Call::open`] says it.
+    ///
+    /// # Errors
+    ///
+    /// The first of those of [`OpenFault`] that holds; `NoMemory` wherever the allocator refuses.
+    pub fn new(
+        alloc: A,
+        heap: Global,
+        setup: &Setup<A>,
+        request: Message<A>,
+        source: Hop,
+        now: u64,
+    ) -> Result<Prepared<A>, OpenFault>
+        requires { IsOpenable request.start }
+        ensures opened { IfOk result (λ prepared. (number : ℕ) → Opens setup.now number request source (numbered number prepared)) }
+        ensures refused { IfErr result (Refuses setup.now request source) }
+    {
+        calls_stay_sound();
+        let own = alloc.clone()?;
+        let rest = alloc.clone()?;
+        let parts = match fork_routing::open(alloc, heap, setup, 0, request, source, now) {
+            Ok(parts) => parts,
+            Err(fault) => return Err(fault),
+        };
+        let Ok(schedule) = schedule_of(rest, &parts) else {
+            return Err(OpenFault::NoMemory);
+        };
+        Ok(Prepared {
+            parts,
+            schedule,
+            alloc: own,
+        })
+    }
+
+    /// The call under this number.
+    pub fn numbered(self, number: u64) -> Call<A>
+        ensures { result ≡ numbered number self }
+    {
+        let mut parts = self.parts;
+        parts.set_number(number);
+        Call::of(parts, self.schedule, self.alloc)
+    }
+}
