@@ -1,5 +1,6 @@
 //! Four targets of a call ring, and two of them accept at the same time, each before a thread of its own: both 200s go up, and
-//! each target that still rings gets its CANCEL (RFC 3261 section 16.7 steps 5 and 10).
+//! each target that still rings gets its CANCEL (RFC 3261 section 16.7 steps 5 and 10). And a request that comes before two threads
+//! at the same time opens one call, which the other thread's request is for (section 17.2.3).
 ghost use denote.Param.Send.{IsSync};
 ghost use Rattle.server_tests.specs.contracts.accepting.Desk.{the_row as desk_row};
 ghost use Rattle.std.specs.Prelude.{◌≡◌};
@@ -70,9 +71,10 @@ l: 0\r\n\
 
 // ---- what is sent
 
-/// A port in memory that counts CANCELs by target, and the 200s that go up.
+/// A port in memory that counts requests, CANCELs by target, and the 200s that go up.
 #[derive(Drop)]
 struct Tally {
+    requests: u32,
     cancels: [u32; 4],
     accepted: u32,
     failures: u64,
@@ -82,10 +84,18 @@ impl Tally {
     /// Nothing was sent.
     fn new() -> Tally {
         Tally {
+            requests: 0,
             cancels: [0; 4],
             accepted: 0,
             failures: 0,
         }
+    }
+
+    /// A request goes to a target.
+    fn note_request(&mut self)
+        ensures { self.new.failures ≡ self.old.failures }
+    {
+        self.requests = self.requests.saturating_add(1);
     }
 
     /// A CANCEL goes to that target.
@@ -122,7 +132,8 @@ impl Port for Tally {
         match datagram.cause {
             Cause::Cancel(n) => self.note_cancel(n),
             Cause::Answer => self.note_answer(&datagram.bytes),
-            Cause::Request(_) | Cause::Ack(_) | Cause::CancelOk => {}
+            Cause::Request(_) => self.note_request(),
+            Cause::Ack(_) | Cause::CancelOk => {}
         }
         true
     }
@@ -225,13 +236,18 @@ fn answers<R: Abort + Wait>(rt: &R, desk: &Desk, start: &[u8], n: u16, tally: &m
     }
 }
 
-/// A desk with one call, whose four targets ring. None of them was cancelled.
-fn ringing<R: Abort + Wait>(rt: &R, alloc: Global) -> Option<Desk> {
-    let desk = Desk {
+/// A desk with no call.
+fn idle(alloc: Global) -> Option<Desk> {
+    Some(Desk {
         alloc,
         calls: Shelf::new(alloc).ok()?,
         setup: Setup::read(alloc, SETUP).ok()?,
-    };
+    })
+}
+
+/// A desk with one call, whose four targets ring. None of them was cancelled.
+fn ringing<R: Abort + Wait>(rt: &R, alloc: Global) -> Option<Desk> {
+    let desk = idle(alloc)?;
     let mut tally = Tally::new();
     let mut well = desk.takes(rt, INVITE, &mut tally);
     for n in 0..TARGETS {
@@ -340,6 +356,14 @@ fn accept<R: Threads + Abort + Wait + Sync>(
     Some(is_right(&one?, &other?, pair) && end(rt, &desk, pair))
 }
 
+/// How many requests go out where two threads take the INVITE at the same time.
+fn requests_for_two<R: Threads + Abort + Wait + Sync>(rt: &R, alloc: Global) -> Option<u32> {
+    let desk = idle(alloc)?;
+    desk_is_shared(&desk);
+    let (one, other) = sent_at_once(rt, &desk, INVITE, INVITE);
+    Some(one?.requests.saturating_add(other?.requests))
+}
+
 /// Two of the targets, in each order.
 const PAIRS: [(u16, u16); 12] = [
     (0, 1),
@@ -366,5 +390,16 @@ fn who_still_rings_is_cancelled(rt: HostRuntime) {
                 "two of four accept at the same time",
             );
         }
+    }
+}
+
+#[test]
+fn what_comes_twice_at_once_opens_one_call(rt: HostRuntime) {
+    for _ in 0..2_000 {
+        holds(
+            &rt,
+            requests_for_two(&rt, rt.alloc()) == Some(u32::from(TARGETS)),
+            "each target gets one request",
+        );
     }
 }
