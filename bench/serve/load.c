@@ -216,20 +216,15 @@ static int by_size(const void *a, const void *b)
     return (x > y) - (x < y);
 }
 
+// The processor time that a process has taken, in microseconds, to the nanosecond: a tick of /proc is a twentieth of what a short
+// run of the null relay takes.
 static double processor_time(int pid)
 {
-    char path[64], text[1024] = "";
-    snprintf(path, sizeof path, "/proc/%d/stat", pid);
-    FILE *file = fopen(path, "r");
-    if (!file)
+    clockid_t of;
+    struct timespec t;
+    if (clock_getcpuclockid(pid, &of) || clock_gettime(of, &t))
         return 0;
-    fread(text, 1, sizeof text - 1, file);
-    fclose(file);
-    long user = 0, system = 0;
-    char *behind = strrchr(text, ')');
-    if (behind)
-        sscanf(behind, ") %*c %*d %*d %*d %*d %*d %*u %*u %*u %*u %*u %ld %ld", &user, &system);
-    return (user + system) * 1e6 / sysconf(_SC_CLK_TCK);
+    return t.tv_sec * 1e6 + t.tv_nsec / 1e3;
 }
 
 // The memory that a process holds, in bytes.
