@@ -61,8 +61,6 @@ impl Memory {
 }
 
 impl Port for Memory {
-    ghost use Rattle.std.specs.Prelude.{◌≡◌, ◌≤◌};
-
     ghost count = { λ port. port.failures };
 
     fn send<A: Allocator>(&mut self, datagram: &Datagram<A>) -> bool {

@@ -23,8 +23,6 @@ struct Lossy {
 }
 
 impl Port for Lossy {
-    ghost use Rattle.std.specs.Prelude.{◌≡◌, ◌≤◌};
-
     ghost count = { λ port. port.failures };
 
     fn send<A: Allocator>(&mut self, datagram: &Datagram<A>) -> bool {

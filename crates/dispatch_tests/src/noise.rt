@@ -141,8 +141,6 @@ struct Lookout {
 }
 
 impl Port for Lookout {
-    ghost use Rattle.std.specs.Prelude.{◌≡◌};
-
     ghost count = { λ port. port.failures };
 
     fn send<A: Allocator>(&mut self, datagram: &Datagram<A>) -> bool {

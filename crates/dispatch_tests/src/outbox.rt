@@ -1,5 +1,4 @@
 //! A port in memory.
-ghost use Rattle.std.specs.Prelude.{◌≡◌};
 
 use fork_call::{Datagram, Port};
 use sip_uri::Hop;

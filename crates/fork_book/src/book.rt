@@ -1,15 +1,13 @@
 //! A response context with its history.
-ghost use Rattle.std.specs.Prelude.{◌≡◌, ◌≤◌, ◌↔◌, [], true, false, length, slice_get, IsTrue, IsErrOf, IsErrAnd, IfOk, IfErr, IfSome, OnErr};
+ghost use Rattle.std.specs.Prelude.{◌≡◌, ◌≤◌, ◌↔◌, [], length, slice_get, IsTrue, IsErrOf, IsErrAnd, IfOk, IfErr, OnErr};
 ghost use Rattle.std.specs.Option.{option_copied};
 ghost use Rattle.fork_model.specs.Table.{most_targets};
 ghost use Rattle.fork_model.specs.Core.{is_full};
-ghost use Rattle.fork_model.specs.History.{AreReplies};
 ghost use Rattle.fork_model.specs.Reply as spec;
-ghost use Rattle.fork_model.specs.Reply.{IsReply};
 ghost use Rattle.fork_context.specs.EventView.{event_of};
 ghost use Rattle.fork_context.specs.KindView.{kind_of};
 ghost use Rattle.fork_context.specs.Refusals.{IsTooMany, HasTwice, IsFull, returned};
-ghost use Rattle.fork_book.specs.Log.{IsLog, EndsOnce, IsAddedBySome, added, opening_log, core_of, table_of};
+ghost use Rattle.fork_book.specs.Log.{IsLog, EndsOnce, IsAddedBySome, added, opening_log, core_of};
 
 use crate::posted::Posted;
 use fork_context::{Context, Event, Kind, NewFault, PostError, Reply, Target};

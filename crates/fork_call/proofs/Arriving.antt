@@ -1,45 +1,22 @@
 -- A message that comes to a call, and how it leaves it.
-use Rattle.std.proofs.Common.{◌≡◌, ◌∙◌, ℕ, ◌+◌, ◌≤◌, refl, sym, subst, inl, arith, true, false, Bool, List, ◌++◌, length, replicate, Option, None, Result, Ok, Err}
-use Rattle.std.specs.Prelude.{◌&&◌, IfOk, OnErr, cond, nat_le}
-use Rattle.std.proofs.lemmas.Bool.{and_parts, leb-true}
-use Rattle.fork_model.specs.OpenBranches.{OthersAreLeft}
+use Rattle.fork_call.proofs.Common.{◌≡◌, ◌∙◌, ℕ, ◌+◌, ◌≤◌, refl, sym, subst, inl, arith, true, false, Bool, List, ◌++◌, length, replicate, Option, None, cond, OthersAreLeft, BecameIsExact, PositionsAreBounded, most_targets, MessageText}
+use Rattle.fork_call.proofs.Common.{Hop, status_of, Call, rows_of, is_redirection, IsSound, StepsKeepSound, Recipient, TakesAs, IsTimed, retimed, room_for, row_of_recipient}
+use Rattle.std.proofs.Common.{Result, Ok, Err}
+use Rattle.std.specs.Prelude.{IfOk, OnErr}
 use Rattle.fork_model.specs.Sources as sources
-use Rattle.fork_model.specs.Sources.{BecameIsExact}
-use Rattle.fork_model.specs.Steps.{PositionsAreBounded}
-use Rattle.fork_model.specs.Table.{most_targets}
-use Rattle.sip_text.specs.Message.{IsMessage, is_start}
-use Rattle.sip_text.specs.Text.{MessageText, StartText}
-use Rattle.sip_text.specs.Text as text
-use Rattle.sip_uri.specs.declared.hop.Hop.{Hop}
+use Rattle.sip_text.specs.Message.{IsMessage}
 use Rattle.fork_parts.specs.declared.taken.Taken.{Taken}
-use Rattle.fork_parts.specs.Built.{status_of}
-use Rattle.fork_parts.specs.Call.{Call, rows_of}
-use Rattle.fork_parts.specs.Response.{is_redirection}
 use Rattle.fork_parts.specs.SeenTaken.{seen_taken}
-use Rattle.fork_parts.specs.Sound.{IsGivenTo, IsSound, StepsKeepSound}
+use Rattle.fork_parts.specs.Sound.{IsGivenTo}
 use Rattle.fork_parts.specs.Step as step
 use Rattle.fork_parts.specs.Take as to
-use Rattle.fork_parts.specs.Take.{Recipient, TakesAs}
-use Rattle.fork_routing.specs.Kinds.{is_response}
 use Rattle.fork_routing.specs.Matching.{BelongsTo}
 use Rattle.fork_call.specs.declared.fault.TakeFault.{TakeFault}
 use Rattle.fork_call.specs.declared.fault.TakeFault.TheVariants.{Full}
 use Rattle.fork_call.specs.Takes.{Takes}
-use Rattle.fork_call.specs.Timing.{IsTimed, retimed, room_for, row_of_recipient}
 use Rattle.fork_call.proofs.Stepping.{timed_after}
 use Rattle.fork_call.proofs.Timed.{no_more_rows}
 use Rattle.fork_call.proofs.Touching.{Touches, beside_same, takes_touch}
-
--- the status of a response is of three digits, from 100 to 699
-pub status_range : (m : MessageText) → IsMessage m → is_response m.start ≡ true → (100 ≤ status_of m) × (status_of m ≤ 699)
-status_range m is response = by m.start is.head.start response
-  where
-    by : (s : StartText) → is_start s ≡ true → is_response s ≡ true → (100 ≤ status_of (record m { start = s })) × (status_of (record m { start = s }) ≤ 699)
-    by (text.Request method uri) start is = absurd cc
-    by (text.Response status reason) start is =
-        let both = and_parts (nat_le 100 status && nat_le status 699) _ start in
-        let range = and_parts (nat_le 100 status) (nat_le status 699) both.0 in
-        (leb-true 100 status range.0, leb-true status 699 range.1)
 
 given_by : (call : Call) (m : MessageText) (r : Recipient) → BelongsTo call m r → IsMessage m → IsGivenTo r m
 given_by call m to.Server belongs is = _
@@ -75,10 +52,10 @@ module _ (kept : StepsKeepSound) (bounded : PositionsAreBounded) (none : sources
       → after ≡ retimed new (row_of_recipient r) (length call.log.history) (moments ++ replicate (room_for (status_of m)) None)
       → IsTimed new after
   taken_timed result takes same belongs is few times =
-      let quiet = is_redirection (status_of m) ≡ false in
+      let nothing_due = is_redirection (status_of m) ≡ false in
       let came = outcome result takes same (given_by call m r belongs is) in
-      timed_after kept bounded none left exact call new moments after timed sized replied (row_of_recipient r) quiet (room_for (status_of m)) came.0 came.1
-      (room (status_of m) few (λ q. no_more_rows none call new (row_of_recipient r) quiet came.0 q)) times
+      timed_after kept bounded none left exact call new moments after timed sized replied (row_of_recipient r) nothing_due (room_for (status_of m)) came.0 came.1
+      (room (status_of m) few (λ q. no_more_rows none call new (row_of_recipient r) nothing_due came.0 q)) times
 
 -- ---- what is answered
 

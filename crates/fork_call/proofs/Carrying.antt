@@ -1,14 +1,9 @@
-use Rattle.std.proofs.Common.{◌≡◌, ◌∙◌, ℕ, suc, ◌+◌, ◌<◌, ◌≤◌, inl, inr, refl, subst, sym, arith, true, false, Bool, Option, Some, None, List, [], ◌∷◌, ◌++◌, length, length-append}
-use Rattle.std.proofs.lemmas.Bool.{le-leb, leb-false, leb-true}
-use Rattle.std.specs.Prelude.{◌&&◌, not}
-use Rattle.fork_model.specs.Table.{is_cancelled}
-use Rattle.sip_txn.specs.Timers.{is_due}
-use Rattle.fork_parts.specs.Built.{Datagram}
-use Rattle.fork_parts.specs.Call.{Call, leg_at, row_passes, runs_timer_c}
-use Rattle.fork_parts.specs.Due.{Deed, SendRequest, SendCancel, SendAck, SendAnswer, TickServer, TickClient, TickCancel, FireTimerC, GiveUp, IsIdle, IsLeastDue, cancel_at, client_at, give_up_at, is_due_at, timer_c_at}
-use Rattle.fork_parts.specs.Pump.{Pumps, Send}
-use Rattle.fork_parts.specs.Server.{served_due}
-use Rattle.fork_call.specs.Carry.{Carrying, Sent, Lost, Silent, Carries, CarriesAll, Sends, SendsOne, Hands, HandsAll, sent_in, lost_in, most_steps, IsCarriedOut, IsCutOff, IsRunOut, IsSoFar}
+use Rattle.fork_call.proofs.Common.{◌≡◌, ◌∙◌, ℕ, suc, ◌+◌, ◌<◌, ◌≤◌, inl, inr, refl, subst, sym, arith, true, false, Bool, Option, Some, None, List, [], ◌∷◌, ◌++◌, length, length-append, le-leb, leb-false, ◌&&◌, not, is_cancelled, is_due}
+use Rattle.fork_call.proofs.Common.{Datagram, Call, leg_at, runs_timer_c, Deed, SendRequest, SendCancel, SendAck, SendAnswer, TickServer, TickClient, TickCancel, FireTimerC, GiveUp, IsIdle, IsLeastDue, cancel_at, client_at, give_up_at}
+use Rattle.fork_call.proofs.Common.{is_due_at, timer_c_at, Pumps, Send, served_due, Carrying, Sent, Lost, Silent, Carries, CarriesAll, Sends, SendsOne, IsCutOff, IsRunOut, IsSoFar}
+use Rattle.std.proofs.lemmas.Bool.{leb-true}
+use Rattle.fork_parts.specs.Call.{row_passes}
+use Rattle.fork_call.specs.Carry.{Hands, HandsAll, sent_in, lost_in, most_steps, IsCarriedOut}
 
 carries_more : (now : ℕ) (call mid new : Call) (steps : List Carrying) (step : Carrying) → CarriesAll now call steps mid → Carries now mid step new → CarriesAll now call (steps ++ step ∷ []) new
 carries_more now call mid new [] step run last =
@@ -36,9 +31,6 @@ lost_more (Silent ∷ steps) step = lost_more steps step
 module _ {P : Type 0} (sends : Sends P) (count : P → ℕ) (now : ℕ) (call : Call) (port : P) where
   abbrev SoFar : Call → P → ℕ → ℕ → ℕ → Type 0
   SoFar new new_port made sent failed = IsSoFar sends count now call port new new_port made sent failed
-
-  pub so_far_start : IsSoFar sends count now call port call port 0 0 0
-  so_far_start = record { steps = []; run = refl; handed = refl; made_is = refl; sent_are = refl; failed_are = refl }
 
   -- one more step
   so_far_more : (mid new : Call) (mid_port new_port : P) (made sent failed s f : ℕ) (step : Carrying) → SoFar mid mid_port made sent failed
@@ -78,34 +70,6 @@ module _ {P : Type 0} (sends : Sends P) (count : P → ℕ) (now : ℕ) (call : 
   cut_untold mid new mid_port new_port made sent failed d far le pumps lost =
       (far.steps, mid, mid_port, omega (arith, le, far.made_is), far.run, far.handed, inr (d, pumps, lost))
 
-  pub run_idle : (new : Call) (new_port : P) (made sent failed : ℕ) → SoFar new new_port made sent failed → made ≤ most_steps → IsIdle new now
-      → IsRunOut sends count now call port new new_port sent failed true
-  run_idle new new_port made sent failed far le idle = record {
-    steps = far.steps;
-    run = far.run;
-    handed = far.handed;
-    few = omega (arith, far.made_is);
-    sent_are = far.sent_are;
-    failed_are = far.failed_are;
-    done = λ e. idle;
-    long = λ e. absurd cc;
-  }
-
-  pub run_long : (new : Call) (new_port : P) (made sent failed : ℕ) → SoFar new new_port made sent failed → made ≡ most_steps
-      → IsRunOut sends count now call port new new_port sent failed false
-  run_long new new_port made sent failed far e = record {
-    steps = far.steps;
-    run = far.run;
-    handed = far.handed;
-    few = omega (arith, far.made_is, e);
-    sent_are = far.sent_are;
-    failed_are = far.failed_are;
-    done = λ h. absurd cc;
-    long = λ h. far.made_is ∙ e;
-  }
-
--- ---- whether something is still due
-
 moment_stays : (at now : ℕ) (moment : Option ℕ) → at ≤ now → is_due at moment ≡ true → is_due now moment ≡ true
 moment_stays at now None le due = absurd cc
 moment_stays at now (Some m) le due = le-leb m now (let h : m ≤ at = leb-true m at due in omega arith)
@@ -131,16 +95,16 @@ idle_by true h = absurd (h refl)
 idle_by false h = refl
 
 pub idle_before : (call : Call) (now : ℕ) (least : Option ℕ) → IsLeastDue call least → is_due now least ≡ false → IsIdle call now
-idle_before call now None is quiet = is now
-idle_before call now (Some at) is quiet =
-    let before : now < at = leb-false at now quiet in
+idle_before call now None is nothing_due = is now
+idle_before call now (Some at) is nothing_due =
+    let before : now < at = leb-false at now nothing_due in
     λ deed. idle_by (is_due_at call now deed) (λ h. absurd (let le = is.2 now deed h in omega arith))
 
 pub busy_from : (call : Call) (now : ℕ) (least : Option ℕ) → IsLeastDue call least → is_due now least ≡ true → IsIdle call now → ⊥
 busy_from call now None is due idle = absurd cc
 busy_from call now (Some at) is due idle =
     let came : at ≤ now = leb-true at now due in
-    let quiet = idle is.0 in
+    let nothing_due = idle is.0 in
     let busy = due_stays call at now is.0 came is.1 in
     absurd cc
 

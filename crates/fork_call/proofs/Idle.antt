@@ -1,15 +1,10 @@
-use Rattle.std.proofs.Common.{◌≡◌, ℕ, ◌<◌, refl, arith, true, false, Bool, [], Option, Some, None, slice_get}
-use Rattle.std.proofs.lemmas.Bool.{leb-false, lt-leb}
+use Rattle.fork_call.proofs.Common.{◌≡◌, ℕ, ◌<◌, refl, arith, true, false, Bool, [], Option, Some, None, slice_get, leb-false, lt-leb, ◌&&◌, is_none, min, cond, is_row, is_trying, is_cancelled, earlier, is_due, Leg, Call, rows_of, leg_at}
+use Rattle.fork_call.proofs.Common.{lacks_cancel, owes_ack_on, runs_timer_c, give_up_of, SendRequest, SendCancel, SendAck, SendAnswer, TickServer, TickClient, TickCancel, FireTimerC, GiveUp, IsIdle, client_at, cancel_at, timer_c_at}
+use Rattle.fork_call.proofs.Common.{give_up_at, cancel_client_due, if_runs, leg_waits, row_due, due_of}
 use Rattle.std.proofs.Math.Dec.{leb-zero}
-use Rattle.std.specs.Prelude.{nat_le, ◌&&◌, is_none, min, cond}
-use Rattle.fork_model.specs.Table.{is_row, is_trying, is_cancelled}
-use Rattle.sip_txn.specs.Timers.{earlier, is_due}
+use Rattle.std.specs.Prelude.{nat_le}
 use Rattle.fork_parts.specs.Client as client
-use Rattle.fork_parts.specs.Leg.{Leg}
 use Rattle.fork_parts.specs.Server as server
-use Rattle.fork_parts.specs.Call.{Call, rows_of, leg_at, lacks_cancel, owes_ack_on, runs_timer_c, give_up_of}
-use Rattle.fork_parts.specs.Due.{SendRequest, SendCancel, SendAck, SendAnswer, TickServer, TickClient, TickCancel, FireTimerC, GiveUp, IsIdle, client_at, cancel_at, timer_c_at, give_up_at, cancel_client_due}
-use Rattle.fork_call.specs.Scheduled.{if_runs, leg_waits, row_due, due_of}
 
 -- ---- the earlier of two moments
 
@@ -25,7 +20,7 @@ both_later now (Some a) (Some b) e =
 -- ---- one row
 
 -- what is known where nothing is due on a row with this part
-record Quiet (now : ℕ) (trying cancelled runs_c : Bool) (leg : Option Leg) : Type 0 where
+record NothingDue (now : ℕ) (trying cancelled runs_c : Bool) (leg : Option Leg) : Type 0 where
   request : (trying && is_none leg) ≡ false
   cancel : (cancelled && lacks_cancel leg) ≡ false
   ack : owes_ack_on leg ≡ false
@@ -38,9 +33,9 @@ and_false : (b : Bool) → (b && false) ≡ false
 and_false true = refl
 and_false false = refl
 
-quiet_none : (now : ℕ) (trying cancelled runs_c : Bool) → is_due now (row_due trying cancelled runs_c None) ≡ false → Quiet now trying cancelled runs_c None
-quiet_none now true cancelled runs_c e = absurd (let h : nat_le 0 now ≡ true = leb-zero now in cc)
-quiet_none now false cancelled runs_c e = record {
+nothing_due_none : (now : ℕ) (trying cancelled runs_c : Bool) → is_due now (row_due trying cancelled runs_c None) ≡ false → NothingDue now trying cancelled runs_c None
+nothing_due_none now true cancelled runs_c e = absurd (let h : nat_le 0 now ≡ true = leb-zero now in cc)
+nothing_due_none now false cancelled runs_c e = record {
   request = refl;
   cancel = and_false cancelled;
   ack = refl;
@@ -55,9 +50,9 @@ run_later now true at e = e
 run_later now false at e = refl
 
 -- where no part of it is due
-quiet_waits : (now : ℕ) (trying cancelled runs_c : Bool) (leg : Leg) → owes_ack_on (Some leg) ≡ false → (cancelled && is_none leg.cancelling) ≡ false
-    → is_due now (leg_waits cancelled runs_c leg) ≡ false → Quiet now trying cancelled runs_c (Some leg)
-quiet_waits now trying cancelled runs_c leg no_ack no_cancel e =
+nothing_due_waits : (now : ℕ) (trying cancelled runs_c : Bool) (leg : Leg) → owes_ack_on (Some leg) ≡ false → (cancelled && is_none leg.cancelling) ≡ false
+    → is_due now (leg_waits cancelled runs_c leg) ≡ false → NothingDue now trying cancelled runs_c (Some leg)
+nothing_due_waits now trying cancelled runs_c leg no_ack no_cancel e =
     let a = both_later now (client.client_due leg.client) _ e in
     let b = both_later now (cancel_client_due leg.cancelling) _ a.1 in
     let c = both_later now (if_runs runs_c leg.timer_c_at) _ b.1 in
@@ -76,11 +71,11 @@ by_tests now true y w e = absurd (let h : nat_le 0 now ≡ true = leb-zero now i
 by_tests now false true w e = absurd (let h : nat_le 0 now ≡ true = leb-zero now in cc)
 by_tests now false false w e = (refl, refl, e)
 
-quiet : (now : ℕ) (trying cancelled runs_c : Bool) (leg : Option Leg) → is_due now (row_due trying cancelled runs_c leg) ≡ false → Quiet now trying cancelled runs_c leg
-quiet now trying cancelled runs_c None e = quiet_none now trying cancelled runs_c e
-quiet now trying cancelled runs_c (Some leg) e =
+nothing_due : (now : ℕ) (trying cancelled runs_c : Bool) (leg : Option Leg) → is_due now (row_due trying cancelled runs_c leg) ≡ false → NothingDue now trying cancelled runs_c leg
+nothing_due now trying cancelled runs_c None e = nothing_due_none now trying cancelled runs_c e
+nothing_due now trying cancelled runs_c (Some leg) e =
     let t = by_tests now (owes_ack_on (Some leg)) (cancelled && is_none leg.cancelling) (leg_waits cancelled runs_c leg) e in
-    quiet_waits now trying cancelled runs_c leg t.0 t.1 t.2
+    nothing_due_waits now trying cancelled runs_c leg t.0 t.1 t.2
 
 -- ---- the whole call
 
@@ -90,8 +85,8 @@ pub idle : (call : Call) (now : ℕ) → call.server.owed ≡ [] → is_due now 
     → IsIdle call now
 idle call now none served rows = by_deed
   where
-    at : (n : ℕ) → Quiet now (is_row is_trying (slice_get (rows_of call) n)) (is_row is_cancelled (slice_get (rows_of call) n)) (is_row runs_timer_c (slice_get (rows_of call) n)) (leg_at call n)
-    at n = quiet now _ _ _ (leg_at call n) (rows n)
+    at : (n : ℕ) → NothingDue now (is_row is_trying (slice_get (rows_of call) n)) (is_row is_cancelled (slice_get (rows_of call) n)) (is_row runs_timer_c (slice_get (rows_of call) n)) (leg_at call n)
+    at n = nothing_due now _ _ _ (leg_at call n) (rows n)
 
     by_deed : IsIdle call now
     by_deed (SendRequest n) = (at n).request

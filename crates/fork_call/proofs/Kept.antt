@@ -1,29 +1,13 @@
 -- A call that is carried keeps what it was opened with.
-use Rattle.std.proofs.Common.{◌≡◌, ◌∙◌, ◌⊎◌, inl, inr, ℕ, Bool, true, false, List, [], ◌∷◌, Option, Some, None, refl, ap}
-use Rattle.fork_model.specs.Event.{Event}
-use Rattle.fork_model.specs.Reply.{Reply}
-use Rattle.sip_text.specs.Text.{MessageText}
-use Rattle.sip_uri.specs.Contact.{ContactText}
-use Rattle.fork_parts.specs.declared.cause.Cause.{Cause}
+use Rattle.fork_call.proofs.Common.{◌≡◌, ◌∙◌, ◌⊎◌, inl, inr, ℕ, Bool, true, false, List, [], ◌∷◌, Option, Some, None, refl, ap, MessageText, Cause, Way, Leg, Owed, Call, Datagram, answer_of, Deed, SendRequest, SendCancel, SendAck}
+use Rattle.fork_call.proofs.Common.{SendAnswer, TickServer, TickClient, TickCancel, FireTimerC, GiveUp, Pumped, Send, Did, Idle, AnswersBy, AnswersWith, SendsAnswer, TicksClientBy, FiresTimerC, Does, Pumps, FaultsBy, FaultsClient}
+use Rattle.fork_call.proofs.Common.{cancel_faulted, Fails, Carrying, Sent, Lost, Silent, Carries, CarriesAll, Sends, SendsOne, IsCutOff, IsRunOut}
 use Rattle.fork_parts.specs.declared.cause.Cause.TheVariants as cause
-use Rattle.fork_parts.specs.Fixed.{Fixed, Way}
-use Rattle.fork_parts.specs.Leg.{Leg}
+use Rattle.fork_parts.specs.Fixed.{Fixed}
 use Rattle.fork_parts.specs.Server as server
-use Rattle.fork_parts.specs.Server.{Owed}
-use Rattle.fork_parts.specs.Call.{Call}
-use Rattle.fork_parts.specs.Built.{Datagram, answer_of}
-use Rattle.fork_parts.specs.Due.{Deed, SendRequest, SendCancel, SendAck, SendAnswer, TickServer, TickClient, TickCancel, FireTimerC, GiveUp}
-use Rattle.fork_parts.specs.Posting.{Posts}
-use Rattle.fork_parts.specs.Pump.{Pumped, Send, Did, Idle, AnswersBy, AnswersWith, SendsAnswer, TicksClientBy, FiresTimerC, Does, Pumps}
-use Rattle.fork_parts.specs.Failed.{FaultsBy, FaultsClient, cancel_faulted, Fails}
-use Rattle.fork_call.specs.Carry.{Carrying, Sent, Lost, Silent, Carries, CarriesAll, Sends, SendsOne, IsCutOff, IsRunOut}
 
 abbrev fixed_of : Call → Fixed
 fixed_of call = call.fixed
-
-posts_keep : (call new : Call) (event : Event) (contacts : List ContactText) (response : Option MessageText) (reply : Reply)
-    → Posts call event contacts response reply new → new.fixed ≡ call.fixed
-posts_keep call new event contacts response reply posts = ap fixed_of posts.follows
 
 answers_by_keep : (call : Call) (now : ℕ) (rest : List Owed) (answer : MessageText) (sends : Bool) (pumped : Pumped) (new : Call)
     → AnswersBy call now rest answer sends pumped new → new.fixed ≡ call.fixed

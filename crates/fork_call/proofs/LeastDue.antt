@@ -1,15 +1,9 @@
 -- The least moment of the caller's transaction and of all rows is the least at which a call has something to do.
-use Rattle.std.proofs.Common.{◌≡◌, ◌⊎◌, ℕ, zero, suc, ◌<◌, ◌≤◌, inl, inr, ap, refl, sym, subst, arith, true, false, Bool, List, [], ◌∷◌, length, Option, Some, None, slice_get}
-use Rattle.std.proofs.lemmas.Bool.{cases_lt, le-leb, leb-false, lt-leb}
-use Rattle.std.specs.Prelude.{◌&&◌, cond, fold, is_none, min}
-use Rattle.fork_model.specs.Table.{Row}
-use Rattle.sip_txn.specs.Timers.{earlier, is_due}
+use Rattle.fork_call.proofs.Common.{◌≡◌, ◌⊎◌, ℕ, zero, suc, ◌<◌, ◌≤◌, inl, inr, ap, refl, sym, subst, arith, true, false, Bool, List, [], ◌∷◌, length, Option, Some, None, slice_get, cases_lt, le-leb, leb-false, lt-leb, ◌&&◌, cond, fold}
+use Rattle.fork_call.proofs.Common.{is_none, min, Row, earlier, is_due, Leg, Call, found, leg_at, rows_of, give_up_of, lacks_cancel, owes_ack_on, Deed, SendAck, SendCancel, SendRequest, GiveUp, FireTimerC, TickClient, TickCancel}
+use Rattle.fork_call.proofs.Common.{TickServer, SendAnswer, IsIdle, IsLeastDue, cancel_at, cancel_client_due, client_at, give_up_at, is_any, is_due_at, timer_c_at, due_of, if_runs, leg_waits, moments_of, row_due, scheduled, least_of}
 use Rattle.fork_parts.specs.Client.{client_due}
-use Rattle.fork_parts.specs.Leg.{Leg}
 use Rattle.fork_parts.specs.Server as server
-use Rattle.fork_parts.specs.Call.{Call, found, leg_at, rows_of, give_up_of, lacks_cancel, owes_ack_on}
-use Rattle.fork_parts.specs.Due.{Deed, SendAck, SendCancel, SendRequest, GiveUp, FireTimerC, TickClient, TickCancel, TickServer, SendAnswer, IsIdle, IsLeastDue, cancel_at, cancel_client_due, client_at, give_up_at, is_any, is_due_at, timer_c_at}
-use Rattle.fork_call.specs.Scheduled.{due_of, if_runs, least_of, leg_waits, moments_of, row_due, scheduled}
 use Rattle.fork_call.proofs.Idle.{both_later, idle}
 
 -- ---- the moments of rows
@@ -95,8 +89,8 @@ last_of now trying cancelled runs_c (Some leg) due ack cancel request give_up ti
     let waits : is_due now (leg_waits cancelled runs_c leg) ≡ true = past_tests now (owes_ack_on (Some leg)) (cancelled && is_none leg.cancelling) (leg_waits cancelled runs_c leg) ack cancel due in
     let ends : is_due now (earlier (if_runs runs_c leg.timer_c_at) (if_runs cancelled (give_up_of leg.cancelling))) ≡ false =
     neither now (if_runs runs_c leg.timer_c_at) (if_runs cancelled (give_up_of leg.cancelling)) (not_run now runs_c leg.timer_c_at timer_c) (not_run now cancelled (give_up_of leg.cancelling) give_up) in
-    true_by (is_due now (cancel_client_due leg.cancelling)) (λ quiet.
-    let none : is_due now (leg_waits cancelled runs_c leg) ≡ false = neither now (client_due leg.client) _ client (neither now (cancel_client_due leg.cancelling) _ quiet ends) in
+    true_by (is_due now (cancel_client_due leg.cancelling)) (λ nothing_due.
+    let none : is_due now (leg_waits cancelled runs_c leg) ≡ false = neither now (client_due leg.client) _ client (neither now (cancel_client_due leg.cancelling) _ nothing_due ends) in
     absurd cc)
 
 pub last_due : (call : Call) (n now : ℕ) → is_due now (due_of (slice_get (rows_of call) n) (leg_at call n)) ≡ true
@@ -113,19 +107,19 @@ false_or_true true = inr refl
 false_or_true false = inl refl
 
 module _ (call : Call) (none : call.server.owed ≡ []) (sized : length call.legs ≡ length (rows_of call)) where
-  row_quiet : (now : ℕ) → is_due now (least_of (scheduled call)) ≡ false → (n : ℕ) → is_due now (due_of (slice_get (rows_of call) n) (leg_at call n)) ≡ false
-  row_quiet now quiet n =
+  row_nothing_due : (now : ℕ) → is_due now (least_of (scheduled call)) ≡ false → (n : ℕ) → is_due now (due_of (slice_get (rows_of call) n) (leg_at call n)) ≡ false
+  row_nothing_due now nothing_due n =
       let P : Option ℕ → Type 0 = λ m. is_due now m ≡ false in
       elim (moment_stands (rows_of call) call.legs n sized) [
-        | inl h ↦ (none_came now (scheduled call) None quiet).1 n _ h
+        | inl h ↦ (none_came now (scheduled call) None nothing_due).1 n _ h
         | inr h ↦ subst P (sym h.1) refl
       ]
 
   -- before that moment nothing is due
-  quiet_before : (now : ℕ) → is_due now (earlier (server.served_due call.server.machine) (least_of (scheduled call))) ≡ false → IsIdle call now
-  quiet_before now quiet =
-      let both = both_later now (server.served_due call.server.machine) (least_of (scheduled call)) quiet in
-      idle call now none both.0 (row_quiet now both.1)
+  nothing_due_before : (now : ℕ) → is_due now (earlier (server.served_due call.server.machine) (least_of (scheduled call))) ≡ false → IsIdle call now
+  nothing_due_before now nothing_due =
+      let both = both_later now (server.served_due call.server.machine) (least_of (scheduled call)) nothing_due in
+      idle call now none both.0 (row_nothing_due now both.1)
 
   -- on this row something is due
   row_deed : (n at : ℕ) → is_due at (due_of (slice_get (rows_of call) n) (leg_at call n)) ≡ true → (deed : Deed) × (is_due_at call at deed ≡ true)
@@ -163,7 +157,7 @@ module _ (call : Call) (none : call.server.owed ≡ []) (sized : length call.leg
   not_before at e now other due = elim (cases_lt now at) [
     | inl before ↦
         let P : Option ℕ → Type 0 = λ m. is_due now m ≡ false in
-        let quiet = quiet_before now (subst P (sym e) (lt-leb at now before)) other in
+        let nothing_due = nothing_due_before now (subst P (sym e) (lt-leb at now before)) other in
         absurd cc
     | inr h ↦ h
   ]
@@ -171,7 +165,7 @@ module _ (call : Call) (none : call.server.owed ≡ []) (sized : length call.leg
   least_at : (least : Option ℕ) → earlier (server.served_due call.server.machine) (least_of (scheduled call)) ≡ least → IsLeastDue call least
   least_at None e =
       let P : Option ℕ → Type 0 = λ m. (now : ℕ) → is_due now m ≡ false in
-      λ now. quiet_before now (subst P (sym e) (λ now. refl) now)
+      λ now. nothing_due_before now (subst P (sym e) (λ now. refl) now)
   least_at (Some at) e =
       let served = server.served_due call.server.machine in
       elim (earlier_is served (least_of (scheduled call)) at e) [

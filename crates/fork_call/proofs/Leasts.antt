@@ -1,11 +1,8 @@
 -- Where the earliest of a list of moments stands, when a moment is added or changed.
-use Rattle.std.proofs.Common.{◌≡◌, ◌∙◌, ◌++◌, ℕ, zero, suc, inl, inr, ap, refl, sym, subst, arith, true, false, ◌<◌, ◌≤◌, List, [], ◌∷◌, length, take, ◌+◌, Option, Some, None, replicate, slice_get, slice_set}
-use Rattle.std.proofs.lemmas.Bool.{cases_lt, ltb-true, ltb-false}
-use Rattle.std.specs.Prelude.{fold, get_or, min}
-use Rattle.std.specs.List.{list_any}
-use Rattle.sip_txn.specs.Timers.{earlier, is_due}
-use Rattle.fork_parts.specs.Call.{found}
-use Rattle.fork_call.specs.Scheduled.{IsDueAt, comes_before, least_of, moment_at}
+use Rattle.fork_call.proofs.Common.{◌≡◌, ◌∙◌, ◌++◌, ℕ, zero, suc, inl, inr, ap, refl, sym, subst, arith, true, false, ◌<◌, ◌≤◌, List, [], ◌∷◌, length, take, ◌+◌, Option, Some, None, replicate, slice_get, slice_set, cases_lt, fold, min}
+use Rattle.fork_call.proofs.Common.{list_any, earlier, is_due, found, comes_before, least_of, moment_at}
+use Rattle.std.proofs.lemmas.Bool.{ltb-true, ltb-false}
+use Rattle.std.specs.Prelude.{get_or}
 use Rattle.fork_call.proofs.Idle.{both_later}
 
 swap_earlier : (a b : Option ℕ) → earlier a b ≡ earlier b a
@@ -196,12 +193,6 @@ first_stays moments n first before m there is apart late =
     ∙ least_set moments n before m there apart
 
 -- ---- what is due
-
-pub is_there : (moments : List (Option ℕ)) (now place : ℕ) → is_due now (moment_at moments place) ≡ true → IsDueAt moments now place
-is_there [] now place e = absurd cc
-is_there (None ∷ moments) now zero e = absurd cc
-is_there (Some a ∷ moments) now zero e = (Some a, refl, e)
-is_there (x ∷ moments) now (suc k) e = is_there moments now k e
 
 none_come : (now : ℕ) (moments : List (Option ℕ)) (first : Option ℕ) → is_due now (fold earlier first moments) ≡ false
     → (is_due now first ≡ false) × (list_any (is_due now) moments ≡ false)

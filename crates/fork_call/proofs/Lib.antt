@@ -1,3 +1,5 @@
+pub mod Common
+pub mod laws
 pub mod Idle
 pub mod Carrying
 pub mod Kept

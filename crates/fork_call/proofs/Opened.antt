@@ -1,14 +1,10 @@
 -- A call as it opens.
-use Rattle.std.proofs.Common.{◌≡◌, ℕ, ap, sym, refl, subst, arith, List, Option}
-use Rattle.sip_text.specs.Text.{MessageText}
-use Rattle.sip_uri.specs.declared.hop.Hop.{Hop}
+use Rattle.fork_call.proofs.Common.{◌≡◌, ℕ, ap, sym, refl, subst, arith, List, Option, MessageText, Hop, Call, Opens, scheduled, IsTimed}
 use Rattle.fork_setup.specs.Setup.{Setup}
-use Rattle.fork_parts.specs.Call.{Call, numbered}
+use Rattle.fork_parts.specs.Call.{numbered}
 use Rattle.fork_parts.specs.Sound.{BegunIsSound}
-use Rattle.fork_routing.specs.Opening.{Opens, choices_for, fixed_of}
+use Rattle.fork_routing.specs.Opening.{choices_for, fixed_of}
 use Rattle.fork_routing.specs.Targets.{targets_of}
-use Rattle.fork_call.specs.Scheduled.{scheduled}
-use Rattle.fork_call.specs.Timing.{IsTimed}
 
 pub opened_timed : (begun : BegunIsSound) (setup : Setup) (number : ℕ) (m : MessageText) (source : Hop) (call : Call) (moments : List (Option ℕ))
     → Opens setup number m source call → moments ≡ scheduled call → IsTimed call moments

@@ -1,27 +1,14 @@
 -- A row's moment changes by its part, and by the events that name, start or cancel it: nothing else changes it.
-use Rattle.std.proofs.Common.{◌≡◌, ◌∙◌, ℕ, zero, suc, inl, inr, ap, refl, sym, subst, true, false, Bool, List, [], ◌∷◌, ◌++◌, map, length, Option, Some, None, slice_get}
-use Rattle.std.specs.Prelude.{◌&&◌, not}
-use Rattle.fork_model.specs.Table.{State, Idle, Trying, Rung, Ended, Row, Table, is_row, is_trying, is_cancelled}
-use Rattle.fork_model.specs.Event.{Event, row_named}
-use Rattle.fork_model.specs.OpenBranches.{IsLeftAt, OthersAreLeft}
-use Rattle.fork_model.specs.Reply.{Reply, became, has_become}
-use Rattle.fork_model.specs.Sources.{BecameIsExact, IsNumberIn}
-use Rattle.fork_model.specs.Step.{next}
-use Rattle.fork_book.specs.Log.{added, table_of}
-use Rattle.sip_text.specs.Text.{MessageText}
-use Rattle.sip_uri.specs.Contact.{ContactText}
-use Rattle.fork_parts.specs.Leg.{Leg}
-use Rattle.fork_parts.specs.Call.{Call, found, leg_at, rows_of, runs_timer_c}
-use Rattle.fork_parts.specs.Posting.{Posts, call_tag, no_leg, rows_more}
-use Rattle.fork_parts.proofs.laws.Logs.{table_added}
-use Rattle.fork_call.specs.Scheduled.{IsTimedBut, due_of, if_runs, row_due, moment_at, moments_of, scheduled}
+use Rattle.fork_call.proofs.Common.{◌≡◌, ◌∙◌, ℕ, zero, suc, inl, inr, ap, refl, sym, subst, true, false, Bool, List, [], ◌∷◌, ◌++◌, map, length, Option, Some, None, slice_get, ◌&&◌, not, Row, Table, is_row, is_trying, is_cancelled, Event}
+use Rattle.fork_call.proofs.Common.{row_named, OthersAreLeft, Reply, BecameIsExact, IsNumberIn, next, added, table_of, MessageText, ContactText, Leg, Call, found, leg_at, rows_of, runs_timer_c, Posts, call_tag, table_added, due_of, if_runs}
+use Rattle.fork_call.proofs.Common.{row_due, moments_of, scheduled, IsTimedBut, moment_at}
+use Rattle.fork_model.specs.Table.{State, Idle, Trying, Rung, Ended}
+use Rattle.fork_model.specs.OpenBranches.{IsLeftAt}
+use Rattle.fork_model.specs.Reply.{became, has_become}
+use Rattle.fork_parts.specs.Posting.{no_leg, rows_more}
 use Rattle.fork_call.proofs.LeastDue as due
 
 -- ---- a branch that an event does not name
-
-not_new : (b : Bool) → (true && not b) ≡ false → true ≡ b
-not_new true e = refl
-not_new false e = absurd cc
 
 -- where it is not started and not cancelled, the timers that its moment rests on run as before
 record RunsAs (old new : State) : Type 0 where

@@ -1,19 +1,16 @@
 -- Any list of calls is a run, turn by turn.
-use Rattle.std.proofs.Common.{◌≡◌, ◌∙◌, ℕ, refl, ap, subst, inl, inr, [], ◌∷◌, length, Option}
+use Rattle.fork_call.proofs.Common.{◌≡◌, ◌∙◌, ℕ, refl, ap, subst, inl, inr, [], ◌∷◌, length, Option, Log, added, table_of, Call, call_tag}
 use Rattle.fork_model.specs.Reply.{IsReply}
-use Rattle.fork_book.specs.Log.{Log, added, table_of}
-use Rattle.fork_parts.specs.Call.{Call}
-use Rattle.fork_parts.specs.Posting.{call_tag}
 use Rattle.fork_parts.specs.Pump as pump
 use Rattle.fork_parts.specs.Step as step
-use Rattle.fork_parts.specs.Step.{Input, Output, Run, Step, Turn}
+use Rattle.fork_parts.specs.Step.{Input, Output, Step, Turn}
 use Rattle.fork_call.specs.Runs.{Answers, CallsAreRuns, Came, IsInput, IsTurn, Logs, Lost, May, Said}
 use Rattle.fork_call.proofs.Touching.{Touches, does_touch, fails_touch, takes_touch}
 
 -- what a step touches says what it posts
-logged : (call new : Call) (row : Option ℕ) (quiet : Type 0) → Touches call new row quiet → Logs call.log new.log
-logged call new row quiet (inl beside) = inl beside.log
-logged call new row quiet (inr p) =
+logged : (call new : Call) (row : Option ℕ) (nothing_due : Type 0) → Touches call new row nothing_due → Logs call.log new.log
+logged call new row nothing_due (inl beside) = inl beside.log
+logged call new row nothing_due (inr p) =
     let posts = p.posts in
     let log : new.log ≡ added p.mid.log call_tag p.event p.reply = ap (λ (x : Call). x.log) posts.follows in
     let R : Log → Type 0 = λ l. IsReply (table_of l) p.event (length l.history) p.reply in

@@ -1,31 +1,13 @@
 -- What is next to be done on a call, and how a step leaves it.
-use Rattle.std.proofs.Common.{◌≡◌, ◌∙◌, ℕ, zero, suc, ◌+◌, ◌<◌, ◌≤◌, ap, refl, sym, inl, inr, arith, true, false, Bool, List, [], ◌∷◌, ◌++◌, length, replicate, Option, Some, None, slice_get}
-use Rattle.std.specs.Prelude.{IfNone, ◌||◌, ◌==◌}
-use Rattle.std.specs.List.{list_any}
-use Rattle.std.proofs.lemmas.Bool.{eqb-true}
-use Rattle.std.proofs.lemmas.Option.{slice_get_within}
-use Rattle.fork_model.specs.Event.{Event}
+use Rattle.fork_call.proofs.Common.{◌≡◌, ◌∙◌, ℕ, zero, suc, ◌+◌, ◌<◌, ◌≤◌, ap, refl, sym, inl, inr, arith, true, false, Bool, List, [], ◌∷◌, ◌++◌, length, replicate, Option, Some, None, slice_get, ◌==◌, list_any, eqb-true, slice_get_within}
+use Rattle.fork_call.proofs.Common.{Event, OthersAreLeft, Reply, BecameIsExact, next, PositionsAreBounded, Table, Log, Posted, is_due, Cause, Call, leg_at, rows_of, Deed, IsIdle, is_due_at, Fails, Does, Pumped, IsSound, StepsKeepSound}
+use Rattle.fork_call.proofs.Common.{due_of, scheduled, IsTimed, retimed, row_moment, row_of_cause, row_of_deed}
+use Rattle.std.specs.Prelude.{IfNone, ◌||◌}
 use Rattle.fork_model.specs.History.{AreReplies}
-use Rattle.fork_model.specs.OpenBranches.{OthersAreLeft}
-use Rattle.fork_model.specs.Reply.{Reply}
 use Rattle.fork_model.specs.Sources as sources
-use Rattle.fork_model.specs.Sources.{BecameIsExact}
-use Rattle.fork_model.specs.Step.{next}
-use Rattle.fork_model.specs.Steps.{PositionsAreBounded}
-use Rattle.fork_model.specs.Table.{Table}
-use Rattle.fork_book.specs.Log.{IsLog, Log, Posted, events_of}
-use Rattle.sip_txn.specs.Timers.{is_due}
-use Rattle.fork_parts.specs.declared.cause.Cause.{Cause}
-use Rattle.fork_parts.specs.Call.{Call, leg_at, rows_of}
-use Rattle.fork_parts.specs.Due.{Deed, IsIdle, is_due_at}
-use Rattle.fork_parts.specs.Failed.{Fails}
-use Rattle.fork_parts.specs.Pump.{Does, Pumped}
+use Rattle.fork_book.specs.Log.{IsLog, events_of}
 use Rattle.fork_parts.specs.Server as server
-use Rattle.fork_parts.specs.Server.{Owed}
-use Rattle.fork_parts.specs.Sound.{IsSound, StepsKeepSound}
 use Rattle.fork_parts.specs.Step as step
-use Rattle.fork_call.specs.Scheduled.{due_of, scheduled}
-use Rattle.fork_call.specs.Timing.{IsTimed, retimed, row_moment, row_of_cause, row_of_deed}
 use Rattle.fork_call.proofs.Idle.{idle}
 use Rattle.fork_call.proofs.LeastDue.{moment_stands}
 use Rattle.fork_call.proofs.Timed.{length_scheduled, no_more_rows, retimed_is, scheduled_is, still_within}
@@ -104,16 +86,16 @@ no_padding (m ∷ moments) = ap (λ (ms : List (Option ℕ)). m ∷ ms) (no_padd
 module _ (kept : StepsKeepSound) (bounded : PositionsAreBounded) (none : sources.AddsNoRow) (left : OthersAreLeft) (exact : BecameIsExact)
     (call new : Call) (moments after : List (Option ℕ)) (timed : IsTimed call moments)
     (sized : length call.legs ≡ length (rows_of call)) (replied : length call.log.replies ≡ length call.log.history) where
-  pub timed_after : (row : Option ℕ) (quiet : Type 0) (p : ℕ) → Touches call new row quiet → IsSound new
+  pub timed_after : (row : Option ℕ) (nothing_due : Type 0) (p : ℕ) → Touches call new row nothing_due → IsSound new
       → length (rows_of new) ≤ length (rows_of call) + p
       → after ≡ retimed new row (length call.log.history) (moments ++ replicate p None)
       → IsTimed new after
-  timed_after row quiet p touches sound room is = record {
+  timed_after row nothing_due p touches sound room is = record {
     sound = sound;
     times = is
         ∙ ap (λ (ms : List (Option ℕ)). retimed new row (length call.log.history) (ms ++ replicate p None)) timed.times
-        ∙ retimed_is left exact call new row quiet p sized replied room touches;
-    within = still_within bounded call new row quiet touches timed.within;
+        ∙ retimed_is left exact call new row nothing_due p sized replied room touches;
+    within = still_within bounded call new row nothing_due touches timed.within;
   }
 
   -- without more rows

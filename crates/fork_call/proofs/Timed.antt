@@ -1,27 +1,15 @@
 -- After a step each row has its moment, where the rows that the step touched are timed anew.
-use Rattle.std.proofs.Common.{◌≡◌, ◌∙◌, ◌⊎◌, ℕ, zero, suc, ◌+◌, ◌<◌, ◌≤◌, ap, refl, sym, subst, inl, inr, arith, List, [], ◌∷◌, ◌++◌, length, length-append, replicate, take, Option, Some, None, slice_get, slice_set}
-use Rattle.std.specs.Prelude.{false}
-use Rattle.std.proofs.lemmas.Bool.{cases_lt}
-use Rattle.std.proofs.lemmas.Option.{slice_get_past, slice_get_within}
+use Rattle.fork_call.proofs.Common.{◌≡◌, ◌∙◌, ◌⊎◌, ℕ, zero, suc, ◌+◌, ◌<◌, ◌≤◌, ap, refl, sym, subst, inl, inr, arith, List, [], ◌∷◌, ◌++◌, length, length-append, replicate, take, Option, Some, None, slice_get, slice_set, false, cases_lt}
+use Rattle.fork_call.proofs.Common.{slice_get_within, Core, Event, row_named, Reply, OthersAreLeft, BecameIsExact, IsNumberIn, next, PositionsAreBounded, Row, Table, Log, Posted, added, table_of, MessageText, ContactText, Call, found}
+use Rattle.fork_call.proofs.Common.{leg_at, rows_of, Leg, Posts, call_tag, table_added, due_of, moments_of, scheduled, IsTimedBut, row_moment, retimed, timed}
+use Rattle.std.proofs.lemmas.Option.{slice_get_past}
 use Rattle.std.proofs.lemmas.List.{length-replicate}
-use Rattle.fork_model.specs.Core.{Core, core_next, core_offered, is_full}
-use Rattle.fork_model.specs.Event.{Event, row_named}
-use Rattle.fork_model.specs.Reply.{Reply}
-use Rattle.fork_model.specs.OpenBranches.{OthersAreLeft}
-use Rattle.fork_model.specs.Sources.{BecameIsExact, IsNumberIn}
+use Rattle.fork_model.specs.Core.{core_next, core_offered, is_full}
 use Rattle.fork_model.specs.Sources as sources
-use Rattle.fork_model.specs.Step.{next}
-use Rattle.fork_model.specs.Steps.{IsWithin, PositionsAreBounded}
-use Rattle.fork_model.specs.Table.{Row, Table}
-use Rattle.fork_book.specs.Log.{Log, Posted, added, core_of, table_of}
-use Rattle.sip_text.specs.Text.{MessageText}
-use Rattle.sip_uri.specs.Contact.{ContactText}
-use Rattle.fork_parts.specs.Call.{Call, found, leg_at, rows_of}
-use Rattle.fork_parts.specs.Leg.{Leg}
-use Rattle.fork_parts.specs.Posting.{Posts, call_tag}
-use Rattle.fork_parts.proofs.laws.Logs.{table_added}
-use Rattle.fork_call.specs.Scheduled.{IsTimedBut, due_of, moments_of, rows_in, scheduled}
-use Rattle.fork_call.specs.Timing.{row_moment, retimed, row_list, timed, timed_at, touched}
+use Rattle.fork_model.specs.Steps.{IsWithin}
+use Rattle.fork_book.specs.Log.{core_of}
+use Rattle.fork_call.specs.inner.Scheduled.{rows_in}
+use Rattle.fork_call.specs.inner.Timing.{row_list, timed_at, touched}
 use Rattle.fork_call.proofs.Retimed.{length_moments, posts_timed, timed_at_once}
 use Rattle.fork_call.proofs.Touching.{Touches}
 
@@ -172,11 +160,11 @@ log_posted : (mid new : Call) (event : Event) (contacts : List ContactText) (res
     → Posts mid event contacts response reply new → new.log ≡ added mid.log call_tag event reply
 log_posted mid new event contacts response reply posts = ap (λ (x : Call). x.log) posts.follows
 
-pub still_within : (bounded : PositionsAreBounded) (call new : Call) (row : Option ℕ) (quiet : Type 0) → Touches call new row quiet → IsWithin (core_of call.log) → IsWithin (core_of new.log)
-still_within bounded call new row quiet (inl beside) within =
+pub still_within : (bounded : PositionsAreBounded) (call new : Call) (row : Option ℕ) (nothing_due : Type 0) → Touches call new row nothing_due → IsWithin (core_of call.log) → IsWithin (core_of new.log)
+still_within bounded call new row nothing_due (inl beside) within =
     let P : Log → Type 0 = λ l. IsWithin (core_of l) in
     subst P (sym beside.log) within
-still_within bounded call new row quiet (inr posted) within =
+still_within bounded call new row nothing_due (inr posted) within =
     let P : Log → Type 0 = λ l. IsWithin (core_of l) in
     let Q : Core → Type 0 = λ c. IsWithin c in
     let before : IsWithin (core_of posted.mid.log) = subst P (sym posted.beside.log) within in
@@ -222,9 +210,9 @@ module _ (left : OthersAreLeft) (exact : BecameIsExact) (call new : Call) (event
       either_not (Some n) o s c (suc place, e) = both_not s c (place, e)
 
 -- without contacts there are no more rows
-pub no_more_rows : (none : sources.AddsNoRow) (call new : Call) (row : Option ℕ) (quiet : Type 0) → Touches call new row quiet → quiet → length (rows_of new) ≡ length (rows_of call)
-no_more_rows none call new row quiet (inl beside) q = ap (λ (l : Log). length (table_of l).rows) beside.log
-no_more_rows none call new row quiet (inr p) q =
+pub no_more_rows : (none : sources.AddsNoRow) (call new : Call) (row : Option ℕ) (nothing_due : Type 0) → Touches call new row nothing_due → nothing_due → length (rows_of new) ≡ length (rows_of call)
+no_more_rows none call new row nothing_due (inl beside) q = ap (λ (l : Log). length (table_of l).rows) beside.log
+no_more_rows none call new row nothing_due (inr p) q =
     ap (λ (l : Log). length (table_of l).rows) (log_posted p.mid new p.event p.contacts p.response p.reply p.posts)
     ∙ ap (λ (t : Table). length t.rows) (table_added p.mid.log call_tag p.event p.reply)
     ∙ none (table_of p.mid.log) p.event (length p.mid.log.history) (p.plain q)
@@ -234,7 +222,7 @@ row_other : (row : Option ℕ) (k : ℕ) → (IsNumberIn (row_list row) k → �
 row_other None k none e = absurd cc
 row_other (Some n) k none e = none (zero, e)
 
-module _ (left : OthersAreLeft) (exact : BecameIsExact) (call new : Call) (row : Option ℕ) (quiet : Type 0) (p : ℕ)
+module _ (left : OthersAreLeft) (exact : BecameIsExact) (call new : Call) (row : Option ℕ) (nothing_due : Type 0) (p : ℕ)
     (sized : length call.legs ≡ length (rows_of call)) (replied : length call.log.replies ≡ length call.log.history)
     (room : length (rows_of new) ≤ length (rows_of call) + p) where
   abbrev padded : List (Option ℕ)
@@ -262,7 +250,7 @@ module _ (left : OthersAreLeft) (exact : BecameIsExact) (call new : Call) (row :
       get_take (length (rows_of new)) padded k lt ∙ get_padding (scheduled call) None p k (omega (arith, b)) (omega (arith, b, room))
 
   -- a row that the step does not touch has its moment as before
-  untouched : Touches call new row quiet → (k : ℕ) → k < length (rows_of new) → (IsNumberIn (touched new row (length call.log.history)) k → ⊥)
+  untouched : Touches call new row nothing_due → (k : ℕ) → k < length (rows_of new) → (IsNumberIn (touched new row (length call.log.history)) k → ⊥)
       → slice_get cut k ≡ Some (row_moment new k)
   untouched (inl beside) k lt other =
       let rows : rows_of new ≡ rows_of call = ap (λ (l : Log). (table_of l).rows) beside.log in
@@ -301,7 +289,7 @@ module _ (left : OthersAreLeft) (exact : BecameIsExact) (call new : Call) (row :
             cut_new k lt above ∙ ap (λ (m : Option ℕ). Some m) (sym none)
       ]
 
-  pub retimed_is : Touches call new row quiet → retimed new row (length call.log.history) padded ≡ scheduled new
+  pub retimed_is : Touches call new row nothing_due → retimed new row (length call.log.history) padded ≡ scheduled new
   retimed_is touches =
       let rows = touched new row (length call.log.history) in
       let size : length (timed new rows cut) ≡ length (rows_of new) = length_timed new rows cut ∙ length_cut in

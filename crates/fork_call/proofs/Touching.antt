@@ -1,29 +1,20 @@
 -- What a step touches: the part of its own row, and, where it posts an event, the rows of that.
-use Rattle.std.proofs.Common.{◌≡◌, ◌∙◌, ◌⊎◌, ℕ, zero, suc, ap, refl, sym, inl, inr, true, false, Bool, List, [], ◌∷◌, length, map, Option, Some, None, slice_get}
-use Rattle.std.specs.Prelude.{cond, nat_lt}
+use Rattle.fork_call.proofs.Common.{◌≡◌, ◌∙◌, ◌⊎◌, ℕ, zero, suc, ap, refl, sym, inl, inr, true, false, Bool, List, [], ◌∷◌, length, map, Option, Some, None, slice_get, cond, Event, row_named, Reply, MessageText, ContactText, Hop, Cause}
+use Rattle.fork_call.proofs.Common.{answer_of, status_of, Call, found, leg_at, Deed, Fails, FaultsBy, FaultsClient, cancel_faulted, Leg, Way, Posts, AnswersBy, AnswersWith, Did, Does, FiresTimerC, Idle, Pumped, Pumps, Send, SendsAnswer}
+use Rattle.fork_call.proofs.Common.{TicksClientBy, is_redirection, Owed, Recipient, TakesAs, row_of_cause, row_of_deed, row_of_recipient}
+use Rattle.std.specs.Prelude.{nat_lt}
 use Rattle.fork_model.specs.Event as fork
-use Rattle.fork_model.specs.Event.{Event, FinalAnswer, row_named}
-use Rattle.fork_model.specs.Reply.{Reply}
+use Rattle.fork_model.specs.Event.{FinalAnswer}
 use Rattle.fork_model.specs.Sources.{offers_of}
-use Rattle.sip_text.specs.Text.{MessageText}
-use Rattle.sip_uri.specs.Contact.{ContactText}
-use Rattle.sip_uri.specs.declared.hop.Hop.{Hop}
-use Rattle.fork_parts.specs.declared.cause.Cause.{Cause}
 use Rattle.fork_parts.specs.declared.cause.Cause.TheVariants as cause
-use Rattle.fork_parts.specs.Built.{answer_of, status_of}
-use Rattle.fork_parts.specs.Call.{Call, found, leg_at, set_leg, with_leg}
+use Rattle.fork_parts.specs.Call.{set_leg, with_leg}
 use Rattle.fork_parts.specs.Due as due
-use Rattle.fork_parts.specs.Due.{Deed}
-use Rattle.fork_parts.specs.Failed.{Fails, FaultsBy, FaultsClient, cancel_faulted, faulted, faulted_cancel}
-use Rattle.fork_parts.specs.Leg.{Leg}
-use Rattle.fork_parts.specs.Fixed.{Way}
-use Rattle.fork_parts.specs.Posting.{Posts}
-use Rattle.fork_parts.specs.Pump.{AnswersBy, AnswersWith, Did, Does, FiresTimerC, Idle, Pumped, Pumps, Send, SendsAnswer, TicksClientBy, sent_if, stopped, ticked}
-use Rattle.fork_parts.specs.Response.{challenges_by, contacts_by, event_by, is_redirection, offer_of}
-use Rattle.fork_parts.specs.Server.{Again, CancelOk, Final, Owed, Passed, Server, Trying, answer_event, served_after, served_out}
+use Rattle.fork_parts.specs.Failed.{faulted, faulted_cancel}
+use Rattle.fork_parts.specs.Pump.{sent_if, stopped, ticked}
+use Rattle.fork_parts.specs.Response.{challenges_by, contacts_by, event_by, offer_of}
+use Rattle.fork_parts.specs.Server.{Again, CancelOk, Final, Passed, Server, Trying, answer_event, served_after, served_out}
 use Rattle.fork_parts.specs.Take as to
-use Rattle.fork_parts.specs.Take.{CancelledBy, Recipient, Responds, Taken, TakesAs, going_up, leg_after, leg_posted, owes_cancel_ok}
-use Rattle.fork_call.specs.Timing.{row_of_cause, row_of_deed, row_of_recipient}
+use Rattle.fork_parts.specs.Take.{CancelledBy, Responds, Taken, going_up, leg_after, leg_posted, owes_cancel_ok}
 
 -- the log is the same, and the parts of all rows but this one
 pub record IsBeside (call mid : Call) (row : Option ℕ) : Type 0 where
@@ -32,7 +23,7 @@ pub record IsBeside (call mid : Call) (row : Option ℕ) : Type 0 where
   pub legs : (k : ℕ) → (row ≡ Some k → ⊥) → leg_at mid k ≡ leg_at call k
 
 -- an event was posted besides, which names no other row; where this holds, it brings no contacts
-pub record IsPosted (call new : Call) (row : Option ℕ) (quiet : Type 0) : Type 0 where
+pub record IsPosted (call new : Call) (row : Option ℕ) (nothing_due : Type 0) : Type 0 where
   pub mid : Call
   pub event : Event
   pub contacts : List ContactText
@@ -40,11 +31,11 @@ pub record IsPosted (call new : Call) (row : Option ℕ) (quiet : Type 0) : Type
   pub reply : Reply
   pub beside : IsBeside call mid row
   pub named : (k : ℕ) → (row ≡ Some k → ⊥) → row_named event ≡ Some k → ⊥
-  pub plain : quiet → offers_of event ≡ []
+  pub plain : nothing_due → offers_of event ≡ []
   pub posts : Posts mid event contacts response reply new
 
 abbrev pub Touches : Call → Call → Option ℕ → Type 0 → Type 0
-Touches call new row quiet = IsBeside call new row ⊎ IsPosted call new row quiet
+Touches call new row nothing_due = IsBeside call new row ⊎ IsPosted call new row nothing_due
 
 -- ---- one part
 
@@ -198,9 +189,9 @@ bare_offers n status m e = by_test (nat_lt status 200)
     by_test true = refl
     by_test false = ap (map offer_of) none
 
-cancel_touches : (call new : Call) (cancel : MessageText) (hop : Hop) (taken : Taken) (quiet : Type 0) → CancelledBy call cancel hop taken new → Touches call new None quiet
-cancel_touches call new cancel hop to.Absorbed quiet (c, e) = inl (beside_server call new _ None e)
-cancel_touches call new cancel hop (to.Posted at) quiet (c, reply, placed, posts) = inr (record {
+cancel_touches : (call new : Call) (cancel : MessageText) (hop : Hop) (taken : Taken) (nothing_due : Type 0) → CancelledBy call cancel hop taken new → Touches call new None nothing_due
+cancel_touches call new cancel hop to.Absorbed nothing_due (c, e) = inl (beside_server call new _ None e)
+cancel_touches call new cancel hop (to.Posted at) nothing_due (c, reply, placed, posts) = inr (record {
   mid = owes_cancel_ok call cancel hop;
   event = fork.Cancel;
   contacts = [];
@@ -211,7 +202,7 @@ cancel_touches call new cancel hop (to.Posted at) quiet (c, reply, placed, posts
   plain = λ q. refl;
   posts = posts;
 })
-cancel_touches call new cancel hop to.Full quiet h = absurd h
+cancel_touches call new cancel hop to.Full nothing_due h = absurd h
 
 response_touches : (call new : Call) (now n : ℕ) (leg : Leg) (way : Way) (m : MessageText) (taken : Taken)
     → Responds call n leg way now m taken new → Touches call new (Some n) (is_redirection (status_of m) ≡ false)

@@ -1,5 +1,5 @@
 //! Calls.
-ghost use Rattle.std.specs.Prelude.{◌≡◌, ◌↔◌, ℕ, length, true, IfErr, IfNone, IfOk, IfSome, IsErrOf, IsTrue, OnErr, OnOk};
+ghost use Rattle.std.specs.Prelude.{◌≡◌, ◌↔◌, length, true, IfErr, IfNone, IfOk, IfSome, IsErrOf, IsTrue, OnErr, OnOk};
 ghost use Rattle.fork_parts.specs.Due.{IsIdle, IsLeastDue, IsOver, is_due_at};
 ghost use Rattle.fork_parts.specs.Failed.{Fails};
 ghost use Rattle.fork_parts.specs.Pump.{Pumps};
@@ -8,10 +8,11 @@ ghost use Rattle.fork_parts.specs.SeenTaken.{seen_taken};
 ghost use Rattle.fork_parts.specs.Take as take;
 ghost use Rattle.fork_routing.specs.Matching.{BelongsToNone};
 ghost use Rattle.fork_routing.specs.Opening.{IsOpenable, Opens, Refuses};
-ghost use Rattle.fork_call.specs.SeenDeed.{seen_deed};
+ghost use Rattle.fork_call.specs.inner.SeenDeed.{seen_deed};
 ghost use Rattle.fork_call.specs.Takes.{Takes};
-ghost use Rattle.fork_call.specs.Ending.{AreOver};
-ghost use Rattle.fork_call.specs.Timing.{IsTimed, row_of_cause};
+ghost use Rattle.fork_call.specs.inner.Ending.{AreOver};
+ghost use Rattle.fork_call.specs.Timing.{IsTimed};
+ghost use Rattle.fork_call.specs.inner.Timing.{row_of_cause};
 
 use crate::deed::Deed;
 use crate::fault::TakeFault;

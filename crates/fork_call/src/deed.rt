@@ -1,13 +1,12 @@
 //! What a call has to do next.
-ghost use Rattle.std.specs.Prelude.{◌≡◌, ◌<◌, length, true, IfOk, OnErr};
+ghost use Rattle.std.specs.Prelude.{◌≡◌, true, IfOk, OnErr};
 ghost use Rattle.sip_txn.specs.Timers.{is_due};
-ghost use Rattle.fork_parts.specs.Call.{rows_of};
 ghost use Rattle.fork_parts.specs.Due.{is_due_at};
 ghost use Rattle.fork_parts.specs.Pump.{Does};
 ghost use Rattle.fork_parts.specs.SeenStep.{pumped};
 ghost use Rattle.fork_parts.specs.Sound.{IsSound};
-ghost use Rattle.fork_call.specs.SeenDeed.{seen_deed};
-ghost use Rattle.fork_call.specs.Timing.{row_moment, row_of_deed};
+ghost use Rattle.fork_call.specs.inner.SeenDeed.{seen_deed};
+ghost use Rattle.fork_call.specs.inner.Timing.{row_moment, row_of_deed};
 
 use crate::schedule::is_due;
 use fork_parts::{Parts, Step};

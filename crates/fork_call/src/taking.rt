@@ -9,7 +9,7 @@ ghost use Rattle.fork_parts.specs.Take as take;
 ghost use Rattle.fork_parts.specs.Take.{RespondsOn, TakesAs, TakesCancel};
 ghost use Rattle.fork_routing.specs.Matching.{BelongsTo};
 ghost use Rattle.fork_routing.specs.SeenRecipient.{seen_recipient};
-ghost use Rattle.fork_call.specs.Timing.{room_for, row_of_recipient};
+ghost use Rattle.fork_call.specs.inner.Timing.{room_for, row_of_recipient};
 
 use crate::fault::TakeFault;
 use fork_parts::{Parts, PostFault, Taken};

@@ -1,7 +1,7 @@
 //! From when on something is to be done on the rows of a call.
 ghost use Rattle.std.specs.Prelude.{◌≡◌, IfOk};
 ghost use Rattle.fork_call.specs.Scheduled.{if_runs, scheduled};
-ghost use Rattle.fork_call.specs.Timing.{row_moment, retimed, timed, timed_at};
+ghost use Rattle.fork_call.specs.inner.Timing.{row_moment, retimed, timed, timed_at};
 
 use crate::schedule::{Schedule, earlier};
 use fork_parts::Parts;

@@ -1,18 +1,17 @@
 -- The numbers by key, where one more is put in its place, and where a key is looked up.
-use Rattle.std.proofs.Common.{◌≡◌, eqb-true, ltb-true, ltb-false, ℕ, zero, suc, ◌<◌, ◌≤◌, Bool, true, false, List, [], ◌∷◌, ◌++◌, length, get_or, Option, Some, None, refl, ap, arith, ◌∙◌, sym, subst, inl, inr, nat_eq, cond}
-use Rattle.std.specs.Prelude.{slice_get, slice_index_or, ◌||◌, ◌==◌, nat_lt, is_ok, IsOk, Result, Ok, Err}
-use Rattle.std.specs.List.{insert, list_any}
+use Rattle.fork_context.proofs.Common.{◌≡◌, eqb-true, ltb-true, ℕ, zero, suc, ◌<◌, ◌≤◌, Bool, true, false, List, [], ◌∷◌, ◌++◌, length, get_or, Option, Some, None, refl, ap, arith, ◌∙◌, sym, subst, inl, inr, nat_eq, cond, slice_get, ◌||◌}
+use Rattle.fork_context.proofs.Common.{◌==◌, nat_lt, insert, list_any, pointwise, Offer, Challenge, RowExtras, with_row_extras, key_at, IsByKey, is_before, Parted, found_at}
+use Rattle.std.proofs.Common.{ltb-false}
+use Rattle.std.specs.Prelude.{slice_index_or, is_ok, IsOk, Result, Ok, Err}
 use Rattle.std.specs.List.Sorted.{IsPartitionedBy, IsPartitionPoint}
-use Rattle.std.specs.Cmp.Lexicographic.{slice_cmp, pointwise, lists_ties}
+use Rattle.std.specs.Cmp.Lexicographic.{slice_cmp, lists_ties}
 use Rattle.std.specs.declared.cmp.Ordering.{Ordering}
 use Rattle.std.specs.declared.cmp.Ordering.TheVariants.{Less, Equal, Greater}
 use Rattle.std.specs.Ordering.{nat_cmp, is_gt, is_lt, is_eq, eq_by_cmp, ordering_reverse}
 use Rattle.std.proofs.lemmas.Cmp.{nat_list_cmp_total, alike_right}
 use Rattle.std.proofs.lemmas.Bool.{false≢true}
 use Rattle.std.proofs.Math.ListN.{set}
-use Rattle.fork_model.specs.Table.{Offer, Challenge}
-use Rattle.fork_context.specs.Dressed.{Beside, with_beside}
-use Rattle.fork_context.specs.ByKey.{key_at, UpTo, AllFrom, Rising, AllBelow, Has, IsByKey, is_before, Parted, found_at}
+use Rattle.fork_context.specs.inner.ByKey.{UpTo, AllFrom, Rising, AllBelow, Has}
 
 -- ---- the order of keys
 
@@ -67,59 +66,59 @@ neq_lt i j le e = go (nat_lt i j) refl
 
 -- ---- the keys before one, and the others
 
-all_from_at : (besides : List Beside) (k : List ℕ) (ns : List ℕ) (j d : ℕ) → AllFrom besides k ns → j < length ns → UpTo k (key_at besides (get_or ns j d))
-all_from_at besides k [] j d all lt = absurd (omega arith)
-all_from_at besides k (n ∷ ns) zero d all lt = all.0
-all_from_at besides k (n ∷ ns) (suc j) d all lt = all_from_at besides k ns j d all.1 (omega arith)
+all_from_at : (extras : List RowExtras) (k : List ℕ) (ns : List ℕ) (j d : ℕ) → AllFrom extras k ns → j < length ns → UpTo k (key_at extras (get_or ns j d))
+all_from_at extras k [] j d all lt = absurd (omega arith)
+all_from_at extras k (n ∷ ns) zero d all lt = all.0
+all_from_at extras k (n ∷ ns) (suc j) d all lt = all_from_at extras k ns j d all.1 (omega arith)
 
-rising_at : (besides : List Beside) (ns : List ℕ) (i j d : ℕ) → Rising besides ns → i < j → j < length ns
-    → UpTo (key_at besides (get_or ns i d)) (key_at besides (get_or ns j d))
-rising_at besides [] i j d up lt within = absurd (omega arith)
-rising_at besides (n ∷ ns) zero zero d up lt within = absurd (omega arith)
-rising_at besides (n ∷ ns) zero (suc j) d up lt within = all_from_at besides (key_at besides n) ns j d up.0 (omega arith)
-rising_at besides (n ∷ ns) (suc i) zero d up lt within = absurd (omega arith)
-rising_at besides (n ∷ ns) (suc i) (suc j) d up lt within = rising_at besides ns i j d up.1 (omega arith) (omega arith)
+rising_at : (extras : List RowExtras) (ns : List ℕ) (i j d : ℕ) → Rising extras ns → i < j → j < length ns
+    → UpTo (key_at extras (get_or ns i d)) (key_at extras (get_or ns j d))
+rising_at extras [] i j d up lt within = absurd (omega arith)
+rising_at extras (n ∷ ns) zero zero d up lt within = absurd (omega arith)
+rising_at extras (n ∷ ns) zero (suc j) d up lt within = all_from_at extras (key_at extras n) ns j d up.0 (omega arith)
+rising_at extras (n ∷ ns) (suc i) zero d up lt within = absurd (omega arith)
+rising_at extras (n ∷ ns) (suc i) (suc j) d up lt within = rising_at extras ns i j d up.1 (omega arith) (omega arith)
 
-pub partitioned : (besides : List Beside) (ns x : List ℕ) → Rising besides ns → IsPartitionedBy (is_before besides x) ns
-partitioned besides ns x up i j d le within e = go (i == j) refl
+pub partitioned : (extras : List RowExtras) (ns x : List ℕ) → Rising extras ns → IsPartitionedBy (is_before extras x) ns
+partitioned extras ns x up i j d le within e = go (i == j) refl
   where
-    go : (b : Bool) → (i == j) ≡ b → is_before besides x (slice_index_or ns i d) ≡ true
-    go true is = let same : i ≡ j = eqb-true i j is in ap (λ (k : ℕ). is_before besides x (slice_index_or ns k d)) same ∙ e
-    go false is = before_too (key_at besides (get_or ns i d)) (key_at besides (get_or ns j d)) x (rising_at besides ns i j d up (neq_lt i j le is) within) e
+    go : (b : Bool) → (i == j) ≡ b → is_before extras x (slice_index_or ns i d) ≡ true
+    go true is = let same : i ≡ j = eqb-true i j is in ap (λ (k : ℕ). is_before extras x (slice_index_or ns k d)) same ∙ e
+    go false is = before_too (key_at extras (get_or ns i d)) (key_at extras (get_or ns j d)) x (rising_at extras ns i j d up (neq_lt i j le is) within) e
 
-pub parted : (besides : List Beside) (ns x : List ℕ) (p : ℕ)
-    → IsPartitionPoint (λ n. is_before besides x n ≡ true) (λ n. is_before besides x n ≡ false) ns p → Parted besides x ns p
-parted besides [] x p point = tt
-parted besides (n ∷ ns) x zero point = (
+pub parted : (extras : List RowExtras) (ns x : List ℕ) (p : ℕ)
+    → IsPartitionPoint (λ n. is_before extras x n ≡ true) (λ n. is_before extras x n ≡ false) ns p → Parted extras x ns p
+parted extras [] x p point = tt
+parted extras (n ∷ ns) x zero point = (
   point.1 0 n (omega arith) (omega arith),
-  parted besides ns x zero ((λ k d lo hi. absurd (omega arith)), λ k d lo hi. point.1 (suc k) d (omega arith) (omega arith)),
+  parted extras ns x zero ((λ k d lo hi. absurd (omega arith)), λ k d lo hi. point.1 (suc k) d (omega arith) (omega arith)),
 )
-parted besides (n ∷ ns) x (suc p) point = (
+parted extras (n ∷ ns) x (suc p) point = (
   point.0 0 n (omega arith) (omega arith),
-  parted besides ns x p ((λ k d lo hi. point.0 (suc k) d (omega arith) (omega arith)), λ k d lo hi. point.1 (suc k) d (omega arith) (omega arith)),
+  parted extras ns x p ((λ k d lo hi. point.0 (suc k) d (omega arith) (omega arith)), λ k d lo hi. point.1 (suc k) d (omega arith) (omega arith)),
 )
 
 -- ---- one more number in its place
 
-all_from_insert : (besides : List Beside) (k : List ℕ) (ns : List ℕ) (p m : ℕ) → AllFrom besides k ns → UpTo k (key_at besides m)
-    → AllFrom besides k (insert ns p m)
-all_from_insert besides k [] zero m all up = (up, tt)
-all_from_insert besides k [] (suc p) m all up = (up, tt)
-all_from_insert besides k (n ∷ ns) zero m all up = (up, all)
-all_from_insert besides k (n ∷ ns) (suc p) m all up = (all.0, all_from_insert besides k ns p m all.1 up)
+all_from_insert : (extras : List RowExtras) (k : List ℕ) (ns : List ℕ) (p m : ℕ) → AllFrom extras k ns → UpTo k (key_at extras m)
+    → AllFrom extras k (insert ns p m)
+all_from_insert extras k [] zero m all up = (up, tt)
+all_from_insert extras k [] (suc p) m all up = (up, tt)
+all_from_insert extras k (n ∷ ns) zero m all up = (up, all)
+all_from_insert extras k (n ∷ ns) (suc p) m all up = (all.0, all_from_insert extras k ns p m all.1 up)
 
-all_from_here : (besides : List Beside) (x ns : List ℕ) → Parted besides x ns zero → AllFrom besides x ns
-all_from_here besides x [] part = tt
-all_from_here besides x (n ∷ ns) part = (from_here (key_at besides n) x part.0, all_from_here besides x ns part.1)
+all_from_here : (extras : List RowExtras) (x ns : List ℕ) → Parted extras x ns zero → AllFrom extras x ns
+all_from_here extras x [] part = tt
+all_from_here extras x (n ∷ ns) part = (from_here (key_at extras n) x part.0, all_from_here extras x ns part.1)
 
-rising_insert : (besides : List Beside) (ns : List ℕ) (p m : ℕ) → Rising besides ns → Parted besides (key_at besides m) ns p
-    → Rising besides (insert ns p m)
-rising_insert besides [] zero m up part = (tt, tt)
-rising_insert besides [] (suc p) m up part = (tt, tt)
-rising_insert besides (n ∷ ns) zero m up part = (all_from_here besides (key_at besides m) (n ∷ ns) part, up)
-rising_insert besides (n ∷ ns) (suc p) m up part = (
-  all_from_insert besides (key_at besides n) ns p m up.0 (lt_then_upto (cmp (key_at besides n) (key_at besides m)) part.0),
-  rising_insert besides ns p m up.1 part.1,
+rising_insert : (extras : List RowExtras) (ns : List ℕ) (p m : ℕ) → Rising extras ns → Parted extras (key_at extras m) ns p
+    → Rising extras (insert ns p m)
+rising_insert extras [] zero m up part = (tt, tt)
+rising_insert extras [] (suc p) m up part = (tt, tt)
+rising_insert extras (n ∷ ns) zero m up part = (all_from_here extras (key_at extras m) (n ∷ ns) part, up)
+rising_insert extras (n ∷ ns) (suc p) m up part = (
+  all_from_insert extras (key_at extras n) ns p m up.0 (lt_then_upto (cmp (key_at extras n) (key_at extras m)) part.0),
+  rising_insert extras ns p m up.1 part.1,
 )
 
 below_insert : (count : ℕ) (ns : List ℕ) (p : ℕ) → AllBelow count ns → AllBelow (suc count) (insert ns p count)
@@ -144,11 +143,11 @@ has_still (n ∷ ns) zero m k has = inr has
 has_still (n ∷ ns) (suc p) m k (inl e) = inl e
 has_still (n ∷ ns) (suc p) m k (inr has) = inr (has_still ns p m k has)
 
-pub by_key_more : (besides : List Beside) (count : ℕ) (ns : List ℕ) (p : ℕ) → IsByKey besides count ns → Parted besides (key_at besides count) ns p
-    → IsByKey besides (suc count) (insert ns p count)
-by_key_more besides count ns p is part = record {
+pub by_key_more : (extras : List RowExtras) (count : ℕ) (ns : List ℕ) (p : ℕ) → IsByKey extras count ns → Parted extras (key_at extras count) ns p
+    → IsByKey extras (suc count) (insert ns p count)
+by_key_more extras count ns p is part = record {
   known = below_insert count ns p is.known;
-  rising = rising_insert besides ns p count is.rising part;
+  rising = rising_insert extras ns p count is.rising part;
   whole = λ n lt. go n (n == count) refl lt;
 }
   where
@@ -162,12 +161,12 @@ in_ok (Err e) a b ok = absurd cc
 
 -- ---- more rows behind
 
-key_before : (besides more : List Beside) (n : ℕ) → n < length besides → key_at (besides ++ more) n ≡ key_at besides n
+key_before : (extras more : List RowExtras) (n : ℕ) → n < length extras → key_at (extras ++ more) n ≡ key_at extras n
 key_before [] more n lt = absurd (omega arith)
-key_before (b ∷ besides) more zero lt = refl
-key_before (b ∷ besides) more (suc n) lt = key_before besides more n (omega arith)
+key_before (b ∷ extras) more zero lt = refl
+key_before (b ∷ extras) more (suc n) lt = key_before extras more n (omega arith)
 
-rising_same : (old new : List Beside) (count : ℕ) (ns : List ℕ) → ((n : ℕ) → n < count → key_at new n ≡ key_at old n) → AllBelow count ns → Rising old ns
+rising_same : (old new : List RowExtras) (count : ℕ) (ns : List ℕ) → ((n : ℕ) → n < count → key_at new n ≡ key_at old n) → AllBelow count ns → Rising old ns
     → Rising new ns
 rising_same old new count [] same all up = tt
 rising_same old new count (n ∷ ns) same all up = (from ns all.1 up.0, rising_same old new count ns same all.1 up.1)
@@ -176,49 +175,49 @@ rising_same old new count (n ∷ ns) same all up = (from ns all.1 up.0, rising_s
     from [] below up = tt
     from (m ∷ ms) below up = (ap is_gt (λ i. cmp (same n all.0 i) (same m below.0 i)) ∙ up.0, from ms below.1 up.1)
 
-pub by_key_behind : (besides more : List Beside) (ns : List ℕ) → IsByKey besides (length besides) ns → IsByKey (besides ++ more) (length besides) ns
-by_key_behind besides more ns is = record {
+pub by_key_behind : (extras more : List RowExtras) (ns : List ℕ) → IsByKey extras (length extras) ns → IsByKey (extras ++ more) (length extras) ns
+by_key_behind extras more ns is = record {
   known = is.known;
-  rising = rising_same besides (besides ++ more) (length besides) ns (key_before besides more) is.known is.rising;
+  rising = rising_same extras (extras ++ more) (length extras) ns (key_before extras more) is.known is.rising;
   whole = is.whole;
 }
 
 -- ---- what is stored changes no key
 
-key_stored : (besides : List Beside) (m : ℕ) (left : List Offer) (challenges : List Challenge) (n : ℕ)
-    → key_at (with_beside besides m left challenges) n ≡ key_at besides n
+key_stored : (extras : List RowExtras) (m : ℕ) (left : List Offer) (challenges : List Challenge) (n : ℕ)
+    → key_at (with_row_extras extras m left challenges) n ≡ key_at extras n
 key_stored [] m left challenges n = refl
-key_stored (b ∷ besides) zero left challenges zero = refl
-key_stored (b ∷ besides) zero left challenges (suc n) = refl
-key_stored (b ∷ besides) (suc m) left challenges zero = refl
-key_stored (b ∷ besides) (suc m) left challenges (suc n) = key_stored besides m left challenges n
+key_stored (b ∷ extras) zero left challenges zero = refl
+key_stored (b ∷ extras) zero left challenges (suc n) = refl
+key_stored (b ∷ extras) (suc m) left challenges zero = refl
+key_stored (b ∷ extras) (suc m) left challenges (suc n) = key_stored extras m left challenges n
 
-length_stored : (besides : List Beside) (m : ℕ) (left : List Offer) (challenges : List Challenge) → length (with_beside besides m left challenges) ≡ length besides
+length_stored : (extras : List RowExtras) (m : ℕ) (left : List Offer) (challenges : List Challenge) → length (with_row_extras extras m left challenges) ≡ length extras
 length_stored [] m left challenges = refl
-length_stored (b ∷ besides) zero left challenges = refl
-length_stored (b ∷ besides) (suc m) left challenges = ap suc (length_stored besides m left challenges)
+length_stored (b ∷ extras) zero left challenges = refl
+length_stored (b ∷ extras) (suc m) left challenges = ap suc (length_stored extras m left challenges)
 
-pub by_key_stored : (besides : List Beside) (ns : List ℕ) (m : ℕ) (left : List Offer) (challenges : List Challenge) → IsByKey besides (length besides) ns
-    → IsByKey (with_beside besides m left challenges) (length (with_beside besides m left challenges)) ns
-by_key_stored besides ns m left challenges is =
-    let P : ℕ → Type 0 = λ count. IsByKey (with_beside besides m left challenges) count ns in
-    subst P (sym (length_stored besides m left challenges)) (record {
+pub by_key_stored : (extras : List RowExtras) (ns : List ℕ) (m : ℕ) (left : List Offer) (challenges : List Challenge) → IsByKey extras (length extras) ns
+    → IsByKey (with_row_extras extras m left challenges) (length (with_row_extras extras m left challenges)) ns
+by_key_stored extras ns m left challenges is =
+    let P : ℕ → Type 0 = λ count. IsByKey (with_row_extras extras m left challenges) count ns in
+    subst P (sym (length_stored extras m left challenges)) (record {
       known = is.known;
-      rising = rising_same besides (with_beside besides m left challenges) (length besides) ns (λ n lt. key_stored besides m left challenges n) is.known is.rising;
+      rising = rising_same extras (with_row_extras extras m left challenges) (length extras) ns (λ n lt. key_stored extras m left challenges n) is.known is.rising;
       whole = is.whole;
     })
 
--- a write of what stands beside one row
-pub set_stored : (besides : List Beside) (n : ℕ) (b new : Beside) (left : List Offer) (challenges : List Challenge) → n < length besides
-    → new ≡ record (get_or besides n b) { left = left; challenges = challenges } → set besides n new ≡ with_beside besides n left challenges
+-- a write of the extras of one row
+pub set_stored : (extras : List RowExtras) (n : ℕ) (b new : RowExtras) (left : List Offer) (challenges : List Challenge) → n < length extras
+    → new ≡ record (get_or extras n b) { left = left; challenges = challenges } → set extras n new ≡ with_row_extras extras n left challenges
 set_stored [] n b new left challenges lt e = absurd (omega arith)
-set_stored (x ∷ besides) zero b new left challenges lt e = ap (λ r. r ∷ besides) e
-set_stored (x ∷ besides) (suc n) b new left challenges lt e = ap (λ rest. x ∷ rest) (set_stored besides n b new left challenges (omega arith) e)
+set_stored (x ∷ extras) zero b new left challenges lt e = ap (λ r. r ∷ extras) e
+set_stored (x ∷ extras) (suc n) b new left challenges lt e = ap (λ rest. x ∷ rest) (set_stored extras n b new left challenges (omega arith) e)
 
 -- ---- a key looked up
 
-abbrev is_key : List Beside → List ℕ → ℕ → Bool
-is_key besides x n = pointwise nat_eq x (key_at besides n)
+abbrev is_key : List RowExtras → List ℕ → ℕ → Bool
+is_key extras x n = pointwise nat_eq x (key_at extras n)
 
 nat_tied : (x y : ℕ) → nat_eq x y ≡ eq_by_cmp nat_cmp x y
 nat_tied x y = grind arith
@@ -246,35 +245,35 @@ less_not_eq : (x k : List ℕ) → cmp x k ≡ Less → pointwise nat_eq x k ≡
 less_not_eq x k e = same_key x k ∙ ap is_eq e
 
 -- the key is not that of the row at this place, if there is one
-abbrev NotAt : List Beside → List ℕ → Option ℕ → Type 0
-NotAt besides x None = Unit {0}
-NotAt besides x (Some n) = is_key besides x n ≡ false
+abbrev NotAt : List RowExtras → List ℕ → Option ℕ → Type 0
+NotAt extras x None = Unit {0}
+NotAt extras x (Some n) = is_key extras x n ≡ false
 
-none_behind : (besides : List Beside) (x : List ℕ) (k : List ℕ) (ns : List ℕ) (m : ℕ) → cmp x k ≡ Less → AllFrom besides k ns → Has ns m → is_key besides x m ≡ false
-none_behind besides x k [] m less all has = absurd has
-none_behind besides x k (n ∷ ns) m less all (inl e) =
-    ap (λ (j : ℕ). is_key besides x j) (sym e) ∙ less_not_eq x (key_at besides n) (after_too x k (key_at besides n) less all.0)
-none_behind besides x k (n ∷ ns) m less all (inr has) = none_behind besides x k ns m less all.1 has
+none_behind : (extras : List RowExtras) (x : List ℕ) (k : List ℕ) (ns : List ℕ) (m : ℕ) → cmp x k ≡ Less → AllFrom extras k ns → Has ns m → is_key extras x m ≡ false
+none_behind extras x k [] m less all has = absurd has
+none_behind extras x k (n ∷ ns) m less all (inl e) =
+    ap (λ (j : ℕ). is_key extras x j) (sym e) ∙ less_not_eq x (key_at extras n) (after_too x k (key_at extras n) less all.0)
+none_behind extras x k (n ∷ ns) m less all (inr has) = none_behind extras x k ns m less all.1 has
 
-none_there : (besides : List Beside) (x ns : List ℕ) (p m : ℕ) → Rising besides ns → Parted besides x ns p → NotAt besides x (slice_get ns p)
-    → Has ns m → is_key besides x m ≡ false
-none_there besides x [] p m up part not has = absurd has
-none_there besides x (n ∷ ns) zero m up part not (inl e) = ap (λ (j : ℕ). is_key besides x j) (sym e) ∙ not
-none_there besides x (n ∷ ns) zero m up part not (inr has) =
-    none_behind besides x (key_at besides n) ns m (not_lt_not_eq (key_at besides n) x part.0 not) up.0 has
-none_there besides x (n ∷ ns) (suc p) m up part not (inl e) = ap (λ (j : ℕ). is_key besides x j) (sym e) ∙ lt_not_eq (key_at besides n) x part.0
-none_there besides x (n ∷ ns) (suc p) m up part not (inr has) = none_there besides x ns p m up.1 part.1 not has
+none_there : (extras : List RowExtras) (x ns : List ℕ) (p m : ℕ) → Rising extras ns → Parted extras x ns p → NotAt extras x (slice_get ns p)
+    → Has ns m → is_key extras x m ≡ false
+none_there extras x [] p m up part not has = absurd has
+none_there extras x (n ∷ ns) zero m up part not (inl e) = ap (λ (j : ℕ). is_key extras x j) (sym e) ∙ not
+none_there extras x (n ∷ ns) zero m up part not (inr has) =
+    none_behind extras x (key_at extras n) ns m (not_lt_not_eq (key_at extras n) x part.0 not) up.0 has
+none_there extras x (n ∷ ns) (suc p) m up part not (inl e) = ap (λ (j : ℕ). is_key extras x j) (sym e) ∙ lt_not_eq (key_at extras n) x part.0
+none_there extras x (n ∷ ns) (suc p) m up part not (inr has) = none_there extras x ns p m up.1 part.1 not has
 
-none_any : (besides : List Beside) (x : List ℕ) → ((n : ℕ) → n < length besides → is_key besides x n ≡ false) → list_any (λ b. pointwise nat_eq x b.key) besides ≡ false
+none_any : (extras : List RowExtras) (x : List ℕ) → ((n : ℕ) → n < length extras → is_key extras x n ≡ false) → list_any (λ b. pointwise nat_eq x b.key) extras ≡ false
 none_any [] x none = refl
-none_any (b ∷ besides) x none =
-    (λ i. none 0 (omega arith) i || none_any besides x (λ n lt. none (suc n) (omega arith)) i)
+none_any (b ∷ extras) x none =
+    (λ i. none 0 (omega arith) i || none_any extras x (λ n lt. none (suc n) (omega arith)) i)
 
-some_any : (besides : List Beside) (x : List ℕ) (n : ℕ) → n < length besides → is_key besides x n ≡ true → list_any (λ b. pointwise nat_eq x b.key) besides ≡ true
+some_any : (extras : List RowExtras) (x : List ℕ) (n : ℕ) → n < length extras → is_key extras x n ≡ true → list_any (λ b. pointwise nat_eq x b.key) extras ≡ true
 some_any [] x n lt e = absurd (omega arith)
-some_any (b ∷ besides) x zero lt e = ap (λ (c : Bool). c || list_any (λ b. pointwise nat_eq x b.key) besides) e
-some_any (b ∷ besides) x (suc n) lt e =
-    ap (λ (c : Bool). pointwise nat_eq x b.key || c) (some_any besides x n (omega arith) e) ∙ or_true (pointwise nat_eq x b.key)
+some_any (b ∷ extras) x zero lt e = ap (λ (c : Bool). c || list_any (λ b. pointwise nat_eq x b.key) extras) e
+some_any (b ∷ extras) x (suc n) lt e =
+    ap (λ (c : Bool). pointwise nat_eq x b.key || c) (some_any extras x n (omega arith) e) ∙ or_true (pointwise nat_eq x b.key)
   where
     or_true : (a : Bool) → (a || true) ≡ true
     or_true true = refl
@@ -285,17 +284,17 @@ below_there count [] p n all is = absurd cc
 below_there count (m ∷ ns) zero n all is = let same : m ≡ n = cc in let lt : m < count = all.0 in omega arith
 below_there count (m ∷ ns) (suc p) n all is = below_there count ns p n all.1 is
 
-pub found : (besides : List Beside) (ns x : List ℕ) (p : ℕ) → IsByKey besides (length besides) ns → Parted besides x ns p
-    → found_at besides x (slice_get ns p) ≡ list_any (λ b. pointwise nat_eq x b.key) besides
-found besides ns x p is part = go (slice_get ns p) refl
+pub found : (extras : List RowExtras) (ns x : List ℕ) (p : ℕ) → IsByKey extras (length extras) ns → Parted extras x ns p
+    → found_at extras x (slice_get ns p) ≡ list_any (λ b. pointwise nat_eq x b.key) extras
+found extras ns x p is part = go (slice_get ns p) refl
   where
-    none : NotAt besides x (slice_get ns p) → false ≡ list_any (λ b. pointwise nat_eq x b.key) besides
-    none not = sym (none_any besides x (λ n lt. none_there besides x ns p n is.rising part not (is.whole n lt)))
+    none : NotAt extras x (slice_get ns p) → false ≡ list_any (λ b. pointwise nat_eq x b.key) extras
+    none not = sym (none_any extras x (λ n lt. none_there extras x ns p n is.rising part not (is.whole n lt)))
 
-    with_key : (n : ℕ) (b : Bool) → slice_get ns p ≡ Some n → is_key besides x n ≡ b → b ≡ list_any (λ b. pointwise nat_eq x b.key) besides
-    with_key n true there e = sym (some_any besides x n (below_there (length besides) ns p n is.known there) e)
-    with_key n false there e = let P : Option ℕ → Type 0 = λ o. NotAt besides x o in none (subst P (sym there) e)
+    with_key : (n : ℕ) (b : Bool) → slice_get ns p ≡ Some n → is_key extras x n ≡ b → b ≡ list_any (λ b. pointwise nat_eq x b.key) extras
+    with_key n true there e = sym (some_any extras x n (below_there (length extras) ns p n is.known there) e)
+    with_key n false there e = let P : Option ℕ → Type 0 = λ o. NotAt extras x o in none (subst P (sym there) e)
 
-    go : (o : Option ℕ) → slice_get ns p ≡ o → found_at besides x o ≡ list_any (λ b. pointwise nat_eq x b.key) besides
-    go None there = let P : Option ℕ → Type 0 = λ o. NotAt besides x o in none (subst P (sym there) tt)
-    go (Some n) there = with_key n (is_key besides x n) there refl
+    go : (o : Option ℕ) → slice_get ns p ≡ o → found_at extras x o ≡ list_any (λ b. pointwise nat_eq x b.key) extras
+    go None there = let P : Option ℕ → Type 0 = λ o. NotAt extras x o in none (subst P (sym there) tt)
+    go (Some n) there = with_key n (is_key extras x n) there refl

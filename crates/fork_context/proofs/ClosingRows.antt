@@ -1,12 +1,8 @@
 -- A table that closes, and one that is closed.
-use Rattle.std.proofs.Common.{◌≡◌, ℕ, zero, suc, Bool, true, false, List, [], ◌∷◌, length, map, Option, Some, None, refl, ap, arith, ◌∙◌, sym, subst, cond}
-use Rattle.std.specs.Prelude.{slice_get, ◌&&◌}
-use Rattle.fork_model.specs.Table.{Kind, Invite, Other, Row, Table, State, Idle, Trying, Rung, Ended, is_invite}
-use Rattle.fork_model.specs.Event.{Event}
-use Rattle.fork_model.specs.Waiting.{may_start}
-use Rattle.fork_model.specs.Step.{with_state, closed_state, settled, next, change}
-use Rattle.fork_model.proofs.StepLemmas.{next_of_change, next_of_stray}
-use Rattle.fork_context.specs.Closing.{is_ringing, closed_row, never_state, never_row, cancel_row, AreClosed, IsClosedWhole}
+use Rattle.fork_context.proofs.Common.{◌≡◌, ℕ, zero, suc, Bool, true, false, List, [], ◌∷◌, length, map, Option, Some, None, refl, ap, arith, ◌∙◌, sym, subst, cond, slice_get, ◌&&◌, Kind, Row, Table, State, Idle, Trying, Rung, Ended}
+use Rattle.fork_context.proofs.Common.{is_invite, Event, may_start, with_state, closed_state, settled, next, change, next_of_change, next_of_stray, closed_row, IsClosedWhole, is_ringing, never_state, never_row, cancel_row}
+use Rattle.fork_model.specs.Table.{Invite, Other}
+use Rattle.fork_context.specs.Closing.{AreClosed}
 
 -- settling a closed table
 pub settled_closed : (u : Table) → u.closed ≡ true → settled u ≡ record u { rows = map (closed_row u.kind) u.rows }

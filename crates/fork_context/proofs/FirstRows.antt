@@ -1,10 +1,8 @@
 -- The row that is first, as the choice names it.
-use Rattle.std.proofs.Common.{◌≡◌, ◌≢◌, eqb-true, ℕ, true, refl, ap, arith, ◌∙◌, sym, subst, inl, inr, ◌⊎◌, nat_eq, false, rules, IsTrue, Option, Some, None}
-use Rattle.fork_model.specs.Table.{Table}
-use Rattle.fork_model.specs.Choice.{Choice, Best, Only503, NoAnswer408, IsChoice, IsFirst, NoneStored}
-use Rattle.fork_model.proofs.OneReplyLemmas.{one_choice}
+use Rattle.fork_context.proofs.Common.{◌≡◌, ◌≢◌, eqb-true, ℕ, true, refl, ap, arith, ◌∙◌, sym, subst, inl, inr, ◌⊎◌, nat_eq, false, rules, Option, Some, None, Table, Choice, IsChoice, NoneStored, one_choice, IsSound}
+use Rattle.std.proofs.Common.{IsTrue}
+use Rattle.fork_model.specs.Choice.{Best, Only503, NoAnswer408}
 use Rattle.fork_context.specs.Chosen.{HasFirst}
-use Rattle.fork_context.specs.Sound.{IsSound}
 
 -- the row whose answer is chosen, a 503 included
 abbrev pub row_of : Choice → Option ℕ

@@ -1,94 +1,70 @@
 -- What holds of every fork is kept by each change, and what its tree says of its rows holds of the table's.
-use Rattle.std.proofs.Common.{◌≡◌, ℕ, zero, suc, ◌+◌, ◌<◌, ◌≤◌, Bool, true, false, List, [], ◌∷◌, length, map, Option, Some, None, refl, ap, arith, ◌∙◌, sym, subst, cond}
-use Rattle.std.specs.Prelude.{slice_get, ◌==◌, ◌||◌, ◌&&◌, nat_eq}
-use Rattle.std.proofs.Common.{eqb-true}
-use Rattle.std.specs.List.{list_any}
-use Rattle.std.specs.Cmp.Lexicographic.{pointwise}
-use Rattle.std.specs.Option.{option_map}
-use Rattle.std.proofs.lemmas.Option.{slice_get-map, slice_get_within}
-use Rattle.std.proofs.lemmas.List.{length-map}
-use Rattle.fork_model.specs.Table.{Stored, Taken, Silent, Never, Accepted, State, Idle, Trying, Rung, Ended, Row, most_targets, is_trying, is_open, is_ended, is_accepted, is_row, is_finished, is_succeeded}
-use Rattle.fork_model.specs.Waiting.{may_start}
-use Rattle.fork_model.specs.Step.{with_state}
-use Rattle.fork_model.proofs.ContactLemmas.{length-state}
-use Rattle.fork_model.proofs.WaitingLemmas.{may_start_facts}
-use Rattle.fork_tree.specs.States.{bare_state, shown}
-use Rattle.fork_tree.specs.Tree.{bare, row_ref, open_rows, is_uncancelled}
-use Rattle.fork_context.specs.Dressed.{Beside, dress_state, dressed}
-use Rattle.fork_context.specs.Closing.{never_state, never_row, is_ringing}
-use Rattle.fork_tree.specs.Ready.{IsReady, tried}
-use Rattle.fork_context.specs.RowShown.{ref_shown}
-use Rattle.fork_context.specs.ForkInside.{IsFork}
-use Rattle.fork_context.proofs.BareRows.{may_start-bare}
-use Rattle.fork_context.proofs.DressedRows.{bare_dressed}
+use Rattle.fork_context.proofs.Common.{◌≡◌, ℕ, zero, suc, ◌+◌, ◌<◌, ◌≤◌, Bool, true, false, List, [], ◌∷◌, length, map, Option, Some, None, refl, ap, arith, ◌∙◌, sym, subst, cond, slice_get, ◌==◌, ◌||◌, ◌&&◌, nat_eq, eqb-true, list_any}
+use Rattle.fork_context.proofs.Common.{pointwise, option_map, slice_get-map, slice_get_within, length-map, State, Idle, Trying, Rung, Ended, Row, most_targets, is_trying, is_open, is_ended, is_accepted, is_row, is_finished, is_succeeded}
+use Rattle.fork_context.proofs.Common.{may_start, with_state, length-state, may_start_facts, plain_state, shown, plain_row, row_ref, is_uncancelled, RowExtras, state_with_extras, with_extras, never_state, never_row, IsReady, tried}
+use Rattle.fork_context.proofs.Common.{ref_shown, IsFork}
+use Rattle.fork_tree.specs.Tree.{open_rows}
+use Rattle.fork_context.proofs.PlainRows.{may_start-plain_row}
+use Rattle.fork_context.proofs.RowsWithExtras.{plain_with_extras}
 use Rattle.fork_context.proofs.Replies.{length-tried}
 use Rattle.fork_context.proofs.Successes.{succeeded_state, succeeded_tried, succeeded_never, open_not_accepted}
+use Rattle.fork_context.proofs.ForkReads.{shown_extras}
 
 -- ---- rows read
 
-shown_dress : (state : State) (b : Beside) → shown (dress_state state b) ≡ shown state
-shown_dress Idle b = refl
-shown_dress Trying b = refl
-shown_dress (Rung cancelled) b = refl
-shown_dress (Ended (Stored a)) b = refl
-shown_dress (Ended (Taken at)) b = refl
-shown_dress (Ended (Silent at)) b = refl
-shown_dress (Ended Never) b = refl
-shown_dress (Ended (Accepted at)) b = refl
+pub row_with_extras : (rows : List Row) (extras : List RowExtras) (m n : ℕ)
+    → option_map (row_ref m) (slice_get rows n) ≡ option_map (ref_shown m) (slice_get (with_extras rows extras) n)
+row_with_extras [] extras m n = refl
+row_with_extras (row ∷ rows) [] m zero = refl
+row_with_extras (row ∷ rows) [] m (suc n) = row_with_extras rows [] m n
+row_with_extras (row ∷ rows) (b ∷ extras) m zero =
+    sym (λ i. Some (record { no = m; parent = row.parent; group = row.group; q = row.q; state = shown_extras row.state b i }))
+row_with_extras (row ∷ rows) (b ∷ extras) m (suc n) = row_with_extras rows extras m n
 
-pub row_dressed : (rows : List Row) (besides : List Beside) (m n : ℕ)
-    → option_map (row_ref m) (slice_get rows n) ≡ option_map (ref_shown m) (slice_get (dressed rows besides) n)
-row_dressed [] besides m n = refl
-row_dressed (row ∷ rows) [] m zero = refl
-row_dressed (row ∷ rows) [] m (suc n) = row_dressed rows [] m n
-row_dressed (row ∷ rows) (b ∷ besides) m zero =
-    sym (λ i. Some (record { no = m; parent = row.parent; group = row.group; q = row.q; state = shown_dress row.state b i }))
-row_dressed (row ∷ rows) (b ∷ besides) m (suc n) = row_dressed rows besides m n
+pub key_with_extras : (rows : List Row) (extras : List RowExtras) (n : ℕ) → length extras ≡ length rows
+    → option_map (λ (b : RowExtras). b.key) (slice_get extras n) ≡ option_map (λ (row : Row). row.key) (slice_get (with_extras rows extras) n)
+key_with_extras [] [] n same = refl
+key_with_extras [] (b ∷ extras) n same = absurd (omega arith)
+key_with_extras (row ∷ rows) [] n same = absurd (omega arith)
+key_with_extras (row ∷ rows) (b ∷ extras) zero same = refl
+key_with_extras (row ∷ rows) (b ∷ extras) (suc n) same = key_with_extras rows extras n (omega arith)
 
-pub key_dressed : (rows : List Row) (besides : List Beside) (n : ℕ) → length besides ≡ length rows
-    → option_map (λ (b : Beside). b.key) (slice_get besides n) ≡ option_map (λ (row : Row). row.key) (slice_get (dressed rows besides) n)
-key_dressed [] [] n same = refl
-key_dressed [] (b ∷ besides) n same = absurd (omega arith)
-key_dressed (row ∷ rows) [] n same = absurd (omega arith)
-key_dressed (row ∷ rows) (b ∷ besides) zero same = refl
-key_dressed (row ∷ rows) (b ∷ besides) (suc n) same = key_dressed rows besides n (omega arith)
+-- a test that the extras of a row do not change
+pub test_with_extras : (test : State → Bool) → ((state : State) (b : RowExtras) → test (state_with_extras state b) ≡ test state)
+    → (rows : List Row) (extras : List RowExtras) (n : ℕ) → is_row test (slice_get (with_extras rows extras) n) ≡ is_row test (slice_get rows n)
+test_with_extras test same [] extras n = refl
+test_with_extras test same (row ∷ rows) [] zero = refl
+test_with_extras test same (row ∷ rows) [] (suc n) = test_with_extras test same rows [] n
+test_with_extras test same (row ∷ rows) (b ∷ extras) zero = same row.state b
+test_with_extras test same (row ∷ rows) (b ∷ extras) (suc n) = test_with_extras test same rows extras n
 
--- a test that what stands beside a row does not change
-pub test_dressed : (test : State → Bool) → ((state : State) (b : Beside) → test (dress_state state b) ≡ test state)
-    → (rows : List Row) (besides : List Beside) (n : ℕ) → is_row test (slice_get (dressed rows besides) n) ≡ is_row test (slice_get rows n)
-test_dressed test same [] besides n = refl
-test_dressed test same (row ∷ rows) [] zero = refl
-test_dressed test same (row ∷ rows) [] (suc n) = test_dressed test same rows [] n
-test_dressed test same (row ∷ rows) (b ∷ besides) zero = same row.state b
-test_dressed test same (row ∷ rows) (b ∷ besides) (suc n) = test_dressed test same rows besides n
+trying_extras : (state : State) (b : RowExtras) → is_trying (state_with_extras state b) ≡ is_trying state
+trying_extras Idle b = refl
+trying_extras Trying b = refl
+trying_extras (Rung cancelled) b = refl
+trying_extras (Ended end) b = refl
 
-trying_dress : (state : State) (b : Beside) → is_trying (dress_state state b) ≡ is_trying state
-trying_dress Idle b = refl
-trying_dress Trying b = refl
-trying_dress (Rung cancelled) b = refl
-trying_dress (Ended end) b = refl
+uncancelled_extras : (state : State) (b : RowExtras) → is_uncancelled (state_with_extras state b) ≡ is_uncancelled state
+uncancelled_extras Idle b = refl
+uncancelled_extras Trying b = refl
+uncancelled_extras (Rung cancelled) b = refl
+uncancelled_extras (Ended end) b = refl
 
-uncancelled_dress : (state : State) (b : Beside) → is_uncancelled (dress_state state b) ≡ is_uncancelled state
-uncancelled_dress Idle b = refl
-uncancelled_dress Trying b = refl
-uncancelled_dress (Rung cancelled) b = refl
-uncancelled_dress (Ended end) b = refl
+open_extras : (state : State) (b : RowExtras) → is_open (state_with_extras state b) ≡ is_open state
+open_extras Idle b = refl
+open_extras Trying b = refl
+open_extras (Rung cancelled) b = refl
+open_extras (Ended end) b = refl
 
-open_dress : (state : State) (b : Beside) → is_open (dress_state state b) ≡ is_open state
-open_dress Idle b = refl
-open_dress Trying b = refl
-open_dress (Rung cancelled) b = refl
-open_dress (Ended end) b = refl
+pub trying_with_extras : (rows : List Row) (extras : List RowExtras) (n : ℕ) → is_row is_trying (slice_get (with_extras rows extras) n) ≡ is_row is_trying (slice_get rows n)
+trying_with_extras = test_with_extras is_trying trying_extras
 
-pub trying_dressed : (rows : List Row) (besides : List Beside) (n : ℕ) → is_row is_trying (slice_get (dressed rows besides) n) ≡ is_row is_trying (slice_get rows n)
-trying_dressed = test_dressed is_trying trying_dress
+pub uncancelled_with_extras : (rows : List Row) (extras : List RowExtras) (n : ℕ)
+    → is_row is_uncancelled (slice_get (with_extras rows extras) n) ≡ is_row is_uncancelled (slice_get rows n)
+uncancelled_with_extras = test_with_extras is_uncancelled uncancelled_extras
 
-pub uncancelled_dressed : (rows : List Row) (besides : List Beside) (n : ℕ)
-    → is_row is_uncancelled (slice_get (dressed rows besides) n) ≡ is_row is_uncancelled (slice_get rows n)
-uncancelled_dressed = test_dressed is_uncancelled uncancelled_dress
-
-pub open_dressed : (rows : List Row) (besides : List Beside) (n : ℕ) → is_row is_open (slice_get (dressed rows besides) n) ≡ is_row is_open (slice_get rows n)
-open_dressed = test_dressed is_open open_dress
+pub open_with_extras : (rows : List Row) (extras : List RowExtras) (n : ℕ) → is_row is_open (slice_get (with_extras rows extras) n) ≡ is_row is_open (slice_get rows n)
+open_with_extras = test_with_extras is_open open_extras
 
 -- ---- whether all have ended
 
@@ -107,63 +83,63 @@ none_open (row ∷ rows) = go (is_ended row.state) (none_open rows)
     go true rest = let e : 0 + open_rows rows ≡ open_rows rows = omega arith in ap (λ (k : ℕ). k == 0) e ∙ rest
     go false rest = let e : 1 + open_rows rows ≡ suc (open_rows rows) = omega arith in ap (λ (k : ℕ). k == 0) e ∙ not_zero (open_rows rows)
 
-ended_dress : (state : State) (b : Beside) → is_ended (dress_state state b) ≡ is_ended state
-ended_dress Idle b = refl
-ended_dress Trying b = refl
-ended_dress (Rung cancelled) b = refl
-ended_dress (Ended end) b = refl
+ended_extras : (state : State) (b : RowExtras) → is_ended (state_with_extras state b) ≡ is_ended state
+ended_extras Idle b = refl
+ended_extras Trying b = refl
+ended_extras (Rung cancelled) b = refl
+ended_extras (Ended end) b = refl
 
-pub finished_dressed : (rows : List Row) (besides : List Beside) → is_finished (dressed rows besides) ≡ is_finished rows
-finished_dressed [] besides = refl
-finished_dressed (row ∷ rows) [] = ap (λ (b : Bool). is_ended row.state && b) (finished_dressed rows [])
-finished_dressed (row ∷ rows) (b ∷ besides) = (λ i. ended_dress row.state b i && finished_dressed rows besides i)
+pub finished_with_extras : (rows : List Row) (extras : List RowExtras) → is_finished (with_extras rows extras) ≡ is_finished rows
+finished_with_extras [] extras = refl
+finished_with_extras (row ∷ rows) [] = ap (λ (b : Bool). is_ended row.state && b) (finished_with_extras rows [])
+finished_with_extras (row ∷ rows) (b ∷ extras) = (λ i. ended_extras row.state b i && finished_with_extras rows extras i)
 
 -- ---- groups
 
-pub ready_of_bare : (rows : List Row) (first count : ℕ) → IsReady (map bare rows) first count → IsReady rows first count
-ready_of_bare rows first count ready = record {
+pub ready_of_plain : (rows : List Row) (first count : ℕ) → IsReady (map plain_row rows) first count → IsReady rows first count
+ready_of_plain rows first count ready = record {
   some = ready.some;
-  within = (let e : length (map bare rows) ≡ length rows = length-map rows bare in let w : first + count ≤ length (map bare rows) = ready.within in omega arith);
-  ready = λ k row lo hi is. sym (may_start-bare rows row) ∙ ready.ready k (bare row) lo hi (slice_get-map bare rows k ∙ ap (option_map bare) is);
+  within = (let e : length (map plain_row rows) ≡ length rows = length-map rows plain_row in let w : first + count ≤ length (map plain_row rows) = ready.within in omega arith);
+  ready = λ k row lo hi is. sym (may_start-plain_row rows row) ∙ ready.ready k (plain_row row) lo hi (slice_get-map plain_row rows k ∙ ap (option_map plain_row) is);
   whole = λ j k row other lo hi is also p g.
-      ready.whole j k (bare row) (bare other) lo hi (slice_get-map bare rows j ∙ ap (option_map bare) is) (slice_get-map bare rows k ∙ ap (option_map bare) also) p g;
+      ready.whole j k (plain_row row) (plain_row other) lo hi (slice_get-map plain_row rows j ∙ ap (option_map plain_row) is) (slice_get-map plain_row rows k ∙ ap (option_map plain_row) also) p g;
 }
 
-pub none_of_bare : (rows : List Row) → ((k : ℕ) (row : Row) → slice_get (map bare rows) k ≡ Some row → may_start (map bare rows) row ≡ false)
+pub none_of_plain : (rows : List Row) → ((k : ℕ) (row : Row) → slice_get (map plain_row rows) k ≡ Some row → may_start (map plain_row rows) row ≡ false)
     → (k : ℕ) (row : Row) → slice_get rows k ≡ Some row → may_start rows row ≡ false
-none_of_bare rows none k row is =
-    sym (may_start-bare rows row) ∙ none k (bare row) (slice_get-map bare rows k ∙ ap (option_map bare) is)
+none_of_plain rows none k row is =
+    sym (may_start-plain_row rows row) ∙ none k (plain_row row) (slice_get-map plain_row rows k ∙ ap (option_map plain_row) is)
 
 -- the tree's rows are the table's, bare
-pub tree_rows : (rows : List Row) (besides : List Beside) → map bare rows ≡ rows → map bare (dressed rows besides) ≡ rows
-tree_rows rows besides is = bare_dressed rows besides ∙ is
+pub tree_rows : (rows : List Row) (extras : List RowExtras) → map plain_row rows ≡ rows → map plain_row (with_extras rows extras) ≡ rows
+tree_rows rows extras is = plain_with_extras rows extras ∙ is
 
-pub ready_dressed : (rows : List Row) (besides : List Beside) (first count : ℕ) → map bare rows ≡ rows → IsReady rows first count
-    → IsReady (dressed rows besides) first count
-ready_dressed rows besides first count is ready =
+pub ready_with_extras : (rows : List Row) (extras : List RowExtras) (first count : ℕ) → map plain_row rows ≡ rows → IsReady rows first count
+    → IsReady (with_extras rows extras) first count
+ready_with_extras rows extras first count is ready =
     let P : List Row → Type 0 = λ rs. IsReady rs first count in
-    ready_of_bare (dressed rows besides) first count (subst P (sym (tree_rows rows besides is)) ready)
+    ready_of_plain (with_extras rows extras) first count (subst P (sym (tree_rows rows extras is)) ready)
 
-pub none_dressed : (rows : List Row) (besides : List Beside) → map bare rows ≡ rows
+pub none_with_extras : (rows : List Row) (extras : List RowExtras) → map plain_row rows ≡ rows
     → ((k : ℕ) (row : Row) → slice_get rows k ≡ Some row → may_start rows row ≡ false)
-    → (k : ℕ) (row : Row) → slice_get (dressed rows besides) k ≡ Some row → may_start (dressed rows besides) row ≡ false
-none_dressed rows besides is none =
+    → (k : ℕ) (row : Row) → slice_get (with_extras rows extras) k ≡ Some row → may_start (with_extras rows extras) row ≡ false
+none_with_extras rows extras is none =
     let P : List Row → Type 0 = λ rs. (k : ℕ) (row : Row) → slice_get rs k ≡ Some row → may_start rs row ≡ false in
-    none_of_bare (dressed rows besides) (subst P (sym (tree_rows rows besides is)) none)
+    none_of_plain (with_extras rows extras) (subst P (sym (tree_rows rows extras is)) none)
 
 -- ---- what holds of every fork is kept
 
-pub bare_with : (rows : List Row) (n : ℕ) (state : State) → bare_state (shown state) ≡ state → map bare rows ≡ rows
-    → map bare (with_state rows n state) ≡ with_state rows n state
-bare_with rows n state plain is = general rows ∙ (λ i. with_state (is i) n state)
+pub plain_with : (rows : List Row) (n : ℕ) (state : State) → plain_state (shown state) ≡ state → map plain_row rows ≡ rows
+    → map plain_row (with_state rows n state) ≡ with_state rows n state
+plain_with rows n state plain is = general rows ∙ (λ i. with_state (is i) n state)
   where
-    general : (rows : List Row) → map bare (with_state rows n state) ≡ with_state (map bare rows) n state
+    general : (rows : List Row) → map plain_row (with_state rows n state) ≡ with_state (map plain_row rows) n state
     general rows = at rows n
       where
-        at : (rows : List Row) (n : ℕ) → map bare (with_state rows n state) ≡ with_state (map bare rows) n state
+        at : (rows : List Row) (n : ℕ) → map plain_row (with_state rows n state) ≡ with_state (map plain_row rows) n state
         at [] n = refl
-        at (row ∷ rows) zero = (λ i. (let r : Row = record { key = []; q = row.q; place = 0; parent = row.parent; group = row.group; state = plain i } in r) ∷ map bare rows)
-        at (row ∷ rows) (suc n) = ap (λ (rest : List Row). bare row ∷ rest) (at rows n)
+        at (row ∷ rows) zero = (λ i. (let r : Row = record { key = []; q = row.q; place = 0; parent = row.parent; group = row.group; state = plain i } in r) ∷ map plain_row rows)
+        at (row ∷ rows) (suc n) = ap (λ (rest : List Row). plain_row row ∷ rest) (at rows n)
 
 pub row_there : (test : State → Bool) (rows : List Row) (n : ℕ) → is_row test (slice_get rows n) ≡ true → (row : Row) × (slice_get rows n ≡ Some row) × (test row.state ≡ true)
 row_there test rows n e = go (slice_get rows n) refl e
@@ -176,15 +152,15 @@ pub row_within : (test : State → Bool) (rows : List Row) (n : ℕ) → is_row 
 row_within test rows n e = let row = row_there test rows n e in slice_get_within rows n row.0 row.1
 
 -- a row that is open goes on to a state that is no 2xx
-pub fork_moved : (rows : List Row) (besides : List Beside) (succeeded : Bool) (n : ℕ) (state : State) → IsFork rows besides succeeded
-    → is_row is_open (slice_get rows n) ≡ true → bare_state (shown state) ≡ state → is_accepted state ≡ false → IsFork (with_state rows n state) besides succeeded
-fork_moved rows besides succeeded n state fork open_yet plain unaccepted =
+pub fork_moved : (rows : List Row) (extras : List RowExtras) (succeeded : Bool) (n : ℕ) (state : State) → IsFork rows extras succeeded
+    → is_row is_open (slice_get rows n) ≡ true → plain_state (shown state) ≡ state → is_accepted state ≡ false → IsFork (with_state rows n state) extras succeeded
+fork_moved rows extras succeeded n state fork open_yet plain unaccepted =
     let row = row_there is_open rows n open_yet in
     let same : length (with_state rows n state) ≡ length rows = length-state rows n state in
-    let each : length besides ≡ length rows = fork.each in
+    let each : length extras ≡ length rows = fork.each in
     let few : length rows ≤ most_targets = fork.few in
     record {
-      is_bare = bare_with rows n state plain fork.is_bare;
+      is_plain = plain_with rows n state plain fork.is_plain;
       each = omega arith;
       few = omega arith;
       succeeds = fork.succeeds ∙ sym (succeeded_state rows n row.0 state row.1 (open_not_accepted row.0.state row.2) ∙ ap (λ (b : Bool). is_succeeded rows || b) unaccepted ∙ or_none (is_succeeded rows));
@@ -212,44 +188,44 @@ open_of_trying rows n e = let row = row_there is_trying rows n e in ap (is_row i
 pub open_of_uncancelled : (rows : List Row) (n : ℕ) → is_row is_uncancelled (slice_get rows n) ≡ true → is_row is_open (slice_get rows n) ≡ true
 open_of_uncancelled rows n e = let row = row_there is_uncancelled rows n e in ap (is_row is_open) row.1 ∙ uncancelled_open row.0.state row.2
 
-never_bare : (state : State) → bare_state (shown (never_state state)) ≡ never_state (bare_state (shown state))
-never_bare Idle = refl
-never_bare Trying = refl
-never_bare (Rung b) = refl
-never_bare (Ended end) = refl
+never_plain : (state : State) → plain_state (shown (never_state state)) ≡ never_state (plain_state (shown state))
+never_plain Idle = refl
+never_plain Trying = refl
+never_plain (Rung b) = refl
+never_plain (Ended end) = refl
 
-bare_never : (rows : List Row) → map bare (map never_row rows) ≡ map never_row (map bare rows)
-bare_never [] = refl
-bare_never (row ∷ rows) =
-    (λ i. (let r : Row = record { key = []; q = row.q; place = 0; parent = row.parent; group = row.group; state = never_bare row.state i } in r) ∷ bare_never rows i)
+plain_never : (rows : List Row) → map plain_row (map never_row rows) ≡ map never_row (map plain_row rows)
+plain_never [] = refl
+plain_never (row ∷ rows) =
+    (λ i. (let r : Row = record { key = []; q = row.q; place = 0; parent = row.parent; group = row.group; state = never_plain row.state i } in r) ∷ plain_never rows i)
 
-pub fork_closed : (rows : List Row) (besides : List Beside) (succeeded : Bool) → IsFork rows besides succeeded → IsFork (map never_row rows) besides succeeded
-fork_closed rows besides succeeded fork =
+pub fork_closed : (rows : List Row) (extras : List RowExtras) (succeeded : Bool) → IsFork rows extras succeeded → IsFork (map never_row rows) extras succeeded
+fork_closed rows extras succeeded fork =
     let same : length (map never_row rows) ≡ length rows = length-map rows never_row in
-    let each : length besides ≡ length rows = fork.each in
+    let each : length extras ≡ length rows = fork.each in
     let few : length rows ≤ most_targets = fork.few in
     record {
-      is_bare = bare_never rows ∙ ap (map never_row) fork.is_bare;
+      is_plain = plain_never rows ∙ ap (map never_row) fork.is_plain;
       each = omega arith;
       few = omega arith;
       succeeds = fork.succeeds ∙ sym (succeeded_never rows);
     }
 
-bare_tried : (rows : List Row) (first count : ℕ) → map bare (tried rows first count) ≡ tried (map bare rows) first count
-bare_tried [] first count = refl
-bare_tried (row ∷ rows) zero zero = refl
-bare_tried (row ∷ rows) zero (suc count) =
-    ap (λ (rest : List Row). (let r : Row = record { key = []; q = row.q; place = 0; parent = row.parent; group = row.group; state = Trying } in r) ∷ rest) (bare_tried rows zero count)
-bare_tried (row ∷ rows) (suc first) count = ap (λ (rest : List Row). bare row ∷ rest) (bare_tried rows first count)
+plain_tried : (rows : List Row) (first count : ℕ) → map plain_row (tried rows first count) ≡ tried (map plain_row rows) first count
+plain_tried [] first count = refl
+plain_tried (row ∷ rows) zero zero = refl
+plain_tried (row ∷ rows) zero (suc count) =
+    ap (λ (rest : List Row). (let r : Row = record { key = []; q = row.q; place = 0; parent = row.parent; group = row.group; state = Trying } in r) ∷ rest) (plain_tried rows zero count)
+plain_tried (row ∷ rows) (suc first) count = ap (λ (rest : List Row). plain_row row ∷ rest) (plain_tried rows first count)
 
-pub fork_tried : (rows : List Row) (besides : List Beside) (succeeded : Bool) (first count : ℕ) → IsFork rows besides succeeded → IsReady rows first count
-    → IsFork (tried rows first count) besides succeeded
-fork_tried rows besides succeeded first count fork ready =
+pub fork_tried : (rows : List Row) (extras : List RowExtras) (succeeded : Bool) (first count : ℕ) → IsFork rows extras succeeded → IsReady rows first count
+    → IsFork (tried rows first count) extras succeeded
+fork_tried rows extras succeeded first count fork ready =
     let same : length (tried rows first count) ≡ length rows = length-tried rows first count in
-    let each : length besides ≡ length rows = fork.each in
+    let each : length extras ≡ length rows = fork.each in
     let few : length rows ≤ most_targets = fork.few in
     record {
-      is_bare = bare_tried rows first count ∙ (λ i. tried (fork.is_bare i) first count);
+      is_plain = plain_tried rows first count ∙ (λ i. tried (fork.is_plain i) first count);
       each = omega arith;
       few = omega arith;
       succeeds = fork.succeeds
@@ -258,17 +234,11 @@ fork_tried rows besides succeeded first count fork ready =
 
 -- ---- keys
 
-pub keys_dressed : (key : List ℕ) (rows : List Row) (besides : List Beside) → length besides ≡ length rows
-    → list_any (λ (b : Beside). pointwise nat_eq key b.key) besides ≡ list_any (λ (row : Row). pointwise nat_eq key row.key) (dressed rows besides)
-keys_dressed key [] [] same = refl
-keys_dressed key [] (b ∷ besides) same = absurd (omega arith)
-keys_dressed key (row ∷ rows) [] same = absurd (omega arith)
-keys_dressed key (row ∷ rows) (b ∷ besides) same = ap (λ (x : Bool). pointwise nat_eq key b.key || x) (keys_dressed key rows besides (omega arith))
+pub keys_with_extras : (key : List ℕ) (rows : List Row) (extras : List RowExtras) → length extras ≡ length rows
+    → list_any (λ (b : RowExtras). pointwise nat_eq key b.key) extras ≡ list_any (λ (row : Row). pointwise nat_eq key row.key) (with_extras rows extras)
+keys_with_extras key [] [] same = refl
+keys_with_extras key [] (b ∷ extras) same = absurd (omega arith)
+keys_with_extras key (row ∷ rows) [] same = absurd (omega arith)
+keys_with_extras key (row ∷ rows) (b ∷ extras) same = ap (λ (x : Bool). pointwise nat_eq key b.key || x) (keys_with_extras key rows extras (omega arith))
 
 -- ---- a row shown
-
-ringing_shown : (state : State) → is_ringing state ≡ is_ringing (bare_state (shown state))
-ringing_shown Idle = refl
-ringing_shown Trying = refl
-ringing_shown (Rung b) = refl
-ringing_shown (Ended end) = refl

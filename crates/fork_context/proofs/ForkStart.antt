@@ -1,14 +1,8 @@
 -- A fork after some group was started, or none.
-use Rattle.std.proofs.Common.{◌≡◌, ◌≤◌, ◌+◌, ℕ, Bool, false, List, length, Option, Some, None, ap, arith, ◌∙◌, sym, subst}
-use Rattle.std.specs.Prelude.{slice_get, IfSome, IfNone}
-use Rattle.fork_model.specs.Table.{Kind, Row, Table, most_targets}
-use Rattle.fork_model.specs.Waiting.{may_start}
-use Rattle.fork_tree.specs.Tree.{Tree}
-use Rattle.fork_context.specs.Dressed.{Beside, dressed}
-use Rattle.fork_context.specs.ForkInside.{IsFork}
-use Rattle.fork_tree.specs.Ready.{IsReady, tried}
-use Rattle.fork_context.proofs.DressedRows.{dressed_tried}
-use Rattle.fork_context.proofs.ForkRows.{ready_dressed, none_dressed, fork_tried}
+use Rattle.fork_context.proofs.Common.{◌≡◌, ◌≤◌, ◌+◌, ℕ, Bool, false, List, length, Option, Some, None, ap, arith, ◌∙◌, sym, subst, slice_get, IfSome, IfNone, Kind, Row, Table, most_targets, may_start, Tree, RowExtras, with_extras, IsFork}
+use Rattle.fork_context.proofs.Common.{IsReady, tried}
+use Rattle.fork_context.proofs.RowsWithExtras.{with_extras_tried}
+use Rattle.fork_context.proofs.ForkRows.{ready_with_extras, none_with_extras, fork_tried}
 
 abbrev pub NoneMay : List Row → Type 0
 NoneMay rows = (k : ℕ) (row : Row) → slice_get rows k ≡ Some row → may_start rows row ≡ false
@@ -20,39 +14,39 @@ ToldNone o t u = IfNone o ((u ≡ t) × NoneMay t.rows)
 abbrev pub ToldSome : Option (ℕ × ℕ) → Tree → Tree → Type 0
 ToldSome o t u = IfSome o (λ g. IsReady t.rows g.0 g.1 × (u ≡ record t { rows = tried t.rows g.0 g.1 }))
 
-abbrev pub table_of : Kind → Bool → List Beside → Tree → Table
-table_of kind closed besides t = record { kind = kind; rules = t.rules; closed = closed; rows = dressed t.rows besides }
+abbrev pub table_of : Kind → Bool → List RowExtras → Tree → Table
+table_of kind closed extras t = record { kind = kind; rules = t.rules; closed = closed; rows = with_extras t.rows extras }
 
-pub started_fork : (o : Option (ℕ × ℕ)) (t u : Tree) (besides : List Beside) (flag : Bool) → IsFork t.rows besides flag → ToldNone o t u → ToldSome o t u
-    → IsFork u.rows besides flag
-started_fork None t u besides flag fork none some = let P : Tree → Type 0 = λ x. IsFork x.rows besides flag in subst P (sym none.0) fork
-started_fork (Some g) t u besides flag fork none some =
-    let P : Tree → Type 0 = λ x. IsFork x.rows besides flag in subst P (sym some.1) (fork_tried t.rows besides flag g.0 g.1 fork some.0)
+pub started_fork : (o : Option (ℕ × ℕ)) (t u : Tree) (extras : List RowExtras) (flag : Bool) → IsFork t.rows extras flag → ToldNone o t u → ToldSome o t u
+    → IsFork u.rows extras flag
+started_fork None t u extras flag fork none some = let P : Tree → Type 0 = λ x. IsFork x.rows extras flag in subst P (sym none.0) fork
+started_fork (Some g) t u extras flag fork none some =
+    let P : Tree → Type 0 = λ x. IsFork x.rows extras flag in subst P (sym some.1) (fork_tried t.rows extras flag g.0 g.1 fork some.0)
 
-pub started_none : (o : Option (ℕ × ℕ)) (t u : Tree) (besides : List Beside) (flag : Bool) (kind : Kind) (closed : Bool) (now : Table)
-    → IsFork t.rows besides flag → table_of kind closed besides t ≡ now → ToldNone o t u
-    → IfNone o ((table_of kind closed besides u ≡ now) × NoneMay now.rows)
-started_none None t u besides flag kind closed now fork is none =
+pub started_none : (o : Option (ℕ × ℕ)) (t u : Tree) (extras : List RowExtras) (flag : Bool) (kind : Kind) (closed : Bool) (now : Table)
+    → IsFork t.rows extras flag → table_of kind closed extras t ≡ now → ToldNone o t u
+    → IfNone o ((table_of kind closed extras u ≡ now) × NoneMay now.rows)
+started_none None t u extras flag kind closed now fork is none =
     let P : Table → Type 0 = λ x. NoneMay x.rows in
-    (ap (table_of kind closed besides) none.0 ∙ is, subst P is (none_dressed t.rows besides fork.is_bare none.1))
-started_none (Some g) t u besides flag kind closed now fork is none = tt
+    (ap (table_of kind closed extras) none.0 ∙ is, subst P is (none_with_extras t.rows extras fork.is_plain none.1))
+started_none (Some g) t u extras flag kind closed now fork is none = tt
 
-pub started_some : (o : Option (ℕ × ℕ)) (t u : Tree) (besides : List Beside) (flag : Bool) (kind : Kind) (closed : Bool) (now : Table)
-    → IsFork t.rows besides flag → table_of kind closed besides t ≡ now → ToldSome o t u
-    → IfSome o (λ g. IsReady now.rows g.0 g.1 × (table_of kind closed besides u ≡ record now { rows = tried now.rows g.0 g.1 }))
-started_some None t u besides flag kind closed now fork is some = tt
-started_some (Some g) t u besides flag kind closed now fork is some =
+pub started_some : (o : Option (ℕ × ℕ)) (t u : Tree) (extras : List RowExtras) (flag : Bool) (kind : Kind) (closed : Bool) (now : Table)
+    → IsFork t.rows extras flag → table_of kind closed extras t ≡ now → ToldSome o t u
+    → IfSome o (λ g. IsReady now.rows g.0 g.1 × (table_of kind closed extras u ≡ record now { rows = tried now.rows g.0 g.1 }))
+started_some None t u extras flag kind closed now fork is some = tt
+started_some (Some g) t u extras flag kind closed now fork is some =
     let P : Table → Type 0 = λ x. IsReady x.rows g.0 g.1 in
     let with_rows : List Row → Table = λ (rows : List Row). record { kind = kind; rules = t.rules; closed = closed; rows = rows } in
     let after : Table → Table = λ (x : Table). record x { rows = tried x.rows g.0 g.1 } in (
-      subst P is (ready_dressed t.rows besides g.0 g.1 fork.is_bare some.0),
-      ap (table_of kind closed besides) some.1 ∙ ap with_rows (dressed_tried t.rows besides g.0 g.1) ∙ ap after is,
+      subst P is (ready_with_extras t.rows extras g.0 g.1 fork.is_plain some.0),
+      ap (table_of kind closed extras) some.1 ∙ ap with_rows (with_extras_tried t.rows extras g.0 g.1) ∙ ap after is,
     )
 
-pub started_range : (o : Option (ℕ × ℕ)) (t u : Tree) (besides : List Beside) (flag : Bool) → IsFork t.rows besides flag → ToldSome o t u
+pub started_range : (o : Option (ℕ × ℕ)) (t u : Tree) (extras : List RowExtras) (flag : Bool) → IsFork t.rows extras flag → ToldSome o t u
     → IfSome o (λ g. g.0 + g.1 ≤ most_targets)
-started_range None t u besides flag fork some = tt
-started_range (Some g) t u besides flag fork some =
+started_range None t u extras flag fork some = tt
+started_range (Some g) t u extras flag fork some =
     let few : length t.rows ≤ most_targets = fork.few in
     let within : g.0 + g.1 ≤ length t.rows = some.0.within in
     omega arith

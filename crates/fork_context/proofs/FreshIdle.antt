@@ -1,13 +1,7 @@
 -- New rows wait.
-use Rattle.std.proofs.Common.{◌≡◌, ℕ, Bool, true, false, List, Option, Some, None, ap, sym, cond}
-use Rattle.std.specs.Prelude.{slice_get, not, ◌&&◌, nat_lt, map, []}
-use Rattle.std.specs.Option.{option_map}
-use Rattle.fork_model.specs.Table.{Offer, Row, Table, State, Idle, Trying, Rung, Ended, Silent, is_idle, is_invite}
-use Rattle.fork_model.specs.Groups.{numbered}
-use Rattle.fork_model.specs.Event.{Event, FinalAnswer, Ring, Answer, Timeout, Fault, TimerC, GiveUp, Cancel}
-use Rattle.fork_model.specs.Contacts.{taking_at, fresh_row, fresh_rows}
-use Rattle.fork_model.specs.Step.{Effect, effect, moves, assumed, accepts, answers, redirects, stores}
-use Rattle.fork_model.proofs.ChangeLemmas.{from_filter_map}
+use Rattle.fork_context.proofs.Common.{◌≡◌, ℕ, Bool, true, false, List, Option, Some, None, ap, sym, cond, slice_get, not, ◌&&◌, nat_lt, map, [], option_map, Offer, Row, Table, State, Idle, Trying, Rung, Ended, Silent, is_idle, is_invite}
+use Rattle.fork_context.proofs.Common.{numbered, Event, FinalAnswer, Ring, Answer, Timeout, Fault, TimerC, GiveUp, Cancel, taking_at, fresh_row, fresh_rows, Effect, effect, moves, assumed, accepts, answers, redirects, stores}
+use Rattle.fork_model.proofs.laws.ChangeLemmas.{from_filter_map}
 
 abbrev pub AllIdle : List Row → Type 0
 AllIdle rows = (k : ℕ) (row : Row) → slice_get rows k ≡ Some row → is_idle row.state ≡ true

@@ -1,11 +1,10 @@
 -- The pairs of groups and places, group after group.
-use Rattle.std.proofs.Common.{◌≡◌, ℕ, zero, suc, ◌+◌, ◌<◌, ◌≤◌, Bool, true, false, List, [], ◌∷◌, ◌++◌, length, map, Vec, refl, ap, arith, sym, ◌∙◌, subst, take, get_or, append_assoc, cond, add-one}
-use Rattle.std.specs.Prelude.{All, nat_lt, ◌==◌, slice_get}
-use Rattle.std.proofs.lemmas.List.{take_more, append-nil}
+use Rattle.fork_context.proofs.Common.{◌≡◌, ℕ, zero, suc, ◌+◌, ◌<◌, ◌≤◌, Bool, true, false, List, [], ◌∷◌, ◌++◌, length, map, refl, ap, arith, sym, ◌∙◌, subst, take, get_or, append_assoc, cond, add-one, All, nat_lt, ◌==◌, slice_get}
+use Rattle.fork_context.proofs.Common.{take_more, append-nil, most_targets, numbers_below, falling, is_value, places_of, groups_of, in_group, numbered_from, lists_of}
+use Rattle.std.proofs.Common.{Vec}
 use Rattle.std.proofs.lemmas.List.Elements.{All-append, All-nil, All-filter}
-use Rattle.fork_model.specs.Table.{most_targets}
-use Rattle.fork_model.specs.Groups.{numbers_below, with_q, falling, is_value, places_of, groups_of, in_group, numbered_from}
-use Rattle.fork_rank.specs.Grouping.{lists_of}
+use Rattle.fork_model.specs.Groups.{with_q}
+use Rattle.fork_model.proofs.laws.ContactLemmas.{length-map}
 
 in_group-append : (group : ℕ) (xs ys : List ℕ) → in_group group (xs ++ ys) ≡ in_group group xs ++ in_group group ys
 in_group-append group [] ys = refl
@@ -56,10 +55,6 @@ length-falling (q ∷ qs) =
     let rest : length (falling qs) ≤ length qs = length-falling qs in
     let all : length (with_q q (falling qs)) ≤ suc (length qs) = omega arith in
     all
-
-length-map : {X Y : Type 0} (f : X → Y) (xs : List X) → length (map f xs) ≡ length xs
-length-map f [] = refl
-length-map f (x ∷ xs) = ap suc (length-map f xs)
 
 pub groups_few : {A : Type 0} (qs : List ℕ) (groups : List (Vec ℕ A)) → lists_of groups ≡ groups_of qs → length groups ≤ length qs
 groups_few qs groups is =

@@ -1,10 +1,7 @@
 -- Targets with one key, found target by target.
-use Rattle.std.proofs.Common.{◌≡◌, ℕ, zero, suc, ◌+◌, ◌<◌, ◌≤◌, Bool, true, false, List, [], ◌∷◌, length, Some, refl, ap, arith, sym, ◌∙◌, take, get_or, ◌⊎◌, inl, inr}
-use Rattle.std.specs.Prelude.{slice_get, nat_eq, ◌||◌}
-use Rattle.std.specs.List.{list_any}
-use Rattle.std.specs.Cmp.Lexicographic.{pointwise, same_text, other_text}
-use Rattle.fork_model.specs.History.{Target}
-use Rattle.fork_context.specs.Refusals.{keys_of_targets, HasTwice}
+use Rattle.fork_context.proofs.Common.{◌≡◌, ℕ, zero, suc, ◌+◌, ◌<◌, ◌≤◌, Bool, true, false, List, [], ◌∷◌, length, Some, refl, ap, arith, sym, ◌∙◌, take, get_or, ◌⊎◌, inl, inr, slice_get, nat_eq, ◌||◌, list_any, pointwise, Target, HasTwice}
+use Rattle.std.specs.Cmp.Lexicographic.{same_text, other_text}
+use Rattle.fork_context.specs.Refusals.{keys_of_targets}
 
 -- one of these targets has the key
 abbrev pub has_key : List ℕ → List Target → Bool

@@ -1,14 +1,11 @@
--- The parent of a row, by the tree's row and what stands beside it.
-use Rattle.std.proofs.Common.{◌≡◌, ℕ, zero, suc, List, [], ◌∷◌, refl}
-use Rattle.std.specs.Prelude.{slice_get}
-use Rattle.fork_model.specs.Table.{Row}
+-- The parent of a row, by the tree's row and its extras.
+use Rattle.fork_context.proofs.Common.{◌≡◌, ℕ, zero, suc, List, [], ◌∷◌, refl, slice_get, Row, RowExtras, with_extras}
 use Rattle.fork_tree.specs.Below.{parent_of}
-use Rattle.fork_context.specs.Dressed.{Beside, dressed}
 
--- what stands beside a row does not change its parent
-pub parent_dressed : (rows : List Row) (besides : List Beside) (n : ℕ) → parent_of (slice_get rows n) ≡ parent_of (slice_get (dressed rows besides) n)
-parent_dressed [] besides n = refl
-parent_dressed (row ∷ rows) [] zero = refl
-parent_dressed (row ∷ rows) [] (suc n) = parent_dressed rows [] n
-parent_dressed (row ∷ rows) (b ∷ besides) zero = refl
-parent_dressed (row ∷ rows) (b ∷ besides) (suc n) = parent_dressed rows besides n
+-- the extras of a row do not change its parent
+pub parent_with_extras : (rows : List Row) (extras : List RowExtras) (n : ℕ) → parent_of (slice_get rows n) ≡ parent_of (slice_get (with_extras rows extras) n)
+parent_with_extras [] extras n = refl
+parent_with_extras (row ∷ rows) [] zero = refl
+parent_with_extras (row ∷ rows) [] (suc n) = parent_with_extras rows [] n
+parent_with_extras (row ∷ rows) (b ∷ extras) zero = refl
+parent_with_extras (row ∷ rows) (b ∷ extras) (suc n) = parent_with_extras rows extras n

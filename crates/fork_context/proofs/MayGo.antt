@@ -1,11 +1,6 @@
 -- An effect takes its row on as rows may go.
-use Rattle.std.proofs.Common.{◌≡◌, ℕ, Bool, true, false, Option, Some, None, refl, subst, cond}
-use Rattle.std.specs.Prelude.{not, ◌&&◌, nat_lt}
-use Rattle.fork_model.specs.Table.{Row, Table, State, Idle, Trying, Rung, Ended, Silent, is_invite}
-use Rattle.fork_model.specs.Event.{Event, FinalAnswer, Ring, Answer, Timeout, Fault, TimerC, GiveUp, Cancel}
-use Rattle.fork_model.specs.Contacts.{taking_at}
-use Rattle.fork_model.specs.Step.{Effect, effect, moves, assumed, accepts, answers, redirects, stores}
-use Rattle.fork_context.specs.Placed.{may_go}
+use Rattle.fork_context.proofs.Common.{◌≡◌, ℕ, Bool, true, false, Option, Some, None, refl, subst, cond, not, ◌&&◌, nat_lt, Row, Table, State, Idle, Trying, Rung, Ended, Silent, is_invite, Event, FinalAnswer, Ring, Answer, Timeout, Fault}
+use Rattle.fork_context.proofs.Common.{TimerC, GiveUp, Cancel, taking_at, Effect, effect, moves, assumed, accepts, answers, redirects, stores, may_go}
 
 abbrev GoesOn : State → Option Effect → Type 0
 GoesOn state None = Unit {0}

@@ -1,9 +1,5 @@
 -- Steps of a loop that collects the numbers that pass a test.
-use Rattle.std.proofs.Common.{◌≡◌, ℕ, ◌+◌, Bool, true, false, [], ◌∷◌, ◌++◌, ap, ◌∙◌, cond, add-one}
-use Rattle.std.specs.Prelude.{filter}
-use Rattle.std.proofs.lemmas.List.{append-nil}
-use Rattle.std.proofs.lemmas.List.Elements.{filter-append}
-use Rattle.fork_model.specs.Groups.{numbers_below}
+use Rattle.fork_context.proofs.Common.{◌≡◌, ℕ, ◌+◌, Bool, true, false, [], ◌∷◌, ◌++◌, ap, ◌∙◌, cond, add-one, filter, append-nil, filter-append, numbers_below}
 
 one_more : (p : ℕ → Bool) (i : ℕ) → filter p (numbers_below (i + 1)) ≡ filter p (numbers_below i) ++ cond (p i) (i ∷ []) []
 one_more p i = ap (λ n. filter p (numbers_below n)) (add-one i) ∙ filter-append p (numbers_below i) (i ∷ [])

@@ -1,31 +1,18 @@
--- The seats of the initial targets, with what stands beside each, are their rows; the first group starts.
-use Rattle.std.proofs.Common.{◌≡◌, ℕ, zero, suc, ◌+◌, ◌<◌, ◌≤◌, true, false, List, [], ◌∷◌, ◌++◌, length, map, Option, Some, None, refl, ap, arith, ◌∙◌, sym, subst, take, get_or}
-use Rattle.std.specs.Prelude.{slice_get, is_some, IfSome, IfNone}
-use Rattle.std.specs.Option.{option_map, option_to_list}
-use Rattle.std.specs.List.{filter_map, cons_option}
-use Rattle.std.proofs.lemmas.List.{length-map, take_more}
-use Rattle.std.proofs.lemmas.List.Elements.{filter_map-append}
-use Rattle.fork_model.specs.Table.{Kind, Rules, Row, Table, Idle, most_targets, is_succeeded}
-use Rattle.fork_model.specs.Groups.{numbered}
-use Rattle.fork_model.specs.Waiting.{may_start}
-use Rattle.fork_model.specs.History.{Target, first_row, opening}
-use Rattle.fork_model.proofs.GroupLemmas.{AllPlaces, numbered_places, length_numbered_all}
-use Rattle.fork_tree.specs.Tree.{bare}
-use Rattle.fork_tree.specs.declared.seat.Seat.{Seat}
-use Rattle.fork_tree.specs.Seats.{seated, seats_of}
-use Rattle.fork_context.specs.Dressed.{Beside, dressed, q_at, q_of_pair}
-use Rattle.fork_context.specs.ForkInside.{IsFork}
-use Rattle.fork_context.specs.Opening.{idled, waiting_rows, waiting_table, beside_target, target_beside}
-use Rattle.fork_tree.specs.Ready.{IsReady, tried}
+-- The new rows of the initial targets, with the extras of each, are their rows; the first group starts.
+use Rattle.fork_context.proofs.Common.{◌≡◌, ℕ, zero, suc, ◌+◌, ◌<◌, ◌≤◌, true, false, List, [], ◌∷◌, ◌++◌, length, map, Option, Some, None, refl, ap, arith, ◌∙◌, sym, subst, take, get_or, slice_get, is_some, IfSome, IfNone, option_map}
+use Rattle.fork_context.proofs.Common.{option_to_list, filter_map, cons_option, length-map, take_more, filter_map-append, Kind, Rules, Row, Table, Idle, most_targets, is_succeeded, numbered, may_start, Target, opening, AllPlaces}
+use Rattle.fork_context.proofs.Common.{numbered_places, length_numbered_all, plain_row, NewRow, waiting_row, new_rows_of, RowExtras, with_extras, q_at, q_of_pair, IsFork, idled, waiting_rows, waiting_table, extras_of_target, target_extras}
+use Rattle.fork_context.proofs.Common.{IsReady, tried}
+use Rattle.fork_model.specs.History.{first_row}
 use Rattle.fork_context.proofs.OpeningStarts.{opening_settled, opening_one_group}
-use Rattle.fork_context.proofs.Seats.{group_and_q, group_of_pair, seats_numbered, length_seats}
+use Rattle.fork_context.proofs.NewRowGroups.{group_and_q, group_of_pair, new_rows_numbered, length_new_rows}
 use Rattle.fork_context.proofs.Settling.{settled_none, settled_group}
 
 abbrev pub target_qs : List Target → List ℕ
 target_qs targets = map (λ (target : Target). target.q) targets
 
-abbrev pub target_seats : List Target → List Seat
-target_seats targets = seats_of (map (q_of_pair (target_qs targets)) (numbered (target_qs targets)))
+abbrev pub target_new_rows : List Target → List NewRow
+target_new_rows targets = new_rows_of (map (q_of_pair (target_qs targets)) (numbered (target_qs targets)))
 
 target_there : (targets : List Target) (place : ℕ) → is_some (slice_get (target_qs targets) place) ≡ true
     → (t : Target) × (slice_get targets place ≡ Some t) × (q_at (target_qs targets) place ≡ t.q)
@@ -40,47 +27,47 @@ map_idled : (o : Option Row) (rows : List Row) → map idled (cons_option o rows
 map_idled None rows = refl
 map_idled (Some row) rows = refl
 
-one_row : (targets : List Target) (pairs : List (ℕ × ℕ)) (seats : List Seat) → AllPlaces (target_qs targets) pairs
-    → map group_and_q seats ≡ map (group_of_pair (target_qs targets)) pairs
-    → dressed (map (seated None) seats) (filter_map (target_beside targets) pairs) ≡ map idled (filter_map (row_of targets) pairs)
+one_row : (targets : List Target) (pairs : List (ℕ × ℕ)) (new_rows : List NewRow) → AllPlaces (target_qs targets) pairs
+    → map group_and_q new_rows ≡ map (group_of_pair (target_qs targets)) pairs
+    → with_extras (map (waiting_row None) new_rows) (filter_map (target_extras targets) pairs) ≡ map idled (filter_map (row_of targets) pairs)
 one_row targets [] [] there same = refl
-one_row targets [] (s ∷ seats) there same = absurd cc
+one_row targets [] (s ∷ new_rows) there same = absurd cc
 one_row targets (p ∷ pairs) [] there same = absurd cc
-one_row targets (p ∷ pairs) (s ∷ seats) there same =
+one_row targets (p ∷ pairs) (s ∷ new_rows) there same =
     let t = target_there targets p.1 there.0 in
     let head : group_and_q s ≡ group_of_pair (target_qs targets) p = cc in
-    let tail : map group_and_q seats ≡ map (group_of_pair (target_qs targets)) pairs = cc in
+    let tail : map group_and_q new_rows ≡ map (group_of_pair (target_qs targets)) pairs = cc in
     let group : s.group ≡ p.0 = ap (λ (x : ℕ × ℕ). x.0) head in
     let q : s.q ≡ t.0.q = ap (λ (x : ℕ × ℕ). x.1) head ∙ t.2 in
-    let rest : dressed (map (seated None) seats) (filter_map (target_beside targets) pairs) ≡ map idled (filter_map (row_of targets) pairs) =
-    one_row targets pairs seats there.1 tail in
-    ap (λ (o : Option Target). dressed (seated None s ∷ map (seated None) seats) (cons_option (option_map (beside_target p.1) o) (filter_map (target_beside targets) pairs))) t.1
+    let rest : with_extras (map (waiting_row None) new_rows) (filter_map (target_extras targets) pairs) ≡ map idled (filter_map (row_of targets) pairs) =
+    one_row targets pairs new_rows there.1 tail in
+    ap (λ (o : Option Target). with_extras (waiting_row None s ∷ map (waiting_row None) new_rows) (cons_option (option_map (extras_of_target p.1) o) (filter_map (target_extras targets) pairs))) t.1
     ∙ (λ i. (let r : Row = record { key = t.0.key; q = q i; place = p.1; parent = None; group = group i; state = Idle } in r) ∷ rest i)
     ∙ sym (map_idled (row_of targets p) (filter_map (row_of targets) pairs)
     ∙ ap (λ (o : Option Target). cons_option (option_map idled (option_map (first_row p.0 p.1) o)) (map idled (filter_map (row_of targets) pairs))) t.1)
 
-pub opening_dressed : (targets : List Target)
-    → dressed (map (seated None) (target_seats targets)) (filter_map (target_beside targets) (numbered (target_qs targets))) ≡ waiting_rows targets
-opening_dressed targets =
-    one_row targets (numbered (target_qs targets)) (target_seats targets) (numbered_places (target_qs targets)) (seats_numbered (target_qs targets))
+pub opening_with_extras : (targets : List Target)
+    → with_extras (map (waiting_row None) (target_new_rows targets)) (filter_map (target_extras targets) (numbered (target_qs targets))) ≡ waiting_rows targets
+opening_with_extras targets =
+    one_row targets (numbered (target_qs targets)) (target_new_rows targets) (numbered_places (target_qs targets)) (new_rows_numbered (target_qs targets))
 
-all_beside : (targets : List Target) (pairs : List (ℕ × ℕ)) → AllPlaces (target_qs targets) pairs → length (filter_map (target_beside targets) pairs) ≡ length pairs
-all_beside targets [] there = refl
-all_beside targets (p ∷ pairs) there =
+all_row_extras : (targets : List Target) (pairs : List (ℕ × ℕ)) → AllPlaces (target_qs targets) pairs → length (filter_map (target_extras targets) pairs) ≡ length pairs
+all_row_extras targets [] there = refl
+all_row_extras targets (p ∷ pairs) there =
     let t = target_there targets p.1 there.0 in
-    let rest : length (filter_map (target_beside targets) pairs) ≡ length pairs = all_beside targets pairs there.1 in
-    ap (λ (o : Option Target). length (cons_option (option_map (beside_target p.1) o) (filter_map (target_beside targets) pairs))) t.1 ∙ more rest
+    let rest : length (filter_map (target_extras targets) pairs) ≡ length pairs = all_row_extras targets pairs there.1 in
+    ap (λ (o : Option Target). length (cons_option (option_map (extras_of_target p.1) o) (filter_map (target_extras targets) pairs))) t.1 ∙ more rest
   where
     more : {n m : ℕ} → n ≡ m → suc n ≡ suc m
     more e = ap suc e
 
-seated_bare : (seats : List Seat) → map bare (map (seated None) seats) ≡ map (seated None) seats
-seated_bare [] = refl
-seated_bare (s ∷ seats) = ap (λ (rows : List Row). seated None s ∷ rows) (seated_bare seats)
+waiting_row_plain : (new_rows : List NewRow) → map plain_row (map (waiting_row None) new_rows) ≡ map (waiting_row None) new_rows
+waiting_row_plain [] = refl
+waiting_row_plain (s ∷ new_rows) = ap (λ (rows : List Row). waiting_row None s ∷ rows) (waiting_row_plain new_rows)
 
-none_succeeded : (seats : List Seat) → false ≡ is_succeeded (map (seated None) seats)
+none_succeeded : (new_rows : List NewRow) → false ≡ is_succeeded (map (waiting_row None) new_rows)
 none_succeeded [] = refl
-none_succeeded (s ∷ seats) = none_succeeded seats
+none_succeeded (s ∷ new_rows) = none_succeeded new_rows
 
 pub length_ordered : (targets : List Target) → length (map (q_of_pair (target_qs targets)) (numbered (target_qs targets))) ≡ length targets
 length_ordered targets =
@@ -91,27 +78,27 @@ length_ordered targets =
     omega arith
 
 pub opening_fork : (targets : List Target) → length targets ≤ most_targets
-    → IsFork (map (seated None) (target_seats targets)) (filter_map (target_beside targets) (numbered (target_qs targets))) false
+    → IsFork (map (waiting_row None) (target_new_rows targets)) (filter_map (target_extras targets) (numbered (target_qs targets))) false
 opening_fork targets few =
     let qs = target_qs targets in
-    let one : length (filter_map (target_beside targets) (numbered qs)) ≡ length (numbered qs) = all_beside targets (numbered qs) (numbered_places qs) in
+    let one : length (filter_map (target_extras targets) (numbered qs)) ≡ length (numbered qs) = all_row_extras targets (numbered qs) (numbered_places qs) in
     let two : length (map (q_of_pair qs) (numbered qs)) ≡ length (numbered qs) = length-map (numbered qs) (q_of_pair qs) in
-    let three : length (target_seats targets) ≡ length (map (q_of_pair qs) (numbered qs)) = length_seats None 0 0 (map (q_of_pair qs) (numbered qs)) in
-    let four : length (map (seated None) (target_seats targets)) ≡ length (target_seats targets) = length-map (target_seats targets) (seated None) in
+    let three : length (target_new_rows targets) ≡ length (map (q_of_pair qs) (numbered qs)) = length_new_rows None 0 0 (map (q_of_pair qs) (numbered qs)) in
+    let four : length (map (waiting_row None) (target_new_rows targets)) ≡ length (target_new_rows targets) = length-map (target_new_rows targets) (waiting_row None) in
     let five : length (map (q_of_pair qs) (numbered qs)) ≡ length targets = length_ordered targets in
-    record { is_bare = seated_bare (target_seats targets); each = omega arith; few = omega arith; succeeds = none_succeeded (target_seats targets) }
+    record { is_plain = waiting_row_plain (target_new_rows targets); each = omega arith; few = omega arith; succeeds = none_succeeded (target_new_rows targets) }
 
 -- one more place
-one : (o : Option Beside) → cons_option o [] ≡ option_to_list o
+one : (o : Option RowExtras) → cons_option o [] ≡ option_to_list o
 one None = refl
 one (Some b) = refl
 
-pub besides_more : (targets : List Target) (pairs : List (ℕ × ℕ)) (i : ℕ) → i < length pairs
-    → filter_map (target_beside targets) (take (i + 1) pairs) ≡ filter_map (target_beside targets) (take i pairs) ++ option_to_list (target_beside targets (get_or pairs i (0, 0)))
-besides_more targets pairs i lt =
-    ap (filter_map (target_beside targets)) (take_more pairs i (0, 0) lt)
-    ∙ filter_map-append (target_beside targets) (take i pairs) (get_or pairs i (0, 0) ∷ [])
-    ∙ ap (λ (rest : List Beside). filter_map (target_beside targets) (take i pairs) ++ rest) (one (target_beside targets (get_or pairs i (0, 0))))
+pub extras_more : (targets : List Target) (pairs : List (ℕ × ℕ)) (i : ℕ) → i < length pairs
+    → filter_map (target_extras targets) (take (i + 1) pairs) ≡ filter_map (target_extras targets) (take i pairs) ++ option_to_list (target_extras targets (get_or pairs i (0, 0)))
+extras_more targets pairs i lt =
+    ap (filter_map (target_extras targets)) (take_more pairs i (0, 0) lt)
+    ∙ filter_map-append (target_extras targets) (take i pairs) (get_or pairs i (0, 0) ∷ [])
+    ∙ ap (λ (rest : List RowExtras). filter_map (target_extras targets) (take i pairs) ++ rest) (one (target_extras targets (get_or pairs i (0, 0))))
 
 -- the first group started
 pub opened : (kind : Kind) (rules : Rules) (targets : List Target) (t after : Table) (result : Option (ℕ × ℕ)) → t ≡ waiting_table kind rules targets

@@ -1,17 +1,12 @@
 -- The initial targets all wait; settling starts their first group, and that is the opening table.
-use Rattle.std.proofs.Common.{◌≡◌, ℕ, zero, suc, ◌<◌, Bool, true, false, List, [], ◌∷◌, map, Option, Some, None, refl, ap, arith, ◌∙◌, sym, cond, inl, inr, ltb-true}
-use Rattle.std.specs.Prelude.{slice_get, ◌==◌, ◌&&◌, ◌||◌, nat_lt, nat_eq}
-use Rattle.std.specs.Option.{option_map, option_eq}
-use Rattle.std.specs.List.{list_any}
-use Rattle.std.proofs.lemmas.Option.{slice_get-map}
-use Rattle.fork_model.specs.Table.{Kind, Rules, Row, Table, State, Idle, Trying, is_idle, is_ended}
-use Rattle.fork_model.specs.Waiting.{in_earlier_group, line_of, parent_ended, may_start}
-use Rattle.fork_model.specs.Step.{settled, settled_row}
-use Rattle.fork_model.specs.History.{Target, opening_rows, opening}
-use Rattle.fork_context.specs.Opening.{idled, waiting_rows, waiting_table}
-use Rattle.fork_model.proofs.OpeningSeries.{opening_row, HasFirst, has_first}
-use Rattle.fork_model.proofs.SeriesLemmas.{OneGroup}
-use Rattle.fork_model.proofs.WaitingLemmas.{MayStart, may_start_facts, may_start_of, is_earlier, goes_by_group, has_rows, one_group}
+use Rattle.fork_context.proofs.Common.{◌≡◌, ℕ, zero, suc, ◌<◌, Bool, true, false, List, [], ◌∷◌, map, Option, Some, None, refl, ap, arith, ◌∙◌, sym, cond, inl, inr, ltb-true, slice_get, ◌==◌, ◌&&◌, ◌||◌, nat_lt, nat_eq, option_map}
+use Rattle.fork_context.proofs.Common.{list_any, slice_get-map, Kind, Rules, Row, Table, State, Idle, Trying, is_idle, is_ended, in_earlier_group, parent_ended, may_start, settled, settled_row, Target, opening, idled, waiting_rows}
+use Rattle.fork_context.proofs.Common.{waiting_table, OneGroup, may_start_facts}
+use Rattle.std.specs.Option.{option_eq}
+use Rattle.fork_model.specs.Waiting.{line_of}
+use Rattle.fork_model.specs.History.{opening_rows}
+use Rattle.fork_model.proofs.laws.OpeningSeries.{opening_row, HasFirst, has_first}
+use Rattle.fork_model.proofs.laws.WaitingLemmas.{MayStart, may_start_of, is_earlier, goes_by_group, has_rows, one_group}
 
 differ : {b : Bool} → b ≡ true → b ≡ false → ⊥
 differ h k = cc
@@ -58,7 +53,7 @@ first_may : (targets : List Target) (m : ℕ) (row : Row) → slice_get (opening
     → may_start (waiting_rows targets) (idled row) ≡ true
 first_may targets m row is zeroth = may_start_of (waiting_rows targets) (idled row) (record {
   idle = refl;
-  mates = λ k mate at same. let r = waits_from targets k mate at in sym (ap (λ (x : Row). is_idle x.state) r.2);
+  members = λ k member at same. let r = waits_from targets k member at in sym (ap (λ (x : Row). is_idle x.state) r.2);
   parent = ap (parent_ended (waiting_rows targets)) (opening_row targets m row is).parent;
   before = λ k other at goes. absurd (differ goes (none_earlier (line_of (waiting_rows targets) other) (idled row) zeroth));
 })

@@ -1,13 +1,6 @@
 -- Which rows a reply names, by what the event changed.
-use Rattle.std.proofs.Common.{◌≡◌, ℕ, zero, suc, ◌+◌, ◌<◌, ◌≤◌, Bool, true, false, List, [], ◌∷◌, ◌++◌, length, Option, Some, None, refl, ap, arith, ◌∙◌, sym, inl, inr, ◌⊎◌}
-use Rattle.std.specs.Prelude.{slice_get, not, ◌&&◌}
-use Rattle.std.proofs.lemmas.Option.{slice_get_within}
-use Rattle.fork_model.specs.Table.{Row, State, Trying, is_row}
-use Rattle.fork_model.specs.Step.{with_state}
-use Rattle.fork_model.specs.Reply.{has_become, became}
-use Rattle.fork_model.proofs.ChangeLemmas.{Found, found, changed_row}
-use Rattle.fork_tree.specs.Ready.{tried}
-use Rattle.fork_context.specs.Ready.{numbers_from}
+use Rattle.fork_context.proofs.Common.{◌≡◌, ℕ, zero, suc, ◌+◌, ◌<◌, ◌≤◌, Bool, true, false, List, [], ◌∷◌, ◌++◌, length, Option, Some, None, refl, ap, arith, ◌∙◌, sym, inl, inr, ◌⊎◌, slice_get, not, ◌&&◌, slice_get_within, Row, State}
+use Rattle.fork_context.proofs.Common.{Trying, is_row, with_state, has_become, became, Found, found, changed_row, tried, numbers_from}
 use Rattle.fork_context.proofs.Numbers.{filter_none, filter_range}
 
 differ : {b : Bool} → b ≡ true → b ≡ false → ⊥

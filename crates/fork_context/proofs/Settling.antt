@@ -1,17 +1,9 @@
 -- Settling an open table is the start of the one group that may start.
-use Rattle.std.proofs.Common.{◌≡◌, ℕ, zero, suc, ◌+◌, ◌<◌, ◌≤◌, Bool, true, false, List, [], ◌∷◌, length, map, Some, refl, ap, arith, ◌∙◌, cond}
-use Rattle.std.specs.Prelude.{slice_get}
+use Rattle.fork_context.proofs.Common.{◌≡◌, ℕ, zero, suc, ◌+◌, ◌<◌, ◌≤◌, Bool, true, false, List, [], ◌∷◌, length, map, Some, refl, ap, arith, ◌∙◌, cond, slice_get, get_or, Row, Table, State, Trying, may_start, settled_row, settled}
+use Rattle.fork_context.proofs.Common.{may_start_facts, OneGroup, IsReady, tried}
 use Rattle.std.proofs.lemmas.Option.{slice_get-get_or}
-use Rattle.std.proofs.Common.{get_or}
-use Rattle.fork_model.specs.Table.{Row, Table, State, Trying}
-use Rattle.fork_model.specs.Waiting.{may_start}
-use Rattle.fork_model.specs.Step.{settled_state, settled_row, settled}
-use Rattle.fork_model.proofs.WaitingLemmas.{may_start_facts}
-use Rattle.fork_model.proofs.SeriesLemmas.{OneGroup, settled_open}
-use Rattle.fork_tree.specs.Ready.{IsReady, tried}
-
-InRange : ℕ → ℕ → ℕ → Type 0
-InRange first count k = (first ≤ k) × (k < first + count)
+use Rattle.fork_model.specs.Step.{settled_state}
+use Rattle.fork_model.proofs.laws.SeriesLemmas.{settled_open}
 
 map_same : (f : Row → Row) (rows : List Row) → ((k : ℕ) (row : Row) → slice_get rows k ≡ Some row → f row ≡ row) → map f rows ≡ rows
 map_same f [] h = refl
@@ -38,9 +30,6 @@ map_tried f (row ∷ rows) (suc first) count starts stays =
     (λ k r is lo hi. starts (suc k) r is (let le : first ≤ k = lo in omega arith) (let less : k < first + count = hi in omega arith))
     (λ k r is out. stays (suc k) r is (λ lo hi. out (let le : suc first ≤ suc k = lo in omega arith) (let less : suc k < suc first + count = hi in omega arith))) in
     (λ i. here i ∷ rest i)
-
-row_to : Row → State → Row
-row_to row state = record row { state = state }
 
 -- where none may start, settling leaves all as it is
 pub settled_none : (u : Table) → u.closed ≡ false → ((k : ℕ) (row : Row) → slice_get u.rows k ≡ Some row → may_start u.rows row ≡ false)

@@ -1,24 +1,18 @@
 -- A context that takes an event keeps its bounds.
-use Rattle.std.proofs.Common.{◌≡◌, ◌≢◌, ◌≤◌, ◌*◌, ◌+◌, ℕ, suc, Bool, false, List, [], ◌∷◌, ◌++◌, length, arith, subst, refl, ap, sym, ◌∙◌}
+use Rattle.fork_context.proofs.Common.{◌≡◌, ◌≢◌, ◌≤◌, ◌+◌, ℕ, suc, Bool, false, List, [], ◌∷◌, ◌++◌, length, arith, subst, refl, ap, sym, ◌∙◌, AllByRecursion, Table, most_targets, Event, next, Core, is_full, targets_bounded, Kind, Rules}
+use Rattle.fork_context.proofs.Common.{Target, opening, IsTargetInRange, AreRules, IsSound, IsKept}
+use Rattle.std.proofs.Common.{◌*◌}
 use Rattle.std.specs.Prelude.{if◌then◌else◌}
-use Rattle.std.specs.List.{AllByRecursion}
-use Rattle.fork_model.specs.Table.{Table, most_targets}
-use Rattle.fork_model.specs.Event.{Event}
-use Rattle.fork_model.specs.Step.{next}
-use Rattle.fork_model.specs.Core.{Core, most_strays, is_full, core_next, core_offered, core_after, opening_core}
+use Rattle.fork_model.specs.Core.{most_strays, core_next, core_offered, core_after, opening_core}
 use Rattle.fork_model.specs.Steps.{progress, IsWithin}
-use Rattle.fork_model.proofs.StepLemmas.{positions_bounded, progress_bounded}
-use Rattle.fork_model.proofs.ContactLemmas.{targets_bounded}
-use Rattle.fork_model.proofs.Arrivals.{next_arrivals}
-use Rattle.fork_model.specs.Table.{Kind, Rules}
-use Rattle.fork_model.specs.History.{Target, opening}
-use Rattle.fork_model.specs.Range.{IsTargetInRange, IsEventInRange}
-use Rattle.fork_model.proofs.ContactLemmas.{each_target}
-use Rattle.fork_model.proofs.Arrivals.{history_of_arrivals}
-use Rattle.fork_model.proofs.SeriesLemmas.{keeps_series}
-use Rattle.fork_model.proofs.OpeningSeries.{opening_in_series}
-use Rattle.fork_context.specs.Led.{AreRules, IsLedTo}
-use Rattle.fork_context.specs.Sound.{IsSound, IsKept}
+use Rattle.fork_model.proofs.laws.StepLemmas.{positions_bounded, progress_bounded}
+use Rattle.fork_model.proofs.laws.Arrivals.{next_arrivals}
+use Rattle.fork_model.specs.Range.{IsEventInRange}
+use Rattle.fork_model.proofs.laws.ContactLemmas.{each_target}
+use Rattle.fork_model.proofs.laws.Arrivals.{history_of_arrivals}
+use Rattle.fork_model.proofs.laws.SeriesLemmas.{keeps_series}
+use Rattle.fork_model.proofs.laws.OpeningSeries.{opening_in_series}
+use Rattle.fork_context.specs.Led.{IsLedTo}
 use Rattle.fork_context.proofs.InRange.{all_behind}
 use Rattle.fork_context.proofs.ClosingRows.{keeps_closed}
 

@@ -1,29 +1,15 @@
 -- One event at a table, arm by arm: the table after it, and what the reply names.
-use Rattle.std.proofs.Common.{◌≡◌, ◌≤◌, ◌<◌, ◌+◌, arith, length-append, ℕ, zero, suc, Bool, true, false, List, [], ◌∷◌, ◌++◌, length, map, Option, Some, None, refl, ap, ◌∙◌, sym, subst, cond, inl, inr, ◌⊎◌}
-use Rattle.std.specs.Prelude.{slice_get, not, ◌&&◌, ◌||◌, filter}
-use Rattle.std.specs.Option.{option_map, option_and_then}
-use Rattle.std.proofs.lemmas.List.{append-nil}
-use Rattle.std.proofs.lemmas.Option.{slice_get_within}
-use Rattle.std.proofs.lemmas.List.{length-map}
-use Rattle.fork_model.proofs.ContactLemmas.{length-state, targets_bounded}
-use Rattle.fork_model.specs.Table.{Kind, Row, Table, State, Idle, Trying, Rung, Ended, is_idle, is_trying, is_cancelled, is_ended, is_row, is_invite, is_finished, most_targets}
-use Rattle.fork_model.specs.Event.{Event, Cancel, row_named}
-use Rattle.fork_model.specs.Groups.{numbers_below}
-use Rattle.fork_model.specs.Step.{Effect, effect, with_state, with_effect, change_at, change, closed_state, next, settled, settled_row}
-use Rattle.fork_model.specs.Reply.{Up, Nothing, Provisional, Success, Final, became, provisional, success, IsUp, IsReply}
-use Rattle.fork_model.specs.Series.{IsInSeries}
-use Rattle.fork_model.proofs.StepLemmas.{next_of_stray, next_of_change, and_left}
-use Rattle.fork_model.proofs.ChangeLemmas.{changed_row}
+use Rattle.fork_context.proofs.Common.{◌≡◌, ◌≤◌, ◌<◌, ◌+◌, arith, length-append, ℕ, zero, suc, Bool, true, false, List, [], ◌∷◌, ◌++◌, length, map, Option, Some, None, refl, ap, ◌∙◌, sym, subst, cond, inl, inr, ◌⊎◌, slice_get, not, ◌&&◌}
+use Rattle.fork_context.proofs.Common.{◌||◌, filter, option_map, option_and_then, append-nil, slice_get_within, length-map, length-state, targets_bounded, Kind, Row, Table, State, Idle, Trying, Rung, Ended, is_idle, is_trying, is_cancelled}
+use Rattle.fork_context.proofs.Common.{is_ended, is_row, is_invite, most_targets, Event, Cancel, row_named, numbers_below, Effect, effect, with_state, with_effect, change_at, change, closed_state, next, settled, settled_row, became}
+use Rattle.fork_context.proofs.Common.{IsInSeries, next_of_stray, next_of_change, changed_row, tried, closed_row, IsClosedWhole, is_ringing, gets_cancel, Placed, may_go, placed, effect_at}
 use Rattle.fork_context.proofs.FreshIdle.{IdleEffect, idle_effect}
-use Rattle.fork_tree.specs.Tree.{is_uncancelled}
-use Rattle.fork_tree.specs.Ready.{tried}
-use Rattle.fork_context.specs.Ready.{Starts}
-use Rattle.fork_context.specs.Closing.{is_ringing, closed_row, gets_cancel, IsClosedWhole}
-use Rattle.fork_context.specs.Placed.{Placed, may_go, placed, effect_at}
-use Rattle.fork_context.specs.Stepped.{IsStepped, number_if, cancelled_at, IsSettled, IsUpOf}
+use Rattle.fork_context.specs.inner.Ready.{Starts}
+use Rattle.fork_context.specs.inner.Stepped.{IsStepped, number_if, cancelled_at, IsSettled}
 use Rattle.fork_context.proofs.MayGo.{effect_goes_on}
 use Rattle.fork_context.proofs.Replies.{became_none, moved_none, moved_one}
 use Rattle.fork_context.proofs.StepTaken.{IsChanged, none_starts, none_started, group_starts, group_started, group_cancels, closing_is, closing_starts, closing_cancels, rang_moved, rang_same, closes_ended, closed_adds_none, change_named, change_by_effect, closed_step}
+use Rattle.fork_context.proofs.ForkReads.{map_none}
 
 along : (t : Table) (event : Event) (at : ℕ) (v w : Table) (started cancelled : List ℕ) → w ≡ v → IsStepped t event at v started cancelled
     → IsStepped t event at w started cancelled
@@ -46,10 +32,6 @@ effect_none : (t : Table) (event : Event) (at n : ℕ) (o : Option Row) → opti
     → change_at t at event n o ≡ None
 effect_none t event at n None e = refl
 effect_none t event at n (Some row) e = ap (option_map (with_effect t n)) e
-
-map_none : {X Y : Type 0} (f : X → Y) (o : Option X) → None ≡ option_map f o → o ≡ None
-map_none f None e = refl
-map_none f (Some x) e = absurd cc
 
 pub no_effect : (t : Table) (event : Event) (at n : ℕ) → row_named event ≡ Some n → None ≡ option_map (placed n t) (effect_at t n event at)
     → IsStepped t event at t [] []
@@ -379,43 +361,3 @@ effect_step t event at n p u v started cancelled was cancels series whole named 
     (subst R before (subst Q state (subst P same settled)))
 
 -- ---- what goes up
-
-pub up_is : (old : Table) (event : Event) (new : Table) (up : Up) (p s : Option ℕ) (was : Bool) → p ≡ provisional old event → s ≡ success old event
-    → was ≡ is_finished old.rows → IsUpOf p s was new up → IsUp old event new up
-up_is old event new up p s was first second third h =
-    let P : Option ℕ → Type 0 = λ x. IsUpOf x s was new up in
-    let Q : Option ℕ → Type 0 = λ x. IsUpOf (provisional old event) x was new up in
-    let R : Bool → Type 0 = λ x. IsUpOf (provisional old event) (success old event) x new up in
-    go up (subst R third (subst Q second (subst P first h)))
-  where
-    go : (up : Up) → IsUpOf (provisional old event) (success old event) (is_finished old.rows) new up → IsUp old event new up
-    go Nothing h = h
-    go (Provisional n) h = h
-    go (Success n) h = h
-    go (Final choice) h = h
-
-pub reply_of : (t : Table) (event : Event) (at : ℕ) (after : Table) (started cancelled : List ℕ) (up : Up) (p s : Option ℕ) (was : Bool)
-    → IsStepped t event at after started cancelled → p ≡ provisional t event → s ≡ success t event → was ≡ is_finished t.rows → IsUpOf p s was after up
-    → IsReply t event at (record { at = at; started = started; cancelled = cancelled; up = up })
-reply_of t event at after started cancelled up p s was stepped first second third h =
-    let P : Table → Type 0 = λ u. IsUp t event u up in
-    record {
-      position = refl;
-      started = stepped.started ∙ ap (λ (u : Table). became is_trying t.rows u.rows) stepped.leads;
-      cancelled = stepped.cancelled ∙ ap (λ (u : Table). became is_cancelled t.rows u.rows) stepped.leads;
-      up = subst P stepped.leads (up_is t event after up p s was first second third h);
-    }
-
--- a row that gets its CANCEL has rung, and none was sent
-ringing_uncancelled : (state : State) → is_ringing state ≡ is_uncancelled state
-ringing_uncancelled Idle = refl
-ringing_uncancelled Trying = refl
-ringing_uncancelled (Rung x) = refl
-ringing_uncancelled (Ended end) = refl
-
-pub may_cancel : (t : Table) (n : ℕ) → gets_cancel t.kind t.rows n ≡ true → is_row is_uncancelled (slice_get t.rows n) ≡ true
-may_cancel t n e = go (slice_get t.rows n) (and_left (is_row is_ringing (slice_get t.rows n)) (is_invite t.kind) e)
-  where
-    go : (o : Option Row) → is_row is_ringing o ≡ true → is_row is_uncancelled o ≡ true
-    go None h = h
-    go (Some row) h = sym (ringing_uncancelled row.state) ∙ h

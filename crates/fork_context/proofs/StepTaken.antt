@@ -1,24 +1,13 @@
 -- One event at a table: what it changes, what settling then changes, and what the reply names.
-use Rattle.std.proofs.Common.{◌≡◌, ℕ, zero, suc, ◌+◌, ◌<◌, ◌≤◌, Bool, true, false, List, [], ◌∷◌, ◌++◌, length, map, Option, Some, None, refl, ap, arith, ◌∙◌, sym, subst, cond, inl, inr, ◌⊎◌}
-use Rattle.std.specs.Prelude.{slice_get, not, ◌&&◌, ◌||◌, filter, nat_lt}
-use Rattle.std.specs.Option.{option_map}
-use Rattle.std.proofs.lemmas.Option.{slice_get-map}
-use Rattle.std.proofs.lemmas.List.{append-nil, length-map}
-use Rattle.fork_model.specs.Table.{Kind, Row, Table, State, Idle, Trying, Rung, Ended, Silent, is_idle, is_trying, is_cancelled, is_ended, is_row, is_invite}
-use Rattle.fork_model.specs.Event.{Event, FinalAnswer, Ring, Answer, Timeout, Fault, TimerC, GiveUp, Cancel, row_named}
-use Rattle.fork_model.specs.Groups.{numbers_below}
-use Rattle.fork_model.specs.Waiting.{may_start, depth_of}
-use Rattle.fork_model.specs.Contacts.{Taking, taking_at, taking_from, keys_of, fresh_rows}
-use Rattle.fork_model.specs.Step.{Effect, effect, moves, assumed, accepts, answers, redirects, stores, with_state, with_effect, change_at, change, cancelled, closed_state, settled, next}
-use Rattle.fork_model.specs.Reply.{has_become, became}
-use Rattle.fork_model.specs.Series.{IsInSeries}
-use Rattle.fork_model.proofs.StepLemmas.{next_of_change, Onward, change_advances}
-use Rattle.fork_model.proofs.WaitingLemmas.{may_start_facts}
-use Rattle.fork_model.proofs.ChangeLemmas.{IsMove, IsClosing, change_is, Found, found}
-use Rattle.fork_model.proofs.SeriesLemmas.{OneGroup, one_group_changed, tried_before, idle_before}
-use Rattle.fork_tree.specs.Ready.{IsReady, tried}
-use Rattle.fork_context.specs.Ready.{numbers_from}
-use Rattle.fork_context.specs.Closing.{is_ringing, closed_row, IsClosedWhole}
+use Rattle.fork_context.proofs.Common.{◌≡◌, ℕ, zero, suc, ◌+◌, ◌<◌, ◌≤◌, Bool, true, false, List, [], ◌∷◌, ◌++◌, length, map, Option, Some, None, refl, ap, arith, ◌∙◌, sym, subst, cond, inl, inr, ◌⊎◌, slice_get, not, ◌&&◌, ◌||◌, filter}
+use Rattle.fork_context.proofs.Common.{nat_lt, option_map, slice_get-map, append-nil, length-map, Kind, Row, Table, State, Idle, Trying, Rung, Ended, Silent, is_idle, is_trying, is_cancelled, is_ended, is_row, is_invite, Event, FinalAnswer}
+use Rattle.fork_context.proofs.Common.{Ring, Answer, Timeout, Fault, TimerC, GiveUp, Cancel, row_named, numbers_below, may_start, depth_of, ContactLists, taking_at, taking_from, keys_of, fresh_rows, Effect, effect, moves, assumed, accepts}
+use Rattle.fork_context.proofs.Common.{answers, redirects, stores, with_state, with_effect, change_at, change, closed_state, settled, next, has_become, became, IsInSeries, next_of_change, may_start_facts, Found, found, OneGroup, IsReady}
+use Rattle.fork_context.proofs.Common.{tried, numbers_from, closed_row, IsClosedWhole, is_ringing}
+use Rattle.fork_model.specs.Step.{cancelled}
+use Rattle.fork_model.proofs.laws.StepLemmas.{Onward, change_advances}
+use Rattle.fork_model.proofs.laws.ChangeLemmas.{IsMove, IsClosing, change_is}
+use Rattle.fork_model.proofs.laws.SeriesLemmas.{one_group_changed, tried_before, idle_before}
 use Rattle.fork_context.proofs.Settling.{settled_none, settled_group}
 use Rattle.fork_context.proofs.Numbers.{filter_same}
 use Rattle.fork_context.proofs.Replies.{became_none, became_range, tried_in, tried_found, length-tried}
@@ -254,7 +243,7 @@ none_if false e h = tt
 
 none_taken : (t : Table) (n : ℕ) (row : Row) (answer : FinalAnswer) → t.closed ≡ true → fresh_rows n (taking_at t row answer.offers).fresh ≡ []
 none_taken t n row answer done =
-    (λ i. fresh_rows n (cond (done i || not (nat_lt (depth_of t.rows row) t.rules.depth)) (let k : Taking = record { fresh = []; left = answer.offers } in k) (taking_from (keys_of t.rows) 0 answer.offers)).fresh)
+    (λ i. fresh_rows n (cond (done i || not (nat_lt (depth_of t.rows row) t.rules.depth)) (let k : ContactLists = record { fresh = []; left = answer.offers } in k) (taking_from (keys_of t.rows) 0 answer.offers)).fresh)
 
 none_answers : (t : Table) (n : ℕ) (row : Row) (at : ℕ) (answer : FinalAnswer) → t.closed ≡ true → AddsNone (Some (answers t n row at answer))
 none_answers t n row at answer done = go (nat_lt answer.status 300) (nat_lt answer.status 400)

@@ -1,36 +1,33 @@
 -- The stored answers of a tree's rows are those of its table.
-use Rattle.std.proofs.Common.{◌≡◌, ℕ, zero, suc, List, [], ◌∷◌, refl, ◌∙◌, sym}
-use Rattle.std.specs.Prelude.{slice_get}
-use Rattle.std.specs.Option.{option_map}
-use Rattle.fork_model.specs.Table.{Row, Rules, State, Stored, Taken, Silent, Never, Accepted, Idle, Trying, Rung, Ended, stored_of}
+use Rattle.fork_context.proofs.Common.{◌≡◌, ℕ, zero, suc, List, [], ◌∷◌, refl, ◌∙◌, sym, slice_get, option_map, Row, Rules, State, Stored, Taken, Silent, Never, Accepted, Idle, Trying, Rung, Ended, stored_of, stored_at, IsFirst, NoneStored}
+use Rattle.fork_context.proofs.Common.{RowExtras, state_with_extras, with_extras}
 use Rattle.fork_model.specs.Rank.{Score}
-use Rattle.fork_model.specs.Choice.{score_of, stored_at, IsFirst, NoneStored}
-use Rattle.fork_context.specs.Dressed.{Beside, dress_state, dressed}
+use Rattle.fork_model.specs.Choice.{score_of}
 
-score_dress : (state : State) (b : Beside) → option_map score_of (stored_of (dress_state state b)) ≡ option_map score_of (stored_of state)
-score_dress Idle b = refl
-score_dress Trying b = refl
-score_dress (Rung cancelled) b = refl
-score_dress (Ended (Stored a)) b = refl
-score_dress (Ended (Taken at)) b = refl
-score_dress (Ended (Silent at)) b = refl
-score_dress (Ended Never) b = refl
-score_dress (Ended (Accepted at)) b = refl
+score_extras : (state : State) (b : RowExtras) → option_map score_of (stored_of (state_with_extras state b)) ≡ option_map score_of (stored_of state)
+score_extras Idle b = refl
+score_extras Trying b = refl
+score_extras (Rung cancelled) b = refl
+score_extras (Ended (Stored a)) b = refl
+score_extras (Ended (Taken at)) b = refl
+score_extras (Ended (Silent at)) b = refl
+score_extras (Ended Never) b = refl
+score_extras (Ended (Accepted at)) b = refl
 
-pub score_dressed : (rows : List Row) (besides : List Beside) (n : ℕ)
-    → option_map score_of (stored_at (slice_get (dressed rows besides) n)) ≡ option_map score_of (stored_at (slice_get rows n))
-score_dressed [] besides n = refl
-score_dressed (x ∷ rows) [] zero = refl
-score_dressed (x ∷ rows) [] (suc n) = score_dressed rows [] n
-score_dressed (x ∷ rows) (b ∷ besides) zero = score_dress x.state b
-score_dressed (x ∷ rows) (b ∷ besides) (suc n) = score_dressed rows besides n
+pub score_with_extras : (rows : List Row) (extras : List RowExtras) (n : ℕ)
+    → option_map score_of (stored_at (slice_get (with_extras rows extras) n)) ≡ option_map score_of (stored_at (slice_get rows n))
+score_with_extras [] extras n = refl
+score_with_extras (x ∷ rows) [] zero = refl
+score_with_extras (x ∷ rows) [] (suc n) = score_with_extras rows [] n
+score_with_extras (x ∷ rows) (b ∷ extras) zero = score_extras x.state b
+score_with_extras (x ∷ rows) (b ∷ extras) (suc n) = score_with_extras rows extras n
 
-pub first_dressed : (rules : Rules) (rows : List Row) (besides : List Beside) (n : ℕ) (score : Score) → IsFirst rules rows n score
-    → IsFirst rules (dressed rows besides) n score
-first_dressed rules rows besides n score first = record {
-  stored = score_dressed rows besides n ∙ first.stored;
-  first = λ m other has before. first.first m other (sym (score_dressed rows besides m) ∙ has) before;
+pub first_with_extras : (rules : Rules) (rows : List Row) (extras : List RowExtras) (n : ℕ) (score : Score) → IsFirst rules rows n score
+    → IsFirst rules (with_extras rows extras) n score
+first_with_extras rules rows extras n score first = record {
+  stored = score_with_extras rows extras n ∙ first.stored;
+  first = λ m other has before. first.first m other (sym (score_with_extras rows extras m) ∙ has) before;
 }
 
-pub none_dressed : (rows : List Row) (besides : List Beside) → NoneStored rows → NoneStored (dressed rows besides)
-none_dressed rows besides none m score has = none m score (sym (score_dressed rows besides m) ∙ has)
+pub none_with_extras : (rows : List Row) (extras : List RowExtras) → NoneStored rows → NoneStored (with_extras rows extras)
+none_with_extras rows extras none m score has = none m score (sym (score_with_extras rows extras m) ∙ has)

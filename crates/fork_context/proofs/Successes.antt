@@ -1,11 +1,6 @@
 -- Whether a 2xx came, as rows change.
-use Rattle.std.proofs.Common.{◌≡◌, ℕ, zero, suc, ◌+◌, ◌<◌, ◌≤◌, Bool, true, false, List, [], ◌∷◌, ◌++◌, map, Some, refl, ap, arith, ◌∙◌, sym}
-use Rattle.std.specs.Prelude.{slice_get, ◌||◌}
-use Rattle.fork_model.specs.Table.{Row, State, Stored, Taken, Silent, Never, Accepted, Idle, Trying, Rung, Ended, is_idle, is_open, is_accepted, is_succeeded}
-use Rattle.fork_model.specs.Step.{with_state}
-use Rattle.fork_tree.specs.Ready.{tried}
-use Rattle.fork_context.specs.Closing.{never_state, never_row}
-use Rattle.fork_context.specs.Dressed.{Beside, dress_state, dressed}
+use Rattle.fork_context.proofs.Common.{◌≡◌, ℕ, zero, suc, ◌+◌, ◌<◌, ◌≤◌, Bool, true, false, List, [], ◌∷◌, ◌++◌, map, Some, refl, ap, arith, ◌∙◌, sym, slice_get, ◌||◌, Row, State, Stored, Taken, Silent, Never, Accepted, Idle, Trying, Rung}
+use Rattle.fork_context.proofs.Common.{Ended, is_idle, is_open, is_accepted, is_succeeded, with_state, tried, never_state, never_row, RowExtras, state_with_extras, with_extras}
 
 or_swap : (a b : Bool) → (a || b) ≡ (b || a)
 or_swap true true = refl
@@ -16,10 +11,6 @@ or_swap false false = refl
 or_group : (a b c : Bool) → (a || (b || c)) ≡ ((a || b) || c)
 or_group true b c = refl
 or_group false b c = refl
-
-or_none : (a : Bool) → (a || false) ≡ a
-or_none true = refl
-or_none false = refl
 
 -- a row that was not answered with a 2xx goes to another state
 pub succeeded_state : (rows : List Row) (n : ℕ) (row : Row) (state : State) → slice_get rows n ≡ Some row → is_accepted row.state ≡ false
@@ -82,17 +73,17 @@ pub succeeded_never : (rows : List Row) → is_succeeded (map never_row rows) �
 succeeded_never [] = refl
 succeeded_never (x ∷ rows) = (λ i. never_accepted x.state i || succeeded_never rows i)
 
-accepted_dress : (state : State) (b : Beside) → is_accepted (dress_state state b) ≡ is_accepted state
-accepted_dress Idle b = refl
-accepted_dress Trying b = refl
-accepted_dress (Rung cancelled) b = refl
-accepted_dress (Ended (Stored a)) b = refl
-accepted_dress (Ended (Taken at)) b = refl
-accepted_dress (Ended (Silent at)) b = refl
-accepted_dress (Ended Never) b = refl
-accepted_dress (Ended (Accepted at)) b = refl
+accepted_extras : (state : State) (b : RowExtras) → is_accepted (state_with_extras state b) ≡ is_accepted state
+accepted_extras Idle b = refl
+accepted_extras Trying b = refl
+accepted_extras (Rung cancelled) b = refl
+accepted_extras (Ended (Stored a)) b = refl
+accepted_extras (Ended (Taken at)) b = refl
+accepted_extras (Ended (Silent at)) b = refl
+accepted_extras (Ended Never) b = refl
+accepted_extras (Ended (Accepted at)) b = refl
 
-pub succeeded_dressed : (rows : List Row) (besides : List Beside) → is_succeeded (dressed rows besides) ≡ is_succeeded rows
-succeeded_dressed [] besides = refl
-succeeded_dressed (x ∷ rows) [] = ap (λ (b : Bool). is_accepted x.state || b) (succeeded_dressed rows [])
-succeeded_dressed (x ∷ rows) (b ∷ besides) = (λ i. accepted_dress x.state b i || succeeded_dressed rows besides i)
+pub succeeded_with_extras : (rows : List Row) (extras : List RowExtras) → is_succeeded (with_extras rows extras) ≡ is_succeeded rows
+succeeded_with_extras [] extras = refl
+succeeded_with_extras (x ∷ rows) [] = ap (λ (b : Bool). is_accepted x.state || b) (succeeded_with_extras rows [])
+succeeded_with_extras (x ∷ rows) (b ∷ extras) = (λ i. accepted_extras x.state b i || succeeded_with_extras rows extras i)

@@ -1,3 +1,4 @@
+pub mod inner
 pub mod KindView
 pub mod EventView
 pub mod RowShown
@@ -5,18 +6,6 @@ pub mod ReplyView
 pub mod LeftView
 pub mod Led
 pub mod Sound
-pub mod PlainTaking
-pub mod Dressed
-pub mod Ready
 pub mod Closing
-pub mod StandIn
-pub mod ForkInside
-pub mod Placed
-pub mod EffectInside
-pub mod TakingFate
 pub mod Refusals
-pub mod Askers
 pub mod Chosen
-pub mod Stepped
-pub mod Opening
-pub mod ByKey

@@ -1,49 +1,50 @@
 //! What an event does to the row that it names (RFC 3261 sections 16.7 to 16.9).
-ghost use Rattle.std.specs.Prelude.{◌≡◌, ◌≤◌, ◌&&◌, not, [], Some, IfOk, length, map};
+ghost use Rattle.std.specs.Prelude.{◌≡◌, ◌&&◌, not, [], Some, IfOk, length, map};
 ghost use Rattle.std.specs.Option.{option_map};
 ghost use Rattle.fork_model.specs.Table.{Trying, Rung};
 ghost use Rattle.fork_model.specs.Event.{row_named};
 ghost use Rattle.fork_model.specs.Contacts as contacts;
 ghost use Rattle.fork_model.specs.Step as step;
-ghost use Rattle.fork_tree.specs.States.{state_of, bare_state};
-ghost use Rattle.fork_tree.specs.Seats.{seated};
-ghost use Rattle.fork_context.specs.Dressed.{dressed};
+ghost use Rattle.fork_tree.specs.States.{state_of, plain_state};
+ghost use Rattle.fork_tree.specs.NewRows.{waiting_row};
+ghost use Rattle.fork_context.specs.inner.RowExtras.{with_extras};
 ghost use Rattle.fork_context.specs.EventView.{event_of};
-ghost use Rattle.fork_context.specs.Placed.{placed, effect_at};
-ghost use Rattle.fork_context.specs.StandIn.{tree_row};
+ghost use Rattle.fork_context.specs.inner.Placed.{placed, effect_at};
+ghost use Rattle.fork_context.specs.inner.StandIn.{tree_row};
 
-use crate::below::rows_below;
-use crate::beside::Beside;
+use crate::closing::is_global_failure;
+use crate::contacts::{ContactLists, taking_at};
 use crate::copy::copied_challenges;
 use crate::event::{Answer, Event};
 use crate::fork::Fork;
+use crate::new_rows::rows_below;
 use crate::offer::Offer;
-use crate::taking::{Taking, taking_at};
+use crate::row_extras::RowExtras;
 use fork_rank::{Challenge, Status};
-use fork_tree::{End, Level, RowRef, State};
+use fork_tree::{End, NewRows, RowRef, State};
 use std::alloc::{AllocError, Allocator};
 use std::marker::Model;
 
 /// The row that it is on, the state that the row goes to, the contacts left and the challenges of its answer, the rows
-/// that come below it with what stands beside them, and whether the table closes.
+/// that come below it with their extras, and whether the table closes.
 #[derive(Drop)]
 pub(crate) struct Effect<A: Allocator> {
     pub(crate) n: u16,
     pub(crate) state: State,
     pub(crate) left: Vec<Offer<A>, A>,
     pub(crate) challenges: Vec<Challenge<A>, A>,
-    pub(crate) below: Level<A>,
-    pub(crate) fresh: Vec<Beside<A>, A>,
+    pub(crate) below: NewRows<A>,
+    pub(crate) fresh: Vec<RowExtras<A>, A>,
     pub(crate) closes: bool,
 }
 
 impl<A: Allocator> Model for Effect<A> {
     ghost use Rattle.std.specs.Prelude.{Some, map};
-    ghost use Rattle.fork_context.specs.Placed as spec;
-    ghost use Rattle.fork_tree.specs.Seats.{seated};
+    ghost use Rattle.fork_context.specs.inner.Placed as spec;
+    ghost use Rattle.fork_tree.specs.NewRows.{waiting_row};
     ghost use Rattle.fork_tree.specs.States.{state_of};
-    ghost use Rattle.fork_context.specs.Dressed.{dressed};
-    ghost use Rattle.fork_context.specs.EffectInside.{IsEffect};
+    ghost use Rattle.fork_context.specs.inner.RowExtras.{with_extras};
+    ghost use Rattle.fork_context.specs.inner.EffectInside.{IsEffect};
 
     ghost Value = { spec.Placed };
 
@@ -52,12 +53,12 @@ impl<A: Allocator> Model for Effect<A> {
       first = e.below.first;
       effect = record {
         state = state_of e.state e.left.items e.challenges.items;
-        fresh = dressed (map (seated (Some e.n)) e.below.seats) e.fresh.items;
+        fresh = with_extras (map (waiting_row (Some e.n)) e.below.new_rows) e.fresh.items;
         closes = e.closes;
       };
     } };
 
-    ghost invariant = { λ e. IsEffect e.state e.below.seats e.fresh.items e.closes };
+    ghost invariant = { λ e. IsEffect e.state e.below.new_rows e.fresh.items e.closes };
 }
 
 /// Row n moves to this state, and nothing else changes.
@@ -74,7 +75,7 @@ fn moves<A: Allocator + Clone>(
         state,
         left: Vec::new(alloc.clone()?),
         challenges: Vec::new(alloc.clone()?),
-        below: fork.no_level(alloc)?,
+        below: fork.no_new_rows(alloc)?,
         fresh: Vec::new(alloc.clone()?),
         closes: false,
     })
@@ -112,7 +113,7 @@ fn accepts<A: Allocator + Clone>(
         state: State::Ended(End::Accepted { arrival: at }),
         left: Vec::new(alloc.clone()?),
         challenges: Vec::new(alloc.clone()?),
-        below: fork.no_level(alloc)?,
+        below: fork.no_new_rows(alloc)?,
         fresh: Vec::new(alloc.clone()?),
         closes: true,
     })
@@ -137,9 +138,9 @@ fn stores<A: Allocator + Clone>(
         }),
         left: Vec::new(alloc.clone()?),
         challenges: copied_challenges(alloc, &answer.challenges)?,
-        below: fork.no_level(alloc)?,
+        below: fork.no_new_rows(alloc)?,
         fresh: Vec::new(alloc.clone()?),
-        closes: answer.status.code() >= 600,
+        closes: is_global_failure(answer.status),
     })
 }
 
@@ -151,7 +152,7 @@ fn is_nonempty<A: Allocator>(offers: &[Offer<A>]) -> bool
 }
 
 /// Whether all contacts of the answer were taken, and it had one.
-fn is_spent<A: Allocator>(answer: &Answer<A>, taken: &Taking<A>) -> bool
+fn is_spent<A: Allocator>(answer: &Answer<A>, taken: &ContactLists<A>) -> bool
     ensures { result ≡ (step.is_nonempty answer.now.offers && not (step.is_nonempty taken.now.left)) }
 {
     is_nonempty(&answer.offers) && !is_nonempty(&taken.left)
@@ -164,21 +165,21 @@ fn redirected<A: Allocator + Clone>(
     n: u16,
     at: u32,
     answer: &Answer<A>,
-    taken: Taking<A>,
-    below: (Level<A>, Vec<Beside<A>, A>),
+    taken: ContactLists<A>,
+    below: (NewRows<A>, Vec<RowExtras<A>, A>),
 ) -> Result<Effect<A>, AllocError>
-    requires rows { dressed (map (seated (Some n)) below.0.seats) below.1.items ≡ contacts.fresh_rows n taken.fresh }
-    requires each { length below.1.items ≡ length below.0.seats }
+    requires rows { with_extras (map (waiting_row (Some n)) below.0.new_rows) below.1.items ≡ contacts.fresh_rows n taken.fresh }
+    requires each { length below.1.items ≡ length below.0.new_rows }
     ensures { IfOk result (λ e. e ≡ record { n = n; first = below.0.first; effect = step.redirects n at answer.now taken }) }
 {
-    let (level, fresh) = below;
+    let (added, fresh) = below;
     if is_spent(answer, &taken) {
         Ok(Effect {
             n,
             state: State::Ended(End::Taken { arrival: at }),
             left: Vec::new(alloc.clone()?),
             challenges: Vec::new(alloc.clone()?),
-            below: level,
+            below: added,
             fresh,
             closes: false,
         })
@@ -192,7 +193,7 @@ fn redirected<A: Allocator + Clone>(
             }),
             left: taken.left,
             challenges: copied_challenges(alloc, &answer.challenges)?,
-            below: level,
+            below: added,
             fresh,
             closes: false,
         })
@@ -296,7 +297,7 @@ fn effect_on<A: Allocator + Clone>(
     event: &Event<A>,
 ) -> Result<Option<Effect<A>>, AllocError>
     requires { row_named (event_of event.now) ≡ Some row.now.no }
-    ensures { IfOk result (λ o. o ≡ option_map (placed row.now.no fork.now) (step.effect fork.now (tree_row row.now) at (event_of event.now) (bare_state row.now.state))) }
+    ensures { IfOk result (λ o. o ≡ option_map (placed row.now.no fork.now) (step.effect fork.now (tree_row row.now) at (event_of event.now) (plain_state row.now.state))) }
 {
     match row.state {
         State::Idle | State::Ended(_) => Ok(None),

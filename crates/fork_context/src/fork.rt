@@ -1,38 +1,39 @@
 //! The table of a fork, its rows kept in a tree.
-ghost use Rattle.std.specs.Prelude.{◌≡◌, ◌≤◌, ◌+◌, ◌++◌, ◌&&◌, ◌||◌, ℕ, true, false, [], Some, length, map, filter, nat_eq, slice_get, vec_capacity, IfOk, OnOk, OnErr, IfSome, IfNone};
+ghost use Rattle.std.specs.Prelude.{◌≡◌, ◌≤◌, ◌+◌, ◌++◌, ◌||◌, ℕ, true, false, [], Some, length, map, nat_eq, slice_get, vec_capacity, IfOk, OnOk, OnErr, IfSome, IfNone};
 ghost use Rattle.std.specs.List.{list_any};
 ghost use Rattle.std.specs.Cmp.Lexicographic.{pointwise};
 ghost use Rattle.std.specs.Option.{option_map, option_copied, option_and_then};
 ghost use Rattle.fork_model.specs.Table.{Row, Rung, Ended, is_row, is_trying, is_open, is_accepted, is_finished, is_succeeded, is_invite, most_targets};
 ghost use Rattle.fork_model.specs.Step.{with_state, with_effect};
-ghost use Rattle.fork_context.specs.Placed.{may_go};
+ghost use Rattle.fork_context.specs.inner.Placed.{may_go};
 ghost use Rattle.fork_model.specs.Choice.{IsChoice, stored_at};
-ghost use Rattle.fork_model.specs.Groups.{numbers_below};
 ghost use Rattle.fork_model.specs.Waiting.{may_start, line_from, parent_row};
 ghost use Rattle.fork_tree.specs.Below.{parent_of};
 ghost use Rattle.fork_tree.specs.Tree.{is_uncancelled};
 ghost use Rattle.fork_tree.specs.States.{end_of};
-ghost use Rattle.fork_tree.specs.Seats.{seated};
-ghost use Rattle.fork_context.specs.Closing.{never_row, closed_row, is_ringing, cancel_row, gets_cancel};
-ghost use Rattle.fork_context.specs.Dressed.{dressed};
-ghost use Rattle.fork_context.specs.ForkInside.{IsFork, accepts_end};
+ghost use Rattle.fork_tree.specs.NewRows.{waiting_row};
+ghost use Rattle.fork_context.specs.inner.Closing.{never_row};
+ghost use Rattle.fork_context.specs.inner.RowExtras.{with_extras};
+ghost use Rattle.fork_context.specs.inner.ForkInside.{IsFork, accepts_end};
 ghost use Rattle.fork_context.specs.KindView.{kind_of};
 ghost use Rattle.fork_context.specs.LeftView.{left_of};
 ghost use Rattle.fork_tree.specs.Ready.{IsReady, tried};
-ghost use Rattle.fork_context.specs.Ready.{Starts, numbers_from};
+ghost use Rattle.fork_context.specs.inner.Ready.{Starts, numbers_from};
 ghost use Rattle.fork_context.specs.ReplyView.{choice_of};
-ghost use Rattle.fork_context.specs.RowShown.{row_shown, ref_shown};
+ghost use Rattle.fork_context.specs.RowShown.{row_shown};
+ghost use Rattle.fork_context.specs.inner.RowShown.{ref_shown};
 
-use crate::beside::Beside;
-use crate::besides::Besides;
 use crate::challenges::{StoredAnswer, stored_answer};
+use crate::closing::closes_with;
 use crate::effect::Effect;
+use crate::extras_table::ExtrasTable;
 use crate::kind::Kind;
 use crate::offer::Offer;
 use crate::reply::Choice;
 use crate::row::RowView;
+use crate::row_extras::RowExtras;
 use fork_rank::{Challenge, Rules};
-use fork_tree::{End, ForkTree, Level, RowRef, State};
+use fork_tree::{End, ForkTree, NewRows, RowRef, State};
 use std::alloc::{AllocError, Allocator, Global};
 use std::marker::Model;
 
@@ -43,34 +44,34 @@ pub(crate) struct Fork<A: Allocator + Clone = Global> {
     closed: bool,
     succeeded: bool,
     tree: ForkTree<A>,
-    besides: Besides<A>,
+    extras: ExtrasTable<A>,
 }
 
 impl<A: Allocator + Clone> Model for Fork<A> {
     ghost use Rattle.fork_model.specs.Table as spec;
-    ghost use Rattle.fork_context.specs.Dressed.{dressed};
-    ghost use Rattle.fork_context.specs.ForkInside.{IsFork};
+    ghost use Rattle.fork_context.specs.inner.RowExtras.{with_extras};
+    ghost use Rattle.fork_context.specs.inner.ForkInside.{IsFork};
     ghost use Rattle.fork_context.specs.KindView.{kind_of};
 
     ghost Value = { spec.Table };
 
-    ghost view = { λ f. record { kind = kind_of f.kind; rules = f.tree.rules; closed = f.closed; rows = dressed f.tree.rows f.besides } };
+    ghost view = { λ f. record { kind = kind_of f.kind; rules = f.tree.rules; closed = f.closed; rows = with_extras f.tree.rows f.extras } };
 
-    ghost invariant = { λ f. IsFork f.tree.rows f.besides f.succeeded };
+    ghost invariant = { λ f. IsFork f.tree.rows f.extras f.succeeded };
 }
 
 impl<A: Allocator + Clone> Fork<A> {
-    /// The open fork of these rows, with what stands beside each.
-    pub(crate) fn of(kind: Kind, tree: ForkTree<A>, besides: Besides<A>) -> Fork<A>
-        requires { IsFork tree.rows besides false }
-        ensures { result ≡ record { kind = kind_of kind; rules = tree.rules; closed = false; rows = dressed tree.rows besides } }
+    /// The open fork of these rows, with the extras of each.
+    pub(crate) fn of(kind: Kind, tree: ForkTree<A>, extras: ExtrasTable<A>) -> Fork<A>
+        requires { IsFork tree.rows extras false }
+        ensures { result ≡ record { kind = kind_of kind; rules = tree.rules; closed = false; rows = with_extras tree.rows extras } }
     {
         Fork {
             kind,
             closed: false,
             succeeded: false,
             tree,
-            besides,
+            extras,
         }
     }
 
@@ -173,10 +174,10 @@ impl<A: Allocator + Clone> Fork<A> {
         ensures { result ≡ option_map (row_shown n) (slice_get self.now.rows n) }
     {
         let row = self.tree.row(n)?;
-        let beside = self.besides.get(n)?;
+        let row_extras = self.extras.get(n)?;
         Some(RowView {
             row,
-            place: beside.place(),
+            place: row_extras.place(),
         })
     }
 
@@ -185,7 +186,7 @@ impl<A: Allocator + Clone> Fork<A> {
         ensures { result ≡ stored_at (slice_get self.now.rows n) }
     {
         let row = self.tree.row(n)?;
-        stored_answer(&row, self.besides.get(n)?)
+        stored_answer(&row, self.extras.get(n)?)
     }
 
     /// The contacts left of the 3xx that row n was answered with and that is stored.
@@ -195,18 +196,18 @@ impl<A: Allocator + Clone> Fork<A> {
         self.answer(n)?.redirects()
     }
 
-    /// What stands beside row n.
-    fn beside(&self, n: u16) -> Option<&Beside<A>>
+    /// The extras of row n.
+    fn row_extras(&self, n: u16) -> Option<&RowExtras<A>>
         ensures { option_map (λ b. b.key) (option_copied result) ≡ option_map (λ row. row.key) (slice_get self.now.rows n) }
     {
-        self.besides.get(n)
+        self.extras.get(n)
     }
 
     /// What identifies the target of row n.
     pub(crate) fn key(&self, n: u16) -> Option<&[u8]>
         ensures { option_copied result ≡ option_map (λ row. row.key) (slice_get self.now.rows n) }
     {
-        Some(self.beside(n)?.key())
+        Some(self.row_extras(n)?.key())
     }
 
     /// Row n, which was tried and has not rung, has rung.
@@ -246,7 +247,7 @@ impl<A: Allocator + Clone> Fork<A> {
     pub(crate) fn has_key(&self, key: &[u8]) -> bool
         ensures { result ≡ list_any (λ row. pointwise nat_eq key.now row.key) self.now.rows }
     {
-        self.besides.has_key(key)
+        self.extras.has_key(key)
     }
 
     /// How many rows stand in the line that begins at this one, within so many steps.
@@ -280,15 +281,15 @@ impl<A: Allocator + Clone> Fork<A> {
         self.line_len(self.count(), parent)
     }
 
-    /// A level without rows.
-    pub(crate) fn no_level(&self, alloc: &A) -> Result<Level<A>, AllocError>
-        ensures { IfOk result (λ level. level ≡ record { first = length self.now.rows; seats = [] }) }
+    /// No new rows.
+    pub(crate) fn no_new_rows(&self, alloc: &A) -> Result<NewRows<A>, AllocError>
+        ensures { IfOk result (λ added. added ≡ record { first = length self.now.rows; new_rows = [] }) }
     {
-        Level::idle(alloc.clone()?, self.count(), &[])
+        NewRows::idle(alloc.clone()?, self.count(), &[])
     }
 
-    /// Row n, which is open, has ended, with these contacts left and these challenges; the rows of the level come below
-    /// it, each with what stands beside it.
+    /// Row n, which is open, has ended, with these contacts left and these challenges; the new rows come below it, each
+    /// with its extras.
     ///
     /// # Errors
     ///
@@ -298,20 +299,20 @@ impl<A: Allocator + Clone> Fork<A> {
         n: u16,
         end: End,
         stored: (Vec<Offer<A>, A>, Vec<Challenge<A>, A>),
-        below: Level<A>,
-        fresh: Vec<Beside<A>, A>,
+        below: NewRows<A>,
+        fresh: Vec<RowExtras<A>, A>,
     ) -> Result<(), AllocError>
         requires open_yet { is_row is_open (slice_get self.old.rows n) ≡ true }
         requires first { below.first ≡ length self.old.rows }
-        requires each { length fresh.items ≡ length below.seats }
-        requires few { length self.old.rows + length below.seats ≤ most_targets }
-        ensures ok { OnOk result (self.new ≡ record self.old { rows = with_state self.old.rows n (Ended (end_of end stored.0.items stored.1.items)) ++ dressed (map (seated (Some n)) below.seats) fresh.items }) }
+        requires each { length fresh.items ≡ length below.new_rows }
+        requires few { length self.old.rows + length below.new_rows ≤ most_targets }
+        ensures ok { OnOk result (self.new ≡ record self.old { rows = with_state self.old.rows n (Ended (end_of end stored.0.items stored.1.items)) ++ with_extras (map (waiting_row (Some n)) below.new_rows) fresh.items }) }
         ensures err { OnErr result (self.new ≡ self.old) }
     {
         let succeeded = succeeds(self.succeeded, &end);
-        self.besides.append(fresh)?;
+        self.extras.append(fresh)?;
         let (left, challenges) = stored;
-        self.besides.store(n, left, challenges);
+        self.extras.store(n, left, challenges);
         self.tree.end(n, end, below);
         self.succeeded = succeeded;
         Ok(())
@@ -362,51 +363,6 @@ impl<A: Allocator + Clone> Fork<A> {
         }
     }
 
-    /// Whether row n gets its CANCEL once the table is closed: it has rung, no CANCEL was sent, and the request is an
-    /// INVITE.
-    pub(crate) fn gets_cancel(&self, n: u16) -> bool
-        ensures { result ≡ (is_row is_ringing (slice_get self.now.rows n) && is_invite self.now.kind) }
-    {
-        self.is_ringing(n) && self.is_invite()
-    }
-
-    /// Whether row n has rung, and no CANCEL was sent.
-    fn is_ringing(&self, n: u16) -> bool
-        ensures { result ≡ is_row is_ringing (slice_get self.now.rows n) }
-    {
-        match self.row(n) {
-            Some(row) => matches!(row.state, State::Rung { cancelled: false }),
-            None => false,
-        }
-    }
-
-    /// Each row that has rung gets its CANCEL, where the request is an INVITE; their numbers.
-    fn cancel_rung(&mut self, cancelled: &mut Vec<u16, A>)
-        requires none { cancelled.old.items ≡ [] }
-        requires room { length self.old.rows ≤ vec_capacity cancelled.old }
-        ensures rows { self.new ≡ record self.old { rows = map (cancel_row self.old.kind) self.old.rows } }
-        ensures numbers { cancelled.new.items ≡ filter (gets_cancel self.old.kind self.old.rows) (numbers_below (length self.old.rows)) }
-    {
-        for n in 0..self.count() {
-            if self.gets_cancel(n) {
-                self.mark_cancel(n);
-                cancelled.push_reserved(n);
-            }
-        }
-    }
-
-    /// The table closes: no row that waits is ever tried, and in an INVITE each that has rung gets its CANCEL; the
-    /// numbers of those.
-    pub(crate) fn shut(&mut self, cancelled: &mut Vec<u16, A>)
-        requires none { cancelled.old.items ≡ [] }
-        requires room { length self.old.rows ≤ vec_capacity cancelled.old }
-        ensures rows { self.new ≡ record self.old { closed = true; rows = map (closed_row self.old.kind) self.old.rows } }
-        ensures numbers { cancelled.new.items ≡ filter (gets_cancel self.old.kind self.old.rows) (numbers_below (length self.old.rows)) }
-    {
-        self.close();
-        self.cancel_rung(cancelled);
-    }
-
     /// Some group that may start is tried; the numbers of its rows.
     pub(crate) fn start(&mut self, started: &mut Vec<u16, A>)
         requires none { started.old.items ≡ [] }
@@ -436,11 +392,4 @@ fn succeeds(before: bool, end: &End) -> bool
     ensures { result ≡ (before || accepts_end end.now) }
 {
     before || matches!(end, End::Accepted { .. })
-}
-
-/// Whether a table is closed, where it was before, or this closes it.
-fn closes_with(before: bool, closes: bool) -> bool
-    ensures { result ≡ (before || closes) }
-{
-    before || closes
 }

@@ -2,24 +2,25 @@
 //! (RFC 3261 section 16.7).
 #![tactic(auto)]
 
-mod below;
-mod beside;
-mod besides;
 mod challenges;
+mod closing;
+mod contacts;
 mod context;
 mod copy;
 mod effect;
 mod event;
+mod extras_table;
 mod fork;
 mod kind;
+mod new_rows;
+mod numbering;
 mod offer;
 mod opening;
-mod order;
 mod reply;
 mod row;
+mod row_extras;
 mod step;
 mod stray;
-mod taking;
 mod targets;
 
 pub use context::{Context, NewFault, PostError, Refusal};

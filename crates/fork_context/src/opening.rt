@@ -7,16 +7,16 @@ ghost use Rattle.fork_model.specs.Table.{most_targets};
 ghost use Rattle.fork_model.specs.History as history;
 ghost use Rattle.fork_model.specs.Range.{IsTargetInRange};
 ghost use Rattle.fork_context.specs.KindView.{kind_of};
-ghost use Rattle.fork_context.specs.Opening.{beside_target, target_beside, waiting_table};
+ghost use Rattle.fork_context.specs.inner.Opening.{extras_of_target, target_extras, waiting_table};
 ghost use Rattle.fork_context.specs.Refusals.{HasTwice};
 
-use crate::below::qs_at;
-use crate::beside::Beside;
-use crate::besides::Besides;
 use crate::event::Target;
+use crate::extras_table::ExtrasTable;
 use crate::fork::Fork;
 use crate::kind::Kind;
-use crate::order::numbered;
+use crate::new_rows::qs_at;
+use crate::numbering::numbered;
+use crate::row_extras::RowExtras;
 use fork_rank::Rules;
 use fork_tree::ForkTree;
 use std::alloc::{AllocError, Allocator};
@@ -50,15 +50,15 @@ fn qs_of<A: Allocator + Clone>(alloc: &A, targets: &[Target<A>]) -> Result<Vec<u
     Ok(qs)
 }
 
-/// What stands beside the row of the target at this place.
-fn beside_target<A: Allocator + Clone>(
+/// The extras of the row of the target at this place.
+fn extras_of_target<A: Allocator + Clone>(
     alloc: &A,
     place: u16,
     target: &Target<A>,
-) -> Result<Beside<A>, AllocError>
-    ensures { IfOk result (λ beside. beside ≡ beside_target place target.now) }
+) -> Result<RowExtras<A>, AllocError>
+    ensures { IfOk result (λ row_extras. row_extras ≡ extras_of_target place target.now) }
 {
-    Ok(Beside {
+    Ok(RowExtras {
         key: target.key().to_vec(alloc.clone()?)?,
         place: place as usize,
         left: Vec::new(alloc.clone()?),
@@ -66,48 +66,48 @@ fn beside_target<A: Allocator + Clone>(
     })
 }
 
-/// Adds what stands beside the row of the target at this place, if there is one.
-fn push_beside<A: Allocator + Clone>(
+/// Adds the extras of the row of the target at this place, if there is one.
+fn push_row_extras<A: Allocator + Clone>(
     alloc: &A,
-    besides: &mut Vec<Beside<A>, A>,
+    extras: &mut Vec<RowExtras<A>, A>,
     targets: &[Target<A>],
     group: u16,
     place: u16,
 ) -> Result<(), AllocError>
-    ensures { OnOk result (besides.new.items ≡ besides.old.items ++ option_to_list (target_beside targets.now (group, place))) }
+    ensures { OnOk result (extras.new.items ≡ extras.old.items ++ option_to_list (target_extras targets.now (group, place))) }
 {
     match targets.get(place as usize) {
-        Some(target) => besides.push(beside_target(alloc, place, target)?)?,
+        Some(target) => extras.push(extras_of_target(alloc, place, target)?)?,
         None => {}
     }
     Ok(())
 }
 
-/// What stands beside the rows of the targets at these places.
-fn besides_of<A: Allocator + Clone>(
+/// The extras of the rows of the targets at these places.
+fn extras_of<A: Allocator + Clone>(
     alloc: &A,
     targets: &[Target<A>],
     order: &[(u16, u16)],
-) -> Result<Vec<Beside<A>, A>, AllocError>
-    ensures { IfOk result (λ besides. besides.items ≡ filter_map (target_beside targets.now) order.now) }
+) -> Result<Vec<RowExtras<A>, A>, AllocError>
+    ensures { IfOk result (λ extras. extras.items ≡ filter_map (target_extras targets.now) order.now) }
 {
-    let mut besides = Vec::new(alloc.clone()?);
+    let mut extras = Vec::new(alloc.clone()?);
     for &(group, place) in order.iter() {
-        push_beside(alloc, &mut besides, targets, group, place)?;
+        push_row_extras(alloc, &mut extras, targets, group, place)?;
     }
-    Ok(besides)
+    Ok(extras)
 }
 
 /// The same, to be found by number and by key.
-fn besides_by_key<A: Allocator + Clone>(
+fn extras_by_key<A: Allocator + Clone>(
     alloc: &A,
     targets: &[Target<A>],
     order: &[(u16, u16)],
-) -> Result<Besides<A>, AllocError>
+) -> Result<ExtrasTable<A>, AllocError>
     requires few { length order.now ≤ most_targets }
-    ensures { IfOk result (λ besides. besides ≡ filter_map (target_beside targets.now) order.now) }
+    ensures { IfOk result (λ extras. extras ≡ filter_map (target_extras targets.now) order.now) }
 {
-    Besides::of(alloc, besides_of(alloc, targets, order)?)
+    ExtrasTable::of(alloc, extras_of(alloc, targets, order)?)
 }
 
 impl<A: Allocator + Clone> Fork<A> {
@@ -141,7 +141,7 @@ impl<A: Allocator + Clone> Fork<A> {
         let qs = qs_of(alloc, targets)?;
         let order = numbered(alloc, &qs)?;
         let tree = ForkTree::new(alloc.clone()?, rules, &qs_at(alloc, &qs, &order)?)?;
-        let besides = besides_by_key(alloc, targets, &order)?;
-        Ok(Fork::of(kind, tree, besides))
+        let extras = extras_by_key(alloc, targets, &order)?;
+        Ok(Fork::of(kind, tree, extras))
     }
 }

@@ -1,15 +1,14 @@
 //! How a fork takes an event (RFC 3261 sections 9.1 and 16.7 to 16.10).
-ghost use Rattle.std.specs.Prelude.{◌≡◌, ◌≤◌, ◌+◌, ◌&&◌, ◌||◌, ◌++◌, not, ℕ, true, [], Some, length, map, slice_get, vec_capacity, IfOk, OnOk, OnErr};
-ghost use Rattle.fork_model.specs.Table.{is_cancelled, is_row, is_invite, is_succeeded};
+ghost use Rattle.std.specs.Prelude.{◌≡◌, ◌≤◌, ℕ, [], Some, length, slice_get, vec_capacity, IfOk, OnOk, OnErr};
+ghost use Rattle.fork_model.specs.Table.{is_cancelled};
 ghost use Rattle.fork_model.specs.Event.{Cancel, row_named};
 ghost use Rattle.fork_model.specs.Step.{next};
-ghost use Rattle.fork_model.specs.Reply.{provisional, success, is_welcome, IsReply};
+ghost use Rattle.fork_model.specs.Reply.{provisional, success, success_goes_up, IsReply};
 ghost use Rattle.fork_model.specs.Series.{IsInSeries};
-ghost use Rattle.fork_context.specs.Closing.{IsClosedWhole, gets_cancel};
+ghost use Rattle.fork_context.specs.Closing.{IsClosedWhole};
 ghost use Rattle.fork_context.specs.EventView.{event_of};
-ghost use Rattle.fork_context.specs.KindView.{kind_of};
 ghost use Rattle.fork_context.specs.ReplyView.{up_of};
-ghost use Rattle.fork_context.specs.Stepped.{IsStepped, IsSettled, IsUpOf, number_if, cancelled_at};
+ghost use Rattle.fork_context.specs.inner.Stepped.{IsStepped, IsUpOf};
 
 use crate::effect::{Effect, effect_of};
 use crate::event::Event;
@@ -61,17 +60,6 @@ fn with_room<A: Allocator + Clone>(alloc: &A, count: usize) -> Result<Numbers<A>
     let started = Vec::with_capacity(alloc.clone()?, count)?;
     let cancelled = Vec::with_capacity(alloc.clone()?, count)?;
     Ok((started, cancelled))
-}
-
-/// Adds the number where it is to be.
-fn push_if<A: Allocator>(adds: bool, numbers: &mut Vec<u16, A>, n: u16)
-    requires none { numbers.old.items ≡ [] }
-    requires room { 1 ≤ vec_capacity numbers.old }
-    ensures { numbers.new.items ≡ number_if adds n }
-{
-    if adds {
-        numbers.push_reserved(n);
-    }
 }
 
 impl<A: Allocator + Clone> Fork<A> {
@@ -143,46 +131,6 @@ impl<A: Allocator + Clone> Fork<A> {
         Ok((started, cancelled))
     }
 
-    /// What follows the change of row n: in a table that was closed it gets its CANCEL where it has rung too late; a
-    /// table that the change closed closes its other rows; in an open one some group may start. The numbers are those
-    /// of the rows tried and cancelled since, that of row n among them where the change itself cancelled it.
-    fn settle(
-        &mut self,
-        n: u16,
-        was_closed: bool,
-        cancels: bool,
-        started: &mut Vec<u16, A>,
-        cancelled: &mut Vec<u16, A>,
-    )
-        requires there { n + 1 ≤ length self.old.rows }
-        requires none_started { started.old.items ≡ [] }
-        requires none_cancelled { cancelled.old.items ≡ [] }
-        requires room_started { length self.old.rows ≤ vec_capacity started.old }
-        requires room_cancelled { length self.old.rows ≤ vec_capacity cancelled.old }
-        ensures { IsSettled n was_closed cancels self.old self.new started.new.items cancelled.new.items }
-    {
-        if was_closed {
-            let rings = self.gets_cancel(n);
-            self.cancel_if(rings, n);
-            push_if(rings || cancels, cancelled, n);
-        } else if self.closed() {
-            self.shut(cancelled);
-        } else {
-            push_if(cancels, cancelled, n);
-            self.start(started);
-        }
-    }
-
-    /// Row n gets its CANCEL, where it is to.
-    fn cancel_if(&mut self, rings: bool, n: u16)
-        requires { rings ≡ gets_cancel self.old.kind self.old.rows n }
-        ensures { self.new ≡ cancelled_at n self.old }
-    {
-        if rings {
-            self.mark_cancel(n);
-        }
-    }
-
     /// The caller's CANCEL closes the table of an INVITE (section 16.10).
     fn cancel(&mut self, alloc: &A) -> Result<Numbers<A>, AllocError>
         requires series { IsInSeries self.old }
@@ -195,13 +143,6 @@ impl<A: Allocator + Clone> Fork<A> {
         let (started, mut cancelled) = with_room(alloc, self.count() as usize)?;
         self.shut(&mut cancelled);
         Ok((started, cancelled))
-    }
-
-    /// Whether the caller's CANCEL closes the table.
-    pub(crate) fn can_close(&self) -> bool
-        ensures { result ≡ (is_invite self.now.kind && not self.now.closed) }
-    {
-        matches!(self.kind(), Kind::Invite) && !self.closed()
     }
 
     /// The row whose provisional answer goes up: any but a 100 does, from a row that was tried, while no 2xx has come.
@@ -226,7 +167,7 @@ impl<A: Allocator + Clone> Fork<A> {
     {
         match event {
             Event::Answer(n, answer) => {
-                if answer.status().code() < 300 && self.is_welcome(*n) {
+                if answer.status().code() < 300 && self.success_goes_up(*n) {
                     Some(*n)
                 } else {
                     None
@@ -237,8 +178,8 @@ impl<A: Allocator + Clone> Fork<A> {
     }
 
     /// Whether a 2xx of this row goes up: of an INVITE each does, a repeated one again; else the first that ends a row.
-    fn is_welcome(&self, n: u16) -> bool
-        ensures { result ≡ is_welcome self.now self.now.kind (slice_get self.now.rows n) }
+    fn success_goes_up(&self, n: u16) -> bool
+        ensures { result ≡ success_goes_up self.now self.now.kind (slice_get self.now.rows n) }
     {
         match self.kind() {
             Kind::Invite => self.is_open(n) || self.is_accepted(n),

@@ -1,9 +1,9 @@
 //! Whether an event fits the state of the row that it names (RFC 3261 sections 16.7 to 16.10).
 ghost use Rattle.std.specs.Prelude.{◌≡◌, ℕ, is_some};
 ghost use Rattle.fork_model.specs.Step as step;
-ghost use Rattle.fork_tree.specs.States.{bare_state};
+ghost use Rattle.fork_tree.specs.States.{plain_state};
 ghost use Rattle.fork_context.specs.EventView.{event_of};
-ghost use Rattle.fork_context.specs.StandIn.{tree_row};
+ghost use Rattle.fork_context.specs.inner.StandIn.{tree_row};
 
 use crate::event::Event;
 use crate::fork::Fork;
@@ -14,7 +14,7 @@ use std::alloc::Allocator;
 
 /// Whether the event fits the state of the row that it names.
 fn fits<A: Allocator + Clone>(fork: &Fork<A>, row: &RowRef, event: &Event<A>) -> bool
-    ensures { (at : ℕ) → result ≡ is_some (step.effect fork.now (tree_row row.now) at (event_of event.now) (bare_state row.now.state)) }
+    ensures { (at : ℕ) → result ≡ is_some (step.effect fork.now (tree_row row.now) at (event_of event.now) (plain_state row.now.state)) }
 {
     match (row.state, event) {
         (State::Idle | State::Ended(_), _) => false,

@@ -3,9 +3,9 @@ ghost use Rattle.std.specs.Prelude.{◌≡◌, ◌<◌, ◌++◌, ◌∷◌, [],
 ghost use Rattle.fork_model.specs.Table.{most_targets};
 ghost use Rattle.fork_model.specs.Contacts.{is_known, keys_of};
 
-use crate::beside::Beside;
-use crate::besides::Besides;
+use crate::extras_table::ExtrasTable;
 use crate::fork::Fork;
+use crate::row_extras::RowExtras;
 use fork_rank::MOST_TARGETS;
 use std::alloc::{AllocError, Allocator};
 use std::marker::Model;
@@ -14,7 +14,7 @@ use std::marker::Model;
 #[derive(Drop)]
 pub(crate) struct Targets<'a, A: Allocator + Clone> {
     fork: &'a Fork<A>,
-    fresh: Besides<A>,
+    fresh: ExtrasTable<A>,
 }
 
 impl<'a, A: Allocator + Clone> Model for Targets<'a, A> {
@@ -31,7 +31,7 @@ impl<'a, A: Allocator + Clone> Targets<'a, A> {
     pub(crate) fn of(alloc: &A, fork: &'a Fork<A>) -> Result<Targets<'a, A>, AllocError>
         ensures { IfOk result (λ targets. targets ≡ keys_of fork.now.rows) }
     {
-        let fresh = Besides::of(alloc, Vec::new(alloc.clone()?))?;
+        let fresh = ExtrasTable::of(alloc, Vec::new(alloc.clone()?))?;
         Ok(Targets { fork, fresh })
     }
 
@@ -49,12 +49,12 @@ impl<'a, A: Allocator + Clone> Targets<'a, A> {
         self.fresh.count() < (MOST_TARGETS as usize).saturating_sub(self.fork.count() as usize)
     }
 
-    /// One more, which has this beside it; the only error is want of memory.
-    pub(crate) fn add(&mut self, beside: Beside<A>) -> Result<(), AllocError>
+    /// One more, which has these extras; the only error is want of memory.
+    pub(crate) fn add(&mut self, row_extras: RowExtras<A>) -> Result<(), AllocError>
         requires room { length self.old < most_targets }
-        ensures { OnOk result (self.new ≡ self.old ++ beside.key ∷ []) }
+        ensures { OnOk result (self.new ≡ self.old ++ row_extras.key ∷ []) }
     {
-        self.fresh.push(beside)?;
+        self.fresh.push(row_extras)?;
         Ok(())
     }
 }

@@ -1,32 +1,26 @@
 -- What becomes of a message, put together.
-use Rattle.std.proofs.Common.{◌≡◌, ◌∙◌, ℕ, List, [], ◌++◌, Option, Some, None, Result, Ok, Err, refl, sym, subst, ap, inl, inr}
+use Rattle.fork_dispatch.proofs.Common.{◌≡◌, ◌∙◌, ℕ, List, Option, Some, None, Result, Ok, Err, refl, sym, subst, ap, MessageText, Hop, Own, ViaFault, request_key, Setup, IsAdmitted, Purpose, Ack, Opening, IsDropped, IsFor, Passes}
+use Rattle.std.proofs.Common.{[], ◌++◌, inr}
 use Rattle.std.specs.Prelude.{IfOk, option_map}
 use Rattle.sip_text.specs.Fault.{FailsAs}
 use Rattle.sip_text.specs.Refusal.{IsRefused}
 use Rattle.sip_text.specs.Message.{read_at}
 use Rattle.sip_text.specs.Reading.{Fault}
-use Rattle.sip_text.specs.Text.{MessageText, spelling}
-use Rattle.sip_uri.specs.declared.hop.Hop.{Hop}
+use Rattle.sip_text.specs.Text.{spelling}
 use Rattle.sip_uri.specs.Uri.{Uri}
 use Rattle.sip_via.specs.declared.branch.BranchName.{BranchName}
-use Rattle.sip_via.specs.declared.own.Own.{Own}
-use Rattle.sip_via.specs.declared.own.ViaFault.{ViaFault}
 use Rattle.sip_via.specs.declared.own.ViaFault.TheVariants.{BadVia}
 use Rattle.sip_via.specs.ViaFaults.{refusal}
-use Rattle.sip_route.specs.RequestKey.{request_key}
 use Rattle.sip_build.specs.declared.responses.OwnStatus.{OwnStatus}
 use Rattle.sip_build.specs.Forwarding.{forwarded}
 use Rattle.sip_build.specs.Generated.{code_of}
-use Rattle.fork_setup.specs.Setup.{Setup}
 use Rattle.fork_parts.specs.Built.{Datagram}
-use Rattle.fork_routing.specs.Admission.{IsAdmitted}
 use Rattle.fork_routing.specs.declared.fault.OpenFault.TheVariants.{BadRequest}
 use Rattle.fork_dispatch.specs.declared.datagrams.Handled.{Handled}
 use Rattle.fork_dispatch.specs.declared.datagrams.Handled.TheVariants.{Answered}
-use Rattle.fork_dispatch.specs.declared.purpose.Purpose.{Purpose}
-use Rattle.fork_dispatch.specs.declared.purpose.Purpose.TheVariants.{Ack, Cancel, Opening}
-use Rattle.fork_dispatch.specs.Becomes.{Becomes, IsAnswered, IsDropped, IsFor, MessageBecomes, ToldBecomes}
-use Rattle.fork_dispatch.specs.Passing.{GoesOn, HasOwnTag, Passes}
+use Rattle.fork_dispatch.specs.Becomes.{Becomes, IsAnswered, MessageBecomes}
+use Rattle.fork_dispatch.specs.inner.Becomes.{ToldBecomes}
+use Rattle.fork_dispatch.specs.Passing.{GoesOn, HasOwnTag}
 use Rattle.fork_dispatch.specs.Purpose.{purpose_of}
 use Rattle.fork_dispatch.specs.Sent.{answer_made, answer_of, answer_to, passed_text, passing_branch}
 use Rattle.fork_dispatch.proofs.Keyless.{keyless}

@@ -1,16 +1,15 @@
 -- A request without a key is not well formed.
-use Rattle.std.proofs.Common.{◌≡◌, ◌∙◌, Bool, true, false, List, ℕ, Option, Some, None, Result, Ok, Err, refl, ap}
+use Rattle.fork_dispatch.proofs.Common.{◌≡◌, List, ℕ, Option, Some, None, Result, Ok, Err, refl, ap, MessageText, ViaFault, request_key}
+use Rattle.std.proofs.Common.{Bool, false}
 use Rattle.std.specs.Prelude.{◌&&◌}
 use Rattle.std.specs.List.{list_all}
-use Rattle.sip_text.specs.Text.{MessageText}
-use Rattle.sip_via.specs.declared.own.ViaFault.{ViaFault}
 use Rattle.sip_via.specs.TopVia.{top_value}
 use Rattle.sip_via.specs.ViaParts.{ViaText, branch_of, or_empty, read_via}
 use Rattle.sip_via.specs.BranchText.{cookie}
 use Rattle.sip_route.specs.Hops.{hops_of}
-use Rattle.sip_route.specs.RequestKey.{key_if_read, key_with, request_key}
+use Rattle.sip_route.specs.RequestKey.{key_if_read, key_with}
 use Rattle.sip_route.specs.RouteValues.{is_route, route_values}
-use Rattle.fork_routing.specs.Admission.{are_hops, begins_with, has_cookie, has_via, is_uri_or_other, is_well_formed, target_uri}
+use Rattle.fork_routing.specs.Admission.{are_hops, begins_with, has_cookie, is_uri_or_other, is_well_formed, target_uri}
 
 no_cookie : (via : ViaText) (branch : Option (List ℕ)) → key_with via branch ≡ None → begins_with cookie (or_empty branch) ≡ false
 no_cookie via None e = refl

@@ -1,3 +1,4 @@
+pub mod Common
 pub mod Keyless
 pub mod Purposes
 pub mod Becoming

@@ -1,12 +1,6 @@
 -- A request with a key may be dropped, and may be a call's.
-use Rattle.std.proofs.Common.{◌≡◌, ℕ, Option, Some, None, inl}
-use Rattle.sip_text.specs.Text.{MessageText}
-use Rattle.sip_uri.specs.declared.hop.Hop.{Hop}
-use Rattle.sip_route.specs.RequestKey.{request_key}
-use Rattle.fork_setup.specs.Setup.{Setup}
-use Rattle.fork_dispatch.specs.declared.purpose.Purpose.{Purpose}
-use Rattle.fork_dispatch.specs.declared.purpose.Purpose.TheVariants.{Ack, Cancel, Opening}
-use Rattle.fork_dispatch.specs.Becomes.{IsDropped, IsFor}
+use Rattle.fork_dispatch.proofs.Common.{◌≡◌, ℕ, Option, Some, None, inl, MessageText, Hop, request_key, Setup, Purpose, Ack, Opening, IsDropped, IsFor}
+use Rattle.fork_dispatch.specs.declared.purpose.Purpose.TheVariants.{Cancel}
 
 pub keyed_dropped : (setup : Setup) (m : MessageText) (source : Hop) (p : Option Purpose) (purpose : Purpose) → p ≡ Some purpose → (request_key m ≡ None → ⊥) → IsDropped setup m source p
 keyed_dropped setup m source None purpose e h = absurd cc

@@ -104,11 +104,6 @@ FaultBecomes fault source (Answered status) sent =
     × (sent ≡ Some (answer_of head source own.BadRequest))
 FaultBecomes fault source _ sent = ⊥
 
--- of one that was told; want of memory is no fault of the text
-abbrev pub ToldBecomes : Option Fault → Hop → Handled → Option Datagram → Type 0
-ToldBecomes None source handled sent = ⊥
-ToldBecomes (Some fault) source handled sent = FaultBecomes fault source handled sent
-
 abbrev pub Becomes : Setup → List ℕ → Hop → ℕ → Handled → Option Datagram → Type 0
 Becomes setup text source now handled sent =
     ((m : MessageText) × IsText text m × MessageBecomes setup m source now handled sent)

@@ -1,3 +1,4 @@
+pub mod inner
 pub mod Purpose
 pub mod Sent
 pub mod Passing

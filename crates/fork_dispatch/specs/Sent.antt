@@ -15,8 +15,6 @@ use Rattle.sip_build.specs.Generated.{generated_of}
 use Rattle.fork_setup.specs.Setup.{Setup}
 use Rattle.fork_parts.specs.Built.{Datagram}
 use Rattle.fork_parts.specs.declared.cause.Cause.TheVariants as cause
-use Rattle.fork_parts.specs.declared.datagram.Datagram as memory
-use Rattle.fork_parts.specs.SeenDatagram.{seen}
 use Rattle.fork_call.specs.Carry.{Sends}
 
 -- ---- an answer of the proxy's own
@@ -53,9 +51,3 @@ passed_on setup request uri hop =
 abbrev pub IsHanded : {P : Type 0} → Sends P → P → Option Datagram → P → Type 0
 IsHanded sends port None new = new ≡ port
 IsHanded sends port (Some datagram) new = (went : Bool) × sends port datagram went new
-
--- ---- in memory
-
-abbrev pub seen_sent : {A : Type 0} → Option (memory.Datagram A) → Option Datagram
-seen_sent None = None
-seen_sent (Some datagram) = Some (seen datagram)

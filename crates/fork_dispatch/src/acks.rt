@@ -8,7 +8,8 @@ ghost use Rattle.fork_dispatch.specs.declared.purpose.Purpose.TheVariants as pur
 ghost use Rattle.fork_dispatch.specs.Becomes.{MessageBecomes};
 ghost use Rattle.fork_dispatch.specs.Passing.{GoesOn, HasOwnTag, Passes};
 ghost use Rattle.fork_dispatch.specs.Purpose.{purpose_of};
-ghost use Rattle.fork_dispatch.specs.Sent.{passed_on, passed_text, passing_branch, seen_sent};
+ghost use Rattle.fork_dispatch.specs.Sent.{passed_on, passed_text, passing_branch};
+ghost use Rattle.fork_dispatch.specs.inner.Sent.{seen_sent};
 
 use crate::datagrams::Handled;
 use crate::outcome::{Outcome, Received};

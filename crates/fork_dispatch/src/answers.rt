@@ -6,7 +6,8 @@ ghost use Rattle.sip_build.specs.Generated.{code_of, generated_of};
 ghost use Rattle.fork_parts.specs.SeenDatagram.{seen};
 ghost use Rattle.fork_routing.specs.Refusing.{status_of_fault};
 ghost use Rattle.fork_dispatch.specs.declared.datagrams.Handled.TheVariants as handled;
-ghost use Rattle.fork_dispatch.specs.Sent.{answer_of, answer_to, seen_sent};
+ghost use Rattle.fork_dispatch.specs.Sent.{answer_of, answer_to};
+ghost use Rattle.fork_dispatch.specs.inner.Sent.{seen_sent};
 
 use crate::datagrams::Handled;
 use crate::outcome::Outcome;

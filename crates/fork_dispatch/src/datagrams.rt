@@ -4,8 +4,10 @@ ghost use Rattle.sip_text.specs.Message.{read_at};
 ghost use Rattle.fork_parts.specs.Built as built;
 ghost use Rattle.sip_text.specs.Fault.{fault_seen};
 ghost use Rattle.sip_text.specs.Reading.{Short};
-ghost use Rattle.fork_dispatch.specs.Becomes.{Becomes, FaultBecomes, MessageBecomes, ToldBecomes};
-ghost use Rattle.fork_dispatch.specs.Sent.{IsHanded, seen_sent};
+ghost use Rattle.fork_dispatch.specs.Becomes.{Becomes, FaultBecomes, MessageBecomes};
+ghost use Rattle.fork_dispatch.specs.inner.Becomes.{ToldBecomes};
+ghost use Rattle.fork_dispatch.specs.Sent.{IsHanded};
+ghost use Rattle.fork_dispatch.specs.inner.Sent.{seen_sent};
 
 use crate::answers::answered;
 use crate::outcome::{Outcome, Received};

@@ -3,7 +3,7 @@ ghost use Rattle.std.specs.Prelude.{◌≡◌, IfOk, true};
 ghost use Rattle.fork_setup.specs.Setup.{Setup};
 ghost use Rattle.fork_dispatch.specs.Becomes.{IsDropped, IsFor, IsTaken, MessageBecomes};
 ghost use Rattle.fork_dispatch.specs.Purpose.{purpose_of};
-ghost use Rattle.fork_dispatch.specs.Sent.{seen_sent};
+ghost use Rattle.fork_dispatch.specs.inner.Sent.{seen_sent};
 
 use crate::datagrams::Handled;
 use crate::outcome::{Outcome, Received};

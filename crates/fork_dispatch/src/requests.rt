@@ -1,5 +1,5 @@
 //! Requests: known by their keys, or new.
-ghost use Rattle.std.specs.Prelude.{◌≡◌, ◌≢◌, ℕ, IfOk, IsErrOf, None, Ok, Some};
+ghost use Rattle.std.specs.Prelude.{◌≡◌, ◌≢◌, IfOk, IsErrOf, None, Ok, Some};
 ghost use Rattle.std.specs.Option.{option_map};
 ghost use Rattle.sip_text.specs.Message.{read_at};
 ghost use Rattle.sip_route.specs.RequestKey.{request_key};
@@ -10,7 +10,7 @@ ghost use Rattle.fork_routing.specs.Opening.{Opens, Refuses};
 ghost use Rattle.fork_dispatch.specs.declared.purpose.Purpose.TheVariants as purposes;
 ghost use Rattle.fork_dispatch.specs.Becomes.{MessageBecomes};
 ghost use Rattle.fork_dispatch.specs.Purpose.{purpose_of};
-ghost use Rattle.fork_dispatch.specs.Sent.{seen_sent};
+ghost use Rattle.fork_dispatch.specs.inner.Sent.{seen_sent};
 
 use crate::acks::acknowledged;
 use crate::answers::{answered, status_of};

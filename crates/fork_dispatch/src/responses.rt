@@ -2,7 +2,7 @@
 ghost use Rattle.std.specs.Prelude.{◌≡◌, ℕ, IfOk, IfSome, None, Some};
 ghost use Rattle.fork_dispatch.specs.Becomes.{IsHome, MessageBecomes};
 ghost use Rattle.fork_dispatch.specs.Purpose.{purpose_of};
-ghost use Rattle.fork_dispatch.specs.Sent.{seen_sent};
+ghost use Rattle.fork_dispatch.specs.inner.Sent.{seen_sent};
 
 use crate::datagrams::Handled;
 use crate::feeding::feed;

@@ -10,7 +10,8 @@ use Rattle.fork_program.specs.Line.{Line, KindLine, PreferLine, DepthLine, Targe
 use Rattle.fork_program.specs.Reading.{read_line}
 use Rattle.fork_program.specs.Script as plain
 use Rattle.fork_program.specs.Script.{Script, last_changed, with_line, phase_after, has_kind}
-use Rattle.fork_drive.specs.Workers.{Draft, event_count, first_worker, next_worker, with_worker, with_last, drafted, worker_line, is_at_work, most_workers}
+use Rattle.fork_drive.specs.Workers.{Draft, first_worker, next_worker, with_worker, with_last, drafted, worker_line, is_at_work, most_workers}
+use Rattle.fork_drive.specs.inner.Workers.{event_count}
 
 -- ---- how many events there are then
 

@@ -1,6 +1,4 @@
 mod Posts
-mod Counting
 mod Drafting
-mod Pieces
 mod Running
 mod Done

@@ -14,7 +14,7 @@ use Rattle.fork_text.specs.RuleLines.{ended}
 use Rattle.fork_program.specs.Replay.{IsEnding, EndsWith, opening_text, ending_lines}
 use Rattle.fork_drive.specs.Workers.{Workers}
 use Rattle.fork_drive.specs.Run.{IsPrinted, posts_text}
-use Rattle.fork_drive.specs.FaultView.{fault_driven}
+use Rattle.fork_drive.specs.inner.FaultView.{fault_driven}
 use Rattle.fork_drive.specs.Faults.{IsFork, IsRunFault}
 
 pub is_fork : (targets : List Target) → (targets ≡ [] → ⊥) → (IsTooMany targets → ⊥) → ((length targets ≤ most_targets) × HasTwice targets → ⊥) → IsFork targets

@@ -14,15 +14,6 @@ use Rattle.fork_drive.specs.Run.{IsRun, IsPrinted}
 abbrev pub IsFork : List Target → Type 0
 IsFork targets = (fault : NewFault) → IsSetupFault targets fault → ⊥
 
--- the targets are no fork, or a growth was refused
-abbrev pub IsFirstFault : List Target → ProgFault → Type 0
-IsFirstFault targets prog.TooLong = ⊥
-IsFirstFault targets (prog.Line number) = ⊥
-IsFirstFault targets (prog.New fault) = IsSetupFault targets fault
-IsFirstFault targets prog.Stopped = ⊥
-IsFirstFault targets prog.Torn = ⊥
-IsFirstFault targets prog.NoMemory = Unit {0}
-
 -- stopped only where the workers have more events than a context takes whatever they are
 abbrev pub IsRunFault : Workers → ProgFault → Type 0
 IsRunFault workers prog.TooLong = ⊥

@@ -1,11 +1,12 @@
 -- A script with workers: what is forked, and what each worker has happen to it. Its lines are those of a script without
 -- workers, and a line `worker` begins the events of each worker.
-use Rattle.std.specs.Prelude.{◌&&◌, ℕ, suc, ◌+◌, ◌<◌, ◌≤◌, ◌^◌, nat_lt, Bool, true, false, not, bytes_eq, List, [], ◌∷◌, ◌++◌, length, sum_by, codes, Option, Some, None, Result, Ok, Err, option_and_then, if◌then◌else◌}
+use Rattle.std.specs.Prelude.{◌&&◌, ℕ, suc, nat_lt, Bool, true, false, not, bytes_eq, List, [], ◌∷◌, ◌++◌, length, codes, Option, Some, None, Result, Ok, Err, option_and_then, if◌then◌else◌}
 use Rattle.std.specs.List.{slice_split}
 use Rattle.sip_lex.specs.Cut.{is}
 use Rattle.fork_model.specs.Table.{Kind, Rules}
 use Rattle.fork_model.specs.Event.{Event}
 use Rattle.fork_model.specs.History.{Target}
+use Rattle.fork_text.specs.LineByLine.{lines_from}
 use Rattle.fork_text.specs.Pieces.{is_empty}
 use Rattle.fork_program.specs.declared.script.Phase.{Phase}
 use Rattle.fork_program.specs.declared.script.Phase.TheVariants.{AtKind, AtPrefer, AtDepth, AtTargets, AtEvents, AtAnswer}
@@ -22,12 +23,6 @@ pub record Workers : Type 0 where
 abbrev pub most_workers : ℕ
 most_workers = 8
 
--- at least one worker, and so many events together that each has a position of 32 bits
-pub record AreFew (scripts : List (List Event)) : Type 0 where
-  pub some : 0 < length scripts
-  pub few : length scripts ≤ most_workers
-  pub events : sum_by length scripts < 2 ^ 32
-
 -- the line that begins a worker's events
 abbrev pub worker_line : List ℕ
 worker_line = codes "worker"
@@ -39,10 +34,6 @@ pub record Draft : Type 0 where
 
 abbrev pub no_draft : Draft
 no_draft = record { last = plain.no_draft; before = [] }
-
--- how many events were read
-abbrev pub event_count : Draft → ℕ
-event_count draft = sum_by length draft.before + length draft.last.script.events
 
 -- whether a worker has begun: before the first there are no events
 abbrev pub is_at_work : Phase → Bool
@@ -93,16 +84,9 @@ workers_of draft = record {
 abbrev pub finished_draft : ℕ → Draft → List ℕ → Result Workers ℕ
 finished_draft number draft rest = if is_empty rest && is_at_work draft.last.phase then Ok (workers_of draft) else Err number
 
-abbrev pub with_next : ℕ → Option Draft → (Draft → Result Workers ℕ) → Result Workers ℕ
-with_next number None read = Err number
-with_next number (Some draft) read = read draft
-
 -- the lines from this number on, and what stands behind the last LF
 abbrev pub read_from : ℕ → Draft → List (List ℕ) → Result Workers ℕ
-read_from number draft [] = Err number
-read_from number draft (line ∷ lines) =
-    if is_empty lines then finished_draft number draft line
-    else with_next number (drafted draft line) (λ next. read_from (suc number) next lines)
+read_from number draft lines = lines_from drafted finished_draft number draft lines
 
 -- the script with workers, or the number of the first malformed line; a line that is missing has the number it would have
 unfoldable pub read_workers : List ℕ → Result Workers ℕ

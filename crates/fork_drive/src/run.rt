@@ -1,14 +1,15 @@
 //! Running the workers of a script.
-ghost use Rattle.std.specs.Prelude.{◌≡◌, ◌<◌, ◌≤◌, ◌↔◌, ◌++◌, length, OnOk, OnErr, IfOk, IfErr, IsErrOf};
+ghost use Rattle.std.specs.Prelude.{◌≡◌, ◌<◌, ◌↔◌, ◌++◌, length, OnOk, OnErr, IfOk, IfErr, IsErrOf};
 ghost use Rattle.fork_context.specs.KindView.{kind_of};
 ghost use Rattle.fork_model.specs.History.{opening};
-ghost use Rattle.fork_program.specs.Faults.{most_text, IsSetupFault};
+ghost use Rattle.fork_program.specs.Faults.{most_text};
 ghost use Rattle.fork_program.specs.Replay.{opening_text};
 ghost use Rattle.fork_text.specs.RuleLines.{ended};
 ghost use Rattle.fork_drive.specs.Workers.{Workers};
-ghost use Rattle.fork_drive.specs.Faults.{IsFirstFault, IsRunFault, IsDriveFault, PrintsRun, AppendsRun};
+ghost use Rattle.fork_drive.specs.Faults.{IsRunFault, IsDriveFault, PrintsRun, AppendsRun};
+ghost use Rattle.fork_drive.specs.inner.Faults.{IsFirstFault};
 ghost use Rattle.fork_drive.specs.Headline.{AppendsOneFinal};
-ghost use Rattle.fork_drive.specs.FaultView.{fault_driven};
+ghost use Rattle.fork_drive.specs.inner.FaultView.{fault_driven};
 
 use crate::print::append_posts;
 use crate::workers::Workers;

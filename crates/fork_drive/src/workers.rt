@@ -1,8 +1,9 @@
 //! A script with workers: what is forked, by which rules and to which targets, and what each worker has happen then.
 ghost use Rattle.std.specs.Prelude.{◌≡◌, ◌<◌, ◌^◌, ◌+◌, ◌∷◌, ◌++◌, [], IfOk, map, length};
 ghost use Rattle.fork_context.specs.EventView.{event_of};
-ghost use Rattle.fork_drive.specs.Workers.{is_at_work, with_worker, drafted, no_draft, finished_draft, read_workers, event_count};
-ghost use Rattle.fork_drive.specs.ReadView.{GivesWorkers};
+ghost use Rattle.fork_drive.specs.Workers.{is_at_work, with_worker, drafted, no_draft, finished_draft, read_workers};
+ghost use Rattle.fork_drive.specs.inner.Workers.{event_count};
+ghost use Rattle.fork_drive.specs.inner.ReadView.{GivesWorkers};
 
 use fork_context::{Event, Kind, Target};
 use fork_program::{Draft, Phase, ReadFault, Script};
@@ -29,7 +30,7 @@ impl Model for Workers {
     ghost use Rattle.fork_context.specs.KindView.{kind_of};
     ghost use Rattle.fork_context.specs.EventView.{event_of};
     ghost use Rattle.fork_drive.specs.Workers as spec;
-    ghost use Rattle.fork_drive.specs.Workers.{AreFew};
+    ghost use Rattle.fork_drive.specs.inner.Workers.{AreFew};
 
     ghost Value = { spec.Workers };
 

@@ -1,30 +1,18 @@
 -- Exactly the texts of right listings are accepted.
-use Rattle.std.proofs.Common.{◌≡◌, ℕ, zero, suc, ◌<◌, ◌≤◌, List, [], ◌∷◌, ◌++◌, map, Option, Some, None, Result, Ok, Err, refl, sym, ap, subst, ◌∙◌, arith, inl, inr, ◌⊎◌}
-use Rattle.std.specs.Prelude.{slice_get, option_and_then, IfOk, IfErr}
-use Rattle.std.specs.List.{AllByRecursion}
-use Rattle.std.proofs.lemmas.Bool.{cases_lt}
-use Rattle.fork_model.specs.Rank.{Score}
-use Rattle.fork_model.specs.Choice.{HasScore}
-use Rattle.fork_model.specs.OneReply.{AreArrivals}
-use Rattle.fork_model.proofs.OneReplyLemmas.{one_choice}
-use Rattle.fork_listing.specs.declared.line.End.{End}
-use Rattle.fork_listing.specs.declared.line.End.TheVariants.{Stored, Taken, Silent, Never}
-use Rattle.fork_listing.specs.declared.line.Target.{Target}
-use Rattle.fork_listing.specs.declared.checker.Verdict.{Verdict}
-use Rattle.fork_listing.specs.declared.checker.CheckFault.{CheckFault}
-use Rattle.fork_listing.specs.declared.checker.CheckFault.TheVariants as fault
-use Rattle.fork_listing.specs.Line.{Line, TargetLine, most_arrival}
-use Rattle.fork_listing.specs.Targets.{arrival_of, ended_at, IsInPlace}
-use Rattle.fork_listing.specs.Ranks.{rows_of, score_in, score_at, IsChosen, IsNotChosen, final_of}
-use Rattle.fork_listing.specs.Text.{Listing, rule_lines, read_listing}
-use Rattle.fork_listing.specs.Checking.{AreBranches, IsRight, IsVerdictOf, IsChecked, verdict_of}
-use Rattle.fork_listing.specs.Spelled.{IsLine, IsEnd, IsListing, IsFirstMalformed}
-use Rattle.fork_listing.specs.Accepted.{IsRightText, IsOkElseNoMemory, IsLineNamed, AcceptedTextsAreRight, RightTextsAreAccepted}
+use Rattle.fork_listing.proofs.Common.{◌≡◌, ℕ, zero, suc, ◌<◌, ◌≤◌, List, [], ◌∷◌, ◌++◌, map, Option, Some, None, Result, Ok, Err, refl, sym, ap, subst, ◌∙◌, arith, inl, inr, ◌⊎◌, slice_get, option_and_then, AllByRecursion, cases_lt, Score}
+use Rattle.fork_listing.proofs.Common.{HasScore, AreArrivals, End, Stored, Taken, Silent, Never, Target, Verdict, Line, TargetLine, most_arrival, arrival_of, ended_at, IsInPlace, rows_of, score_in, score_at, IsChosen, IsNotChosen, final_of}
+use Rattle.fork_listing.proofs.Common.{Listing, rule_lines, read_listing, IsRight, IsVerdictOf, IsChecked, verdict_of, IsLine, IsEnd, IsListing, IsRightText, same_Some}
+use Rattle.std.specs.Prelude.{IfOk, IfErr}
+use Rattle.fork_model.proofs.laws.OneReplyLemmas.{one_choice}
+use Rattle.fork_listing.specs.declared.refusal.CheckFault.{CheckFault}
+use Rattle.fork_listing.specs.declared.refusal.CheckFault.TheVariants as fault
+use Rattle.fork_listing.specs.Checking.{AreBranches}
+use Rattle.fork_listing.specs.Spelled.{IsFirstMalformed}
+use Rattle.fork_listing.specs.Accepted.{IsOkElseNoMemory, IsLineNamed, AcceptedTextsAreRight, RightTextsAreAccepted}
 use Rattle.fork_listing.proofs.MalformedLines.{refused_by_first}
 use Rattle.fork_listing.proofs.Meanings.{same_score}
 use Rattle.fork_listing.proofs.Placing.{inside}
 use Rattle.fork_listing.proofs.SpelledListings.{read_exactly}
-use Rattle.std.proofs.lemmas.Option.{same_Some}
 
 none_some : {X : Type 0} {x : X} → None ≡ Some x → ⊥
 none_some e = absurd cc

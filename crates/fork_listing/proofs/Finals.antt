@@ -1,20 +1,11 @@
 -- The line of the answer that goes up, by the first of those stored.
-use Rattle.std.proofs.Common.{◌≡◌, ℕ, length, Bool, true, false, cond, eqb, List, Option, Some, None, refl, sym, ap, ◌∙◌}
-use Rattle.std.specs.Prelude.{slice_get}
-use Rattle.std.specs.Option.{option_map, option_map_or}
-use Rattle.std.proofs.lemmas.Bool.{eqb-true, eq-eqb, false≢true}
-use Rattle.fork_model.specs.Table.{Rules, Row, StoredAnswer}
-use Rattle.fork_model.specs.Rank.{Score}
+use Rattle.fork_listing.proofs.Common.{◌≡◌, ℕ, length, Bool, true, false, cond, eqb, List, Option, Some, None, refl, sym, ap, ◌∙◌, slice_get, option_map, eqb-true, eq-eqb, false≢true, Rules, Row, Score, Choice, Best, Only503, NoAnswer408}
+use Rattle.fork_listing.proofs.Common.{IsChoice, stored_at, status_at, BestRef, IsBest, Target, Final, HoldsBelow, IsPlaced, rows_of, final_of, IsChosen, IsNotChosen, AreNumbered}
+use Rattle.std.specs.Option.{option_map_or}
+use Rattle.fork_model.specs.Table.{StoredAnswer}
 use Rattle.fork_model.specs.Choice as model
-use Rattle.fork_model.specs.Choice.{Choice, Best, Only503, NoAnswer408, IsChoice, IsFirst, stored_at, status_at}
-use Rattle.fork_tree.specs.declared.best.BestRef.{BestRef}
-use Rattle.fork_tree.specs.Tree.{IsBest, score_of_ref}
-use Rattle.fork_listing.specs.declared.line.Target.{Target}
-use Rattle.fork_listing.specs.declared.line.Final.{Final}
-use Rattle.fork_listing.specs.First.{HoldsBelow}
-use Rattle.fork_listing.specs.Targets.{IsPlaced}
-use Rattle.fork_listing.specs.Ranks.{rows_of, final_of, IsChosen, IsNotChosen}
-use Rattle.fork_listing.specs.Stored.{AreNumbered, final_of_best}
+use Rattle.fork_tree.specs.Tree.{score_of_ref}
+use Rattle.fork_listing.specs.inner.Stored.{final_of_best}
 use Rattle.fork_listing.proofs.Placing.{inside}
 
 some_same : {X : Type 0} {x y : X} → Some x ≡ Some y → x ≡ y

@@ -1,17 +1,9 @@
 -- The first rank line of a fork's listing is that of the answer that goes up.
-use Rattle.std.proofs.Common.{◌≡◌, ◌≢◌, ℕ, zero, suc, ◌⊎◌, List, [], ◌∷◌, Some, refl, sym, ap, subst, ◌∙◌, arith, inl, inr}
-use Rattle.std.proofs.lemmas.Bool.{cases_Bool, eq-eqb, eqb-true, false≢true}
-use Rattle.std.specs.Prelude.{slice_get, nat_eq}
-use Rattle.fork_model.specs.Table.{Table}
-use Rattle.fork_model.specs.Rank.{Score, Before}
-use Rattle.fork_model.specs.Choice.{Best, Only503, NoAnswer408, HasScore, IsFirst, NoneStored}
-use Rattle.fork_model.specs.OneReply.{AreArrivals}
-use Rattle.fork_model.proofs.laws.Headline.{Before-total}
-use Rattle.fork_listing.specs.declared.line.Ranked.{Ranked}
-use Rattle.fork_listing.specs.Ranks.{score_of, score_at}
-use Rattle.fork_listing.specs.Ranking.{IsRanking}
-use Rattle.fork_listing.specs.Listed.{targets_of}
-use Rattle.fork_listing.specs.Meaning.{FirstLineIs, TheChoiceIsFirst}
+use Rattle.fork_listing.proofs.Common.{◌≡◌, ◌≢◌, ℕ, zero, suc, ◌⊎◌, List, [], ◌∷◌, Some, refl, sym, ap, subst, ◌∙◌, arith, inl, inr, eq-eqb, eqb-true, false≢true, slice_get, Table, Score, Before, Best, Only503, NoAnswer408, HasScore}
+use Rattle.fork_listing.proofs.Common.{IsFirst, NoneStored, AreArrivals, Before-total, Ranked, score_of, score_at, IsRanking, targets_of, FirstLineIs}
+use Rattle.std.proofs.lemmas.Bool.{cases_Bool}
+use Rattle.std.specs.Prelude.{nat_eq}
+use Rattle.fork_listing.specs.Meaning.{TheChoiceIsFirst}
 use Rattle.fork_listing.proofs.Placing.{inside, there}
 use Rattle.fork_listing.proofs.ListedForks.{row_score}
 

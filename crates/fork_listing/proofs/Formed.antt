@@ -1,12 +1,5 @@
 -- What the form of its lines says of a listing's branches.
-use Rattle.std.proofs.Common.{◌≡◌, ◌≤◌, ℕ, List, length, Ok, arith}
-use Rattle.fork_model.specs.Table.{most_targets}
-use Rattle.fork_listing.specs.declared.line.Version.{Version}
-use Rattle.fork_listing.specs.declared.line.Version.TheVariants.{First, Second, Third}
-use Rattle.fork_listing.specs.Line.{most_listed}
-use Rattle.fork_listing.specs.Text.{Listing, read_listing}
-use Rattle.fork_listing.specs.Spelled.{IsListing}
-use Rattle.fork_listing.specs.TreeRows.{AreFormed}
+use Rattle.fork_listing.proofs.Common.{◌≡◌, ◌≤◌, ℕ, List, length, Ok, arith, most_targets, Version, First, Second, Third, most_listed, Listing, read_listing, IsListing, AreFormed}
 use Rattle.fork_listing.proofs.AcceptedTexts.{target_lines}
 use Rattle.fork_listing.proofs.SpelledListings.{listing_found}
 

@@ -1,13 +1,7 @@
 -- One branch ends, and others may come to stand under it: the branches still stand as they may.
-use Rattle.std.proofs.Common.{◌≡◌, ◌≢◌, ℕ, zero, suc, ◌+◌, ◌<◌, ◌≤◌, true, false, List, [], ◌∷◌, ◌++◌, length, Option, Some, None, refl, sym, ap, subst, ◌∙◌, arith, inl, inr, ◌⊎◌}
-use Rattle.std.specs.Prelude.{slice_get, option_and_then}
+use Rattle.fork_listing.proofs.Common.{◌≡◌, ◌≢◌, ℕ, zero, suc, ◌+◌, ◌<◌, ◌≤◌, true, false, List, [], ◌∷◌, ◌++◌, length, Option, Some, None, refl, sym, ap, subst, ◌∙◌, arith, inl, inr, ◌⊎◌, slice_get, option_and_then, End, Stored, Taken}
+use Rattle.fork_listing.proofs.Common.{Silent, Never, Target, arrival_of, ended_at, is_redirection, is_redirected, IsParent, IsBefore, Follows, FollowsTarget, line_before, IsEarlier, HasDepth, IsInPlace, IsStatus, IsHow, most_q}
 use Rattle.std.proofs.lemmas.Bool.{cases_eq}
-use Rattle.fork_listing.specs.declared.line.End.{End}
-use Rattle.fork_listing.specs.declared.line.End.TheVariants.{Stored, Taken, Silent, Never}
-use Rattle.fork_listing.specs.declared.line.Target.{Target}
-use Rattle.fork_listing.specs.Targets.{arrival_of, ended_at, is_redirection, is_redirected, IsParent, IsBefore, Follows, FollowsTarget, line_before, IsEarlier, HasDepth, IsInPlace}
-use Rattle.fork_listing.specs.Spelled.{IsStatus, IsHow}
-use Rattle.fork_text.specs.Field.{most_q}
 use Rattle.fork_listing.proofs.Placing.{inside, there}
 
 some_same : {X : Type 0} {x y : X} → Some x ≡ Some y → x ≡ y

@@ -1,28 +1,22 @@
 -- The rows of every fork, shown as they would be listed, stand as they may.
-use Rattle.std.proofs.Common.{◌≡◌, ℕ, zero, suc, ◌+◌, ◌<◌, ◌≤◌, Bool, true, false, cond, List, [], ◌∷◌, ◌++◌, map, length, Option, Some, None, refl, sym, ap, subst, ◌∙◌, arith, inl, inr}
-use Rattle.std.specs.Prelude.{slice_get, option_and_then, unwrap_or, not, nat_lt, ◌&&◌, ◌||◌, ◌==◌}
-use Rattle.std.specs.Option.{option_map}
-use Rattle.std.specs.List.{AllByRecursion}
-use Rattle.std.proofs.lemmas.Bool.{ltb-true, ltb-false, or_parts}
-use Rattle.fork_model.specs.Table.{Kind, Rules, Offer, Row, Table, State, Idle, Trying, Rung, Ended, Taken, Silent, Accepted, is_idle, is_invite}
-use Rattle.fork_model.specs.Event.{FinalAnswer, Event, Ring, Answer, Timeout, Fault, TimerC, GiveUp, Cancel}
-use Rattle.fork_model.specs.Groups.{numbered}
+use Rattle.fork_listing.proofs.Common.{◌≡◌, ℕ, zero, suc, ◌+◌, ◌<◌, ◌≤◌, Bool, true, false, cond, List, [], ◌∷◌, ◌++◌, map, length, Option, Some, None, refl, sym, ap, subst, ◌∙◌, arith, inl, inr, slice_get, option_and_then, not, nat_lt}
+use Rattle.fork_listing.proofs.Common.{◌&&◌, ◌||◌, option_map, AllByRecursion, ltb-true, Kind, Rules, Offer, Row, Table, State, Idle, Trying, Rung, Ended, Accepted, Event, numbered, fresh_row, fresh_rows, first_row, opening_rows, Core}
+use Rattle.fork_listing.proofs.Common.{opening_core, core_next, core_offered, core_after, is_full, End, Target, arrival_of, ended_at, is_redirection, IsParent, Follows, FollowsTarget, line_before, IsEarlier, HasDepth, IsInPlace, most_q}
+use Rattle.fork_listing.proofs.Common.{IsStatus, targets_from, targets_of}
+use Rattle.std.specs.Prelude.{unwrap_or, ◌==◌}
+use Rattle.std.proofs.lemmas.Bool.{ltb-false, or_parts}
+use Rattle.fork_model.specs.Table.{Taken, Silent, is_idle, is_invite}
+use Rattle.fork_model.specs.Event.{FinalAnswer, Ring, Answer, Timeout, Fault, TimerC, GiveUp, Cancel}
 use Rattle.fork_model.specs.Waiting.{parent_row, line_from, depth_of, may_start}
-use Rattle.fork_model.specs.Contacts.{Fate, Known, Fresh, Left, Taking, fate_of, keys_after, with_fate, taking_from, taking_at, fresh_row, fresh_rows, keys_of}
+use Rattle.fork_model.specs.Contacts.{ContactOutcome, Known, Fresh, Left, ContactLists, outcome_of, keys_after, with_outcome, taking_from, taking_at, keys_of}
 use Rattle.fork_model.specs.Step.{Effect, moves, assumed, accepts, received, redirects, stores, is_nonempty, effect, answers, change_at, with_state, with_effect, change, next, settled, settled_row, settled_state, closed_state, cancelled}
-use Rattle.fork_model.specs.History.{Target as Named, first_row, opening_rows, opening}
-use Rattle.fork_model.specs.Core.{Core, opening_core, core_next, core_offered, core_after, is_full}
-use Rattle.fork_model.proofs.ChangeLemmas.{from_filter_map}
-use Rattle.fork_model.proofs.OpeningSeries.{opening_row}
+use Rattle.fork_model.specs.History.{Target as Named, opening}
+use Rattle.fork_model.proofs.laws.ChangeLemmas.{from_filter_map}
+use Rattle.fork_model.proofs.laws.OpeningSeries.{opening_row}
 use Rattle.fork_tree.specs.States.{shown}
-use Rattle.fork_listing.specs.declared.line.End.{End}
 use Rattle.fork_listing.specs.declared.line.End.TheVariants as line_end
-use Rattle.fork_listing.specs.declared.line.Target.{Target}
-use Rattle.fork_listing.specs.Targets.{arrival_of, ended_at, is_redirection, IsParent, Follows, FollowsTarget, line_before, IsEarlier, HasDepth, IsInPlace}
-use Rattle.fork_text.specs.Field.{most_q}
-use Rattle.fork_listing.specs.Spelled.{IsStatus}
 use Rattle.fork_model.specs.Range.{IsTargetInRange, IsOfferInRange, IsEventInRange}
-use Rattle.fork_listing.specs.Listed.{state_shown, targets_from, targets_of}
+use Rattle.fork_listing.specs.Listed.{state_shown}
 use Rattle.fork_listing.proofs.Placing.{inside, there}
 use Rattle.fork_listing.proofs.FallingRows.{fall_at, fresh_fall, opening_fall}
 use Rattle.fork_listing.proofs.Growing.{IsKept, IsGrown, with_end, grows, waits_on}
@@ -192,9 +186,9 @@ FreshSmall fresh = AllByRecursion (λ (f : ℕ × Offer). f.1.q ≤ most_q) fres
 
 taken_small : (keys : List (List ℕ)) (place : ℕ) (offers : List Offer) → AllByRecursion IsOfferInRange offers → FreshSmall (taking_from keys place offers).fresh
 taken_small keys place [] small = tt
-taken_small keys place (offer ∷ offers) small = go (fate_of keys offer.key) _ (taken_small (keys_after keys (fate_of keys offer.key)) (suc place) offers small.1)
+taken_small keys place (offer ∷ offers) small = go (outcome_of keys offer.key) _ (taken_small (keys_after keys (outcome_of keys offer.key)) (suc place) offers small.1)
   where
-    go : (fate : Fate) (rest : Taking) → FreshSmall rest.fresh → FreshSmall (with_fate place offer fate rest).fresh
+    go : (outcome : ContactOutcome) (rest : ContactLists) → FreshSmall rest.fresh → FreshSmall (with_outcome place offer outcome rest).fresh
     go Known rest all = all
     go (Fresh key) rest all = (small.0, all)
     go Left rest all = all
@@ -220,10 +214,10 @@ redirects_ends t n row at answer state open_yet in_range low high =
       falls = λ j k f g lt is there. fall_at (fresh_rows n taken.fresh) (fresh_fall n taken.fresh) j k f g lt is there;
     }
   where
-    taken : Taking
+    taken : ContactLists
     taken = taking_at t row answer.offers
 
-    smaller : (b : Bool) → FreshSmall (cond {A = Taking} b (record { fresh = []; left = answer.offers }) (taking_from (keys_of t.rows) 0 answer.offers)).fresh
+    smaller : (b : Bool) → FreshSmall (cond {A = ContactLists} b (record { fresh = []; left = answer.offers }) (taking_from (keys_of t.rows) 0 answer.offers)).fresh
     smaller true = tt
     smaller false = taken_small (keys_of t.rows) 0 answer.offers in_range.offers
 
@@ -243,7 +237,7 @@ redirects_ends t n row at answer state open_yet in_range low high =
             )
 
     shallow : (b : Bool) → (t.closed || not (nat_lt (depth_of t.rows row) t.rules.depth)) ≡ b → (k : ℕ) (f : Row)
-        → slice_get (fresh_rows n (cond {A = Taking} b (record { fresh = []; left = answer.offers }) (taking_from (keys_of t.rows) 0 answer.offers)).fresh) k ≡ Some f
+        → slice_get (fresh_rows n (cond {A = ContactLists} b (record { fresh = []; left = answer.offers }) (taking_from (keys_of t.rows) 0 answer.offers)).fresh) k ≡ Some f
         → depth_of t.rows row < t.rules.depth
     shallow true e k f is = absurd (none_some is)
     shallow false e k f is = less (nat_lt (depth_of t.rows row) t.rules.depth) refl (or_parts t.closed (not (nat_lt (depth_of t.rows row) t.rules.depth)) e).1

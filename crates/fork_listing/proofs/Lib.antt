@@ -1,4 +1,5 @@
-mod Pieces
+pub mod Common
+pub mod laws
 mod Placing
 mod Sets
 mod LineScores
@@ -19,4 +20,3 @@ mod Formed
 mod TreeRows
 mod MalformedLines
 pub mod FirstLines
-pub mod OneListing

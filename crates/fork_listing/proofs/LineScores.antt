@@ -1,12 +1,6 @@
 -- The score of the row that a line tells of.
-use Rattle.std.proofs.Common.{◌≡◌, ℕ, zero, suc, List, [], ◌∷◌, map, refl, ap}
-use Rattle.std.specs.Prelude.{slice_get}
-use Rattle.std.specs.Option.{option_map}
-use Rattle.fork_model.proofs.Choosing.{row_score}
-use Rattle.fork_listing.specs.declared.line.End.{End}
-use Rattle.fork_listing.specs.declared.line.End.TheVariants.{Stored, Taken, Silent, Never}
-use Rattle.fork_listing.specs.declared.line.Target.{Target}
-use Rattle.fork_listing.specs.Ranks.{row_of, score_in}
+use Rattle.fork_listing.proofs.Common.{◌≡◌, ℕ, zero, suc, List, [], ◌∷◌, map, refl, ap, slice_get, option_map, End, Stored, Taken, Silent, Never, Target, row_of, score_in}
+use Rattle.fork_model.proofs.laws.Choosing.{row_score}
 
 -- the score of the row that a line tells of
 score_same : (end : End) (target : Target) → target.end ≡ end → row_score (row_of target) ≡ score_in end

@@ -1,36 +1,20 @@
 -- The listing of every fork is right.
-use Rattle.std.proofs.Common.{◌≡◌, ◌≢◌, ℕ, zero, suc, ◌<◌, ◌≤◌, Bool, true, false, cond, List, [], ◌∷◌, ◌++◌, map, length, Option, Some, None, refl, sym, ap, subst, ◌∙◌, arith, inl, inr}
-use Rattle.std.specs.Prelude.{slice_get, option_and_then}
-use Rattle.std.specs.Option.{option_map}
-use Rattle.std.specs.List.{AllByRecursion}
-use Rattle.fork_model.specs.Table.{Kind, Rules, Row, Table, State, Idle, Trying, Rung, Ended, Stored, Taken, Silent, Never, Accepted, most_targets, stored_of}
-use Rattle.fork_model.specs.Rank.{Score, Before}
-use Rattle.fork_model.specs.Event.{Event}
+use Rattle.fork_listing.proofs.Common.{◌≡◌, ◌≢◌, ℕ, zero, suc, ◌<◌, ◌≤◌, Bool, true, false, cond, List, [], ◌∷◌, ◌++◌, map, length, Option, Some, None, refl, sym, ap, subst, ◌∙◌, arith, inl, inr, slice_get, option_and_then, option_map}
+use Rattle.fork_listing.proofs.Common.{AllByRecursion, Kind, Rules, Row, Table, State, Idle, Trying, Rung, Ended, Accepted, most_targets, Score, Before, Event, Choice, Best, Only503, NoAnswer408, IsChoice, IsFirst, stored_at, status_at}
+use Rattle.fork_listing.proofs.Common.{Core, opening_core, core_next, core_offered, core_after, is_full, End, Target, Ranked, Final, Verdict, Line, TargetLine, RankLine, FinalLine, most_arrival, most_number, arrival_of, ended_at, IsParent}
+use Rattle.fork_listing.proofs.Common.{IsInPlace, rows_of, score_of, score_in, score_at, RanksBehind, final_of, IsChosen, IsRanking, Listing, AreInOrder, AreListed, IsRight, verdict_of, targets_of, listing_of, IsListingOf, IsStatus, IsEnd}
+use Rattle.fork_listing.proofs.Common.{IsNumberOrNone, IsTargetLine, IsRankLine, IsFinalLine, IsLine, IsListing, IsRightText}
+use Rattle.fork_model.specs.Table.{Stored, Taken, Silent, Never, stored_of}
 use Rattle.fork_model.specs.History as history
 use Rattle.fork_model.specs.Choice as model
-use Rattle.fork_model.specs.Choice.{Choice, Best, Only503, NoAnswer408, IsChoice, IsFirst, stored_at, status_at}
-use Rattle.fork_model.specs.Core.{Core, opening_core, core_next, core_offered, core_after, is_full}
 use Rattle.fork_model.specs.Steps.{most_taken}
-use Rattle.fork_model.proofs.ContactLemmas.{targets_bounded, each_target, taken_bounded}
-use Rattle.fork_model.proofs.StepLemmas.{rows_keep_numbers}
-use Rattle.fork_model.proofs.OrderLemmas.{Before-total}
-use Rattle.fork_listing.specs.declared.line.End.{End}
+use Rattle.fork_model.proofs.laws.ContactLemmas.{targets_bounded, each_target, taken_bounded}
+use Rattle.fork_model.proofs.laws.StepLemmas.{rows_keep_numbers}
+use Rattle.fork_model.proofs.laws.OrderLemmas.{Before-total}
 use Rattle.fork_listing.specs.declared.line.End.TheVariants as line_end
-use Rattle.fork_listing.specs.declared.line.Target.{Target}
-use Rattle.fork_listing.specs.declared.line.Ranked.{Ranked}
-use Rattle.fork_listing.specs.declared.line.Final.{Final}
-use Rattle.fork_listing.specs.declared.checker.Verdict.{Verdict}
-use Rattle.fork_listing.specs.Line.{Line, TargetLine, RankLine, FinalLine, most_arrival}
-use Rattle.fork_text.specs.Field.{most_number}
-use Rattle.fork_listing.specs.Targets.{arrival_of, ended_at, IsParent, IsInPlace}
-use Rattle.fork_listing.specs.Ranks.{rows_of, score_of, score_in, score_at, RanksBehind, rank_before, final_of, IsChosen}
-use Rattle.fork_listing.specs.Ranking.{IsRanking}
-use Rattle.fork_listing.specs.Text.{Listing}
-use Rattle.fork_listing.specs.Checking.{AreInOrder, AreListed, IsRight, verdict_of}
-use Rattle.fork_listing.specs.Listed.{targets_of, listing_of, IsListingOf}
-use Rattle.fork_listing.specs.Spelled.{IsStatus, IsEnd, IsNumberOrNone, IsTargetLine, IsRankLine, IsFinalLine, IsLine, IsListing}
+use Rattle.fork_listing.specs.Ranks.{rank_before}
 use Rattle.fork_context.specs.Led.{AreRules, IsLedTo}
-use Rattle.fork_listing.specs.Accepted.{IsRightText, ListingsAreRight, AppendsRight}
+use Rattle.fork_listing.specs.Accepted.{ListingsAreRight, AppendsRight}
 use Rattle.fork_listing.proofs.Placing.{inside}
 use Rattle.fork_listing.proofs.Finals.{status_seen}
 use Rattle.fork_listing.proofs.Meanings.{same_score}

@@ -1,19 +1,9 @@
 -- What a right listing tells.
-use Rattle.std.proofs.Common.{◌≡◌, ℕ, zero, suc, ◌<◌, ◌⊎◌, List, [], ◌∷◌, length, Option, Some, None, Result, Ok, Err, refl, sym, ap, subst, ◌∙◌, arith, inl, inr}
-use Rattle.std.specs.Prelude.{slice_get, option_and_then}
-use Rattle.std.specs.Option.{option_map}
-use Rattle.fork_model.specs.Table.{Row}
-use Rattle.fork_model.specs.Rank.{Score, Before}
+use Rattle.fork_listing.proofs.Common.{◌≡◌, ℕ, zero, suc, ◌<◌, ◌⊎◌, List, [], ◌∷◌, length, Option, Some, None, Result, Ok, Err, refl, sym, ap, subst, ◌∙◌, arith, inl, inr, slice_get, option_and_then, option_map, Row, Score, Before, Choice}
+use Rattle.fork_listing.proofs.Common.{Best, Only503, NoAnswer408, IsFirst, IsChoice, NoneStored, stored_at, status_at, Before-trans, Target, Ranked, Final, row_of, rows_of, score_of, score_in, score_at, RanksBehind, final_of, IsChosen}
+use Rattle.fork_listing.proofs.Common.{Listing, read_listing, AreInOrder, AreListed, IsChecked, verdict_of, FirstLineIs}
 use Rattle.fork_model.specs.Choice as model
-use Rattle.fork_model.specs.Choice.{Choice, Best, Only503, NoAnswer408, HasScore, IsFirst, IsChoice, NoneStored, stored_at, status_at}
-use Rattle.fork_model.proofs.OrderLemmas.{Before-trans}
-use Rattle.fork_listing.specs.declared.line.Target.{Target}
-use Rattle.fork_listing.specs.declared.line.Ranked.{Ranked}
-use Rattle.fork_listing.specs.declared.line.Final.{Final}
-use Rattle.fork_listing.specs.Ranks.{row_of, rows_of, score_of, score_in, score_at, RanksBehind, final_of, IsChosen}
-use Rattle.fork_listing.specs.Text.{Listing, read_listing}
-use Rattle.fork_listing.specs.Checking.{AreInOrder, AreListed, IsChecked, verdict_of}
-use Rattle.fork_listing.specs.Meaning.{ListedAreStored, AreRanked, FinalIsFirst, FirstLineIs, TellsTheChoice, RightTellsTheChoice, AcceptedTellsTheChoice}
+use Rattle.fork_listing.specs.Meaning.{ListedAreStored, AreRanked, FinalIsFirst, TellsTheChoice, RightTellsTheChoice, AcceptedTellsTheChoice}
 use Rattle.fork_listing.proofs.Placing.{inside, there}
 use Rattle.fork_listing.proofs.LineScores.{target_score, get_map}
 use Rattle.fork_listing.proofs.Finals.{status_seen}

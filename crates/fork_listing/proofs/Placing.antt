@@ -1,10 +1,8 @@
 -- How the place of a line follows from those of the lines before it.
-use Rattle.std.proofs.Common.{◌≡◌, ℕ, zero, suc, ◌+◌, ◌<◌, ◌≤◌, ◌⊎◌, true, List, [], ◌∷◌, ◌++◌, length, get_or, Option, Some, None, refl, sym, ap, subst, ◌∙◌, arith, inl, inr}
-use Rattle.std.specs.Prelude.{slice_get, option_and_then}
-use Rattle.fork_listing.specs.declared.line.Target.{Target}
-use Rattle.fork_listing.specs.First.{HoldsBelow}
-use Rattle.fork_listing.specs.Targets.{arrival_of, ended_at, is_redirected, IsParent, IsBefore, Follows, FollowsTarget, line_before, HasDepth, IsInPlace, IsPlaced}
-use Rattle.fork_listing.specs.Near.{FallsTo, IsNear, one_more, depth_by}
+use Rattle.fork_listing.proofs.Common.{◌≡◌, ℕ, zero, suc, ◌+◌, ◌<◌, ◌≤◌, ◌⊎◌, true, List, [], ◌∷◌, ◌++◌, length, Option, Some, None, refl, sym, ap, subst, ◌∙◌, arith, inl, inr, slice_get, option_and_then, Target, HoldsBelow, arrival_of}
+use Rattle.fork_listing.proofs.Common.{ended_at, is_redirected, IsParent, IsBefore, Follows, FollowsTarget, line_before, HasDepth, IsInPlace, IsPlaced, IsNear}
+use Rattle.std.proofs.Common.{get_or}
+use Rattle.fork_listing.specs.inner.Near.{FallsTo, one_more, depth_by}
 
 some_same : {X : Type 0} {x y : X} → Some x ≡ Some y → x ≡ y
 some_same e = cc
@@ -54,9 +52,6 @@ one_depth targets (Some p) (suc d) (suc e) h k =
 pub record AreDepths (targets : List Target) (depths : List ℕ) (n : ℕ) : Type 0 where
   pub long : length depths ≡ n
   pub right : (m : ℕ) (target : Target) → m < n → slice_get targets m ≡ Some target → (d : ℕ) × (slice_get depths m ≡ Some d) × HasDepth targets target.parent d
-
-pub no_depths : (targets : List Target) → AreDepths targets [] 0
-no_depths targets = record { long = refl; right = λ m target lt is. absurd (omega arith) }
 
 pub depth_right : (targets : List Target) (depths : List ℕ) (n : ℕ) (o : Option ℕ) → AreDepths targets depths n → IsParent targets n o → HasDepth targets o (depth_by depths o)
 depth_right targets depths n None right is = tt

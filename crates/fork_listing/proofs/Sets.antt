@@ -1,12 +1,10 @@
 -- Sets that hold what the places of a list give.
-use Rattle.std.proofs.Common.{◌≡◌, ℕ, ◌+◌, ◌<◌, ◌⊎◌, Bool, true, false, cond, eqb, List, [], Option, Some, None, Less, Equal, Greater, nat_cmp, refl, sym, ap, subst, ◌∙◌, arith, inl, inr}
-use Rattle.std.specs.Prelude.{not, nat_lt}
-use Rattle.std.specs.List.{list_any}
+use Rattle.fork_listing.proofs.Common.{◌≡◌, ℕ, ◌+◌, ◌<◌, ◌⊎◌, Bool, true, false, cond, eqb, Option, Some, None, refl, sym, ap, subst, ◌∙◌, arith, inl, inr, not, nat_lt, BTreeSet, contains, eqb-true, eq-eqb, ltb-true, Holds}
+use Rattle.std.proofs.Common.{Less, Equal, Greater, nat_cmp}
 use Rattle.std.specs.Ordering.{is_eq}
-use Rattle.std.specs.BTreeSet.{BTreeSet, contains, IsEmpty}
 use Rattle.std.specs.BTreeMap.{is_at}
-use Rattle.std.proofs.lemmas.Bool.{false_from_ne_true, eqb-true, eq-eqb, ltb-true}
-use Rattle.fork_listing.specs.Near.{Notes, Holds}
+use Rattle.std.proofs.lemmas.Bool.{false_from_ne_true}
+use Rattle.fork_listing.specs.inner.Near.{Notes}
 
 at_step : (a q : ℕ) (lt eq : Bool) → (eq ≡ true → a ≡ q) → is_eq (cond lt Less (cond eq Equal Greater)) ≡ true → a ≡ q
 at_step a q true eq h e = absurd cc
@@ -39,12 +37,6 @@ cond_left false c e = absurd cc
 cond_right : (b c : Bool) → c ≡ true → cond b true c ≡ true
 cond_right true c e = refl
 cond_right false c e = e
-
-pub holds_none : (set : BTreeSet ℕ) (given : ℕ → Option ℕ) → IsEmpty set → Holds set given 0
-holds_none set given empty = λ q. ((λ e. absurd (none (set.keys) q empty e)), (λ h. absurd (omega (arith, h.1))))
-  where
-    none : (keys : List ℕ) (q : ℕ) → keys ≡ [] → list_any (is_at (nat_cmp q)) keys ≡ true → ⊥
-    none keys q empty e = absurd cc
 
 pub holds_more : (old new : BTreeSet ℕ) (given : ℕ → Option ℕ) (n : ℕ) (arrival : Option ℕ) (fresh : Bool) → given n ≡ arrival → Notes old new arrival fresh → Holds old given n → Holds new given (n + 1)
 holds_more old new given n None fresh here notes holds = λ q.

@@ -1,33 +1,17 @@
 -- A line is read exactly where it is the spelling of a line.
-use Rattle.std.proofs.Common.{◌≡◌, ℕ, ◌≤◌, Bool, true, false, eqb, List, ◌∷◌, ◌++◌, Some, None, refl, ap, ◌∙◌, arith}
-use Rattle.std.specs.Prelude.{not, bytes_eq, codes, option_and_then}
-use Rattle.std.specs.Option.{option_map}
+use Rattle.fork_listing.proofs.Common.{◌≡◌, ℕ, ◌≤◌, Bool, true, false, eqb, List, ◌∷◌, ◌++◌, Some, None, refl, ap, ◌∙◌, arith, not, bytes_eq, codes, option_and_then, option_map, decimal, eqb-false, bytes_eq-Decides, Lacks}
+use Rattle.fork_listing.proofs.Common.{plain_number_within, most_targets, Version, First, Second, Third, End, Stored, Taken, Silent, Never, Target, Ranked, Final, Line, ForkLine, PreferLine, DepthLine, TargetLine, RankLine, FinalLine}
+use Rattle.fork_listing.proofs.Common.{version_text, number_text, how_text, end_text, line_text, most_arrival, most_listed, most_q, most_number, before, read_status, read_parent, read_version, read_count, read_end, read_line, IsTargetLine}
+use Rattle.fork_listing.proofs.Common.{IsRankLine, IsFinalLine, IsLine, IsEnd, number_read, number_spelled, decimal_lacks, found_map, found_then, found_one, before_read, before_found}
 use Rattle.std.specs.List.{list_all}
-use Rattle.std.specs.Fmt.{decimal}
-use Rattle.std.proofs.lemmas.Bool.{eqb-false}
-use Rattle.std.proofs.lemmas.Slice.Eq.{bytes_eq-Decides}
-use Rattle.sip_lex.specs.Cut.{Lacks}
-use Rattle.sip_lex.specs.Number.{plain_number_within}
-use Rattle.sip_lex.proofs.Cuts.{Lacks-append, Lacks-pass}
-use Rattle.fork_model.specs.Table.{most_targets}
+use Rattle.sip_lex.proofs.laws.Cuts.{Lacks-append, Lacks-pass}
 use Rattle.fork_text.proofs.laws.Preferred.{preferred_read, preferred_found, list_lacks}
 use Rattle.fork_listing.specs.declared.line.Word.{Word}
 use Rattle.fork_listing.specs.declared.line.Word.TheVariants as word
-use Rattle.fork_listing.specs.declared.line.Version.{Version}
-use Rattle.fork_listing.specs.declared.line.Version.TheVariants.{First, Second, Third}
-use Rattle.fork_listing.specs.declared.line.End.{End}
-use Rattle.fork_listing.specs.declared.line.End.TheVariants.{Stored, Taken, Silent, Never}
-use Rattle.fork_listing.specs.declared.line.Target.{Target}
-use Rattle.fork_listing.specs.declared.line.Ranked.{Ranked}
-use Rattle.fork_listing.specs.declared.line.Final.{Final}
-use Rattle.fork_listing.specs.Line.{Line, ForkLine, PreferLine, DepthLine, TargetLine, RankLine, FinalLine, version_text, number_text, how_text, end_text, line_text, most_arrival, most_listed}
 use Rattle.fork_text.specs.Preferred.{read_preferred}
-use Rattle.fork_text.specs.Field.{most_q, most_number, before}
-use Rattle.fork_listing.specs.Reading.{word_of, read_status, read_parent, read_version, read_count, read_end, target_with, read_target, ranked_with, read_ranked, final_with, read_final, read_fork, read_rest, read_line}
-use Rattle.fork_listing.specs.Spelled.{IsTargetLine, IsRankLine, IsFinalLine, IsLine, IsSpelledBy, IsEnd}
-use Rattle.sip_lex.proofs.laws.Numbers.{number_read, number_spelled, decimal_lacks}
+use Rattle.fork_listing.specs.Reading.{word_of, target_with, read_target, ranked_with, read_ranked, final_with, read_final, read_fork, read_rest}
+use Rattle.fork_listing.specs.inner.Spelled.{IsSpelledBy}
 use Rattle.fork_listing.proofs.SpelledParts.{status_read, status_found, count_read, count_found, most_listed_small, parent_read, parent_found, parent_lacks, version_found, end_read, end_found}
-use Rattle.fork_text.proofs.laws.Field.{found_map, found_then, found_one, before_read, before_found}
 
 -- ---- what is spelled is read
 

@@ -1,26 +1,14 @@
 -- A listing is read of exactly the text that spells it.
-use Rattle.std.proofs.Common.{◌≡◌, ℕ, zero, suc, ◌+◌, ◌-◌, List, [], ◌∷◌, ◌++◌, map, length, Option, Some, None, Result, Ok, refl, sym, ap, subst, ◌∙◌, arith, append_assoc, append-nil}
-use Rattle.std.specs.Prelude.{option_and_then}
-use Rattle.std.specs.List.{slice_split, join_with_byte, AllByRecursion}
+use Rattle.fork_listing.proofs.Common.{◌≡◌, ℕ, zero, suc, ◌-◌, List, [], ◌∷◌, ◌++◌, map, length, Option, Some, None, Result, Ok, Err, refl, sym, ap, subst, ◌∙◌, arith, append_assoc, append-nil, slice_split, AllByRecursion}
+use Rattle.fork_listing.proofs.Common.{join_with_byte-slice_split, is, Rules, Version, First, Second, Third, Target, Ranked, Final, Phase, Line, ForkLine, PreferLine, DepthLine, TargetLine, RankLine, FinalLine, line_text, read_line}
+use Rattle.fork_listing.proofs.Common.{Listing, rule_lines, lines_text, listing_text, Draft, no_draft, in_phase, drafted_line, listing_in, or_line, read_from, IsLine, IsListing, same_Some}
 use Rattle.std.proofs.lemmas.Bool.{cond-false, ne_eqb}
-use Rattle.std.proofs.lemmas.List.Splits.{join_with_byte-slice_split}
-use Rattle.sip_lex.specs.Cut.{cut, is}
-use Rattle.sip_lex.proofs.Cuts.{cut_again}
-use Rattle.fork_model.specs.Table.{Rules}
-use Rattle.fork_listing.specs.declared.line.Version.{Version}
-use Rattle.fork_listing.specs.declared.line.Version.TheVariants.{First, Second, Third}
-use Rattle.fork_listing.specs.declared.line.Target.{Target}
-use Rattle.fork_listing.specs.declared.line.Ranked.{Ranked}
-use Rattle.fork_listing.specs.declared.line.Final.{Final}
-use Rattle.fork_listing.specs.declared.draft.Phase.{Phase}
 use Rattle.fork_listing.specs.declared.draft.Phase.TheVariants.{AtFork, AtPrefer, AtDepth, AtTargets, AtRanks, AtEnd}
-use Rattle.fork_listing.specs.Line.{Line, ForkLine, PreferLine, DepthLine, TargetLine, RankLine, FinalLine, line_text}
-use Rattle.fork_listing.specs.Reading.{read_line}
-use Rattle.fork_listing.specs.Text.{Listing, rule_lines, lines_of, lines_text, listing_text, targets_due, Draft, no_draft, in_phase, drafted_line, listing_in, or_line, with_next, read_from, read_listing}
-use Rattle.fork_text.specs.RuleLines.{ended, usual_rules}
-use Rattle.fork_listing.specs.Spelled.{IsLine, IsSpelledBy, IsUsualElse, IsListing, IsTextOf, ReadExactly, drafted_lines}
-use Rattle.fork_listing.proofs.Pieces.{read_from-next}
-use Rattle.std.proofs.lemmas.Option.{same_Some}
+use Rattle.fork_listing.specs.Text.{lines_of, targets_due, drafted, finished_draft, read_listing}
+use Rattle.fork_text.specs.RuleLines.{usual_rules}
+use Rattle.fork_text.proofs.laws.Lines.{IsReader, read_lines}
+use Rattle.fork_text.proofs.laws.Lines as texts
+use Rattle.fork_listing.specs.Spelled.{IsUsualElse, IsTextOf, ReadExactly, drafted_lines}
 use Rattle.fork_listing.proofs.SpelledLines.{line_read, line_found, line_lacks}
 
 abbrev found_as : Listing → Result Listing ℕ
@@ -29,51 +17,31 @@ found_as l = Ok l
 ok_is : {x y : Listing} → found_as x ≡ found_as y → x ≡ y
 ok_is e = cc
 
--- ---- lines one after another
+abbrev refused_as : ℕ → Result Listing ℕ
+refused_as n = Err n
 
--- reading on behind a line
-read_next : (number : ℕ) (draft : Draft) (line : Line) (more : List ℕ) → IsLine line
-    → read_from number draft (slice_split (is 10) (ended (line_text line) ++ more))
-    ≡ with_next number (drafted_line draft line) (λ next. read_from (suc number) next (slice_split (is 10) more))
-read_next number draft line more h =
-    let joined : ended (line_text line) ++ more ≡ line_text line ++ 10 ∷ more = append_assoc (line_text line) (10 ∷ []) more in
-    let there : (line_text line, Some more) ≡ cut (is 10) (ended (line_text line) ++ more) =
-    sym (ap (cut (is 10)) joined ∙ cut_again 10 (line_text line) (Some more) (line_lacks line h)) in
-    read_from-next number draft (ended (line_text line) ++ more) (line_text line) more there
-    ∙ ap (λ (o : Option Line). with_next number (option_and_then (drafted_line draft) o) (λ next. read_from (suc number) next (slice_split (is 10) more))) (line_read line h)
+pub err_is : {m n : ℕ} → refused_as m ≡ refused_as n → m ≡ n
+err_is e = cc
 
--- behind lines that are due
-read_lines : (number : ℕ) (draft : Draft) (lines : List Line) (more : List ℕ) (next : Draft) → AllByRecursion IsLine lines → drafted_lines draft lines ≡ Some next
-    → read_from number draft (slice_split (is 10) (lines_text lines ++ more)) ≡ read_from (number + length lines) next (slice_split (is 10) more)
-read_lines number draft [] more next all e =
-    let same : draft ≡ next = same_Some _ _ e in
-    let none : number ≡ number + 0 = omega arith in
-    ap (λ (d : Draft). read_from number d (slice_split (is 10) more)) same ∙ ap (λ n. read_from n next (slice_split (is 10) more)) none
-read_lines number draft (line ∷ lines) more next all e =
-    one (drafted_line draft line) refl e (λ d due. read_lines (suc number) d lines more next all.1 due)
-  where
-    one : (o : Option Draft) → drafted_line draft line ≡ o → option_and_then (λ d. drafted_lines d lines) o ≡ Some next
-        → ((d : Draft) → drafted_lines d lines ≡ Some next → read_from (suc number) d (slice_split (is 10) (lines_text lines ++ more)) ≡ read_from (suc number + length lines) next (slice_split (is 10) more))
-        → read_from number draft (slice_split (is 10) (lines_text (line ∷ lines) ++ more)) ≡ read_from (number + length (line ∷ lines)) next (slice_split (is 10) more)
-    one None due e again = absurd cc
-    one (Some d) due e again =
-        let count : suc number + length lines ≡ number + length (line ∷ lines) = omega arith in
-        ap (λ (t : List ℕ). read_from number draft (slice_split (is 10) t)) (append_assoc (ended (line_text line)) (lines_text lines) more)
-        ∙ read_next number draft line (lines_text lines ++ more) all.0
-        ∙ ap (λ (o : Option Draft). with_next number o (λ next. read_from (suc number) next (slice_split (is 10) (lines_text lines ++ more)))) due
-        ∙ again d e
-        ∙ ap (λ n. read_from n next (slice_split (is 10) more)) count
+pub ok_err : {x : Listing} {n : ℕ} → found_as x ≡ refused_as n → ⊥
+ok_err e = absurd cc
 
-pub drafted_append : (draft : Draft) (lines more : List Line) (next : Draft) → drafted_lines draft lines ≡ Some next
-    → drafted_lines draft (lines ++ more) ≡ drafted_lines next more
-drafted_append draft [] more next e = ap (λ (d : Draft). drafted_lines d more) (same_Some _ _ e)
-drafted_append draft (line ∷ lines) more next e = one (drafted_line draft line) e (λ d due. drafted_append d lines more next due)
-  where
-    one : (o : Option Draft) → option_and_then (λ d. drafted_lines d lines) o ≡ Some next
-        → ((d : Draft) → drafted_lines d lines ≡ Some next → drafted_lines d (lines ++ more) ≡ drafted_lines next more)
-        → option_and_then (λ d. drafted_lines d (lines ++ more)) o ≡ drafted_lines next more
-    one None e again = absurd cc
-    one (Some d) e again = again d e
+refused_at : (number m : ℕ) (o : Option Listing) → or_line number o ≡ Err m → number ≡ m
+refused_at number m None e = err_is e
+refused_at number m (Some l) e = absurd (ok_err e)
+
+-- a listing is read one line at a time
+pub reader : IsReader IsLine IsLine line_text read_line drafted_line read_from
+reader = record {
+  lacks = line_lacks;
+  line_read = line_read;
+  line_found = line_found;
+  none = λ number draft. refl;
+  unended = λ number draft b bs. refl;
+  at_end = λ number draft m e. refused_at number m (listing_in draft draft.phase) e;
+  goes_on = λ number draft text pieces next more due. texts.next_piece drafted finished_draft number draft text pieces (Some next) more due;
+  stops = λ number draft text pieces more none. texts.next_piece drafted finished_draft number draft text pieces None more none;
+}
 
 -- ---- the lines of a listing are due
 
@@ -106,8 +74,8 @@ body_drafted : (draft : Draft) (targets : List Target) (ranks : List Ranked) (la
     → drafted_lines (in_phase draft (targets_due (length targets))) (body_of targets ranks last)
     ≡ Some (in_phase (record draft { targets = draft.targets ++ targets; ranks = draft.ranks ++ ranks }) (AtEnd last))
 body_drafted draft targets ranks last =
-    drafted_append (in_phase draft (targets_due (length targets))) (map TargetLine targets) (map RankLine ranks ++ FinalLine last ∷ []) _ (targets_drafted draft targets)
-    ∙ drafted_append (in_phase (record draft { targets = draft.targets ++ targets }) AtRanks) (map RankLine ranks) (FinalLine last ∷ []) _ (ranks_drafted (record draft { targets = draft.targets ++ targets }) ranks)
+    texts.drafted_append drafted_line (in_phase draft (targets_due (length targets))) (map TargetLine targets) (map RankLine ranks ++ FinalLine last ∷ []) _ (targets_drafted draft targets)
+    ∙ texts.drafted_append drafted_line (in_phase (record draft { targets = draft.targets ++ targets }) AtRanks) (map RankLine ranks) (FinalLine last ∷ []) _ (ranks_drafted (record draft { targets = draft.targets ++ targets }) ranks)
 
 -- a listing as a draft that has come to its end
 abbrev whole : Listing → Draft
@@ -135,61 +103,11 @@ pub listing_read : (l : Listing) → IsListing l → read_listing (listing_text 
 unfolding read_listing
 listing_read l h =
     ap (λ (t : List ℕ). read_from 1 no_draft (slice_split (is 10) t)) (sym (append-nil (listing_text l)))
-    ∙ read_lines 1 no_draft (lines_of l) [] (whole l) h.lines (listing_drafted l h)
+    ∙ read_lines reader 1 no_draft (lines_of l) [] (whole l) h.lines (listing_drafted l h)
 
--- ---- what is read is spelled by lines that are due
-
-pub record FoundLines (draft : Draft) (text : List ℕ) (l : Listing) : Type 0 where
-  pub lines : List Line
-  pub right : AllByRecursion IsLine lines
-  pub next : Draft
-  pub due : drafted_lines draft lines ≡ Some next
-  pub end : listing_in next next.phase ≡ Some l
-  pub spelled : text ≡ lines_text lines
-
-found_end : (number : ℕ) (draft : Draft) (l : Listing) (o : Option Listing) → listing_in draft draft.phase ≡ o → or_line number o ≡ Ok l → FoundLines draft [] l
-found_end number draft l None is e = absurd cc
-found_end number draft l (Some m) is e = record {
-  lines = [];
-  right = tt;
-  next = draft;
-  due = refl;
-  end = is ∙ ap Some (ok_is e);
-  spelled = refl;
-}
-
-lines_found : (number : ℕ) (draft : Draft) (pieces : List (List ℕ)) (l : Listing) → read_from number draft pieces ≡ Ok l → FoundLines draft (join_with_byte 10 pieces) l
-lines_found number draft [] l e = absurd cc
-lines_found number draft ([] ∷ []) l e = found_end number draft l (listing_in draft draft.phase) refl e
-lines_found number draft ((b ∷ bs) ∷ []) l e = absurd cc
-lines_found number draft (text ∷ next ∷ pieces) l e =
-    one (read_line text) refl e (λ d rest. lines_found (suc number) d (next ∷ pieces) l rest)
-  where
-    behind : (line : Line) → IsSpelledBy text line → (o : Option Draft) → drafted_line draft line ≡ o
-        → with_next number o (λ d. read_from (suc number) d (next ∷ pieces)) ≡ Ok l
-        → ((d : Draft) → read_from (suc number) d (next ∷ pieces) ≡ Ok l → FoundLines d (join_with_byte 10 (next ∷ pieces)) l)
-        → FoundLines draft (join_with_byte 10 (text ∷ next ∷ pieces)) l
-    behind line spelled None due e again = absurd cc
-    behind line spelled (Some d) due e again =
-        let more = again d e in
-        let joined : text ++ 10 ∷ join_with_byte 10 (next ∷ pieces) ≡ ended (line_text line) ++ lines_text more.lines =
-        ap (λ (t : List ℕ). t ++ 10 ∷ join_with_byte 10 (next ∷ pieces)) spelled.0
-        ∙ ap (λ (t : List ℕ). line_text line ++ 10 ∷ t) more.spelled
-        ∙ sym (append_assoc (line_text line) (10 ∷ []) (lines_text more.lines)) in
-        record {
-          lines = line ∷ more.lines;
-          right = (spelled.1, more.right);
-          next = more.next;
-          due = ap (option_and_then (λ d. drafted_lines d more.lines)) due ∙ more.due;
-          end = more.end;
-          spelled = joined;
-        }
-
-    one : (o : Option Line) → read_line text ≡ o → with_next number (option_and_then (drafted_line draft) o) (λ d. read_from (suc number) d (next ∷ pieces)) ≡ Ok l
-        → ((d : Draft) → read_from (suc number) d (next ∷ pieces) ≡ Ok l → FoundLines d (join_with_byte 10 (next ∷ pieces)) l)
-        → FoundLines draft (join_with_byte 10 (text ∷ next ∷ pieces)) l
-    one None read e again = absurd cc
-    one (Some line) read e again = behind line (line_found text line read) (drafted_line draft line) refl e again
+listed_end : (number : ℕ) (l : Listing) (o : Option Listing) → or_line number o ≡ Ok l → o ≡ Some l
+listed_end number l None e = absurd cc
+listed_end number l (Some m) e = ap Some (ok_is e)
 
 -- ---- lines that are due from the first to the last are those of a listing
 
@@ -375,11 +293,11 @@ all_lines (FinalLine last ∷ lines) next l due end = absurd cc
 pub listing_found : (text : List ℕ) (l : Listing) → read_listing text ≡ Ok l → IsTextOf l text
 unfolding read_listing
 listing_found text l e =
-    let found = lines_found 1 no_draft (slice_split (is 10) text) l e in
-    let are = all_lines found.lines found.next l found.due found.end in
+    let f = texts.found reader 1 no_draft (slice_split (is 10) text) l e in
+    let are = all_lines f.lines f.next l f.due (listed_end f.number l (listing_in f.next f.next.phase) f.end) in
     let P : List Line → Type 0 = λ ls. AllByRecursion IsLine ls in (
-      sym (join_with_byte-slice_split 10 text) ∙ found.spelled ∙ ap lines_text are.spelled,
-      record { lines = subst P are.spelled found.right; counted = are.counted; usual = are.usual },
+      sym (join_with_byte-slice_split 10 text) ∙ f.spelled ∙ ap lines_text are.spelled,
+      record { lines = subst P are.spelled f.right; counted = are.counted; usual = are.usual },
     )
 
 pub read_exactly : ReadExactly

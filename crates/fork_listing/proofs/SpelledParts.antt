@@ -1,25 +1,16 @@
 -- What is spelled in a line is read, and what is read is spelled so: the parts of a line.
-use Rattle.std.proofs.Common.{◌≡◌, ℕ, ◌^◌, ◌<◌, ◌≤◌, Bool, true, false, cond, eqb, List, [], ◌∷◌, ◌++◌, Option, Some, None, refl, sym, ap, subst, ◌∙◌, arith, inl, inr, append-nil}
-use Rattle.std.specs.Prelude.{bytes_eq, codes, option_and_then, ◌&&◌, ◌||◌}
+use Rattle.fork_listing.proofs.Common.{◌≡◌, ℕ, ◌<◌, ◌≤◌, Bool, true, false, cond, eqb, List, [], ◌∷◌, ◌++◌, Option, Some, None, refl, sym, ap, subst, ◌∙◌, arith, inl, inr, append-nil, bytes_eq, codes, option_and_then, ◌&&◌, ◌||◌}
+use Rattle.fork_listing.proofs.Common.{option_map, decimal, eqb-false, eqb-true, bytes_eq-Decides, is, Lacks, plain_number_within, found_map, found_then, found_one, before_read, before_found, Version, First, Second, Third, End, Stored}
+use Rattle.fork_listing.proofs.Common.{Taken, Silent, Never, version_text, number_text, how_text, end_text, most_arrival, most_listed, most_number, before, read_status, read_parent, read_version, read_count, read_end, IsStatus, IsHow}
+use Rattle.fork_listing.proofs.Common.{IsEnd, IsNumberOrNone, number_read, number_spelled, decimal_lacks}
+use Rattle.std.proofs.Common.{◌^◌}
 use Rattle.std.specs.Char.{is_ascii_digit}
-use Rattle.std.specs.Option.{option_map}
-use Rattle.std.specs.Fmt.{decimal}
-use Rattle.std.proofs.lemmas.Bool.{eqb-false, eqb-true, and_parts}
-use Rattle.std.proofs.lemmas.Slice.Eq.{bytes_eq-Decides}
-use Rattle.sip_lex.specs.Cut.{cut, is, behind, Lacks}
-use Rattle.sip_lex.specs.Number.{plain_number_within}
-use Rattle.sip_lex.proofs.Cuts.{cut_joins}
-use Rattle.fork_text.proofs.laws.Field.{found_map, found_then, found_one, before_read, before_found, no_dash, number_from_read, number_from_found}
+use Rattle.std.proofs.lemmas.Bool.{and_parts}
+use Rattle.sip_lex.specs.Cut.{cut, behind}
+use Rattle.sip_lex.proofs.laws.Cuts.{cut_joins}
+use Rattle.fork_text.proofs.laws.Field.{no_dash, number_from_read, number_from_found}
 use Rattle.std.proofs.lemmas.Option.{cond_some}
-use Rattle.fork_listing.specs.declared.line.Version.{Version}
-use Rattle.fork_listing.specs.declared.line.Version.TheVariants.{First, Second, Third}
-use Rattle.fork_listing.specs.declared.line.End.{End}
-use Rattle.fork_listing.specs.declared.line.End.TheVariants.{Stored, Taken, Silent, Never}
-use Rattle.fork_listing.specs.Line.{version_text, number_text, how_text, end_text, most_arrival, most_listed}
-use Rattle.fork_text.specs.Field.{most_number, before}
-use Rattle.fork_listing.specs.Reading.{read_status, read_parent, read_version, read_count, may_be_assumed, stored_as, read_stored, read_end_cut, read_end}
-use Rattle.fork_listing.specs.Spelled.{IsStatus, IsHow, IsEnd, IsNumberOrNone}
-use Rattle.sip_lex.proofs.laws.Numbers.{number_read, number_spelled, decimal_lacks}
+use Rattle.fork_listing.specs.Reading.{may_be_assumed, stored_as, read_stored, read_end_cut}
 
 pub status_read : (n : ℕ) → IsStatus n → read_status (decimal n) ≡ Some n
 status_read n h = number_from_read 300 699 n h.0 (omega arith) (omega arith)

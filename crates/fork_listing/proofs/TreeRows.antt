@@ -1,23 +1,15 @@
 -- The branches of a listing, each rightly placed, are the rows of a tree, and its best answer is theirs.
-use Rattle.std.proofs.Common.{◌≡◌, ℕ, zero, suc, ◌+◌, ◌-◌, ◌<◌, ◌≤◌, ◌⊎◌, inl, inr, Bool, true, false, not, eqb, List, [], ◌∷◌, ◌++◌, length, map, drop, Option, Some, None, refl, ap, sym, subst, ◌∙◌, arith, append_assoc, append-nil, if◌then◌else◌}
-use Rattle.std.proofs.lemmas.Bool.{eqb-true, eq-eqb, false≢true}
-use Rattle.std.specs.Prelude.{slice_get}
-use Rattle.std.specs.Option.{option_map}
-use Rattle.fork_model.specs.Table.{Rules, stored_end}
-use Rattle.fork_model.specs.Choice.{score_of, stored_at}
-use Rattle.fork_tree.specs.declared.best.BestRef.{BestRef}
-use Rattle.fork_tree.specs.declared.row.RowRef.{RowRef}
+use Rattle.fork_listing.proofs.Common.{◌≡◌, ℕ, zero, suc, ◌+◌, ◌-◌, ◌<◌, ◌≤◌, ◌⊎◌, inl, inr, Bool, true, false, not, eqb, List, [], ◌∷◌, ◌++◌, length, map, drop, Option, Some, None, refl, ap, sym, subst, ◌∙◌, arith, append_assoc}
+use Rattle.fork_listing.proofs.Common.{append-nil, eqb-true, eq-eqb, false≢true, slice_get, option_map, Rules, stored_at, BestRef, RowRef, IsBest, End, Stored, Taken, Silent, Never, Target, HoldsBelow, rows_of, ended_at, IsParent, IsBefore}
+use Rattle.fork_listing.proofs.Common.{Follows, FollowsTarget, IsInPlace, IsPlaced, AreFormed, group_kept, row_behind, last_row}
+use Rattle.std.proofs.Common.{if◌then◌else◌}
+use Rattle.fork_model.specs.Table.{stored_end}
+use Rattle.fork_model.specs.Choice.{score_of}
 use Rattle.fork_tree.specs.States.{has_ended, end_of as tree_end_of}
-use Rattle.fork_tree.specs.Tree.{IsBest}
 use Rattle.fork_tree.specs.Given.{AreRows, given_row}
-use Rattle.fork_tree.proofs.Ordering.{IsNext, ordered_rows}
-use Rattle.fork_listing.specs.declared.line.End.{End}
-use Rattle.fork_listing.specs.declared.line.End.TheVariants.{Stored, Taken, Silent, Never}
-use Rattle.fork_listing.specs.declared.line.Target.{Target}
-use Rattle.fork_listing.specs.First.{HoldsBelow}
-use Rattle.fork_listing.specs.Ranks.{rows_of, end_of}
-use Rattle.fork_listing.specs.Targets.{ended_at, IsParent, IsBefore, Follows, FollowsTarget, IsInPlace, IsPlaced}
-use Rattle.fork_listing.specs.TreeRows.{AreFormed, tree_end, is_same, group_beside, group_behind, group_kept, row_behind, rows_behind, last_row, tree_rows}
+use Rattle.fork_tree.proofs.laws.Ordering.{IsNext, ordered_rows}
+use Rattle.fork_listing.specs.Ranks.{end_of}
+use Rattle.fork_listing.specs.inner.TreeRows.{tree_end, is_same, group_beside, group_behind, rows_behind, tree_rows}
 use Rattle.fork_listing.proofs.Placing.{inside}
 
 some_same : {X : Type 0} {x y : X} → Some x ≡ Some y → x ≡ y

@@ -2,9 +2,9 @@
 use Rattle.std.specs.Prelude.{◌≡◌, ℕ, List, ◌++◌, Result, Ok, Err}
 use Rattle.fork_model.specs.Core.{Core}
 use Rattle.fork_context.specs.Led.{IsLedTo}
-use Rattle.fork_listing.specs.declared.checker.Verdict.{Verdict}
-use Rattle.fork_listing.specs.declared.checker.CheckFault.{CheckFault}
-use Rattle.fork_listing.specs.declared.checker.CheckFault.TheVariants.{Line, NoMemory}
+use Rattle.fork_listing.specs.declared.refusal.Verdict.{Verdict}
+use Rattle.fork_listing.specs.declared.refusal.CheckFault.{CheckFault}
+use Rattle.fork_listing.specs.declared.refusal.CheckFault.TheVariants.{Line, NoMemory}
 use Rattle.fork_listing.specs.Text.{Listing, read_listing}
 use Rattle.fork_listing.specs.Spelled.{IsTextOf, IsFirstMalformed}
 use Rattle.fork_listing.specs.Checking.{IsRight, IsChecked, verdict_of}

@@ -2,9 +2,9 @@
 use Rattle.std.specs.Prelude.{◌≡◌, ◌+◌, ℕ, Some, Result, Ok, Err, length}
 use Rattle.fork_listing.specs.declared.line.Version.{Version}
 use Rattle.fork_listing.specs.declared.line.Version.TheVariants.{First, Second, Third}
-use Rattle.fork_listing.specs.declared.checker.Verdict.{Verdict}
-use Rattle.fork_listing.specs.declared.checker.CheckFault.{CheckFault}
-use Rattle.fork_listing.specs.declared.checker.CheckFault.TheVariants.{Line, Tree, Order, Absent, FinalLine, NoMemory}
+use Rattle.fork_listing.specs.declared.refusal.Verdict.{Verdict}
+use Rattle.fork_listing.specs.declared.refusal.CheckFault.{CheckFault}
+use Rattle.fork_listing.specs.declared.refusal.CheckFault.TheVariants.{Line, Tree, Order, Absent, FinalLine, NoMemory}
 use Rattle.fork_listing.specs.First.{HoldsBelow, IsFirstToFail}
 use Rattle.fork_listing.specs.Targets.{IsPlaced}
 use Rattle.fork_listing.specs.Ranks.{IsOrdered, IsListed, IsChosen, IsNotChosen}

@@ -4,7 +4,7 @@ use Rattle.fork_model.specs.Table.{Table}
 use Rattle.fork_model.specs.Rank.{Score, Before}
 use Rattle.fork_model.specs.Choice.{Choice, Best, Only503, NoAnswer408, HasScore, IsFirst, IsChoice, NoneStored}
 use Rattle.fork_model.specs.OneReply.{AreArrivals}
-use Rattle.fork_listing.specs.declared.checker.Verdict.{Verdict}
+use Rattle.fork_listing.specs.declared.refusal.Verdict.{Verdict}
 use Rattle.fork_listing.specs.declared.line.Ranked.{Ranked}
 use Rattle.fork_listing.specs.Ranks.{rows_of, score_of}
 use Rattle.fork_listing.specs.Ranking.{IsRanking}

@@ -1,5 +1,5 @@
 -- Which texts are listings: what may stand in each line, and how many lines there are of each kind.
-use Rattle.std.specs.Prelude.{◌≡◌, ◌<◌, ◌≤◌, ◌⊎◌, ◌↔◌, ℕ, Bool, true, false, List, [], ◌∷◌, Option, Some, None, Ok, Err, ◌++◌, suc, length, option_and_then}
+use Rattle.std.specs.Prelude.{◌≡◌, ◌<◌, ◌≤◌, ◌⊎◌, ◌↔◌, ℕ, Bool, true, false, List, [], Option, Some, None, Ok, Err, ◌++◌, suc, length}
 use Rattle.std.specs.List.{AllByRecursion}
 use Rattle.fork_rank.specs.Preferred.{IsPreferredList}
 use Rattle.fork_model.specs.Table.{Rules, most_targets}
@@ -13,6 +13,7 @@ use Rattle.fork_listing.specs.declared.line.Final.{Final}
 use Rattle.fork_listing.specs.Line.{Line, ForkLine, PreferLine, DepthLine, TargetLine, RankLine, FinalLine, line_text, most_arrival, most_listed}
 use Rattle.fork_text.specs.Field.{most_q, most_number}
 use Rattle.fork_listing.specs.Text.{Listing, Draft, no_draft, phase_after, listing_in, drafted_line, lines_of, lines_text, listing_text, read_listing}
+use Rattle.fork_text.specs.LineByLine as texts
 use Rattle.fork_text.specs.RuleLines.{ended, usual_rules}
 
 -- a status that may be stored or go up: a 2xx is neither
@@ -53,9 +54,6 @@ IsLine (TargetLine target) = IsTargetLine target
 IsLine (RankLine ranked) = IsRankLine ranked
 IsLine (FinalLine last) = IsFinalLine last
 
-abbrev pub IsSpelledBy : List ℕ → Line → Type 0
-IsSpelledBy text line = (text ≡ line_text line) × IsLine line
-
 -- a rule that the version has no line for is the usual one
 abbrev pub IsUsualElse : Version → Rules → Type 0
 IsUsualElse First rules = rules ≡ usual_rules
@@ -69,8 +67,7 @@ pub record IsListing (l : Listing) : Type 0 where
 
 -- the draft behind these lines, where each is due
 abbrev pub drafted_lines : Draft → List Line → Option Draft
-drafted_lines draft [] = Some draft
-drafted_lines draft (line ∷ lines) = option_and_then (λ next. drafted_lines next lines) (drafted_line draft line)
+drafted_lines = texts.drafted_lines drafted_line
 
 -- the text spells the listing
 abbrev pub IsTextOf : Listing → List ℕ → Type 0

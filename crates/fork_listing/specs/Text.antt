@@ -1,11 +1,13 @@
 -- A whole listing: its lines in their order, each ended by LF, and what they stand for.
-use Rattle.std.specs.Prelude.{◌-◌, ◌==◌, ℕ, suc, List, [], ◌∷◌, ◌++◌, map, Option, Some, None, Result, Ok, Err, option_and_then, if◌then◌else◌}
+use Rattle.std.specs.Prelude.{◌-◌, ◌==◌, ℕ, List, [], ◌∷◌, ◌++◌, map, Option, Some, None, Result, Ok, Err, option_and_then, if◌then◌else◌}
 use Rattle.std.specs.Option.{option_map}
-use Rattle.std.specs.List.{slice_split, flat_map}
+use Rattle.std.specs.List.{slice_split}
 use Rattle.sip_lex.specs.Cut.{is}
 use Rattle.fork_model.specs.Table.{Rules}
+use Rattle.fork_text.specs.LineByLine as texts
+use Rattle.fork_text.specs.LineByLine.{lines_from}
 use Rattle.fork_text.specs.Pieces.{is_empty}
-use Rattle.fork_text.specs.RuleLines.{ended, usual_rules}
+use Rattle.fork_text.specs.RuleLines.{usual_rules}
 use Rattle.fork_listing.specs.declared.line.Version.{Version}
 use Rattle.fork_listing.specs.declared.line.Version.TheVariants.{First, Second, Third}
 use Rattle.fork_listing.specs.declared.line.Target.{Target}
@@ -37,23 +39,11 @@ lines_of l =
     ∷ (rule_lines l.version l.rules ++ (map TargetLine l.targets ++ (map RankLine l.ranks ++ FinalLine l.last ∷ [])))
 
 abbrev pub lines_text : List Line → List ℕ
-lines_text lines = flat_map (λ line. ended (line_text line)) lines
+lines_text lines = texts.lines_text line_text lines
 
 -- how it is spelled
 abbrev pub listing_text : Listing → List ℕ
 listing_text l = lines_text (lines_of l)
-
--- the parts of a listing of the third version
-abbrev pub head_text : ℕ → Rules → List ℕ
-head_text count rules =
-    ended (line_text (ForkLine Third count))
-    ++ (ended (line_text (PreferLine rules.preferred)) ++ ended (line_text (DepthLine rules.depth)))
-
-abbrev pub targets_text : List Target → List ℕ
-targets_text targets = flat_map (λ target. ended (line_text (TargetLine target))) targets
-
-abbrev pub ranks_text : List Ranked → List ℕ
-ranks_text ranks = flat_map (λ ranked. ended (line_text (RankLine ranked))) ranks
 
 abbrev pub targets_due : ℕ → Phase
 targets_due count = if count == 0 then AtRanks else AtTargets count
@@ -113,16 +103,9 @@ or_line number (Some listing) = Ok listing
 abbrev pub finished_draft : ℕ → Draft → List ℕ → Result Listing ℕ
 finished_draft number draft rest = if is_empty rest then or_line number (listing_in draft draft.phase) else Err number
 
-abbrev pub with_next : ℕ → Option Draft → (Draft → Result Listing ℕ) → Result Listing ℕ
-with_next number None read = Err number
-with_next number (Some draft) read = read draft
-
 -- the lines from this number on, and what stands behind the last LF
 abbrev pub read_from : ℕ → Draft → List (List ℕ) → Result Listing ℕ
-read_from number draft [] = Err number
-read_from number draft (line ∷ lines) =
-    if is_empty lines then finished_draft number draft line
-    else with_next number (drafted draft line) (λ next. read_from (suc number) next lines)
+read_from number draft lines = lines_from drafted finished_draft number draft lines
 
 -- the listing, or the number of the first line that is not of the form due in its place; a line that is missing has
 -- the number that it would have

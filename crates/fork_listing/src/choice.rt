@@ -5,7 +5,7 @@ ghost use Rattle.fork_tree.specs.Tree.{IsBest};
 ghost use Rattle.fork_listing.specs.First.{HoldsBelow};
 ghost use Rattle.fork_listing.specs.Targets.{IsPlaced};
 ghost use Rattle.fork_listing.specs.Ranks.{rows_of};
-ghost use Rattle.fork_listing.specs.TreeRows.{AreFormed, tree_end, is_same, group_beside, group_behind, group_kept, row_behind, last_row, tree_rows};
+ghost use Rattle.fork_listing.specs.inner.TreeRows.{AreFormed, tree_end, is_same, group_beside, group_behind, group_kept, row_behind, last_row, tree_rows};
 
 use crate::line::{End, Target};
 use fork_rank::Rules;

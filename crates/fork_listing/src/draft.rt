@@ -1,9 +1,8 @@
 //! A whole listing, read line by line.
-ghost use Rattle.std.specs.Prelude.{◌≡◌, ◌<◌, ◌++◌, ◌∷◌, [], OnOk, IfOk, Some, None, if◌then◌else◌};
-ghost use Rattle.sip_lex.specs.Cut.{is};
-ghost use Rattle.fork_listing.specs.LineView.{line_of};
+ghost use Rattle.std.specs.Prelude.{◌≡◌, ◌++◌, ◌∷◌, [], OnOk, IfOk, Some, None, if◌then◌else◌};
+ghost use Rattle.fork_listing.specs.inner.LineView.{line_of};
 ghost use Rattle.fork_listing.specs.Text.{targets_due, phase_after, with_line, no_draft, drafted, finished_draft, read_listing};
-ghost use Rattle.fork_listing.specs.ReadView.{GivesListing};
+ghost use Rattle.fork_listing.specs.inner.ReadView.{GivesListing};
 
 use crate::line::{Final, Line, Ranked, Target, Version, read_line};
 use fork_rank::Rules;

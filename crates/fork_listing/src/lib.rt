@@ -2,19 +2,19 @@
 //! a check that such a text is right (RFC 3261 section 16.7 step 6).
 #![tactic(auto)]
 
-mod checker;
 mod choice;
 mod draft;
-mod laws;
+mod law;
 mod line;
 mod lister;
 mod print;
 mod ranks;
+mod refusal;
 mod targets;
 
-pub use checker::{CheckFault, Verdict, check};
-pub use laws::{
+pub use law::{
     a_fork_has_one_listing, accepted_listing_tells_the_choice, listing_is_read_exactly,
     listings_of_forks_are_right, right_texts_are_accepted, the_choice_is_listed_first,
 };
 pub use lister::{ListFault, listing};
+pub use refusal::{CheckFault, Verdict, check};

@@ -5,7 +5,7 @@ ghost use Rattle.sip_lex.specs.Number.{plain_number_within};
 ghost use Rattle.fork_text.specs.Field.{before, seen_before};
 ghost use Rattle.fork_listing.specs.Line.{most_arrival};
 ghost use Rattle.fork_listing.specs.Reading.{word_of, read_version, read_status, read_parent, may_be_assumed, stored_as, read_stored, read_end, read_count, read_target, read_ranked, read_final, read_rest, read_line};
-ghost use Rattle.fork_listing.specs.LineView.{line_of};
+ghost use Rattle.fork_listing.specs.inner.LineView.{line_of};
 
 use fork_rank::{MOST_TARGETS, Preferred, Status};
 use fork_text::{Depth, read_depth, read_number, read_number_before, read_preferred};

@@ -2,7 +2,7 @@
 ghost use Rattle.std.specs.Prelude.{◌≡◌, ◌∷◌, ◌++◌, [], OnOk};
 ghost use Rattle.std.specs.Fmt.{decimal};
 ghost use Rattle.fork_listing.specs.Line.{number_text, how_text, end_text, line_text, TargetLine, RankLine};
-ghost use Rattle.fork_listing.specs.Text.{head_text, targets_text, ranks_text};
+ghost use Rattle.fork_listing.specs.inner.Text.{head_text, targets_text, ranks_text};
 ghost use Rattle.fork_text.specs.RuleLines.{ended};
 
 use crate::line::{End, Ranked, Target};

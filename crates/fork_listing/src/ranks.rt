@@ -1,12 +1,12 @@
 //! The stored answers of a listing in order of rank, and the answer that goes up (RFC 3261 section 16.7 step 6).
-ghost use Rattle.std.specs.Prelude.{◌≡◌, ◌↔◌, IsTrue, IfOk, is_some, not, ◌||◌, Some, length, slice_get};
+ghost use Rattle.std.specs.Prelude.{◌≡◌, ◌↔◌, IsTrue, IfOk, is_some, not, ◌||◌, Some, length};
 ghost use Rattle.fork_model.specs.Rank.{Before};
 ghost use Rattle.fork_listing.specs.First.{IsFirstToFail};
-ghost use Rattle.fork_listing.specs.Near.{Holds};
+ghost use Rattle.fork_listing.specs.inner.Near.{Holds};
 ghost use Rattle.std.specs.Ordering.{nat_cmp};
 ghost use Rattle.std.specs.BTreeSet.{contains};
 ghost use Rattle.fork_listing.specs.Ranks.{score_of, score_in, score_at, RanksBehind, rank_before, IsInOrder, IsOrdered, IsListed};
-ghost use Rattle.fork_listing.specs.Stored.{ranked_in, AreNumbered, final_of_best, number_at};
+ghost use Rattle.fork_listing.specs.inner.Stored.{ranked_in, AreNumbered, final_of_best, number_at};
 
 use crate::line::{End, Final, Ranked, Target};
 use crate::targets::{note, target_at};

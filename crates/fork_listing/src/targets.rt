@@ -1,8 +1,8 @@
 //! Which branches may stand in a listing.
-ghost use Rattle.std.specs.Prelude.{◌≡◌, ◌<◌, ◌≤◌, ◌↔◌, IsTrue, IfOk, OnOk, Some, length, slice_get, slice_index, option_and_then, not};
+ghost use Rattle.std.specs.Prelude.{◌≡◌, ◌<◌, ◌↔◌, IsTrue, IfOk, Some, length, slice_get, option_and_then};
 ghost use Rattle.fork_listing.specs.First.{IsFirstToFail};
 ghost use Rattle.fork_listing.specs.Targets.{arrival_of, ended_at, is_redirection, is_redirected, IsParent, IsBefore, Follows, FollowsTarget, line_before, IsEarlier, IsPlaced};
-ghost use Rattle.fork_listing.specs.Near.{FallsTo, IsNear, depth_by, Notes};
+ghost use Rattle.fork_listing.specs.inner.Near.{FallsTo, IsNear, depth_by, Notes};
 
 use crate::line::{End, Target};
 use std::alloc::{AllocError, Allocator};

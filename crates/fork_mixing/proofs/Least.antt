@@ -14,7 +14,7 @@ use Rattle.fork_model.specs.Steps.{BranchesAlwaysGoOn, EachTargetHasARow}
 use Rattle.fork_book.specs.Log.{Posted, events_of}
 use Rattle.fork_mixing.specs.Interleaving.{IsInterleaving}
 use Rattle.fork_mixing.specs.Plain.{all_of, HaveOneQ, IsPlainAnswer, is_answer, count_of, answers_of, IsAnswered, GoesFirst, AreEqual, IsNotBefore, IsLeast, PlainScripts, LeastIsChosen, PlainScriptsEnd}
-use Rattle.fork_mixing.proofs.Plainly.{all_head, all_tail, is_calm, AreCalm, Stores, IsStoredIn, AreWaited, OnceEach, each_stored}
+use Rattle.fork_mixing.proofs.Plainly.{all_head, all_tail, is_fixed, AreFixed, Stores, IsStoredIn, AreWaited, OnceEach, each_stored}
 use Rattle.fork_mixing.proofs.Counted.{all_scripts, all_history, count_mixed}
 
 -- ---- the opening table of one group
@@ -61,9 +61,9 @@ opening_trying : (targets : List Target) → HaveOneQ targets → AreTrying (ope
 opening_trying targets h =
     trying_made targets (numbered (map (λ (target : Target). target.q) targets)) (numbered_zero (map (λ (target : Target). target.q) targets) h.0 (one_value h.0 targets h.1))
 
-trying_calm : (rows : List Row) → AreTrying rows → AreCalm rows
-trying_calm [] h = tt
-trying_calm (row ∷ rows) h = (ap (λ (s : State). is_calm s) h.0, trying_calm rows h.1)
+trying_fixed : (rows : List Row) → AreTrying rows → AreFixed rows
+trying_fixed [] h = tt
+trying_fixed (row ∷ rows) h = (ap (λ (s : State). is_fixed s) h.0, trying_fixed rows h.1)
 
 has_row : (rows : List Row) (n : ℕ) → AreTrying rows → n < length rows → (row : Row) × (slice_get rows n ≡ Some row) × (row.state ≡ Trying)
 has_row [] n h lt = absurd (omega arith)
@@ -162,7 +162,7 @@ plain_ends go_on each kind rules targets scripts history plain mixed =
     λ n. sym (count_mixed (is_answer (λ status. true) n) scripts history mixed) ∙ plain.plain.once n in
     let waited : AreWaited rows (events_of history) = λ n le. has_row rows n trying (below n (length targets) (length rows) _ long (once n) le) in
     let most : OnceEach (events_of history) = λ n. at_most _ (nat_lt n (length targets)) (once n) in
-    let h = each_stored go_on (opening kind rules targets) 0 (events_of history) (trying_calm rows trying) waited most (all_history IsPlainAnswer scripts history mixed plain.plain.plain) in
+    let h = each_stored go_on (opening kind rules targets) 0 (events_of history) (trying_fixed rows trying) waited most (all_history IsPlainAnswer scripts history mixed plain.plain.plain) in
     record { stored = h.0; long = h.1 ∙ long; once = once }
   where
     below : (n m l c : ℕ) → l ≡ m → c ≡ cond (nat_lt n m) 1 0 → 1 ≤ c → n < l

@@ -1,15 +1,16 @@
 -- Tables in which each row is tried or has ended, and what plain answers do to them.
-use Rattle.std.proofs.Common.{◌≡◌, ℕ, zero, suc, ◌+◌, ◌≤◌, ◌==◌, Bool, true, false, cond, ◌&&◌, nat_lt, All, List, [], ◌∷◌, ◌++◌, length, map, Option, Some, slice_get, refl, ap, arith, ◌∙◌, sym, subst}
+use Rattle.std.proofs.Common.{◌≡◌, ℕ, zero, suc, ◌+◌, ◌≤◌, ◌==◌, Bool, true, false, cond, nat_lt, All, List, [], ◌∷◌, ◌++◌, length, map, Option, Some, slice_get, refl, ap, arith, ◌∙◌, sym, subst}
 use Rattle.std.specs.Prelude.{unwrap_or}
 use Rattle.std.specs.Option.{option_map}
 use Rattle.std.proofs.lemmas.Bool.Decides.{nat_tests}
 use Rattle.fork_model.specs.Table.{StoredAnswer, Stored, State, Idle, Trying, Rung, Ended, Row, Table, is_idle, is_ended}
 use Rattle.fork_model.specs.Event.{Event, FinalAnswer, Ring, Answer, Timeout, Fault, TimerC, GiveUp, Cancel}
 use Rattle.fork_model.specs.Waiting.{may_start}
-use Rattle.fork_model.specs.Contacts.{Taking, taking_at}
+use Rattle.fork_model.specs.Contacts.{ContactLists, taking_at}
 use Rattle.fork_model.specs.Step.{Effect, effect, answers, accepts, redirects, stores, with_state, with_effect, change_at, closed_state, settled_state, settled_row, settled, next}
 use Rattle.fork_model.specs.History.{after}
 use Rattle.fork_model.specs.Steps.{BranchesAlwaysGoOn}
+use Rattle.fork_model.proofs.laws.StepLemmas.{and_left}
 use Rattle.fork_mixing.specs.Plain.{IsPlainAnswer, is_answer, answers_of}
 
 -- ---- lists
@@ -27,43 +28,39 @@ all_cons P x xs p ps (suc k) d lt = ps k d (omega arith)
 pub all_nil : {X : Type 0} → (P : X → Type 0) → All P []
 all_nil P k d lt = absurd (omega arith)
 
--- ---- calm rows: each is tried or has ended
+-- ---- rows that settling leaves: each is tried or has ended
 
-abbrev pub is_calm : State → Bool
-is_calm Idle = false
-is_calm Trying = true
-is_calm (Rung cancelled) = false
-is_calm (Ended end) = true
+abbrev pub is_fixed : State → Bool
+is_fixed Idle = false
+is_fixed Trying = true
+is_fixed (Rung cancelled) = false
+is_fixed (Ended end) = true
 
-abbrev pub AreCalm : List Row → Type 0
-AreCalm [] = Unit {0}
-AreCalm (row ∷ rows) = (is_calm row.state ≡ true) × AreCalm rows
+abbrev pub AreFixed : List Row → Type 0
+AreFixed [] = Unit {0}
+AreFixed (row ∷ rows) = (is_fixed row.state ≡ true) × AreFixed rows
 
 -- settling leaves them
-calm_state : (t : Table) (state : State) (start closed : Bool) → is_calm state ≡ true → (start ≡ true → is_idle state ≡ true)
+fixed_state : (t : Table) (state : State) (start closed : Bool) → is_fixed state ≡ true → (start ≡ true → is_idle state ≡ true)
     → cond closed (closed_state t.kind state) (cond start Trying state) ≡ state
-calm_state t Idle start closed calm idle = absurd cc
-calm_state t Trying true true calm idle = refl
-calm_state t Trying false true calm idle = refl
-calm_state t Trying true false calm idle = refl
-calm_state t Trying false false calm idle = refl
-calm_state t (Rung b) start closed calm idle = absurd cc
-calm_state t (Ended end) start true calm idle = refl
-calm_state t (Ended end) true false calm idle = absurd (let e : is_idle (Ended end) ≡ true = idle refl in cc)
-calm_state t (Ended end) false false calm idle = refl
-
-and_left : (a b : Bool) → (a && b) ≡ true → a ≡ true
-and_left true b e = refl
-and_left false b e = absurd cc
+fixed_state t Idle start closed fixed idle = absurd cc
+fixed_state t Trying true true fixed idle = refl
+fixed_state t Trying false true fixed idle = refl
+fixed_state t Trying true false fixed idle = refl
+fixed_state t Trying false false fixed idle = refl
+fixed_state t (Rung b) start closed fixed idle = absurd cc
+fixed_state t (Ended end) start true fixed idle = refl
+fixed_state t (Ended end) true false fixed idle = absurd (let e : is_idle (Ended end) ≡ true = idle refl in cc)
+fixed_state t (Ended end) false false fixed idle = refl
 
 starts_idle : (rows : List Row) (row : Row) → may_start rows row ≡ true → is_idle row.state ≡ true
 starts_idle rows row e = and_left _ _ (and_left _ _ (and_left _ _ e))
 
-calm_settled : (t : Table) (rows : List Row) → AreCalm rows → map (settled_row t) rows ≡ rows
-calm_settled t [] calm = refl
-calm_settled t (row ∷ rows) calm =
-    let here : settled_state t row ≡ row.state = calm_state t row.state (may_start t.rows row) t.closed calm.0 (starts_idle t.rows row) in
-    (λ i. record row { state = here i } ∷ calm_settled t rows calm.1 i)
+fixed_settled : (t : Table) (rows : List Row) → AreFixed rows → map (settled_row t) rows ≡ rows
+fixed_settled t [] fixed = refl
+fixed_settled t (row ∷ rows) fixed =
+    let here : settled_state t row ≡ row.state = fixed_state t row.state (may_start t.rows row) t.closed fixed.0 (starts_idle t.rows row) in
+    (λ i. record row { state = here i } ∷ fixed_settled t rows fixed.1 i)
 
 -- ---- a plain answer
 
@@ -76,7 +73,7 @@ pub record IsStoring (e : Effect) (status : ℕ) : Type 0 where
   pub stores : Stores e.state status
   pub none : e.fresh ≡ []
 
-no_taking : Taking
+no_taking : ContactLists
 no_taking = record { fresh = []; left = [] }
 
 taking_none : (t : Table) (row : Row) → taking_at t row [] ≡ no_taking
@@ -97,7 +94,7 @@ storing t n row at answer least none =
     turned : IsStoring (redirects n at answer (taking_at t row answer.offers)) answer.status
     turned =
         let Q : List _ → Type 0 = λ offers. IsStoring (redirects n at (record answer { offers = offers }) (taking_at t row offers)) answer.status in
-        let R : Taking → Type 0 = λ taken. IsStoring (redirects n at (record answer { offers = [] }) taken) answer.status in
+        let R : ContactLists → Type 0 = λ taken. IsStoring (redirects n at (record answer { offers = [] }) taken) answer.status in
         subst Q (sym none) (subst R (sym (taking_none t row)) (record { stores = (_, refl, refl); none = refl }))
 
     go : (b : Bool) → IsStoring (cond b (redirects n at answer (taking_at t row answer.offers)) (stores at answer)) answer.status
@@ -108,27 +105,27 @@ append_nil : (rows more : List Row) → more ≡ [] → rows ++ more ≡ rows
 append_nil [] more e = e
 append_nil (row ∷ rows) more e = ap (λ (rs : List Row). row ∷ rs) (append_nil rows more e)
 
-calm_with : (rows : List Row) (n : ℕ) (state : State) → is_calm state ≡ true → AreCalm rows → AreCalm (with_state rows n state)
-calm_with [] n state c calm = tt
-calm_with (row ∷ rows) zero state c calm = (c, calm.1)
-calm_with (row ∷ rows) (suc n) state c calm = (calm.0, calm_with rows n state c calm.1)
+fixed_with : (rows : List Row) (n : ℕ) (state : State) → is_fixed state ≡ true → AreFixed rows → AreFixed (with_state rows n state)
+fixed_with [] n state c fixed = tt
+fixed_with (row ∷ rows) zero state c fixed = (c, fixed.1)
+fixed_with (row ∷ rows) (suc n) state c fixed = (fixed.0, fixed_with rows n state c fixed.1)
 
-stores_calm : (state : State) (status : ℕ) → Stores state status → is_calm state ≡ true
-stores_calm state status s = ap is_calm s.1
+stores_fixed : (state : State) (status : ℕ) → Stores state status → is_fixed state ≡ true
+stores_fixed state status s = ap is_fixed s.1
 
 -- the table after a plain answer of a row that is tried: that row has stored it, and the others stay
-pub next_plain : (t : Table) (at n : ℕ) (answer : FinalAnswer) (row : Row) → AreCalm t.rows → slice_get t.rows n ≡ Some row → row.state ≡ Trying
+pub next_plain : (t : Table) (at n : ℕ) (answer : FinalAnswer) (row : Row) → AreFixed t.rows → slice_get t.rows n ≡ Some row → row.state ≡ Trying
     → 300 ≤ answer.status → answer.offers ≡ []
     → (state : State) × Stores state answer.status × ((next t (Answer n answer) at).rows ≡ with_state t.rows n state)
-next_plain t at n answer row calm there tried least none =
+next_plain t at n answer row fixed there tried least none =
     let e : Effect = answers t n row at answer in
     let s : IsStoring e answer.status = storing t n row at answer least none in
     let found : change_at t at (Answer n answer) n (slice_get t.rows n) ≡ change_at t at (Answer n answer) n (Some row) = ap (change_at t at (Answer n answer) n) there in
     let made : change_at t at (Answer n answer) n (Some row) ≡ Some (with_effect t n e) = ap (λ (st : State). option_map (with_effect t n) (effect t row at (Answer n answer) st)) tried in
     let stepped : next t (Answer n answer) at ≡ settled (with_effect t n e) = ap (λ (c : Option Table). unwrap_or (option_map settled c) t) (found ∙ made) in
     let rows : (with_effect t n e).rows ≡ with_state t.rows n e.state = append_nil _ e.fresh s.none in
-    let quiet : AreCalm (with_effect t n e).rows = subst AreCalm (sym rows) (calm_with t.rows n e.state (stores_calm e.state answer.status s.stores) calm) in
-    (e.state, s.stores, ap (λ (u : Table). u.rows) stepped ∙ calm_settled (with_effect t n e) (with_effect t n e).rows quiet ∙ rows)
+    let quiet : AreFixed (with_effect t n e).rows = subst AreFixed (sym rows) (fixed_with t.rows n e.state (stores_fixed e.state answer.status s.stores) fixed) in
+    (e.state, s.stores, ap (λ (u : Table). u.rows) stepped ∙ fixed_settled (with_effect t n e) (with_effect t n e).rows quiet ∙ rows)
 
 get_with : (rows : List Row) (n : ℕ) (row : Row) (state : State) → slice_get rows n ≡ Some row → slice_get (with_state rows n state) n ≡ Some (record row { state = state })
 get_with [] n row state e = absurd cc
@@ -183,22 +180,22 @@ there_more n event events = go (is_answer (λ status. true) n event)
     go true = omega arith
     go false = omega arith
 
-pub each_stored : BranchesAlwaysGoOn → (t : Table) (at : ℕ) (events : List Event) → AreCalm t.rows → AreWaited t.rows events → OnceEach events
+pub each_stored : BranchesAlwaysGoOn → (t : Table) (at : ℕ) (events : List Event) → AreFixed t.rows → AreWaited t.rows events → OnceEach events
     → All IsPlainAnswer events → All (IsStoredIn (after t at events).rows) events × (length (after t at events).rows ≡ length t.rows)
-each_stored go_on t at [] calm waited once plain = (all_nil _, refl)
-each_stored go_on t at (Ring n status ∷ events) calm waited once plain = absurd (all_head IsPlainAnswer (Ring n status) events plain)
-each_stored go_on t at (Timeout n ∷ events) calm waited once plain = absurd (all_head IsPlainAnswer (Timeout n) events plain)
-each_stored go_on t at (Fault n ∷ events) calm waited once plain = absurd (all_head IsPlainAnswer (Fault n) events plain)
-each_stored go_on t at (TimerC n ∷ events) calm waited once plain = absurd (all_head IsPlainAnswer (TimerC n) events plain)
-each_stored go_on t at (GiveUp n ∷ events) calm waited once plain = absurd (all_head IsPlainAnswer (GiveUp n) events plain)
-each_stored go_on t at (Cancel ∷ events) calm waited once plain = absurd (all_head IsPlainAnswer Cancel events plain)
-each_stored go_on t at (Answer n answer ∷ events) calm waited once plain =
+each_stored go_on t at [] fixed waited once plain = (all_nil _, refl)
+each_stored go_on t at (Ring n status ∷ events) fixed waited once plain = absurd (all_head IsPlainAnswer (Ring n status) events plain)
+each_stored go_on t at (Timeout n ∷ events) fixed waited once plain = absurd (all_head IsPlainAnswer (Timeout n) events plain)
+each_stored go_on t at (Fault n ∷ events) fixed waited once plain = absurd (all_head IsPlainAnswer (Fault n) events plain)
+each_stored go_on t at (TimerC n ∷ events) fixed waited once plain = absurd (all_head IsPlainAnswer (TimerC n) events plain)
+each_stored go_on t at (GiveUp n ∷ events) fixed waited once plain = absurd (all_head IsPlainAnswer (GiveUp n) events plain)
+each_stored go_on t at (Cancel ∷ events) fixed waited once plain = absurd (all_head IsPlainAnswer Cancel events plain)
+each_stored go_on t at (Answer n answer ∷ events) fixed waited once plain =
     let is = all_head IsPlainAnswer (Answer n answer) events plain in
     let one : answers_of n (Answer n answer ∷ events) ≡ 1 + answers_of n events = here_once n n answer events refl in
     let at_n = waited n (omega (arith, one)) in
-    let step = next_plain t at n answer at_n.0 calm at_n.1 at_n.2 is.0 is.2 in
+    let step = next_plain t at n answer at_n.0 fixed at_n.1 at_n.2 is.0 is.2 in
     let u : Table = next t (Answer n answer) at in
-    let calm_next : AreCalm u.rows = subst AreCalm (sym step.2) (calm_with t.rows n step.0 (stores_calm step.0 answer.status step.1) calm) in
+    let fixed_next : AreFixed u.rows = subst AreFixed (sym step.2) (fixed_with t.rows n step.0 (stores_fixed step.0 answer.status step.1) fixed) in
     let stored : slice_get u.rows n ≡ Some (record at_n.0 { state = step.0 }) = ap (λ (rs : List Row). slice_get rs n) step.2 ∙ get_with t.rows n at_n.0 step.0 at_n.1 in
     let waited_next : AreWaited u.rows events = λ m more.
     let differ : n ≡ m → ⊥ = λ e. let two : answers_of m (Answer n answer ∷ events) ≡ 1 + answers_of m events = here_once m n answer events e in
@@ -208,7 +205,7 @@ each_stored go_on t at (Answer n answer ∷ events) calm waited once plain =
     (w.0, ap (λ (rs : List Row). slice_get rs m) step.2 ∙ get_other t.rows n m step.0 differ ∙ w.1, w.2) in
     let once_next : OnceEach events = λ m. let le : answers_of m events ≤ answers_of m (Answer n answer ∷ events) = there_more m (Answer n answer) events in
     let most : answers_of m (Answer n answer ∷ events) ≤ 1 = once m in omega arith in
-    let rest = each_stored go_on u (suc at) events calm_next waited_next once_next (all_tail IsPlainAnswer (Answer n answer) events plain) in (
+    let rest = each_stored go_on u (suc at) events fixed_next waited_next once_next (all_tail IsPlainAnswer (Answer n answer) events plain) in (
       all_cons (IsStoredIn (after u (suc at) events).rows) (Answer n answer) events
           (stays_stored go_on u (suc at) events n answer.status (record at_n.0 { state = step.0 }) stored step.1)
           rest.0,

@@ -1,5 +1,5 @@
 //! Equality of what events hold. Each is wanted in the crate of its type, beside `copy`.
-ghost use Rattle.std.specs.Prelude.{◌≡◌, ◌↔◌, IsTrue, length};
+ghost use Rattle.std.specs.Prelude.{◌≡◌, ◌↔◌, IsTrue};
 ghost use Rattle.fork_context.specs.EventView.{event_of};
 
 use fork_context::{Answer, Event, Offer, Target};

@@ -1,16 +1,11 @@
 -- What an open branch takes, and what is left of it by the events of others.
-use Rattle.std.proofs.Common.{◌≡◌, ℕ, Bool, true, false, Option, Some, None, refl, ap, ◌∙◌, sym, subst, cond, inl, inr, ◌⊎◌}
-use Rattle.std.specs.Prelude.{slice_get, not, ◌&&◌, ◌||◌, is_none, nat_le}
-use Rattle.std.specs.Option.{option_map}
-use Rattle.fork_model.specs.Table.{Row, Table, State, Idle, Trying, Rung, Ended, is_idle, is_trying, is_cancelled, is_open, is_invite, is_row}
-use Rattle.fork_model.specs.Event.{FinalAnswer, Event, Ring, Answer, Timeout, Fault, TimerC, GiveUp, Cancel, row_named}
-use Rattle.fork_model.specs.Waiting.{may_start}
-use Rattle.fork_model.specs.Step.{Effect, effect, with_effect, change_at, change, cancelled, closed_state, settled_row, settled, next}
-use Rattle.fork_model.specs.Core.{most_strays}
+use Rattle.fork_model.proofs.Common.{◌≡◌, ℕ, Bool, true, false, Option, Some, None, refl, ap, ◌∙◌, sym, subst, cond, inl, inr, ◌⊎◌, slice_get, not, ◌&&◌, ◌||◌, is_none, nat_le, option_map, Row, Table, State, Idle, Trying, Rung, Ended}
+use Rattle.fork_model.proofs.Common.{is_idle, is_trying, is_cancelled, is_open, is_invite, is_row, FinalAnswer, Event, Ring, Answer, Timeout, Fault, TimerC, GiveUp, Cancel, row_named, may_start, Effect, effect, with_effect, change_at}
+use Rattle.fork_model.proofs.Common.{change, cancelled, closed_state, settled_row, settled, next, most_strays}
 use Rattle.fork_model.specs.OpenBranches.{is_at, is_pending, IsLeftAt, EventsFitOrStray, FittingEventsAreTaken, OthersAreLeft, OthersStayOpen}
-use Rattle.fork_model.proofs.StepLemmas.{next_of_change, next_of_stray, starts_idle}
-use Rattle.fork_model.proofs.ChangeLemmas.{stays}
-use Rattle.fork_model.proofs.SeriesLemmas.{settled_there}
+use Rattle.fork_model.proofs.laws.StepLemmas.{next_of_change, next_of_stray, starts_idle}
+use Rattle.fork_model.proofs.laws.ChangeLemmas.{stays}
+use Rattle.fork_model.proofs.laws.SeriesLemmas.{settled_there}
 
 -- ---- what fits
 

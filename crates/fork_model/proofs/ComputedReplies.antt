@@ -1,11 +1,6 @@
 -- Each event has a reply, and this computes it.
-use Rattle.std.proofs.Common.{◌≡◌, ℕ, suc, Bool, true, false, List, [], ◌∷◌, Option, Some, None, refl}
-use Rattle.std.specs.Prelude.{if◌then◌else◌}
-use Rattle.fork_model.specs.Table.{Table, is_trying, is_cancelled}
-use Rattle.fork_model.specs.Event.{Event}
-use Rattle.fork_model.specs.Step.{next}
-use Rattle.fork_model.specs.Reply.{Up, Nothing, Provisional, Success, Final, Reply, IsUp, IsReply, became, provisional, success, finishes}
-use Rattle.fork_model.specs.History.{AreReplies}
+use Rattle.fork_model.proofs.Common.{◌≡◌, ℕ, suc, Bool, true, false, List, [], ◌∷◌, Option, Some, None, refl, if◌then◌else◌, Table, is_trying, is_cancelled, Event, next, Up, Nothing, Provisional, Success, Final, Reply, IsUp, IsReply}
+use Rattle.fork_model.proofs.Common.{became, provisional, success, finishes, AreReplies}
 use Rattle.fork_model.proofs.FirstStored.{choice_of, choice_of_is}
 
 abbrev pub up_by : Option ℕ → Option ℕ → Bool → Table → Up

@@ -1,10 +1,6 @@
 -- A context stands where the history of the events that it took leads.
-use Rattle.std.proofs.Common.{◌≡◌, ◌≢◌, suc, Bool, true, false, List, [], ◌∷◌, refl, sym, ap, ◌∙◌, subst, cond}
-use Rattle.fork_model.specs.Table.{Kind, Rules, Table, is_finished, is_succeeded}
-use Rattle.fork_model.specs.Event.{Event}
-use Rattle.fork_model.specs.Step.{next}
-use Rattle.fork_model.specs.History.{Target, opening, after, AreReplies, OneFinal}
-use Rattle.fork_model.specs.Core.{Core, Outcome, Full, Replied, is_full, core_next, core_after, opening_core, AreOutcomes}
+use Rattle.fork_model.proofs.Common.{◌≡◌, ◌≢◌, suc, Bool, true, false, List, [], ◌∷◌, refl, sym, ap, ◌∙◌, subst, cond, Kind, Rules, Table, is_finished, is_succeeded, Event, next, Target, opening, after, AreReplies, OneFinal, Core, Outcome}
+use Rattle.fork_model.proofs.Common.{Full, Replied, is_full, core_next, core_after, opening_core, AreOutcomes}
 use Rattle.fork_model.specs.ExactlyOne.{replies_of, taken_of, NoFinalBeforeOfContext, NoFinalBesideSuccessOfContext, RowsOfContextStay, NothingFinalFollowsOfContext}
 use Rattle.fork_model.proofs.OneFinalLemmas.{one_final, no_final_before, no_final_beside_success, rows_stay, nothing_final_follows}
 use Rattle.fork_model.proofs.OpeningLemmas.{opening_is_unfinished}
@@ -20,9 +16,6 @@ stands_by_its_history core (event ∷ events) =
         ≡ after core.table core.taken (cond full (taken_of (cond full core (core_next core event)) events) (event ∷ taken_of (cond full core (core_next core event)) events))
     go true stayed moved = stayed
     go false stayed moved = moved
-
-differ : {b : Bool} → b ≡ true → b ≡ false → ⊥
-differ h k = cc
 
 -- what a context answers are the replies to the events that it took
 pub are_replies : (core : Core) (events : List Event) (outcomes : List Outcome) → AreOutcomes core events outcomes

@@ -1,19 +1,8 @@
 -- A table of which every row has ended keeps its rows, whatever happens.
-use Rattle.std.proofs.Common.{◌≡◌, ℕ, zero, suc, Bool, true, false, List, [], ◌∷◌, map, Option, Some, None, refl, ap, ◌∙◌, sym, cond}
-use Rattle.std.specs.Prelude.{slice_get, not, ◌&&◌, unwrap_or}
-use Rattle.std.specs.Option.{option_map}
-use Rattle.fork_model.specs.Table.{Row, Table, State, Idle, Trying, Rung, Ended, is_idle, is_ended, is_finished, is_invite}
-use Rattle.fork_model.specs.Waiting.{may_start}
-use Rattle.fork_model.specs.Step.{Effect, effect, change_at, with_effect, change, next, settled, settled_row, settled_state, closed_state}
-use Rattle.fork_model.specs.Event.{Event, Ring, Answer, Timeout, Fault, TimerC, GiveUp, Cancel}
-
-pub and_left : (a b : Bool) → (a && b) ≡ true → a ≡ true
-and_left true b e = refl
-and_left false b e = absurd cc
-
-pub and_right : (a b : Bool) → (a && b) ≡ true → b ≡ true
-and_right true b e = e
-and_right false b e = absurd cc
+use Rattle.fork_model.proofs.Common.{◌≡◌, ℕ, zero, suc, Bool, true, false, List, [], ◌∷◌, map, Option, Some, None, refl, ap, ◌∙◌, sym, cond, slice_get, not, ◌&&◌, unwrap_or, option_map, Row, Table, State, Idle, Trying, Rung, Ended, is_idle}
+use Rattle.fork_model.proofs.Common.{is_ended, is_finished, is_invite, may_start, Effect, effect, change_at, with_effect, change, next, settled, settled_row, settled_state, closed_state, Event, Ring, Answer, Timeout, Fault, TimerC, GiveUp}
+use Rattle.fork_model.proofs.Common.{Cancel}
+use Rattle.fork_model.proofs.laws.StepLemmas.{and_left, and_right}
 
 -- a group may start only where its row waits
 not_idle : (state kept : State) (a b c : Bool) → is_idle state ≡ false → cond (is_idle state && a && b && c) Trying kept ≡ kept

@@ -1,11 +1,9 @@
 -- Each table has a choice, and this finds it.
-use Rattle.std.proofs.Common.{◌≡◌, ℕ, zero, suc, Bool, true, false, cond, List, [], ◌∷◌, Option, Some, None, refl, arith, nat_lt, ◌==◌, ◌&&◌, ◌||◌}
-use Rattle.std.specs.Prelude.{if◌then◌else◌}
-use Rattle.fork_model.specs.Table.{Rules, Row}
-use Rattle.fork_model.specs.Rank.{Rank, Score, rank_of, RanksBefore, Before}
-use Rattle.fork_model.specs.Choice.{Choice, Best, Only503, NoAnswer408, HasScore, IsFirst, NoneStored, IsChoice}
-use Rattle.fork_model.proofs.OrderLemmas.{Before-trans, Before-between, Before-same}
-use Rattle.fork_model.proofs.Choosing.{row_score, none_stored_empty}
+use Rattle.fork_model.proofs.Common.{◌≡◌, ℕ, zero, suc, Bool, true, false, cond, List, [], ◌∷◌, Option, Some, None, refl, arith, nat_lt, ◌==◌, ◌&&◌, ◌||◌, if◌then◌else◌, Rules, Row, Rank, Score, RanksBefore, Choice, Best, Only503}
+use Rattle.fork_model.proofs.Common.{NoAnswer408, HasScore, IsFirst, NoneStored, IsChoice}
+use Rattle.fork_model.specs.Rank.{rank_of, Before}
+use Rattle.fork_model.proofs.laws.OrderLemmas.{Before-trans, Before-between, Before-same}
+use Rattle.fork_model.proofs.laws.Choosing.{row_score, none_stored_empty}
 
 abbrev pub ranks_before : Rank → Rank → Bool
 ranks_before a b = nat_lt a.class b.class || (a.class == b.class && (nat_lt a.part b.part || (a.part == b.part && nat_lt a.arrival b.arrival)))

@@ -1,6 +1,5 @@
+pub mod Common
 pub mod laws
-pub mod OrderLemmas
-pub mod Choosing
 pub mod EndedRows
 pub mod OneFinalLemmas
 pub mod OpeningLemmas
@@ -8,15 +7,6 @@ pub mod ContextLemmas
 pub mod FirstStored
 pub mod ComputedReplies
 pub mod Scripts
-pub mod Arrivals
-pub mod OneReplyLemmas
-pub mod StepLemmas
-pub mod GroupLemmas
-pub mod ContactLemmas
-pub mod WaitingLemmas
-pub mod ChangeLemmas
-pub mod SeriesLemmas
-pub mod OpeningSeries
 pub mod SeriesExamples
 pub mod SourceLemmas
 pub mod BranchLemmas

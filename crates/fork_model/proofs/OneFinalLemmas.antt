@@ -1,15 +1,11 @@
 -- Exactly one final answer goes up: the event that ends the last branch brings it, and no other does.
-use Rattle.std.proofs.Common.{◌≡◌, ℕ, zero, suc, Bool, true, false, List, [], ◌∷◌, ◌++◌, map, Option, Some, None, refl, ap, ◌∙◌, sym, subst, cond}
-use Rattle.std.specs.Prelude.{slice_get, not, ◌&&◌, ◌||◌, unwrap_or, nat_lt}
-use Rattle.std.specs.Option.{option_map}
-use Rattle.std.specs.List.{list_any}
-use Rattle.fork_model.specs.Table.{Kind, Invite, Other, Rules, Row, Table, State, Idle, Trying, Rung, Ended, Accepted, is_idle, is_open, is_ended, is_accepted, is_finished, is_succeeded}
-use Rattle.fork_model.specs.Waiting.{may_start}
-use Rattle.fork_model.specs.Step.{effect, accepts, moves, with_effect, with_state, change_at, change, next, settled, settled_row, settled_state, closed_state}
-use Rattle.fork_model.specs.Event.{Event, FinalAnswer, Ring, Answer, Timeout, Fault, TimerC, GiveUp, Cancel}
-use Rattle.fork_model.specs.Choice.{Choice, IsChoice}
-use Rattle.fork_model.specs.Reply.{Up, Nothing, Provisional, Success, Final, Reply, IsUp, IsReply, finishes, provisional, success, is_welcome}
-use Rattle.fork_model.specs.History.{after, AreReplies, with_final, finals, OneFinal}
+use Rattle.fork_model.proofs.Common.{◌≡◌, ℕ, zero, suc, Bool, true, false, List, [], ◌∷◌, ◌++◌, map, Option, Some, None, refl, ap, ◌∙◌, sym, subst, cond, slice_get, not, ◌&&◌, ◌||◌, unwrap_or, nat_lt, option_map, list_any, Kind, Invite}
+use Rattle.fork_model.proofs.Common.{Rules, Row, Table, State, Idle, Trying, Rung, Ended, Accepted, is_idle, is_open, is_ended, is_finished, is_succeeded, may_start, effect, accepts, moves, with_effect, with_state, change_at, change, next}
+use Rattle.fork_model.proofs.Common.{settled, settled_row, settled_state, closed_state, Event, FinalAnswer, Ring, Answer, Timeout, Fault, TimerC, GiveUp, Cancel, Choice, IsChoice, Up, Nothing, Provisional, Success, Final, Reply, IsUp}
+use Rattle.fork_model.proofs.Common.{IsReply, finishes, provisional, success, after, AreReplies, OneFinal}
+use Rattle.fork_model.specs.Table.{Other, is_accepted}
+use Rattle.fork_model.specs.Reply.{success_goes_up}
+use Rattle.fork_model.specs.History.{with_final, finals}
 use Rattle.fork_model.proofs.EndedRows.{ended_same, no_effect, next_same, next_finished, next_rules}
 
 -- a test of states that settling keeps
@@ -120,24 +116,24 @@ and_or : (o s acc : Bool) → (o && s) ≡ true → (o || acc) ≡ true
 and_or true s acc e = refl
 and_or false s acc e = absurd cc
 
-welcome_succeeds : (t : Table) (n at : ℕ) (a : FinalAnswer) (kind : Kind) (row : Option Row) → slice_get t.rows n ≡ row → nat_lt a.status 300 ≡ true
-    → is_welcome t kind row ≡ true → is_succeeded (next t (Answer n a) at).rows ≡ true
-welcome_succeeds t n at a Invite None there lt e = absurd cc
-welcome_succeeds t n at a Other None there lt e = absurd cc
-welcome_succeeds t n at a Invite (Some row) there lt e = success_row t n at a row there lt (is_open row.state) (is_accepted row.state) refl refl e
-welcome_succeeds t n at a Other (Some row) there lt e =
+goes_up_succeeds : (t : Table) (n at : ℕ) (a : FinalAnswer) (kind : Kind) (row : Option Row) → slice_get t.rows n ≡ row → nat_lt a.status 300 ≡ true
+    → success_goes_up t kind row ≡ true → is_succeeded (next t (Answer n a) at).rows ≡ true
+goes_up_succeeds t n at a Invite None there lt e = absurd cc
+goes_up_succeeds t n at a Other None there lt e = absurd cc
+goes_up_succeeds t n at a Invite (Some row) there lt e = success_row t n at a row there lt (is_open row.state) (is_accepted row.state) refl refl e
+goes_up_succeeds t n at a Other (Some row) there lt e =
     success_row t n at a row there lt (is_open row.state) (is_accepted row.state) refl refl
     (and_or (is_open row.state) (not (is_succeeded t.rows)) (is_accepted row.state) e)
 
 pub success_succeeds : (t : Table) (event : Event) (at m : ℕ) → success t event ≡ Some m → is_succeeded (next t event at).rows ≡ true
 success_succeeds t (Answer n a) at m is =
-    go (nat_lt a.status 300) (is_welcome t t.kind (slice_get t.rows n)) refl refl is
+    go (nat_lt a.status 300) (success_goes_up t t.kind (slice_get t.rows n)) refl refl is
   where
-    go : (lt welcome : Bool) → nat_lt a.status 300 ≡ lt → is_welcome t t.kind (slice_get t.rows n) ≡ welcome → cond (lt && welcome) (Some n) None ≡ Some m
+    go : (lt goes_up : Bool) → nat_lt a.status 300 ≡ lt → success_goes_up t t.kind (slice_get t.rows n) ≡ goes_up → cond (lt && goes_up) (Some n) None ≡ Some m
         → is_succeeded (next t (Answer n a) at).rows ≡ true
-    go true true lt welcome e = welcome_succeeds t n at a t.kind (slice_get t.rows n) refl lt welcome
-    go true false lt welcome e = absurd cc
-    go false welcome lt is e = absurd cc
+    go true true lt goes_up e = goes_up_succeeds t n at a t.kind (slice_get t.rows n) refl lt goes_up
+    go true false lt goes_up e = absurd cc
+    go false goes_up lt is e = absurd cc
 success_succeeds t (Ring n status) at m is = absurd cc
 success_succeeds t (Timeout n) at m is = absurd cc
 success_succeeds t (Fault n) at m is = absurd cc

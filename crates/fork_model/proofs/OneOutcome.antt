@@ -1,13 +1,10 @@
 -- An event that is offered to a context has one outcome.
-use Rattle.std.proofs.Common.{◌≡◌, suc, Bool, true, false, List, [], ◌∷◌, refl, ap, cond}
-use Rattle.fork_model.specs.Table.{Table}
-use Rattle.fork_model.specs.Event.{Event}
-use Rattle.fork_model.specs.Step.{next}
-use Rattle.fork_model.specs.Core.{Core, Outcome, Full, Replied, is_full, core_next, core_offered, core_after, opening_core, IsOutcome, AreOutcomes}
-use Rattle.fork_model.specs.OneReply.{AreArrivals, OneOutcome}
+use Rattle.fork_model.proofs.Common.{◌≡◌, suc, Bool, true, false, List, [], ◌∷◌, refl, ap, cond, Table, Event, next, Core, Outcome, Full, Replied, is_full, core_next, core_offered, core_after, opening_core, AreOutcomes, AreArrivals}
+use Rattle.fork_model.specs.Core.{IsOutcome}
+use Rattle.fork_model.specs.OneReply.{OneOutcome}
 use Rattle.fork_model.specs.OneHistory.{OneHistory}
-use Rattle.fork_model.proofs.Arrivals.{next_arrivals, history_of_arrivals}
-use Rattle.fork_model.proofs.OneReplyLemmas.{one_choice, one_reply}
+use Rattle.fork_model.proofs.laws.Arrivals.{next_arrivals, history_of_arrivals}
+use Rattle.fork_model.proofs.laws.OneReplyLemmas.{one_choice, one_reply}
 
 core_arrivals : (core : Core) (events : List Event) → AreArrivals core.table.rows core.taken
     → AreArrivals (core_after core events).table.rows (core_after core events).taken

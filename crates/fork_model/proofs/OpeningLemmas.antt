@@ -1,14 +1,11 @@
 -- The opening table of a list with a target has a branch that is tried.
-use Rattle.std.proofs.Common.{◌≡◌, ◌≢◌, ℕ, zero, suc, ◌<◌, Bool, true, false, List, [], ◌∷◌, ◌++◌, length, map, filter, Option, Some, None, refl, ap, arith, ◌∙◌, sym, subst, cond, inl, inr, ◌⊎◌}
-use Rattle.std.specs.Prelude.{slice_get, ◌||◌, nat_lt, ◌==◌}
-use Rattle.std.specs.Option.{option_map}
-use Rattle.std.specs.List.{list_any, filter_map, cons_option}
-use Rattle.fork_model.specs.Table.{Kind, Rules, Row, is_open, is_finished}
-use Rattle.fork_model.specs.Groups.{numbers_below, with_q, falling, is_value, places_of, in_group, numbered_from}
-use Rattle.fork_model.specs.History.{Target, first_row, opening_rows, opening}
+use Rattle.fork_model.proofs.Common.{◌≡◌, ◌≢◌, ℕ, zero, suc, ◌<◌, Bool, true, false, List, [], ◌∷◌, ◌++◌, length, map, filter, Option, Some, None, refl, ap, arith, ◌∙◌, sym, subst, cond, inl, inr, ◌⊎◌, slice_get, ◌||◌, nat_lt, ◌==◌}
+use Rattle.fork_model.proofs.Common.{option_map, list_any, cons_option, Kind, Rules, Row, is_open, is_finished, numbers_below, with_q, falling, is_value, places_of, in_group, numbered_from, Target, first_row, opening_rows, opening}
+use Rattle.fork_model.proofs.Common.{filter-append}
+use Rattle.std.specs.List.{filter_map}
 use Rattle.fork_model.proofs.OneFinalLemmas.{open_unfinished}
+use Rattle.fork_model.proofs.laws.WaitingLemmas.{or_right}
 use Rattle.std.proofs.lemmas.Option.{slice_get_within}
-use Rattle.std.proofs.lemmas.List.Elements.{filter-append}
 use Rattle.std.proofs.lemmas.List.Folds.{list_any-append}
 
 -- the greatest value stands first among those that occur
@@ -36,13 +33,6 @@ greatest q (other ∷ qs) = greatest_with q (other ∷ qs) (falling (other ∷ q
 -- a number is among those of a list
 abbrev Among : ℕ → List ℕ → Type 0
 Among n numbers = list_any (λ number. number == n) numbers ≡ true
-
-or_left : (b : Bool) → (true || b) ≡ true
-or_left b = refl
-
-or_right : (a b : Bool) → b ≡ true → (a || b) ≡ true
-or_right true b e = refl
-or_right false b e = e
 
 or_first : (a b : Bool) → a ≡ true → (a || b) ≡ true
 or_first true b e = refl

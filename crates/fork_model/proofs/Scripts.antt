@@ -1,7 +1,5 @@
 -- A worked history computes.
-use Rattle.std.proofs.Common.{◌≡◌, List, map, subst}
-use Rattle.fork_model.specs.Reply.{Reply}
-use Rattle.fork_model.specs.History.{AreReplies}
+use Rattle.fork_model.proofs.Common.{◌≡◌, List, map, subst, Reply, AreReplies}
 use Rattle.fork_model.specs.Worked.{Script, events_of, replies_from, opening_of, end_of, Goes}
 use Rattle.fork_model.proofs.ComputedReplies.{replies_to, replies_to_are}
 

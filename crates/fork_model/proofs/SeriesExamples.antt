@@ -1,12 +1,5 @@
 -- A worked fork: two groups at first, then a redirection with two more below the row that answers.
-use Rattle.std.proofs.Common.{◌≡◌, ℕ, [], ◌∷◌, Some, refl}
-use Rattle.fork_model.specs.Table.{Invite, Offer, Rules, Table}
-use Rattle.fork_model.specs.Event.{FinalAnswer, Answer}
-use Rattle.fork_model.specs.Step.{next}
-use Rattle.fork_model.specs.Reply.{became}
-use Rattle.fork_model.specs.Table.{is_trying}
-use Rattle.fork_model.specs.History.{Target, opening}
-use Rattle.fork_model.specs.Steps.{progress}
+use Rattle.fork_model.proofs.Common.{◌≡◌, ℕ, [], ◌∷◌, Some, refl, Invite, Offer, Rules, Table, FinalAnswer, Answer, next, became, is_trying, Target, opening, progress}
 
 target : ℕ → ℕ → Target
 target key q = record { key = key ∷ []; q = q }

@@ -1,19 +1,16 @@
 -- Where the rows and the stored answers of a table come from.
-use Rattle.std.proofs.Common.{◌≡◌, ℕ, zero, suc, ◌+◌, ◌<◌, ◌≤◌, Bool, true, false, List, [], ◌∷◌, ◌++◌, length, length-append, map, filter, Option, Some, None, refl, ap, arith, ◌∙◌, sym, subst, cond, inl, inr, ◌⊎◌}
+use Rattle.fork_model.proofs.Common.{◌≡◌, ℕ, zero, suc, ◌+◌, ◌<◌, ◌≤◌, Bool, true, false, List, [], ◌∷◌, ◌++◌, length, length-append, map, filter, Option, Some, None, refl, ap, arith, ◌∙◌, sym, subst, cond, inl, inr, ◌⊎◌, slice_get, not}
+use Rattle.fork_model.proofs.Common.{◌&&◌, ◌||◌, unwrap_or, nat_lt, filter_map, option_map, cons_option, list_all, Kind, Rules, Row, Table, State, Offer, StoredAnswer, Idle, Trying, Rung, Ended, Taken, Silent, stored_of, is_invite, is_row}
+use Rattle.fork_model.proofs.Common.{Event, FinalAnswer, Ring, Answer, Timeout, Fault, TimerC, GiveUp, Cancel, may_start, depth_of, numbered, numbers_below, ContactOutcome, Known, Fresh, Left, is_known, outcome_of, keys_after, with_outcome}
+use Rattle.fork_model.proofs.Common.{ContactLists, taking_from, taking_at, keys_of, fresh_row, fresh_rows, Effect, effect, moves, assumed, accepts, answers, redirected, redirects, stores, is_nonempty, with_state, with_effect, change_at}
+use Rattle.fork_model.proofs.Common.{change, cancelled, closed_state, settled_state, settled_row, settled, next, Target, first_row, opening, after}
 use Rattle.std.proofs.lemmas.Bool.{and_from, and_parts, cases_lt}
-use Rattle.std.specs.Prelude.{slice_get, not, ◌&&◌, ◌||◌, unwrap_or, nat_lt, filter_map}
-use Rattle.std.specs.Option.{option_map}
-use Rattle.std.specs.List.{AllByRecursion, cons_option, list_all}
-use Rattle.fork_model.specs.Table.{Kind, Rules, Row, Table, State, Offer, Challenge, StoredAnswer, Idle, Trying, Rung, Ended, Taken, Silent, stored_of, is_invite, is_row}
-use Rattle.fork_model.specs.Event.{Event, FinalAnswer, Ring, Answer, Timeout, Fault, TimerC, GiveUp, Cancel}
-use Rattle.fork_model.specs.Waiting.{may_start, depth_of}
-use Rattle.fork_model.specs.Groups.{numbered, numbers_below}
-use Rattle.fork_model.specs.Contacts.{Fate, Known, Fresh, Left, is_known, fate_of, keys_after, with_fate, Taking, taking_from, taking_at, keys_of, fresh_row, fresh_rows}
-use Rattle.fork_model.specs.Step.{Effect, effect, moves, assumed, accepts, answers, received, redirected, redirects, stores, is_nonempty, with_state, with_effect, change_at, change, cancelled, closed_state, settled_state, settled_row, settled, next}
+use Rattle.std.specs.List.{AllByRecursion}
+use Rattle.fork_model.specs.Table.{Challenge}
+use Rattle.fork_model.specs.Step.{received}
 use Rattle.fork_model.specs.Reply.{has_become}
-use Rattle.fork_model.specs.History.{Target, first_row, opening, after}
 use Rattle.fork_model.specs.Sources.{offers_of, challenges_of, IsRowOf, AddsNoRow, NewRowsAreContacts, IsOneOf, IsReceived, IsAssumed, IsStoredBy, HasStored, EventsStoreAnswers, StoredAnswersCame, Passes, StoredAnswersPass, BecameIsExact}
-use Rattle.fork_model.proofs.StepLemmas.{next_of_change, next_of_stray, rows_keep_numbers}
+use Rattle.fork_model.proofs.laws.StepLemmas.{next_of_change, next_of_stray, rows_keep_numbers}
 
 -- ---- rows of lists
 
@@ -46,13 +43,6 @@ none_state (x ∷ rows) zero (suc n) state is = is
 none_state (x ∷ rows) (suc m) zero state is = absurd cc
 none_state (x ∷ rows) (suc m) (suc n) state is = none_state rows m n state is
 
-none_of_state : (rows : List Row) (m n : ℕ) (state : State) → slice_get (with_state rows m state) n ≡ None → slice_get rows n ≡ None
-none_of_state [] m n state is = refl
-none_of_state (x ∷ rows) zero zero state is = absurd cc
-none_of_state (x ∷ rows) zero (suc n) state is = is
-none_of_state (x ∷ rows) (suc m) zero state is = absurd cc
-none_of_state (x ∷ rows) (suc m) (suc n) state is = none_of_state rows m n state is
-
 get_mapped : {X Y : Type 0} (f : X → Y) (xs : List X) (n : ℕ) (y : Y) → slice_get (map f xs) n ≡ Some y
     → (x : X) × (slice_get xs n ≡ Some x) × (f x ≡ y)
 get_mapped f [] n y is = absurd cc
@@ -80,7 +70,7 @@ later_contact : (start : ℕ) (offer : Offer) (offers : List Offer) (f : ℕ × 
 later_contact start offer offers f c =
     let e : f.0 ≡ suc start + c.0 = c.1 in (suc c.0, omega (arith, e), c.2, c.3, c.4)
 
-is_fresh : (keys : List (List ℕ)) (key : Option (List ℕ)) (new : List ℕ) → fate_of keys key ≡ Fresh new → key ≡ Some new
+is_fresh : (keys : List (List ℕ)) (key : Option (List ℕ)) (new : List ℕ) → outcome_of keys key ≡ Fresh new → key ≡ Some new
 is_fresh keys None new is = absurd cc
 is_fresh keys (Some key) new is = go (is_known keys key) (nat_lt (length keys) 256) is
   where
@@ -93,11 +83,11 @@ taken_contacts : (keys : List (List ℕ)) (start : ℕ) (offers : List Offer) (n
     → slice_get (taking_from keys start offers).fresh n ≡ Some f → IsContact start offers f
 taken_contacts keys start [] n f is = absurd cc
 taken_contacts keys start (offer ∷ offers) n f is =
-    go (fate_of keys offer.key) refl (λ known m h. taken_contacts known (suc start) offers m f h) n is
+    go (outcome_of keys offer.key) refl (λ known m h. taken_contacts known (suc start) offers m f h) n is
   where
-    go : (fate : Fate) → fate_of keys offer.key ≡ fate
+    go : (outcome : ContactOutcome) → outcome_of keys offer.key ≡ outcome
         → ((known : List (List ℕ)) (m : ℕ) → slice_get (taking_from known (suc start) offers).fresh m ≡ Some f → IsContact (suc start) offers f)
-        → (n : ℕ) → slice_get (with_fate start offer fate (taking_from (keys_after keys fate) (suc start) offers)).fresh n ≡ Some f
+        → (n : ℕ) → slice_get (with_outcome start offer outcome (taking_from (keys_after keys outcome) (suc start) offers)).fresh n ≡ Some f
         → IsContact start (offer ∷ offers) f
     go Known same rest n is = later_contact start offer offers f (rest _ n is)
     go Left same rest n is = later_contact start offer offers f (rest _ n is)
@@ -117,10 +107,10 @@ all_of_itself (offer ∷ offers) = ((zero, refl), all_later offer offers offers 
 
 left_contacts : (keys : List (List ℕ)) (start : ℕ) (offers : List Offer) → AllByRecursion (IsOneOf offers) (taking_from keys start offers).left
 left_contacts keys start [] = tt
-left_contacts keys start (offer ∷ offers) = go (fate_of keys offer.key) (λ known. left_contacts known (suc start) offers)
+left_contacts keys start (offer ∷ offers) = go (outcome_of keys offer.key) (λ known. left_contacts known (suc start) offers)
   where
-    go : (fate : Fate) → ((known : List (List ℕ)) → AllByRecursion (IsOneOf offers) (taking_from known (suc start) offers).left)
-        → AllByRecursion (IsOneOf (offer ∷ offers)) (with_fate start offer fate (taking_from (keys_after keys fate) (suc start) offers)).left
+    go : (outcome : ContactOutcome) → ((known : List (List ℕ)) → AllByRecursion (IsOneOf offers) (taking_from known (suc start) offers).left)
+        → AllByRecursion (IsOneOf (offer ∷ offers)) (with_outcome start offer outcome (taking_from (keys_after keys outcome) (suc start) offers)).left
     go Known rest = all_later offer offers _ (rest _)
     go (Fresh key) rest = all_later offer offers _ (rest _)
     go Left rest = ((zero, refl), all_later offer offers _ (rest _))
@@ -128,8 +118,8 @@ left_contacts keys start (offer ∷ offers) = go (fate_of keys offer.key) (λ kn
 -- ---- the effect of an event on its row
 
 -- a new row waits, so it has no stored answer
-fresh_is_bare : (m : ℕ) (fresh : List (ℕ × Offer)) (place : ℕ) (row : Row) → slice_get (fresh_rows m fresh) place ≡ Some row → stored_of row.state ≡ None
-fresh_is_bare m fresh place row is =
+fresh_is_unanswered : (m : ℕ) (fresh : List (ℕ × Offer)) (place : ℕ) (row : Row) → slice_get (fresh_rows m fresh) place ≡ Some row → stored_of row.state ≡ None
+fresh_is_unanswered m fresh place row is =
     let made = get_filtered (λ (p : ℕ × ℕ). option_map (λ (f : ℕ × Offer). fresh_row m p.0 f) (slice_get fresh p.1)) (numbered (map (λ (f : ℕ × Offer). f.1.q) fresh)) place row is in
     go made.0.0 (slice_get fresh made.0.1) made.1
   where
@@ -143,17 +133,17 @@ fresh_is_bare m fresh place row is =
 -- its new rows are contacts of the event, and what it stores the event brought
 pub record Brings (event : Event) (at n : ℕ) (e : Effect) : Type 0 where
   pub rows : (place : ℕ) (row : Row) → slice_get e.fresh place ≡ Some row → IsRowOf (offers_of event) row
-  pub bare : (place : ℕ) (row : Row) → slice_get e.fresh place ≡ Some row → stored_of row.state ≡ None
+  pub unanswered : (place : ℕ) (row : Row) → slice_get e.fresh place ≡ Some row → stored_of row.state ≡ None
   pub stored : (stored : StoredAnswer) → stored_of e.state ≡ Some stored → IsStoredBy event at n stored
 
-no_bare : (place : ℕ) (row : Row) → slice_get [] place ≡ Some row → stored_of row.state ≡ None
-no_bare place row is = absurd cc
+no_unanswered : (place : ℕ) (row : Row) → slice_get [] place ≡ Some row → stored_of row.state ≡ None
+no_unanswered place row is = absurd cc
 
 no_rows : (event : Event) (place : ℕ) (row : Row) → slice_get [] place ≡ Some row → IsRowOf (offers_of event) row
 no_rows event place row is = absurd cc
 
 -- the rows of the contacts taken
-row_of_contact : (n : ℕ) (offers : List Offer) (taking : Taking) → ((m : ℕ) (f : ℕ × Offer) → slice_get taking.fresh m ≡ Some f → IsContact 0 offers f)
+row_of_contact : (n : ℕ) (offers : List Offer) (taking : ContactLists) → ((m : ℕ) (f : ℕ × Offer) → slice_get taking.fresh m ≡ Some f → IsContact 0 offers f)
     → (place : ℕ) (row : Row) → slice_get (fresh_rows n taking.fresh) place ≡ Some row → IsRowOf offers row
 row_of_contact n offers taking from place row is =
     let made = get_filtered (λ (p : ℕ × ℕ). option_map (λ (f : ℕ × Offer). fresh_row n p.0 f) (slice_get taking.fresh p.1)) (numbered (map (λ (f : ℕ × Offer). f.1.q) taking.fresh)) place row is in
@@ -181,7 +171,7 @@ stored_received answer at left stored all is =
     let same : record { status = answer.status; arrival = at; received = true; left = left; challenges = answer.challenges } ≡ stored = cc in
     subst P same (record { received = refl; status = refl; arrival = refl; left = all; challenges = refl })
 
-redirected_brings : (answer : FinalAnswer) (at : ℕ) (taking : Taking) (stored : StoredAnswer) → AllByRecursion (IsOneOf answer.offers) taking.left
+redirected_brings : (answer : FinalAnswer) (at : ℕ) (taking : ContactLists) (stored : StoredAnswer) → AllByRecursion (IsOneOf answer.offers) taking.left
     → stored_of (Ended (redirected at answer taking)) ≡ Some stored → IsReceived answer at stored
 redirected_brings answer at taking stored all is = go (is_nonempty answer.offers && not (is_nonempty taking.left)) is
   where
@@ -194,7 +184,7 @@ taken_at : (t : Table) (row : Row) (offers : List Offer)
     × AllByRecursion (IsOneOf offers) (taking_at t row offers).left
 taken_at t row offers = go (t.closed || not (nat_lt (depth_of t.rows row) t.rules.depth))
   where
-    none : Taking
+    none : ContactLists
     none = record { fresh = []; left = offers }
 
     go : (b : Bool)
@@ -207,15 +197,15 @@ answers_bring : (t : Table) (n : ℕ) (row : Row) (at : ℕ) (answer : FinalAnsw
 answers_bring t n row at answer = go (nat_lt answer.status 300) (nat_lt answer.status 400)
   where
     go : (a b : Bool) → Brings (Answer n answer) at n (cond a (accepts at) (cond b (redirects n at answer (taking_at t row answer.offers)) (stores at answer)))
-    go true b = record { rows = no_rows (Answer n answer); bare = no_bare; stored = λ stored is. absurd cc }
+    go true b = record { rows = no_rows (Answer n answer); unanswered = no_unanswered; stored = λ stored is. absurd cc }
     go false true =
         let taken = taken_at t row answer.offers in
         record {
           rows = row_of_contact n answer.offers (taking_at t row answer.offers) taken.0;
-          bare = fresh_is_bare n (taking_at t row answer.offers).fresh;
+          unanswered = fresh_is_unanswered n (taking_at t row answer.offers).fresh;
           stored = λ stored is. (refl, redirected_brings answer at (taking_at t row answer.offers) stored taken.1 is);
         }
-    go false false = record { rows = no_rows (Answer n answer); bare = no_bare; stored = λ stored is. (refl, stored_received answer at [] stored tt is) }
+    go false false = record { rows = no_rows (Answer n answer); unanswered = no_unanswered; stored = λ stored is. (refl, stored_received answer at [] stored tt is) }
 
 assumes : (status at : ℕ) (stored : StoredAnswer) → stored_of (assumed status at).state ≡ Some stored → IsAssumed status at stored
 assumes status at stored is =
@@ -233,16 +223,16 @@ brings_if event at n false e h = tt
 
 -- a change of state that stores nothing
 brings_state : (event : Event) (at n : ℕ) (state : State) → stored_of state ≡ None → Brings event at n (moves state)
-brings_state event at n state none = record { rows = no_rows event; bare = no_bare; stored = λ stored is. absurd cc }
+brings_state event at n state none = record { rows = no_rows event; unanswered = no_unanswered; stored = λ stored is. absurd cc }
 
 timeout_brings : (at n : ℕ) → Brings (Timeout n) at n (assumed 408 at)
-timeout_brings at n = record { rows = no_rows (Timeout n); bare = no_bare; stored = λ stored is. (refl, assumes 408 at stored is) }
+timeout_brings at n = record { rows = no_rows (Timeout n); unanswered = no_unanswered; stored = λ stored is. (refl, assumes 408 at stored is) }
 
 fault_brings : (at n : ℕ) → Brings (Fault n) at n (assumed 503 at)
-fault_brings at n = record { rows = no_rows (Fault n); bare = no_bare; stored = λ stored is. (refl, assumes 503 at stored is) }
+fault_brings at n = record { rows = no_rows (Fault n); unanswered = no_unanswered; stored = λ stored is. (refl, assumes 503 at stored is) }
 
 timer_brings : (at n : ℕ) → Brings (TimerC n) at n (assumed 408 at)
-timer_brings at n = record { rows = no_rows (TimerC n); bare = no_bare; stored = λ stored is. (refl, assumes 408 at stored is) }
+timer_brings at n = record { rows = no_rows (TimerC n); unanswered = no_unanswered; stored = λ stored is. (refl, assumes 408 at stored is) }
 
 ring_brings : (t : Table) (row : Row) (at n status : ℕ) (state : State) → MayBring (Ring n status) at n (effect t row at (Ring n status) state)
 ring_brings t row at n status Idle = tt
@@ -296,7 +286,7 @@ from_effect event at t n e brings = record {
     | inr new ↦ brings.rows new.1 row new.2
   ];
   stored = λ k stored has. elim (get_joined (with_state t.rows n e.state) e.fresh k has.0 has.1) [
-    | inr new ↦ absurd (let none : stored_of has.0.state ≡ None = brings.bare new.1 has.0 new.2 in let some : stored_of has.0.state ≡ Some stored = has.2 in cc)
+    | inr new ↦ absurd (let none : stored_of has.0.state ≡ None = brings.unanswered new.1 has.0 new.2 in let some : stored_of has.0.state ≡ Some stored = has.2 in cc)
     | inl there ↦ elim (get_state t.rows n k e.state has.0 there) [
       | inl old ↦ inl (has.0, old, has.2)
       | inr here ↦
@@ -443,25 +433,25 @@ came_after t at (event ∷ events) n stored has =
     ]
 
 -- no initial target has a stored answer
-opening_is_bare : (kind : Kind) (rules : Rules) (targets : List Target) (n : ℕ) (stored : StoredAnswer) → HasStored (opening kind rules targets) n stored → ⊥
-opening_is_bare kind rules targets n stored has =
+opening_is_unanswered : (kind : Kind) (rules : Rules) (targets : List Target) (n : ℕ) (stored : StoredAnswer) → HasStored (opening kind rules targets) n stored → ⊥
+opening_is_unanswered kind rules targets n stored has =
     let made = get_filtered (λ (p : ℕ × ℕ). option_map (first_row p.0 p.1) (slice_get targets p.1)) (numbered (map (λ (target : Target). target.q) targets)) n has.0 has.1 in
     go made.0.0 made.0.1 (slice_get targets made.0.1) has.0 made.1 has.2
   where
-    bare : (b : Bool) → stored_of (cond b Trying Idle) ≡ Some stored → ⊥
-    bare true is = absurd cc
-    bare false is = absurd cc
+    unanswered : (b : Bool) → stored_of (cond b Trying Idle) ≡ Some stored → ⊥
+    unanswered true is = absurd cc
+    unanswered false is = absurd cc
 
     go : (group place : ℕ) (o : Option Target) (row : Row) → option_map (first_row group place) o ≡ Some row → stored_of row.state ≡ Some stored → ⊥
     go group place None row is has = absurd cc
     go group place (Some target) row is has =
         let same : first_row group place target ≡ row = cc in
-        bare _ (ap (λ (r : Row). stored_of r.state) same ∙ has)
+        unanswered _ (ap (λ (r : Row). stored_of r.state) same ∙ has)
 
 pub answers_came : StoredAnswersCame
 answers_came kind rules targets events n stored has =
     elim (came_after (opening kind rules targets) 0 events n stored has) [
-      | inl first ↦ absurd (opening_is_bare kind rules targets n stored first)
+      | inl first ↦ absurd (opening_is_unanswered kind rules targets n stored first)
       | inr came ↦
           let e : stored.arrival ≡ came.0 = omega (arith, came.1) in
           (came.2, ap (λ (place : ℕ). slice_get events place) e ∙ came.3, came.4)

@@ -1,1 +1,12 @@
+pub mod Arrivals
+pub mod ChangeLemmas
+pub mod Choosing
+pub mod ContactLemmas
+pub mod GroupLemmas
 pub mod Headline
+pub mod OneReplyLemmas
+pub mod OpeningSeries
+pub mod OrderLemmas
+pub mod SeriesLemmas
+pub mod StepLemmas
+pub mod WaitingLemmas

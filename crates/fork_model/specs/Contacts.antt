@@ -9,53 +9,53 @@ use Rattle.fork_model.specs.Groups.{numbered}
 use Rattle.fork_model.specs.Waiting.{depth_of}
 
 -- what becomes of one contact: it is a target already, it becomes one, or it is left
-pub data Fate : Type 0 where
-  Known : Fate
-  Fresh : (key : List ℕ) → Fate
-  Left : Fate
+pub data ContactOutcome : Type 0 where
+  Known : ContactOutcome
+  Fresh : (key : List ℕ) → ContactOutcome
+  Left : ContactOutcome
 
 abbrev pub is_known : List (List ℕ) → List ℕ → Bool
 is_known keys key = list_any (pointwise nat_eq key) keys
 
 -- of a key that may be tried, where these are the keys of all targets
-abbrev pub fate_of_key : List (List ℕ) → List ℕ → Fate
-fate_of_key keys key =
+abbrev pub outcome_of_key : List (List ℕ) → List ℕ → ContactOutcome
+outcome_of_key keys key =
     if is_known keys key then Known
     else (if nat_lt (length keys) most_targets then Fresh key
     else Left)
 
-abbrev pub fate_of : List (List ℕ) → Option (List ℕ) → Fate
-fate_of keys None = Left
-fate_of keys (Some key) = fate_of_key keys key
+abbrev pub outcome_of : List (List ℕ) → Option (List ℕ) → ContactOutcome
+outcome_of keys None = Left
+outcome_of keys (Some key) = outcome_of_key keys key
 
 -- the keys of all targets after a contact
-abbrev pub keys_after : List (List ℕ) → Fate → List (List ℕ)
+abbrev pub keys_after : List (List ℕ) → ContactOutcome → List (List ℕ)
 keys_after keys Known = keys
 keys_after keys (Fresh key) = keys ++ key ∷ []
 keys_after keys Left = keys
 
 -- the contacts that become targets, each with its place in the answer, and those that are left
-pub record Taking : Type 0 where
+pub record ContactLists : Type 0 where
   pub fresh : List (ℕ × Offer)
   pub left : List Offer
 
-abbrev pub with_fate : ℕ → Offer → Fate → Taking → Taking
-with_fate place offer Known rest = rest
-with_fate place offer (Fresh key) rest = record rest { fresh = (place, offer) ∷ rest.fresh }
-with_fate place offer Left rest = record rest { left = offer ∷ rest.left }
+abbrev pub with_outcome : ℕ → Offer → ContactOutcome → ContactLists → ContactLists
+with_outcome place offer Known rest = rest
+with_outcome place offer (Fresh key) rest = record rest { fresh = (place, offer) ∷ rest.fresh }
+with_outcome place offer Left rest = record rest { left = offer ∷ rest.left }
 
 -- the contacts from this place on, in order, each seen by the keys of all targets so far
-abbrev pub taking_from : List (List ℕ) → ℕ → List Offer → Taking
+abbrev pub taking_from : List (List ℕ) → ℕ → List Offer → ContactLists
 taking_from keys place [] = record { fresh = []; left = [] }
 taking_from keys place (offer ∷ offers) =
-    with_fate place offer (fate_of keys offer.key)
-    (taking_from (keys_after keys (fate_of keys offer.key)) (suc place) offers)
+    with_outcome place offer (outcome_of keys offer.key)
+    (taking_from (keys_after keys (outcome_of keys offer.key)) (suc place) offers)
 
 abbrev pub keys_of : List Row → List (List ℕ)
 keys_of rows = map (λ row. row.key) rows
 
 -- the contacts of an answer to this row; a closed table takes none, nor does a row as deep as the rules allow
-abbrev pub taking_at : Table → Row → List Offer → Taking
+abbrev pub taking_at : Table → Row → List Offer → ContactLists
 taking_at t row offers =
     if t.closed || not (nat_lt (depth_of t.rows row) t.rules.depth)
     then record { fresh = []; left = offers }

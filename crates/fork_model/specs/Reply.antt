@@ -40,13 +40,13 @@ provisional old (GiveUp n) = None
 provisional old Cancel = None
 
 -- of an INVITE each 2xx goes up, a repeated one again; else the first that ends a row, alone
-abbrev pub is_welcome : Table → Kind → Option Row → Bool
-is_welcome old Invite row = is_row is_open row || is_row is_accepted row
-is_welcome old Other row = is_row is_open row && not (is_succeeded old.rows)
+abbrev pub success_goes_up : Table → Kind → Option Row → Bool
+success_goes_up old Invite row = is_row is_open row || is_row is_accepted row
+success_goes_up old Other row = is_row is_open row && not (is_succeeded old.rows)
 
 abbrev pub success_at : Table → ℕ → FinalAnswer → Option ℕ
 success_at old n answer =
-    if nat_lt answer.status 300 && is_welcome old old.kind (slice_get old.rows n) then Some n else None
+    if nat_lt answer.status 300 && success_goes_up old old.kind (slice_get old.rows n) then Some n else None
 
 abbrev pub success : Table → Event → Option ℕ
 success old (Ring n status) = None

@@ -4,7 +4,7 @@ use Rattle.std.specs.Option.{option_map}
 use Rattle.fork_model.specs.Table.{Offer, Challenge, End, Stored, Taken, Silent, Never, Accepted, State, Idle, Trying, Rung, Ended, Row, Table, Kind, is_invite}
 use Rattle.fork_model.specs.Event.{FinalAnswer, Event, Ring, Answer, Timeout, Fault, TimerC, GiveUp, Cancel}
 use Rattle.fork_model.specs.Waiting.{may_start}
-use Rattle.fork_model.specs.Contacts.{Taking, taking_at, fresh_rows}
+use Rattle.fork_model.specs.Contacts.{ContactLists, taking_at, fresh_rows}
 
 -- what an event does to the row that it names: its state, the rows added below it, whether the table closes
 pub record Effect : Type 0 where
@@ -34,12 +34,12 @@ is_nonempty [] = false
 is_nonempty (offer ∷ offers) = true
 
 -- a 3xx is spent where it had a contact and none is left, else it is stored with those left
-abbrev pub redirected : ℕ → FinalAnswer → Taking → End
+abbrev pub redirected : ℕ → FinalAnswer → ContactLists → End
 redirected at answer taken =
     if is_nonempty answer.offers && not (is_nonempty taken.left) then Taken at
     else received answer.status at taken.left answer.challenges
 
-abbrev pub redirects : ℕ → ℕ → FinalAnswer → Taking → Effect
+abbrev pub redirects : ℕ → ℕ → FinalAnswer → ContactLists → Effect
 redirects n at answer taken =
     record { state = Ended (redirected at answer taken); fresh = fresh_rows n taken.fresh; closes = false }
 

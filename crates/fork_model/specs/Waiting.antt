@@ -44,6 +44,6 @@ parent_ended rows (Some n) = is_row is_ended (slice_get rows n)
 abbrev pub may_start : List Row → Row → Bool
 may_start rows row =
     is_idle row.state
-    && list_all (λ mate. not (same_group mate row) || is_idle mate.state) rows
+    && list_all (λ member. not (same_group member row) || is_idle member.state) rows
     && parent_ended rows row.parent
     && list_all (λ other. not (goes_before rows other row) || is_ended other.state) rows

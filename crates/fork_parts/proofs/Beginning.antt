@@ -1,10 +1,5 @@
-use Rattle.std.proofs.Common.{◌≡◌, refl, List, [], ℕ, map, Option}
-use Rattle.fork_book.specs.Log.{Log, table_of}
+use Rattle.fork_parts.proofs.Common.{◌≡◌, refl, List, [], ℕ, map, Option, Log, table_of, Fixed, Way, kind_of, Leg, no_leg, Owed, Served, first_owed, served_start}
 use Rattle.fork_parts.specs.Begun.{begun}
-use Rattle.fork_parts.specs.Fixed.{Fixed, Way, kind_of}
-use Rattle.fork_parts.specs.Leg.{Leg}
-use Rattle.fork_parts.specs.Posting.{no_leg}
-use Rattle.fork_parts.specs.Server.{Owed, Served, first_owed, served_start}
 
 pub begun_is : (fixed : Fixed) (log : Log) (ways : List Way) (legs : List (Option Leg)) (served : Served) (owed : List Owed) (last : List ℕ)
     → legs ≡ map no_leg (table_of log).rows

@@ -1,51 +1,28 @@
 -- What each step leaves of the failures that branches keep.
-use Rattle.std.proofs.Common.{◌≡◌, ◌∙◌, ◌⊎◌, ℕ, zero, suc, ap, refl, sym, subst, inl, inr, true, false, Bool, List, [], ◌∷◌, ◌++◌, map, length, Option, Some, None, slice_get}
-use Rattle.std.specs.Prelude.{◌↔◌, IsTrue, cond, is_none, nat_lt, unwrap_or}
-use Rattle.std.specs.Option.{option_map}
-use Rattle.std.proofs.lemmas.Bool.{and_parts, cond-false, cond-true}
+use Rattle.fork_parts.proofs.Common.{◌≡◌, ◌∙◌, ◌⊎◌, ℕ, zero, suc, ap, refl, sym, subst, inl, inr, true, false, Bool, List, [], ◌∷◌, ◌++◌, map, length, Option, Some, None, slice_get, ◌↔◌, IsTrue, cond, nat_lt, unwrap_or, option_map}
+use Rattle.fork_parts.proofs.Common.{and_parts, cond-false, cond-true, Event, FinalAnswer, Reply, HasStored, StoredAnswersCame, RowsKeepTheirNumbers, Effect, answers, change_at, closed_state, effect, next, settled, settled_row, with_effect}
+use Rattle.fork_parts.proofs.Common.{with_state, Kind, Row, State, StoredAnswer, Table, is_open, is_row, stored_of, may_start, HasFirst, Log, added, event_posted, events_of, table_of, MessageText, ContactText, Hop, TxEvent}
+use Rattle.fork_parts.proofs.Common.{InviteClientState, OtherClientState, invite_client, other_client, row_out, Cause, answer_in, answer_of, status_of, Call, found, leg_at, row_passes, set_leg, with_leg, Client, InviteClient, OtherClient}
+use Rattle.fork_parts.proofs.Common.{client_out, Deed, is_due_at, Fails, FaultsBy, FaultsClient, cancel_faulted, faulted_cancel, Way, kind_of, Cancelling, Leg, Posts, call_tag, no_leg, Pumped, Send, Did, Does, Pumps, SendsAnswer, AnswersBy}
+use Rattle.fork_parts.proofs.Common.{AnswersWith, TicksClientBy, FiresTimerC, challenges_by, contacts_by, event_by, offer_of, Owed, Passed, Final, Again, CancelOk, IsSound, awaits, invite_awaits, other_awaits, CancelledBy, Responds, Taken}
+use Rattle.fork_parts.proofs.Common.{TakesAs, is_passed, leg_after, leg_posted, response_event}
+use Rattle.std.specs.Prelude.{is_none}
 use Rattle.fork_model.specs.Event as fork
-use Rattle.fork_model.specs.Event.{Event, FinalAnswer}
-use Rattle.fork_model.specs.Reply.{Reply}
-use Rattle.fork_model.specs.Sources.{EventsStoreAnswers, HasStored, IsStoredBy, StoredAnswersCame}
-use Rattle.fork_model.specs.Steps.{BranchesGoOn, RowsKeepTheirNumbers}
-use Rattle.fork_model.specs.Step.{Effect, answers, change_at, closed_state, effect, next, settled, settled_row, with_effect, with_state}
+use Rattle.fork_model.specs.Sources.{EventsStoreAnswers, IsStoredBy}
+use Rattle.fork_model.specs.Steps.{BranchesGoOn}
 use Rattle.fork_model.specs.Table as table
-use Rattle.fork_model.specs.Table.{Kind, Row, State, StoredAnswer, Table, is_open, is_row, stored_of}
-use Rattle.fork_model.specs.Waiting.{may_start}
-use Rattle.fork_context.specs.Chosen.{HasFirst}
-use Rattle.fork_book.specs.Log.{Log, Posted, added, event_posted, events_of, table_of}
-use Rattle.sip_text.specs.Text.{MessageText}
-use Rattle.sip_uri.specs.Contact.{ContactText}
-use Rattle.sip_uri.specs.declared.hop.Hop.{Hop}
-use Rattle.sip_txn.specs.declared.event.TxEvent.{TxEvent}
+use Rattle.fork_book.specs.Log.{Posted}
 use Rattle.sip_txn.specs.declared.event.TxEvent.TheVariants as event
 use Rattle.sip_txn.specs.declared.timers.Input.TheVariants as input
-use Rattle.sip_txn.specs.declared.invite_client.InviteClientState.{InviteClientState}
 use Rattle.sip_txn.specs.declared.invite_client.InviteClientState.TheVariants as invite
-use Rattle.sip_txn.specs.declared.other_client.OtherClientState.{OtherClientState}
 use Rattle.sip_txn.specs.declared.other_client.OtherClientState.TheVariants as other
-use Rattle.sip_txn.specs.InviteClient.{invite_client}
-use Rattle.sip_txn.specs.OtherClient.{other_client}
-use Rattle.sip_txn.specs.Machine.{row_out}
-use Rattle.fork_parts.specs.declared.cause.Cause.{Cause}
 use Rattle.fork_parts.specs.declared.cause.Cause.TheVariants as cause
 use Rattle.fork_parts.specs.Behind.{BegunKeepsAnswers, KeepsAnswers, KeepsEvent, StepsKeepAnswers}
-use Rattle.fork_parts.specs.Built.{answer_in, answer_of, status_of}
-use Rattle.fork_parts.specs.Call.{Call, found, leg_at, row_passes, set_leg, with_leg}
-use Rattle.fork_parts.specs.Client.{Client, InviteClient, OtherClient, client_out}
 use Rattle.fork_parts.specs.Due as due
-use Rattle.fork_parts.specs.Due.{Deed, is_due_at}
-use Rattle.fork_parts.specs.Failed.{Fails, FaultsBy, FaultsClient, cancel_faulted, faulted_cancel}
-use Rattle.fork_parts.specs.Fixed.{Way, kind_of}
-use Rattle.fork_parts.specs.Leg.{Cancelling, Leg}
-use Rattle.fork_parts.specs.Posting.{Posts, call_tag, no_leg}
-use Rattle.fork_parts.specs.Pump.{Pumped, Send, Did, Idle, Does, Pumps, SendsAnswer, AnswersBy, AnswersWith, TicksClientBy, FiresTimerC}
-use Rattle.fork_parts.specs.Response.{challenges_by, contacts_by, event_by, offer_of}
-use Rattle.fork_parts.specs.Server.{Owed, Trying, Passed, Final, Again, CancelOk}
-use Rattle.fork_parts.specs.Sound.{IsSound, awaits, invite_awaits, other_awaits}
+use Rattle.fork_parts.specs.Pump.{Idle}
+use Rattle.fork_parts.specs.Server.{Trying}
 use Rattle.fork_parts.specs.Step as step
 use Rattle.fork_parts.specs.Take as to
-use Rattle.fork_parts.specs.Take.{CancelledBy, Responds, Taken, TakesAs, is_passed, leg_after, leg_posted, response_event}
 use Rattle.fork_parts.proofs.FirstStays.{first_before}
 use Rattle.fork_parts.proofs.SoundTables.{table_added}
 
@@ -62,13 +39,6 @@ same_with (x ∷ legs) zero zero leg e = sym e
 same_with (x ∷ legs) zero (suc k) leg e = refl
 same_with (x ∷ legs) (suc n) zero leg e = refl
 same_with (x ∷ legs) (suc n) (suc k) leg e = same_with legs n k leg e
-
-others_with : (legs : List (Option Leg)) (n k : ℕ) (leg : Leg) → (k ≡ n → ⊥) → found (slice_get (with_leg legs n leg) k) ≡ found (slice_get legs k)
-others_with [] n k leg d = refl
-others_with (x ∷ legs) zero zero leg d = absurd (d refl)
-others_with (x ∷ legs) zero (suc k) leg d = refl
-others_with (x ∷ legs) (suc n) zero leg d = refl
-others_with (x ∷ legs) (suc n) (suc k) leg d = others_with legs n k leg (λ e. d (ap suc e))
 
 here_with : (legs : List (Option Leg)) (n : ℕ) (old leg : Leg) → found (slice_get legs n) ≡ Some old → found (slice_get (with_leg legs n leg) n) ≡ Some leg
 here_with [] n old leg e = absurd cc

@@ -1,23 +1,11 @@
 -- The caller's CANCEL is posted.
-use Rattle.std.proofs.Common.{◌≡◌, ◌∙◌, ℕ, ap, refl, sym, true, false, Bool, List, [], ◌∷◌, ◌++◌, drop, length, Option, None, append-nil}
-use Rattle.std.specs.Prelude.{◌&&◌, cond, map, not}
+use Rattle.fork_parts.proofs.Common.{◌≡◌, ◌∙◌, ℕ, ap, refl, sym, true, false, Bool, List, [], ◌∷◌, ◌++◌, drop, length, Option, None, append-nil, ◌&&◌, cond, map, not, Cancel, Reply, next, IsAdded, Log, added, core_of, table_of, MessageText}
+use Rattle.fork_parts.proofs.Common.{Hop, Call, Way, Leg, call_tag, gone_on, no_leg, owed_by, owes, rows_more, ways_of, Owed, CancelOk, IsSound, CancelledBy, Posted, cancels}
 use Rattle.std.proofs.Math.Seq.{drop-length}
 use Rattle.fork_model.specs.Table as table
-use Rattle.fork_model.specs.Event.{Cancel}
 use Rattle.fork_model.specs.OpenBranches.{FittingEventsAreTaken}
-use Rattle.fork_model.specs.Reply.{Reply}
-use Rattle.fork_model.specs.Step.{next}
-use Rattle.fork_book.specs.Log.{IsAdded, Log, added, core_of, table_of}
-use Rattle.sip_text.specs.Text.{MessageText}
-use Rattle.sip_uri.specs.declared.hop.Hop.{Hop}
-use Rattle.fork_parts.specs.Call.{Call}
 use Rattle.fork_parts.specs.Fixed as fixed
-use Rattle.fork_parts.specs.Fixed.{Way}
-use Rattle.fork_parts.specs.Leg.{Leg}
-use Rattle.fork_parts.specs.Posting.{call_tag, gone_on, no_leg, owed_by, owes, rows_more, ways_of}
-use Rattle.fork_parts.specs.Server.{Owed, CancelOk}
-use Rattle.fork_parts.specs.Sound.{IsSound}
-use Rattle.fork_parts.specs.Take.{CancelledBy, Posted, cancels, owes_cancel_ok}
+use Rattle.fork_parts.specs.Take.{owes_cancel_ok}
 
 -- an INVITE is one by its table, too
 pub kind_is : (call : Call) → IsSound call → table.is_invite (table_of call.log).kind ≡ fixed.is_invite call.fixed

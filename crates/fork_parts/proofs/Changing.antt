@@ -1,16 +1,5 @@
-use Rattle.std.proofs.Common.{◌≡◌, ◌∙◌, ℕ, ◌<◌, ap, sym, subst, List, [], ◌++◌, map, length, Option, Some, None, slice_get}
-use Rattle.fork_model.specs.Event.{Event}
-use Rattle.fork_model.specs.Reply.{Reply}
-use Rattle.fork_book.specs.Log.{added}
-use Rattle.sip_text.specs.Text.{MessageText}
-use Rattle.sip_uri.specs.Contact.{ContactText}
-use Rattle.fork_parts.specs.Client.{Client}
-use Rattle.fork_parts.specs.Leg.{Leg}
-use Rattle.fork_parts.specs.Call.{Call, found, leg_at, set_leg, with_leg}
-use Rattle.fork_parts.specs.LegInside.{changed_leg, responded}
-use Rattle.fork_parts.specs.Plain.{PostsBare}
-use Rattle.fork_parts.specs.Posting.{Posts, call_tag, gone_on, no_leg, owed_by, owes, rows_more}
-use Rattle.fork_parts.specs.Pump.{OnPart}
+use Rattle.fork_parts.proofs.Common.{◌≡◌, ◌∙◌, ℕ, ◌<◌, ap, sym, subst, List, [], ◌++◌, map, length, Option, Some, None, slice_get, Event, Reply, added, MessageText, ContactText, Client, Leg, Call, found, leg_at, set_leg, with_leg}
+use Rattle.fork_parts.proofs.Common.{changed_leg, responded, PostsBare, Posts, call_tag, gone_on, no_leg, owed_by, owes, rows_more, OnPart}
 use Rattle.fork_parts.proofs.LegLists.{changed_is, found_is, get_below, get_more, get_with, with_more, with_twice}
 
 -- the part of a branch changed in its place is another part of it

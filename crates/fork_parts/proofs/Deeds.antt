@@ -1,25 +1,15 @@
-use Rattle.std.proofs.Common.{◌≡◌, ◌∙◌, ℕ, ap, refl, sym, subst, true, false, Bool, [], Option, Some, None, option_map, List, slice_get}
+use Rattle.fork_parts.proofs.Common.{◌≡◌, ◌∙◌, ℕ, ap, refl, sym, subst, true, false, Bool, [], Option, Some, None, List, slice_get, is_trying, spelling, Hop, TxOut, Machine, OtherClientState, machine_after, out_of, other_client, Datagram}
+use Rattle.fork_parts.proofs.Common.{cancel_to, Call, leg_at, row_passes, set_leg, Client, client_after, client_out, ack_on, Way, Cancelling, Leg, cancel_on, changed_leg, responded, with_client, PostsBare, Posts, Did, FiresTimerC, OnPart}
+use Rattle.fork_parts.proofs.Common.{Pumped, Send, TicksClientBy, is_request, is_timeout, sent_if, stopped, ticked}
+use Rattle.std.proofs.Common.{option_map}
 use Rattle.fork_model.specs.Event as fork
-use Rattle.fork_model.specs.Table.{is_trying}
-use Rattle.sip_text.specs.Text.{spelling}
-use Rattle.sip_uri.specs.declared.hop.Hop.{Hop}
 use Rattle.sip_txn.specs.declared.event.TxEvent.TheVariants as event
-use Rattle.sip_txn.specs.declared.event.TxOut.{TxOut}
-use Rattle.sip_txn.specs.declared.machine.Machine.{Machine}
-use Rattle.sip_txn.specs.declared.other_client.OtherClientState.{OtherClientState}
-use Rattle.sip_txn.specs.Machine.{machine_after, out_of}
-use Rattle.sip_txn.specs.OtherClient.{other_client}
 use Rattle.fork_parts.specs.declared.cause.Cause.TheVariants as cause
-use Rattle.fork_parts.specs.Built.{Datagram, cancel_to}
-use Rattle.fork_parts.specs.Call.{Call, leg_at, row_passes, set_leg}
-use Rattle.fork_parts.specs.Client.{Client, client_after, client_out}
-use Rattle.fork_parts.specs.Datagrams.{ack_on, ack_owed}
-use Rattle.fork_parts.specs.Fixed.{Way}
-use Rattle.fork_parts.specs.Leg.{Cancelling, Leg, cancel_start}
-use Rattle.fork_parts.specs.LegInside.{cancel_on, cancelled, changed_leg, responded, with_client, without_ack}
-use Rattle.fork_parts.specs.Plain.{PostsBare}
-use Rattle.fork_parts.specs.Posting.{Posts}
-use Rattle.fork_parts.specs.Pump.{Did, FiresTimerC, GivesUp, OnLeg, OnPart, Pumped, Send, SendsAck, SendsCancel, TicksCancel, TicksClient, TicksClientBy, is_request, is_timeout, sent_if, stopped, ticked}
+use Rattle.fork_parts.specs.inner.Datagrams.{ack_owed}
+use Rattle.fork_parts.specs.Leg.{cancel_start}
+use Rattle.fork_parts.specs.LegInside.{cancelled}
+use Rattle.fork_parts.specs.inner.LegInside.{without_ack}
+use Rattle.fork_parts.specs.Pump.{GivesUp, OnLeg, SendsAck, SendsCancel, TicksCancel, TicksClient}
 use Rattle.fork_parts.proofs.Changing.{changed_part}
 
 pub same_leg : (o : Option Leg) (a b : Leg) → o ≡ Some a → o ≡ Some b → a ≡ b

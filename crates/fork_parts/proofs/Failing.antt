@@ -1,20 +1,9 @@
 -- A datagram that could not be sent, and what comes to the transaction of a CANCEL.
-use Rattle.std.proofs.Common.{◌≡◌, ◌∙◌, ℕ, zero, suc, ap, refl, sym, subst, true, false, Bool, List, [], ◌∷◌, Option, Some, None, option_map, slice_get}
-use Rattle.fork_model.specs.Table.{is_open}
-use Rattle.sip_txn.specs.declared.event.TxEvent.{TxEvent}
+use Rattle.fork_parts.proofs.Common.{◌≡◌, ◌∙◌, ℕ, zero, suc, ap, refl, sym, subst, true, false, Bool, List, [], ◌∷◌, Option, Some, None, slice_get, is_open, TxEvent, TxOut, Machine, OtherClientState, machine_after, other_client, Call}
+use Rattle.fork_parts.proofs.Common.{leg_at, row_passes, set_leg, with_leg, Client, client_after, client_out, FaultsBy, FaultsClient, cancel_faulted, faulted, faulted_cancel, is_fault, Cancelling, Leg, cancel_on, changed_leg, responded}
+use Rattle.fork_parts.proofs.Common.{with_client, is_timeout, IsSound}
+use Rattle.std.proofs.Common.{option_map}
 use Rattle.sip_txn.specs.declared.event.TxEvent.TheVariants as event
-use Rattle.sip_txn.specs.declared.event.TxOut.{TxOut}
-use Rattle.sip_txn.specs.declared.machine.Machine.{Machine}
-use Rattle.sip_txn.specs.declared.other_client.OtherClientState.{OtherClientState}
-use Rattle.sip_txn.specs.Machine.{machine_after}
-use Rattle.sip_txn.specs.OtherClient.{other_client}
-use Rattle.fork_parts.specs.Call.{Call, leg_at, row_passes, set_leg, with_leg}
-use Rattle.fork_parts.specs.Client.{Client, client_after, client_out}
-use Rattle.fork_parts.specs.Failed.{FaultsBy, FaultsClient, cancel_faulted, faulted, faulted_cancel, is_fault}
-use Rattle.fork_parts.specs.Leg.{Cancelling, Leg}
-use Rattle.fork_parts.specs.LegInside.{cancel_on, changed_leg, responded, with_client}
-use Rattle.fork_parts.specs.Pump.{is_timeout}
-use Rattle.fork_parts.specs.Sound.{IsSound}
 use Rattle.fork_parts.proofs.Changing.{changed_part}
 use Rattle.fork_parts.proofs.LegLists.{found_is}
 use Rattle.fork_parts.proofs.Waiting as waiting

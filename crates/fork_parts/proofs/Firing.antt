@@ -1,16 +1,10 @@
 -- Timer C fires: its branch was sent to, and it is an INVITE.
-use Rattle.std.proofs.Common.{◌≡◌, ℕ, ap, refl, true, false, Option, Some, None, slice_get}
-use Rattle.std.specs.Prelude.{is_some}
-use Rattle.std.proofs.lemmas.Bool.{and_from, and_parts}
-use Rattle.fork_model.specs.Event.{TimerC}
+use Rattle.fork_parts.proofs.Common.{◌≡◌, ℕ, ap, refl, true, false, Option, Some, None, slice_get, is_some, and_from, and_parts, TimerC, Ended, Idle, Row, Rung, State, Trying, is_invite, is_row, table_of, Call, leg_at, row_passes, rows_of}
+use Rattle.fork_parts.proofs.Common.{FireTimerC, is_due_at, Leg, IsSound}
 use Rattle.fork_model.specs.OpenBranches.{fits, is_pending}
-use Rattle.fork_model.specs.Table.{Ended, Idle, Row, Rung, State, Trying, is_invite, is_row}
-use Rattle.fork_book.specs.Log.{table_of}
 use Rattle.sip_txn.specs.Timers.{is_due}
-use Rattle.fork_parts.specs.Call.{Call, is_sent, leg_at, row_passes, rows_of, runs_timer_c}
-use Rattle.fork_parts.specs.Due.{FireTimerC, is_due_at, timer_c_at}
-use Rattle.fork_parts.specs.Leg.{Leg}
-use Rattle.fork_parts.specs.Sound.{IsSound}
+use Rattle.fork_parts.specs.Call.{is_sent, runs_timer_c}
+use Rattle.fork_parts.specs.Due.{timer_c_at}
 
 some_of : (now : ℕ) (at : Option ℕ) → is_due now at ≡ true → is_some at ≡ true
 some_of now None e = absurd cc

@@ -1,12 +1,9 @@
 -- What was stored stays stored, so that a row that is first now, and had its answer before, was first before.
-use Rattle.std.proofs.Common.{◌≡◌, ◌∙◌, ℕ, ap, refl, sym, subst, true, Option, Some, None, List, slice_get}
-use Rattle.std.specs.Option.{option_map}
+use Rattle.fork_parts.proofs.Common.{◌≡◌, ◌∙◌, ℕ, ap, refl, sym, subst, true, Option, Some, None, slice_get, option_map, stored_at, HasStored, Idle, Trying, Rung, Ended, Row, Rules, State, StoredAnswer, Table, stored_of, HasFirst}
 use Rattle.fork_model.specs.Rank.{Before, Score}
-use Rattle.fork_model.specs.Choice.{HasScore, score_of, stored_at}
-use Rattle.fork_model.specs.Sources.{HasStored}
+use Rattle.fork_model.specs.Choice.{HasScore, score_of}
 use Rattle.fork_model.specs.Steps.{GoesOn}
-use Rattle.fork_model.specs.Table.{Idle, Trying, Rung, Ended, Row, Rules, State, StoredAnswer, Table, is_ended, stored_of}
-use Rattle.fork_context.specs.Chosen.{HasFirst}
+use Rattle.fork_model.specs.Table.{is_ended}
 
 ended_of : (s : State) (a : StoredAnswer) → stored_of s ≡ Some a → is_ended s ≡ true
 ended_of Idle a e = absurd cc

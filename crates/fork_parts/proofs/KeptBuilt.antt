@@ -1,20 +1,6 @@
-use Rattle.std.proofs.Common.{◌≡◌, ◌⊎◌, ℕ, zero, suc, inl, inr, ap, refl, sym, subst, List, [], ◌∷◌, ◌++◌, map, Option, Some, slice_get}
-use Rattle.std.specs.Prelude.{IfSome}
-use Rattle.fork_model.specs.Event.{Event}
-use Rattle.fork_model.specs.Reply.{Reply}
-use Rattle.fork_model.specs.Table.{Row}
-use Rattle.fork_book.specs.Log.{added}
-use Rattle.sip_text.specs.Text.{MessageText, spelling}
-use Rattle.sip_uri.specs.Contact.{ContactText}
-use Rattle.sip_txn.specs.declared.event.TxSend.{TxSend}
+use Rattle.fork_parts.proofs.Common.{◌≡◌, ◌⊎◌, ℕ, zero, suc, inl, inr, ap, refl, sym, subst, List, [], ◌∷◌, ◌++◌, map, Option, Some, slice_get, IfSome, Event, Reply, Row, added, MessageText, spelling, ContactText, TxSend, Way, Leg, Call}
+use Rattle.fork_parts.proofs.Common.{found, leg_at, set_leg, with_leg, IsBuilt, IsBuiltLeg, IsAck, Posts, gone_on, owes, owed_by, no_leg, call_tag, ack_to, ack_by}
 use Rattle.sip_txn.specs.declared.event.TxSend.TheVariants as send
-use Rattle.fork_parts.specs.Fixed.{Way}
-use Rattle.fork_parts.specs.Leg.{Leg}
-use Rattle.fork_parts.specs.Call.{Call, found, leg_at, set_leg, with_leg}
-use Rattle.fork_parts.specs.Datagrams.{IsBuilt, IsBuiltLeg, IsAck}
-use Rattle.fork_parts.specs.Posting.{Posts, gone_on, owes, owed_by, no_leg, call_tag}
-use Rattle.fork_parts.specs.Built.{ack_to}
-use Rattle.fork_parts.specs.Take.{ack_by}
 
 -- ---- the part at a place
 

@@ -1,12 +1,6 @@
-use Rattle.std.proofs.Common.{◌≡◌, ℕ, zero, suc, ◌<◌, ap, refl, sym, arith, List, [], ◌∷◌, Option, Some, None, length, ◌∙◌, slice_set, slice_get, get_or, ◌++◌, ◌+◌, map}
-use Rattle.fork_book.specs.Log.{Log}
-use Rattle.fork_parts.specs.Fixed.{Way}
-use Rattle.fork_parts.specs.Leg.{Leg}
-use Rattle.fork_parts.specs.Call.{found, with_leg}
-use Rattle.fork_parts.specs.LegInside.{changed_leg, no_legs}
-use Rattle.fork_model.specs.Table.{Row}
-use Rattle.fork_parts.specs.Posting.{no_leg}
-use Rattle.fork_parts.specs.PartsInside.{IsSized}
+use Rattle.fork_parts.proofs.Common.{◌≡◌, ℕ, zero, suc, ◌<◌, ap, refl, sym, arith, List, [], ◌∷◌, Option, Some, None, length, ◌∙◌, slice_set, slice_get, ◌++◌, ◌+◌, map, Log, Way, Leg, found, with_leg, changed_leg, no_legs, Row, no_leg}
+use Rattle.fork_parts.proofs.Common.{IsSized}
+use Rattle.std.proofs.Common.{get_or}
 
 pub set_is : (legs : List (Option Leg)) (n : ℕ) (leg : Leg) → slice_set legs n (Some leg) ≡ with_leg legs n leg
 set_is [] n leg = refl

@@ -1,16 +1,14 @@
 -- The rows that one event adds stand for contacts at places of their own.
-use Rattle.std.proofs.Common.{◌≡◌, ◌≢◌, ◌∙◌, ℕ, zero, suc, ◌<◌, ◌≤◌, ap, refl, sym, subst, arith, true, false, Bool, List, [], ◌∷◌, ◌++◌, map, length, drop, Option, Some, None, slice_get, cond, eqb-true, ltb-true, ltb-false}
-use Rattle.std.proofs.lemmas.Bool.{eqb-false}
-use Rattle.std.specs.Prelude.{◌||◌, ◌==◌, nat_lt, not, filter, filter_map, unwrap_or}
-use Rattle.std.specs.List.{AllByRecursion, cons_option}
-use Rattle.std.specs.Option.{option_map}
-use Rattle.fork_model.specs.Table.{Offer, Row, State, Idle, Trying, Rung, Ended, Table}
-use Rattle.fork_model.specs.Event.{FinalAnswer, Answer}
-use Rattle.fork_model.specs.Groups.{numbers_below, with_q, falling, is_value, places_of, in_group, numbered_from, numbered}
-use Rattle.fork_model.specs.Contacts.{Fate, Known, Fresh, Left, fate_of, keys_after, with_fate, Taking, taking_from, taking_at, keys_of, fresh_row, fresh_rows}
+use Rattle.fork_parts.proofs.Common.{◌≡◌, ◌≢◌, ◌∙◌, ℕ, zero, suc, ◌<◌, ◌≤◌, ap, refl, sym, subst, arith, true, false, Bool, List, [], ◌∷◌, ◌++◌, map, length, drop, Option, Some, None, slice_get, cond, ◌||◌, ◌==◌, nat_lt, not, filter}
+use Rattle.fork_parts.proofs.Common.{filter_map, unwrap_or, AllByRecursion, cons_option, option_map, Offer, Row, State, Idle, Trying, Rung, Ended, Table, FinalAnswer, Answer, numbers_below, Effect, effect, answers, with_state, with_effect}
+use Rattle.fork_parts.proofs.Common.{change_at, settled_row, settled, next, IsNone, place_of}
+use Rattle.std.proofs.Common.{eqb-true}
+use Rattle.fork_model.specs.Groups.{falling, is_value, places_of, in_group, numbered_from, numbered}
+use Rattle.fork_model.specs.Contacts.{ContactOutcome, Known, Fresh, Left, outcome_of, keys_after, with_outcome, ContactLists, taking_from, taking_at, keys_of, fresh_row, fresh_rows}
 use Rattle.fork_model.specs.Waiting.{depth_of}
-use Rattle.fork_model.specs.Step.{Effect, effect, accepts, answers, redirects, stores, with_state, with_effect, change_at, settled_row, settled, next}
-use Rattle.fork_parts.specs.NewWays.{Apart, IsNone, place_of}
+use Rattle.fork_model.specs.Step.{accepts, redirects, stores}
+use Rattle.fork_model.proofs.laws.GroupLemmas.{Below, Falls, falls_falling}
+use Rattle.fork_parts.specs.inner.NewWays.{Apart}
 
 -- ---- lists
 
@@ -66,40 +64,6 @@ numbers_apart zero = tt
 numbers_apart (suc n) =
     apart_joined (numbers_below n) (n ∷ []) (numbers_apart n) (tt, tt)
     (all_as (λ k. k < n) (IsNone (n ∷ [])) (numbers_below n) (λ k lt. (λ same. absurd (let e : k ≡ n = same in omega arith), tt)) (all_below n))
-
--- each of these is less
-abbrev Below : ℕ → List ℕ → Type 0
-Below d es = AllByRecursion (λ e. e < d) es
-
-abbrev Falls : List ℕ → Type 0
-Falls [] = Unit {0}
-Falls (d ∷ ds) = Below d ds × Falls ds
-
-below_with : (d q : ℕ) (ds : List ℕ) → q < d → Below d ds → Below d (with_q q ds)
-below_with d q [] lt b = (lt, tt)
-below_with d q (o ∷ os) lt b = go (q == o) (nat_lt o q) (below_with d q os lt b.1)
-  where
-    go : (same less : Bool) → Below d (with_q q os) → Below d (cond same (o ∷ os) (cond less (q ∷ o ∷ os) (o ∷ with_q q os)))
-    go true less rest = b
-    go false true rest = (lt, b)
-    go false false rest = (b.0, rest)
-
-falls_with : (q : ℕ) (ds : List ℕ) → Falls ds → Falls (with_q q ds)
-falls_with q [] f = (tt, tt)
-falls_with q (o ∷ os) f = go (q == o) (nat_lt o q) refl refl (falls_with q os f.1)
-  where
-    go : (same less : Bool) → (q == o) ≡ same → nat_lt o q ≡ less → Falls (with_q q os) → Falls (cond same (o ∷ os) (cond less (q ∷ o ∷ os) (o ∷ with_q q os)))
-    go true less e l rest = f
-    go false true e l rest =
-        let lt : o < q = ltb-true o q l in
-        ((lt, all_as (λ e. e < o) (λ e. e < q) os (λ e less. omega arith) f.0), f)
-    go false false e l rest =
-        let lt : q < o = omega (arith, eqb-false q o e, ltb-false o q l) in
-        (below_with o q os lt f.0, rest)
-
-falls_falling : (qs : List ℕ) → Falls (falling qs)
-falls_falling [] = tt
-falls_falling (q ∷ qs) = falls_with q (falling qs) (falls_falling qs)
 
 abbrev second : ℕ × ℕ → ℕ
 second p = p.1
@@ -189,10 +153,10 @@ rises_later start fresh (from, one) = (λ i f is. let later : suc start ≤ f.0 
 
 taking_rises : (keys : List (List ℕ)) (start : ℕ) (offers : List Offer) → Rises start (taking_from keys start offers).fresh
 taking_rises keys start [] = (λ i f is. absurd cc, λ i j f g is at same. absurd cc)
-taking_rises keys start (offer ∷ offers) = go (fate_of keys offer.key) (λ known. taking_rises known (suc start) offers)
+taking_rises keys start (offer ∷ offers) = go (outcome_of keys offer.key) (λ known. taking_rises known (suc start) offers)
   where
-    go : (fate : Fate) → ((known : List (List ℕ)) → Rises (suc start) (taking_from known (suc start) offers).fresh)
-        → Rises start (with_fate start offer fate (taking_from (keys_after keys fate) (suc start) offers)).fresh
+    go : (outcome : ContactOutcome) → ((known : List (List ℕ)) → Rises (suc start) (taking_from known (suc start) offers).fresh)
+        → Rises start (with_outcome start offer outcome (taking_from (keys_after keys outcome) (suc start) offers)).fresh
     go Known rest = rises_later start _ (rest _)
     go (Fresh key) rest = rises_first start offer _ (rest _)
     go Left rest = rises_later start _ (rest _)
@@ -200,7 +164,7 @@ taking_rises keys start (offer ∷ offers) = go (fate_of keys offer.key) (λ kno
 taken_once : (t : Table) (row : Row) (offers : List Offer) → OnePlaceEach (taking_at t row offers).fresh
 taken_once t row offers = go (t.closed || not (nat_lt (depth_of t.rows row) t.rules.depth))
   where
-    go : (b : Bool) → OnePlaceEach (cond {A = Taking} b (record { fresh = []; left = offers }) (taking_from (keys_of t.rows) 0 offers)).fresh
+    go : (b : Bool) → OnePlaceEach (cond {A = ContactLists} b (record { fresh = []; left = offers }) (taking_from (keys_of t.rows) 0 offers)).fresh
     go true = λ i j f g is at same. absurd cc
     go false = (taking_rises (keys_of t.rows) 0 offers).1
 

@@ -1,21 +1,8 @@
 -- A response that is posted, with the rows that it adds.
-use Rattle.std.proofs.Common.{◌≡◌, ◌∙◌, ℕ, ◌+◌, ◌-◌, ◌≤◌, ap, sym, arith, false, List, ◌++◌, drop, map, length, length-append, length-drop, Option}
-use Rattle.std.specs.Prelude.{filter_map}
+use Rattle.fork_parts.proofs.Common.{◌≡◌, ◌∙◌, ℕ, ◌+◌, ◌≤◌, ap, sym, arith, false, List, ◌++◌, drop, map, length, Option, filter_map, is_full, Event, Reply, Row, IsAdded, Log, added, core_of, table_of, MessageText, ContactText, Call, Way}
+use Rattle.fork_parts.proofs.Common.{Leg, HaveWays, PostsSaid, way_for, IsSized, call_tag, gone_on, no_leg, owed_by, owes, rows_more, way_of_contact, ways_of, Owed}
+use Rattle.std.proofs.Common.{◌-◌, length-append, length-drop}
 use Rattle.std.proofs.lemmas.List.{length-map}
-use Rattle.fork_model.specs.Core.{is_full}
-use Rattle.fork_model.specs.Event.{Event}
-use Rattle.fork_model.specs.Reply.{Reply}
-use Rattle.fork_model.specs.Table.{Row}
-use Rattle.fork_book.specs.Log.{IsAdded, Log, added, core_of, table_of}
-use Rattle.sip_text.specs.Text.{MessageText}
-use Rattle.sip_uri.specs.Contact.{ContactText}
-use Rattle.fork_parts.specs.Call.{Call}
-use Rattle.fork_parts.specs.Fixed.{Way}
-use Rattle.fork_parts.specs.Leg.{Leg}
-use Rattle.fork_parts.specs.NewWays.{HaveWays, PostsSaid, way_for}
-use Rattle.fork_parts.specs.PartsInside.{IsSized}
-use Rattle.fork_parts.specs.Posting.{call_tag, gone_on, no_leg, owed_by, owes, rows_more, way_of_contact, ways_of}
-use Rattle.fork_parts.specs.Server.{Owed}
 use Rattle.fork_parts.proofs.NewWays.{each_goes, ways_are}
 
 -- each row has its way and room for its part, those that were added too

@@ -1,33 +1,18 @@
 -- Each row that a response adds has the way of its contact, and takes it.
-use Rattle.std.proofs.Common.{◌≡◌, ◌≢◌, ◌∙◌, ℕ, zero, suc, ◌<◌, ◌≤◌, ◌+◌, ap, refl, sym, subst, arith, true, false, Bool, List, [], ◌∷◌, ◌++◌, map, length, drop, Option, Some, None, slice_get, cond, option_map, append_assoc, ltb-true, ltb-false}
-use Rattle.std.specs.Prelude.{is_some, slice_set, filter_map, nat_lt, Result, Ok, Err, codes}
-use Rattle.std.specs.List.{AllByRecursion, cons_option, flat_map, list_all}
-use Rattle.std.specs.Option.{option_and_then}
-use Rattle.std.proofs.lemmas.Bool.{and_from, and_parts}
-use Rattle.std.proofs.lemmas.List.Folds.{list_all-append}
-use Rattle.fork_model.specs.Table.{Offer, Row}
-use Rattle.fork_model.specs.Event.{Event, Ring, Answer, FinalAnswer}
-use Rattle.fork_model.specs.Step.{next}
+use Rattle.fork_parts.proofs.Common.{◌≡◌, ◌≢◌, ◌∙◌, ℕ, zero, suc, ◌<◌, ◌≤◌, ◌+◌, ap, refl, sym, subst, arith, true, false, Bool, List, [], ◌∷◌, ◌++◌, map, length, drop, Option, Some, None, slice_get, cond, is_some, slice_set, filter_map}
+use Rattle.fork_parts.proofs.Common.{nat_lt, Result, Ok, Err, codes, AllByRecursion, cons_option, flat_map, list_all, option_and_then, and_from, and_parts, list_all-append, Offer, Row, Event, Ring, Answer, FinalAnswer, next, values_of}
+use Rattle.fork_parts.proofs.Common.{MessageText, ContactText, Form, are_items, contact_of, contact_of_form, contact_params, form_of, is_contact_param, items_behind, q_of, takeable, read_uri, Uri, Hop, UriFault, BadText, is_closed}
+use Rattle.fork_parts.proofs.Common.{QuotesAndAngles, Fixed, Way, HaveWays, IsNone, count_in, place_of, way_for, without, Leg, no_leg, way_of_contact, ways_of, challenges_by, contacts_at, contacts_by, contacts_in, contacts_or, event_by}
+use Rattle.fork_parts.proofs.Common.{is_redirection, offer_of, ◌&&◌}
+use Rattle.std.proofs.Common.{option_map, append_assoc, ltb-true, ltb-false}
 use Rattle.fork_model.specs.Sources.{AddsNoRow, IsRowOf, NewRowsAreContacts}
-use Rattle.sip_text.specs.Name.{values_of}
-use Rattle.sip_text.specs.Text.{MessageText}
-use Rattle.sip_uri.specs.Contact.{ContactText, Form, are_items, contact_of, contact_of_form, contact_params, contacts_of, form_of, is_contact_param, items_behind, q_of, takeable}
+use Rattle.sip_uri.specs.Contact.{contacts_of}
 use Rattle.sip_uri.specs.Hop.{hop_of}
 use Rattle.sip_uri.specs.Key.{key_of}
-use Rattle.sip_uri.specs.Reading.{read_uri}
-use Rattle.sip_uri.specs.Uri.{Uri}
-use Rattle.sip_uri.specs.declared.hop.Hop.{Hop}
-use Rattle.sip_uri.specs.declared.fault.UriFault.{UriFault}
-use Rattle.sip_uri.specs.declared.fault.UriFault.TheVariants.{BadText}
-use Rattle.sip_lex.specs.Sheltered.{is_closed}
-use Rattle.sip_lex.specs.declared.sheltered.Shelter.TheVariants.{QuotesAndAngles}
-use Rattle.fork_parts.specs.Fixed.{Fixed, Way, next_hop, way_by, way_to}
-use Rattle.fork_parts.specs.NewWays.{GivesWays, HaveWays, IsNone, count_in, has_way, joined, place_of, way_for, way_in, without}
-use Rattle.fork_parts.specs.Leg.{Leg}
-use Rattle.fork_parts.specs.Posting.{no_leg, way_of_contact, way_of_row, ways_of}
-use Rattle.fork_parts.specs.Response.{challenges_by, contacts_at, contacts_by, contacts_in, contacts_or, event_by, is_redirection, offer_of}
+use Rattle.fork_parts.specs.Fixed.{next_hop, way_by, way_to}
+use Rattle.fork_parts.specs.inner.NewWays.{GivesWays, has_way, joined, way_in}
+use Rattle.fork_parts.specs.Posting.{way_of_row}
 use Rattle.fork_parts.proofs.NewPlaces.{added_apart, drop_all}
-use Rattle.std.specs.Prelude.{◌&&◌}
 
 -- ---- a contact that may be tried has a hop
 
@@ -275,11 +260,6 @@ set_without [] place = refl
 set_without (w ∷ ways) zero = refl
 set_without (w ∷ ways) (suc place) = ap (λ (ws : List (Option Way)). w ∷ ws) (set_without ways place)
 
-pub way_below : (ways : List (Option Way)) (place : ℕ) → is_some (way_in ways place) ≡ true → place < length ways
-way_below [] place e = absurd cc
-way_below (w ∷ ways) zero e = omega arith
-way_below (w ∷ ways) (suc place) e = let rest : place < length ways = way_below ways place e in omega arith
-
 -- a row that is still to take its way finds it
 pub finds : (ways : List (Option Way)) (rows : List Row) (n place : ℕ) → option_map (λ row. row.place) (slice_get rows n) ≡ Some place → HaveWays ways (drop n rows) → is_some (way_in ways place) ≡ true
 finds ways rows n place e have =
@@ -320,9 +300,3 @@ one_leg_more before now rows n place e pushed =
     ap (λ (ls : List (Option Leg)). ls ++ map no_leg rest) pushed
     ∙ append_assoc before (None ∷ []) (map no_leg rest)
     ∙ ap (λ (rs : List Row). before ++ map no_leg rs) (sym at.2)
-
-pub drop_past : (rows : List Row) (n : ℕ) → length rows ≤ n → drop n rows ≡ []
-drop_past [] zero h = refl
-drop_past [] (suc n) h = refl
-drop_past (row ∷ rows) zero h = absurd (omega arith)
-drop_past (row ∷ rows) (suc n) h = drop_past rows n (omega arith)

@@ -1,28 +1,16 @@
 -- The first answer that is owed, as it is sent.
-use Rattle.std.proofs.Common.{◌≡◌, ◌∙◌, ℕ, ap, refl, sym, subst, true, false, Bool, List, [], ◌∷◌, map, drop, filter, Option, Some, None, option_map, slice_get}
-use Rattle.std.specs.Prelude.{◌&&◌, ◌==◌, Result, Ok, Err, IfOk, cond, length, nat_lt}
-use Rattle.std.specs.List.{cons_option, filter_map, flat_map, list_all}
-use Rattle.std.specs.Option.{option_and_then}
-use Rattle.std.proofs.lemmas.Bool.{and_from, and_parts, cond-true}
-use Rattle.std.proofs.lemmas.List.Folds.{list_all-append}
+use Rattle.fork_parts.proofs.Common.{◌≡◌, ◌∙◌, ◌++◌, ℕ, ap, refl, sym, subst, true, false, Bool, List, [], ◌∷◌, map, drop, filter, Option, Some, None, slice_get, ◌&&◌, ◌==◌, Result, Ok, Err, IfOk, cond, length, nat_lt, cons_option}
+use Rattle.fork_parts.proofs.Common.{flat_map, list_all, option_and_then, and_from, and_parts, cond-true, list_all-append, Core, numbers_below, Best, stored_at, Challenge, Offer, Row, StoredAnswer, Table, stored_of, IsChosen, left_of, Log}
+use Rattle.fork_parts.proofs.Common.{core_of, table_of, is_value, MessageText, is_challenge, IsPaid, IsText, answer_in, kept_at, text_of, was_received, Call, leg_at, rows_of, Leg, AnswersWith, Pumped, SendsAnswer, Owed, IsForward, IsSound}
+use Rattle.fork_parts.proofs.Common.{StoresValues, is_text, Payment}
+use Rattle.std.proofs.Common.{option_map}
+use Rattle.std.specs.List.{filter_map}
 use Rattle.fork_model.specs.Challenges.{added_to, asks_credentials, by_arrival, challenge_list, other_askers, stored_beside, with_arrival}
-use Rattle.fork_model.specs.Groups.{numbers_below}
-use Rattle.fork_model.specs.Choice.{Best, stored_at}
-use Rattle.fork_model.specs.Table.{Challenge, Offer, Row, StoredAnswer, Table, stored_of}
-use Rattle.fork_context.specs.LeftView.{left_of, left_of_answer}
-use Rattle.sip_text.specs.Message.{is_value}
-use Rattle.sip_text.specs.Text.{MessageText}
+use Rattle.fork_context.specs.LeftView.{left_of_answer}
 use Rattle.sip_build.specs.declared.responses.OwnStatus.TheVariants as own
-use Rattle.sip_build.specs.Upward.{is_challenge, upward_of}
-use Rattle.fork_parts.specs.AnswersInside.{IsPaid, IsText}
-use Rattle.fork_parts.specs.Built.{answer_in, best_of, final_of, generated, kept_at, kept_of, text_of, was_received}
-use Rattle.fork_parts.specs.Call.{Call, leg_at, rows_of}
-use Rattle.fork_parts.specs.Leg.{Leg}
-use Rattle.fork_parts.specs.Pump.{AnswersWith, Pumped, SendsAnswer}
+use Rattle.sip_build.specs.Upward.{upward_of}
+use Rattle.fork_parts.specs.Built.{best_of, final_of, generated, kept_of}
 use Rattle.fork_parts.specs.Server as server
-use Rattle.fork_parts.specs.Server.{Owed}
-use Rattle.fork_parts.specs.Sound.{IsForward, IsSound, StoresValues, is_text}
-use Rattle.fork_parts.specs.declared.answers.Payment.{Payment}
 use Rattle.fork_parts.specs.declared.answers.Payment.TheVariants as payment
 use Rattle.fork_parts.proofs.RightDatagrams.{some_as}
 
@@ -102,6 +90,16 @@ challenges_pass t n values = by (stored_at (slice_get t.rows n))
     by : (o : Option StoredAnswer) → list_all is_challenge (added_to t.rows n o) ≡ true
     by None = refl
     by (Some chosen) = pass (asks_credentials chosen)
+
+-- those that a context adds to none
+pub challenges_all : (log : Log) (n : ℕ) (context : Core) (old all : List Challenge) → context ≡ core_of log
+    → (IsChosen context.table (Some (Best n)) → all ≡ old ++ challenge_list context.table.rows (Best n))
+    → IsChosen (table_of log) (Some (Best n)) → old ≡ [] → all ≡ challenge_list (table_of log).rows (Best n)
+challenges_all log n context old all stands added chosen empty =
+    let C : Core → Type 0 = λ x. IsChosen x.table (Some (Best n)) in
+    added (subst C (sym stands) chosen)
+    ∙ ap (λ (cs : List Challenge). cs ++ challenge_list context.table.rows (Best n)) empty
+    ∙ ap (λ (x : Core). challenge_list x.table.rows (Best n)) stands
 
 -- ---- contacts
 

@@ -1,10 +1,7 @@
 -- Entries and their messages, put behind others and taken from the front.
-use Rattle.std.proofs.Common.{◌≡◌, suc, ap, refl, List, [], ◌∷◌, ◌++◌, length}
+use Rattle.fork_parts.proofs.Common.{◌≡◌, suc, ap, refl, List, [], ◌∷◌, ◌++◌, length, MessageText, HaveMessages, queue_of, Entry}
 use Rattle.fork_context.specs.ReplyView.{choice_of}
-use Rattle.sip_text.specs.Text.{MessageText}
 use Rattle.fork_parts.specs.Server as server
-use Rattle.fork_parts.specs.Queue.{HaveMessages, queue_of}
-use Rattle.fork_parts.specs.declared.queue.Entry.{Entry}
 use Rattle.fork_parts.specs.declared.queue.Entry.TheVariants as entry
 
 module _ (more : List Entry) (others : List MessageText) where

@@ -1,28 +1,15 @@
 -- What each step leaves of what a call sends again.
-use Rattle.std.proofs.Common.{◌≡◌, ◌∙◌, ℕ, zero, suc, ap, refl, sym, subst, true, false, Bool, List, [], ◌∷◌, Option, Some, None, slice_get}
-use Rattle.fork_model.specs.Event.{Event}
-use Rattle.fork_model.specs.Reply.{Reply}
-use Rattle.sip_text.specs.Text.{MessageText, spelling}
-use Rattle.sip_uri.specs.Contact.{ContactText}
-use Rattle.sip_uri.specs.declared.hop.Hop.{Hop}
-use Rattle.fork_parts.specs.declared.cause.Cause.{Cause}
+use Rattle.fork_parts.proofs.Common.{◌≡◌, ◌∙◌, ℕ, zero, suc, ap, refl, sym, subst, true, false, Bool, List, [], ◌∷◌, Option, Some, None, slice_get, Event, Reply, MessageText, spelling, ContactText, Hop, Cause, Datagram, answer_of}
+use Rattle.fork_parts.proofs.Common.{cancel_to, request_to, Call, leg_at, IsBuilt, IsRight, Deed, Fails, FaultsBy, FaultsClient, cancel_faulted, Fixed, Way, Leg, Posts, Pumped, Send, Did, Does, Pumps, SendsAnswer, AnswersBy, AnswersWith}
+use Rattle.fork_parts.proofs.Common.{TicksClientBy, FiresTimerC, sent_if, Owed, Passed, Final, Again, CancelOk, CancelledBy, Responds, Taken, TakesAs}
 use Rattle.fork_parts.specs.declared.cause.Cause.TheVariants as cause
 use Rattle.fork_parts.specs.Again.{LastAnswerIsKept, RepeatsAreTheSame, is_repeated, last_after}
-use Rattle.fork_parts.specs.Built.{Datagram, answer_of, cancel_to, request_to}
-use Rattle.fork_parts.specs.Call.{Call, leg_at}
-use Rattle.fork_parts.specs.Datagrams.{IsBuilt, IsRight}
 use Rattle.fork_parts.specs.Due as due
-use Rattle.fork_parts.specs.Due.{Deed}
-use Rattle.fork_parts.specs.Failed.{Fails, FaultsBy, FaultsClient, cancel_faulted}
-use Rattle.fork_parts.specs.Fixed.{Fixed, Way}
-use Rattle.fork_parts.specs.Leg.{Leg}
-use Rattle.fork_parts.specs.Posting.{Posts}
-use Rattle.fork_parts.specs.Pump.{Pumped, Send, Did, Idle, Does, Pumps, SendsAnswer, AnswersBy, AnswersWith, TicksClientBy, FiresTimerC, sent_if}
-use Rattle.fork_parts.specs.Server.{Owed, Trying, Passed, Final, Again, CancelOk}
+use Rattle.fork_parts.specs.Pump.{Idle}
+use Rattle.fork_parts.specs.Server.{Trying}
 use Rattle.fork_parts.specs.Step as step
 use Rattle.fork_parts.specs.Step.{Run, Turn}
 use Rattle.fork_parts.specs.Take as to
-use Rattle.fork_parts.specs.Take.{CancelledBy, Responds, Taken, TakesAs}
 use Rattle.fork_parts.proofs.KeptBuilt.{way_more}
 use Rattle.fork_parts.proofs.RightDatagrams.{datagrams_right}
 use Rattle.fork_parts.proofs.StepsBuilt.{steps_keep}

@@ -1,23 +1,7 @@
-use Rattle.std.proofs.Common.{◌≡◌, ◌∙◌, ℕ, ap, refl, sym, subst, true, false, Bool, List, Option, Some, None, slice_get}
-use Rattle.std.specs.Prelude.{◌↔◌, IsTrue, nat_lt, cond}
-use Rattle.fork_model.specs.Event.{Event}
-use Rattle.sip_text.specs.Text.{MessageText, spelling}
-use Rattle.sip_txn.specs.declared.event.TxOut.{TxOut}
-use Rattle.sip_txn.specs.declared.event.TxSend.{TxSend}
+use Rattle.fork_parts.proofs.Common.{◌≡◌, ◌∙◌, ℕ, ap, refl, sym, subst, true, false, Bool, List, Option, Some, None, slice_get, ◌↔◌, IsTrue, nat_lt, cond, Event, MessageText, spelling, TxOut, TxSend, Way, Client, client_after, client_out}
+use Rattle.fork_parts.proofs.Common.{Leg, Call, leg_at, set_leg, with_leg, ack_to, status_of, responded, kept, changed_leg, ack_made, answer_if, kept_if, is_full, HasFirst, core_of, table_of, PostsSaid, contacts_by, event_by, Posts}
+use Rattle.fork_parts.proofs.Common.{RespondsOn, Absorbed, Posted, Full, going_up, response_event, is_passed, ack_by, leg_after, leg_posted, timer_c_again, answer_kept}
 use Rattle.sip_txn.specs.declared.event.TxSend.TheVariants as send
-use Rattle.fork_parts.specs.Fixed.{Way}
-use Rattle.fork_parts.specs.Client.{Client, client_after, client_out}
-use Rattle.fork_parts.specs.Leg.{Leg}
-use Rattle.fork_parts.specs.Call.{Call, leg_at, set_leg, with_leg}
-use Rattle.fork_parts.specs.Built.{ack_to, status_of}
-use Rattle.fork_parts.specs.LegInside.{responded, kept, changed_leg, ack_made, answer_if, kept_if}
-use Rattle.fork_model.specs.Core.{is_full}
-use Rattle.fork_context.specs.Chosen.{HasFirst}
-use Rattle.fork_book.specs.Log.{core_of, table_of}
-use Rattle.fork_parts.specs.NewWays.{PostsSaid}
-use Rattle.fork_parts.specs.Response.{contacts_by, event_by}
-use Rattle.fork_parts.specs.Posting.{Posts}
-use Rattle.fork_parts.specs.Take.{RespondsOn, Absorbed, Posted, Full, going_up, response_event, is_passed, ack_by, leg_after, leg_posted, timer_c_again, answer_kept}
 use Rattle.fork_parts.proofs.LegLists.{changed_is, found_is}
 use Rattle.fork_parts.proofs.Changing.{at_set, changed_part, posts_part, set_twice, still_there}
 

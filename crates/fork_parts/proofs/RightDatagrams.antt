@@ -1,14 +1,8 @@
-use Rattle.std.proofs.Common.{◌≡◌, ◌∙◌, ℕ, inl, inr, refl, sym, subst, true, false, Bool, List, [], ◌∷◌, Option, Some, None, slice_get}
-use Rattle.std.specs.Prelude.{IfSome}
-use Rattle.sip_text.specs.Text.{MessageText}
-use Rattle.fork_parts.specs.Fixed.{Way}
-use Rattle.fork_parts.specs.Leg.{Leg}
-use Rattle.fork_parts.specs.Server.{Owed, Trying, Passed, Final, Again, CancelOk}
-use Rattle.fork_parts.specs.Call.{Call, leg_at}
-use Rattle.fork_parts.specs.Built.{Datagram, answer_of}
-use Rattle.fork_parts.specs.Datagrams.{IsBuilt, IsBuiltLeg, IsRight, DatagramsAreRight}
-use Rattle.fork_parts.specs.Due.{Deed, SendRequest, SendCancel, SendAck, SendAnswer, TickServer, TickClient, TickCancel, FireTimerC, GiveUp}
-use Rattle.fork_parts.specs.Pump.{Send, sent_if, Does, SendsAnswer, AnswersBy, AnswersWith, TicksClientBy, FiresTimerC}
+use Rattle.fork_parts.proofs.Common.{◌≡◌, ◌∙◌, ℕ, inl, inr, refl, sym, subst, true, false, Bool, List, [], ◌∷◌, Option, Some, None, slice_get, IfSome, MessageText, Way, Leg, Owed, Passed, Final, Again, CancelOk, Call, leg_at, Datagram}
+use Rattle.fork_parts.proofs.Common.{answer_of, IsBuilt, IsBuiltLeg, IsRight, Deed, SendRequest, SendCancel, SendAck, SendAnswer, TickServer, TickClient, TickCancel, FireTimerC, GiveUp, Send, sent_if, Does, SendsAnswer, AnswersBy}
+use Rattle.fork_parts.proofs.Common.{AnswersWith, TicksClientBy, FiresTimerC}
+use Rattle.fork_parts.specs.Server.{Trying}
+use Rattle.fork_parts.specs.Datagrams.{DatagramsAreRight}
 
 the_same : (d e : Datagram) → Send d ≡ Send e → d ≡ e
 the_same d e h = cc

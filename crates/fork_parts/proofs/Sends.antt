@@ -1,18 +1,9 @@
-use Rattle.std.proofs.Common.{◌≡◌, ◌∙◌, ℕ, ap, refl, subst, sym, Bool, true, List, Option, Some, drop, slice_get}
-use Rattle.fork_model.specs.Table.{Kind}
-use Rattle.fork_book.specs.Log.{Log}
-use Rattle.sip_text.specs.Text.{MessageText, spelling}
-use Rattle.sip_txn.specs.declared.event.TxEvent.{TxEvent}
-use Rattle.sip_txn.specs.declared.event.TxOut.{TxOut}
+use Rattle.fork_parts.proofs.Common.{◌≡◌, ◌∙◌, ℕ, ap, refl, subst, sym, Bool, true, List, Option, Some, drop, slice_get, Kind, Log, MessageText, spelling, TxEvent, TxOut, Hop, Fixed, Way, kind_of, Leg, leg_start, Server, Served, Owed, Call}
+use Rattle.fork_parts.proofs.Common.{with_leg, request_to, status_of, Pumped, Send, AnswersBy}
 use Rattle.fork_parts.specs.Take.{is_response}
-use Rattle.sip_uri.specs.declared.hop.Hop.{Hop}
 use Rattle.fork_parts.specs.declared.cause.Cause.TheVariants as cause
-use Rattle.fork_parts.specs.Fixed.{Fixed, Way, kind_of}
-use Rattle.fork_parts.specs.Leg.{Leg, leg_start}
-use Rattle.fork_parts.specs.Server.{Server, Served, Owed, served_after, served_out, answer_event}
-use Rattle.fork_parts.specs.Call.{Call, with_leg}
-use Rattle.fork_parts.specs.Built.{request_to, status_of}
-use Rattle.fork_parts.specs.Pump.{Pumped, Send, SendsRequest, AnswersBy}
+use Rattle.fork_parts.specs.Server.{served_after, served_out, answer_event}
+use Rattle.fork_parts.specs.Pump.{SendsRequest}
 
 -- the request to target n is sent, where each part is as it was made
 pub request_sent : (fixed : Fixed) (log : Log) (ways : List Way) (legs after : List (Option Leg)) (server : Server) (call : Call)

@@ -1,14 +1,10 @@
 -- A call begins sound.
-use Rattle.std.proofs.Common.{◌≡◌, ℕ, refl, List, [], Some, None}
+use Rattle.fork_parts.proofs.Common.{◌≡◌, ℕ, refl, List, [], Some, None, HasStored, StoredAnswersCame, Kind, Rules, StoredAnswer, table_of, kind_of, first_owed, IsSoundOwed, AllByRecursion}
 use Rattle.fork_model.specs.History.{Target}
-use Rattle.fork_model.specs.Sources.{HasStored, StoredAnswersCame}
-use Rattle.fork_model.specs.Table.{Kind, Invite, Other, Rules, StoredAnswer}
-use Rattle.fork_book.specs.Log.{opening_log, table_of}
-use Rattle.fork_parts.specs.Fixed.{kind_of}
-use Rattle.fork_parts.specs.Server.{first_owed}
-use Rattle.fork_parts.specs.Sound.{BegunIsSound, IsSoundOwed}
+use Rattle.fork_model.specs.Table.{Invite, Other}
+use Rattle.fork_book.specs.Log.{opening_log}
+use Rattle.fork_parts.specs.Sound.{BegunIsSound}
 use Rattle.fork_parts.proofs.KeptBuilt.{at_more}
-use Rattle.std.specs.List.{AllByRecursion}
 use Rattle.fork_model.specs.Table as table
 
 module _ (came : StoredAnswersCame) where

@@ -1,44 +1,25 @@
 -- Each step of a call keeps it sound.
-use Rattle.std.proofs.Common.{◌≡◌, ◌∙◌, ◌⊎◌, ℕ, zero, suc, ap, refl, sym, subst, inl, inr, true, false, Bool, List, [], ◌∷◌, ◌++◌, length, Option, Some, None, slice_get}
-use Rattle.std.specs.Prelude.{cond, nat_lt, is_some, IfSome}
-use Rattle.std.specs.List.{AllByRecursion, list_all}
-use Rattle.std.proofs.lemmas.Bool.{and_parts, cond-false, cond-true}
+use Rattle.fork_parts.proofs.Common.{◌≡◌, ◌∙◌, ◌⊎◌, ℕ, zero, suc, ap, refl, sym, subst, inl, inr, true, false, Bool, List, [], ◌∷◌, ◌++◌, length, Option, Some, None, slice_get, cond, nat_lt, is_some, IfSome, AllByRecursion, list_all}
+use Rattle.fork_parts.proofs.Common.{and_parts, cond-false, cond-true, Event, RowsStay, Reply, challenges_of, offers_of, next, RowsKeepTheirNumbers, Row, State, Table, is_open, is_row, is_trying, added, table_of, IsMessage, is_value}
+use Rattle.fork_parts.proofs.Common.{values_of, MessageText, TxEvent, ContactText, Hop, is_challenge, Cause, answer_of, status_of, Call, leg_at, row_passes, set_leg, with_leg, found, Client, client_after, client_out, Deed, SendRequest}
+use Rattle.fork_parts.proofs.Common.{SendCancel, SendAck, SendAnswer, TickServer, TickClient, TickCancel, FireTimerC, GiveUp, is_due_at, Fails, FaultsBy, FaultsClient, cancel_faulted, faulted, faulted_cancel, is_fault, Way, kind_of}
+use Rattle.fork_parts.proofs.Common.{Cancelling, Leg, leg_start, Posts, call_tag, owed_by, AnswersBy, AnswersWith, Did, Does, FiresTimerC, Pumped, Pumps, Send, SendsAnswer, TicksClientBy, is_timeout, stopped, ticked, contacts_by, event_by}
+use Rattle.fork_parts.proofs.Common.{Again, CancelOk, Final, Owed, Passed, Server, IsForward, IsSound, IsSoundOwed, StoresValues, awaits, is_text, Absorbed, Full, Posted, Responds, Taken, TakesAs, answer_kept, going_up, leg_after}
+use Rattle.fork_parts.proofs.Common.{leg_posted, response_event, timer_c_again}
 use Rattle.fork_model.specs.Event as fork
-use Rattle.fork_model.specs.Event.{Event, row_named}
-use Rattle.fork_model.specs.ExactlyOne.{RowsStay}
+use Rattle.fork_model.specs.Event.{row_named}
 use Rattle.fork_model.specs.OpenBranches.{OthersStayOpen}
-use Rattle.fork_model.specs.Reply.{Reply}
-use Rattle.fork_model.specs.Sources.{StoredAnswersPass, challenges_of, offers_of}
-use Rattle.fork_model.specs.Step.{next}
-use Rattle.fork_model.specs.Steps.{RowsKeepTheirNumbers}
+use Rattle.fork_model.specs.Sources.{StoredAnswersPass}
 use Rattle.fork_model.specs.Table as table
-use Rattle.fork_model.specs.Table.{Row, State, Table, is_open, is_row, is_trying}
-use Rattle.fork_book.specs.Log.{added, table_of}
-use Rattle.sip_text.specs.Message.{IsMessage, is_value}
-use Rattle.sip_text.specs.Name.{values_of}
-use Rattle.sip_text.specs.Text.{MessageText}
-use Rattle.sip_txn.specs.declared.event.TxEvent.{TxEvent}
 use Rattle.sip_txn.specs.declared.event.TxEvent.TheVariants as event
-use Rattle.sip_uri.specs.Contact.{ContactText}
-use Rattle.sip_uri.specs.declared.hop.Hop.{Hop}
-use Rattle.sip_build.specs.Upward.{is_challenge}
-use Rattle.fork_parts.specs.declared.cause.Cause.{Cause}
 use Rattle.fork_parts.specs.declared.cause.Cause.TheVariants as cause
-use Rattle.fork_parts.specs.Built.{answer_of, status_of}
-use Rattle.fork_parts.specs.Call.{Call, leg_at, owes_request, row_passes, set_leg, with_leg, found}
-use Rattle.fork_parts.specs.Client.{Client, client_after, client_out}
-use Rattle.fork_parts.specs.Due.{Deed, SendRequest, SendCancel, SendAck, SendAnswer, TickServer, TickClient, TickCancel, FireTimerC, GiveUp, is_due_at}
-use Rattle.fork_parts.specs.Failed.{Fails, FaultsBy, FaultsClient, cancel_faulted, faulted, faulted_cancel, is_fault}
-use Rattle.fork_parts.specs.Fixed.{Way, kind_of}
-use Rattle.fork_parts.specs.Leg.{Cancelling, Leg, leg_start, timer_c_from}
-use Rattle.fork_parts.specs.Posting.{Posts, call_tag, owed_by}
-use Rattle.fork_parts.specs.Pump.{AnswersBy, AnswersWith, Did, Does, FiresTimerC, Idle, Pumped, Pumps, Send, SendsAnswer, TicksClientBy, is_timeout, stopped, ticked}
-use Rattle.fork_parts.specs.Response.{contacts_by, event_by}
-use Rattle.fork_parts.specs.Server.{Again, CancelOk, Final, Owed, Passed, Server, Trying}
-use Rattle.fork_parts.specs.Sound.{IsForward, IsGiven, IsGivenTo, IsSound, IsSoundLeg, IsSoundOwed, StepsKeepSound, StoresValues, awaits, is_text}
+use Rattle.fork_parts.specs.Call.{owes_request}
+use Rattle.fork_parts.specs.Leg.{timer_c_from}
+use Rattle.fork_parts.specs.Pump.{Idle}
+use Rattle.fork_parts.specs.Server.{Trying}
+use Rattle.fork_parts.specs.Sound.{IsGiven, IsGivenTo, IsSoundLeg, StepsKeepSound}
 use Rattle.fork_parts.specs.Step as step
 use Rattle.fork_parts.specs.Take as to
-use Rattle.fork_parts.specs.Take.{Absorbed, Full, Posted, Responds, Taken, TakesAs, answer_kept, going_up, leg_after, leg_posted, response_event, timer_c_again}
 use Rattle.fork_parts.proofs.KeptBuilt.{at_more}
 use Rattle.fork_parts.proofs.SoundTables.{IsOpenAt, all_more, owed_sound, ring_stays, table_added, timer_c_stays}
 use Rattle.fork_parts.proofs.SoundValues.{event_values}

@@ -1,25 +1,14 @@
 -- What an event leaves sound of a call's table, and of what rests on it.
-use Rattle.std.proofs.Common.{◌≡◌, ◌∙◌, ◌+◌, ℕ, zero, suc, ap, refl, sym, subst, arith, true, false, Bool, List, [], ◌∷◌, ◌++◌, map, length, Option, Some, None, slice_get}
-use Rattle.std.specs.Prelude.{◌&&◌, not, cond, unwrap_or, IfSome}
-use Rattle.std.specs.List.{AllByRecursion}
-use Rattle.std.specs.Option.{option_map}
-use Rattle.std.proofs.lemmas.Bool.{and_from, and_parts}
-use Rattle.fork_model.specs.Table.{Kind, Row, State, Idle, Trying, Rung, Ended, Table, is_finished, is_invite, is_open, is_row, is_succeeded, is_trying}
-use Rattle.fork_model.specs.Event.{Event, Ring, TimerC}
-use Rattle.fork_model.specs.ExactlyOne.{RowsStay}
+use Rattle.fork_parts.proofs.Common.{◌≡◌, ◌∙◌, ◌+◌, ℕ, zero, suc, ap, refl, sym, subst, arith, true, false, Bool, List, [], ◌∷◌, ◌++◌, map, length, Option, Some, None, slice_get, ◌&&◌, not, cond, unwrap_or, IfSome, AllByRecursion}
+use Rattle.fork_parts.proofs.Common.{option_map, and_from, and_parts, Kind, Row, State, Idle, Trying, Rung, Ended, Table, is_invite, is_open, is_row, is_trying, Event, Ring, TimerC, RowsStay, Up, Reply, Effect, change_at, closed_state}
+use Rattle.fork_parts.proofs.Common.{effect, next, settled, settled_row, with_effect, with_state, may_start, RowsKeepTheirNumbers, IsChosen, Log, added, event_posted, events_of, table_of, MessageText, owed_by, Owed, IsForward, IsSoundOwed}
+use Rattle.fork_model.specs.Table.{is_finished, is_succeeded}
 use Rattle.fork_model.specs.History.{after}
-use Rattle.fork_model.specs.Reply.{Up, Nothing, Provisional, Success, Final, Reply, IsReply, IsUp, finishes}
+use Rattle.fork_model.specs.Reply.{Nothing, Provisional, Success, Final, IsReply, IsUp, finishes}
 use Rattle.fork_model.specs.Choice.{Choice, IsChoice}
-use Rattle.fork_model.specs.Step.{Effect, change_at, closed_state, effect, next, settled, settled_row, with_effect, with_state}
-use Rattle.fork_model.specs.Waiting.{may_start}
-use Rattle.fork_model.specs.Steps.{RowsKeepTheirNumbers}
-use Rattle.fork_context.specs.Chosen.{IsChosen, is_due}
-use Rattle.fork_book.specs.Log.{Log, Posted, added, event_posted, events_of, table_of}
-use Rattle.sip_text.specs.Text.{MessageText}
-use Rattle.fork_parts.specs.Posting.{owed_by}
+use Rattle.fork_context.specs.Chosen.{is_due}
+use Rattle.fork_book.specs.Log.{Posted}
 use Rattle.fork_parts.specs.Server as server
-use Rattle.fork_parts.specs.Server.{Owed}
-use Rattle.fork_parts.specs.Sound.{IsForward, IsSoundOwed}
 
 -- ---- a log with one more event
 

@@ -1,51 +1,14 @@
 -- The contacts and the challenges of a message are values that a header line may have.
-use Rattle.std.proofs.Common.{◌≡◌, ◌∙◌, ℕ, ap, refl, subst, true, false, Bool, List, [], ◌∷◌, map, eqb, Option, None, Some}
-use Rattle.std.specs.Prelude.{◌&&◌, cond, nat_lt, ◌||◌, ◌==◌, Result, Ok, Err, codes}
-use Rattle.std.specs.List.{flat_map, list_all, onto_first}
-use Rattle.std.proofs.lemmas.Bool.{and_from, and_parts, cond_both}
-use Rattle.std.proofs.lemmas.List.Folds.{list_all-append}
-use Rattle.fork_model.specs.Event.{Event, Ring, Answer}
-use Rattle.fork_model.specs.Sources.{challenges_of, offers_of}
-use Rattle.fork_model.specs.Table.{Challenge}
-use Rattle.sip_lex.specs.Bytes.{is_token, trim}
-use Rattle.sip_lex.specs.Outside.{pieces_from, pieces_outside}
-use Rattle.sip_lex.specs.Sheltered.{is_closed, is_plain, place_after}
-use Rattle.sip_lex.specs.declared.sheltered.Place.{Place}
-use Rattle.sip_lex.specs.declared.sheltered.Place.TheVariants.{Plain}
-use Rattle.sip_lex.specs.declared.sheltered.Shelter.TheVariants.{QuotesAndAngles}
-use Rattle.sip_text.specs.Message.{IsMessage, is_header, is_line, is_line_byte, is_trimmed, is_value}
-use Rattle.sip_text.specs.Name.{same_name, values_of}
-use Rattle.sip_text.specs.Text.{HeaderText, MessageText}
-use Rattle.sip_uri.specs.Contact.{ContactText, Form, are_items, contact_of, contact_of_form, contact_params, contacts_of, form_of, is_contact_param, items_behind}
-use Rattle.sip_uri.specs.declared.fault.UriFault.{UriFault}
-use Rattle.sip_uri.specs.declared.fault.UriFault.TheVariants.{BadText}
-use Rattle.sip_via.proofs.laws.TrimmedValues.{trim-value}
-use Rattle.sip_build.specs.Upward.{is_challenge}
-use Rattle.fork_parts.specs.Response.{challenge_in, challenges_by, contacts_at, contacts_by, contacts_in, contacts_or, event_by, is_redirection, offer_of}
-use Rattle.fork_parts.specs.Sound.{is_text}
-
--- ---- the items of a Contact value
-
-onto_line : (b : ℕ) (parts : List (List ℕ)) → is_line_byte b ≡ true → list_all is_line parts ≡ true → list_all is_line (onto_first b parts) ≡ true
-onto_line b [] h k = and_from (is_line (b ∷ [])) true (and_from (is_line_byte b) true h refl) refl
-onto_line b (part ∷ parts) h k =
-    let each = and_parts (is_line part) (list_all is_line parts) k in
-    and_from (is_line (b ∷ part)) (list_all is_line parts) (and_from (is_line_byte b) (is_line part) h each.0) each.1
-
-pieces_line : (place : Place) (bs : List ℕ) → is_line bs ≡ true → list_all is_line (pieces_from QuotesAndAngles 44 place bs) ≡ true
-pieces_line place [] h = refl
-pieces_line place (b ∷ bs) h =
-    let each = and_parts (is_line_byte b) (is_line bs) h in
-    let later = place_after QuotesAndAngles place b in
-    cond_both (is_plain place && eqb b 44) ([] ∷ pieces_outside QuotesAndAngles 44 bs) (onto_first b (pieces_from QuotesAndAngles 44 later bs)) (λ (ps : List (List ℕ)). list_all is_line ps ≡ true)
-    (λ e. pieces_line Plain bs each.1)
-    (λ e. onto_line b (pieces_from QuotesAndAngles 44 later bs) each.0 (pieces_line later bs each.1))
-
-trimmed_values : (ps : List (List ℕ)) → list_all is_line ps ≡ true → list_all is_value (map trim ps) ≡ true
-trimmed_values [] h = refl
-trimmed_values (p ∷ ps) h =
-    let each = and_parts (is_line p) (list_all is_line ps) h in
-    and_from (is_value (trim p)) (list_all is_value (map trim ps)) (trim-value p each.0) (trimmed_values ps each.1)
+use Rattle.fork_parts.proofs.Common.{◌≡◌, ◌∙◌, ℕ, ap, refl, subst, true, false, Bool, List, [], ◌∷◌, map, Option, None, Some, ◌&&◌, cond, nat_lt, ◌||◌, ◌==◌, Result, Ok, Err, codes, flat_map, list_all, and_from, and_parts, list_all-append}
+use Rattle.fork_parts.proofs.Common.{Event, Ring, Answer, challenges_of, offers_of, Challenge, is_closed, QuotesAndAngles, IsMessage, is_value, values_of, MessageText, ContactText, Form, are_items, contact_of, contact_of_form}
+use Rattle.fork_parts.proofs.Common.{contact_params, form_of, is_contact_param, items_behind, UriFault, BadText, is_challenge, challenge_in, challenges_by, contacts_at, contacts_by, contacts_in, contacts_or, event_by, is_redirection}
+use Rattle.fork_parts.proofs.Common.{offer_of, is_text}
+use Rattle.sip_lex.specs.Bytes.{is_token}
+use Rattle.sip_text.specs.Message.{is_header, is_line, is_trimmed}
+use Rattle.sip_text.specs.Name.{same_name}
+use Rattle.sip_text.specs.Text.{HeaderText}
+use Rattle.sip_uri.specs.Contact.{contacts_of}
+use Rattle.sip_uri.proofs.laws.Values.{items_values}
 
 -- ---- contacts
 
@@ -70,7 +33,7 @@ contact_values : (value : List ℕ) (cs : List ContactText) → is_line value �
 unfolding contacts_of
 contact_values value cs h e =
     let items = items_behind (Some value) in
-    let values : list_all is_value items ≡ true = trimmed_values (pieces_outside QuotesAndAngles 44 value) (pieces_line Plain value h) in
+    let values : list_all is_value items ≡ true = items_values value h in
     by (is_closed QuotesAndAngles value && are_items items) (map contact_of items) (all_contacts items values) e
   where
     by : (b : Bool) (xs : List ContactText) → list_all has_value xs ≡ true → cond {A = Result (List ContactText) UriFault} b (Ok xs) (Err BadText) ≡ Ok cs → list_all has_value cs ≡ true

@@ -1,10 +1,8 @@
-use Rattle.std.proofs.Common.{◌≡◌, refl, Option, Some, None}
+use Rattle.fork_parts.proofs.Common.{◌≡◌, refl, Option, Some, None, Row, State, Idle, Trying, Rung, Ended, stored_of, stored_at, was_received}
 use Rattle.std.specs.Prelude.{option_map}
-use Rattle.fork_model.specs.Table.{Stored, Taken, Silent, Never, Accepted, End, Row, State, Idle, Trying, Rung, Ended, stored_end, stored_of}
-use Rattle.fork_model.specs.Choice.{stored_at}
-use Rattle.fork_parts.specs.Built.{was_received}
+use Rattle.fork_model.specs.Table.{Stored, Taken, Silent, Never, Accepted, End, stored_end}
 use Rattle.fork_tree.specs.States.{shown, shown_end}
-use Rattle.fork_parts.specs.StatesShown.{is_received_end, shows_received, state_shown}
+use Rattle.fork_parts.specs.inner.StatesShown.{is_received_end, shows_received, state_shown}
 
 received_end : (e : End) → is_received_end (shown_end e) ≡ was_received (stored_end e)
 received_end (Stored answer) = refl

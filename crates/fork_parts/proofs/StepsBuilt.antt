@@ -1,21 +1,12 @@
-use Rattle.std.proofs.Common.{◌≡◌, ◌∙◌, ℕ, refl, sym, subst, true, false, Bool, List, [], ◌∷◌, Option, Some, None, slice_get}
-use Rattle.std.specs.Prelude.{IfSome}
-use Rattle.sip_text.specs.Text.{MessageText}
-use Rattle.sip_uri.specs.declared.hop.Hop.{Hop}
-use Rattle.fork_parts.specs.declared.cause.Cause.{Cause}
+use Rattle.fork_parts.proofs.Common.{◌≡◌, ◌∙◌, ℕ, refl, sym, subst, true, false, Bool, List, [], ◌∷◌, Option, Some, None, slice_get, IfSome, MessageText, Hop, Cause, Way, Leg, Cancelling, Server, Owed, Passed, Final, Again, CancelOk}
+use Rattle.fork_parts.proofs.Common.{answer_of, Call, leg_at, IsBuilt, IsBuiltLeg, IsAck, Deed, SendRequest, SendCancel, SendAck, SendAnswer, TickServer, TickClient, TickCancel, FireTimerC, GiveUp, Fails, FaultsBy, FaultsClient}
+use Rattle.fork_parts.proofs.Common.{cancel_faulted, faulted_cancel, Pumped, Send, Did, Does, Pumps, SendsAnswer, AnswersBy, AnswersWith, TicksClientBy, FiresTimerC, Taken, Absorbed, Posted, Full, TakesAs, Responds}
 use Rattle.fork_parts.specs.declared.cause.Cause.TheVariants as cause
-use Rattle.fork_parts.specs.Fixed.{Way}
-use Rattle.fork_parts.specs.Leg.{Leg, Cancelling}
-use Rattle.fork_parts.specs.Server.{Server, Owed, Trying, Passed, Final, Again, CancelOk}
-use Rattle.fork_parts.specs.Built.{answer_of}
-use Rattle.fork_parts.specs.Call.{Call, leg_at}
-use Rattle.fork_parts.specs.Datagrams.{IsBuilt, IsBuiltLeg, IsAck, IsCancel, StepsKeepBuilt, BegunIsBuilt}
-use Rattle.fork_parts.specs.Due.{Deed, SendRequest, SendCancel, SendAck, SendAnswer, TickServer, TickClient, TickCancel, FireTimerC, GiveUp}
-use Rattle.fork_parts.specs.Failed.{Fails, FaultsBy, FaultsClient, cancel_faulted, faulted_cancel}
+use Rattle.fork_parts.specs.Server.{Trying}
+use Rattle.fork_parts.specs.Datagrams.{IsCancel, StepsKeepBuilt, BegunIsBuilt}
 use Rattle.fork_parts.specs.Take as to
-use Rattle.fork_parts.specs.Pump.{Pumped, Send, Did, Idle, Does, Pumps, SendsAnswer, AnswersBy, AnswersWith, TicksClientBy, FiresTimerC}
+use Rattle.fork_parts.specs.Pump.{Idle}
 use Rattle.fork_parts.specs.Step as step
-use Rattle.fork_parts.specs.Take.{Taken, Absorbed, Posted, Full, TakesAs, Responds}
 use Rattle.fork_parts.proofs.KeptBuilt.{built_leg, built_posts, ack_built, at_more}
 use Rattle.fork_parts.proofs.RightDatagrams.{built_by, some_as}
 

@@ -1,26 +1,15 @@
 -- A transaction that waits for a final response has waited before, and it is such a one that times out or fails.
-use Rattle.std.proofs.Common.{◌≡◌, ◌∙◌, ℕ, Bool, true, false, Option, Some, None, refl, ap, sym, subst}
-use Rattle.std.specs.Prelude.{◌&&◌, ◌||◌, not}
-use Rattle.std.proofs.lemmas.Bool.{and_parts}
-use Rattle.sip_txn.specs.declared.event.TxEvent.{TxEvent}
+use Rattle.fork_parts.proofs.Common.{◌≡◌, ◌∙◌, ℕ, Bool, true, false, Option, Some, None, refl, ap, sym, subst, ◌&&◌, ◌||◌, not, and_parts, TxEvent, Machine, InviteClientState, OtherClientState, row_out, invite_client, other_client, Client}
+use Rattle.fork_parts.proofs.Common.{InviteClient, OtherClient, client_after, client_out, is_timeout, is_fault, awaits, invite_awaits, other_awaits}
 use Rattle.sip_txn.specs.declared.event.TxEvent.TheVariants as event
 use Rattle.sip_txn.specs.declared.event.TxPass.{TxPass}
 use Rattle.sip_txn.specs.declared.timers.Input.{Input}
 use Rattle.sip_txn.specs.declared.timers.Input.TheVariants as input
 use Rattle.sip_txn.specs.declared.machine.Row.{Row}
-use Rattle.sip_txn.specs.declared.machine.Machine.{Machine}
-use Rattle.sip_txn.specs.declared.invite_client.InviteClientState.{InviteClientState}
 use Rattle.sip_txn.specs.declared.invite_client.InviteClientState.TheVariants as invite
-use Rattle.sip_txn.specs.declared.other_client.OtherClientState.{OtherClientState}
 use Rattle.sip_txn.specs.declared.other_client.OtherClientState.TheVariants as other
-use Rattle.sip_txn.specs.Machine.{row_machine, row_out}
+use Rattle.sip_txn.specs.Machine.{row_machine}
 use Rattle.sip_txn.specs.Timers.{input_of}
-use Rattle.sip_txn.specs.InviteClient.{invite_client}
-use Rattle.sip_txn.specs.OtherClient.{other_client}
-use Rattle.fork_parts.specs.Client.{Client, InviteClient, OtherClient, client_after, client_out}
-use Rattle.fork_parts.specs.Pump.{is_timeout}
-use Rattle.fork_parts.specs.Failed.{is_fault}
-use Rattle.fork_parts.specs.Sound.{awaits, invite_awaits, other_awaits}
 
 -- the events by which a transaction waits no more
 abbrev ends : Input → Bool

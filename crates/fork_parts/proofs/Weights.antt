@@ -1,19 +1,12 @@
 -- The q of a contact is no more than one.
-use Rattle.std.proofs.Common.{◌≡◌, ℕ, ◌≤◌, refl, arith, true, false, Bool, List, [], ◌∷◌, ◌++◌, map, length, Option, Some, None, cond, leb-true}
-use Rattle.std.specs.Prelude.{◌&&◌, ◌==◌, nat_le, Result, Ok, Err, codes}
+use Rattle.fork_parts.proofs.Common.{◌≡◌, ℕ, ◌≤◌, refl, arith, true, false, Bool, List, [], ◌∷◌, ◌++◌, map, length, Option, Some, None, cond, ◌&&◌, ◌==◌, Result, Ok, Err, codes, AllByRecursion, flat_map, list_all, and_parts, is_closed}
+use Rattle.fork_parts.proofs.Common.{QuotesAndAngles, values_of, MessageText, ContactText, Form, are_items, contact_of, contact_of_form, contact_params, form_of, is_contact_param, items_behind, q_of, takeable, read_uri, UriFault, BadText}
+use Rattle.fork_parts.proofs.Common.{contacts_at, contacts_by, contacts_in, contacts_or, is_redirection}
+use Rattle.std.proofs.Common.{leb-true}
+use Rattle.std.specs.Prelude.{nat_le}
 use Rattle.std.specs.Char.{is_ascii_digit}
-use Rattle.std.specs.List.{AllByRecursion, flat_map, list_all}
-use Rattle.std.proofs.lemmas.Bool.{and_parts}
 use Rattle.fork_model.specs.Range.{most_q}
-use Rattle.sip_lex.specs.Sheltered.{is_closed}
-use Rattle.sip_lex.specs.declared.sheltered.Shelter.TheVariants.{QuotesAndAngles}
-use Rattle.sip_text.specs.Name.{values_of}
-use Rattle.sip_text.specs.Text.{MessageText}
-use Rattle.sip_uri.specs.Contact.{ContactText, Form, are_decimals, are_items, contact_of, contact_of_form, contact_params, contacts_of, form_of, is_contact_param, is_q, items_behind, q_decimals, q_of, q_value, q_value_if_any, takeable, thousandths, value_of}
-use Rattle.sip_uri.specs.Reading.{read_uri}
-use Rattle.sip_uri.specs.declared.fault.UriFault.{UriFault}
-use Rattle.sip_uri.specs.declared.fault.UriFault.TheVariants.{BadText}
-use Rattle.fork_parts.specs.Response.{contacts_at, contacts_by, contacts_in, contacts_or, is_redirection}
+use Rattle.sip_uri.specs.Contact.{are_decimals, contacts_of, is_q, q_decimals, q_value, q_value_if_any, thousandths, value_of}
 
 -- ---- the value of q
 

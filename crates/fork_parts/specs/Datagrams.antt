@@ -1,5 +1,5 @@
 -- What the datagrams of a call are made of, over whole runs (RFC 3261 sections 8.2.6, 9.1, 16.6, 16.7 and 17.1.1.3).
-use Rattle.std.specs.Prelude.{◌≡◌, ◌⊎◌, ℕ, List, ◌∷◌, Option, Some, None, IfSome, slice_get}
+use Rattle.std.specs.Prelude.{◌≡◌, ◌⊎◌, ℕ, List, ◌∷◌, Some, IfSome, slice_get}
 use Rattle.sip_text.specs.Text.{MessageText, spelling}
 use Rattle.sip_build.specs.declared.responses.OwnStatus.TheVariants as own
 use Rattle.sip_build.specs.Generated.{generated_of}
@@ -56,15 +56,6 @@ IsRight call d (cause.Cancel n) = ToBranch call n d (λ way. d.bytes ≡ spellin
 IsRight call d (cause.Ack n) = ToBranch call n d (λ way. IsAck call n way d.bytes)
 IsRight call d cause.Answer = (d.to ≡ call.fixed.caller) × IsAnswer call d.bytes
 IsRight call d cause.CancelOk = IsCancelOk call d
-
--- ---- the ACK that a branch owes
-
-abbrev pub ack_on : Option Leg → Option (List ℕ)
-ack_on None = None
-ack_on (Some leg) = leg.ack
-
-abbrev pub ack_owed : Call → ℕ → Option (List ℕ)
-ack_owed call n = ack_on (leg_at call n)
 
 -- ---- laws
 

@@ -1,3 +1,4 @@
+pub mod inner
 pub mod Fixed
 pub mod Client
 pub mod Leg
@@ -6,7 +7,6 @@ pub mod Call
 pub mod Built
 pub mod Response
 pub mod Posting
-pub mod NewWays
 pub mod Begun
 pub mod Due
 pub mod Take
@@ -18,13 +18,9 @@ pub mod Again
 pub mod Sound
 pub mod Behind
 pub mod Queue
-pub mod Views
 pub mod SeenDatagram
 pub mod SeenTaken
 pub mod SeenStep
 pub mod FixedInside
 pub mod LegInside
 pub mod PartsInside
-pub mod Plain
-pub mod AnswersInside
-pub mod StatesShown

@@ -22,7 +22,7 @@ pub(crate) struct Client {
 
 impl Model for Client {
     ghost use Rattle.fork_parts.specs.Client as spec;
-    ghost use Rattle.fork_parts.specs.Views.{client_of};
+    ghost use Rattle.fork_parts.specs.inner.Views.{client_of};
 
     ghost Value = { spec.Client };
 

@@ -9,7 +9,7 @@ ghost use Rattle.sip_build.specs.Forwarding.{is_request};
 ghost use Rattle.fork_context.specs.KindView as kinds;
 ghost use Rattle.fork_parts.specs.Built.{ack_to, cancel_to, request_to};
 ghost use Rattle.fork_parts.specs.Fixed.{branch_at, is_invite, kind_of, method_of};
-ghost use Rattle.fork_parts.specs.LegInside.{ack_made};
+ghost use Rattle.fork_parts.specs.inner.LegInside.{ack_made};
 
 use crate::way::Way;
 use fork_context::Kind;

@@ -8,7 +8,8 @@ ghost use Rattle.fork_parts.specs.Call.{owes_ack_on};
 ghost use Rattle.fork_parts.specs.Client.{client_after, client_due, client_out};
 ghost use Rattle.fork_parts.specs.Due.{IsOverCancelling, IsOverLeg, cancel_client_due};
 ghost use Rattle.fork_parts.specs.Leg.{cancel_start, leg_start, timer_c_from};
-ghost use Rattle.fork_parts.specs.LegInside.{cancel_on, cancelled, kept, responded, without_ack};
+ghost use Rattle.fork_parts.specs.LegInside.{cancelled};
+ghost use Rattle.fork_parts.specs.inner.LegInside.{cancel_on, kept, responded, without_ack};
 ghost use Rattle.fork_parts.specs.Take.{timer_c_again};
 
 use crate::client::Client;

@@ -1,9 +1,10 @@
 //! The parts of the branches of a call, by the numbers of their rows.
-ghost use Rattle.std.specs.Prelude.{◌≡◌, ◌<◌, ◌∷◌, ◌++◌, [], length, map, slice_get, None, Some, IfOk, OnOk};
+ghost use Rattle.std.specs.Prelude.{◌≡◌, ◌<◌, ◌∷◌, ◌++◌, [], length, slice_get, None, Some, IfOk, OnOk};
 ghost use Rattle.std.specs.Option.{option_copied, option_map};
 ghost use Rattle.fork_parts.specs.Call.{found, with_leg};
-ghost use Rattle.fork_parts.specs.Datagrams.{ack_on};
-ghost use Rattle.fork_parts.specs.LegInside.{cancel_on, cancelled, changed_leg, kept, no_legs, responded, without_ack};
+ghost use Rattle.fork_parts.specs.inner.Datagrams.{ack_on};
+ghost use Rattle.fork_parts.specs.LegInside.{cancelled};
+ghost use Rattle.fork_parts.specs.inner.LegInside.{cancel_on, changed_leg, kept, no_legs, responded, without_ack};
 
 use crate::client::Client;
 use crate::leg::{Cancelling, Leg};

@@ -4,7 +4,7 @@ ghost use Rattle.std.specs.Option.{option_to_list};
 ghost use Rattle.fork_context.specs.KindView as kinds;
 ghost use Rattle.fork_context.specs.ReplyView.{up_of};
 ghost use Rattle.fork_parts.specs.Posting.{owed_by, passed};
-ghost use Rattle.fork_parts.specs.Queue.{messages_in, news_of};
+ghost use Rattle.fork_parts.specs.inner.Queue.{messages_in, news_of};
 ghost use Rattle.fork_parts.specs.Server as server;
 ghost use Rattle.fork_parts.specs.Take.{again_if};
 

@@ -1,7 +1,8 @@
 //! The answers that are owed to a caller, in the order in which they came to be owed.
 ghost use Rattle.std.specs.Prelude.{◌≡◌, ◌==◌, ◌<◌, ◌≤◌, ◌+◌, ◌++◌, ◌∷◌, [], drop, length, slice_get, vec_capacity, vec_len, OnOk, Some};
 ghost use Rattle.std.specs.Option.{option_map, option_to_list};
-ghost use Rattle.fork_parts.specs.Queue.{HasRoomFor, HaveMessages, messages_in, messages_of, new_of, news_of, queue_of, read_of, takes_message};
+ghost use Rattle.fork_parts.specs.Queue.{HaveMessages, queue_of, read_of};
+ghost use Rattle.fork_parts.specs.inner.Queue.{HasRoomFor, messages_in, messages_of, new_of, news_of, takes_message};
 
 use fork_context::Choice;
 use sip_text::Message;
@@ -150,7 +151,7 @@ pub(crate) struct Queue<A: Allocator> {
 
 impl<A: Allocator> Model for Queue<A> {
     ghost use Rattle.std.specs.Prelude.{◌-◌, length, vec_capacity, vec_len};
-    ghost use Rattle.fork_parts.specs.Queue as spec;
+    ghost use Rattle.fork_parts.specs.inner.Queue as spec;
     ghost use Rattle.fork_parts.specs.Queue.{HaveMessages, queue_of};
 
     ghost Value = { spec.Queue };

@@ -1,7 +1,7 @@
 //! What a response is to a transaction and to the fork.
 ghost use Rattle.std.specs.Prelude.{◌≡◌};
 ghost use Rattle.fork_parts.specs.Failed.{is_fault};
-ghost use Rattle.fork_parts.specs.LegInside.{answer_if, kept_if};
+ghost use Rattle.fork_parts.specs.inner.LegInside.{answer_if, kept_if};
 ghost use Rattle.fork_parts.specs.Pump as pump;
 ghost use Rattle.fork_parts.specs.Server as server;
 ghost use Rattle.fork_parts.specs.Take as take;

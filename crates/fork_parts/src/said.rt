@@ -1,10 +1,10 @@
 //! What a response says to the fork.
-ghost use Rattle.std.specs.Prelude.{◌≡◌, ◌≤◌, ◌++◌, [], map, IfOk, OnOk};
+ghost use Rattle.std.specs.Prelude.{◌≡◌, ◌≤◌, ◌++◌, map, IfOk, OnOk};
 ghost use Rattle.std.specs.List.{flat_map};
 ghost use Rattle.std.specs.Option.{option_to_list};
 ghost use Rattle.fork_context.specs.EventView.{event_of};
 ghost use Rattle.sip_text.specs.Seen.{view, views};
-ghost use Rattle.fork_parts.specs.NewWays.{GivesWays};
+ghost use Rattle.fork_parts.specs.inner.NewWays.{GivesWays};
 ghost use Rattle.fork_parts.specs.Posting.{way_of_contact};
 ghost use Rattle.fork_parts.specs.Response.{challenge_in, challenges_by, contacts_by, event_by};
 

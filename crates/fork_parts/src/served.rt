@@ -22,7 +22,7 @@ pub(crate) struct Served {
 
 impl Model for Served {
     ghost use Rattle.fork_parts.specs.Server as spec;
-    ghost use Rattle.fork_parts.specs.Views.{served_of};
+    ghost use Rattle.fork_parts.specs.inner.Views.{served_of};
 
     ghost Value = { spec.Served };
 

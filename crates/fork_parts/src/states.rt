@@ -1,6 +1,6 @@
 //! Where a branch is.
 ghost use Rattle.std.specs.Prelude.{◌≡◌};
-ghost use Rattle.fork_parts.specs.StatesShown as shown;
+ghost use Rattle.fork_parts.specs.inner.StatesShown as shown;
 
 use fork_context::{End, State};
 

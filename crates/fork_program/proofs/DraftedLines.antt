@@ -1,47 +1,22 @@
 -- The lines of a spelled script may come one after another, and lines that may are those of one.
-use Rattle.std.proofs.Common.{◌≡◌, ℕ, true, false, List, [], ◌∷◌, ◌++◌, map, Option, Some, None, refl, sym, ap, subst, ◌∙◌, append_assoc, append-nil}
-use Rattle.std.specs.Prelude.{option_and_then}
-use Rattle.std.specs.Option.{option_map}
-use Rattle.std.specs.List.{flat_map, AllByRecursion}
-use Rattle.std.proofs.lemmas.Option.{same_Some}
-use Rattle.fork_model.specs.Table.{Kind, Invite, Rules, Offer, Challenge, most_targets}
-use Rattle.fork_model.specs.Event.{FinalAnswer, Event, Ring, Answer, Timeout, Fault, TimerC, GiveUp, Cancel}
-use Rattle.fork_model.specs.History.{Target}
-use Rattle.fork_rank.specs.Preferred.{usual_preferred}
+use Rattle.fork_program.proofs.Common.{◌≡◌, ℕ, true, false, List, [], ◌∷◌, ◌++◌, map, Option, Some, None, refl, sym, ap, subst, ◌∙◌, append_assoc, append-nil, option_and_then, option_map, flat_map, AllByRecursion, same_Some, Kind, Invite}
+use Rattle.fork_program.proofs.Common.{Offer, Challenge, most_targets, FinalAnswer, Event, Ring, Answer, Timeout, Fault, TimerC, GiveUp, Cancel, Target, usual_preferred, found_then, all_back, Line, KindLine, PreferLine, DepthLine}
+use Rattle.fork_program.proofs.Common.{TargetLine, EventLine, ContactLine, OtherLine, ChallengeLine, bare, IsLine, Script, Draft, no_draft, with_contact, with_challenge, last_changed, drafted_line, has_kind, Detail, ContactDetail}
+use Rattle.fork_program.proofs.Common.{OtherDetail, ChallengeDetail, Told, Spelling, prefer_lines, depth_lines, target_line, detail_line, told_lines, lines_of, MayStandBehind, IsSpelling, preferred_said, depth_said, offers_said}
+use Rattle.fork_program.proofs.Common.{challenges_said, event_said, script_of}
+use Rattle.fork_model.specs.Table.{Rules}
+use Rattle.fork_text.specs.LineByLine as texts
 use Rattle.fork_text.specs.RuleLines.{usual_rules}
-use Rattle.fork_text.proofs.laws.Field.{found_then}
+use Rattle.fork_text.proofs.laws.Lines.{all_append, all_front, drafted_append}
 use Rattle.fork_program.specs.declared.script.Phase.{Phase}
 use Rattle.fork_program.specs.declared.script.Phase.TheVariants.{AtKind, AtPrefer, AtDepth, AtTargets, AtEvents, AtAnswer}
-use Rattle.fork_program.specs.Line.{Line, KindLine, PreferLine, DepthLine, TargetLine, EventLine, ContactLine, OtherLine, ChallengeLine, bare, IsLine}
-use Rattle.fork_program.specs.Script.{Script, Draft, no_draft, no_script, phase_behind, phase_after, with_contact, with_challenge, last_changed, with_line, drafted_line, has_kind}
-use Rattle.fork_program.specs.Spelling.{Detail, ContactDetail, OtherDetail, ChallengeDetail, Told, Spelling, prefer_lines, depth_lines, target_line, detail_line, told_lines, lines_of, MayStandBehind, IsSpelling, preferred_said, depth_said, offers_said, challenges_said, event_said, script_of}
+use Rattle.fork_program.specs.Script.{no_script, phase_behind, phase_after, with_line}
 use Rattle.fork_program.specs.Malformed.{Begins}
 use Rattle.fork_program.proofs.LastAnswer.{last_changed-snoc}
 
-module _ {X : Type 0} (P : X → Type 0) where
-  pub all_append : (xs ys : List X) → AllByRecursion P xs → AllByRecursion P ys → AllByRecursion P (xs ++ ys)
-  all_append [] ys h k = k
-  all_append (x ∷ xs) ys h k = (h.0, all_append xs ys h.1 k)
-
-  pub all_back : (xs ys : List X) → AllByRecursion P (xs ++ ys) → AllByRecursion P ys
-  all_back [] ys h = h
-  all_back (x ∷ xs) ys h = all_back xs ys h.1
-
 -- the draft behind these lines, where each may come
 abbrev pub drafted_lines : Draft → List Line → Option Draft
-drafted_lines draft [] = Some draft
-drafted_lines draft (line ∷ lines) = option_and_then (λ next. drafted_lines next lines) (drafted_line draft line)
-
-pub drafted_append : (draft : Draft) (lines more : List Line) (next : Draft) → drafted_lines draft lines ≡ Some next
-    → drafted_lines draft (lines ++ more) ≡ drafted_lines next more
-drafted_append draft [] more next e = ap (λ (d : Draft). drafted_lines d more) (same_Some _ _ e)
-drafted_append draft (line ∷ lines) more next e = one (drafted_line draft line) e (λ d due. drafted_append d lines more next due)
-  where
-    one : (o : Option Draft) → option_and_then (λ d. drafted_lines d lines) o ≡ Some next
-        → ((d : Draft) → drafted_lines d lines ≡ Some next → drafted_lines d (lines ++ more) ≡ drafted_lines next more)
-        → option_and_then (λ d. drafted_lines d (lines ++ more)) o ≡ drafted_lines next more
-    one None e again = absurd cc
-    one (Some d) e again = again d e
+drafted_lines = texts.drafted_lines drafted_line
 
 -- ---- the lines of a spelled script may come
 
@@ -162,7 +137,7 @@ history_drafted phase script (told ∷ history) whole lines may =
     let more = history_drafted (phase_behind told.event) one history (behind_has_kind told.event) rest may.1 in
     record {
       phase = more.phase;
-      due = drafted_append (in_phase phase script) (told_lines told) (flat_map told_lines history) _ (told_drafted phase script told whole lines.0 may.0)
+      due = drafted_append drafted_line (in_phase phase script) (told_lines told) (flat_map told_lines history) _ (told_drafted phase script told whole lines.0 may.0)
           ∙ more.due
           ∙ ap (λ (es : List Event). Some (in_phase more.phase (with_events script es))) (append_assoc script.events (said told ∷ []) (map said history));
       whole = more.whole;
@@ -204,7 +179,7 @@ body_drafted phase kind rules (target ∷ targets) history whole takes lines may
     record {
       phase = more.phase;
       due = ap (option_and_then (λ d. drafted_lines d (body_of targets history))) first
-          ∙ drafted_append (in_phase AtTargets one) (map target_line targets) (flat_map told_lines history) _ (targets_drafted one targets)
+          ∙ drafted_append drafted_line (in_phase AtTargets one) (map target_line targets) (flat_map told_lines history) _ (targets_drafted one targets)
           ∙ more.due;
       whole = more.whole;
     }
@@ -477,14 +452,14 @@ completed_by AtAnswer script = as_it_is AtAnswer script refl
 pub begins : (lines : List Line) (draft : Draft) → AllByRecursion IsLine lines → drafted_lines no_draft lines ≡ Some draft → Begins lines
 begins lines draft right due =
     let c = completed_by draft.phase draft.script in
-    let found = whole_found (lines ++ c.more) c.next (all_append IsLine lines c.more right c.right) (drafted_append no_draft lines c.more draft due ∙ c.due) c.whole in
+    let found = whole_found (lines ++ c.more) c.next (all_append IsLine lines c.more right c.right) (drafted_append drafted_line no_draft lines c.more draft due ∙ c.due) c.whole in
     record { script = found.script; is = found.is; more = c.more; whole = found.spelled }
 
 pub begins_with : (lines : List Line) (line : Line) (draft next : Draft) → AllByRecursion IsLine lines → IsLine line → drafted_lines no_draft lines ≡ Some draft → drafted_line draft line ≡ Some next
     → Begins (lines ++ line ∷ [])
 begins_with lines line draft next right fits due one =
     begins (lines ++ line ∷ []) next (all_append IsLine lines (line ∷ []) right (fits, tt))
-    (drafted_append no_draft lines (line ∷ []) draft due ∙ ap (option_and_then (λ (d : Draft). Some d)) one)
+    (drafted_append drafted_line no_draft lines (line ∷ []) draft due ∙ ap (option_and_then (λ (d : Draft). Some d)) one)
 
 -- and the first lines of a script may come
 pub record LinesDue (lines : List Line) : Type 0 where
@@ -501,17 +476,13 @@ front_due draft (line ∷ lines) more end due =
     (behind.0, ap (option_and_then (λ e. drafted_lines e lines)) at ∙ behind.1))
     due
 
-all_front : (xs ys : List Line) → AllByRecursion IsLine (xs ++ ys) → AllByRecursion IsLine xs
-all_front [] ys h = tt
-all_front (x ∷ xs) ys h = (h.0, all_front xs ys h.1)
-
 pub lines_due : (lines : List Line) → Begins lines → LinesDue lines
 lines_due lines b =
     let reached = script_drafted b.script b.is in
     let due : drafted_lines no_draft (lines ++ b.more) ≡ Some (in_phase reached.phase (script_of b.script)) = sym (ap (drafted_lines no_draft) b.whole) ∙ reached.due in
     let front = front_due no_draft lines b.more _ due in
     let P : List Line → Type 0 = AllByRecursion IsLine in
-    record { right = all_front lines b.more (subst P b.whole b.is.lines); next = front.0; due = front.1 }
+    record { right = all_front IsLine lines b.more (subst P b.whole b.is.lines); next = front.0; due = front.1 }
 
 -- so a line behind them that no draft takes begins none
 pub record NextDue (draft : Draft) (line : Line) : Type 0 where
@@ -523,7 +494,7 @@ pub next_due : (lines : List Line) (line : Line) (draft : Draft) → drafted_lin
 next_due lines line draft due b =
     let h = lines_due (lines ++ line ∷ []) b in
     let fit : AllByRecursion IsLine (line ∷ []) = all_back IsLine lines (line ∷ []) h.right in
-    let end : drafted_lines draft (line ∷ []) ≡ Some h.next = sym (drafted_append no_draft lines (line ∷ []) draft due) ∙ h.due in
+    let end : drafted_lines draft (line ∷ []) ≡ Some h.next = sym (drafted_append drafted_line no_draft lines (line ∷ []) draft due) ∙ h.due in
     found_then (λ d. drafted_lines d []) (drafted_line draft line) h.next (NextDue draft line)
     (λ next at rest. record { fits = fit.0; next = next; due = at })
     end

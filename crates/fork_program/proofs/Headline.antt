@@ -1,20 +1,11 @@
 -- The replay of a fork that is done tells its one final answer.
-use Rattle.std.proofs.Common.{◌≡◌, ◌≢◌, ℕ, true, false, List, [], ◌∷◌, length, sym, ap, subst, ◌∙◌}
-use Rattle.fork_model.specs.Table.{Table, is_finished, is_succeeded}
-use Rattle.fork_model.specs.Event.{Event}
-use Rattle.fork_model.specs.Choice.{Choice, IsChoice}
+use Rattle.fork_program.proofs.Common.{◌≡◌, ◌≢◌, ℕ, true, false, List, [], ◌∷◌, length, sym, ap, subst, ◌∙◌, Table, is_finished, is_succeeded, Event, IsChoice, AreArrivals, one_choice, targets_of, IsRanking, TheChoiceIsFirst, Script}
+use Rattle.fork_program.proofs.Common.{IsForkReplay, Ending, Succeeded, Unfinished, Listed, IsEnding, opened, closed, replay_text, IsDone, TellsOneFinal}
+use Rattle.fork_model.specs.Choice.{Choice}
 use Rattle.fork_model.specs.History.{opening, table, OneFinal}
 use Rattle.fork_model.specs.ExactlyOne.{taken_of, replies_of}
-use Rattle.fork_model.specs.OneReply.{AreArrivals}
-use Rattle.fork_model.proofs.laws.Headline.{history_of_arrivals, stands_by_its_history, one_final_of_context, rows_always_keep_numbers, one_choice}
+use Rattle.fork_model.proofs.laws.Headline.{history_of_arrivals, stands_by_its_history, one_final_of_context, rows_always_keep_numbers}
 use Rattle.fork_context.specs.declared.context.NewFault.TheVariants as setup
-use Rattle.fork_listing.specs.Listed.{targets_of}
-use Rattle.fork_listing.specs.Ranking.{IsRanking}
-use Rattle.fork_listing.specs.Meaning.{TheChoiceIsFirst}
-use Rattle.fork_program.specs.Script.{Script}
-use Rattle.fork_program.specs.Faults.{IsForkReplay}
-use Rattle.fork_program.specs.Replay.{Ending, Succeeded, Unfinished, Listed, IsEnding, opened, closed, replay_text}
-use Rattle.fork_program.specs.Headline.{IsDone, TellsOneFinal}
 
 abbrev taken : Script → List Event
 taken script = taken_of (opened script) script.events

@@ -1,24 +1,8 @@
 -- Reads one after another, up to the end or the limit.
-use Rattle.std.proofs.Common.{◌≡◌, ℕ, ◌+◌, ◌≤◌, Bool, false, List, [], ◌∷◌, ◌++◌, length, take, Option, Some, None, refl, sym, ap, ◌∙◌, arith, append_assoc, append-nil, subst}
-use Rattle.std.specs.Prelude.{IfSome}
-use Rattle.std.specs.Io.KnownBytes.{Keeps, Consumes, IsAtEnd}
+use Rattle.fork_program.proofs.Common.{◌≡◌, ℕ, ◌+◌, ◌≤◌, Bool, List, [], ◌∷◌, ◌++◌, length, take, Option, Some, None, refl, sym, ap, ◌∙◌, arith, append_assoc, append-nil, subst, IfSome, Consumes}
+use Rattle.std.specs.Io.KnownBytes.{IsAtEnd}
 use Rattle.std.proofs.lemmas.List.{take_all, length-append}
-use Rattle.fork_program.specs.Input.{ReadsMore}
-
-consumes_none : (old new : Option (List ℕ)) → Keeps old new → Consumes old new []
-consumes_none None new e = tt
-consumes_none (Some xs) None e = e
-consumes_none (Some xs) (Some ys) e = sym e
-
--- no byte came
-pub reads_none : (old new : Option (List ℕ)) (room : ℕ) (text : List ℕ) → Keeps old new → ReadsMore old new room text text false
-reads_none old new room text e = record {
-  bytes = [];
-  few = omega arith;
-  consumed = consumes_none old new e;
-  appended = sym (append-nil text);
-  at_end = λ f. absurd cc;
-}
+use Rattle.fork_program.specs.inner.Input.{ReadsMore}
 
 consumes_both : (old mid new : Option (List ℕ)) (xs ys : List ℕ) → Consumes old mid xs → Consumes mid new ys → Consumes old new (xs ++ ys)
 consumes_both None mid new xs ys a b = tt

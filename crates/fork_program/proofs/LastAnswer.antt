@@ -1,8 +1,6 @@
 -- What a line behind an answer says goes to the last event.
-use Rattle.std.proofs.Common.{◌≡◌, List, [], ◌∷◌, ◌++◌, Result, Ok, Err, refl, sym, ap, ◌∙◌}
-use Rattle.std.specs.Prelude.{OnOk}
-use Rattle.fork_model.specs.Event.{FinalAnswer, Event}
-use Rattle.fork_program.specs.Script.{Script, answer_changed, last_changed}
+use Rattle.fork_program.proofs.Common.{◌≡◌, List, [], ◌∷◌, ◌++◌, Result, Ok, Err, refl, sym, ap, ◌∙◌, OnOk, FinalAnswer, Event, Script, last_changed}
+use Rattle.fork_program.specs.Script.{answer_changed}
 
 pub last_changed-snoc : (change : FinalAnswer → FinalAnswer) (events : List Event) (event : Event) → last_changed change (events ++ event ∷ []) ≡ events ++ answer_changed change event ∷ []
 last_changed-snoc change [] event = refl

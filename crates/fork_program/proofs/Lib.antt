@@ -1,4 +1,4 @@
-pub mod Pieces
+pub mod Common
 pub mod LastAnswer
 pub mod InputSteps
 pub mod Rows

@@ -1,21 +1,18 @@
 -- A line is read exactly where it is the spelling of a line: what is read is spelled so.
-use Rattle.std.proofs.Common.{◌≡◌, ℕ, ◌≤◌, Bool, true, false, cond, List, [], ◌∷◌, ◌++◌, Option, Some, None, refl, ap, subst, ◌∙◌, arith}
-use Rattle.std.specs.Prelude.{codes, IsTrue}
+use Rattle.fork_program.proofs.Common.{◌≡◌, ℕ, ◌≤◌, Bool, true, false, cond, List, [], ◌∷◌, ◌++◌, Option, Some, None, refl, ap, subst, ◌∙◌, arith, codes, IsTrue, cut, is, Kind, Invite, Other, most_targets, Ring, Answer, Timeout, Fault}
+use Rattle.fork_program.proofs.Common.{TimerC, GiveUp, same_Some, found_then, preferred_found, Line, KindLine, PreferLine, DepthLine, TargetLine, EventLine, ContactLine, OtherLine, ChallengeLine, kind_text, asker_text, line_text, is_name}
+use Rattle.fork_program.proofs.Common.{is_text, bare, IsLine, numbered_text, most_q, most_number, ring_of, answer_of, named, texted, read_named, read_texted, read_line}
 use Rattle.std.proofs.lemmas.Slice.Eq.{bytes_eq-Decides}
-use Rattle.sip_lex.specs.Cut.{cut, is, behind}
+use Rattle.sip_lex.specs.Cut.{behind}
 use Rattle.sip_lex.specs.Number.{plain_number_within}
-use Rattle.sip_lex.proofs.Cuts.{cut_joins}
-use Rattle.fork_model.specs.Table.{Kind, Invite, Other, most_targets}
-use Rattle.fork_model.specs.Event.{Ring, Answer, Timeout, Fault, TimerC, GiveUp}
-use Rattle.std.proofs.lemmas.Option.{cond_some, same_Some}
-use Rattle.fork_text.proofs.laws.Field.{found_map, found_then, number_before_found, number_from_found}
-use Rattle.fork_text.proofs.laws.Preferred.{preferred_found}
+use Rattle.sip_lex.proofs.laws.Cuts.{cut_joins}
+use Rattle.std.proofs.lemmas.Option.{cond_some}
+use Rattle.fork_text.proofs.laws.Field.{found_map, number_before_found, number_from_found}
 use Rattle.fork_program.specs.declared.line.Word.{Word}
 use Rattle.fork_program.specs.declared.line.Word.TheVariants as word
-use Rattle.fork_program.specs.Line.{Line, KindLine, PreferLine, DepthLine, TargetLine, EventLine, ContactLine, OtherLine, ChallengeLine, kind_text, asker_text, line_text, is_name, is_text, bare, IsLine}
 use Rattle.fork_text.specs.Preferred.{read_preferred}
-use Rattle.fork_text.specs.Field.{numbered_text, most_q, most_number, number_before, number_from}
-use Rattle.fork_program.specs.Reading.{word_of, read_kind, ring_of, answer_of, named, texted, read_named, read_texted, read_asker, challenge_of, challenge_cut, read_challenge, read_row, read_rest, read_alone, read_worded, read_cut, read_line}
+use Rattle.fork_text.specs.Field.{number_before, number_from}
+use Rattle.fork_program.specs.Reading.{word_of, read_kind, read_asker, challenge_of, challenge_cut, read_challenge, read_row, read_rest, read_alone, read_worded, read_cut}
 use Rattle.sip_lex.proofs.laws.Numbers.{number_spelled}
 
 abbrev word_text : Word → List ℕ

@@ -1,10 +1,7 @@
 -- A script has one replay.
-use Rattle.std.proofs.Common.{◌≡◌, ℕ, true, false, Bool, refl, sym, ap, ◌∙◌}
-use Rattle.fork_model.specs.Table.{Table}
-use Rattle.fork_model.specs.OneReply.{AreArrivals}
-use Rattle.fork_model.proofs.laws.Headline.{one_choice, one_history}
-use Rattle.fork_listing.proofs.OneListing.{one_ranking}
-use Rattle.fork_program.specs.Replay.{Ending, Succeeded, Unfinished, Listed, IsEnding, closed, replay_text}
+use Rattle.fork_program.proofs.Common.{◌≡◌, ℕ, true, false, Bool, refl, sym, ap, ◌∙◌, Table, AreArrivals, one_choice, Ending, Succeeded, Unfinished, Listed, IsEnding, closed, replay_text}
+use Rattle.fork_model.proofs.laws.Headline.{one_history}
+use Rattle.fork_listing.proofs.laws.OneListing.{one_ranking}
 use Rattle.fork_program.specs.One.{OneReplay}
 use Rattle.fork_program.proofs.Headline.{arrivals}
 

@@ -1,10 +1,8 @@
 -- Offering one more event.
-use Rattle.std.proofs.Common.{◌≡◌, ℕ, List, [], ◌∷◌, ◌++◌, refl, sym, ap, subst, ◌∙◌, append_assoc, append-nil}
-use Rattle.fork_model.specs.Event.{Event}
-use Rattle.fork_model.specs.Core.{Core, Outcome, IsOutcome, AreOutcomes, core_offered, core_after}
-use Rattle.fork_program.specs.Script.{Script}
-use Rattle.fork_program.specs.Replay.{opening_text, outcome_text, outcomes_text, ending_lines, IsEnding, opened, AddsOutcome, AddsOutcomes, EndsWith, IsReplay}
-use Rattle.fork_text.specs.RuleLines.{ended}
+use Rattle.fork_program.proofs.Common.{◌≡◌, ℕ, List, [], ◌∷◌, ◌++◌, refl, sym, ap, subst, ◌∙◌, append_assoc, append-nil, Event, Core, core_offered, Script, opening_text, outcomes_text, ending_lines, IsEnding, opened, EndsWith, AddsOutcome}
+use Rattle.fork_program.proofs.Common.{AddsOutcomes, ended}
+use Rattle.fork_model.specs.Core.{Outcome, IsOutcome, AreOutcomes, core_after}
+use Rattle.fork_program.specs.Replay.{outcome_text, IsReplay}
 
 pub AreOutcomes-snoc : (core : Core) (events : List Event) (outcomes : List Outcome) (event : Event) (outcome : Outcome) → AreOutcomes core events outcomes → IsOutcome (core_after core events) event outcome → AreOutcomes core (events ++ event ∷ []) (outcomes ++ outcome ∷ [])
 AreOutcomes-snoc core [] [] event outcome are last = (last, tt)
@@ -26,9 +24,6 @@ outcomes_text-snoc core (e ∷ es) (o ∷ os) event outcome are =
     let line = ended (outcome_text next.table.rows o) in
     ap (λ text. line ++ text) (outcomes_text-snoc next es os event outcome are.1)
     ∙ sym (append_assoc line (outcomes_text next es os) (ended (outcome_text (core_offered (core_after next es) event).table.rows outcome)))
-
-pub adds_none : (core : Core) (text : List ℕ) → AddsOutcomes core core [] text text
-adds_none core text = record { outcomes = []; right = tt; next = refl; spelled = sym (append-nil text) }
 
 pub adds_one : (before mid after : Core) (events : List Event) (event : Event) (old text new : List ℕ) → AddsOutcomes before mid events old text → AddsOutcome mid after event text new → AddsOutcomes before after (events ++ event ∷ []) old new
 adds_one before mid after events event old text new all one =

@@ -1,24 +1,16 @@
 -- What is appended in steps, where each step may be refused.
-use Rattle.std.proofs.Common.{◌≡◌, ◌&&◌, ℕ, Bool, true, false, not, cond, List, [], ◌++◌, Some, Result, Ok, Err, refl, sym, ap, subst, ◌∙◌}
-use Rattle.std.specs.Prelude.{◌↔◌, OnOk, IsErrOf, IsTrue}
-use Rattle.fork_model.specs.Table.{Table, is_finished, is_succeeded}
-use Rattle.fork_model.specs.Event.{Event}
-use Rattle.fork_model.specs.Challenges.{challenge_list}
+use Rattle.fork_program.proofs.Common.{◌≡◌, ◌&&◌, ℕ, Bool, true, false, not, cond, List, [], ◌++◌, Some, Result, Ok, Err, refl, sym, ap, subst, ◌∙◌, ◌↔◌, OnOk, IsErrOf, IsTrue, Table, is_finished, is_succeeded, Event, challenge_list, Core}
+use Rattle.fork_program.proofs.Common.{core_offered, IsListingOf, Unfinished, Listed, added_lines, ending_lines, EndsWith, AddsOutcome, ended}
 use Rattle.fork_model.specs.Reply.{Reply, IsReply}
-use Rattle.fork_model.specs.Core.{Core, Replied, is_full, core_next, core_offered}
+use Rattle.fork_model.specs.Core.{Replied, is_full, core_next}
 use Rattle.fork_model.specs.Choice as spec
 use Rattle.fork_context.specs.Chosen.{is_due, IsChosen}
 use Rattle.fork_listing.specs.declared.lister.ListFault.{ListFault}
 use Rattle.fork_listing.specs.declared.lister.ListFault.TheVariants as list
-use Rattle.fork_listing.specs.Listed.{IsListingOf, Appends}
-use Rattle.fork_program.specs.Replay.{Succeeded, Unfinished, Listed, branches_left, added_lines, ending_lines, reply_text, EndsWith, AddsOutcome}
-use Rattle.fork_text.specs.RuleLines.{ended}
+use Rattle.fork_listing.specs.Listed.{Appends}
+use Rattle.fork_program.specs.Replay.{branches_left, reply_text}
 
 module _ {T E : Type 0} where
-  pub ends_succeeded : (r : Result T E) (t : Table) (old new : List ℕ) → is_succeeded t.rows ≡ true → OnOk r (new ≡ old ++ ending_lines t Succeeded) → OnOk r (EndsWith t old new)
-  ends_succeeded (Ok x) t old new done h = record { ending = Succeeded; right = done; spelled = h }
-  ends_succeeded (Err e) t old new done h = h
-
   pub ends_unfinished : (r : Result T E) (t : Table) (old new : List ℕ) → (is_finished t.rows ≡ false) × (is_succeeded t.rows ≡ false) → OnOk r (new ≡ old ++ ending_lines t (Unfinished (branches_left t.rows))) → OnOk r (EndsWith t old new)
   ends_unfinished (Ok x) t old new open_ h = record { ending = Unfinished (branches_left t.rows); right = (open_.1, open_.0, refl); spelled = h }
   ends_unfinished (Err e) t old new open_ h = h

@@ -1,13 +1,10 @@
 -- Why the targets of a script are refused.
-use Rattle.std.proofs.Common.{◌≡◌, ◌≤◌, List, [], length, Ok, Err, refl, sym, subst, ◌∙◌}
-use Rattle.std.specs.Prelude.{◌↔◌, IsErrOf}
-use Rattle.fork_model.specs.Table.{most_targets}
-use Rattle.fork_model.specs.History.{Target}
+use Rattle.fork_program.proofs.Common.{◌≡◌, ◌≤◌, List, [], length, Ok, Err, refl, sym, subst, ◌∙◌, ◌↔◌, IsErrOf, most_targets, Target, Script}
 use Rattle.fork_context.specs.declared.context.NewFault.{NewFault}
 use Rattle.fork_context.specs.declared.context.NewFault.TheVariants as setup
 use Rattle.fork_context.specs.Refusals.{HasTwice, IsTooMany}
-use Rattle.fork_program.specs.Script.{Script}
-use Rattle.fork_program.specs.Faults.{IsSetupFault, IsForkRefusal}
+use Rattle.fork_program.specs.Faults.{IsSetupFault}
+use Rattle.fork_program.specs.inner.Faults.{IsForkRefusal}
 use Rattle.fork_program.specs.FaultView.{fault_set_up}
 
 ok_is : {T : Type 0} {made : T} {fault : NewFault} → Ok made ≡ Err fault → ⊥

@@ -1,36 +1,19 @@
 -- The listing that the replay of a script ends in is right, and is answered with yes.
-use Rattle.std.proofs.Common.{◌≡◌, ◌≢◌, ◌≤◌, ℕ, List, [], ◌∷◌, ◌++◌, map, length, Option, Some, None, Result, Ok, Err, refl, sym, ap, subst, ◌∙◌, arith, append_assoc}
-use Rattle.std.specs.Prelude.{codes, ◌<◌}
-use Rattle.std.specs.List.{flat_map, AllByRecursion}
-use Rattle.fork_rank.specs.Preferred.{IsPreferredList, usual_preferred}
-use Rattle.fork_model.specs.Table.{Table, most_targets}
-use Rattle.fork_model.specs.Choice.{IsChoice}
-use Rattle.fork_model.specs.Challenges.{challenge_list}
-use Rattle.fork_model.specs.Event.{Event, Ring, Answer, Timeout, Fault, TimerC, GiveUp, Cancel}
-use Rattle.fork_model.specs.History.{Target}
-use Rattle.fork_model.specs.StrictOrder.{Irreflexive}
+use Rattle.fork_program.proofs.Common.{◌≡◌, ◌≢◌, ◌≤◌, ℕ, List, [], ◌∷◌, ◌++◌, map, length, Option, Some, None, Result, Ok, Err, refl, sym, ap, subst, ◌∙◌, arith, append_assoc, codes, ◌<◌, flat_map, AllByRecursion, usual_preferred, Table}
+use Rattle.fork_program.proofs.Common.{most_targets, IsChoice, challenge_list, Event, Ring, Answer, Timeout, Fault, TimerC, GiveUp, Cancel, Target, Irreflexive, preferred_found, ended, Verdict, CheckFault, IsListingOf, targets_of}
+use Rattle.fork_program.proofs.Common.{IsRanking, TheChoiceIsFirst, RightTellsTheChoice, Line, EventLine, IsLine, Script, Detail, ContactDetail, OtherDetail, ChallengeDetail, Told, Spelling, prefer_lines, depth_lines, target_line}
+use Rattle.fork_program.proofs.Common.{detail_line, told_lines, IsSpelling, preferred_said, depth_said, offers_said, event_said, script_of, Spells, IsForkReplay, opened, closed, opening_text, outcomes_text, added_lines, IsAnswer, IsDone}
+use Rattle.fork_program.proofs.Common.{TellsOneFinal, all_back}
+use Rattle.fork_rank.specs.Preferred.{IsPreferredList}
 use Rattle.fork_model.specs.Range.{IsTargetInRange, IsOfferInRange, IsEventInRange}
 use Rattle.fork_context.specs.declared.context.NewFault.TheVariants as setup
 use Rattle.fork_context.specs.Led.{IsLedTo}
-use Rattle.fork_text.proofs.laws.Preferred.{preferred_found}
-use Rattle.fork_text.specs.RuleLines.{ended}
-use Rattle.fork_listing.specs.declared.checker.Verdict.{Verdict}
-use Rattle.fork_listing.specs.declared.checker.CheckFault.{CheckFault}
-use Rattle.fork_listing.specs.declared.checker.CheckFault.TheVariants as check
+use Rattle.fork_listing.specs.declared.refusal.CheckFault.TheVariants as check
 use Rattle.fork_listing.specs.Text.{listing_text}
-use Rattle.fork_listing.specs.Listed.{IsListingOf, listing_of, targets_of}
-use Rattle.fork_listing.specs.Ranking.{IsRanking}
+use Rattle.fork_listing.specs.Listed.{listing_of}
 use Rattle.fork_listing.specs.Accepted.{ListingsAreRight, RightTextsAreAccepted, IsOkElseNoMemory}
-use Rattle.fork_listing.specs.Meaning.{TheChoiceIsFirst, RightTellsTheChoice}
-use Rattle.fork_program.specs.Line.{Line, EventLine, IsLine}
-use Rattle.fork_program.specs.Script.{Script}
-use Rattle.fork_program.specs.Spelling.{Detail, ContactDetail, OtherDetail, ChallengeDetail, Told, Spelling, prefer_lines, depth_lines, target_line, detail_line, told_lines, IsSpelling, preferred_said, depth_said, offers_said, event_said, script_of, Spells}
-use Rattle.fork_program.specs.Faults.{IsForkReplay}
-use Rattle.fork_program.specs.Replay.{opened, closed, opening_text, outcomes_text, added_lines}
-use Rattle.fork_program.specs.Answer.{IsAnswer}
-use Rattle.fork_program.specs.Headline.{IsDone, TellsOneFinal}
 use Rattle.fork_program.specs.RightListing.{EndsInRightListing, ReplaysEndInRightListings, RightListingsAreAnsweredYes}
-use Rattle.fork_program.proofs.DraftedLines.{all_back, body_of, history_lines}
+use Rattle.fork_program.proofs.DraftedLines.{body_of, history_lines}
 use Rattle.fork_program.proofs.Headline.{rules_stay, tells_one_final}
 use Rattle.fork_program.proofs.ShortListings.{right_is_short}
 

@@ -1,11 +1,9 @@
 -- Counting and listing rows, one row at a time.
-use Rattle.std.proofs.Common.{◌≡◌, ℕ, suc, ◌+◌, ◌<◌, Bool, true, false, cond, List, [], ◌∷◌, ◌++◌, length, take, sym, ap, ◌∙◌, arith, append-nil}
-use Rattle.std.specs.Prelude.{slice_get, count_by, filter}
+use Rattle.fork_program.proofs.Common.{◌≡◌, ℕ, suc, ◌+◌, ◌<◌, Bool, true, false, cond, List, [], ◌∷◌, ◌++◌, length, take, sym, ap, ◌∙◌, arith, append-nil, slice_get, count_by, filter, is_row, numbers_below}
 use Rattle.std.proofs.lemmas.Option.{slice_get-get_or}
 use Rattle.std.proofs.lemmas.List.Sums.{count_by_more_yes, count_by_more_no}
 use Rattle.std.proofs.lemmas.List.Elements.{filter-append}
-use Rattle.fork_model.specs.Table.{State, Row, is_row}
-use Rattle.fork_model.specs.Groups.{numbers_below}
+use Rattle.fork_model.specs.Table.{State, Row}
 
 pub counted_yes : (test : State → Bool) (rows : List Row) (n : ℕ) → n < length rows → is_row test (slice_get rows n) ≡ true → count_by (λ row. test row.state) (take (n + 1) rows) ≡ count_by (λ row. test row.state) (take n rows) + 1
 counted_yes test [] n lt e = absurd (omega arith)

@@ -1,16 +1,15 @@
 -- A right listing is no longer than a text that is checked.
-use Rattle.std.proofs.Common.{◌≡◌, ◌≤◌, ◌<◌, ◌+◌, ◌*◌, ℕ, suc, Bool, true, false, eqb, List, [], ◌∷◌, ◌++◌, map, length, Option, Some, None, refl, sym, ap, subst, ◌∙◌, arith, length-append}
-use Rattle.std.specs.Prelude.{◌||◌, All, slice_get, option_and_then}
-use Rattle.std.specs.List.{flat_map, list_any, AllByRecursion, IsDistinct}
-use Rattle.std.specs.Fmt.{decimal}
+use Rattle.fork_program.proofs.Common.{◌≡◌, ◌≤◌, ◌<◌, ◌+◌, ℕ, suc, Bool, true, false, eqb, List, [], ◌∷◌, ◌++◌, map, length, Option, Some, None, refl, sym, ap, subst, ◌∙◌, arith, slice_get, option_and_then, flat_map, AllByRecursion}
+use Rattle.fork_program.proofs.Common.{decimal, same_Some, Irreflexive, ended, Verdict, RightTellsTheChoice, most_text}
+use Rattle.std.proofs.Common.{◌*◌, length-append}
+use Rattle.std.specs.Prelude.{◌||◌, All}
+use Rattle.std.specs.List.{list_any, IsDistinct}
 use Rattle.std.proofs.lemmas.Bool.{false_from_ne_true, eqb-true}
 use Rattle.std.proofs.lemmas.Fmt.{length-decimal-le}
 use Rattle.std.proofs.lemmas.List.Elements.{All-head, All-tail}
 use Rattle.std.proofs.lemmas.Map.Steps.{length-le_from_distinct_below}
-use Rattle.std.proofs.lemmas.Option.{slice_get_within, same_Some}
+use Rattle.std.proofs.lemmas.Option.{slice_get_within}
 use Rattle.fork_model.specs.Rank.{Score, Before}
-use Rattle.fork_model.specs.StrictOrder.{Irreflexive}
-use Rattle.fork_text.specs.RuleLines.{ended}
 use Rattle.fork_text.specs.Preferred.{list_text}
 use Rattle.fork_listing.specs.declared.line.Version.{Version}
 use Rattle.fork_listing.specs.declared.line.Version.TheVariants.{First, Second, Third}
@@ -18,15 +17,12 @@ use Rattle.fork_listing.specs.declared.line.End.{End}
 use Rattle.fork_listing.specs.declared.line.End.TheVariants.{Stored, Taken, Silent, Never}
 use Rattle.fork_listing.specs.declared.line.Target.{Target}
 use Rattle.fork_listing.specs.declared.line.Ranked.{Ranked}
-use Rattle.fork_listing.specs.declared.checker.Verdict.{Verdict}
 use Rattle.fork_listing.specs.Line.{Line, ForkLine, PreferLine, DepthLine, TargetLine, RankLine, FinalLine, version_text, number_text, how_text, end_text, line_text, most_listed}
 use Rattle.fork_listing.specs.Ranks.{score_of, score_in, score_at}
 use Rattle.fork_listing.specs.Text.{Listing, rule_lines, lines_of, lines_text}
 use Rattle.fork_listing.specs.Spelled.{IsEnd, IsNumberOrNone, IsLine, IsListing}
 use Rattle.fork_listing.specs.Checking.{IsRight}
-use Rattle.fork_listing.specs.Meaning.{RightTellsTheChoice}
 use Rattle.fork_listing.specs.Accepted.{IsRightText}
-use Rattle.fork_program.specs.Faults.{most_text}
 
 -- ---- a line is short
 

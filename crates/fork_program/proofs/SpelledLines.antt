@@ -1,19 +1,15 @@
 -- Each spelling of a line is read as that line, and has no LF.
-use Rattle.std.proofs.Common.{◌≡◌, ℕ, ◌≤◌, Bool, true, false, not, cond, eqb, List, [], ◌∷◌, ◌++◌, length, Option, Some, None, refl, sym, ap, ◌∙◌, arith}
-use Rattle.std.specs.Prelude.{option_and_then, IfSome, codes, ◌&&◌, nat_le}
-use Rattle.std.specs.Option.{option_map}
+use Rattle.fork_program.proofs.Common.{◌≡◌, ℕ, ◌≤◌, Bool, true, false, not, cond, eqb, List, [], ◌∷◌, ◌++◌, length, Option, Some, None, refl, sym, ap, ◌∙◌, arith, option_and_then, IfSome, codes, ◌&&◌, option_map, decimal, is, Kind, Invite}
+use Rattle.fork_program.proofs.Common.{Other, most_targets, FinalAnswer, Event, Ring, Answer, Timeout, Fault, TimerC, GiveUp, Cancel, Line, KindLine, PreferLine, DepthLine, TargetLine, EventLine, ContactLine, OtherLine, ChallengeLine}
+use Rattle.fork_program.proofs.Common.{kind_text, asker_text, line_text, is_name, is_text, bare, IsLine, IsSpelledBy, numbered_text, most_q, most_number, ring_of, answer_of, named, texted, read_named, read_texted, read_line}
+use Rattle.std.specs.Prelude.{nat_le}
 use Rattle.std.specs.List.{list_all}
-use Rattle.std.specs.Fmt.{decimal}
 use Rattle.std.proofs.lemmas.Bool.{eqb-false, and_parts}
-use Rattle.sip_lex.specs.Cut.{is, Lacks}
-use Rattle.sip_lex.proofs.Cuts.{Lacks-append, Lacks-pass}
-use Rattle.fork_model.specs.Table.{Kind, Invite, Other, most_targets}
-use Rattle.fork_model.specs.Event.{FinalAnswer, Event, Ring, Answer, Timeout, Fault, TimerC, GiveUp, Cancel}
+use Rattle.sip_lex.specs.Cut.{Lacks}
+use Rattle.sip_lex.proofs.laws.Cuts.{Lacks-append, Lacks-pass}
 use Rattle.fork_text.proofs.laws.Field.{number_before_read, number_from_read}
 use Rattle.fork_text.proofs.laws.Preferred.{preferred_read, list_lacks}
-use Rattle.fork_program.specs.Line.{Line, KindLine, PreferLine, DepthLine, TargetLine, EventLine, ContactLine, OtherLine, ChallengeLine, kind_text, asker_text, event_text, line_text, is_visible, is_printable, is_name, is_text, bare, IsLine, IsSpelledBy}
-use Rattle.fork_text.specs.Field.{numbered_text, most_q, most_number}
-use Rattle.fork_program.specs.Reading.{ring_of, answer_of, named, texted, read_named, read_texted, read_line}
+use Rattle.fork_program.specs.Line.{event_text, is_visible, is_printable}
 use Rattle.sip_lex.proofs.laws.Numbers.{number_read, decimal_lacks}
 use Rattle.fork_program.proofs.LineLaws.{line_found}
 

@@ -1,20 +1,13 @@
 -- A text is spelled in one way, and two are read as one script where their spellings say the same.
-use Rattle.std.proofs.Common.{◌≡◌, ℕ, List, [], ◌∷◌, ◌++◌, map, Option, Some, None, Result, Ok, refl, sym, ap, ◌∙◌, append_assoc}
-use Rattle.std.specs.List.{flat_map, AllByRecursion}
-use Rattle.std.proofs.lemmas.Option.{same_Some}
-use Rattle.sip_lex.specs.Cut.{cut, is}
-use Rattle.sip_lex.proofs.Cuts.{cut_again}
-use Rattle.fork_text.specs.RuleLines.{ended}
-use Rattle.fork_model.specs.Table.{Kind, Invite, Offer, Challenge}
-use Rattle.fork_model.specs.Event.{Event, Ring, Answer, Timeout, Fault, TimerC, GiveUp, Cancel}
-use Rattle.fork_model.specs.History.{Target}
-use Rattle.fork_program.specs.Line.{Line, KindLine, PreferLine, DepthLine, TargetLine, EventLine, ContactLine, OtherLine, ChallengeLine, line_text, bare, IsLine}
-use Rattle.fork_program.specs.Reading.{read_line}
-use Rattle.fork_program.specs.Script.{Script, read_script}
-use Rattle.fork_program.specs.Spelling.{Detail, ContactDetail, OtherDetail, ChallengeDetail, Told, Spelling, prefer_lines, depth_lines, target_line, detail_line, told_lines, lines_of, text_of, MayStandBehind, offers_said, challenges_said, event_said, script_of, IsSpelledAs}
+use Rattle.fork_program.proofs.Common.{◌≡◌, ℕ, List, [], ◌∷◌, ◌++◌, map, Option, Some, None, Result, Ok, refl, sym, ap, ◌∙◌, append_assoc, flat_map, AllByRecursion, same_Some, cut, is, ended, Kind, Invite, Offer, Challenge, Event, Ring}
+use Rattle.fork_program.proofs.Common.{Answer, Timeout, Fault, TimerC, GiveUp, Cancel, Target, Line, KindLine, PreferLine, DepthLine, TargetLine, EventLine, ContactLine, OtherLine, ChallengeLine, line_text, bare, IsLine, read_line, Script}
+use Rattle.fork_program.proofs.Common.{Detail, ContactDetail, OtherDetail, ChallengeDetail, Told, Spelling, prefer_lines, depth_lines, target_line, detail_line, told_lines, lines_of, text_of, MayStandBehind, offers_said, challenges_said}
+use Rattle.fork_program.proofs.Common.{event_said, script_of, IsSpelledAs, all_back}
+use Rattle.sip_lex.proofs.laws.Cuts.{cut_again}
+use Rattle.fork_program.specs.Script.{read_script}
 use Rattle.fork_program.specs.Grammar.{SpelledOnce, TellTheSame, SayTheSame, ReadAlike}
 use Rattle.fork_program.proofs.SpelledLines.{line_read, line_lacks}
-use Rattle.fork_program.proofs.DraftedLines.{body_of, history_lines, all_back}
+use Rattle.fork_program.proofs.DraftedLines.{body_of, history_lines}
 use Rattle.fork_program.proofs.SpelledScripts.{spelled_read}
 
 -- ---- the lines of a text

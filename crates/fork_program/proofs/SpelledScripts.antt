@@ -1,163 +1,25 @@
 -- A script is read of exactly the texts that spell it, and any other text is refused by exactly its first malformed line.
-use Rattle.std.proofs.Common.{◌≡◌, ℕ, suc, ◌+◌, ◌<◌, Bool, true, false, cond, List, [], ◌∷◌, ◌++◌, length, Option, Some, None, Result, Ok, Err, refl, sym, ap, subst, ◌∙◌, arith, append_assoc, append-nil}
-use Rattle.std.specs.Prelude.{option_and_then, IfOk, IfErr}
-use Rattle.std.specs.List.{slice_split, join_with_byte, AllByRecursion}
-use Rattle.std.proofs.lemmas.Option.{same_Some}
+use Rattle.fork_program.proofs.Common.{◌≡◌, ℕ, suc, ◌+◌, ◌<◌, Bool, true, false, cond, List, [], ◌∷◌, ◌++◌, length, Option, Some, None, Result, Ok, Err, refl, sym, ap, subst, ◌∙◌, arith, append_assoc, append-nil, option_and_then, IfOk}
+use Rattle.fork_program.proofs.Common.{slice_split, is, ended, Line, line_text, IsLine, IsSpelledBy, read_line, Script, Draft, no_draft, drafted_line, drafted, has_kind, finished_draft, read_from, Spelling, lines_of, text_of, script_of}
+use Rattle.fork_program.proofs.Common.{IsSpelledAs, Spells, GivesScript}
+use Rattle.std.specs.Prelude.{IfErr}
+use Rattle.std.specs.List.{join_with_byte}
 use Rattle.std.proofs.lemmas.List.Splits.{join_with_byte-slice_split, length-slice_split}
-use Rattle.sip_lex.specs.Cut.{cut, is, Lacks}
-use Rattle.sip_lex.proofs.Cuts.{cut_again, Lacks-back}
-use Rattle.sip_lex.proofs.Splits.{pieces_lack}
-use Rattle.fork_text.specs.RuleLines.{ended}
+use Rattle.sip_lex.proofs.laws.Splits.{pieces_lack}
+use Rattle.fork_text.specs.LineByLine.{with_next}
+use Rattle.fork_text.proofs.laws.Lines.{IsReader, read_lines, malformed, found, next_piece}
 use Rattle.fork_program.specs.declared.script.ReadFault.{ReadFault}
 use Rattle.fork_program.specs.declared.script.ReadFault.TheVariants as read
-use Rattle.fork_program.specs.Line.{Line, line_text, IsLine, IsSpelledBy}
-use Rattle.fork_program.specs.Reading.{read_line}
-use Rattle.fork_program.specs.Script.{Script, Draft, no_draft, drafted_line, drafted, has_kind, with_next, read_from, read_script}
-use Rattle.fork_program.specs.Spelling.{Spelling, lines_of, text_of, script_of, IsSpelledAs, Spells}
+use Rattle.fork_program.specs.Script.{read_script}
 use Rattle.fork_program.specs.Malformed.{IsMalformedAt}
 use Rattle.fork_program.specs.Grammar.{ReadExactly, RefusedByFirst}
-use Rattle.fork_program.specs.ReadView.{GivesScript, IsFaultOf}
+use Rattle.fork_program.specs.ReadView.{IsFaultOf}
 use Rattle.fork_program.proofs.LineLaws.{line_found}
 use Rattle.fork_program.proofs.SpelledLines.{line_read, line_lacks}
-use Rattle.fork_program.proofs.Pieces.{read_from-next}
-use Rattle.fork_program.proofs.DraftedLines.{drafted_lines, script_drafted, whole_found, begins, begins_with, lines_due, next_due}
-
--- ---- what is spelled is read
-
--- reading on behind a line
-read_next : (number : ℕ) (draft : Draft) (line : Line) (more : List ℕ) → IsLine line
-    → read_from number draft (slice_split (is 10) (ended (line_text line) ++ more))
-    ≡ with_next number (drafted_line draft line) (λ next. read_from (suc number) next (slice_split (is 10) more))
-read_next number draft line more h =
-    let joined : ended (line_text line) ++ more ≡ line_text line ++ 10 ∷ more = append_assoc (line_text line) (10 ∷ []) more in
-    let there : (line_text line, Some more) ≡ cut (is 10) (ended (line_text line) ++ more) =
-    sym (ap (cut (is 10)) joined ∙ cut_again 10 (line_text line) (Some more) (line_lacks line h)) in
-    read_from-next number draft (ended (line_text line) ++ more) (line_text line) more there
-    ∙ ap (λ (o : Option Line). with_next number (option_and_then (drafted_line draft) o) (λ next. read_from (suc number) next (slice_split (is 10) more))) (line_read line h)
-
--- behind lines that may come
-read_lines : (number : ℕ) (draft : Draft) (lines : List Line) (more : List ℕ) (next : Draft) → AllByRecursion IsLine lines → drafted_lines draft lines ≡ Some next
-    → read_from number draft (slice_split (is 10) (text_of lines ++ more)) ≡ read_from (number + length lines) next (slice_split (is 10) more)
-read_lines number draft [] more next all e =
-    let same : draft ≡ next = same_Some _ _ e in
-    let none : number ≡ number + 0 = omega arith in
-    ap (λ (d : Draft). read_from number d (slice_split (is 10) more)) same ∙ ap (λ n. read_from n next (slice_split (is 10) more)) none
-read_lines number draft (line ∷ lines) more next all e =
-    one (drafted_line draft line) refl e (λ d due. read_lines (suc number) d lines more next all.1 due)
-  where
-    one : (o : Option Draft) → drafted_line draft line ≡ o → option_and_then (λ d. drafted_lines d lines) o ≡ Some next
-        → ((d : Draft) → drafted_lines d lines ≡ Some next → read_from (suc number) d (slice_split (is 10) (text_of lines ++ more)) ≡ read_from (suc number + length lines) next (slice_split (is 10) more))
-        → read_from number draft (slice_split (is 10) (text_of (line ∷ lines) ++ more)) ≡ read_from (number + length (line ∷ lines)) next (slice_split (is 10) more)
-    one None due e again = absurd cc
-    one (Some d) due e again =
-        let count : suc number + length lines ≡ number + length (line ∷ lines) = omega arith in
-        ap (λ (t : List ℕ). read_from number draft (slice_split (is 10) t)) (append_assoc (ended (line_text line)) (text_of lines) more)
-        ∙ read_next number draft line (text_of lines ++ more) all.0
-        ∙ ap (λ (o : Option Draft). with_next number o (λ next. read_from (suc number) next (slice_split (is 10) (text_of lines ++ more)))) due
-        ∙ again d e
-        ∙ ap (λ n. read_from n next (slice_split (is 10) more)) count
-
-pub spelled_read : (text : List ℕ) (s : Spelling) → IsSpelledAs text s → read_script text ≡ Ok (script_of s)
-unfolding read_script
-spelled_read text s h =
-    let lines : List Line = lines_of s in
-    let r = script_drafted s h.0 in
-    ap (λ (t : List ℕ). read_from 1 no_draft (slice_split (is 10) t)) (h.1 ∙ sym (append-nil (text_of lines)))
-    ∙ read_lines 1 no_draft lines [] _ h.0.lines r.due
-    ∙ ap (λ (t : Bool). cond {A = Result Script ℕ} t (Ok (script_of s)) (Err (1 + length lines))) r.whole
+use Rattle.fork_program.proofs.DraftedLines.{script_drafted, whole_found, begins, begins_with, lines_due, next_due}
 
 abbrev found_as : Script → Result Script ℕ
 found_as s = Ok s
-
-script_read : (text : List ℕ) (script : Script) → Spells text script → read_script text ≡ Ok script
-script_read text script h = spelled_read text h.0 h.1 ∙ ap found_as h.2
-
--- ---- what is read is spelled
-
-record FoundLines (draft : Draft) (text : List ℕ) (script : Script) : Type 0 where
-  lines : List Line
-  right : AllByRecursion IsLine lines
-  next : Draft
-  due : drafted_lines draft lines ≡ Some next
-  whole : has_kind next.phase ≡ true
-  same : next.script ≡ script
-  spelled : text ≡ text_of lines
-
-pub ok_is : {x y : Script} → found_as x ≡ found_as y → x ≡ y
-ok_is e = cc
-
-found_end : (number : ℕ) (draft : Draft) (script : Script) (b : Bool) → has_kind draft.phase ≡ b → cond b (found_as draft.script) (Err number) ≡ Ok script → FoundLines draft [] script
-found_end number draft script true whole e = record {
-  lines = [];
-  right = tt;
-  next = draft;
-  due = refl;
-  whole = whole;
-  same = ok_is e;
-  spelled = refl;
-}
-found_end number draft script false whole e = absurd cc
-
-lines_found : (number : ℕ) (draft : Draft) (pieces : List (List ℕ)) (script : Script) → read_from number draft pieces ≡ Ok script → FoundLines draft (join_with_byte 10 pieces) script
-lines_found number draft [] script e = absurd cc
-lines_found number draft ([] ∷ []) script e = found_end number draft script (has_kind draft.phase) refl e
-lines_found number draft ((b ∷ bs) ∷ []) script e = absurd cc
-lines_found number draft (text ∷ next ∷ pieces) script e =
-    one (read_line text) refl e (λ d rest. lines_found (suc number) d (next ∷ pieces) script rest)
-  where
-    behind : (line : Line) → IsSpelledBy text line → (o : Option Draft) → drafted_line draft line ≡ o
-        → with_next number o (λ d. read_from (suc number) d (next ∷ pieces)) ≡ Ok script
-        → ((d : Draft) → read_from (suc number) d (next ∷ pieces) ≡ Ok script → FoundLines d (join_with_byte 10 (next ∷ pieces)) script)
-        → FoundLines draft (join_with_byte 10 (text ∷ next ∷ pieces)) script
-    behind line spelled None due e again = absurd cc
-    behind line spelled (Some d) due e again =
-        let more = again d e in
-        let joined : text ++ 10 ∷ join_with_byte 10 (next ∷ pieces) ≡ ended (line_text line) ++ text_of more.lines =
-        ap (λ (t : List ℕ). t ++ 10 ∷ join_with_byte 10 (next ∷ pieces)) spelled.0
-        ∙ ap (λ (t : List ℕ). line_text line ++ 10 ∷ t) more.spelled
-        ∙ sym (append_assoc (line_text line) (10 ∷ []) (text_of more.lines)) in
-        record {
-          lines = line ∷ more.lines;
-          right = (spelled.1, more.right);
-          next = more.next;
-          due = ap (option_and_then (λ d. drafted_lines d more.lines)) due ∙ more.due;
-          whole = more.whole;
-          same = more.same;
-          spelled = joined;
-        }
-
-    one : (o : Option Line) → read_line text ≡ o → with_next number (option_and_then (drafted_line draft) o) (λ d. read_from (suc number) d (next ∷ pieces)) ≡ Ok script
-        → ((d : Draft) → read_from (suc number) d (next ∷ pieces) ≡ Ok script → FoundLines d (join_with_byte 10 (next ∷ pieces)) script)
-        → FoundLines draft (join_with_byte 10 (text ∷ next ∷ pieces)) script
-    one None read e again = absurd cc
-    one (Some line) read e again = behind line (line_found text line read) (drafted_line draft line) refl e again
-
-script_found : (text : List ℕ) (script : Script) → read_script text ≡ Ok script → Spells text script
-unfolding read_script
-script_found text script e =
-    let f = lines_found 1 no_draft (slice_split (is 10) text) script e in
-    let w = whole_found f.lines f.next f.right f.due f.whole in
-    let spelled : text ≡ text_of (lines_of w.script) = sym (join_with_byte-slice_split 10 text) ∙ f.spelled ∙ sym (ap text_of w.spelled) in
-    (w.script, (w.is, spelled), w.same ∙ f.same)
-
-pub read_exactly : ReadExactly
-read_exactly text script = (script_found text script, script_read text script)
-
--- ---- what is refused
-
--- no line that may come stands at the front of the rest
-abbrev NoneDue : Draft → List ℕ → Type 0
-NoneDue draft rest = (line : Line) (more : List ℕ) → IsLine line → rest ≡ ended (line_text line) ++ more → drafted_line draft line ≡ None
-
-record MalformedFrom (number : ℕ) (draft : Draft) (text : List ℕ) (m : ℕ) : Type 0 where
-  lines : List Line
-  right : AllByRecursion IsLine lines
-  end : Draft
-  due : drafted_lines draft lines ≡ Some end
-  rest : List ℕ
-  whole : text ≡ text_of lines ++ rest
-  none : NoneDue end rest
-  counted : m ≡ number + length lines
 
 abbrev refused_as : ℕ → Result Script ℕ
 refused_as n = Err n
@@ -168,96 +30,68 @@ err_is e = cc
 ok_err : {s : Script} {n : ℕ} → found_as s ≡ refused_as n → ⊥
 ok_err e = absurd cc
 
-none_some : {X : Type 0} {x : X} → None ≡ Some x → ⊥
-none_some e = absurd cc
+at_end : (number : ℕ) (draft : Draft) (m : ℕ) (b : Bool) → cond b (found_as draft.script) (Err number) ≡ Err m → number ≡ m
+at_end number draft m true e = absurd (ok_err e)
+at_end number draft m false e = err_is e
 
-here : (number : ℕ) (draft : Draft) (text : List ℕ) (m : ℕ) → number ≡ m → NoneDue draft text → MalformedFrom number draft text m
-here number draft text m same none = record {
-  lines = [];
-  right = tt;
-  end = draft;
-  due = refl;
-  rest = text;
-  whole = refl;
-  none = none;
-  counted = omega arith;
+-- a script is read one line at a time
+reader : IsReader IsLine IsLine line_text read_line drafted_line read_from
+reader = record {
+  lacks = line_lacks;
+  line_read = line_read;
+  line_found = line_found;
+  none = λ number draft. refl;
+  unended = λ number draft b bs. refl;
+  at_end = λ number draft m e. at_end number draft m (has_kind draft.phase) e;
+  goes_on = λ number draft text pieces next more due. next_piece drafted finished_draft number draft text pieces (Some next) more due;
+  stops = λ number draft text pieces more none. next_piece drafted finished_draft number draft text pieces None more none;
 }
 
--- what lacks an LF begins with no line
-never_ended : (text line more : List ℕ) → Lacks 10 text → text ≡ ended line ++ more → ⊥
-never_ended text line more lacks e =
-    let P : List ℕ → Type 0 = Lacks 10 in
-    let whole : Lacks 10 (line ++ 10 ∷ more) = subst P (e ∙ append_assoc line (10 ∷ []) more) lacks in
-    (Lacks-back 10 line (10 ∷ more) whole).0 refl
+-- ---- what is spelled is read
 
--- the last piece is no line
-last_refused : (number : ℕ) (draft : Draft) (text : List ℕ) (m : ℕ) (b : Bool) → Lacks 10 text → cond b (found_as draft.script) (Err number) ≡ Err m → MalformedFrom number draft text m
-last_refused number draft text m true lacks e = absurd (ok_err e)
-last_refused number draft text m false lacks e =
-    here number draft text m (err_is e) (λ line more h same. absurd (never_ended text (line_text line) more lacks same))
+pub spelled_read : (text : List ℕ) (s : Spelling) → IsSpelledAs text s → read_script text ≡ Ok (script_of s)
+unfolding read_script
+spelled_read text s h =
+    let lines : List Line = lines_of s in
+    let r = script_drafted s h.0 in
+    ap (λ (t : List ℕ). read_from 1 no_draft (slice_split (is 10) t)) (h.1 ∙ sym (append-nil (text_of lines)))
+    ∙ read_lines reader 1 no_draft lines [] _ h.0.lines r.due
+    ∙ ap (λ (t : Bool). cond {A = Result Script ℕ} t (Ok (script_of s)) (Err (1 + length lines))) r.whole
 
--- the line at the front is the only one that the text begins with
-one_line : (text more : List ℕ) (line : Line) (back : List ℕ) → Lacks 10 text → IsLine line → text ++ 10 ∷ more ≡ ended (line_text line) ++ back → text ≡ line_text line
-one_line text more line back lacks h e =
-    let front : cut (is 10) (text ++ 10 ∷ more) ≡ (text, Some more) = cut_again 10 text (Some more) lacks in
-    let there : cut (is 10) (ended (line_text line) ++ back) ≡ (line_text line, Some back) =
-    ap (cut (is 10)) (append_assoc (line_text line) (10 ∷ []) back) ∙ cut_again 10 (line_text line) (Some back) (line_lacks line h) in
-    ap (λ (p : List ℕ × Option (List ℕ)). p.0) (sym front ∙ ap (cut (is 10)) e ∙ there)
+script_read : (text : List ℕ) (script : Script) → Spells text script → read_script text ≡ Ok script
+script_read text script h = spelled_read text h.0 h.1 ∙ ap found_as h.2
 
-malformed : (number : ℕ) (draft : Draft) (pieces : List (List ℕ)) (m : ℕ) → 0 < length pieces → AllByRecursion (Lacks 10) pieces → read_from number draft pieces ≡ Err m
-    → MalformedFrom number draft (join_with_byte 10 pieces) m
-malformed number draft [] m some lack e = absurd (omega arith)
-malformed number draft ([] ∷ []) m some lack e = last_refused number draft [] m (has_kind draft.phase) tt e
-malformed number draft ((b ∷ bs) ∷ []) m some lack e = last_refused number draft (b ∷ bs) m false lack.0 e
-malformed number draft (text ∷ next ∷ pieces) m some lack e =
-    one (read_line text) refl e (λ d rest. malformed (suc number) d (next ∷ pieces) m (omega arith) lack.1 rest)
-  where
-    more : List ℕ
-    more = join_with_byte 10 (next ∷ pieces)
+-- ---- what is read is spelled
 
-    stops : (o : Option Draft) → drafted draft text ≡ o → o ≡ None → number ≡ m → MalformedFrom number draft (text ++ 10 ∷ more) m
-    stops o read none same =
-        here number draft (text ++ 10 ∷ more) m same
-        (λ line back h e.
-        let spelled : text ≡ line_text line = one_line text more line back lack.0 h e in
-        let reads : read_line text ≡ Some line = ap read_line spelled ∙ line_read line h in
-        sym (ap (option_and_then (drafted_line draft)) reads) ∙ read ∙ none)
+pub ok_is : {x y : Script} → found_as x ≡ found_as y → x ≡ y
+ok_is e = cc
 
-    behind : (line : Line) → read_line text ≡ Some line → IsSpelledBy text line → (o : Option Draft) → drafted_line draft line ≡ o
-        → with_next number o (λ d. read_from (suc number) d (next ∷ pieces)) ≡ Err m
-        → ((d : Draft) → read_from (suc number) d (next ∷ pieces) ≡ Err m → MalformedFrom (suc number) d more m)
-        → MalformedFrom number draft (text ++ 10 ∷ more) m
-    behind line read spelled None due e again = stops (drafted_line draft line) (ap (option_and_then (drafted_line draft)) read) due (err_is e)
-    behind line read spelled (Some d) due e again =
-        let rest = again d e in
-        let joined : text ++ 10 ∷ more ≡ (ended (line_text line) ++ text_of rest.lines) ++ rest.rest =
-        ap (λ (t : List ℕ). t ++ 10 ∷ more) spelled.0
-        ∙ ap (λ (t : List ℕ). line_text line ++ 10 ∷ t) rest.whole
-        ∙ sym (append_assoc (line_text line) (10 ∷ []) (text_of rest.lines ++ rest.rest))
-        ∙ sym (append_assoc (ended (line_text line)) (text_of rest.lines) rest.rest) in
-        let count : m ≡ suc number + length rest.lines = rest.counted in
-        record {
-          lines = line ∷ rest.lines;
-          right = (spelled.1, rest.right);
-          end = rest.end;
-          due = ap (option_and_then (λ d. drafted_lines d rest.lines)) due ∙ rest.due;
-          rest = rest.rest;
-          whole = joined;
-          none = rest.none;
-          counted = omega arith;
-        }
+found_end : (number : ℕ) (draft : Draft) (script : Script) (b : Bool) → has_kind draft.phase ≡ b → cond b (found_as draft.script) (Err number) ≡ Ok script → (has_kind draft.phase ≡ true) × (draft.script ≡ script)
+found_end number draft script true whole e = (whole, ok_is e)
+found_end number draft script false whole e = absurd cc
 
-    one : (o : Option Line) → read_line text ≡ o → with_next number (option_and_then (drafted_line draft) o) (λ d. read_from (suc number) d (next ∷ pieces)) ≡ Err m
-        → ((d : Draft) → read_from (suc number) d (next ∷ pieces) ≡ Err m → MalformedFrom (suc number) d more m)
-        → MalformedFrom number draft (text ++ 10 ∷ more) m
-    one None read e again = stops None (ap (option_and_then (drafted_line draft)) read) refl (err_is e)
-    one (Some line) read e again = behind line read (line_found text line read) (drafted_line draft line) refl e again
+script_found : (text : List ℕ) (script : Script) → read_script text ≡ Ok script → Spells text script
+unfolding read_script
+script_found text script e =
+    let f = found reader 1 no_draft (slice_split (is 10) text) script e in
+    let end = found_end f.number f.next script (has_kind f.next.phase) refl f.end in
+    let w = whole_found f.lines f.next f.right f.due end.0 in
+    let spelled : text ≡ text_of (lines_of w.script) = sym (join_with_byte-slice_split 10 text) ∙ f.spelled ∙ sym (ap text_of w.spelled) in
+    (w.script, (w.is, spelled), w.same ∙ end.1)
+
+pub read_exactly : ReadExactly
+read_exactly text script = (script_found text script, script_read text script)
+
+-- ---- what is refused
+
+none_some : {X : Type 0} {x : X} → None ≡ Some x → ⊥
+none_some e = absurd cc
 
 malformed_found : (text : List ℕ) (n : ℕ) → read_script text ≡ Err n → IsMalformedAt text n
 unfolding read_script
 malformed_found text n e =
     let some : 0 < length (slice_split (is 10) text) = omega (arith, length-slice_split (is 10) text) in
-    let h = malformed 1 no_draft (slice_split (is 10) text) n some (pieces_lack 10 text) e in
+    let h = malformed reader 1 no_draft (slice_split (is 10) text) n some (pieces_lack 10 text) e in
     record {
       lines = h.lines;
       rest = h.rest;
@@ -303,7 +137,7 @@ unfolding read_script
 malformed_told text n h =
     let front = lines_due h.lines h.begins in
     let at : read_script text ≡ read_from (1 + length h.lines) front.next (slice_split (is 10) h.rest) =
-    ap (λ (t : List ℕ). read_from 1 no_draft (slice_split (is 10) t)) h.text_is ∙ read_lines 1 no_draft h.lines h.rest front.next front.right front.due in
+    ap (λ (t : List ℕ). read_from 1 no_draft (slice_split (is 10) t)) h.text_is ∙ read_lines reader 1 no_draft h.lines h.rest front.next front.right front.due in
     let none : (line : Line) (more : List ℕ) → IsLine line → h.rest ≡ ended (line_text line) ++ more → drafted_line front.next line ≡ None =
     λ line more fits stands. none_due (drafted_line front.next line) (λ next due. h.wrong line more stands (begins_with h.lines line front.next next front.right fits front.due due)) in
     let told : read_from (1 + length h.lines) front.next (slice_split (is 10) h.rest) ≡ Err (1 + length h.lines) =

@@ -1,9 +1,9 @@
 -- What a check prints of a text, and the exit status that goes with it: `yes` and 0, or the first fault and 4.
 use Rattle.std.specs.Prelude.{◌≡◌, ◌≤◌, ◌<◌, ℕ, List, ◌++◌, length, codes, Result, Ok, Err}
 use Rattle.std.specs.Fmt.{decimal}
-use Rattle.fork_listing.specs.declared.checker.Verdict.{Verdict}
-use Rattle.fork_listing.specs.declared.checker.CheckFault.{CheckFault}
-use Rattle.fork_listing.specs.declared.checker.CheckFault.TheVariants.{Line, Tree, Order, Absent, FinalLine, NoMemory}
+use Rattle.fork_listing.specs.declared.refusal.Verdict.{Verdict}
+use Rattle.fork_listing.specs.declared.refusal.CheckFault.{CheckFault}
+use Rattle.fork_listing.specs.declared.refusal.CheckFault.TheVariants.{Line, Tree, Order, Absent, FinalLine, NoMemory}
 use Rattle.fork_listing.specs.Text.{read_listing}
 use Rattle.fork_listing.specs.Checking.{IsChecked}
 use Rattle.fork_program.specs.declared.fault.ProgFault.{ProgFault}

@@ -2,16 +2,10 @@
 use Rattle.std.specs.Prelude.{ℕ}
 use Rattle.fork_context.specs.declared.context.NewFault.{NewFault}
 use Rattle.fork_context.specs.declared.context.NewFault.TheVariants as setup
-use Rattle.fork_program.specs.declared.script.ReadFault.{ReadFault}
-use Rattle.fork_program.specs.declared.script.ReadFault.TheVariants as read
 use Rattle.fork_program.specs.declared.fault.ProgFault.{ProgFault}
 use Rattle.fork_program.specs.declared.fault.ProgFault.TheVariants as prog
 use Rattle.fork_program.specs.declared.fault.Fault.{Fault}
 use Rattle.fork_program.specs.declared.fault.Fault.TheVariants as fault
-
-abbrev pub fault_read : ReadFault → ProgFault
-fault_read (read.Line number) = prog.Line number
-fault_read read.NoMemory = prog.NoMemory
 
 abbrev pub fault_set_up : NewFault → ProgFault
 fault_set_up setup.NoMemory = prog.NoMemory

@@ -38,14 +38,6 @@ pub record IsForkReplay (script : Script) (printed : List ℕ) : Type 0 where
   pub set_up : (fault : NewFault) → IsSetupFault script.targets fault → ⊥
   pub replayed : IsReplay script printed
 
-abbrev pub IsForkRefusal : Script → ProgFault → Type 0
-IsForkRefusal script prog.TooLong = ⊥
-IsForkRefusal script (prog.Line number) = ⊥
-IsForkRefusal script (prog.New fault) = IsSetupFault script.targets fault
-IsForkRefusal script prog.Stopped = ⊥
-IsForkRefusal script prog.Torn = ⊥
-IsForkRefusal script prog.NoMemory = Unit {0}
-
 -- the text spells a script whose targets are a fork, and its replay was appended
 pub record AppendsReplay (text old new : List ℕ) : Type 0 where
   pub short : length text ≤ most_text

@@ -1,5 +1,5 @@
+pub mod inner
 pub mod Line
-pub mod LineView
 pub mod Reading
 pub mod Script
 pub mod Spelling
@@ -11,7 +11,6 @@ pub mod FaultView
 pub mod Faults
 pub mod Answer
 pub mod Program
-pub mod Input
 pub mod Headline
 pub mod RightListing
 pub mod One

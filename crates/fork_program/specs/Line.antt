@@ -4,6 +4,7 @@ use Rattle.std.specs.Prelude.{◌≡◌, ◌≤◌, ◌<◌, ℕ, ◌&&◌, nat_
 use Rattle.std.specs.List.{list_all}
 use Rattle.std.specs.Fmt.{decimal}
 use Rattle.fork_rank.specs.Preferred.{IsPreferredList}
+pub use Rattle.fork_text.specs.Field.{is_visible}
 use Rattle.fork_text.specs.Field.{most_q, most_number, numbered_text}
 use Rattle.fork_text.specs.RuleLines.{prefer_text, depth_text}
 use Rattle.fork_model.specs.Table.{Kind, Invite, Other, most_targets}
@@ -53,9 +54,6 @@ line_text (ChallengeLine proxy value) = codes "challenge " ++ (asker_text proxy 
 abbrev pub is_printable : ℕ → Bool
 is_printable b = nat_le 32 b && nat_le b 126
 
-abbrev pub is_visible : ℕ → Bool
-is_visible b = nat_le 33 b && nat_le b 126
-
 -- 1 to 64 bytes that show
 abbrev pub is_name : List ℕ → Bool
 is_name name = nat_le 1 (length name) && nat_le (length name) 64 && list_all is_visible name
@@ -87,7 +85,3 @@ IsLine (EventLine event) = IsEventLine event
 IsLine (ContactLine q name) = (q ≤ most_q) × IsTrue (is_name name)
 IsLine (OtherLine q text) = (q ≤ most_q) × IsTrue (is_text text)
 IsLine (ChallengeLine proxy value) = IsTrue (is_text value)
-
--- the text spells the line
-abbrev pub IsSpelledBy : List ℕ → Line → Type 0
-IsSpelledBy text line = (text ≡ line_text line) × IsLine line

@@ -9,7 +9,7 @@ use Rattle.fork_model.specs.Event.{Event}
 use Rattle.fork_model.specs.Choice.{Choice, Best, Only503, NoAnswer408, IsChoice, status_at}
 use Rattle.fork_model.specs.Challenges.{challenge_list}
 use Rattle.fork_model.specs.Reply.{Up, Nothing, Provisional, Success, Final, Reply}
-use Rattle.fork_model.specs.Core.{Core, Outcome, Full, Replied, opening_core, core_offered, core_after, IsOutcome, AreOutcomes}
+use Rattle.fork_model.specs.Core.{Core, Outcome, Full, Replied, opening_core, core_offered, core_after, AreOutcomes}
 use Rattle.fork_listing.specs.declared.line.Ranked.{Ranked}
 use Rattle.fork_listing.specs.Text.{listing_text}
 use Rattle.fork_listing.specs.Ranking.{IsRanking}
@@ -118,20 +118,6 @@ pub record IsReplay (script : Script) (text : List ℕ) : Type 0 where
   pub right : AreOutcomes (opened script) script.events outcomes
   pub last : IsEnding (closed script).table ending
   pub spelled : text ≡ replay_text script outcomes ending
-
--- one event was offered, and the text has grown by its line
-pub record AddsOutcome (before after : Core) (event : Event) (old new : List ℕ) : Type 0 where
-  pub outcome : Outcome
-  pub right : IsOutcome before event outcome
-  pub next : after ≡ core_offered before event
-  pub spelled : new ≡ old ++ ended (outcome_text (core_offered before event).table.rows outcome)
-
--- the same for all these events, in their order
-pub record AddsOutcomes (before after : Core) (events : List Event) (old new : List ℕ) : Type 0 where
-  pub outcomes : List Outcome
-  pub right : AreOutcomes before events outcomes
-  pub next : after ≡ core_after before events
-  pub spelled : new ≡ old ++ outcomes_text before events outcomes
 
 -- the text has grown by the lines that say how the fork stands
 pub record EndsWith (t : Table) (old new : List ℕ) : Type 0 where

@@ -1,7 +1,7 @@
 -- What the program prints of a fork that is done ends in its listing, and a check of that says yes (RFC 3261 section 16.7
 -- steps 5 and 6).
 use Rattle.std.specs.Prelude.{◌≡◌, ◌≤◌, ℕ, List, ◌++◌, length, codes}
-use Rattle.fork_listing.specs.declared.checker.Verdict.{Verdict}
+use Rattle.fork_listing.specs.declared.refusal.Verdict.{Verdict}
 use Rattle.fork_listing.specs.Listed.{IsListingOf}
 use Rattle.fork_listing.specs.Accepted.{IsRightText}
 use Rattle.fork_text.specs.RuleLines.{ended}

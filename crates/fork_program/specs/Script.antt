@@ -1,11 +1,12 @@
 -- A whole script: its lines in their order, each ended by LF, and what they stand for.
-use Rattle.std.specs.Prelude.{◌&&◌, ℕ, suc, Bool, true, false, List, [], ◌∷◌, ◌++◌, Option, Some, None, Result, Ok, Err, option_and_then, if◌then◌else◌}
+use Rattle.std.specs.Prelude.{◌&&◌, ℕ, Bool, true, false, List, [], ◌∷◌, ◌++◌, Option, Some, None, Result, Ok, Err, option_and_then, if◌then◌else◌}
 use Rattle.std.specs.Option.{option_map}
 use Rattle.std.specs.List.{slice_split}
 use Rattle.sip_lex.specs.Cut.{is}
 use Rattle.fork_model.specs.Table.{Kind, Invite, Rules, Offer, Challenge}
 use Rattle.fork_model.specs.Event.{FinalAnswer, Event, Answer}
 use Rattle.fork_model.specs.History.{Target}
+use Rattle.fork_text.specs.LineByLine.{lines_from}
 use Rattle.fork_text.specs.Pieces.{is_empty}
 use Rattle.fork_text.specs.RuleLines.{usual_rules}
 use Rattle.fork_program.specs.declared.script.Phase.{Phase}
@@ -99,16 +100,9 @@ has_kind _ = true
 abbrev pub finished_draft : ℕ → Draft → List ℕ → Result Script ℕ
 finished_draft number draft rest = if is_empty rest && has_kind draft.phase then Ok draft.script else Err number
 
-abbrev pub with_next : ℕ → Option Draft → (Draft → Result Script ℕ) → Result Script ℕ
-with_next number None read = Err number
-with_next number (Some draft) read = read draft
-
 -- the lines from this number on, and what stands behind the last LF
 abbrev pub read_from : ℕ → Draft → List (List ℕ) → Result Script ℕ
-read_from number draft [] = Err number
-read_from number draft (line ∷ lines) =
-    if is_empty lines then finished_draft number draft line
-    else with_next number (drafted draft line) (λ next. read_from (suc number) next lines)
+read_from number draft lines = lines_from drafted finished_draft number draft lines
 
 -- the script, or the number of the first malformed line; a line that is missing has the number it would have
 unfoldable pub read_script : List ℕ → Result Script ℕ

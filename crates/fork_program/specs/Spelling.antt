@@ -16,7 +16,7 @@ use Rattle.fork_model.specs.Table.{Kind, Offer, Challenge, most_targets}
 use Rattle.fork_model.specs.Event.{Event, Answer}
 use Rattle.fork_model.specs.History.{Target}
 use Rattle.fork_rank.specs.Preferred.{usual_preferred}
-use Rattle.fork_text.specs.RuleLines.{ended}
+use Rattle.fork_text.specs.LineByLine.{lines_text}
 use Rattle.fork_program.specs.Line.{Line, KindLine, PreferLine, DepthLine, TargetLine, EventLine, ContactLine, OtherLine, ChallengeLine, line_text, IsLine}
 use Rattle.fork_program.specs.Script.{Script}
 
@@ -67,7 +67,7 @@ lines_of s =
     ∷ (prefer_lines s.prefer ++ (depth_lines s.depth ++ (map target_line s.targets ++ flat_map told_lines s.history)))
 
 abbrev pub text_of : List Line → List ℕ
-text_of lines = flat_map (λ line. ended (line_text line)) lines
+text_of lines = lines_text line_text lines
 
 -- ---- what may stand in them
 

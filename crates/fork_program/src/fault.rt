@@ -41,7 +41,7 @@ impl From<AllocError> for ProgFault {
 }
 
 impl From<ReadFault> for ProgFault {
-    ghost use Rattle.fork_program.specs.FaultView.{fault_read};
+    ghost use Rattle.fork_program.specs.inner.FaultView.{fault_read};
 
     ghost from_gives = { λ read fault. fault ≡ fault_read read };
 

@@ -1,7 +1,7 @@
 //! Reading standard input.
 ghost use Rattle.std.specs.Prelude.{◌≡◌, ◌+◌, ◌≤◌, ◌<◌, IfOk, IfErr, IfSome, length, take, vec_len};
 ghost use Rattle.fork_program.specs.Faults.{most_text};
-ghost use Rattle.fork_program.specs.Input.{ReadsMore};
+ghost use Rattle.fork_program.specs.inner.Input.{ReadsMore};
 ghost use Rattle.fork_program.specs.Program.{IsReadFault};
 
 use crate::fault::Fault;

@@ -5,9 +5,10 @@ ghost use Rattle.std.specs.List.{list_all};
 ghost use Rattle.fork_context.specs.KindView.{kind_of};
 ghost use Rattle.fork_text.specs.Field.{number_from, seen_before};
 ghost use Rattle.fork_program.specs.Line as spec;
-ghost use Rattle.fork_program.specs.Line.{IsSpelledBy, is_visible, is_printable, is_name, is_text};
+ghost use Rattle.fork_program.specs.Line.{is_visible, is_printable, is_name, is_text};
+ghost use Rattle.fork_program.specs.inner.Line.{IsSpelledBy};
 ghost use Rattle.fork_program.specs.Reading.{word_of, read_kind, read_named, read_texted, read_asker, read_challenge, read_rest, read_worded, read_line};
-ghost use Rattle.fork_program.specs.LineView.{line_of};
+ghost use Rattle.fork_program.specs.inner.LineView.{line_of};
 
 use fork_context::Kind;
 use fork_rank::{Preferred, RingStatus, Status};

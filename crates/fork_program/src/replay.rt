@@ -1,11 +1,10 @@
 //! Replaying a script: the program's text for the replies of a fork.
-ghost use Rattle.std.specs.Prelude.{◌≡◌, ◌<◌, ◌≤◌, ◌↔◌, ◌++◌, ℕ, List, length, map, OnOk, OnErr, IfOk, IfErr, IsErrOf};
+ghost use Rattle.std.specs.Prelude.{◌≡◌, ◌<◌, ◌↔◌, length, map, OnOk, OnErr, IfOk, IfErr, IsErrOf};
 ghost use Rattle.fork_context.specs.EventView.{event_of};
-ghost use Rattle.fork_model.specs.Core.{core_after};
-ghost use Rattle.fork_program.specs.Replay.{AddsOutcome, AddsOutcomes};
+ghost use Rattle.fork_program.specs.inner.Replay.{AddsOutcome, AddsOutcomes};
 ghost use Rattle.fork_program.specs.Script.{Script};
-ghost use Rattle.fork_program.specs.Faults.{most_text, IsFault, IsForkReplay, IsForkRefusal, AppendsReplay};
-ghost use Rattle.fork_program.specs.FaultView.{fault_set_up};
+ghost use Rattle.fork_program.specs.Faults.{most_text, IsFault, IsForkReplay, AppendsReplay};
+ghost use Rattle.fork_program.specs.inner.Faults.{IsForkRefusal};
 ghost use Rattle.fork_program.specs.Headline.{IsDone, TellsOneFinal, AppendsOneFinal};
 ghost use Rattle.fork_program.specs.RightListing.{AppendsRightListing};
 

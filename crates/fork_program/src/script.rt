@@ -1,12 +1,11 @@
 //! A whole script: what is forked, by which rules and to which targets, and what happens then.
 ghost use Rattle.std.specs.Prelude.{◌≡◌, ◌≤◌, ◌<◌, ◌^◌, ◌++◌, ◌∷◌, [], length, Ok, OnOk, IfOk, IfErr, Some, None, if◌then◌else◌};
-ghost use Rattle.sip_lex.specs.Cut.{is};
 ghost use Rattle.fork_context.specs.KindView.{kind_of};
 ghost use Rattle.fork_context.specs.EventView.{event_of};
 ghost use Rattle.fork_program.specs.Script.{phase_after, with_contact, with_challenge, answer_changed, last_changed, with_line, no_script, no_draft, drafted, has_kind, finished_draft, read_script};
 ghost use Rattle.fork_text.specs.Field.{most_q};
 ghost use Rattle.fork_program.specs.Line.{bare, IsLine};
-ghost use Rattle.fork_program.specs.LineView.{line_of};
+ghost use Rattle.fork_program.specs.inner.LineView.{line_of};
 ghost use Rattle.fork_program.specs.ReadView.{GivesScript, IsFaultOf};
 ghost use Rattle.fork_program.specs.Script as spec;
 ghost use Rattle.fork_program.specs.Spelling.{Spells};

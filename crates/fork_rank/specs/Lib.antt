@@ -1,4 +1,4 @@
+pub mod inner
 pub mod Preferred
 pub mod Padding
-pub mod PreferredFields
 pub mod Grouping

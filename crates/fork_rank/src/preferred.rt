@@ -2,7 +2,7 @@
 ghost use Rattle.std.specs.Prelude.{◌≡◌, ◌≤◌, ◌<◌, ◌↔◌, All, IsSome, IfSome, IsTrue, Contains, length};
 ghost use Rattle.std.specs.List.Sorted.{IsStrictlyIncreasing};
 ghost use Rattle.fork_rank.specs.Preferred.{IsPreferredList, usual_preferred};
-ghost use Rattle.fork_rank.specs.Padding.{padded};
+ghost use Rattle.fork_rank.specs.inner.Padding.{padded};
 
 use crate::Status;
 use std::marker::Model;
@@ -24,7 +24,7 @@ impl Model for Preferred {
     ghost Value = { List ℕ };
 
     ghost use Rattle.fork_rank.specs.Padding.{IsPadded};
-    ghost use Rattle.fork_rank.specs.PreferredFields.{fields_of, fields_of-view};
+    ghost use Rattle.fork_rank.specs.inner.PreferredFields.{fields_of, fields_of-view};
 
     ghost view = { λ p. take p.count p.codes };
 

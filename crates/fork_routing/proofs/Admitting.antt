@@ -1,22 +1,18 @@
 -- A request that is well formed can be marked with its source.
-use Rattle.std.proofs.Common.{◌≡◌, Bool, true, false, List, ℕ, zero, suc, Option, Result, Ok, Err, refl, sym, subst, arith, ap, ◌∙◌}
-use Rattle.std.specs.Prelude.{IfSome, IsOk, codes, if◌then◌else◌, ◌&&◌}
-use Rattle.std.specs.List.{list_all}
+use Rattle.fork_routing.proofs.Common.{◌≡◌, Bool, true, false, List, ℕ, zero, suc, Option, Result, Ok, Err, refl, sym, subst, arith, ap, ◌∙◌, codes, ◌&&◌, list_all, MessageText, Own, top_value, via_of, Hops, MayPass, hops_name}
+use Rattle.fork_routing.proofs.Common.{is_at_its_end, is_spent, is_well_formed, target_uri}
+use Rattle.std.specs.Prelude.{IfSome, IsOk, if◌then◌else◌}
 use Rattle.std.proofs.lemmas.Bool.{and_parts}
 use Rattle.sip_text.specs.Name.{first_of, first_value, full_name, same_name, values_of}
-use Rattle.sip_text.specs.Text.{MessageText}
 use Rattle.sip_via.specs.declared.own.ViaFault.{ViaFault}
 use Rattle.sip_via.specs.declared.own.ViaFault.TheVariants.{BadVia}
-use Rattle.sip_via.specs.declared.own.Own.{Own}
-use Rattle.sip_via.specs.TopVia.{top_value}
 use Rattle.sip_via.specs.ViaFaults.{refusal}
-use Rattle.sip_via.specs.ViaParts.{ViaText, is_via, via_of}
-use Rattle.sip_route.specs.declared.hops.Hops.{Hops}
+use Rattle.sip_via.specs.ViaParts.{ViaText, is_via}
 use Rattle.sip_route.specs.declared.hops.Hops.TheVariants.{Unsaid, Said, Wrong}
-use Rattle.sip_route.specs.Hops.{IsHops, MayPass, hops_name, hops_of}
+use Rattle.sip_route.specs.Hops.{IsHops, hops_of}
 use Rattle.sip_route.specs.Routes.{stripped}
 use Rattle.sip_route.specs.RouteValues.{is_route, route_values}
-use Rattle.fork_routing.specs.Admission.{are_hops, has_cookie, has_via, is_at_its_end, is_spent, is_uri_or_other, is_well_formed, target_uri}
+use Rattle.fork_routing.specs.Admission.{are_hops, has_cookie, has_via, is_uri_or_other}
 
 pub ok_refused : {Y : Type 0} (r : Result Y ViaFault) → IsOk r → refusal r ≡ BadVia → ⊥
 ok_refused (Ok y) ok e = absurd cc

@@ -1,3 +1,4 @@
+pub mod Common
 pub mod Admitting
 pub mod Matched
 pub mod Placed

@@ -1,23 +1,22 @@
 -- The branch that a message answers, and who its recipient is.
-use Rattle.std.proofs.Common.{◌≡◌, refl, List, ℕ, ◌<◌, ◌^◌, Bool, true, false, Option, Some, None, sym, subst, ap, ◌∙◌}
-use Rattle.std.specs.Prelude.{◌&&◌, ◌==◌, codes}
+use Rattle.fork_routing.proofs.Common.{◌≡◌, refl, List, ℕ, ◌<◌, Bool, true, false, Option, Some, None, sym, subst, ap, ◌∙◌, ◌&&◌, codes, same_Some, option_map, Own, top_value, message_cseq, Call, is_sent, Fixed, method_of, MessageText}
+use Rattle.fork_routing.proofs.Common.{StartText, is_to_method}
+use Rattle.std.proofs.Common.{◌^◌}
+use Rattle.std.specs.Prelude.{◌==◌}
 use Rattle.std.specs.Str.{bytes_eq}
 use Rattle.std.proofs.lemmas.Bool.{and_from, eq-eqb, false≢true}
-use Rattle.std.proofs.lemmas.Option.{same_Some}
 use Rattle.std.proofs.lemmas.Slice.Eq.{bytes_eq-Decides}
-use Rattle.std.specs.Option.{option_map}
 use Rattle.sip_via.specs.declared.branch.BranchName.{BranchName}
-use Rattle.sip_via.specs.declared.own.Own.{Own}
 use Rattle.sip_via.specs.BranchText.{IsBranch}
 use Rattle.sip_via.specs.OwnPass.{IsOwnBranch}
-use Rattle.sip_via.specs.TopVia.{has_second, top_value, via_values}
-use Rattle.sip_text.specs.Fields.{message_cseq}
-use Rattle.fork_parts.specs.Call.{Call, is_cancel_sent, is_sent}
-use Rattle.fork_parts.specs.Fixed.{Fixed, branch_at, method_of}
+use Rattle.sip_via.specs.TopVia.{has_second, via_values}
+use Rattle.fork_parts.specs.Call.{is_cancel_sent}
+use Rattle.fork_parts.specs.Fixed.{branch_at}
 use Rattle.fork_parts.specs.Take.{Server, ServerAck, ServerCancel, Client, CancelClient}
-use Rattle.sip_text.specs.Text.{MessageText, StartText, Request, Response}
-use Rattle.fork_routing.specs.Kinds.{is_request_of, is_response, is_to_method}
-use Rattle.fork_routing.specs.Matching.{BelongsTo, BelongsToNoBranch, BelongsToNoServer, BelongsToNone, Repeats}
+use Rattle.sip_text.specs.Text.{Request, Response}
+use Rattle.fork_routing.specs.Kinds.{is_request_of, is_response}
+use Rattle.fork_routing.specs.Matching.{BelongsTo, BelongsToNone, Repeats}
+use Rattle.fork_routing.specs.inner.Matching.{BelongsToNoBranch, BelongsToNoServer}
 
 pub numbered : (call : BranchName) (n : ℕ) → IsBranch call → n < 2 ^ 16 → IsBranch (record call { target = n })
 numbered call n h lt = record { sixteen = h.sixteen; bytes = h.bytes; instance = h.instance; context = h.context; target = lt }

@@ -1,28 +1,20 @@
 -- What is known where a request was admitted, and where it was not.
-use Rattle.std.proofs.Common.{◌≡◌, ◌∙◌, true, false, ℕ, List, [], Option, Result, Ok, Err, ap, subst}
-use Rattle.std.specs.Prelude.{IfErr, IfOk}
-use Rattle.std.specs.List.{list_all}
-use Rattle.fork_model.specs.Table.{Rules}
+use Rattle.fork_routing.proofs.Common.{◌≡◌, ◌∙◌, true, false, ℕ, List, [], Option, Result, Ok, Err, ap, subst, IfOk, list_all, Rules, MessageText, StartText, Own, top_value, via_of, Call, Fixed, IsAdmitted, target_uri, IsTurnedAway}
+use Rattle.fork_routing.proofs.Common.{IsBegun, Choice, has_hop}
+use Rattle.std.specs.Prelude.{IfErr}
 use Rattle.sip_text.specs.Text as texts
-use Rattle.sip_text.specs.Text.{MessageText, StartText}
 use Rattle.sip_uri.specs.declared.hop.Hop.{Hop}
 use Rattle.sip_uri.specs.Uri.{Uri}
-use Rattle.sip_via.specs.declared.own.Own.{Own}
 use Rattle.sip_via.specs.Received.{reply_of}
-use Rattle.sip_via.specs.TopVia.{top_value}
-use Rattle.sip_via.specs.ViaParts.{via_of}
 use Rattle.sip_route.specs.declared.route_values.FirstRoute.{FirstRoute}
 use Rattle.sip_route.specs.RouteValues.{first_route}
 use Rattle.sip_build.specs.Forwarding.{is_request}
 use Rattle.fork_setup.specs.Setup.{Setup}
-use Rattle.fork_parts.specs.Call.{Call}
-use Rattle.fork_parts.specs.Fixed.{Fixed}
 use Rattle.fork_routing.specs.declared.fault.OpenFault.{OpenFault}
 use Rattle.fork_routing.specs.declared.fault.OpenFault.TheVariants.{BadRequest, Scheme, Hops, Loop, Extension, NoTarget, NoHop, NoMemory}
-use Rattle.fork_routing.specs.Admission.{IsAdmitted, asks_extension, target_uri}
-use Rattle.fork_routing.specs.Refusing.{IsTurnedAway}
-use Rattle.fork_routing.specs.Opening.{Asks, IsBegun, IsOpenable, IsRefused, IsUnreachable, Opens, Reaches, Refuses, choices_for, fixed_of}
-use Rattle.fork_routing.specs.Targets.{Choice, choices, has_hop, hop_if_any}
+use Rattle.fork_routing.specs.Admission.{asks_extension}
+use Rattle.fork_routing.specs.Opening.{Asks, IsOpenable, IsRefused, IsUnreachable, Opens, Reaches, Refuses, choices_for, fixed_of}
+use Rattle.fork_routing.specs.Targets.{choices, hop_if_any}
 
 pub openable : (start other : StartText) → start ≡ other → IsOpenable other → is_request start ≡ true
 openable start (texts.Request method uri) e h = ap is_request e

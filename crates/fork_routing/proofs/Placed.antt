@@ -1,19 +1,18 @@
 -- Each row of a fork as it opens is for one of its targets.
-use Rattle.std.proofs.Common.{◌≡◌, ◌∙◌, ℕ, zero, suc, ◌<◌, ◌+◌, List, [], ◌∷◌, ◌++◌, map, take, length, drop, Option, Some, None, Result, Ok, Err, slice_get, refl, ap, sym, subst, arith}
+use Rattle.fork_routing.proofs.Common.{◌≡◌, ◌∙◌, ℕ, zero, suc, ◌<◌, List, [], map, take, Option, Some, None, Result, Ok, Err, refl, ap, sym, subst, arith, IfOk, option_map, same_Some, Rules, Call, Fixed, table_of, IsBegun, Choice}
+use Rattle.fork_routing.proofs.Common.{targets_of, way_of_row}
+use Rattle.std.proofs.Common.{◌+◌, ◌∷◌, ◌++◌, length, drop, slice_get}
 use Rattle.std.specs.List.{cons_option, filter_map}
-use Rattle.std.specs.Prelude.{IfOk}
-use Rattle.std.specs.Option.{option_and_then, option_map}
+use Rattle.std.specs.Option.{option_and_then}
 use Rattle.std.proofs.lemmas.List.{map_push}
-use Rattle.std.proofs.lemmas.Option.{same_Some, slice_get_within}
+use Rattle.std.proofs.lemmas.Option.{slice_get_within}
 use Rattle.fork_model.specs.Groups.{numbered}
 use Rattle.fork_model.specs.History.{Target, first_row, opening_rows}
-use Rattle.fork_model.specs.Table.{Kind, Row, Rules}
+use Rattle.fork_model.specs.Table.{Kind, Row}
 use Rattle.fork_parts.specs.Begun.{begun}
-use Rattle.fork_parts.specs.Call.{Call}
-use Rattle.fork_parts.specs.Fixed.{Fixed, Way, kind_of}
-use Rattle.fork_book.specs.Log.{Log, opening_log, table_of}
-use Rattle.fork_routing.specs.Opening.{IsBegun}
-use Rattle.fork_routing.specs.Targets.{AreWays, Choice, targets_of, way_of_row, way_to}
+use Rattle.fork_parts.specs.Fixed.{Way, kind_of}
+use Rattle.fork_book.specs.Log.{Log, opening_log}
+use Rattle.fork_routing.specs.Targets.{AreWays, way_to}
 
 module _ {X Y : Type 0} (h : X → Option Y) (y : Y) where
   -- what is found came from somewhere

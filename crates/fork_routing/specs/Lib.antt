@@ -1,3 +1,4 @@
+pub mod inner
 pub mod Admission
 pub mod Refusing
 pub mod Kinds

@@ -46,11 +46,3 @@ BelongsTo call m (CancelClient n) = Answers call.fixed (codes "CANCEL") n m × (
 -- a stray
 abbrev pub BelongsToNone : Call → MessageText → Type 0
 BelongsToNone call m = (r : Recipient) → BelongsTo call m r → ⊥
-
--- no branch takes it
-abbrev pub BelongsToNoBranch : Call → MessageText → Type 0
-BelongsToNoBranch call m = (n : ℕ) → (BelongsTo call m (Client n) → ⊥) × (BelongsTo call m (CancelClient n) → ⊥)
-
--- nor does the caller's transaction, as its request, its ACK or its CANCEL
-abbrev pub BelongsToNoServer : Call → MessageText → Type 0
-BelongsToNoServer call m = (BelongsTo call m Server → ⊥) × (BelongsTo call m ServerAck → ⊥) × (BelongsTo call m ServerCancel → ⊥)

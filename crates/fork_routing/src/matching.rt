@@ -7,7 +7,8 @@ ghost use Rattle.sip_via.specs.TopVia.{has_second, top_value, via_values};
 ghost use Rattle.fork_parts.specs.Call.{is_cancel_sent, is_sent};
 ghost use Rattle.fork_parts.specs.Fixed.{method_of};
 ghost use Rattle.fork_routing.specs.Kinds.{is_request_of, is_response, is_to_method};
-ghost use Rattle.fork_routing.specs.Matching.{BelongsTo, BelongsToNoBranch, BelongsToNoServer, BelongsToNone};
+ghost use Rattle.fork_routing.specs.Matching.{BelongsTo, BelongsToNone};
+ghost use Rattle.fork_routing.specs.inner.Matching.{BelongsToNoBranch, BelongsToNoServer};
 ghost use Rattle.fork_routing.specs.SeenRecipient.{seen_recipient};
 
 use crate::transaction::Recipient;

@@ -9,7 +9,7 @@ use Rattle.std.specs.Ordering.{nat_cmp, is_lt, ordering_then}
 use Rattle.std.proofs.lemmas.List.{get_or-set_same, get_or-set_other}
 use Rattle.std.proofs.lemmas.List.Sorted.{Contains-permutation, length_permutation}
 use Rattle.std.proofs.lemmas.Option.{none-some, same_Some}
-use Rattle.fork_server.specs.Filed.{moment_of, AreSame, AreSameBut, IsWithout, IsFirst, IsDueFirst, Entry, entry_order, AreListed}
+use Rattle.fork_server.specs.inner.Filed.{moment_of, AreSameBut, IsWithout, IsFirst, IsDueFirst, Entry, entry_order, AreListed}
 
 -- an element of a list is its first or one of the others
 contains_cons : {X : Type 0} (y : X) (ys : List X) (x : X) → Contains (y ∷ ys) x → (y ≡ x) ⊎ Contains ys x
@@ -63,10 +63,6 @@ listed_popped entries rest entry moments number due permutation is there listed 
     (λ there. (old.0, there, old.2))
     (contains_cons entry rest old.0 (Contains-permutation _ _ old.0 permutation old.1)))
 
--- lists that tell the same are listed alike
-pub listed_same : (entries : List Entry) (moments new : List (Option ℕ)) → AreSame moments new → AreListed entries moments → AreListed entries new
-listed_same entries moments new same listed n due at = listed n due (sym (same n) ∙ at)
-
 none_below : (a b : ℕ) (o : Ordering) → is_lt (ordering_then (nat_cmp b a) o) ≡ false → a ≤ b
 none_below a b o not_less = search rules
 
@@ -80,17 +76,6 @@ greatest_is_first entries entry moments bound listed n due at = let old = listed
     bounded [] x (k, there, is) bound = absurd (omega arith)
     bounded (y ∷ ys) x (zero, there, is) bound = subst (λ (e : Entry). entry.0.0 ≤ e.0.0) is (none_below entry.0.0 y.0.0 (nat_cmp y.0.1 entry.0.1) bound.0)
     bounded (y ∷ ys) x (suc k, there, is) bound = bounded ys x (k, omega arith, is) bound.1
-
--- where no entry is, nothing is filed
-pub nothing_listed : (moments : List (Option ℕ)) → AreListed [] moments → (n : ℕ) → moment_of moments n ≡ None
-nothing_listed moments listed n = none_of (moment_of moments n) (λ due at. impossible (listed n due at))
-  where
-    impossible : {due n : ℕ} → (entry : Entry) × Contains [] entry × (entry.0 ≡ (due, n)) → ⊥
-    impossible (entry, (k, there, is), at) = omega arith
-
-    none_of : (moment : Option ℕ) → ((due : ℕ) → moment ≡ Some due → ⊥) → moment ≡ None
-    none_of None none = refl
-    none_of (Some due) none = absurd (none due refl)
 
 -- what is popped is what was at the top
 pub same_top : (entries rest : List Entry) (popped peeked : Entry) → IsPermutation entries (popped ∷ rest)

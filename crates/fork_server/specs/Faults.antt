@@ -1,7 +1,5 @@
 -- Why a proxy does not serve a configuration.
-use Rattle.std.specs.Prelude.{◌≡◌, ◌<◌, ◌≤◌, ℕ, List, length}
-use Rattle.fork_setup.specs.declared.fault.SetupFault.{SetupFault}
-use Rattle.fork_setup.specs.declared.fault.SetupFault.TheVariants as read
+use Rattle.std.specs.Prelude.{◌<◌, ◌≤◌, ℕ, List, length}
 use Rattle.fork_setup.specs.Configuration.{IsConfiguration, IsMalformedAt}
 use Rattle.fork_setup.specs.Setup.{Setup}
 use Rattle.fork_server.specs.declared.fault.ServeFault.{ServeFault}
@@ -16,16 +14,6 @@ exit_status fault.TooLong = 1
 exit_status (fault.Line n) = 1
 exit_status fault.NoMemory = 3
 exit_status fault.Socket = 5
-
-abbrev pub fault_read : SetupFault → ServeFault
-fault_read (read.Line n) = fault.Line n
-fault_read read.NoMemory = fault.NoMemory
-
-abbrev pub IsSystemFault : ServeFault → Type 0
-IsSystemFault fault.TooLong = ⊥
-IsSystemFault (fault.Line n) = ⊥
-IsSystemFault fault.NoMemory = Unit {0}
-IsSystemFault fault.Socket = Unit {0}
 
 abbrev pub Spells : List ℕ → Type 0
 Spells text = (setup : Setup) × IsConfiguration text setup

@@ -1,6 +1,6 @@
 //! What is printed once a proxy has served.
 ghost use Rattle.std.specs.Prelude.{◌≡◌, IfErr};
-ghost use Rattle.fork_server.specs.Faults.{IsSystemFault};
+ghost use Rattle.fork_server.specs.inner.Faults.{IsSystemFault};
 
 use crate::fault::{ServeFault, of_system};
 use crate::worker::Proxy;

@@ -1,6 +1,7 @@
 //! Why a proxy does not serve.
 ghost use Rattle.std.specs.Prelude.{◌≡◌};
-ghost use Rattle.fork_server.specs.Faults.{exit_status, IsSystemFault};
+ghost use Rattle.fork_server.specs.Faults.{exit_status};
+ghost use Rattle.fork_server.specs.inner.Faults.{IsSystemFault};
 
 use fork_setup::SetupFault;
 use std::alloc::AllocError;
@@ -50,7 +51,7 @@ impl From<AllocError> for ServeFault {
 }
 
 impl From<SetupFault> for ServeFault {
-    ghost use Rattle.fork_server.specs.Faults.{fault_read};
+    ghost use Rattle.fork_server.specs.inner.Faults.{fault_read};
 
     ghost from_gives = { λ read given. given ≡ fault_read read };
 

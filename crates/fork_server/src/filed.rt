@@ -2,7 +2,7 @@
 ghost use Rattle.std.specs.Prelude.{◌≡◌, ◌≢◌, ◌<◌, ℕ, Some, None, length, slice_set, IfSome, IfNone, OnOk, OnErr};
 ghost use Rattle.std.specs.Bool.{OnTrue, OnFalse};
 ghost use Rattle.std.specs.BinaryHeap.{heap_items, IsHeap};
-ghost use Rattle.fork_server.specs.Filed.{moment_of, entry_order, AreLater, AreListed, AreSame, IsDueFirst, IsFiled, IsFirst, IsWithout};
+ghost use Rattle.fork_server.specs.inner.Filed.{moment_of, entry_order, AreLater, AreListed, AreSame, IsDueFirst, IsFiled, IsFirst, IsWithout};
 
 use std::alloc::{AllocError, Allocator};
 use std::cmp::Reverse;
@@ -23,7 +23,7 @@ pub(crate) struct Filed<A: Allocator> {
 impl<A: Allocator> Model for Filed<A> {
     ghost use Rattle.std.specs.Prelude.{List, Option, ℕ};
     ghost use Rattle.std.specs.BinaryHeap.{heap_items, IsHeap};
-    ghost use Rattle.fork_server.specs.Filed.{entry_order, AreListed};
+    ghost use Rattle.fork_server.specs.inner.Filed.{entry_order, AreListed};
 
     ghost Value = { List (Option ℕ) };
 

@@ -1,6 +1,6 @@
 //! The turns of a proxy: what comes in is given to the workers.
 ghost use Rattle.std.specs.Prelude.{IfErr};
-ghost use Rattle.fork_server.specs.Faults.{IsSystemFault};
+ghost use Rattle.fork_server.specs.inner.Faults.{IsSystemFault};
 
 use crate::fault::ServeFault;
 use crate::job::Job;

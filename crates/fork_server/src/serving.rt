@@ -2,7 +2,8 @@
 ghost use denote.Param.Send.{IsSync};
 ghost use Rattle.fork_server.specs.contracts.serving.Server.{the_row as server_row};
 ghost use Rattle.std.specs.Prelude.{◌↔◌, ◌<◌, length, IfErr, OnOk, IsErrOf};
-ghost use Rattle.fork_server.specs.Faults.{most_text, IsFaultOf, IsSystemFault, Spells};
+ghost use Rattle.fork_server.specs.Faults.{most_text, IsFaultOf, Spells};
+ghost use Rattle.fork_server.specs.inner.Faults.{IsSystemFault};
 
 use crate::ending::print_listings;
 use crate::fault::{ServeFault, of_system};

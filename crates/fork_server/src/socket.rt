@@ -1,6 +1,6 @@
 //! The socket that a proxy receives and sends by (RFC 3261 section 18).
 ghost use Rattle.std.specs.Prelude.{◌≤◌, IfErr, IfOk, IfSome, length};
-ghost use Rattle.fork_server.specs.Faults.{IsSystemFault};
+ghost use Rattle.fork_server.specs.inner.Faults.{IsSystemFault};
 
 use crate::fault::{ServeFault, of_system};
 use fork_call::{Datagram, Port};

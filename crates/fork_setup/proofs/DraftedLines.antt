@@ -1,66 +1,31 @@
 -- Lines one after another: how far they lead, and what they set.
-use Rattle.std.proofs.Common.{◌≡◌, ℕ, ◌≤◌, Bool, true, false, not, cond, List, [], ◌∷◌, ◌++◌, map, length, Option, Some, None, Result, Ok, Err, refl, sym, ap, subst, ◌∙◌, arith, append_assoc, append-nil}
-use Rattle.std.specs.Prelude.{option_and_then, codes, is_some, ◌&&◌, nat_lt}
-use Rattle.std.specs.Option.{option_map}
-use Rattle.std.specs.List.{list_any, AllByRecursion}
-use Rattle.std.proofs.lemmas.Bool.{and_parts, and_from, lt-ltb, ltb-true}
-use Rattle.std.proofs.lemmas.Option.{cond_some, same_Some}
-use Rattle.sip_lex.specs.Cut.{Lacks}
-use Rattle.sip_lex.proofs.Cuts.{Lacks-pass}
-use Rattle.fork_model.specs.Table.{Rules, most_targets}
+use Rattle.fork_setup.proofs.Common.{◌≡◌, ℕ, ◌≤◌, Bool, true, false, not, cond, List, [], ◌∷◌, ◌++◌, map, length, Option, Some, None, Result, Ok, Err, refl, sym, ap, subst, ◌∙◌, arith, append_assoc, append-nil, option_and_then, codes}
+use Rattle.fork_setup.proofs.Common.{is_some, option_map, list_any, AllByRecursion, and_parts, and_from, cond_some, same_Some, Lacks, Lacks-pass, most_targets, most_q, found_map, found_then, all_append, preferred_found, hop_of, is_host}
+use Rattle.fork_setup.proofs.Common.{Own, Location, Setup, MayFollow, KeepsFrom, is_same, locations_of, Line, OwnLine, InstanceLine, DomainLine, PreferLine, DepthLine, LocationLine, IsOwn, most_instance, IsLine, lines_of, read_line, Draft}
+use Rattle.fork_setup.proofs.Common.{no_draft, drafted_line, drafted, is_whole}
+use Rattle.std.specs.Prelude.{◌&&◌, nat_lt}
+use Rattle.std.proofs.lemmas.Bool.{lt-ltb, ltb-true}
+use Rattle.fork_model.specs.Table.{Rules}
 use Rattle.fork_rank.specs.Preferred.{IsPreferredList, usual_preferred}
-use Rattle.fork_text.specs.Field.{most_q}
+use Rattle.fork_text.specs.LineByLine as texts
 use Rattle.fork_text.specs.RuleLines.{usual_rules}
-use Rattle.fork_text.proofs.laws.Field.{found_map, found_then}
-use Rattle.fork_text.proofs.laws.Preferred.{preferred_found}
+use Rattle.fork_text.proofs.laws.Lines.{all_back, drafted_append}
 use Rattle.sip_uri.specs.Grammar.{IsUri, is_uri_byte}
-use Rattle.sip_uri.specs.Hop.{hop_of}
-use Rattle.sip_uri.specs.Host.{is_host}
 use Rattle.sip_uri.specs.Reading.{read_uri}
 use Rattle.sip_uri.specs.Uri.{Uri, spelling}
 use Rattle.sip_uri.specs.declared.fault.UriFault.{UriFault}
-use Rattle.sip_uri.proofs.Found.{found}
-use Rattle.sip_uri.proofs.Only.{read_again}
-use Rattle.sip_via.specs.declared.own.Own.{Own}
+use Rattle.sip_uri.proofs.laws.Found.{found}
+use Rattle.sip_uri.proofs.laws.Only.{read_again}
 use Rattle.fork_setup.specs.declared.draft.Phase.{Phase}
 use Rattle.fork_setup.specs.declared.draft.Phase.TheVariants.{AtOwn, AtInstance, AtDomain, AtPrefer, AtDepth, AtLocations}
-use Rattle.fork_setup.specs.Setup.{Location, Setup, MayFollow, KeepsFrom, is_same, locations_of}
-use Rattle.fork_setup.specs.Line.{Line, OwnLine, InstanceLine, DomainLine, PreferLine, DepthLine, LocationLine, IsOwn, most_instance, IsLine}
-use Rattle.fork_setup.specs.Configuration.{Shown, line_if, location_line, lines_of, AreRules, IsLocation, IsSetup, Begins}
-use Rattle.fork_setup.specs.LineReading.{read_line}
-use Rattle.fork_setup.specs.Reading.{Draft, IsSound, phase_after, uri_if, may_follow, added, with_location, with_line, no_draft, in_phase, drafted_line, drafted, is_whole}
+use Rattle.fork_setup.specs.Configuration.{Shown, line_if, location_line, AreRules, IsLocation, IsSetup, Begins}
+use Rattle.fork_setup.specs.inner.Reading.{IsSound, phase_after, uri_if, may_follow, added, with_location, with_line, in_phase}
 use Rattle.fork_setup.proofs.LineLaws.{line_found}
 use Rattle.fork_setup.proofs.SpelledLines.{UriLacks}
 
-module _ {X : Type 0} (P : X → Type 0) where
-  pub all_append : (xs ys : List X) → AllByRecursion P xs → AllByRecursion P ys → AllByRecursion P (xs ++ ys)
-  all_append [] ys h k = k
-  all_append (x ∷ xs) ys h k = (h.0, all_append xs ys h.1 k)
-
-  -- those at the front, and the next
-  pub all_front : (xs ys : List X) → AllByRecursion P (xs ++ ys) → AllByRecursion P xs
-  all_front [] ys h = tt
-  all_front (x ∷ xs) ys h = (h.0, all_front xs ys h.1)
-
-  pub all_back : (xs ys : List X) → AllByRecursion P (xs ++ ys) → AllByRecursion P ys
-  all_back [] ys h = h
-  all_back (x ∷ xs) ys h = all_back xs ys h.1
-
 -- the draft behind these lines, where each may come
 abbrev pub drafted_lines : Draft → List Line → Option Draft
-drafted_lines draft [] = Some draft
-drafted_lines draft (line ∷ lines) = option_and_then (λ next. drafted_lines next lines) (drafted_line draft line)
-
-pub drafted_append : (draft : Draft) (lines more : List Line) (next : Draft) → drafted_lines draft lines ≡ Some next
-    → drafted_lines draft (lines ++ more) ≡ drafted_lines next more
-drafted_append draft [] more next e = ap (λ (d : Draft). drafted_lines d more) (same_Some _ _ e)
-drafted_append draft (line ∷ lines) more next e = one (drafted_line draft line) e (λ d due. drafted_append d lines more next due)
-  where
-    one : (o : Option Draft) → option_and_then (λ d. drafted_lines d lines) o ≡ Some next
-        → ((d : Draft) → drafted_lines d lines ≡ Some next → drafted_lines d (lines ++ more) ≡ drafted_lines next more)
-        → option_and_then (λ d. drafted_lines d (lines ++ more)) o ≡ drafted_lines next more
-    one None e again = absurd cc
-    one (Some d) e again = again d e
+drafted_lines = texts.drafted_lines drafted_line
 
 -- ---- the lines of a setup may come
 
@@ -409,7 +374,7 @@ completed AtLocations s = record { more = []; right = tt; next = in_phase s AtLo
 pub begins : (lines : List Line) (draft : Draft) → AllByRecursion IsLine lines → drafted_lines no_draft lines ≡ Some draft → Begins lines
 begins lines draft right due =
     let c = completed draft.phase draft.setup in
-    let whole = whole_found (lines ++ c.more) c.next (all_append IsLine lines c.more right c.right) (drafted_append no_draft lines c.more draft due ∙ c.due) c.whole in
+    let whole = whole_found (lines ++ c.more) c.next (all_append IsLine lines c.more right c.right) (drafted_append drafted_line no_draft lines c.more draft due ∙ c.due) c.whole in
     record { shown = whole.shown; setup = c.next.setup; more = c.more; is = whole.is; whole = whole.spelled }
 
 -- so a line behind them that no draft takes begins none
@@ -423,7 +388,7 @@ next_due lines line draft due b =
     let r = setup_drafted b.shown b.setup b.is in
     let whole : lines_of b.shown b.setup ≡ lines ++ line ∷ b.more = b.whole ∙ append_assoc lines (line ∷ []) b.more in
     let end : drafted_lines draft (line ∷ b.more) ≡ Some (in_phase b.setup r.phase) =
-    sym (drafted_append no_draft lines (line ∷ b.more) draft due) ∙ sym (ap (drafted_lines no_draft) whole) ∙ r.due in
+    sym (drafted_append drafted_line no_draft lines (line ∷ b.more) draft due) ∙ sym (ap (drafted_lines no_draft) whole) ∙ r.due in
     let P : List Line → Type 0 = AllByRecursion Fits in
     let fit : AllByRecursion Fits (line ∷ b.more) = all_back Fits lines (line ∷ b.more) (subst P whole (setup_fits b.shown b.setup b.is)) in
     found_then (λ d. drafted_lines d b.more) (drafted_line draft line) (in_phase b.setup r.phase) (NextDue draft line)
@@ -443,7 +408,7 @@ drafted_next draft next text w e =
     (λ line at is. record {
       lines = w.lines ++ line ∷ [];
       right = all_append IsLine w.lines (line ∷ []) w.right ((line_found text line at).1, tt);
-      due = drafted_append no_draft w.lines (line ∷ []) draft w.due ∙ ap (option_and_then (λ (d : Draft). Some d)) is;
+      due = drafted_append drafted_line no_draft w.lines (line ∷ []) draft w.due ∙ ap (option_and_then (λ (d : Draft). Some d)) is;
     })
     e
 

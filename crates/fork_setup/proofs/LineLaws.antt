@@ -1,27 +1,17 @@
 -- A line is read exactly where it is the spelling of a line: what is read is spelled so.
-use Rattle.std.proofs.Common.{◌≡◌, ℕ, ◌≤◌, Bool, true, false, cond, List, [], ◌∷◌, ◌++◌, length, Option, Some, None, refl, ap, sym, subst, ◌∙◌, arith}
-use Rattle.std.specs.Prelude.{codes}
-use Rattle.std.specs.Option.{option_map}
-use Rattle.std.specs.List.{AllByRecursion}
-use Rattle.std.specs.Fmt.{decimal}
-use Rattle.std.proofs.lemmas.Slice.Eq.{bytes_eq-Decides}
-use Rattle.std.proofs.lemmas.Option.{cond_some, same_Some}
-use Rattle.sip_lex.specs.Cut.{cut, is, behind}
+use Rattle.fork_setup.proofs.Common.{◌≡◌, ℕ, ◌≤◌, Bool, true, false, cond, List, [], ◌∷◌, ◌++◌, length, Option, Some, None, refl, ap, sym, subst, ◌∙◌, arith, codes, option_map, AllByRecursion, decimal, bytes_eq-Decides, cond_some}
+use Rattle.fork_setup.proofs.Common.{same_Some, is, most_targets, most_q, number_before, found_map, found_then, preferred_found, is_host, address_text, Own, Line, OwnLine, InstanceLine, DomainLine, PreferLine, DepthLine, own_text}
+use Rattle.fork_setup.proofs.Common.{line_text, IsOwn, is_user, most_port, most_instance, IsLine, octet_cut, octet_before, fourth, third, second, read_octets, own_at, own_cut, read_own, location_of, location_cut, read_location, read_line}
+use Rattle.sip_lex.specs.Cut.{cut, behind}
 use Rattle.sip_lex.specs.Number.{plain_number_within}
-use Rattle.sip_lex.proofs.Cuts.{cut_joins}
+use Rattle.sip_lex.proofs.laws.Cuts.{cut_joins}
 use Rattle.sip_lex.proofs.laws.Numbers.{number_spelled}
-use Rattle.fork_model.specs.Table.{most_targets}
-use Rattle.fork_text.specs.Field.{most_q, number_before, number_from}
+use Rattle.fork_text.specs.Field.{number_from}
 use Rattle.fork_text.specs.Preferred.{read_preferred}
-use Rattle.fork_text.proofs.laws.Field.{found_map, found_then, number_before_found, number_from_found}
-use Rattle.fork_text.proofs.laws.Preferred.{preferred_found}
-use Rattle.sip_uri.specs.Host.{is_host}
-use Rattle.sip_via.specs.Address.{address_text}
-use Rattle.sip_via.specs.declared.own.Own.{Own}
+use Rattle.fork_text.proofs.laws.Field.{number_before_found, number_from_found}
 use Rattle.fork_setup.specs.declared.line.Word.{Word}
 use Rattle.fork_setup.specs.declared.line.Word.TheVariants as word
-use Rattle.fork_setup.specs.Line.{Line, OwnLine, InstanceLine, DomainLine, PreferLine, DepthLine, own_text, line_text, IsOwn, is_user, most_port, most_instance, IsLine}
-use Rattle.fork_setup.specs.LineReading.{octet_cut, octet_before, fourth, third, second, read_octets, own_at, own_cut, read_own, read_host, location_of, location_cut, read_location, word_of, read_rest, read_cut, read_line}
+use Rattle.fork_setup.specs.inner.LineReading.{read_host, word_of, read_rest, read_cut}
 
 abbrev word_text : Word → List ℕ
 word_text word.Own = codes "own"

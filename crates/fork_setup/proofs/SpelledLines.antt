@@ -1,24 +1,20 @@
 -- Each spelling of a line is read as that line, and has no LF where its URI has none.
-use Rattle.std.proofs.Common.{◌≡◌, ℕ, ◌≤◌, Bool, true, false, not, cond, eqb, List, [], ◌∷◌, ◌++◌, length, Some, None, refl, sym, ap, subst, ◌∙◌, arith, inl, inr}
-use Rattle.std.specs.Prelude.{option_and_then, codes, nat_le}
-use Rattle.std.specs.Option.{option_map}
+use Rattle.fork_setup.proofs.Common.{◌≡◌, ℕ, ◌≤◌, Bool, true, false, not, cond, List, [], ◌∷◌, ◌++◌, length, Some, None, refl, sym, ap, subst, ◌∙◌, arith, inl, inr, option_and_then, codes, option_map, AllByRecursion, decimal, and_parts}
+use Rattle.fork_setup.proofs.Common.{Lacks, Lacks-pass, most_targets, most_q, number_before, address_text, Own, Line, OwnLine, InstanceLine, DomainLine, PreferLine, DepthLine, LocationLine, own_text, line_text, IsOwn, is_user, most_port}
+use Rattle.fork_setup.proofs.Common.{most_instance, IsLine, octet_cut, octet_before, fourth, third, second, read_octets, own_at, own_cut, read_own, location_of, location_cut, read_location, read_line}
+use Rattle.std.proofs.Common.{eqb}
+use Rattle.std.specs.Prelude.{nat_le}
 use Rattle.std.specs.Char.{is_ascii_digit}
-use Rattle.std.specs.List.{list_all, AllByRecursion}
-use Rattle.std.specs.Fmt.{decimal}
-use Rattle.std.proofs.lemmas.Bool.{eqb-false, and_parts}
-use Rattle.sip_lex.specs.Cut.{Lacks}
-use Rattle.sip_lex.proofs.Cuts.{cut_again, Lacks-append, Lacks-pass}
+use Rattle.std.specs.List.{list_all}
+use Rattle.std.proofs.lemmas.Bool.{eqb-false}
+use Rattle.sip_lex.proofs.laws.Cuts.{cut_again, Lacks-append}
 use Rattle.sip_lex.proofs.laws.Numbers.{number_read, decimal_lacks}
-use Rattle.fork_model.specs.Table.{most_targets}
-use Rattle.fork_text.specs.Field.{most_q, numbered_text, number_before}
+use Rattle.fork_text.specs.Field.{numbered_text}
 use Rattle.fork_text.proofs.laws.Field.{number_before_read, number_from_read}
 use Rattle.fork_text.proofs.laws.Preferred.{preferred_read, list_lacks}
 use Rattle.sip_uri.specs.Host.{IsHost, is_host_byte, is_address_byte}
-use Rattle.sip_uri.proofs.Hosts.{is_host-IsHost}
-use Rattle.sip_via.specs.Address.{address_text}
-use Rattle.sip_via.specs.declared.own.Own.{Own}
-use Rattle.fork_setup.specs.Line.{Line, OwnLine, InstanceLine, DomainLine, PreferLine, DepthLine, LocationLine, own_text, line_text, IsOwn, is_user, is_visible, most_port, most_instance, IsLine}
-use Rattle.fork_setup.specs.LineReading.{octet_cut, octet_before, fourth, third, second, read_octets, own_at, own_cut, read_own, location_of, location_cut, read_location, read_line}
+use Rattle.sip_uri.proofs.laws.Hosts.{is_host-IsHost}
+use Rattle.fork_setup.specs.Line.{is_visible}
 
 -- ---- what is spelled is read
 

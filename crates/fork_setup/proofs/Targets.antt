@@ -1,17 +1,13 @@
 -- The locations of a user are targets of a request.
-use Rattle.std.proofs.Common.{◌≡◌, ℕ, zero, suc, ◌+◌, ◌<◌, ◌≤◌, Bool, true, false, cond, List, [], ◌∷◌, ◌++◌, map, length, Some, refl, sym, ap, subst, ◌∙◌, arith, append_assoc, append-nil, inl, inr}
-use Rattle.std.specs.Prelude.{is_some, slice_get, ◌⊎◌, ◌||◌}
-use Rattle.std.specs.List.{list_any}
-use Rattle.std.proofs.lemmas.Bool.{and_from, false≢true}
+use Rattle.fork_setup.proofs.Common.{◌≡◌, ℕ, ◌+◌, ◌<◌, ◌≤◌, Bool, true, false, cond, List, [], ◌∷◌, ◌++◌, map, length, Some, refl, sym, ap, subst, ◌∙◌, arith, append_assoc, append-nil, inl, inr, is_some, list_any, and_from, same_Some}
+use Rattle.fork_setup.proofs.Common.{bytes_eq-Decides, most_targets, most_q, hop_of, Location, locations_of, is_same, MayFollow, KeepsFrom, all_append}
+use Rattle.std.proofs.Common.{zero, suc}
+use Rattle.std.specs.Prelude.{slice_get, ◌⊎◌, ◌||◌}
+use Rattle.std.proofs.lemmas.Bool.{false≢true}
 use Rattle.std.proofs.lemmas.List.{length-append, map-append}
 use Rattle.std.proofs.lemmas.List.Elements.{filter-append}
-use Rattle.std.proofs.lemmas.Option.{same_Some, slice_get_within}
-use Rattle.std.proofs.lemmas.Slice.Eq.{bytes_eq-Decides}
-use Rattle.fork_model.specs.Table.{most_targets}
-use Rattle.fork_text.specs.Field.{most_q}
-use Rattle.sip_uri.specs.Hop.{hop_of}
-use Rattle.fork_setup.specs.Setup.{Location, is_of_user, locations_of, is_same, MayFollow, KeepsFrom, location_key, AreTargets, LocationsAreTargets}
-use Rattle.fork_setup.proofs.DraftedLines.{all_append}
+use Rattle.std.proofs.lemmas.Option.{slice_get_within}
+use Rattle.fork_setup.specs.Setup.{is_of_user, location_key, AreTargets, LocationsAreTargets}
 
 get_last : {X : Type 0} (xs : List X) (x y : X) (n : ℕ) → slice_get (xs ++ x ∷ []) n ≡ Some y → (slice_get xs n ≡ Some y) ⊎ ((length xs ≤ n) × (x ≡ y))
 get_last [] x y zero e = inr (omega arith, same_Some _ _ e)

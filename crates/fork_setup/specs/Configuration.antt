@@ -9,9 +9,10 @@
 --
 -- Where `prefer` or `depth` is left out, the usual one holds. There may be any number of locations.
 use Rattle.std.specs.Prelude.{◌≡◌, ◌≤◌, ℕ, suc, Bool, true, false, IsTrue, List, [], ◌∷◌, ◌++◌, map, length}
-use Rattle.std.specs.List.{flat_map, AllByRecursion}
+use Rattle.std.specs.List.{AllByRecursion}
 use Rattle.fork_model.specs.Table.{Rules, most_targets}
 use Rattle.fork_rank.specs.Preferred.{IsPreferredList, usual_preferred}
+use Rattle.fork_text.specs.LineByLine.{lines_text}
 use Rattle.fork_text.specs.RuleLines.{ended}
 use Rattle.sip_uri.specs.Grammar.{IsUri}
 use Rattle.sip_uri.specs.Host.{is_host}
@@ -43,7 +44,7 @@ lines_of shown setup =
     ++ map location_line setup.locations))
 
 abbrev pub text_of : List Line → List ℕ
-text_of lines = flat_map (λ line. ended (line_text line)) lines
+text_of lines = lines_text line_text lines
 
 -- ---- what may stand in them
 

@@ -3,9 +3,9 @@ ghost use Rattle.std.specs.Prelude.{◌≡◌, ◌≤◌, IfOk, Some, None, if�
 ghost use Rattle.std.specs.Option.{option_map};
 ghost use Rattle.sip_uri.specs.Reading.{read_uri};
 ghost use Rattle.fork_text.specs.Field.{most_q};
-ghost use Rattle.fork_setup.specs.Line.{IsLine};
-ghost use Rattle.fork_setup.specs.LineView.{line_of};
-ghost use Rattle.fork_setup.specs.Reading.{IsSound, added, drafted, finished_draft, is_whole, no_draft, no_setup, phase_after, read_setup, uri_if, with_line, with_location};
+ghost use Rattle.fork_setup.specs.inner.Line.{IsLine};
+ghost use Rattle.fork_setup.specs.inner.LineView.{line_of};
+ghost use Rattle.fork_setup.specs.inner.Reading.{IsSound, added, drafted, finished_draft, is_whole, no_draft, no_setup, phase_after, read_setup, uri_if, with_line, with_location};
 ghost use Rattle.fork_setup.specs.ReadView.{GivesSetup};
 
 use crate::fault::SetupFault;
@@ -197,7 +197,7 @@ struct Draft<A: Allocator> {
 }
 
 impl<A: Allocator> Model for Draft<A> {
-    ghost use Rattle.fork_setup.specs.Reading as spec;
+    ghost use Rattle.fork_setup.specs.inner.Reading as spec;
 
     ghost Value = { spec.Draft };
 
@@ -251,7 +251,7 @@ impl<A: Allocator + Clone> Draft<A> {
 }
 
 /// The setup that a text spells, or the number of its first malformed line.
-#[tactic(auto, unfolding(crate::specs::Reading::read_setup))]
+#[tactic(auto, unfolding(crate::specs::inner::Reading::read_setup))]
 pub(crate) fn read_all<A: Allocator + Clone>(alloc: &A, text: &[u8]) -> Result<Setup<A>, SetupFault>
     ensures { GivesSetup (read_setup text.now) result }
 {

@@ -7,12 +7,12 @@
 
 mod draft;
 mod fault;
-mod laws;
+mod law;
 mod line;
 mod location;
 mod setup;
 
 pub use fault::SetupFault;
-pub use laws::locations_are_targets;
+pub use law::locations_are_targets;
 pub use location::Location;
 pub use setup::Setup;

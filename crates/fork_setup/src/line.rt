@@ -5,8 +5,8 @@ ghost use Rattle.std.specs.List.{list_all};
 ghost use Rattle.sip_lex.specs.Number.{plain_number_within};
 ghost use Rattle.fork_text.specs.Field.{number_from, seen_before};
 ghost use Rattle.fork_setup.specs.Line.{is_user, is_visible, most_instance, most_port};
-ghost use Rattle.fork_setup.specs.LineReading.{octet_before, read_octets, read_own, read_location, read_rest, read_line, word_of};
-ghost use Rattle.fork_setup.specs.LineView.{line_of};
+ghost use Rattle.fork_setup.specs.inner.LineReading.{octet_before, read_octets, read_own, read_location, read_rest, read_line, word_of};
+ghost use Rattle.fork_setup.specs.inner.LineView.{line_of};
 
 use fork_rank::Preferred;
 use fork_text::{Depth, read_depth, read_number, read_number_before, read_preferred};

@@ -2,7 +2,7 @@
 ghost use Rattle.std.specs.Prelude.{◌≡◌, ◌≤◌, length};
 ghost use Rattle.std.specs.List.{list_any};
 ghost use Rattle.fork_text.specs.Field.{most_q};
-ghost use Rattle.fork_setup.specs.Reading.{may_follow};
+ghost use Rattle.fork_setup.specs.inner.Reading.{may_follow};
 ghost use Rattle.fork_setup.specs.Setup.{is_of_user, is_same, locations_of};
 
 use fork_rank::MOST_TARGETS;

@@ -1,3 +1,3 @@
+pub mod inner
 pub mod Inbox
 pub mod Faults
-pub mod Desk

@@ -1,6 +1,6 @@
 //! The keys of a shelf with their numbers, and the number that comes next.
-ghost use Rattle.std.specs.Prelude.{◌≡◌, ◌↔◌, ◌+◌, ◌-◌, ◌^◌, ◌<◌, ℕ, Ok, Err, Some, None, IfOk, OnOk, OnErr, IsErrOf};
-ghost use Rattle.fork_shelf.specs.Desk.{digest_of, number_of, IsListed, IsSame};
+ghost use Rattle.std.specs.Prelude.{◌≡◌, ◌↔◌, ◌+◌, ◌^◌, ◌<◌, ℕ, Ok, Err, Some, None, IfOk, OnOk, OnErr, IsErrOf};
+ghost use Rattle.fork_shelf.specs.inner.Desk.{digest_of, number_of, IsListed, IsSame};
 ghost use Rattle.std.specs.BTreeMap.{get};
 ghost use Rattle.std.specs.Ordering.{nat_cmp};
 

@@ -1,7 +1,7 @@
 //! Values under numbers and keys, each behind a lock of its own.
 ghost use Rattle.std.specs.Prelude.{◌≡◌, ◌+◌, ℕ, Ok, Err, IfErr, IfOk, IfSome, OnOk, OnErr};
 ghost use Rattle.std.specs.Fn.{FnOnceReturnsAtMut};
-ghost use Rattle.fork_shelf.specs.Desk.{IsListed, IsSame};
+ghost use Rattle.fork_shelf.specs.inner.Desk.{IsListed, IsSame};
 ghost use Rattle.fork_shelf.specs.Faults.{IfMade};
 
 use crate::desk::{Desk, Taken};

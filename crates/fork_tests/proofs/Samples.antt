@@ -6,7 +6,7 @@ use Rattle.fork_tree.specs.declared.row.End.{End}
 use Rattle.fork_tree.specs.declared.row.End.TheVariants.{Taken, Silent, Never}
 use Rattle.fork_tree.specs.States.{has_ended}
 use Rattle.fork_tree.specs.Given.{AreRows, IsParent}
-use Rattle.fork_tree.proofs.Ordering.{IsNext, ordered_rows}
+use Rattle.fork_tree.proofs.laws.Ordering.{IsNext, ordered_rows}
 
 -- ---- what holds of each row of a list
 

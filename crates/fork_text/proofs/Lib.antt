@@ -1,3 +1,4 @@
+pub mod Common
 pub mod laws
 mod PreferredLists
 mod Numbers

@@ -1,13 +1,9 @@
 -- Reading the numbers of a list, one cut at a time; more of them than may be preferred are no such list.
-use Rattle.std.proofs.Common.{◌≡◌, ℕ, ◌<◌, false, cond, List, [], ◌∷◌, ◌++◌, length, Option, Some, None, refl, ap, ◌∙◌, arith}
-use Rattle.std.specs.Prelude.{◌&&◌, nat_le, nat_lt, option_and_then}
-use Rattle.std.specs.List.{slice_split, list_all}
-use Rattle.std.proofs.lemmas.Bool.{false_from_ne_true, leb-true}
-use Rattle.std.proofs.lemmas.List.{length-append}
-use Rattle.sip_lex.specs.Cut.{cut, is}
-use Rattle.sip_lex.specs.Number.{plain_number_within}
-use Rattle.sip_lex.specs.Pieces.{pieces_behind}
-use Rattle.fork_text.specs.Preferred.{numbers_onto, rises, preferred_if}
+use Rattle.fork_text.proofs.Common.{◌≡◌, ℕ, ◌<◌, false, cond, List, [], ◌∷◌, ◌++◌, length, Option, Some, None, refl, ap, ◌∙◌, arith, nat_le, option_and_then, slice_split, false_from_ne_true, leb-true, length-append, cut, is}
+use Rattle.fork_text.proofs.Common.{plain_number_within, pieces_behind, numbers_onto, preferred_if}
+use Rattle.std.specs.Prelude.{◌&&◌, nat_lt}
+use Rattle.std.specs.List.{list_all}
+use Rattle.fork_text.specs.Preferred.{rises}
 use Rattle.fork_text.proofs.laws.Pieces.{pieces-cut}
 
 -- a piece that is no number, and one that is

@@ -1,3 +1,4 @@
 pub mod Field
+pub mod Lines
 pub mod Pieces
 pub mod Preferred

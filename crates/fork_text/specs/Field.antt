@@ -1,5 +1,5 @@
 -- Fields of a line: words are separated by one space, numbers are decimal without leading zeros.
-use Rattle.std.specs.Prelude.{ℕ, nat_le, List, ◌∷◌, ◌++◌, Option, Some, None, option_and_then, if◌then◌else◌}
+use Rattle.std.specs.Prelude.{◌&&◌, ℕ, nat_le, Bool, List, ◌∷◌, ◌++◌, Option, Some, None, option_and_then, if◌then◌else◌}
 use Rattle.std.specs.Borrow.{Bor}
 use Rattle.std.specs.Option.{option_map}
 use Rattle.std.specs.Fmt.{decimal}
@@ -10,6 +10,10 @@ use Rattle.sip_lex.specs.Number.{plain_number_within}
 -- the number of a branch
 abbrev pub most_number : ℕ
 most_number = 65535
+
+-- a byte that shows
+abbrev pub is_visible : ℕ → Bool
+is_visible b = nat_le 33 b && nat_le b 126
 
 -- what is read before the first space, and what stands behind that
 module _ {X : Type 0} where

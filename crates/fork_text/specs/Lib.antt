@@ -1,4 +1,6 @@
+pub mod inner
 pub mod Field
 pub mod Pieces
 pub mod Preferred
 pub mod RuleLines
+pub mod LineByLine

@@ -1,7 +1,6 @@
 //! How deep contacts of contacts are tried.
-ghost use Rattle.std.specs.Prelude.{◌≡◌, ◌≤◌, ℕ, Some, IfSome};
+ghost use Rattle.std.specs.Prelude.{◌≡◌, ◌≤◌, Some};
 ghost use Rattle.std.specs.Option.{option_map};
-ghost use Rattle.std.specs.Fmt.{decimal};
 ghost use Rattle.sip_lex.specs.Number.{plain_number_within};
 ghost use Rattle.fork_model.specs.Table.{most_targets};
 

@@ -1,23 +1,11 @@
 -- What a node keeps is the best, and its count that, of the rows at or below its number.
-use Rattle.std.proofs.Common.{◌≡◌, ℕ, suc, ◌+◌, ◌<◌, ◌&&◌, inl, inr, Bool, true, false, IsTrue, not, List, [], ◌∷◌, ◌++◌, length, Option, Some, None, slice_get, refl, ap, sym, subst, ◌∙◌, arith, if◌then◌else◌}
-use Rattle.std.specs.Prelude.{is_some}
-use Rattle.std.specs.Option.{option_map}
-use Rattle.fork_model.specs.Table.{Row, Rules, is_ended, stored_of}
-use Rattle.fork_model.specs.Rank.{Rank, Score, RanksBefore, rank_of, Before}
-use Rattle.fork_model.specs.Choice.{HasScore, score_of, stored_at}
-use Rattle.fork_tree.specs.declared.best.Kept.{Kept}
-use Rattle.fork_tree.specs.declared.best.BestRef.{BestRef}
-use Rattle.fork_tree.specs.declared.best.Tally.{Tally}
-use Rattle.fork_tree.specs.declared.place.Place.{Place}
-use Rattle.fork_tree.specs.States.{has_ended}
-use Rattle.fork_tree.specs.Rows.{Cell, Entry, find}
-use Rattle.fork_tree.specs.Places.{path_of, row_at, rows_of, number_of, IsPlaced, AreOlder}
-use Rattle.fork_tree.specs.Tally.{HasKept, IsKept, best_of, open_of}
-use Rattle.fork_tree.specs.Listed.{AreListed, AreRanked, IsTree}
-use Rattle.fork_tree.specs.Tree.{Tree, score_of_ref}
-use Rattle.fork_tree.specs.Below.{leads, lies_below, stripped, put_under, under, IsBestBelow, open_where, open_below, IsSubtree}
-use Rattle.fork_tree.proofs.Traces.{path_below, path_top}
-use Rattle.fork_tree.proofs.Placed.{IsRowAt, row_got, ended_bare}
+use Rattle.fork_tree.proofs.Common.{◌≡◌, ℕ, suc, ◌+◌, ◌<◌, ◌&&◌, inl, inr, Bool, true, false, IsTrue, not, List, [], ◌∷◌, ◌++◌, length, Option, Some, None, slice_get, refl, ap, sym, subst, ◌∙◌, arith, if◌then◌else◌, is_some, option_map}
+use Rattle.fork_tree.proofs.Common.{Row, Rules, is_ended, stored_of, Rank, Score, RanksBefore, rank_of, HasScore, score_of, stored_at, Kept, BestRef, Summary, Place, has_ended, Cell, Entry, find, path_of, row_at, rows_of, number_of}
+use Rattle.fork_tree.proofs.Common.{IsPlaced, AreOlder, HasKept, IsKept, best_of, open_of, AreListed, AreRanked, IsTree, Tree, score_of_ref, leads, lies_below, open_where, open_below, stripped, put_under, under}
+use Rattle.fork_model.specs.Rank.{Before}
+use Rattle.fork_tree.specs.Below.{IsBestBelow, IsSubtree}
+use Rattle.fork_tree.proofs.Traces.{path_below}
+use Rattle.fork_tree.proofs.Placed.{IsRowAt, row_got, ended_plain}
 use Rattle.fork_tree.proofs.Counts.{one, passing, passing_rows, passing_agree, rows_length}
 use Rattle.fork_tree.proofs.Kept.{ScoreKept, KeptScore, stored_state, state_stored, ranked_at, found_kept, kept_score, before_ranks}
 use Rattle.fork_tree.proofs.Unders.{stripped_here, stripped_is, find_under}
@@ -31,10 +19,6 @@ path_there all root n path placed lt e = go (find root path) (ap (λ p. number_o
     go : (o : Option Cell) → number_of o ≡ Some n → IsTrue (is_some o)
     go None h = absurd cc
     go (Some c) h = cc
-
-pub top_there : (all : List Place) (root : List Entry) (n : ℕ) (p : Place) → IsPlaced all root → n < length all → slice_get all n ≡ Some p → p.parent ≡ None
-    → IsTrue (is_some (find root (p.group ∷ p.place ∷ [])))
-top_there all root n p placed lt is up = path_there all root n (p.group ∷ p.place ∷ []) placed lt (sym (path_top all n p is up))
 
 pub further_there : (all : List Place) (root node : List Entry) (n m : ℕ) (p : Place) → AreOlder all → IsPlaced all root → n < length all → slice_get all n ≡ Some p → p.parent ≡ Some m
     → node ≡ under (path_of all m) root → IsTrue (is_some (find node (p.group ∷ p.place ∷ [])))
@@ -50,11 +34,7 @@ score_below : (rules : Rules) (all : List Place) (root : List Entry) (n m : ℕ)
 score_below rules all root n m score older ranked below h = go (slice_get (rows_of all root) m) refl h
   where
     on : GoesOn all n m
-    on = leads_on all n m m older (sym (lies_same all root n m) ∙ truth (lies_below (rows_of all root) n m) below)
-      where
-        truth : (b : Bool) → IsTrue b → b ≡ true
-        truth true k = refl
-        truth false k = absurd cc
+    on = leads_on all n m m older (sym (lies_same all root n m) ∙ below)
 
     cell : (p : Place) (o : Option Cell) → find root (path_of all m) ≡ o → option_map score_of (stored_of (row_at p o).state) ≡ Some score → ScoreKept rules (under (path_of all n) root) score
     cell p None e h = absurd cc
@@ -159,17 +139,15 @@ pub count_below : (all : List Place) (root : List Entry) (n : ℕ) → AreOlder 
 count_below all root n older placed lt listed sized =
     opens_below all root root n older placed lt listed
     ∙ passing_agree (open_cell all n) (λ i s. leads (up_of all) n i i && not (is_ended s)) all root
-    (λ c. ap (λ (b : Bool). leads (up_of all) n c.number c.number && not b) (ended_bare c.standing.state)) placed sized
+    (λ c. ap (λ (b : Bool). leads (up_of all) n c.number c.number && not b) (ended_plain c.standing.state)) placed sized
     ∙ sym (where_passing (lies_below (rows_of all root) n) (λ i. leads (up_of all) n i i) 0 (rows_of all root) (lies_same all root n))
 
 -- ---- the node
 
-pub is_subtree : (rules : Rules) (all : List Place) (root node : List Entry) (t : Tally) (now : Tree) (n : ℕ) → record { rules = rules; rows = rows_of all root } ≡ now
+pub is_subtree : (rules : Rules) (all : List Place) (root node : List Entry) (t : Summary) (now : Tree) (n : ℕ) → record { rules = rules; rows = rows_of all root } ≡ now
     → IsTree rules all root t → n < length all → node ≡ under (path_of all n) root → IsSubtree now n node
 is_subtree rules all root node t now n v was lt e =
-    let P : Tree → Type 0 = λ x. IsSubtree x n node in
-    let Q : List Entry → Type 0 = λ x. IsSubtree (record { rules = rules; rows = rows_of all root }) n x in
-    subst P v (subst Q (sym e) (record {
+    subst (λ (x : Tree). IsSubtree x n node) v (subst (IsSubtree (record { rules = rules; rows = rows_of all root }) n) (sym e) (record {
       known = omega (arith, lt, rows_length all root 0 all);
       best = λ b is. (let B : Option BestRef → Type 0 = λ x. IsBestBelow rules (rows_of all root) n x in
           subst B is.2 (best_below rules all root n is.0 was.older was.placed lt was.listed was.ranked is.1));

@@ -1,53 +1,37 @@
 -- Rows that stand where they are given, some of them not yet in their state.
-use Rattle.std.proofs.Common.{◌≡◌, ℕ, zero, suc, ◌≤◌, ◌⊎◌, inl, inr, Bool, true, false, List, [], ◌∷◌, ◌++◌, length, map, take, drop, Option, Some, IsTrue, slice_get, refl, ap, sym, subst, ◌∙◌, arith, if◌then◌else◌}
+use Rattle.fork_tree.proofs.Common.{◌≡◌, ℕ, zero, suc, ◌≤◌, ◌⊎◌, inl, inr, Bool, true, false, List, [], ◌∷◌, ◌++◌, length, map, take, drop, Option, Some, IsTrue, slice_get, refl, ap, sym, subst, ◌∙◌, arith, if◌then◌else◌, Row, is_row}
+use Rattle.fork_tree.proofs.Common.{is_idle, is_open, with_state, RowRef, State, plain_state, differs, new_rows_with, new_rows_from, waiting_row}
 use Rattle.fork_model.specs.Table as spec
-use Rattle.fork_model.specs.Table.{Row, is_row, is_idle, is_open}
-use Rattle.fork_model.specs.Step.{with_state}
-use Rattle.fork_tree.specs.declared.row.RowRef.{RowRef}
-use Rattle.fork_tree.specs.declared.row.State.{State}
-use Rattle.fork_tree.specs.States.{bare_state}
-use Rattle.fork_tree.specs.Seats.{differs, seats_with, seats_from, seated}
-use Rattle.fork_tree.specs.Given.{given_row, waiting, IsHalf, IsHalfRow, AllHalf, q_of}
+use Rattle.fork_tree.specs.Given.{given_row}
+use Rattle.fork_tree.specs.inner.Given.{waiting, IsHalf, IsHalfRow, AllHalf, q_of}
 
 -- ---- a row comes into its state
 
 row_same : (r s : Row) (x : spec.State) → waiting r ≡ waiting s → record r { state = x } ≡ record s { state = x }
 row_same r s x h = ap (λ (y : Row). record y { state = x }) h
 
-pub half_with : (rows : List Row) (gs : List RowRef) (n : ℕ) (g : RowRef) → AllHalf rows gs → slice_get gs n ≡ Some g → AllHalf (with_state rows n (bare_state g.state)) gs
+pub half_with : (rows : List Row) (gs : List RowRef) (n : ℕ) (g : RowRef) → AllHalf rows gs → slice_get gs n ≡ Some g → AllHalf (with_state rows n (plain_state g.state)) gs
 half_with [] gs n g h is = tt
 half_with (r ∷ rs) [] n g h is = absurd h
 half_with (r ∷ rs) (x ∷ gs) zero g h is =
     let at : x ≡ g = cc in
-    (record { shape = h.0.shape; half = inr (ap (λ (y : RowRef). bare_state y.state) (sym at)) }, h.1)
+    (record { shape = h.0.shape; half = inr (ap (λ (y : RowRef). plain_state y.state) (sym at)) }, h.1)
 half_with (r ∷ rs) (x ∷ gs) (suc n) g h is = (h.0, half_with rs gs n g h.1 is)
 
 pub given_next : (rows : List Row) (gs : List RowRef) (n : ℕ) (g : RowRef) → AllHalf rows gs → slice_get gs n ≡ Some g
-    → take n rows ≡ take n (map given_row gs) → take (suc n) (with_state rows n (bare_state g.state)) ≡ take (suc n) (map given_row gs) ⊎ (length rows ≤ n)
+    → take n rows ≡ take n (map given_row gs) → take (suc n) (with_state rows n (plain_state g.state)) ≡ take (suc n) (map given_row gs) ⊎ (length rows ≤ n)
 given_next [] gs n g h is e = inr (omega arith)
 given_next (r ∷ rs) [] n g h is e = absurd h
 given_next (r ∷ rs) (x ∷ gs) zero g h is e =
     let at : x ≡ g = cc in
-    inl (ap (λ y. y ∷ []) (ap (λ (y : RowRef). record r { state = bare_state y.state }) (sym at) ∙ row_same r (given_row x) (bare_state x.state) h.0.shape))
+    inl (ap (λ y. y ∷ []) (ap (λ (y : RowRef). record r { state = plain_state y.state }) (sym at) ∙ row_same r (given_row x) (plain_state x.state) h.0.shape))
 given_next (r ∷ rs) (x ∷ gs) (suc n) g h is e =
     let head : r ≡ given_row x = cc in
     let tail : take n rs ≡ take n (map given_row gs) = cc in
     elim (given_next rs gs n g h.1 is tail) [
-      | inl f ↦ inl (ap (λ y. y ∷ take (suc n) (with_state rs n (bare_state g.state))) head ∙ ap (λ z. given_row x ∷ z) f)
+      | inl f ↦ inl (ap (λ y. y ∷ take (suc n) (with_state rs n (plain_state g.state))) head ∙ ap (λ z. given_row x ∷ z) f)
       | inr f ↦ inr (omega (arith, f))
     ]
-
-pub all_given : (rows later : List Row) (n : ℕ) → take n rows ≡ take n later → length rows ≤ n → length later ≤ n → rows ≡ later
-all_given [] [] n e h k = refl
-all_given [] (y ∷ ys) zero e h k = absurd (omega (arith, k))
-all_given [] (y ∷ ys) (suc n) e h k = absurd cc
-all_given (x ∷ xs) [] zero e h k = absurd (omega (arith, h))
-all_given (x ∷ xs) [] (suc n) e h k = absurd cc
-all_given (x ∷ xs) (y ∷ ys) zero e h k = absurd (omega (arith, h))
-all_given (x ∷ xs) (y ∷ ys) (suc n) e h k =
-    let head : x ≡ y = cc in
-    let tail : take n xs ≡ take n ys = cc in
-    ap (λ z. z ∷ xs) head ∙ ap (λ z. y ∷ z) (all_given xs ys n tail (omega (arith, h)) (omega (arith, k)))
 
 -- ---- more rows come
 
@@ -62,26 +46,25 @@ AreBeside parent before group [] = Unit {0}
 AreBeside parent before group (g ∷ gs) =
     (g.parent ≡ parent) × (g.group ≡ (if differs before g.q then suc group else group)) × AreBeside parent (Some g.q) g.group gs
 
-pub half_seated : (parent before : Option ℕ) (group place : ℕ) (gs rest : List RowRef) → AreBeside parent before group gs
-    → AllHalf (map (seated parent) (seats_from before group place (map q_of gs))) (gs ++ rest)
-half_seated parent before group place [] rest h = tt
-half_seated parent before group place (g ∷ gs) rest h = go (λ p. half_seated parent (Some g.q) g.group p gs rest h.2) (differs before g.q) h.1
+pub half_waiting_row : (parent before : Option ℕ) (group place : ℕ) (gs rest : List RowRef) → AreBeside parent before group gs
+    → AllHalf (map (waiting_row parent) (new_rows_from before group place (map q_of gs))) (gs ++ rest)
+half_waiting_row parent before group place [] rest h = tt
+half_waiting_row parent before group place (g ∷ gs) rest h = go (λ p. half_waiting_row parent (Some g.q) g.group p gs rest h.2) (differs before g.q) h.1
   where
-    is : (k p : ℕ) → g.group ≡ k → IsHalfRow (seated parent (record { group = k; place = p; q = g.q })) g
+    is : (k p : ℕ) → g.group ≡ k → IsHalfRow (waiting_row parent (record { group = k; place = p; q = g.q })) g
     is k p e = record {
       shape = ap (λ (x : Option ℕ). record { key = []; q = g.q; place = 0; parent = x; group = k; state = spec.Idle }) (sym h.0)
           ∙ ap (λ (x : ℕ). record { key = []; q = g.q; place = 0; parent = g.parent; group = x; state = spec.Idle }) (sym e);
       half = inl refl;
     }
 
-    rest_at : ((p : ℕ) → AllHalf (map (seated parent) (seats_from (Some g.q) g.group p (map q_of gs))) (gs ++ rest)) → (k p : ℕ) → g.group ≡ k
-        → AllHalf (map (seated parent) (seats_from (Some g.q) k p (map q_of gs))) (gs ++ rest)
+    rest_at : ((p : ℕ) → AllHalf (map (waiting_row parent) (new_rows_from (Some g.q) g.group p (map q_of gs))) (gs ++ rest)) → (k p : ℕ) → g.group ≡ k
+        → AllHalf (map (waiting_row parent) (new_rows_from (Some g.q) k p (map q_of gs))) (gs ++ rest)
     rest_at again k p e =
-        let P : ℕ → Type 0 = λ x. AllHalf (map (seated parent) (seats_from (Some g.q) x p (map q_of gs))) (gs ++ rest) in
-        subst P e (again p)
+        subst (λ (x : ℕ). AllHalf (map (waiting_row parent) (new_rows_from (Some g.q) x p (map q_of gs))) (gs ++ rest)) e (again p)
 
-    go : ((p : ℕ) → AllHalf (map (seated parent) (seats_from (Some g.q) g.group p (map q_of gs))) (gs ++ rest)) → (b : Bool) → g.group ≡ (if b then suc group else group)
-        → AllHalf (map (seated parent) (seats_with b group place g.q (λ x y z. seats_from x y z (map q_of gs)))) (g ∷ (gs ++ rest))
+    go : ((p : ℕ) → AllHalf (map (waiting_row parent) (new_rows_from (Some g.q) g.group p (map q_of gs))) (gs ++ rest)) → (b : Bool) → g.group ≡ (if b then suc group else group)
+        → AllHalf (map (waiting_row parent) (new_rows_with b group place g.q (λ x y z. new_rows_from x y z (map q_of gs)))) (g ∷ (gs ++ rest))
     go again true e = (is (suc group) 0 e, rest_at again (suc group) 1 e)
     go again false e = (is group place e, rest_at again group (suc place) e)
 
@@ -97,13 +80,8 @@ state_twice [] n s t = refl
 state_twice (r ∷ rs) zero s t = refl
 state_twice (r ∷ rs) (suc n) s t = ap (λ x. r ∷ x) (state_twice rs n s t)
 
-pub length_state : (rows : List Row) (n : ℕ) (s : spec.State) → length (with_state rows n s) ≡ length rows
-length_state [] n s = refl
-length_state (r ∷ rs) zero s = refl
-length_state (r ∷ rs) (suc n) s = ap suc (length_state rs n s)
-
 -- a row that does not wait any more is in its state
-pub stays : (rows : List Row) (n : ℕ) (s : State) → IsHalf (slice_get rows n) s → is_row is_idle (slice_get rows n) ≡ false → rows ≡ with_state rows n (bare_state s)
+pub stays : (rows : List Row) (n : ℕ) (s : State) → IsHalf (slice_get rows n) s → is_row is_idle (slice_get rows n) ≡ false → rows ≡ with_state rows n (plain_state s)
 stays [] n s h f = absurd h
 stays (r ∷ rs) zero s h f =
     elim h [

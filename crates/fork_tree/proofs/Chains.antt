@@ -1,13 +1,6 @@
 -- A row lies below another one where its path goes on from the other's.
-use Rattle.std.proofs.Common.{◌≡◌, ℕ, zero, suc, ◌+◌, ◌*◌, ◌<◌, ◌≤◌, ◌||◌, Bool, true, false, List, [], ◌∷◌, ◌++◌, length, Option, Some, None, slice_get, refl, ap, sym, ◌∙◌, arith, append_assoc, length-append}
-use Rattle.std.specs.Prelude.{eqb}
-use Rattle.std.proofs.lemmas.Bool.{eq-eqb, eqb-true}
-use Rattle.std.proofs.lemmas.List.{append-nil}
-use Rattle.fork_tree.specs.declared.place.Place.{Place}
-use Rattle.fork_tree.specs.Rows.{Cell, Entry, find}
-use Rattle.fork_tree.specs.Places.{above, path_at, path_to, path_of, row_at, rows_from, rows_of, IsPlaced, AreOlder}
-use Rattle.fork_tree.specs.Below.{parent_of, from_parent, leads, lies_below}
-use Rattle.fork_tree.proofs.Grafts.{nil_of}
+use Rattle.fork_tree.proofs.Common.{◌≡◌, ℕ, zero, suc, ◌+◌, ◌*◌, ◌<◌, ◌≤◌, ◌||◌, Bool, true, false, List, [], ◌∷◌, ◌++◌, length, Option, Some, None, slice_get, refl, ap, sym, ◌∙◌, arith, append_assoc, length-append, eqb, eq-eqb, eqb-true}
+use Rattle.fork_tree.proofs.Common.{append-nil, Place, Cell, Entry, find, above, path_at, path_to, path_of, row_at, rows_from, rows_of, IsPlaced, AreOlder, parent_of, from_parent, leads, lies_below, there_at, nil_from_length}
 use Rattle.fork_tree.proofs.Traces.{path_below, path_top}
 use Rattle.fork_tree.proofs.Placed.{paths_differ}
 
@@ -89,11 +82,6 @@ pub long : (all : List Place) (n : ℕ) (p : Place) → slice_get all n ≡ Some
 long all n p is =
     omega (arith, ap (λ o. length (path_at o (path_to all n))) is, length-append (above p.parent (path_to all n)) (p.group ∷ p.place ∷ []))
 
-pub place_there : (ps : List Place) (i : ℕ) → i < length ps → (p : Place) × (slice_get ps i ≡ Some p)
-place_there [] i h = absurd (omega (arith, h))
-place_there (p ∷ ps) zero h = (p, refl)
-place_there (p ∷ ps) (suc i) h = place_there ps i (omega (arith, h))
-
 pub shorter : (a b c d : List ℕ) → a ++ b ≡ c ++ d → length c ≤ length a → (q : List ℕ) × (a ≡ c ++ q)
 shorter a b [] d e h = (a, refl)
 shorter [] b (x ∷ c) d e h = absurd (omega (arith, h))
@@ -112,10 +100,10 @@ record IsStep (all : List Place) (n m : ℕ) : Type 0 where
 
 step_up : (all : List Place) (root : List Entry) (n m : ℕ) (q : List ℕ) → AreOlder all → IsPlaced all root → n < length all → m < length all
     → path_of all m ≡ path_of all n ++ q → (m ≡ n → ⊥) → IsStep all n m
-step_up all root n m q older placed ln lm e differ = go (place_there all m lm) (place_there all n ln)
+step_up all root n m q older placed ln lm e differ = go (there_at all m lm) (there_at all n ln)
   where
     apart : length q ≡ 0 → ⊥
-    apart f = paths_differ all root m n placed lm ln differ (e ∙ ap (λ x. path_of all n ++ x) (nil_of q f) ∙ append-nil (path_of all n))
+    apart f = paths_differ all root m n placed lm ln differ (e ∙ ap (λ x. path_of all n ++ x) (nil_from_length q f) ∙ append-nil (path_of all n))
 
     up : (p r : Place) → slice_get all m ≡ Some p → slice_get all n ≡ Some r → (o : Option ℕ) → p.parent ≡ o → IsStep all n m
     up p r is there None f =

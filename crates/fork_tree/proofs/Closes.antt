@@ -1,22 +1,8 @@
 -- Parts closed one after another are the whole closed.
-use Rattle.std.proofs.Common.{◌-◌, Option, Some, None, inl, inr, false, ◌≡◌, ℕ, zero, suc, ◌+◌, ◌<◌, ◌≤◌, List, [], ◌∷◌, ◌++◌, length, map, refl, ap, sym, subst, ◌∙◌, arith, get_or, length-append}
-use Rattle.std.proofs.Math.ListN.{set}
-use Rattle.std.proofs.lemmas.List.{map-append}
-use Rattle.fork_tree.specs.declared.best.Kept.{Kept}
-use Rattle.fork_tree.specs.declared.row.State.{State}
-use Rattle.fork_tree.specs.declared.row.State.TheVariants.{Idle, Trying, Rung, Ended}
-use Rattle.fork_tree.specs.States.{has_ended, closed_state}
-use Rattle.fork_tree.specs.declared.best.Standing.{Standing}
-use Rattle.fork_tree.specs.declared.best.Tally.{Tally}
-use Rattle.fork_tree.specs.Tally.{HasKept, IsKept, open_state, open_of, IsNode}
-use Rattle.fork_tree.specs.Rows.{Entry, pushed, joined, node_rows}
-use Rattle.fork_tree.specs.Closing.{closed_standing, closed_entry, closed_to}
-use Rattle.fork_tree.proofs.Grafts.{length_pushed, get_same}
-use Rattle.fork_tree.proofs.Tallies.{opens_joined}
-
-pub length_closed : (rows : List Entry) → length (map closed_entry rows) ≡ length rows
-length_closed [] = omega arith
-length_closed (e ∷ es) = omega (arith, length_closed es)
+use Rattle.fork_tree.proofs.Common.{◌-◌, Option, Some, None, inl, inr, false, ◌≡◌, ℕ, zero, suc, ◌+◌, ◌<◌, ◌≤◌, List, [], ◌∷◌, ◌++◌, length, map, refl, ap, sym, subst, ◌∙◌, arith, get_or, set, map-append, Kept, State, Idle, has_ended}
+use Rattle.fork_tree.proofs.Common.{closed_state, Standing, Summary, HasKept, IsKept, open_state, open_of, IsNode, Entry, node_rows, pushed, joined, closed_standing, closed_entry, closed_to, get_or_default}
+use Rattle.fork_tree.proofs.Summaries.{opens_joined}
+use Rattle.fork_tree.proofs.BranchChanges.{length_part}
 
 pub length_closed_to : (i : ℕ) (parts : List (List Entry)) → length (closed_to i parts) ≡ length parts
 length_closed_to zero parts = refl
@@ -51,12 +37,8 @@ closed_all j (suc i) (p ∷ ps) h =
 pub close_part : (rows : List Entry) (parts items : List (List Entry)) (i : ℕ) (part : List Entry) → joined 0 parts ≡ rows → items ≡ closed_to i parts → part ≡ get_or items i part → i < length items → length part ≤ length rows
 close_part rows parts items i part v e is lt =
     let same : part ≡ get_or parts i part = is ∙ ap (λ x. get_or x i part) e ∙ closed_to_at i parts part in
-    omega (arith, ap length v, ap length same, at_most 0 i parts part (omega (arith, ap length e, length_closed_to i parts)))
-  where
-    at_most : (j i : ℕ) (parts : List (List Entry)) (d : List Entry) → i < length parts → length (get_or parts i d) ≤ length (joined j parts)
-    at_most j i [] d h = absurd (omega arith)
-    at_most j zero (x ∷ xs) d h = omega (arith, length-append (map (pushed j) x) (joined (suc j) xs), length_pushed j x)
-    at_most j (suc i) (x ∷ xs) d h = omega (arith, length-append (map (pushed j) x) (joined (suc j) xs), at_most (suc j) i xs d (omega arith))
+    let below : i < length parts = omega (arith, lt, ap length e, length_closed_to i parts) in
+    omega (arith, ap length v, ap length (same ∙ get_or_default parts i part [] below), length_part 0 i parts)
 
 pub close_more : (parts items : List (List Entry)) (i : ℕ) (part new : List Entry) → items ≡ closed_to i parts → part ≡ get_or items i part → i < length items → new ≡ map closed_entry part → set items i new ≡ closed_to (i + 1) parts
 close_more parts items i part new e is lt n =
@@ -84,44 +66,33 @@ kept_closed rows (Some k) h = record { stored = closed_has rows k h.stored; firs
 
 pub closed_open : (s : State) → open_state (closed_state s) ≤ open_state s
 closed_open Idle = omega arith
-closed_open Trying = omega arith
-closed_open (Rung cancelled) = omega arith
-closed_open (Ended end) = omega arith
+closed_open s = omega arith
 
 pub closed_waits : (s : State) → has_ended (closed_state s) ≡ false → has_ended s ≡ false
-closed_waits Idle h = absurd cc
-closed_waits Trying h = refl
-closed_waits (Rung cancelled) h = refl
-closed_waits (Ended end) h = absurd cc
-
-pub closed_le : (rows : List Entry) → open_of (map closed_entry rows) ≤ open_of rows
-closed_le [] = omega arith
-closed_le (e ∷ es) = omega (arith, closed_le es, closed_open e.cell.standing.state)
+closed_waits Idle h = refl
+closed_waits s h = h
 
 -- one more part is closed
 pub count_more : (parts items : List (List Entry)) (i : ℕ) (part new : List Entry) (before more : ℕ) → part ≡ get_or items i part → i < length items
     → open_of (joined 0 items) + before ≡ open_of (joined 0 parts) → open_of new + more ≡ open_of part → open_of (joined 0 (set items i new)) + (before + more) ≡ open_of (joined 0 parts)
 count_more parts items i part new before more is lt was now =
-    omega (arith, was, now, ap open_of (is ∙ get_same items i part lt), opens_joined 0 i items new lt)
+    omega (arith, was, now, ap open_of (is ∙ get_or_default items i part [] lt), opens_joined 0 i items new lt)
 
 -- a node closed
-pub node_closed : (n q : ℕ) (s new : Standing) (below rest : List Entry) (t : Tally) (before now more : ℕ) → IsNode n q s below t → new ≡ closed_standing s → rest ≡ map closed_entry below
+pub node_closed : (n q : ℕ) (s new : Standing) (below rest : List Entry) (t : Summary) (before now more : ℕ) → IsNode n q s below t → new ≡ closed_standing s → rest ≡ map closed_entry below
     → before ≡ open_state s.state → now ≡ open_state new.state → open_of rest + more ≡ open_of below
-    → IsNode n q new rest (record { kept = t.kept; still = t.still - (before - now + more) })
+    → IsNode n q new rest (record { kept = t.kept; open_count = t.open_count - (before - now + more) })
 node_closed n q s new below rest t before now more was e f was_open is_open count =
-    let less : open_state new.state ≤ open_state s.state = ap_le (closed_open s.state) in
+    let less : open_state new.state ≤ open_state s.state = subst (λ (x : Standing). open_state x.state ≤ open_state s.state) (sym e) (closed_open s.state) in
     let P : Standing → List Entry → Type 0 = λ x y. IsKept (node_rows n q x y) t.kept in
     record {
       tried = λ h. f ∙ ap (map closed_entry) (was.tried (waits h));
       silent = λ h. ap (λ (x : Standing). x.answer) e ∙ was.silent (waits h);
-      tally = record {
-        kept = subst (λ y. P new y) (sym f) (subst (λ x. P x (map closed_entry below)) (sym e) (kept_closed (node_rows n q s below) t.kept was.tally.kept));
-        still = omega (arith, was.tally.still, was_open, is_open, count, less);
+      summary = record {
+        kept = subst (λ y. P new y) (sym f) (subst (λ x. P x (map closed_entry below)) (sym e) (kept_closed (node_rows n q s below) t.kept was.summary.kept));
+        open_count = omega (arith, was.summary.open_count, was_open, is_open, count, less);
       };
     }
   where
     waits : has_ended new.state ≡ false → has_ended s.state ≡ false
     waits h = closed_waits s.state (sym (ap (λ (x : Standing). has_ended x.state) e) ∙ h)
-
-    ap_le : open_state (closed_state s.state) ≤ open_state s.state → open_state new.state ≤ open_state s.state
-    ap_le h = let Q : Standing → Type 0 = λ x. open_state x.state ≤ open_state s.state in subst Q (sym e) h

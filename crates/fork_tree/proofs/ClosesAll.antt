@@ -1,14 +1,6 @@
 -- Closing the tree closes each row.
-use Rattle.std.proofs.Common.{◌≡◌, ℕ, suc, List, [], ◌∷◌, map, Option, Some, None, refl, ap, sym, ◌∙◌, if◌then◌else◌, true, false}
-use Rattle.fork_model.specs.Table.{Rules}
-use Rattle.fork_tree.specs.declared.place.Place.{Place}
-use Rattle.fork_tree.specs.declared.row.State.{State}
-use Rattle.fork_tree.specs.declared.row.State.TheVariants.{Idle, Trying, Rung, Ended}
-use Rattle.fork_tree.specs.States.{bare_state, closed_state}
-use Rattle.fork_tree.specs.Rows.{Cell, Entry, same, find, in_standing}
-use Rattle.fork_tree.specs.Places.{path_of, row_at, rows_from, rows_of, number_of, IsPlaced}
-use Rattle.fork_tree.specs.Closing.{closed_standing, closed_entry, never_tried, closed_row}
-use Rattle.fork_tree.specs.Listed.{AreListed, AreRanked, kept_of}
+use Rattle.fork_tree.proofs.Common.{◌≡◌, ℕ, suc, List, [], ◌∷◌, map, Option, Some, None, refl, ap, sym, ◌∙◌, Rules, Place, State, Idle, plain_state, closed_state, Cell, Entry, find, in_standing, path_of, arith}
+use Rattle.fork_tree.proofs.Common.{row_at, rows_from, rows_of, number_of, IsPlaced, never_tried, closed_row, closed_standing, closed_entry, AreListed, AreRanked, kept_of}
 
 abbrev pub closed_cell : Option Cell → Option Cell
 closed_cell None = None
@@ -16,26 +8,21 @@ closed_cell (Some c) = Some (in_standing (closed_standing c.standing) c)
 
 pub find_closed : (root : List Entry) (p : List ℕ) → find (map closed_entry root) p ≡ closed_cell (find root p)
 find_closed [] p = refl
-find_closed (e ∷ es) p =
-    elim (same e.path p) as (λ t. (if t then Some (in_standing (closed_standing e.cell.standing) e.cell) else find (map closed_entry es) p) ≡ closed_cell (if t then Some e.cell else find es p))
-    [ true ↦ refl | false ↦ find_closed es p ]
+find_closed (e ∷ es) p = grind (arith, find_closed es p)
 
 number_closed : (c : Option Cell) → number_of (closed_cell c) ≡ number_of c
-number_closed None = refl
-number_closed (Some c) = refl
+number_closed c = grind arith
 
 pub closed_placed : (all : List Place) (root : List Entry) → IsPlaced all root → IsPlaced all (map closed_entry root)
 closed_placed all root h n lt = ap number_of (find_closed root (path_of all n)) ∙ number_closed (find root (path_of all n)) ∙ h n lt
 
-closed_bare : (s : State) → bare_state (closed_state s) ≡ never_tried (bare_state s)
-closed_bare Idle = refl
-closed_bare Trying = refl
-closed_bare (Rung cancelled) = refl
-closed_bare (Ended end) = refl
+closed_plain : (s : State) → plain_state (closed_state s) ≡ never_tried (plain_state s)
+closed_plain Idle = refl
+closed_plain s = refl
 
 row_closed : (p : Place) (c : Option Cell) → row_at p (closed_cell c) ≡ closed_row (row_at p c)
 row_closed p None = refl
-row_closed p (Some c) = ap (λ s. record { key = []; q = c.q; place = 0; parent = p.parent; group = p.group; state = s }) (closed_bare c.standing.state)
+row_closed p (Some c) = ap (λ s. record { key = []; q = c.q; place = 0; parent = p.parent; group = p.group; state = s }) (closed_plain c.standing.state)
 
 pub rows_closed : (all : List Place) (root : List Entry) (k : ℕ) (ps : List Place) → rows_from all (map closed_entry root) k ps ≡ map closed_row (rows_from all root k ps)
 rows_closed all root k [] = refl
@@ -54,9 +41,7 @@ closed_listed all root (e ∷ es) l =
 
 kept_closed_state : (rules : Rules) (n : ℕ) (s : State) → kept_of rules n (closed_state s) ≡ kept_of rules n s
 kept_closed_state rules n Idle = refl
-kept_closed_state rules n Trying = refl
-kept_closed_state rules n (Rung cancelled) = refl
-kept_closed_state rules n (Ended end) = refl
+kept_closed_state rules n s = refl
 
 pub closed_ranked : (rules : Rules) (es : List Entry) → AreRanked rules es → AreRanked rules (map closed_entry es)
 closed_ranked rules [] r = r

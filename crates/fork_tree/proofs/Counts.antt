@@ -1,17 +1,8 @@
 -- The branches that have not ended are as many by number as in the tree.
-use Rattle.std.proofs.Common.{◌≡◌, ℕ, zero, suc, ◌+◌, ◌<◌, ◌≤◌, Bool, true, false, not, List, [], ◌∷◌, length, Option, Some, None, refl, ap, sym, ◌∙◌, arith, if◌then◌else◌}
-use Rattle.std.specs.Prelude.{eqb}
-use Rattle.std.proofs.lemmas.Bool.{eq-eqb, eqb-true}
+use Rattle.fork_tree.proofs.Common.{◌≡◌, ℕ, zero, suc, ◌+◌, ◌<◌, ◌≤◌, Bool, true, false, not, List, [], ◌∷◌, length, Option, Some, None, refl, ap, sym, ◌∙◌, arith, if◌then◌else◌, eqb, eq-eqb, Row, is_ended, Place, has_ended}
+use Rattle.fork_tree.proofs.Common.{Rules, Tree, plain_state, Cell, Entry, same, find, open_of, path_of, number_of, IsPlaced, row_at, rows_from, rows_of, open_rows, ne_eqb}
 use Rattle.fork_model.specs.Table as spec
-use Rattle.fork_model.specs.Table.{Row, is_ended}
-use Rattle.fork_tree.specs.declared.place.Place.{Place}
-use Rattle.fork_tree.specs.States.{has_ended, bare_state}
-use Rattle.fork_tree.specs.Rows.{Cell, Entry, same, find}
-use Rattle.fork_tree.specs.Tally.{open_of}
-use Rattle.fork_tree.specs.Places.{path_of, number_of, IsPlaced, row_at, rows_from, rows_of}
-use Rattle.fork_tree.specs.Tree.{open_rows}
-use Rattle.fork_tree.proofs.Grafts.{eqb_differ}
-use Rattle.fork_tree.proofs.Placed.{ended_bare}
+use Rattle.fork_tree.proofs.Placed.{ended_plain}
 
 abbrev pub one : Bool → ℕ
 one b = if b then 1 else 0
@@ -23,15 +14,11 @@ hits n k (suc m) = one (eqb n k) + hits n (suc k) m
 
 hits_none : (n k m : ℕ) → n < k → hits n k m ≡ 0
 hits_none n k zero h = refl
-hits_none n k (suc m) h = omega (arith, ap one (eqb_differ n k (λ e. omega (arith, h, e))), hits_none n (suc k) m (omega (arith, h)))
+hits_none n k (suc m) h = omega (arith, ap one (ne_eqb n k (λ e. omega (arith, h, e))), hits_none n (suc k) m (omega (arith, h)))
 
 hits_one : (n k m : ℕ) → hits n k m ≤ 1
 hits_one n k zero = omega arith
-hits_one n k (suc m) =
-    elim (eqb n k) as (λ b. eqb n k ≡ b → one b + hits n (suc k) m ≤ 1) [
-      | true ↦ (λ e. (let at : n ≡ k = eqb-true n k e in omega (arith, hits_none n (suc k) m (omega (arith, at)))))
-      | false ↦ (λ e. omega (arith, hits_one n (suc k) m))
-    ] refl
+hits_one n k (suc m) = grind (arith, hits_one n (suc k) m, hits_none n (suc k) m)
 
 abbrev pub passing : (Cell → Bool) → List Entry → ℕ
 passing t [] = 0
@@ -52,18 +39,12 @@ from_none t k (suc m) = omega (arith, from_none t (suc k) m)
 
 from_one : (t : Cell → Bool) (k m : ℕ) (e : Entry) (es : List Entry)
     → passing_from t k m (e ∷ es) ≡ (if t e.cell then hits e.cell.number k m else 0) + passing_from t k m es
-from_one t k zero e es = elim (t e.cell) as (λ b. 0 ≡ (if b then 0 else 0) + 0) [ true ↦ refl | false ↦ refl ]
-from_one t k (suc m) e es =
-    elim (t e.cell) as (λ b. passing_from t (suc k) m (e ∷ es) ≡ (if b then hits e.cell.number (suc k) m else 0) + passing_from t (suc k) m es
-    → ((if b then one (eqb e.cell.number k) else 0) + passing_at t k es) + passing_from t (suc k) m (e ∷ es)
-    ≡ (if b then one (eqb e.cell.number k) + hits e.cell.number (suc k) m else 0) + (passing_at t k es + passing_from t (suc k) m es))
-    [ true ↦ (λ h. omega (arith, h)) | false ↦ (λ h. omega (arith, h)) ] (from_one t (suc k) m e es)
+from_one t k zero e es = grind arith
+from_one t k (suc m) e es = grind (arith, from_one t (suc k) m e es)
 
 from_le : (t : Cell → Bool) (k m : ℕ) (es : List Entry) → passing_from t k m es ≤ passing t es
 from_le t k m [] = omega (arith, from_none t k m)
-from_le t k m (e ∷ es) =
-    elim (t e.cell) as (λ b. passing_from t k m (e ∷ es) ≡ (if b then hits e.cell.number k m else 0) + passing_from t k m es → passing_from t k m (e ∷ es) ≤ one b + passing t es)
-    [ true ↦ (λ h. omega (arith, h, hits_one e.cell.number k m, from_le t k m es)) | false ↦ (λ h. omega (arith, h, from_le t k m es)) ] (from_one t k m e es)
+from_le t k m (e ∷ es) = grind (arith, from_one t k m e es, hits_one e.cell.number k m, from_le t k m es)
 
 found_passes : (t : Cell → Bool) (es : List Entry) (p : List ℕ) (c : Cell) (k : ℕ) → find es p ≡ Some c → c.number ≡ k → one (t c) ≤ passing_at t k es
 found_passes t [] p c k h n = absurd cc
@@ -86,7 +67,7 @@ passing_rows r k (row ∷ rows) = one (r k row.state) + passing_rows r (suc k) r
 
 -- the test of a branch is that of its row
 abbrev pub Agree : (Cell → Bool) → (ℕ → spec.State → Bool) → Type 0
-Agree t r = (c : Cell) → r c.number (bare_state c.standing.state) ≡ t c
+Agree t r = (c : Cell) → r c.number (plain_state c.standing.state) ≡ t c
 
 rows_le : (t : Cell → Bool) (r : ℕ → spec.State → Bool) (all : List Place) (root : List Entry) (k : ℕ) (ps : List Place)
     → Agree t r → IsPlaced all root → k + length ps ≤ length all
@@ -100,35 +81,32 @@ rows_le t r all root k (p ∷ ps) agree placed le =
     row None e n = absurd cc
     row (Some c) e n =
         let at : c.number ≡ k = cc in
-        omega (arith, ap (λ x. one (r x (bare_state c.standing.state))) (sym at), ap one (agree c), found_passes t root (path_of all k) c k e at)
+        omega (arith, ap (λ x. one (r x (plain_state c.standing.state))) (sym at), ap one (agree c), found_passes t root (path_of all k) c k e at)
 
 both : (t : Cell → Bool) (es : List Entry) → passing t es + passing (λ c. not (t c)) es ≡ length es
 both t [] = refl
-both t (e ∷ es) =
-    elim (t e.cell) as (λ b. (one b + passing t es) + (one (not b) + passing (λ c. not (t c)) es) ≡ suc (length es))
-    [ true ↦ omega (arith, both t es) | false ↦ omega (arith, both t es) ]
+both t (e ∷ es) = grind (arith, both t es)
 
 both_rows : (r : ℕ → spec.State → Bool) (k : ℕ) (rows : List Row) → passing_rows r k rows + passing_rows (λ i s. not (r i s)) k rows ≡ length rows
 both_rows r k [] = refl
-both_rows r k (row ∷ rows) =
-    elim (r k row.state) as (λ b. (one b + passing_rows r (suc k) rows) + (one (not b) + passing_rows (λ i s. not (r i s)) (suc k) rows) ≡ suc (length rows))
-    [ true ↦ omega (arith, both_rows r (suc k) rows) | false ↦ omega (arith, both_rows r (suc k) rows) ]
+both_rows r k (row ∷ rows) = grind (arith, both_rows r (suc k) rows)
 
 opens_are : (es : List Entry) → open_of es ≡ passing (λ c. not (has_ended c.standing.state)) es
 opens_are [] = refl
-opens_are (e ∷ es) =
-    elim (has_ended e.cell.standing.state) as (λ b. (if b then 0 else 1) + open_of es ≡ one (not b) + passing (λ c. not (has_ended c.standing.state)) es)
-    [ true ↦ omega (arith, opens_are es) | false ↦ omega (arith, opens_are es) ]
+opens_are (e ∷ es) = grind (arith, opens_are es)
 
 open_rows_are : (k : ℕ) (rows : List Row) → open_rows rows ≡ passing_rows (λ i s. not (is_ended s)) k rows
 open_rows_are k [] = refl
-open_rows_are k (r ∷ rs) =
-    elim (is_ended r.state) as (λ b. (if b then 0 else 1) + open_rows rs ≡ one (not b) + passing_rows (λ i s. not (is_ended s)) (suc k) rs)
-    [ true ↦ omega (arith, open_rows_are (suc k) rs) | false ↦ omega (arith, open_rows_are (suc k) rs) ]
+open_rows_are k (r ∷ rs) = grind (arith, open_rows_are (suc k) rs)
 
 pub rows_length : (all : List Place) (root : List Entry) (k : ℕ) (ps : List Place) → length (rows_from all root k ps) ≡ length ps
 rows_length all root k [] = refl
 rows_length all root k (p ∷ ps) = omega (arith, rows_length all root (suc k) ps)
+
+-- the rows of a tree as callers see it
+pub rows_count : (rules : Rules) (all : List Place) (root : List Entry) (now : Tree) → record { rules = rules; rows = rows_of all root } ≡ now
+    → length now.rows ≡ length all
+rows_count rules all root now v = sym (ap (λ (t : Tree). length t.rows) v) ∙ rows_length all root 0 all
 
 -- as many branches pass as rows
 pub passing_agree : (t : Cell → Bool) (r : ℕ → spec.State → Bool) (all : List Place) (root : List Entry) → Agree t r → IsPlaced all root → length root ≡ length all
@@ -149,5 +127,5 @@ passing_agree t r all root agree placed sized =
 pub counts_agree : (all : List Place) (root : List Entry) → IsPlaced all root → length root ≡ length all → open_of root ≡ open_rows (rows_of all root)
 counts_agree all root placed sized =
     opens_are root
-    ∙ passing_agree (λ c. not (has_ended c.standing.state)) (λ i s. not (is_ended s)) all root (λ c. ap not (ended_bare c.standing.state)) placed sized
+    ∙ passing_agree (λ c. not (has_ended c.standing.state)) (λ i s. not (is_ended s)) all root (λ c. ap not (ended_plain c.standing.state)) placed sized
     ∙ sym (open_rows_are 0 (rows_of all root))

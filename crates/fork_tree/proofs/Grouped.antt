@@ -1,20 +1,11 @@
 -- The groups under one row, by the rows' numbers.
-use Rattle.std.proofs.Common.{◌≡◌, ℕ, zero, suc, ◌+◌, ◌<◌, ◌≤◌, Bool, true, false, List, [], ◌∷◌, ◌++◌, length, Option, Some, None, slice_get, refl, ap, sym, subst, ◌∙◌, arith, append_assoc, length-append, eqb-true, if◌then◌else◌}
-use Rattle.std.specs.Prelude.{eqb}
-use Rattle.std.proofs.lemmas.List.{append-nil}
-use Rattle.fork_model.specs.Table.{Row, is_ended}
-use Rattle.fork_tree.specs.declared.place.Place.{Place}
-use Rattle.fork_tree.specs.States.{has_ended}
-use Rattle.fork_tree.specs.Rows.{Cell, Entry, same, find}
-use Rattle.fork_tree.specs.Places.{above, path_of, row_at, rows_of, number_of, IsPlaced, AreOlder}
-use Rattle.fork_tree.specs.Tally.{open_state, open_of}
-use Rattle.fork_tree.specs.Listed.{AreListed}
-use Rattle.fork_tree.specs.Below.{lies_below, stripped, put_under, under, open_below}
-use Rattle.fork_tree.specs.Search.{IsKnown, IsShape}
+use Rattle.fork_tree.proofs.Common.{◌≡◌, ℕ, zero, suc, ◌+◌, ◌<◌, ◌≤◌, Bool, true, false, List, [], ◌∷◌, ◌++◌, length, Option, Some, None, slice_get, refl, ap, sym, subst, ◌∙◌, arith, append_assoc, length-append, if◌then◌else◌, eqb}
+use Rattle.fork_tree.proofs.Common.{append-nil, Row, is_ended, Place, has_ended, Cell, Entry, same, find, above, path_of, row_at, rows_of, number_of, IsPlaced, AreOlder, open_state, open_of, AreListed, lies_below, open_below, stripped}
+use Rattle.fork_tree.proofs.Common.{put_under, under, IsKnown, IsShape, eqb-true, slice_get_within, there_at}
 use Rattle.fork_tree.proofs.Traces.{path_below, path_top}
-use Rattle.fork_tree.proofs.Placed.{same_true, paths_differ, get_row, place_less, ended_bare}
+use Rattle.fork_tree.proofs.Placed.{same_true, paths_differ, get_row, ended_plain}
 use Rattle.fork_tree.proofs.Unders.{stripped_is, find_under, under_twice}
-use Rattle.fork_tree.proofs.Chains.{lies_same, GoesOn, on_leads, IsEven, even_to, long, place_there, shorter, unequal}
+use Rattle.fork_tree.proofs.Chains.{lies_same, GoesOn, on_leads, IsEven, even_to, long, shorter, unequal}
 use Rattle.fork_tree.proofs.Below.{count_below}
 
 -- ---- the path to the groups under a row, or at the top
@@ -23,8 +14,8 @@ abbrev pub path_above : List Place → Option ℕ → List ℕ
 path_above all p = above p (path_of all)
 
 -- what stands under the row
-abbrev pub tier_of : List Place → List Entry → Option ℕ → List Entry
-tier_of all root p = under (path_above all p) root
+abbrev pub level_of : List Place → List Entry → Option ℕ → List Entry
+level_of all root p = under (path_above all p) root
 
 pub path_split : (all : List Place) (k : ℕ) (s : Place) → AreOlder all → slice_get all k ≡ Some s → path_of all k ≡ path_above all s.parent ++ s.group ∷ s.place ∷ []
 path_split all k s older is = go s.parent refl
@@ -38,13 +29,13 @@ parent_known all k s older is = go s.parent refl
   where
     go : (o : Option ℕ) → s.parent ≡ o → IsKnown (length all) o
     go None e = tt
-    go (Some m) e = omega (arith, older k s m is e, place_less all k s is)
+    go (Some m) e = omega (arith, older k s m is e, slice_get_within all k s is)
 
 -- two rows have two paths, and neither has that of the top
 same_above : (all : List Place) (root : List Entry) (a b : Option ℕ) → IsPlaced all root → IsKnown (length all) a → IsKnown (length all) b → path_above all a ≡ path_above all b → a ≡ b
 same_above all root None None placed ka kb e = refl
-same_above all root None (Some m) placed ka kb e = let q = place_there all m kb in absurd (omega (arith, long all m q.0 q.1, ap length e))
-same_above all root (Some u) None placed ka kb e = let q = place_there all u ka in absurd (omega (arith, long all u q.0 q.1, ap length e))
+same_above all root None (Some m) placed ka kb e = let q = there_at all m kb in absurd (omega (arith, long all m q.0 q.1, ap length e))
+same_above all root (Some u) None placed ka kb e = let q = there_at all u ka in absurd (omega (arith, long all u q.0 q.1, ap length e))
 same_above all root (Some u) (Some m) placed ka kb e =
     elim (eqb u m) as (λ t. eqb u m ≡ t → Some u ≡ Some m) [
       | true ↦ (λ y. ap (λ (x : ℕ). Some x) (eqb-true u m y))
@@ -64,12 +55,12 @@ both_parts (x ∷ a) b (y ∷ c) d e l =
 -- ---- a branch there, and its row
 
 pub found_at : (all : List Place) (root : List Entry) (k : ℕ) (s : Place) → AreOlder all → slice_get all k ≡ Some s
-    → find (tier_of all root s.parent) (s.group ∷ s.place ∷ []) ≡ find root (path_of all k)
+    → find (level_of all root s.parent) (s.group ∷ s.place ∷ []) ≡ find root (path_of all k)
 found_at all root k s older is = find_under (path_above all s.parent) root (s.group ∷ s.place ∷ []) ∙ ap (find root) (sym (path_split all k s older is))
 
 pub numbered : (all : List Place) (root : List Entry) (k : ℕ) (s : Place) → AreOlder all → IsPlaced all root → slice_get all k ≡ Some s
-    → number_of (find (tier_of all root s.parent) (s.group ∷ s.place ∷ [])) ≡ Some k
-numbered all root k s older placed is = ap number_of (found_at all root k s older is) ∙ placed k (place_less all k s is)
+    → number_of (find (level_of all root s.parent) (s.group ∷ s.place ∷ [])) ≡ Some k
+numbered all root k s older placed is = ap number_of (found_at all root k s older is) ∙ placed k (slice_get_within all k s is)
 
 listed_path : (all : List Place) (root es : List Entry) (path : List ℕ) (c : Cell) → AreListed all root es → find es path ≡ Some c → (c.number < length all) × (path_of all c.number ≡ path)
 listed_path all root [] path c l h = absurd cc
@@ -77,8 +68,7 @@ listed_path all root (e ∷ es) path c l h =
     elim (same e.path path) as (λ t. same e.path path ≡ t → (if t then Some e.cell else find es path) ≡ Some c → (c.number < length all) × (path_of all c.number ≡ path)) [
       | true ↦ (λ t k.
           let one : e.cell ≡ c = cc in
-          let P : Cell → Type 0 = λ x. (x.number < length all) × (path_of all x.number ≡ path) in
-          subst P one (l.0.known, sym l.0.path ∙ same_true e.path path t))
+          subst (λ (x : Cell). (x.number < length all) × (path_of all x.number ≡ path)) one (l.0.known, sym l.0.path ∙ same_true e.path path t))
       | false ↦ (λ t k. listed_path all root es path c l.1 k)
     ] refl h
 
@@ -88,8 +78,8 @@ pub record StandsAt (all : List Place) (root : List Entry) (p : Option ℕ) (gro
   pub found : find root (path_of all c.number) ≡ Some c
 
 pub stands_at : (all : List Place) (root : List Entry) (p : Option ℕ) (group place : ℕ) (c : Cell) → IsShape all root → IsKnown (length all) p
-    → find (tier_of all root p) (group ∷ place ∷ []) ≡ Some c → StandsAt all root p group place c
-stands_at all root p group place c shape known h = at (place_there all c.number path.0)
+    → find (level_of all root p) (group ∷ place ∷ []) ≡ Some c → StandsAt all root p group place c
+stands_at all root p group place c shape known h = at (there_at all c.number path.0)
   where
     found : find root (path_above all p ++ group ∷ place ∷ []) ≡ Some c
     found = sym (find_under (path_above all p) root (group ∷ place ∷ [])) ∙ h
@@ -124,14 +114,15 @@ under_fewer p (e ∷ es) = go (stripped p e.path) (under_fewer p es)
     go (Some q) rest = omega (arith, rest)
 
 pub none_in_group : (all : List Place) (root : List Entry) (k : ℕ) (s : Place) → IsShape all root → slice_get all k ≡ Some s
-    → open_of (under (s.group ∷ []) (tier_of all root s.parent)) ≡ 0 → open_below (rows_of all root) k ≡ 0
+    → open_of (under (s.group ∷ []) (level_of all root s.parent)) ≡ 0 → open_below (rows_of all root) k ≡ 0
 none_in_group all root k s shape is none =
-    let tier = tier_of all root s.parent in
-    let fewer : open_of (under (s.place ∷ []) (under (s.group ∷ []) tier)) ≤ open_of (under (s.group ∷ []) tier) = under_fewer (s.place ∷ []) (under (s.group ∷ []) tier) in
-    let twice : open_of (under (s.place ∷ []) (under (s.group ∷ []) tier)) ≡ open_of (under (path_of all k) root) =
-    ap open_of (under_twice (s.group ∷ []) (s.place ∷ []) tier ∙ under_twice (path_above all s.parent) (s.group ∷ s.place ∷ []) root
+    let level = level_of all root s.parent in
+    let fewer : open_of (under (s.place ∷ []) (under (s.group ∷ []) level)) ≤ open_of (under (s.group ∷ []) level) = under_fewer (s.place ∷ []) (under (s.group ∷ []) level) in
+    let twice : open_of (under (s.place ∷ []) (under (s.group ∷ []) level)) ≡ open_of (under (path_of all k) root) =
+    ap open_of (under_twice (s.group ∷ []) (s.place ∷ []) level ∙ under_twice (path_above all s.parent) (s.group ∷ s.place ∷ []) root
     ∙ ap (λ x. under x root) (sym (path_split all k s shape.older is))) in
-    let count : open_of (under (path_of all k) root) ≡ open_below (rows_of all root) k = count_below all root k shape.older shape.placed (place_less all k s is) shape.listed shape.sized in
+    let count : open_of (under (path_of all k) root) ≡ open_below (rows_of all root) k =
+    count_below all root k shape.older shape.placed (slice_get_within all k s is) shape.listed shape.sized in
     omega (arith, fewer, twice, count, none)
 
 -- ---- a group in which something is
@@ -178,7 +169,7 @@ row_above : (all : List Place) (root : List Entry) (p : Option ℕ) (group steps
     → k < steps → path_of all k ≡ path_above all p ++ group ∷ q → IsAbove all p group k
 row_above all root p group zero k q shape known lk less e = absurd (omega (arith, less))
 row_above all root p group (suc steps) k q shape known lk less e =
-    at (place_there all k lk) (λ u x lu fewer f. row_above all root p group steps u x shape known lu fewer f)
+    at (there_at all k lk) (λ u x lu fewer f. row_above all root p group steps u x shape known lu fewer f)
   where
     at : (s : Place) × (slice_get all k ≡ Some s) → ((u : ℕ) (x : List ℕ) → u < length all → u < steps → path_of all u ≡ path_above all p ++ group ∷ x → IsAbove all p group u)
         → IsAbove all p group k
@@ -242,14 +233,14 @@ pub record IsOpenGroup (all : List Place) (root : List Entry) (p : Option ℕ) (
   pub there : slice_get all number ≡ Some spot
   pub parent : spot.parent ≡ p
   pub group_is : spot.group ≡ group
-  pub still : ℕ
+  pub open_row : ℕ
   pub row : Row
-  pub still_there : slice_get (rows_of all root) still ≡ Some row
-  pub below : lies_below (rows_of all root) number still ≡ true
+  pub open_row_there : slice_get (rows_of all root) open_row ≡ Some row
+  pub below : lies_below (rows_of all root) number open_row ≡ true
   pub unended : is_ended row.state ≡ false
 
 pub some_in_group : (all : List Place) (root : List Entry) (p : Option ℕ) (group : ℕ) → IsShape all root → IsKnown (length all) p
-    → 0 < open_of (under (group ∷ []) (tier_of all root p)) → IsOpenGroup all root p group
+    → 0 < open_of (under (group ∷ []) (level_of all root p)) → IsOpenGroup all root p group
 some_in_group all root p group shape known some =
     record {
       number = m.number;
@@ -257,11 +248,11 @@ some_in_group all root p group shape known some =
       there = m.there;
       parent = m.parent;
       group_is = m.group_is;
-      still = o.number;
+      open_row = o.number;
       row = row_at spot.0 (find root (path_of all (0 + o.number)));
-      still_there = get_row all root 0 o.number all spot.0 spot.1;
+      open_row_there = get_row all root 0 o.number all spot.0 spot.1;
       below = lies_same all root m.number o.number
-          ∙ on_leads all root m.number o.number o.number shape.older shape.placed (place_less all m.number m.spot m.there) o.known (omega arith) m.on;
+          ∙ on_leads all root m.number o.number o.number shape.older shape.placed (slice_get_within all m.number m.spot m.there) o.known (omega arith) m.on;
       unended = unended;
     }
   where
@@ -272,10 +263,10 @@ some_in_group all root p group shape known some =
     m = row_above all root p group (suc o.number) o.number o.rest shape known o.known (omega arith) (o.on ∙ append_assoc (path_above all p) (group ∷ []) o.rest)
 
     spot : (s : Place) × (slice_get all o.number ≡ Some s)
-    spot = place_there all o.number o.known
+    spot = there_at all o.number o.known
 
     unended : is_ended (row_at spot.0 (find root (path_of all (0 + o.number)))).state ≡ false
     unended =
         let at : 0 + o.number ≡ o.number = omega arith in
         ap (λ k. is_ended (row_at spot.0 (find root (path_of all k))).state) at
-        ∙ ap (λ c. is_ended (row_at spot.0 c).state) o.found ∙ ended_bare o.cell.standing.state ∙ o.unended
+        ∙ ap (λ c. is_ended (row_at spot.0 c).state) o.found ∙ ended_plain o.cell.standing.state ∙ o.unended

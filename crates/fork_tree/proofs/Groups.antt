@@ -1,28 +1,17 @@
--- What the search finds in a group, and in the groups of a tier.
-use Rattle.std.proofs.Common.{◌≡◌, ℕ, suc, ◌+◌, ◌<◌, ◌≤◌, inl, inr, Bool, true, false, IsTrue, List, [], ◌∷◌, length, map, Option, Some, None, refl, ap, sym, subst, ◌∙◌, arith, get_or, ltb, ltb-true, ltb-false, if◌then◌else◌}
-use Rattle.std.specs.Prelude.{is_some}
-use Rattle.std.proofs.lemmas.List.{get_or_past}
-use Rattle.fork_model.specs.Table.{is_idle}
-use Rattle.fork_tree.specs.declared.best.Standing.{Standing}
-use Rattle.fork_tree.specs.declared.row.State.{State}
-use Rattle.fork_tree.specs.declared.row.State.TheVariants.{Idle, Trying, Rung, Ended}
-use Rattle.fork_tree.specs.States.{bare_state, has_ended}
-use Rattle.fork_tree.specs.Rows.{Cell, Entry, pushed, joined, find, node_rows}
-use Rattle.fork_tree.specs.Places.{number_of}
-use Rattle.fork_tree.specs.Below.{stripped, put_under, under}
-use Rattle.fork_tree.specs.Tally.{open_of}
-use Rattle.fork_tree.specs.Search.{IsStarted, waits_in, IsWaiting, FindsGroup, FindsFirst, FindsHere, FindsBelow}
-use Rattle.fork_tree.proofs.Grafts.{find_joined, get_same}
-use Rattle.fork_tree.proofs.Tallies.{open_append, open_pushed}
+-- What the search finds in a group, and in the groups of a level.
+use Rattle.fork_tree.proofs.Common.{◌≡◌, ℕ, suc, ◌+◌, ◌<◌, ◌≤◌, inl, inr, Bool, true, false, IsTrue, List, [], ◌∷◌, length, map, Option, Some, None, refl, ap, sym, subst, ◌∙◌, arith, get_or, ltb, ltb-true, ltb-false, if◌then◌else◌, is_some}
+use Rattle.fork_tree.proofs.Common.{is_idle, Standing, State, Idle, plain_state, has_ended, Cell, Entry, find, node_rows, pushed, joined, number_of, stripped, put_under, under, open_of, IsStarted, waits_in, FindsFirst, FindsHere}
+use Rattle.fork_tree.proofs.Common.{get_or_past, get_or_default}
+use Rattle.fork_tree.specs.inner.Search.{IsWaiting, FindsGroup, FindsBelow}
+use Rattle.fork_tree.proofs.BranchChanges.{find_joined}
+use Rattle.fork_tree.proofs.Summaries.{open_append, open_pushed}
 use Rattle.fork_tree.proofs.Unders.{child_in, part_under, under_joined, under_none}
 
 -- ---- one branch
 
-waits_open : (s : State) → is_idle (bare_state s) ≡ true → has_ended s ≡ false
+waits_open : (s : State) → is_idle (plain_state s) ≡ true → has_ended s ≡ false
 waits_open Idle e = refl
-waits_open Trying e = absurd cc
-waits_open (Rung c) e = absurd cc
-waits_open (Ended end) e = absurd cc
+waits_open s e = absurd cc
 
 -- ---- a group
 
@@ -39,14 +28,14 @@ waiting_more nodes i node b all lt is h e k less = go (ltb k i) refl
     go false f =
         let at : i ≡ k = omega (arith, ltb-false k i f, less) in
         subst (λ (j : ℕ). IsWaiting (get_or nodes j []) true) at
-        (subst (λ (x : List Entry). IsWaiting x true) (is ∙ get_same nodes i node lt) (subst (IsWaiting node) e h))
+        (subst (λ (x : List Entry). IsWaiting x true) (is ∙ get_or_default nodes i node [] lt) (subst (IsWaiting node) e h))
 
 pub one_started : (rows : List Entry) (nodes : List (List Entry)) (i : ℕ) (node : List Entry) (b : Bool) → joined 0 nodes ≡ rows → i < length nodes → node ≡ get_or nodes i node
     → IsWaiting node b → b ≡ false → FindsGroup rows None
 one_started rows nodes i node b v lt is h e = (
   i,
   subst IsStarted
-      (ap (λ x. find x []) (is ∙ get_same nodes i node lt) ∙ sym (find_joined 0 i i nodes [] (omega arith)) ∙ ap (λ r. find r (i ∷ [])) v)
+      (ap (λ x. find x []) (is ∙ get_or_default nodes i node [] lt) ∙ sym (find_joined 0 i i nodes [] (omega arith)) ∙ ap (λ r. find r (i ∷ [])) v)
       (subst (IsWaiting node) e h),
 )
 
@@ -66,12 +55,12 @@ pub some_node : (rows : List Entry) (nodes : List (List Entry)) → joined 0 nod
 some_node rows [] v h = absurd (omega (arith, ap open_of v, h))
 some_node rows (x ∷ xs) v h = omega arith
 
-pub all_waiting : (rows : List Entry) (nodes : List (List Entry)) (node : List Entry) (i first still : ℕ) → joined 0 nodes ≡ rows → 0 < open_of rows → still ≡ open_of (joined 0 nodes)
-    → length nodes ≤ i → AreWaiting nodes i → node ≡ get_or nodes 0 node → number_of (find node []) ≡ Some first → FindsGroup rows (Some (first, still))
-all_waiting rows nodes node i first still v goes_on counted past all is number =
+pub all_waiting : (rows : List Entry) (nodes : List (List Entry)) (node : List Entry) (i first open_count : ℕ) → joined 0 nodes ≡ rows → 0 < open_of rows → open_count ≡ open_of (joined 0 nodes)
+    → length nodes ≤ i → AreWaiting nodes i → node ≡ get_or nodes 0 node → number_of (find node []) ≡ Some first → FindsGroup rows (Some (first, open_count))
+all_waiting rows nodes node i first open_count v goes_on counted past all is number =
     record {
       some = omega (arith, counted, ap open_of v, goes_on);
-      first_there = ap number_of (at 0 ∙ ap (λ x. find x []) (sym (is ∙ get_same nodes 0 node (some_node rows nodes v goes_on)))) ∙ number;
+      first_there = ap number_of (at 0 ∙ ap (λ x. find x []) (sym (is ∙ get_or_default nodes 0 node [] (some_node rows nodes v goes_on)))) ∙ number;
       wait = λ place lt. ap waits_in (at place) ∙ waits_found (get_or nodes place []) (every place (omega (arith, lt, count)));
       whole = λ place cell there.
           (let in_group : place < length nodes = child_in rows nodes place [] v (subst (λ (o : Option Cell). IsTrue (is_some o)) (sym there) cc) in omega (arith, in_group, count));
@@ -80,13 +69,13 @@ all_waiting rows nodes node i first still v goes_on counted past all is number =
     every : AreWaiting nodes (length nodes)
     every k lt = all k (omega (arith, lt, past))
 
-    count : still ≡ length nodes
+    count : open_count ≡ length nodes
     count = counted ∙ waiting_count 0 nodes every
 
     at : (place : ℕ) → find rows (place ∷ []) ≡ find (get_or nodes place []) []
     at place = ap (λ r. find r (place ∷ [])) (sym v) ∙ find_joined 0 place place nodes [] (omega arith)
 
--- ---- the groups of a tier
+-- ---- the groups of a level
 
 -- all has ended in the first so many groups
 abbrev pub AreOver : List Entry → ℕ → Type 0

@@ -1,22 +1,11 @@
 -- What goes before a row stands at or below a row of an earlier group beside it.
-use Rattle.std.proofs.Common.{◌≡◌, ℕ, zero, suc, ◌+◌, ◌<◌, ◌≤◌, ◌⊎◌, inl, inr, ◌&&◌, ◌||◌, Bool, true, false, not, List, [], ◌∷◌, length, Option, Some, None, slice_get, refl, ap, sym, ◌∙◌, arith, if◌then◌else◌}
-use Rattle.std.specs.Prelude.{eqb}
+use Rattle.fork_tree.proofs.Common.{◌≡◌, ℕ, zero, suc, ◌+◌, ◌<◌, ◌≤◌, inl, inr, ◌&&◌, ◌||◌, Bool, true, false, not, List, [], ◌∷◌, length, Option, Some, None, slice_get, refl, ap, sym, ◌∙◌, arith, if◌then◌else◌, eqb, eq-eqb, eqb-true, Row}
+use Rattle.fork_tree.proofs.Common.{is_ended, in_earlier_group, goes_before, or_cases, or_right, parent_of, from_parent, leads, lies_below, open_where, open_below, slice_get_within, one_there}
 use Rattle.std.specs.List.{list_any}
-use Rattle.std.proofs.lemmas.Bool.{eq-eqb, eqb-true}
-use Rattle.fork_model.specs.Table.{Row, is_ended}
-use Rattle.fork_model.specs.Waiting.{parent_row, line_from, in_earlier_group, goes_before}
-use Rattle.fork_tree.specs.Below.{parent_of, from_parent, leads, lies_below, open_where, open_below}
-
-pub or_cases : (a b : Bool) → (a || b) ≡ true → (a ≡ true) ⊎ (b ≡ true)
-or_cases true b e = inl refl
-or_cases false b e = inr e
+use Rattle.fork_model.specs.Waiting.{parent_row, line_from}
 
 pub or_left : (a b : Bool) → a ≡ true → (a || b) ≡ true
 or_left a b e = ap (λ (x : Bool). x || b) e
-
-pub or_right : (a b : Bool) → b ≡ true → (a || b) ≡ true
-or_right true b e = refl
-or_right false b e = e
 
 -- each row stands under an older one
 abbrev pub AreOlderRows : List Row → Type 0
@@ -110,25 +99,16 @@ before_found rows row other k older is h =
 
 -- ---- and the other way
 
-row_less : (rows : List Row) (k : ℕ) (row : Row) → slice_get rows k ≡ Some row → k < length rows
-row_less [] k row is = absurd cc
-row_less (x ∷ rows) zero row is = omega arith
-row_less (x ∷ rows) (suc k) row is = omega (arith, row_less rows k row is)
-
 line_passes : (t s : ℕ) (rows : List Row) (row first other : Row) (m k : ℕ) → AreOlderRows rows → slice_get rows m ≡ Some first → in_earlier_group first row ≡ true
     → slice_get rows k ≡ Some other → k < s → leads (up_in rows) m t k ≡ true → Passes (line_from s rows (Some other)) row
 line_passes t zero rows row first other m k older there earlier is lt h = absurd (omega (arith, lt))
 line_passes zero (suc s) rows row first other m k older there earlier is lt h =
-    let at : k ≡ m = eqb-true k m h in
-    let same : Some other ≡ Some first = sym is ∙ ap (slice_get rows) at ∙ there in
-    let one : other ≡ first = cc in
+    let one : other ≡ first = one_there rows k other first is (ap (slice_get rows) (eqb-true k m h) ∙ there) in
     or_left _ _ (ap (λ (x : Row). in_earlier_group x row) one ∙ earlier)
 line_passes (suc t) (suc s) rows row first other m k older there earlier is lt h =
     elim (or_cases (eqb k m) (from_parent (up_in rows k) (leads (up_in rows) m t)) h) [
       | inl e ↦ (
-          let at : k ≡ m = eqb-true k m e in
-          let same : Some other ≡ Some first = sym is ∙ ap (slice_get rows) at ∙ there in
-          let one : other ≡ first = cc in
+          let one : other ≡ first = one_there rows k other first is (ap (slice_get rows) (eqb-true k m e) ∙ there) in
           or_left _ _ (ap (λ (x : Row). in_earlier_group x row) one ∙ earlier))
       | inr g ↦ or_right _ _ (up other.parent (ap parent_of is) (ap (λ o. from_parent o (leads (up_in rows) m t)) (sym (ap parent_of is)) ∙ g)
           (λ above u place less k. line_passes t s rows row first above m u older there earlier place less k))
@@ -164,7 +144,7 @@ line_passes (suc t) (suc s) rows row first other m k older there earlier is lt h
 pub before_goes : (rows : List Row) (row first other : Row) (m k : ℕ) → AreOlderRows rows → slice_get rows m ≡ Some first → in_earlier_group first row ≡ true
     → slice_get rows k ≡ Some other → lies_below rows m k ≡ true → goes_before rows other row ≡ true
 before_goes rows row first other m k older there earlier is h =
-    line_passes k (length rows) rows row first other m k older there earlier is (row_less rows k other is) h
+    line_passes k (length rows) rows row first other m k older there earlier is (slice_get_within rows k other is) h
 
 -- ---- rows that have not ended
 

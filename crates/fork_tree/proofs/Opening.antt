@@ -1,192 +1,170 @@
--- Rows that wait, each on its seat, are a tree.
-use Rattle.std.proofs.Common.{◌≡◌, ℕ, zero, suc, ◌+◌, ◌<◌, ◌≤◌, ◌⊎◌, ◌&&◌, inl, inr, Bool, true, false, List, [], ◌∷◌, length, map, Option, Some, None, slice_get, refl, ap, sym, subst, ◌∙◌, arith, if◌then◌else◌}
-use Rattle.std.specs.Prelude.{eqb}
-use Rattle.std.proofs.lemmas.Bool.{eq-eqb}
-use Rattle.fork_model.specs.Table.{Rules, most_targets}
-use Rattle.fork_tree.specs.declared.seat.Seat.{Seat}
-use Rattle.fork_tree.specs.declared.place.Place.{Place}
-use Rattle.fork_tree.specs.declared.best.Kept.{Kept}
-use Rattle.fork_tree.specs.declared.best.Tally.{Tally}
-use Rattle.fork_tree.specs.Rows.{Cell, same, find}
-use Rattle.fork_tree.specs.Tally.{HasKept, IsKept, open_of}
-use Rattle.fork_tree.specs.Places.{path_of, row_at, rows_from, rows_of, number_of, AreOlder}
-use Rattle.fork_tree.specs.Seats.{differs, seats_with, seats_from, idle, seat_rows, seated, place_in}
-use Rattle.fork_tree.specs.Listed.{AreListed, AreRanked, IsTree}
-use Rattle.fork_tree.specs.Tree.{open_rows}
-use Rattle.fork_tree.proofs.Grafts.{eqb_differ}
+-- Rows that wait, each at its place, are a tree.
+use Rattle.fork_tree.proofs.Common.{◌≡◌, ℕ, zero, suc, ◌+◌, ◌<◌, ◌≤◌, ◌⊎◌, inl, inr, Bool, true, false, List, [], ◌∷◌, length, map, Option, Some, None, slice_get, refl, ap, sym, subst, ◌∙◌, arith, if◌then◌else◌, eq-eqb, Rules}
+use Rattle.fork_tree.proofs.Common.{led, Entry, ◌++◌, most_targets, NewRow, Place, Kept, Summary, Cell, same, find, HasKept, IsKept, open_of, path_of, row_at, rows_from, rows_of, number_of, AreOlder, differs, new_rows_with, new_rows_from}
+use Rattle.fork_tree.proofs.Common.{idle, new_entries, waiting_row, place_in, AreListed, AreRanked, IsTree, there_at, get_map, length-map, map-id, slice_get_within}
 use Rattle.fork_tree.proofs.Traces.{path_top}
 
--- ---- seats rise
+-- ---- new rows rise
 
-abbrev pub Follows : ℕ → ℕ → Seat → Type 0
+abbrev pub Follows : ℕ → ℕ → NewRow → Type 0
 Follows g p s = (g < s.group) ⊎ ((g ≡ s.group) × (p ≤ s.place))
 
-abbrev pub AllFollow : ℕ → ℕ → List Seat → Type 0
+abbrev pub AllFollow : ℕ → ℕ → List NewRow → Type 0
 AllFollow g p [] = Unit {0}
-AllFollow g p (s ∷ seats) = Follows g p s × AllFollow g p seats
+AllFollow g p (s ∷ new_rows) = Follows g p s × AllFollow g p new_rows
 
 -- each goes behind those before it
-abbrev pub AreRising : List Seat → Type 0
+abbrev pub AreRising : List NewRow → Type 0
 AreRising [] = Unit {0}
-AreRising (s ∷ seats) = AllFollow s.group (suc s.place) seats × AreRising seats
+AreRising (s ∷ new_rows) = AllFollow s.group (suc s.place) new_rows × AreRising new_rows
 
-follow_on : (g p h r : ℕ) (s : Seat) → (g < h) ⊎ ((g ≡ h) × (p ≤ r)) → Follows h r s → Follows g p s
+follow_on : (g p h r : ℕ) (s : NewRow) → (g < h) ⊎ ((g ≡ h) × (p ≤ r)) → Follows h r s → Follows g p s
 follow_on g p h r s a b = grind arith
 
-all_on : (g p h r : ℕ) (seats : List Seat) → (g < h) ⊎ ((g ≡ h) × (p ≤ r)) → AllFollow h r seats → AllFollow g p seats
+all_on : (g p h r : ℕ) (new_rows : List NewRow) → (g < h) ⊎ ((g ≡ h) × (p ≤ r)) → AllFollow h r new_rows → AllFollow g p new_rows
 all_on g p h r [] a b = b
-all_on g p h r (s ∷ seats) a b = (follow_on g p h r s a b.0, all_on g p h r seats a b.1)
+all_on g p h r (s ∷ new_rows) a b = (follow_on g p h r s a b.0, all_on g p h r new_rows a b.1)
 
-pub seats_follow : (before : Option ℕ) (g p : ℕ) (qs : List ℕ) → AllFollow g p (seats_from before g p qs)
-seats_follow before g p [] = tt
-seats_follow before g p (q ∷ qs) =
-    elim (differs before q) as (λ b. AllFollow g p (seats_with b g p q (λ x y z. seats_from x y z qs))) [
-      | true ↦ (inl (omega arith), all_on g p (suc g) 1 (seats_from (Some q) (suc g) 1 qs) (inl (omega arith)) (seats_follow (Some q) (suc g) 1 qs))
-      | false ↦ (inr (refl, omega arith), all_on g p g (suc p) (seats_from (Some q) g (suc p) qs) (inr (refl, omega arith)) (seats_follow (Some q) g (suc p) qs))
+pub new_rows_follow : (before : Option ℕ) (g p : ℕ) (qs : List ℕ) → AllFollow g p (new_rows_from before g p qs)
+new_rows_follow before g p [] = tt
+new_rows_follow before g p (q ∷ qs) =
+    elim (differs before q) as (λ b. AllFollow g p (new_rows_with b g p q (λ x y z. new_rows_from x y z qs))) [
+      | true ↦ (inl (omega arith), all_on g p (suc g) 1 (new_rows_from (Some q) (suc g) 1 qs) (inl (omega arith)) (new_rows_follow (Some q) (suc g) 1 qs))
+      | false ↦ (inr (refl, omega arith), all_on g p g (suc p) (new_rows_from (Some q) g (suc p) qs) (inr (refl, omega arith)) (new_rows_follow (Some q) g (suc p) qs))
     ]
 
-pub seats_rise : (before : Option ℕ) (g p : ℕ) (qs : List ℕ) → AreRising (seats_from before g p qs)
-seats_rise before g p [] = tt
-seats_rise before g p (q ∷ qs) =
-    elim (differs before q) as (λ b. AreRising (seats_with b g p q (λ x y z. seats_from x y z qs))) [
-      | true ↦ (seats_follow (Some q) (suc g) 1 qs, seats_rise (Some q) (suc g) 1 qs)
-      | false ↦ (seats_follow (Some q) g (suc p) qs, seats_rise (Some q) g (suc p) qs)
+pub new_rows_rise : (before : Option ℕ) (g p : ℕ) (qs : List ℕ) → AreRising (new_rows_from before g p qs)
+new_rows_rise before g p [] = tt
+new_rows_rise before g p (q ∷ qs) =
+    elim (differs before q) as (λ b. AreRising (new_rows_with b g p q (λ x y z. new_rows_from x y z qs))) [
+      | true ↦ (new_rows_follow (Some q) (suc g) 1 qs, new_rows_rise (Some q) (suc g) 1 qs)
+      | false ↦ (new_rows_follow (Some q) g (suc p) qs, new_rows_rise (Some q) g (suc p) qs)
     ]
 
-pub seats_count : (before : Option ℕ) (g p : ℕ) (qs : List ℕ) → length (seats_from before g p qs) ≡ length qs
-seats_count before g p [] = refl
-seats_count before g p (q ∷ qs) =
-    elim (differs before q) as (λ b. length (seats_with b g p q (λ x y z. seats_from x y z qs)) ≡ suc (length qs))
-    [ true ↦ omega (arith, seats_count (Some q) (suc g) 1 qs) | false ↦ omega (arith, seats_count (Some q) g (suc p) qs) ]
+pub new_rows_count : (before : Option ℕ) (g p : ℕ) (qs : List ℕ) → length (new_rows_from before g p qs) ≡ length qs
+new_rows_count before g p [] = refl
+new_rows_count before g p (q ∷ qs) = grind (arith, new_rows_count (Some q) (suc g) 1 qs, new_rows_count (Some q) g (suc p) qs)
 
--- ---- what is found on a seat
+-- ---- what is found at the place of a new row
 
-abbrev pub seat_path : Seat → List ℕ
-seat_path s = s.group ∷ s.place ∷ []
+abbrev pub new_row_path : NewRow → List ℕ
+new_row_path s = s.group ∷ s.place ∷ []
 
-abbrev pub seat_cell : ℕ → Seat → Cell
-seat_cell n s = record { number = n; q = s.q; standing = idle }
+abbrev pub new_row_cell : ℕ → NewRow → Cell
+new_row_cell n s = record { number = n; q = s.q; standing = idle }
 
-not_same : (a b : Seat) → Follows a.group (suc a.place) b → same (seat_path a) (seat_path b) ≡ false
-not_same a b h =
-    elim h [
-      | inl less ↦ ap (λ (t : Bool). t && (eqb a.place b.place && true)) (eqb_differ a.group b.group (λ e. omega (arith, e, less)))
-      | inr both ↦ later (eqb a.group b.group) (eqb_differ a.place b.place (λ e. omega (arith, e, both.1)))
-    ]
-  where
-    later : (t : Bool) → eqb a.place b.place ≡ false → (t && (eqb a.place b.place && true)) ≡ false
-    later true e = ap (λ (x : Bool). x && true) e
-    later false e = refl
+not_same : (a b : NewRow) → Follows a.group (suc a.place) b → same (new_row_path a) (new_row_path b) ≡ false
+not_same a b h = grind arith
 
-seat_same : (s : Seat) → same (seat_path s) (seat_path s) ≡ true
-seat_same s = rw (eq-eqb s.group s.group refl, eq-eqb s.place s.place refl) refl
+new_row_same : (s : NewRow) → same (new_row_path s) (new_row_path s) ≡ true
+new_row_same s = rw (eq-eqb s.group s.group refl, eq-eqb s.place s.place refl) refl
 
-follows_at : (g p : ℕ) (seats : List Seat) (i : ℕ) (s : Seat) → AllFollow g p seats → slice_get seats i ≡ Some s → Follows g p s
+follows_at : (g p : ℕ) (new_rows : List NewRow) (i : ℕ) (s : NewRow) → AllFollow g p new_rows → slice_get new_rows i ≡ Some s → Follows g p s
 follows_at g p [] i s a is = absurd cc
-follows_at g p (x ∷ seats) zero s a is = let at : x ≡ s = cc in subst (Follows g p) at a.0
-follows_at g p (x ∷ seats) (suc i) s a is = follows_at g p seats i s a.1 is
+follows_at g p (x ∷ new_rows) zero s a is = let at : x ≡ s = cc in subst (Follows g p) at a.0
+follows_at g p (x ∷ new_rows) (suc i) s a is = follows_at g p new_rows i s a.1 is
 
-pub find_seat : (seats : List Seat) (n i : ℕ) (s : Seat) → AreRising seats → slice_get seats i ≡ Some s → find (seat_rows n seats) (seat_path s) ≡ Some (seat_cell (n + i) s)
-find_seat [] n i s rise is = absurd cc
-find_seat (x ∷ seats) n zero s rise is =
+pub find_new_row : (new_rows : List NewRow) (n i : ℕ) (s : NewRow) → AreRising new_rows → slice_get new_rows i ≡ Some s → find (new_entries n new_rows) (new_row_path s) ≡ Some (new_row_cell (n + i) s)
+find_new_row [] n i s rise is = absurd cc
+find_new_row (x ∷ new_rows) n zero s rise is =
     let at : x ≡ s = cc in
     let zero_more : n ≡ n + zero = omega arith in
-    let P : Seat → Type 0 = λ y. find (seat_rows n (x ∷ seats)) (seat_path y) ≡ Some (seat_cell (n + zero) y) in
-    subst P at (ap (λ (t : Bool). if t then Some (seat_cell n x) else find (seat_rows (suc n) seats) (seat_path x)) (seat_same x) ∙ ap (λ k. Some (seat_cell k x)) zero_more)
-find_seat (x ∷ seats) n (suc i) s rise is =
+    let P : NewRow → Type 0 = λ y. find (new_entries n (x ∷ new_rows)) (new_row_path y) ≡ Some (new_row_cell (n + zero) y) in
+    subst P at (ap (λ (t : Bool). if t then Some (new_row_cell n x) else find (new_entries (suc n) new_rows) (new_row_path x)) (new_row_same x) ∙ ap (λ k. Some (new_row_cell k x)) zero_more)
+find_new_row (x ∷ new_rows) n (suc i) s rise is =
     let later : suc n + i ≡ n + suc i = omega arith in
-    ap (λ (t : Bool). if t then Some (seat_cell n x) else find (seat_rows (suc n) seats) (seat_path s)) (not_same x s (follows_at x.group (suc x.place) seats i s rise.0 is))
-    ∙ find_seat seats (suc n) i s rise.1 is ∙ ap (λ k. Some (seat_cell k s)) later
+    ap (λ (t : Bool). if t then Some (new_row_cell n x) else find (new_entries (suc n) new_rows) (new_row_path s)) (not_same x s (follows_at x.group (suc x.place) new_rows i s rise.0 is))
+    ∙ find_new_row new_rows (suc n) i s rise.1 is ∙ ap (λ k. Some (new_row_cell k s)) later
+
+-- ---- what new rows are where they are found
+
+pub record IsFound (all : List Place) (root : List Entry) (p : List ℕ) (n : ℕ) (s : NewRow) : Type 0 where
+  pub known : n < length all
+  pub path : path_of all n ≡ p ++ new_row_path s
+  pub found : find root (path_of all n) ≡ Some (new_row_cell n s)
+
+-- new rows numbered from k on stand below this path
+abbrev pub AreFound : List Place → List Entry → List ℕ → ℕ → List NewRow → Type 0
+AreFound all root p k new_rows = (i : ℕ) (s : NewRow) → slice_get new_rows i ≡ Some s → IsFound all root p (k + i) s
+
+first_found : (all : List Place) (root : List Entry) (p : List ℕ) (k : ℕ) (s : NewRow) (more : List NewRow) → AreFound all root p k (s ∷ more)
+    → IsFound all root p k s
+first_found all root p k s more found = let at : k + 0 ≡ k = omega arith in subst (λ (x : ℕ). IsFound all root p x s) at (found 0 s refl)
+
+more_found : (all : List Place) (root : List Entry) (p : List ℕ) (k : ℕ) (s : NewRow) (more : List NewRow) → AreFound all root p k (s ∷ more)
+    → AreFound all root p (suc k) more
+more_found all root p k s more found i t is = let at : k + suc i ≡ suc k + i = omega arith in subst (λ (x : ℕ). IsFound all root p x t) at (found (suc i) t is)
+
+pub rows_found : (all : List Place) (root : List Entry) (p : List ℕ) (parent : Option ℕ) (k : ℕ) (new_rows : List NewRow) → AreFound all root p k new_rows
+    → rows_from all root k (map (place_in parent) new_rows) ≡ map (waiting_row parent) new_rows
+rows_found all root p parent k [] found = refl
+rows_found all root p parent k (s ∷ more) found =
+    ap (λ c. row_at (place_in parent s) c ∷ rows_from all root (suc k) (map (place_in parent) more)) (first_found all root p k s more found).found
+    ∙ ap (λ r. waiting_row parent s ∷ r) (rows_found all root p parent (suc k) more (more_found all root p k s more found))
+
+pub listed_found : (all : List Place) (root : List Entry) (p : List ℕ) (k : ℕ) (new_rows : List NewRow) → AreFound all root p k new_rows
+    → AreListed all root (map (led p) (new_entries k new_rows))
+listed_found all root p k [] found = tt
+listed_found all root p k (s ∷ more) found =
+    let here = first_found all root p k s more found in
+    (record { known = here.known; path = sym here.path; found = here.found }, listed_found all root p (suc k) more (more_found all root p k s more found))
 
 -- ---- a tree of such rows alone
 
-get_map : (parent : Option ℕ) (seats : List Seat) (i : ℕ) (s : Seat) → slice_get seats i ≡ Some s → slice_get (map (place_in parent) seats) i ≡ Some (place_in parent s)
-get_map parent [] i s is = absurd cc
-get_map parent (x ∷ seats) zero s is = let at : x ≡ s = cc in ap (λ y. Some (place_in parent y)) at
-get_map parent (x ∷ seats) (suc i) s is = get_map parent seats i s is
+pub length_new_entries : (n : ℕ) (new_rows : List NewRow) → length (new_entries n new_rows) ≡ length new_rows
+length_new_entries n [] = refl
+length_new_entries n (s ∷ new_rows) = omega (arith, length_new_entries (suc n) new_rows)
 
-pub seat_there : (seats : List Seat) (i : ℕ) → i < length seats → (s : Seat) × (slice_get seats i ≡ Some s)
-seat_there [] i h = absurd (omega arith)
-seat_there (s ∷ seats) zero h = (s, refl)
-seat_there (s ∷ seats) (suc i) h = seat_there seats i (omega arith)
+pub open_new_rows : (n : ℕ) (new_rows : List NewRow) → open_of (new_entries n new_rows) ≡ length new_rows
+open_new_rows n [] = refl
+open_new_rows n (s ∷ new_rows) = omega (arith, open_new_rows (suc n) new_rows)
 
-pub length_seat_rows : (n : ℕ) (seats : List Seat) → length (seat_rows n seats) ≡ length seats
-length_seat_rows n [] = refl
-length_seat_rows n (s ∷ seats) = omega (arith, length_seat_rows (suc n) seats)
+pub new_rows_keep_none : (n : ℕ) (new_rows : List NewRow) (k : Kept) → HasKept (new_entries n new_rows) k → ⊥
+new_rows_keep_none n [] k h = h
+new_rows_keep_none n (s ∷ new_rows) k h = elim h [ inl e ↦ cc | inr t ↦ new_rows_keep_none (suc n) new_rows k t ]
 
-pub length_places : (parent : Option ℕ) (seats : List Seat) → length (map (place_in parent) seats) ≡ length seats
-length_places parent [] = refl
-length_places parent (s ∷ seats) = omega (arith, length_places parent seats)
+pub new_rows_ranked : (rules : Rules) (n : ℕ) (new_rows : List NewRow) → AreRanked rules (new_entries n new_rows)
+new_rows_ranked rules n [] = tt
+new_rows_ranked rules n (s ∷ new_rows) = (refl, new_rows_ranked rules (suc n) new_rows)
 
-pub open_seats : (n : ℕ) (seats : List Seat) → open_of (seat_rows n seats) ≡ length seats
-open_seats n [] = refl
-open_seats n (s ∷ seats) = omega (arith, open_seats (suc n) seats)
-
-pub open_seated : (parent : Option ℕ) (seats : List Seat) → open_rows (map (seated parent) seats) ≡ length seats
-open_seated parent [] = refl
-open_seated parent (s ∷ seats) = omega (arith, open_seated parent seats)
-
-pub seats_keep_none : (n : ℕ) (seats : List Seat) (k : Kept) → HasKept (seat_rows n seats) k → ⊥
-seats_keep_none n [] k h = h
-seats_keep_none n (s ∷ seats) k h = elim h [ inl e ↦ cc | inr t ↦ seats_keep_none (suc n) seats k t ]
-
-pub seats_ranked : (rules : Rules) (n : ℕ) (seats : List Seat) → AreRanked rules (seat_rows n seats)
-seats_ranked rules n [] = tt
-seats_ranked rules n (s ∷ seats) = (refl, seats_ranked rules (suc n) seats)
-
-top_path : (seats : List Seat) (i : ℕ) (s : Seat) → slice_get seats i ≡ Some s → path_of (map (place_in None) seats) i ≡ seat_path s
-top_path seats i s is = path_top (map (place_in None) seats) i (place_in None s) (get_map None seats i s is) refl
-
-older_top : (seats : List Seat) → AreOlder (map (place_in None) seats)
-older_top seats n p m is up = none seats n p m is up
+older_top : (new_rows : List NewRow) → AreOlder (map (place_in None) new_rows)
+older_top new_rows n p m is up = none new_rows n p m is up
   where
-    none : (seats : List Seat) (n : ℕ) (p : Place) (m : ℕ) → slice_get (map (place_in None) seats) n ≡ Some p → p.parent ≡ Some m → m < n
+    none : (new_rows : List NewRow) (n : ℕ) (p : Place) (m : ℕ) → slice_get (map (place_in None) new_rows) n ≡ Some p → p.parent ≡ Some m → m < n
     none [] n p m is up = absurd cc
-    none (s ∷ seats) zero p m is up = let at : place_in None s ≡ p = cc in let bad : None ≡ Some m = ap (λ (x : Place). x.parent) at ∙ up in absurd cc
-    none (s ∷ seats) (suc n) p m is up = omega (arith, none seats n p m is up)
+    none (s ∷ new_rows) zero p m is up = let at : place_in None s ≡ p = cc in let bad : None ≡ Some m = ap (λ (x : Place). x.parent) at ∙ up in absurd cc
+    none (s ∷ new_rows) (suc n) p m is up = omega (arith, none new_rows n p m is up)
 
-found_top : (seats : List Seat) (i : ℕ) (s : Seat) → AreRising seats → slice_get seats i ≡ Some s
-    → find (seat_rows 0 seats) (path_of (map (place_in None) seats) i) ≡ Some (seat_cell i s)
-found_top seats i s rise is =
+top_found : (new_rows : List NewRow) → AreRising new_rows → AreFound (map (place_in None) new_rows) (new_entries 0 new_rows) [] 0 new_rows
+top_found new_rows rise i s is =
     let at : 0 + i ≡ i = omega arith in
-    ap (find (seat_rows 0 seats)) (top_path seats i s is) ∙ find_seat seats 0 i s rise is ∙ ap (λ k. Some (seat_cell k s)) at
-
-rows_top : (all seats : List Seat) (k : ℕ) → AreRising all → ((i : ℕ) (s : Seat) → slice_get seats i ≡ Some s → slice_get all (k + i) ≡ Some s)
-    → rows_from (map (place_in None) all) (seat_rows 0 all) k (map (place_in None) seats) ≡ map (seated None) seats
-rows_top all [] k rise sub = refl
-rows_top all (s ∷ seats) k rise sub =
-    let at : k + 0 ≡ k = omega arith in
-    let here : slice_get all k ≡ Some s = ap (slice_get all) (sym at) ∙ sub 0 s refl in
-    ap (λ c. row_at (place_in None s) c ∷ rows_from (map (place_in None) all) (seat_rows 0 all) (suc k) (map (place_in None) seats)) (found_top all k s rise here)
-    ∙ ap (λ r. seated None s ∷ r) (rows_top all seats (suc k) rise (λ i t is. (let next : suc k + i ≡ k + suc i = omega arith in ap (slice_get all) next ∙ sub (suc i) t is)))
-
-listed_top : (all seats : List Seat) (k : ℕ) → AreRising all → ((i : ℕ) (s : Seat) → slice_get seats i ≡ Some s → slice_get all (k + i) ≡ Some s) → k + length seats ≤ length all
-    → AreListed (map (place_in None) all) (seat_rows 0 all) (seat_rows k seats)
-listed_top all [] k rise sub le = tt
-listed_top all (s ∷ seats) k rise sub le =
-    let at : k + 0 ≡ k = omega arith in
-    let here : slice_get all k ≡ Some s = ap (slice_get all) (sym at) ∙ sub 0 s refl in (
-      record {
-        known = omega (arith, le, length_places None all);
-        path = sym (top_path all k s here);
-        found = found_top all k s rise here;
-      },
-      listed_top all seats (suc k) rise (λ i t is. (let next : suc k + i ≡ k + suc i = omega arith in ap (slice_get all) next ∙ sub (suc i) t is)) (omega (arith, le)),
-    )
-
-pub rows_opened : (seats : List Seat) → AreRising seats → rows_of (map (place_in None) seats) (seat_rows 0 seats) ≡ map (seated None) seats
-rows_opened seats rise = rows_top seats seats 0 rise (λ i s is. (let at : 0 + i ≡ i = omega arith in ap (slice_get seats) at ∙ is))
-
-pub tree_opened : (rules : Rules) (seats : List Seat) (t : Tally) → AreRising seats → length seats ≤ most_targets → t.kept ≡ None → t.still ≡ length seats
-    → IsTree rules (map (place_in None) seats) (seat_rows 0 seats) t
-tree_opened rules seats t rise few kept still =
-    let P : Option Kept → Type 0 = λ x. IsKept (seat_rows 0 seats) x in
+    let path : path_of (map (place_in None) new_rows) (0 + i) ≡ new_row_path s =
+    ap (path_of (map (place_in None) new_rows)) at ∙ path_top (map (place_in None) new_rows) i (place_in None s) (get_map (place_in None) new_rows i s is)
+    refl in
     record {
-      older = older_top seats;
-      placed = λ n lt. (let s = seat_there seats n (omega (arith, lt, length_places None seats)) in ap number_of (found_top seats n s.0 rise s.1));
-      listed = listed_top seats seats 0 rise (λ i s is. (let at : 0 + i ≡ i = omega arith in ap (slice_get seats) at ∙ is)) (omega arith);
-      ranked = seats_ranked rules 0 seats;
-      tally = record { kept = subst P (sym kept) (seats_keep_none 0 seats); still = still ∙ sym (open_seats 0 seats) };
-      sized = length_seat_rows 0 seats ∙ sym (length_places None seats);
-      few = omega (arith, length_places None seats, few);
+      known = omega (arith, slice_get_within new_rows i s is, length-map new_rows (place_in None));
+      path = path;
+      found = ap (find (new_entries 0 new_rows)) path ∙ find_new_row new_rows 0 i s rise is;
+    }
+
+pub rows_opened : (new_rows : List NewRow) → AreRising new_rows → rows_of (map (place_in None) new_rows) (new_entries 0 new_rows) ≡ map (waiting_row None) new_rows
+rows_opened new_rows rise = rows_found (map (place_in None) new_rows) (new_entries 0 new_rows) [] None 0 new_rows (top_found new_rows rise)
+
+pub tree_opened : (rules : Rules) (new_rows : List NewRow) (t : Summary) → AreRising new_rows → length new_rows ≤ most_targets → t.kept ≡ None → t.open_count ≡ length new_rows
+    → IsTree rules (map (place_in None) new_rows) (new_entries 0 new_rows) t
+tree_opened rules new_rows t rise few kept open_count =
+    let P : Option Kept → Type 0 = λ x. IsKept (new_entries 0 new_rows) x in
+    record {
+      older = older_top new_rows;
+      placed = λ n lt.
+          (let s = there_at new_rows n (omega (arith, lt, length-map new_rows (place_in None))) in
+          let at : 0 + n ≡ n = omega arith in
+          subst (λ (x : ℕ). number_of (find (new_entries 0 new_rows) (path_of (map (place_in None) new_rows) x)) ≡ Some x) at
+          (ap number_of (top_found new_rows rise n s.0 s.1).found));
+      listed = subst (AreListed (map (place_in None) new_rows) (new_entries 0 new_rows)) (map-id (new_entries 0 new_rows))
+          (listed_found (map (place_in None) new_rows) (new_entries 0 new_rows) [] 0 new_rows (top_found new_rows rise));
+      ranked = new_rows_ranked rules 0 new_rows;
+      summary = record { kept = subst P (sym kept) (new_rows_keep_none 0 new_rows); open_count = open_count ∙ sym (open_new_rows 0 new_rows) };
+      sized = length_new_entries 0 new_rows ∙ sym (length-map new_rows (place_in None));
+      few = omega (arith, length-map new_rows (place_in None), few);
     }

@@ -1,27 +1,18 @@
 -- Rows come below their parents, run by run.
-use Rattle.std.proofs.Common.{◌≡◌, ℕ, zero, suc, ◌+◌, ◌-◌, ◌<◌, ◌≤◌, ◌⊎◌, inl, inr, List, [], ◌∷◌, ◌++◌, length, map, take, drop, Option, Some, None, IsTrue, slice_get, IsSome, refl, ap, sym, subst, ◌∙◌, arith, length-append, take-append-drop}
-use Rattle.std.proofs.lemmas.List.{length-map, map-append}
+use Rattle.fork_tree.proofs.Common.{◌≡◌, ℕ, zero, suc, ◌+◌, ◌-◌, ◌<◌, ◌≤◌, inl, inr, List, [], ◌∷◌, ◌++◌, length, map, take, drop, Option, Some, None, IsTrue, slice_get, IsSome, refl, ap, sym, subst, ◌∙◌, arith, length-append, length-map}
+use Rattle.fork_tree.proofs.Common.{map-append, Row, is_row, is_idle, with_state, RowRef, State, Ended, NewRow, plain_state, new_rows_of, waiting_row, Tree, cases_lt, length-state, get_right, there_at, one_there, slice_get_past}
+use Rattle.fork_tree.proofs.Common.{slice_get_within, get_or_from_slice_get, take_all}
+use Rattle.std.proofs.Common.{take-append-drop}
 use Rattle.fork_model.specs.Table as spec
-use Rattle.fork_model.specs.Table.{Row, is_row, is_idle}
-use Rattle.fork_model.specs.Step.{with_state}
-use Rattle.fork_tree.specs.declared.row.RowRef.{RowRef}
-use Rattle.fork_tree.specs.declared.row.State.{State}
-use Rattle.fork_tree.specs.declared.row.State.TheVariants.{Ended}
 use Rattle.fork_tree.specs.declared.row.End.{End}
-use Rattle.fork_tree.specs.declared.seat.Seat.{Seat}
-use Rattle.fork_tree.specs.States.{bare_state}
-use Rattle.fork_tree.specs.Seats.{seats_of, seated}
-use Rattle.fork_tree.specs.Given.{AreRows, IsBeside, IsFirstUnder, IsHalf, AllHalf, IsRun, IsStanding, q_of, given_row}
-use Rattle.fork_tree.specs.Tree.{Tree}
-use Rattle.fork_tree.proofs.Opening.{seats_count}
-use Rattle.fork_tree.proofs.Building.{half_with, half_append, half_seated, given_next, all_given, length_state, AreBeside}
+use Rattle.fork_tree.specs.Given.{AreRows, IsBeside, IsFirstUnder, given_row}
+use Rattle.fork_tree.specs.inner.Given.{IsHalf, AllHalf, IsRun, IsStanding, q_of}
+use Rattle.fork_tree.proofs.Opening.{new_rows_count}
+use Rattle.fork_tree.proofs.Building.{half_with, half_append, half_waiting_row, given_next, AreBeside}
+use Rattle.fork_model.proofs.laws.ChangeLemmas.{stays}
+use Rattle.std.proofs.Math.Seq.{take-suc}
 
 -- ---- lists
-
-pub below_or_not : (m n : ℕ) → (m < n) ⊎ (n ≤ m)
-below_or_not m zero = inr (omega arith)
-below_or_not zero (suc n) = inl (omega arith)
-below_or_not (suc m) (suc n) = elim (below_or_not m n) [ inl h ↦ inl (omega (arith, h)) | inr h ↦ inr (omega (arith, h)) ]
 
 pub get_drop : (xs : List RowRef) (f k n : ℕ) → n ≡ f + k → slice_get (drop f xs) k ≡ slice_get xs n
 get_drop xs zero k n e = let at : k ≡ n = omega (arith, e) in ap (slice_get xs) at
@@ -30,26 +21,12 @@ get_drop (x ∷ xs) (suc f) k zero e = absurd (omega (arith, e))
 get_drop (x ∷ xs) (suc f) k (suc n) e = get_drop xs f k n (omega (arith, e))
 
 pub take_one : (xs : List RowRef) (k : ℕ) (x : RowRef) → slice_get xs k ≡ Some x → take (suc k) xs ≡ take k xs ++ x ∷ []
-take_one [] k x is = absurd cc
-take_one (y ∷ ys) zero x is = let at : y ≡ x = cc in ap (λ z. z ∷ []) at
-take_one (y ∷ ys) (suc k) x is = ap (λ z. y ∷ z) (take_one ys k x is)
+take_one xs k x is = take-suc xs k x (slice_get_within xs k x is) ∙ ap (λ y. take k xs ++ y ∷ []) (get_or_from_slice_get xs k x x is)
 
 get_kept : (rows more : List Row) (m n : ℕ) (s : spec.State) → n < length rows → (n ≡ m → ⊥) → slice_get (with_state rows m s ++ more) n ≡ slice_get rows n
-get_kept [] more m n s l d = absurd (omega (arith, l))
-get_kept (r ∷ rs) more zero zero s l d = absurd (d refl)
-get_kept (r ∷ rs) more zero (suc n) s l d = get_left rs n (omega (arith, l))
-  where
-    get_left : (xs : List Row) (n : ℕ) → n < length xs → slice_get (xs ++ more) n ≡ slice_get xs n
-    get_left [] n l = absurd (omega (arith, l))
-    get_left (x ∷ xs) zero l = refl
-    get_left (x ∷ xs) (suc n) l = get_left xs n (omega (arith, l))
-get_kept (r ∷ rs) more (suc m) zero s l d = refl
-get_kept (r ∷ rs) more (suc m) (suc n) s l d = get_kept rs more m n s (omega (arith, l)) (λ e. d (ap suc e))
-
-get_behind : (xs ys : List Row) (n k : ℕ) → n ≡ length xs + k → slice_get (xs ++ ys) n ≡ slice_get ys k
-get_behind [] ys n k e = let at : n ≡ k = omega (arith, e) in ap (slice_get ys) at
-get_behind (x ∷ xs) ys zero k e = absurd (omega (arith, e))
-get_behind (x ∷ xs) ys (suc n) k e = get_behind xs ys n k (omega (arith, e))
+get_kept rows more m n s l d =
+    let row = there_at rows n l in
+    elim (stays rows more m s n row.0 row.1) [ inl h ↦ h ∙ sym row.1 | inr h ↦ absurd (d h.0) ]
 
 -- ---- the rows of a run stand beside one another
 
@@ -81,17 +58,16 @@ beside_first parent (x ∷ xs) (suc k) pairs all from =
     (px, from x refl px, beside_rest parent x xs k pairs all)
 
 run_half : (gs : List RowRef) (parent : Option ℕ) (first : ℕ) (qs : List ℕ) → AreRows gs → IsRun gs parent first qs → IsFirstUnder gs first parent
-    → AllHalf (map (seated parent) (seats_of qs)) (drop first gs)
+    → AllHalf (map (waiting_row parent) (new_rows_of qs)) (drop first gs)
 run_half gs parent first qs h run alone =
     let under : List RowRef = take (length qs) (drop first gs) in
     let beside : AreBeside parent None 0 under = beside_first parent (drop first gs) (length qs)
     (λ n a b i j e. h.beside (first + n) a b (sym (get_drop gs first n (first + n) refl) ∙ i) (sym (get_drop gs first (suc n) (suc (first + n)) (omega arith)) ∙ j) e)
     (λ n r l i. run.all (first + n) r (omega arith) (omega (arith, l)) (sym (get_drop gs first n (first + n) refl) ∙ i))
     (λ x i e. h.first_group first x (sym (get_drop gs first 0 first (omega arith)) ∙ i) (λ m r l k f. alone m r l k (f ∙ e))) in
-    let P : List ℕ → Type 0 = λ y. AllHalf (map (seated parent) (seats_of y)) (drop first gs) in
-    let Q : List RowRef → Type 0 = λ y. AllHalf (map (seated parent) (seats_of (map q_of under))) y in
-    subst P (sym run.each) (subst Q (take-append-drop (length qs) (drop first gs))
-    (half_seated parent None 0 0 under (drop (length qs) (drop first gs)) beside))
+    let P : List ℕ → Type 0 = λ y. AllHalf (map (waiting_row parent) (new_rows_of y)) (drop first gs) in
+    subst P (sym run.each) (subst (AllHalf (map (waiting_row parent) (new_rows_of (map q_of under)))) (take-append-drop (length qs) (drop first gs))
+    (half_waiting_row parent None 0 0 under (drop (length qs) (drop first gs)) beside))
 
 -- ---- a run and what comes after it
 
@@ -107,20 +83,20 @@ run_cut : (gs : List RowRef) (parent : Option ℕ) (first : ℕ) (qs : List ℕ)
 run_cut gs parent first qs x h run is px n c e ic m r l ir er =
     let there : slice_get gs (first + length qs) ≡ Some c = ap (slice_get gs) (sym e) ∙ ic in
     let some : 0 < length qs = run_some gs parent first qs x run is px in
-    elim (below_or_not m first) [
+    elim (cases_lt m first) [
       | inl b ↦ run.ends c there (sym er ∙ sym (h.together m first n r x c b (omega (arith, e, some)) ir is ic er) ∙ px)
       | inr b ↦ run.ends c there (sym er ∙ run.all m r b (omega (arith, l, e)) ir)
     ]
 
 -- ---- new rows wait
 
-new_idle : (parent : Option ℕ) (seats : List Seat) (n : ℕ) → n < length seats → IsTrue (is_row is_idle (slice_get (map (seated parent) seats) n))
+new_idle : (parent : Option ℕ) (new_rows : List NewRow) (n : ℕ) → n < length new_rows → IsTrue (is_row is_idle (slice_get (map (waiting_row parent) new_rows) n))
 new_idle parent [] n l = absurd (omega (arith, l))
-new_idle parent (s ∷ seats) zero l = refl
-new_idle parent (s ∷ seats) (suc n) l = new_idle parent seats n (omega (arith, l))
+new_idle parent (s ∷ new_rows) zero l = refl
+new_idle parent (s ∷ new_rows) (suc n) l = new_idle parent new_rows n (omega (arith, l))
 
-new_length : (parent : Option ℕ) (qs : List ℕ) → length (map (seated parent) (seats_of qs)) ≡ length qs
-new_length parent qs = length-map (seats_of qs) (seated parent) ∙ seats_count None 0 0 qs
+new_length : (parent : Option ℕ) (qs : List ℕ) → length (map (waiting_row parent) (new_rows_of qs)) ≡ length qs
+new_length parent qs = length-map (new_rows_of qs) (waiting_row parent) ∙ new_rows_count None 0 0 qs
 
 -- ---- the initial rows
 
@@ -131,11 +107,11 @@ initial x gs h = go x.parent refl
     go None e = refl
     go (Some m) e = absurd (omega (arith, (h.parent 0 m x refl e).older))
 
-pub standing_first : (gs : List RowRef) (qs : List ℕ) → AreRows gs → IsRun gs None 0 qs → IsStanding (map (seated None) (seats_of qs)) gs
+pub standing_first : (gs : List RowRef) (qs : List ℕ) → AreRows gs → IsRun gs None 0 qs → IsStanding (map (waiting_row None) (new_rows_of qs)) gs
 standing_first [] qs h run = record {
   half = run_half [] None 0 qs h run (λ m r l. absurd (omega (arith, l)));
   begun = λ l. absurd (omega (arith, l));
-  waits = λ n l none. new_idle None (seats_of qs) n (omega (arith, l, new_length None qs, seats_count None 0 0 qs));
+  waits = λ n l none. new_idle None (new_rows_of qs) n (omega (arith, l, new_length None qs, new_rows_count None 0 0 qs));
   cut = λ c is. absurd cc;
 }
 standing_first (x ∷ gs) qs h run =
@@ -143,39 +119,38 @@ standing_first (x ∷ gs) qs h run =
     record {
       half = run_half (x ∷ gs) None 0 qs h run (λ m r l. absurd (omega (arith, l)));
       begun = λ l. omega (arith, run_some (x ∷ gs) None 0 qs x run refl px, new_length None qs);
-      waits = λ n l none. new_idle None (seats_of qs) n (omega (arith, l, new_length None qs, seats_count None 0 0 qs));
-      cut = λ c is. run_cut (x ∷ gs) None 0 qs x h run refl px (length (map (seated None) (seats_of qs))) c (omega (arith, new_length None qs)) is;
+      waits = λ n l none. new_idle None (new_rows_of qs) n (omega (arith, l, new_length None qs, new_rows_count None 0 0 qs));
+      cut = λ c is. run_cut (x ∷ gs) None 0 qs x h run refl px (length (map (waiting_row None) (new_rows_of qs))) c (omega (arith, new_length None qs)) is;
     }
 
 -- ---- the next run
 
 pub grown_length : (rows : List Row) (m : ℕ) (s : spec.State) (qs : List ℕ)
-    → length (with_state rows m s ++ map (seated (Some m)) (seats_of qs)) ≡ length rows + length qs
+    → length (with_state rows m s ++ map (waiting_row (Some m)) (new_rows_of qs)) ≡ length rows + length qs
 grown_length rows m s qs =
-    omega (arith, length-append (with_state rows m s) (map (seated (Some m)) (seats_of qs)), length_state rows m s, new_length (Some m) qs)
+    omega (arith, length-append (with_state rows m s) (map (waiting_row (Some m)) (new_rows_of qs)), length-state rows m s, new_length (Some m) qs)
 
 pub standing_next : (rows : List Row) (gs : List RowRef) (m : ℕ) (g c : RowRef) (end : End) (qs : List ℕ) → AreRows gs → IsStanding rows gs
     → slice_get gs (length rows) ≡ Some c → c.parent ≡ Some m → slice_get gs m ≡ Some g → g.state ≡ Ended end → IsRun gs (Some m) (length rows) qs
-    → IsStanding (with_state rows m (bare_state (Ended end)) ++ map (seated (Some m)) (seats_of qs)) gs
+    → IsStanding (with_state rows m (plain_state (Ended end)) ++ map (waiting_row (Some m)) (new_rows_of qs)) gs
 standing_next rows gs m g c end qs h s ic pc ig eg run =
-    let more : List Row = map (seated (Some m)) (seats_of qs) in
-    let put : List Row = with_state rows m (bare_state g.state) in
-    let put_len : length put ≡ length rows = length_state rows m (bare_state g.state) in
+    let more : List Row = map (waiting_row (Some m)) (new_rows_of qs) in
+    let put : List Row = with_state rows m (plain_state g.state) in
+    let put_len : length put ≡ length rows = length-state rows m (plain_state g.state) in
     let more_len : length more ≡ length qs = new_length (Some m) qs in
-    let len : length (put ++ more) ≡ length rows + length qs = grown_length rows m (bare_state g.state) qs in
+    let len : length (put ++ more) ≡ length rows + length qs = grown_length rows m (plain_state g.state) qs in
     let some : 0 < length qs = run_some gs (Some m) (length rows) qs c run ic pc in
     let N : ℕ → Type 0 = λ n. AllHalf more (drop n gs) in
     let idle : (n : ℕ) → n < length (put ++ more) → IsFirstUnder gs (length (put ++ more)) (Some n) → IsTrue (is_row is_idle (slice_get (put ++ more) n)) =
-    λ n l none. elim (below_or_not n (length rows)) [
+    λ n l none. elim (cases_lt n (length rows)) [
       | inl b ↦ subst (λ (o : Option Row). IsTrue (is_row is_idle o))
-          (sym (get_kept rows more m n (bare_state g.state) b (λ e. none (length rows) c (omega (arith, len, some)) ic (pc ∙ ap Some (sym e)))))
+          (sym (get_kept rows more m n (plain_state g.state) b (λ e. none (length rows) c (omega (arith, len, some)) ic (pc ∙ ap Some (sym e)))))
           (s.waits n b (λ i r k is e. none i r (omega (arith, len, k)) is e))
       | inr b ↦ subst (λ (o : Option Row). IsTrue (is_row is_idle o))
-          (sym (get_behind put more n (n - length rows) (omega (arith, b, put_len))))
-          (new_idle (Some m) (seats_of qs) (n - length rows) (omega (arith, b, l, len, seats_count None 0 0 qs)))
+          (sym (get_right put more n (n - length rows) (omega (arith, b, put_len))))
+          (new_idle (Some m) (new_rows_of qs) (n - length rows) (omega (arith, b, l, len, new_rows_count None 0 0 qs)))
     ] in
-    let P : State → Type 0 = λ x. IsStanding (with_state rows m (bare_state x) ++ map (seated (Some m)) (seats_of qs)) gs in
-    subst P eg (record {
+    subst (λ (x : State). IsStanding (with_state rows m (plain_state x) ++ map (waiting_row (Some m)) (new_rows_of qs)) gs) eg (record {
       half = half_append put more gs (half_with rows gs m g s.half ig)
           (subst N (sym put_len) (run_half gs (Some m) (length rows) qs h run (λ i r l is e. s.cut c ic i r l is (e ∙ sym pc))));
       begun = λ l. omega (arith, len, some);
@@ -198,13 +173,11 @@ run_more gs first i qs x count each is =
 pub all_more : (gs : List RowRef) (parent : Option ℕ) (first i : ℕ) (x : RowRef) → ((n : ℕ) (r : RowRef) → first ≤ n → n < i → slice_get gs n ≡ Some r → r.parent ≡ parent)
     → slice_get gs i ≡ Some x → x.parent ≡ parent → (n : ℕ) (r : RowRef) → first ≤ n → n < i + 1 → slice_get gs n ≡ Some r → r.parent ≡ parent
 all_more gs parent first i x all ix px n r f l is =
-    elim (below_or_not n i) [
+    elim (cases_lt n i) [
       | inl b ↦ all n r f b is
       | inr b ↦
           let e : n ≡ i = omega (arith, l, b) in
-          let same : Some r ≡ Some x = sym is ∙ ap (slice_get gs) e ∙ ix in
-          let rx : r ≡ x = cc in
-          ap (λ (y : RowRef). y.parent) rx ∙ px
+          ap (λ (y : RowRef). y.parent) (one_there gs n r x is (ap (slice_get gs) e ∙ ix)) ∙ px
     ]
 
 -- it ends before a row of another parent, or with the last row
@@ -219,12 +192,7 @@ run_ends gs parent first i qs count each all few ends = record {
 }
 
 pub past_end : (gs : List RowRef) (i : ℕ) (r : RowRef) → length gs ≤ i → slice_get gs i ≡ Some r → ⊥
-past_end [] i r l is = cc
-past_end (x ∷ gs) zero r l is = absurd (omega (arith, l))
-past_end (x ∷ gs) (suc i) r l is = past_end gs i r (omega (arith, l)) is
-
-pub same_row : (x y : RowRef) (gs : List RowRef) (i : ℕ) → slice_get gs i ≡ Some x → slice_get gs i ≡ Some y → x ≡ y
-same_row x y gs i ix iy = let same : Some x ≡ Some y = sym ix ∙ iy in cc
+past_end gs i r l is = let none : None ≡ Some r = sym (slice_get_past gs i l) ∙ is in cc
 
 -- ---- what stands has its rows
 
@@ -268,19 +236,18 @@ pub record IsSettled (rules : spec.Rules) (gs : List RowRef) (i : ℕ) (t : Tree
   pub settled : take i t.rows ≡ take i (map given_row gs)
 
 pub settled_next : (rules : spec.Rules) (gs : List RowRef) (i : ℕ) (t new : Tree) (g : RowRef) → AreRows gs → IsSettled rules gs i t → slice_get gs i ≡ Some g
-    → new ≡ record t { rows = with_state t.rows g.no (bare_state g.state) } → IsSettled rules gs (i + 1) new
+    → new ≡ record t { rows = with_state t.rows g.no (plain_state g.state) } → IsSettled rules gs (i + 1) new
 settled_next rules gs i t new g h s is e =
-    let rows : List Row = with_state t.rows i (bare_state g.state) in
-    let at : new ≡ record t { rows = rows } = e ∙ ap (λ (k : ℕ). record t { rows = with_state t.rows k (bare_state g.state) }) (h.number i g is) in
+    let rows : List Row = with_state t.rows i (plain_state g.state) in
+    let at : new ≡ record t { rows = rows } = e ∙ ap (λ (k : ℕ). record t { rows = with_state t.rows k (plain_state g.state) }) (h.number i g is) in
     let one : suc i ≡ i + 1 = omega arith in
-    let len : length rows ≡ length t.rows = length_state t.rows i (bare_state g.state) in
+    let len : length rows ≡ length t.rows = length-state t.rows i (plain_state g.state) in
     let next : take (suc i) rows ≡ take (suc i) (map given_row gs) =
     elim (given_next t.rows gs i g s.half is s.settled) [
       | inl f ↦ f
       | inr f ↦ absurd (past_end gs i g (omega (arith, f, s.count)) is)
     ] in
-    let P : Tree → Type 0 = λ x. IsSettled rules gs (i + 1) x in
-    subst P (sym at) (record {
+    subst (IsSettled rules gs (i + 1)) (sym at) (record {
       rules_kept = s.rules_kept;
       half = half_with t.rows gs i g s.half is;
       count = len ∙ s.count;
@@ -290,5 +257,5 @@ settled_next rules gs i t new g h s is e =
 pub all_settled : (rules : spec.Rules) (gs : List RowRef) (i : ℕ) (t : Tree) → IsSettled rules gs i t → length gs ≤ i → t ≡ record { rules = rules; rows = map given_row gs }
 all_settled rules gs i t s le =
     let rows : t.rows ≡ map given_row gs =
-    all_given t.rows (map given_row gs) i s.settled (omega (arith, s.count, le)) (omega (arith, length-map gs given_row, le)) in
+    sym (take_all i t.rows (omega (arith, s.count, le))) ∙ s.settled ∙ take_all i (map given_row gs) (omega (arith, length-map gs given_row, le)) in
     ap (λ (r : spec.Rules). record { rules = r; rows = t.rows }) s.rules_kept ∙ ap (λ (r : List Row). record { rules = rules; rows = r }) rows

@@ -1,11 +1,7 @@
 -- The rows of a group that may start, tried one after another.
-use Rattle.std.proofs.Common.{◌≡◌, ℕ, zero, suc, ◌+◌, ◌<◌, ◌≤◌, true, IsTrue, ◌-◌, List, [], ◌∷◌, Option, Some, None, slice_get, refl, ap, sym, subst, ◌∙◌, arith}
-use Rattle.fork_model.specs.Table.{Row, Trying, is_idle, is_row}
-use Rattle.fork_model.specs.Step.{with_state}
-use Rattle.fork_model.proofs.WaitingLemmas.{may_start_facts}
-use Rattle.fork_tree.specs.Tree.{Tree}
-use Rattle.fork_tree.specs.Ready.{IsReady, tried}
-use Rattle.fork_tree.proofs.Mates.{row_there}
+use Rattle.fork_tree.proofs.Common.{◌≡◌, ℕ, zero, suc, ◌+◌, ◌<◌, ◌≤◌, true, IsTrue, ◌-◌, List, [], ◌∷◌, Option, Some, None, slice_get, refl, ap, sym, subst, ◌∙◌, arith, Row, is_idle, is_row, with_state, may_start_facts, Tree, IsReady}
+use Rattle.fork_tree.proofs.Common.{tried, there_at}
+use Rattle.fork_model.specs.Table.{Trying}
 
 -- ---- the rows of a group tried one after another
 
@@ -17,19 +13,16 @@ tried_none (row ∷ rows) (suc first) = ap (λ r. row ∷ r) (tried_none rows fi
 pub tried_more : (rows : List Row) (first count k : ℕ) → k ≡ first + count → with_state (tried rows first count) k Trying ≡ tried rows first (suc count)
 tried_more [] first count k e = refl
 tried_more (row ∷ rows) zero zero zero e = ap (λ r. record row { state = Trying } ∷ r) (sym (tried_none rows zero))
-tried_more (row ∷ rows) zero zero (suc k) e = absurd (omega (arith, e))
-tried_more (row ∷ rows) zero (suc count) zero e = absurd (omega (arith, e))
 tried_more (row ∷ rows) zero (suc count) (suc k) e = ap (λ r. record row { state = Trying } ∷ r) (tried_more rows zero count k (omega (arith, e)))
-tried_more (row ∷ rows) (suc first) count zero e = absurd (omega (arith, e))
 tried_more (row ∷ rows) (suc first) count (suc k) e = ap (λ r. row ∷ r) (tried_more rows first count k (omega (arith, e)))
+tried_more (row ∷ rows) first count k e = absurd (omega (arith, e))
 
 pub tried_later : (rows : List Row) (first count k : ℕ) → first + count ≤ k → slice_get (tried rows first count) k ≡ slice_get rows k
 tried_later [] first count k le = refl
 tried_later (row ∷ rows) zero zero k le = refl
-tried_later (row ∷ rows) zero (suc count) zero le = absurd (omega (arith, le))
 tried_later (row ∷ rows) zero (suc count) (suc k) le = tried_later rows zero count k (omega (arith, le))
-tried_later (row ∷ rows) (suc first) count zero le = absurd (omega (arith, le))
 tried_later (row ∷ rows) (suc first) count (suc k) le = tried_later rows first count k (omega (arith, le))
+tried_later (row ∷ rows) first count k le = absurd (omega (arith, le))
 
 -- ---- one row of a group after another
 
@@ -47,7 +40,7 @@ idle_there (Some r) row e h =
 pub still_waits : (rows : List Row) (first end n : ℕ) → IsReady rows first (end - first) → first ≤ n → n < end
     → IsTrue (is_row is_idle (slice_get (tried rows first (n - first)) n))
 still_waits rows first end n ready low high =
-    let at : (row : Row) × (slice_get rows n ≡ Some row) = row_there rows n (omega (arith, ready.within, low, high)) in
+    let at : (row : Row) × (slice_get rows n ≡ Some row) = there_at rows n (omega (arith, ready.within, low, high)) in
     idle_there (slice_get (tried rows first (n - first)) n) at.0 (tried_later rows first (n - first) n (omega (arith, low)) ∙ at.1)
     (may_start_facts rows at.0 (ready.ready n at.0 low (omega (arith, low, high)) at.1)).idle
 

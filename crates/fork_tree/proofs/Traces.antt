@@ -1,7 +1,5 @@
 -- The path that the code finds.
-use Rattle.std.proofs.Common.{◌≡◌, ℕ, zero, suc, ◌<◌, List, [], ◌∷◌, ◌++◌, Option, Some, None, slice_get, refl, ap, sym, ◌∙◌, arith, append_assoc}
-use Rattle.fork_tree.specs.declared.place.Place.{Place}
-use Rattle.fork_tree.specs.Places.{above, path_at, path_to, path_of, AreOlder}
+use Rattle.fork_tree.proofs.Common.{◌≡◌, ℕ, zero, suc, ◌<◌, List, [], ◌∷◌, ◌++◌, Option, Some, None, slice_get, refl, ap, sym, ◌∙◌, arith, append_assoc, Place, above, path_at, path_to, path_of, AreOlder}
 
 -- more steps change no path
 pub path_steps : (all : List Place) (k l n : ℕ) → AreOlder all → n < k → n < l → path_to all k n ≡ path_to all l n
@@ -41,3 +39,8 @@ pub traced_top : (all : List Place) (n : ℕ) (p : Place) (old mid last : List �
     → mid ≡ old → last ≡ (mid ++ p.group ∷ []) ++ p.place ∷ [] → last ≡ old ++ path_of all n
 traced_top all n p old mid last is up e l =
     l ∙ append_assoc mid (p.group ∷ []) (p.place ∷ []) ∙ ap (λ x. x ++ p.group ∷ p.place ∷ []) e ∙ ap (λ x. old ++ x) (sym (path_top all n p is up))
+
+-- the path found in an empty list
+pub path_traced : (all seen : List Place) (n : ℕ) (path items old : List ℕ) → path ≡ items → items ≡ old ++ path_of seen n → old ≡ [] → seen ≡ all
+    → path ≡ path_of all n
+path_traced all seen n path items old e f g h = e ∙ f ∙ ap (λ x. x ++ path_of seen n) g ∙ ap (λ x. path_of x n) h

@@ -1,10 +1,7 @@
 -- The branches below a path.
-use Rattle.std.proofs.Common.{◌≡◌, ℕ, zero, suc, ◌+◌, ◌<◌, Bool, true, false, IsTrue, List, [], ◌∷◌, ◌++◌, length, map, Option, Some, None, refl, ap, sym, subst, ◌∙◌, arith, get_or, if◌then◌else◌}
-use Rattle.std.specs.Prelude.{eqb, is_some}
-use Rattle.std.proofs.lemmas.Bool.{eq-eqb, eqb-true}
-use Rattle.fork_tree.specs.Rows.{Cell, Entry, pushed, joined, same, find}
-use Rattle.fork_tree.specs.Below.{stripped, put_under, under}
-use Rattle.fork_tree.proofs.Grafts.{eqb_differ, find_joined, get_same}
+use Rattle.fork_tree.proofs.Common.{◌≡◌, ℕ, zero, suc, ◌+◌, ◌<◌, Bool, true, false, IsTrue, List, [], ◌∷◌, ◌++◌, length, map, Option, Some, None, refl, ap, sym, subst, ◌∙◌, arith, get_or, if◌then◌else◌, eqb, is_some, eq-eqb, eqb-true, Cell}
+use Rattle.fork_tree.proofs.Common.{Entry, same, find, pushed, joined, stripped, put_under, under, ne_eqb, get_or_default, append-nil}
+use Rattle.fork_tree.proofs.BranchChanges.{find_joined}
 use Rattle.fork_tree.proofs.Placed.{same_true}
 use Rattle.fork_tree.proofs.Ends.{same_led}
 
@@ -26,9 +23,7 @@ strip_on q (Some r) = stripped q r
 stripped_more : (p q path : List ℕ) → stripped (p ++ q) path ≡ strip_on q (stripped p path)
 stripped_more [] q path = refl
 stripped_more (x ∷ xs) q [] = refl
-stripped_more (x ∷ xs) q (y ∷ ys) =
-    elim (eqb x y) as (λ t. (if t then stripped (xs ++ q) ys else None) ≡ strip_on q (if t then stripped xs ys else None))
-    [ true ↦ stripped_more xs q ys | false ↦ refl ]
+stripped_more (x ∷ xs) q (y ∷ ys) = grind (arith, stripped_more xs q ys)
 
 same_put : (o : Option (List ℕ)) (e f : Entry) (rest : List Entry) → e.cell ≡ f.cell → put_under o e rest ≡ put_under o f rest
 same_put None e f rest h = refl
@@ -54,7 +49,7 @@ under_pushed k p (e ∷ es) =
 under_other : (j k : ℕ) (p : List ℕ) (rows : List Entry) → (j ≡ k → ⊥) → under (k ∷ p) (map (pushed j) rows) ≡ []
 under_other j k p [] h = refl
 under_other j k p (e ∷ es) h =
-    ap (λ (t : Bool). put_under (if t then stripped p e.path else None) (pushed j e) (under (k ∷ p) (map (pushed j) es))) (eqb_differ k j (λ f. h (sym f)))
+    ap (λ (t : Bool). put_under (if t then stripped p e.path else None) (pushed j e) (under (k ∷ p) (map (pushed j) es))) (ne_eqb k j (λ f. h (sym f)))
     ∙ under_other j k p es h
 
 under_later : (j k : ℕ) (parts : List (List Entry)) (p : List ℕ) → k < j → under (k ∷ p) (joined j parts) ≡ []
@@ -68,15 +63,10 @@ pub under_joined : (j i k : ℕ) (parts : List (List Entry)) (p : List ℕ) → 
 under_joined j i k [] p e = refl
 under_joined j zero k (x ∷ xs) p e =
     let at : k ≡ j = omega (arith, e) in
-    let P : ℕ → Type 0 = λ n. under (n ∷ p) (map (pushed j) x ++ joined (suc j) xs) ≡ under p x in
-    subst P (sym at)
+    subst (λ (n : ℕ). under (n ∷ p) (map (pushed j) x ++ joined (suc j) xs) ≡ under p x) (sym at)
     (under_append (j ∷ p) (map (pushed j) x) (joined (suc j) xs)
     ∙ ap (λ r. under (j ∷ p) (map (pushed j) x) ++ r) (under_later (suc j) j xs p (omega arith))
-    ∙ append_none (under (j ∷ p) (map (pushed j) x)) ∙ under_pushed j p x)
-  where
-    append_none : (xs : List Entry) → xs ++ [] ≡ xs
-    append_none [] = refl
-    append_none (x ∷ xs) = ap (λ r. x ∷ r) (append_none xs)
+    ∙ append-nil (under (j ∷ p) (map (pushed j) x)) ∙ under_pushed j p x)
 under_joined j (suc i) k (x ∷ xs) p e =
     under_append (k ∷ p) (map (pushed j) x) (joined (suc j) xs)
     ∙ ap (λ r. r ++ under (k ∷ p) (joined (suc j) xs)) (under_other j k p x (λ h. omega (arith, h, e)))
@@ -96,23 +86,24 @@ inside (suc i) (x ∷ xs) path h = omega (arith, inside i xs path h)
 -- the part of this number is there where something stands in it
 pub child_in : (rows : List Entry) (parts : List (List Entry)) (i : ℕ) (path : List ℕ) → joined 0 parts ≡ rows → IsTrue (is_some (find rows (i ∷ path))) → i < length parts
 child_in rows parts i path v h =
-    let P : Option Cell → Type 0 = λ x. IsTrue (is_some x) in
-    inside i parts path (subst P (sym (ap (λ r. find r (i ∷ path)) v) ∙ find_joined 0 i i parts path (omega arith)) h)
+    inside i parts path (subst (λ (x : Option Cell). IsTrue (is_some x)) (sym (ap (λ r. find r (i ∷ path)) v) ∙ find_joined 0 i i parts path (omega arith)) h)
 
 pub child_there : (rows : List Entry) (parts : List (List Entry)) (i : ℕ) (part : List Entry) (path : List ℕ) → joined 0 parts ≡ rows → part ≡ get_or parts i part
     → IsTrue (is_some (find rows (i ∷ path))) → IsTrue (is_some (find part path))
 child_there rows parts i part path v is h =
     let P : Option Cell → Type 0 = λ x. IsTrue (is_some x) in
-    subst P (sym (ap (λ r. find r (i ∷ path)) v) ∙ find_joined 0 i i parts path (omega arith) ∙ ap (λ x. find x path) (sym (is ∙ get_same parts i part (child_in rows parts i path v h)))) h
+    subst P (sym (ap (λ r. find r (i ∷ path)) v) ∙ find_joined 0 i i parts path (omega arith)
+    ∙ ap (λ x. find x path) (sym (is ∙ get_or_default parts i part [] (child_in rows parts i path v h)))) h
 
 pub child_under : (rows : List Entry) (parts : List (List Entry)) (i : ℕ) (part : List Entry) (path : List ℕ) → joined 0 parts ≡ rows → part ≡ get_or parts i part
     → IsTrue (is_some (find rows (i ∷ path))) → under path part ≡ under (i ∷ path) rows
 child_under rows parts i part path v is h =
-    ap (under path) (is ∙ get_same parts i part (child_in rows parts i path v h)) ∙ sym (under_joined 0 i i parts path (omega arith)) ∙ ap (under (i ∷ path)) v
+    ap (under path) (is ∙ get_or_default parts i part [] (child_in rows parts i path v h)) ∙ sym (under_joined 0 i i parts path (omega arith))
+    ∙ ap (under (i ∷ path)) v
 
 pub part_under : (rows : List Entry) (parts : List (List Entry)) (i : ℕ) (part : List Entry) → joined 0 parts ≡ rows → part ≡ get_or parts i part → i < length parts → part ≡ under (i ∷ []) rows
 part_under rows parts i part v is lt =
-    sym (under_none part) ∙ ap (under []) (is ∙ get_same parts i part lt) ∙ sym (under_joined 0 i i parts [] (omega arith)) ∙ ap (under (i ∷ [])) v
+    sym (under_none part) ∙ ap (under []) (is ∙ get_or_default parts i part [] lt) ∙ sym (under_joined 0 i i parts [] (omega arith)) ∙ ap (under (i ∷ [])) v
 
 -- ---- below what is below
 

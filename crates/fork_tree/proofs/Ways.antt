@@ -1,28 +1,17 @@
 -- Each row that may start is met on the way up from a row that ended.
-use Rattle.std.proofs.Common.{◌≡◌, ℕ, zero, suc, ◌+◌, ◌<◌, ◌≤◌, ◌⊎◌, inl, inr, Bool, true, false, IsTrue, List, [], ◌∷◌, ◌++◌, length, map, Option, Some, None, slice_get, refl, ap, sym, subst, ◌∙◌, arith, if◌then◌else◌, eqb-true}
-use Rattle.std.specs.Prelude.{eqb}
-use Rattle.fork_model.specs.Table.{Row, is_open, State, Idle, Trying, Rung, Ended, is_idle, is_ended, is_row}
-use Rattle.fork_model.specs.Waiting.{goes_before, parent_ended, may_start}
-use Rattle.fork_model.proofs.StepLemmas.{and_left}
-use Rattle.fork_model.proofs.ChangeLemmas.{Found, found}
-use Rattle.fork_model.proofs.WaitingLemmas.{MayStart, may_start_facts, may_start_of, idle_not_ended}
-use Rattle.fork_tree.specs.declared.seat.Seat.{Seat}
-use Rattle.fork_tree.specs.declared.place.Place.{Place}
+use Rattle.fork_tree.proofs.Common.{◌≡◌, ℕ, zero, suc, ◌+◌, ◌<◌, ◌≤◌, ◌⊎◌, inl, inr, Bool, true, false, IsTrue, List, [], ◌∷◌, ◌++◌, map, Option, Some, None, slice_get, refl, ap, sym, subst, ◌∙◌, arith, if◌then◌else◌, eqb, Row, is_open}
+use Rattle.fork_tree.proofs.Common.{is_idle, is_ended, is_row, goes_before, parent_ended, and_left, MayStart, may_start_facts, may_start_of, or_cases, option_same, NewRow, Place, Entry, rows_of, AreOlder, plain_state, has_ended, open_rows}
+use Rattle.fork_tree.proofs.Common.{is_unended, with_state, append-nil, waiting_row, parent_of, from_parent, leads, open_below, never_tried, closed_row, IsOnWay, AreMet, IsKnown, AreKnown, NoneUnder, eqb-true, idle_not_ended}
+use Rattle.fork_tree.proofs.Common.{slice_get_within, there_at, one_there, false_from_ne_true}
+use Rattle.fork_model.specs.Table.{State, Idle}
+use Rattle.fork_model.specs.Waiting.{may_start}
+use Rattle.fork_model.proofs.laws.ChangeLemmas.{Found, found, AreBelow}
 use Rattle.fork_tree.specs.declared.row.State as row_state
-use Rattle.fork_tree.specs.Rows.{Entry}
-use Rattle.fork_tree.specs.Places.{rows_of, AreOlder}
-use Rattle.fork_tree.specs.States.{bare_state, has_ended}
-use Rattle.fork_tree.specs.Tree.{is_unended, open_rows}
-use Rattle.fork_model.specs.Step.{with_state}
-use Rattle.std.proofs.lemmas.List.{append-nil}
-use Rattle.fork_tree.proofs.Placed.{ended_bare}
-use Rattle.fork_tree.specs.Seats.{seated}
-use Rattle.fork_tree.specs.Below.{parent_of, from_parent, leads, open_below}
-use Rattle.fork_tree.specs.Closing.{never_tried, closed_row}
-use Rattle.fork_tree.specs.Search.{IsOnWay, IsMet, AreMet, NoneUnder, IsKnown, AreKnown}
-use Rattle.fork_tree.proofs.Lines.{or_cases, leads_enough, AreOlderRows, IsBefore, before_found, up_in, none_below, lies_here}
-use Rattle.fork_tree.proofs.Mates.{row_there, older_rows}
-use Rattle.fork_tree.proofs.Known.{not_true, differ, one_row, option_same, StandsSo, KeepsPlaces, leads_more, up_later, Moves, may_back, IsStep, kept, changed, places_kept, row_less, top_parent, OpenRow, open_of_row, TriedRow, tried_row, seats_below, ended_busy, none_new}
+use Rattle.fork_tree.proofs.Placed.{ended_plain}
+use Rattle.fork_tree.specs.Search.{IsMet}
+use Rattle.fork_tree.proofs.Lines.{leads_enough, AreOlderRows, IsBefore, before_found, up_in, none_below, lies_here}
+use Rattle.fork_tree.proofs.GroupNumbers.{older_rows}
+use Rattle.fork_tree.proofs.Known.{differ, StandsSo, KeepsPlaces, leads_more, up_later, Moves, may_back, IsStep, kept, changed, places_kept, top_parent, new_rows_below, ended_busy, none_new, some_row}
 
 -- ---- the ways stay
 
@@ -35,7 +24,7 @@ way_kept rows later (Some n) parent keeps (inr h) =
       number = h.number;
       row = s.new;
       there = s.there;
-      beside = s.mates.0 ∙ h.beside;
+      beside = s.members.0 ∙ h.beside;
       below = leads_more (up_in rows) (up_in later) h.number n n (up_later rows later keeps) h.below;
     })
 
@@ -47,7 +36,7 @@ way_up rows n row parent older is (inr h) = inr (at n refl h.below)
   where
     here : eqb n h.number ≡ true → IsOnWay rows row.parent parent
     here e =
-        let same : h.row ≡ row = one_row rows n h.row row (ap (slice_get rows) (eqb-true n h.number e) ∙ h.there) is in
+        let same : h.row ≡ row = one_there rows n h.row row (ap (slice_get rows) (eqb-true n h.number e) ∙ h.there) is in
         own row.parent (sym h.beside ∙ ap (λ (r : Row). r.parent) same)
       where
         own : (o : Option ℕ) → parent ≡ o → IsOnWay rows o parent
@@ -87,8 +76,8 @@ met_cases rows (y ∷ recent) x parent (inr h) = elim (met_cases rows recent x p
 
 -- ---- at first, at last, and where nothing is found on a way
 
-pub met_new : (rows : List Row) (seats : List Seat) → rows ≡ map (seated None) seats → AreMet rows (None ∷ [])
-met_new rows seats made k row is may = inl (top_parent seats k row (ap (λ (x : List Row). slice_get x k) (sym made) ∙ is))
+pub met_new : (rows : List Row) (new_rows : List NewRow) → rows ≡ map (waiting_row None) new_rows → AreMet rows (None ∷ [])
+met_new rows new_rows made k row is may = inl (top_parent new_rows k row (ap (λ (x : List Row). slice_get x k) (sym made) ∙ is))
 
 pub met_pop : (rows : List Row) (recent : List (Option ℕ)) (x : Option ℕ) → AreMet rows (recent ++ x ∷ [])
     → ((parent : Option ℕ) → IsOnWay rows x parent → NoneUnder rows parent) → AreMet rows recent
@@ -96,7 +85,7 @@ met_pop rows recent x met none k row is may =
     elim (met_cases rows recent x row.parent (met k row is may)) [ inl h ↦ h | inr h ↦ absurd (none row.parent h k row is refl may) ]
 
 pub none_met : (rows : List Row) → AreMet rows [] → (k : ℕ) (row : Row) → slice_get rows k ≡ Some row → may_start rows row ≡ false
-none_met rows met k row is = not_true (may_start rows row) (λ may. met k row is may)
+none_met rows met k row is = false_from_ne_true (may_start rows row) (λ may. met k row is may)
 
 -- ---- one row comes into another state, and new ones may come below it
 
@@ -127,9 +116,8 @@ met_step rows later fresh n rn s recent step busy met k row is e =
             there = h.1;
             busy = busy;
             free = λ goes ends.
-                (let same : other ≡ rn = one_row rows n other rn (ap (slice_get rows) (sym h.0) ∙ there) step.there in
-                let P : Row → Type 0 = λ r. goes_before rows r row ≡ true in
-                absurd (free ends (subst P same goes)));
+                (let same : other ≡ rn = one_there rows n other rn (ap (slice_get rows) (sym h.0) ∙ there) step.there in
+                absurd (free ends (subst (λ (r : Row). goes_before rows r row ≡ true) same goes)));
           })
         ]
 
@@ -153,7 +141,8 @@ met_step rows later fresh n rn s recent step busy met k row is e =
     parent : slice_get rows k ≡ Some row → MayStart later row → (p : Option ℕ) → row.parent ≡ p → Met
     parent here may None up = split here may (ap (parent_ended rows) up) (is_ended s) (goes_before rows rn row) refl refl
     parent here may (Some m) up =
-        let above : (r : Row) × (slice_get rows m ≡ Some r) = row_there rows m (omega (arith, step.older k m (ap parent_of here ∙ up), row_less rows k row here)) in
+        let above : (r : Row) × (slice_get rows m ≡ Some r) =
+        there_at rows m (omega (arith, step.older k m (ap parent_of here ∙ up), slice_get_within rows k row here)) in
         elim (kept rows later fresh n rn s step m above.0 above.1) [
           | inl h ↦ split here may
               (ap (parent_ended rows) up ∙ ap (is_row is_ended) above.1 ∙ sym (ap (is_row is_ended) h) ∙ sym (ap (parent_ended later) up) ∙ may.parent)
@@ -185,7 +174,7 @@ idle_open rows k row older is waits none = idle_not_ended row.state waits (none_
 
 pub none_open : (rows : List Row) → open_rows rows ≡ 0 → (k : ℕ) (row : Row) → slice_get rows k ≡ Some row → may_start rows row ≡ false
 none_open rows none k row is =
-    not_true (may_start rows row) (λ may. idle_not_ended row.state (may_start_facts rows row may).idle (ended rows k none is))
+    false_from_ne_true (may_start rows row) (λ may. idle_not_ended row.state (may_start_facts rows row may).idle (ended rows k none is))
   where
     one : (b : Bool) (rest : ℕ) → (if b then 0 else 1) + rest ≡ 0 → (b ≡ true) × (rest ≡ 0)
     one true rest e = (refl, omega (arith, e))
@@ -202,10 +191,8 @@ pub met_closed : (rows later : List Row) → later ≡ map closed_row rows → A
 met_closed rows later made k row is may = closed rows k (ap (λ (x : List Row). slice_get x k) (sym made) ∙ is) (may_start_facts later row may).idle
   where
     busy : (s : State) → is_idle (never_tried s) ≡ true → ⊥
-    busy Idle e = absurd cc
-    busy Trying e = absurd cc
-    busy (Rung c) e = absurd cc
-    busy (Ended end) e = absurd cc
+    busy Idle e = cc
+    busy s e = cc
 
     closed : (rows : List Row) (k : ℕ) → slice_get (map closed_row rows) k ≡ Some row → is_idle row.state ≡ true → ⊥
     closed [] k is e = absurd cc
@@ -229,39 +216,41 @@ known_pop n (y ∷ recent) x h = let rest = known_pop n recent x h.1 in ((h.0, r
 
 -- ---- of a tree
 
-pub tree_met_set : (all : List Place) (root new : List Entry) (now : List Row) (n : ℕ) (s : row_state.State) (recent : List (Option ℕ)) → AreOlder all → rows_of all root ≡ now
-    → AreMet (rows_of all root) recent → IsTrue (is_row is_unended (slice_get now n)) → rows_of all new ≡ with_state (rows_of all root) n (bare_state s) → has_ended s ≡ false
-    → is_idle (bare_state s) ≡ false → AreMet (rows_of all new) recent
-tree_met_set all root new now n s recent older v met there made on busy =
-    let P : List Row → Type 0 = λ x. IsTrue (is_row is_unended (slice_get x n)) in
-    let r : OpenRow (slice_get (rows_of all root) n) = open_of_row (slice_get (rows_of all root) n) (subst P (sym v) there) in
-    met_set (rows_of all root) (rows_of all new) n r.row (bare_state s) recent
-    (record {
-      there = r.there;
-      unended = r.unended;
-      made = made ∙ sym (append-nil (with_state (rows_of all root) n (bare_state s)));
-      below = λ k row is. absurd (none_new k row is);
-      older = older_rows all root (rows_of all root) older refl;
-      olds = older_rows all new (rows_of all new) older refl;
-    })
-    busy (ended_bare s ∙ on) met
+tree_step : (all more : List Place) (root new : List Entry) (now fresh : List Row) (n : ℕ) (s : row_state.State) (test : State → Bool) → AreOlder all
+    → AreOlder more → rows_of all root ≡ now
+    → IsTrue (is_row test (slice_get now n)) → rows_of more new ≡ with_state (rows_of all root) n (plain_state s) ++ fresh
+    → AreBelow (Some n) (plain_state s) fresh
+    → (rn : Row) × IsStep (rows_of all root) (rows_of more new) fresh n rn (plain_state s)
+tree_step all more root new now fresh n s test older olds v there made below =
+    let r = some_row test (slice_get (rows_of all root) n) (subst (λ (x : List Row). IsTrue (is_row test (slice_get x n))) (sym v) there) in (
+      r.0,
+      record {
+        there = r.1;
+        made = made;
+        below = below;
+        older = older_rows all root (rows_of all root) older refl;
+        olds = older_rows more new (rows_of more new) olds refl;
+      },
+    )
 
-pub tree_met_end : (all more : List Place) (root new : List Entry) (now : List Row) (seats : List Seat) (n : ℕ) (s : row_state.State) (recent : List (Option ℕ)) → AreOlder all → AreOlder more
+pub tree_met_set : (all : List Place) (root new : List Entry) (now : List Row) (n : ℕ) (s : row_state.State) (recent : List (Option ℕ)) → AreOlder all → rows_of all root ≡ now
+    → AreMet (rows_of all root) recent → IsTrue (is_row is_unended (slice_get now n)) → rows_of all new ≡ with_state (rows_of all root) n (plain_state s) → has_ended s ≡ false
+    → is_idle (plain_state s) ≡ false → AreMet (rows_of all new) recent
+tree_met_set all root new now n s recent older v met there made on busy =
+    let step =
+    tree_step all all root new now [] n s is_unended older older v there (made ∙ sym (append-nil (with_state (rows_of all root) n (plain_state s))))
+    (λ k row is. absurd (none_new k row is)) in
+    met_set (rows_of all root) (rows_of all new) n step.0 (plain_state s) recent step.1 busy (ended_plain s ∙ on) met
+
+pub tree_met_end : (all more : List Place) (root new : List Entry) (now : List Row) (new_rows : List NewRow) (n : ℕ) (s : row_state.State) (recent : List (Option ℕ)) → AreOlder all → AreOlder more
     → rows_of all root ≡ now → AreMet (rows_of all root) recent → IsTrue (is_row is_open (slice_get now n))
-    → rows_of more new ≡ with_state (rows_of all root) n (bare_state s) ++ map (seated (Some n)) seats → has_ended s ≡ true → AreMet (rows_of more new) (recent ++ Some n ∷ [])
-tree_met_end all more root new now seats n s recent older olds v met there made ends =
-    let P : List Row → Type 0 = λ x. IsTrue (is_row is_open (slice_get x n)) in
-    let r : TriedRow (slice_get (rows_of all root) n) = tried_row (slice_get (rows_of all root) n) (subst P (sym v) there) in
-    met_ended (rows_of all root) (rows_of more new) (map (seated (Some n)) seats) n r.row (bare_state s) recent
-    (record {
-      there = r.there;
-      unended = r.unended;
-      made = made;
-      below = seats_below n seats (bare_state s) (ended_bare s ∙ ends);
-      older = older_rows all root (rows_of all root) older refl;
-      olds = older_rows more new (rows_of more new) olds refl;
-    })
-    (ended_busy (bare_state s) (ended_bare s ∙ ends)).0 met
+    → rows_of more new ≡ with_state (rows_of all root) n (plain_state s) ++ map (waiting_row (Some n)) new_rows → has_ended s ≡ true → AreMet (rows_of more new) (recent ++ Some n ∷ [])
+tree_met_end all more root new now new_rows n s recent older olds v met there made ends =
+    let step =
+    tree_step all more root new now (map (waiting_row (Some n)) new_rows) n s is_open older olds v there made
+    (new_rows_below n new_rows (plain_state s) (ended_plain s ∙ ends)) in
+    met_ended (rows_of all root) (rows_of more new) (map (waiting_row (Some n)) new_rows) n step.0 (plain_state s) recent step.1
+    (ended_busy (plain_state s) (ended_plain s ∙ ends)).0 met
 
 pub with_same : (rows : List Row) (n : ℕ) → is_row is_idle (slice_get rows n) ≡ true → rows ≡ with_state rows n Idle
 with_same [] n e = refl
@@ -269,11 +258,5 @@ with_same (r ∷ rs) zero e = go r.state refl e
   where
     go : (s : State) → r.state ≡ s → is_idle r.state ≡ true → r ∷ rs ≡ record r { state = Idle } ∷ rs
     go Idle at e = ap (λ (x : State). record r { state = x } ∷ rs) at
-    go Trying at e = (let bad : false ≡ true = sym (ap is_idle at) ∙ e in absurd cc)
-    go (Rung c) at e = (let bad : false ≡ true = sym (ap is_idle at) ∙ e in absurd cc)
-    go (Ended end) at e = (let bad : false ≡ true = sym (ap is_idle at) ∙ e in absurd cc)
+    go s at e = (let bad : false ≡ true = sym (ap is_idle at) ∙ e in absurd cc)
 with_same (r ∷ rs) (suc n) e = ap (λ x. r ∷ x) (with_same rs n e)
-
-pub empty_list : (recent : List (Option ℕ)) → length recent ≡ 0 → recent ≡ []
-empty_list [] e = refl
-empty_list (x ∷ recent) e = absurd (omega (arith, e))

@@ -3,10 +3,10 @@ use Rattle.std.specs.Prelude.{◌≡◌, ◌<◌, ◌≤◌, ◌+◌, ℕ, zero,
 use Rattle.fork_model.specs.Table.{Row, Rules, is_ended}
 use Rattle.fork_model.specs.Rank.{Score, Before}
 use Rattle.fork_model.specs.Choice.{HasScore}
-use Rattle.fork_tree.specs.declared.best.Kept.{Kept}
-use Rattle.fork_tree.specs.declared.best.BestRef.{BestRef}
+use Rattle.fork_tree.specs.declared.summary.Kept.{Kept}
+use Rattle.fork_tree.specs.declared.summary.BestRef.{BestRef}
 use Rattle.fork_tree.specs.Rows.{Entry}
-use Rattle.fork_tree.specs.Tally.{IsKept, best_of, open_of}
+use Rattle.fork_tree.specs.Summary.{IsKept, best_of, open_of}
 use Rattle.fork_tree.specs.Tree.{Tree, score_of_ref}
 
 -- ---- by number
@@ -52,21 +52,6 @@ abbrev pub open_below : List Row → ℕ → ℕ
 open_below rows n = open_where (lies_below rows n) 0 rows
 
 -- ---- in the tree
-
--- the first part of a path taken off, where the path begins so
-abbrev pub stripped : List ℕ → List ℕ → Option (List ℕ)
-stripped [] path = Some path
-stripped (x ∷ xs) [] = None
-stripped (x ∷ xs) (y ∷ ys) = if eqb x y then stripped xs ys else None
-
-abbrev pub put_under : Option (List ℕ) → Entry → List Entry → List Entry
-put_under None e rest = rest
-put_under (Some path) e rest = record { path = path; cell = e.cell } ∷ rest
-
--- the branch at a path and all that stand below it, with their paths from there
-abbrev pub under : List ℕ → List Entry → List Entry
-under path [] = []
-under path (e ∷ es) = put_under (stripped path e.path) e (under path es)
 
 -- of these branches the stored answer that none of theirs ranks before
 abbrev pub IsBestOf : List Entry → Option BestRef → Type 0

@@ -1,9 +1,9 @@
+pub mod inner
 pub mod States
 pub mod Rows
-pub mod Falls
-pub mod Tally
+pub mod Summary
 pub mod Places
-pub mod Seats
+pub mod NewRows
 pub mod Closing
 pub mod Listed
 pub mod Tree

@@ -3,15 +3,15 @@ use Rattle.std.specs.Prelude.{◌≡◌, ◌<◌, ◌≤◌, ℕ, List, [], ◌�
 use Rattle.fork_model.specs.Table.{Rules, most_targets}
 use Rattle.fork_model.specs.Rank.{rank_of}
 use Rattle.fork_tree.specs.declared.place.Place.{Place}
-use Rattle.fork_tree.specs.declared.best.Kept.{Kept}
-use Rattle.fork_tree.specs.declared.best.Tally.{Tally}
+use Rattle.fork_tree.specs.declared.summary.Kept.{Kept}
+use Rattle.fork_tree.specs.declared.summary.Summary.{Summary}
 use Rattle.fork_tree.specs.declared.row.State.{State}
 use Rattle.fork_tree.specs.declared.row.State.TheVariants.{Idle, Trying, Rung, Ended}
 use Rattle.fork_tree.specs.declared.row.End.{End}
 use Rattle.fork_tree.specs.declared.row.End.TheVariants.{Stored, Taken, Silent, Never, Accepted}
 use Rattle.fork_tree.specs.Rows.{Entry, find}
 use Rattle.fork_tree.specs.Places.{path_of, IsPlaced, AreOlder}
-use Rattle.fork_tree.specs.Tally.{IsTally}
+use Rattle.fork_tree.specs.Summary.{IsSummary}
 
 pub record IsAt (all : List Place) (root : List Entry) (e : Entry) : Type 0 where
   pub known : e.cell.number < length all
@@ -45,11 +45,11 @@ AreRanked rules (e ∷ es) =
     (e.cell.standing.answer ≡ kept_of rules e.cell.number e.cell.standing.state) × AreRanked rules es
 
 -- what holds of every tree: its table of places leads to each row's node, and what it keeps is that of all rows
-pub record IsTree (rules : Rules) (all : List Place) (root : List Entry) (t : Tally) : Type 0 where
+pub record IsTree (rules : Rules) (all : List Place) (root : List Entry) (t : Summary) : Type 0 where
   pub older : AreOlder all
   pub placed : IsPlaced all root
   pub listed : AreListed all root root
   pub ranked : AreRanked rules root
-  pub tally : IsTally root t
+  pub summary : IsSummary root t
   pub sized : length root ≡ length all
   pub few : length all ≤ most_targets

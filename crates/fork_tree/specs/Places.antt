@@ -2,7 +2,7 @@
 use Rattle.std.specs.Prelude.{◌≡◌, ◌<◌, ℕ, zero, suc, List, [], ◌∷◌, ◌++◌, length, Option, Some, None, slice_get}
 use Rattle.fork_model.specs.Table.{Row, Ended, Never}
 use Rattle.fork_tree.specs.declared.place.Place.{Place}
-use Rattle.fork_tree.specs.States.{bare_state}
+use Rattle.fork_tree.specs.States.{plain_state}
 use Rattle.fork_tree.specs.Rows.{Cell, Entry, find}
 
 -- from the top to row n; the number bounds the steps
@@ -25,7 +25,7 @@ path_of all n = path_to all (suc n) n
 abbrev pub row_at : Place → Option Cell → Row
 row_at p None = record { key = []; q = 0; place = 0; parent = p.parent; group = p.group; state = Ended Never }
 row_at p (Some c) =
-    record { key = []; q = c.q; place = 0; parent = p.parent; group = p.group; state = bare_state c.standing.state }
+    record { key = []; q = c.q; place = 0; parent = p.parent; group = p.group; state = plain_state c.standing.state }
 
 -- the rows in the order of their numbers, from this one on
 abbrev pub rows_from : List Place → List Entry → ℕ → List Place → List Row

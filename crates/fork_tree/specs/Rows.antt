@@ -1,9 +1,7 @@
 -- The branches of a tree in preorder, each with its path from the top: group, place, group, place ..
-use Rattle.std.specs.Prelude.{ℕ, ◌&&◌, suc, Bool, true, false, not, List, [], ◌∷◌, ◌++◌, map, Option, Some, None, eqb, if◌then◌else◌}
-use Rattle.fork_tree.specs.declared.best.Standing.{Standing}
+use Rattle.std.specs.Prelude.{ℕ, ◌&&◌, Bool, true, false, List, [], ◌∷◌, Option, Some, None, eqb, if◌then◌else◌}
+use Rattle.fork_tree.specs.declared.summary.Standing.{Standing}
 use Rattle.fork_tree.specs.declared.row.State.{State}
-use Rattle.fork_tree.specs.declared.row.State.TheVariants.{Idle}
-use Rattle.fork_tree.specs.States.{has_ended}
 
 pub record Cell : Type 0 where
   pub number : ℕ
@@ -13,14 +11,6 @@ pub record Cell : Type 0 where
 pub record Entry : Type 0 where
   pub path : List ℕ
   pub cell : Cell
-
-abbrev pub pushed : ℕ → Entry → Entry
-pushed k e = record { path = k ∷ e.path; cell = e.cell }
-
--- the branches of several parts, the first of which has this place
-abbrev pub joined : ℕ → List (List Entry) → List Entry
-joined k [] = []
-joined k (part ∷ parts) = map (pushed k) part ++ joined (suc k) parts
 
 abbrev pub same : List ℕ → List ℕ → Bool
 same [] [] = true
@@ -33,45 +23,11 @@ abbrev pub find : List Entry → List ℕ → Option Cell
 find [] path = None
 find (e ∷ es) path = if same e.path path then Some e.cell else find es path
 
-abbrev pub is_open_cell : Option Cell → Bool
-is_open_cell None = false
-is_open_cell (Some cell) = not (has_ended cell.standing.state)
-
--- a branch stands there that has not ended
-abbrev pub open_at : List Entry → List ℕ → Bool
-open_at rows path = is_open_cell (find rows path)
-
 -- the standing of a branch without a stored answer
 abbrev pub unanswered : State → Standing
 unanswered state = record { state = state; answer = None }
-
--- branches that stand below a path
-abbrev pub led : List ℕ → Entry → Entry
-led path e = record { path = path ++ e.path; cell = e.cell }
-
-abbrev pub in_standing : Standing → Cell → Cell
-in_standing standing cell = record { number = cell.number; q = cell.q; standing = standing }
-
--- the branch in this standing, with these below it
-abbrev pub changed : Entry → Standing → List Entry → List Entry
-changed e standing below = record { path = e.path; cell = in_standing standing e.cell } ∷ map (led e.path) below
-
--- the branches, that at this path in this standing and with these below it
-abbrev pub graft : List Entry → List ℕ → Standing → List Entry → List Entry
-graft [] path standing below = []
-graft (e ∷ es) path standing below =
-    (if same e.path path then changed e standing below else e ∷ []) ++ graft es path standing below
 
 -- a branch with these below it
 abbrev pub node_rows : ℕ → ℕ → Standing → List Entry → List Entry
 node_rows number q standing below =
     record { path = []; cell = record { number = number; q = q; standing = standing } } ∷ below
-
--- what a branch shows
-abbrev pub q_in : Option Cell → ℕ
-q_in None = 0
-q_in (Some cell) = cell.q
-
-abbrev pub state_in : Option Cell → State
-state_in None = Idle
-state_in (Some cell) = cell.standing.state

@@ -21,8 +21,8 @@ state_of (state.Rung cancelled) left challenges = spec.Rung cancelled
 state_of (state.Ended end) left challenges = spec.Ended (end_of end left challenges)
 
 -- a state with nothing beside it
-abbrev pub bare_state : State → spec.State
-bare_state s = state_of s [] []
+abbrev pub plain_state : State → spec.State
+plain_state s = state_of s [] []
 
 -- a state without the contacts left and the challenges
 abbrev pub shown_end : spec.End → End
@@ -43,10 +43,3 @@ has_ended state.Idle = false
 has_ended state.Trying = false
 has_ended (state.Rung cancelled) = false
 has_ended (state.Ended end) = true
-
--- where nothing that waits is ever tried
-abbrev pub closed_state : State → State
-closed_state state.Idle = state.Ended end.Never
-closed_state state.Trying = state.Trying
-closed_state (state.Rung cancelled) = state.Rung cancelled
-closed_state (state.Ended end) = state.Ended end

@@ -5,23 +5,23 @@ use Rattle.fork_model.specs.Table as spec
 use Rattle.fork_model.specs.Table.{Row, Rules, is_ended}
 use Rattle.fork_model.specs.Rank.{Score}
 use Rattle.fork_model.specs.Choice.{IsFirst, NoneStored}
-use Rattle.fork_tree.specs.declared.best.BestRef.{BestRef}
+use Rattle.fork_tree.specs.declared.summary.BestRef.{BestRef}
 use Rattle.fork_tree.specs.declared.row.RowRef.{RowRef}
-use Rattle.fork_tree.specs.States.{bare_state, shown}
+use Rattle.fork_tree.specs.States.{plain_state, shown}
 
 pub record Tree : Type 0 where
   pub rules : Rules
   pub rows : List Row
 
 -- a row as the tree keeps it
-abbrev pub bare : Row → Row
-bare row = record {
+abbrev pub plain_row : Row → Row
+plain_row row = record {
   key = [];
   q = row.q;
   place = 0;
   parent = row.parent;
   group = row.group;
-  state = bare_state (shown row.state);
+  state = plain_state (shown row.state);
 }
 
 -- row n as a caller sees it
@@ -47,6 +47,3 @@ is_uncancelled spec.Idle = false
 is_uncancelled spec.Trying = false
 is_uncancelled (spec.Rung cancelled) = not cancelled
 is_uncancelled (spec.Ended end) = false
-
-abbrev pub is_unended : spec.State → Bool
-is_unended state = not (is_ended state)

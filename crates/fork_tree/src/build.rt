@@ -2,12 +2,13 @@
 ghost use Rattle.std.specs.Prelude.{◌≡◌, ◌≤◌, ◌<◌, ◌++◌, true, Some, IfOk, OnOk, IsTrue, Decides, map, length, slice_get};
 ghost use Rattle.fork_model.specs.Table.{most_targets, is_idle, is_row};
 ghost use Rattle.fork_model.specs.Step.{with_state};
-ghost use Rattle.fork_tree.specs.States.{bare_state, has_ended};
+ghost use Rattle.fork_tree.specs.States.{plain_state, has_ended};
 ghost use Rattle.fork_tree.specs.declared.row.State.TheVariants.{Ended};
-ghost use Rattle.fork_tree.specs.Seats.{seated};
-ghost use Rattle.fork_tree.specs.Given.{AreRows, IsHalf, AllHalf, IsRun, IsStanding, given_row};
+ghost use Rattle.fork_tree.specs.NewRows.{waiting_row};
+ghost use Rattle.fork_tree.specs.Given.{AreRows, given_row};
+ghost use Rattle.fork_tree.specs.inner.Given.{IsHalf, AllHalf, IsRun, IsStanding};
 
-use crate::level::Level;
+use crate::new_rows::NewRows;
 use crate::row::{End, RowRef, State};
 use crate::tree::ForkTree;
 use fork_rank::Rules;
@@ -31,11 +32,11 @@ impl<A: Allocator + Clone> ForkTree<A> {
     }
 
     /// Row n, which waits, ends so, and these rows come below it.
-    fn finish(&mut self, n: u16, end: End, below: Level<A>)
+    fn finish(&mut self, n: u16, end: End, below: NewRows<A>)
         requires waits { IsTrue (is_row is_idle (slice_get self.old.rows n)) }
         requires next { below.first ≡ length self.old.rows }
         ensures { self.new ≡ record self.old {
-          rows = with_state self.old.rows n (bare_state (Ended end)) ++ map (seated (Some n)) below.seats;
+          rows = with_state self.old.rows n (plain_state (Ended end)) ++ map (waiting_row (Some n)) below.new_rows;
         } }
     {
         self.start(n);
@@ -57,7 +58,7 @@ impl<A: Allocator + Clone> ForkTree<A> {
         requires few { length self.old.rows ≤ most_targets }
         requires half { IsHalf (slice_get self.old.rows row.now.no) row.now.state }
         ensures { OnOk result (self.new ≡ record self.old {
-          rows = with_state self.old.rows row.now.no (bare_state row.now.state);
+          rows = with_state self.old.rows row.now.no (plain_state row.now.state);
         }) }
     {
         if !self.is_waiting(row.no) {
@@ -65,7 +66,7 @@ impl<A: Allocator + Clone> ForkTree<A> {
         }
         match row.state {
             State::Ended(end) => {
-                let none = Level::idle(alloc.clone()?, self.count(), &[])?;
+                let none = NewRows::idle(alloc.clone()?, self.count(), &[])?;
                 self.finish(row.no, end, none);
             }
             State::Idle => {}
@@ -115,7 +116,7 @@ fn add_below<A: Allocator + Clone>(
     let redirected = row_at(rows, parent as usize);
     let end = end_of(&redirected);
     let qs = siblings(alloc, rows, Some(parent), first as usize)?;
-    let below = Level::idle(alloc.clone()?, first, &qs)?;
+    let below = NewRows::idle(alloc.clone()?, first, &qs)?;
     tree.finish(parent, end, below);
     Ok(())
 }

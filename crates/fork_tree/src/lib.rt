@@ -2,20 +2,20 @@
 //! ended: a branch that a 3xx redirected has its contacts below it (RFC 3261 sections 16.5 to 16.7).
 #![tactic(auto)]
 
-mod best;
 mod build;
-mod level;
+mod new_row;
+mod new_rows;
 mod node;
 mod place;
 mod row;
-mod seat;
 mod series;
 mod subtree;
+mod summary;
 mod tree;
 
-pub use best::BestRef;
-pub use level::Level;
+pub use new_row::NewRow;
+pub use new_rows::NewRows;
 pub use node::Node;
 pub use row::{End, RowRef, State};
-pub use seat::Seat;
+pub use summary::BestRef;
 pub use tree::ForkTree;

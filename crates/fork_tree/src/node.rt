@@ -1,18 +1,21 @@
 //! Nodes, and the groups of nodes below them.
-ghost use Rattle.std.specs.Prelude.{◌≡◌, ℕ, List, ◌∷◌, ◌<◌, ◌≤◌, ◌+◌, ◌++◌, IsTrue, IfOk, OnOk, Some, None, [], is_some, length, map, suc, true, false, if◌then◌else◌};
+ghost use Rattle.std.specs.Prelude.{◌≡◌, ℕ, List, ◌∷◌, ◌<◌, ◌≤◌, ◌+◌, ◌++◌, IsTrue, IfOk, Some, None, [], is_some, length, map, suc, true, false, if◌then◌else◌};
 ghost use Rattle.fork_model.specs.Table.{most_targets};
 ghost use Rattle.fork_tree.specs.Places.{number_of};
-ghost use Rattle.fork_tree.specs.Search.{FindsBelow, FindsGroup, FindsHere, IsWaiting};
-ghost use Rattle.fork_tree.specs.Rows.{open_at, find, graft, joined, node_rows, pushed, q_in, state_in, unanswered};
-ghost use Rattle.fork_tree.specs.Below.{under};
-ghost use Rattle.fork_tree.specs.Closing.{closed_entry};
-ghost use Rattle.fork_tree.specs.Tally.{AreWaiting, Gains, IsKept, open_of};
+ghost use Rattle.fork_tree.specs.inner.Search.{FindsBelow, FindsGroup, FindsHere, IsWaiting};
+ghost use Rattle.fork_tree.specs.Rows.{find, node_rows, unanswered};
+ghost use Rattle.fork_tree.specs.inner.Rows.{open_at, joined, pushed, q_in, state_in};
+ghost use Rattle.fork_tree.specs.inner.Changes.{Changes, MayEnd};
+ghost use Rattle.fork_tree.specs.inner.Below.{under};
+ghost use Rattle.fork_tree.specs.inner.Closing.{closed_entry};
+ghost use Rattle.fork_tree.specs.Summary.{open_of};
+ghost use Rattle.fork_tree.specs.inner.Summary.{AreWaiting};
 ghost use Rattle.fork_tree.specs.States.{has_ended};
-ghost use Rattle.fork_tree.specs.Seats.{differs, idle, seat_rows, seats_of};
+ghost use Rattle.fork_tree.specs.NewRows.{differs, idle, new_entries, new_rows_of};
 
-use crate::best::{Standing, Tally};
+use crate::new_row::NewRow;
 use crate::row::State;
-use crate::seat::Seat;
+use crate::summary::{Standing, Summary};
 use std::alloc::{AllocError, Allocator, Global};
 use std::marker::Model;
 
@@ -23,14 +26,14 @@ pub struct Node<A: Allocator = Global> {
     number: u16,
     q: u16,
     standing: Standing,
-    below: Tier<A>,
-    pub(crate) tally: Tally,
+    below: Level<A>,
+    pub(crate) summary: Summary,
 }
 
 /// The groups of branches under one branch, or at the top.
 #[cycle(node)]
 #[derive(Drop)]
-pub(crate) struct Tier<A: Allocator = Global> {
+pub(crate) struct Level<A: Allocator = Global> {
     groups: Vec<Group<A>, A>,
 }
 
@@ -40,7 +43,7 @@ pub(crate) struct Tier<A: Allocator = Global> {
 pub(crate) struct Group<A: Allocator = Global> {
     nodes: Vec<Node<A>, A>,
     /// How many of these branches, and of those below them, have not ended.
-    still: u16,
+    open_count: u16,
 }
 
 impl<A: Allocator> Model for Node<A> {
@@ -52,9 +55,9 @@ impl<A: Allocator> Model for Node<A> {
 
     ghost view = { λ n. node_rows n.number n.q n.standing n.below };
 
-    ghost use Rattle.fork_tree.specs.Tally.{IsNode};
+    ghost use Rattle.fork_tree.specs.Summary.{IsNode};
 
-    ghost invariant = { λ n. IsNode n.number n.q n.standing n.below n.tally };
+    ghost invariant = { λ n. IsNode n.number n.q n.standing n.below n.summary };
 
     ghost size = { λ rows. 3 * length rows };
 
@@ -65,26 +68,28 @@ impl<A: Allocator> Model for Group<A> {
     ghost use Rattle.std.specs.Prelude.{List, ◌+◌, ◌*◌, ℕ, length};
     ghost use Rattle.std.proofs.Common.{arith};
     ghost use Rattle.std.specs.Prelude.{◌≡◌};
-    ghost use Rattle.fork_tree.specs.Rows.{Entry, joined};
-    ghost use Rattle.fork_tree.specs.Tally.{open_of};
-    ghost use Rattle.fork_tree.specs.Falls.{most_nodes};
+    ghost use Rattle.fork_tree.specs.Rows.{Entry};
+    ghost use Rattle.fork_tree.specs.inner.Rows.{joined};
+    ghost use Rattle.fork_tree.specs.Summary.{open_of};
+    ghost use Rattle.fork_tree.specs.inner.Falls.{most_nodes};
 
     ghost Value = { List Entry };
 
     ghost view = { λ g. joined 0 g.nodes.items };
 
-    ghost invariant = { λ g. g.still ≡ open_of (joined 0 g.nodes.items) };
+    ghost invariant = { λ g. g.open_count ≡ open_of (joined 0 g.nodes.items) };
 
     ghost size = { λ rows. 3 * length rows + 1 };
 
     ghost size_decreases = { λ a h. omega (arith, most_nodes 0 a.nodes.items) };
 }
 
-impl<A: Allocator> Model for Tier<A> {
+impl<A: Allocator> Model for Level<A> {
     ghost use Rattle.std.specs.Prelude.{List, ◌+◌, ◌*◌, ℕ, length};
     ghost use Rattle.std.proofs.Common.{arith};
-    ghost use Rattle.fork_tree.specs.Rows.{Entry, joined};
-    ghost use Rattle.fork_tree.specs.Falls.{most_groups};
+    ghost use Rattle.fork_tree.specs.Rows.{Entry};
+    ghost use Rattle.fork_tree.specs.inner.Rows.{joined};
+    ghost use Rattle.fork_tree.specs.inner.Falls.{most_groups};
 
     ghost Value = { List Entry };
 
@@ -107,8 +112,8 @@ impl<A: Allocator> Node<A> {
                 state: State::Idle,
                 answer: None,
             },
-            below: Tier::new(alloc),
-            tally: Tally::waiting(1),
+            below: Level::new(alloc),
+            summary: Summary::waiting(1),
         }
     }
 
@@ -161,10 +166,7 @@ impl<A: Allocator> Node<A> {
     pub(crate) fn set(&mut self, path: &[u16], state: State)
         requires there { IsTrue (open_at self.old path.now) }
         requires waits { has_ended state ≡ false }
-        ensures grafted { self.new ≡ graft self.old path.now (unanswered state) [] }
-        ensures sized { length self.new ≡ length self.old }
-        ensures counted { open_of self.new ≡ open_of self.old }
-        ensures gained { Gains self.old self.new None }
+        ensures { Changes self.old self.new path.now (unanswered state) [] 1 }
     {
         if path.is_empty() {
             self.standing = Standing {
@@ -179,19 +181,11 @@ impl<A: Allocator> Node<A> {
     /// The branch at this path, which has not ended, comes into a standing in which it has, and these are put below
     /// it, of which so many have not ended.
     #[cycle(end)]
-    pub(crate) fn end(&mut self, path: &[u16], standing: Standing, below: Tier<A>, opens: u16)
-        requires there { IsTrue (open_at self.old path.now) }
-        requires ended { has_ended standing.state ≡ true }
-        requires fresh { IsKept below None }
-        requires opens { opens ≡ open_of below }
-        requires few { length self.old + length below ≤ most_targets }
-        ensures grafted { self.new ≡ graft self.old path.now standing below }
-        ensures sized { length self.new ≡ length self.old + length below }
-        ensures counted { open_of self.new + 1 ≡ open_of self.old + opens }
-        ensures gained { Gains self.old self.new standing.answer }
-        ensures alone { (k : ℕ) (rest : List ℕ) → find self.old (path.now ++ k ∷ rest) ≡ None }
+    pub(crate) fn end(&mut self, path: &[u16], standing: Standing, below: Level<A>, opens: u16)
+        requires { MayEnd self.old path.now standing below opens }
+        ensures { Changes self.old self.new path.now standing below opens }
     {
-        self.tally = self.tally.after(standing.answer, opens);
+        self.summary = self.summary.after(standing.answer, opens);
         if path.is_empty() {
             self.standing = standing;
             self.below = below;
@@ -211,17 +205,17 @@ impl<A: Allocator> Node<A> {
         self.standing = self.standing.closed();
         let own = before - self.standing.open_count();
         let ended = own + self.below.close();
-        self.tally.still -= ended;
+        self.summary.open_count -= ended;
         ended
     }
 }
 
-impl<A: Allocator> Tier<A> {
+impl<A: Allocator> Level<A> {
     /// No branches.
-    pub(crate) fn new(alloc: A) -> Tier<A>
+    pub(crate) fn new(alloc: A) -> Level<A>
         ensures { result ≡ [] }
     {
-        Tier {
+        Level {
             groups: Vec::new(alloc),
         }
     }
@@ -253,10 +247,7 @@ impl<A: Allocator> Tier<A> {
     pub(crate) fn set(&mut self, path: &[u16], state: State)
         requires there { IsTrue (open_at self.old path.now) }
         requires waits { has_ended state ≡ false }
-        ensures grafted { self.new ≡ graft self.old path.now (unanswered state) [] }
-        ensures sized { length self.new ≡ length self.old }
-        ensures counted { open_of self.new ≡ open_of self.old }
-        ensures gained { Gains self.old self.new None }
+        ensures { Changes self.old self.new path.now (unanswered state) [] 1 }
     {
         if let Some((first, rest)) = path.split_first() {
             self.groups[*first as usize].set(rest, state);
@@ -265,17 +256,9 @@ impl<A: Allocator> Tier<A> {
 
     /// The branch at this path ends, as of a node.
     #[cycle(end)]
-    pub(crate) fn end(&mut self, path: &[u16], standing: Standing, below: Tier<A>, opens: u16)
-        requires there { IsTrue (open_at self.old path.now) }
-        requires ended { has_ended standing.state ≡ true }
-        requires fresh { IsKept below None }
-        requires opens { opens ≡ open_of below }
-        requires few { length self.old + length below ≤ most_targets }
-        ensures grafted { self.new ≡ graft self.old path.now standing below }
-        ensures sized { length self.new ≡ length self.old + length below }
-        ensures counted { open_of self.new + 1 ≡ open_of self.old + opens }
-        ensures gained { Gains self.old self.new standing.answer }
-        ensures alone { (k : ℕ) (rest : List ℕ) → find self.old (path.now ++ k ∷ rest) ≡ None }
+    pub(crate) fn end(&mut self, path: &[u16], standing: Standing, below: Level<A>, opens: u16)
+        requires { MayEnd self.old path.now standing below opens }
+        ensures { Changes self.old self.new path.now standing below opens }
     {
         if let Some((first, rest)) = path.split_first() {
             self.groups[*first as usize].end(rest, standing, below, opens);
@@ -314,15 +297,15 @@ impl<A: Allocator> Group<A> {
         requires waiting { AreWaiting nodes.items }
         ensures { result ≡ joined 0 nodes.items }
     {
-        let still = nodes.len() as u16;
-        Group { nodes, still }
+        let open_count = nodes.len() as u16;
+        Group { nodes, open_count }
     }
 
     /// How many of its branches, and of those below them, have not ended.
     fn open_count(&self) -> u16
         ensures { result ≡ open_of self.now }
     {
-        self.still
+        self.open_count
     }
 
     /// The number of its first branch, and how many there are, where they all wait.
@@ -335,7 +318,7 @@ impl<A: Allocator> Group<A> {
                 return None;
             }
         }
-        Some((self.nodes[0].number(), self.still))
+        Some((self.nodes[0].number(), self.open_count))
     }
 
     /// The branch at this path comes into another state, as of a node.
@@ -343,10 +326,7 @@ impl<A: Allocator> Group<A> {
     pub(crate) fn set(&mut self, path: &[u16], state: State)
         requires there { IsTrue (open_at self.old path.now) }
         requires waits { has_ended state ≡ false }
-        ensures grafted { self.new ≡ graft self.old path.now (unanswered state) [] }
-        ensures sized { length self.new ≡ length self.old }
-        ensures counted { open_of self.new ≡ open_of self.old }
-        ensures gained { Gains self.old self.new None }
+        ensures { Changes self.old self.new path.now (unanswered state) [] 1 }
     {
         if let Some((first, rest)) = path.split_first() {
             self.nodes[*first as usize].set(rest, state);
@@ -355,20 +335,12 @@ impl<A: Allocator> Group<A> {
 
     /// The branch at this path ends, as of a node.
     #[cycle(end)]
-    pub(crate) fn end(&mut self, path: &[u16], standing: Standing, below: Tier<A>, opens: u16)
-        requires there { IsTrue (open_at self.old path.now) }
-        requires ended { has_ended standing.state ≡ true }
-        requires fresh { IsKept below None }
-        requires opens { opens ≡ open_of below }
-        requires few { length self.old + length below ≤ most_targets }
-        ensures grafted { self.new ≡ graft self.old path.now standing below }
-        ensures sized { length self.new ≡ length self.old + length below }
-        ensures counted { open_of self.new + 1 ≡ open_of self.old + opens }
-        ensures gained { Gains self.old self.new standing.answer }
-        ensures alone { (k : ℕ) (rest : List ℕ) → find self.old (path.now ++ k ∷ rest) ≡ None }
+    pub(crate) fn end(&mut self, path: &[u16], standing: Standing, below: Level<A>, opens: u16)
+        requires { MayEnd self.old path.now standing below opens }
+        ensures { Changes self.old self.new path.now standing below opens }
     {
         if let Some((first, rest)) = path.split_first() {
-            self.still = self.still + opens - 1;
+            self.open_count = self.open_count + opens - 1;
             self.nodes[*first as usize].end(rest, standing, below, opens);
         }
     }
@@ -386,28 +358,28 @@ impl<A: Allocator> Group<A> {
             ended += self.nodes[i].close();
             i += 1;
         }
-        self.still -= ended;
+        self.open_count -= ended;
         ended
     }
 }
 
-/// Branches that wait, of these q in groups of equal q, numbered from here on, and the seat of each.
+/// Branches that wait, of these q in groups of equal q, numbered from here on, and where each of them goes.
 pub(crate) fn branches<A: Allocator + Clone>(
     alloc: &A,
     first: u16,
     qs: &[u16],
-) -> Result<(Tier<A>, Vec<Seat, A>), AllocError>
+) -> Result<(Level<A>, Vec<NewRow, A>), AllocError>
     requires few { first + length qs.now ≤ most_targets }
-    ensures tier { IfOk result (λ made. made.0 ≡ seat_rows first made.1.items) }
-    ensures seats { IfOk result (λ made. made.1.items ≡ seats_of qs.now) }
+    ensures level { IfOk result (λ made. made.0 ≡ new_entries first made.1.items) }
+    ensures new_rows { IfOk result (λ made. made.1.items ≡ new_rows_of qs.now) }
 {
-    let mut seats = Vec::with_capacity(alloc.clone()?, qs.len())?;
+    let mut new_rows = Vec::with_capacity(alloc.clone()?, qs.len())?;
     let mut groups = Vec::new(alloc.clone()?);
     let mut nodes = Vec::new(alloc.clone()?);
     let mut before = None;
     for i in 0..qs.len() {
         nodes = in_group(alloc, &mut groups, nodes, another(before, qs[i]))?;
-        seats.push(Seat {
+        new_rows.push(NewRow {
             group: groups.len() as u16,
             place: nodes.len() as u16,
             q: qs[i],
@@ -415,7 +387,7 @@ pub(crate) fn branches<A: Allocator + Clone>(
         nodes.push(Node::idle(alloc.clone()?, first + i as u16, qs[i]))?;
         before = Some(qs[i]);
     }
-    Ok((whole(groups, nodes)?, seats))
+    Ok((whole(groups, nodes)?, new_rows))
 }
 
 /// Whether this q begins another group.
@@ -456,15 +428,15 @@ fn in_group<A: Allocator + Clone>(
 fn whole<A: Allocator>(
     mut groups: Vec<Group<A>, A>,
     nodes: Vec<Node<A>, A>,
-) -> Result<Tier<A>, AllocError>
+) -> Result<Level<A>, AllocError>
     requires few { length nodes.items ≤ most_targets }
     requires waiting { AreWaiting nodes.items }
-    ensures { IfOk result (λ tier. tier
+    ensures { IfOk result (λ level. level
         ≡ joined 0 groups.items ++ map (pushed (length groups.items)) (joined 0 nodes.items)) }
 {
     if nodes.is_empty() {
-        return Ok(Tier { groups });
+        return Ok(Level { groups });
     }
     groups.push(Group::waiting(nodes))?;
-    Ok(Tier { groups })
+    Ok(Level { groups })
 }

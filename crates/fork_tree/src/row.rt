@@ -1,7 +1,8 @@
 //! What a row is, apart from the tree.
 ghost use Rattle.std.specs.Prelude.{◌≡◌, not};
 ghost use Rattle.fork_model.specs.Table.{is_idle};
-ghost use Rattle.fork_tree.specs.States.{bare_state, has_ended, closed_state};
+ghost use Rattle.fork_tree.specs.States.{plain_state, has_ended};
+ghost use Rattle.fork_tree.specs.inner.States.{closed_state};
 
 use fork_rank::Status;
 
@@ -73,7 +74,7 @@ impl State {
 
     /// Whether the branch waits no more.
     pub(crate) fn has_started(&self) -> bool
-        ensures { result ≡ not (is_idle (bare_state self.now)) }
+        ensures { result ≡ not (is_idle (plain_state self.now)) }
     {
         !matches!(self, State::Idle)
     }

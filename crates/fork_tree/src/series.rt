@@ -5,10 +5,11 @@ ghost use Rattle.fork_model.specs.Table.{Row, most_targets};
 ghost use Rattle.fork_model.specs.Waiting.{may_start};
 ghost use Rattle.fork_tree.specs.Ready.{IsReady, tried};
 ghost use Rattle.fork_tree.specs.Places.{path_of, rows_of};
-ghost use Rattle.fork_tree.specs.Below.{under};
-ghost use Rattle.fork_tree.specs.Search.{AreKnown, AreMet, FindsOnWay, FindsStart, IsKnown, IsShape, OrBelow};
+ghost use Rattle.fork_tree.specs.inner.Below.{under};
+ghost use Rattle.fork_tree.specs.Search.{AreKnown, AreMet, IsKnown};
+ghost use Rattle.fork_tree.specs.inner.Search.{FindsOnWay, FindsStart, IsShape, OrBelow};
 
-use crate::node::{Node, Tier};
+use crate::node::{Level, Node};
 use crate::place::{Place, place_of};
 use crate::tree::ForkTree;
 use std::alloc::Allocator;
@@ -57,7 +58,7 @@ impl<A: Allocator> ForkTree<A> {
 
 /// Some group that may start, by the latest of these rows from which one is found; those after it are dropped.
 fn next_ready<A: Allocator>(
-    root: &Tier<A>,
+    root: &Level<A>,
     places: &[Place],
     recent: &mut Vec<Option<u16>, A>,
 ) -> Option<(u16, u16)>
@@ -85,7 +86,7 @@ fn next_ready<A: Allocator>(
 /// Some group that may start, of those below this row, beside it and beside the rows above it; of those at the top alone
 /// where there is no row.
 fn ready_on_way<A: Allocator>(
-    root: &Tier<A>,
+    root: &Level<A>,
     places: &[Place],
     under: Option<u16>,
 ) -> Option<(u16, u16)>
@@ -101,7 +102,7 @@ fn ready_on_way<A: Allocator>(
 
 /// The first group that may start on the way down to row n, those right below row n included, and the node of row n.
 fn ready_down_to<'a, A: Allocator>(
-    root: &'a Tier<A>,
+    root: &'a Level<A>,
     places: &[Place],
     n: u16,
 ) -> (Option<(u16, u16)>, &'a Node<A>)

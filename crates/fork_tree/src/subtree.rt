@@ -1,13 +1,14 @@
 //! A row with all that lie below it.
 ghost use Rattle.std.specs.Prelude.{◌≡◌, ◌<◌, length};
 ghost use Rattle.std.specs.Option.{option_copied};
-ghost use Rattle.fork_tree.specs.Below.{IsBestOf, IsNodeAt, under};
-ghost use Rattle.fork_tree.specs.Tally.{open_of};
+ghost use Rattle.fork_tree.specs.Below.{IsBestOf, IsNodeAt};
+ghost use Rattle.fork_tree.specs.inner.Below.{under};
+ghost use Rattle.fork_tree.specs.Summary.{open_of};
 ghost use Rattle.fork_tree.specs.Places.{path_of, AreOlder, IsPlaced};
 
-use crate::best::BestRef;
-use crate::node::{Node, Tier};
+use crate::node::{Level, Node};
 use crate::place::{Place, place_of};
+use crate::summary::BestRef;
 use crate::tree::ForkTree;
 use std::alloc::Allocator;
 
@@ -30,19 +31,19 @@ impl<A: Allocator> Node<A> {
     pub fn best(&self) -> Option<BestRef>
         ensures { IsBestOf self.now result }
     {
-        self.tally.best()
+        self.summary.best()
     }
 
     /// How many of it and those below it have not ended.
     pub fn open_count(&self) -> u16
         ensures { result ≡ open_of self.now }
     {
-        self.tally.still
+        self.summary.open_count
     }
 }
 
 /// The node of row n, by its chain of parents.
-pub(crate) fn node_of<'a, A: Allocator>(root: &'a Tier<A>, places: &[Place], n: u16) -> &'a Node<A>
+pub(crate) fn node_of<'a, A: Allocator>(root: &'a Level<A>, places: &[Place], n: u16) -> &'a Node<A>
     requires known { n < length places.now }
     requires older { AreOlder places.now }
     requires placed { IsPlaced places.now root.now }

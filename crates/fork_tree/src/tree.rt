@@ -1,23 +1,25 @@
 //! The whole tree.
-ghost use Rattle.std.specs.Prelude.{◌≡◌, ◌≤◌, ◌<◌, ◌+◌, ◌*◌, ◌++◌, true, false, Some, None, IsTrue, IfOk, length, map, slice_get, vec_len, vec_capacity};
+ghost use Rattle.std.specs.Prelude.{◌≡◌, ◌≤◌, ◌+◌, ◌*◌, ◌++◌, true, false, Some, None, IsTrue, IfOk, length, map, slice_get, vec_len, vec_capacity};
 ghost use Rattle.std.specs.Option.{option_map};
 ghost use Rattle.fork_model.specs.Table as spec;
 ghost use Rattle.fork_model.specs.Table.{most_targets, is_row, is_idle, is_trying, is_open};
 ghost use Rattle.fork_model.specs.Step.{with_state};
-ghost use Rattle.fork_tree.specs.States.{bare_state, has_ended};
+ghost use Rattle.fork_tree.specs.States.{plain_state, has_ended};
 ghost use Rattle.fork_tree.specs.declared.row.State.TheVariants.{Ended};
-ghost use Rattle.fork_tree.specs.Seats.{seats_of, seated, place_in};
+ghost use Rattle.fork_tree.specs.NewRows.{new_rows_of, waiting_row};
+ghost use Rattle.fork_tree.specs.inner.NewRows.{place_in};
 ghost use Rattle.fork_tree.specs.Closing.{closed_row};
 ghost use Rattle.fork_tree.specs.Below.{parent_of};
-ghost use Rattle.fork_tree.specs.Tree.{IsBest, open_rows, row_ref, is_unended, is_uncancelled};
+ghost use Rattle.fork_tree.specs.Tree.{IsBest, open_rows, row_ref, is_uncancelled};
+ghost use Rattle.fork_tree.specs.inner.Tree.{is_unended};
 
-use crate::best::{BestRef, Standing, Tally};
-use crate::level::Level;
-use crate::node::{Tier, branches};
+use crate::new_row::NewRow;
+use crate::new_rows::NewRows;
+use crate::node::{Level, branches};
 use crate::place::{Place, Room, make_room, place_of, trace};
 use crate::row::{End, RowRef, State};
-use crate::seat::Seat;
 use crate::subtree::node_of;
+use crate::summary::{BestRef, Standing, Summary};
 use fork_rank::Rules;
 use std::alloc::{AllocError, Allocator, Global};
 use std::marker::Model;
@@ -27,10 +29,10 @@ use std::marker::Model;
 #[derive(Drop)]
 pub struct ForkTree<A: Allocator = Global> {
     rules: Rules,
-    pub(crate) root: Tier<A>,
+    pub(crate) root: Level<A>,
     pub(crate) places: Vec<Place, A>,
     path: Vec<u16, A>,
-    tally: Tally,
+    summary: Summary,
     /// Rows that ended: each group that may start stands below one of these, beside it, or beside a row above it. None
     /// is the top.
     pub(crate) recent: Vec<Option<u16>, A>,
@@ -50,12 +52,12 @@ impl<A: Allocator> Model for ForkTree<A> {
     ghost view = { λ t. record { rules = t.rules; rows = rows_of t.places.items t.root } };
 
     ghost invariant = { λ t. record {
-      tree : IsTree t.rules t.places.items t.root t.tally;
+      tree : IsTree t.rules t.places.items t.root t.summary;
       together : AreTogether t.places.items;
       places_room : length t.places.items ≤ vec_capacity t.places;
       path_room : 2 * length t.places.items ≤ vec_capacity t.path;
       recent_room : length t.places.items + 1 ≤ vec_capacity t.recent;
-      recent_few : length t.recent.items + t.tally.still ≤ length t.places.items + 1;
+      recent_few : length t.recent.items + t.summary.open_count ≤ length t.places.items + 1;
       known : AreKnown (length t.places.items) t.recent.items;
       met : AreMet (rows_of t.places.items t.root) t.recent.items;
     } };
@@ -66,7 +68,7 @@ impl<A: Allocator + Clone> ForkTree<A> {
     /// together being a group. The only error is want of memory.
     pub fn new(alloc: A, rules: Rules, qs: &[u16]) -> Result<ForkTree<A>, AllocError>
         requires few { length qs.now ≤ most_targets }
-        ensures { IfOk result (λ tree. tree ≡ record { rules = rules; rows = map (seated None) (seats_of qs.now) }) }
+        ensures { IfOk result (λ tree. tree ≡ record { rules = rules; rows = map (waiting_row None) (new_rows_of qs.now) }) }
     {
         let Room {
             mut places,
@@ -74,15 +76,15 @@ impl<A: Allocator + Clone> ForkTree<A> {
             mut recent,
         } = Room::of(&alloc, qs.len() as u16 + 1)?;
         recent.push_reserved(None);
-        let (root, seats) = branches(&alloc, 0, qs)?;
-        add_places(&mut places, None, &seats);
-        let tally = Tally::waiting(qs.len() as u16);
+        let (root, new_rows) = branches(&alloc, 0, qs)?;
+        add_places(&mut places, None, &new_rows);
+        let summary = Summary::waiting(qs.len() as u16);
         Ok(ForkTree {
             rules,
             root,
             places,
             path,
-            tally,
+            summary,
             recent,
         })
     }
@@ -136,14 +138,14 @@ impl<A: Allocator> ForkTree<A> {
     pub fn best(&self) -> Option<BestRef>
         ensures { IsBest self.now.rules self.now.rows result }
     {
-        self.tally.best()
+        self.summary.best()
     }
 
     /// How many rows have not ended.
     pub fn open_count(&self) -> u16
         ensures { result ≡ open_rows self.now.rows }
     {
-        self.tally.still
+        self.summary.open_count
     }
 
     /// Row n, which waits, is tried.
@@ -171,31 +173,31 @@ impl<A: Allocator> ForkTree<A> {
     }
 
     /// Row n, which was tried, ends so, and these rows, which wait, come below it.
-    pub fn end(&mut self, n: u16, end: End, below: Level<A>)
+    pub fn end(&mut self, n: u16, end: End, below: NewRows<A>)
         requires there { IsTrue (is_row is_open (slice_get self.old.rows n)) }
         requires next { below.first ≡ length self.old.rows }
         ensures { self.new ≡ record self.old {
-          rows = with_state self.old.rows n (bare_state (Ended end)) ++ map (seated (Some n)) below.seats;
+          rows = with_state self.old.rows n (plain_state (Ended end)) ++ map (waiting_row (Some n)) below.new_rows;
         } }
     {
         let standing = Standing::of(n, State::Ended(end), &self.rules);
         let answer = standing.answer;
-        let Level {
-            tier,
-            seats,
+        let NewRows {
+            level,
+            new_rows,
             room,
             ..
         } = below;
-        let opens = seats.len() as u16;
-        let rows = self.places.len() + seats.len();
+        let opens = new_rows.len() as u16;
+        let rows = self.places.len() + new_rows.len();
         self.path.clear();
         make_room(&mut self.places, room.places, rows);
         make_room(&mut self.path, room.path, 2 * rows);
         make_room(&mut self.recent, room.recent, rows + 1);
         trace(&self.places, n, &mut self.path);
-        add_places(&mut self.places, Some(n), &seats);
-        self.root.end(&self.path, standing, tier, opens);
-        self.tally = self.tally.after(answer, opens);
+        add_places(&mut self.places, Some(n), &new_rows);
+        self.root.end(&self.path, standing, level, opens);
+        self.summary = self.summary.after(answer, opens);
         self.recent.push_reserved(Some(n));
     }
 
@@ -204,7 +206,7 @@ impl<A: Allocator> ForkTree<A> {
         ensures { self.new ≡ record self.old { rows = map closed_row self.old.rows } }
     {
         let ended = self.root.close();
-        self.tally.still -= ended;
+        self.summary.open_count -= ended;
         self.recent.clear();
     }
 
@@ -212,8 +214,8 @@ impl<A: Allocator> ForkTree<A> {
     pub(crate) fn set(&mut self, n: u16, state: State)
         requires there { IsTrue (is_row is_unended (slice_get self.old.rows n)) }
         requires waits { has_ended state ≡ false }
-        requires busy { is_idle (bare_state state) ≡ false }
-        ensures { self.new ≡ record self.old { rows = with_state self.old.rows n (bare_state state) } }
+        requires busy { is_idle (plain_state state) ≡ false }
+        ensures { self.new ≡ record self.old { rows = with_state self.old.rows n (plain_state state) } }
     {
         self.path.clear();
         trace(&self.places, n, &mut self.path);
@@ -221,17 +223,17 @@ impl<A: Allocator> ForkTree<A> {
     }
 }
 
-/// Adds the place of each seat under this row, or at the top.
-fn add_places<A: Allocator>(places: &mut Vec<Place, A>, parent: Option<u16>, seats: &[Seat])
-    requires room { vec_len places.old + length seats.now ≤ vec_capacity places.old }
-    ensures items { places.new.items ≡ places.old.items ++ map (place_in parent) seats.now }
+/// Adds the place of each new row under this row, or at the top.
+fn add_places<A: Allocator>(places: &mut Vec<Place, A>, parent: Option<u16>, new_rows: &[NewRow])
+    requires room { vec_len places.old + length new_rows.now ≤ vec_capacity places.old }
+    ensures items { places.new.items ≡ places.old.items ++ map (place_in parent) new_rows.now }
     ensures capacity { vec_capacity places.new ≡ vec_capacity places.old }
 {
-    for i in 0..seats.len() {
+    for i in 0..new_rows.len() {
         places.push_reserved(Place {
             parent,
-            group: seats[i].group,
-            place: seats[i].place,
+            group: new_rows[i].group,
+            place: new_rows[i].place,
         });
     }
 }

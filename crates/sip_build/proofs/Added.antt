@@ -1,6 +1,5 @@
 -- Lists of header lines that grow by pieces.
-use Rattle.std.proofs.Common.{◌≡◌, List, [], ◌++◌, ap, ◌∙◌, append_assoc}
-use Rattle.sip_text.specs.Text.{HeaderText}
+use Rattle.sip_build.proofs.Common.{◌≡◌, List, [], ◌++◌, ap, ◌∙◌, append_assoc, HeaderText}
 
 abbrev Lines : Type 0
 Lines = List HeaderText

@@ -1,13 +1,6 @@
 -- A CSeq is read as it was written.
-use Rattle.std.proofs.Common.{◌≡◌, ℕ, ◌-◌, ◌<◌, ◌^◌, Bool, true, false, not, List, [], ◌∷◌, ◌++◌, Option, Some, None, refl, ap, ◌∙◌}
-use Rattle.std.specs.Fmt.{decimal}
-use Rattle.std.specs.List.{list_all}
-use Rattle.std.proofs.lemmas.Bool.{and_parts, cond-true, cond-false, false≢true}
-use Rattle.sip_lex.specs.Bytes.{is_space, is_token, trim_start}
-use Rattle.sip_lex.specs.Cut.{cut}
-use Rattle.sip_lex.specs.Number.{number_within}
-use Rattle.sip_text.specs.Fields.{cseq_of, cseq_of_cut, cseq_with}
-use Rattle.sip_via.proofs.laws.Tokens.{all_pass, decimal_high, high_no_space, is_high, no_space}
+use Rattle.sip_build.proofs.Common.{◌≡◌, ℕ, ◌-◌, ◌<◌, ◌^◌, Bool, true, false, not, List, [], ◌∷◌, ◌++◌, Option, Some, None, refl, ap, ◌∙◌, decimal, list_all, and_parts, cond-true, cond-false, false≢true, is_space, is_token, trim_start, cut}
+use Rattle.sip_build.proofs.Common.{number_within, cseq_of, cseq_of_cut, cseq_with, all_pass, decimal_high, high_no_space, is_high, no_space}
 
 cut_digits : (ds rest : List ℕ) → list_all no_space ds ≡ true → cut is_space (ds ++ 32 ∷ rest) ≡ (ds, Some rest)
 cut_digits [] rest h = refl

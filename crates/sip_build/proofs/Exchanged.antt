@@ -1,17 +1,9 @@
 -- Header lines with others in the place of all those of a name, and round one of another name.
-use Rattle.std.proofs.Common.{◌≡◌, ℕ, suc, ◌+◌, ◌<◌, ◌≤◌, true, false, not, List, [], ◌∷◌, ◌++◌, length, take, drop, Option, Some, None, refl, sym, ap, ◌∙◌, append_assoc, arith, inl, inr}
-use Rattle.std.specs.Prelude.{codes}
-use Rattle.std.specs.List.{filter}
-use Rattle.std.proofs.lemmas.Bool.{cases_Bool, cond-true, cond-false}
-use Rattle.std.proofs.lemmas.List.{append-nil, drop-map, length-map, take-map}
-use Rattle.sip_text.specs.declared.parts.Header.{Header}
-use Rattle.sip_text.specs.Name.{full_name, same_name}
-use Rattle.sip_text.specs.Seen.{view, views}
-use Rattle.sip_text.specs.Text.{HeaderText}
-use Rattle.sip_via.specs.Edits.{line, line_if_any, place_of, replaced}
-use Rattle.sip_build.specs.Exchanged.{exchanged, is_other}
+use Rattle.sip_build.proofs.Common.{◌≡◌, ℕ, suc, ◌+◌, ◌<◌, ◌≤◌, true, false, not, List, [], ◌∷◌, ◌++◌, length, take, drop, Option, Some, None, refl, sym, ap, ◌∙◌, append_assoc, arith, inl, inr, codes, filter, cases_Bool, cond-true}
+use Rattle.sip_build.proofs.Common.{cond-false, append-nil, drop-map, Header, same_name, view, views, HeaderText, line, line_if_any, place_of, replaced, exchanged, is_other, apart}
+use Rattle.std.proofs.lemmas.List.{length-map, take-map}
+use Rattle.sip_text.specs.Name.{full_name}
 use Rattle.sip_via.proofs.laws.Places.{replaced-none, replaced-some}
-use Rattle.sip_via.proofs.laws.Replaced.{apart}
 
 -- a line of that name is passed over
 pub filter-named : (name : List ℕ) (h : HeaderText) (hs : List HeaderText) → same_name name h.name ≡ true → filter (is_other name) (h ∷ hs) ≡ filter (is_other name) hs
@@ -130,6 +122,9 @@ pub record Parted {A : Type 0} (via : List ℕ) (hs before behind : List (Header
   pub place : n ≡ place_of via (views hs)
   pub front : before ≡ take n hs
   pub back : behind ≡ drop n hs
+
+pub parted_at : {A : Type 0} (via : List ℕ) (hs before behind : List (Header A)) (n : ℕ) → n ≡ place_of via (views hs) → before ≡ take n hs → behind ≡ drop n hs → Parted via hs before behind n
+parted_at via hs before behind n place front back = record { place = place; front = front; back = back }
 
 front-of : {A : Type 0} (via : List ℕ) (hs front back : List (Header A)) (n : ℕ) → Parted via hs front back n → views front ≡ take (place_of via (views hs)) (views hs)
 front-of {A} via hs front back n p = ap (λ (xs : List (Header A)). views xs) (p.front ∙ ap (λ k. take k hs) p.place) ∙ sym (take-map view (place_of via (views hs)) hs)

@@ -1,15 +1,8 @@
 -- The value of the first header line of a name, by the place of that line.
-use Rattle.std.proofs.Common.{◌≡◌, ◌∙◌, ℕ, suc, ◌+◌, List, [], ◌∷◌, ◌++◌, drop, Some, None, refl, sym, ap, arith, inl, inr}
-use Rattle.std.proofs.lemmas.List.{drop-map}
+use Rattle.sip_build.proofs.Common.{◌≡◌, ◌∙◌, ℕ, suc, ◌+◌, List, [], ◌∷◌, ◌++◌, drop, Some, None, refl, sym, ap, arith, inl, inr, drop-map, decimal, codes, cases_Bool, cond-true, cond-false, Header, first_of, first_value, same_name, view}
+use Rattle.sip_build.proofs.Common.{views, HeaderText, place_of}
 use Rattle.std.proofs.lemmas.Fmt.{decimal_digit, decimal_step}
-use Rattle.std.specs.Fmt.{decimal}
-use Rattle.std.specs.Prelude.{codes}
-use Rattle.std.proofs.lemmas.Bool.{cases_Bool, cond-true, cond-false}
-use Rattle.sip_text.specs.declared.parts.Header.{Header}
-use Rattle.sip_text.specs.Name.{first_of, first_value, same_name, values_of}
-use Rattle.sip_text.specs.Seen.{view, views}
-use Rattle.sip_text.specs.Text.{HeaderText}
-use Rattle.sip_via.specs.Edits.{place_of}
+use Rattle.sip_text.specs.Name.{values_of}
 
 -- no line has the name
 first-none : (name : List ℕ) (hs : List HeaderText) → drop (place_of name hs) hs ≡ [] → first_value name hs ≡ None

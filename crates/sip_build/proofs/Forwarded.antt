@@ -1,28 +1,15 @@
 -- A request as it goes to a target is a message.
-use Rattle.std.proofs.Common.{◌≡◌, ℕ, ◌-◌, ◌<◌, ◌^◌, true, false, not, eqb, ltb, map, List, [], ◌∷◌, ◌++◌, length, Option, Some, None, refl, sym, ap, subst, ◌∙◌, arith}
-use Rattle.std.specs.Prelude.{◌&&◌, codes, IfSome, is_none}
+use Rattle.sip_build.proofs.Common.{◌≡◌, ℕ, ◌-◌, ◌<◌, ◌^◌, true, false, not, eqb, map, List, [], ◌∷◌, ◌++◌, length, Option, Some, None, refl, sym, ap, subst, ◌∙◌, arith, ◌&&◌, codes, IfSome, is_none, decimal, list_all, and_parts}
+use Rattle.sip_build.proofs.Common.{false≢true, is_token, number, CSeqText, cseq_in, fits_start, length_name, said_by, IsMessage, fits_body, is_header, is_start, is_value, first_of, first_value, is_uri, HeaderText, MessageText, Request}
+use Rattle.sip_build.proofs.Common.{Response, StartText, and_both, Uri, request_uri, Own, BranchName, line, own_via, forwarded, hops_lowered, is_request, to_target, IsHops, hops_name, SameOthers, all-replaced, values-replaced}
+use Rattle.std.proofs.Common.{ltb}
 use Rattle.std.specs.Char.{to_ascii_lowercase}
-use Rattle.std.specs.Fmt.{decimal}
-use Rattle.std.specs.List.{list_all}
-use Rattle.std.proofs.lemmas.Bool.{and_parts, false≢true, lt-ltb}
-use Rattle.sip_lex.specs.Bytes.{is_token}
-use Rattle.sip_lex.specs.Number.{number}
-use Rattle.sip_text.specs.Fields.{CSeqText, cseq_in, fits_start, length_name, said_by}
-use Rattle.sip_text.specs.Message.{IsMessage, fits_body, is_header, is_start, is_value}
-use Rattle.sip_text.specs.Name.{first_of, first_value, full_name, values_of}
-use Rattle.sip_text.specs.Reading.{is_printed, is_uri}
-use Rattle.sip_text.specs.Text.{HeaderText, MessageText, Request, Response, StartText}
-use Rattle.sip_text.proofs.Good.{and_both}
+use Rattle.std.proofs.lemmas.Bool.{lt-ltb}
+use Rattle.sip_text.specs.Name.{full_name, values_of}
+use Rattle.sip_text.specs.Reading.{is_printed}
 use Rattle.sip_uri.specs.Grammar.{IsUri, is_uri_byte}
-use Rattle.sip_uri.specs.Uri.{Uri, request_uri}
-use Rattle.sip_via.specs.declared.own.Own.{Own}
-use Rattle.sip_via.specs.declared.branch.BranchName.{BranchName}
-use Rattle.sip_via.specs.Edits.{line}
-use Rattle.sip_via.specs.OwnVia.{own_via}
-use Rattle.sip_build.specs.Forwarding.{forwarded, hops_lowered, is_request, to_target}
-use Rattle.sip_route.specs.Hops.{IsHops, hops_name}
 use Rattle.sip_via.proofs.laws.OwnVia.{decimal-value}
-use Rattle.sip_via.proofs.laws.Replaced.{SameOthers, all-replaced, same-missing, values-replaced}
+use Rattle.sip_via.proofs.laws.Replaced.{same-missing}
 
 -- ---- the start line
 

@@ -1,24 +1,13 @@
 -- A response of the proxy's own is a message.
-use Rattle.std.proofs.Common.{◌≡◌, ℕ, true, List, [], ◌∷◌, ◌++◌, map, take, Option, Some, refl, sym, ap, subst, ◌∙◌, arith}
-use Rattle.std.specs.Prelude.{codes}
-use Rattle.std.specs.List.{list_all}
-use Rattle.std.proofs.lemmas.Bool.{and_parts, and_from, cond_both}
-use Rattle.md5.specs.Md5.{md5}
-use Rattle.sip_lex.specs.Bytes.{is_token}
-use Rattle.sip_text.specs.declared.needed.Needed.TheVariants.{Via, From, To, CallId, CSeq}
-use Rattle.sip_text.specs.Fields.{CSeqText, cseq_fits, cseq_in, fits_start, length_name, message_cseq, said_by, value_of}
-use Rattle.sip_text.specs.Message.{IsMessage, fits_body, is_header, is_line, is_line_byte, is_start, is_value}
-use Rattle.sip_text.specs.Name.{first_of, full_name, values_of}
-use Rattle.sip_text.specs.Text.{HeaderText, MessageText, StartText, Response}
-use Rattle.sip_build.specs.declared.responses.OwnStatus.{OwnStatus}
+use Rattle.sip_build.proofs.Common.{◌≡◌, ℕ, true, List, [], ◌∷◌, ◌++◌, map, take, Option, Some, refl, sym, ap, subst, ◌∙◌, arith, codes, list_all, and_parts, and_from, cond_both, md5, is_token, Via, From, To, CallId, CSeq, CSeqText}
+use Rattle.sip_build.proofs.Common.{cseq_in, fits_start, length_name, message_cseq, said_by, value_of, IsMessage, fits_body, is_header, is_line, is_line_byte, is_start, is_value, first_of, HeaderText, MessageText, StartText, Response}
+use Rattle.sip_build.proofs.Common.{OwnStatus, code_of, generated_of, gets_tag, reason_of, tagged, to_lines, unsupported_lines, with_tag, line, first_line, lines_named, field_lines, all_pass, high_line, high_no_space, is_high, no_space}
+use Rattle.sip_text.specs.Fields.{cseq_fits}
+use Rattle.sip_text.specs.Name.{full_name, values_of}
 use Rattle.sip_build.specs.declared.responses.OwnStatus.TheVariants as own
-use Rattle.sip_build.specs.Generated.{code_of, generated_of, gets_tag, reason_of, tagged, to_lines, unsupported_lines, with_tag}
-use Rattle.sip_via.specs.Edits.{line}
-use Rattle.sip_via.specs.Lines.{first_line, lines_named}
-use Rattle.sip_route.specs.Loop.{field_lines}
 use Rattle.sip_build.specs.OwnTag.{own_tag, tag_fields}
 use Rattle.sip_build.proofs.Named.{AreNamed, Has, all_keep, cseq_there, first_keeps, has_all, named_filter, named_first, named_lines, named_tagged, none_missing, skip, tagged_keeps}
-use Rattle.sip_via.proofs.laws.Tokens.{all_pass, hex_text_high, high_line, high_no_space, is_high, no_space}
+use Rattle.sip_via.proofs.laws.Tokens.{hex_text_high}
 use Rattle.sip_build.proofs.HeaderValues.{behind_good, filter_good, joined_good, lines_good, one_good, values_good}
 
 -- ---- each part of the header lines is of one name

@@ -1,30 +1,17 @@
 -- Header lines in groups, as lines and as text.
-use Rattle.std.proofs.Common.{◌≡◌, ◌+◌, ◌-◌, ◌^◌, ◌<◌, ◌≤◌, arith, Option, Some, None, inl, inr, Result, Ok, Err, OnErr, OnOk, length, min, subst, ℕ, List, [], ◌∷◌, ◌++◌, map, refl, sym, ap, ◌∙◌, append_assoc}
-use Rattle.std.specs.Borrow.{Bor}
-use Rattle.std.specs.List.{filter, flat_map}
+use Rattle.sip_build.proofs.Common.{◌≡◌, ◌+◌, ◌-◌, ◌^◌, ◌<◌, ◌≤◌, arith, Option, Some, None, inl, inr, OnOk, length, subst, ℕ, List, [], ◌∷◌, ◌++◌, map, refl, sym, ap, ◌∙◌, append_assoc, Bor, filter, flat_map, flat_map-map, codes}
+use Rattle.sip_build.proofs.Common.{if◌then◌else◌, cases_Bool, cond-false, cond-true, ended, same_name, HeaderText, MessageText, Request, StartText, header_text, saturated, start_line, Uri, request_uri, BranchName, Own, lines_among}
+use Rattle.sip_build.proofs.Common.{own_via, line, length-append, texts, lines_text, challenge_line, contact_lines, is_other, lines_of, start_of, tail_text, under}
+use Rattle.std.proofs.Common.{Result, Ok, Err, OnErr, min}
 use Rattle.std.proofs.lemmas.Grind.{flat_map-append}
-use Rattle.std.proofs.lemmas.List.Folds.{flat_map-map}
-use Rattle.std.specs.Prelude.{IsOk, codes, if◌then◌else◌}
-use Rattle.std.proofs.lemmas.Bool.{cases_Bool, cond-false, cond-true}
+use Rattle.std.specs.Prelude.{IsOk}
 use Rattle.fork_model.specs.Table as table
-use Rattle.sip_lex.specs.Line.{ended}
-use Rattle.sip_text.specs.Name.{same_name, values_of}
-use Rattle.sip_text.specs.Text.{HeaderText, MessageText, Request, StartText, header_text, saturated, spelling, start_line}
-use Rattle.sip_uri.specs.Uri.{Uri, request_uri}
-use Rattle.sip_via.specs.declared.branch.BranchName.{BranchName}
-use Rattle.sip_via.specs.declared.own.Own.{Own}
-use Rattle.sip_via.specs.Lines.{lines_among}
-use Rattle.sip_via.specs.OwnVia.{own_via}
-use Rattle.sip_via.specs.Edits.{line}
-use Rattle.std.proofs.lemmas.List.{length-append}
-use Rattle.sip_build.specs.SeenKept.{texts}
-use Rattle.sip_build.specs.Texts.{lines_text}
-use Rattle.sip_build.specs.Upward.{challenge_line, contact_lines}
+use Rattle.sip_text.specs.Name.{values_of}
+use Rattle.sip_text.specs.Text.{spelling}
 use Rattle.sip_build.specs.declared.groups.Group.{Group}
 use Rattle.sip_build.specs.declared.made_text.Front.{Front}
-use Rattle.sip_build.specs.Exchanged.{is_other}
-use Rattle.sip_build.specs.Groups.{all_lines, lines_of, made_of, start_of, tail_text, under}
-use Rattle.sip_build.specs.ToTarget.{request_to}
+use Rattle.sip_build.specs.inner.Groups.{all_lines, made_of}
+use Rattle.sip_build.specs.inner.ToTarget.{request_to}
 use Rattle.sip_build.proofs.Exchanged.{filter-named, filter-other}
 
 -- what each part's lines are as text, and the text of all lines

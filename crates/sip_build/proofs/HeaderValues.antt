@@ -1,45 +1,18 @@
 -- Which texts are header values.
-use Rattle.std.proofs.Common.{◌≡◌, ℕ, ◌-◌, ◌<◌, Bool, true, false, not, eqb, List, [], ◌∷◌, ◌++◌, length, map, take, drop, reverse, refl, sym, ap, subst, ◌∙◌, arith}
-use Rattle.std.specs.Prelude.{◌&&◌, codes}
-use Rattle.std.specs.List.{list_all, flat_map, filter, onto_first, prefix_len, suffix_len}
-use Rattle.std.proofs.lemmas.Bool.{and_parts, and_from, cond_both, false≢true}
-use Rattle.std.proofs.lemmas.List.{length-reverse, reverse-append, take-append-drop}
-use Rattle.std.proofs.lemmas.List.Folds.{list_all-append}
-use Rattle.sip_lex.specs.declared.sheltered.Shelter.TheVariants.{Quotes}
-use Rattle.sip_lex.specs.declared.sheltered.Place.{Place}
-use Rattle.sip_lex.specs.declared.sheltered.Place.TheVariants.{Plain}
-use Rattle.sip_lex.specs.Bytes.{is_space, is_token, trim, trim_start}
-use Rattle.sip_lex.specs.Outside.{pieces_from, pieces_outside}
-use Rattle.sip_lex.specs.Sheltered.{is_plain, place_after}
-use Rattle.sip_text.specs.Message.{is_header, is_line, is_line_byte, is_trimmed, is_value}
-use Rattle.sip_text.specs.Name.{first_of, same_name, values_of}
-use Rattle.sip_text.specs.Reading.{begins_with_space}
-use Rattle.sip_text.specs.Text.{HeaderText, MessageText}
-use Rattle.sip_text.proofs.Good.{trim_trimmed}
-use Rattle.sip_via.specs.Edits.{line}
-use Rattle.sip_via.specs.Lines.{has_name}
-use Rattle.sip_via.specs.ViaParts.{or_empty}
-use Rattle.sip_via.proofs.laws.Tokens.{no_space}
-use Rattle.sip_via.specs.TopVia.{first_or_empty, top_value, values_in, via_lines, via_values}
+use Rattle.sip_build.proofs.Common.{◌≡◌, ℕ, ◌<◌, Bool, true, false, not, eqb, List, [], ◌∷◌, ◌++◌, length, map, take, reverse, refl, sym, ap, subst, ◌∙◌, arith, ◌&&◌, codes, list_all, flat_map, filter, onto_first, and_parts, and_from}
+use Rattle.sip_build.proofs.Common.{cond_both, false≢true, reverse-append, list_all-append, Quotes, Place, Plain, is_space, is_token, trim, pieces_from, is_plain, place_after, is_header, is_line, is_line_byte, is_trimmed, is_value}
+use Rattle.sip_build.proofs.Common.{first_of, same_name, begins_with_space, HeaderText, MessageText, line, has_name, or_empty, no_space, first_or_empty, top_value, values_in, via_values}
+use Rattle.std.proofs.lemmas.List.{length-reverse}
+use Rattle.sip_uri.proofs.laws.Values.{onto_line}
+use Rattle.sip_lex.specs.Outside.{pieces_outside}
+use Rattle.sip_text.specs.Name.{values_of}
+use Rattle.sip_text.proofs.laws.Good.{trim_trimmed, all_trim}
+use Rattle.sip_via.specs.TopVia.{via_lines}
 
 -- ---- parts of lines
 
-all_parts : (p : ℕ → Bool) (n : ℕ) (bs : List ℕ) → list_all p bs ≡ true → (list_all p (take n bs) ≡ true) × (list_all p (drop n bs) ≡ true)
-all_parts p n bs h = and_parts (list_all p (take n bs)) (list_all p (drop n bs)) (sym (list_all-append p (take n bs) (drop n bs)) ∙ ap (list_all p) (take-append-drop n bs) ∙ h)
-
-all_trim : (p : ℕ → Bool) (bs : List ℕ) → list_all p bs ≡ true → list_all p (trim bs) ≡ true
-all_trim p bs h =
-    let s = trim_start bs in
-    (all_parts p (length s - suffix_len is_space s) s (all_parts p (prefix_len is_space bs) bs h).1).0
-
 pub trimmed_value : (bs : List ℕ) → is_line bs ≡ true → is_value (trim bs) ≡ true
 trimmed_value bs h = and_from (is_line (trim bs)) (is_trimmed (trim bs)) (all_trim is_line_byte bs h) (trim_trimmed bs)
-
-onto_line : (b : ℕ) (parts : List (List ℕ)) → is_line_byte b ≡ true → list_all is_line parts ≡ true → list_all is_line (onto_first b parts) ≡ true
-onto_line b [] h k = and_from (is_line (b ∷ [])) true (and_from (is_line_byte b) true h refl) refl
-onto_line b (part ∷ parts) h k =
-    let each = and_parts (is_line part) (list_all is_line parts) k in
-    and_from (is_line (b ∷ part)) (list_all is_line parts) (and_from (is_line_byte b) (is_line part) h each.0) each.1
 
 pieces_line : (mark : ℕ) (place : Place) (bs : List ℕ) → is_line bs ≡ true → list_all is_line (pieces_from Quotes mark place bs) ≡ true
 pieces_line mark place [] h = refl

@@ -1,19 +1,13 @@
 -- Values by name in lists of header lines.
-use Rattle.std.proofs.Common.{◌≡◌, ℕ, true, false, cond, List, [], ◌∷◌, ◌++◌, map, take, Option, Some, None, refl, sym, ap, ◌∙◌, inl, inr}
-use Rattle.std.specs.Prelude.{is_none}
-use Rattle.std.specs.List.{AllByRecursion, filter}
-use Rattle.std.proofs.lemmas.Bool.{cases_Bool, cond_both, cond-true, cond-false, false≢true}
-use Rattle.std.specs.Str.{bytes_eq, str_to_ascii_lowercase}
+use Rattle.sip_build.proofs.Common.{◌≡◌, ℕ, true, false, cond, List, [], ◌∷◌, ◌++◌, map, take, Option, Some, None, refl, sym, ap, ◌∙◌, inl, inr, is_none, filter, cases_Bool, cond_both, cond-true, cond-false, false≢true, bytes_eq, Via, From}
+use Rattle.sip_build.proofs.Common.{To, CallId, CSeq, CSeqText, fits_start, value_of, first_of, same_name, HeaderText, StartText, found, tagged, with_tag, line, has_name}
+use Rattle.std.specs.List.{AllByRecursion}
+use Rattle.std.specs.Str.{str_to_ascii_lowercase}
 use Rattle.std.proofs.lemmas.Slice.Eq.{bytes_eq-Decides}
 use Rattle.sip_text.specs.declared.needed.Needed.{Needed}
-use Rattle.sip_text.specs.declared.needed.Needed.TheVariants.{Via, From, To, CallId, CSeq}
-use Rattle.sip_text.specs.Fields.{CSeqText, fits_start, missing, value_of}
-use Rattle.sip_text.specs.Name.{first_of, full_name, same_name, values_of}
-use Rattle.sip_text.specs.Text.{HeaderText, StartText}
-use Rattle.sip_text.proofs.Good.{found, some_is}
-use Rattle.sip_build.specs.Generated.{tagged, with_tag}
-use Rattle.sip_via.specs.Edits.{line}
-use Rattle.sip_via.specs.Lines.{has_name}
+use Rattle.sip_text.specs.Fields.{missing}
+use Rattle.sip_text.specs.Name.{full_name, values_of}
+use Rattle.sip_text.proofs.laws.Good.{some_is}
 
 -- ---- one line
 

@@ -1,14 +1,5 @@
 -- Texts that grow by pieces.
-use Rattle.std.proofs.Common.{◌≡◌, ℕ, List, [], ◌∷◌, ◌++◌, sym, ap, ◌∙◌, append_assoc}
-use Rattle.sip_text.specs.Text.{header_text}
-use Rattle.std.specs.Prelude.{codes}
-use Rattle.std.specs.Fmt.{decimal}
-use Rattle.sip_via.specs.declared.own.Own.{Own}
-use Rattle.sip_via.specs.declared.branch.BranchName.{BranchName}
-use Rattle.sip_via.specs.Address.{address_text}
-use Rattle.sip_via.specs.BranchText.{branch_text}
-use Rattle.sip_via.specs.Edits.{line}
-use Rattle.sip_via.specs.OwnVia.{own_via}
+use Rattle.sip_build.proofs.Common.{◌≡◌, ℕ, List, [], ◌∷◌, ◌++◌, sym, ap, ◌∙◌, append_assoc, header_text, codes, decimal, Own, BranchName, address_text, branch_text, line, own_via}
 
 abbrev pub Text : Type 0
 Text = List ℕ

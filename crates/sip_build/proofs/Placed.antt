@@ -1,9 +1,7 @@
 -- Bytes that were written at a place, piece by piece.
-use Rattle.std.proofs.Common.{◌≡◌, ◌∙◌, ℕ, ◌+◌, ◌<◌, ◌≤◌, List, ◌++◌, length, take, get_or, map, ap, append_assoc, arith, subst}
-use Rattle.std.proofs.lemmas.List.{length-append}
-use Rattle.std.specs.List.{flat_map}
-use Rattle.std.proofs.lemmas.List.Folds.{flat_map-map, length-flat_map-take}
-use Rattle.sip_build.specs.Placed.{Placed}
+use Rattle.sip_build.proofs.Common.{◌≡◌, ◌∙◌, ℕ, ◌+◌, ◌<◌, ◌≤◌, List, ◌++◌, length, take, map, ap, append_assoc, arith, subst, length-append, flat_map, flat_map-map, Placed}
+use Rattle.std.proofs.Common.{get_or}
+use Rattle.std.proofs.lemmas.List.Folds.{length-flat_map-take}
 
 -- under another name of the text
 pub placed-as : (old new : List ℕ) (at end : ℕ) (a b : List ℕ) → Placed old new at a end → a ≡ b → Placed old new at b end

@@ -1,32 +1,14 @@
 -- An ACK or CANCEL is a message.
-use Rattle.std.proofs.Common.{◌≡◌, ℕ, ◌-◌, ◌^◌, ◌<◌, true, false, not, List, [], ◌∷◌, ◌++◌, reverse, Option, Some, None, refl, sym, ap, ◌∙◌, arith, inl, inr}
-use Rattle.std.specs.Prelude.{codes}
-use Rattle.std.specs.Fmt.{decimal}
-use Rattle.std.specs.List.{list_all}
-use Rattle.std.specs.Str.{bytes_eq}
-use Rattle.std.proofs.lemmas.Bool.{and_parts, and_from, cases_Bool, cond-true, cond-false, false≢true}
+use Rattle.sip_build.proofs.Common.{◌≡◌, ℕ, ◌-◌, ◌^◌, ◌<◌, true, false, not, List, [], ◌∷◌, ◌++◌, reverse, Option, Some, None, refl, sym, ap, ◌∙◌, arith, inl, inr, codes, decimal, list_all, bytes_eq, and_parts, and_from, cases_Bool}
+use Rattle.sip_build.proofs.Common.{cond-true, cond-false, false≢true, reverse-append, list_all-append, is_space, is_token, trim_start, cut, number_within, Via, From, To, CallId, CSeq, CSeqText, cseq_in, cseq_of, cseq_of_cut, cseq_with}
+use Rattle.sip_build.proofs.Common.{fits_start, length_name, message_cseq, said_by, value_of, IsMessage, fits_body, is_header, is_line, is_line_byte, is_start, is_trimmed, is_value, first_of, same_name, begins_with_space, is_uri}
+use Rattle.sip_build.proofs.Common.{HeaderText, MessageText, StartText, Request, Response, found, line, lines_as, number_text, is_request, along, to_value, top_value, all_pass, decimal_high, high_line, high_no_space, is_high, no_space}
 use Rattle.std.proofs.lemmas.Fmt.{decimal_nonempty}
-use Rattle.std.proofs.lemmas.List.{reverse-append}
-use Rattle.std.proofs.lemmas.List.Folds.{list_all-append}
-use Rattle.sip_lex.specs.Bytes.{is_space, is_token, trim_start}
-use Rattle.sip_lex.specs.Cut.{cut}
-use Rattle.sip_lex.specs.Number.{number_within}
-use Rattle.sip_text.specs.declared.needed.Needed.TheVariants.{Via, From, To, CallId, CSeq}
-use Rattle.sip_text.specs.Fields.{CSeqText, cseq_in, cseq_of, cseq_of_cut, cseq_with, fits_start, length_name, message_cseq, said_by, value_of}
-use Rattle.sip_text.specs.Message.{IsMessage, fits_body, is_header, is_line, is_line_byte, is_start, is_trimmed, is_value}
-use Rattle.sip_text.specs.Name.{first_of, full_name, same_name, values_of}
-use Rattle.sip_text.specs.Reading.{begins_with_space, is_uri}
-use Rattle.sip_text.specs.Text.{HeaderText, MessageText, StartText, Request, Response}
-use Rattle.sip_text.proofs.Good.{found}
-use Rattle.sip_via.specs.Edits.{line}
-use Rattle.sip_via.specs.Lines.{lines_as}
-use Rattle.sip_route.specs.Loop.{call_id, cseq_number, number_text, request_uri}
-use Rattle.sip_build.specs.Forwarding.{is_request}
-use Rattle.sip_build.specs.Requests.{ack_of, along, cancel_of, from_value, to_value}
-use Rattle.sip_via.specs.TopVia.{top_value}
+use Rattle.sip_text.specs.Name.{full_name, values_of}
+use Rattle.sip_route.specs.Loop.{call_id, cseq_number, request_uri}
+use Rattle.sip_build.specs.Requests.{ack_of, cancel_of, from_value}
 use Rattle.sip_build.proofs.Named.{AreNamed, cseq_there, named_lines, none_missing, skip}
 use Rattle.sip_lex.proofs.laws.Numbers.{number_read_within}
-use Rattle.sip_via.proofs.laws.Tokens.{all_pass, decimal_high, high_line, high_no_space, is_high, no_space}
 use Rattle.sip_build.proofs.CSeqAgain.{IsMethod, cseq_again}
 use Rattle.sip_build.proofs.HeaderValues.{ends, first_good, joined_good, lines_good, top_good, values_good}
 

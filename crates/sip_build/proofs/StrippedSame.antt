@@ -1,27 +1,12 @@
 -- A response of the proxy's own is the same once the first Route value is gone.
-use Rattle.std.proofs.Common.{◌≡◌, ℕ, Bool, false, cond, List, [], ◌∷◌, ◌++◌, map, take, Option, Some, None, refl, sym, ap, ◌∙◌, inl, inr}
-use Rattle.std.specs.Prelude.{codes, is_none, option_map}
-use Rattle.std.proofs.lemmas.Bool.{cases_Bool, cond_both, cond-true, cond-false}
-use Rattle.md5.specs.Md5.{md5}
+use Rattle.sip_build.proofs.Common.{◌≡◌, ℕ, Bool, false, cond, List, [], ◌∷◌, ◌++◌, map, take, Option, Some, None, refl, sym, ap, ◌∙◌, inl, inr, codes, is_none, option_map, cases_Bool, cond_both, cond-true, cond-false, md5, Plain, trim}
+use Rattle.sip_build.proofs.Common.{cut_outside, cseq_in, first_of, first_value, same_name, values_of, HeaderText, MessageText, Response, hex_text, Own, line, line_if_any, replaced, with_headers, lines_among, or_empty, apart}
+use Rattle.sip_build.proofs.Common.{values-replaced, field_lines, number_text, OwnStatus, code_of, generated_of, gets_tag, reason_of, tagged, to_lines, unsupported_lines}
 use Rattle.sip_lex.specs.declared.sheltered.Shelter.TheVariants.{QuotesAndAngles}
-use Rattle.sip_lex.specs.declared.sheltered.Place.TheVariants.{Plain}
-use Rattle.sip_lex.specs.Bytes.{trim}
-use Rattle.sip_lex.specs.Sheltered.{cut_outside}
-use Rattle.sip_text.specs.Fields.{cseq_in}
-use Rattle.sip_text.specs.Name.{first_of, first_value, full_name, same_name, values_of}
+use Rattle.sip_text.specs.Name.{full_name}
 use Rattle.sip_text.specs.Tag.{tag_in}
-use Rattle.sip_text.specs.Text.{HeaderText, MessageText, Response}
-use Rattle.sip_via.specs.HexPair.{hex_text}
-use Rattle.sip_via.specs.declared.own.Own.{Own}
-use Rattle.sip_via.specs.Edits.{line, line_if_any, replaced, with_headers}
-use Rattle.sip_via.specs.Lines.{lines_among}
-use Rattle.sip_via.specs.ViaParts.{or_empty}
-use Rattle.sip_via.proofs.laws.Replaced.{apart, values-replaced}
-use Rattle.sip_route.specs.Loop.{field_lines, number_text}
 use Rattle.sip_route.specs.Routes.{names_own, route_name, stripped, stripped_at, without_first}
-use Rattle.sip_build.specs.declared.responses.OwnStatus.{OwnStatus}
 use Rattle.sip_build.specs.declared.responses.OwnStatus.TheVariants as own
-use Rattle.sip_build.specs.Generated.{code_of, generated_of, gets_tag, reason_of, tagged, to_lines, unsupported_lines}
 use Rattle.sip_build.specs.OwnTag.{own_tag}
 
 -- ---- lines of another name

@@ -1,29 +1,14 @@
 -- A response as it goes upstream is a message.
-use Rattle.std.proofs.Common.{◌≡◌, ℕ, Bool, true, false, cond, List, [], ◌∷◌, ◌++◌, drop, map, Option, Some, None, refl, sym, ap, ◌∙◌, inl, inr}
-use Rattle.std.specs.Prelude.{codes, is_none, option_map}
-use Rattle.std.specs.List.{filter, flat_map, list_all}
-use Rattle.std.proofs.lemmas.Bool.{and_parts, cases_Bool, cond_both, cond-true, cond-false, false≢true}
-use Rattle.std.proofs.lemmas.List.{append-nil}
-use Rattle.std.proofs.lemmas.List.Folds.{list_all-append}
+use Rattle.sip_build.proofs.Common.{◌≡◌, ℕ, Bool, true, false, cond, List, [], ◌∷◌, ◌++◌, drop, map, Option, Some, None, refl, sym, ap, ◌∙◌, inl, inr, codes, is_none, option_map, filter, flat_map, list_all, and_parts, cases_Bool, cond_both}
+use Rattle.sip_build.proofs.Common.{cond-true, cond-false, false≢true, append-nil, list_all-append, Quotes, Plain, is_token, trim, pieces_outside_behind, cut_outside, pieces_outside-cut, length_name, IsMessage, is_header, is_value}
+use Rattle.sip_build.proofs.Common.{first_of, first_value, same_name, HeaderText, MessageText, and_both, replaced, exchanged, is_other, has_second, values_in, via_values, challenge_line, challenge_name, contact_lines, others_of}
+use Rattle.sip_build.proofs.Common.{upward_headers, upward_of, with_contacts, without_top, SameOthers, all-replaced, apart, values-replaced}
 use Rattle.fork_model.specs.Table as table
-use Rattle.sip_lex.specs.declared.sheltered.Shelter.TheVariants.{Quotes}
-use Rattle.sip_lex.specs.declared.sheltered.Place.TheVariants.{Plain}
-use Rattle.sip_lex.specs.Bytes.{is_token, trim}
-use Rattle.sip_lex.specs.Outside.{pieces_outside_behind}
-use Rattle.sip_lex.specs.Sheltered.{cut_outside}
-use Rattle.sip_lex.proofs.OutsideSplits.{pieces_outside-cut}
-use Rattle.sip_text.specs.Fields.{length_name}
-use Rattle.sip_text.specs.Message.{IsMessage, is_header, is_value}
-use Rattle.sip_text.specs.Name.{first_of, first_value, full_name, same_name, values_of}
-use Rattle.sip_text.specs.Text.{HeaderText, MessageText}
-use Rattle.sip_text.proofs.Good.{and_both}
-use Rattle.sip_via.specs.Edits.{replaced}
-use Rattle.sip_build.specs.Exchanged.{exchanged, is_other}
-use Rattle.sip_via.specs.TopVia.{has_second, values_in, via_values}
-use Rattle.sip_build.specs.Upward.{AreKept, challenge_line, challenge_name, contact_lines, is_challenge, others_of, upward_headers, upward_of, with_contacts, without_top}
+use Rattle.sip_text.specs.Name.{full_name, values_of}
+use Rattle.sip_build.specs.Upward.{AreKept, is_challenge}
 use Rattle.sip_build.proofs.Exchanged.{filter-named, filter-other}
 use Rattle.sip_build.proofs.HeaderValues.{lines_good}
-use Rattle.sip_via.proofs.laws.Replaced.{GoodValue, SameOthers, all-replaced, apart, edited-good, first-good, first-replaced, values-replaced}
+use Rattle.sip_via.proofs.laws.Replaced.{GoodValue, edited-good, first-good, first-replaced}
 use Rattle.sip_via.proofs.laws.TrimmedValues.{others-good}
 
 -- ---- values of a name among lines

@@ -1,7 +1,5 @@
 -- Header lines of a response that goes upstream, in groups.
-use Rattle.std.proofs.Common.{◌≡◌, List, [], ◌++◌, sym, ap, ◌∙◌, append_assoc}
-use Rattle.std.proofs.lemmas.List.{append-nil}
-use Rattle.sip_text.specs.Text.{HeaderText}
+use Rattle.sip_build.proofs.Common.{◌≡◌, List, [], ◌++◌, sym, ap, ◌∙◌, append_assoc, append-nil, HeaderText}
 
 abbrev Lines : Type 0
 Lines = List HeaderText

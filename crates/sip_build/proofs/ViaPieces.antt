@@ -1,39 +1,27 @@
 -- The values of a Via line: space round the whole line adds none and changes none.
-use Rattle.std.proofs.Common.{◌≡◌, ℕ, Bool, true, false, not, eqb, cond, List, [], ◌∷◌, ◌++◌, map, reverse, refl, sym, ap, subst, ◌∙◌, inl, inr}
-use Rattle.std.specs.Prelude.{◌&&◌, ◌⊎◌}
-use Rattle.std.specs.List.{list_all, onto_first}
-use Rattle.std.proofs.lemmas.Bool.{and_parts, cases_Bool, cond-false, cond-true, eqb-true, false_from_ne_true, false≢true}
-use Rattle.std.proofs.lemmas.List.{append-nil, reverse-append}
-use Rattle.std.proofs.lemmas.List.Folds.{list_all-append}
-use Rattle.sip_lex.specs.declared.sheltered.Place.{Place}
-use Rattle.sip_lex.specs.declared.sheltered.Place.TheVariants.{Plain, Quoted, Angled}
-use Rattle.sip_lex.specs.declared.sheltered.Shelter.TheVariants.{Quotes}
-use Rattle.sip_lex.specs.Bytes.{is_space, trim, trim_end, trim_start}
-use Rattle.sip_lex.specs.Outside.{pieces_from, pieces_outside_behind}
-use Rattle.sip_lex.specs.Sheltered.{cut_outside, is_plain, place_after}
-use Rattle.sip_lex.proofs.OutsideSplits.{pieces_from-cut}
-use Rattle.sip_lex.proofs.Trims.{trim_end-reverse, trim_end-whole, trim_start-none, trim_start-spaces, trim_start-whole}
-use Rattle.sip_text.proofs.Good.{and_both}
-use Rattle.sip_via.specs.TopVia.{values_in}
+use Rattle.sip_build.proofs.Common.{◌≡◌, ℕ, Bool, true, false, not, eqb, cond, List, [], ◌∷◌, ◌++◌, map, reverse, refl, sym, ap, subst, ◌∙◌, inl, inr, ◌&&◌, list_all, onto_first, and_parts, cases_Bool, cond-false, cond-true, false≢true}
+use Rattle.sip_build.proofs.Common.{append-nil, reverse-append, list_all-append, Place, Plain, Quotes, is_space, trim, trim_end, trim_start, pieces_from, pieces_outside_behind, cut_outside, is_plain, place_after, trim_end-reverse, and_both}
+use Rattle.sip_build.proofs.Common.{values_in, is-not}
+use Rattle.std.specs.Prelude.{◌⊎◌}
+use Rattle.std.proofs.lemmas.Bool.{eqb-true, false_from_ne_true}
+use Rattle.sip_lex.specs.declared.sheltered.Place.TheVariants.{Quoted, Angled}
+use Rattle.sip_lex.proofs.laws.OutsideSplits.{pieces_from-cut}
+use Rattle.sip_lex.proofs.laws.Trims.{trim_end-whole, trim_start-none, trim_start-spaces, trim_start-whole}
 
 -- ---- bytes that begin nothing
 
 -- neither a comma nor a quote
-abbrev pub is_calm : ℕ → Bool
-is_calm b = not (eqb b 44) && not (eqb b 34)
+abbrev pub is_no_mark : ℕ → Bool
+is_no_mark b = not (eqb b 44) && not (eqb b 34)
 
-pub calm-class : (p : ℕ → Bool) → p 44 ≡ false → p 34 ≡ false → (b : ℕ) → p b ≡ true → is_calm b ≡ true
-calm-class p no_comma no_quote b h =
+pub no_mark-class : (p : ℕ → Bool) → p 44 ≡ false → p 34 ≡ false → (b : ℕ) → p b ≡ true → is_no_mark b ≡ true
+no_mark-class p no_comma no_quote b h =
     let comma = false_from_ne_true (eqb b 44) (λ e. false≢true (sym no_comma ∙ subst (λ x. p x ≡ true) (eqb-true b 44 e) h)) in
     let quote = false_from_ne_true (eqb b 34) (λ e. false≢true (sym no_quote ∙ subst (λ x. p x ≡ true) (eqb-true b 34 e) h)) in
     ap (λ x. not x && not (eqb b 34)) comma ∙ ap not quote
 
-pub is-not : (t : Bool) → not t ≡ true → t ≡ false
-is-not true e = absurd (false≢true e)
-is-not false e = refl
-
-after-calm : (b : ℕ) → eqb b 34 ≡ false → place_after Quotes Plain b ≡ Plain
-after-calm b e =
+after-no_mark : (b : ℕ) → eqb b 34 ≡ false → place_after Quotes Plain b ≡ Plain
+after-no_mark b e =
     cond-false (eqb b 34) Quoted (cond (eqb b 60 && false) Angled Plain) e
     ∙ elim (cases_Bool (eqb b 60)) [
       | inl t ↦ ap (λ x. cond (x && false) Angled Plain) t
@@ -41,20 +29,20 @@ after-calm b e =
     ]
 
 -- one such byte more at the front
-calm-first : (b : ℕ) (bs : List ℕ) → is_calm b ≡ true → pieces_from Quotes 44 Plain (b ∷ bs) ≡ onto_first b (pieces_from Quotes 44 Plain bs)
-calm-first b bs h =
+no_mark-first : (b : ℕ) (bs : List ℕ) → is_no_mark b ≡ true → pieces_from Quotes 44 Plain (b ∷ bs) ≡ onto_first b (pieces_from Quotes 44 Plain bs)
+no_mark-first b bs h =
     let each = and_parts (not (eqb b 44)) (not (eqb b 34)) h in
     cond-false (eqb b 44) ([] ∷ pieces_from Quotes 44 Plain bs) (onto_first b (pieces_from Quotes 44 (place_after Quotes Plain b) bs)) (is-not (eqb b 44) each.0)
-    ∙ ap (λ place. onto_first b (pieces_from Quotes 44 place bs)) (after-calm b (is-not (eqb b 34) each.1))
+    ∙ ap (λ place. onto_first b (pieces_from Quotes 44 place bs)) (after-no_mark b (is-not (eqb b 34) each.1))
 
-pub one-piece : (bs : List ℕ) → list_all is_calm bs ≡ true → pieces_from Quotes 44 Plain bs ≡ bs ∷ []
+pub one-piece : (bs : List ℕ) → list_all is_no_mark bs ≡ true → pieces_from Quotes 44 Plain bs ≡ bs ∷ []
 one-piece [] h = refl
 one-piece (b ∷ bs) h =
-    let each = and_parts (is_calm b) (list_all is_calm bs) h in
-    calm-first b bs each.0 ∙ ap (λ (ps : List (List ℕ)). onto_first b ps) (one-piece bs each.1)
+    let each = and_parts (is_no_mark b) (list_all is_no_mark bs) h in
+    no_mark-first b bs each.0 ∙ ap (λ (ps : List (List ℕ)). onto_first b ps) (one-piece bs each.1)
 
-space-calm : (b : ℕ) → is_space b ≡ true → is_calm b ≡ true
-space-calm b h = calm-class is_space refl refl b h
+space-no_mark : (b : ℕ) → is_space b ≡ true → is_no_mark b ≡ true
+space-no_mark b h = no_mark-class is_space refl refl b h
 
 -- ---- space behind a text
 
@@ -113,7 +101,7 @@ space-piece : (place : Place) (gap : List ℕ) → list_all is_space gap ≡ tru
 space-piece place [] h = refl
 space-piece place (b ∷ gap) h =
     let each = and_parts (is_space b) (list_all is_space gap) h in
-    let comma = is-not (eqb b 44) (and_parts (not (eqb b 44)) (not (eqb b 34)) (space-calm b each.0)).0 in
+    let comma = is-not (eqb b 44) (and_parts (not (eqb b 44)) (not (eqb b 34)) (space-no_mark b each.0)).0 in
     let after = place_after Quotes place b in
     cond-false (is_plain place && eqb b 44) ([] ∷ pieces_from Quotes 44 Plain gap) (onto_first b (pieces_from Quotes 44 after gap)) (ap (λ t. is_plain place && t) comma ∙ never (is_plain place))
     ∙ ap (λ (ps : List (List ℕ)). onto_first b ps) (space-piece after gap each.1)
@@ -161,7 +149,7 @@ values-behind (b ∷ gap) bs h =
     let each = and_parts (is_space b) (list_all is_space gap) h in
     let text = gap ++ bs in
     let first = pieces_from-cut Quotes 44 Plain text in
-    ap (λ (ps : List (List ℕ)). map trim ps) (calm-first b text (space-calm b each.0) ∙ ap (λ (ps : List (List ℕ)). onto_first b ps) first)
+    ap (λ (ps : List (List ℕ)). map trim ps) (no_mark-first b text (space-no_mark b each.0) ∙ ap (λ (ps : List (List ℕ)). onto_first b ps) first)
     ∙ ap (λ (x : List ℕ). trim_end x ∷ map trim (rest Plain text)) (one-space b (front Plain text) each.0)
     ∙ sym (ap (λ (ps : List (List ℕ)). map trim ps) first)
     ∙ values-behind gap bs each.1

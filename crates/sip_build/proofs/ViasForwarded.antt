@@ -1,74 +1,52 @@
 -- The Via values of a request that was forwarded, and what an ACK or a CANCEL takes of it.
-use Rattle.std.proofs.Common.{◌≡◌, ℕ, ◌<◌, ◌^◌, ◌-◌, true, false, not, List, [], ◌∷◌, ◌++◌, map, reverse, Option, Some, None, refl, ap, ◌∙◌}
-use Rattle.std.specs.Prelude.{codes, slice_index}
-use Rattle.std.specs.Fmt.{decimal}
-use Rattle.std.specs.List.{flat_map, list_all}
-use Rattle.std.proofs.lemmas.Bool.{and_parts, false≢true}
+use Rattle.sip_build.proofs.Common.{◌≡◌, ℕ, ◌<◌, ◌^◌, ◌-◌, true, not, List, [], ◌∷◌, ◌++◌, map, reverse, Option, Some, None, refl, ap, ◌∙◌, codes, decimal, flat_map, list_all, and_parts, false≢true, list_all-append, trim_end, trim_start}
+use Rattle.sip_build.proofs.Common.{number, trim_end-reverse, cseq_in, is_line, is_trimmed, is_value, first_of, first_value, begins_with_space, HeaderText, MessageText, Request, Response, StartText, and_both, Uri, Own, BranchName}
+use Rattle.sip_build.proofs.Common.{address_text, branch_text, line, own_via, first_or_empty, values_in, via_values, or_empty, values-replaced, all_pass, is-not, hops_name, number_text, forwarded, hops_lowered, is_request, to_target, along}
+use Rattle.sip_build.proofs.Common.{along_to}
+use Rattle.std.specs.Prelude.{slice_index}
 use Rattle.std.proofs.lemmas.List.{reverse-reverse}
-use Rattle.std.proofs.lemmas.List.Folds.{list_all-append}
-use Rattle.sip_lex.specs.Bytes.{is_token_byte, trim_end, trim_start}
-use Rattle.sip_lex.specs.Number.{number}
-use Rattle.sip_lex.proofs.Trims.{trim_end-reverse, trim_start-none}
-use Rattle.sip_text.specs.Fields.{cseq_in}
-use Rattle.sip_text.specs.Message.{is_line, is_trimmed, is_value}
-use Rattle.sip_text.specs.Name.{first_of, first_value, full_name, values_of}
-use Rattle.sip_text.specs.Reading.{begins_with_space}
-use Rattle.sip_text.specs.Text.{HeaderText, MessageText, Request, Response, StartText}
-use Rattle.sip_text.proofs.Good.{and_both}
-use Rattle.sip_uri.specs.Uri.{Uri}
+use Rattle.sip_lex.specs.Bytes.{is_token_byte}
+use Rattle.sip_text.specs.Name.{full_name, values_of}
 use Rattle.sip_uri.specs.Uri as uri
-use Rattle.sip_via.specs.declared.own.Own.{Own}
-use Rattle.sip_via.specs.declared.branch.BranchName.{BranchName}
-use Rattle.sip_via.specs.Address.{address_text}
-use Rattle.sip_via.specs.BranchText.{IsBranch, branch_text}
-use Rattle.sip_via.specs.Edits.{line}
-use Rattle.sip_via.specs.OwnVia.{IsOwn, own_via}
-use Rattle.sip_via.specs.TopVia.{first_or_empty, values_in, via_values}
-use Rattle.sip_via.specs.ViaParts.{or_empty}
+use Rattle.sip_via.specs.BranchText.{IsBranch}
+use Rattle.sip_via.specs.OwnVia.{IsOwn}
 use Rattle.sip_via.proofs.laws.OwnVia.{own_via-good}
-use Rattle.sip_via.proofs.laws.Replaced.{values-replaced}
-use Rattle.sip_via.proofs.laws.Tokens.{all_pass, branch_token, dotted}
-use Rattle.sip_route.specs.Hops.{hops_name}
-use Rattle.sip_route.specs.Loop.{number_text, request_uri}
-use Rattle.sip_build.specs.Forwarding.{forwarded, hops_lowered, is_request, to_target}
-use Rattle.sip_build.specs.Requests.{along, along_to}
+use Rattle.sip_via.proofs.laws.Tokens.{branch_token, dotted}
+use Rattle.sip_via.proofs.laws.PlainVia.{no-front}
+use Rattle.sip_route.specs.Loop.{request_uri}
 use Rattle.sip_build.proofs.Forwarded.{hops-others, via-others}
-use Rattle.sip_build.proofs.ViaPieces.{calm-class, is-not, is_calm, one-piece}
+use Rattle.sip_build.proofs.ViaPieces.{no_mark-class, is_no_mark, one-piece}
 
 abbrev Values : Type 0
 Values = List (List ℕ)
 
 -- ---- the own Via value is one value
 
-token-calm : (bs : List ℕ) → list_all is_token_byte bs ≡ true → list_all is_calm bs ≡ true
-token-calm bs h = all_pass is_token_byte is_calm bs (calm-class is_token_byte refl refl) h
+token-no_mark : (bs : List ℕ) → list_all is_token_byte bs ≡ true → list_all is_no_mark bs ≡ true
+token-no_mark bs h = all_pass is_token_byte is_no_mark bs (no_mark-class is_token_byte refl refl) h
 
-both-calm : (xs ys : List ℕ) → list_all is_calm xs ≡ true → list_all is_calm ys ≡ true → list_all is_calm (xs ++ ys) ≡ true
-both-calm xs ys h k = list_all-append is_calm xs ys ∙ and_both (list_all is_calm xs) (list_all is_calm ys) h k
+both-no_mark : (xs ys : List ℕ) → list_all is_no_mark xs ≡ true → list_all is_no_mark ys ≡ true → list_all is_no_mark (xs ++ ys) ≡ true
+both-no_mark xs ys h k = list_all-append is_no_mark xs ys ∙ and_both (list_all is_no_mark xs) (list_all is_no_mark ys) h k
 
-dotted-calm : (n : ℕ) → n < 2 ^ 64 → list_all is_calm (46 ∷ decimal n) ≡ true
-dotted-calm n small = token-calm (46 ∷ decimal n) (dotted n small)
+dotted-no_mark : (n : ℕ) → n < 2 ^ 64 → list_all is_no_mark (46 ∷ decimal n) ≡ true
+dotted-no_mark n small = token-no_mark (46 ∷ decimal n) (dotted n small)
 
-number-calm : (n : ℕ) → n < 2 ^ 64 → list_all is_calm (decimal n) ≡ true
-number-calm n small = (and_parts (is_calm 46) (list_all is_calm (decimal n)) (dotted-calm n small)).1
+number-no_mark : (n : ℕ) → n < 2 ^ 64 → list_all is_no_mark (decimal n) ≡ true
+number-no_mark n small = (and_parts (is_no_mark 46) (list_all is_no_mark (decimal n)) (dotted-no_mark n small)).1
 
-own-calm : (proxy : Own) (b : BranchName) → IsOwn proxy → IsBranch b → list_all is_calm (own_via proxy b) ≡ true
-own-calm proxy b is named =
+own-no_mark : (proxy : Own) (b : BranchName) → IsOwn proxy → IsBranch b → list_all is_no_mark (own_via proxy b) ≡ true
+own-no_mark proxy b is named =
     let n1 = slice_index proxy.addr 1 in
     let n2 = slice_index proxy.addr 2 in
     let n3 = slice_index proxy.addr 3 in
     let tail = codes ";branch=" ++ branch_text b in
-    let end = both-calm (codes ";branch=") (branch_text b) refl (token-calm (branch_text b) (branch_token b named)) in
-    let port = both-calm (decimal proxy.port) tail (number-calm proxy.port is.port) end in
-    let third = both-calm (46 ∷ decimal n2) (46 ∷ decimal n3) (dotted-calm n2 is.address.third) (dotted-calm n3 is.address.fourth) in
-    let second = both-calm (46 ∷ decimal n1) ((46 ∷ decimal n2) ++ (46 ∷ decimal n3)) (dotted-calm n1 is.address.second) third in
-    let address = both-calm (decimal (slice_index proxy.addr 0)) ((46 ∷ decimal n1) ++ ((46 ∷ decimal n2) ++ (46 ∷ decimal n3))) (number-calm (slice_index proxy.addr 0) is.address.first) second in
-    let sent = both-calm (address_text proxy.addr) (58 ∷ (decimal proxy.port ++ tail)) address (and_both (is_calm 58) (list_all is_calm (decimal proxy.port ++ tail)) refl port) in
-    both-calm (codes "SIP/2.0/UDP ") (address_text proxy.addr ++ (58 ∷ (decimal proxy.port ++ tail))) refl sent
-
-no-front : (bs : List ℕ) → begins_with_space bs ≡ false → trim_start bs ≡ bs
-no-front [] h = refl
-no-front (b ∷ bs) h = trim_start-none b bs h
+    let end = both-no_mark (codes ";branch=") (branch_text b) refl (token-no_mark (branch_text b) (branch_token b named)) in
+    let port = both-no_mark (decimal proxy.port) tail (number-no_mark proxy.port is.port) end in
+    let third = both-no_mark (46 ∷ decimal n2) (46 ∷ decimal n3) (dotted-no_mark n2 is.address.third) (dotted-no_mark n3 is.address.fourth) in
+    let second = both-no_mark (46 ∷ decimal n1) ((46 ∷ decimal n2) ++ (46 ∷ decimal n3)) (dotted-no_mark n1 is.address.second) third in
+    let address = both-no_mark (decimal (slice_index proxy.addr 0)) ((46 ∷ decimal n1) ++ ((46 ∷ decimal n2) ++ (46 ∷ decimal n3))) (number-no_mark (slice_index proxy.addr 0) is.address.first) second in
+    let sent = both-no_mark (address_text proxy.addr) (58 ∷ (decimal proxy.port ++ tail)) address (and_both (is_no_mark 58) (list_all is_no_mark (decimal proxy.port ++ tail)) refl port) in
+    both-no_mark (codes "SIP/2.0/UDP ") (address_text proxy.addr ++ (58 ∷ (decimal proxy.port ++ tail))) refl sent
 
 pub own-trimmed : (proxy : Own) (b : BranchName) → is_value (own_via proxy b) ≡ true → trim_end (trim_start (own_via proxy b)) ≡ own_via proxy b
 own-trimmed proxy b h =
@@ -81,7 +59,7 @@ own-trimmed proxy b h =
 
 own-value : (proxy : Own) (b : BranchName) → IsOwn proxy → IsBranch b → values_in (own_via proxy b) ≡ own_via proxy b ∷ []
 own-value proxy b is named =
-    ap (λ (ps : Values). map (λ (p : List ℕ). trim_end (trim_start p)) ps) (one-piece (own_via proxy b) (own-calm proxy b is named))
+    ap (λ (ps : Values). map (λ (p : List ℕ). trim_end (trim_start p)) ps) (one-piece (own_via proxy b) (own-no_mark proxy b is named))
     ∙ ap (λ (x : List ℕ). x ∷ []) (own-trimmed proxy b (own_via-good proxy b is (branch_token b named)))
 
 -- ---- and the first

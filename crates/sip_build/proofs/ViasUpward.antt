@@ -1,20 +1,9 @@
 -- The Via values of a response that goes upstream.
-use Rattle.std.proofs.Common.{◌≡◌, ℕ, true, List, [], ◌∷◌, ◌++◌, drop, map, Option, Some, None, refl, sym, ap, ◌∙◌, inl, inr}
-use Rattle.std.specs.Prelude.{codes, option_map}
-use Rattle.std.specs.List.{flat_map}
-use Rattle.std.proofs.lemmas.Bool.{cases_Bool, cond-false, cond-true, false≢true}
+use Rattle.sip_build.proofs.Common.{◌≡◌, ℕ, true, List, [], ◌∷◌, ◌++◌, drop, map, Option, Some, None, refl, sym, ap, ◌∙◌, inl, inr, codes, option_map, flat_map, cases_Bool, cond-false, cond-true, false≢true, Quotes, Plain, trim}
+use Rattle.sip_build.proofs.Common.{pieces_outside_behind, cut_outside, pieces_outside-cut, first_of, same_name, HeaderText, MessageText, line, replaced, has_second, values_in, via_values, others_of, upward_headers, upward_of}
+use Rattle.sip_build.proofs.Common.{with_contacts, without_top}
 use Rattle.fork_model.specs.Table as table
-use Rattle.sip_lex.specs.declared.sheltered.Shelter.TheVariants.{Quotes}
-use Rattle.sip_lex.specs.declared.sheltered.Place.TheVariants.{Plain}
-use Rattle.sip_lex.specs.Bytes.{trim}
-use Rattle.sip_lex.specs.Outside.{pieces_outside_behind}
-use Rattle.sip_lex.specs.Sheltered.{cut_outside}
-use Rattle.sip_lex.proofs.OutsideSplits.{pieces_outside-cut}
-use Rattle.sip_text.specs.Name.{first_of, full_name, same_name, values_of}
-use Rattle.sip_text.specs.Text.{HeaderText, MessageText}
-use Rattle.sip_via.specs.Edits.{line, replaced}
-use Rattle.sip_via.specs.TopVia.{has_second, values_in, via_values}
-use Rattle.sip_build.specs.Upward.{others_of, upward_headers, upward_of, with_contacts, without_top}
+use Rattle.sip_text.specs.Name.{full_name, values_of}
 use Rattle.sip_build.proofs.UpwardGood.{challenges-same, contacts-same, either, values-dropped}
 use Rattle.sip_build.proofs.ViaPieces.{values-trimmed}
 

@@ -11,11 +11,6 @@ use Rattle.sip_via.specs.declared.branch.BranchName.{BranchName}
 use Rattle.sip_via.specs.Edits.{line, replaced}
 use Rattle.sip_via.specs.OwnVia.{own_via}
 
--- one hop fewer than the first Max-Forwards value allows, or seventy
-abbrev pub hops_left : Option (List ℕ) → ℕ
-hops_left None = 70
-hops_left (Some value) = number value - 1
-
 -- one hop fewer, or seventy
 abbrev pub hops_lowered : List HeaderText → Option (List ℕ) → List HeaderText
 hops_lowered hs None = line (codes "Max-Forwards") (codes "70") ∷ hs

@@ -1,4 +1,4 @@
-pub mod Texts
+pub mod inner
 pub mod OwnTag
 pub mod Generated
 pub mod Requests
@@ -6,6 +6,3 @@ pub mod Forwarding
 pub mod Exchanged
 pub mod Upward
 pub mod SeenKept
-pub mod Groups
-pub mod Placed
-pub mod ToTarget

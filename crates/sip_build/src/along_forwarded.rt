@@ -10,7 +10,7 @@ ghost use Rattle.sip_via.specs.Edits.{line};
 ghost use Rattle.sip_via.specs.OwnVia.{IsOwn, own_via};
 ghost use Rattle.sip_route.specs.Loop.{cseq_number};
 ghost use Rattle.sip_build.specs.Forwarding.{forwarded, is_request};
-ghost use Rattle.sip_build.specs.Groups.{all_lines};
+ghost use Rattle.sip_build.specs.inner.Groups.{all_lines};
 ghost use Rattle.sip_build.specs.Requests.{ack_of, along_to, cancel_of};
 
 use crate::groups::{Group, Pick};

@@ -4,7 +4,7 @@ ghost use Rattle.std.specs.Prelude.{◌≡◌, ◌+◌, ◌++◌, ◌≤◌, len
 ghost use Rattle.sip_text.specs.Text.{spelling};
 ghost use Rattle.sip_route.specs.Loop.{cseq_number};
 ghost use Rattle.sip_build.specs.Forwarding.{is_request};
-ghost use Rattle.sip_build.specs.Groups.{all_lines};
+ghost use Rattle.sip_build.specs.inner.Groups.{all_lines};
 ghost use Rattle.sip_build.specs.Requests.{ack_of, along, cancel_of};
 
 use crate::groups::{Group, Pick};

@@ -9,8 +9,9 @@ ghost use Rattle.sip_text.specs.Seen.{views};
 ghost use Rattle.sip_text.specs.Text.{Request, spelling};
 ghost use Rattle.sip_uri.specs.Uri.{Uri, request_uri};
 ghost use Rattle.sip_via.specs.Edits.{place_of};
-ghost use Rattle.sip_build.specs.Forwarding.{forwarded, hops_left, hops_lowered, is_request, to_target};
-ghost use Rattle.sip_build.specs.Groups.{all_lines};
+ghost use Rattle.sip_build.specs.Forwarding.{forwarded, hops_lowered, is_request, to_target};
+ghost use Rattle.sip_build.specs.inner.Forwarding.{hops_left};
+ghost use Rattle.sip_build.specs.inner.Groups.{all_lines};
 ghost use Rattle.sip_route.specs.Hops.{IsHops, hops_name};
 
 use crate::groups::Group;

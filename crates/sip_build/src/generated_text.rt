@@ -4,7 +4,7 @@ ghost use Rattle.std.specs.Prelude.{◌≡◌, ◌+◌, ◌++◌, ◌≤◌, cod
 ghost use Rattle.sip_text.specs.Text.{spelling};
 ghost use Rattle.sip_via.specs.Lines.{first_line};
 ghost use Rattle.sip_build.specs.Generated.{generated_of, gets_tag, tagged, to_lines, unsupported_lines};
-ghost use Rattle.sip_build.specs.Groups.{all_lines, lines_of};
+ghost use Rattle.sip_build.specs.inner.Groups.{all_lines, lines_of};
 ghost use Rattle.sip_build.specs.OwnTag.{own_tag};
 
 use crate::groups::{Group, Pick};

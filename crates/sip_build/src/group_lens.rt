@@ -7,8 +7,8 @@ ghost use Rattle.std.specs.Option.{option_copied};
 ghost use Rattle.sip_text.specs.Seen.{view, views};
 ghost use Rattle.sip_text.specs.Text.{header_text, pieces_text, saturated};
 ghost use Rattle.sip_via.specs.Edits.{line};
-ghost use Rattle.sip_build.specs.Groups.{lines_of, picked, under};
-ghost use Rattle.sip_build.specs.Texts.{lines_text};
+ghost use Rattle.sip_build.specs.inner.Groups.{lines_of, picked, under};
+ghost use Rattle.sip_build.specs.inner.Texts.{lines_text};
 ghost use Rattle.sip_build.specs.Upward.{challenge_line};
 
 use crate::groups::{Group, Pick, picked_name};

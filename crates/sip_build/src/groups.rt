@@ -7,9 +7,9 @@ ghost use Rattle.std.specs.Option.{option_copied};
 ghost use Rattle.sip_text.specs.Seen.{view, views};
 ghost use Rattle.sip_text.specs.Text.{header_text, saturated};
 ghost use Rattle.sip_via.specs.Edits.{line};
-ghost use Rattle.sip_build.specs.Groups.{lines_of, picked, picked_name, tail_text, under};
-ghost use Rattle.sip_build.specs.Placed.{Placed};
-ghost use Rattle.sip_build.specs.Texts.{lines_text};
+ghost use Rattle.sip_build.specs.inner.Groups.{lines_of, picked, picked_name, tail_text, under};
+ghost use Rattle.sip_build.specs.inner.Placed.{Placed};
+ghost use Rattle.sip_build.specs.inner.Texts.{lines_text};
 ghost use Rattle.sip_build.specs.Upward.{challenge_line};
 
 use crate::group_lens::{groups_len, pieces_len};

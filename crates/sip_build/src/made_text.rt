@@ -1,9 +1,9 @@
 //! Messages that are written straight to a text: a start line, header lines and a body.
 
-ghost use Rattle.std.specs.Prelude.{◌≡◌, ◌+◌, ◌++◌, ◌≤◌, ◌<◌, length, IsOk, OnErr, OnOk, take, vec_capacity, vec_len};
+ghost use Rattle.std.specs.Prelude.{◌≡◌, ◌+◌, ◌++◌, ◌≤◌, ◌<◌, length, OnErr, OnOk, take, vec_capacity, vec_len};
 ghost use Rattle.sip_lex.specs.Line.{ended};
 ghost use Rattle.sip_text.specs.Text.{saturated, spelling, start_line};
-ghost use Rattle.sip_build.specs.Groups.{IsFront, made_of, start_of, tail_text};
+ghost use Rattle.sip_build.specs.inner.Groups.{IsFront, made_of, start_of, tail_text};
 
 use crate::groups::{Group, append_tail, tail_len};
 use crate::parts::whole_or_nothing;

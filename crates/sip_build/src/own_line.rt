@@ -6,7 +6,7 @@ ghost use Rattle.sip_text.specs.Text.{header_text};
 ghost use Rattle.sip_via.specs.Address.{address_text, dotted};
 ghost use Rattle.sip_via.specs.Edits.{line};
 ghost use Rattle.sip_via.specs.OwnVia.{own_via};
-ghost use Rattle.sip_build.specs.Placed.{Placed};
+ghost use Rattle.sip_build.specs.inner.Placed.{Placed};
 
 use crate::place::place;
 use itoa::Buffer;

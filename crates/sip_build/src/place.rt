@@ -3,7 +3,7 @@
 ghost use Rattle.std.specs.Prelude.{◌+◌, ◌≤◌, ◌∷◌, [], length};
 ghost use Rattle.sip_text.specs.Text.{header_text, pieces_text};
 ghost use Rattle.sip_via.specs.Edits.{line};
-ghost use Rattle.sip_build.specs.Placed.{Placed};
+ghost use Rattle.sip_build.specs.inner.Placed.{Placed};
 
 /// Writes the bytes from that place on, and says the place behind them.
 #[inline(always)]

@@ -1,7 +1,6 @@
 //! The ACK for a failure, and the CANCEL of a request that was sent.
 
 ghost use Rattle.std.specs.Prelude.{◌≡◌, ◌++◌, ◌∷◌, IfErr, IfOk, true};
-ghost use Rattle.std.specs.Fmt.{decimal};
 ghost use Rattle.sip_text.specs.Message.{IsMessage};
 ghost use Rattle.sip_text.specs.Seen.{view_start, views};
 ghost use Rattle.sip_text.specs.Text.{MessageText, Request};

@@ -5,8 +5,8 @@ ghost use Rattle.std.specs.Prelude.{◌≡◌, ◌+◌, ◌++◌, ◌≤◌, len
 ghost use Rattle.sip_lex.specs.Line.{ended};
 ghost use Rattle.sip_text.specs.Text.{Request, saturated, spelling, start_line};
 ghost use Rattle.sip_uri.specs.Uri.{request_uri};
-ghost use Rattle.sip_build.specs.Groups.{tail_text};
-ghost use Rattle.sip_build.specs.ToTarget.{request_to};
+ghost use Rattle.sip_build.specs.inner.Groups.{tail_text};
+ghost use Rattle.sip_build.specs.inner.ToTarget.{request_to};
 
 use crate::groups::{Group, append_tail, tail_len};
 use crate::own_line::append_own_via;

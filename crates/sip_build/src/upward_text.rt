@@ -10,7 +10,7 @@ ghost use Rattle.sip_text.specs.Text.{spelling};
 ghost use Rattle.sip_via.specs.Edits.{line_if_any, replaced};
 ghost use Rattle.sip_via.specs.TopVia.{has_second, via_values};
 ghost use Rattle.sip_build.specs.Exchanged.{exchanged};
-ghost use Rattle.sip_build.specs.Groups.{IsFront, all_lines, lines_of, start_of};
+ghost use Rattle.sip_build.specs.inner.Groups.{IsFront, all_lines, lines_of, start_of};
 ghost use Rattle.sip_build.specs.SeenKept.{seen_kept, texts};
 ghost use Rattle.sip_build.specs.Upward.{AreKept, challenge_line, contact_lines, is_challenge, others_of, refusal, upward, upward_headers, upward_of};
 

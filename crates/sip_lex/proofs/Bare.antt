@@ -1,12 +1,9 @@
 -- Up to the first mark, quote or opening bracket each byte is plain text.
-use Rattle.std.proofs.Common.{◌≡◌, ℕ, suc, ◌+◌, false, not, cond, eqb, List, [], ◌∷◌, drop, refl, sym, ap, ◌∙◌, arith, inl, inr}
-use Rattle.std.specs.Prelude.{◌&&◌, ◌||◌}
+use Rattle.sip_lex.proofs.Common.{◌≡◌, ℕ, suc, ◌+◌, false, not, cond, eqb, List, [], ◌∷◌, drop, refl, sym, ap, ◌∙◌, arith, inl, inr, ◌&&◌, cases_Bool, cond-false, is_byte3, Shelter, Plain, Quoted, Angled, place_after, outside_len}
+use Rattle.std.specs.Prelude.{◌||◌}
 use Rattle.std.specs.List.{position_or_len}
-use Rattle.std.proofs.lemmas.Bool.{cases_Bool, cond-false, or_parts}
-use Rattle.memchr.specs.Find.{is_byte3}
-use Rattle.sip_lex.specs.declared.sheltered.Shelter.{Shelter}
-use Rattle.sip_lex.specs.declared.sheltered.Place.TheVariants.{Plain, Quoted, Angled}
-use Rattle.sip_lex.specs.Sheltered.{has_angles, outside_len, place_after}
+use Rattle.std.proofs.lemmas.Bool.{or_parts}
+use Rattle.sip_lex.specs.Sheltered.{has_angles}
 
 -- such a byte leaves the text behind it plain
 stays_plain : (shelter : Shelter) (b : ℕ) → eqb b 34 ≡ false → eqb b 60 ≡ false → place_after shelter Plain b ≡ Plain

@@ -1,11 +1,5 @@
+pub mod Common
 pub mod laws
 pub mod Bare
-pub mod Cuts
-pub mod Lines
 pub mod Numbers
-pub mod OutsideSplits
 pub mod Places
-pub mod Splits
-pub mod Trims
-pub mod Quotes
-pub mod Shelters

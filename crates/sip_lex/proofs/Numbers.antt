@@ -1,9 +1,7 @@
 -- The number that digits spell only grows with further digits.
-use Rattle.std.proofs.Common.{◌≡◌, ℕ, ◌+◌, ◌<◌, ◌≤◌, List, [], ◌∷◌, length, take, drop, get_or, fold, Some, None, sym, ap, subst, ◌∙◌, inl, inr, arith}
-use Rattle.std.proofs.lemmas.List.{take-append-drop}
+use Rattle.sip_lex.proofs.Common.{◌≡◌, ℕ, ◌+◌, ◌<◌, ◌≤◌, List, [], ◌∷◌, length, take, drop, get_or, fold, Some, None, sym, ap, subst, ◌∙◌, inl, inr, arith, take-append-drop, cond-false, cond-true, number, with_digit, below}
 use Rattle.std.proofs.lemmas.List.Sums.{fold-append, fold_more}
-use Rattle.std.proofs.lemmas.Bool.{cond-false, cond-true, le-ltb, lt-ltb, cases_lt}
-use Rattle.sip_lex.specs.Number.{below, number, with_digit}
+use Rattle.std.proofs.lemmas.Bool.{le-ltb, lt-ltb, cases_lt}
 
 -- a number is at most itself with further digits
 pub fold-grows : (n : ℕ) (ds : List ℕ) → n ≤ fold with_digit n ds

@@ -1,3 +1,4 @@
+pub mod inner
 pub mod Bytes
 pub mod Cut
 pub mod Hex
@@ -7,3 +8,5 @@ pub mod Outside
 pub mod Pieces
 pub mod Quoted
 pub mod Sheltered
+pub mod Params
+pub mod Values

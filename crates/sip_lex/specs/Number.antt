@@ -11,9 +11,6 @@ with_digit n d = 10 * n + (d - 48)
 abbrev pub number : List ℕ → ℕ
 number ds = fold with_digit 0 ds
 
-abbrev pub below : ℕ → ℕ → Option ℕ
-below bound n = if nat_lt n bound then Some n else None
-
 abbrev pub is_number : List ℕ → Bool
 is_number ds = nat_lt 0 (length ds) && list_all is_ascii_digit ds
 

@@ -1,5 +1,5 @@
 -- Marks outside quotes and angle brackets (RFC 3261 sections 20.10 and 25.1).
-use Rattle.std.specs.Prelude.{◌≡◌, ℕ, ◌+◌, Bool, true, false, ◌&&◌, List, [], ◌∷◌, fold, Option, Some, None, ◌==◌, if◌then◌else◌}
+use Rattle.std.specs.Prelude.{◌≡◌, ℕ, Bool, true, false, ◌&&◌, List, [], ◌∷◌, fold, Option, Some, None, ◌==◌, if◌then◌else◌}
 use Rattle.sip_lex.specs.declared.sheltered.Shelter.{Shelter}
 use Rattle.sip_lex.specs.declared.sheltered.Shelter.TheVariants.{Quotes, QuotesAndAngles}
 use Rattle.sip_lex.specs.declared.sheltered.Place.{Place}
@@ -26,10 +26,6 @@ cut_outside shelter mark place [] = ([], None)
 cut_outside shelter mark place (b ∷ bs) =
     let after = cut_outside shelter mark (place_after shelter place b) bs in
     if is_plain place && b == mark then ([], Some bs) else (b ∷ after.0, after.1)
-
-abbrev pub outside_len : Shelter → ℕ → Place → List ℕ → ℕ
-outside_len shelter mark place [] = 0
-outside_len shelter mark place (b ∷ bs) = if is_plain place && b == mark then 0 else 1 + outside_len shelter mark (place_after shelter place b) bs
 
 -- where the byte behind a text stands
 abbrev pub end_place : Shelter → Place → List ℕ → Place

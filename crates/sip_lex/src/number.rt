@@ -2,7 +2,8 @@
 
 ghost use Rattle.std.specs.Prelude.{◌≡◌, ◌^◌, ◌++◌, OnOk, OnErr};
 ghost use Rattle.std.specs.Fmt.{decimal};
-ghost use Rattle.sip_lex.specs.Number.{below, number, number_within, plain_number_within, with_digit};
+ghost use Rattle.sip_lex.specs.Number.{number, number_within, plain_number_within, with_digit};
+ghost use Rattle.sip_lex.specs.inner.Number.{below};
 
 use crate::bytes::are_digits;
 use itoa::Buffer;

@@ -6,7 +6,8 @@ ghost use Rattle.std.specs.List.{position_or_len};
 ghost use Rattle.std.specs.Option.{option_copied};
 ghost use Rattle.sip_lex.specs.declared.sheltered.Place.TheVariants.{Plain};
 ghost use Rattle.sip_lex.specs.Cut.{behind, seen_cut};
-ghost use Rattle.sip_lex.specs.Sheltered.{LacksOutside, cut_outside, end_place, is_closed, is_plain, outside_len, place_after};
+ghost use Rattle.sip_lex.specs.Sheltered.{LacksOutside, cut_outside, end_place, is_closed, is_plain, place_after};
+ghost use Rattle.sip_lex.specs.inner.Sheltered.{outside_len};
 
 use memchr::memchr3;
 

@@ -1,7 +1,5 @@
 -- Values with commas between them.
-use Rattle.std.proofs.Common.{◌≡◌, ℕ, List, [], ◌∷◌, ◌++◌, refl, sym, ap}
-use Rattle.std.specs.List.{join_with_byte}
-use Rattle.sip_route.specs.Loop.{behind_commas}
+use Rattle.sip_route.proofs.Common.{◌≡◌, ℕ, List, [], ◌∷◌, ◌++◌, refl, sym, ap, join_with_byte, behind_commas}
 
 pub joined_commas : (v : List ℕ) (vs : List (List ℕ)) → join_with_byte 44 (v ∷ vs) ≡ v ++ behind_commas vs
 joined_commas v [] = sym (nil_end v)

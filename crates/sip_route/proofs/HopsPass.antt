@@ -1,11 +1,9 @@
 -- What a request says of its hops, and whether it may be passed on.
-use Rattle.std.proofs.Common.{◌≡◌, ℕ, ◌≤◌, true, List, length, Option, Some, None, sym, ap, subst, ◌∙◌, inl, inr}
-use Rattle.std.specs.Prelude.{◌↔◌, ◌&&◌, nat_le, IfSome}
-use Rattle.std.proofs.lemmas.Bool.{and_parts, and_from, cases_Bool, cond-true, cond-false, leb-true, le-leb}
-use Rattle.sip_lex.specs.Number.{is_number, number, number_within}
-use Rattle.sip_text.specs.Name.{first_value}
-use Rattle.sip_text.specs.Text.{MessageText}
-use Rattle.sip_route.specs.Hops.{IsHops, MayPass, hops_if_any, hops_in, hops_name, hops_of, said}
+use Rattle.sip_route.proofs.Common.{◌≡◌, ℕ, ◌≤◌, true, List, length, Option, Some, None, sym, ap, subst, ◌∙◌, inl, inr, ◌↔◌, ◌&&◌, IfSome, and_parts, cases_Bool, cond-true, cond-false, number, first_value, MessageText, hops_name}
+use Rattle.std.specs.Prelude.{nat_le}
+use Rattle.std.proofs.lemmas.Bool.{and_from, leb-true, le-leb}
+use Rattle.sip_lex.specs.Number.{is_number, number_within}
+use Rattle.sip_route.specs.Hops.{IsHops, MayPass, hops_if_any, hops_in, hops_of, said}
 
 number_said : (value : List ℕ) → MayPass (said (number_within 255 value)) → length value ≤ 3 → IsHops value
 number_said value may short =

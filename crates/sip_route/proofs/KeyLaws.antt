@@ -1,20 +1,18 @@
 -- What the key of a request tells.
-use Rattle.std.proofs.Common.{◌≡◌, ◌≢◌, ℕ, ◌+◌, ◌≤◌, Bool, true, false, cond, List, [], ◌∷◌, ◌++◌, Option, Some, None, refl, sym, ap, subst, ◌∙◌, inl, inr, arith, append_assoc}
-use Rattle.std.specs.Prelude.{IfSome, nat_lt}
+use Rattle.sip_route.proofs.Common.{◌≡◌, ℕ, ◌+◌, ◌≤◌, Bool, true, false, cond, List, [], ◌∷◌, ◌++◌, Option, Some, None, refl, sym, ap, subst, ◌∙◌, inl, inr, arith, append_assoc, IfSome, list_all, str_to_ascii_lowercase, and_parts}
+use Rattle.sip_route.proofs.Common.{cond_both, false≢true, number, sender_port, IsSameSender, key_text, key_with, via_key}
+use Rattle.std.proofs.Common.{◌≢◌}
+use Rattle.std.specs.Prelude.{nat_lt}
 use Rattle.std.specs.Char.{to_ascii_lowercase}
 use Rattle.std.specs.Fmt.{decimal}
-use Rattle.std.specs.List.{list_all}
-use Rattle.std.specs.Str.{str_to_ascii_lowercase}
-use Rattle.std.proofs.lemmas.Bool.{and_parts, cond_both, eqb-false, false≢true, ltb-false}
+use Rattle.std.proofs.lemmas.Bool.{eqb-false, ltb-false}
 use Rattle.sip_lex.specs.Cut.{Lacks}
-use Rattle.sip_lex.specs.Number.{number, plain_number_within}
+use Rattle.sip_lex.specs.Number.{plain_number_within}
 use Rattle.sip_lex.proofs.laws.Numbers.{decimal_lacks, number_read}
 use Rattle.sip_uri.specs.Host.{IsHost, IsPort, is_address_byte, is_host_byte, is_port}
 use Rattle.sip_via.specs.Received.{port_or_default}
-use Rattle.sip_via.specs.Sender.{sender_port}
 use Rattle.sip_via.specs.ViaGrammar.{IsVia}
 use Rattle.sip_via.specs.ViaParts.{ViaText, branch_of, port_if_any}
-use Rattle.sip_route.specs.RequestKey.{IsSameSender, key_text, key_with, via_key}
 
 -- ---- a host has no space, in lower case either
 

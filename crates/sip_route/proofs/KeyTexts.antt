@@ -1,16 +1,13 @@
 -- A text against a key, and two keys against one another.
-use Rattle.std.proofs.Common.{◌≡◌, ℕ, Bool, true, false, eqb, ◌+◌, List, [], ◌∷◌, ◌++◌, length, take, drop, Option, Some, None, refl, sym, ap, ◌∙◌}
-use Rattle.std.specs.Prelude.{◌↔◌, ◌&&◌, ◌==◌, IsTrue, MatchOption}
-use Rattle.std.specs.Borrow.{Bor}
-use Rattle.std.specs.Option.{option_copied}
-use Rattle.std.specs.Str.{bytes_eq, str_to_ascii_lowercase}
+use Rattle.sip_route.proofs.Common.{◌≡◌, ℕ, Bool, true, false, eqb, ◌+◌, List, [], ◌∷◌, ◌++◌, length, take, drop, Option, Some, None, refl, sym, ap, ◌∙◌, ◌↔◌, ◌&&◌, IsTrue, Bor, option_copied, bytes_eq, str_to_ascii_lowercase, and_parts}
+use Rattle.sip_route.proofs.Common.{eqb-true, MessageText, sender_port, IsSameSender, key_text, key_with, via_key, is_rest}
+use Rattle.std.specs.Prelude.{◌==◌, MatchOption}
 use Rattle.std.proofs.Math.Bool.{and_assoc}
-use Rattle.std.proofs.lemmas.Bool.{and_parts, eq-eqb, eqb-true}
+use Rattle.std.proofs.lemmas.Bool.{eq-eqb}
 use Rattle.std.proofs.lemmas.Slice.Eq.{bytes_eq-Decides}
-use Rattle.sip_text.specs.Text.{MessageText}
-use Rattle.sip_via.specs.Sender.{sender_port}
 use Rattle.sip_via.specs.TopVia.{top_value}
-use Rattle.sip_route.specs.RequestKey.{HaveSameKey, IsSameSender, IsSentBy, is_rest, key_text, key_with, via_key}
+use Rattle.sip_route.specs.RequestKey.{HaveSameKey}
+use Rattle.sip_route.specs.inner.RequestKey.{IsSentBy}
 use Rattle.sip_route.proofs.KeyLaws.{same_key, same_sender}
 
 -- ---- a text behind its front

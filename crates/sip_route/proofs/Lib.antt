@@ -1,3 +1,4 @@
+pub mod Common
 pub mod Added
 pub mod Commas
 pub mod HopsPass

@@ -1,20 +1,11 @@
 -- What taking the proxy's own Route value away leaves.
-use Rattle.std.proofs.Common.{◌≡◌, ℕ, true, false, cond, List, [], ◌∷◌, ◌++◌, map, Option, Some, None, refl, sym, ap, ◌∙◌, inl, inr}
-use Rattle.std.specs.Prelude.{option_map}
+use Rattle.sip_route.proofs.Common.{◌≡◌, ℕ, true, false, cond, List, [], ◌∷◌, ◌++◌, map, Option, Some, None, refl, sym, ap, ◌∙◌, inl, inr, option_map, cases_Bool, cond_both, cond-true, cond-false, QuotesAndAngles, Plain, trim, cut_outside}
+use Rattle.sip_route.proofs.Common.{first_of, first_value, same_name, HeaderText, MessageText, Own, replaced, hops_name, names_own, route_name, stripped, stripped_at, route_values, values_in, values_behind}
 use Rattle.std.specs.List.{flat_map}
-use Rattle.std.proofs.lemmas.Bool.{cases_Bool, cond_both, cond-true, cond-false}
-use Rattle.sip_lex.specs.declared.sheltered.Shelter.TheVariants.{QuotesAndAngles}
-use Rattle.sip_lex.specs.declared.sheltered.Place.TheVariants.{Plain}
-use Rattle.sip_lex.specs.Bytes.{trim}
-use Rattle.sip_lex.specs.Sheltered.{cut_outside}
-use Rattle.sip_text.specs.Name.{first_of, first_value, full_name, same_name, values_of}
-use Rattle.sip_text.specs.Text.{HeaderText, MessageText}
-use Rattle.sip_via.specs.declared.own.Own.{Own}
-use Rattle.sip_via.specs.Edits.{line_if_any, replaced}
+use Rattle.sip_text.specs.Name.{full_name, values_of}
+use Rattle.sip_via.specs.Edits.{line_if_any}
 use Rattle.sip_via.proofs.laws.Replaced.{values-replaced}
-use Rattle.sip_route.specs.Hops.{hops_name}
-use Rattle.sip_route.specs.Routes.{names_own, route_name, stripped, stripped_at}
-use Rattle.sip_route.specs.RouteValues.{route_values, values_behind, values_in, without_own}
+use Rattle.sip_route.specs.RouteValues.{without_own}
 use Rattle.sip_route.proofs.RoutePieces.{pieces_from-cut}
 use Rattle.sip_route.proofs.TrimmedPieces.{values-trim}
 

@@ -1,27 +1,16 @@
 -- The pieces of a text between its marks, one by one.
-use Rattle.std.proofs.Common.{◌≡◌, ℕ, true, false, cond, eqb, List, [], ◌∷◌, Option, Some, None, refl, sym, ap, ◌∙◌}
-use Rattle.std.specs.Prelude.{◌&&◌}
-use Rattle.std.specs.Borrow.{Bor}
-use Rattle.std.specs.List.{onto_first}
-use Rattle.std.specs.Option.{option_copied}
+use Rattle.sip_route.proofs.Common.{◌≡◌, ℕ, true, false, cond, eqb, List, [], ◌∷◌, Option, Some, refl, sym, ap, ◌∙◌, ◌&&◌, Bor, onto_first, option_copied, QuotesAndAngles, Place, Plain, pieces_from, cut_outside, is_plain, place_after}
+use Rattle.sip_route.proofs.Common.{values_in, values_behind}
 use Rattle.sip_lex.specs.declared.sheltered.Shelter.{Shelter}
-use Rattle.sip_lex.specs.declared.sheltered.Shelter.TheVariants.{QuotesAndAngles}
-use Rattle.sip_lex.specs.declared.sheltered.Place.{Place}
-use Rattle.sip_lex.specs.declared.sheltered.Place.TheVariants.{Plain}
 use Rattle.sip_lex.specs.Cut.{seen_cut}
-use Rattle.sip_lex.specs.Outside.{pieces_from, pieces_outside, pieces_outside_behind}
-use Rattle.sip_lex.specs.Sheltered.{cut_outside, is_plain, place_after}
-use Rattle.sip_route.specs.RouteValues.{values_behind, values_in}
+use Rattle.sip_lex.specs.Outside.{pieces_outside, pieces_outside_behind}
+use Rattle.sip_lex.proofs.laws.OutsideSplits.{onto-cut}
 
 abbrev Cut : Type 0
 Cut = List ℕ × Option (List ℕ)
 
 abbrev of_cut : Shelter → ℕ → Cut → List (List ℕ)
 of_cut shelter mark c = c.0 ∷ pieces_outside_behind shelter mark c.1
-
-onto-cut : (shelter : Shelter) (mark b : ℕ) (c : Cut) → onto_first b (of_cut shelter mark c) ≡ of_cut shelter mark (b ∷ c.0, c.1)
-onto-cut shelter mark b (part, None) = refl
-onto-cut shelter mark b (part, Some after) = refl
 
 -- the first piece, and the others
 pub pieces_from-cut : (shelter : Shelter) (mark : ℕ) (place : Place) (bs : List ℕ) → pieces_from shelter mark place bs ≡ of_cut shelter mark (cut_outside shelter mark place bs)

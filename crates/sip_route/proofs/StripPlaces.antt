@@ -1,23 +1,16 @@
 -- The first header line of a name, changed or taken away at its place.
-use Rattle.std.proofs.Common.{◌≡◌, ℕ, zero, suc, ◌+◌, ◌-◌, ◌<◌, List, [], ◌∷◌, ◌++◌, length, take, drop, get_or, slice_get, slice_set, Option, Some, None, refl, sym, ap, ◌∙◌, arith, inl, inr, append_assoc}
-use Rattle.std.specs.Prelude.{option_map, remove}
-use Rattle.std.specs.List.{prefix_len, suffix_len}
-use Rattle.std.proofs.lemmas.Bool.{cases_Bool, cond-true, cond-false}
+use Rattle.sip_route.proofs.Common.{◌≡◌, ℕ, zero, suc, ◌+◌, ◌-◌, ◌<◌, List, [], ◌∷◌, ◌++◌, length, take, drop, get_or, slice_set, Option, Some, None, refl, sym, ap, ◌∙◌, arith, inl, inr, append_assoc, option_map, remove, prefix_len}
+use Rattle.sip_route.proofs.Common.{cases_Bool, cond-true, cond-false, is_space, trim, trim_end, trim_start, Header, first_of, first_value, same_name, views, HeaderText, line, replaced, Own, QuotesAndAngles, Plain, cut_outside, route_name}
+use Rattle.sip_route.proofs.Common.{stripped_at, stripped_headers, LineLeaves, part}
+use Rattle.std.proofs.Common.{slice_get}
+use Rattle.std.specs.List.{suffix_len}
 use Rattle.std.proofs.lemmas.List.{drop_at, length-append, take-append-drop}
-use Rattle.sip_lex.specs.Bytes.{is_space, trim, trim_end, trim_start}
-use Rattle.sip_text.specs.declared.parts.Header.{Header}
-use Rattle.sip_text.specs.Name.{first_of, first_value, same_name, values_of}
-use Rattle.sip_text.specs.Seen.{view, views}
-use Rattle.sip_text.specs.Text.{HeaderText}
-use Rattle.sip_via.specs.Edits.{line, place_of, replaced}
-use Rattle.sip_via.specs.declared.own.Own.{Own}
-use Rattle.sip_lex.specs.declared.sheltered.Shelter.TheVariants.{QuotesAndAngles}
-use Rattle.sip_lex.specs.declared.sheltered.Place.TheVariants.{Plain}
-use Rattle.sip_lex.specs.Sheltered.{cut_outside}
+use Rattle.sip_text.specs.Name.{values_of}
+use Rattle.sip_text.specs.Seen.{view}
+use Rattle.sip_via.specs.Edits.{place_of}
 use Rattle.sip_route.specs.declared.stripping.Left.{Left}
 use Rattle.sip_route.specs.declared.stripping.Left.TheVariants.{All, Nothing, Part}
-use Rattle.sip_route.specs.Routes.{route_name, stripped_at, stripped_headers}
-use Rattle.sip_route.specs.Stripping.{Leaves, LineLeaves, part}
+use Rattle.sip_route.specs.inner.Stripping.{Leaves}
 
 -- ---- a part of a text
 

@@ -1,17 +1,6 @@
 -- A message without the Route value that names the proxy is one.
-use Rattle.std.proofs.Common.{◌≡◌, ℕ, List, Option, Some, None, refl}
-use Rattle.std.specs.Prelude.{option_map}
-use Rattle.std.proofs.lemmas.Bool.{cond_both}
-use Rattle.sip_lex.specs.declared.sheltered.Shelter.TheVariants.{QuotesAndAngles}
-use Rattle.sip_lex.specs.declared.sheltered.Place.TheVariants.{Plain}
-use Rattle.sip_lex.specs.Bytes.{trim}
-use Rattle.sip_lex.specs.Sheltered.{cut_outside}
-use Rattle.sip_text.specs.Message.{IsMessage}
-use Rattle.sip_text.specs.Name.{first_value}
-use Rattle.sip_text.specs.Text.{HeaderText, MessageText}
-use Rattle.sip_via.specs.declared.own.Own.{Own}
-use Rattle.sip_via.specs.Edits.{replaced, with_headers}
-use Rattle.sip_route.specs.Routes.{names_own, route_name, stripped, stripped_at}
+use Rattle.sip_route.proofs.Common.{◌≡◌, ℕ, List, Option, Some, None, refl, option_map, cond_both, QuotesAndAngles, Plain, trim, cut_outside, IsMessage, first_value, HeaderText, MessageText, Own, replaced, with_headers, names_own}
+use Rattle.sip_route.proofs.Common.{route_name, stripped, stripped_at}
 use Rattle.sip_via.proofs.laws.TrimmedValues.{others-good}
 use Rattle.sip_via.proofs.laws.Replaced.{GoodValue, first-good, with_route-good}
 

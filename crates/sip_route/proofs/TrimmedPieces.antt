@@ -1,16 +1,10 @@
 -- Space at the ends of a text is at the ends of its pieces.
-use Rattle.std.proofs.Common.{◌≡◌, ℕ, suc, ◌+◌, ◌-◌, true, false, cond, eqb, List, [], ◌∷◌, ◌++◌, length, map, take, drop, reverse, refl, sym, ap, subst, ◌∙◌, inl, inr, arith}
-use Rattle.std.specs.Prelude.{◌&&◌}
-use Rattle.std.specs.List.{onto_first, prefix_len}
-use Rattle.std.proofs.lemmas.Bool.{cases_Bool, cond-true, cond-false, eqb-true, false_from_ne_true, false≢true, or_cases}
-use Rattle.std.proofs.lemmas.List.{take_at, take-append-drop, length-drop, length-reverse, reverse-append, reverse-reverse}
-use Rattle.sip_lex.specs.declared.sheltered.Shelter.TheVariants.{QuotesAndAngles}
-use Rattle.sip_lex.specs.declared.sheltered.Place.{Place}
-use Rattle.sip_lex.specs.declared.sheltered.Place.TheVariants.{Plain}
-use Rattle.sip_lex.specs.Bytes.{is_space, trim, trim_end, trim_start}
-use Rattle.sip_lex.specs.Outside.{pieces_from}
-use Rattle.sip_lex.specs.Sheltered.{is_plain, place_after}
-use Rattle.sip_route.specs.RouteValues.{values_in}
+use Rattle.sip_route.proofs.Common.{◌≡◌, ℕ, suc, ◌+◌, true, false, cond, eqb, List, [], ◌∷◌, ◌++◌, map, drop, refl, sym, ap, subst, ◌∙◌, inl, inr, arith, ◌&&◌, onto_first, prefix_len, cases_Bool, cond-true, cond-false, eqb-true, false≢true}
+use Rattle.sip_route.proofs.Common.{QuotesAndAngles, Place, Plain, is_space, trim, trim_end, trim_start, pieces_from, is_plain, place_after, values_in}
+use Rattle.std.proofs.Common.{reverse}
+use Rattle.std.proofs.lemmas.Bool.{false_from_ne_true, or_cases}
+use Rattle.std.proofs.lemmas.List.{reverse-append, reverse-reverse}
+use Rattle.sip_lex.proofs.laws.Trims.{trim_end-reverse}
 use Rattle.sip_route.proofs.RoutePieces.{pieces_from-cut}
 
 -- ---- space at the ends of a text
@@ -22,14 +16,6 @@ trim_start-space b bs e =
 
 trim_start-other : (b : ℕ) (bs : List ℕ) → is_space b ≡ false → trim_start (b ∷ bs) ≡ b ∷ bs
 trim_start-other b bs e = ap (λ m. drop m (b ∷ bs)) (cond-false (is_space b) (1 + prefix_len is_space bs) 0 e)
-
-trim_end-reverse : (bs : List ℕ) → trim_end bs ≡ reverse (trim_start (reverse bs))
-trim_end-reverse bs =
-    let rs = reverse bs in
-    let k = prefix_len is_space rs in
-    let whole : bs ≡ reverse (drop k rs) ++ reverse (take k rs) = sym (reverse-reverse bs) ∙ ap reverse (sym (take-append-drop k rs)) ∙ reverse-append (take k rs) (drop k rs) in
-    let len : length (reverse (drop k rs)) ≡ length bs - k = length-reverse (drop k rs) ∙ length-drop k rs ∙ ap (λ n. n - k) (length-reverse bs) in
-    ap (take (length bs - k)) whole ∙ take_at (reverse (drop k rs)) (reverse (take k rs)) (length bs - k) len
 
 trim_end-space : (bs : List ℕ) (b : ℕ) → is_space b ≡ true → trim_end (bs ++ b ∷ []) ≡ trim_end bs
 trim_end-space bs b e =

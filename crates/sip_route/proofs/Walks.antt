@@ -1,8 +1,7 @@
 -- A walk over values that stops at the first that has a property.
-use Rattle.std.proofs.Common.{◌≡◌, ℕ, zero, suc, ◌<◌, Bool, true, false, List, [], ◌∷◌, length, get_or, refl, sym, subst, ◌∙◌, inl, inr, ◌⊎◌, arith}
-use Rattle.std.specs.Prelude.{◌↔◌, IsTrue}
+use Rattle.sip_route.proofs.Common.{◌≡◌, ℕ, zero, suc, ◌<◌, Bool, true, false, List, ◌∷◌, length, get_or, refl, sym, subst, ◌∙◌, inl, inr, arith, ◌↔◌, IsTrue, false≢true}
+use Rattle.std.proofs.Common.{◌⊎◌}
 use Rattle.std.specs.List.{Any}
-use Rattle.std.proofs.lemmas.Bool.{false≢true}
 
 -- ---- some element of a list
 
@@ -18,11 +17,6 @@ split_at P x xs (suc k) y lt e p = inr (k, y, omega (arith, lt), e, p)
 
 pub any_split : {X : Type 0} (P : X → Type 0) (x : X) (xs : List X) → Any P (x ∷ xs) → P x ⊎ Any P xs
 any_split P x xs a = split_at P x xs a.0 a.1 a.2 a.3 a.4
-
-pub any_none : {X : Type 0} (P : X → Type 0) → Any P [] → ⊥
-any_none P a = let lt = a.2 in absurd (omega (arith, lt))
-
--- ---- the walk over the values
 
 abbrev pub SameAny : {X : Type 0} → (X → Type 0) → List X → List X → Type 0
 SameAny P xs ys = (Any P xs → Any P ys) × (Any P ys → Any P xs)
@@ -41,8 +35,3 @@ walk_past P all left later x r e is never same = (
     | inr rest ↦ rest
   ],
 )
-
--- none is left
-pub walk_none : {X : Type 0} (P : X → Type 0) (all left : List X) → left ≡ [] → SameAny P left all → IsTrue false ↔ Any P all
-walk_none P all left e same =
-    (λ wrong. absurd (false≢true wrong), λ a. absurd (any_none P (subst (λ (ls : List _). Any P ls) e (same.1 a))))

@@ -1,7 +1,7 @@
+pub mod inner
 pub mod Hops
 pub mod Loop
 pub mod LoopTest
 pub mod RequestKey
 pub mod RouteValues
 pub mod Routes
-pub mod Stripping

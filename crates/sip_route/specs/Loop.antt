@@ -36,13 +36,6 @@ call_id m = or_empty (value_of CallId m.headers)
 abbrev pub all_values : List ℕ → MessageText → List ℕ
 all_values name m = join_with_byte 44 (values_of name m.headers)
 
-abbrev pub behind_comma : List ℕ → List ℕ
-behind_comma value = 44 ∷ value
-
--- values, a comma before each
-abbrev pub behind_commas : List (List ℕ) → List ℕ
-behind_commas values = flat_map behind_comma values
-
 abbrev pub field_line : List ℕ → List ℕ
 field_line field = field ++ 10 ∷ []
 

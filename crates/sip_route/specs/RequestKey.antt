@@ -1,13 +1,12 @@
 -- Which requests belong to one server transaction (RFC 3261 section 17.2.3): those of one sender and one
 -- branch. An ACK and a CANCEL have the key of the request that they are for, so the method is not in it.
-use Rattle.std.specs.Prelude.{◌≡◌, ℕ, Bool, false, List, ◌∷◌, ◌++◌, Option, Some, None, Result, Ok, Err}
+use Rattle.std.specs.Prelude.{◌≡◌, ℕ, List, ◌∷◌, ◌++◌, Option, Some, None, Result, Ok, Err}
 use Rattle.std.specs.Fmt.{decimal}
-use Rattle.std.specs.Str.{bytes_eq, str_to_ascii_lowercase}
+use Rattle.std.specs.Str.{str_to_ascii_lowercase}
 use Rattle.sip_text.specs.Text.{MessageText}
 use Rattle.sip_via.specs.declared.own.ViaFault.{ViaFault}
 use Rattle.sip_via.specs.Sender.{sender_port}
 use Rattle.sip_via.specs.TopVia.{top_value}
-use Rattle.sip_via.specs.ViaGrammar.{IsVia}
 use Rattle.sip_via.specs.ViaParts.{ViaText, branch_of, read_via}
 
 -- the host in lower case, `:`, the port, a space, the branch
@@ -30,15 +29,6 @@ key_if_read (Err fault) = None
 abbrev pub request_key : MessageText → Option (List ℕ)
 request_key m = key_if_read (read_via (top_value m))
 
--- the top Via value, of the grammar, names this host as written, this port and this branch
-pub record IsSentBy (m : MessageText) (host : List ℕ) (port : ℕ) (branch : List ℕ) : Type 0 where
-  pub via : ViaText
-  pub grammar : IsVia (top_value m) via
-  pub key : request_key m ≡ via_key via
-  pub names_host : via.host ≡ host
-  pub names_port : sender_port via ≡ port
-  pub names_branch : branch_of via ≡ Some branch
-
 -- both requests have a key, and it is the same
 abbrev pub HaveSameKey : MessageText → MessageText → Type 0
 HaveSameKey m n = (key : List ℕ) × (request_key m ≡ Some key) × (request_key n ≡ Some key)
@@ -48,10 +38,3 @@ pub record IsSameSender (a b : ViaText) : Type 0 where
   pub host : str_to_ascii_lowercase a.host ≡ str_to_ascii_lowercase b.host
   pub port : sender_port a ≡ sender_port b
   pub branch : branch_of a ≡ branch_of b
-
--- ---- a key against a text
-
--- what is left of a text is this; nothing is, where a part was missing
-abbrev pub is_rest : Option (List ℕ) → List ℕ → Bool
-is_rest None text = false
-is_rest (Some rest) text = bytes_eq rest text

@@ -1,8 +1,8 @@
 -- The Route values of a request (RFC 3261 sections 7.3.1, 16.6 steps 6 and 7, and 20.34).
-use Rattle.std.specs.Prelude.{ℕ, Bool, true, false, List, [], ◌∷◌, ◌++◌, Option, Some, None, Result, Ok, Err, if◌then◌else◌}
+use Rattle.std.specs.Prelude.{ℕ, Bool, true, false, List, [], ◌∷◌, Option, Some, None, Result, Ok, Err, if◌then◌else◌}
 use Rattle.std.specs.List.{flat_map}
 use Rattle.sip_lex.specs.declared.sheltered.Shelter.TheVariants.{QuotesAndAngles}
-use Rattle.sip_lex.specs.Outside.{pieces_outside, pieces_outside_behind}
+use Rattle.sip_lex.specs.Outside.{pieces_outside}
 use Rattle.sip_text.specs.Name.{values_of}
 use Rattle.sip_text.specs.Text.{MessageText}
 use Rattle.sip_uri.specs.declared.fault.UriFault.{UriFault}
@@ -53,11 +53,3 @@ first_route m = first_of (route_values m)
 abbrev pub without_own : Own → List (List ℕ) → List (List ℕ)
 without_own own [] = []
 without_own own (value ∷ values) = if names_own own value then values else value ∷ values
-
--- ---- the values that are left behind some, of a line that is begun and of the lines behind it
-
-abbrev pub values_behind : Option (List ℕ) → List (List ℕ)
-values_behind line = pieces_outside_behind QuotesAndAngles 44 line
-
-abbrev pub values_left : Option (List ℕ) → List (List ℕ) → List (List ℕ)
-values_left line lines = values_behind line ++ flat_map values_in lines

@@ -2,7 +2,8 @@
 
 ghost use Rattle.std.specs.Prelude.{◌↔◌, IsTrue};
 ghost use Rattle.std.specs.List.{Any};
-ghost use Rattle.sip_route.specs.LoopTest.{IsLoop, IsOwnValue};
+ghost use Rattle.sip_route.specs.LoopTest.{IsLoop};
+ghost use Rattle.sip_route.specs.inner.LoopTest.{IsOwnValue};
 ghost use Rattle.sip_via.specs.OwnPass.{IsOwnPass};
 ghost use Rattle.sip_via.specs.TopVia.{via_values};
 

@@ -5,7 +5,8 @@ ghost use Rattle.std.specs.Fmt.{decimal};
 ghost use Rattle.std.specs.List.{join_with_byte};
 ghost use Rattle.std.specs.Option.{option_copied};
 ghost use Rattle.md5.specs.Md5.{Holds};
-ghost use Rattle.sip_route.specs.Loop.{all_values, behind_commas, dialog_fields, field_line, field_lines, loop_key, request_uri, routing_fields};
+ghost use Rattle.sip_route.specs.Loop.{all_values, dialog_fields, field_line, field_lines, loop_key, request_uri, routing_fields};
+ghost use Rattle.sip_route.specs.inner.Loop.{behind_commas};
 ghost use Rattle.sip_via.specs.ViaParts.{or_empty};
 
 use itoa::Buffer;

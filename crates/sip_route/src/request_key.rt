@@ -1,13 +1,11 @@
 //! The key of a request: what tells its server transaction from others.
 
-ghost use Rattle.std.specs.Prelude.{List, ℕ, ◌≡◌, ◌↔◌, ◌+◌, ◌++◌, ◌∷◌, ◌≤◌, ◌<◌, ◌&&◌, ◌==◌, IfNone, IfOk, IfSome, IsOk, IsTrue, OnErr, None, OnOk, Some, is_some, length, option_map, vec_capacity, vec_len};
-ghost use Rattle.std.specs.Fmt.{decimal};
+ghost use Rattle.std.specs.Prelude.{List, ℕ, ◌≡◌, ◌↔◌, ◌+◌, ◌++◌, ◌≤◌, ◌<◌, ◌&&◌, ◌==◌, IfNone, IfOk, IfSome, IsOk, IsTrue, OnErr, None, OnOk, Some, is_some, length, vec_capacity, vec_len};
 ghost use Rattle.std.specs.Option.{option_copied};
 ghost use Rattle.std.specs.Str.{bytes_eq, str_to_ascii_lowercase};
-ghost use Rattle.sip_via.specs.Sender.{seen_sender, sender_if_read};
-ghost use Rattle.sip_via.specs.TopVia.{top_value};
-ghost use Rattle.sip_via.specs.ViaParts.{or_empty, read_via};
-ghost use Rattle.sip_route.specs.RequestKey.{HaveSameKey, IsSentBy, is_rest, key_text, request_key};
+ghost use Rattle.sip_via.specs.ViaParts.{or_empty};
+ghost use Rattle.sip_route.specs.RequestKey.{HaveSameKey, key_text, request_key};
+ghost use Rattle.sip_route.specs.inner.RequestKey.{IsSentBy, is_rest};
 
 use itoa::Buffer;
 use sip_text::{Message, append_pieces};

@@ -3,7 +3,8 @@
 ghost use Rattle.std.specs.Prelude.{◌≡◌, [], ◌∷◌, ◌++◌, IfSome, IfNone};
 ghost use Rattle.std.specs.List.{flat_map, list_all};
 ghost use Rattle.std.specs.Option.{option_copied};
-ghost use Rattle.sip_route.specs.RouteValues.{first_route, led_to, is_route, route_values, values_behind, values_in, values_left};
+ghost use Rattle.sip_route.specs.RouteValues.{first_route, led_to, is_route, route_values, values_in};
+ghost use Rattle.sip_route.specs.inner.RouteValues.{values_behind, values_left};
 ghost use Rattle.sip_route.specs.Routes.{bracketed, hop_at_text};
 
 use crate::routes::{ROUTE, bracketed, hop_of};
@@ -34,7 +35,7 @@ struct RouteValues<'a, A: Allocator> {
 impl<'a, A: Allocator> Model for RouteValues<'a, A> {
     ghost use Rattle.std.specs.Prelude.{List, ℕ};
     ghost use Rattle.std.specs.Option.{option_copied};
-    ghost use Rattle.sip_route.specs.RouteValues.{values_left};
+    ghost use Rattle.sip_route.specs.inner.RouteValues.{values_left};
 
     ghost Value = { List (List ℕ) };
 

@@ -1,6 +1,6 @@
 //! The first Route value taken away in place.
 
-ghost use Rattle.std.specs.Prelude.{◌≡◌, ◌++◌, ◌∷◌, ◌≤◌, ◌<◌, List, ℕ, Some, length, slice_get, slice_set};
+ghost use Rattle.std.specs.Prelude.{◌≡◌, ◌++◌, ◌∷◌, ◌≤◌, List, ℕ, Some, length, slice_get, slice_set};
 ghost use Rattle.std.specs.Option.{option_copied};
 ghost use Rattle.sip_lex.specs.declared.sheltered.Place.TheVariants.{Plain};
 ghost use Rattle.sip_lex.specs.declared.sheltered.Shelter.TheVariants.{QuotesAndAngles};
@@ -10,7 +10,7 @@ ghost use Rattle.sip_text.specs.Seen.{views};
 ghost use Rattle.sip_text.specs.Text.{HeaderText};
 ghost use Rattle.sip_via.specs.Edits.{line, place_of};
 ghost use Rattle.sip_route.specs.Routes.{route_name, stripped, stripped_headers};
-ghost use Rattle.sip_route.specs.Stripping.{IsPart, Leaves, LineLeaves, part};
+ghost use Rattle.sip_route.specs.inner.Stripping.{IsPart, Leaves, LineLeaves, part};
 
 use crate::routes::{ROUTE, names_own};
 use sip_lex::{Shelter, cut_outside, trim_end, trim_start};

@@ -1,5 +1,5 @@
 //! Messages that are written straight to a text, against those that are built and then written.
-ghost use Rattle.std.specs.Prelude.{◌≡◌, IfSome, IsTrue};
+ghost use Rattle.std.specs.Prelude.{IfSome, IsTrue};
 ghost use Rattle.sip_text.specs.Name.{first_value};
 ghost use Rattle.sip_route.specs.Hops.{IsHops, hops_name};
 

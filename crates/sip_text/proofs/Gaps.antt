@@ -1,8 +1,5 @@
 -- Cutting at the first byte that passes a test.
-use Rattle.std.proofs.Common.{◌≡◌, ℕ, Bool, true, false, List, [], ◌∷◌, ◌++◌, Option, Some, None, refl, ap, ◌∙◌}
-use Rattle.std.specs.List.{AllByRecursion}
-use Rattle.std.proofs.lemmas.Bool.{cond_both, cond-true, cond-false}
-use Rattle.sip_lex.specs.Cut.{cut}
+use Rattle.sip_text.proofs.Common.{◌≡◌, ℕ, Bool, true, false, List, [], ◌∷◌, ◌++◌, Option, Some, None, refl, ap, ◌∙◌, AllByRecursion, cond_both, cond-true, cond-false, cut}
 
 abbrev pub Cut : Type 0
 Cut = List ℕ × Option (List ℕ)

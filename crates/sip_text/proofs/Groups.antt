@@ -1,14 +1,10 @@
 -- Lines as headers, by the relation and by the function.
-use Rattle.std.proofs.Common.{◌≡◌, ℕ, Bool, true, false, List, [], ◌∷◌, ◌++◌, map, Option, Some, None, refl, sym, ap, subst, ◌∙◌, inl, inr}
-use Rattle.std.specs.List.{flat_map, AllByRecursion}
-use Rattle.std.proofs.lemmas.Bool.{cases_Bool, cond-true, cond-false, false_from_ne_true}
-use Rattle.sip_lex.specs.Bytes.{is_token, trim, trim_end}
-use Rattle.sip_lex.specs.Cut.{cut, is, behind, Lacks}
-use Rattle.sip_lex.proofs.Cuts.{cut_joins, cut_lacks, cut_again}
-use Rattle.sip_text.specs.Grammar.{AreHeaders, IsHeader}
-use Rattle.sip_text.specs.Reading.{Group, before_group, begins_with_space, grouped, header_of, header_of_cut, joined, part_text, with_header}
-use Rattle.sip_text.specs.Text.{HeaderText}
-use Rattle.sip_text.proofs.Good.{found, some_is}
+use Rattle.sip_text.proofs.Common.{◌≡◌, ℕ, Bool, true, false, List, [], ◌∷◌, ◌++◌, map, Option, Some, None, refl, sym, ap, subst, ◌∙◌, inl, inr, flat_map, AllByRecursion, cases_Bool, cond-true, cond-false, false_from_ne_true, is_token}
+use Rattle.sip_text.proofs.Common.{trim, trim_end, cut, is, behind, cut_joins, cut_lacks, AreHeaders, IsHeader, Group, before_group, begins_with_space, header_of, header_of_cut, joined, part_text, with_header, HeaderText}
+use Rattle.sip_lex.specs.Cut.{Lacks}
+use Rattle.sip_lex.proofs.laws.Cuts.{cut_again}
+use Rattle.sip_text.specs.Reading.{grouped}
+use Rattle.sip_text.proofs.laws.Good.{found, some_is}
 use Rattle.sip_text.proofs.Tails.{space_no_header}
 
 abbrev Cut : Type 0

@@ -1,7 +1,6 @@
 -- What has no room while parts are appended has none for all of them.
-use Rattle.std.proofs.Common.{◌≡◌, ◌∙◌, ℕ, ◌+◌, ◌<◌, ◌≤◌, List, ◌++◌, Result, Ok, Err, OnErr, length, take, get_or, map, ap, arith, subst, sym}
-use Rattle.std.specs.List.{flat_map}
-use Rattle.std.proofs.lemmas.List.{length-append}
+use Rattle.sip_text.proofs.Common.{◌≡◌, ◌∙◌, ℕ, ◌+◌, ◌<◌, ◌≤◌, List, ◌++◌, Result, Ok, Err, length, take, get_or, map, ap, arith, subst, sym, flat_map, length-append}
+use Rattle.std.proofs.Common.{OnErr}
 use Rattle.std.proofs.lemmas.List.Folds.{flat_map-map, length-flat_map-take}
 
 pub of_err : {T E P : Type 0} (r : Result T E) → P → OnErr r P

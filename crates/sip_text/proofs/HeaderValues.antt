@@ -1,13 +1,8 @@
 -- The values of a message's headers, and parts of them.
-use Rattle.std.proofs.Common.{◌≡◌, ℕ, true, List, [], ◌∷◌, ◌++◌, refl, sym, ◌∙◌}
-use Rattle.std.specs.List.{list_all}
-use Rattle.std.proofs.lemmas.Bool.{and_parts, cond_both}
-use Rattle.std.proofs.lemmas.List.Folds.{list_all-append}
-use Rattle.sip_lex.specs.Bytes.{is_token, trim}
-use Rattle.sip_text.specs.Message.{IsMessage, is_header, is_line, is_line_byte, is_trimmed, is_value}
-use Rattle.sip_text.specs.Name.{same_name, values_of}
-use Rattle.sip_text.specs.Text.{HeaderText, MessageText}
-use Rattle.sip_text.proofs.Good.{all_trim, and_both, trim_trimmed}
+use Rattle.sip_text.proofs.Common.{◌≡◌, ℕ, true, List, [], ◌∷◌, ◌++◌, refl, sym, ◌∙◌, list_all, and_parts, cond_both, list_all-append, is_token, trim, IsMessage, is_header, is_line, is_line_byte, is_trimmed, is_value, same_name, HeaderText}
+use Rattle.sip_text.proofs.Common.{MessageText}
+use Rattle.sip_text.specs.Name.{values_of}
+use Rattle.sip_text.proofs.laws.Good.{all_trim, and_both, trim_trimmed}
 
 values_good : (name : List ℕ) (hs : List HeaderText) → list_all is_header hs ≡ true → list_all is_value (values_of name hs) ≡ true
 unfolding values_of

@@ -1,14 +1,7 @@
 -- What was read where reading answered.
-use Rattle.std.proofs.Common.{◌≡◌, ◌∙◌, ℕ, true, cond, List, Option, Some, None, Result, Ok, Err, ap, sym}
-use Rattle.std.proofs.lemmas.Bool.{cond-true}
-use Rattle.sip_lex.specs.Line.{line_at}
-use Rattle.sip_lex.specs.Pieces.{pieces}
-use Rattle.sip_text.specs.declared.needed.Needed.{Needed}
-use Rattle.sip_text.specs.Fields.{cseq_fits, missing, said_length}
-use Rattle.sip_text.specs.Message.{after_headers, after_line, after_start, body_at, checked, if_present, read_at}
-use Rattle.sip_text.specs.Heads.{or_bad}
-use Rattle.sip_text.specs.Reading.{BadCSeq, Fault, Headers, headers_at, skip, start_of}
-use Rattle.sip_text.specs.Text.{HeaderText, StartText}
+use Rattle.sip_text.proofs.Common.{◌≡◌, ◌∙◌, ℕ, true, cond, List, Option, Some, None, Result, Ok, Err, ap, sym, cond-true, line_at, pieces, Needed, cseq_fits, missing, said_length, after_headers, after_line, after_start, if_present, or_bad}
+use Rattle.sip_text.proofs.Common.{BadCSeq, Fault, Headers, headers_at, skip, start_of, HeaderText, StartText}
+use Rattle.sip_text.specs.Message.{body_at, checked, read_at}
 use Rattle.sip_text.proofs.Joins.{join_pieces}
 
 abbrev there : Headers → Option Headers

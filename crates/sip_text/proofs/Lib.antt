@@ -1,5 +1,6 @@
+pub mod Common
+pub mod laws
 pub mod Gaps
-pub mod Good
 pub mod Groups
 pub mod Grown
 pub mod HeaderValues

@@ -1,12 +1,7 @@
 -- What reading answered, by the relation.
-use Rattle.std.proofs.Common.{ℕ, List, Result, Ok, Err, sym, subst, ◌∙◌}
+use Rattle.sip_text.proofs.Common.{ℕ, List, Result, Ok, Err, sym, subst, ◌∙◌, FailsAs, Gives, fault_seen, IsText, read_at, Fault, MessageText}
 use Rattle.std.specs.Prelude.{IfOk}
 use Rattle.sip_text.specs.declared.fault.ReadFault.{ReadFault}
-use Rattle.sip_text.specs.Fault.{FailsAs, Gives, fault_seen}
-use Rattle.sip_text.specs.Grammar.{IsText}
-use Rattle.sip_text.specs.Message.{read_at}
-use Rattle.sip_text.specs.Reading.{Fault}
-use Rattle.sip_text.specs.Text.{MessageText}
 use Rattle.sip_text.proofs.Whole.{text_found, text_read}
 
 pub is_found : {A : Type 0} (text : List ℕ) (r : Result MessageText (ReadFault A)) → Gives (λ m. m) r (read_at text) → IfOk r (λ m. IsText text m)

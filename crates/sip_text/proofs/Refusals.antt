@@ -1,22 +1,12 @@
 -- Texts that are refused, by the relation and by the function.
-use Rattle.std.proofs.Common.{◌≡◌, ◌≢◌, ℕ, ◌<◌, ◌≤◌, false, cond, eqb, leb, List, [], ◌∷◌, ◌++◌, length, take, get_or, Option, Some, None, Result, Ok, Err, refl, sym, ap, subst, ◌∙◌, inl, inr, arith}
-use Rattle.std.specs.Prelude.{◌&&◌}
-use Rattle.std.specs.List.{join_with_byte}
-use Rattle.std.proofs.lemmas.Bool.{cases_Bool, cond_both, cond-true, cond-false, false_from_ne_true, false≢true, leb-false, leb-true}
-use Rattle.sip_lex.specs.Line.{ended, line_at}
-use Rattle.sip_lex.specs.Pieces.{pieces}
-use Rattle.sip_lex.proofs.Lines.{line_at-again, line_at-takes}
-use Rattle.sip_text.specs.declared.fields.BodyLength.{BodyLength}
-use Rattle.sip_text.specs.declared.fields.BodyLength.TheVariants.{Unsaid, Bytes, Wrong}
-use Rattle.sip_text.specs.declared.needed.Needed.{Needed}
-use Rattle.sip_text.specs.Fields.{cseq_fits, missing, said_length}
-use Rattle.sip_text.specs.Grammar.{blank_lines}
-use Rattle.sip_text.specs.Message.{after_headers, after_line, after_start, body_at, checked, head_of, if_present, read_at}
-use Rattle.sip_text.specs.Reading.{Fault, BadStart, BadHeader, Lacks, BadVersion, BadStatus, Short, BadCSeq, BadLength, Headers, headers_at, skip, start_of}
+use Rattle.sip_text.proofs.Common.{◌≡◌, ◌≢◌, ℕ, ◌<◌, ◌≤◌, false, cond, eqb, leb, List, [], ◌∷◌, ◌++◌, length, take, get_or, Option, Some, None, Result, Ok, Err, refl, sym, ap, subst, ◌∙◌, inl, inr, arith, ◌&&◌, join_with_byte, cases_Bool}
+use Rattle.sip_text.proofs.Common.{cond_both, cond-true, cond-false, false_from_ne_true, false≢true, leb-true, ended, line_at, pieces, line_at-again, line_at-takes, BodyLength, Unsaid, Bytes, Wrong, Needed, cseq_fits, missing, said_length}
+use Rattle.sip_text.proofs.Common.{blank_lines, after_headers, after_line, after_start, head_of, if_present, Fault, BadStart, BadHeader, Lacks, BadVersion, BadStatus, Short, BadCSeq, BadLength, Headers, headers_at, skip, start_of}
+use Rattle.sip_text.proofs.Common.{HasStartFault, HeaderText, MessageText, StartText}
+use Rattle.std.proofs.lemmas.Bool.{leb-false}
+use Rattle.sip_text.specs.Message.{body_at, checked, read_at}
 use Rattle.sip_text.specs.Refusal.{Begins, FirstLine, HasFields, HasHead, HasHeaders, IsRefused}
-use Rattle.sip_text.specs.StartFaults.{HasStartFault}
-use Rattle.sip_text.specs.Text.{HeaderText, MessageText, StartText}
-use Rattle.sip_text.proofs.Good.{found, some_is}
+use Rattle.sip_text.proofs.laws.Good.{found, some_is}
 use Rattle.sip_text.proofs.Heads.{checked_is}
 use Rattle.sip_text.proofs.Joins.{join_pieces}
 use Rattle.sip_text.proofs.StartAgain.{start_again}

@@ -1,23 +1,15 @@
 -- A message's spelling is a text of it.
-use Rattle.std.proofs.Common.{◌≡◌, ◌≢◌, ℕ, ◌+◌, ◌-◌, ◌/◌, ◌%◌, ◌≤◌, Bool, true, false, not, eqb, leb, ltb, List, [], ◌∷◌, ◌++◌, length, map, drop, reverse, Ok, refl, sym, ap, ◌∙◌, arith}
-use Rattle.std.specs.Prelude.{codes}
-use Rattle.std.specs.List.{flat_map, list_all, prefix_len, suffix_len, AllByRecursion}
-use Rattle.std.proofs.lemmas.Bool.{and_parts, cond-false, eq-eqb, eqb-true, false_from_ne_true, false≢true, le-leb, not-true}
-use Rattle.std.proofs.lemmas.List.{append-nil, length-append, take_all}
-use Rattle.std.proofs.lemmas.List.Folds.{list_all-append}
-use Rattle.sip_lex.specs.Bytes.{is_space, is_token, is_token_byte, trim, trim_end, trim_start}
-use Rattle.sip_lex.specs.Line.{IsLine, ended}
-use Rattle.sip_lex.specs.Pieces.{pieces}
-use Rattle.sip_lex.proofs.Cuts.{Lacks-pass}
-use Rattle.sip_lex.proofs.Trims.{token_bytes, token_lacks, trim-space, trim_end-token}
-use Rattle.sip_text.specs.declared.fields.BodyLength.{BodyLength}
-use Rattle.sip_text.specs.declared.fields.BodyLength.TheVariants.{Unsaid, Bytes, Wrong}
-use Rattle.sip_text.specs.Fields.{said_length}
-use Rattle.sip_text.specs.Grammar.{AreHeaders, IsBody, IsFull, IsHeader, IsStartLine, IsText}
-use Rattle.sip_text.specs.Message.{IsMessage, fits_body, is_header, is_line, is_line_byte, is_start, is_trimmed, is_value, read_at}
-use Rattle.sip_text.specs.Reading.{begins_with_space, is_printed, is_status, is_uri}
-use Rattle.sip_text.specs.Text.{HeaderText, MessageText, StartText, Request, Response, header_line, header_text, spelling, start_line, status_text}
-use Rattle.sip_text.proofs.Good.{and_both, headers_good, line_of_lacks}
+use Rattle.sip_text.proofs.Common.{◌≡◌, ◌≢◌, ℕ, ◌+◌, ◌-◌, ◌/◌, ◌%◌, ◌≤◌, Bool, true, false, not, eqb, leb, ltb, List, [], ◌∷◌, ◌++◌, length, map, drop, reverse, Ok, refl, sym, ap, ◌∙◌, arith, codes, flat_map, list_all, prefix_len}
+use Rattle.sip_text.proofs.Common.{suffix_len, AllByRecursion, and_parts, cond-false, eq-eqb, eqb-true, false_from_ne_true, false≢true, le-leb, append-nil, length-append, list_all-append, is_space, is_token, is_token_byte, trim, trim_end}
+use Rattle.sip_text.proofs.Common.{trim_start, IsLine, ended, pieces, token_bytes, trim-space, BodyLength, Unsaid, Bytes, Wrong, said_length, AreHeaders, IsBody, IsFull, IsHeader, IsStartLine, IsText, IsMessage, fits_body, is_header}
+use Rattle.sip_text.proofs.Common.{is_line, is_line_byte, is_start, is_trimmed, is_value, read_at, begins_with_space, is_printed, is_status, is_uri, HeaderText, MessageText, StartText, Request, Response, header_text, start_line}
+use Rattle.sip_text.proofs.Common.{status_text}
+use Rattle.std.proofs.lemmas.Bool.{not-true}
+use Rattle.std.proofs.lemmas.List.{take_all}
+use Rattle.sip_lex.proofs.laws.Cuts.{Lacks-pass}
+use Rattle.sip_lex.proofs.laws.Trims.{token_lacks, trim_end-token}
+use Rattle.sip_text.specs.Text.{header_line, spelling}
+use Rattle.sip_text.proofs.laws.Good.{and_both, headers_good, line_of_lacks}
 use Rattle.sip_text.proofs.StartLines.{start_line_good}
 use Rattle.sip_text.proofs.Whole.{headers_read, text_read}
 

@@ -1,19 +1,14 @@
 -- Start lines that are spelled so are read.
-use Rattle.std.proofs.Common.{◌≡◌, ℕ, ◌+◌, ◌/◌, ◌%◌, ◌≤◌, Bool, true, false, cond, eqb, leb, ltb, List, [], ◌∷◌, ◌++◌, length, take, map, get_or, Some, Result, Ok, Err, refl, sym, ap, subst, ◌∙◌, inl, inr, arith}
-use Rattle.std.specs.Prelude.{◌&&◌, codes}
-use Rattle.std.specs.Char.{is_ascii_digit, to_ascii_lowercase}
-use Rattle.std.specs.List.{list_all, AllByRecursion}
-use Rattle.std.specs.Str.{bytes_eq, str_to_ascii_lowercase}
-use Rattle.std.proofs.lemmas.Bool.{and_parts, cond_both, cond-true, cond-false, false_from_ne_true, false≢true, eqb-true, le-leb, leb-true, ltb-false, or_cases}
-use Rattle.std.proofs.lemmas.Slice.Eq.{bytes_eq-Decides}
-use Rattle.sip_lex.specs.Bytes.{is_space, is_token, is_token_byte}
-use Rattle.sip_lex.specs.Cut.{cut}
-use Rattle.sip_lex.proofs.Trims.{token_bytes, token_byte-space}
-use Rattle.sip_text.specs.Grammar.{IsRequestLine, IsStartLine, IsStatusLine}
-use Rattle.sip_text.specs.Reading.{Fault, BadStatus, after_uri, begins_with_sip, is_printed, is_status, is_uri, is_version, number_of, request_of, response_of, start_of, status_of}
-use Rattle.sip_text.specs.Text.{StartText, Request, Response, status_text}
+use Rattle.sip_text.proofs.Common.{◌≡◌, ℕ, ◌+◌, ◌/◌, ◌%◌, ◌≤◌, Bool, true, false, cond, eqb, leb, ltb, List, [], ◌∷◌, ◌++◌, length, take, map, get_or, Some, Result, Ok, Err, refl, sym, ap, subst, ◌∙◌, inl, inr, arith, ◌&&◌, codes}
+use Rattle.sip_text.proofs.Common.{is_ascii_digit, list_all, AllByRecursion, bytes_eq, str_to_ascii_lowercase, and_parts, cond_both, cond-true, cond-false, false_from_ne_true, false≢true, eqb-true, le-leb, leb-true, bytes_eq-Decides}
+use Rattle.sip_text.proofs.Common.{is_space, is_token, is_token_byte, cut, token_bytes, token_byte-space, IsStartLine, Fault, BadStatus, after_uri, begins_with_sip, is_printed, is_status, is_uri, is_version, number_of, request_of}
+use Rattle.sip_text.proofs.Common.{response_of, status_of, StartText, Request, Response, status_text}
+use Rattle.std.specs.Char.{to_ascii_lowercase}
+use Rattle.std.proofs.lemmas.Bool.{ltb-false, or_cases}
+use Rattle.sip_text.specs.Grammar.{IsRequestLine, IsStatusLine}
+use Rattle.sip_text.specs.Reading.{start_of}
 use Rattle.sip_text.proofs.Gaps.{cut_again_at}
-use Rattle.sip_text.proofs.Good.{and_both}
+use Rattle.sip_text.proofs.laws.Good.{and_both}
 
 abbrev Apart : List ℕ → Type 0
 Apart bs = AllByRecursion (λ b. is_space b ≡ false) bs

@@ -1,16 +1,10 @@
 -- Start lines, read and spelled.
-use Rattle.std.proofs.Common.{◌≡◌, ℕ, ◌+◌, ◌/◌, ◌%◌, ◌≤◌, true, leb, List, [], ◌∷◌, ◌++◌, Option, Some, None, Result, Ok, Err, refl, sym, ap, subst, ◌∙◌, inl, inr, arith}
-use Rattle.std.specs.Prelude.{◌&&◌}
-use Rattle.std.specs.Char.{is_ascii_digit}
-use Rattle.std.proofs.lemmas.Bool.{and_parts, cases_Bool, cond-true, cond-false, leb-true}
-use Rattle.sip_lex.specs.Bytes.{is_space, is_token}
-use Rattle.sip_lex.specs.Cut.{cut}
-use Rattle.sip_text.specs.Grammar.{IsStartLine}
-use Rattle.sip_text.specs.Message.{is_line, is_start}
-use Rattle.sip_text.specs.Reading.{Fault, BadStart, BadStatus, BadVersion, after_uri, after_version, begins_with_sip, is_status, is_uri, is_version, number_of, request_of, response_of, start_of, status_of}
-use Rattle.sip_text.specs.Text.{StartText, Request, Response, status_text}
+use Rattle.sip_text.proofs.Common.{◌≡◌, ℕ, ◌+◌, ◌/◌, ◌%◌, ◌≤◌, true, leb, List, [], ◌∷◌, ◌++◌, Option, Some, None, Result, Ok, Err, refl, sym, ap, subst, ◌∙◌, inl, inr, arith, ◌&&◌, is_ascii_digit, and_parts, cases_Bool, cond-true}
+use Rattle.sip_text.proofs.Common.{cond-false, leb-true, is_space, is_token, cut, IsStartLine, is_line, is_start, Fault, BadStart, BadStatus, BadVersion, after_uri, begins_with_sip, is_status, is_uri, is_version, number_of, request_of}
+use Rattle.sip_text.proofs.Common.{response_of, status_of, StartText, Request, Response, status_text}
+use Rattle.sip_text.specs.Reading.{after_version, start_of}
 use Rattle.sip_text.proofs.Gaps.{Cut, JoinsAt, cut_joins_at}
-use Rattle.sip_text.proofs.Good.{and_both, behind_line}
+use Rattle.sip_text.proofs.laws.Good.{and_both, behind_line}
 
 abbrev pub done : {A : Type 0} → A → Result A Fault
 done x = Ok x

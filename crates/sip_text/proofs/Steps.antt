@@ -1,9 +1,7 @@
 -- Headers of one name, one by one.
-use Rattle.std.proofs.Common.{◌≡◌, ℕ, true, false, List, [], ◌∷◌, length, refl, sym, ap, ◌∙◌, arith}
-use Rattle.std.proofs.lemmas.Bool.{cond-true, cond-false}
+use Rattle.sip_text.proofs.Common.{◌≡◌, ℕ, true, false, List, [], ◌∷◌, length, refl, sym, ap, ◌∙◌, arith, cond-true, cond-false, same_name, view, views}
 use Rattle.sip_text.specs.declared.parts.Header.{Header}
-use Rattle.sip_text.specs.Name.{same_name, values_of}
-use Rattle.sip_text.specs.Seen.{view, views}
+use Rattle.sip_text.specs.Name.{values_of}
 
 pub named_here : {A : Type 0} (name : List ℕ) (hs rest : List (Header A)) (h : Header A) (all : List (List ℕ)) → hs ≡ h ∷ rest → same_name name (view h).name ≡ true → values_of name (views hs) ≡ all → all ≡ (view h).value ∷ values_of name (views rest)
 unfolding values_of

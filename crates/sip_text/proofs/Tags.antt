@@ -1,13 +1,9 @@
 -- The parameters of an address, one by one.
-use Rattle.std.proofs.Common.{◌≡◌, ℕ, true, false, cond, List, ◌∷◌, Option, Some, sym, ap, ◌∙◌}
-use Rattle.std.proofs.lemmas.Bool.{cond-true, cond-false}
-use Rattle.sip_lex.specs.declared.sheltered.Shelter.TheVariants.{QuotesAndAngles}
+use Rattle.sip_text.proofs.Common.{◌≡◌, ℕ, true, false, cond, List, ◌∷◌, Option, Some, sym, ap, ◌∙◌, cond-true, cond-false, QuotesAndAngles, cut, is, pieces_outside_behind, tag_of_params}
 use Rattle.sip_lex.specs.declared.sheltered.Place.TheVariants.{Plain}
-use Rattle.sip_lex.specs.Cut.{cut, is}
-use Rattle.sip_lex.specs.Outside.{pieces_outside_behind}
 use Rattle.sip_lex.specs.Sheltered.{cut_outside}
-use Rattle.sip_lex.proofs.OutsideSplits.{pieces_outside-cut}
-use Rattle.sip_text.specs.Tag.{is_tag_name, tag_of_params, value_of_cut}
+use Rattle.sip_lex.proofs.laws.OutsideSplits.{pieces_outside-cut}
+use Rattle.sip_text.specs.Tag.{is_tag_name, value_of_cut}
 
 abbrev Cut : Type 0
 Cut = List ℕ × Option (List ℕ)

@@ -1,20 +1,14 @@
 -- The lines of a text, one by one.
-use Rattle.std.proofs.Common.{◌≡◌, ℕ, zero, suc, ◌-◌, true, false, cond, eqb, List, [], ◌∷◌, ◌++◌, length, take, Option, Some, None, Ok, Err, refl, sym, ap, subst, ◌∙◌, append_assoc, arith}
-use Rattle.std.specs.List.{list_all, flat_map, suffix_len}
-use Rattle.std.proofs.lemmas.Bool.{and_parts, cond_both, cond-true, cond-false, eqb-true, false_from_ne_true, false≢true}
-use Rattle.std.proofs.lemmas.List.{append-nil}
-use Rattle.sip_lex.specs.Bytes.{is_space, is_token, is_token_byte, trim, trim_end}
-use Rattle.sip_lex.specs.Cut.{cut, is}
-use Rattle.sip_lex.specs.Line.{IsLine, ended, line_at, line_at_cut, line_in}
+use Rattle.sip_text.proofs.Common.{◌≡◌, ℕ, zero, suc, ◌-◌, true, false, cond, eqb, List, [], ◌∷◌, ◌++◌, length, take, Option, Some, None, Ok, Err, refl, sym, ap, subst, ◌∙◌, append_assoc, arith, list_all, flat_map, suffix_len, and_parts}
+use Rattle.sip_text.proofs.Common.{cond_both, cond-true, cond-false, eqb-true, false_from_ne_true, false≢true, append-nil, is_space, is_token, is_token_byte, trim, cut, is, ended, line_at, line_in, pieces, line_at-takes, token_byte-space}
+use Rattle.sip_text.proofs.Common.{token_bytes, trim-space, FailsAs, continued, or_bad, prepended, valued, with_part, Fault, BadHeader, Group, Headers, Lines, before_group, begins_with_space, closed, header_of, header_of_cut, joined}
+use Rattle.sip_text.proofs.Common.{lines_from, tail_of_group, tail_of_lines, with_header, with_line, HeaderText}
+use Rattle.sip_lex.specs.Line.{line_at_cut}
 use Rattle.sip_lex.specs.Line as lines
-use Rattle.sip_lex.specs.Pieces.{pieces, pieces_behind}
-use Rattle.sip_lex.proofs.Lines.{line_at-takes}
-use Rattle.sip_lex.proofs.Splits.{pieces-cut}
-use Rattle.sip_lex.proofs.Trims.{token_byte-space, token_bytes, trim-space}
-use Rattle.sip_text.specs.Fault.{FailsAs}
-use Rattle.sip_text.specs.Heads.{Valued, continued, front_header, or_bad, prepended, put, put_if_any, valued, with_part}
-use Rattle.sip_text.specs.Reading.{Fault, BadHeader, Group, Headers, Lines, Tail, before_group, begins_with_space, closed, grouped, header_of, header_of_cut, headers_at, joined, lines_at, lines_from, tail_at, tail_of_group, tail_of_lines, with_header, with_line}
-use Rattle.sip_text.specs.Text.{HeaderText}
+use Rattle.sip_lex.specs.Pieces.{pieces_behind}
+use Rattle.sip_lex.proofs.laws.Splits.{pieces-cut}
+use Rattle.sip_text.specs.inner.Heads.{Valued, front_header, put, put_if_any}
+use Rattle.sip_text.specs.Reading.{Tail, grouped, headers_at, lines_at, tail_at}
 
 abbrev Cut : Type 0
 Cut = List ℕ × Option (List ℕ)
@@ -154,39 +148,6 @@ value_ends value bs all space h =
     sym h ∙ ap (continued value) same ∙ front_end value bs (line_at bs) refl space ∙ ap (λ (x : Option Tail). valued (trim value) (closed x)) (sym same)
 
 -- ---- a header
-
-abbrev pub named : List ℕ → Option Valued → Option Headers
-named name None = None
-named name (Some x) = Some (record { name = name; value = x.0 } ∷ x.1, x.2)
-
-pub no_colon : (line front : List ℕ) (t : Option Tail) → (front, None) ≡ cut (is 58) line → front_header line t ≡ None
-no_colon line front None e = refl
-no_colon line front (Some t) e = ap (λ (c : Cut). put_if_any (header_of_cut c t.parts) t) (sym e)
-
-pub no_name : (line front raw : List ℕ) (t : Option Tail) → (front, Some raw) ≡ cut (is 58) line → is_token (trim_end front) ≡ false → front_header line t ≡ None
-no_name line front raw None e bad = refl
-no_name line front raw (Some t) e bad = ap (λ (c : Cut). put_if_any (header_of_cut c t.parts) t) (sym e) ∙ ap (λ (h : Option HeaderText). put_if_any h t) (cond-false _ _ _ bad)
-
-is_named : (line front raw : List ℕ) (t : Option Tail) → (front, Some raw) ≡ cut (is 58) line → is_token (trim_end front) ≡ true → front_header line t ≡ named (trim_end front) (continued (trim raw) t)
-is_named line front raw None e good = refl
-is_named line front raw (Some t) e good = ap (λ (c : Cut). put_if_any (header_of_cut c t.parts) t) (sym e) ∙ ap (λ (h : Option HeaderText). put_if_any h t) (cond-true _ _ _ good)
-
-named_valued : (name value : List ℕ) (x : Option Headers) → named name (valued value x) ≡ put (record { name = name; value = value }) x
-named_valued name value None = refl
-named_valued name value (Some x) = refl
-
-pub header_is : (line front raw name value rest : List ℕ) (t : Option Tail) → (front, Some raw) ≡ cut (is 58) line → is_token (trim_end front) ≡ true → name ≡ trim_end front → continued (trim raw) t ≡ valued value (headers_at rest) → front_header line t ≡ put (record { name = name; value = value }) (headers_at rest)
-header_is line front raw name value rest t e good n h =
-    is_named line front raw t e good ∙ ap (named (trim_end front)) h ∙ named_valued (trim_end front) value (headers_at rest) ∙ ap (λ (x : List ℕ). put (record { name = x; value = value }) (headers_at rest)) (sym n)
-
--- a fault of a part is one of the whole
-fails_named : (name : List ℕ) (f : Option Fault) (x : Option Valued) → FailsAs f (or_bad x) → FailsAs f (or_bad (named name x))
-fails_named name None x h = tt
-fails_named name (Some f) None h = let e : BadHeader ≡ f = cc in ap (λ (x : Fault). Err x) e
-fails_named name (Some f) (Some x) h = absurd cc
-
-pub header_fails : (line front raw : List ℕ) (f : Option Fault) (t : Option Tail) → (front, Some raw) ≡ cut (is 58) line → is_token (trim_end front) ≡ true → FailsAs f (or_bad (continued (trim raw) t)) → FailsAs f (or_bad (front_header line t))
-header_fails line front raw f t e good h = subst (λ (x : Option Headers). FailsAs f (or_bad x)) (sym (is_named line front raw t e good)) (fails_named (trim_end front) f (continued (trim raw) t) h)
 
 -- a line that begins with space is no header
 take_token : (n b : ℕ) (bs : List ℕ) → is_space b ≡ true → is_token (take n (b ∷ bs)) ≡ false

@@ -1,13 +1,8 @@
 -- The lines of a text up to the empty one, by the whole text.
-use Rattle.std.proofs.Common.{◌≡◌, ◌≢◌, ℕ, zero, suc, ◌<◌, List, [], ◌∷◌, ◌++◌, length, Option, Some, None, refl, sym, ap, subst, ◌∙◌, arith, append_assoc}
-use Rattle.std.specs.List.{flat_map, AllByRecursion}
-use Rattle.std.proofs.lemmas.List.{length-append}
-use Rattle.sip_lex.specs.Line.{IsLine, ended, line_at}
-use Rattle.sip_lex.specs.Pieces.{pieces}
-use Rattle.sip_lex.proofs.Lines.{TakesLine, line_at-again, line_at-takes}
-use Rattle.sip_text.specs.Grammar.{IsFull}
-use Rattle.sip_text.specs.Reading.{Lines, lines_at, lines_from, with_line}
-use Rattle.sip_text.proofs.Good.{some_is}
+use Rattle.sip_text.proofs.Common.{◌≡◌, ◌≢◌, ℕ, zero, suc, ◌<◌, List, [], ◌∷◌, ◌++◌, length, Option, Some, None, refl, sym, ap, subst, ◌∙◌, arith, append_assoc, flat_map, AllByRecursion, length-append, IsLine, ended, line_at, pieces}
+use Rattle.sip_text.proofs.Common.{line_at-again, line_at-takes, IsFull, Lines, lines_at, lines_from, with_line}
+use Rattle.sip_lex.proofs.laws.Lines.{TakesLine}
+use Rattle.sip_text.proofs.laws.Good.{some_is}
 use Rattle.sip_text.proofs.Tails.{Front, lines_at-line, lines_front}
 
 -- ---- what is spelled so is read

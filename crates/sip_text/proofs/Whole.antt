@@ -1,22 +1,12 @@
 -- Whole texts, by the relation and by the function.
-use Rattle.std.proofs.Common.{◌≡◌, ◌≢◌, ℕ, zero, suc, ◌≤◌, true, cond, eqb, leb, List, [], ◌∷◌, ◌++◌, length, map, take, drop, Option, Some, None, Result, Ok, Err, refl, sym, ap, subst, ◌∙◌, inl, inr, arith, length-take}
-use Rattle.std.specs.Prelude.{◌&&◌}
-use Rattle.std.specs.List.{flat_map, join_with_byte, AllByRecursion}
-use Rattle.std.proofs.lemmas.Bool.{and_parts, cases_Bool, cond_both, cond-true, cond-false, eqb-true, le-leb, leb-true, ne_eqb}
-use Rattle.std.proofs.lemmas.List.{length-append, take_at, take-append-drop}
-use Rattle.sip_lex.specs.Bytes.{trim}
-use Rattle.sip_lex.specs.Line.{IsLine, ended, line_at}
-use Rattle.sip_lex.specs.Pieces.{pieces}
-use Rattle.sip_lex.proofs.Lines.{line_at-again, line_at-takes}
-use Rattle.sip_text.specs.declared.fields.BodyLength.{BodyLength}
-use Rattle.sip_text.specs.declared.fields.BodyLength.TheVariants.{Unsaid, Bytes, Wrong}
-use Rattle.sip_text.specs.declared.needed.Needed.{Needed}
-use Rattle.sip_text.specs.Fields.{cseq_fits, missing, said_length}
-use Rattle.sip_text.specs.Grammar.{AreHeaders, IsBody, IsFull, IsText, blank_lines}
-use Rattle.sip_text.specs.Message.{after_headers, after_line, after_start, body_at, checked, head_of, if_present, read_at}
-use Rattle.sip_text.specs.Reading.{Fault, BadCSeq, BadHeader, BadLength, BadStart, Group, Headers, Lacks, Lines, Short, closed, grouped, headers_at, lines_at, skip, start_of, tail_at, tail_of_group, tail_of_lines}
-use Rattle.sip_text.specs.Text.{HeaderText, MessageText, StartText}
-use Rattle.sip_text.proofs.Good.{some_is}
+use Rattle.sip_text.proofs.Common.{◌≡◌, ◌≢◌, ℕ, zero, suc, ◌≤◌, true, cond, eqb, leb, List, [], ◌∷◌, ◌++◌, length, map, take, drop, Option, Some, None, Result, Ok, Err, refl, sym, ap, subst, ◌∙◌, inl, inr, arith, length-take, ◌&&◌}
+use Rattle.sip_text.proofs.Common.{flat_map, join_with_byte, AllByRecursion, and_parts, cases_Bool, cond_both, cond-true, cond-false, eqb-true, le-leb, leb-true, ne_eqb, length-append, take-append-drop, trim, IsLine, ended, line_at, pieces}
+use Rattle.sip_text.proofs.Common.{line_at-again, line_at-takes, BodyLength, Unsaid, Bytes, Wrong, Needed, cseq_fits, missing, said_length, AreHeaders, IsBody, IsFull, IsText, blank_lines, after_headers, after_line, after_start, head_of}
+use Rattle.sip_text.proofs.Common.{if_present, Fault, BadCSeq, BadHeader, BadLength, BadStart, Group, Headers, Lacks, Lines, Short, closed, lines_at, skip, tail_of_group, tail_of_lines, HeaderText, MessageText, StartText}
+use Rattle.std.proofs.lemmas.List.{take_at}
+use Rattle.sip_text.specs.Message.{body_at, checked, read_at}
+use Rattle.sip_text.specs.Reading.{grouped, headers_at, start_of, tail_at}
+use Rattle.sip_text.proofs.laws.Good.{some_is}
 use Rattle.sip_text.proofs.Groups.{grouped_found, headers_again}
 use Rattle.sip_text.proofs.Joins.{join_pieces}
 use Rattle.sip_text.proofs.StartAgain.{start_again}

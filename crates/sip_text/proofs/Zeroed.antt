@@ -1,20 +1,13 @@
 -- A message whose Content-Length is set to zero.
-use Rattle.std.proofs.Common.{◌≡◌, ℕ, Bool, true, false, cond, List, [], ◌∷◌, map, length, Option, Some, None, refl, sym, ap, subst, ◌∙◌, ◌≤◌, take, inl, inr, arith, length-take}
+use Rattle.sip_text.proofs.Common.{◌≡◌, ℕ, true, false, cond, List, [], ◌∷◌, map, length, Option, Some, None, refl, sym, ap, subst, ◌∙◌, ◌≤◌, take, inl, inr, arith, length-take, list_all, bytes_eq, str_to_ascii_lowercase, and_parts}
+use Rattle.sip_text.proofs.Common.{cases_Bool, cond_both, cond-true, cond-false, eq-eqb, false_from_ne_true, false≢true, bytes_eq-Decides, is_token, BodyLength, Unsaid, Bytes, Wrong, Needed, cseq_fits, missing, said_length, says, IsMessage}
+use Rattle.sip_text.proofs.Common.{fits_body, head_of, is_header, is_value, zeroed, same_name, HeaderText, StartText}
 use Rattle.std.specs.Prelude.{is_none}
-use Rattle.std.specs.List.{list_all}
-use Rattle.std.specs.Str.{bytes_eq, str_to_ascii_lowercase}
-use Rattle.std.proofs.lemmas.Bool.{and_parts, cases_Bool, cond_both, cond-true, cond-false, eq-eqb, false_from_ne_true, false≢true}
-use Rattle.std.proofs.lemmas.Slice.Eq.{bytes_eq-Decides}
-use Rattle.sip_lex.specs.Bytes.{is_token}
-use Rattle.sip_text.specs.declared.fields.BodyLength.{BodyLength}
-use Rattle.sip_text.specs.declared.fields.BodyLength.TheVariants.{Unsaid, Bytes, Wrong}
-use Rattle.sip_text.specs.declared.needed.Needed.{Needed}
 use Rattle.sip_text.specs.declared.needed.Needed.TheVariants.{Via, From, To, CallId, CSeq}
-use Rattle.sip_text.specs.Fields.{cseq_fits, cseq_in, fits_start, is_missing, length_name, missing, needed_name, said_by, said_length, says}
-use Rattle.sip_text.specs.Message.{IsHead, IsMessage, fits_body, head_of, is_header, is_value, zeroed}
-use Rattle.sip_text.specs.Name.{first_of, full_name, same_name, values_of}
-use Rattle.sip_text.specs.Text.{HeaderText, StartText}
-use Rattle.sip_text.proofs.Good.{and_both}
+use Rattle.sip_text.specs.Fields.{cseq_in, fits_start, length_name, needed_name, said_by}
+use Rattle.sip_text.specs.Message.{IsHead}
+use Rattle.sip_text.specs.Name.{first_of, full_name, values_of}
+use Rattle.sip_text.proofs.laws.Good.{and_both}
 
 abbrev zero_header : HeaderText → HeaderText
 zero_header h = record { name = h.name; value = 48 ∷ [] }
@@ -131,29 +124,6 @@ zeroed_head start hs h = record {
 }
 
 -- ---- what a message has
-
-front_missing : (b : Bool) (x : Needed) (r : Option Needed) → cond b (Some x) r ≡ None → (b ≡ false) × (r ≡ None)
-front_missing true x r e = absurd cc
-front_missing false x r e = (refl, e)
-
-abbrev behind_call_id : List HeaderText → Option Needed
-behind_call_id hs = cond (is_missing CSeq hs) (Some CSeq) None
-
-abbrev behind_to : List HeaderText → Option Needed
-behind_to hs = cond (is_missing CallId hs) (Some CallId) (behind_call_id hs)
-
-abbrev behind_from : List HeaderText → Option Needed
-behind_from hs = cond (is_missing To hs) (Some To) (behind_to hs)
-
-abbrev behind_via : List HeaderText → Option Needed
-behind_via hs = cond (is_missing From hs) (Some From) (behind_from hs)
-
-pub call_id_there : (hs : List HeaderText) → missing hs ≡ None → is_missing CallId hs ≡ false
-call_id_there hs e =
-    let via = front_missing (is_missing Via hs) Via (behind_via hs) e in
-    let from = front_missing (is_missing From hs) From (behind_from hs) via.1 in
-    let to = front_missing (is_missing To hs) To (behind_to hs) from.1 in
-    (front_missing (is_missing CallId hs) CallId (behind_call_id hs) to.1).0
 
 pub without_body_good : (start : StartText) (hs zs : List HeaderText) (body : List ℕ) → zs ≡ map zeroed hs → body ≡ [] → IsHead start hs → IsMessage (record { start = start; headers = zs; body = body })
 without_body_good start hs zs body z b h =

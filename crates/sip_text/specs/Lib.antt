@@ -1,7 +1,7 @@
+pub mod inner
 pub mod Text
 pub mod Name
 pub mod Reading
-pub mod Heads
 pub mod Fields
 pub mod Tag
 pub mod Message

@@ -1,36 +1,23 @@
 -- Reading a whole message, with the first fault; and what a message is (RFC 3261 sections 7, 8.1.1
 -- and 18.3).
-use Rattle.std.specs.Prelude.{◌≡◌, ℕ, Bool, true, false, ◌&&◌, not, List, [], ◌∷◌, length, map, reverse, take, Option, Some, None, Result, Ok, Err, ◌==◌, nat_le, if◌then◌else◌}
+use Rattle.std.specs.Prelude.{◌≡◌, ℕ, Bool, true, false, ◌&&◌, List, [], ◌∷◌, length, map, take, Option, Some, None, Result, Ok, Err, ◌==◌, nat_le, if◌then◌else◌}
 use Rattle.std.specs.List.{list_all, join_with_byte}
 use Rattle.sip_lex.specs.Bytes.{is_token}
 use Rattle.sip_lex.specs.Line.{line_at}
+pub use Rattle.sip_lex.specs.Values.{is_line_byte, is_line, is_trimmed, is_value}
 use Rattle.sip_text.specs.declared.fields.BodyLength.{BodyLength}
 use Rattle.sip_text.specs.declared.fields.BodyLength.TheVariants.{Unsaid, Bytes, Wrong}
 use Rattle.sip_text.specs.Fields.{cseq_fits, length_name, missing, said_length}
 use Rattle.sip_text.specs.declared.needed.Needed.{Needed}
 use Rattle.sip_text.specs.Name.{same_name}
-use Rattle.sip_text.specs.Reading.{Fault, BadStart, BadHeader, Lacks, Short, BadCSeq, BadLength, Headers, begins_with_space, headers_at, is_status, is_uri, skip, start_of}
+use Rattle.sip_text.specs.Reading.{Fault, BadStart, BadHeader, Lacks, Short, BadCSeq, BadLength, Headers, headers_at, is_status, is_uri, skip, start_of}
 use Rattle.sip_text.specs.Text.{HeaderText, MessageText, StartText, Request, Response}
 
 -- ---- what a message is
 
--- no CR and no LF
-abbrev pub is_line_byte : ℕ → Bool
-is_line_byte b = not (b == 13) && not (b == 10)
-
-abbrev pub is_line : List ℕ → Bool
-is_line bs = list_all is_line_byte bs
-
 abbrev pub is_start : StartText → Bool
 is_start (Request method uri) = is_token method && is_uri uri
 is_start (Response status reason) = is_status status && is_line reason
-
-abbrev pub is_trimmed : List ℕ → Bool
-is_trimmed bs = not (begins_with_space bs) && not (begins_with_space (reverse bs))
-
--- a value within lines, without space at its ends
-abbrev pub is_value : List ℕ → Bool
-is_value value = is_line value && is_trimmed value
 
 abbrev pub is_header : HeaderText → Bool
 is_header h = is_token h.name && is_value h.value

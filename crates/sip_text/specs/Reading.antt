@@ -1,5 +1,5 @@
 -- Reading the start line and the header lines, as functions (RFC 3261 sections 7.1 to 7.3).
-use Rattle.std.specs.Prelude.{ℕ, ◌+◌, ◌-◌, ◌*◌, Bool, false, ◌&&◌, List, [], ◌∷◌, ◌++◌, length, take, Option, Some, None, Result, Ok, Err, nat_lt, nat_le, ◌==◌, if◌then◌else◌, codes}
+use Rattle.std.specs.Prelude.{ℕ, ◌+◌, ◌-◌, ◌*◌, Bool, ◌&&◌, List, [], ◌∷◌, ◌++◌, length, take, Option, Some, None, Result, Ok, Err, nat_lt, nat_le, ◌==◌, if◌then◌else◌, codes}
 use Rattle.std.specs.Char.{is_ascii_digit}
 use Rattle.std.specs.List.{list_all, flat_map}
 use Rattle.std.specs.Str.{bytes_eq, str_to_ascii_lowercase}
@@ -7,6 +7,7 @@ use Rattle.sip_lex.specs.Bytes.{is_space, is_token, trim, trim_end}
 use Rattle.sip_lex.specs.Cut.{cut, is}
 use Rattle.sip_lex.specs.Line.{line_in}
 use Rattle.sip_lex.specs.Pieces.{pieces}
+pub use Rattle.sip_lex.specs.Values.{begins_with_space}
 use Rattle.sip_text.specs.Text.{HeaderText, StartText, Request, Response}
 use Rattle.sip_text.specs.declared.needed.Needed.{Needed}
 use Rattle.sip_text.specs.Text.{MessageText}
@@ -94,10 +95,6 @@ lines_at (piece ∷ []) = None
 lines_at (piece ∷ next ∷ more) = lines_from (line_in piece) (lines_at (next ∷ more)) (next ∷ more)
 
 -- ---- lines as headers: a line that begins with space continues the header before it
-
-abbrev pub begins_with_space : List ℕ → Bool
-begins_with_space [] = false
-begins_with_space (b ∷ bs) = is_space b
 
 abbrev pub part_text : List ℕ → List ℕ
 part_text part = 32 ∷ part

@@ -1,5 +1,5 @@
 -- What lies in memory, as texts.
-use Rattle.std.specs.Prelude.{List, Option, Some, None, map}
+use Rattle.std.specs.Prelude.{List, map}
 use Rattle.sip_text.specs.declared.parts.Header.{Header}
 use Rattle.sip_text.specs.declared.parts.Start.{Start}
 use Rattle.sip_text.specs.declared.parts.Start.TheVariants as starts
@@ -19,7 +19,3 @@ view_start (starts.Response status reason) = Response status reason.items
 
 abbrev pub view_cseq : CSeqLine → CSeqText
 view_cseq c = record { number = c.number; method = c.method.now }
-
-abbrev pub seen_cseq : Option CSeqLine → Option CSeqText
-seen_cseq None = None
-seen_cseq (Some c) = Some (view_cseq c)

@@ -1,10 +1,11 @@
 //! The header fields that reading looks at.
 
-ghost use Rattle.std.specs.Prelude.{◌≡◌, ◌^◌, ◌<◌};
+ghost use Rattle.std.specs.Prelude.{◌≡◌};
 ghost use Rattle.std.specs.List.{list_all};
 ghost use Rattle.std.specs.Option.{option_copied};
-ghost use Rattle.sip_text.specs.Fields.{cseq_fits, cseq_of, fits_start, has_method, is_missing, length_number, message_cseq, missing, said_length, says, value_of};
-ghost use Rattle.sip_text.specs.Seen.{seen_cseq, view_cseq, view_start, views};
+ghost use Rattle.sip_text.specs.Fields.{cseq_fits, cseq_of, has_method, is_missing, length_number, message_cseq, missing, said_length, says, value_of};
+ghost use Rattle.sip_text.specs.Seen.{view_cseq, view_start, views};
+ghost use Rattle.sip_text.specs.inner.Seen.{seen_cseq};
 
 use crate::name::Values;
 use crate::needed::Needed;

@@ -1,10 +1,10 @@
 //! The header lines.
 
-ghost use Rattle.std.specs.Prelude.{◌≡◌, ◌≤◌, ◌<◌, ◌==◌, ◌∷◌, [], ◌++◌, length, IfOk, IfErr, OnOk, IfSome, Some, false};
+ghost use Rattle.std.specs.Prelude.{◌≡◌, ◌≤◌, [], length, IfOk, IfErr, OnOk, Some, false};
 ghost use Rattle.sip_lex.specs.Bytes.{trim};
 ghost use Rattle.sip_lex.specs.Pieces.{pieces};
 ghost use Rattle.sip_text.specs.Fault.{Fails, Gives};
-ghost use Rattle.sip_text.specs.Heads.{continued, front_header, or_bad, put, valued, with_part};
+ghost use Rattle.sip_text.specs.inner.Heads.{continued, front_header, or_bad, put, valued, with_part};
 ghost use Rattle.sip_text.specs.Reading.{begins_with_space, headers_at, tail_at};
 ghost use Rattle.sip_text.specs.Seen.{view, views};
 

@@ -9,7 +9,7 @@ mod copies;
 mod fault;
 mod fields;
 mod head;
-mod laws;
+mod law;
 mod message;
 mod name;
 mod needed;
@@ -20,7 +20,7 @@ mod tag;
 mod write;
 
 pub use fault::ReadFault;
-pub use laws::{
+pub use law::{
     faults_are_of_the_text, header_values_are_values, round_trip, spelling_is_text,
     text_is_message, trimmed_part_is_a_value,
 };

@@ -1,6 +1,6 @@
 //! Reading a message.
 
-ghost use Rattle.std.specs.Prelude.{◌≡◌, ◌≤◌, ◌<◌, IfOk, length, map};
+ghost use Rattle.std.specs.Prelude.{◌≡◌, ◌<◌, IfOk, map};
 ghost use Rattle.sip_text.specs.Fault.{Gives};
 ghost use Rattle.sip_text.specs.Fields.{said_length};
 ghost use Rattle.sip_text.specs.Message.{IsHead, IsMessage, body_at, head_of, read_at, zeroed};

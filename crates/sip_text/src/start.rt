@@ -1,6 +1,6 @@
 //! The start line.
 
-ghost use Rattle.std.specs.Prelude.{◌≡◌, ◌≤◌, ◌<◌, ◌==◌, ◌&&◌, nat_le, length};
+ghost use Rattle.std.specs.Prelude.{◌≡◌, ◌==◌, ◌&&◌};
 ghost use Rattle.std.specs.List.{list_all};
 ghost use Rattle.sip_lex.specs.Bytes.{is_space};
 ghost use Rattle.sip_lex.specs.Cut.{cut};

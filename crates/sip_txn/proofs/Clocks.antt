@@ -1,11 +1,6 @@
 -- What a row does to the timers keeps what is known of them.
-use Rattle.std.proofs.Common.{ℕ, ◌≤◌, Option, Some, None, refl, arith}
-use Rattle.sip_txn.specs.declared.timers.TheConstants.{T2}
-use Rattle.sip_txn.specs.declared.timers.Timers.{Timers}
-use Rattle.sip_txn.specs.declared.timers.Growth.TheVariants.{Doubled, DoubledUpToT2, SetToT2}
-use Rattle.sip_txn.specs.declared.timers.Repeat.{Repeat}
-use Rattle.sip_txn.specs.declared.timers.Clock.TheVariants.{Again}
-use Rattle.sip_txn.specs.Timers.{last_moment, ends_after, repeats_and_ends, run_clock, EndsOnly, RepeatsAndEnds}
+use Rattle.sip_txn.proofs.Common.{ℕ, ◌≤◌, Option, Some, None, refl, arith, T2, Timers, Doubled, DoubledUpToT2, SetToT2, Repeat, Again, last_moment, repeats_and_ends, EndsOnly, RepeatsAndEnds}
+use Rattle.sip_txn.specs.Timers.{ends_after, run_clock}
 
 pub EndsOnly-ends_after : (interval now : ℕ) → EndsOnly (ends_after interval now)
 EndsOnly-ends_after interval now = (refl, omega arith)

@@ -1,21 +1,14 @@
 -- A tick when a timer is due has a row.
-use Rattle.std.proofs.Common.{◌≡◌, ◌≢◌, ◌∙◌, ℕ, ◌≤◌, min, Bool, true, leb, Option, Some, None, IsSome, is_some, if◌then◌else◌, refl, sym, ap, subst, arith}
-use Rattle.std.proofs.lemmas.Bool.{cond_both, false≢true, le-leb, leb-true, leb-false}
-use Rattle.sip_txn.specs.declared.event.TxEvent.TheVariants.{Tick}
-use Rattle.sip_txn.specs.declared.timers.Repeat.{Repeat}
-use Rattle.sip_txn.specs.declared.timers.Timers.{Timers}
-use Rattle.sip_txn.specs.declared.timers.Input.{Input}
-use Rattle.sip_txn.specs.declared.timers.Input.TheVariants.{EndDue, RepeatDue, NothingDue}
+use Rattle.sip_txn.proofs.Common.{◌≡◌, ◌∙◌, ℕ, ◌≤◌, min, Bool, true, Option, Some, None, refl, sym, ap, subst, arith, le-leb, Tick, Repeat, Timers, Input, EndDue, RepeatDue, InviteClientState, InviteServerState, OtherClientState}
+use Rattle.sip_txn.proofs.Common.{OtherServerState, EndsOnly, input_of, least, no_timers, Table}
+use Rattle.std.proofs.Common.{◌≢◌, leb, IsSome, is_some, if◌then◌else◌}
+use Rattle.std.proofs.lemmas.Bool.{cond_both, false≢true, leb-true, leb-false}
+use Rattle.sip_txn.specs.declared.timers.Input.TheVariants.{NothingDue}
 use Rattle.sip_txn.specs.declared.invite_client.InviteClientState.TheVariants as invite_client_in
-use Rattle.sip_txn.specs.declared.invite_client.InviteClientState.{InviteClientState}
 use Rattle.sip_txn.specs.declared.invite_server.InviteServerState.TheVariants as invite_server_in
-use Rattle.sip_txn.specs.declared.invite_server.InviteServerState.{InviteServerState}
 use Rattle.sip_txn.specs.declared.other_client.OtherClientState.TheVariants as other_client_in
-use Rattle.sip_txn.specs.declared.other_client.OtherClientState.{OtherClientState}
 use Rattle.sip_txn.specs.declared.other_server.OtherServerState.TheVariants as other_server_in
-use Rattle.sip_txn.specs.declared.other_server.OtherServerState.{OtherServerState}
-use Rattle.sip_txn.specs.Timers.{EndsOnly, input_of, is_due, least, no_timers}
-use Rattle.sip_txn.specs.Machine.{Table}
+use Rattle.sip_txn.specs.Timers.{is_due}
 use Rattle.sip_txn.specs.InviteClient as of_invite_client
 use Rattle.sip_txn.specs.InviteServer as of_invite_server
 use Rattle.sip_txn.specs.OtherClient as of_other_client

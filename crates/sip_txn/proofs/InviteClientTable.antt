@@ -1,22 +1,12 @@
 -- Laws of the table of InviteClient: its rows keep which timers run, and what becomes of it over whole runs.
-use Rattle.std.proofs.Common.{◌≡◌, ℕ, ◌+◌, ◌≤◌, cond, Option, refl, sym, subst, arith, lit≤}
-use Rattle.sip_txn.specs.declared.timers.TheConstants.{T1_TIMES_64, TIMER_D}
-use Rattle.sip_txn.specs.declared.timers.Repeat.{Repeat}
-use Rattle.sip_txn.specs.declared.timers.Timers.{Timers}
-use Rattle.sip_txn.specs.declared.timers.Growth.TheVariants.{Doubled}
-use Rattle.sip_txn.specs.declared.timers.Input.{Input}
-use Rattle.sip_txn.specs.declared.timers.Input.TheVariants.{Event, EndDue, RepeatDue}
-use Rattle.sip_txn.specs.declared.event.TxEvent.{TxEvent}
+use Rattle.sip_txn.proofs.Common.{◌≡◌, ℕ, ◌+◌, ◌≤◌, cond, Option, refl, sym, subst, arith, lit≤, T1_TIMES_64, Repeat, Timers, Doubled, Input, Event, EndDue, RepeatDue, TxEvent, Machine, InviteClientState, Terminated, last_moment, input_of}
+use Rattle.sip_txn.proofs.Common.{no_timers, repeats_and_ends, silent, sends, passes, row_machine, row_out, machine_after, out_of, IsOver, invite_client, RunsTimersOf, RunsOutByTicks}
+use Rattle.sip_txn.specs.declared.timers.TheConstants.{TIMER_D}
 use Rattle.sip_txn.specs.declared.event.TxEvent.TheVariants as event
 use Rattle.sip_txn.specs.declared.event.TxSend.TheVariants as send
 use Rattle.sip_txn.specs.declared.event.TxPass.TheVariants as pass
-use Rattle.sip_txn.specs.declared.machine.Machine.{Machine}
-use Rattle.sip_txn.specs.declared.invite_client.InviteClientState.{InviteClientState}
-use Rattle.sip_txn.specs.declared.invite_client.InviteClientState.TheVariants.{Calling, Proceeding, Completed, Accepted, Terminated}
-use Rattle.sip_txn.specs.Timers.{last_moment, input_of, no_timers, repeats_and_ends}
-use Rattle.sip_txn.specs.Machine.{silent, sends, passes, row_machine, row_out, machine_after, out_of}
-use Rattle.sip_txn.specs.Runs.{IsOver}
-use Rattle.sip_txn.specs.InviteClient.{invite_client, RunsTimersOf, ends, HandsUpOneEnd, RunsOutByTicks, RetransmitsUnanswered}
+use Rattle.sip_txn.specs.declared.invite_client.InviteClientState.TheVariants.{Calling, Proceeding, Completed, Accepted}
+use Rattle.sip_txn.specs.InviteClient.{ends, HandsUpOneEnd, RetransmitsUnanswered}
 use Rattle.sip_txn.proofs.Clocks.{EndsOnly-ends_after, RepeatsAndEnds-doubled}
 use Rattle.sip_txn.proofs.Lists.{count_by-answers, machine_after_all-same, answers-silent}
 use Rattle.sip_txn.proofs.Ticks.{Retransmits, runs_out_repeating, runs_out_alone, runs_out_started}

@@ -1,22 +1,11 @@
 -- Laws of the table of InviteServer: its rows keep which timers run, and what becomes of it over whole runs.
-use Rattle.std.proofs.Common.{◌≡◌, ℕ, ◌+◌, ◌≤◌, cond, Option, refl, sym, subst, arith, lit≤}
-use Rattle.sip_txn.specs.declared.timers.TheConstants.{T1_TIMES_64, T2, T4}
-use Rattle.sip_txn.specs.declared.timers.Repeat.{Repeat}
-use Rattle.sip_txn.specs.declared.timers.Timers.{Timers}
-use Rattle.sip_txn.specs.declared.timers.Growth.TheVariants.{DoubledUpToT2}
-use Rattle.sip_txn.specs.declared.timers.Input.{Input}
-use Rattle.sip_txn.specs.declared.timers.Input.TheVariants.{Event, EndDue, RepeatDue}
-use Rattle.sip_txn.specs.declared.event.TxEvent.{TxEvent}
+use Rattle.sip_txn.proofs.Common.{◌≡◌, ℕ, ◌+◌, ◌≤◌, cond, Option, refl, sym, subst, arith, lit≤, T1_TIMES_64, T2, T4, Repeat, Timers, DoubledUpToT2, Input, Event, EndDue, RepeatDue, TxEvent, Machine, InviteServerState, input_of, no_timers}
+use Rattle.sip_txn.proofs.Common.{silent, sends, passes, row_machine, row_out, machine_after, out_of, IsOver, invite_server}
 use Rattle.sip_txn.specs.declared.event.TxEvent.TheVariants as event
 use Rattle.sip_txn.specs.declared.event.TxSend.TheVariants as send
 use Rattle.sip_txn.specs.declared.event.TxPass.TheVariants as pass
-use Rattle.sip_txn.specs.declared.machine.Machine.{Machine}
-use Rattle.sip_txn.specs.declared.invite_server.InviteServerState.{InviteServerState}
 use Rattle.sip_txn.specs.declared.invite_server.InviteServerState.TheVariants.{Proceeding, Completed, Confirmed, Accepted, Terminated}
-use Rattle.sip_txn.specs.Timers.{input_of, no_timers}
-use Rattle.sip_txn.specs.Machine.{silent, sends, passes, row_machine, row_out, machine_after, out_of}
-use Rattle.sip_txn.specs.Runs.{IsOver}
-use Rattle.sip_txn.specs.InviteServer.{invite_server, RunsTimersOf, ends, HandsUpOneEnd, RunsOutByTicks, RetransmitsFailure}
+use Rattle.sip_txn.specs.InviteServer.{RunsTimersOf, ends, HandsUpOneEnd, RunsOutByTicks, RetransmitsFailure}
 use Rattle.sip_txn.proofs.Clocks.{EndsOnly-ends_after, RepeatsAndEnds-repeats_and_ends, RepeatsAndEnds-doubled_up_to_T2}
 use Rattle.sip_txn.proofs.Lists.{count_by-answers, machine_after_all-same, answers-silent}
 use Rattle.sip_txn.proofs.Ticks.{Retransmits, runs_out_repeating, runs_out_alone, runs_out_started}

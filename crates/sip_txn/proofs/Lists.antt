@@ -1,11 +1,9 @@
 -- Machines over lists of events: what each step keeps, a list keeps.
-use Rattle.std.proofs.Common.{◌≡◌, ℕ, ◌+◌, ◌≤◌, Bool, true, false, cond, List, [], ◌∷◌, refl, ap, sym, subst, ◌∙◌, arith, All, count_by}
+use Rattle.sip_txn.proofs.Common.{◌≡◌, ℕ, ◌+◌, ◌≤◌, Bool, true, cond, List, [], ◌∷◌, refl, ap, sym, subst, ◌∙◌, arith, TxEvent, Machine, Table, machine_after, out_of, silent, Answer, machine_after_all, answers}
+use Rattle.std.proofs.Common.{false, All, count_by}
 use Rattle.std.proofs.lemmas.List.Elements.{All-cons, All-nil}
 use Rattle.std.proofs.lemmas.List.Recursion.{is_count_by}
-use Rattle.sip_txn.specs.declared.event.TxEvent.{TxEvent}
-use Rattle.sip_txn.specs.declared.machine.Machine.{Machine}
-use Rattle.sip_txn.specs.Machine.{Table, machine_after, out_of, silent}
-use Rattle.sip_txn.specs.Runs.{Fed, Answer, machine_after_all, answers}
+use Rattle.sip_txn.specs.Runs.{Fed}
 
 -- the answer to one event
 abbrev pub answer_to : {S : Type 0} → Table S → Fed → Machine S → Answer

@@ -1,11 +1,6 @@
 -- The moments of a timer that repeats: where they stand from now, and that they pass any end.
-use Rattle.std.proofs.Common.{◌≡◌, ℕ, zero, suc, ◌+◌, ◌≤◌, List, [], ◌∷◌, refl, ap, ◌∙◌, arith, map}
-use Rattle.std.proofs.lemmas.Bool.{lt-leb, cond-false}
-use Rattle.sip_txn.specs.declared.timers.Repeat.{Repeat}
-use Rattle.sip_txn.specs.declared.timers.Growth.{Growth}
-use Rattle.sip_txn.specs.declared.timers.Growth.TheVariants.{Doubled, DoubledUpToT2, SetToT2}
-use Rattle.sip_txn.specs.Timers.{last_moment, later, grown_to, set_again}
-use Rattle.sip_txn.specs.Runs.{moments, before}
+use Rattle.sip_txn.proofs.Common.{◌≡◌, ℕ, zero, suc, ◌+◌, ◌≤◌, List, [], ◌∷◌, refl, ap, ◌∙◌, arith, map, lt-leb, cond-false, Repeat, Growth, Doubled, DoubledUpToT2, SetToT2, last_moment, later, set_again, moments, before}
+use Rattle.sip_txn.specs.Timers.{grown_to}
 
 -- the timer after so many settings
 abbrev pub nth : Growth → ℕ → Repeat → Repeat

@@ -1,22 +1,13 @@
 -- Laws of the table of OtherClient: its rows keep which timers run, and what becomes of it over whole runs.
-use Rattle.std.proofs.Common.{◌≡◌, ℕ, ◌+◌, ◌≤◌, ◌<◌, cond, Option, Some, refl, ap, sym, subst, ◌∙◌, arith, lit≤}
-use Rattle.sip_txn.specs.declared.timers.TheConstants.{T1, T2, T4, T1_TIMES_64}
-use Rattle.sip_txn.specs.declared.timers.Repeat.{Repeat}
-use Rattle.sip_txn.specs.declared.timers.Timers.{Timers}
-use Rattle.sip_txn.specs.declared.timers.Growth.TheVariants.{DoubledUpToT2, SetToT2}
-use Rattle.sip_txn.specs.declared.timers.Input.{Input}
-use Rattle.sip_txn.specs.declared.timers.Input.TheVariants.{Event, EndDue, RepeatDue}
-use Rattle.sip_txn.specs.declared.event.TxEvent.{TxEvent}
+use Rattle.sip_txn.proofs.Common.{◌≡◌, ℕ, ◌+◌, ◌≤◌, ◌<◌, cond, Option, Some, refl, ap, sym, subst, ◌∙◌, arith, lit≤, T2, T4, T1_TIMES_64, Repeat, Timers, DoubledUpToT2, SetToT2, Input, Event, EndDue, RepeatDue, TxEvent, Machine}
+use Rattle.sip_txn.proofs.Common.{OtherClientState, later, input_of, no_timers, repeats_and_ends, silent, sends, passes, row_machine, row_out, machine_after, out_of, IsOver, other_client}
+use Rattle.sip_txn.specs.declared.timers.TheConstants.{T1}
 use Rattle.sip_txn.specs.declared.event.TxEvent.TheVariants as event
 use Rattle.sip_txn.specs.declared.event.TxSend.TheVariants as send
 use Rattle.sip_txn.specs.declared.event.TxPass.TheVariants as pass
-use Rattle.sip_txn.specs.declared.machine.Machine.{Machine}
-use Rattle.sip_txn.specs.declared.other_client.OtherClientState.{OtherClientState}
 use Rattle.sip_txn.specs.declared.other_client.OtherClientState.TheVariants.{Trying, Proceeding, Completed, Terminated}
-use Rattle.sip_txn.specs.Timers.{later, input_of, no_timers, repeats_and_ends}
-use Rattle.sip_txn.specs.Machine.{silent, sends, passes, row_machine, row_out, machine_after, out_of}
-use Rattle.sip_txn.specs.Runs.{IsOver, RetransmitsAt}
-use Rattle.sip_txn.specs.OtherClient.{other_client, RunsTimersOf, ends, HandsUpOneEnd, RunsOutByTicks, RetransmitsUnanswered, after_provisional, retransmissions_proceeding}
+use Rattle.sip_txn.specs.Runs.{RetransmitsAt}
+use Rattle.sip_txn.specs.OtherClient.{RunsTimersOf, ends, HandsUpOneEnd, RunsOutByTicks, RetransmitsUnanswered, after_provisional, retransmissions_proceeding}
 use Rattle.sip_txn.proofs.Clocks.{EndsOnly-ends_after, RepeatsAndEnds-doubled_up_to_T2, RepeatsAndEnds-set_to_T2}
 use Rattle.sip_txn.proofs.Lists.{count_by-answers, machine_after_all-same, answers-silent}
 use Rattle.sip_txn.proofs.Ticks.{Retransmits, running, again_machine, runs_out_repeating, runs_out_alone, runs_out_started}

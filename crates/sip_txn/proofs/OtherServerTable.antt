@@ -1,19 +1,9 @@
 -- Laws of the table of OtherServer: its rows keep which timers run, and what becomes of it over whole runs.
-use Rattle.std.proofs.Common.{◌≡◌, ℕ, ◌+◌, ◌≤◌, cond, Option, refl, sym, subst, arith, lit≤}
-use Rattle.sip_txn.specs.declared.timers.TheConstants.{T1_TIMES_64}
-use Rattle.sip_txn.specs.declared.timers.Repeat.{Repeat}
-use Rattle.sip_txn.specs.declared.timers.Timers.{Timers}
-use Rattle.sip_txn.specs.declared.timers.Input.{Input}
-use Rattle.sip_txn.specs.declared.timers.Input.TheVariants.{Event, EndDue}
-use Rattle.sip_txn.specs.declared.event.TxEvent.{TxEvent}
+use Rattle.sip_txn.proofs.Common.{◌≡◌, ℕ, ◌+◌, ◌≤◌, cond, Option, refl, sym, subst, arith, lit≤, T1_TIMES_64, Repeat, Timers, Input, Event, EndDue, TxEvent, Machine, OtherServerState, input_of, no_timers, silent, row_machine, row_out}
+use Rattle.sip_txn.proofs.Common.{machine_after, out_of, IsOver, other_server}
 use Rattle.sip_txn.specs.declared.event.TxEvent.TheVariants as event
-use Rattle.sip_txn.specs.declared.machine.Machine.{Machine}
-use Rattle.sip_txn.specs.declared.other_server.OtherServerState.{OtherServerState}
 use Rattle.sip_txn.specs.declared.other_server.OtherServerState.TheVariants.{Trying, Proceeding, Completed, Terminated}
-use Rattle.sip_txn.specs.Timers.{input_of, no_timers}
-use Rattle.sip_txn.specs.Machine.{silent, row_machine, row_out, machine_after, out_of}
-use Rattle.sip_txn.specs.Runs.{IsOver}
-use Rattle.sip_txn.specs.OtherServer.{other_server, RunsTimersOf, ends, HandsUpOneEnd, RunsOutByTicks}
+use Rattle.sip_txn.specs.OtherServer.{RunsTimersOf, ends, HandsUpOneEnd, RunsOutByTicks}
 use Rattle.sip_txn.proofs.Clocks.{EndsOnly-ends_after}
 use Rattle.sip_txn.proofs.Lists.{count_by-answers, machine_after_all-same, answers-silent}
 use Rattle.sip_txn.proofs.Ticks.{runs_out_alone}

@@ -1,18 +1,14 @@
 -- A machine fed with nothing but ticks, each when it is due.
-use Rattle.std.proofs.Common.{◌≡◌, ℕ, zero, suc, ◌≤◌, ◌<◌, min, List, [], ◌∷◌, ◌++◌, Option, Some, None, refl, ap, sym, ◌∙◌, arith, map, inl, inr}
+use Rattle.sip_txn.proofs.Common.{◌≡◌, ℕ, zero, suc, ◌≤◌, ◌<◌, min, List, [], ◌∷◌, Option, Some, None, refl, ap, sym, ◌∙◌, arith, map, le-leb, lt-leb, cond-false, Tick, Repeat, Growth, Again, EndDue, RepeatDue, Machine, last_moment, later}
+use Rattle.sip_txn.proofs.Common.{least, input_of, no_timers, set_again, EndsOnly, RepeatsAndEnds, Table, row_machine, row_out, machine_after, out_of, Answer, answers, machine_after_all, before, moments}
+use Rattle.std.proofs.Common.{◌++◌, inl, inr}
 use Rattle.std.specs.Option.{option_map_or}
-use Rattle.std.proofs.lemmas.Bool.{le-leb, lt-leb, cond-true, cond-false}
+use Rattle.std.proofs.lemmas.Bool.{cond-true}
 use Rattle.std.proofs.lemmas.Bool.Decides.{leb_tells}
-use Rattle.sip_txn.specs.declared.event.TxEvent.TheVariants.{Tick}
 use Rattle.sip_txn.specs.declared.event.TxOut.{TxOut}
-use Rattle.sip_txn.specs.declared.timers.Repeat.{Repeat}
-use Rattle.sip_txn.specs.declared.timers.Growth.{Growth}
-use Rattle.sip_txn.specs.declared.timers.Clock.TheVariants.{StopAll, Again}
-use Rattle.sip_txn.specs.declared.timers.Input.TheVariants.{EndDue, RepeatDue}
-use Rattle.sip_txn.specs.declared.machine.Machine.{Machine}
-use Rattle.sip_txn.specs.Timers.{last_moment, later, least, input_of, no_timers, set_again, EndsOnly, RepeatsAndEnds}
-use Rattle.sip_txn.specs.Machine.{Table, goes_to, row_machine, row_out, machine_after, out_of}
-use Rattle.sip_txn.specs.Runs.{Answer, tick, ticks, answers, machine_after_all, each, before, moments, TicksBring, RunsOut, RetransmitsAndRunsOut}
+use Rattle.sip_txn.specs.declared.timers.Clock.TheVariants.{StopAll}
+use Rattle.sip_txn.specs.Machine.{goes_to}
+use Rattle.sip_txn.specs.Runs.{tick, ticks, each, TicksBring, RunsOut, RetransmitsAndRunsOut}
 use Rattle.sip_txn.proofs.Moments.{nth, nth_passes, none_before, offset, offsets, started, nth-started, moments-started}
 
 -- ---- one tick

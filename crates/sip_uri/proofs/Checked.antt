@@ -1,24 +1,15 @@
 -- Reading in one go gives what reading by the order of faults gives.
-use Rattle.std.proofs.Common.{◌≡◌, ℕ, ◌≤◌, Bool, true, false, not, cond, eqb, leb, ltb, List, [], ◌∷◌, length, map, take, drop, Option, Some, None, Ok, Err, refl, sym, ap, subst, ◌∙◌, inl, inr, arith}
-use Rattle.std.specs.Prelude.{◌||◌, ◌&&◌}
-use Rattle.std.specs.Char.{is_ascii_alphanumeric, is_ascii_digit, is_ascii_hexdigit, to_ascii_lowercase}
+use Rattle.sip_uri.proofs.Common.{◌≡◌, ℕ, ◌≤◌, Bool, true, false, not, cond, eqb, leb, ltb, List, [], ◌∷◌, length, map, take, drop, Option, Some, None, Ok, Err, refl, sym, ap, subst, ◌∙◌, inl, inr, arith, ◌||◌, ◌&&◌, is_ascii_digit}
+use Rattle.sip_uri.proofs.Common.{to_ascii_lowercase, list_all, and_from, and_parts, cases_Bool, cond-false, cond-true, eqb-true, le-leb, leb-true, ltb-true, or_cases, behind, pieces_behind, pieces_behind_join, UriFault, NotSip, BadHost}
+use Rattle.sip_uri.proofs.Common.{BadPort, BadText, named_fault, is_uri_byte, IsHost, is_address_byte, is_host, is_host_byte, IsKept, parts_key, Parts, is_full, is_param, is_port_if_any, is_sip, or_fault, parts_of, uri_of, Uri, params_text}
+use Rattle.sip_uri.proofs.Common.{user_text}
+use Rattle.std.specs.Char.{is_ascii_alphanumeric, is_ascii_hexdigit}
 use Rattle.std.specs.Int.{is_in_range}
-use Rattle.std.specs.List.{list_all}
-use Rattle.std.proofs.lemmas.Bool.{and_from, and_parts, cases_Bool, cond-false, cond-true, eqb-true, le-leb, leb-true, ltb-false, ltb-true, or_cases}
-use Rattle.sip_lex.specs.Cut.{behind}
-use Rattle.sip_lex.specs.Pieces.{pieces_behind}
-use Rattle.sip_lex.proofs.Splits.{pieces_behind_join}
-use Rattle.sip_uri.specs.declared.fault.UriFault.{UriFault}
-use Rattle.sip_uri.specs.declared.fault.UriFault.TheVariants.{NotSip, BadHost, BadPort, BadText}
-use Rattle.sip_uri.specs.Checked.{are_bytes_if_any, are_params_if_any, are_texts, checked_uri, is_user_if_any, named_fault, part_fault}
-use Rattle.sip_uri.specs.Grammar.{is_uri_byte}
-use Rattle.sip_uri.specs.Host.{IsHost, is_address_byte, is_host, is_host_byte}
-use Rattle.sip_uri.specs.Kept.{IsKept}
-use Rattle.sip_uri.specs.Key.{parts_key}
-use Rattle.sip_uri.specs.Reading.{Parts, fault_of, is_full, is_param, is_port_if_any, is_sip, or_fault, parts_of, read_uri, uri_of}
-use Rattle.sip_uri.specs.Uri.{Uri, params_text, user_text}
-use Rattle.sip_uri.proofs.Found.{passes, port_is, read_parts, spelled}
-use Rattle.sip_uri.proofs.Hosts.{is_host-IsHost, other_than}
+use Rattle.std.proofs.lemmas.Bool.{ltb-false}
+use Rattle.sip_uri.specs.inner.Checked.{are_bytes_if_any, are_params_if_any, are_texts, checked_uri, is_user_if_any, part_fault}
+use Rattle.sip_uri.specs.Reading.{fault_of, read_uri}
+use Rattle.sip_uri.proofs.laws.Found.{passes, port_is, read_parts, spelled}
+use Rattle.sip_uri.proofs.laws.Hosts.{is_host-IsHost, other_than}
 use Rattle.sip_uri.proofs.Readings.{long_enough, scheme_is}
 use Rattle.sip_uri.proofs.Requests.{AreBytes, parts, whole}
 

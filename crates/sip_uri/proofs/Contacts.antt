@@ -1,17 +1,11 @@
 -- Items and parameters by cuts.
-use Rattle.std.proofs.Common.{◌≡◌, ℕ, Bool, true, false, eqb, ltb, List, [], ◌∷◌, ◌++◌, length, map, Option, Some, sym, ap, ◌∙◌, append_assoc, arith}
-use Rattle.std.specs.Prelude.{◌&&◌}
-use Rattle.std.specs.List.{list_all}
+use Rattle.sip_uri.proofs.Common.{◌≡◌, ℕ, Bool, true, false, eqb, ltb, List, [], ◌∷◌, ◌++◌, length, map, Option, Some, sym, ap, ◌∙◌, append_assoc, arith, ◌&&◌, list_all, cond-true, cond-false, eqb-true, eqb-false, lt-ltb, QuotesAndAngles}
+use Rattle.sip_uri.proofs.Common.{Plain, trim, cut_outside, pieces_outside-cut, view_contacts, ContactText, are_items, contact_of, contact_params, is_contact_param, items_behind, q_of, q_value_if_any}
 use Rattle.std.proofs.lemmas.List.{map-append}
-use Rattle.std.proofs.lemmas.Bool.{cond-true, cond-false, eqb-true, eqb-false, lt-ltb, le-ltb}
-use Rattle.sip_lex.specs.declared.sheltered.Shelter.TheVariants.{QuotesAndAngles}
-use Rattle.sip_lex.specs.declared.sheltered.Place.TheVariants.{Plain}
-use Rattle.sip_lex.specs.Bytes.{trim}
-use Rattle.sip_lex.specs.Sheltered.{cut_outside}
-use Rattle.sip_lex.proofs.OutsideSplits.{pieces_outside-cut}
+use Rattle.std.proofs.lemmas.Bool.{le-ltb}
 use Rattle.sip_uri.specs.declared.contact.Contact.{Contact}
-use Rattle.sip_uri.specs.SeenContact.{view_contact, view_contacts}
-use Rattle.sip_uri.specs.Contact.{ContactText, are_items, contact_of, contact_params, is_contact_param, is_q, items_behind, q_of, q_value_if_any, value_of}
+use Rattle.sip_uri.specs.SeenContact.{view_contact}
+use Rattle.sip_uri.specs.Contact.{is_q, value_of}
 
 abbrev Cut : Type 0
 Cut = List ℕ × Option (List ℕ)

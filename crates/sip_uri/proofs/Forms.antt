@@ -1,19 +1,12 @@
 -- The form of an item, by cuts and by the whole item.
-use Rattle.std.proofs.Common.{◌≡◌, ℕ, true, eqb, ltb, List, [], ◌∷◌, ◌++◌, length, Option, Some, None, refl, sym, ap, subst, ◌∙◌, append_assoc, inl, inr, cond, false}
-use Rattle.std.specs.Prelude.{OnSome}
-use Rattle.std.specs.List.{list_all}
-use Rattle.std.proofs.lemmas.List.{append-nil}
-use Rattle.std.proofs.lemmas.Option.{same_Some}
-use Rattle.std.proofs.lemmas.Bool.{and_parts, cases_Bool, cond-false, cond-true, eqb-true, false_from_ne_true, false≢true, or_cases}
+use Rattle.sip_uri.proofs.Common.{◌≡◌, ℕ, true, eqb, ltb, List, [], ◌∷◌, ◌++◌, length, Option, Some, None, refl, sym, ap, subst, ◌∙◌, append_assoc, inl, inr, cond, false, OnSome, list_all, append-nil, same_Some, and_parts, cases_Bool}
+use Rattle.sip_uri.proofs.Common.{cond-false, cond-true, eqb-true, false_from_ne_true, false≢true, or_cases, Plain, is_space, trim_start, behind, cut, is, Lacks, LacksOutside, cut_outside, end_place, cut_again, cut_joins, cut_lacks}
+use Rattle.sip_uri.proofs.Common.{Lacks-append, Lacks-pass, cut_outside_again, Form, form_of}
 use Rattle.sip_lex.specs.declared.sheltered.Shelter.TheVariants.{Quotes}
-use Rattle.sip_lex.specs.declared.sheltered.Place.TheVariants.{Plain}
-use Rattle.sip_lex.specs.Bytes.{is_space, trim_end, trim_start}
-use Rattle.sip_lex.specs.Cut.{behind, cut, is, Lacks}
-use Rattle.sip_lex.specs.Sheltered.{LacksOutside, cut_outside, end_place}
-use Rattle.sip_lex.proofs.Cuts.{cut_again, cut_joins, cut_lacks, Lacks-append, Lacks-pass}
-use Rattle.sip_lex.proofs.Shelters.{cut_outside_again, cut_outside_ends, cut_outside_joins, cut_outside_lacks}
-use Rattle.sip_lex.proofs.Trims.{trim_end-passes, trim_end-whole, trim_start-none, trim_start-spaces, trim_start-whole}
-use Rattle.sip_uri.specs.Contact.{Form, bare_form, behind_brackets, bracketed_form, form_behind, form_of, is_bare, is_bare_byte}
+use Rattle.sip_lex.specs.Bytes.{trim_end}
+use Rattle.sip_lex.proofs.laws.Shelters.{cut_outside_ends, cut_outside_joins, cut_outside_lacks}
+use Rattle.sip_lex.proofs.laws.Trims.{trim_end-passes, trim_end-whole, trim_start-none, trim_start-spaces, trim_start-whole}
+use Rattle.sip_uri.specs.Contact.{bare_form, behind_brackets, bracketed_form, form_behind, is_bare, is_bare_byte}
 use Rattle.sip_uri.specs.Items.{IsBare, IsBracketed, IsForm}
 
 abbrev Cut : Type 0

@@ -1,21 +1,13 @@
 -- The items of a value, by its pieces.
-use Rattle.std.proofs.Common.{◌≡◌, ℕ, true, eqb, List, [], ◌∷◌, ◌++◌, map, Option, Some, None, refl, sym, ap, ◌∙◌}
-use Rattle.std.specs.Prelude.{◌≢◌, ◌&&◌, OnSome}
-use Rattle.std.specs.List.{flat_map, onto_first, AllByRecursion}
-use Rattle.std.proofs.lemmas.Bool.{and_from, and_parts, cond_both, eqb-true}
-use Rattle.sip_lex.specs.declared.sheltered.Shelter.TheVariants.{QuotesAndAngles}
-use Rattle.sip_lex.specs.declared.sheltered.Place.{Place}
-use Rattle.sip_lex.specs.declared.sheltered.Place.TheVariants.{Plain, Quoted, Escaped, Angled}
-use Rattle.sip_lex.specs.Bytes.{trim}
-use Rattle.sip_lex.specs.Outside.{pieces_from, pieces_outside, pieces_outside_behind}
-use Rattle.sip_lex.specs.Sheltered.{LacksOutside, cut_outside, end_place, is_closed, is_plain, place_after}
-use Rattle.sip_lex.proofs.OutsideSplits.{pieces_from_join, pieces_outside-cut, pieces_outside_lack}
-use Rattle.sip_lex.proofs.Shelters.{cut_outside_again}
-use Rattle.sip_lex.proofs.Splits.{joined, joined-behind, marked}
-use Rattle.sip_uri.specs.Contact.{are_items, items_behind}
-use Rattle.sip_uri.specs.Items.{AreItems}
-use Rattle.sip_uri.proofs.Hosts.{full, full-ltb}
-use Rattle.std.proofs.Common.{ltb, length}
+use Rattle.sip_uri.proofs.Common.{◌≡◌, ℕ, true, eqb, List, [], ◌∷◌, ◌++◌, map, Option, Some, None, refl, sym, ap, ◌∙◌, ◌≢◌, ◌&&◌, OnSome, onto_first, AllByRecursion, and_from, and_parts, cond_both, eqb-true, QuotesAndAngles, Place, Plain}
+use Rattle.sip_uri.proofs.Common.{trim, pieces_from, pieces_outside, LacksOutside, cut_outside, end_place, is_closed, is_plain, place_after, pieces_outside-cut, cut_outside_again, joined, joined-behind, are_items, items_behind, AreItems}
+use Rattle.sip_uri.proofs.Common.{ltb, length}
+use Rattle.std.specs.List.{flat_map}
+use Rattle.sip_lex.specs.Outside.{pieces_outside_behind}
+use Rattle.sip_lex.proofs.laws.OutsideSplits.{pieces_from_join, pieces_outside_lack}
+use Rattle.sip_lex.proofs.laws.Shelters.{plain_is}
+use Rattle.sip_lex.proofs.laws.Splits.{marked}
+use Rattle.sip_uri.proofs.laws.Hosts.{full, full-ltb}
 
 abbrev Cut : Type 0
 Cut = List ℕ × Option (List ℕ)
@@ -23,12 +15,6 @@ Cut = List ℕ × Option (List ℕ)
 -- each quote and bracket that opens is closed
 abbrev Closed : List ℕ → Type 0
 Closed piece = end_place QuotesAndAngles Plain piece ≡ Plain
-
-plain_is : (place : Place) → is_plain place ≡ true → place ≡ Plain
-plain_is Plain e = refl
-plain_is Quoted e = absurd cc
-plain_is Escaped e = absurd cc
-plain_is Angled e = absurd cc
 
 -- ---- the pieces of a closed text are closed
 

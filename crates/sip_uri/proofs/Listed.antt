@@ -1,22 +1,12 @@
 -- The items of a value are contacts, and are what stands between its commas.
-use Rattle.std.proofs.Common.{◌≡◌, ℕ, true, false, List, [], ◌∷◌, map, Option, Some, None, Result, Ok, Err, refl, sym, ap, subst, ◌∙◌, inl, inr}
-use Rattle.std.specs.Prelude.{◌&&◌, IfOk}
-use Rattle.std.specs.List.{list_all, AllByRecursion}
-use Rattle.std.proofs.lemmas.Bool.{and_parts, cases_Bool, cond_both, cond-false, cond-true}
-use Rattle.std.proofs.lemmas.Option.{same_Some}
-use Rattle.sip_lex.specs.declared.sheltered.Shelter.TheVariants.{QuotesAndAngles}
-use Rattle.sip_lex.specs.Sheltered.{is_closed}
-use Rattle.sip_uri.specs.declared.fault.UriFault.{UriFault}
-use Rattle.sip_uri.specs.declared.fault.UriFault.TheVariants.{BadText}
-use Rattle.sip_uri.specs.Contact.{ContactText, Form, are_items, contact_of, contact_of_form, contact_params, contacts_of, form_of, is_contact_param, items_behind, q_of, takeable}
-use Rattle.sip_uri.specs.Fault.{Gives}
-use Rattle.sip_uri.specs.Items.{AreItems, IsContact, IsFormless, texts}
-use Rattle.sip_uri.specs.Reading.{read_uri}
-use Rattle.sip_uri.specs.Uri.{Uri}
-use Rattle.sip_uri.specs.Values.{is_line, is_value}
+use Rattle.sip_uri.proofs.Common.{◌≡◌, ℕ, true, false, List, [], ◌∷◌, map, Option, Some, None, Result, Ok, Err, refl, sym, ap, subst, ◌∙◌, inl, inr, ◌&&◌, IfOk, list_all, AllByRecursion, and_parts, cases_Bool, cond_both, cond-false}
+use Rattle.sip_uri.proofs.Common.{cond-true, same_Some, QuotesAndAngles, is_closed, UriFault, BadText, ContactText, Form, are_items, contact_of, contact_params, form_of, is_contact_param, items_behind, q_of, Gives, AreItems, read_uri, Uri}
+use Rattle.sip_uri.proofs.Common.{is_line, is_value}
+use Rattle.sip_uri.specs.Contact.{contact_of_form, contacts_of, takeable}
+use Rattle.sip_uri.specs.Items.{IsContact, IsFormless, texts}
 use Rattle.sip_uri.proofs.Forms.{form_again, form_found}
 use Rattle.sip_uri.proofs.Items.{items_again, items_are, items_pass}
-use Rattle.sip_uri.proofs.Values.{items_values}
+use Rattle.sip_uri.proofs.laws.Values.{items_values}
 
 text_of_form : (item : List ℕ) (form : Option Form) → (contact_of_form item form).text ≡ item
 text_of_form item None = refl

@@ -1,17 +1,11 @@
 -- Parameters read from left to right are the pieces between semicolons.
-use Rattle.std.proofs.Common.{◌≡◌, ℕ, Bool, true, false, cond, eqb, ltb, List, [], ◌∷◌, length, fold, Option, Some, None, refl, sym, ap, ◌∙◌, arith}
-use Rattle.std.specs.Prelude.{◌&&◌}
-use Rattle.std.specs.List.{list_all}
+use Rattle.sip_uri.proofs.Common.{◌≡◌, ℕ, Bool, true, false, cond, eqb, ltb, List, [], ◌∷◌, length, fold, Option, Some, None, refl, sym, ap, ◌∙◌, arith, ◌&&◌, list_all, lt-ltb, cut, is, pieces, pieces_behind, pieces-cut, Begun, is_uri_byte}
+use Rattle.sip_uri.proofs.Common.{is_whole, progress_after, is_full, is_param}
 use Rattle.std.proofs.Math.Bool.{and-true}
-use Rattle.std.proofs.lemmas.Bool.{and_right, lt-ltb}
-use Rattle.sip_lex.specs.Cut.{cut, is}
-use Rattle.sip_lex.specs.Pieces.{pieces, pieces_behind}
-use Rattle.sip_lex.proofs.Splits.{pieces-cut}
+use Rattle.std.proofs.lemmas.Bool.{and_right}
 use Rattle.sip_uri.specs.declared.checks.Progress.{Progress}
-use Rattle.sip_uri.specs.declared.checks.Progress.TheVariants.{Begun, Named, Valueless, Valued, Broken}
-use Rattle.sip_uri.specs.Grammar.{is_uri_byte}
-use Rattle.sip_uri.specs.Progress.{behind_other, behind_semicolon, is_whole, progress_after}
-use Rattle.sip_uri.specs.Reading.{is_full, is_param}
+use Rattle.sip_uri.specs.declared.checks.Progress.TheVariants.{Named, Valueless, Valued, Broken}
+use Rattle.sip_uri.specs.inner.Progress.{behind_other, behind_semicolon}
 
 abbrev Cut : Type 0
 Cut = List ℕ × Option (List ℕ)
@@ -75,9 +69,6 @@ wanted s bs = good s (cut (is 59) bs) && list_all is_uri_byte bs
 
 whole_first : (bs : List ℕ) → list_all is_param (pieces 59 bs) ≡ good Begun (cut (is 59) bs)
 whole_first bs = ap (list_all is_param) (pieces-cut 59 bs)
-
-broken_wanted : (bs : List ℕ) → wanted Broken bs ≡ false
-broken_wanted bs = refl
 
 begins_again : (s : Progress) (bs : List ℕ) → ((t : Progress) → are_read t bs ≡ wanted t bs) → are_read (behind_semicolon s) bs ≡ (good s ([], Some bs) && list_all is_uri_byte bs)
 begins_again s bs h =

@@ -1,13 +1,8 @@
 -- The tests that a text passes which is read.
-use Rattle.std.proofs.Common.{◌≡◌, ℕ, ◌≤◌, true, not, List, length, map, take, drop, None, Ok, sym, ap, ◌∙◌, arith, length-take}
-use Rattle.std.specs.List.{list_all}
+use Rattle.sip_uri.proofs.Common.{◌≡◌, ℕ, ◌≤◌, true, not, List, length, map, take, drop, None, Ok, sym, ap, ◌∙◌, arith, length-take, list_all, length-map, cond-false, codes, to_ascii_lowercase, is_uri_byte, is_sip, or_fault, parts_of}
+use Rattle.sip_uri.proofs.Common.{uri_of}
 use Rattle.std.specs.Cmp.Lexicographic.{same_text}
-use Rattle.std.proofs.lemmas.List.{length-map}
-use Rattle.std.proofs.lemmas.Bool.{cond-false}
-use Rattle.std.specs.Prelude.{codes}
-use Rattle.std.specs.Char.{to_ascii_lowercase}
-use Rattle.sip_uri.specs.Grammar.{is_uri_byte}
-use Rattle.sip_uri.specs.Reading.{fault_of, is_sip, or_fault, parts_of, read_uri, uri_of}
+use Rattle.sip_uri.specs.Reading.{fault_of, read_uri}
 
 -- the scheme of a text that passes
 pub scheme_is : (text : List ℕ) → is_sip text ≡ true → map to_ascii_lowercase (take 4 text) ≡ codes "sip:"

@@ -1,17 +1,12 @@
 -- A URI without the parameter `method` and the headers is one again, with the same key.
-use Rattle.std.proofs.Common.{◌≡◌, ℕ, Bool, true, false, cond, not, List, [], ◌∷◌, ◌++◌, Option, Some, None, Ok, ap, append-nil, filter, map, refl, sym, inl, inr, ◌∙◌}
-use Rattle.std.specs.Prelude.{IfNone, IsTrue}
-use Rattle.std.specs.List.{AllByRecursion, fold, list_all}
-use Rattle.sip_lex.specs.Cut.{Lacks, behind}
-use Rattle.std.proofs.lemmas.Bool.{cases_Bool, cond-false, cond-true}
-use Rattle.std.specs.Str.{str_to_ascii_lowercase}
-use Rattle.sip_uri.specs.Grammar.{IsParam, IsUri, is_uri_byte}
-use Rattle.sip_uri.specs.Kept.{IsKept}
-use Rattle.sip_uri.specs.Key.{add_distinct, key_of, port_key}
-use Rattle.sip_uri.specs.Reading.{read_uri, uri_of}
-use Rattle.sip_uri.specs.Uri.{Uri, is_method, params_text, request_uri, requested, rest_text, spelling, user_text, without_methods}
-use Rattle.sip_uri.proofs.Found.{read_parts}
-use Rattle.sip_uri.proofs.Only.{read_again}
+use Rattle.sip_uri.proofs.Common.{◌≡◌, ℕ, Bool, true, false, cond, not, List, [], ◌∷◌, ◌++◌, Option, Some, None, Ok, ap, map, refl, sym, inl, inr, ◌∙◌, IfNone, AllByRecursion, list_all, Lacks, behind, cases_Bool, cond-false, cond-true}
+use Rattle.sip_uri.proofs.Common.{str_to_ascii_lowercase, IsParam, IsUri, is_uri_byte, IsKept, add_distinct, read_uri, uri_of, Uri, is_method, params_text, request_uri, requested, rest_text, spelling, user_text, without_methods}
+use Rattle.std.proofs.Common.{append-nil, filter}
+use Rattle.std.specs.Prelude.{IsTrue}
+use Rattle.std.specs.List.{fold}
+use Rattle.sip_uri.specs.Key.{key_of, port_key}
+use Rattle.sip_uri.proofs.laws.Found.{read_parts}
+use Rattle.sip_uri.proofs.laws.Only.{read_again}
 use Rattle.sip_uri.proofs.Readings.{long_enough}
 use Rattle.sip_uri.proofs.Requests.{kept_uri, request_bytes}
 

@@ -1,14 +1,7 @@
 -- The bytes of a URI as a request writes it.
-use Rattle.std.proofs.Common.{◌≡◌, ℕ, true, not, List, [], ◌∷◌, ◌++◌, refl, ap, ◌∙◌}
-use Rattle.std.specs.Prelude.{◌&&◌}
-use Rattle.std.specs.List.{list_all}
-use Rattle.std.proofs.lemmas.Bool.{and_parts, cond_both}
-use Rattle.sip_lex.specs.Cut.{behind}
-use Rattle.sip_uri.specs.Grammar.{IsUri, is_uri_byte}
-use Rattle.sip_uri.specs.Kept.{IsKept}
-use Rattle.sip_uri.specs.Reading.{uri_of}
-use Rattle.sip_uri.specs.Uri.{Uri, is_method, param_text, params_text, request_uri, user_text, without_methods}
-use Rattle.sip_uri.proofs.Found.{found}
+use Rattle.sip_uri.proofs.Common.{◌≡◌, ℕ, true, not, List, [], ◌∷◌, ◌++◌, refl, ap, ◌∙◌, ◌&&◌, list_all, and_parts, cond_both, behind, IsUri, is_uri_byte, IsKept, uri_of, Uri, is_method, param_text, params_text, request_uri, user_text}
+use Rattle.sip_uri.proofs.Common.{without_methods}
+use Rattle.sip_uri.proofs.laws.Found.{found}
 
 abbrev pub AreBytes : List ℕ → Type 0
 AreBytes bs = list_all is_uri_byte bs ≡ true

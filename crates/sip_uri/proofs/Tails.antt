@@ -1,20 +1,11 @@
 -- The parameters and headers of a URI stand behind its first `;` or `?` behind the user.
-use Rattle.std.proofs.Common.{◌≡◌, ℕ, ◌+◌, ◌-◌, ◌≤◌, Bool, true, false, eqb, List, [], ◌∷◌, ◌++◌, length, take, drop, Option, Some, None, refl, sym, ap, subst, ◌∙◌, append_assoc, inl, inr, arith}
-use Rattle.std.specs.Prelude.{◌||◌, IfSome}
-use Rattle.std.specs.Char.{is_ascii_digit}
-use Rattle.std.proofs.lemmas.List.{drop_at, length-append, take_at}
-use Rattle.std.proofs.lemmas.Bool.{cond-true, cond-false, eqb-false, ne_eqb}
-use Rattle.sip_lex.specs.Cut.{behind, cut, is, Lacks}
-use Rattle.sip_lex.specs.Pieces.{pieces_behind}
-use Rattle.sip_lex.proofs.Cuts.{cut_again, Lacks-append, Lacks-pass}
-use Rattle.sip_lex.proofs.Splits.{joined, pieces_again}
-use Rattle.sip_uri.specs.Grammar.{IsUri}
-use Rattle.sip_uri.specs.Host.{IsHost, IsPort, is_address_byte, is_host_byte}
-use Rattle.sip_uri.specs.Reading.{parts_of, uri_of, user_of}
-use Rattle.sip_uri.specs.Tail.{behind_first, front_len, params_in, tail_of}
-use Rattle.sip_uri.specs.Uri.{Uri, params_text, request_uri, user_text, without_methods}
-use Rattle.sip_uri.proofs.Found.{parts_join, rest_joins, spelled}
-use Rattle.sip_uri.proofs.Only.{digits_lack, each_lacks, params_lack}
+use Rattle.sip_uri.proofs.Common.{◌≡◌, ℕ, ◌+◌, ◌-◌, ◌≤◌, Bool, true, false, eqb, List, [], ◌∷◌, ◌++◌, length, take, drop, Option, Some, None, refl, sym, ap, subst, ◌∙◌, append_assoc, inl, inr, arith, ◌||◌, IfSome, is_ascii_digit, drop_at}
+use Rattle.sip_uri.proofs.Common.{length-append, take_at, cond-true, cond-false, eqb-false, behind, cut, is, Lacks, pieces_behind, cut_again, Lacks-append, Lacks-pass, joined, pieces_again, IsUri, IsHost, IsPort, is_address_byte}
+use Rattle.sip_uri.proofs.Common.{is_host_byte, parts_of, uri_of, user_of, front_len, params_in, Uri, params_text, request_uri, user_text, without_methods}
+use Rattle.std.proofs.lemmas.Bool.{ne_eqb}
+use Rattle.sip_uri.specs.inner.Tail.{behind_first, tail_of}
+use Rattle.sip_uri.proofs.laws.Found.{parts_join, rest_joins, spelled}
+use Rattle.sip_uri.proofs.laws.Only.{digits_lack, each_lacks, params_lack}
 
 abbrev Cut : Type 0
 Cut = List ℕ × Option (List ℕ)

@@ -1,10 +1,7 @@
 -- Parameters appended one by one, and what a growing text begins with.
-use Rattle.std.proofs.Common.{◌≡◌, ℕ, ◌+◌, ◌≤◌, true, false, cond, not, List, [], ◌∷◌, ◌++◌, length, take, Option, refl, sym, ap, ◌∙◌, append_assoc, arith, length-take}
-use Rattle.std.proofs.lemmas.List.{append-nil, length-append, take-append-le}
-use Rattle.sip_lex.specs.Cut.{cut, is}
-use Rattle.sip_lex.specs.Pieces.{pieces, pieces_behind}
-use Rattle.sip_lex.proofs.Splits.{pieces-cut}
-use Rattle.sip_uri.specs.Uri.{is_method, param_text, params_text, without_methods}
+use Rattle.sip_uri.proofs.Common.{◌≡◌, ℕ, ◌+◌, ◌≤◌, true, false, cond, not, List, [], ◌∷◌, ◌++◌, length, take, Option, refl, sym, ap, ◌∙◌, append_assoc, arith, length-take, append-nil, length-append, cut, is, pieces, pieces_behind}
+use Rattle.sip_uri.proofs.Common.{pieces-cut, is_method, param_text, params_text, without_methods}
+use Rattle.std.proofs.lemmas.List.{take-append-le}
 
 abbrev Cut : Type 0
 Cut = List ℕ × Option (List ℕ)

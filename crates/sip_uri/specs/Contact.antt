@@ -1,5 +1,5 @@
 -- The items of a Contact value (RFC 3261 sections 20.10 and 25.1).
-use Rattle.std.specs.Prelude.{ℕ, ◌+◌, ◌-◌, ◌*◌, Bool, ◌||◌, ◌&&◌, not, List, [], ◌∷◌, length, map, Option, Some, None, Result, Ok, Err, is_some, option_map, nat_lt, nat_le, ◌==◌, if◌then◌else◌, codes}
+use Rattle.std.specs.Prelude.{ℕ, ◌+◌, ◌-◌, ◌*◌, Bool, ◌||◌, ◌&&◌, not, List, [], ◌∷◌, length, map, Option, Some, None, Result, Ok, Err, is_some, nat_lt, nat_le, ◌==◌, if◌then◌else◌, codes}
 use Rattle.std.specs.Char.{is_ascii_digit}
 use Rattle.std.specs.List.{list_all}
 use Rattle.std.specs.Str.{bytes_eq, str_to_ascii_lowercase}
@@ -8,6 +8,7 @@ use Rattle.sip_lex.specs.declared.sheltered.Place.TheVariants.{Plain}
 use Rattle.sip_lex.specs.Bytes.{is_space, trim, trim_end, trim_start}
 use Rattle.sip_lex.specs.Cut.{cut, is}
 use Rattle.sip_lex.specs.Outside.{pieces_outside_behind}
+pub use Rattle.sip_lex.specs.Params.{name_of, value_of}
 use Rattle.sip_lex.specs.Sheltered.{cut_outside, is_closed}
 use Rattle.sip_uri.specs.declared.fault.UriFault.{UriFault}
 use Rattle.sip_uri.specs.declared.fault.UriFault.TheVariants.{BadText}
@@ -46,13 +47,7 @@ abbrev pub q_value_if_any : Option (List ℕ) → ℕ
 q_value_if_any None = 1000
 q_value_if_any (Some value) = q_value value
 
--- ---- parameters: a name, or a name, `=` and a value, with space round them
-
-abbrev pub name_of : List ℕ → List ℕ
-name_of param = trim (cut (is 61) param).0
-
-abbrev pub value_of : List ℕ → Option (List ℕ)
-value_of param = option_map trim (cut (is 61) param).1
+-- ---- parameters
 
 -- neither name nor value is empty
 abbrev pub is_contact_param : List ℕ → Bool

@@ -6,9 +6,7 @@ use Rattle.sip_uri.specs.declared.fault.UriFault.{UriFault}
 use Rattle.sip_uri.specs.declared.hop.Hop.{Hop}
 use Rattle.sip_lex.specs.Cut.{cut, is}
 use Rattle.sip_lex.specs.Number.{number}
-use Rattle.sip_lex.specs.Pieces.{pieces_behind}
 use Rattle.sip_uri.specs.Host.{address_of}
-use Rattle.sip_uri.specs.Reading.{Parts}
 use Rattle.sip_uri.specs.Uri.{Uri, is_named}
 
 abbrev pub is_udp : Option (List ℕ) → Bool
@@ -31,10 +29,6 @@ hop_at (Some addr) port = Some (record { addr = addr; port = port })
 -- the host is an IPv4 address, and the parameters allow UDP
 abbrev pub hop_of : Uri → Option Hop
 hop_of u = if list_all allows_udp u.params then hop_at (address_of u.host) (port_number u.port) else None
-
--- the same of the parts of a text
-abbrev pub parts_hop : Parts → Option Hop
-parts_hop p = if list_all allows_udp (pieces_behind 59 p.params) then hop_at (address_of p.host) (port_number p.port) else None
 
 -- where a request to a URI is sent, if a text spells one
 abbrev pub hop_if_read : Result Uri UriFault → Option Hop

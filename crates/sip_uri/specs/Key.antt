@@ -6,8 +6,6 @@ use Rattle.std.specs.Ordering.{nat_cmp}
 use Rattle.std.specs.Cmp.Lexicographic.{slice_cmp}
 use Rattle.std.specs.BTreeSet.{insert_key}
 use Rattle.sip_lex.specs.Cut.{is}
-use Rattle.sip_lex.specs.Pieces.{pieces_behind}
-use Rattle.sip_uri.specs.Reading.{Parts}
 use Rattle.sip_uri.specs.Uri.{Uri, params_text, user_text, without_methods}
 
 -- the parameters that count, in lower case
@@ -29,7 +27,3 @@ port_key (Some digits) = 58 ∷ drop (prefix_len (is 48) digits) digits
 
 abbrev pub key_of : Uri → List ℕ
 key_of u = user_text u.user ++ (str_to_ascii_lowercase u.host ++ (port_key u.port ++ params_text (key_params u.params)))
-
--- the same of the parts of a text
-abbrev pub parts_key : Parts → List ℕ
-parts_key p = user_text p.user ++ (str_to_ascii_lowercase p.host ++ (port_key p.port ++ params_text (key_params (pieces_behind 59 p.params))))

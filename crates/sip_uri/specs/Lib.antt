@@ -1,4 +1,4 @@
-pub mod Checked
+pub mod inner
 pub mod Contact
 pub mod Fault
 pub mod Grammar
@@ -7,10 +7,6 @@ pub mod Host
 pub mod Items
 pub mod Kept
 pub mod Key
-pub mod Progress
 pub mod Reading
-pub mod Seen
 pub mod SeenContact
-pub mod Tail
 pub mod Uri
-pub mod Values

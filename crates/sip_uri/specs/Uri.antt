@@ -3,6 +3,7 @@ use Rattle.std.specs.Prelude.{ℕ, Bool, not, List, [], ◌∷◌, ◌++◌, fil
 use Rattle.std.specs.List.{flat_map}
 use Rattle.std.specs.Str.{bytes_eq, str_to_ascii_lowercase}
 use Rattle.sip_lex.specs.Cut.{behind, cut, is}
+pub use Rattle.sip_lex.specs.Params.{param_text}
 
 -- the parts as they are written
 pub record Uri : Type 0 where
@@ -21,9 +22,6 @@ pub record Uri : Type 0 where
 abbrev pub user_text : Option (List ℕ) → List ℕ
 user_text None = []
 user_text (Some user) = user ++ 64 ∷ []
-
-abbrev pub param_text : List ℕ → List ℕ
-param_text param = 59 ∷ param
 
 abbrev pub params_text : List (List ℕ) → List ℕ
 params_text params = flat_map param_text params

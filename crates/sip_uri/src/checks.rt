@@ -4,11 +4,11 @@ ghost use Rattle.std.specs.Prelude.{◌≡◌, ◌&&◌};
 ghost use Rattle.std.specs.List.{list_all};
 ghost use Rattle.std.specs.Option.{option_copied};
 ghost use Rattle.sip_lex.specs.Pieces.{pieces};
-ghost use Rattle.sip_uri.specs.Checked.{are_bytes_if_any, are_params_if_any, are_texts, is_user_if_any, named_fault, part_fault};
+ghost use Rattle.sip_uri.specs.inner.Checked.{are_bytes_if_any, are_params_if_any, are_texts, is_user_if_any, named_fault, part_fault};
 ghost use Rattle.sip_uri.specs.Grammar.{is_uri_byte};
-ghost use Rattle.sip_uri.specs.Progress.{is_whole, progress_after};
+ghost use Rattle.sip_uri.specs.inner.Progress.{is_whole, progress_after};
 ghost use Rattle.sip_uri.specs.Reading.{is_param, is_port_if_any, is_sip};
-ghost use Rattle.sip_uri.specs.Seen.{parts};
+ghost use Rattle.sip_uri.specs.inner.Seen.{parts};
 
 use crate::cut::Cut;
 use crate::fault::UriFault;
@@ -139,7 +139,7 @@ fn are_texts(cut: &Cut<'_>) -> bool
 /// The first part with a fault: the host, then the port, then user, parameters and headers.
 ///
 /// Each byte is tested with its part, so parts without a fault have no other bytes.
-#[tactic(auto, unfolding(crate::specs::Checked::part_fault))]
+#[tactic(auto, unfolding(crate::specs::inner::Checked::part_fault))]
 fn part_fault(cut: &Cut<'_>) -> Option<UriFault>
     ensures { result ≡ part_fault (parts cut.now) }
 {

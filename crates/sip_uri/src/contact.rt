@@ -10,8 +10,9 @@ ghost use Rattle.sip_uri.specs.Contact.{ContactText, are_items, contact_of, cont
 ghost use Rattle.sip_uri.specs.Fault.{Gives, refusal};
 ghost use Rattle.sip_uri.specs.Items.{AreItems, IsContact, texts};
 ghost use Rattle.sip_uri.specs.Reading.{read_uri};
-ghost use Rattle.sip_uri.specs.SeenContact.{seen_form, view_contact, view_contacts};
-ghost use Rattle.sip_uri.specs.Values.{is_line, is_value};
+ghost use Rattle.sip_uri.specs.SeenContact.{view_contact, view_contacts};
+ghost use Rattle.sip_uri.specs.inner.SeenContact.{seen_form};
+ghost use Rattle.sip_lex.specs.Values.{is_line, is_value};
 
 use crate::fault::UriFault;
 use crate::form::{FULL_WEIGHT, are_contact_params, form_of, q_of};

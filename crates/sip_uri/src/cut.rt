@@ -4,7 +4,7 @@ ghost use Rattle.std.specs.Prelude.{◌≡◌};
 ghost use Rattle.std.specs.Option.{option_copied};
 ghost use Rattle.sip_lex.specs.Cut.{cut, is};
 ghost use Rattle.sip_uri.specs.Reading.{parts_of, port_and_params, user_of};
-ghost use Rattle.sip_uri.specs.Seen.{parts};
+ghost use Rattle.sip_uri.specs.inner.Seen.{parts};
 
 use crate::host::cut_host;
 use sip_lex::cut_at;

@@ -8,7 +8,7 @@ ghost use Rattle.sip_lex.specs.declared.sheltered.Place.TheVariants.{Plain};
 ghost use Rattle.sip_lex.specs.Cut.{cut, is, seen_cut};
 ghost use Rattle.sip_lex.specs.Sheltered.{cut_outside};
 ghost use Rattle.sip_uri.specs.Contact.{are_decimals, bare_form, behind_brackets, bracketed_form, contact_params, form_of, is_bare, is_bare_byte, is_contact_param, is_q, name_of, q_decimals, q_of, q_value, q_value_if_any, value_of};
-ghost use Rattle.sip_uri.specs.SeenContact.{seen_form};
+ghost use Rattle.sip_uri.specs.inner.SeenContact.{seen_form};
 
 use sip_lex::{Shelter, are_digits, cut_at, cut_outside, is_space, trim, trim_end, trim_start};
 

@@ -1,9 +1,10 @@
 //! Hosts, ports and IPv4 addresses (RFC 3261 section 25.1).
 
-ghost use Rattle.std.specs.Prelude.{◌≡◌, ◌≤◌, ◌↔◌, ◌++◌, IsTrue, false, length, take, drop, option_map};
+ghost use Rattle.std.specs.Prelude.{◌≡◌, ◌≤◌, ◌↔◌, ◌++◌, IsTrue, false, length, take, drop};
 ghost use Rattle.std.specs.List.{list_all};
 ghost use Rattle.sip_lex.specs.Cut.{cut, is};
-ghost use Rattle.sip_uri.specs.Host.{BeginsWithEnd, IsHost, LacksEnds, address_of, address_of_first, address_of_last, address_of_second, address_of_third, ends_host, four_of, host_len, is_address_byte, is_host, is_host_byte, is_reference, octet_of, port_of};
+ghost use Rattle.sip_uri.specs.Host.{BeginsWithEnd, IsHost, LacksEnds, address_of, four_of, host_len, is_address_byte, is_host, is_host_byte, is_reference, octet_of, port_of};
+ghost use Rattle.sip_uri.specs.inner.Host.{address_of_first, address_of_last, address_of_second, address_of_third};
 
 use sip_lex::{cut_at, read_number};
 

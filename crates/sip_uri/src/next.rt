@@ -4,9 +4,10 @@ ghost use Rattle.std.specs.Prelude.{◌≡◌, IsTrue};
 ghost use Rattle.std.specs.List.{list_all};
 ghost use Rattle.std.specs.Option.{option_copied};
 ghost use Rattle.sip_lex.specs.Pieces.{pieces, pieces_behind};
-ghost use Rattle.sip_uri.specs.Hop.{allows_udp, hop_at, is_udp, parts_hop, port_number};
+ghost use Rattle.sip_uri.specs.Hop.{allows_udp, is_udp, port_number};
+ghost use Rattle.sip_uri.specs.inner.Hop.{parts_hop};
 ghost use Rattle.sip_uri.specs.Reading.{is_port_if_any};
-ghost use Rattle.sip_uri.specs.Seen.{parts};
+ghost use Rattle.sip_uri.specs.inner.Seen.{parts};
 
 use crate::cut::Cut;
 use crate::hop::Hop;

@@ -5,7 +5,7 @@ ghost use Rattle.sip_uri.specs.Fault.{fault_if_refused};
 ghost use Rattle.sip_uri.specs.Grammar.{IsUri, IsUriText};
 ghost use Rattle.sip_uri.specs.Hop.{hop_if_read, hop_of};
 ghost use Rattle.sip_uri.specs.Reading.{parts_of, read_uri, uri_of};
-ghost use Rattle.sip_uri.specs.Seen.{parts};
+ghost use Rattle.sip_uri.specs.inner.Seen.{parts};
 ghost use Rattle.sip_uri.specs.Uri.{Uri, spelling};
 
 use crate::checks::{begins_with_sip, first_fault};

@@ -5,7 +5,7 @@ ghost use Rattle.std.specs.Option.{option_copied};
 ghost use Rattle.sip_lex.specs.Pieces.{pieces_behind};
 ghost use Rattle.sip_uri.specs.Grammar.{IsUri};
 ghost use Rattle.sip_uri.specs.Reading.{uri_of};
-ghost use Rattle.sip_uri.specs.Tail.{front_len, params_in, tail_of};
+ghost use Rattle.sip_uri.specs.inner.Tail.{front_len, params_in, tail_of};
 ghost use Rattle.sip_uri.specs.Uri.{params_text, request_uri, user_text, without_methods};
 
 use crate::cut::user_and_rest;

@@ -1,20 +1,10 @@
 -- A branch parameter is read exactly where it is written so.
-use Rattle.std.proofs.Common.{◌≡◌, ℕ, ◌<◌, ◌≤◌, ◌^◌, true, false, List, ◌∷◌, ◌++◌, take, drop, Option, Some, None, refl, sym, ap, ◌∙◌, arith}
-use Rattle.std.specs.Prelude.{IfSome}
-use Rattle.std.specs.Fmt.{decimal}
-use Rattle.std.specs.Str.{bytes_eq}
-use Rattle.std.proofs.lemmas.Bool.{false≢true}
-use Rattle.std.proofs.lemmas.List.{take-append-drop}
-use Rattle.std.proofs.lemmas.Slice.Eq.{bytes_eq-Decides}
-use Rattle.sip_lex.specs.Cut.{cut, is, behind, Lacks}
+use Rattle.sip_via.proofs.Common.{◌≡◌, ℕ, ◌<◌, ◌≤◌, ◌^◌, true, List, ◌∷◌, ◌++◌, take, drop, Option, Some, None, refl, sym, ap, ◌∙◌, arith, IfSome, decimal, bytes_eq, take-append-drop, bytes_eq-Decides, cut, is, behind, Lacks, cut_again}
+use Rattle.sip_via.proofs.Common.{cut_joins, BranchParts, branch_parts, BranchName, IsBranch, branch_text, cookie, hex_text, number_read}
 use Rattle.sip_lex.specs.Number.{plain_number_within}
-use Rattle.sip_lex.proofs.Cuts.{cut_again, cut_joins}
-use Rattle.sip_via.specs.BranchParts.{BranchParts, branch_parts, parts_of, parts_text, with_context, with_instance, with_key}
-use Rattle.sip_via.specs.declared.branch.BranchName.{BranchName}
-use Rattle.sip_via.specs.BranchText.{IsBranch, branch_text, cookie}
+use Rattle.sip_via.specs.inner.BranchParts.{parts_of, parts_text, with_context, with_instance, with_key}
 use Rattle.sip_via.proofs.laws.HexLaws.{hex_text_lacks}
-use Rattle.sip_via.specs.HexPair.{hex_text}
-use Rattle.sip_lex.proofs.laws.Numbers.{decimal_lacks, number_read, number_spelled}
+use Rattle.sip_lex.proofs.laws.Numbers.{decimal_lacks, number_spelled}
 
 abbrev Cut : Type 0
 Cut = List ℕ × Option (List ℕ)
@@ -68,9 +58,6 @@ pub cookie_found : (text rest : List ℕ) → bytes_eq (take 7 text) cookie ≡ 
 cookie_found text rest same e =
     let front : take 7 text ≡ cookie = (bytes_eq-Decides (take 7 text) cookie).0 same in
     sym (take-append-drop 7 text) ∙ ap (λ (x : List ℕ). x ++ drop 7 text) front ∙ ap (λ (x : List ℕ). cookie ++ x) (sym e)
-
-pub cookie_there : (text rest : List ℕ) → bytes_eq (take 7 text) cookie ≡ false → text ≡ cookie ++ rest → ⊥
-cookie_there text rest other e = false≢true (sym other ∙ ap (λ (t : List ℕ). bytes_eq (take 7 t) cookie) e)
 
 pub cookie_rest : (text rest more : List ℕ) → rest ≡ drop 7 text → text ≡ cookie ++ more → rest ≡ more
 cookie_rest text rest more e is = e ∙ ap (λ (t : List ℕ). drop 7 t) is

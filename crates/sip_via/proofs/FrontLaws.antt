@@ -1,15 +1,7 @@
 -- A text is an address where four numbers with dots between them can be taken from its front.
-use Rattle.std.proofs.Common.{◌≡◌, ℕ, Bool, true, false, eqb, List, [], ◌∷◌, ◌++◌, length, take, drop, Option, Some, None, refl, sym, ap, ◌∙◌, append_assoc, inl, inr}
-use Rattle.std.specs.Prelude.{IfSome, slice_index}
-use Rattle.std.specs.Borrow.{Bor}
-use Rattle.std.specs.Fmt.{decimal}
-use Rattle.std.specs.Option.{option_copied}
-use Rattle.std.specs.Str.{bytes_eq}
-use Rattle.std.proofs.lemmas.Bool.{cases_Bool, cond-true, cond-false, eqb-true}
-use Rattle.std.proofs.lemmas.List.{append-nil, drop_at, take-append-drop, take_at}
-use Rattle.std.proofs.lemmas.Slice.Eq.{bytes_eq-Decides}
-use Rattle.sip_via.specs.Address.{address_text, dotted}
-use Rattle.sip_via.specs.Fronts.{behind_address, behind_marked, behind_number, behind_text, is_address, is_end}
+use Rattle.sip_via.proofs.Common.{◌≡◌, ℕ, Bool, true, false, eqb, List, [], ◌∷◌, ◌++◌, length, take, drop, Option, Some, None, refl, sym, ap, ◌∙◌, append_assoc, inl, inr, IfSome, slice_index, Bor, decimal, option_copied, bytes_eq}
+use Rattle.sip_via.proofs.Common.{cases_Bool, cond-true, cond-false, eqb-true, append-nil, drop_at, take-append-drop, take_at, bytes_eq-Decides, address_text, dotted, behind_address, behind_marked, behind_number, is_end}
+use Rattle.sip_via.specs.inner.Fronts.{behind_text, is_address}
 
 abbrev some : List ℕ → Option (List ℕ)
 some text = Some text

@@ -1,8 +1,5 @@
 -- Two digits more of a key.
-use Rattle.std.proofs.Common.{◌≡◌, ℕ, ◌+◌, ◌*◌, ◌<◌, List, [], ◌∷◌, ◌++◌, length, get_or, take, sym, ap, ◌∙◌, arith, append_assoc}
-use Rattle.std.specs.Prelude.{slice_set}
-use Rattle.std.proofs.lemmas.List.{take_all, take_more_set, length-set}
-use Rattle.sip_via.specs.HexPair.{hex_pair, hex_text}
+use Rattle.sip_via.proofs.Common.{◌≡◌, ℕ, ◌+◌, ◌*◌, ◌<◌, List, [], ◌∷◌, ◌++◌, length, get_or, take, sym, ap, ◌∙◌, arith, append_assoc, slice_set, take_all, take_more_set, length-set, hex_pair, hex_text}
 use Rattle.sip_via.proofs.laws.HexLaws.{hex_text_more}
 
 pub digits_more : (digits key : List ℕ) (i upper lower : ℕ) → 2 * i + 1 < length digits → i < length key → upper ∷ lower ∷ [] ≡ hex_pair (get_or key i 0) → take (2 * i) digits ≡ hex_text (take i key) → take (2 * (i + 1)) (slice_set (slice_set digits (2 * i) upper) (2 * i + 1) lower) ≡ hex_text (take (i + 1) key)

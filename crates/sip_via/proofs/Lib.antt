@@ -1,3 +1,4 @@
+pub mod Common
 pub mod laws
 pub mod BranchLaws
 pub mod BranchPlaced

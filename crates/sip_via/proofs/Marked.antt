@@ -1,38 +1,19 @@
 -- A Via line whose top value was marked is a header value.
-use Rattle.std.proofs.Common.{◌≡◌, ℕ, zero, suc, ◌+◌, ◌-◌, ◌<◌, ◌^◌, Bool, true, false, not, eqb, cond, List, [], ◌∷◌, ◌++◌, length, map, take, drop, reverse, Option, Some, None, refl, sym, ap, subst, ◌∙◌, append_assoc, arith, inl, inr}
-use Rattle.std.specs.Prelude.{◌&&◌, ◌||◌, codes, slice_index, Result, Ok, Err}
-use Rattle.std.specs.Char.{is_ascii_digit, to_ascii_lowercase}
-use Rattle.std.specs.Fmt.{decimal}
-use Rattle.std.specs.List.{flat_map, list_all, onto_first, prefix_len, suffix_len}
-use Rattle.std.proofs.lemmas.Bool.{and_parts, cases_Bool, cond-true, cond-false, cond_both, eqb-true, false_from_ne_true, false≢true}
-use Rattle.std.proofs.lemmas.Fmt.{digits_decimal}
-use Rattle.std.proofs.lemmas.List.{reverse-append, reverse-reverse, take-append-drop}
-use Rattle.std.proofs.lemmas.List.Folds.{list_all-append}
-use Rattle.sip_lex.specs.declared.sheltered.Shelter.TheVariants.{Quotes}
-use Rattle.sip_lex.specs.declared.sheltered.Place.{Place}
-use Rattle.sip_lex.specs.declared.sheltered.Place.TheVariants.{Plain}
-use Rattle.sip_lex.specs.Bytes.{is_space, trim, trim_end, trim_start}
-use Rattle.sip_lex.specs.Cut.{behind}
-use Rattle.sip_lex.specs.Outside.{pieces_from, pieces_outside, pieces_outside_behind}
-use Rattle.sip_lex.specs.Sheltered.{cut_outside, is_plain, place_after}
-use Rattle.sip_lex.proofs.Shelters.{cut_outside_joins}
-use Rattle.sip_lex.proofs.Trims.{trim_end-reverse, trim_end-whole}
-use Rattle.sip_text.specs.Message.{IsMessage, is_header, is_line, is_line_byte, is_trimmed, is_value}
-use Rattle.sip_text.specs.Name.{first_value}
-use Rattle.sip_text.specs.Text.{HeaderText, MessageText}
-use Rattle.sip_text.specs.Reading.{begins_with_space}
-use Rattle.sip_text.proofs.Good.{and_both, trim_trimmed}
-use Rattle.sip_uri.specs.declared.hop.Hop.{Hop}
-use Rattle.sip_uri.proofs.Hosts.{other_than}
-use Rattle.sip_via.specs.Address.{IsAddress, address_text, dotted}
-use Rattle.sip_via.specs.Received.{IsSource, asks_port, filled, first_via_line, gets_received, line_marked, marked_line, marked_param, marked_parts, marked_value, received_text, with_via_line}
-use Rattle.sip_via.specs.ViaParts.{are_parts, is_named, is_trimmed as is_via_trimmed, is_via, or_empty, params_of, parts_of, via_of}
+use Rattle.sip_via.proofs.Common.{◌≡◌, ℕ, zero, suc, ◌+◌, ◌-◌, ◌<◌, ◌^◌, Bool, true, false, not, eqb, cond, List, [], ◌∷◌, ◌++◌, length, map, take, drop, reverse, Option, Some, None, refl, sym, ap, subst, ◌∙◌, append_assoc, arith, inl, inr}
+use Rattle.sip_via.proofs.Common.{◌&&◌, ◌||◌, codes, slice_index, Result, Ok, Err, is_ascii_digit, to_ascii_lowercase, decimal, flat_map, list_all, prefix_len, suffix_len, and_parts, cases_Bool, cond-true, cond-false, cond_both, eqb-true}
+use Rattle.sip_via.proofs.Common.{false_from_ne_true, false≢true, digits_decimal, reverse-append, reverse-reverse, take-append-drop, list_all-append, Quotes, Place, Plain, is_space, trim, trim_end, trim_start, behind, pieces_outside}
+use Rattle.sip_via.proofs.Common.{pieces_outside_behind, cut_outside, place_after, cut_outside_joins, trim_end-reverse, trim_end-whole, IsMessage, is_header, is_line, is_line_byte, is_trimmed, is_value, first_value, HeaderText, MessageText}
+use Rattle.sip_via.proofs.Common.{begins_with_space, and_both, trim_trimmed, Hop, other_than, IsAddress, address_text, dotted, IsSource, asks_port, filled, first_via_line, gets_received, marked_line, marked_param, marked_parts}
+use Rattle.sip_via.proofs.Common.{marked_value, received_text, with_via_line, are_parts, is_named, is_via, or_empty, params_of, parts_of, via_of, own, ViaFault, BadVia}
+use Rattle.std.specs.List.{onto_first}
+use Rattle.sip_lex.specs.Outside.{pieces_from}
+use Rattle.sip_lex.specs.Sheltered.{is_plain}
+use Rattle.sip_via.specs.Received.{line_marked}
+use Rattle.sip_via.specs.ViaParts.{is_trimmed as is_via_trimmed}
 use Rattle.sip_via.proofs.ViaFound.{via_found}
 use Rattle.sip_via.proofs.laws.TrimmedValues.{all-parts, all-trim}
-use Rattle.sip_lex.proofs.laws.Numbers.{own}
 use Rattle.sip_via.proofs.laws.Replaced.{first-good, with_via-good}
-use Rattle.sip_via.specs.declared.own.ViaFault.{ViaFault}
-use Rattle.sip_via.specs.declared.own.ViaFault.TheVariants.{BadVia}
+use Rattle.sip_via.proofs.laws.HexLaws.{head_of}
 
 abbrev Cut : Type 0
 Cut = List ℕ × Option (List ℕ)
@@ -194,10 +175,6 @@ pub record BeginsPlain (bs : List ℕ) : Type 0 where
   pub is : bs ≡ first ∷ rest
   pub no_space : is_space first ≡ false
   pub no_mark : eqb first 59 ≡ false
-
-abbrev head_of : List ℕ → ℕ
-head_of [] = 0
-head_of (b ∷ bs) = b
 
 -- `s` in any case
 abbrev is_first : ℕ → Bool

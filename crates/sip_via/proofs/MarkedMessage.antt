@@ -1,32 +1,15 @@
 -- What marking does to the Via values of a message, and what it leaves as it was.
-use Rattle.std.proofs.Common.{◌≡◌, ℕ, true, false, List, [], ◌∷◌, ◌++◌, length, map, drop, reverse, Option, Some, Result, Ok, Err, refl, sym, ap, subst, ◌∙◌, append_assoc, arith, inl, inr}
-use Rattle.std.specs.Prelude.{IsOk, codes}
-use Rattle.std.specs.List.{AllByRecursion, flat_map, list_all}
-use Rattle.std.proofs.lemmas.Bool.{cases_Bool, cond-false, cond-true}
-use Rattle.std.proofs.lemmas.List.{drop_at}
-use Rattle.sip_lex.specs.declared.sheltered.Shelter.TheVariants.{Quotes}
-use Rattle.sip_lex.specs.declared.sheltered.Place.TheVariants.{Plain}
-use Rattle.sip_lex.specs.Bytes.{is_space, trim, trim_end, trim_start}
-use Rattle.sip_lex.specs.Cut.{behind}
-use Rattle.sip_lex.specs.Outside.{pieces_outside_behind}
-use Rattle.sip_lex.specs.Sheltered.{cut_outside}
-use Rattle.sip_lex.proofs.OutsideSplits.{pieces_outside-cut}
-use Rattle.sip_lex.proofs.Shelters.{cut_outside_again}
-use Rattle.sip_lex.proofs.Trims.{trim_end-whole}
-use Rattle.sip_text.specs.Name.{first_of, same_name, values_of}
-use Rattle.sip_text.specs.Reading.{begins_with_space}
-use Rattle.sip_text.specs.Text.{HeaderText, MessageText}
-use Rattle.sip_uri.specs.declared.hop.Hop.{Hop}
-use Rattle.sip_via.specs.declared.own.ViaFault.{ViaFault}
-use Rattle.sip_via.specs.declared.own.ViaFault.TheVariants.{BadVia}
-use Rattle.sip_via.specs.Edits.{line, replaced}
-use Rattle.sip_via.specs.Received.{IsSource, first_via_line, marked, marked_line, marked_value, marked_with, with_via_line}
-use Rattle.sip_via.specs.TopVia.{first_or_empty, top_value, values_in, via_lines, via_values}
-use Rattle.sip_via.specs.ViaGrammar.{IsSpace, IsVia, IsViaParam}
-use Rattle.sip_via.specs.ViaParts.{ViaText, branch_of, is_via, or_empty, read_via, via_of}
+use Rattle.sip_via.proofs.Common.{◌≡◌, ℕ, true, false, List, [], ◌∷◌, ◌++◌, length, map, drop, reverse, Option, Some, Result, Ok, Err, refl, sym, ap, subst, ◌∙◌, append_assoc, arith, inl, inr, codes, AllByRecursion, flat_map, list_all}
+use Rattle.sip_via.proofs.Common.{cases_Bool, cond-false, cond-true, drop_at, Quotes, Plain, is_space, trim, trim_end, trim_start, behind, pieces_outside_behind, cut_outside, pieces_outside-cut, cut_outside_again, trim_end-whole, first_of}
+use Rattle.sip_via.proofs.Common.{same_name, begins_with_space, HeaderText, MessageText, Hop, ViaFault, BadVia, line, replaced, IsSource, first_via_line, marked_line, marked_value, with_via_line, values_in, IsSpace, IsVia, IsViaParam}
+use Rattle.sip_via.proofs.Common.{ViaText, branch_of, is_via, or_empty, read_via, via_of}
+use Rattle.std.specs.Prelude.{IsOk}
+use Rattle.sip_text.specs.Name.{values_of}
+use Rattle.sip_via.specs.Received.{marked, marked_with}
+use Rattle.sip_via.specs.TopVia.{first_or_empty, top_value, via_lines, via_values}
 use Rattle.sip_via.proofs.Marked.{BeginsPlain, trim_end-back, via-begins}
-use Rattle.sip_via.proofs.MarkedVia.{IsFront, core, core-calm, end-trims, marked-via, spelled, spelling-split}
-use Rattle.sip_via.proofs.ViaOnly.{IsBare, IsCalm, Starts, all_joined, bare_trim, calm_all, calm_append, calm_byte, calm_empty, calm_join, comma, neither, on_some, param_calm, space_calm, via_again}
+use Rattle.sip_via.proofs.MarkedVia.{IsFront, core, core-unsplit, end-trims, marked-via, spelled, spelling-split}
+use Rattle.sip_via.proofs.ViaOnly.{IsBare, IsUnsplit, Starts, all_joined, bare_trim, unsplit_all, unsplit_append, unsplit_byte, unsplit_empty, unsplit_join, comma, neither, on_some, param_unsplit, space_unsplit, via_again}
 use Rattle.sip_via.proofs.laws.OwnVia.{IsEnd}
 use Rattle.sip_via.proofs.laws.Replaced.{values-replaced}
 
@@ -50,18 +33,18 @@ top-is m = top-line (via_lines m)
 
 -- ---- a Via value holds no comma outside quotes
 
-params-calm : (params : List (List ℕ)) → AllByRecursion IsViaParam params → IsCalm 44 Plain (spelled params)
-params-calm [] all = calm_empty 44
-params-calm (p ∷ ps) all = calm_byte 44 59 (p ++ spelled ps) refl refl (calm_join 44 Plain p (spelled ps) (param_calm 44 comma p all.0) (params-calm ps all.1))
+params-unsplit : (params : List (List ℕ)) → AllByRecursion IsViaParam params → IsUnsplit 44 Plain (spelled params)
+params-unsplit [] all = unsplit_empty 44
+params-unsplit (p ∷ ps) all = unsplit_byte 44 59 (p ++ spelled ps) refl refl (unsplit_join 44 Plain p (spelled ps) (param_unsplit 44 comma p all.0) (params-unsplit ps all.1))
 
-via-calm : (text : List ℕ) (via : ViaText) → IsVia text via → IsCalm 44 Plain text
-via-calm text via h =
+via-unsplit : (text : List ℕ) (via : ViaText) → IsVia text via → IsUnsplit 44 Plain text
+via-unsplit text via h =
     let g = h.gaps in
     let f : IsFront g via = record { spaces = h.spaces; transport = h.transport; host = h.host; port = h.port } in
     let front = core g via ++ g.before_params in
     let split : text ≡ front ++ spelled via.params = h.spelled ∙ spelling-split g via via.params ∙ sym (append_assoc (core g via) g.before_params (spelled via.params)) in
-    subst (IsCalm 44 Plain) (sym split)
-    (calm_append 44 comma front (all_joined neither (core g via) g.before_params (core-calm g via f) (space_calm g.before_params h.spaces.before_params)) (spelled via.params) (params-calm via.params h.params))
+    subst (IsUnsplit 44 Plain) (sym split)
+    (unsplit_append 44 comma front (all_joined neither (core g via) g.before_params (core-unsplit g via f) (space_unsplit g.before_params h.spaces.before_params)) (spelled via.params) (params-unsplit via.params h.params))
 
 -- ---- a value that is read
 
@@ -105,8 +88,8 @@ values-marked source (top, others) is h =
     let space = drop (length (trim_end top)) top in
     let spaces = space-behind top in
     let m = marked-via source (trim top) is h in
-    let calm = calm_join 44 Plain value space (via-calm value m.new m.is) (calm_all 44 comma space (space_calm space spaces)) in
-    let cuts : cut_line (value ++ (space ++ behind 44 others)) ≡ (value ++ space, others) = ap cut_line (sym (append_assoc value space (behind 44 others))) ∙ cut_outside_again Quotes 44 Plain (value ++ space) others calm.lacks (on_some others _ calm.ends) in
+    let unsplit = unsplit_join 44 Plain value space (via-unsplit value m.new m.is) (unsplit_all 44 comma space (space_unsplit space spaces)) in
+    let cuts : cut_line (value ++ (space ++ behind 44 others)) ≡ (value ++ space, others) = ap cut_line (sym (append_assoc value space (behind 44 others))) ∙ cut_outside_again Quotes 44 Plain (value ++ space) others unsplit.lacks (on_some others _ unsplit.ends) in
     ap (λ (ps : List (List ℕ)). map trim ps) (pieces_outside-cut Quotes 44 (value ++ (space ++ behind 44 others)) ∙ ap of_cut cuts)
     ∙ ap (λ (v : List ℕ). v ∷ map trim (pieces_outside_behind Quotes 44 others)) (bare_trim [] value space refl spaces (via-bare value m.new m.is))
 

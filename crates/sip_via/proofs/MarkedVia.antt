@@ -1,35 +1,16 @@
 -- A Via value that was marked is one, and names the same host, port and branch.
-use Rattle.std.proofs.Common.{◌≡◌, ◌≢◌, ℕ, ◌<◌, ◌≤◌, ◌^◌, Bool, true, false, not, cond, eqb, List, [], ◌∷◌, ◌++◌, length, drop, reverse, Option, Some, None, refl, sym, ap, subst, ◌∙◌, append_assoc, arith, inl, inr}
-use Rattle.std.specs.Prelude.{◌&&◌, IfSome, codes, is_none, nat_le, option_map, slice_index}
-use Rattle.std.specs.Char.{is_ascii_digit}
-use Rattle.std.specs.Fmt.{decimal}
-use Rattle.std.specs.List.{AllByRecursion, flat_map, list_all}
-use Rattle.std.specs.Str.{bytes_eq, str_to_ascii_lowercase}
-use Rattle.std.proofs.lemmas.Bool.{agree_below_at, and_from, and_parts, cases_Bool, cond-false, cond-true, eqb-true, false_from_ne_true, false≢true, leb-true}
-use Rattle.std.proofs.lemmas.Fmt.{decimal_nonempty, digits_decimal}
+use Rattle.sip_via.proofs.Common.{◌≡◌, ◌≢◌, ℕ, ◌<◌, ◌≤◌, ◌^◌, Bool, true, false, not, cond, eqb, List, [], ◌∷◌, ◌++◌, length, drop, reverse, Option, Some, None, refl, sym, ap, subst, ◌∙◌, append_assoc, arith, inl, inr, ◌&&◌, IfSome, codes}
+use Rattle.sip_via.proofs.Common.{is_none, nat_le, option_map, slice_index, is_ascii_digit, decimal, AllByRecursion, flat_map, list_all, bytes_eq, str_to_ascii_lowercase, agree_below_at, and_from, and_parts, cases_Bool, cond-false}
+use Rattle.sip_via.proofs.Common.{cond-true, eqb-true, false_from_ne_true, false≢true, leb-true, decimal_nonempty, digits_decimal, append-nil, drop_at, reverse-append, reverse-reverse, bytes_eq-Decides, Quotes, Plain, is_space, is_token}
+use Rattle.sip_via.proofs.Common.{is_token_byte, trim, trim_end, trim_start, cut, is, Lacks, cut_outside, cut_again, cut_outside_again, joined, joined-behind, token_bytes, trim_end-reverse, trim_start-none, trim_start-spaces, own}
+use Rattle.sip_via.proofs.Common.{begins_with_space, Hop, IsHost, IsPort, is_address_byte, is_host_byte, IsAddress, address_text, dotted, IsSource, asks_port, filled, gets_received, marked_param, marked_parts, marked_value, received_text}
+use Rattle.sip_via.proofs.Common.{AreParamGaps, AreViaGaps, IsSpace, IsValue, IsVia, IsViaParam, ParamGaps, ViaGaps, param_spelling, param_text, spaced, spelling, tail_spelling, ViaText, first_named, are_parts, is_named, is_value_byte}
+use Rattle.sip_via.proofs.Common.{is_via, name_of, parts_of, value_of, via_of}
 use Rattle.std.proofs.lemmas.Grind.{flat_map-append}
-use Rattle.std.proofs.lemmas.List.{append-nil, drop_at, reverse-append, reverse-reverse}
-use Rattle.std.proofs.lemmas.Slice.Eq.{bytes_eq-Decides}
-use Rattle.sip_lex.specs.declared.sheltered.Shelter.TheVariants.{Quotes}
-use Rattle.sip_lex.specs.declared.sheltered.Place.TheVariants.{Plain}
-use Rattle.sip_lex.specs.Bytes.{is_space, is_token, is_token_byte, trim, trim_end, trim_start}
-use Rattle.sip_lex.specs.Cut.{cut, is, Lacks}
-use Rattle.sip_lex.specs.Sheltered.{cut_outside}
-use Rattle.sip_lex.proofs.Cuts.{cut_again}
-use Rattle.sip_lex.proofs.Shelters.{cut_outside_again}
-use Rattle.sip_lex.proofs.Splits.{joined, joined-behind}
-use Rattle.sip_lex.proofs.Trims.{token_bytes, trim_end-reverse, trim_start-none, trim_start-spaces}
-use Rattle.sip_lex.proofs.laws.Numbers.{own}
-use Rattle.sip_text.specs.Reading.{begins_with_space}
-use Rattle.sip_uri.specs.declared.hop.Hop.{Hop}
-use Rattle.sip_uri.specs.Host.{IsHost, IsPort, is_address_byte, is_host_byte}
-use Rattle.sip_via.specs.Address.{IsAddress, address_text, dotted}
-use Rattle.sip_via.specs.Received.{IsSource, asks_port, filled, gets_received, marked_param, marked_parts, marked_value, received_text}
-use Rattle.sip_via.specs.ViaGrammar.{AreParamGaps, AreViaGaps, IsSpace, IsValue, IsVia, IsViaParam, ParamGaps, ViaGaps, param_spelling, param_text, spaced, spelling, tail_spelling}
-use Rattle.sip_via.specs.ViaParts.{ViaText, first_named, are_parts, is_named, is_trimmed, is_value_byte, is_via, name_of, parts_of, value_of, via_of}
+use Rattle.sip_via.specs.ViaParts.{is_trimmed}
 use Rattle.sip_via.proofs.Marked.{sip-begins, trim_end-back}
 use Rattle.sip_via.proofs.ViaFound.{via_found}
-use Rattle.sip_via.proofs.ViaOnly.{IsBare, Starts, all_joined, all_reverse, bare_trim, calm_all, class_calm, digits_all, host_bare, neither, on_some, param_front, param_joins, params_again, port_bare, semicolon, sip_lacks, space_calm, tail_of, token_bare, value_bare, value_in, value_trims, with_params}
+use Rattle.sip_via.proofs.ViaOnly.{IsBare, Starts, all_joined, all_reverse, bare_trim, unsplit_all, class_unsplit, digits_all, host_bare, neither, on_some, param_front, param_joins, params_again, port_bare, semicolon, sip_lacks, space_unsplit, tail_of, token_bare, value_bare, value_in, value_trims, with_params}
 use Rattle.sip_via.proofs.laws.OwnVia.{IsEnd, end-behind}
 use Rattle.sip_via.proofs.laws.Tokens.{all_pass}
 
@@ -365,10 +346,10 @@ spaced-split mark before after inner kept rest e = pushed before (mark ∷ (afte
 spaced-end : (mark : ℕ) (before after inner : List ℕ) → IsEnd inner → IsEnd (spaced mark before after inner)
 spaced-end mark before after inner h = end-behind before (mark ∷ (after ++ inner)) (end-behind (mark ∷ after) inner h)
 
-spaced-calm : (mark : ℕ) (before after inner : List ℕ) → neither mark ≡ true → IsSpace before → IsSpace after → list_all neither inner ≡ true → list_all neither (spaced mark before after inner) ≡ true
-spaced-calm mark before after inner plain front back h =
-    all_joined neither before (mark ∷ (after ++ inner)) (space_calm before front)
-    (and_from (neither mark) (list_all neither (after ++ inner)) plain (all_joined neither after inner (space_calm after back) h))
+spaced-unsplit : (mark : ℕ) (before after inner : List ℕ) → neither mark ≡ true → IsSpace before → IsSpace after → list_all neither inner ≡ true → list_all neither (spaced mark before after inner) ≡ true
+spaced-unsplit mark before after inner plain front back h =
+    all_joined neither before (mark ∷ (after ++ inner)) (space_unsplit before front)
+    (and_from (neither mark) (list_all neither (after ++ inner)) plain (all_joined neither after inner (space_unsplit after back) h))
 
 abbrev sender : ViaGaps → ViaText → List ℕ → List ℕ
 sender g via tail = g.before_host ++ (via.host ++ tail)
@@ -412,33 +393,33 @@ pub record IsFront (g : ViaGaps) (via : ViaText) : Type 0 where
   pub host : IsHost via.host
   pub port : IfSome via.port IsPort
 
-lacks-calm : (bs : List ℕ) → Lacks 59 bs → Lacks 44 bs → Lacks 34 bs → list_all neither bs ≡ true
-lacks-calm [] h k l = refl
-lacks-calm (b ∷ bs) h k l =
+lacks-unsplit : (bs : List ℕ) → Lacks 59 bs → Lacks 44 bs → Lacks 34 bs → list_all neither bs ≡ true
+lacks-unsplit [] h k l = refl
+lacks-unsplit (b ∷ bs) h k l =
     let semi : eqb b 59 ≡ false = false_from_ne_true (eqb b 59) (λ e. h.0 (eqb-true b 59 e)) in
     let between : eqb b 44 ≡ false = false_from_ne_true (eqb b 44) (λ e. k.0 (eqb-true b 44 e)) in
     let quote : eqb b 34 ≡ false = false_from_ne_true (eqb b 34) (λ e. l.0 (eqb-true b 34 e)) in
     and_from (neither b) (list_all neither bs)
     (ap (λ t. not t && (not (eqb b 44) && not (eqb b 34))) semi ∙ ap (λ t. not t && not (eqb b 34)) between ∙ ap not quote)
-    (lacks-calm bs h.1 k.1 l.1)
+    (lacks-unsplit bs h.1 k.1 l.1)
 
-host-calm : (host : List ℕ) → IsHost host → list_all neither host ≡ true
-host-calm host (inl name) = class_calm is_host_byte refl refl refl host name.1
-host-calm host (inr r) = ap (list_all neither) r.1 ∙ all_joined neither r.0 (93 ∷ []) (class_calm is_address_byte refl refl refl r.0 r.3) refl
+host-unsplit : (host : List ℕ) → IsHost host → list_all neither host ≡ true
+host-unsplit host (inl name) = class_unsplit is_host_byte refl refl refl host name.1
+host-unsplit host (inr r) = ap (list_all neither) r.1 ∙ all_joined neither r.0 (93 ∷ []) (class_unsplit is_address_byte refl refl refl r.0 r.3) refl
 
-port-calm : (gaps : List ℕ × List ℕ) (port : Option (List ℕ)) → IsSpace gaps.0 × IsSpace gaps.1 → IfSome port IsPort → list_all neither (port_spelling gaps port) ≡ true
-port-calm gaps None spaces h = refl
-port-calm gaps (Some port) spaces h = spaced-calm 58 gaps.0 gaps.1 port refl spaces.0 spaces.1 (class_calm is_ascii_digit refl refl refl port (digits_all port h))
+port-unsplit : (gaps : List ℕ × List ℕ) (port : Option (List ℕ)) → IsSpace gaps.0 × IsSpace gaps.1 → IfSome port IsPort → list_all neither (port_spelling gaps port) ≡ true
+port-unsplit gaps None spaces h = refl
+port-unsplit gaps (Some port) spaces h = spaced-unsplit 58 gaps.0 gaps.1 port refl spaces.0 spaces.1 (class_unsplit is_ascii_digit refl refl refl port (digits_all port h))
 
-pub core-calm : (g : ViaGaps) (via : ViaText) → IsFront g via → list_all neither (core g via) ≡ true
-core-calm g via f =
+pub core-unsplit : (g : ViaGaps) (via : ViaText) → IsFront g via → list_all neither (core g via) ≡ true
+core-unsplit g via f =
     let s = f.spaces in
     let port = port_spelling g.before_port via.port in
-    let name = lacks-calm g.name (sip_lacks 59 g.name refl refl s.sip) (sip_lacks 44 g.name refl refl s.sip) (sip_lacks 34 g.name refl refl s.sip) in
-    let sent = all_joined neither g.before_host (via.host ++ port) (space_calm g.before_host s.before_host.1) (all_joined neither via.host port (host-calm via.host f.host) (port-calm g.before_port via.port s.before_port f.port)) in
-    let transport = all_joined neither via.transport (sender g via port) (class_calm is_token_byte refl refl refl via.transport (token_bytes via.transport f.transport)) sent in
-    let second = spaced-calm 47 g.before_transport.0 g.before_transport.1 (via.transport ++ sender g via port) refl s.before_transport.0 s.before_transport.1 transport in
-    let first = spaced-calm 47 g.before_version.0 g.before_version.1 (codes "2.0" ++ spaced 47 g.before_transport.0 g.before_transport.1 (via.transport ++ sender g via port)) refl s.before_version.0 s.before_version.1 second in
+    let name = lacks-unsplit g.name (sip_lacks 59 g.name refl refl s.sip) (sip_lacks 44 g.name refl refl s.sip) (sip_lacks 34 g.name refl refl s.sip) in
+    let sent = all_joined neither g.before_host (via.host ++ port) (space_unsplit g.before_host s.before_host.1) (all_joined neither via.host port (host-unsplit via.host f.host) (port-unsplit g.before_port via.port s.before_port f.port)) in
+    let transport = all_joined neither via.transport (sender g via port) (class_unsplit is_token_byte refl refl refl via.transport (token_bytes via.transport f.transport)) sent in
+    let second = spaced-unsplit 47 g.before_transport.0 g.before_transport.1 (via.transport ++ sender g via port) refl s.before_transport.0 s.before_transport.1 transport in
+    let first = spaced-unsplit 47 g.before_version.0 g.before_version.1 (codes "2.0" ++ spaced 47 g.before_transport.0 g.before_transport.1 (via.transport ++ sender g via port)) refl s.before_version.0 s.before_version.1 second in
     all_joined neither g.name (behind_name g via port) name first
 
 sent-end : (host : List ℕ) (gaps : List ℕ × List ℕ) (port : Option (List ℕ)) → IsHost host → IfSome port IsPort → IsEnd (host ++ port_spelling gaps port)
@@ -533,8 +514,8 @@ marked-via source value is h =
     let f : IsFront g via = record { spaces = found.spaces; transport = found.transport; host = found.host; port = found.port } in
     let front = core g via ++ g.before_params in
     let split : value ≡ front ++ spelled via.params = found.spelled ∙ spelling-split g via via.params ∙ sym (append_assoc (core g via) g.before_params (spelled via.params)) in
-    let calm = calm_all 59 semicolon front (all_joined neither (core g via) g.before_params (core-calm g via f) (space_calm g.before_params found.spaces.before_params)) in
-    let cuts : cut_outside Quotes 59 Plain value ≡ (front, joined 59 via.params) = ap (cut_outside Quotes 59 Plain) (split ∙ ap (λ (x : List ℕ). front ++ x) (joined-behind 59 via.params)) ∙ cut_outside_again Quotes 59 Plain front (joined 59 via.params) calm.lacks (on_some (joined 59 via.params) _ calm.ends) in
+    let unsplit = unsplit_all 59 semicolon front (all_joined neither (core g via) g.before_params (core-unsplit g via f) (space_unsplit g.before_params found.spaces.before_params)) in
+    let cuts : cut_outside Quotes 59 Plain value ≡ (front, joined 59 via.params) = ap (cut_outside Quotes 59 Plain) (split ∙ ap (λ (x : List ℕ). front ++ x) (joined-behind 59 via.params)) ∙ cut_outside_again Quotes 59 Plain front (joined 59 via.params) unsplit.lacks (on_some (joined 59 via.params) _ unsplit.ends) in
     let news = new_params source via.host via.params in
     let end = finished g via news f (new-good source via.host via.params is found.params) in
     let text : marked_value source value ≡ end.text =

@@ -1,11 +1,8 @@
 -- A text that trimming makes no shorter has no space at its ends.
-use Rattle.std.proofs.Common.{◌≡◌, ℕ, ◌+◌, eqb, List, [], ◌∷◌, ◌++◌, length, refl, sym, ap, ◌∙◌, arith, inl, inr, append-nil}
-use Rattle.std.specs.Str.{bytes_eq}
-use Rattle.std.proofs.lemmas.Bool.{cases_Bool, eqb-true, eqb-false, false_from_ne_true}
-use Rattle.std.proofs.lemmas.List.{length-append}
-use Rattle.std.proofs.lemmas.Slice.Eq.{bytes_eq-Decides}
-use Rattle.sip_lex.specs.Bytes.{trim, trim_start}
-use Rattle.sip_lex.proofs.Trims.{trim_start-whole, trim_end-whole}
+use Rattle.sip_via.proofs.Common.{◌≡◌, ℕ, ◌+◌, eqb, List, [], ◌∷◌, ◌++◌, length, refl, sym, ap, ◌∙◌, arith, inl, inr, bytes_eq, cases_Bool, eqb-true, false_from_ne_true, length-append, bytes_eq-Decides, trim, trim_start, trim_start-whole}
+use Rattle.sip_via.proofs.Common.{trim_end-whole}
+use Rattle.std.proofs.Common.{append-nil}
+use Rattle.std.proofs.lemmas.Bool.{eqb-false}
 
 empty : (xs : List ℕ) → length xs ≡ 0 → xs ≡ []
 empty [] e = refl

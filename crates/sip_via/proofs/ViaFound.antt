@@ -1,26 +1,14 @@
 -- What is read is a Via value of these parts.
-use Rattle.std.proofs.Common.{◌≡◌, ℕ, true, false, cond, eqb, ltb, List, [], ◌∷◌, ◌++◌, length, map, take, drop, Option, Some, None, refl, sym, ap, subst, ◌∙◌, append_assoc, inl, inr}
-use Rattle.std.specs.Prelude.{IfSome, ◌&&◌, codes, option_map}
-use Rattle.std.specs.Char.{to_ascii_lowercase}
-use Rattle.std.specs.List.{list_all, AllByRecursion, flat_map}
-use Rattle.std.specs.Str.{bytes_eq, str_to_ascii_lowercase}
-use Rattle.std.proofs.lemmas.Bool.{and_parts, cond_both, eqb-true, false≢true, or_cases}
-use Rattle.std.proofs.lemmas.List.{append-nil, take-append-drop}
-use Rattle.std.proofs.lemmas.Slice.Eq.{bytes_eq-Decides}
-use Rattle.sip_lex.specs.declared.sheltered.Shelter.TheVariants.{Quotes}
-use Rattle.sip_lex.specs.declared.sheltered.Place.TheVariants.{Plain}
-use Rattle.sip_lex.specs.Bytes.{is_space, is_token, trim, trim_end, trim_start}
-use Rattle.sip_lex.specs.Cut.{behind, cut, is}
-use Rattle.sip_lex.specs.Quoted.{quoted_at}
-use Rattle.sip_lex.proofs.Cuts.{cut_joins}
-use Rattle.sip_lex.proofs.OutsideSplits.{pieces_from_join}
-use Rattle.sip_lex.proofs.Quotes.{quoted_at-takes}
-use Rattle.sip_lex.proofs.Trims.{trim_end-whole, trim_start-whole}
-use Rattle.sip_uri.specs.Host.{IsPort, host_len, is_host}
-use Rattle.sip_uri.proofs.Found.{port_is}
-use Rattle.sip_uri.proofs.Hosts.{full, is_host-IsHost}
-use Rattle.sip_via.specs.ViaGrammar.{IsSpace, IsValue, IsVia, IsViaParam, param_text, spaced, tail_spelling}
-use Rattle.sip_via.specs.ViaParts.{Parts, ViaText, are_parts, is_param, is_plain_value, is_port_if_any, is_trimmed, is_value, is_value_byte, is_value_if_any, is_whole, name_of, or_empty, params_of, parts_of, port_and_params, value_of, via_of}
+use Rattle.sip_via.proofs.Common.{◌≡◌, ℕ, true, false, cond, eqb, ltb, List, [], ◌∷◌, ◌++◌, length, map, take, drop, Option, Some, None, refl, sym, ap, subst, ◌∙◌, append_assoc, inl, inr, IfSome, ◌&&◌, codes, option_map, to_ascii_lowercase}
+use Rattle.sip_via.proofs.Common.{list_all, AllByRecursion, flat_map, bytes_eq, str_to_ascii_lowercase, and_parts, cond_both, eqb-true, false≢true, or_cases, append-nil, take-append-drop, bytes_eq-Decides, Quotes, Plain, is_space, is_token}
+use Rattle.sip_via.proofs.Common.{trim, trim_end, trim_start, behind, cut, is, quoted_at, cut_joins, trim_end-whole, trim_start-whole, IsPort, host_len, IsSpace, IsValue, IsVia, IsViaParam, param_text, spaced, tail_spelling, Parts, ViaText}
+use Rattle.sip_via.proofs.Common.{is_param, is_value_byte, is_value_if_any, is_whole, name_of, or_empty, params_of, port_and_params, value_of, via_of}
+use Rattle.sip_lex.proofs.laws.OutsideSplits.{pieces_from_join}
+use Rattle.sip_lex.proofs.laws.Quotes.{quoted_at-takes}
+use Rattle.sip_uri.specs.Host.{is_host}
+use Rattle.sip_uri.proofs.laws.Found.{port_if_any}
+use Rattle.sip_uri.proofs.laws.Hosts.{full, is_host-IsHost}
+use Rattle.sip_via.specs.ViaParts.{are_parts, is_plain_value, is_port_if_any, is_trimmed, is_value, parts_of}
 
 abbrev Cut : Type 0
 Cut = List ℕ × Option (List ℕ)
@@ -196,10 +184,6 @@ are_good p h =
     let d = and_parts _ (is_token p.transport) c.0 in
     let e = and_parts (bytes_eq (str_to_ascii_lowercase p.protocol) (codes "sip")) (bytes_eq p.version (codes "2.0")) d.0 in
     record { protocol = e.0; version = e.1; transport = d.1; host = c.1; port = b.1; params = a.1 }
-
-port_if_any : (port : Option (List ℕ)) → is_port_if_any port ≡ true → IfSome port IsPort
-port_if_any None h = tt
-port_if_any (Some digits) h = port_is digits h
 
 -- ---- the whole
 

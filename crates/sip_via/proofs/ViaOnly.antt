@@ -1,34 +1,23 @@
 -- What is a Via value is read as it.
-use Rattle.std.proofs.Common.{◌≡◌, ◌≢◌, ℕ, ◌+◌, Bool, true, false, not, cond, eqb, ltb, List, [], ◌∷◌, ◌++◌, length, map, take, drop, reverse, Option, Some, None, Result, Ok, Err, refl, sym, ap, subst, ◌∙◌, append_assoc, inl, inr, arith}
-use Rattle.std.specs.Prelude.{IfSome, OnSome, ◌||◌, ◌&&◌, codes, option_map}
-use Rattle.std.specs.Char.{is_ascii_digit, to_ascii_lowercase}
-use Rattle.std.specs.List.{list_all, AllByRecursion, flat_map}
-use Rattle.std.specs.Str.{bytes_eq, str_to_ascii_lowercase}
-use Rattle.std.proofs.lemmas.Bool.{and_from, and_parts, cond-true, cond-false, eqb-true, false_from_ne_true, false≢true, le-leb, lt-ltb}
-use Rattle.std.proofs.lemmas.List.{append-nil, drop_at, length-append, reverse-append, reverse-reverse, take_at}
-use Rattle.std.proofs.lemmas.List.Folds.{list_all-append}
-use Rattle.std.proofs.lemmas.Slice.Eq.{bytes_eq-Decides}
-use Rattle.sip_lex.specs.declared.sheltered.Shelter.TheVariants.{Quotes}
-use Rattle.sip_lex.specs.declared.sheltered.Place.{Place}
-use Rattle.sip_lex.specs.declared.sheltered.Place.TheVariants.{Angled, Escaped, Plain, Quoted}
-use Rattle.sip_lex.specs.Bytes.{is_space, is_token, is_token_byte, trim, trim_end, trim_start}
-use Rattle.sip_lex.specs.Cut.{behind, cut, is, Lacks}
-use Rattle.sip_lex.specs.Number.{number}
-use Rattle.sip_lex.specs.Outside.{pieces_outside_behind}
-use Rattle.sip_lex.specs.Quoted.{IsInside, quoted_at}
-use Rattle.sip_lex.specs.Sheltered.{LacksOutside, cut_outside, end_place, place_after}
-use Rattle.sip_lex.proofs.Cuts.{cut_again, Lacks-append, Lacks-pass}
-use Rattle.sip_lex.proofs.OutsideSplits.{pieces_outside-cut}
-use Rattle.sip_lex.proofs.Quotes.{quoted_at-again}
-use Rattle.sip_lex.proofs.Shelters.{cut_outside_again}
-use Rattle.sip_lex.proofs.Splits.{joined, joined-behind}
-use Rattle.sip_lex.proofs.Trims.{token_bytes, trim_end-passes, trim_end-reverse, trim_start-none, trim_start-spaces}
-use Rattle.sip_uri.specs.Host.{BeginsWithEnd, IsHost, IsPort, ends_host, host_len, is_address_byte, is_host_byte}
-use Rattle.sip_uri.proofs.Hosts.{IsHost-is_host, full-ltb, other_than}
-use Rattle.sip_via.specs.declared.own.ViaFault.{ViaFault}
-use Rattle.sip_via.specs.declared.own.ViaFault.TheVariants.{BadVia}
-use Rattle.sip_via.specs.ViaGrammar.{AreParamGaps, AreViaGaps, IsSpace, IsValue, IsVia, IsViaParam, ParamGaps, ViaGaps, param_spelling, param_text, params_spelling, spaced, spelling, tail_spelling, value_spelling}
-use Rattle.sip_via.specs.ViaParts.{Parts, ViaText, are_parts, is_param, is_port_if_any, is_trimmed, is_value, is_value_byte, is_value_if_any, is_via, is_whole, or_empty, params_of, parts_of, port_and_params, read_via, via_of, via_of_parts}
+use Rattle.sip_via.proofs.Common.{◌≡◌, ◌≢◌, ℕ, ◌+◌, Bool, true, false, not, cond, eqb, ltb, List, [], ◌∷◌, ◌++◌, length, map, take, drop, reverse, Option, Some, None, Result, Ok, Err, refl, sym, ap, subst, ◌∙◌, append_assoc, inl, inr}
+use Rattle.sip_via.proofs.Common.{arith, IfSome, ◌||◌, ◌&&◌, codes, option_map, is_ascii_digit, to_ascii_lowercase, list_all, AllByRecursion, flat_map, bytes_eq, str_to_ascii_lowercase, and_from, and_parts, cond-true, cond-false, eqb-true}
+use Rattle.sip_via.proofs.Common.{false_from_ne_true, false≢true, append-nil, drop_at, length-append, reverse-append, reverse-reverse, take_at, list_all-append, bytes_eq-Decides, Quotes, Place, Plain, is_space, is_token, is_token_byte}
+use Rattle.sip_via.proofs.Common.{trim, trim_end, trim_start, behind, cut, is, Lacks, pieces_outside_behind, quoted_at, cut_outside, place_after, cut_again, pieces_outside-cut, cut_outside_again, joined, joined-behind, token_bytes}
+use Rattle.sip_via.proofs.Common.{trim_end-reverse, trim_start-none, trim_start-spaces, IsHost, IsPort, host_len, is_address_byte, is_host_byte, other_than, ViaFault, BadVia, AreParamGaps, AreViaGaps, IsSpace, IsValue, IsVia, IsViaParam}
+use Rattle.sip_via.proofs.Common.{ParamGaps, ViaGaps, param_spelling, param_text, spaced, spelling, tail_spelling, Parts, ViaText, is_param, is_value_byte, is_value_if_any, is_via, is_whole, or_empty, params_of, port_and_params, read_via}
+use Rattle.sip_via.proofs.Common.{via_of}
+use Rattle.std.specs.Prelude.{OnSome}
+use Rattle.sip_lex.specs.declared.sheltered.Place.TheVariants.{Angled, Escaped, Quoted}
+use Rattle.sip_lex.specs.Quoted.{IsInside}
+use Rattle.sip_lex.specs.Sheltered.{LacksOutside, end_place}
+use Rattle.sip_lex.proofs.laws.Cuts.{Lacks-append, Lacks-pass}
+use Rattle.sip_lex.proofs.laws.Quotes.{quoted_at-again}
+use Rattle.sip_lex.proofs.laws.Trims.{trim_end-passes}
+use Rattle.sip_uri.specs.Host.{BeginsWithEnd, ends_host}
+use Rattle.sip_uri.proofs.laws.Hosts.{IsHost-is_host, full-ltb}
+use Rattle.sip_uri.proofs.laws.Only.{port_good}
+use Rattle.sip_via.specs.ViaGrammar.{params_spelling, value_spelling}
+use Rattle.sip_via.specs.ViaParts.{are_parts, is_trimmed, is_value, parts_of, via_of_parts}
 use Rattle.sip_via.proofs.laws.Tokens.{all_pass, no_space}
 
 abbrev Cut : Type 0
@@ -206,7 +195,7 @@ params_good (p ∷ ps) h = and_from (is_param p) (list_all is_param ps) (param_g
 
 -- ---- neither `;` nor `,` stands in a parameter but in quotes, and its quotes are closed
 
-pub record IsCalm (mark : ℕ) (place : Place) (bs : List ℕ) : Type 0 where
+pub record IsUnsplit (mark : ℕ) (place : Place) (bs : List ℕ) : Type 0 where
   pub lacks : LacksOutside Quotes mark place bs
   pub ends : end_place Quotes place bs ≡ Plain
 
@@ -243,52 +232,52 @@ plain_after : (b : ℕ) → eqb b 34 ≡ false → place_after Quotes Plain b �
 plain_after b e = cond-false (eqb b 34) Quoted (cond (eqb b 60 && false) Angled Plain) e ∙ no_angle (eqb b 60)
 
 -- a byte before such a text
-pub calm_byte : (mark b : ℕ) (ys : List ℕ) → eqb b mark ≡ false → eqb b 34 ≡ false → IsCalm mark Plain ys → IsCalm mark Plain (b ∷ ys)
-calm_byte mark b ys other quote k =
+pub unsplit_byte : (mark b : ℕ) (ys : List ℕ) → eqb b mark ≡ false → eqb b 34 ≡ false → IsUnsplit mark Plain ys → IsUnsplit mark Plain (b ∷ ys)
+unsplit_byte mark b ys other quote k =
     let stays : place_after Quotes Plain b ≡ Plain = plain_after b quote in
     record {
       lacks = (other, subst (λ (p : Place). LacksOutside Quotes mark p ys) (sym stays) k.lacks);
       ends = ap (λ (p : Place). end_place Quotes p ys) stays ∙ k.ends;
     }
 
-pub calm_append : (mark : ℕ) → IsMark mark → (xs : List ℕ) → list_all neither xs ≡ true → (ys : List ℕ) → IsCalm mark Plain ys → IsCalm mark Plain (xs ++ ys)
-calm_append mark m [] h ys k = k
-calm_append mark m (b ∷ xs) h ys k =
+pub unsplit_append : (mark : ℕ) → IsMark mark → (xs : List ℕ) → list_all neither xs ≡ true → (ys : List ℕ) → IsUnsplit mark Plain ys → IsUnsplit mark Plain (xs ++ ys)
+unsplit_append mark m [] h ys k = k
+unsplit_append mark m (b ∷ xs) h ys k =
     let each = and_parts (neither b) (list_all neither xs) h in
-    calm_byte mark b (xs ++ ys) (m.apart b each.0) (neither_parts b each.0).2 (calm_append mark m xs each.1 ys k)
+    unsplit_byte mark b (xs ++ ys) (m.apart b each.0) (neither_parts b each.0).2 (unsplit_append mark m xs each.1 ys k)
 
-pub calm_empty : (mark : ℕ) → IsCalm mark Plain []
-calm_empty mark = record { lacks = tt; ends = refl }
+pub unsplit_empty : (mark : ℕ) → IsUnsplit mark Plain []
+unsplit_empty mark = record { lacks = tt; ends = refl }
 
-pub calm_all : (mark : ℕ) → IsMark mark → (xs : List ℕ) → list_all neither xs ≡ true → IsCalm mark Plain xs
-calm_all mark m xs h = subst (IsCalm mark Plain) (append-nil xs) (calm_append mark m xs h [] (calm_empty mark))
+pub unsplit_all : (mark : ℕ) → IsMark mark → (xs : List ℕ) → list_all neither xs ≡ true → IsUnsplit mark Plain xs
+unsplit_all mark m xs h = subst (IsUnsplit mark Plain) (append-nil xs) (unsplit_append mark m xs h [] (unsplit_empty mark))
 
 -- one such text behind another
-pub calm_join : (mark : ℕ) (place : Place) (xs ys : List ℕ) → IsCalm mark place xs → IsCalm mark Plain ys → IsCalm mark place (xs ++ ys)
-calm_join mark place [] ys h k = subst (λ (p : Place). IsCalm mark p ys) (sym h.ends) k
-calm_join mark place (b ∷ xs) ys h k =
-    let rest = calm_join mark (place_after Quotes place b) xs ys (record { lacks = h.lacks.1; ends = h.ends }) k in
+pub unsplit_join : (mark : ℕ) (place : Place) (xs ys : List ℕ) → IsUnsplit mark place xs → IsUnsplit mark Plain ys → IsUnsplit mark place (xs ++ ys)
+unsplit_join mark place [] ys h k = subst (λ (p : Place). IsUnsplit mark p ys) (sym h.ends) k
+unsplit_join mark place (b ∷ xs) ys h k =
+    let rest = unsplit_join mark (place_after Quotes place b) xs ys (record { lacks = h.lacks.1; ends = h.ends }) k in
     record { lacks = (h.lacks.0, rest.lacks); ends = rest.ends }
 
 class_neither : (p : ℕ → Bool) → p 59 ≡ false → p 44 ≡ false → p 34 ≡ false → (b : ℕ) → p b ≡ true → neither b ≡ true
 class_neither p semicolon comma quote b h = ap (λ t. not t && (not (eqb b 44) && not (eqb b 34))) (other_than p b 59 semicolon h) ∙ ap (λ t. not t && not (eqb b 34)) (other_than p b 44 comma h) ∙ ap not (other_than p b 34 quote h)
 
-pub class_calm : (p : ℕ → Bool) → p 59 ≡ false → p 44 ≡ false → p 34 ≡ false → (xs : List ℕ) → list_all p xs ≡ true → list_all neither xs ≡ true
-class_calm p semicolon comma quote xs h = all_pass p neither xs (class_neither p semicolon comma quote) h
+pub class_unsplit : (p : ℕ → Bool) → p 59 ≡ false → p 44 ≡ false → p 34 ≡ false → (xs : List ℕ) → list_all p xs ≡ true → list_all neither xs ≡ true
+class_unsplit p semicolon comma quote xs h = all_pass p neither xs (class_neither p semicolon comma quote) h
 
 -- inside quotes
 abbrev place_in : Bool → Place
 place_in true = Escaped
 place_in false = Quoted
 
-inside_calm : (mark : ℕ) (escaped : Bool) (inside ys : List ℕ) → IsInside escaped inside → IsCalm mark Plain ys → IsCalm mark (place_in escaped) (inside ++ (34 ∷ ys))
-inside_calm mark true [] ys h k = absurd (false≢true (sym h))
-inside_calm mark false [] ys h k = record { lacks = (refl, k.lacks); ends = k.ends }
-inside_calm mark true (b ∷ inside) ys h k =
-    let rest = inside_calm mark false inside ys h.1 k in
+inside_unsplit : (mark : ℕ) (escaped : Bool) (inside ys : List ℕ) → IsInside escaped inside → IsUnsplit mark Plain ys → IsUnsplit mark (place_in escaped) (inside ++ (34 ∷ ys))
+inside_unsplit mark true [] ys h k = absurd (false≢true (sym h))
+inside_unsplit mark false [] ys h k = record { lacks = (refl, k.lacks); ends = k.ends }
+inside_unsplit mark true (b ∷ inside) ys h k =
+    let rest = inside_unsplit mark false inside ys h.1 k in
     record { lacks = (refl, rest.lacks); ends = rest.ends }
-inside_calm mark false (b ∷ inside) ys h k =
-    let rest = inside_calm mark (eqb b 92) inside ys h.1 k in
+inside_unsplit mark false (b ∷ inside) ys h k =
+    let rest = inside_unsplit mark (eqb b 92) inside ys h.1 k in
     let later : place_after Quotes Quoted b ≡ place_in (eqb b 92) = after_quoted (eqb b 92) (eqb b 34) (and_true (eqb b 34) h.0) in
     record {
       lacks = (refl, subst (λ (p : Place). LacksOutside Quotes mark p (inside ++ (34 ∷ ys))) (sym later) rest.lacks);
@@ -304,31 +293,31 @@ inside_calm mark false (b ∷ inside) ys h k =
     after_quoted false true e = absurd (false≢true (sym e))
     after_quoted false false e = refl
 
-quoted_calm : (mark : ℕ) → IsMark mark → (inside ys : List ℕ) → IsInside false inside → IsCalm mark Plain ys → IsCalm mark Plain (34 ∷ (inside ++ (34 ∷ ys)))
-quoted_calm mark m inside ys h k = let rest = inside_calm mark false inside ys h k in record { lacks = (m.quote, rest.lacks); ends = rest.ends }
+quoted_unsplit : (mark : ℕ) → IsMark mark → (inside ys : List ℕ) → IsInside false inside → IsUnsplit mark Plain ys → IsUnsplit mark Plain (34 ∷ (inside ++ (34 ∷ ys)))
+quoted_unsplit mark m inside ys h k = let rest = inside_unsplit mark false inside ys h k in record { lacks = (m.quote, rest.lacks); ends = rest.ends }
 
-value_calm : (mark : ℕ) → IsMark mark → (value ys : List ℕ) → IsValue value → IsCalm mark Plain ys → IsCalm mark Plain (value ++ ys)
-value_calm mark m value ys (inl plain) k = calm_append mark m value (class_calm is_value_byte refl refl refl value plain.1) ys k
-value_calm mark m value ys (inr q) k =
-    subst (λ (x : List ℕ). IsCalm mark Plain (x ++ ys)) (sym q.1.0) (subst (λ (x : List ℕ). IsCalm mark Plain (34 ∷ x)) (sym (append_assoc q.0 (34 ∷ []) ys)) (quoted_calm mark m q.0 ys q.1.1 k))
+value_unsplit : (mark : ℕ) → IsMark mark → (value ys : List ℕ) → IsValue value → IsUnsplit mark Plain ys → IsUnsplit mark Plain (value ++ ys)
+value_unsplit mark m value ys (inl plain) k = unsplit_append mark m value (class_unsplit is_value_byte refl refl refl value plain.1) ys k
+value_unsplit mark m value ys (inr q) k =
+    subst (λ (x : List ℕ). IsUnsplit mark Plain (x ++ ys)) (sym q.1.0) (subst (λ (x : List ℕ). IsUnsplit mark Plain (34 ∷ x)) (sym (append_assoc q.0 (34 ∷ []) ys)) (quoted_unsplit mark m q.0 ys q.1.1 k))
 
-pub space_calm : (gap : List ℕ) → IsSpace gap → list_all neither gap ≡ true
-space_calm gap space = class_calm is_space refl refl refl gap space
+pub space_unsplit : (gap : List ℕ) → IsSpace gap → list_all neither gap ≡ true
+space_unsplit gap space = class_unsplit is_space refl refl refl gap space
 
-tail_calm : (mark : ℕ) → IsMark mark → (g : ParamGaps) (value : Option (List ℕ)) → AreParamGaps g → IfSome value IsValue → IsCalm mark Plain (value_spelling g value)
-tail_calm mark m g None spaces h = calm_all mark m g.behind_name (space_calm g.behind_name spaces.behind_name)
-tail_calm mark m g (Some value) spaces h =
-    calm_append mark m g.behind_name (space_calm g.behind_name spaces.behind_name) (61 ∷ (g.before_value ++ (value ++ g.behind_value)))
-    (calm_append mark m (61 ∷ []) refl (g.before_value ++ (value ++ g.behind_value))
-    (calm_append mark m g.before_value (space_calm g.before_value spaces.before_value) (value ++ g.behind_value)
-    (value_calm mark m value g.behind_value h (calm_all mark m g.behind_value (space_calm g.behind_value spaces.behind_value)))))
+tail_unsplit : (mark : ℕ) → IsMark mark → (g : ParamGaps) (value : Option (List ℕ)) → AreParamGaps g → IfSome value IsValue → IsUnsplit mark Plain (value_spelling g value)
+tail_unsplit mark m g None spaces h = unsplit_all mark m g.behind_name (space_unsplit g.behind_name spaces.behind_name)
+tail_unsplit mark m g (Some value) spaces h =
+    unsplit_append mark m g.behind_name (space_unsplit g.behind_name spaces.behind_name) (61 ∷ (g.before_value ++ (value ++ g.behind_value)))
+    (unsplit_append mark m (61 ∷ []) refl (g.before_value ++ (value ++ g.behind_value))
+    (unsplit_append mark m g.before_value (space_unsplit g.before_value spaces.before_value) (value ++ g.behind_value)
+    (value_unsplit mark m value g.behind_value h (unsplit_all mark m g.behind_value (space_unsplit g.behind_value spaces.behind_value)))))
 
-pub param_calm : (mark : ℕ) → IsMark mark → (param : List ℕ) → IsViaParam param → IsCalm mark Plain param
-param_calm mark m param h =
-    subst (IsCalm mark Plain) (sym h.spelled)
-    (calm_append mark m h.gaps.before (space_calm h.gaps.before h.spaces.before) (h.name ++ value_spelling h.gaps h.value)
-    (calm_append mark m h.name (class_calm is_token_byte refl refl refl h.name (token_bytes h.name h.token)) (value_spelling h.gaps h.value)
-    (tail_calm mark m h.gaps h.value h.spaces h.valued)))
+pub param_unsplit : (mark : ℕ) → IsMark mark → (param : List ℕ) → IsViaParam param → IsUnsplit mark Plain param
+param_unsplit mark m param h =
+    subst (IsUnsplit mark Plain) (sym h.spelled)
+    (unsplit_append mark m h.gaps.before (space_unsplit h.gaps.before h.spaces.before) (h.name ++ value_spelling h.gaps h.value)
+    (unsplit_append mark m h.name (class_unsplit is_token_byte refl refl refl h.name (token_bytes h.name h.token)) (value_spelling h.gaps h.value)
+    (tail_unsplit mark m h.gaps h.value h.spaces h.valued)))
 
 abbrev of_cut : Cut → List (List ℕ)
 of_cut c = c.0 ∷ pieces_outside_behind Quotes 59 c.1
@@ -340,10 +329,10 @@ on_some (Some x) P p = p
 pub params_again : (params : List (List ℕ)) → AllByRecursion IsViaParam params → params_of (joined 59 params) ≡ params
 params_again [] all = refl
 params_again (p ∷ ps) all =
-    let calm = param_calm 59 semicolon p all.0 in
+    let unsplit = param_unsplit 59 semicolon p all.0 in
     pieces_outside-cut Quotes 59 (p ++ flat_map param_text ps)
     ∙ ap (λ (x : List ℕ). of_cut (cut_outside Quotes 59 Plain (p ++ x))) (joined-behind 59 ps)
-    ∙ ap of_cut (cut_outside_again Quotes 59 Plain p (joined 59 ps) calm.lacks (on_some (joined 59 ps) _ calm.ends))
+    ∙ ap of_cut (cut_outside_again Quotes 59 Plain p (joined 59 ps) unsplit.lacks (on_some (joined 59 ps) _ unsplit.ends))
     ∙ ap (λ (rest : List (List ℕ)). p ∷ rest) (params_again ps all.1)
 
 -- ---- the host ends where it ended
@@ -497,11 +486,6 @@ parts_again text via h =
     ap parts_of h.spelled ∙ spelled_again h.gaps via t.0 t.1 (via.port, joined 59 via.params) h.spaces h.transport h.host t.2
 
 -- ---- and pass each test
-
-port_good : (port : Option (List ℕ)) → IfSome port IsPort → is_port_if_any port ≡ true
-port_good None h = refl
-port_good (Some digits) h =
-    and_from _ _ (and_from _ _ (and_from _ _ (le-leb (length digits) 5 h.short) h.digits) (lt-ltb 0 (number digits) h.positive)) (le-leb (number digits) 65535 h.within)
 
 tests_pass : (p : Parts) → bytes_eq (str_to_ascii_lowercase p.protocol) (codes "sip") ≡ true → bytes_eq p.version (codes "2.0") ≡ true → is_token p.transport ≡ true → IsHost p.host → IfSome p.port IsPort → list_all is_param (params_of p.params) ≡ true → are_parts p ≡ true
 unfolding are_parts

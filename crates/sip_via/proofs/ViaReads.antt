@@ -1,12 +1,8 @@
 -- A text is read exactly where it is a Via value.
-use Rattle.std.proofs.Common.{◌≡◌, ℕ, true, false, List, Result, Ok, Err, sym, subst, ◌∙◌, inl, inr}
+use Rattle.sip_via.proofs.Common.{◌≡◌, ℕ, true, false, List, Result, Ok, Err, sym, subst, ◌∙◌, inl, inr, and_parts, cases_Bool, cond-false, cond-true, ViaFault, BadVia, IsVia, ViaText, are_parts, is_via, parts_of, read_via, via_of}
 use Rattle.std.specs.Prelude.{IfOk}
-use Rattle.std.proofs.lemmas.Bool.{and_parts, cases_Bool, cond-false, cond-true}
-use Rattle.sip_via.specs.declared.own.ViaFault.{ViaFault}
-use Rattle.sip_via.specs.declared.own.ViaFault.TheVariants.{BadVia}
 use Rattle.sip_via.specs.ViaFaults.{Gives}
-use Rattle.sip_via.specs.ViaGrammar.{IsVia}
-use Rattle.sip_via.specs.ViaParts.{ViaText, are_parts, is_trimmed, is_via, parts_of, read_via, via_of}
+use Rattle.sip_via.specs.ViaParts.{is_trimmed}
 use Rattle.sip_via.proofs.ViaFound.{via_found}
 use Rattle.sip_via.proofs.ViaOnly.{via_again}
 

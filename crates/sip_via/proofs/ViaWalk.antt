@@ -1,17 +1,7 @@
 -- Via values and parameters, one by one.
-use Rattle.std.proofs.Common.{◌≡◌, ℕ, List, ◌∷◌, map, Option, Some, sym, ap, ◌∙◌}
-use Rattle.std.specs.Borrow.{Bor}
-use Rattle.std.specs.Option.{option_copied}
-use Rattle.sip_lex.specs.declared.sheltered.Shelter.TheVariants.{Quotes}
-use Rattle.sip_lex.specs.declared.sheltered.Place.TheVariants.{Plain}
-use Rattle.sip_lex.specs.Bytes.{trim}
+use Rattle.sip_via.proofs.Common.{◌≡◌, ℕ, List, ◌∷◌, map, Option, Some, sym, ap, ◌∙◌, Bor, option_copied, Quotes, Plain, trim, pieces_outside, pieces_outside_behind, cut_outside, pieces_outside-cut, values_in, params_of}
 use Rattle.sip_lex.specs.Cut.{seen_cut}
-use Rattle.sip_lex.specs.Outside.{pieces_outside, pieces_outside_behind}
-use Rattle.sip_lex.specs.Sheltered.{cut_outside}
-use Rattle.sip_lex.proofs.OutsideSplits.{pieces_outside-cut}
 use Rattle.sip_via.specs.SeenVia.{values_behind}
-use Rattle.sip_via.specs.TopVia.{values_in}
-use Rattle.sip_via.specs.ViaParts.{params_of}
 
 abbrev Cut : Type 0
 Cut = Bor (List ℕ) × Option (Bor (List ℕ))

@@ -1,11 +1,6 @@
 -- Header lines of one name, one by one.
-use Rattle.std.proofs.Common.{◌≡◌, ℕ, true, false, List, [], ◌∷◌, length, refl, sym, ap, ◌∙◌, arith}
-use Rattle.std.proofs.lemmas.Bool.{cond-true, cond-false}
-use Rattle.sip_text.specs.declared.parts.Header.{Header}
-use Rattle.sip_text.specs.Seen.{view, views}
-use Rattle.sip_text.specs.Text.{HeaderText}
-use Rattle.sip_via.specs.Edits.{begins_named}
-use Rattle.sip_via.specs.Lines.{has_name, lines_among}
+use Rattle.sip_via.proofs.Common.{◌≡◌, ℕ, true, false, List, ◌∷◌, sym, ap, ◌∙◌, cond-true, cond-false, Header, view, views, HeaderText, begins_named, lines_among}
+use Rattle.sip_via.specs.Lines.{has_name}
 
 says : {A : Type 0} (name : List ℕ) (hs rest : List (Header A)) (h : Header A) → hs ≡ h ∷ rest → begins_named name (views hs) ≡ has_name name (view h)
 says {A} name hs rest h split = ap (λ (xs : List (Header A)). begins_named name (views xs)) split
@@ -19,7 +14,3 @@ pub named_later : {A : Type 0} (name : List ℕ) (hs rest : List (Header A)) (h 
 named_later {A} name hs rest h all split other e =
     sym (cond-false (has_name name (view h)) (view h ∷ lines_among name (views rest)) (lines_among name (views rest)) (sym (says name hs rest h split) ∙ other))
     ∙ sym (ap (λ (xs : List (Header A)). lines_among name (views xs)) split) ∙ e
-
-pub none_named : {A : Type 0} (name : List ℕ) (hs : List (Header A)) → length hs ≡ 0 → lines_among name (views hs) ≡ []
-none_named name [] e = refl
-none_named name (h ∷ hs) e = absurd (omega arith)

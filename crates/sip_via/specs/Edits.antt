@@ -20,11 +20,6 @@ replaced name value (h ∷ hs) = if same_name name h.name then line_if_any h.nam
 abbrev pub with_headers : MessageText → List HeaderText → MessageText
 with_headers m hs = record { start = m.start; headers = hs; body = m.body }
 
--- the first line has another value, or is left out
-abbrev pub changed_first : Option (List ℕ) → List HeaderText → List HeaderText
-changed_first value [] = []
-changed_first value (h ∷ hs) = line_if_any h.name value ++ hs
-
 -- the first line has that name
 abbrev pub begins_named : List ℕ → List HeaderText → Bool
 begins_named name [] = false

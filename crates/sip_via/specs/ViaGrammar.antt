@@ -4,6 +4,7 @@ use Rattle.std.specs.Char.{to_ascii_lowercase}
 use Rattle.std.specs.List.{list_all, AllByRecursion, flat_map}
 use Rattle.sip_lex.specs.Bytes.{is_space, is_token, trim}
 use Rattle.sip_lex.specs.Quoted.{IsQuoted}
+pub use Rattle.sip_lex.specs.Params.{param_text}
 use Rattle.sip_uri.specs.Host.{IsHost, IsPort}
 use Rattle.sip_via.specs.ViaParts.{ViaText, is_value_byte}
 
@@ -64,9 +65,6 @@ pub record ViaGaps : Type 0 where
   pub before_host : List ℕ
   pub before_port : List ℕ × List ℕ
   pub before_params : List ℕ
-
-abbrev pub param_text : List ℕ → List ℕ
-param_text param = 59 ∷ param
 
 abbrev pub params_spelling : List ℕ → List (List ℕ) → List ℕ
 params_spelling gap params = gap ++ flat_map param_text params

@@ -1,5 +1,5 @@
 -- Cutting a Via value into its parts, and whether they are such (RFC 3261 sections 20.42 and 25.1).
-use Rattle.std.specs.Prelude.{ℕ, Bool, true, false, ◌&&◌, ◌||◌, not, List, [], ◌∷◌, length, take, drop, Option, Some, None, Result, Ok, Err, option_map, nat_lt, ◌==◌, if◌then◌else◌, codes}
+use Rattle.std.specs.Prelude.{ℕ, Bool, true, false, ◌&&◌, ◌||◌, not, List, [], ◌∷◌, length, take, drop, Option, Some, None, Result, Ok, Err, nat_lt, ◌==◌, if◌then◌else◌, codes}
 use Rattle.std.specs.List.{list_all}
 use Rattle.std.specs.Str.{bytes_eq, str_to_ascii_lowercase}
 use Rattle.sip_lex.specs.declared.sheltered.Shelter.TheVariants.{Quotes}
@@ -7,8 +7,11 @@ use Rattle.sip_lex.specs.Bytes.{is_space, is_token, trim, trim_end, trim_start}
 use Rattle.sip_lex.specs.Cut.{cut, is}
 use Rattle.sip_lex.specs.Number.{number_within}
 use Rattle.sip_lex.specs.Outside.{pieces_outside_behind}
+pub use Rattle.sip_lex.specs.Params.{name_of, value_of}
 use Rattle.sip_lex.specs.Quoted.{quoted_at}
-use Rattle.sip_uri.specs.Host.{host_len, is_host, is_port, port_of}
+pub use Rattle.sip_text.specs.Fields.{is_number}
+use Rattle.sip_uri.specs.Host.{host_len, is_host, port_of}
+pub use Rattle.sip_uri.specs.Reading.{is_port_if_any}
 use Rattle.sip_via.specs.declared.own.ViaFault.{ViaFault}
 use Rattle.sip_via.specs.declared.own.ViaFault.TheVariants.{BadVia}
 
@@ -22,13 +25,7 @@ pub record ViaText : Type 0 where
   -- what stands behind each `;`, with the space round it
   pub params : List (List ℕ)
 
--- ---- parameters: a name, or a name, `=` and a value, with space round them
-
-abbrev pub name_of : List ℕ → List ℕ
-name_of param = trim (cut (is 61) param).0
-
-abbrev pub value_of : List ℕ → Option (List ℕ)
-value_of param = option_map trim (cut (is 61) param).1
+-- ---- parameters
 
 -- neither space nor `,`, `;` and `"`
 abbrev pub is_value_byte : ℕ → Bool
@@ -99,10 +96,6 @@ parts_of text =
     let tail = port_and_params (drop (host_len false sent) sent) in
     record { protocol = trim_end first.0; version = trim second.0; transport = third.0; host = trim_end (take (host_len false sent) sent); port = tail.0; params = tail.1 }
 
-abbrev pub is_port_if_any : Option (List ℕ) → Bool
-is_port_if_any None = true
-is_port_if_any (Some digits) = is_port digits
-
 unfoldable pub are_parts : Parts → Bool
 are_parts p =
     bytes_eq (str_to_ascii_lowercase p.protocol) (codes "sip")
@@ -142,10 +135,6 @@ branch_of v = first_named (codes "branch") v.params
 abbrev pub number_if_any : Option (List ℕ) → Option ℕ
 number_if_any None = None
 number_if_any (Some digits) = number_within 65535 digits
-
-abbrev pub is_number : ℕ → Option ℕ → Bool
-is_number n None = false
-is_number n (Some m) = n == m
 
 abbrev pub is_rport : ℕ → List ℕ → Bool
 is_rport port param = is_named (codes "rport") param && is_number port (number_if_any (value_of param))

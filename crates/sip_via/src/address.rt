@@ -5,7 +5,7 @@ ghost use Rattle.std.specs.Fmt.{decimal};
 ghost use Rattle.std.specs.Option.{option_copied};
 ghost use Rattle.std.specs.Str.{bytes_eq};
 ghost use Rattle.sip_via.specs.Address.{address_text, dotted};
-ghost use Rattle.sip_via.specs.Fronts.{behind_address, behind_marked, behind_number, is_end};
+ghost use Rattle.sip_via.specs.inner.Fronts.{behind_address, behind_marked, behind_number, is_end};
 
 use itoa::Buffer;
 use std::alloc::{AllocError, Allocator};

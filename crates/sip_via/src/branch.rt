@@ -4,7 +4,7 @@ ghost use Rattle.std.specs.Prelude.{◌≡◌, true, ◌≢◌, ◌+◌, ◌++�
 ghost use Rattle.std.specs.Fmt.{decimal};
 ghost use Rattle.std.specs.List.{AllByRecursion, list_all};
 ghost use Rattle.sip_lex.specs.Bytes.{is_token_byte};
-ghost use Rattle.sip_via.specs.BranchParts.{branch_parts, parts_of, seen_parts, view_parts};
+ghost use Rattle.sip_via.specs.inner.BranchParts.{branch_parts, parts_of, seen_parts, view_parts};
 ghost use Rattle.sip_via.specs.declared.branch.BranchName.{BranchName};
 ghost use Rattle.sip_via.specs.BranchText.{IsBranch, branch_text};
 ghost use Rattle.sip_via.specs.HexPair.{hex_text};

@@ -1,9 +1,8 @@
 //! Cutting a text into the parts of a Via value.
 
 ghost use Rattle.std.specs.Prelude.{◌≡◌, IfSome, IfNone, false, true};
-ghost use Rattle.std.specs.List.{list_all, list_any};
 ghost use Rattle.std.specs.Option.{option_copied};
-ghost use Rattle.sip_via.specs.SeenParts.{seen_parts};
+ghost use Rattle.sip_via.specs.inner.SeenParts.{seen_parts};
 ghost use Rattle.sip_via.specs.ViaParts.{are_parts, is_port_if_any, is_trimmed, is_via, or_empty, parts_of, port_and_params, port_if_any};
 
 use crate::params::are_params;

@@ -1,11 +1,12 @@
 //! Copies of header lines of which some are changed or left out.
 
-ghost use Rattle.std.specs.Prelude.{◌≡◌, ◌++◌, [], ◌∷◌, ◌≤◌, length, option_map, IfOk, OnErr, OnOk, take, vec_len};
+ghost use Rattle.std.specs.Prelude.{◌≡◌, ◌++◌, ◌≤◌, length, option_map, IfOk, OnErr, OnOk, take, vec_len};
 ghost use Rattle.std.specs.Option.{option_copied};
 ghost use Rattle.sip_lex.specs.Bytes.{trim};
 ghost use Rattle.sip_text.specs.Message.{IsMessage};
 ghost use Rattle.sip_text.specs.Seen.{view, view_start, views};
-ghost use Rattle.sip_via.specs.Edits.{begins_named, changed_first, line_if_any, place_of, replaced, with_headers};
+ghost use Rattle.sip_via.specs.Edits.{begins_named, line_if_any, place_of, replaced, with_headers};
+ghost use Rattle.sip_via.specs.inner.Edits.{changed_first};
 ghost use Rattle.sip_via.specs.SeenMessages.{seen_value};
 
 use crate::lines::add_made;

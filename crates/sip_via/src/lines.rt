@@ -1,7 +1,6 @@
 //! Header lines taken from a message, or made.
 
 ghost use Rattle.std.specs.Prelude.{◌≡◌, ◌<◌, ◌++◌, [], ◌∷◌, IfSome, IfNone, OnErr, OnOk, length, map, take, vec_len};
-ghost use Rattle.std.specs.Option.{option_copied};
 ghost use Rattle.sip_text.specs.Name.{first_value};
 ghost use Rattle.sip_text.specs.Seen.{view, views};
 ghost use Rattle.sip_via.specs.Edits.{line};

@@ -8,7 +8,7 @@ ghost use Rattle.sip_via.specs.declared.branch.BranchName.{BranchName};
 ghost use Rattle.sip_via.specs.BranchText.{IsBranch, branch_text};
 ghost use Rattle.sip_via.specs.OwnPass.{IsOwnBranch, IsOwnVia};
 ghost use Rattle.sip_via.specs.Received.{port_or_default};
-ghost use Rattle.sip_via.specs.SeenParts.{seen_parts};
+ghost use Rattle.sip_via.specs.inner.SeenParts.{seen_parts};
 ghost use Rattle.sip_via.specs.TopVia.{top_value};
 ghost use Rattle.sip_via.specs.ViaParts.{branch_of, port_if_any, via_of_parts};
 

@@ -2,7 +2,7 @@
 
 ghost use Rattle.std.specs.Prelude.{◌≡◌, IfNone, IfSome, option_map};
 ghost use Rattle.sip_via.specs.Sender.{seen_sender, sender, sender_if_read};
-ghost use Rattle.sip_via.specs.SeenParts.{seen_parts};
+ghost use Rattle.sip_via.specs.inner.SeenParts.{seen_parts};
 ghost use Rattle.sip_via.specs.ViaGrammar.{IsVia};
 ghost use Rattle.sip_via.specs.ViaParts.{ViaText, read_via, via_of, via_of_parts};
 

@@ -1,6 +1,6 @@
 //! Via values.
 
-ghost use Rattle.std.specs.Prelude.{◌≡◌, true, IfErr, IfOk, Ok};
+ghost use Rattle.std.specs.Prelude.{◌≡◌, IfErr, IfOk, Ok};
 ghost use Rattle.std.specs.List.{list_any};
 ghost use Rattle.std.specs.Option.{option_copied};
 ghost use Rattle.sip_via.specs.ViaFaults.{Gives, refusal};

@@ -1,6 +1,5 @@
 //! Calls to one target whose port fails one send: which sends are told to the call, and what it does then (RFC 3261 sections
 //! 16.9 and 17.1.4).
-ghost use Rattle.std.specs.Prelude.{◌≡◌, ◌≤◌};
 
 use crate::histories::playing::{Entry, Posted, Sent, has_entries, is_sent, opened, taken};
 use crate::histories::texts::{

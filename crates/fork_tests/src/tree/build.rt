@@ -1,5 +1,5 @@
 //! A tree from its rows.
-ghost use Rattle.std.specs.Prelude.{◌≡◌, ◌≤◌, IfOk};
+ghost use Rattle.std.specs.Prelude.{◌≡◌, IfOk};
 ghost use Rattle.fork_tree.specs.declared.row.State.TheVariants.{Ended};
 ghost use Rattle.fork_tree.specs.Given.{AreRows};
 

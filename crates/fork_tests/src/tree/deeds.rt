@@ -1,10 +1,10 @@
 //! What may be done with a tree, each deed where it is allowed alone.
-ghost use Rattle.std.specs.Prelude.{◌≡◌, IsTrue, slice_get};
+ghost use Rattle.std.specs.Prelude.{◌≡◌, slice_get};
 ghost use Rattle.fork_model.specs.Table.{is_idle, is_open, is_row, is_trying};
 ghost use Rattle.fork_tree.specs.Tree.{is_uncancelled};
 
 use fork_rank::MOST_TARGETS;
-use fork_tree::{End, ForkTree, Level, State};
+use fork_tree::{End, ForkTree, NewRows, State};
 use std::alloc::{AllocError, Global};
 
 /// Whether row n waits.
@@ -89,7 +89,7 @@ pub fn end(
     if !goes_on(tree, n) {
         return Ok(false);
     }
-    let below = Level::idle(alloc, first, qs)?;
+    let below = NewRows::idle(alloc, first, qs)?;
     tree.end(n, end, below);
     Ok(true)
 }

@@ -1,16 +1,10 @@
 -- What is spelled in a field is read, and what is read is spelled so.
-use Rattle.std.proofs.Common.{◌≡◌, ℕ, ◌^◌, ◌<◌, ◌≤◌, Bool, true, false, cond, List, [], ◌∷◌, ◌++◌, length, Option, Some, None, refl, ap, subst, ◌∙◌, arith}
-use Rattle.std.specs.Prelude.{nat_le, bytes_eq, codes, option_and_then}
-use Rattle.std.specs.Option.{option_map}
-use Rattle.std.specs.Fmt.{decimal}
-use Rattle.std.proofs.lemmas.Bool.{le-leb, leb-true, false_from_ne_true}
-use Rattle.std.proofs.lemmas.Option.{cond_some, same_Some}
-use Rattle.std.proofs.lemmas.Slice.Eq.{bytes_eq-Decides}
+use Rattle.fork_text.proofs.Common.{◌≡◌, ℕ, ◌<◌, ◌≤◌, Bool, true, false, cond, List, [], ◌∷◌, ◌++◌, length, Option, Some, None, refl, ap, subst, ◌∙◌, arith, nat_le, bytes_eq, codes, option_and_then, option_map, decimal, leb-true}
+use Rattle.fork_text.proofs.Common.{false_from_ne_true, cond_some, same_Some, bytes_eq-Decides, cut, is, Lacks, plain_number_within, cut_again, cut_joins, number_read, number_spelled, decimal_lacks}
+use Rattle.std.proofs.Common.{◌^◌}
+use Rattle.std.proofs.lemmas.Bool.{le-leb}
 use Rattle.std.proofs.lemmas.Fmt.{decimal_nonempty}
-use Rattle.sip_lex.specs.Cut.{cut, is, behind, Lacks}
-use Rattle.sip_lex.specs.Number.{plain_number_within}
-use Rattle.sip_lex.proofs.Cuts.{cut_again, cut_joins}
-use Rattle.sip_lex.proofs.laws.Numbers.{number_read, number_spelled, decimal_lacks}
+use Rattle.sip_lex.specs.Cut.{behind}
 use Rattle.fork_text.specs.Field.{before_cut, before, numbered_text, number_before, at_least, number_from}
 
 module _ {X : Type 0} where

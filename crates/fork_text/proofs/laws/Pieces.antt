@@ -1,8 +1,8 @@
 -- The pieces of a text, one cut at a time.
-use Rattle.std.proofs.Common.{◌≡◌, ℕ, true, false, cond, eqb, List, [], ◌∷◌, Option, Some, None, refl, sym, ap, ◌∙◌}
-use Rattle.std.specs.List.{slice_split, onto_first}
-use Rattle.sip_lex.specs.Cut.{cut, is}
-use Rattle.fork_text.specs.Pieces.{pieces_of, is_empty}
+use Rattle.fork_text.proofs.Common.{◌≡◌, ℕ, true, false, cond, List, [], ◌∷◌, Option, Some, None, refl, sym, ap, ◌∙◌, slice_split, cut, is, is_empty}
+use Rattle.std.proofs.Common.{eqb}
+use Rattle.std.specs.List.{onto_first}
+use Rattle.fork_text.specs.inner.Pieces.{pieces_of}
 
 abbrev Cut : Type 0
 Cut = List ℕ × Option (List ℕ)

@@ -1,19 +1,14 @@
 -- A list of preferred statuses is read exactly where it is spelled.
-use Rattle.std.proofs.Common.{◌≡◌, ℕ, ◌<◌, ◌≤◌, Bool, true, false, cond, List, [], ◌∷◌, ◌++◌, map, length, Option, Some, None, refl, sym, ap, subst, ◌∙◌, arith, append_assoc, append-nil}
-use Rattle.std.specs.Prelude.{bytes_eq, codes, option_and_then, All, IfSome}
-use Rattle.std.specs.List.{slice_split, flat_map, join_with_byte}
-use Rattle.std.specs.Fmt.{decimal}
+use Rattle.fork_text.proofs.Common.{◌≡◌, ℕ, ◌<◌, ◌≤◌, Bool, true, false, cond, List, [], ◌∷◌, ◌++◌, length, Option, Some, None, refl, sym, ap, subst, ◌∙◌, arith, append_assoc, bytes_eq, codes, option_and_then, slice_split, flat_map}
+use Rattle.fork_text.proofs.Common.{join_with_byte, decimal, cond_some, same_Some, bytes_eq-Decides, is, Lacks, plain_number_within, cut_again, number_read, number_spelled, decimal_lacks, numbers_onto, preferred_if, read_preferred}
+use Rattle.std.proofs.Common.{map, append-nil}
+use Rattle.std.specs.Prelude.{All, IfSome}
 use Rattle.std.proofs.lemmas.Bool.{eqb-false}
-use Rattle.std.proofs.lemmas.Option.{cond_some, same_Some}
 use Rattle.std.proofs.lemmas.List.Elements.{All-head, All-tail}
 use Rattle.std.proofs.lemmas.List.Splits.{join_with_byte-slice_split, length-slice_split}
-use Rattle.std.proofs.lemmas.Slice.Eq.{bytes_eq-Decides}
-use Rattle.sip_lex.specs.Cut.{is, Lacks}
-use Rattle.sip_lex.specs.Number.{plain_number_within}
-use Rattle.sip_lex.proofs.Cuts.{cut_again, Lacks-append}
-use Rattle.sip_lex.proofs.laws.Numbers.{number_read, number_spelled, decimal_lacks}
+use Rattle.sip_lex.proofs.laws.Cuts.{Lacks-append}
 use Rattle.fork_rank.specs.Preferred.{IsPreferredList}
-use Rattle.fork_text.specs.Preferred.{list_text, numbers_onto, is_preferred_list, preferred_if, read_preferred}
+use Rattle.fork_text.specs.Preferred.{list_text, is_preferred_list}
 use Rattle.fork_text.proofs.PreferredLists.{preferred_passes, preferred_is}
 use Rattle.fork_text.proofs.laws.Pieces.{pieces-cut}
 use Rattle.fork_text.proofs.laws.Field.{found_then, no_dash}

@@ -1,5 +1,5 @@
 -- A number is read exactly where it is the decimal spelling of a number within the limit.
-use Rattle.std.proofs.Common.{◌≡◌, ℕ, zero, suc, ◌^◌, ◌<◌, ◌≤◌, Bool, true, false, cond, eqb, List, [], ◌∷◌, ◌++◌, length, get_or, fold, Option, Some, None, refl, sym, ap, ◌∙◌, arith, rules, inl, inr}
+use Rattle.std.proofs.Common.{◌≡◌, ℕ, zero, suc, ◌^◌, ◌<◌, ◌≤◌, Bool, true, false, cond, eqb, List, [], ◌∷◌, length, get_or, fold, Option, Some, None, refl, sym, ap, ◌∙◌, arith, rules, inl, inr}
 use Rattle.std.specs.Prelude.{◌&&◌, nat_lt, nat_le}
 use Rattle.std.specs.Char.{is_ascii_digit}
 use Rattle.std.specs.List.{list_all}
@@ -8,9 +8,9 @@ use Rattle.std.proofs.lemmas.Bool.{and_parts, and_from, eqb-true, eq-eqb, ltb-tr
 use Rattle.std.proofs.lemmas.Option.{cond_some}
 use Rattle.std.proofs.lemmas.Str.Parse.{IsNumeralModel, IsDigitsTest, FoldsDigits, numerals_by_fold}
 use Rattle.std.proofs.lemmas.Fmt.{decimal_digit, first_decimal, digits_decimal, digits_value-decimal, decimal-digits_value, decimal_nonempty}
-use Rattle.sip_lex.specs.Cut.{cut, is, Lacks}
+use Rattle.sip_lex.specs.Cut.{Lacks}
 use Rattle.sip_lex.specs.Number.{with_digit, number, is_number, number_within, begins_with_zero, plain_number_within}
-use Rattle.sip_lex.proofs.Cuts.{cut_again, Lacks-pass}
+use Rattle.sip_lex.proofs.laws.Cuts.{Lacks-pass}
 
 digits_test : IsDigitsTest (λ ds. list_all is_ascii_digit ds ≡ true)
 digits_test = search rules
@@ -87,7 +87,3 @@ number_read_within limit ds n small e =
     let within : number ds ≤ limit = leb-true _ _ tests.1 in
     let fit : n < 2 ^ 64 = omega (arith, read.1) in
     (fit, fits limit n (omega (arith, read.1)) fit)
-
--- a number before a space
-pub cut-numbered : (n : ℕ) (text : List ℕ) → n < 2 ^ 64 → cut (is 32) (decimal n ++ 32 ∷ text) ≡ (decimal n, Some text)
-cut-numbered n text small = cut_again 32 (decimal n) (Some text) (decimal_lacks 32 n refl small)

@@ -1,12 +1,9 @@
 -- Bytes in hexadecimal digits.
-use Rattle.std.proofs.Common.{◌≡◌, ◌≢◌, ℕ, suc, zero, ◌+◌, ◌*◌, ◌<◌, ◌/◌, ◌%◌, ◌^◌, List, [], ◌∷◌, ◌++◌, length, get_or, take, Option, Some, None, refl, sym, ap, ◌∙◌, arith, append_assoc, inl, inr}
-use Rattle.std.specs.Prelude.{slice_set, IfNone}
-use Rattle.std.specs.List.{AllByRecursion}
-use Rattle.std.proofs.lemmas.Bool.{cases_lt, cond-true, cond-false, lt-ltb, le-ltb}
-use Rattle.std.proofs.lemmas.List.{take_all, take_more, take_more_set, flat_map_more}
-use Rattle.sip_lex.specs.Cut.{Lacks}
-use Rattle.sip_lex.specs.Hex.{hex_digit}
-use Rattle.sip_via.specs.HexPair.{hex_pair, hex_text}
+use Rattle.sip_via.proofs.Common.{◌≡◌, ◌≢◌, ℕ, suc, zero, ◌+◌, ◌*◌, ◌<◌, ◌/◌, ◌%◌, ◌^◌, List, [], ◌∷◌, ◌++◌, length, get_or, take, Option, Some, None, refl, sym, ap, ◌∙◌, arith, append_assoc, inl, inr, slice_set, AllByRecursion, cond-true}
+use Rattle.sip_via.proofs.Common.{cond-false, lt-ltb, take_all, take_more_set, Lacks, hex_digit, hex_pair, hex_text}
+use Rattle.std.specs.Prelude.{IfNone}
+use Rattle.std.proofs.lemmas.Bool.{cases_lt, le-ltb}
+use Rattle.std.proofs.lemmas.List.{take_more, flat_map_more}
 
 pub hex_text_length : (key : List ℕ) → length (hex_text key) ≡ 2 * length key
 hex_text_length [] = refl
@@ -47,7 +44,7 @@ hex_digit_one m n e =
       ]
     ]
 
-abbrev head_of : List ℕ → ℕ
+abbrev pub head_of : List ℕ → ℕ
 head_of [] = 0
 head_of (b ∷ bs) = b
 

@@ -1,24 +1,8 @@
 -- The proxy's own Via value is a header value.
-use Rattle.std.proofs.Common.{◌≡◌, ℕ, ◌<◌, ◌^◌, Bool, true, false, not, eqb, inl, inr, List, [], ◌∷◌, ◌++◌, length, reverse, refl, sym, ap, subst, ◌∙◌, arith}
-use Rattle.std.specs.Prelude.{◌&&◌, codes}
-use Rattle.std.specs.Char.{is_ascii_digit}
-use Rattle.std.specs.Fmt.{decimal}
-use Rattle.std.specs.List.{list_all}
-use Rattle.std.proofs.lemmas.Bool.{and_parts, eqb-true, false_from_ne_true, false≢true, or_cases}
-use Rattle.std.proofs.lemmas.Fmt.{digits_decimal}
-use Rattle.std.proofs.lemmas.List.{length-reverse, reverse-append}
-use Rattle.std.proofs.lemmas.List.Folds.{list_all-append}
-use Rattle.sip_lex.specs.Bytes.{is_space, is_token_byte}
-use Rattle.sip_lex.proofs.Trims.{token_byte-space}
-use Rattle.sip_text.specs.Message.{is_line, is_line_byte, is_trimmed, is_value}
-use Rattle.sip_text.specs.Reading.{begins_with_space}
-use Rattle.sip_text.proofs.Good.{and_both}
-use Rattle.sip_via.specs.declared.own.Own.{Own}
-use Rattle.sip_via.specs.Address.{address_text}
-use Rattle.sip_via.specs.declared.branch.BranchName.{BranchName}
-use Rattle.sip_via.specs.BranchText.{branch_text}
-use Rattle.sip_via.specs.OwnVia.{IsOwn, own_via}
-use Rattle.sip_lex.proofs.laws.Numbers.{own}
+use Rattle.sip_via.proofs.Common.{◌≡◌, ℕ, ◌<◌, ◌^◌, Bool, true, false, not, eqb, inl, inr, List, [], ◌∷◌, ◌++◌, length, reverse, refl, sym, ap, subst, ◌∙◌, arith, ◌&&◌, codes, is_ascii_digit, decimal, list_all, and_parts, eqb-true}
+use Rattle.sip_via.proofs.Common.{false_from_ne_true, false≢true, or_cases, digits_decimal, reverse-append, list_all-append, is_space, is_token_byte, token_byte-space, is_line, is_line_byte, is_trimmed, is_value, begins_with_space}
+use Rattle.sip_via.proofs.Common.{and_both, Own, address_text, BranchName, branch_text, IsOwn, own_via, own}
+use Rattle.std.proofs.lemmas.List.{length-reverse}
 use Rattle.sip_via.proofs.Marked.{address-line, decimal-line, front-stays, line-append}
 
 -- ---- texts without space

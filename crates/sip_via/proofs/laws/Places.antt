@@ -1,15 +1,7 @@
 -- Header lines round the first of a name.
-use Rattle.std.proofs.Common.{◌≡◌, ℕ, zero, suc, ◌+◌, ◌<◌, ◌≤◌, true, false, cond, get_or, List, [], ◌∷◌, ◌++◌, length, take, drop, Option, Some, None, refl, sym, ap, ◌∙◌, arith, inl, inr}
-use Rattle.std.proofs.lemmas.List.{append-nil, drop-map, drop_all, length-map, take-map, take_all}
-use Rattle.std.specs.Borrow.{Bor}
-use Rattle.std.specs.Option.{option_copied}
-use Rattle.std.specs.Prelude.{is_some, slice_set}
-use Rattle.std.proofs.lemmas.Bool.{cases_Bool, cond-true, cond-false, false≢true}
-use Rattle.sip_text.specs.declared.parts.Header.{Header}
-use Rattle.sip_text.specs.Name.{first_of, first_value, same_name, values_of}
-use Rattle.sip_text.specs.Seen.{view, views}
-use Rattle.sip_text.specs.Text.{HeaderText}
-use Rattle.sip_via.specs.Edits.{begins_named, changed_first, line, line_if_any, place_of, replaced}
+use Rattle.sip_via.proofs.Common.{◌≡◌, ℕ, zero, suc, ◌+◌, ◌<◌, ◌≤◌, false, get_or, List, [], ◌∷◌, ◌++◌, length, take, drop, Option, Some, refl, sym, ap, ◌∙◌, arith, inl, inr, append-nil, drop_all, take_all, slice_set, cases_Bool, cond-true}
+use Rattle.sip_via.proofs.Common.{cond-false, Header, same_name, view, views, HeaderText, begins_named, line, line_if_any, place_of, replaced, changed_first}
+use Rattle.std.proofs.lemmas.List.{drop-map, length-map, take-map}
 
 -- no line has the name
 pub replaced-none : (name : List ℕ) (value : Option (List ℕ)) (hs : List HeaderText) → drop (place_of name hs) hs ≡ [] → replaced name value hs ≡ take (place_of name hs) hs
@@ -54,38 +46,11 @@ replaced-some name value (h ∷ hs) after x e =
 
 -- ---- the place, line by line
 
-pub copied-some : {A : Type 0} (o : Option (Bor A)) → is_some o ≡ is_some (option_copied o)
-copied-some None = refl
-copied-some (Some x) = refl
-
--- a line alone tells whether it has the name
-pub named-alone : {A : Type 0} (name : List ℕ) (hs : List (Header A)) → is_some (first_value name (views (take 1 hs))) ≡ begins_named name (views hs)
-unfolding values_of
-named-alone name [] = refl
-named-alone name (h ∷ hs) = elim (same_name name (view h).name) as (λ t. is_some (first_of (cond t ((view h).value ∷ []) [])) ≡ t) [
-  | true ↦ refl
-  | false ↦ refl
-]
-
-pub place-here : {A : Type 0} (name : List ℕ) (hs : List (Header A)) (i : ℕ) → begins_named name (views (drop i hs)) ≡ true → place_of name (views (drop i hs)) ≡ 0
-place-here name [] zero b = absurd (false≢true b)
-place-here name [] (suc i) b = absurd (false≢true b)
-place-here name (h ∷ hs) zero b = cond-true _ _ _ b
-place-here name (h ∷ hs) (suc i) b = place-here name hs i b
-
 pub place-later : {A : Type 0} (name : List ℕ) (hs : List (Header A)) (i : ℕ) → i < length hs → begins_named name (views (drop i hs)) ≡ false → place_of name (views (drop i hs)) ≡ 1 + place_of name (views (drop (i + 1) hs))
 place-later name [] i lt b = absurd (omega arith)
 place-later name (h ∷ hs) zero lt b = cond-false _ _ _ b
 place-later name (h ∷ hs) (suc i) lt b =
     place-later name hs i (omega arith) b ∙ ap (λ n. 1 + place_of name (views (drop n (h ∷ hs)))) (let k : suc (i + 1) ≡ suc i + 1 = omega arith in k)
-
-pub place-none : {A : Type 0} (name : List ℕ) (hs : List (Header A)) (i : ℕ) → length hs ≤ i → place_of name (views (drop i hs)) ≡ 0
-place-none name [] zero le = refl
-place-none name [] (suc i) le = refl
-place-none name (h ∷ hs) zero le = absurd (omega arith)
-place-none name (h ∷ hs) (suc i) le = place-none name hs i (omega arith)
-
--- ---- the lines before the first of a name, and those from it on
 
 split : (name : List ℕ) (value : Option (List ℕ)) (hs back : List HeaderText) → drop (place_of name hs) hs ≡ back → take (place_of name hs) hs ++ changed_first value back ≡ replaced name value hs
 split name value hs [] e = append-nil (take (place_of name hs) hs) ∙ sym (replaced-none name value hs e)

@@ -1,35 +1,16 @@
 -- The proxy's own Via value is read with the branch that was written, and no value with two.
-use Rattle.std.proofs.Common.{◌≡◌, ◌≢◌, ℕ, ◌<◌, ◌≤◌, ◌^◌, Bool, true, false, not, cond, eqb, List, [], ◌∷◌, ◌++◌, length, reverse, take, drop, Option, Some, None, Result, Ok, refl, sym, ap, subst, ◌∙◌, arith, inl}
-use Rattle.std.specs.Prelude.{◌&&◌, codes, nat_le, slice_index}
-use Rattle.std.specs.Char.{is_ascii_digit}
-use Rattle.std.specs.Fmt.{decimal}
-use Rattle.std.specs.List.{list_all}
-use Rattle.std.specs.Str.{bytes_eq}
-use Rattle.std.proofs.lemmas.Bool.{and_from, and_parts, cond-true, eqb-true, false_from_ne_true, false≢true, le-leb, leb-true, lt-ltb}
-use Rattle.std.proofs.lemmas.Bool.{agree_below_at}
-use Rattle.std.proofs.lemmas.Fmt.{decimal_nonempty, digits_decimal, digits_value-decimal, length-decimal-le}
-use Rattle.std.proofs.lemmas.List.{append-nil, reverse-reverse, take-append-drop}
-use Rattle.std.proofs.lemmas.List.Folds.{list_all-append}
-use Rattle.std.proofs.lemmas.Slice.Eq.{bytes_eq-Decides}
-use Rattle.sip_lex.specs.Bytes.{is_token, is_token_byte, trim, trim_end, trim_start}
+use Rattle.sip_via.proofs.Common.{◌≡◌, ◌≢◌, ℕ, ◌<◌, ◌≤◌, ◌^◌, Bool, true, false, not, cond, eqb, List, [], ◌∷◌, ◌++◌, length, reverse, take, drop, Option, Some, None, Result, Ok, refl, sym, ap, subst, ◌∙◌, arith, inl, ◌&&◌, codes, nat_le}
+use Rattle.sip_via.proofs.Common.{slice_index, is_ascii_digit, decimal, list_all, bytes_eq, and_from, and_parts, cond-true, eqb-true, false_from_ne_true, false≢true, le-leb, leb-true, lt-ltb, agree_below_at, decimal_nonempty}
+use Rattle.sip_via.proofs.Common.{digits_decimal, length-decimal-le, append-nil, reverse-reverse, take-append-drop, list_all-append, bytes_eq-Decides, is_token, is_token_byte, trim, trim_end, trim_start, token_byte-space, trim_end-reverse}
+use Rattle.sip_via.proofs.Common.{trim_start-none, number_read, own, is_line, is_trimmed, is_value, begins_with_space, IsHost, IsPort, is_host_byte, Own, ViaFault, BranchName, address_text, BranchParts, branch_parts, IsBranch, branch_text}
+use Rattle.sip_via.proofs.Common.{hex_text, IsOwn, own_via, IsVia, IsViaParam, ViaText, branch_of, is_value_byte}
+use Rattle.std.proofs.lemmas.Fmt.{digits_value-decimal}
 use Rattle.sip_lex.specs.Number.{number}
-use Rattle.sip_lex.proofs.Trims.{token_byte-space, trim_end-reverse, trim_end-token, trim_start-none}
-use Rattle.sip_lex.proofs.laws.Numbers.{number_read, own}
-use Rattle.sip_text.specs.Message.{is_line, is_trimmed, is_value}
-use Rattle.sip_text.specs.Reading.{begins_with_space}
-use Rattle.sip_uri.specs.Host.{IsHost, IsPort, is_host_byte, is_port}
-use Rattle.sip_via.specs.declared.own.Own.{Own}
-use Rattle.sip_via.specs.declared.own.ViaFault.{ViaFault}
-use Rattle.sip_via.specs.declared.branch.BranchName.{BranchName}
-use Rattle.sip_via.specs.Address.{address_text}
-use Rattle.sip_via.specs.BranchParts.{BranchParts, branch_parts, parts_of}
-use Rattle.sip_via.specs.BranchText.{IsBranch, branch_text}
-use Rattle.sip_via.specs.HexPair.{hex_text}
+use Rattle.sip_lex.proofs.laws.Trims.{trim_end-token}
+use Rattle.sip_uri.specs.Host.{is_port}
+use Rattle.sip_via.specs.inner.BranchParts.{parts_of}
 use Rattle.sip_via.specs.OwnPass.{IsOwnBranch}
-use Rattle.sip_via.specs.OwnVia.{IsOwn, own_via}
 use Rattle.sip_via.specs.Received.{port_or_default}
-use Rattle.sip_via.specs.ViaGrammar.{IsVia, IsViaParam}
-use Rattle.sip_via.specs.ViaParts.{ViaText, branch_of, is_value_byte}
 use Rattle.sip_via.proofs.BranchLaws.{branch_again, branch_is, number_same}
 use Rattle.sip_via.proofs.ViaOnly.{via_again}
 use Rattle.sip_via.proofs.laws.HexLaws.{hex_text_one}
@@ -107,11 +88,11 @@ branch-whole b named =
 
 -- ---- the whole is trimmed
 
-is-not : (t : Bool) → not t ≡ true → t ≡ false
+pub is-not : (t : Bool) → not t ≡ true → t ≡ false
 is-not true e = absurd (false≢true e)
 is-not false e = refl
 
-no-front : (bs : List ℕ) → begins_with_space bs ≡ false → trim_start bs ≡ bs
+pub no-front : (bs : List ℕ) → begins_with_space bs ≡ false → trim_start bs ≡ bs
 no-front [] h = refl
 no-front (b ∷ bs) h = trim_start-none b bs h
 

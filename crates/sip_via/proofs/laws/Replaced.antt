@@ -1,19 +1,12 @@
 -- A message of which header lines were replaced is one.
-use Rattle.std.proofs.Common.{◌≡◌, ℕ, Bool, true, false, cond, List, [], ◌∷◌, ◌++◌, length, Option, Some, None, refl, sym, ap, ◌∙◌, inl, inr}
-use Rattle.std.specs.Prelude.{codes, is_none}
-use Rattle.std.specs.List.{list_all}
-use Rattle.std.specs.Str.{bytes_eq, str_to_ascii_lowercase}
-use Rattle.std.proofs.lemmas.Bool.{and_parts, cases_Bool, cond_both, cond-true, cond-false, false_from_ne_true, false≢true}
-use Rattle.std.proofs.lemmas.Slice.Eq.{bytes_eq-Decides}
-use Rattle.sip_lex.specs.Bytes.{is_token}
+use Rattle.sip_via.proofs.Common.{◌≡◌, ℕ, Bool, true, false, cond, List, [], ◌∷◌, ◌++◌, length, Option, Some, None, refl, sym, ap, ◌∙◌, inl, inr, codes, is_none, list_all, bytes_eq, str_to_ascii_lowercase, and_parts, cases_Bool, cond_both}
+use Rattle.sip_via.proofs.Common.{cond-true, cond-false, false_from_ne_true, false≢true, bytes_eq-Decides, is_token, IsMessage, is_header, is_value, first_of, first_value, same_name, HeaderText, MessageText, and_both, line, line_if_any}
+use Rattle.sip_via.proofs.Common.{replaced, with_headers}
 use Rattle.sip_text.specs.declared.needed.Needed.{Needed}
 use Rattle.sip_text.specs.declared.needed.Needed.TheVariants.{Via, From, To, CallId, CSeq}
 use Rattle.sip_text.specs.Fields.{cseq_in, fits_start, length_name, missing, said_by}
-use Rattle.sip_text.specs.Message.{IsMessage, fits_body, is_header, is_value}
-use Rattle.sip_text.specs.Name.{first_of, first_value, full_name, same_name, values_of}
-use Rattle.sip_text.specs.Text.{HeaderText, MessageText}
-use Rattle.sip_text.proofs.Good.{and_both}
-use Rattle.sip_via.specs.Edits.{line, line_if_any, replaced, with_headers}
+use Rattle.sip_text.specs.Message.{fits_body}
+use Rattle.sip_text.specs.Name.{full_name, values_of}
 
 -- ---- names that differ have no line in common
 

@@ -1,19 +1,7 @@
 -- Digits: what they are not, and what they make.
-use Rattle.std.proofs.Common.{◌≡◌, ℕ, suc, get_or, ◌+◌, ◌<◌, ◌≤◌, ◌/◌, ◌%◌, ◌^◌, Bool, true, false, not, cond, eqb, ltb, List, [], ◌∷◌, ◌++◌, refl, sym, ap, ◌∙◌, arith}
-use Rattle.std.specs.Prelude.{◌&&◌, ◌||◌, nat_le}
-use Rattle.std.specs.Char.{is_ascii_digit}
-use Rattle.std.specs.Fmt.{decimal}
-use Rattle.std.specs.List.{list_all, AllByRecursion}
-use Rattle.std.proofs.lemmas.Bool.{agree_below_at, and_parts, and_from, cond_both, cond-true, eqb-true, false_from_ne_true, leb-true, le-leb}
-use Rattle.std.proofs.lemmas.Fmt.{digits_decimal}
-use Rattle.std.proofs.lemmas.List.Folds.{list_all-append}
-use Rattle.sip_lex.specs.Bytes.{is_space, is_token_byte}
-use Rattle.sip_lex.specs.Hex.{hex_digit}
-use Rattle.sip_text.specs.Message.{is_line_byte}
-use Rattle.sip_via.specs.declared.branch.BranchName.{BranchName}
-use Rattle.sip_via.specs.BranchText.{IsBranch, branch_text}
-use Rattle.sip_via.specs.HexPair.{hex_text}
-use Rattle.sip_lex.proofs.laws.Numbers.{own}
+use Rattle.sip_via.proofs.Common.{◌≡◌, ℕ, suc, get_or, ◌+◌, ◌<◌, ◌≤◌, ◌/◌, ◌%◌, ◌^◌, Bool, true, false, not, cond, eqb, ltb, List, [], ◌∷◌, ◌++◌, refl, sym, ap, ◌∙◌, arith, ◌&&◌, ◌||◌, nat_le, is_ascii_digit, decimal, list_all}
+use Rattle.sip_via.proofs.Common.{AllByRecursion, agree_below_at, and_parts, and_from, cond_both, cond-true, eqb-true, false_from_ne_true, leb-true, le-leb, digits_decimal, list_all-append, is_space, is_token_byte, hex_digit, is_line_byte}
+use Rattle.sip_via.proofs.Common.{BranchName, IsBranch, branch_text, hex_text, own}
 
 abbrev pub no_space : ℕ → Bool
 no_space b = not (is_space b)

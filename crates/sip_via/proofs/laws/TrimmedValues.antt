@@ -1,18 +1,8 @@
 -- Values that a header line may have.
-use Rattle.std.proofs.Common.{◌≡◌, ℕ, ◌-◌, Bool, true, List, ◌++◌, length, take, drop, Option, Some, None, sym, ap, ◌∙◌}
-use Rattle.std.specs.Prelude.{option_map}
-use Rattle.std.specs.List.{list_all, prefix_len, suffix_len}
-use Rattle.std.proofs.lemmas.Bool.{and_parts}
-use Rattle.std.proofs.lemmas.List.{take-append-drop}
-use Rattle.std.proofs.lemmas.List.Folds.{list_all-append}
+use Rattle.sip_via.proofs.Common.{◌≡◌, ℕ, ◌-◌, Bool, true, List, ◌++◌, length, take, drop, Option, Some, None, sym, ap, ◌∙◌, option_map, list_all, prefix_len, suffix_len, and_parts, take-append-drop, list_all-append, Plain, is_space, trim}
+use Rattle.sip_via.proofs.Common.{trim_start, behind, cut_outside, cut_outside_joins, is_line, is_line_byte, is_trimmed, is_value, and_both, trim_trimmed}
 use Rattle.sip_lex.specs.declared.sheltered.Shelter.{Shelter}
-use Rattle.sip_lex.specs.declared.sheltered.Place.TheVariants.{Plain}
-use Rattle.sip_lex.specs.Bytes.{is_space, trim, trim_start}
-use Rattle.sip_lex.specs.Cut.{behind}
-use Rattle.sip_lex.specs.Sheltered.{cut_outside}
-use Rattle.sip_lex.proofs.Shelters.{cut_outside_joins}
-use Rattle.sip_text.specs.Message.{is_line, is_line_byte, is_trimmed, is_value}
-use Rattle.sip_text.proofs.Good.{and_both, behind_line, trim_trimmed}
+use Rattle.sip_text.proofs.laws.Good.{behind_line}
 use Rattle.sip_via.proofs.laws.Replaced.{GoodValue}
 
 pub all-parts : (p : ℕ → Bool) (n : ℕ) (bs : List ℕ) → list_all p bs ≡ true → (list_all p (take n bs) ≡ true) × (list_all p (drop n bs) ≡ true)

@@ -1,4 +1,3 @@
-use Rattle.std.proofs.Common.{◌≡◌, true}
 use Rattle.fork_parts.specs.SeenTaken.{seen_taken}
 use Rattle.fork_parts.specs.Sound.{IsForward}
 use Rattle.call_tests.proofs.Kept.{response_keeps}

@@ -1,4 +1,4 @@
-use Rattle.fork_call.specs.Ending.{AreOverBelow}
+use Rattle.fork_call.specs.inner.Ending.{AreOverBelow}
 use Rattle.fork_call.proofs.call.branches_are_over.Given as goal
 
 -- those before this one have ended

@@ -1,6 +1,4 @@
-use Rattle.std.proofs.Common.{◌∙◌, Bool, sym, ap}
-use Rattle.std.specs.Prelude.{◌&&◌}
-use Rattle.sip_txn.specs.Timers.{is_due}
+use Rattle.fork_call.proofs.Common.{◌∙◌, Bool, sym, ap, ◌&&◌, is_due}
 use Rattle.fork_call.proofs.Carrying.{carried_out}
 use Rattle.fork_call.proofs.Kept.{cut_off_keeps_number}
 use Rattle.fork_call.proofs.port.carry.Goals as goal

@@ -1,9 +1,5 @@
-use Rattle.std.proofs.Common.{refl, sym, subst, arith}
-use Rattle.fork_parts.specs.Call.{Call}
-use Rattle.fork_call.specs.Carry.{Carries, Sent, Lost, Silent}
-use Rattle.fork_parts.specs.Pump.{Pumps, Send}
+use Rattle.fork_call.proofs.Common.{refl, sym, subst, arith, Call, Carries, Sent, Lost, Silent, Pumps, Send, pumped}
 use Rattle.fork_parts.specs.SeenDatagram.{seen}
-use Rattle.fork_parts.specs.SeenStep.{pumped}
 use Rattle.fork_parts.specs.declared.step.Step.{Step}
 use Rattle.fork_call.proofs.Arriving.{on_err}
 use Rattle.fork_call.proofs.Carrying.{cut_before, cut_untold, so_far_sent, so_far_lost, so_far_silent}

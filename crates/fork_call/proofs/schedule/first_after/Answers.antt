@@ -1,8 +1,6 @@
-use Rattle.std.proofs.Common.{◌≡◌, ◌∙◌, ap, refl, sym, subst, eq-eqb, true, Option, Some, None, List, ℕ}
+use Rattle.fork_call.proofs.Common.{◌≡◌, ◌∙◌, ap, refl, sym, subst, true, Option, Some, None, List, ℕ, ◌==◌, earlier, least_of, moment_at}
+use Rattle.std.proofs.Common.{eq-eqb}
 use Rattle.std.specs.Option.{option_eq}
-use Rattle.std.specs.Prelude.{◌==◌}
-use Rattle.sip_txn.specs.Timers.{earlier}
-use Rattle.fork_call.specs.Scheduled.{least_of, moment_at}
 use Rattle.fork_call.proofs.Leasts.{first_stays, set_is_first}
 use Rattle.fork_call.proofs.schedule.first_after.Goals as goal
 

@@ -1,5 +1,4 @@
-use Rattle.std.proofs.Common.{◌≡◌, take}
-use Rattle.fork_call.specs.Scheduled.{least_of, moment_at}
+use Rattle.fork_call.proofs.Common.{◌≡◌, take, least_of, moment_at}
 use Rattle.fork_call.proofs.schedule.first_of.Given as goal
 
 -- the earliest of the rows before this one stands at this place

@@ -1,7 +1,6 @@
-use Rattle.std.proofs.Common.{subst, sym}
-use Rattle.fork_parts.specs.Take.{Absorbed, TakesAs}
+use Rattle.fork_call.proofs.Common.{subst, sym, TakesAs, seen_recipient}
+use Rattle.fork_parts.specs.Take.{Absorbed}
 use Rattle.fork_routing.specs.declared.transaction.Recipient.{Recipient}
-use Rattle.fork_routing.specs.SeenRecipient.{seen_recipient}
 use Rattle.fork_call.proofs.taking.give.Goals as goal
 
 pub returns-clause-step : goal.returns-clause-step

@@ -1,5 +1,4 @@
-use Rattle.std.proofs.Common.{◌≡◌, take}
-use Rattle.fork_call.specs.Scheduled.{scheduled}
+use Rattle.fork_call.proofs.Common.{◌≡◌, take, scheduled}
 use Rattle.fork_call.proofs.timing.schedule_of.Given as goal
 
 -- the rows before this one have their moments

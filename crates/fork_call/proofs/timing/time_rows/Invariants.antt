@@ -1,5 +1,4 @@
-use Rattle.std.proofs.Common.{◌≡◌, take}
-use Rattle.fork_call.specs.Timing.{timed}
+use Rattle.fork_call.proofs.Common.{◌≡◌, take, timed}
 use Rattle.fork_call.proofs.timing.time_rows.Given as goal
 
 -- the rows before this one are timed anew

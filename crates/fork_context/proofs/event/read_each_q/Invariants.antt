@@ -1,5 +1,4 @@
-use Rattle.std.proofs.Common.{take}
-use Rattle.std.specs.List.{AllByRecursion}
+use Rattle.fork_context.proofs.Common.{take, AllByRecursion}
 use Rattle.fork_model.specs.Range.{IsOfferInRange}
 use Rattle.fork_context.proofs.event.read_each_q.Given as goal
 

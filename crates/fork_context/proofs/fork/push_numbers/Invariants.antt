@@ -1,6 +1,4 @@
-use Rattle.std.proofs.Common.{◌≡◌, ◌≤◌}
-use Rattle.std.specs.Prelude.{vec_capacity}
-use Rattle.fork_context.specs.Ready.{numbers_from}
+use Rattle.fork_context.proofs.Common.{◌≡◌, ◌≤◌, vec_capacity, numbers_from}
 use Rattle.fork_context.proofs.fork.push_numbers.Given as goal
 
 abbrev pub invariant-loop-n : goal.invariant-loop-n

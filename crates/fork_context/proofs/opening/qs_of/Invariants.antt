@@ -1,7 +1,4 @@
-use Rattle.std.proofs.Common.{◌≡◌, map, take}
-use Rattle.std.specs.List.{AllByRecursion}
-use Rattle.fork_model.specs.History.{Target}
-use Rattle.fork_model.specs.Range.{IsTargetInRange}
+use Rattle.fork_context.proofs.Common.{◌≡◌, map, take, AllByRecursion, Target, IsTargetInRange}
 use Rattle.fork_context.proofs.opening.qs_of.Given as goal
 
 abbrev pub invariant-loop-target : goal.invariant-loop-target

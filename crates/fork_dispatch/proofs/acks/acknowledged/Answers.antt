@@ -1,8 +1,6 @@
-use Rattle.std.proofs.Common.{None, ap, refl, subst, sym, ◌∙◌}
+use Rattle.fork_dispatch.proofs.Common.{None, ap, refl, subst, sym, ◌∙◌, Passes, seen_sent}
 use Rattle.std.proofs.lemmas.Bool.{false≢true}
 use Rattle.fork_dispatch.specs.declared.datagrams.Handled.TheVariants.{Dropped}
-use Rattle.fork_dispatch.specs.Passing.{Passes}
-use Rattle.fork_dispatch.specs.Sent.{seen_sent}
 use Rattle.fork_dispatch.proofs.Becoming.{becomes_at, dropped_ack}
 use Rattle.fork_dispatch.proofs.acks.acknowledged.Goals as goal
 

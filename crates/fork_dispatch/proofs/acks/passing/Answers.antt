@@ -1,9 +1,5 @@
-use Rattle.std.proofs.Common.{inl, subst, sym, ◌∙◌}
-use Rattle.std.proofs.lemmas.Result.{IfOk-weaker}
-use Rattle.sip_via.specs.declared.own.Own.{Own}
-use Rattle.fork_routing.specs.Admission.{IsAdmitted}
+use Rattle.fork_dispatch.proofs.Common.{inl, subst, sym, ◌∙◌, IfOk-weaker, Own, IsAdmitted, seen_sent}
 use Rattle.fork_routing.specs.Refusing.{IsTurnedAway}
-use Rattle.fork_dispatch.specs.Sent.{seen_sent}
 use Rattle.fork_dispatch.proofs.Becoming.{passes_if}
 use Rattle.fork_dispatch.proofs.acks.passing.Goals as goal
 

@@ -1,5 +1,4 @@
-use Rattle.std.proofs.Common.{◌∙◌, sym}
-use Rattle.std.proofs.lemmas.Result.{IfOk-weaker}
+use Rattle.fork_dispatch.proofs.Common.{◌∙◌, sym, IfOk-weaker}
 use Rattle.sip_via.specs.Received.{marked}
 use Rattle.fork_dispatch.proofs.Becoming.{unmarked_answer}
 use Rattle.fork_dispatch.proofs.answers.answer_of.Goals as goal

@@ -1,6 +1,5 @@
-use Rattle.std.proofs.lemmas.Result.{IfOk-weaker}
+use Rattle.fork_dispatch.proofs.Common.{IfOk-weaker, seen_sent}
 use Rattle.sip_text.specs.Fault.{fault_seen}
-use Rattle.fork_dispatch.specs.Sent.{seen_sent}
 use Rattle.fork_dispatch.proofs.Becoming.{unread_becomes}
 use Rattle.fork_dispatch.proofs.datagrams.outcome_of.Goals as goal
 

@@ -1,6 +1,4 @@
-use Rattle.std.proofs.lemmas.Result.{IfOk-weaker}
-use Rattle.fork_dispatch.specs.declared.purpose.Purpose.TheVariants.{Opening}
-use Rattle.fork_dispatch.specs.Sent.{seen_sent}
+use Rattle.fork_dispatch.proofs.Common.{IfOk-weaker, Opening, seen_sent}
 use Rattle.fork_dispatch.proofs.Becoming.{fed, same_read}
 use Rattle.fork_dispatch.proofs.requests.opened.Goals as goal
 

@@ -1,6 +1,5 @@
-use Rattle.std.proofs.Common.{Some, ap, ◌∙◌}
+use Rattle.fork_dispatch.proofs.Common.{Some, ap, ◌∙◌, seen_sent}
 use Rattle.sip_build.specs.declared.responses.OwnStatus.TheVariants as own
-use Rattle.fork_dispatch.specs.Sent.{seen_sent}
 use Rattle.fork_dispatch.proofs.Becoming.{answered_so, none_key, unkeyed}
 use Rattle.fork_dispatch.proofs.requests.requested.Goals as goal
 

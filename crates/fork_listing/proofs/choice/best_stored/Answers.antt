@@ -1,7 +1,6 @@
-use Rattle.std.proofs.Common.{◌∙◌, List, map, subst}
-use Rattle.fork_tree.specs.declared.row.RowRef.{RowRef}
+use Rattle.fork_listing.proofs.Common.{◌∙◌, List, map, subst, RowRef, IsBest}
 use Rattle.fork_tree.specs.Given.{given_row}
-use Rattle.fork_tree.specs.Tree.{Tree, IsBest}
+use Rattle.fork_tree.specs.Tree.{Tree}
 use Rattle.fork_listing.proofs.TreeRows.{are_rows, best_same}
 use Rattle.fork_listing.proofs.choice.best_stored.Goals as goal
 

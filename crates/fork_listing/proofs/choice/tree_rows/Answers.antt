@@ -1,8 +1,4 @@
-use Rattle.std.proofs.Common.{◌≡◌, ◌<◌, ◌≤◌, ◌+◌, ◌∷◌, ◌++◌, ◌∙◌, [], List, Option, Some, length, ap, sym, subst, arith}
-use Rattle.std.specs.Prelude.{slice_get}
-use Rattle.fork_model.specs.Table.{most_targets}
-use Rattle.fork_tree.specs.declared.row.RowRef.{RowRef}
-use Rattle.fork_listing.specs.TreeRows.{group_kept, row_behind, last_row}
+use Rattle.fork_listing.proofs.Common.{◌≡◌, ◌<◌, ◌≤◌, ◌+◌, ◌∷◌, ◌++◌, ◌∙◌, [], List, Option, Some, length, ap, sym, subst, arith, slice_get, most_targets, RowRef, group_kept, row_behind, last_row}
 use Rattle.fork_listing.proofs.Placing.{at_index}
 use Rattle.fork_listing.proofs.TreeRows.{AreBegun, rows_more, rows_done, group_more}
 use Rattle.fork_listing.proofs.choice.tree_rows.Goals as goal

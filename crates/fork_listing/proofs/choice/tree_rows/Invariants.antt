@@ -1,5 +1,4 @@
-use Rattle.std.proofs.Common.{length, ◌-◌, ◌≤◌}
-use Rattle.fork_listing.specs.TreeRows.{group_kept, last_row}
+use Rattle.fork_listing.proofs.Common.{length, ◌-◌, ◌≤◌, group_kept, last_row}
 use Rattle.fork_listing.proofs.TreeRows.{AreBegun}
 use Rattle.fork_listing.proofs.choice.tree_rows.Given as goal
 

@@ -1,5 +1,4 @@
-use Rattle.std.proofs.Common.{◌≡◌, ◌++◌, take}
-use Rattle.fork_listing.specs.Text.{ranks_text}
+use Rattle.fork_listing.proofs.Common.{◌≡◌, ◌++◌, take, ranks_text}
 use Rattle.fork_listing.proofs.print.append_ranks.Given as goal
 
 abbrev pub invariant-loop-ranked : goal.invariant-loop-ranked

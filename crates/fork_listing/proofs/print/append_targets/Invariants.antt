@@ -1,5 +1,4 @@
-use Rattle.std.proofs.Common.{◌≡◌, ◌++◌, take}
-use Rattle.fork_listing.specs.Text.{targets_text}
+use Rattle.fork_listing.proofs.Common.{◌≡◌, ◌++◌, take, targets_text}
 use Rattle.fork_listing.proofs.print.append_targets.Given as goal
 
 abbrev pub invariant-loop-target : goal.invariant-loop-target

@@ -1,7 +1,5 @@
-use Rattle.std.proofs.Common.{◌≡◌, true, Some, length, subst, arith}
-use Rattle.std.specs.Prelude.{slice_get}
-use Rattle.fork_listing.specs.declared.line.Ranked.{Ranked}
-use Rattle.fork_listing.specs.Ranks.{IsInOrder, IsOrdered}
+use Rattle.fork_listing.proofs.Common.{◌≡◌, true, Some, length, subst, arith, slice_get, Ranked, IsOrdered}
+use Rattle.fork_listing.specs.Ranks.{IsInOrder}
 use Rattle.fork_listing.proofs.Placing.{at_index, one_at, holds_next, holds_all}
 use Rattle.fork_listing.proofs.ranks.first_misordered.Goals as goal
 

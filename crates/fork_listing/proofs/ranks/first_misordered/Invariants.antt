@@ -1,6 +1,4 @@
-use Rattle.std.proofs.Common.{length, ◌-◌}
-use Rattle.fork_listing.specs.First.{HoldsBelow}
-use Rattle.fork_listing.specs.Ranks.{IsOrdered}
+use Rattle.fork_listing.proofs.Common.{length, ◌-◌, HoldsBelow, IsOrdered}
 use Rattle.fork_listing.proofs.ranks.first_misordered.Given as goal
 
 abbrev pub invariant-loop-k : goal.invariant-loop-k

@@ -1,6 +1,4 @@
-use Rattle.std.proofs.Common.{◌≡◌, ◌<◌, ◌∙◌, true, false, Some, length, sym, arith}
-use Rattle.std.specs.Prelude.{slice_get}
-use Rattle.fork_listing.specs.Ranks.{IsListed}
+use Rattle.fork_listing.proofs.Common.{◌≡◌, ◌<◌, ◌∙◌, true, false, Some, length, sym, arith, slice_get, IsListed}
 use Rattle.fork_listing.proofs.Placing.{at_index, holds_next}
 use Rattle.fork_listing.proofs.Listed.{accounted, not_accounted}
 use Rattle.fork_listing.proofs.ranks.first_unlisted.Goals as goal

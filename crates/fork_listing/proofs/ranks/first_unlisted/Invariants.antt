@@ -1,6 +1,4 @@
-use Rattle.std.proofs.Common.{length, ◌-◌}
-use Rattle.fork_listing.specs.First.{HoldsBelow}
-use Rattle.fork_listing.specs.Ranks.{IsListed}
+use Rattle.fork_listing.proofs.Common.{length, ◌-◌, HoldsBelow, IsListed}
 use Rattle.fork_listing.proofs.ranks.first_unlisted.Given as goal
 
 abbrev pub invariant-loop-n : goal.invariant-loop-n

@@ -1,6 +1,4 @@
-use Rattle.std.proofs.Common.{length, ◌-◌, ◌≤◌}
-use Rattle.fork_listing.specs.Near.{Holds}
-use Rattle.fork_listing.specs.Stored.{number_at}
+use Rattle.fork_listing.proofs.Common.{length, ◌-◌, ◌≤◌, Holds, number_at}
 use Rattle.fork_listing.proofs.ranks.numbers_of.Given as goal
 
 abbrev pub invariant-loop-k : goal.invariant-loop-k

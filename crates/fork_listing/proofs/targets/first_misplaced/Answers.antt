@@ -1,8 +1,4 @@
-use Rattle.std.proofs.Common.{◌≡◌, ◌<◌, ◌≤◌, ◌+◌, ◌∙◌, ◌∷◌, ◌++◌, [], ℕ, true, false, List, Some, length, sym, subst, arith}
-use Rattle.std.specs.Prelude.{slice_get}
-use Rattle.std.proofs.lemmas.Bool.{false≢true}
-use Rattle.fork_listing.specs.Targets.{ended_at, HasDepth, IsInPlace, IsPlaced}
-use Rattle.fork_listing.specs.Near.{IsNear}
+use Rattle.fork_listing.proofs.Common.{◌≡◌, ◌<◌, ◌≤◌, ◌+◌, ◌∙◌, ◌∷◌, ◌++◌, [], ℕ, true, false, List, Some, length, sym, subst, arith, slice_get, false≢true, ended_at, HasDepth, IsInPlace, IsPlaced, IsNear}
 use Rattle.fork_listing.proofs.Placing.{at_index, holds_all, AreDepths, depth_right, depths_more, in_place, near_of, too_deep, placed_more, ended}
 use Rattle.fork_listing.proofs.Sets.{holds_more, noted_before, noted_first}
 use Rattle.fork_listing.proofs.targets.first_misplaced.Goals as goal

@@ -1,6 +1,4 @@
-use Rattle.std.proofs.Common.{length, ◌-◌, ◌≤◌}
-use Rattle.fork_listing.specs.Targets.{ended_at}
-use Rattle.fork_listing.specs.Near.{Holds}
+use Rattle.fork_listing.proofs.Common.{length, ◌-◌, ◌≤◌, ended_at, Holds}
 use Rattle.fork_listing.proofs.Placing.{ArePlaced, AreDepths}
 use Rattle.fork_listing.proofs.targets.first_misplaced.Given as goal
 

@@ -1,4 +1,4 @@
-use Rattle.fork_model.proofs.OrderLemmas.{Before-decide, Before-between}
+use Rattle.fork_model.proofs.laws.OrderLemmas.{Before-decide, Before-between}
 use Rattle.fork_model.proofs.order.first_can_be_kept.Goals as goal
 
 pub returns-clause-decided : goal.returns-clause-decided

@@ -1,4 +1,4 @@
-use Rattle.fork_model.proofs.OrderLemmas.{Before-irrefl, Before-trans, Before-total, ranks_irrefl, ranks_trans, ranks_total_apart}
+use Rattle.fork_model.proofs.laws.OrderLemmas.{Before-irrefl, Before-trans, Before-total, ranks_irrefl, ranks_trans, ranks_total_apart}
 use Rattle.fork_model.proofs.order.order_is_strict_and_total.Goals as goal
 
 pub returns-clause-irreflexive : goal.returns-clause-irreflexive

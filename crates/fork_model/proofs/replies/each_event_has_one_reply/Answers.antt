@@ -1,10 +1,7 @@
-use Rattle.std.proofs.Common.{suc, length}
-use Rattle.fork_model.specs.Table.{Table}
-use Rattle.fork_model.specs.Step.{next}
-use Rattle.fork_model.specs.History.{table}
-use Rattle.fork_model.proofs.Arrivals.{next_arrivals, history_of_arrivals}
+use Rattle.fork_model.proofs.Common.{suc, length, Table, next, table}
+use Rattle.fork_model.proofs.laws.Arrivals.{next_arrivals, history_of_arrivals}
 use Rattle.fork_model.proofs.ComputedReplies.{reply_to, reply_to_is}
-use Rattle.fork_model.proofs.OneReplyLemmas.{one_choice, one_reply}
+use Rattle.fork_model.proofs.laws.OneReplyLemmas.{one_choice, one_reply}
 use Rattle.fork_model.proofs.OneOutcome.{one_outcome, one_history}
 use Rattle.fork_model.proofs.replies.each_event_has_one_reply.Goals as goal
 

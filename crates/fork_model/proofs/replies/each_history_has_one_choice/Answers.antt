@@ -1,8 +1,7 @@
-use Rattle.std.proofs.Common.{length}
-use Rattle.fork_model.specs.History.{table}
-use Rattle.fork_model.proofs.Arrivals.{history_of_arrivals}
+use Rattle.fork_model.proofs.Common.{length, table}
+use Rattle.fork_model.proofs.laws.Arrivals.{history_of_arrivals}
 use Rattle.fork_model.proofs.FirstStored.{choice_of, choice_of_is}
-use Rattle.fork_model.proofs.OneReplyLemmas.{one_choice}
+use Rattle.fork_model.proofs.laws.OneReplyLemmas.{one_choice}
 use Rattle.fork_model.proofs.replies.each_history_has_one_choice.Goals as goal
 
 pub returns-clause-some : goal.returns-clause-some

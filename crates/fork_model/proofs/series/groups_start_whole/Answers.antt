@@ -1,4 +1,4 @@
-use Rattle.fork_model.proofs.SeriesLemmas.{groups_whole}
+use Rattle.fork_model.proofs.laws.SeriesLemmas.{groups_whole}
 use Rattle.fork_model.proofs.series.groups_start_whole.Goals as goal
 
 pub returns : goal.returns

@@ -1,5 +1,5 @@
-use Rattle.fork_model.proofs.OpeningSeries.{opening_in_series}
-use Rattle.fork_model.proofs.SeriesLemmas.{keeps_series}
+use Rattle.fork_model.proofs.laws.OpeningSeries.{opening_in_series}
+use Rattle.fork_model.proofs.laws.SeriesLemmas.{keeps_series}
 use Rattle.fork_model.proofs.series.groups_wait_in_series.Goals as goal
 
 pub returns-clause-at_first : goal.returns-clause-at_first

@@ -1,5 +1,5 @@
-use Rattle.fork_model.proofs.OpeningSeries.{one_group_at_a_time}
-use Rattle.fork_model.proofs.SeriesLemmas.{one_group_starts}
+use Rattle.fork_model.proofs.laws.OpeningSeries.{one_group_at_a_time}
+use Rattle.fork_model.proofs.laws.SeriesLemmas.{one_group_starts}
 use Rattle.fork_model.proofs.series.one_group_starts_at_a_time.Goals as goal
 
 pub returns-clause-by_event : goal.returns-clause-by_event

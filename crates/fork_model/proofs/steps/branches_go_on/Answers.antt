@@ -1,4 +1,4 @@
-use Rattle.fork_model.proofs.StepLemmas.{branches_go, branches_always_go}
+use Rattle.fork_model.proofs.laws.StepLemmas.{branches_go, branches_always_go}
 use Rattle.fork_model.proofs.steps.branches_go_on.Goals as goal
 
 pub returns-clause-by_event : goal.returns-clause-by_event

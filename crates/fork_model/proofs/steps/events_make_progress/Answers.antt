@@ -1,4 +1,4 @@
-use Rattle.fork_model.proofs.StepLemmas.{event_progress, no_progress_undone, settling_progress, progress_bounded}
+use Rattle.fork_model.proofs.laws.StepLemmas.{event_progress, no_progress_undone, settling_progress, progress_bounded}
 use Rattle.fork_model.proofs.steps.events_make_progress.Goals as goal
 
 pub returns-clause-by_event : goal.returns-clause-by_event

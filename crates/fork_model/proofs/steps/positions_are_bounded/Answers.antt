@@ -1,5 +1,5 @@
-use Rattle.fork_model.proofs.ContactLemmas.{taken_bounded}
-use Rattle.fork_model.proofs.StepLemmas.{positions_bounded}
+use Rattle.fork_model.proofs.laws.ContactLemmas.{taken_bounded}
+use Rattle.fork_model.proofs.laws.StepLemmas.{positions_bounded}
 use Rattle.fork_model.proofs.steps.positions_are_bounded.Goals as goal
 
 pub returns-clause-by_event : goal.returns-clause-by_event

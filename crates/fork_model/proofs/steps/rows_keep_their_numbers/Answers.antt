@@ -1,4 +1,4 @@
-use Rattle.fork_model.proofs.StepLemmas.{rows_keep_numbers, rows_always_keep_numbers}
+use Rattle.fork_model.proofs.laws.StepLemmas.{rows_keep_numbers, rows_always_keep_numbers}
 use Rattle.fork_model.proofs.steps.rows_keep_their_numbers.Goals as goal
 
 pub returns-clause-by_event : goal.returns-clause-by_event

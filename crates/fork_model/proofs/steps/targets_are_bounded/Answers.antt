@@ -1,4 +1,4 @@
-use Rattle.fork_model.proofs.ContactLemmas.{each_target, targets_bounded}
+use Rattle.fork_model.proofs.laws.ContactLemmas.{each_target, targets_bounded}
 use Rattle.fork_model.proofs.steps.targets_are_bounded.Goals as goal
 
 pub returns-clause-at_first : goal.returns-clause-at_first

@@ -1,6 +1,4 @@
-use Rattle.std.proofs.Common.{◌≡◌, map, take}
-use Rattle.sip_build.specs.SeenKept.{texts}
-use Rattle.fork_parts.specs.Built.{text_of}
+use Rattle.fork_parts.proofs.Common.{◌≡◌, map, take, texts, text_of}
 use Rattle.fork_parts.proofs.answers.texts_of.Given as goal
 
 abbrev pub invariant-loop-offer : goal.invariant-loop-offer

@@ -1,7 +1,4 @@
-use Rattle.std.proofs.Common.{◌≡◌, ◌++◌}
-use Rattle.std.specs.List.{flat_map}
-use Rattle.sip_uri.specs.SeenContact.{view_contacts}
-use Rattle.fork_parts.specs.Response.{contacts_at}
+use Rattle.fork_parts.proofs.Common.{◌≡◌, ◌++◌, flat_map, view_contacts, contacts_at}
 use Rattle.fork_parts.proofs.contacts.add_each.Given as goal
 
 abbrev pub invariant-loop-value : goal.invariant-loop-value

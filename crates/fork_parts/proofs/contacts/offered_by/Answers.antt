@@ -1,6 +1,4 @@
-use Rattle.std.proofs.Common.{sym, subst, List}
-use Rattle.std.specs.List.{AllByRecursion}
-use Rattle.sip_uri.specs.Contact.{ContactText}
+use Rattle.fork_parts.proofs.Common.{sym, subst, List, AllByRecursion, ContactText}
 use Rattle.fork_parts.proofs.Weights.{IsWeighed, contacts_weighed}
 use Rattle.fork_parts.proofs.contacts.offered_by.Goals as goal
 

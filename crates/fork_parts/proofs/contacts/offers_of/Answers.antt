@@ -1,10 +1,5 @@
-use Rattle.std.proofs.Common.{◌≡◌, ◌∙◌, ◌∷◌, ◌++◌, [], ap, refl, sym, subst, map, arith, length, List, append-nil}
-use Rattle.std.specs.List.{AllByRecursion}
-use Rattle.std.specs.Vec.Iter.{into_iter_items}
-use Rattle.sip_uri.specs.Contact.{ContactText}
-use Rattle.sip_uri.specs.SeenContact.{view_contact, view_contacts}
-use Rattle.fork_parts.specs.Posting.{way_of_contact}
-use Rattle.fork_parts.specs.Response.{offer_of}
+use Rattle.fork_parts.proofs.Common.{◌≡◌, ◌∙◌, ◌∷◌, ◌++◌, [], ap, refl, sym, subst, map, arith, length, List, append-nil, AllByRecursion, into_iter_items, ContactText, view_contacts, way_of_contact, offer_of}
+use Rattle.sip_uri.specs.SeenContact.{view_contact}
 use Rattle.fork_parts.proofs.Weights.{IsWeighed, weighed_here}
 use Rattle.fork_parts.proofs.contacts.offers_of.Goals as goal
 

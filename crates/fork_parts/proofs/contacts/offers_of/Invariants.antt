@@ -1,8 +1,5 @@
-use Rattle.std.proofs.Common.{◌≡◌, ◌++◌, length, map}
-use Rattle.std.specs.Vec.Iter.{into_iter_items, into_iter_len}
-use Rattle.sip_uri.specs.SeenContact.{view_contacts}
-use Rattle.fork_parts.specs.Posting.{way_of_contact}
-use Rattle.fork_parts.specs.Response.{offer_of}
+use Rattle.fork_parts.proofs.Common.{◌≡◌, ◌++◌, length, map, into_iter_items, view_contacts, way_of_contact, offer_of}
+use Rattle.std.specs.Vec.Iter.{into_iter_len}
 use Rattle.fork_parts.proofs.contacts.offers_of.Given as goal
 
 abbrev pub invariant-loop-contact : goal.invariant-loop-contact

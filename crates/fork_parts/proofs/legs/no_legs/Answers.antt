@@ -1,5 +1,4 @@
-use Rattle.std.proofs.Common.{◌≡◌, ◌∙◌, ap, arith}
-use Rattle.fork_parts.specs.LegInside.{no_legs}
+use Rattle.fork_parts.proofs.Common.{◌≡◌, ◌∙◌, ap, arith, no_legs}
 use Rattle.fork_parts.proofs.legs.no_legs.Goals as goal
 
 pub returns : goal.returns

@@ -1,5 +1,4 @@
-use Rattle.std.proofs.Common.{◌≡◌}
-use Rattle.fork_parts.specs.LegInside.{no_legs}
+use Rattle.fork_parts.proofs.Common.{◌≡◌, no_legs}
 use Rattle.fork_parts.proofs.legs.no_legs.Given as goal
 
 abbrev pub invariant-loop-place : goal.invariant-loop-place

@@ -1,7 +1,4 @@
-use Rattle.std.proofs.Common.{◌≡◌, ◌∙◌, ap, sym, Option, Some, None, slice_get, slice_set}
-use Rattle.fork_parts.specs.Call.{found}
-use Rattle.fork_parts.specs.Datagrams.{ack_on}
-use Rattle.fork_parts.specs.Leg.{Leg}
+use Rattle.fork_parts.proofs.Common.{◌≡◌, ◌∙◌, ap, sym, Option, Some, None, slice_get, slice_set, found, ack_on, Leg}
 use Rattle.fork_parts.proofs.LegLists.{changed_some, changed_none, get_is}
 use Rattle.fork_parts.proofs.legs.take_ack_of.Goals as goal
 

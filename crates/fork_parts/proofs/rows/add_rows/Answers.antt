@@ -1,6 +1,4 @@
-use Rattle.std.proofs.Common.{◌≡◌, ◌≤◌, ◌∙◌, suc, ap, arith, length, refl}
-use Rattle.fork_book.specs.Log.{table_of}
-use Rattle.fork_parts.specs.NewWays.{count_in, without}
+use Rattle.fork_parts.proofs.Common.{◌≡◌, ◌≤◌, ◌∙◌, suc, ap, arith, length, refl, table_of, count_in, without}
 use Rattle.fork_parts.proofs.NewWays.{count_most, count_without, finds, go_on, one_leg_more, one_more}
 use Rattle.fork_parts.proofs.rows.add_rows.Goals as goal
 

@@ -1,8 +1,6 @@
-use Rattle.std.proofs.Common.{◌≡◌, ◌+◌, ◌≤◌, ◌++◌, drop, map, vec_len, vec_capacity}
+use Rattle.fork_parts.proofs.Common.{◌≡◌, ◌+◌, ◌≤◌, ◌++◌, drop, map, table_of, HaveWays, count_in, way_for, no_leg}
+use Rattle.std.proofs.Common.{vec_len, vec_capacity}
 use Rattle.std.specs.List.{filter_map}
-use Rattle.fork_book.specs.Log.{table_of}
-use Rattle.fork_parts.specs.NewWays.{HaveWays, count_in, way_for}
-use Rattle.fork_parts.specs.Posting.{no_leg}
 use Rattle.fork_parts.proofs.rows.add_rows.Given as goal
 
 -- the rows that are left have their ways yet, and there is room for them

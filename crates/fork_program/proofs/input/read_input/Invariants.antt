@@ -1,6 +1,5 @@
-use Rattle.std.proofs.Common.{◌≡◌, ◌+◌, ◌≤◌, length, vec_len}
-use Rattle.std.specs.Io.KnownBytes.{Consumes}
-use Rattle.fork_program.specs.Faults.{most_text}
+use Rattle.fork_program.proofs.Common.{◌≡◌, ◌+◌, ◌≤◌, length, Consumes, most_text}
+use Rattle.std.proofs.Common.{vec_len}
 use Rattle.fork_program.proofs.input.read_input.Given as goal
 
 abbrev pub invariant-loop : goal.invariant-loop

@@ -1,4 +1,4 @@
-use Rattle.fork_program.specs.LineView.{line_of}
+use Rattle.fork_program.specs.inner.LineView.{line_of}
 use Rattle.fork_program.proofs.SpelledLines.{reads_only, reads_found}
 use Rattle.fork_program.proofs.line.read_line.Goals as goal
 

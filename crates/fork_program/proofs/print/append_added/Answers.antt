@@ -1,8 +1,4 @@
-use Rattle.std.proofs.Common.{◌≡◌, ◌∙◌, ◌++◌, List, Some, ap, subst}
-use Rattle.std.specs.Prelude.{OnOk}
-use Rattle.fork_model.specs.Table.{Challenge}
-use Rattle.fork_model.specs.Challenges.{challenge_list}
-use Rattle.fork_program.specs.Replay.{added_lines}
+use Rattle.fork_program.proofs.Common.{◌≡◌, ◌∙◌, ◌++◌, List, Some, ap, subst, OnOk, Challenge, challenge_list, added_lines}
 use Rattle.fork_program.proofs.print.append_added.Goals as goal
 
 pub returns : goal.returns

@@ -1,5 +1,4 @@
-use Rattle.std.proofs.Common.{◌≡◌, ◌++◌, take}
-use Rattle.fork_program.specs.Replay.{added_lines}
+use Rattle.fork_program.proofs.Common.{◌≡◌, ◌++◌, take, added_lines}
 use Rattle.fork_program.proofs.print.append_challenges.Given as goal
 
 abbrev pub invariant-loop-challenge : goal.invariant-loop-challenge

@@ -1,6 +1,4 @@
-use Rattle.std.proofs.Common.{◌≡◌, ◌+◌, ◌<◌, ◌∙◌, true, false, length, ap, sym, arith}
-use Rattle.std.specs.Prelude.{slice_get, not}
-use Rattle.fork_model.specs.Table.{is_ended, is_row}
+use Rattle.fork_program.proofs.Common.{◌≡◌, ◌+◌, ◌<◌, ◌∙◌, true, false, length, ap, sym, arith, slice_get, not, is_ended, is_row}
 use Rattle.fork_program.proofs.Rows.{counted_yes, counted_no}
 use Rattle.fork_program.proofs.print.branches_left.Goals as goal
 use Rattle.fork_program.proofs.print.branches_left.Goals.{then-is_left, else-is_left}

@@ -1,6 +1,4 @@
-use Rattle.std.proofs.Common.{◌≡◌, ◌≤◌, take}
-use Rattle.std.specs.Prelude.{count_by, not}
-use Rattle.fork_model.specs.Table.{is_ended}
+use Rattle.fork_program.proofs.Common.{◌≡◌, ◌≤◌, take, count_by, not, is_ended}
 use Rattle.fork_program.proofs.print.branches_left.Given as goal
 
 abbrev pub invariant-loop-n : goal.invariant-loop-n

@@ -1,6 +1,4 @@
-use Rattle.std.proofs.Common.{◌∙◌, ℕ, Bool, sym}
-use Rattle.std.specs.Prelude.{slice_get}
-use Rattle.fork_model.specs.Table.{is_trying, is_row}
+use Rattle.fork_program.proofs.Common.{◌∙◌, ℕ, Bool, sym, slice_get, is_trying, is_row}
 use Rattle.fork_program.proofs.Rows.{listed_yes, listed_no}
 use Rattle.fork_program.proofs.print.tried.Goals as goal
 use Rattle.fork_program.proofs.print.tried.Goals.{then-is_tried+in_ok-push, else-is_tried}

@@ -1,6 +1,4 @@
-use Rattle.std.proofs.Common.{◌≡◌, ◌∷◌, ◌++◌, ◌∙◌, [], List, map, ap, sym, append_assoc}
-use Rattle.fork_model.specs.Event.{Event}
-use Rattle.fork_context.specs.EventView.{event_of}
+use Rattle.fork_program.proofs.Common.{◌≡◌, ◌∷◌, ◌++◌, ◌∙◌, [], List, map, ap, sym, append_assoc, Event, event_of}
 use Rattle.fork_program.proofs.Outcomes.{adds_one}
 use Rattle.fork_program.proofs.replay.append_outcomes.Goals as goal
 

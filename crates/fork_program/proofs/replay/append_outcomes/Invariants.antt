@@ -1,7 +1,4 @@
-use Rattle.std.proofs.Common.{◌≡◌, ◌++◌, List, map, length}
-use Rattle.fork_model.specs.Event.{Event}
-use Rattle.fork_context.specs.EventView.{event_of}
-use Rattle.fork_program.specs.Replay.{AddsOutcomes}
+use Rattle.fork_program.proofs.Common.{◌≡◌, ◌++◌, List, map, length, Event, event_of, AddsOutcomes}
 use Rattle.fork_program.proofs.replay.append_outcomes.Given as goal
 
 -- the events offered so far have their lines

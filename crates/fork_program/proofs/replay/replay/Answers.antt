@@ -1,9 +1,5 @@
-use Rattle.std.proofs.Common.{◌≡◌, map, ap, sym, subst, refl}
+use Rattle.fork_program.proofs.Common.{◌≡◌, map, ap, sym, subst, refl, event_of, kind_of, Script, IsForkReplay}
 use Rattle.std.proofs.lemmas.Result.{err_from_is_err_and}
-use Rattle.fork_context.specs.EventView.{event_of}
-use Rattle.fork_context.specs.KindView.{kind_of}
-use Rattle.fork_program.specs.Script.{Script}
-use Rattle.fork_program.specs.Faults.{IsForkReplay}
 use Rattle.fork_program.proofs.Headline.{tells_one_final}
 use Rattle.fork_program.proofs.Outcomes.{is_replay}
 use Rattle.fork_program.proofs.Refusing.{fork_refused, fork_taken}

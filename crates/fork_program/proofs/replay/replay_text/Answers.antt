@@ -1,7 +1,4 @@
-use Rattle.std.proofs.Common.{◌≡◌, ◌++◌, ◌∙◌, List, ℕ, ap, sym, subst}
-use Rattle.fork_program.specs.Script.{Script}
-use Rattle.fork_program.specs.Faults.{IsForkReplay}
-use Rattle.fork_program.specs.Headline.{IsDone, TellsOneFinal}
+use Rattle.fork_program.proofs.Common.{◌≡◌, ◌++◌, ◌∙◌, List, ℕ, ap, sym, subst, Script, IsForkReplay, IsDone, TellsOneFinal}
 use Rattle.fork_program.proofs.SpelledScripts.{ok_is}
 use Rattle.fork_program.proofs.replay.replay_text.Goals as goal
 

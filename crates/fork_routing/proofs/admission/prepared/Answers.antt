@@ -1,6 +1,5 @@
-use Rattle.std.proofs.Common.{◌∙◌, sym}
+use Rattle.fork_routing.proofs.Common.{◌∙◌, sym, hops_name}
 use Rattle.sip_via.specs.Received.{marked}
-use Rattle.sip_route.specs.Hops.{hops_name}
 use Rattle.fork_routing.proofs.Admitting.{not_via, ok_refused, readable, same_start, still_passes}
 use Rattle.fork_routing.proofs.admission.prepared.Goals as goal
 

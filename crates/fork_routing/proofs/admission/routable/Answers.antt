@@ -1,7 +1,4 @@
-use Rattle.std.proofs.Common.{◌≡◌, ◌∙◌, ap, sym, subst, true, false}
-use Rattle.sip_route.specs.declared.hops.Hops.{Hops}
-use Rattle.sip_route.specs.Hops.{MayPass}
-use Rattle.fork_routing.specs.Admission.{is_at_its_end, is_spent, is_well_formed}
+use Rattle.fork_routing.proofs.Common.{◌≡◌, ◌∙◌, ap, sym, subst, true, false, Hops, MayPass, is_at_its_end, is_spent, is_well_formed}
 use Rattle.fork_routing.proofs.Admitting.{may_pass}
 use Rattle.fork_routing.proofs.admission.routable.Goals as goal
 

@@ -1,9 +1,4 @@
-use Rattle.std.proofs.Common.{◌∙◌, Bool, Some, None, ap, sym}
-use Rattle.std.specs.Prelude.{◌&&◌}
-use Rattle.sip_text.specs.Fields.{message_cseq}
-use Rattle.fork_parts.specs.Call.{is_sent}
-use Rattle.fork_parts.specs.Fixed.{method_of}
-use Rattle.fork_routing.specs.Kinds.{is_to_method}
+use Rattle.fork_routing.proofs.Common.{◌∙◌, Bool, Some, None, ap, sym, ◌&&◌, message_cseq, is_sent, method_of, is_to_method}
 use Rattle.fork_routing.proofs.Matched.{at_home, no_transaction, none_home}
 use Rattle.fork_routing.proofs.matching.response_recipient.Goals as goal
 

@@ -1,7 +1,4 @@
-use Rattle.std.proofs.Common.{subst}
-use Rattle.sip_via.specs.declared.own.Own.{Own}
-use Rattle.fork_routing.specs.Admission.{IsAdmitted}
-use Rattle.fork_routing.specs.Refusing.{IsTurnedAway}
+use Rattle.fork_routing.proofs.Common.{subst, Own, IsAdmitted, IsTurnedAway}
 use Rattle.fork_routing.proofs.Opened.{openable, opens_if, refuses_if, turned_away}
 use Rattle.fork_routing.proofs.opening.open.Goals as goal
 

@@ -1,7 +1,5 @@
-use Rattle.std.proofs.Common.{◌≡◌, [], true, List, rules, subst}
-use Rattle.std.specs.List.{list_all}
-use Rattle.fork_routing.specs.Targets.{Choice, has_hop}
-use Rattle.fork_routing.specs.Opening.{IsBegun}
+use Rattle.fork_routing.proofs.Common.{◌≡◌, [], true, List, subst, list_all, Choice, has_hop, IsBegun}
+use Rattle.std.proofs.Common.{rules}
 use Rattle.fork_routing.proofs.Opened.{fixed_so, reaches}
 use Rattle.fork_routing.proofs.opening.open_to.Goals as goal
 

@@ -1,6 +1,4 @@
-use Rattle.std.proofs.Common.{◌≡◌, map, take, Some}
-use Rattle.fork_book.specs.Log.{table_of}
-use Rattle.fork_routing.specs.Targets.{way_of_row}
+use Rattle.fork_routing.proofs.Common.{◌≡◌, map, take, Some, table_of, way_of_row}
 use Rattle.fork_routing.proofs.opening.ways_of.Given as goal
 
 abbrev pub invariant-loop-n : goal.invariant-loop-n

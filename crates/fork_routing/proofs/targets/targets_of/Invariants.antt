@@ -1,5 +1,4 @@
-use Rattle.std.proofs.Common.{◌≡◌, take}
-use Rattle.fork_routing.specs.Targets.{targets_of}
+use Rattle.fork_routing.proofs.Common.{◌≡◌, take, targets_of}
 use Rattle.fork_routing.proofs.targets.targets_of.Given as goal
 
 abbrev pub invariant-loop-choice : goal.invariant-loop-choice

@@ -1,6 +1,6 @@
 use Rattle.std.proofs.Common.{◌≡◌, ◌≤◌, rules, refl, subst, sym, ◌∙◌}
 use Rattle.std.specs.BinaryHeap.{heap_items}
-use Rattle.fork_server.specs.Filed.{AreListed, Entry}
+use Rattle.fork_server.specs.inner.Filed.{AreListed, Entry}
 use Rattle.fork_server.proofs.Filing.{greatest_is_first, listed_popped, listed_popped_stale, same_top, taken}
 use Rattle.fork_server.proofs.filed.take_due.Goals as goal
 

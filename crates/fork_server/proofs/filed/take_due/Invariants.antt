@@ -1,6 +1,6 @@
 use Rattle.std.proofs.Common.{◌≡◌}
 use Rattle.std.specs.BinaryHeap.{heap_items, heap_len, IsHeap}
-use Rattle.fork_server.specs.Filed.{entry_order, AreListed}
+use Rattle.fork_server.specs.inner.Filed.{entry_order, AreListed}
 use Rattle.fork_server.proofs.filed.take_due.Given as goal
 
 abbrev pub invariant-loop-first : goal.invariant-loop-first

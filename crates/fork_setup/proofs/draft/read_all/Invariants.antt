@@ -1,7 +1,4 @@
-use Rattle.std.proofs.Common.{◌≡◌, ◌≤◌, ◌+◌, length}
-use Rattle.std.specs.List.{slice_split}
-use Rattle.sip_lex.specs.Cut.{is}
-use Rattle.fork_setup.specs.Reading.{read_from, no_draft}
+use Rattle.fork_setup.proofs.Common.{◌≡◌, ◌≤◌, ◌+◌, length, slice_split, is, read_from, no_draft}
 use Rattle.fork_setup.proofs.DraftedLines.{IsDrafted}
 use Rattle.fork_setup.proofs.draft.read_all.Given as goal
 

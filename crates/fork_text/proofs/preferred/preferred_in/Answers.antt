@@ -1,9 +1,4 @@
-use Rattle.std.proofs.Common.{◌≡◌, ◌∷◌, ◌∙◌, [], false, cond, List, ℕ, Option, Some, ap, sym}
-use Rattle.std.specs.Prelude.{option_and_then, bytes_eq}
-use Rattle.std.specs.Option.{option_map}
-use Rattle.std.specs.List.{slice_split}
-use Rattle.sip_lex.specs.Cut.{is}
-use Rattle.fork_text.specs.Preferred.{numbers_onto, preferred_if, read_preferred}
+use Rattle.fork_text.proofs.Common.{◌≡◌, ◌∷◌, ◌∙◌, [], false, cond, List, ℕ, Option, Some, ap, sym, option_and_then, bytes_eq, option_map, slice_split, is, numbers_onto, preferred_if, read_preferred}
 use Rattle.fork_text.proofs.PreferredLists.{preferred_if_is}
 use Rattle.fork_text.proofs.preferred.preferred_in.Goals as goal
 

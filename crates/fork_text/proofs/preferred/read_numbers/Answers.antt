@@ -1,13 +1,6 @@
-use Rattle.std.proofs.Common.{◌≡◌, ◌∷◌, ◌++◌, ◌∙◌, [], ℕ, List, Option, Some, None, length, ap, sym, arith}
-use Rattle.std.specs.Prelude.{option_and_then}
-use Rattle.std.specs.Option.{option_copied}
-use Rattle.std.specs.List.{slice_split}
+use Rattle.fork_text.proofs.Common.{◌≡◌, ◌∷◌, ◌++◌, ◌∙◌, [], ℕ, List, Option, Some, None, length, ap, sym, arith, option_and_then, option_copied, slice_split, length-append, cut, is, plain_number_within, pieces_behind, numbers_onto}
+use Rattle.fork_text.proofs.Common.{preferred_if}
 use Rattle.std.proofs.lemmas.Bool.{eqb-true}
-use Rattle.std.proofs.lemmas.List.{length-append}
-use Rattle.sip_lex.specs.Cut.{cut, is}
-use Rattle.sip_lex.specs.Number.{plain_number_within}
-use Rattle.sip_lex.specs.Pieces.{pieces_behind}
-use Rattle.fork_text.specs.Preferred.{numbers_onto, preferred_if}
 use Rattle.fork_text.proofs.Numbers.{none, next, too_many}
 use Rattle.fork_text.proofs.preferred.read_numbers.Goals as goal
 

@@ -1,7 +1,4 @@
-use Rattle.std.proofs.Common.{◌≡◌, [], length}
-use Rattle.std.specs.List.{slice_split}
-use Rattle.sip_lex.specs.Cut.{is}
-use Rattle.fork_text.specs.Preferred.{numbers_onto}
+use Rattle.fork_text.proofs.Common.{◌≡◌, [], length, slice_split, is, numbers_onto}
 use Rattle.fork_text.proofs.preferred.read_numbers.Given as goal
 
 -- reading on from here gives what the whole gives

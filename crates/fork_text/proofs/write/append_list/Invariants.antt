@@ -1,6 +1,5 @@
-use Rattle.std.proofs.Common.{◌≡◌, ◌∷◌, ◌++◌, take}
-use Rattle.std.specs.List.{flat_map}
-use Rattle.std.specs.Fmt.{decimal}
+use Rattle.fork_text.proofs.Common.{◌≡◌, ◌∷◌, ◌++◌, flat_map, decimal}
+use Rattle.std.proofs.Common.{take}
 use Rattle.fork_text.proofs.write.append_list.Given as goal
 
 abbrev pub invariant-loop-number : goal.invariant-loop-number

@@ -1,11 +1,5 @@
-use Rattle.std.proofs.Common.{◌≡◌, ◌++◌, ◌<◌, ℕ, List, Some, length, map, slice_get, arith, ap, sym, subst, ◌∙◌}
-use Rattle.fork_model.specs.Table.{Row}
-use Rattle.fork_model.specs.Step.{with_state}
-use Rattle.fork_tree.specs.declared.row.State.TheVariants.{Ended}
-use Rattle.fork_tree.specs.States.{bare_state}
-use Rattle.fork_tree.specs.Seats.{Waiting, seats_of, seated}
-use Rattle.fork_tree.specs.Tree.{Tree}
-use Rattle.fork_tree.specs.Given.{IsRun, IsStanding}
+use Rattle.fork_tree.proofs.Common.{◌≡◌, ◌++◌, ◌<◌, ℕ, List, Some, length, map, slice_get, arith, ap, sym, subst, ◌∙◌, Row, with_state, Ended, plain_state, Waiting, new_rows_of, waiting_row, Tree}
+use Rattle.fork_tree.specs.inner.Given.{IsRun, IsStanding}
 use Rattle.fork_tree.proofs.Runs.{standing_next, next_parent, next_under, run_some, grown_length}
 use Rattle.fork_tree.proofs.build.add_below.Goals as goal
 
@@ -41,28 +35,27 @@ returns-clause-standing g c =
     let ic : slice_get c.args.rows.now (length c.args.tree.now.rows) ≡ Some c.row_at-next.result =
     ap (slice_get c.args.rows.now) (sym c.requires.next) ∙ c.row_at-next.ensures in
     let grown : List ℕ → List Row =
-    λ qs. with_state c.args.tree.now.rows c.unwrap-parent.result (bare_state (Ended c.end_of-end.result)) ++ map (seated (Some c.unwrap-parent.result)) (seats_of qs) in
+    λ qs. with_state c.args.tree.now.rows c.unwrap-parent.result (plain_state (Ended c.end_of-end.result)) ++ map (waiting_row (Some c.unwrap-parent.result)) (new_rows_of qs) in
     let e : c.finish.new.self.rows ≡ grown c.in_ok-qs.qs.items =
     ap (λ (t : Tree). t.rows) c.finish.ensures
-    ∙ ap (λ (w : Waiting). with_state c.args.tree.now.rows c.unwrap-parent.result (bare_state (Ended c.end_of-end.result)) ++ map (seated (Some c.unwrap-parent.result)) w.seats) c.in_ok-below.ensures
+    ∙ ap (λ (w : Waiting). with_state c.args.tree.now.rows c.unwrap-parent.result (plain_state (Ended c.end_of-end.result)) ++ map (waiting_row (Some c.unwrap-parent.result)) w.new_rows) c.in_ok-below.ensures
     ∙ ap grown c.deref.ensures.value in
-    let P : List Row → Type 0 = λ r. IsStanding r c.args.rows.now in
     let R : ℕ → Type 0 = λ k. IsRun c.args.rows.now (Some c.unwrap-parent.result) k c.in_ok-qs.qs.items in
-    subst P (sym e)
+    subst (λ (r : List Row). IsStanding r c.args.rows.now) (sym e)
     (standing_next c.args.tree.now.rows c.args.rows.now c.unwrap-parent.result c.row_at-redirected.result c.row_at-next.result c.end_of-end.result c.in_ok-qs.qs.items
     c.requires.given c.requires.standing ic c.unwrap-parent.ensures c.row_at-redirected.ensures c.end_of-end.ensures (subst R c.requires.next c.in_ok-qs.ensures))
 
 pub returns-clause-longer : goal.returns-clause-longer
 returns-clause-longer g c =
     let grown : List ℕ → List Row =
-    λ qs. with_state c.args.tree.now.rows c.unwrap-parent.result (bare_state (Ended c.end_of-end.result)) ++ map (seated (Some c.unwrap-parent.result)) (seats_of qs) in
+    λ qs. with_state c.args.tree.now.rows c.unwrap-parent.result (plain_state (Ended c.end_of-end.result)) ++ map (waiting_row (Some c.unwrap-parent.result)) (new_rows_of qs) in
     let e : c.finish.new.self.rows ≡ grown c.in_ok-qs.qs.items =
     ap (λ (t : Tree). t.rows) c.finish.ensures
-    ∙ ap (λ (w : Waiting). with_state c.args.tree.now.rows c.unwrap-parent.result (bare_state (Ended c.end_of-end.result)) ++ map (seated (Some c.unwrap-parent.result)) w.seats) c.in_ok-below.ensures
+    ∙ ap (λ (w : Waiting). with_state c.args.tree.now.rows c.unwrap-parent.result (plain_state (Ended c.end_of-end.result)) ++ map (waiting_row (Some c.unwrap-parent.result)) w.new_rows) c.in_ok-below.ensures
     ∙ ap grown c.deref.ensures.value in
     let some : 0 < length c.in_ok-qs.qs.items =
     run_some c.args.rows.now (Some c.unwrap-parent.result) c.args.first c.in_ok-qs.qs.items c.row_at-next.result c.in_ok-qs.ensures c.row_at-next.ensures c.unwrap-parent.ensures in
-    omega (arith, ap length e, grown_length c.args.tree.now.rows c.unwrap-parent.result (bare_state (Ended c.end_of-end.result)) c.in_ok-qs.qs.items, some)
+    omega (arith, ap length e, grown_length c.args.tree.now.rows c.unwrap-parent.result (plain_state (Ended c.end_of-end.result)) c.in_ok-qs.qs.items, some)
 
 pub returns-clause-rules : goal.returns-clause-rules
 returns-clause-rules g c = ap (λ (t : Tree). t.rules) c.finish.ensures

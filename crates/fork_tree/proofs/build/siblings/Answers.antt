@@ -1,7 +1,6 @@
-use Rattle.std.proofs.Common.{◌≡◌, ℕ, List, true, false, length, map, take, drop, arith, ap, sym, subst, ◌∙◌}
-use Rattle.fork_tree.specs.declared.row.RowRef.{RowRef}
-use Rattle.fork_tree.specs.Given.{q_of}
-use Rattle.fork_tree.proofs.Runs.{run_more, all_more, run_ends, past_end, same_row}
+use Rattle.fork_tree.proofs.Common.{◌≡◌, ℕ, List, true, false, length, map, take, drop, arith, ap, sym, subst, ◌∙◌, RowRef, one_there}
+use Rattle.fork_tree.specs.inner.Given.{q_of}
+use Rattle.fork_tree.proofs.Runs.{run_more, all_more, run_ends, past_end}
 use Rattle.fork_tree.proofs.build.siblings.Goals as goal
 
 true_false : true ≡ false → ⊥
@@ -10,10 +9,9 @@ true_false e = cc
 pub loop-i-preserved : goal.loop-i-preserved
 loop-i-preserved g c =
     let x : RowRef = c.row_at-row.result in
-    let P : List ℕ → Type 0 = λ y. y ≡ map q_of (take (length y) (drop c.args.first c.args.rows.now)) in
     record {
       count = omega (arith, c.loop-i.invariant.count, c.in_ok-push.ensures.len);
-      each = subst P (sym c.in_ok-push.ensures.items)
+      each = subst (λ (y : List ℕ). y ≡ map q_of (take (length y) (drop c.args.first c.args.rows.now))) (sym c.in_ok-push.ensures.items)
           (run_more c.args.rows.now c.args.first c.loop-i.i c.loop-i.qs.items x c.loop-i.invariant.count c.loop-i.invariant.each c.row_at-row.ensures);
       all = all_more c.args.rows.now c.args.parent c.args.first c.loop-i.i x c.loop-i.invariant.all c.row_at-row.ensures
           (c.stands_under.ensures.0 c.if-not-stands_under.false);
@@ -23,7 +21,8 @@ pub returns-then-not-stands_under : goal.returns-then-not-stands_under
 returns-then-not-stands_under g c =
     run_ends c.args.rows.now c.args.parent c.args.first c.loop-i.i c.loop-i.qs.items c.loop-i.invariant.count c.loop-i.invariant.each c.loop-i.invariant.all
     (omega (arith, c.loop-i-test.true))
-    (λ r is e. true_false (sym (c.stands_under.ensures.1 (ap (λ (y : RowRef). y.parent) (same_row c.row_at-row.result r c.args.rows.now c.loop-i.i c.row_at-row.ensures is) ∙ e)) ∙ c.if-not-stands_under.true))
+    (λ r is e. true_false (sym (c.stands_under.ensures.1 (ap (λ (y : RowRef). y.parent)
+    (one_there c.args.rows.now c.loop-i.i c.row_at-row.result r c.row_at-row.ensures is) ∙ e)) ∙ c.if-not-stands_under.true))
 
 pub returns : goal.returns
 returns g c =

@@ -1,6 +1,5 @@
-use Rattle.std.proofs.Common.{◌≡◌, ◌+◌, ◌<◌, ◌≤◌, ℕ, Some, length, map, take, drop, slice_get}
-use Rattle.fork_tree.specs.declared.row.RowRef.{RowRef}
-use Rattle.fork_tree.specs.Given.{q_of}
+use Rattle.fork_tree.proofs.Common.{◌≡◌, ◌+◌, ◌<◌, ◌≤◌, ℕ, Some, length, map, take, drop, slice_get, RowRef}
+use Rattle.fork_tree.specs.inner.Given.{q_of}
 use Rattle.fork_tree.proofs.build.siblings.Given as goal
 
 abbrev pub invariant-loop-i : goal.invariant-loop-i

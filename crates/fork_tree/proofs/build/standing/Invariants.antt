@@ -1,5 +1,5 @@
 use Rattle.std.proofs.Common.{◌≡◌, ◌-◌, length}
-use Rattle.fork_tree.specs.Given.{IsStanding}
+use Rattle.fork_tree.specs.inner.Given.{IsStanding}
 use Rattle.fork_tree.proofs.build.standing.Given as goal
 
 abbrev pub invariant-loop-tree : goal.invariant-loop-tree

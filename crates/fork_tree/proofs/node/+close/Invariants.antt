@@ -1,24 +1,21 @@
-use Rattle.std.proofs.Common.{◌≡◌, ◌-◌, ◌+◌, ◌*◌, length}
-use Rattle.fork_tree.specs.Rows.{joined}
-use Rattle.fork_tree.specs.Tally.{open_of}
-use Rattle.fork_tree.specs.Closing.{closed_to}
+use Rattle.fork_tree.proofs.Common.{◌≡◌, ◌-◌, ◌+◌, ◌*◌, length, joined, open_of, closed_to}
 use Rattle.fork_tree.proofs.node.+close.Given as goal
 
-abbrev pub invariant-Tier::close-loop-i : goal.invariant-Tier::close-loop-i
-invariant-Tier::close-loop-i g l = record {
+abbrev pub invariant-Level::close-loop-i : goal.invariant-Level::close-loop-i
+invariant-Level::close-loop-i g l = record {
   closed : l.self-inside.groups.items ≡ closed_to l.i l.initial.self-inside.groups.items;
   counted : open_of (joined 0 l.self-inside.groups.items) + l.ended ≡ open_of (joined 0 l.initial.self-inside.groups.items);
 }
 
-abbrev pub decreases-Tier::close : goal.decreases-Tier::close
-decreases-Tier::close g l = 3 * length l.self.now + 2
+abbrev pub decreases-Level::close : goal.decreases-Level::close
+decreases-Level::close g l = 3 * length l.self.now + 2
 
-abbrev pub decreases-Tier::close-loop-i : goal.decreases-Tier::close-loop-i
-decreases-Tier::close-loop-i g l = length l.self-inside.groups.items - l.i
+abbrev pub decreases-Level::close-loop-i : goal.decreases-Level::close-loop-i
+decreases-Level::close-loop-i g l = length l.self-inside.groups.items - l.i
 
 abbrev pub invariant-Group::close-loop-i : goal.invariant-Group::close-loop-i
 invariant-Group::close-loop-i g l = record {
-  still : l.self-inside.still ≡ l.initial.self-inside.still;
+  open_count : l.self-inside.open_count ≡ l.initial.self-inside.open_count;
   closed : l.self-inside.nodes.items ≡ closed_to l.i l.initial.self-inside.nodes.items;
   counted : open_of (joined 0 l.self-inside.nodes.items) + l.ended ≡ open_of (joined 0 l.initial.self-inside.nodes.items);
 }

@@ -4,8 +4,8 @@ use Rattle.fork_tree.proofs.node.+end.Given as goal
 abbrev pub decreases-Group::end : goal.decreases-Group::end
 decreases-Group::end g l = 2 * length l.path.now
 
-abbrev pub decreases-Tier::end : goal.decreases-Tier::end
-decreases-Tier::end g l = 2 * length l.path.now
+abbrev pub decreases-Level::end : goal.decreases-Level::end
+decreases-Level::end g l = 2 * length l.path.now
 
 abbrev pub decreases-Node::end : goal.decreases-Node::end
 decreases-Node::end g l = 2 * length l.path.now + 1

@@ -1,71 +1,61 @@
-use Rattle.std.proofs.Common.{◌<◌, length, [], arith, ap, sym, ◌∙◌, refl, None}
-use Rattle.fork_tree.proofs.Grafts.{step_in, step_open, step_graft, none_here}
-use Rattle.fork_tree.proofs.Tallies.{step_same_size, step_same_count, step_gained, node_below}
-use Rattle.fork_tree.specs.Rows.{graft, unanswered}
-use Rattle.fork_tree.specs.Tally.{open_of}
+use Rattle.fork_tree.proofs.Common.{◌≡◌, ◌<◌, length, arith, ap, refl, if◌then◌else◌, Bool, unanswered, open_of, open_state, ℕ, [], List, Entry, subst, sym, node_rows, Changes}
+use Rattle.fork_tree.proofs.BranchChanges.{step_in, step_open, none_here, at_node}
+use Rattle.fork_tree.proofs.Summaries.{step_changes, node_changes, node_past, node_below}
 use Rattle.fork_tree.proofs.node.+set.Goals as goal
 
-pub Tier::set-index_mut-requires : goal.Tier::set-index_mut-requires
-Tier::set-index_mut-requires g t c =
+pub Level::set-index_mut-requires : goal.Level::set-index_mut-requires
+Level::set-index_mut-requires g t c =
     let h : c.in-Some.first.now < length c.self.inside.groups.items = step_in _ c.self.inside.groups.items _ _ _ c.self.view_is c.in-Some.ensures.cases.0 c.requires.there in omega arith
 
-pub Tier::set-set-requires : goal.Tier::set-set-requires
-Tier::set-set-requires g t c κs within = (
-  omega (arith, c.decreases, c.in-Some.ensures.cases.1),
-  (
-    within,
-    (
-      step_open _ c.self.inside.groups.items _ _ _ _ c.self.view_is c.in-Some.ensures.cases.0 c.index_mut.ensures.value c.requires.there,
-      c.requires.waits,
-    ),
-  ),
-)
+pub Level::set-set-requires : goal.Level::set-set-requires
+Level::set-set-requires g t c κs within =
+    let there = step_open _ c.self.inside.groups.items _ _ _ _ c.self.view_is c.in-Some.ensures.cases.0 c.index_mut.ensures.value c.requires.there in
+    (omega (arith, c.decreases, c.in-Some.ensures.cases.1), (within, (there, c.requires.waits)))
 
-pub Tier::set-returns-in-Some : goal.Tier::set-returns-in-Some
-Tier::set-returns-in-Some g t c = record {
-  grafted = step_graft _ c.self.inside.groups.items _ _ _ _ _ _ _ c.self.view_is c.in-Some.ensures.cases.0 c.index_mut.ensures.value c.requires.there c.set.ensures.grafted;
-  sized = step_same_size _ c.self.inside.groups.items _ _ _ _ _ c.self.view_is c.in-Some.ensures.cases.0 c.index_mut.ensures.value c.requires.there c.set.ensures.sized;
-  counted = step_same_count _ c.self.inside.groups.items _ _ _ _ _ c.self.view_is c.in-Some.ensures.cases.0 c.index_mut.ensures.value c.requires.there c.set.ensures.counted;
-  gained = step_gained _ c.self.inside.groups.items _ _ _ _ _ _ c.self.view_is c.in-Some.ensures.cases.0 c.index_mut.ensures.value c.requires.there c.set.ensures.gained;
-}
+pub Level::set-returns-in-Some : goal.Level::set-returns-in-Some
+Level::set-returns-in-Some g t c =
+    step_changes _ c.self.inside.groups.items _ _ _ _ _ _ _ _ c.self.view_is c.in-Some.ensures.cases.0 c.index_mut.ensures.value c.requires.there c.set.ensures
 
-pub Tier::set-returns-in_default : goal.Tier::set-returns-in_default
-Tier::set-returns-in_default g t c = absurd (none_here _ c.self.inside.groups.items _ c.self.view_is c.in_default.ensures.cases c.requires.there)
+pub Level::set-returns-in_default : goal.Level::set-returns-in_default
+Level::set-returns-in_default g t c = absurd (none_here _ c.self.inside.groups.items _ c.self.view_is c.in_default.ensures.cases c.requires.there)
 
 pub Group::set-index_mut-requires : goal.Group::set-index_mut-requires
 Group::set-index_mut-requires g t c =
     let h : c.in-Some.first.now < length c.self.inside.nodes.items = step_in _ c.self.inside.nodes.items _ _ _ c.self.view_is c.in-Some.ensures.cases.0 c.requires.there in omega arith
 
 pub Group::set-set-requires : goal.Group::set-set-requires
-Group::set-set-requires g t c κs within = (
-  omega (arith, c.decreases, c.in-Some.ensures.cases.1),
-  (
-    within,
-    (
-      step_open _ c.self.inside.nodes.items _ _ _ _ c.self.view_is c.in-Some.ensures.cases.0 c.index_mut.ensures.value c.requires.there,
-      c.requires.waits,
-    ),
-  ),
-)
+Group::set-set-requires g t c κs within =
+    let there = step_open _ c.self.inside.nodes.items _ _ _ _ c.self.view_is c.in-Some.ensures.cases.0 c.index_mut.ensures.value c.requires.there in
+    (omega (arith, c.decreases, c.in-Some.ensures.cases.1), (within, (there, c.requires.waits)))
 
 pub Group::set-returns-in-Some : goal.Group::set-returns-in-Some
-Group::set-returns-in-Some g t c = record {
-  grafted = step_graft _ c.self.inside.nodes.items _ _ _ _ _ _ _ c.self.view_is c.in-Some.ensures.cases.0 c.index_mut.ensures.value c.requires.there c.set.ensures.grafted;
-  sized = step_same_size _ c.self.inside.nodes.items _ _ _ _ _ c.self.view_is c.in-Some.ensures.cases.0 c.index_mut.ensures.value c.requires.there c.set.ensures.sized;
-  counted = step_same_count _ c.self.inside.nodes.items _ _ _ _ _ c.self.view_is c.in-Some.ensures.cases.0 c.index_mut.ensures.value c.requires.there c.set.ensures.counted;
-  gained = step_gained _ c.self.inside.nodes.items _ _ _ _ _ _ c.self.view_is c.in-Some.ensures.cases.0 c.index_mut.ensures.value c.requires.there c.set.ensures.gained;
-}
-
-pub Group::set-invariant_of-self : goal.Group::set-invariant_of-self
-Group::set-invariant_of-self g t c =
-    c.self.invariant ∙ ap open_of c.self.view_is
-    ∙ sym (step_same_count _ c.self.inside.nodes.items _ _ _ _ _ c.self.view_is c.in-Some.ensures.cases.0 c.index_mut.ensures.value c.requires.there c.set.ensures.counted)
+Group::set-returns-in-Some g t c =
+    step_changes _ c.self.inside.nodes.items _ _ _ _ _ _ _ _ c.self.view_is c.in-Some.ensures.cases.0 c.index_mut.ensures.value c.requires.there c.set.ensures
 
 pub Group::set-returns-in_default : goal.Group::set-returns-in_default
 Group::set-returns-in_default g t c = absurd (none_here _ c.self.inside.nodes.items _ c.self.view_is c.in_default.ensures.cases c.requires.there)
 
+pub Group::set-invariant_of-self : goal.Group::set-invariant_of-self
+Group::set-invariant_of-self g t c =
+    let change = step_changes _ c.self.inside.nodes.items _ _ _ _ _ _ _ _ c.self.view_is c.in-Some.ensures.cases.0 c.index_mut.ensures.value c.requires.there
+    c.set.ensures in
+    omega (arith, c.self.invariant, ap open_of c.self.view_is, change.counted)
+
 pub Node::set-invariant_of-self-else-is_empty : goal.Node::set-invariant_of-self-else-is_empty
 Node::set-invariant_of-self-else-is_empty g t c =
-    node_below c.self.inside.number c.self.inside.q c.self.inside.standing c.self.inside.below c.set.new.self c.self.inside.tally c.self.inside.tally None 1 c.self.invariant c.set.ensures.gained
-    (omega (arith, c.set.ensures.counted)) refl refl
-    (λ e. c.set.ensures.grafted ∙ ap (λ r. graft r c.args.path.now (unanswered c.args.state) []) e)
+    node_below _ _ _ _ _ c.self.inside.summary c.self.inside.summary _ _ _ _ c.self.invariant c.set.ensures refl refl
+
+pub Node::set-returns-then-is_empty : goal.Node::set-returns-then-is_empty
+Node::set-returns-then-is_empty g t c =
+    let empty : length c.args.path.now ≡ 0 = grind arith in
+    let on : open_state c.args.state ≡ 1 = ap {B = ℕ} (λ (x : Bool). if x then 0 else 1) c.requires.waits in
+    let none : c.self.inside.below ≡ [] = c.self.invariant.tried (at_node _ _ _ _ c.self.view_is empty c.requires.there) in
+    let P : List Entry → Type 0 =
+    λ x. Changes c.args.self.now (node_rows c.self.inside.number c.self.inside.q (unanswered c.args.state) x) c.args.path.now (unanswered c.args.state) [] 1 in
+    subst P (sym none) (node_changes _ c.self.inside.below [] _ _ _ _ (unanswered c.args.state) _ _ c.self.view_is empty c.self.invariant c.requires.there
+    (λ k h. h) (omega (arith, on)))
+
+pub Node::set-returns-else-is_empty : goal.Node::set-returns-else-is_empty
+Node::set-returns-else-is_empty g t c =
+    let some : 0 < length c.args.path.now = grind arith in
+    node_past _ c.self.inside.below _ _ _ _ _ _ c.self.view_is some c.set.ensures

@@ -4,8 +4,8 @@ use Rattle.fork_tree.proofs.node.+set.Given as goal
 abbrev pub decreases-Group::set : goal.decreases-Group::set
 decreases-Group::set g l = 2 * length l.path.now
 
-abbrev pub decreases-Tier::set : goal.decreases-Tier::set
-decreases-Tier::set g l = 2 * length l.path.now
+abbrev pub decreases-Level::set : goal.decreases-Level::set
+decreases-Level::set g l = 2 * length l.path.now
 
 abbrev pub decreases-Node::set : goal.decreases-Node::set
 decreases-Node::set g l = 2 * length l.path.now + 1

@@ -1,5 +1,5 @@
 use Rattle.std.proofs.Common.{◌∙◌, ◌++◌, ◌∷◌, [], ap}
-use Rattle.fork_tree.proofs.Seatings.{group_begun}
+use Rattle.fork_tree.proofs.MadeBranches.{group_begun}
 use Rattle.fork_tree.proofs.node.in_group.Goals as goal
 
 pub returns-in_ok-clone-clause-same : goal.returns-in_ok-clone-clause-same

@@ -1,6 +1,5 @@
-use Rattle.std.proofs.Common.{◌∙◌, ◌++◌, ◌∷◌, [], ap}
-use Rattle.fork_tree.specs.Rows.{joined}
-use Rattle.fork_tree.proofs.Seatings.{group_made}
+use Rattle.fork_tree.proofs.Common.{◌∙◌, ◌++◌, ◌∷◌, [], ap, joined}
+use Rattle.fork_tree.proofs.MadeBranches.{group_made}
 use Rattle.fork_tree.proofs.node.whole.Goals as goal
 
 pub returns : goal.returns

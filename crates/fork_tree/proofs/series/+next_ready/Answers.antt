@@ -1,23 +1,18 @@
-use Rattle.std.proofs.Common.{◌≡◌, ◌<◌, ◌≤◌, ◌+◌, ℕ, Bool, true, false, [], ◌∷◌, ◌++◌, length, length-append, Option, arith, ap, subst, refl, ◌∙◌, ltb, ltb-true, ltb-false}
-use Rattle.std.specs.Prelude.{IsSome}
+use Rattle.fork_tree.proofs.Common.{◌≡◌, ◌+◌, ℕ, true, false, [], ◌∷◌, ◌++◌, length, length-append, Option, arith, ap, subst, ◌∙◌, IsSome, rows_of, AreKnown, AreMet, FindsOnWay, inl, inr}
+use Rattle.fork_tree.proofs.Common.{nil_from_length, cases_lt}
 use Rattle.std.specs.Option.{option_to_list}
-use Rattle.fork_tree.specs.Places.{rows_of}
-use Rattle.fork_tree.specs.Search.{AreKnown, AreMet, FindsOnWay}
-use Rattle.fork_tree.proofs.Ways.{known_pop, met_pop, none_met, empty_list}
+use Rattle.fork_tree.proofs.Ways.{known_pop, met_pop, none_met}
 use Rattle.fork_tree.proofs.series.+next_ready.Goals as goal
 
 pub returns-in_default-clause-found : goal.returns-in_default-clause-found
 returns-in_default-clause-found g t c =
-    let none : length c.args.recent.now.items ≡ 0 = go (ltb 0 (length c.args.recent.now.items)) refl in
+    let none : length c.args.recent.now.items ≡ 0 = elim (cases_lt 0 (length c.args.recent.now.items)) [
+      | inl less ↦ (let no : false ≡ true = subst (λ (o : Option (Option ℕ)). IsSome o) c.in_default.is (c.pop.ensures.variant.1 (omega (arith, less)))
+          in absurd cc)
+      | inr low ↦ omega (arith, low)
+    ] in
     none_met (rows_of c.args.places.now c.args.root.now)
-    (subst (AreMet (rows_of c.args.places.now c.args.root.now)) (empty_list c.args.recent.now.items none) c.requires.met)
-  where
-    bad : IsSome c.pop.result → ⊥
-    bad h = let no : false ≡ true = subst (λ (o : Option (Option ℕ)). IsSome o) c.in_default.is h in absurd cc
-
-    go : (b : Bool) → ltb 0 (length c.args.recent.now.items) ≡ b → length c.args.recent.now.items ≡ 0
-    go true e = let less : 0 < length c.args.recent.now.items = ltb-true 0 (length c.args.recent.now.items) e in absurd (bad (c.pop.ensures.variant.1 (omega (arith, less))))
-    go false e = let low : length c.args.recent.now.items ≤ 0 = ltb-false 0 (length c.args.recent.now.items) e in omega (arith, low)
+    (subst (AreMet (rows_of c.args.places.now c.args.root.now)) (nil_from_length c.args.recent.now.items none) c.requires.met)
 
 pub ready_on_way-requires-clause-known : goal.ready_on_way-requires-clause-known
 ready_on_way-requires-clause-known g t c =

@@ -1,11 +1,8 @@
-use Rattle.std.proofs.Common.{◌≡◌, ◌∷◌, [], ◌∙◌, ap, sym, subst}
-use Rattle.fork_tree.specs.Below.{under}
-use Rattle.fork_tree.specs.Places.{path_of, rows_of}
-use Rattle.fork_tree.specs.Search.{FindsOnWay}
+use Rattle.fork_tree.proofs.Common.{◌≡◌, ◌∷◌, [], ◌∙◌, ap, sym, subst, under, path_of, rows_of, FindsOnWay}
 use Rattle.fork_tree.proofs.Traces.{path_below, path_top}
 use Rattle.fork_tree.proofs.Unders.{under_twice}
 use Rattle.fork_tree.proofs.Below.{further_there}
-use Rattle.fork_tree.proofs.Tiers.{top_finds, way_finds}
+use Rattle.fork_tree.proofs.Levels.{top_finds, way_finds}
 use Rattle.fork_tree.proofs.series.+ready_down_to.Goals as goal
 
 pub child-node-requires : goal.child-node-requires

@@ -1,7 +1,5 @@
-use Rattle.std.proofs.Common.{sym, subst}
-use Rattle.fork_tree.specs.Places.{rows_of}
-use Rattle.fork_tree.specs.Search.{FindsOnWay}
-use Rattle.fork_tree.proofs.Tiers.{top_finds}
+use Rattle.fork_tree.proofs.Common.{sym, subst, rows_of, FindsOnWay}
+use Rattle.fork_tree.proofs.Levels.{top_finds}
 use Rattle.fork_tree.proofs.series.ready_on_way.Goals as goal
 
 pub returns-in-None : goal.returns-in-None

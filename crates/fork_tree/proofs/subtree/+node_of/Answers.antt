@@ -1,6 +1,4 @@
-use Rattle.std.proofs.Common.{◌∷◌, [], ◌∙◌, ap, sym}
-use Rattle.fork_tree.specs.Below.{under}
-use Rattle.fork_tree.specs.Places.{path_of}
+use Rattle.fork_tree.proofs.Common.{◌∷◌, [], ◌∙◌, ap, sym, under, path_of}
 use Rattle.fork_tree.proofs.Traces.{path_below}
 use Rattle.fork_tree.proofs.Unders.{under_twice}
 use Rattle.fork_tree.proofs.Below.{further_there}

@@ -4,7 +4,7 @@ use denote.Param.Send.{IsSync, recorded_sync, sendable, struct_sync}
 use Rattle.std.proofs.Crossing.{frees, send, sync}
 use Rattle.fork_shelf.proofs.shelf.Shelf.TheSendSync as shelf
 use Rattle.fork_setup.proofs.setup.Setup.TheSendSync as setup
-use Rattle.fork_server.proofs.Sharing.{call_send}
+use Rattle.fork_call.proofs.laws.Crossing.{call_send}
 use Rattle.server_tests.specs.contracts.accepting.Desk as desk
 use Rattle.server_tests.proofs.accepting.desk_is_shared.Goals as goal
 

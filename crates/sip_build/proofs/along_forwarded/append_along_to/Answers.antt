@@ -1,5 +1,4 @@
-use Rattle.std.proofs.Common.{[], refl}
-use Rattle.sip_build.specs.Requests.{along_to}
+use Rattle.sip_build.proofs.Common.{[], refl, along_to}
 use Rattle.sip_build.proofs.GroupTexts.{ok-as, request-as, room-under}
 use Rattle.sip_build.proofs.along_forwarded.append_along_to.Goals as goal
 

@@ -1,9 +1,4 @@
-use Rattle.std.proofs.Common.{◌∙◌, ◌++◌, ◌∷◌, [], List, ap, map, sym}
-use Rattle.std.specs.Prelude.{codes}
-use Rattle.sip_text.specs.Name.{values_of}
-use Rattle.sip_text.specs.Text.{HeaderText}
-use Rattle.sip_via.specs.Edits.{line}
-use Rattle.sip_via.specs.ViaParts.{or_empty}
+use Rattle.sip_build.proofs.Common.{◌∙◌, ◌++◌, ◌∷◌, [], List, ap, map, sym, codes, values_of, HeaderText, line, or_empty}
 use Rattle.sip_build.proofs.GroupTexts.{renamed-lines}
 use Rattle.sip_build.proofs.along_text.along_groups.Goals as goal
 

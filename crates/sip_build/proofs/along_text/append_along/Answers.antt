@@ -1,6 +1,4 @@
-use Rattle.std.proofs.Common.{refl}
-use Rattle.sip_text.specs.Text.{Request}
-use Rattle.sip_build.specs.Requests.{along}
+use Rattle.sip_build.proofs.Common.{refl, Request, along}
 use Rattle.sip_build.specs.declared.made_text.Front.TheVariants as fronts
 use Rattle.sip_build.proofs.GroupTexts.{ok-as, room-as, spelled-as}
 use Rattle.sip_build.proofs.along_text.append_along.Goals as goal

@@ -1,13 +1,5 @@
-use Rattle.std.proofs.Common.{◌∷◌, ◌∙◌, [], ◌++◌, List, ℕ, Option, ap, sym}
-use Rattle.std.specs.Prelude.{Some, codes}
-use Rattle.std.specs.Fmt.{decimal}
-use Rattle.std.proofs.lemmas.List.{append-nil}
-use Rattle.sip_text.specs.Seen.{view, views}
-use Rattle.sip_text.specs.Text.{HeaderText}
-use Rattle.sip_via.specs.Edits.{line}
-use Rattle.sip_route.specs.Hops.{hops_name}
-use Rattle.sip_via.proofs.laws.Places.{replaced-split}
-use Rattle.sip_build.specs.Forwarding.{hops_left, hops_lowered}
+use Rattle.sip_build.proofs.Common.{◌∷◌, ◌∙◌, [], ◌++◌, List, ℕ, Option, ap, sym, Some, codes, decimal, append-nil, view, views, HeaderText, line, hops_name, replaced-split, hops_lowered}
+use Rattle.sip_build.specs.inner.Forwarding.{hops_left}
 use Rattle.sip_build.proofs.Exchanged.{none-left}
 use Rattle.sip_build.proofs.FirstHops.{first-nowhere, first-there, seventy-text}
 use Rattle.sip_build.proofs.forwarded_text.lowered_groups.Goals as goal

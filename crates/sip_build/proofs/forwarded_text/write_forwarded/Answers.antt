@@ -1,11 +1,4 @@
-use Rattle.std.proofs.Common.{◌∙◌, ◌∷◌, List, ℕ, Option, ap, subst, sym}
-use Rattle.std.specs.Prelude.{IfSome, codes}
-use Rattle.sip_text.specs.Name.{first_value}
-use Rattle.sip_text.specs.Text.{HeaderText}
-use Rattle.sip_via.specs.Edits.{line}
-use Rattle.sip_via.specs.OwnVia.{own_via}
-use Rattle.sip_route.specs.Hops.{IsHops, hops_name}
-use Rattle.sip_build.specs.Forwarding.{forwarded, hops_lowered}
+use Rattle.sip_build.proofs.Common.{◌∙◌, ◌∷◌, List, ℕ, Option, ap, subst, sym, IfSome, codes, first_value, HeaderText, line, own_via, IsHops, hops_name, forwarded, hops_lowered}
 use Rattle.sip_build.proofs.GroupTexts.{ok-as, request-as, room-under}
 use Rattle.sip_build.proofs.forwarded_text.write_forwarded.Goals as goal
 

@@ -1,7 +1,4 @@
-use Rattle.std.proofs.Common.{◌∙◌, ◌++◌, List, ℕ, Some, ap}
-use Rattle.sip_text.specs.Seen.{views}
-use Rattle.sip_via.specs.Edits.{replaced}
-use Rattle.sip_route.specs.Hops.{hops_name}
+use Rattle.sip_build.proofs.Common.{◌∙◌, ◌++◌, List, ℕ, Some, ap, views, replaced, hops_name}
 use Rattle.sip_build.proofs.forwarding.add_fewer.Goals as goal
 
 pub returns : goal.returns

@@ -1,8 +1,4 @@
-use Rattle.std.proofs.Common.{◌∙◌, ◌++◌, ◌∷◌, [], List, ℕ, ap, append_assoc}
-use Rattle.std.specs.Prelude.{codes}
-use Rattle.sip_text.specs.Seen.{views}
-use Rattle.sip_text.specs.Text.{HeaderText}
-use Rattle.sip_via.specs.Edits.{line}
+use Rattle.sip_build.proofs.Common.{◌∙◌, ◌++◌, ◌∷◌, [], List, ℕ, ap, append_assoc, codes, views, HeaderText, line}
 use Rattle.sip_build.proofs.forwarding.add_seventy.Goals as goal
 
 pub returns : goal.returns

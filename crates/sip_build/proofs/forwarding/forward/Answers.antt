@@ -1,12 +1,4 @@
-use Rattle.std.proofs.Common.{◌∙◌, ◌++◌, ◌∷◌, [], List, ℕ, ap}
-use Rattle.std.specs.Prelude.{codes}
-use Rattle.sip_text.specs.declared.parts.Header.{Header}
-use Rattle.sip_text.specs.Name.{first_value}
-use Rattle.sip_text.specs.Seen.{view_start, views}
-use Rattle.sip_text.specs.Text.{HeaderText, StartText}
-use Rattle.sip_via.specs.Edits.{line}
-use Rattle.sip_build.specs.Forwarding.{hops_lowered, to_target}
-use Rattle.sip_route.specs.Hops.{hops_name}
+use Rattle.sip_build.proofs.Common.{◌∙◌, ◌++◌, ◌∷◌, [], List, ℕ, ap, codes, Header, first_value, view_start, views, HeaderText, StartText, line, hops_lowered, to_target, hops_name}
 use Rattle.sip_build.proofs.Forwarded.{parts-good}
 use Rattle.sip_build.proofs.forwarding.forward.Goals as goal
 

@@ -1,8 +1,4 @@
-use Rattle.std.proofs.Common.{◌∙◌, ◌++◌, ◌∷◌, [], List, ap}
-use Rattle.std.specs.Prelude.{codes}
-use Rattle.sip_text.specs.Text.{HeaderText}
-use Rattle.sip_via.specs.Edits.{line}
-use Rattle.sip_via.specs.Lines.{lines_among}
+use Rattle.sip_build.proofs.Common.{◌∙◌, ◌++◌, ◌∷◌, [], List, ap, codes, HeaderText, line, lines_among}
 use Rattle.sip_build.proofs.GroupTexts.{named-lines}
 use Rattle.sip_build.proofs.generated_text.generated_groups.Goals as goal
 

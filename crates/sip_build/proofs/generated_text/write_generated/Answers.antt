@@ -1,6 +1,4 @@
-use Rattle.std.proofs.Common.{refl}
-use Rattle.sip_text.specs.Text.{Response}
-use Rattle.sip_build.specs.Generated.{generated_of}
+use Rattle.sip_build.proofs.Common.{refl, Response, generated_of}
 use Rattle.sip_build.specs.declared.made_text.Front.TheVariants as fronts
 use Rattle.sip_build.proofs.GroupTexts.{ok-as, room-as, spelled-as}
 use Rattle.sip_build.proofs.generated_text.write_generated.Goals as goal

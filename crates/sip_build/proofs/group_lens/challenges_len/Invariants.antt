@@ -1,8 +1,4 @@
-use Rattle.std.proofs.Common.{◌≡◌, take, length}
-use Rattle.std.specs.List.{flat_map}
-use Rattle.sip_text.specs.Text.{header_text}
-use Rattle.sip_build.specs.Upward.{challenge_line}
-use Rattle.sip_text.specs.Text.{saturated}
+use Rattle.sip_build.proofs.Common.{◌≡◌, take, length, flat_map, header_text, challenge_line, saturated}
 use Rattle.sip_build.proofs.group_lens.challenges_len.Given as goal
 
 abbrev pub invariant-loop-challenge : goal.invariant-loop-challenge

@@ -1,10 +1,4 @@
-use Rattle.std.proofs.Common.{◌≡◌, take, length}
-use Rattle.std.specs.Prelude.{List, ℕ, codes}
-use Rattle.std.specs.Borrow.{Bor}
-use Rattle.std.specs.List.{flat_map}
-use Rattle.sip_text.specs.Text.{header_text}
-use Rattle.sip_via.specs.Edits.{line}
-use Rattle.sip_text.specs.Text.{saturated}
+use Rattle.sip_build.proofs.Common.{◌≡◌, take, length, List, ℕ, codes, Bor, flat_map, header_text, line, saturated}
 use Rattle.sip_build.proofs.group_lens.contacts_len.Given as goal
 
 abbrev pub invariant-loop-text : goal.invariant-loop-text

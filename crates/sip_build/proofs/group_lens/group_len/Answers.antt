@@ -1,8 +1,4 @@
-use Rattle.std.proofs.Common.{◌∙◌, ap, length, sym}
-use Rattle.sip_text.specs.Seen.{views}
-use Rattle.sip_text.specs.Text.{saturated}
-use Rattle.sip_build.specs.Groups.{lines_of, picked}
-use Rattle.sip_build.specs.Texts.{lines_text}
+use Rattle.sip_build.proofs.Common.{◌∙◌, ap, length, sym, views, saturated, lines_of, picked, lines_text}
 use Rattle.sip_build.proofs.GroupTexts.{challenges-text, contacts-text, texts-of-lines}
 use Rattle.sip_build.proofs.group_lens.group_len.Goals as goal
 

@@ -1,7 +1,4 @@
-use Rattle.std.proofs.Common.{◌≡◌, take, length}
-use Rattle.sip_text.specs.Seen.{views}
-use Rattle.sip_text.specs.Text.{saturated}
-use Rattle.sip_build.specs.Texts.{lines_text}
+use Rattle.sip_build.proofs.Common.{◌≡◌, take, length, views, saturated, lines_text}
 use Rattle.sip_build.proofs.group_lens.kept_len.Given as goal
 
 abbrev pub invariant-loop-header : goal.invariant-loop-header

@@ -1,9 +1,4 @@
-use Rattle.std.proofs.Common.{◌≡◌, take, length}
-use Rattle.std.specs.List.{flat_map}
-use Rattle.sip_text.specs.Seen.{views}
-use Rattle.sip_build.specs.Groups.{picked}
-use Rattle.sip_build.specs.Texts.{lines_text}
-use Rattle.sip_text.specs.Text.{saturated}
+use Rattle.sip_build.proofs.Common.{◌≡◌, take, length, flat_map, views, picked, lines_text, saturated}
 use Rattle.sip_build.proofs.group_lens.picked_len.Given as goal
 
 abbrev pub invariant-loop-header : goal.invariant-loop-header

@@ -1,6 +1,4 @@
-use Rattle.std.proofs.Common.{◌≡◌, take, length}
-use Rattle.sip_text.specs.Text.{pieces_text}
-use Rattle.sip_text.specs.Text.{saturated}
+use Rattle.sip_build.proofs.Common.{◌≡◌, take, length, pieces_text, saturated}
 use Rattle.sip_build.proofs.group_lens.pieces_len.Given as goal
 
 abbrev pub invariant-loop-piece : goal.invariant-loop-piece

@@ -1,7 +1,4 @@
-use Rattle.std.proofs.Common.{List, ℕ, ap, ◌∙◌}
-use Rattle.sip_text.specs.Text.{header_text}
-use Rattle.sip_via.specs.Edits.{line}
-use Rattle.sip_build.specs.Upward.{challenge_line, challenge_name}
+use Rattle.sip_build.proofs.Common.{List, ℕ, ap, ◌∙◌, header_text, line, challenge_line, challenge_name}
 use Rattle.sip_build.proofs.Placed.{fits-item}
 use Rattle.sip_build.proofs.groups.place_challenges.Goals as goal
 

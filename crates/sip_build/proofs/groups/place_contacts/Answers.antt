@@ -1,8 +1,4 @@
-use Rattle.std.proofs.Common.{List, ℕ}
-use Rattle.std.specs.Prelude.{codes}
-use Rattle.std.specs.Borrow.{Bor}
-use Rattle.sip_text.specs.Text.{header_text}
-use Rattle.sip_via.specs.Edits.{line}
+use Rattle.sip_build.proofs.Common.{List, ℕ, codes, Bor, header_text, line}
 use Rattle.sip_build.proofs.Placed.{fits-next}
 use Rattle.sip_build.proofs.groups.place_contacts.Goals as goal
 

@@ -1,10 +1,4 @@
-use Rattle.std.proofs.Common.{List, ℕ, take}
-use Rattle.std.specs.Prelude.{codes}
-use Rattle.std.specs.Borrow.{Bor}
-use Rattle.std.specs.List.{flat_map}
-use Rattle.sip_text.specs.Text.{header_text}
-use Rattle.sip_via.specs.Edits.{line}
-use Rattle.sip_build.specs.Placed.{Placed}
+use Rattle.sip_build.proofs.Common.{List, ℕ, take, codes, Bor, flat_map, header_text, line, Placed}
 use Rattle.sip_build.proofs.groups.place_contacts.Given as goal
 
 abbrev pub invariant-loop-text : goal.invariant-loop-text

@@ -1,7 +1,4 @@
-use Rattle.std.proofs.Common.{◌∙◌, ap, sym}
-use Rattle.sip_text.specs.Seen.{views}
-use Rattle.sip_build.specs.Groups.{lines_of, picked}
-use Rattle.sip_build.specs.Texts.{lines_text}
+use Rattle.sip_build.proofs.Common.{◌∙◌, ap, sym, views, lines_of, picked, lines_text}
 use Rattle.sip_build.proofs.GroupTexts.{challenges-text, contacts-text, texts-of-lines}
 use Rattle.sip_build.proofs.Placed.{fits-as, placed-as}
 use Rattle.sip_build.proofs.groups.place_group.Goals as goal

@@ -1,6 +1,4 @@
-use Rattle.std.proofs.Common.{refl}
-use Rattle.sip_build.specs.Groups.{lines_of}
-use Rattle.sip_build.specs.Texts.{lines_text}
+use Rattle.sip_build.proofs.Common.{refl, lines_of, lines_text}
 use Rattle.sip_build.proofs.Placed.{fits-item}
 use Rattle.sip_build.proofs.groups.place_groups.Goals as goal
 

@@ -1,8 +1,4 @@
-use Rattle.std.proofs.Common.{take}
-use Rattle.std.specs.List.{flat_map}
-use Rattle.sip_build.specs.Groups.{lines_of}
-use Rattle.sip_build.specs.Placed.{Placed}
-use Rattle.sip_build.specs.Texts.{lines_text}
+use Rattle.sip_build.proofs.Common.{take, flat_map, lines_of, Placed, lines_text}
 use Rattle.sip_build.proofs.groups.place_groups.Given as goal
 
 abbrev pub invariant-loop-group : goal.invariant-loop-group

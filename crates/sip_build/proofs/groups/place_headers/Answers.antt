@@ -1,6 +1,4 @@
-use Rattle.std.proofs.Common.{rules}
-use Rattle.sip_text.specs.Seen.{view}
-use Rattle.sip_text.specs.Text.{header_text}
+use Rattle.sip_build.proofs.Common.{rules, view, header_text}
 use Rattle.sip_build.proofs.Placed.{fits-seen}
 use Rattle.sip_build.proofs.groups.place_headers.Goals as goal
 

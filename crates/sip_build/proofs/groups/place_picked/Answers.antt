@@ -1,8 +1,4 @@
-use Rattle.std.proofs.Common.{List, ℕ, Option, ap}
-use Rattle.std.specs.Option.{option_copied}
-use Rattle.sip_text.specs.Seen.{view}
-use Rattle.sip_build.specs.Groups.{picked, under}
-use Rattle.sip_build.specs.Texts.{lines_text}
+use Rattle.sip_build.proofs.Common.{List, ℕ, Option, ap, option_copied, view, picked, under, lines_text}
 use Rattle.sip_build.proofs.Placed.{fits-seen}
 use Rattle.sip_build.proofs.groups.place_picked.Goals as goal
 

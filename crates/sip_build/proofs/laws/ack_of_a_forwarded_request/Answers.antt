@@ -1,5 +1,4 @@
-use Rattle.std.specs.Prelude.{codes}
-use Rattle.sip_build.specs.Requests.{to_value}
+use Rattle.sip_build.proofs.Common.{codes, to_value}
 use Rattle.sip_build.proofs.ViasForwarded.{along-forwarded}
 use Rattle.sip_build.proofs.laws.ack_of_a_forwarded_request.Goals as goal
 

@@ -1,7 +1,4 @@
-use Rattle.std.proofs.Common.{◌∙◌, ap}
-use Rattle.std.specs.Prelude.{codes}
-use Rattle.sip_build.specs.Forwarding.{forwarded}
-use Rattle.sip_build.specs.Requests.{along_to, to_value}
+use Rattle.sip_build.proofs.Common.{◌∙◌, ap, codes, forwarded, along_to, to_value}
 use Rattle.sip_build.proofs.ViasForwarded.{along-forwarded, to-forwarded}
 use Rattle.sip_build.proofs.laws.cancel_of_a_forwarded_request.Goals as goal
 

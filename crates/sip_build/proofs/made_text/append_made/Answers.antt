@@ -1,6 +1,4 @@
-use Rattle.sip_lex.specs.Line.{ended}
-use Rattle.sip_text.specs.Text.{start_line}
-use Rattle.sip_build.specs.Groups.{start_of, tail_text}
+use Rattle.sip_build.proofs.Common.{ended, start_line, start_of, tail_text}
 use Rattle.sip_build.proofs.Grown.{of_err}
 use Rattle.sip_build.proofs.GroupTexts.{spelling_made, two-full}
 use Rattle.sip_build.proofs.made_text.append_made.Goals as goal

@@ -1,7 +1,4 @@
-use Rattle.std.proofs.Common.{sym}
-use Rattle.sip_lex.specs.Line.{ended}
-use Rattle.sip_text.specs.Text.{start_line}
-use Rattle.sip_build.specs.Groups.{start_of, tail_text}
+use Rattle.sip_build.proofs.Common.{sym, ended, start_line, start_of, tail_text}
 use Rattle.sip_build.proofs.Grown.{on_err, on_ok}
 use Rattle.sip_build.proofs.GroupTexts.{behind-full, spelling_made}
 use Rattle.sip_build.proofs.Pieces.{joined}

@@ -1,5 +1,4 @@
-use Rattle.std.proofs.Common.{◌∷◌, [], ◌++◌, ◌∙◌, List, ℕ, ap}
-use Rattle.sip_via.specs.BranchText.{branch_text}
+use Rattle.sip_build.proofs.Common.{◌∷◌, [], ◌++◌, ◌∙◌, List, ℕ, ap, branch_text}
 use Rattle.sip_build.proofs.Pieces.{own_front, own_line, three}
 use Rattle.sip_build.proofs.own_line.append_own_via.Goals as goal
 

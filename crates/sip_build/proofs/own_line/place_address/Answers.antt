@@ -1,5 +1,4 @@
-use Rattle.std.proofs.Common.{ap}
-use Rattle.std.specs.Fmt.{decimal}
+use Rattle.sip_build.proofs.Common.{ap, decimal}
 use Rattle.sip_build.proofs.Placed.{placed-as, placed-then}
 use Rattle.sip_build.proofs.own_line.place_address.Goals as goal
 

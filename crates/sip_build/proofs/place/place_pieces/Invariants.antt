@@ -1,6 +1,4 @@
-use Rattle.std.proofs.Common.{take}
-use Rattle.sip_text.specs.Text.{pieces_text}
-use Rattle.sip_build.specs.Placed.{Placed}
+use Rattle.sip_build.proofs.Common.{take, pieces_text, Placed}
 use Rattle.sip_build.proofs.place.place_pieces.Given as goal
 
 abbrev pub invariant-loop-piece : goal.invariant-loop-piece

@@ -1,7 +1,4 @@
-use Rattle.std.proofs.Common.{List, ℕ, subst, sym}
-use Rattle.std.specs.Prelude.{codes}
-use Rattle.sip_text.specs.Message.{IsMessage}
-use Rattle.sip_build.specs.Requests.{along}
+use Rattle.sip_build.proofs.Common.{List, ℕ, subst, sym, codes, IsMessage, along}
 use Rattle.sip_build.proofs.RequestsGood.{cancel_good}
 use Rattle.sip_build.proofs.requests.cancel_of.Goals as goal
 

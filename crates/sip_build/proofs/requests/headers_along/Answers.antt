@@ -1,9 +1,4 @@
-use Rattle.std.proofs.Common.{◌∙◌, sym, ap, [], ◌∷◌}
-use Rattle.std.specs.Prelude.{codes}
-use Rattle.sip_text.specs.Seen.{views}
-use Rattle.sip_via.specs.Edits.{line}
-use Rattle.sip_via.specs.Lines.{lines_as}
-use Rattle.sip_via.specs.ViaParts.{or_empty}
+use Rattle.sip_build.proofs.Common.{◌∙◌, sym, ap, [], ◌∷◌, codes, views, line, lines_as, or_empty}
 use Rattle.sip_build.proofs.Added.{eight}
 use Rattle.sip_build.proofs.RequestsGood.{along_lines}
 use Rattle.sip_build.proofs.requests.headers_along.Goals as goal

@@ -1,5 +1,4 @@
-use Rattle.sip_text.specs.Seen.{view_start, views}
-use Rattle.sip_build.specs.Generated.{generated_of}
+use Rattle.sip_build.proofs.Common.{view_start, views, generated_of}
 use Rattle.sip_build.proofs.GeneratedGood.{generated_good, made_so}
 use Rattle.sip_build.proofs.responses.generated.Goals as goal
 

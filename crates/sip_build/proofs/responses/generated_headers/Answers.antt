@@ -1,9 +1,4 @@
-use Rattle.std.proofs.Common.{ap, [], ◌∷◌}
-use Rattle.std.specs.Prelude.{codes}
-use Rattle.sip_text.specs.Seen.{views}
-use Rattle.sip_build.specs.Generated.{to_lines, unsupported_lines}
-use Rattle.sip_via.specs.Edits.{line}
-use Rattle.sip_via.specs.Lines.{first_line, lines_named}
+use Rattle.sip_build.proofs.Common.{ap, [], ◌∷◌, codes, views, to_lines, unsupported_lines, line, first_line, lines_named}
 use Rattle.sip_build.proofs.Added.{seven}
 use Rattle.sip_build.proofs.responses.generated_headers.Goals as goal
 

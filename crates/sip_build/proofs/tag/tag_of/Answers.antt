@@ -1,5 +1,4 @@
-use Rattle.std.proofs.Common.{◌≡◌, ◌<◌, ◌+◌, ◌*◌, ◌∙◌, length, arith}
-use Rattle.std.specs.Prelude.{codes}
+use Rattle.sip_build.proofs.Common.{◌≡◌, ◌<◌, ◌+◌, ◌*◌, ◌∙◌, length, arith, codes}
 use Rattle.std.proofs.lemmas.List.{length-set}
 use Rattle.sip_build.proofs.TagLaws.{pair_of, tag_done, tag_more}
 use Rattle.sip_build.proofs.tag.tag_of.Goals as goal

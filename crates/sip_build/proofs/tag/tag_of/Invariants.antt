@@ -1,6 +1,4 @@
-use Rattle.std.proofs.Common.{◌≡◌, ◌++◌, ◌+◌, ◌*◌, length, take}
-use Rattle.std.specs.Prelude.{codes}
-use Rattle.sip_via.specs.HexPair.{hex_text}
+use Rattle.sip_build.proofs.Common.{◌≡◌, ◌++◌, ◌+◌, ◌*◌, length, take, codes, hex_text}
 use Rattle.sip_build.proofs.tag.tag_of.Given as goal
 
 abbrev pub invariant-loop-i : goal.invariant-loop-i

@@ -1,11 +1,4 @@
-use Rattle.std.proofs.Common.{◌++◌, ◌∙◌, append_assoc, arith, refl, sym}
-use Rattle.std.specs.Prelude.{codes}
-use Rattle.sip_lex.specs.Line.{ended}
-use Rattle.sip_text.specs.Text.{Request, header_text, start_line}
-use Rattle.sip_uri.specs.Uri.{request_uri}
-use Rattle.sip_via.specs.Edits.{line}
-use Rattle.sip_via.specs.OwnVia.{own_via}
-use Rattle.sip_build.specs.Groups.{tail_text}
+use Rattle.sip_build.proofs.Common.{◌++◌, ◌∙◌, append_assoc, arith, refl, sym, codes, ended, Request, header_text, start_line, request_uri, line, own_via, tail_text}
 use Rattle.sip_build.proofs.Grown.{on_err, on_ok}
 use Rattle.sip_build.proofs.GroupTexts.{behind-full, request_text, room-as}
 use Rattle.sip_build.proofs.Pieces.{joined, three}

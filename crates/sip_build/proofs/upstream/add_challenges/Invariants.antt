@@ -1,6 +1,4 @@
-use Rattle.std.proofs.Common.{◌≡◌, ◌++◌, map, take}
-use Rattle.sip_text.specs.Seen.{views}
-use Rattle.sip_build.specs.Upward.{challenge_line}
+use Rattle.sip_build.proofs.Common.{◌≡◌, ◌++◌, map, take, views, challenge_line}
 use Rattle.sip_build.proofs.upstream.add_challenges.Given as goal
 
 abbrev pub invariant-loop-challenge : goal.invariant-loop-challenge

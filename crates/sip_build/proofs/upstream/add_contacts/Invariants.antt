@@ -1,7 +1,4 @@
-use Rattle.std.proofs.Common.{◌≡◌, ◌++◌, take}
-use Rattle.sip_text.specs.Seen.{views}
-use Rattle.sip_build.specs.SeenKept.{texts}
-use Rattle.sip_build.specs.Upward.{contact_lines}
+use Rattle.sip_build.proofs.Common.{◌≡◌, ◌++◌, take, views, texts, contact_lines}
 use Rattle.sip_build.proofs.upstream.add_contacts.Given as goal
 
 abbrev pub invariant-loop-text : goal.invariant-loop-text

@@ -1,11 +1,4 @@
-use Rattle.std.proofs.Common.{◌∙◌, ◌++◌, List, ap, append_assoc}
-use Rattle.std.specs.Prelude.{codes}
-use Rattle.std.specs.List.{filter}
-use Rattle.sip_text.specs.Seen.{views}
-use Rattle.sip_text.specs.Text.{HeaderText}
-use Rattle.sip_build.specs.Exchanged.{is_other}
-use Rattle.sip_build.specs.SeenKept.{texts}
-use Rattle.sip_build.specs.Upward.{contact_lines}
+use Rattle.sip_build.proofs.Common.{◌∙◌, ◌++◌, List, ap, append_assoc, codes, filter, views, HeaderText, is_other, texts, contact_lines}
 use Rattle.sip_build.proofs.Exchanged.{exchanged-split}
 use Rattle.sip_build.proofs.upstream.add_exchanged.Goals as goal
 

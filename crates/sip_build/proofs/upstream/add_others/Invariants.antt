@@ -1,7 +1,4 @@
-use Rattle.std.proofs.Common.{◌≡◌, ◌++◌, length}
-use Rattle.std.specs.List.{filter}
-use Rattle.sip_text.specs.Seen.{views}
-use Rattle.sip_build.specs.Exchanged.{is_other}
+use Rattle.sip_build.proofs.Common.{◌≡◌, ◌++◌, length, filter, views, is_other}
 use Rattle.sip_build.proofs.upstream.add_others.Given as goal
 
 abbrev pub invariant-loop-header : goal.invariant-loop-header

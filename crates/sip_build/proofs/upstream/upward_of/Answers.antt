@@ -1,8 +1,4 @@
-use Rattle.std.proofs.Common.{List, sym, subst}
-use Rattle.sip_text.specs.Message.{IsMessage}
-use Rattle.sip_text.specs.Text.{HeaderText}
-use Rattle.sip_via.specs.Edits.{with_headers}
-use Rattle.sip_build.specs.SeenKept.{seen_kept}
+use Rattle.sip_build.proofs.Common.{List, sym, subst, IsMessage, HeaderText, with_headers, seen_kept}
 use Rattle.sip_build.proofs.UpwardGood.{upward-good}
 use Rattle.sip_build.proofs.upstream.upward_of.Goals as goal
 

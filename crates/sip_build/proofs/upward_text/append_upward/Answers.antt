@@ -1,7 +1,5 @@
-use Rattle.sip_build.specs.SeenKept.{seen_kept}
-use Rattle.sip_build.specs.Upward.{upward_of}
+use Rattle.sip_build.proofs.Common.{seen_kept, upward_of, ◌∙◌}
 use Rattle.sip_build.proofs.GroupTexts.{ok-as, room-as, spelled-as}
-use Rattle.std.proofs.Common.{◌∙◌}
 use Rattle.sip_build.proofs.upward_text.append_upward.Goals as goal
 
 pub returns-clause-ok : goal.returns-clause-ok

@@ -1,9 +1,4 @@
-use Rattle.std.proofs.Common.{◌∙◌, ◌++◌, List, ap}
-use Rattle.std.specs.Prelude.{codes}
-use Rattle.sip_text.specs.Seen.{views}
-use Rattle.sip_text.specs.Text.{HeaderText}
-use Rattle.sip_build.specs.SeenKept.{texts}
-use Rattle.sip_build.specs.Upward.{contact_lines}
+use Rattle.sip_build.proofs.Common.{◌∙◌, ◌++◌, List, ap, codes, views, HeaderText, texts, contact_lines}
 use Rattle.sip_build.proofs.Exchanged.{exchanged-split}
 use Rattle.sip_build.proofs.GroupTexts.{other-lines}
 use Rattle.sip_build.proofs.upward_text.exchanged_groups.Goals as goal

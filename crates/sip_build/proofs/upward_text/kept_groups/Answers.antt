@@ -1,16 +1,6 @@
-use Rattle.std.proofs.Common.{◌<◌, ◌≤◌, ◌∙◌, ◌++◌, ◌∷◌, [], List, ℕ, length, map, sym, ap, arith}
-use Rattle.std.specs.Prelude.{None, Some, codes, if◌then◌else◌}
-use Rattle.std.specs.List.{flat_map}
-use Rattle.std.specs.Option.{option_copied}
-use Rattle.sip_text.specs.Name.{same_name}
-use Rattle.sip_text.specs.Seen.{views}
-use Rattle.sip_text.specs.Text.{HeaderText}
-use Rattle.sip_via.specs.Edits.{line_if_any, place_of, replaced}
-use Rattle.sip_build.specs.Exchanged.{exchanged}
-use Rattle.sip_build.specs.Groups.{lines_of, under}
-use Rattle.sip_build.specs.SeenKept.{texts}
-use Rattle.sip_build.specs.Upward.{challenge_line, contact_lines}
-use Rattle.sip_build.proofs.Exchanged.{Parted, none-left, round-later, round-none, round-sooner, via-is-no-contact}
+use Rattle.sip_build.proofs.Common.{◌<◌, ◌≤◌, ◌∙◌, ◌++◌, ◌∷◌, [], List, ℕ, length, map, sym, ap, arith, None, Some, codes, if◌then◌else◌, flat_map, option_copied, same_name, views, HeaderText, line_if_any, place_of, replaced, exchanged}
+use Rattle.sip_build.proofs.Common.{lines_of, under, texts, challenge_line, contact_lines}
+use Rattle.sip_build.proofs.Exchanged.{none-left, parted_at, round-later, round-none, round-sooner, via-is-no-contact}
 use Rattle.sip_build.proofs.GroupTexts.{other-lines}
 use Rattle.sip_build.proofs.UpwardTexts.{row-later, row-sooner, row-three}
 use Rattle.sip_build.proofs.upward_text.kept_groups.Goals as goal
@@ -21,11 +11,7 @@ returns-in_default g c =
     let o = option_copied c.args.others in
     let lines = contact_lines (texts c.args.kept.now) in
     let front = c.split_at.result.0.now in
-    let parted : Parted (codes "via") hs front [] c.place_of.result = record {
-      place = c.place_of.ensures.value;
-      front = c.split_at.ensures.front;
-      back = sym (none-left c.split_at.result.1.now c.in_default.ensures.cases) ∙ c.split_at.ensures.back;
-    } in
+    let parted = parted_at (codes "via") hs front [] c.place_of.result c.place_of.ensures.value c.split_at.ensures.front (sym (none-left c.split_at.result.1.now c.in_default.ensures.cases) ∙ c.split_at.ensures.back) in
     row-three (lines_of c.exchanged_groups.result.0) (lines_of c.exchanged_groups.result.1) (lines_of c.exchanged_groups.result.2) (map challenge_line c.args.challenges.now) (exchanged (codes "contact") lines (replaced (codes "via") o (views hs)))
     (c.exchanged_groups.ensures ∙ round-none (codes "via") (codes "contact") o lines hs front c.place_of.result parted)
 
@@ -38,11 +24,7 @@ returns-then-place_of-front g c =
     let front = c.split_at.result.0.now in
     let top = c.in-Some.top.now in
     let after = c.in-Some.after.now in
-    let parted : Parted (codes "via") hs front (top ∷ after) n = record {
-      place = c.place_of.ensures.value;
-      front = c.split_at.ensures.front;
-      back = sym c.in-Some.ensures.cases.0 ∙ c.split_at.ensures.back;
-    } in
+    let parted = parted_at (codes "via") hs front (top ∷ after) n c.place_of.ensures.value c.split_at.ensures.front (sym c.in-Some.ensures.cases.0 ∙ c.split_at.ensures.back) in
     let sooner : place_of (codes "contact") (views front) < length front = omega (arith, c.if-place_of-front.true, c.place_of-2.ensures.value) in
     let first = c.group_if_any-top.ensures ∙ ap (λ (name : List ℕ). line_if_any name o) c.deref.ensures.value in
     let rest = flat_map (λ h. under h (if same_name (codes "contact") h.name then None else Some h.name)) (views after) in
@@ -60,11 +42,7 @@ returns-else-place_of-front g c =
     let front = c.split_at.result.0.now in
     let top = c.in-Some.top.now in
     let after = c.in-Some.after.now in
-    let parted : Parted (codes "via") hs front (top ∷ after) n = record {
-      place = c.place_of.ensures.value;
-      front = c.split_at.ensures.front;
-      back = sym c.in-Some.ensures.cases.0 ∙ c.split_at.ensures.back;
-    } in
+    let parted = parted_at (codes "via") hs front (top ∷ after) n c.place_of.ensures.value c.split_at.ensures.front (sym c.in-Some.ensures.cases.0 ∙ c.split_at.ensures.back) in
     let later : length front ≤ place_of (codes "contact") (views front) = omega (arith, c.if-place_of-front.false, c.place_of-2.ensures.value) in
     let first = c.group_if_any-top.ensures ∙ ap (λ (name : List ℕ). line_if_any name o) c.deref.ensures.value in
     row-later (views front) (lines_of c.group_if_any-top.result) (lines_of c.exchanged_groups-else-place_of-front.result.0) (lines_of c.exchanged_groups-else-place_of-front.result.1) (lines_of c.exchanged_groups-else-place_of-front.result.2) (map challenge_line c.args.challenges.now) (exchanged (codes "contact") lines (views after)) (exchanged (codes "contact") lines (replaced (codes "via") o (views hs)))

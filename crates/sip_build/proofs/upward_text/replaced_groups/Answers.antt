@@ -1,11 +1,4 @@
-use Rattle.std.proofs.Common.{◌∷◌, ◌∙◌, [], ◌++◌, List, ap, map, sym}
-use Rattle.std.specs.Prelude.{codes}
-use Rattle.std.specs.Option.{option_copied}
-use Rattle.sip_text.specs.Seen.{views}
-use Rattle.sip_text.specs.Text.{HeaderText}
-use Rattle.sip_via.specs.Edits.{line_if_any, replaced}
-use Rattle.sip_build.specs.Upward.{challenge_line}
-use Rattle.sip_via.proofs.laws.Places.{replaced-split}
+use Rattle.sip_build.proofs.Common.{◌∷◌, ◌∙◌, [], ◌++◌, List, ap, map, sym, codes, option_copied, views, HeaderText, line_if_any, replaced, challenge_line, replaced-split}
 use Rattle.sip_build.proofs.Exchanged.{none-left}
 use Rattle.sip_build.proofs.UpwardTexts.{row-one, row-three}
 use Rattle.sip_build.proofs.upward_text.replaced_groups.Goals as goal

@@ -1,6 +1,5 @@
-use Rattle.std.proofs.Common.{ℕ, List, Option, ◌≡◌, ◌++◌, sym, subst}
-use Rattle.sip_lex.specs.Cut.{behind, Lacks}
-use Rattle.sip_lex.proofs.Cuts.{cut_joins, cut_lacks}
+use Rattle.sip_lex.proofs.Common.{ℕ, List, Option, ◌≡◌, ◌++◌, sym, subst, behind, Lacks}
+use Rattle.sip_lex.proofs.laws.Cuts.{cut_joins, cut_lacks}
 use Rattle.sip_lex.proofs.cut.cut_at.Goals as goal
 
 pub returns-clause-whole : goal.returns-clause-whole

@@ -1,7 +1,5 @@
-use Rattle.std.proofs.Common.{sym, ap, ◌∙◌}
-use Rattle.std.proofs.lemmas.List.{take_rest}
-use Rattle.sip_lex.specs.Cut.{is}
-use Rattle.sip_lex.proofs.Cuts.{cut-position, cut_at}
+use Rattle.sip_lex.proofs.Common.{sym, ap, ◌∙◌, take_rest, is}
+use Rattle.sip_lex.proofs.laws.Cuts.{cut-position, cut_at}
 use Rattle.sip_lex.proofs.cut.cut_by_mark.Goals as goal
 
 pub returns-in-None-clause-value : goal.returns-in-None-clause-value

@@ -1,4 +1,4 @@
-use Rattle.sip_lex.proofs.Lines.{is_found, is_none}
+use Rattle.sip_lex.proofs.laws.Lines.{is_found, is_none}
 use Rattle.sip_lex.proofs.line.first_line.Goals as goal
 
 pub returns-clause-found : goal.returns-clause-found

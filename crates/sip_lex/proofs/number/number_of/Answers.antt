@@ -1,5 +1,4 @@
-use Rattle.std.proofs.Common.{◌∙◌, ◌^◌, ℕ, get_or, sym, ap}
-use Rattle.sip_lex.specs.Number.{below, with_digit}
+use Rattle.sip_lex.proofs.Common.{◌∙◌, ◌^◌, ℕ, get_or, sym, ap, with_digit, below}
 use Rattle.sip_lex.proofs.Numbers.{not_below, too_large}
 use Rattle.sip_lex.proofs.number.number_of.Goals as goal
 

@@ -1,5 +1,4 @@
-use Rattle.std.proofs.Common.{◌≡◌, ◌<◌, ◌^◌, take}
-use Rattle.sip_lex.specs.Number.{number}
+use Rattle.sip_lex.proofs.Common.{◌≡◌, ◌<◌, ◌^◌, take, number}
 use Rattle.sip_lex.proofs.number.number_of.Given as goal
 
 abbrev pub invariant-loop-digit : goal.invariant-loop-digit

@@ -1,4 +1,4 @@
-use Rattle.sip_lex.proofs.Quotes.{is_found, is_none}
+use Rattle.sip_lex.proofs.laws.Quotes.{is_found, is_none}
 use Rattle.sip_lex.proofs.quoted.cut_quoted.Goals as goal
 
 pub returns-clause-found : goal.returns-clause-found

@@ -1,5 +1,4 @@
-use Rattle.std.proofs.Common.{◌≡◌, ◌+◌, false, drop}
-use Rattle.sip_lex.specs.Quoted.{quoted_len}
+use Rattle.sip_lex.proofs.Common.{◌≡◌, ◌+◌, false, drop, quoted_len}
 use Rattle.sip_lex.proofs.quoted.quoted_len.Given as goal
 
 abbrev pub invariant-loop-i : goal.invariant-loop-i

@@ -1,5 +1,4 @@
-use Rattle.std.proofs.Common.{◌∙◌}
-use Rattle.memchr.specs.Find.{is_byte3}
+use Rattle.sip_lex.proofs.Common.{◌∙◌, is_byte3}
 use Rattle.sip_lex.proofs.Places.{place_or}
 use Rattle.sip_lex.proofs.sheltered.bare_len.Goals as goal
 

@@ -1,9 +1,6 @@
-use Rattle.std.proofs.Common.{ℕ, List, Option, ◌≡◌, ◌++◌, sym, subst}
-use Rattle.sip_lex.specs.declared.sheltered.Place.TheVariants.{Plain}
-use Rattle.sip_lex.specs.Cut.{behind}
-use Rattle.sip_lex.specs.Sheltered.{LacksOutside}
-use Rattle.sip_lex.proofs.Shelters.{cut_outside_joins, cut_outside_lacks}
-use Rattle.sip_lex.proofs.Shelters.{stands_outside}
+use Rattle.sip_lex.proofs.Common.{ℕ, List, Option, ◌≡◌, ◌++◌, sym, subst, Plain, behind, LacksOutside}
+use Rattle.sip_lex.proofs.laws.Shelters.{cut_outside_joins, cut_outside_lacks}
+use Rattle.sip_lex.proofs.laws.Shelters.{stands_outside}
 use Rattle.sip_lex.proofs.sheltered.cut_outside.Goals as goal
 
 pub returns-clause-whole : goal.returns-clause-whole

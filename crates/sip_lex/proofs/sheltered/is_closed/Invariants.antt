@@ -1,6 +1,4 @@
-use Rattle.std.proofs.Common.{◌≡◌, fold, take}
-use Rattle.sip_lex.specs.declared.sheltered.Place.TheVariants.{Plain}
-use Rattle.sip_lex.specs.Sheltered.{place_after}
+use Rattle.sip_lex.proofs.Common.{◌≡◌, fold, take, Plain, place_after}
 use Rattle.sip_lex.proofs.sheltered.is_closed.Given as goal
 
 abbrev pub invariant-loop-byte : goal.invariant-loop-byte

@@ -1,7 +1,5 @@
-use Rattle.std.proofs.Common.{◌+◌, ◌-◌, List, ℕ, length, drop, ap, ◌∙◌, arith}
+use Rattle.sip_lex.proofs.Common.{◌+◌, ◌-◌, List, ℕ, length, drop, ap, ◌∙◌, arith, Plain, outside_len}
 use Rattle.std.proofs.lemmas.List.{length-drop, take_all}
-use Rattle.sip_lex.specs.declared.sheltered.Place.TheVariants.{Plain}
-use Rattle.sip_lex.specs.Sheltered.{outside_len}
 use Rattle.sip_lex.proofs.Bare.{bare_then}
 use Rattle.sip_lex.proofs.sheltered.outside_len.Goals as goal
 

@@ -1,6 +1,5 @@
-use Rattle.std.proofs.Common.{◌∙◌, sym}
-use Rattle.std.proofs.lemmas.List.{take_rest}
-use Rattle.sip_lex.proofs.Shelters.{split_is, without_mark-empty, without_mark-more}
+use Rattle.sip_lex.proofs.Common.{◌∙◌, sym, take_rest}
+use Rattle.sip_lex.proofs.laws.Shelters.{split_is, without_mark-empty, without_mark-more}
 use Rattle.sip_lex.proofs.sheltered.split_outside.Goals as goal
 
 pub returns-in-empty-clause-value : goal.returns-in-empty-clause-value

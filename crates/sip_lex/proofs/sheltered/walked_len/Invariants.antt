@@ -1,6 +1,4 @@
-use Rattle.std.proofs.Common.{◌≡◌, ◌+◌, drop}
-use Rattle.sip_lex.specs.declared.sheltered.Place.TheVariants.{Plain}
-use Rattle.sip_lex.specs.Sheltered.{outside_len}
+use Rattle.sip_lex.proofs.Common.{◌≡◌, ◌+◌, drop, Plain, outside_len}
 use Rattle.sip_lex.proofs.sheltered.walked_len.Given as goal
 
 abbrev pub invariant-loop-i : goal.invariant-loop-i

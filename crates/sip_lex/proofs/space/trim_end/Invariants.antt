@@ -1,6 +1,5 @@
-use Rattle.std.proofs.Common.{◌≡◌, ◌+◌, ◌-◌, ◌≤◌, length, take}
+use Rattle.sip_lex.proofs.Common.{◌≡◌, ◌+◌, ◌-◌, ◌≤◌, length, take, is_space}
 use Rattle.std.specs.List.{suffix_len}
-use Rattle.sip_lex.specs.Bytes.{is_space}
 use Rattle.sip_lex.proofs.space.trim_end.Given as goal
 
 abbrev pub invariant-loop-n : goal.invariant-loop-n

@@ -1,6 +1,4 @@
-use Rattle.std.proofs.Common.{ℕ, List}
-use Rattle.sip_via.specs.OwnPass.{IsOwnPass}
-use Rattle.sip_via.specs.TopVia.{via_values}
+use Rattle.sip_route.proofs.Common.{ℕ, List, IsOwnPass, via_values}
 use Rattle.sip_route.proofs.Walks.{walk_found, walk_past}
 use Rattle.sip_route.proofs.loop_test.has_own_pass.Goals as goal
 

@@ -1,6 +1,4 @@
-use Rattle.std.proofs.Common.{ℕ, List}
-use Rattle.sip_route.specs.LoopTest.{IsOwnValue}
-use Rattle.sip_via.specs.TopVia.{via_values}
+use Rattle.sip_route.proofs.Common.{ℕ, List, IsOwnValue, via_values}
 use Rattle.sip_route.proofs.Walks.{walk_found, walk_past}
 use Rattle.sip_route.proofs.loop_test.has_own_value.Goals as goal
 

@@ -1,6 +1,4 @@
-use Rattle.std.proofs.Common.{length}
-use Rattle.sip_route.specs.LoopTest.{IsOwnValue}
-use Rattle.sip_via.specs.TopVia.{via_values}
+use Rattle.sip_route.proofs.Common.{length, IsOwnValue, via_values}
 use Rattle.sip_route.proofs.Walks.{SameAny}
 use Rattle.sip_route.proofs.loop_test.has_own_value.Given as goal
 

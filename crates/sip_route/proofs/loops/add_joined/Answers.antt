@@ -1,7 +1,4 @@
-use Rattle.std.proofs.Common.{◌++◌, ◌∙◌, List, ℕ, sym, ap, subst, append_assoc}
-use Rattle.std.specs.List.{join_with_byte}
-use Rattle.md5.specs.Md5.{Holds}
-use Rattle.sip_route.specs.Loop.{behind_commas}
+use Rattle.sip_route.proofs.Common.{◌++◌, ◌∙◌, List, ℕ, sym, ap, subst, append_assoc, join_with_byte, Holds, behind_commas}
 use Rattle.sip_route.proofs.Commas.{joined_commas}
 use Rattle.sip_route.proofs.loops.add_joined.Goals as goal
 

@@ -1,6 +1,4 @@
-use Rattle.std.proofs.Common.{◌≡◌, ◌++◌, List, ℕ}
-use Rattle.md5.specs.Md5.{Holds}
-use Rattle.sip_route.specs.Loop.{behind_commas}
+use Rattle.sip_route.proofs.Common.{◌≡◌, ◌++◌, List, ℕ, Holds, behind_commas}
 use Rattle.sip_route.proofs.loops.add_more.Given as goal
 
 abbrev pub invariant-loop-value : goal.invariant-loop-value

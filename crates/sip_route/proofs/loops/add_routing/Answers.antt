@@ -1,6 +1,5 @@
-use Rattle.std.proofs.Common.{◌++◌, List, ℕ, subst}
+use Rattle.sip_route.proofs.Common.{◌++◌, List, ℕ, subst, Holds}
 use Rattle.std.specs.Prelude.{codes}
-use Rattle.md5.specs.Md5.{Holds}
 use Rattle.sip_route.specs.Loop.{all_values, field_line}
 use Rattle.sip_route.proofs.Added.{three}
 use Rattle.sip_route.proofs.loops.add_routing.Goals as goal

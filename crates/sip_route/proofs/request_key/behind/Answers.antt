@@ -1,7 +1,4 @@
-use Rattle.std.proofs.Common.{◌++◌, ◌∙◌, List, Option, ap, sym, ℕ}
-use Rattle.std.specs.Borrow.{Bor}
-use Rattle.std.specs.Option.{option_copied}
-use Rattle.sip_route.specs.RequestKey.{is_rest}
+use Rattle.sip_route.proofs.Common.{◌++◌, ◌∙◌, List, Option, ap, sym, ℕ, Bor, option_copied, is_rest}
 use Rattle.sip_route.proofs.KeyTexts.{left_behind}
 use Rattle.sip_route.proofs.request_key.behind.Goals as goal
 

@@ -1,5 +1,4 @@
-use Rattle.std.proofs.Common.{◌≡◌, ◌++◌, List, ℕ, length}
-use Rattle.std.specs.Str.{bytes_eq, str_to_ascii_lowercase}
+use Rattle.sip_route.proofs.Common.{◌≡◌, ◌++◌, List, ℕ, length, bytes_eq, str_to_ascii_lowercase}
 use Rattle.sip_route.proofs.request_key.behind_lowered.Given as goal
 
 abbrev pub invariant-loop-left : goal.invariant-loop-left

@@ -1,6 +1,5 @@
-use Rattle.std.proofs.Common.{◌≡◌, length}
-use Rattle.std.specs.List.{list_all}
-use Rattle.sip_route.specs.RouteValues.{is_route, route_values}
+use Rattle.sip_route.proofs.Common.{◌≡◌, length, list_all, route_values}
+use Rattle.sip_route.specs.RouteValues.{is_route}
 use Rattle.sip_route.proofs.route_values.routes_are_readable.Given as goal
 
 abbrev pub invariant-loop-value : goal.invariant-loop-value

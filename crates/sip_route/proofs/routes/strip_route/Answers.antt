@@ -1,7 +1,4 @@
-use Rattle.std.proofs.Common.{List, sym, subst}
-use Rattle.sip_text.specs.Message.{IsMessage}
-use Rattle.sip_text.specs.Text.{HeaderText}
-use Rattle.sip_via.specs.Edits.{with_headers}
+use Rattle.sip_route.proofs.Common.{List, sym, subst, IsMessage, HeaderText, with_headers}
 use Rattle.sip_route.proofs.Stripped.{stripped-good}
 use Rattle.sip_route.proofs.routes.strip_route.Goals as goal
 

@@ -1,8 +1,4 @@
-use Rattle.std.proofs.Common.{ℕ, List, sym, subst}
-use Rattle.sip_lex.specs.declared.sheltered.Shelter.TheVariants.{QuotesAndAngles}
-use Rattle.sip_lex.specs.declared.sheltered.Place.TheVariants.{Plain}
-use Rattle.sip_lex.specs.Sheltered.{cut_outside}
-use Rattle.sip_route.specs.Stripping.{LineLeaves}
+use Rattle.sip_route.proofs.Common.{ℕ, List, sym, subst, QuotesAndAngles, Plain, cut_outside, LineLeaves}
 use Rattle.sip_route.proofs.StripPlaces.{leaves-none, leaves-some}
 use Rattle.sip_route.proofs.stripping.first_left.Goals as goal
 

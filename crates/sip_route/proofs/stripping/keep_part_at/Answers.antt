@@ -1,9 +1,4 @@
-use Rattle.std.proofs.Common.{ℕ, List, ap, slice_set, ◌∙◌}
-use Rattle.sip_text.specs.declared.parts.Header.{Header}
-use Rattle.sip_text.specs.Seen.{views}
-use Rattle.sip_text.specs.Text.{HeaderText}
-use Rattle.sip_via.specs.Edits.{line}
-use Rattle.sip_route.specs.Stripping.{part}
+use Rattle.sip_route.proofs.Common.{ℕ, List, ap, slice_set, ◌∙◌, Header, views, HeaderText, line, part}
 use Rattle.sip_route.proofs.StripPlaces.{at-views, set-views}
 use Rattle.sip_route.proofs.stripping.keep_part_at.Goals as goal
 

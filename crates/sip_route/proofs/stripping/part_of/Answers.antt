@@ -1,5 +1,4 @@
-use Rattle.std.proofs.Common.{ℕ, List, length, ap, ◌-◌, ◌∙◌, arith}
-use Rattle.sip_route.specs.Stripping.{part}
+use Rattle.sip_route.proofs.Common.{ℕ, List, length, ap, ◌-◌, ◌∙◌, arith, part}
 use Rattle.sip_route.proofs.StripPlaces.{part-others}
 use Rattle.sip_route.proofs.stripping.part_of.Goals as goal
 

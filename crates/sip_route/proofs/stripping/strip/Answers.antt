@@ -1,8 +1,5 @@
-use Rattle.std.proofs.Common.{List, sym, subst}
-use Rattle.sip_text.specs.Message.{IsMessage}
-use Rattle.sip_text.specs.Seen.{view_start, views}
-use Rattle.sip_text.specs.Text.{HeaderText, MessageText}
-use Rattle.sip_via.specs.Edits.{with_headers}
+use Rattle.sip_route.proofs.Common.{List, sym, subst, IsMessage, views, HeaderText, MessageText, with_headers}
+use Rattle.sip_text.specs.Seen.{view_start}
 use Rattle.sip_route.proofs.Stripped.{stripped-good}
 use Rattle.sip_route.proofs.stripping.strip.Goals as goal
 

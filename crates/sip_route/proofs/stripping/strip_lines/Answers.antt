@@ -1,8 +1,4 @@
-use Rattle.std.proofs.Common.{◌≡◌, List, ap, sym, subst, ◌∙◌}
-use Rattle.std.specs.Prelude.{remove}
-use Rattle.sip_text.specs.declared.parts.Header.{Header}
-use Rattle.sip_text.specs.Seen.{views}
-use Rattle.sip_route.specs.Routes.{stripped_headers}
+use Rattle.sip_route.proofs.Common.{◌≡◌, List, ap, sym, subst, ◌∙◌, remove, Header, views, stripped_headers}
 use Rattle.sip_route.proofs.StripPlaces.{removed-views}
 use Rattle.sip_route.proofs.stripping.strip_lines.Goals as goal
 

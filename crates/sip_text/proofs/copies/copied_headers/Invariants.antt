@@ -1,5 +1,4 @@
-use Rattle.std.proofs.Common.{◌≡◌, take}
-use Rattle.sip_text.specs.Seen.{views}
+use Rattle.sip_text.proofs.Common.{◌≡◌, take, views}
 use Rattle.sip_text.proofs.copies.copied_headers.Given as goal
 
 abbrev pub invariant-loop-header : goal.invariant-loop-header

@@ -1,6 +1,4 @@
-use Rattle.std.proofs.Common.{◌≡◌}
-use Rattle.std.specs.List.{list_all}
-use Rattle.sip_text.specs.Fields.{says}
+use Rattle.sip_text.proofs.Common.{◌≡◌, list_all, says}
 use Rattle.sip_text.proofs.fields.all_say.Given as goal
 
 abbrev pub invariant-loop-value : goal.invariant-loop-value

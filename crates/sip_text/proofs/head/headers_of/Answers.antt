@@ -1,10 +1,7 @@
-use Rattle.std.proofs.Common.{◌∙◌, sym, ap}
-use Rattle.std.proofs.lemmas.Bool.{eqb-true, eqb-false}
+use Rattle.sip_text.proofs.Common.{◌∙◌, sym, ap, eqb-true, fault_seen, headers_at, view, views}
+use Rattle.std.proofs.lemmas.Bool.{eqb-false}
 use Rattle.std.proofs.lemmas.List.{map_push}
 use Rattle.std.proofs.lemmas.Result.{err_from_is_err_and}
-use Rattle.sip_text.specs.Fault.{fault_seen}
-use Rattle.sip_text.specs.Reading.{headers_at}
-use Rattle.sip_text.specs.Seen.{view, views}
 use Rattle.sip_text.proofs.Tails.{headers_end-early, headers_end, headers_go_on, headers_fail}
 use Rattle.sip_text.proofs.head.headers_of.Goals as goal
 

@@ -1,7 +1,4 @@
-use Rattle.std.proofs.Common.{◌≡◌, length}
-use Rattle.sip_text.specs.Heads.{prepended}
-use Rattle.sip_text.specs.Reading.{headers_at}
-use Rattle.sip_text.specs.Seen.{views}
+use Rattle.sip_text.proofs.Common.{◌≡◌, length, prepended, headers_at, views}
 use Rattle.sip_text.proofs.head.headers_of.Given as goal
 
 abbrev pub invariant-loop-line : goal.invariant-loop-line

@@ -1,7 +1,5 @@
-use Rattle.std.proofs.Common.{◌∙◌, sym, ap, arith, List, ℕ}
-use Rattle.sip_text.specs.Heads.{continued, or_bad, valued, with_part}
-use Rattle.sip_text.specs.Reading.{begins_with_space, headers_at, tail_at}
-use Rattle.sip_text.proofs.Good.{trim_front}
+use Rattle.sip_text.proofs.Common.{◌∙◌, sym, ap, arith, List, ℕ, continued, or_bad, valued, with_part, begins_with_space, headers_at, tail_at}
+use Rattle.sip_text.proofs.laws.Good.{trim_front}
 use Rattle.sip_text.proofs.Tails.{part_front, value_ends-early, value_ends, value_with_part}
 use Rattle.sip_text.proofs.head.value_of.Goals as goal
 

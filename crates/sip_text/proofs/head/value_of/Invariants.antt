@@ -1,7 +1,4 @@
-use Rattle.std.proofs.Common.{◌≡◌, ◌≤◌, false, length}
-use Rattle.sip_lex.specs.Bytes.{trim}
-use Rattle.sip_text.specs.Heads.{continued}
-use Rattle.sip_text.specs.Reading.{begins_with_space, tail_at}
+use Rattle.sip_text.proofs.Common.{◌≡◌, ◌≤◌, false, length, trim, continued, begins_with_space, tail_at}
 use Rattle.sip_text.proofs.head.value_of.Given as goal
 
 abbrev pub invariant-loop-rest : goal.invariant-loop-rest

@@ -1,6 +1,4 @@
-use Rattle.std.proofs.Common.{◌≡◌, ◌∙◌, ◌∷◌, List, ℕ, true, false, sym, ap}
-use Rattle.sip_text.specs.Name.{same_name, values_of}
-use Rattle.sip_text.specs.Seen.{view, views}
+use Rattle.sip_text.proofs.Common.{◌≡◌, ◌∙◌, ◌∷◌, List, ℕ, true, false, sym, ap, same_name, values_of, view, views}
 use Rattle.sip_text.proofs.Steps.{named_here, named_later}
 use Rattle.sip_text.proofs.name.split_named.Goals as goal
 

@@ -1,6 +1,4 @@
-use Rattle.std.proofs.Common.{◌≡◌, length}
-use Rattle.sip_text.specs.Name.{values_of}
-use Rattle.sip_text.specs.Seen.{views}
+use Rattle.sip_text.proofs.Common.{◌≡◌, length, values_of, views}
 use Rattle.sip_text.proofs.name.split_named.Given as goal
 
 abbrev pub invariant-loop-header : goal.invariant-loop-header

@@ -1,6 +1,4 @@
-use Rattle.std.proofs.Common.{◌≡◌, map}
-use Rattle.sip_text.specs.Message.{zeroed}
-use Rattle.sip_text.specs.Seen.{views}
+use Rattle.sip_text.proofs.Common.{◌≡◌, map, zeroed, views}
 use Rattle.sip_text.proofs.read.all_zeroed.Given as goal
 
 abbrev pub invariant-loop-header : goal.invariant-loop-header

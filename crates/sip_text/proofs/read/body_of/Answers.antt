@@ -1,6 +1,4 @@
-use Rattle.std.proofs.Common.{◌∙◌, ap}
-use Rattle.sip_text.specs.Fields.{said_length}
-use Rattle.sip_text.specs.Seen.{view_start, views}
+use Rattle.sip_text.proofs.Common.{◌∙◌, ap, said_length, view_start, views}
 use Rattle.sip_text.proofs.Zeroed.{unsaid_good}
 use Rattle.sip_text.proofs.read.body_of.Goals as goal
 

@@ -1,11 +1,5 @@
-use Rattle.std.proofs.Common.{◌≡◌, ◌∙◌, true, None, Result, ap, subst, sym}
-use Rattle.sip_lex.specs.Line.{line_at}
-use Rattle.sip_text.specs.Fault.{Gives}
-use Rattle.sip_text.specs.Fields.{cseq_fits, missing}
-use Rattle.sip_text.specs.Reading.{Fault}
-use Rattle.sip_text.specs.Seen.{view_start, views}
-use Rattle.sip_text.specs.Text.{MessageText}
-use Rattle.sip_text.proofs.Good.{headers_good}
+use Rattle.sip_text.proofs.Common.{◌≡◌, ◌∙◌, true, None, Result, ap, subst, sym, line_at, Gives, cseq_fits, missing, Fault, view_start, views, MessageText}
+use Rattle.sip_text.proofs.laws.Good.{headers_good}
 use Rattle.sip_text.proofs.Heads.{all_read, some_headers}
 use Rattle.sip_text.proofs.StartLines.{start_found, start_line_good}
 use Rattle.sip_text.proofs.Spelled.{line_is}

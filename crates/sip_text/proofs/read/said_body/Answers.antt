@@ -1,5 +1,4 @@
-use Rattle.std.proofs.Common.{arith}
-use Rattle.sip_text.specs.Seen.{view_start, views}
+use Rattle.sip_text.proofs.Common.{arith, view_start, views}
 use Rattle.sip_text.proofs.Zeroed.{said_good}
 use Rattle.sip_text.proofs.read.said_body.Goals as goal
 

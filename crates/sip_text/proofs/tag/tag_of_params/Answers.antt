@@ -1,5 +1,4 @@
-use Rattle.std.proofs.Common.{◌∙◌, sym}
-use Rattle.std.specs.Option.{option_copied}
+use Rattle.sip_text.proofs.Common.{◌∙◌, sym, option_copied}
 use Rattle.sip_text.proofs.Tags.{tag_here, tag_later}
 use Rattle.sip_text.proofs.tag.tag_of_params.Goals as goal
 

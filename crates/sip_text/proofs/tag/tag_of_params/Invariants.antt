@@ -1,8 +1,4 @@
-use Rattle.std.proofs.Common.{◌≡◌}
-use Rattle.std.specs.Option.{option_copied}
-use Rattle.sip_lex.specs.declared.sheltered.Shelter.TheVariants.{QuotesAndAngles}
-use Rattle.sip_lex.specs.Outside.{pieces_outside_behind}
-use Rattle.sip_text.specs.Tag.{tag_of_params}
+use Rattle.sip_text.proofs.Common.{◌≡◌, option_copied, QuotesAndAngles, pieces_outside_behind, tag_of_params}
 use Rattle.sip_text.proofs.Size.{size}
 use Rattle.sip_text.proofs.tag.tag_of_params.Given as goal
 

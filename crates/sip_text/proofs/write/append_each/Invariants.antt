@@ -1,5 +1,4 @@
-use Rattle.std.proofs.Common.{◌≡◌, ◌≤◌, ◌++◌, take}
-use Rattle.sip_text.specs.Text.{pieces_text}
+use Rattle.sip_text.proofs.Common.{◌≡◌, ◌≤◌, ◌++◌, take, pieces_text}
 use Rattle.sip_text.proofs.write.append_each.Given as goal
 
 abbrev pub invariant-loop-piece : goal.invariant-loop-piece

@@ -1,6 +1,5 @@
 use Rattle.std.proofs.Common.{rules}
-use Rattle.sip_text.specs.Seen.{view}
-use Rattle.sip_text.specs.Text.{header_text}
+use Rattle.sip_text.proofs.Common.{view, header_text}
 use Rattle.sip_text.proofs.Grown.{none_for_seen, of_err}
 use Rattle.sip_text.proofs.write.append_lines.Goals as goal
 

@@ -1,7 +1,4 @@
-use Rattle.std.proofs.Common.{◌≡◌, ◌≤◌, ◌++◌, take}
-use Rattle.std.specs.List.{flat_map}
-use Rattle.sip_text.specs.Text.{header_text}
-use Rattle.sip_text.specs.Seen.{views}
+use Rattle.sip_text.proofs.Common.{◌≡◌, ◌≤◌, ◌++◌, take, flat_map, header_text, views}
 use Rattle.sip_text.proofs.write.append_lines.Given as goal
 
 abbrev pub invariant-loop-header : goal.invariant-loop-header

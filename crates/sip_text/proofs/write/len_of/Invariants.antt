@@ -1,5 +1,4 @@
-use Rattle.std.proofs.Common.{◌≡◌, take, length}
-use Rattle.sip_text.specs.Text.{pieces_text, saturated}
+use Rattle.sip_text.proofs.Common.{◌≡◌, take, length, pieces_text, saturated}
 use Rattle.sip_text.proofs.write.len_of.Given as goal
 
 abbrev pub invariant-loop-piece : goal.invariant-loop-piece

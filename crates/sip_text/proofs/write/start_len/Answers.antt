@@ -1,6 +1,4 @@
-use Rattle.std.proofs.Common.{◌∙◌, List, ℕ, length, ap}
-use Rattle.sip_lex.specs.Line.{ended}
-use Rattle.sip_text.specs.Text.{Response, saturated, start_line}
+use Rattle.sip_text.proofs.Common.{◌∙◌, List, ℕ, length, ap, ended, Response, saturated, start_line}
 use Rattle.sip_text.proofs.write.start_len.Goals as goal
 
 pub returns-in-Response : goal.returns-in-Response

@@ -1,7 +1,5 @@
-use Rattle.std.proofs.Common.{◌≡◌, ◌∙◌, ap, fold, take}
+use Rattle.sip_uri.proofs.Common.{◌≡◌, ◌∙◌, ap, fold, take, Begun, is_whole, progress_after}
 use Rattle.std.proofs.lemmas.List.{take_all}
-use Rattle.sip_uri.specs.declared.checks.Progress.TheVariants.{Begun}
-use Rattle.sip_uri.specs.Progress.{is_whole, progress_after}
 use Rattle.sip_uri.proofs.Params.{params_read}
 use Rattle.sip_uri.proofs.checks.are_params.Goals as goal
 

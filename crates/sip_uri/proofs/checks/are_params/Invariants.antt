@@ -1,6 +1,4 @@
-use Rattle.std.proofs.Common.{◌≡◌, take, fold}
-use Rattle.sip_uri.specs.declared.checks.Progress.TheVariants.{Begun}
-use Rattle.sip_uri.specs.Progress.{progress_after}
+use Rattle.sip_uri.proofs.Common.{◌≡◌, take, fold, Begun, progress_after}
 use Rattle.sip_uri.proofs.checks.are_params.Given as goal
 
 abbrev pub invariant-loop-byte : goal.invariant-loop-byte

@@ -1,5 +1,4 @@
-use Rattle.std.proofs.Common.{◌∙◌, sym}
-use Rattle.std.specs.Option.{option_copied}
+use Rattle.sip_uri.proofs.Common.{◌∙◌, sym, option_copied}
 use Rattle.sip_uri.proofs.Contacts.{item_empty, item_full}
 use Rattle.sip_uri.proofs.contact.are_items.Goals as goal
 

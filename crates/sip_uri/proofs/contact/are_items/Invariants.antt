@@ -1,6 +1,4 @@
-use Rattle.std.proofs.Common.{◌≡◌, Some}
-use Rattle.std.specs.Option.{option_copied}
-use Rattle.sip_uri.specs.Contact.{are_items, items_behind}
+use Rattle.sip_uri.proofs.Common.{◌≡◌, Some, option_copied, are_items, items_behind}
 use Rattle.sip_uri.proofs.Keys.{size}
 use Rattle.sip_uri.proofs.contact.are_items.Given as goal
 

@@ -1,7 +1,4 @@
-use Rattle.std.proofs.Common.{◌≡◌, ◌++◌, Some, map}
-use Rattle.std.specs.Option.{option_copied}
-use Rattle.sip_uri.specs.Contact.{contact_of, items_behind}
-use Rattle.sip_uri.specs.SeenContact.{view_contacts}
+use Rattle.sip_uri.proofs.Common.{◌≡◌, ◌++◌, Some, map, option_copied, contact_of, items_behind, view_contacts}
 use Rattle.sip_uri.proofs.Keys.{size}
 use Rattle.sip_uri.proofs.contact.contacts_of.Given as goal
 

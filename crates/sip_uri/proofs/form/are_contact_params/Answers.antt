@@ -1,5 +1,4 @@
-use Rattle.std.proofs.Common.{◌∙◌, sym}
-use Rattle.std.specs.Option.{option_copied}
+use Rattle.sip_uri.proofs.Common.{◌∙◌, sym, option_copied}
 use Rattle.sip_uri.proofs.Contacts.{bad_first, good_first}
 use Rattle.sip_uri.proofs.form.are_contact_params.Goals as goal
 

@@ -1,7 +1,4 @@
-use Rattle.std.proofs.Common.{◌≡◌}
-use Rattle.std.specs.List.{list_all}
-use Rattle.sip_uri.specs.Contact.{contact_params, is_contact_param}
-use Rattle.std.specs.Option.{option_copied}
+use Rattle.sip_uri.proofs.Common.{◌≡◌, list_all, contact_params, is_contact_param, option_copied}
 use Rattle.sip_uri.proofs.Keys.{size}
 use Rattle.sip_uri.proofs.form.are_contact_params.Given as goal
 

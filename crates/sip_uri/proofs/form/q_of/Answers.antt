@@ -1,6 +1,4 @@
-use Rattle.std.proofs.Common.{◌∙◌, sym, ap}
-use Rattle.std.specs.Option.{option_copied}
-use Rattle.sip_uri.specs.Contact.{q_value_if_any}
+use Rattle.sip_uri.proofs.Common.{◌∙◌, sym, ap, option_copied, q_value_if_any}
 use Rattle.sip_uri.proofs.Contacts.{q_first, q_later}
 use Rattle.sip_uri.proofs.form.q_of.Goals as goal
 

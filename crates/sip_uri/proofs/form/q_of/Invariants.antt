@@ -1,6 +1,4 @@
-use Rattle.std.proofs.Common.{◌≡◌}
-use Rattle.sip_uri.specs.Contact.{contact_params, q_of}
-use Rattle.std.specs.Option.{option_copied}
+use Rattle.sip_uri.proofs.Common.{◌≡◌, contact_params, q_of, option_copied}
 use Rattle.sip_uri.proofs.Keys.{size}
 use Rattle.sip_uri.proofs.form.q_of.Given as goal
 

@@ -1,7 +1,5 @@
-use Rattle.std.proofs.Common.{◌++◌, ◌∙◌, ℕ, List, false, ap, drop, subst, sym}
-use Rattle.std.proofs.lemmas.List.{take-append-drop}
-use Rattle.sip_uri.specs.Host.{BeginsWithEnd, LacksEnds, host_len}
-use Rattle.sip_uri.proofs.Hosts.{front_lacks, rest_begins}
+use Rattle.sip_uri.proofs.Common.{◌++◌, ◌∙◌, ℕ, List, false, ap, drop, subst, sym, take-append-drop, BeginsWithEnd, LacksEnds, host_len}
+use Rattle.sip_uri.proofs.laws.Hosts.{front_lacks, rest_begins}
 use Rattle.sip_uri.proofs.host.cut_host.Goals as goal
 
 pub returns-clause-whole : goal.returns-clause-whole

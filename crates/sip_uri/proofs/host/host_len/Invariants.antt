@@ -1,5 +1,4 @@
-use Rattle.std.proofs.Common.{◌≡◌, ◌+◌, false, drop}
-use Rattle.sip_uri.specs.Host.{host_len}
+use Rattle.sip_uri.proofs.Common.{◌≡◌, ◌+◌, false, drop, host_len}
 use Rattle.sip_uri.proofs.host.host_len.Given as goal
 
 abbrev pub invariant-loop-i : goal.invariant-loop-i

@@ -1,5 +1,5 @@
 use Rattle.std.proofs.Common.{◌∙◌, sym}
-use Rattle.sip_uri.proofs.Hosts.{IsHost-is_host, is_host-IsHost}
+use Rattle.sip_uri.proofs.laws.Hosts.{IsHost-is_host, is_host-IsHost}
 use Rattle.sip_uri.proofs.host.is_host.Goals as goal
 
 pub returns-clause-meaning : goal.returns-clause-meaning

@@ -1,8 +1,5 @@
-use Rattle.std.proofs.Common.{◌≡◌, ◌∙◌, Some, None, sym, ap, drop}
-use Rattle.std.proofs.lemmas.List.{take_rest}
-use Rattle.sip_uri.specs.Checked.{named_fault, part_fault}
-use Rattle.sip_uri.specs.Reading.{Parts, parts_of}
-use Rattle.sip_uri.specs.Seen.{parts}
+use Rattle.sip_uri.proofs.Common.{◌≡◌, ◌∙◌, Some, None, sym, ap, drop, take_rest, named_fault, Parts, parts_of, parts}
+use Rattle.sip_uri.specs.inner.Checked.{part_fault}
 use Rattle.sip_uri.proofs.Checked.{not_sip, read_by_parts}
 use Rattle.sip_uri.proofs.text.cut_uri.Goals as goal
 

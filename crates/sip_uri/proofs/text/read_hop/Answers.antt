@@ -1,8 +1,7 @@
-use Rattle.std.proofs.Common.{◌∙◌, ap, sym}
-use Rattle.sip_uri.specs.Hop.{hop_if_read, parts_hop}
-use Rattle.sip_uri.specs.Seen.{parts}
-use Rattle.sip_uri.proofs.Found.{read_port_good}
-use Rattle.sip_uri.proofs.Only.{hop_only}
+use Rattle.sip_uri.proofs.Common.{◌∙◌, ap, sym, hop_if_read, parts}
+use Rattle.sip_uri.specs.inner.Hop.{parts_hop}
+use Rattle.sip_uri.proofs.laws.Found.{read_port_good}
+use Rattle.sip_uri.proofs.laws.Only.{hop_only}
 use Rattle.sip_uri.proofs.text.read_hop.Goals as goal
 
 pub hop_of-requires : goal.hop_of-requires

@@ -1,5 +1,5 @@
 use Rattle.std.proofs.Common.{rules}
-use Rattle.sip_uri.proofs.Only.{no_fault_exactly}
+use Rattle.sip_uri.proofs.laws.Only.{no_fault_exactly}
 use Rattle.sip_uri.proofs.text.uri_fault.Goals as goal
 
 pub returns-clause-none : goal.returns-clause-none

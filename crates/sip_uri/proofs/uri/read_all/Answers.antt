@@ -1,6 +1,4 @@
-use Rattle.std.proofs.Common.{◌∙◌, List, ℕ, sym, ap, subst}
-use Rattle.sip_uri.specs.Kept.{IsKept}
-use Rattle.sip_uri.specs.Key.{parts_key}
+use Rattle.sip_uri.proofs.Common.{◌∙◌, List, ℕ, sym, ap, subst, IsKept, parts_key}
 use Rattle.sip_uri.proofs.Checked.{kept_read}
 use Rattle.sip_uri.proofs.uri.read_all.Goals as goal
 

@@ -1,9 +1,5 @@
-use Rattle.std.proofs.Common.{◌∷◌, ◌++◌, [], sym, vec_len, arith}
-use Rattle.std.specs.Option.{option_copied}
-use Rattle.sip_lex.specs.Pieces.{pieces_behind}
+use Rattle.sip_uri.proofs.Common.{◌∷◌, ◌++◌, [], sym, vec_len, arith, option_copied, pieces_behind, false≢true, length-append}
 use Rattle.sip_uri.proofs.Written.{begins_still, kept_text, next_fits, next_text}
-use Rattle.std.proofs.lemmas.Bool.{false≢true}
-use Rattle.std.proofs.lemmas.List.{length-append}
 use Rattle.sip_uri.proofs.write.append_params.Goals as goal
 
 pub loop-rest-preserved : goal.loop-rest-preserved

@@ -1,7 +1,5 @@
-use Rattle.std.proofs.Common.{◌≡◌, ◌≤◌, ◌++◌, take, vec_capacity, vec_len}
-use Rattle.std.specs.Option.{option_copied}
-use Rattle.sip_lex.specs.Pieces.{pieces_behind}
-use Rattle.sip_uri.specs.Uri.{params_text, without_methods}
+use Rattle.sip_uri.proofs.Common.{◌≡◌, ◌≤◌, ◌++◌, take, vec_len, option_copied, pieces_behind, params_text, without_methods}
+use Rattle.std.proofs.Common.{vec_capacity}
 use Rattle.sip_uri.proofs.Keys.{size}
 use Rattle.sip_uri.proofs.write.append_params.Given as goal
 

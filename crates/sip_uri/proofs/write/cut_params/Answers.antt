@@ -1,5 +1,4 @@
-use Rattle.std.proofs.Common.{◌∙◌, ◌-◌, List, ℕ, ap, length, refl, sym}
-use Rattle.sip_uri.specs.Tail.{params_in}
+use Rattle.sip_uri.proofs.Common.{◌∙◌, ◌-◌, List, ℕ, ap, length, refl, sym, params_in}
 use Rattle.sip_uri.proofs.Tails.{head_found, request_joins}
 use Rattle.sip_uri.proofs.write.cut_params.Goals as goal
 

@@ -1,5 +1,4 @@
-use Rattle.std.proofs.Common.{◌≡◌, ◌+◌, drop}
-use Rattle.sip_uri.specs.Tail.{front_len}
+use Rattle.sip_uri.proofs.Common.{◌≡◌, ◌+◌, drop, front_len}
 use Rattle.sip_uri.proofs.write.front_len.Given as goal
 
 abbrev pub invariant-loop-i : goal.invariant-loop-i

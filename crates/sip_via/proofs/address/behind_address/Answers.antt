@@ -1,5 +1,4 @@
-use Rattle.std.proofs.Common.{◌∙◌, ap}
-use Rattle.sip_via.specs.Fronts.{behind_number}
+use Rattle.sip_via.proofs.Common.{◌∙◌, ap, behind_number}
 use Rattle.sip_via.proofs.FrontLaws.{marked_step}
 use Rattle.sip_via.proofs.address.behind_address.Goals as goal
 

@@ -1,5 +1,4 @@
-use Rattle.std.proofs.Common.{◌∙◌, ap}
-use Rattle.sip_via.specs.Fronts.{behind_address, behind_marked}
+use Rattle.sip_via.proofs.Common.{◌∙◌, ap, behind_address, behind_marked}
 use Rattle.sip_via.proofs.FrontLaws.{if_copied, sent_by_found}
 use Rattle.sip_via.proofs.address.behind_sent_by.Goals as goal
 

@@ -1,5 +1,4 @@
-use Rattle.std.proofs.Common.{◌∙◌, ap}
-use Rattle.sip_via.specs.Fronts.{is_end}
+use Rattle.sip_via.proofs.Common.{◌∙◌, ap, is_end}
 use Rattle.sip_via.proofs.FrontLaws.{address_is}
 use Rattle.sip_via.proofs.address.is_address.Goals as goal
 

@@ -1,5 +1,4 @@
-use Rattle.std.proofs.Common.{◌≡◌, ◌<◌, ◌+◌, ◌*◌, ◌∙◌, length, arith}
-use Rattle.std.proofs.lemmas.List.{length-set}
+use Rattle.sip_via.proofs.Common.{◌≡◌, ◌<◌, ◌+◌, ◌*◌, ◌∙◌, length, arith, length-set}
 use Rattle.sip_via.proofs.KeyDigits.{digits_done, digits_more, pair_of}
 use Rattle.sip_via.proofs.branch.key_digits.Goals as goal
 

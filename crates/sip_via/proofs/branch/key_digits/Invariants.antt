@@ -1,5 +1,4 @@
-use Rattle.std.proofs.Common.{◌≡◌, ◌*◌, length, take}
-use Rattle.sip_via.specs.HexPair.{hex_text}
+use Rattle.sip_via.proofs.Common.{◌≡◌, ◌*◌, length, take, hex_text}
 use Rattle.sip_via.proofs.branch.key_digits.Given as goal
 
 abbrev pub invariant-loop-i : goal.invariant-loop-i

@@ -1,5 +1,4 @@
-use Rattle.std.proofs.Common.{arith}
-use Rattle.std.proofs.lemmas.List.{drop_all}
+use Rattle.sip_via.proofs.Common.{arith, drop_all}
 use Rattle.sip_via.proofs.BranchPlaced.{placed}
 use Rattle.sip_via.proofs.branch.place_branch.Goals as goal
 

@@ -1,5 +1,4 @@
-use Rattle.std.proofs.Common.{◌≡◌, ◌+◌, ◌-◌, arith}
-use Rattle.std.proofs.lemmas.Fmt.{length-decimal-le}
+use Rattle.sip_via.proofs.Common.{◌≡◌, ◌+◌, ◌-◌, arith, length-decimal-le}
 use Rattle.std.proofs.lemmas.List.{drop-set}
 use Rattle.sip_via.proofs.branch.place_dotted.Goals as goal
 

@@ -1,5 +1,4 @@
-use Rattle.std.proofs.Common.{◌≡◌, ◌<◌, ◌+◌, ◌*◌, ◌∙◌, ◌∷◌, [], List, ℕ, get_or, length, arith, ap}
-use Rattle.std.proofs.lemmas.List.{length-set}
+use Rattle.sip_via.proofs.Common.{◌≡◌, ◌<◌, ◌+◌, ◌*◌, ◌∙◌, ◌∷◌, [], List, ℕ, get_or, length, arith, ap, length-set}
 use Rattle.sip_via.proofs.laws.HexLaws.{byte_at, hex_text_length, key_done, key_more, none_so, pair_at}
 use Rattle.sip_via.proofs.branch.read_key.Goals as goal
 

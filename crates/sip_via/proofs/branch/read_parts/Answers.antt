@@ -1,6 +1,5 @@
-use Rattle.std.proofs.Common.{◌∙◌, arith, ap, sym}
-use Rattle.sip_via.specs.BranchParts.{BranchParts, view_parts}
-use Rattle.sip_via.specs.declared.branch.BranchName.{BranchName}
+use Rattle.sip_via.proofs.Common.{◌∙◌, arith, ap, sym, BranchParts, BranchName}
+use Rattle.sip_via.specs.inner.BranchParts.{view_parts}
 use Rattle.sip_via.proofs.BranchLaws.{branch_is, number_refused, number_same, number_text, parts_is}
 use Rattle.sip_via.proofs.laws.HexLaws.{hex_text_one}
 use Rattle.sip_via.proofs.branch.read_parts.Goals as goal

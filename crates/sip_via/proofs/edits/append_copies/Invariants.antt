@@ -1,5 +1,4 @@
-use Rattle.std.proofs.Common.{◌≡◌, ◌++◌, take, vec_len}
-use Rattle.sip_text.specs.Seen.{views}
+use Rattle.sip_via.proofs.Common.{◌≡◌, ◌++◌, take, vec_len, views}
 use Rattle.sip_via.proofs.edits.append_copies.Given as goal
 
 abbrev pub invariant-loop-header : goal.invariant-loop-header

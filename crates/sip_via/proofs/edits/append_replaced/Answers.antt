@@ -1,7 +1,4 @@
-use Rattle.std.proofs.Common.{◌∙◌, ◌++◌, List, ap, append_assoc}
-use Rattle.sip_text.specs.Seen.{views}
-use Rattle.sip_text.specs.Text.{HeaderText}
-use Rattle.sip_via.specs.Edits.{changed_first}
+use Rattle.sip_via.proofs.Common.{◌∙◌, ◌++◌, List, ap, append_assoc, views, HeaderText, changed_first}
 use Rattle.sip_via.specs.SeenMessages.{seen_value}
 use Rattle.sip_via.proofs.laws.Places.{replaced-split}
 use Rattle.sip_via.proofs.edits.append_replaced.Goals as goal

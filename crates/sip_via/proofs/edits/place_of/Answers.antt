@@ -1,7 +1,4 @@
-use Rattle.std.proofs.Common.{◌≡◌, ◌∙◌, false, List, drop, sym, ap, arith}
-use Rattle.sip_text.specs.declared.parts.Header.{Header}
-use Rattle.sip_text.specs.Seen.{views}
-use Rattle.sip_via.specs.Edits.{begins_named}
+use Rattle.sip_via.proofs.Common.{◌≡◌, ◌∙◌, false, List, drop, sym, ap, arith, Header, views, begins_named}
 use Rattle.sip_via.proofs.laws.Places.{place-later}
 use Rattle.sip_via.proofs.edits.place_of.Goals as goal
 

@@ -1,6 +1,4 @@
-use Rattle.std.proofs.Common.{◌≡◌, ◌+◌, drop}
-use Rattle.sip_text.specs.Seen.{views}
-use Rattle.sip_via.specs.Edits.{place_of}
+use Rattle.sip_via.proofs.Common.{◌≡◌, ◌+◌, drop, views, place_of}
 use Rattle.sip_via.proofs.edits.place_of.Given as goal
 
 abbrev pub invariant-loop-i : goal.invariant-loop-i

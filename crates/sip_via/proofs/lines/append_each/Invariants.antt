@@ -1,6 +1,4 @@
-use Rattle.std.proofs.Common.{◌≡◌, ◌++◌, map, take, vec_len}
-use Rattle.sip_text.specs.Seen.{views}
-use Rattle.sip_via.specs.Edits.{line}
+use Rattle.sip_via.proofs.Common.{◌≡◌, ◌++◌, map, take, vec_len, views, line}
 use Rattle.sip_via.proofs.lines.append_each.Given as goal
 
 abbrev pub invariant-loop-value : goal.invariant-loop-value

@@ -1,6 +1,5 @@
-use Rattle.std.proofs.Common.{◌≡◌, ◌++◌, length, take, vec_len}
-use Rattle.sip_text.specs.Seen.{views}
-use Rattle.sip_via.specs.Lines.{lines_among, lines_named}
+use Rattle.sip_via.proofs.Common.{◌≡◌, ◌++◌, length, take, vec_len, views, lines_among}
+use Rattle.sip_via.specs.Lines.{lines_named}
 use Rattle.sip_via.proofs.lines.append_named.Given as goal
 
 abbrev pub invariant-loop-header : goal.invariant-loop-header

@@ -1,6 +1,4 @@
-use Rattle.std.proofs.Common.{◌∙◌, sym, arith}
-use Rattle.sip_text.specs.Seen.{views}
-use Rattle.sip_via.specs.Lines.{lines_among}
+use Rattle.sip_via.proofs.Common.{◌∙◌, sym, arith, views, lines_among}
 use Rattle.sip_via.proofs.Walks.{named_here, named_later}
 use Rattle.sip_via.proofs.lines.split_named.Goals as goal
 

@@ -1,6 +1,4 @@
-use Rattle.std.proofs.Common.{◌≡◌, ◌≤◌, length}
-use Rattle.sip_text.specs.Seen.{views}
-use Rattle.sip_via.specs.Lines.{lines_among}
+use Rattle.sip_via.proofs.Common.{◌≡◌, ◌≤◌, length, views, lines_among}
 use Rattle.sip_via.proofs.lines.split_named.Given as goal
 
 abbrev pub invariant-loop-header : goal.invariant-loop-header

@@ -1,6 +1,4 @@
-use Rattle.std.proofs.Common.{◌≡◌}
-use Rattle.std.specs.List.{list_all}
-use Rattle.sip_via.specs.ViaParts.{is_param}
+use Rattle.sip_via.proofs.Common.{◌≡◌, list_all, is_param}
 use Rattle.sip_via.proofs.params.are_params.Given as goal
 
 abbrev pub invariant-loop-param : goal.invariant-loop-param

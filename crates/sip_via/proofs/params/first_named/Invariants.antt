@@ -1,5 +1,4 @@
-use Rattle.std.proofs.Common.{◌≡◌}
-use Rattle.sip_via.specs.ViaParts.{first_named}
+use Rattle.sip_via.proofs.Common.{◌≡◌, first_named}
 use Rattle.sip_via.proofs.params.first_named.Given as goal
 
 abbrev pub invariant-loop-param : goal.invariant-loop-param

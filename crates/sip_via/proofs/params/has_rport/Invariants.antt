@@ -1,5 +1,4 @@
-use Rattle.std.proofs.Common.{◌≡◌}
-use Rattle.std.specs.List.{list_any}
+use Rattle.sip_via.proofs.Common.{◌≡◌, list_any}
 use Rattle.sip_via.specs.ViaParts.{is_rport}
 use Rattle.sip_via.proofs.params.has_rport.Given as goal
 

@@ -1,6 +1,4 @@
-use Rattle.std.proofs.Common.{◌≡◌}
-use Rattle.std.specs.List.{list_any}
-use Rattle.sip_via.specs.Received.{asks_port}
+use Rattle.sip_via.proofs.Common.{◌≡◌, list_any, asks_port}
 use Rattle.sip_via.proofs.received.any_asks_port.Given as goal
 
 abbrev pub invariant-loop-param : goal.invariant-loop-param

@@ -1,6 +1,4 @@
-use Rattle.std.proofs.Common.{◌≡◌, ◌++◌}
-use Rattle.std.specs.List.{flat_map}
-use Rattle.sip_via.specs.Received.{marked_param}
+use Rattle.sip_via.proofs.Common.{◌≡◌, ◌++◌, flat_map, marked_param}
 use Rattle.sip_via.proofs.received.append_params.Given as goal
 
 abbrev pub invariant-loop-param : goal.invariant-loop-param

@@ -1,8 +1,5 @@
-use Rattle.std.proofs.Common.{List, sym, subst}
-use Rattle.sip_text.specs.Message.{IsMessage}
-use Rattle.sip_text.specs.Seen.{view_start, views}
-use Rattle.sip_text.specs.Text.{HeaderText, MessageText}
-use Rattle.sip_via.specs.Received.{with_via_line}
+use Rattle.sip_via.proofs.Common.{List, sym, subst, IsMessage, views, HeaderText, MessageText, with_via_line}
+use Rattle.sip_text.specs.Seen.{view_start}
 use Rattle.sip_via.proofs.Marked.{marked-message}
 use Rattle.sip_via.proofs.received.mark.Goals as goal
 

@@ -1,10 +1,4 @@
-use Rattle.std.proofs.Common.{◌∙◌, ◌++◌, List, Some, ap, sym, subst}
-use Rattle.std.specs.Prelude.{codes}
-use Rattle.sip_text.specs.Message.{IsMessage}
-use Rattle.sip_text.specs.Seen.{views}
-use Rattle.sip_text.specs.Text.{HeaderText}
-use Rattle.sip_text.specs.declared.parts.Header.{Header}
-use Rattle.sip_via.specs.Edits.{replaced, with_headers}
+use Rattle.sip_via.proofs.Common.{◌∙◌, ◌++◌, List, Some, ap, sym, subst, codes, IsMessage, views, HeaderText, Header, replaced, with_headers}
 use Rattle.sip_via.proofs.Marked.{marked-message}
 use Rattle.sip_via.proofs.received.mark_received.Goals as goal
 

@@ -1,7 +1,4 @@
-use Rattle.std.proofs.Common.{◌≡◌, ◌∙◌, ◌≤◌, List, ap, arith, length}
-use Rattle.sip_text.specs.Seen.{views}
-use Rattle.sip_text.specs.declared.parts.Header.{Header}
-use Rattle.sip_via.specs.Edits.{place_of}
+use Rattle.sip_via.proofs.Common.{◌≡◌, ◌∙◌, ◌≤◌, List, ap, arith, length, views, Header, place_of}
 use Rattle.sip_via.proofs.laws.Places.{replaced-nowhere}
 use Rattle.sip_via.proofs.received.with_first_value.Goals as goal
 

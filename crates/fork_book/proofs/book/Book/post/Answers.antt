@@ -1,6 +1,5 @@
-use Rattle.std.proofs.Common.{◌≡◌, ◌∙◌, ap, subst, List, [], ◌∷◌, ◌++◌}
+use Rattle.std.proofs.Common.{◌≡◌, ◌∙◌, ap, List, [], ◌∷◌, ◌++◌}
 use Rattle.fork_model.specs.Core.{core_next}
-use Rattle.fork_model.specs.Event.{Event}
 use Rattle.fork_model.specs.Reply.{Reply, IsReply}
 use Rattle.fork_context.specs.EventView.{event_of}
 use Rattle.fork_book.specs.Log.{Posted}

@@ -1,11 +1,5 @@
-use Rattle.std.proofs.Common.{◌≡◌, ◌∙◌, ap, refl, sym, subst, false, true, [], ◌∷◌, List, Option, Some, length, ℕ, suc, arith}
-use Rattle.std.specs.Prelude.{◌==◌}
-use Rattle.std.proofs.lemmas.Bool.{eqb-true}
-use Rattle.sip_txn.specs.Timers.{earlier}
-use Rattle.fork_parts.specs.Call.{Call}
-use Rattle.fork_parts.specs.Due.{IsLeastDue, is_any}
+use Rattle.fork_call.proofs.Common.{◌≡◌, ◌∙◌, ap, refl, sym, subst, false, true, [], ◌∷◌, List, Option, Some, length, ℕ, suc, arith, ◌==◌, eqb-true, earlier, Call, IsLeastDue, is_any, least_of}
 use Rattle.fork_parts.specs.Server as server
-use Rattle.fork_call.specs.Scheduled.{least_of}
 use Rattle.fork_call.proofs.LeastDue.{least_due, owed_due}
 use Rattle.fork_call.proofs.call.Call.due.Goals as goal
 

@@ -1,6 +1,4 @@
-use Rattle.std.proofs.Common.{◌≡◌, ◌∙◌, ℕ, ap, length, subst, sym, Option}
-use Rattle.fork_parts.specs.Call.{Call}
-use Rattle.fork_call.specs.Timing.{retimed, row_of_cause}
+use Rattle.fork_call.proofs.Common.{◌≡◌, ◌∙◌, ℕ, ap, length, subst, sym, Option, Call, retimed, row_of_cause}
 use Rattle.fork_call.proofs.Stepping.{failed_timed}
 use Rattle.fork_call.proofs.call.Call.failed.Goals as goal
 

@@ -1,11 +1,4 @@
-use Rattle.std.proofs.Common.{◌≡◌, ◌∙◌, ◌<◌, ap, length, subst, sym, arith, true, false, []}
-use Rattle.fork_book.specs.Log.{Log, table_of}
-use Rattle.fork_model.specs.Core.{Core}
-use Rattle.sip_txn.specs.Timers.{is_due}
-use Rattle.fork_parts.specs.Call.{Call, rows_of}
-use Rattle.fork_parts.specs.Due.{IsIdle, is_due_at}
-use Rattle.fork_parts.specs.Server.{served_due}
-use Rattle.fork_call.specs.SeenDeed.{seen_deed}
+use Rattle.fork_call.proofs.Common.{◌≡◌, ◌∙◌, ◌<◌, ap, length, subst, sym, arith, true, false, [], Log, table_of, Core, is_due, Call, rows_of, IsIdle, is_due_at, served_due, seen_deed}
 use Rattle.fork_call.proofs.Stepping.{due_by, empty_by, idle_by, if_none, row_by}
 use Rattle.fork_call.proofs.call.Call.next_deed.Goals as goal
 

@@ -1,6 +1,4 @@
-use Rattle.std.proofs.Common.{sym, subst}
-use Rattle.fork_parts.specs.Call.{Call}
-use Rattle.fork_routing.specs.Opening.{Opens}
+use Rattle.fork_call.proofs.Common.{sym, subst, Call, Opens}
 use Rattle.fork_call.proofs.call.Call.open.Goals as goal
 
 pub returns-in-Ok-clause-opened : goal.returns-in-Ok-clause-opened

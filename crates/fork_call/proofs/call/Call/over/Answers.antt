@@ -1,10 +1,5 @@
-use Rattle.std.proofs.Common.{◌≡◌, ◌∙◌, ap, subst, sym, true}
+use Rattle.fork_call.proofs.Common.{◌≡◌, ◌∙◌, ap, subst, sym, true, Core, is_finished, Log, table_of, Call, rows_of, IsLeastDue, IsOver}
 use Rattle.std.specs.Prelude.{IsTrue}
-use Rattle.fork_model.specs.Core.{Core}
-use Rattle.fork_model.specs.Table.{is_finished}
-use Rattle.fork_book.specs.Log.{Log, table_of}
-use Rattle.fork_parts.specs.Call.{Call, rows_of}
-use Rattle.fork_parts.specs.Due.{IsLeastDue, IsOver}
 use Rattle.fork_call.proofs.Ending.{is_over_by}
 use Rattle.fork_call.proofs.call.Call.over.Goals as goal
 

@@ -1,6 +1,4 @@
-use Rattle.std.proofs.Common.{◌≡◌, length, subst}
-use Rattle.fork_book.specs.Log.{Log}
-use Rattle.fork_parts.specs.Call.{Call}
+use Rattle.fork_call.proofs.Common.{◌≡◌, length, subst, Log, Call}
 use Rattle.fork_call.proofs.Stepping.{replied_each}
 use Rattle.fork_call.proofs.call.Call.posted.Goals as goal
 

@@ -1,9 +1,4 @@
-use Rattle.std.proofs.Common.{◌≡◌, ◌∙◌, ℕ, ap, length, subst, sym, true, Option}
-use Rattle.fork_parts.specs.Call.{Call}
-use Rattle.fork_parts.specs.Due.{is_due_at}
-use Rattle.fork_parts.specs.SeenStep.{pumped}
-use Rattle.fork_call.specs.SeenDeed.{seen_deed}
-use Rattle.fork_call.specs.Timing.{retimed, row_of_deed}
+use Rattle.fork_call.proofs.Common.{◌≡◌, ◌∙◌, ℕ, ap, length, subst, sym, true, Option, Call, is_due_at, pumped, seen_deed, retimed, row_of_deed}
 use Rattle.fork_call.proofs.Stepping.{pumped_timed}
 use Rattle.fork_call.proofs.call.Call.pump.Goals as goal
 

@@ -1,6 +1,4 @@
-use Rattle.std.proofs.Common.{sym, subst}
-use Rattle.fork_parts.specs.Call.{Call}
-use Rattle.fork_call.specs.Timing.{IsTimed}
+use Rattle.fork_call.proofs.Common.{sym, subst, Call, IsTimed}
 use Rattle.fork_call.proofs.prepared.Prepared.numbered.Goals as goal
 
 pub of-requires : goal.of-requires

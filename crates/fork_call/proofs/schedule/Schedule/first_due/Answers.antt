@@ -1,7 +1,4 @@
-use Rattle.std.proofs.Common.{◌≡◌, ◌∙◌, ap, sym, subst, false, List, Option, ℕ}
-use Rattle.std.specs.List.{list_any}
-use Rattle.sip_txn.specs.Timers.{is_due}
-use Rattle.fork_call.specs.Scheduled.{moment_at}
+use Rattle.fork_call.proofs.Common.{◌≡◌, ◌∙◌, ap, sym, subst, false, List, Option, ℕ, list_any, is_due, moment_at}
 use Rattle.fork_call.proofs.Leasts.{none_due}
 use Rattle.fork_call.proofs.schedule.Schedule.first_due.Goals as goal
 

@@ -1,5 +1,4 @@
-use Rattle.std.proofs.Common.{◌≡◌, sym, subst, List, Option, ℕ}
-use Rattle.fork_call.specs.Scheduled.{least_of, moment_at}
+use Rattle.fork_call.proofs.Common.{◌≡◌, sym, subst, List, Option, ℕ, least_of, moment_at}
 use Rattle.fork_call.proofs.Leasts.{first_padded}
 use Rattle.fork_call.proofs.schedule.Schedule.pad.Goals as goal
 

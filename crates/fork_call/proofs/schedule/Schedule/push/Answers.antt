@@ -1,6 +1,5 @@
-use Rattle.std.proofs.Common.{◌≡◌, ◌∙◌, ◌++◌, ◌∷◌, [], ap, length, sym, subst, true, false, Bool, List, Option, ℕ}
+use Rattle.fork_call.proofs.Common.{◌≡◌, ◌∙◌, ◌++◌, ◌∷◌, [], ap, length, sym, subst, true, false, Bool, List, Option, ℕ, comes_before, least_of, moment_at}
 use Rattle.std.specs.Prelude.{if◌then◌else◌}
-use Rattle.fork_call.specs.Scheduled.{comes_before, least_of, moment_at}
 use Rattle.fork_call.proofs.Leasts.{first_as_before, last_is_first}
 use Rattle.fork_call.proofs.schedule.Schedule.push.Goals as goal
 

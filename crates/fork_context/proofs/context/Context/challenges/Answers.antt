@@ -1,9 +1,6 @@
-use Rattle.std.proofs.Common.{refl, ◌≡◌, ◌∙◌, ◌++◌, ap, sym, subst}
-use Rattle.fork_model.specs.Core.{Core}
+use Rattle.fork_context.proofs.Common.{refl, ◌≡◌, ◌∙◌, ◌++◌, ap, sym, subst, Core, choice_of, IsSound}
 use Rattle.fork_model.specs.Challenges.{challenge_list}
 use Rattle.fork_context.specs.Chosen.{challenges_added}
-use Rattle.fork_context.specs.ReplyView.{choice_of}
-use Rattle.fork_context.specs.Sound.{IsSound}
 use Rattle.fork_context.proofs.ChallengeSteps.{chosen_once, due_now}
 use Rattle.fork_context.proofs.context.Context.challenges.Goals as goal
 

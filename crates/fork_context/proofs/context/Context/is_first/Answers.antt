@@ -1,8 +1,4 @@
-use Rattle.std.proofs.Common.{◌≡◌, ap, sym, subst, Some}
-use Rattle.fork_model.specs.Core.{Core}
-use Rattle.fork_model.specs.Choice.{IsChoice, NoneStored}
-use Rattle.fork_context.specs.Sound.{IsSound}
-use Rattle.fork_context.specs.ReplyView.{choice_of}
+use Rattle.fork_context.proofs.Common.{ap, subst, Core, IsChoice, NoneStored, IsSound, choice_of}
 use Rattle.fork_context.proofs.FirstRows.{first_row, none_first, row_of}
 use Rattle.fork_context.proofs.context.Context.is_first.Goals as goal
 

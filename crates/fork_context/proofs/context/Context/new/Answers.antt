@@ -1,11 +1,6 @@
-use Rattle.std.proofs.Common.{◌≡◌, ◌≢◌, ◌≤◌, ◌∙◌, ℕ, List, [], length, arith, ap, sym, subst}
+use Rattle.fork_context.proofs.Common.{◌≡◌, ◌≢◌, ◌≤◌, ◌∙◌, ℕ, List, [], length, arith, ap, sym, subst, Table, most_targets, kind_of, AreRules, HasTwice, IsKept}
 use Rattle.std.proofs.lemmas.Bool.{eqb-false}
 use Rattle.fork_rank.specs.Preferred.{IsPreferredList}
-use Rattle.fork_model.specs.Table.{Table, most_targets}
-use Rattle.fork_context.specs.KindView.{kind_of}
-use Rattle.fork_context.specs.Led.{AreRules}
-use Rattle.fork_context.specs.Refusals.{HasTwice}
-use Rattle.fork_context.specs.Sound.{IsKept}
 use Rattle.fork_context.proofs.SoundSteps.{kept_opening}
 use Rattle.fork_context.proofs.context.Context.new.Goals as goal
 

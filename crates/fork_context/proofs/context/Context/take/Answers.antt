@@ -1,9 +1,4 @@
-use Rattle.std.proofs.Common.{◌≡◌, ◌∙◌, sym, subst, false, arith, suc, add-one, ℕ}
-use Rattle.fork_model.specs.Table.{Table}
-use Rattle.fork_model.specs.Core.{Core, is_full}
-use Rattle.fork_model.specs.Step.{next}
-use Rattle.fork_context.specs.EventView.{event_of}
-use Rattle.fork_context.specs.Sound.{IsKept}
+use Rattle.fork_context.proofs.Common.{◌≡◌, ◌∙◌, sym, subst, false, arith, suc, add-one, ℕ, Table, Core, is_full, next, event_of, IsKept}
 use Rattle.fork_context.proofs.SoundSteps.{kept_next, taken_small}
 use Rattle.fork_context.proofs.context.Context.take.Goals as goal
 

@@ -1,28 +1,25 @@
-use Rattle.std.proofs.Common.{◌∙◌, sym, ap}
-use Rattle.std.specs.Prelude.{slice_get}
-use Rattle.fork_model.specs.Table.{Table}
-use Rattle.fork_model.specs.Choice.{stored_at}
-use Rattle.fork_context.proofs.ForkReads.{none_there, none_beside, there, answer_there}
+use Rattle.fork_context.proofs.Common.{◌∙◌, sym, ap, slice_get, Table, stored_at}
+use Rattle.fork_context.proofs.ForkReads.{none_there, none_row_extras, there, answer_there}
 use Rattle.fork_context.proofs.fork.Fork.answer.Goals as goal
 
 pub returns-in_err-row : goal.returns-in_err-row
 returns-in_err-row g c =
     let n = c.args.n in
-    let none = none_there c.self.inside.tree.rows c.self.inside.besides n n c.self.invariant.each c.in_err-row.ensures in
+    let none = none_there c.self.inside.tree.rows c.self.inside.extras n n c.self.invariant.each c.in_err-row.ensures in
     c.from_residual.ensures ∙ sym (ap stored_at none) ∙ ap (λ (t : Table). stored_at (slice_get t.rows n)) c.self.view_is
 
 pub returns-in_err-get : goal.returns-in_err-get
 returns-in_err-get g c =
     let n = c.args.n in
-    let none = none_beside c.self.inside.tree.rows c.self.inside.besides n c.self.invariant.each
+    let none = none_row_extras c.self.inside.tree.rows c.self.inside.extras n c.self.invariant.each
     c.in_err-get.ensures in
     c.from_residual-in_err-get.ensures ∙ sym (ap stored_at none) ∙ ap (λ (t : Table). stored_at (slice_get t.rows n)) c.self.view_is
 
 pub returns : goal.returns
 returns g c =
     let n = c.args.n in
-    let is = there c.self.inside.tree.rows c.self.inside.besides n n c.in_ok-row.row c.in_ok-get.field-0.now c.self.invariant.each c.in_ok-row.ensures
+    let is = there c.self.inside.tree.rows c.self.inside.extras n n c.in_ok-row.row c.in_ok-get.field-0.now c.self.invariant.each c.in_ok-row.ensures
     c.in_ok-get.ensures in
     c.stored_answer.ensures
-    ∙ answer_there c.self.inside.tree.rows c.self.inside.besides n n c.in_ok-row.row c.in_ok-get.field-0.now is
+    ∙ answer_there c.self.inside.tree.rows c.self.inside.extras n n c.in_ok-row.row c.in_ok-get.field-0.now is
     ∙ ap (λ (t : Table). stored_at (slice_get t.rows n)) c.self.view_is

@@ -1,12 +1,7 @@
-use Rattle.std.proofs.Common.{◌≡◌, ◌≤◌, ◌+◌, ℕ, Bool, true, false, Option, Some, length, map, arith, ap, subst, sym, ◌∙◌}
-use Rattle.std.specs.Prelude.{◌||◌, slice_get}
-use Rattle.fork_model.specs.Table.{Row, Table, State, Idle, Trying, Rung, Ended, is_row, is_open, most_targets}
-use Rattle.fork_model.specs.Step.{with_effect}
-use Rattle.fork_tree.specs.States.{end_of, state_of, has_ended}
-use Rattle.fork_tree.specs.Seats.{seated}
-use Rattle.fork_context.specs.Dressed.{dressed}
-use Rattle.fork_context.specs.Placed.{Placed, may_go}
-use Rattle.fork_context.proofs.Applied.{length_seats, goes_on_alone, goes_to_end, none_waits, none_tried}
+use Rattle.fork_context.proofs.Common.{◌≡◌, ◌≤◌, ◌+◌, ℕ, Bool, true, false, Option, Some, length, map, arith, ap, subst, sym, ◌∙◌, ◌||◌, slice_get, Row, Table, State, Idle, Trying, Rung, Ended, is_row, is_open, most_targets, with_effect}
+use Rattle.fork_context.proofs.Common.{end_of, waiting_row, with_extras, Placed, may_go}
+use Rattle.fork_tree.specs.States.{state_of, has_ended}
+use Rattle.fork_context.proofs.Applied.{length_new_rows, goes_on_alone, goes_to_end, none_waits, none_tried}
 use Rattle.fork_context.proofs.fork.Fork.apply.Goals as goal
 
 pub go_on-requires : goal.go_on-requires
@@ -32,9 +27,9 @@ end-requires-clause-open_yet g c =
 
 pub end-requires-clause-few : goal.end-requires-clause-few
 end-requires-clause-few g c =
-    let rows = dressed (map (seated (Some c.effect.inside.n)) c.effect.inside.below.seats) c.effect.inside.fresh.items in
-    let seats : length rows ≡ length c.effect.inside.below.seats =
-    length_seats (Some c.effect.inside.n) c.effect.inside.below.seats c.effect.inside.fresh.items in
+    let rows = with_extras (map (waiting_row (Some c.effect.inside.n)) c.effect.inside.below.new_rows) c.effect.inside.fresh.items in
+    let new_rows : length rows ≡ length c.effect.inside.below.new_rows =
+    length_new_rows (Some c.effect.inside.n) c.effect.inside.below.new_rows c.effect.inside.fresh.items in
     let same : length rows ≡ length c.args.effect.effect.fresh = ap (λ (p : Placed). length p.effect.fresh) c.effect.view_is in
     let few : length c.args.self.now.rows + length c.args.effect.effect.fresh ≤ most_targets = c.requires.few in
     omega arith
@@ -43,14 +38,14 @@ pub returns-in-Rung-clause-ok : goal.returns-in-Rung-clause-ok
 returns-in-Rung-clause-ok g c =
     let now = c.args.self.now in
     let n = c.effect.inside.n in
-    let seats = c.effect.inside.below.seats in
+    let new_rows = c.effect.inside.below.new_rows in
     let fresh = c.effect.inside.fresh.items in
     let closes = c.effect.inside.closes in
     let ended : has_ended c.effect.inside.state ≡ false = ap has_ended c.in-Rung.is in
     let still = c.effect.invariant.goes_on ended in
-    let of : State → Table = λ (s : State). with_effect now n (record { state = s; fresh = dressed (map (seated (Some n)) seats) fresh; closes = closes }) in
+    let of : State → Table = λ (s : State). with_effect now n (record { state = s; fresh = with_extras (map (waiting_row (Some n)) new_rows) fresh; closes = closes }) in
     c.go_on.ensures
-    ∙ goes_on_alone now n (Rung c.in-Rung.cancelled) seats fresh closes still.0 still.1
+    ∙ goes_on_alone now n (Rung c.in-Rung.cancelled) new_rows fresh closes still.0 still.1
     ∙ ap of (sym (ap (λ s. state_of s c.effect.inside.left.items c.effect.inside.challenges.items) c.in-Rung.is))
     ∙ ap (λ (p : Placed). with_effect now p.n p.effect) c.effect.view_is
 
@@ -58,7 +53,7 @@ pub returns-in_ok-end-in-Ended-clause-ok : goal.returns-in_ok-end-in-Ended-claus
 returns-in_ok-end-in-Ended-clause-ok g c =
     let now = c.args.self.now in
     let n = c.effect.inside.n in
-    let rows = dressed (map (seated (Some n)) c.effect.inside.below.seats) c.effect.inside.fresh.items in
+    let rows = with_extras (map (waiting_row (Some n)) c.effect.inside.below.new_rows) c.effect.inside.fresh.items in
     let closes = c.effect.inside.closes in
     let put : Table → Bool → Table = λ (t : Table) (b : Bool). record t { closed = b } in
     let of : State → Table = λ (s : State). with_effect now n (record { state = s; fresh = rows; closes = closes }) in

@@ -1,8 +1,4 @@
-use Rattle.std.proofs.Common.{◌≡◌, ◌∙◌, sym, true, false}
-use Rattle.std.specs.Prelude.{not, ◌&&◌}
-use Rattle.std.proofs.lemmas.Result.{IfOk-weaker}
-use Rattle.fork_model.specs.Table.{is_invite}
-use Rattle.fork_model.specs.Event.{Cancel}
+use Rattle.fork_context.proofs.Common.{◌≡◌, ◌∙◌, sym, true, false, not, ◌&&◌, IfOk-weaker, is_invite, Cancel}
 use Rattle.fork_context.proofs.StepLaws.{cancel_stray, cancel_step, with_none}
 use Rattle.fork_context.proofs.fork.Fork.cancel.Goals as goal
 

@@ -1,9 +1,6 @@
-use Rattle.std.proofs.Common.{rules, arith, ◌≡◌, ◌≤◌, ◌<◌, ℕ, length, filter, ap, ◌∙◌, sym, List}
-use Rattle.fork_model.specs.Table.{Row, Table}
-use Rattle.fork_model.specs.Groups.{numbers_below}
-use Rattle.fork_context.specs.Closing.{gets_cancel}
+use Rattle.fork_context.proofs.Common.{rules, arith, ◌≡◌, ◌≤◌, ◌<◌, ℕ, length, filter, ap, ◌∙◌, sym, List, Row, Table, numbers_below, gets_cancel}
 use Rattle.fork_context.proofs.Numbers.{length_passing}
-use Rattle.fork_context.proofs.ShutRows.{none_gone, cancel_then, cancel_else, numbers_then, numbers_else}
+use Rattle.fork_context.proofs.CancelledRows.{none_gone, cancel_then, cancel_else, numbers_then, numbers_else}
 use Rattle.fork_context.proofs.ClosingRows.{cancelled_all}
 use Rattle.fork_context.proofs.fork.Fork.cancel_rung.Goals as goal
 use Rattle.fork_context.proofs.fork.Fork.cancel_rung.Goals.{then-gets_cancel, else-gets_cancel}

@@ -1,7 +1,4 @@
-use Rattle.std.proofs.Common.{◌≡◌, ◌≤◌, length, filter}
-use Rattle.std.specs.Prelude.{vec_capacity}
-use Rattle.fork_model.specs.Groups.{numbers_below}
-use Rattle.fork_context.specs.Closing.{gets_cancel}
+use Rattle.fork_context.proofs.Common.{◌≡◌, ◌≤◌, length, filter, vec_capacity, numbers_below, gets_cancel}
 use Rattle.fork_context.proofs.ClosingRows.{cancelled_to}
 use Rattle.fork_context.proofs.fork.Fork.cancel_rung.Given as goal
 

@@ -1,10 +1,4 @@
-use Rattle.std.proofs.Common.{arith, ◌≡◌, ◌≤◌, ◌+◌, length, ◌∙◌, sym, None}
-use Rattle.std.specs.Prelude.{vec_capacity}
-use Rattle.std.specs.Option.{option_map}
-use Rattle.std.proofs.lemmas.Result.{IfOk-weaker}
-use Rattle.fork_model.specs.Table.{most_targets}
-use Rattle.fork_context.specs.EventView.{event_of}
-use Rattle.fork_context.specs.Placed.{placed, effect_at}
+use Rattle.fork_context.proofs.Common.{arith, ◌≡◌, ◌≤◌, ◌+◌, length, ◌∙◌, sym, None, vec_capacity, option_map, IfOk-weaker, most_targets, event_of, placed, effect_at}
 use Rattle.fork_context.proofs.StepLaws.{no_effect, with_none, placed_goes, placed_first, effect_few, effect_room, effect_step}
 use Rattle.fork_context.proofs.fork.Fork.change_at.Goals as goal
 

@@ -1,6 +1,4 @@
-use Rattle.std.proofs.Common.{◌∙◌, sym, ap, Bool}
-use Rattle.std.specs.Prelude.{not}
-use Rattle.fork_context.specs.EventView.{event_of}
+use Rattle.fork_context.proofs.Common.{◌∙◌, sym, ap, Bool, not, event_of}
 use Rattle.fork_context.proofs.Strays.{stray_row}
 use Rattle.fork_context.proofs.fork.Fork.is_stray.Goals as goal
 

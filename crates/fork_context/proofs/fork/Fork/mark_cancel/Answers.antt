@@ -1,34 +1,27 @@
-use Rattle.std.proofs.Common.{◌≡◌, true, refl, ap, ◌∙◌, sym, subst, List}
-use Rattle.std.specs.Prelude.{slice_get}
-use Rattle.fork_model.specs.Table.{Row, Table, Rung, is_row}
-use Rattle.fork_model.specs.Step.{with_state}
-use Rattle.fork_tree.specs.Tree.{Tree, is_uncancelled}
-use Rattle.fork_context.specs.Dressed.{dressed}
-use Rattle.fork_context.specs.ForkInside.{IsFork}
-use Rattle.fork_context.specs.KindView.{kind_of}
-use Rattle.fork_context.proofs.ForkRows.{uncancelled_dressed, fork_moved, open_of_uncancelled}
-use Rattle.fork_context.proofs.DressedRows.{dressed_state}
+use Rattle.fork_context.proofs.Common.{◌≡◌, true, refl, ap, ◌∙◌, sym, subst, List, slice_get, Row, Table, Rung, is_row, with_state, Tree, is_uncancelled, with_extras, IsFork, kind_of}
+use Rattle.fork_context.proofs.ForkRows.{uncancelled_with_extras, fork_moved, open_of_uncancelled}
+use Rattle.fork_context.proofs.RowsWithExtras.{with_extras_state}
 use Rattle.fork_context.proofs.fork.Fork.mark_cancel.Goals as goal
 
 pub mark_cancel-requires : goal.mark_cancel-requires
 mark_cancel-requires g c =
-    sym (uncancelled_dressed c.self.inside.tree.rows c.self.inside.besides c.args.n)
+    sym (uncancelled_with_extras c.self.inside.tree.rows c.self.inside.extras c.args.n)
     ∙ ap (λ (t : Table). is_row is_uncancelled (slice_get t.rows c.args.n)) c.self.view_is
     ∙ c.requires.rang
 
 pub invariant_of-self : goal.invariant_of-self
 invariant_of-self g c =
     let there : is_row is_uncancelled (slice_get c.self.inside.tree.rows c.args.n) ≡ true =
-    sym (uncancelled_dressed c.self.inside.tree.rows c.self.inside.besides c.args.n)
+    sym (uncancelled_with_extras c.self.inside.tree.rows c.self.inside.extras c.args.n)
     ∙ ap (λ (t : Table). is_row is_uncancelled (slice_get t.rows c.args.n)) c.self.view_is
     ∙ c.requires.rang in
-    let Q : Tree → Type 0 = λ t. IsFork t.rows c.self.inside.besides c.self.inside.succeeded in
+    let Q : Tree → Type 0 = λ t. IsFork t.rows c.self.inside.extras c.self.inside.succeeded in
     subst Q (sym c.mark_cancel.ensures)
-    (fork_moved c.self.inside.tree.rows c.self.inside.besides c.self.inside.succeeded c.args.n (Rung true) c.self.invariant (open_of_uncancelled c.self.inside.tree.rows c.args.n there) refl refl)
+    (fork_moved c.self.inside.tree.rows c.self.inside.extras c.self.inside.succeeded c.args.n (Rung true) c.self.invariant (open_of_uncancelled c.self.inside.tree.rows c.args.n there) refl refl)
 
 pub returns : goal.returns
 returns g c =
-    let view : Tree → Table = λ (t : Tree). record { kind = kind_of c.self.inside.kind; rules = t.rules; closed = c.self.inside.closed; rows = dressed t.rows c.self.inside.besides } in
+    let view : Tree → Table = λ (t : Tree). record { kind = kind_of c.self.inside.kind; rules = t.rules; closed = c.self.inside.closed; rows = with_extras t.rows c.self.inside.extras } in
     let with_rows : List Row → Table = λ (rows : List Row). record { kind = kind_of c.self.inside.kind; rules = c.self.inside.tree.rules; closed = c.self.inside.closed; rows = rows } in
     let after : Table → Table = λ (t : Table). record t { rows = with_state t.rows c.args.n (Rung true) } in
-    ap view c.mark_cancel.ensures ∙ ap with_rows (dressed_state c.self.inside.tree.rows c.self.inside.besides c.args.n (Rung true) (λ b. refl)) ∙ ap after c.self.view_is
+    ap view c.mark_cancel.ensures ∙ ap with_rows (with_extras_state c.self.inside.tree.rows c.self.inside.extras c.args.n (Rung true) (λ b. refl)) ∙ ap after c.self.view_is

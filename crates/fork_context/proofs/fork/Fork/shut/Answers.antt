@@ -1,9 +1,5 @@
-use Rattle.std.proofs.Common.{ℕ, true, length, map, filter, ap, ◌∙◌, List}
-use Rattle.std.proofs.lemmas.List.{length-map}
-use Rattle.fork_model.specs.Table.{Row, Table}
-use Rattle.fork_model.specs.Groups.{numbers_below}
-use Rattle.fork_context.specs.Closing.{never_row, cancel_row, gets_cancel}
-use Rattle.fork_context.proofs.ShutRows.{never_gets}
+use Rattle.fork_context.proofs.Common.{ℕ, true, length, map, filter, ap, ◌∙◌, List, length-map, Row, Table, numbers_below, never_row, cancel_row, gets_cancel}
+use Rattle.fork_context.proofs.CancelledRows.{never_gets}
 use Rattle.fork_context.proofs.ClosingRows.{closed_in_two}
 use Rattle.fork_context.proofs.fork.Fork.shut.Goals as goal
 

@@ -4,16 +4,16 @@ use Rattle.fork_context.proofs.fork.Fork.start_ready.Goals as goal
 
 pub invariant_of-self : goal.invariant_of-self
 invariant_of-self g c =
-    started_fork c.start_ready.result c.self.inside.tree c.start_ready.new.self c.self.inside.besides c.self.inside.succeeded c.self.invariant c.start_ready.ensures.none c.start_ready.ensures.some
+    started_fork c.start_ready.result c.self.inside.tree c.start_ready.new.self c.self.inside.extras c.self.inside.succeeded c.self.invariant c.start_ready.ensures.none c.start_ready.ensures.some
 
 pub returns-clause-none : goal.returns-clause-none
 returns-clause-none g c =
-    started_none c.start_ready.result c.self.inside.tree c.start_ready.new.self c.self.inside.besides c.self.inside.succeeded (kind_of c.self.inside.kind) c.self.inside.closed c.args.self.now c.self.invariant c.self.view_is c.start_ready.ensures.none
+    started_none c.start_ready.result c.self.inside.tree c.start_ready.new.self c.self.inside.extras c.self.inside.succeeded (kind_of c.self.inside.kind) c.self.inside.closed c.args.self.now c.self.invariant c.self.view_is c.start_ready.ensures.none
 
 pub returns-clause-some : goal.returns-clause-some
 returns-clause-some g c =
-    started_some c.start_ready.result c.self.inside.tree c.start_ready.new.self c.self.inside.besides c.self.inside.succeeded (kind_of c.self.inside.kind) c.self.inside.closed c.args.self.now c.self.invariant c.self.view_is c.start_ready.ensures.some
+    started_some c.start_ready.result c.self.inside.tree c.start_ready.new.self c.self.inside.extras c.self.inside.succeeded (kind_of c.self.inside.kind) c.self.inside.closed c.args.self.now c.self.invariant c.self.view_is c.start_ready.ensures.some
 
 pub returns-clause-range : goal.returns-clause-range
 returns-clause-range g c =
-    started_range c.start_ready.result c.self.inside.tree c.start_ready.new.self c.self.inside.besides c.self.inside.succeeded c.self.invariant c.start_ready.ensures.some
+    started_range c.start_ready.result c.self.inside.tree c.start_ready.new.self c.self.inside.extras c.self.inside.succeeded c.self.invariant c.start_ready.ensures.some

@@ -1,15 +1,6 @@
-use Rattle.std.proofs.Common.{◌≡◌, ◌≤◌, ◌∙◌, sym, ap, subst, List, ℕ, false, length, map, arith, None}
-use Rattle.std.specs.List.{filter_map}
-use Rattle.std.proofs.lemmas.List.{length-map}
-use Rattle.fork_model.specs.Table.{Row, Rules, Table, most_targets}
-use Rattle.fork_model.specs.Groups.{numbered}
-use Rattle.fork_tree.specs.Tree.{Tree}
-use Rattle.fork_tree.specs.Seats.{seated, seats_of}
-use Rattle.fork_context.specs.Dressed.{Beside, dressed, q_of_pair}
-use Rattle.fork_context.specs.ForkInside.{IsFork}
-use Rattle.fork_context.specs.KindView.{kind_of}
-use Rattle.fork_context.specs.Opening.{target_beside}
-use Rattle.fork_context.proofs.OpeningFork.{target_qs, target_seats, opening_dressed, opening_fork, length_ordered}
+use Rattle.fork_context.proofs.Common.{◌≡◌, ◌≤◌, ◌∙◌, sym, ap, subst, List, ℕ, false, length, map, arith, None, filter_map, length-map, Row, Rules, Table, most_targets, numbered, Tree, waiting_row, new_rows_of, RowExtras, with_extras}
+use Rattle.fork_context.proofs.Common.{q_of_pair, IsFork, kind_of, target_extras}
+use Rattle.fork_context.proofs.OpeningFork.{target_qs, target_new_rows, opening_with_extras, opening_fork, length_ordered}
 use Rattle.fork_context.proofs.fork.Fork.waiting.Goals as goal
 
 pub new-requires : goal.new-requires
@@ -24,8 +15,8 @@ new-requires g c =
     let few : length targets ≤ most_targets = c.requires.few in
     record { few = omega arith }
 
-pub besides_by_key-requires : goal.besides_by_key-requires
-besides_by_key-requires g c =
+pub extras_by_key-requires : goal.extras_by_key-requires
+extras_by_key-requires g c =
     let targets = c.args.targets.now in
     let pairs = numbered (target_qs targets) in
     let qs : c.deref.result.now ≡ target_qs targets = c.deref.ensures.value ∙ c.in_ok-qs.ensures.value in
@@ -44,13 +35,13 @@ of-requires g c =
     let order : c.deref-3.result.now ≡ numbered (target_qs targets) = c.deref-3.ensures.value ∙ c.in_ok-order.ensures ∙ ap numbered qs in
     let ordered : c.deref-4.result.now ≡ map (q_of_pair (target_qs targets)) (numbered (target_qs targets)) =
     c.deref-4.ensures.value ∙ c.in_ok-qs_at.ensures ∙ (λ i. map (q_of_pair (again i)) (order i)) in
-    let rows : c.in_ok-tree.tree.rows ≡ map (seated None) (target_seats targets) =
-    ap (λ (t : Tree). t.rows) c.in_ok-tree.ensures ∙ ap (λ (vs : List ℕ). map (seated None) (seats_of vs)) ordered in
-    let besides : c.in_ok-besides.besides ≡ filter_map (target_beside targets) (numbered (target_qs targets)) =
-    c.in_ok-besides.ensures ∙ ap (filter_map (target_beside targets)) (c.deref-5.ensures.value ∙ c.in_ok-order.ensures ∙ ap numbered qs) in
-    let P : List Row → Type 0 = λ rs. IsFork rs (filter_map (target_beside targets) (numbered (target_qs targets))) false in
-    let Q : List Beside → Type 0 = λ bs. IsFork c.in_ok-tree.tree.rows bs false in
-    subst Q (sym besides) (subst P (sym rows) (opening_fork targets c.requires.few))
+    let rows : c.in_ok-tree.tree.rows ≡ map (waiting_row None) (target_new_rows targets) =
+    ap (λ (t : Tree). t.rows) c.in_ok-tree.ensures ∙ ap (λ (vs : List ℕ). map (waiting_row None) (new_rows_of vs)) ordered in
+    let extras : c.in_ok-extras.extras ≡ filter_map (target_extras targets) (numbered (target_qs targets)) =
+    c.in_ok-extras.ensures ∙ ap (filter_map (target_extras targets)) (c.deref-5.ensures.value ∙ c.in_ok-order.ensures ∙ ap numbered qs) in
+    let P : List Row → Type 0 = λ rs. IsFork rs (filter_map (target_extras targets) (numbered (target_qs targets))) false in
+    let Q : List RowExtras → Type 0 = λ bs. IsFork c.in_ok-tree.tree.rows bs false in
+    subst Q (sym extras) (subst P (sym rows) (opening_fork targets c.requires.few))
 
 pub returns-clause-value : goal.returns-clause-value
 returns-clause-value g c =
@@ -61,12 +52,12 @@ returns-clause-value g c =
     let ordered : c.deref-4.result.now ≡ map (q_of_pair (target_qs targets)) (numbered (target_qs targets)) =
     c.deref-4.ensures.value ∙ c.in_ok-qs_at.ensures ∙ (λ i. map (q_of_pair (again i)) (order i)) in
     let rules : c.in_ok-tree.tree.rules ≡ c.args.rules = ap (λ (t : Tree). t.rules) c.in_ok-tree.ensures in
-    let rows : c.in_ok-tree.tree.rows ≡ map (seated None) (target_seats targets) =
-    ap (λ (t : Tree). t.rows) c.in_ok-tree.ensures ∙ ap (λ (vs : List ℕ). map (seated None) (seats_of vs)) ordered in
-    let besides : c.in_ok-besides.besides ≡ filter_map (target_beside targets) (numbered (target_qs targets)) =
-    c.in_ok-besides.ensures ∙ ap (filter_map (target_beside targets)) (c.deref-5.ensures.value ∙ c.in_ok-order.ensures ∙ ap numbered qs) in
+    let rows : c.in_ok-tree.tree.rows ≡ map (waiting_row None) (target_new_rows targets) =
+    ap (λ (t : Tree). t.rows) c.in_ok-tree.ensures ∙ ap (λ (vs : List ℕ). map (waiting_row None) (new_rows_of vs)) ordered in
+    let extras : c.in_ok-extras.extras ≡ filter_map (target_extras targets) (numbered (target_qs targets)) =
+    c.in_ok-extras.ensures ∙ ap (filter_map (target_extras targets)) (c.deref-5.ensures.value ∙ c.in_ok-order.ensures ∙ ap numbered qs) in
     let of_rows : Rules → List Row → Table = λ (rs : Rules) (xs : List Row). record { kind = kind_of c.args.kind; rules = rs; closed = false; rows = xs } in
-    c.of.ensures ∙ (λ i. of_rows (rules i) (dressed (rows i) (besides i))) ∙ ap (of_rows c.args.rules) (opening_dressed targets)
+    c.of.ensures ∙ (λ i. of_rows (rules i) (with_extras (rows i) (extras i))) ∙ ap (of_rows c.args.rules) (opening_with_extras targets)
 
 pub returns-clause-range : goal.returns-clause-range
 returns-clause-range g c = c.in_ok-qs.ensures.range

@@ -1,5 +1,4 @@
-use Rattle.std.proofs.Common.{◌≡◌, ◌+◌, ◌<◌, length, arith}
-use Rattle.fork_model.specs.Table.{most_targets}
+use Rattle.fork_context.proofs.Common.{◌≡◌, ◌+◌, ◌<◌, length, arith, most_targets}
 use Rattle.fork_context.proofs.TakenKeys.{sizes, one_more}
 use Rattle.fork_context.proofs.targets.Targets.add.Goals as goal
 
@@ -12,4 +11,4 @@ push-requires g c =
 
 pub returns : goal.returns
 returns g c =
-    one_more c.self.inside.fork.now.rows c.self.inside.fresh c.push.new.self c.args.beside c.args.self.now c.self.view_is c.in_ok-push.ensures
+    one_more c.self.inside.fork.now.rows c.self.inside.fresh c.push.new.self c.args.row_extras c.args.self.now c.self.view_is c.in_ok-push.ensures

@@ -1,51 +1,33 @@
-use Rattle.std.proofs.Common.{◌≡◌, ◌∙◌, ◌<◌, ◌≤◌, ◌+◌, ℕ, suc, List, Option, Some, None, Result, Bor, length, ap, sym, subst, arith}
+use Rattle.std.proofs.Common.{◌≡◌, ◌∙◌, ◌<◌, ◌≤◌, ◌+◌, ℕ, Option, Some, None, Result, length, sym, subst, arith}
 use Rattle.std.specs.Prelude.{IfSome}
-use Rattle.std.specs.Option.{option_copied}
-use Rattle.std.specs.List.{slice_split}
-use Rattle.sip_lex.specs.Cut.{cut, is}
-use Rattle.fork_drive.specs.Workers.{Workers, Draft, drafted, event_count, with_next, read_from, read_workers}
-use Rattle.fork_drive.specs.ReadView.{GivesWorkers}
+use Rattle.fork_text.proofs.laws.Lines.{at_last_line, at_wrong_line, behind_line}
+use Rattle.fork_drive.specs.Workers.{Workers, Draft, drafted, finished_draft, read_workers}
+use Rattle.fork_drive.specs.inner.Workers.{event_count}
+use Rattle.fork_drive.specs.inner.ReadView.{GivesWorkers}
 use Rattle.fork_drive.proofs.Drafting.{AddsOne, drafted_adds}
-use Rattle.fork_drive.proofs.Pieces.{read_from-last, read_from-next}
 use Rattle.fork_drive.proofs.workers.Workers.read.Goals as goal
 
 pub returns-in_default : goal.returns-in_default
 unfolding read_workers
 returns-in_default c =
-    let line = c.cut_at.result.0.now in
-    let e : (line, None) ≡ cut (is 10) c.loop-after.rest.now = ap (λ (after : Option (List ℕ)). (line, after)) (sym (ap option_copied c.in_default.is)) ∙ c.cut_at.ensures.value in
     let P : Result Workers ℕ → Type 0 = λ read. GivesWorkers read c.finished.result in
-    subst P (sym (read_from-last c.loop-after.number c.loop-after.draft c.loop-after.rest.now line e) ∙ c.loop-after.invariant.0) c.finished.ensures
+    subst P (at_last_line drafted finished_draft c.loop-after.number c.loop-after.draft c.loop-after.rest.now c.cut_at.result.0.now c.cut_at.result.1 _ c.in_default.is c.cut_at.ensures.value c.loop-after.invariant.0) c.finished.ensures
 
 pub returns-in_default-2 : goal.returns-in_default-2
 unfolding read_workers
 returns-in_default-2 c =
-    let line = c.cut_at.result.0.now in
-    let after = c.in-Some.after.now in
-    let number = c.loop-after.number in
-    let e : (line, Some after) ≡ cut (is 10) c.loop-after.rest.now = ap (λ (behind : Option (List ℕ)). (line, behind)) (sym (ap option_copied c.in-Some.is)) ∙ c.cut_at.ensures.value in
-    let none : drafted c.loop-after.draft line ≡ None = sym c.in_ok-next.ensures ∙ c.in_default-2.is in
-    sym c.loop-after.invariant.0
-    ∙ read_from-next number c.loop-after.draft c.loop-after.rest.now line after e
-    ∙ ap (λ (next : Option Draft). with_next number next (λ draft. read_from (suc number) draft (slice_split (is 10) after))) none
+    let none : drafted c.loop-after.draft c.cut_at.result.0.now ≡ None = sym c.in_ok-next.ensures ∙ c.in_default-2.is in
+    at_wrong_line drafted finished_draft c.loop-after.number c.loop-after.draft c.loop-after.rest.now c.cut_at.result.0.now c.cut_at.result.1 c.in-Some.after _ c.in-Some.is c.cut_at.ensures.value none c.loop-after.invariant.0
 
 pub loop-after-preserved : goal.loop-after-preserved
 loop-after-preserved c =
-    let line = c.cut_at.result.0.now in
-    let after = c.in-Some.after.now in
-    let number = c.loop-after.number in
     let next : Draft = c.in-Some-2.next in
-    let e : (line, Some after) ≡ cut (is 10) c.loop-after.rest.now = ap (λ (behind : Option (List ℕ)). (line, behind)) (sym (ap option_copied c.in-Some.is)) ∙ c.cut_at.ensures.value in
-    let some : drafted c.loop-after.draft line ≡ Some next = sym c.in_ok-next.ensures ∙ c.in-Some-2.is in
-    let one : number + 1 ≡ suc number = omega arith in
-    let P : Option (Bor (List ℕ)) → Type 0 = λ more. IfSome more (λ rest. length rest.now < length c.loop-after.rest.now) in
-    let shorter : length after < length c.loop-after.rest.now = subst P c.in-Some.is c.cut_at.ensures.shorter in
+    let some : drafted c.loop-after.draft c.cut_at.result.0.now ≡ Some next = sym c.in_ok-next.ensures ∙ c.in-Some-2.is in
     let Q : Option Draft → Type 0 = λ d. IfSome d (AddsOne c.loop-after.draft) in
-    let adds : event_count next ≤ event_count c.loop-after.draft + 1 = subst Q some (drafted_adds c.loop-after.draft line) in (
-      ap (λ n. read_from n next (slice_split (is 10) after)) one
-          ∙ sym (ap (λ (d : Option Draft). with_next number d (λ draft. read_from (suc number) draft (slice_split (is 10) after))) some)
-          ∙ sym (read_from-next number c.loop-after.draft c.loop-after.rest.now line after e)
-          ∙ c.loop-after.invariant.0,
+    let adds : event_count next ≤ event_count c.loop-after.draft + 1 = subst Q some (drafted_adds c.loop-after.draft c.cut_at.result.0.now) in
+    let on = behind_line drafted finished_draft c.loop-after.number c.loop-after.draft next c.loop-after.rest.now c.cut_at.result.0.now c.cut_at.result.1 c.in-Some.after _ c.in-Some.is c.cut_at.ensures.value some c.loop-after.invariant.0 in
+    let shorter : length c.in-Some.after.now < length c.loop-after.rest.now = on.1 in (
+      on.0,
       omega arith,
       omega arith,
     )

@@ -1,7 +1,8 @@
 use Rattle.std.proofs.Common.{◌≡◌, ◌≤◌, ◌<◌, ◌+◌, length}
 use Rattle.std.specs.List.{slice_split}
 use Rattle.sip_lex.specs.Cut.{is}
-use Rattle.fork_drive.specs.Workers.{read_from, no_draft, event_count}
+use Rattle.fork_drive.specs.Workers.{read_from, no_draft}
+use Rattle.fork_drive.specs.inner.Workers.{event_count}
 use Rattle.fork_drive.proofs.workers.Workers.read.Given as goal
 
 -- reading on from here gives what the whole gives, and no line has more than one event

@@ -1,48 +1,26 @@
-use Rattle.std.proofs.Common.{◌≡◌, ◌∙◌, ◌<◌, ◌+◌, ℕ, suc, true, false, cond, List, Option, Some, None, Result, Bor, length, ap, sym, subst, arith}
-use Rattle.std.specs.Prelude.{IfSome}
-use Rattle.std.specs.Option.{option_copied}
-use Rattle.std.specs.List.{slice_split}
-use Rattle.sip_lex.specs.Cut.{cut, is}
-use Rattle.fork_listing.specs.Text.{Listing, Draft, drafted, with_next, read_from, read_listing}
-use Rattle.fork_listing.specs.ReadView.{GivesListing}
-use Rattle.fork_listing.proofs.Pieces.{read_from-last, read_from-next}
+use Rattle.std.proofs.Common.{◌<◌, ℕ, Result, length, subst, arith}
+use Rattle.fork_text.proofs.laws.Lines.{if_added, if_not_added, at_last_line, at_wrong_line, behind_line}
+use Rattle.fork_listing.specs.Text.{Listing, drafted, finished_draft, read_listing}
+use Rattle.fork_listing.specs.inner.ReadView.{GivesListing}
 use Rattle.fork_listing.proofs.draft.Listing.read.Goals as goal
 
 pub returns-in_default : goal.returns-in_default
 unfolding read_listing
 returns-in_default g c =
-    let line = c.cut_at.result.0.now in
-    let e : (line, None) ≡ cut (is 10) c.loop-after.rest.now = ap (λ (after : Option (List ℕ)). (line, after)) (sym (ap option_copied c.in_default.is)) ∙ c.cut_at.ensures.value in
     let P : Result Listing ℕ → Type 0 = λ read. GivesListing read c.finished.result in
-    subst P (sym (read_from-last c.loop-after.number c.loop-after.draft c.loop-after.rest.now line e) ∙ c.loop-after.invariant.0) c.finished.ensures
+    subst P (at_last_line drafted finished_draft c.loop-after.number c.loop-after.draft c.loop-after.rest.now c.cut_at.result.0.now c.cut_at.result.1 _ c.in_default.is c.cut_at.ensures.value c.loop-after.invariant.0) c.finished.ensures
 
 pub returns-then-not-branch : goal.returns-then-not-branch
 unfolding read_listing
 returns-then-not-branch g c =
-    let line = c.cut_at.result.0.now in
-    let after = c.in-Some.after.now in
-    let number = c.loop-after.number in
-    let e : (line, Some after) ≡ cut (is 10) c.loop-after.rest.now = ap (λ (behind : Option (List ℕ)). (line, behind)) (sym (ap option_copied c.in-Some.is)) ∙ c.cut_at.ensures.value in
-    let refused : c.in_ok-add.field-0 ≡ false = grind (arith, c.if-not-branch.true) in
-    let none : drafted c.loop-after.draft line ≡ None = sym c.in_ok-add.ensures ∙ ap (λ added. cond added (Some c.add.new.self) None) refused in
-    sym c.loop-after.invariant.0
-    ∙ read_from-next number c.loop-after.draft c.loop-after.rest.now line after e
-    ∙ ap (λ (next : Option Draft). with_next number next (λ draft. read_from (suc number) draft (slice_split (is 10) after))) none
+    let none = if_not_added c.in_ok-add.field-0 c.add.new.self (drafted c.loop-after.draft c.cut_at.result.0.now) c.in_ok-add.ensures (grind (arith, c.if-not-branch.true)) in
+    at_wrong_line drafted finished_draft c.loop-after.number c.loop-after.draft c.loop-after.rest.now c.cut_at.result.0.now c.cut_at.result.1 c.in-Some.after _ c.in-Some.is c.cut_at.ensures.value none c.loop-after.invariant.0
 
 pub loop-after-preserved : goal.loop-after-preserved
 loop-after-preserved g c =
-    let line = c.cut_at.result.0.now in
-    let after = c.in-Some.after.now in
-    let number = c.loop-after.number in
-    let e : (line, Some after) ≡ cut (is 10) c.loop-after.rest.now = ap (λ (behind : Option (List ℕ)). (line, behind)) (sym (ap option_copied c.in-Some.is)) ∙ c.cut_at.ensures.value in
-    let added : c.in_ok-add.field-0 ≡ true = grind (arith, c.if-not-branch.false) in
-    let some : drafted c.loop-after.draft line ≡ Some c.add.new.self = sym c.in_ok-add.ensures ∙ ap (λ t. cond t (Some c.add.new.self) None) added in
-    let one : number + 1 ≡ suc number = omega arith in
-    let P : Option (Bor (List ℕ)) → Type 0 = λ more. IfSome more (λ rest. length rest.now < length c.loop-after.rest.now) in
-    let shorter : length after < length c.loop-after.rest.now = subst P c.in-Some.is c.cut_at.ensures.shorter in (
-      ap (λ n. read_from n c.add.new.self (slice_split (is 10) after)) one
-          ∙ sym (ap (λ (next : Option Draft). with_next number next (λ draft. read_from (suc number) draft (slice_split (is 10) after))) some)
-          ∙ sym (read_from-next number c.loop-after.draft c.loop-after.rest.now line after e)
-          ∙ c.loop-after.invariant.0,
+    let some = if_added c.in_ok-add.field-0 c.add.new.self (drafted c.loop-after.draft c.cut_at.result.0.now) c.in_ok-add.ensures (grind (arith, c.if-not-branch.false)) in
+    let next = behind_line drafted finished_draft c.loop-after.number c.loop-after.draft c.add.new.self c.loop-after.rest.now c.cut_at.result.0.now c.cut_at.result.1 c.in-Some.after _ c.in-Some.is c.cut_at.ensures.value some c.loop-after.invariant.0 in
+    let shorter : length c.in-Some.after.now < length c.loop-after.rest.now = next.1 in (
+      next.0,
       omega arith,
     )

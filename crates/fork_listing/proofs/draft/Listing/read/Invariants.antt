@@ -1,7 +1,4 @@
-use Rattle.std.proofs.Common.{◌≡◌, ◌≤◌, ◌+◌, length}
-use Rattle.std.specs.List.{slice_split}
-use Rattle.sip_lex.specs.Cut.{is}
-use Rattle.fork_listing.specs.Text.{read_from, no_draft}
+use Rattle.fork_listing.proofs.Common.{◌≡◌, ◌≤◌, ◌+◌, length, slice_split, is, read_from, no_draft}
 use Rattle.fork_listing.proofs.draft.Listing.read.Given as goal
 
 -- reading on from here gives what the whole gives

@@ -1,9 +1,4 @@
-use Rattle.std.proofs.Common.{◌∙◌, ◌++◌, ap, List, ℕ}
-use Rattle.sip_uri.specs.Uri.{Uri}
-use Rattle.sip_text.specs.Text.{spelling}
-use Rattle.sip_via.specs.declared.branch.BranchName.{BranchName}
-use Rattle.sip_build.specs.Forwarding.{forwarded}
-use Rattle.fork_parts.specs.Fixed.{Fixed, branch_at}
+use Rattle.fork_parts.proofs.Common.{◌∙◌, ◌++◌, ap, List, ℕ, Uri, spelling, BranchName, forwarded, Fixed, branch_at}
 use Rattle.fork_parts.proofs.fixed.Fixed.request_bytes.Goals as goal
 
 pub returns : goal.returns

@@ -1,10 +1,4 @@
-use Rattle.std.proofs.Common.{◌≡◌, subst}
-use Rattle.std.specs.Prelude.{IfOk}
-use Rattle.std.specs.Option.{option_map}
-use Rattle.sip_text.specs.Text.{spelling}
-use Rattle.fork_parts.specs.Built.{ack_to}
-use Rattle.fork_parts.specs.Call.{Call}
-use Rattle.fork_parts.specs.LegInside.{ack_made}
+use Rattle.fork_parts.proofs.Common.{◌≡◌, subst, IfOk, option_map, spelling, ack_to, Call, ack_made}
 use Rattle.fork_parts.proofs.parts.Parts.ack_if.Goals as goal
 
 pub returns : goal.returns

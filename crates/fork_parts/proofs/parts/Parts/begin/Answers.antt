@@ -1,8 +1,4 @@
-use Rattle.std.proofs.Common.{◌≡◌, ◌∙◌, ap, length}
-use Rattle.fork_model.specs.Core.{Core}
-use Rattle.fork_book.specs.Log.{table_of}
-use Rattle.fork_parts.specs.LegInside.{no_legs}
-use Rattle.fork_parts.specs.Server.{first_owed, served_start}
+use Rattle.fork_parts.proofs.Common.{◌≡◌, ◌∙◌, ap, length, Core, table_of, no_legs, first_owed, served_start}
 use Rattle.fork_parts.proofs.Beginning.{begun_is}
 use Rattle.fork_parts.proofs.LegLists.{length_no_legs, no_legs_of}
 use Rattle.fork_parts.proofs.parts.Parts.begin.Goals as goal

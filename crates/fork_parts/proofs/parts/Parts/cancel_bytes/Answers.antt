@@ -1,8 +1,4 @@
-use Rattle.std.proofs.Common.{◌≡◌, subst}
-use Rattle.std.specs.Prelude.{IfOk}
-use Rattle.sip_text.specs.Text.{spelling}
-use Rattle.fork_parts.specs.Built.{cancel_to}
-use Rattle.fork_parts.specs.Call.{Call}
+use Rattle.fork_parts.proofs.Common.{◌≡◌, subst, IfOk, spelling, cancel_to, Call}
 use Rattle.fork_parts.proofs.parts.Parts.cancel_bytes.Goals as goal
 
 pub returns : goal.returns

@@ -1,4 +1,4 @@
-use Rattle.fork_parts.specs.LegInside.{cancel_on}
+use Rattle.fork_parts.specs.inner.LegInside.{cancel_on}
 use Rattle.fork_parts.proofs.LegLists.{sized_changed}
 use Rattle.fork_parts.proofs.parts.Parts.cancel_on_part.Goals as goal
 

@@ -1,5 +1,4 @@
-use Rattle.std.proofs.Common.{◌<◌, ◌≤◌, arith, length}
-use Rattle.fork_context.specs.EventView.{event_of}
+use Rattle.fork_parts.proofs.Common.{◌<◌, ◌≤◌, arith, length, event_of}
 use Rattle.fork_parts.proofs.Changing.{ended_part, leg_below}
 use Rattle.fork_parts.proofs.parts.Parts.end_part.Goals as goal
 

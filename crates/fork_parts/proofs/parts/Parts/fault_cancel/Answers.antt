@@ -1,6 +1,4 @@
-use Rattle.std.proofs.Common.{◌≡◌, ◌∙◌, ap, sym, None, Some}
-use Rattle.std.specs.Option.{option_copied}
-use Rattle.fork_parts.specs.Call.{leg_at}
+use Rattle.fork_parts.proofs.Common.{◌≡◌, ◌∙◌, ap, sym, None, Some, option_copied, leg_at}
 use Rattle.fork_parts.proofs.Changing.{leg_below}
 use Rattle.fork_parts.proofs.Failing.{cancel_faults, no_cancel_faults}
 use Rattle.fork_parts.proofs.parts.Parts.fault_cancel.Goals as goal

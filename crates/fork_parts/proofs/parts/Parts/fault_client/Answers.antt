@@ -1,7 +1,4 @@
-use Rattle.std.proofs.Common.{◌≡◌, ◌∙◌, ap, sym, true, false, Some}
-use Rattle.std.specs.Option.{option_copied}
-use Rattle.fork_parts.specs.Call.{leg_at}
-use Rattle.fork_parts.specs.Failed.{is_fault}
+use Rattle.fork_parts.proofs.Common.{◌≡◌, ◌∙◌, ap, sym, true, false, Some, option_copied, leg_at, is_fault}
 use Rattle.fork_parts.proofs.Failing.{fault_is_open, faulted_silent}
 use Rattle.fork_parts.proofs.parts.Parts.fault_client.Goals as goal
 

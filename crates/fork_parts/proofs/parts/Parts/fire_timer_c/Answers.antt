@@ -1,6 +1,4 @@
-use Rattle.std.proofs.Common.{◌≡◌, refl, true, false}
-use Rattle.fork_model.specs.Table.{is_trying}
-use Rattle.fork_parts.specs.Call.{row_passes}
+use Rattle.fork_parts.proofs.Common.{◌≡◌, refl, true, false, is_trying, row_passes}
 use Rattle.fork_parts.proofs.Deeds.{timer_c_cancels, timer_c_ends}
 use Rattle.fork_parts.proofs.Firing.{fired_fits, fired_is_sent}
 use Rattle.fork_parts.proofs.parts.Parts.fire_timer_c.Goals as goal

@@ -1,4 +1,4 @@
-use Rattle.fork_parts.specs.LegInside.{kept}
+use Rattle.fork_parts.specs.inner.LegInside.{kept}
 use Rattle.fork_parts.proofs.LegLists.{sized_changed}
 use Rattle.fork_parts.proofs.parts.Parts.keep_part.Goals as goal
 

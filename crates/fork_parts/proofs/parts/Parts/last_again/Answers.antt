@@ -1,8 +1,5 @@
-use Rattle.std.proofs.Common.{◌≡◌, ℕ, List, subst}
-use Rattle.std.specs.Prelude.{IfOk}
-use Rattle.fork_parts.specs.Call.{Call}
-use Rattle.fork_parts.specs.PartsInside.{answer_to}
-use Rattle.fork_parts.specs.SeenDatagram.{seen}
+use Rattle.fork_parts.proofs.Common.{◌≡◌, ℕ, List, subst, IfOk, Call, seen}
+use Rattle.fork_parts.specs.inner.PartsInside.{answer_to}
 use Rattle.fork_parts.proofs.parts.Parts.last_again.Goals as goal
 
 pub returns : goal.returns

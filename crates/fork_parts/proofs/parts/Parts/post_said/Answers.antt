@@ -1,18 +1,6 @@
-use Rattle.std.proofs.Common.{◌≡◌, ◌≤◌, ◌∙◌, ℕ, ◌++◌, ap, drop, false, length, map, slice_get, subst, sym, List, Option}
-use Rattle.std.specs.Prelude.{filter_map}
-use Rattle.fork_model.specs.Core.{Core, is_full}
-use Rattle.fork_model.specs.Reply.{Up}
-use Rattle.fork_model.specs.Table.{Table}
-use Rattle.fork_book.specs.Log.{core_of, table_of}
-use Rattle.fork_context.specs.EventView.{event_of}
-use Rattle.fork_context.specs.ReplyView.{up_of}
-use Rattle.fork_parts.specs.Call.{Call}
-use Rattle.fork_parts.specs.NewWays.{HaveWays, PostsSaid, way_for}
-use Rattle.fork_parts.specs.Posting.{no_leg, owed_by, way_of_contact}
-use Rattle.fork_parts.specs.Queue.{news_of}
-use Rattle.fork_parts.specs.Fixed.{Way}
-use Rattle.fork_parts.specs.Leg.{Leg}
-use Rattle.fork_parts.specs.Server.{Owed}
+use Rattle.fork_parts.proofs.Common.{◌≡◌, ◌≤◌, ◌∙◌, ℕ, ◌++◌, ap, drop, false, length, map, slice_get, subst, sym, List, Option, filter_map, Core, is_full, Up, Table, core_of, table_of, event_of, up_of, Call, HaveWays, PostsSaid, way_for}
+use Rattle.fork_parts.proofs.Common.{no_leg, owed_by, way_of_contact, Way, Leg, Owed}
+use Rattle.fork_parts.specs.inner.Queue.{news_of}
 use Rattle.fork_parts.proofs.NewRows.{said_posts, sized_more}
 use Rattle.fork_parts.proofs.parts.Parts.post_said.Goals as goal
 

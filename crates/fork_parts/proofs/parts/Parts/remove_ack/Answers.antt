@@ -1,4 +1,4 @@
-use Rattle.fork_parts.specs.LegInside.{without_ack}
+use Rattle.fork_parts.specs.inner.LegInside.{without_ack}
 use Rattle.fork_parts.proofs.LegLists.{sized_changed}
 use Rattle.fork_parts.proofs.parts.Parts.remove_ack.Goals as goal
 

@@ -1,18 +1,5 @@
-use Rattle.std.proofs.Common.{◌≡◌, ◌↔◌, ◌<◌, ◌≤◌, ◌∙◌, IsTrue, ap, sym, subst, arith, length, Option, refl, true, false}
-use Rattle.std.specs.Option.{option_map}
-use Rattle.sip_txn.specs.declared.event.TxEvent.{TxEvent}
-use Rattle.fork_parts.specs.Call.{Call}
-use Rattle.fork_parts.specs.Client.{client_after, client_out}
-use Rattle.fork_parts.specs.Leg.{Leg}
-use Rattle.sip_text.specs.Text.{MessageText}
-use Rattle.fork_parts.specs.NewWays.{PostsSaid}
-use Rattle.fork_parts.specs.Response.{contacts_by}
-use Rattle.fork_context.specs.Chosen.{HasFirst}
-use Rattle.fork_context.specs.EventView.{event_of}
-use Rattle.fork_book.specs.Log.{core_of, table_of}
-use Rattle.fork_model.specs.Core.{Core}
-use Rattle.fork_parts.specs.LegInside.{changed_leg, responded, kept, answer_if, kept_if}
-use Rattle.fork_parts.specs.Take.{RespondsOn, response_event, is_passed, going_up, timer_c_again, Absorbed, Full}
+use Rattle.fork_parts.proofs.Common.{◌≡◌, ◌↔◌, ◌<◌, ◌≤◌, ◌∙◌, IsTrue, ap, sym, subst, arith, length, Option, refl, true, false, option_map, TxEvent, Call, client_after, client_out, Leg, MessageText, PostsSaid, contacts_by, HasFirst}
+use Rattle.fork_parts.proofs.Common.{event_of, core_of, table_of, Core, changed_leg, responded, kept, answer_if, kept_if, RespondsOn, response_event, is_passed, going_up, timer_c_again, Absorbed, Full}
 use Rattle.fork_parts.proofs.LegLists.{length_changed}
 use Rattle.fork_parts.proofs.Changing.{leg_below}
 use Rattle.fork_parts.proofs.Responding.{absorbed, posted, refused}

@@ -1,5 +1,4 @@
-use Rattle.std.specs.Option.{option_map}
-use Rattle.fork_parts.specs.LegInside.{responded}
+use Rattle.fork_parts.proofs.Common.{option_map, responded}
 use Rattle.fork_parts.proofs.LegLists.{sized_changed}
 use Rattle.fork_parts.proofs.parts.Parts.respond_part.Goals as goal
 

@@ -1,8 +1,4 @@
-use Rattle.std.proofs.Common.{◌≡◌, map, subst}
-use Rattle.std.specs.Prelude.{IfOk}
-use Rattle.fork_parts.specs.Call.{Call}
-use Rattle.fork_parts.specs.Posting.{way_of_contact}
-use Rattle.fork_parts.specs.Response.{contacts_by}
+use Rattle.fork_parts.proofs.Common.{◌≡◌, map, subst, IfOk, Call, way_of_contact, contacts_by}
 use Rattle.fork_parts.proofs.parts.Parts.said.Goals as goal
 
 pub returns-clause-ways : goal.returns-clause-ways

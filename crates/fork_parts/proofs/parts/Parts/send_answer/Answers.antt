@@ -1,5 +1,4 @@
-use Rattle.std.proofs.Common.{◌<◌, ◌∙◌, sym, subst, length}
-use Rattle.fork_parts.specs.Call.{Call}
+use Rattle.fork_parts.proofs.Common.{◌<◌, ◌∙◌, sym, subst, length, Call}
 use Rattle.fork_parts.proofs.Sends.{answer_sent}
 use Rattle.fork_parts.proofs.parts.Parts.send_answer.Goals as goal
 

@@ -1,5 +1,4 @@
-use Rattle.std.proofs.Common.{◌≡◌, ◌∙◌, ap}
-use Rattle.fork_parts.specs.Fixed.{Way}
+use Rattle.fork_parts.proofs.Common.{◌≡◌, ◌∙◌, ap, Way}
 use Rattle.fork_parts.proofs.Deeds.{cancel_sent, same_way}
 use Rattle.fork_parts.proofs.parts.Parts.send_cancel.Goals as goal
 

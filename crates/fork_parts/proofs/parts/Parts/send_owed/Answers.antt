@@ -1,7 +1,5 @@
-use Rattle.std.proofs.Common.{subst}
-use Rattle.fork_parts.specs.AnswersInside.{IsPaid}
+use Rattle.fork_parts.proofs.Common.{subst, IsPaid, Payment}
 use Rattle.fork_parts.specs.SeenStep.{pumped}
-use Rattle.fork_parts.specs.declared.answers.Payment.{Payment}
 use Rattle.fork_parts.specs.declared.answers.Payment.TheVariants as payment
 use Rattle.fork_parts.proofs.Paying.{if_ok, paid_text}
 use Rattle.fork_parts.proofs.parts.Parts.send_owed.Goals as goal

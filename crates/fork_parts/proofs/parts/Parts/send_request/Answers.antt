@@ -1,9 +1,6 @@
-use Rattle.std.proofs.Common.{◌≡◌, ◌∙◌, ap, List, ◌<◌, sym, subst, arith, length, Some, slice_get}
-use Rattle.fork_book.specs.Log.{table_of}
+use Rattle.fork_parts.proofs.Common.{◌≡◌, ◌∙◌, ap, List, ◌<◌, sym, subst, arith, length, Some, slice_get, table_of, Way, Call, rows_of}
 use Rattle.fork_context.specs.KindView as kinds
-use Rattle.fork_parts.specs.Fixed.{Way}
 use Rattle.fork_parts.proofs.Sends.{request_sent}
-use Rattle.fork_parts.specs.Call.{Call, rows_of}
 use Rattle.fork_parts.proofs.LegLists.{sized_leg}
 use Rattle.fork_parts.proofs.parts.Parts.send_request.Goals as goal
 

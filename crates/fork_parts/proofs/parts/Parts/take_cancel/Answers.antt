@@ -1,14 +1,4 @@
-use Rattle.std.proofs.Common.{◌≡◌, ◌∙◌, ◌∷◌, ◌++◌, [], ap, refl, sym, subst, true, length, List, None, slice_get}
-use Rattle.fork_model.specs.Event.{Cancel}
-use Rattle.fork_model.specs.Reply.{Up}
-use Rattle.fork_model.specs.Table.{Table}
-use Rattle.fork_book.specs.Log.{table_of}
-use Rattle.fork_context.specs.ReplyView.{up_of}
-use Rattle.fork_parts.specs.Call.{Call}
-use Rattle.fork_parts.specs.Posting.{owed_by}
-use Rattle.fork_parts.specs.Server.{CancelOk, Owed}
-use Rattle.fork_parts.specs.Sound.{IsSound}
-use Rattle.fork_parts.specs.Take.{CancelledBy, Posted, cancels}
+use Rattle.fork_parts.proofs.Common.{◌≡◌, ◌∙◌, ◌∷◌, ◌++◌, [], ap, refl, sym, subst, true, length, List, None, slice_get, Cancel, Up, Table, table_of, up_of, Call, owed_by, CancelOk, Owed, IsSound, CancelledBy, Posted, cancels}
 use Rattle.fork_parts.proofs.Cancels.{cancel_posts, owed_both}
 use Rattle.fork_parts.proofs.parts.Parts.take_cancel.Goals as goal
 

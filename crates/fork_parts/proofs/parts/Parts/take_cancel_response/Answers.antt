@@ -1,9 +1,4 @@
-use Rattle.std.proofs.Common.{◌≡◌, ◌∙◌, ap, sym, Some}
-use Rattle.std.specs.Option.{option_copied}
-use Rattle.sip_txn.specs.declared.event.TxEvent.{TxEvent}
-use Rattle.sip_txn.specs.Machine.{machine_after}
-use Rattle.sip_txn.specs.OtherClient.{other_client}
-use Rattle.fork_parts.specs.Take.{response_event}
+use Rattle.fork_parts.proofs.Common.{◌≡◌, ◌∙◌, ap, sym, Some, option_copied, TxEvent, machine_after, other_client, response_event}
 use Rattle.fork_parts.proofs.Failing.{cancel_goes_on}
 use Rattle.fork_parts.proofs.parts.Parts.take_cancel_response.Goals as goal
 

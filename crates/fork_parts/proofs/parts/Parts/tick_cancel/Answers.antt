@@ -1,11 +1,5 @@
-use Rattle.std.proofs.Common.{◌≡◌, ◌∙◌, ap, subst, sym, true, false, Some}
-use Rattle.std.specs.Option.{option_copied}
+use Rattle.fork_parts.proofs.Common.{◌≡◌, ◌∙◌, ap, subst, sym, true, false, Some, option_copied, machine_after, out_of, other_client, Cancelling, Leg, is_request, seen}
 use Rattle.sip_txn.specs.declared.event.TxEvent.TheVariants as event
-use Rattle.sip_txn.specs.Machine.{machine_after, out_of}
-use Rattle.sip_txn.specs.OtherClient.{other_client}
-use Rattle.fork_parts.specs.Leg.{Cancelling, Leg}
-use Rattle.fork_parts.specs.Pump.{is_request}
-use Rattle.fork_parts.specs.SeenDatagram.{seen}
 use Rattle.fork_parts.proofs.Deeds.{cancel_ticked_sent, cancel_ticked_silent, same_cancelling, same_leg}
 use Rattle.fork_parts.proofs.parts.Parts.tick_cancel.Goals as goal
 

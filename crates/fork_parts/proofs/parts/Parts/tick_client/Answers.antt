@@ -1,11 +1,5 @@
-use Rattle.std.proofs.Common.{◌≡◌, refl, subst, true, false}
+use Rattle.fork_parts.proofs.Common.{◌≡◌, refl, subst, true, false, client_after, client_out, Leg, is_open, row_passes, is_request, is_timeout, seen}
 use Rattle.sip_txn.specs.declared.event.TxEvent.TheVariants as event
-use Rattle.fork_parts.specs.Client.{client_after, client_out}
-use Rattle.fork_parts.specs.Leg.{Leg}
-use Rattle.fork_model.specs.Table.{is_open}
-use Rattle.fork_parts.specs.Call.{row_passes}
-use Rattle.fork_parts.specs.Pump.{is_request, is_timeout}
-use Rattle.fork_parts.specs.SeenDatagram.{seen}
 use Rattle.fork_parts.proofs.Deeds.{client_ticked_sent, client_ticked_silent, client_timed_out, same_leg}
 use Rattle.fork_parts.proofs.Failing.{timeout_is_open}
 use Rattle.fork_parts.proofs.parts.Parts.tick_client.Goals as goal

@@ -1,5 +1,4 @@
-use Rattle.std.proofs.Common.{◌∙◌, ◌==◌, ap, length, List}
-use Rattle.fork_parts.specs.Server.{Owed}
+use Rattle.fork_parts.proofs.Common.{◌∙◌, ◌==◌, ap, length, List, Owed}
 use Rattle.fork_parts.proofs.Queues.{length_queue}
 use Rattle.fork_parts.proofs.queue.OwedAnswers.is_empty.Goals as goal
 

@@ -1,9 +1,6 @@
-use Rattle.std.proofs.Common.{◌≡◌, ◌∙◌, ◌∷◌, ◌++◌, [], ap, subst, sym, List}
+use Rattle.fork_parts.proofs.Common.{◌∙◌, ◌∷◌, ◌++◌, [], ap, subst, sym, List, HaveMessages, queue_of, MessageText, Entry}
 use Rattle.std.specs.Option.{option_to_list}
-use Rattle.fork_parts.specs.Queue as spec
-use Rattle.fork_parts.specs.Queue.{HaveMessages, queue_of}
-use Rattle.sip_text.specs.Text.{MessageText}
-use Rattle.fork_parts.specs.declared.queue.Entry.{Entry}
+use Rattle.fork_parts.specs.inner.Queue as spec
 use Rattle.fork_parts.proofs.Queues.{have_more, queue_more}
 use Rattle.fork_parts.proofs.queue.Queue.add.Goals as goal
 

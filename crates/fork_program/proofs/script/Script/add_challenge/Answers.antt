@@ -1,8 +1,4 @@
-use Rattle.std.proofs.Common.{◌≡◌, ◌∷◌, ◌++◌, ◌∙◌, [], map, ap}
-use Rattle.std.proofs.lemmas.List.{map_push}
-use Rattle.fork_context.specs.EventView.{event_of}
-use Rattle.fork_context.specs.KindView.{kind_of}
-use Rattle.fork_program.specs.Script.{Script, with_challenge}
+use Rattle.fork_program.proofs.Common.{◌≡◌, ◌∷◌, ◌++◌, ◌∙◌, [], map, ap, map_push, event_of, kind_of, Script, with_challenge}
 use Rattle.fork_program.proofs.LastAnswer.{change_added}
 use Rattle.fork_program.proofs.script.Script.add_challenge.Goals as goal
 

@@ -1,7 +1,4 @@
-use Rattle.std.proofs.Common.{◌≡◌, ◌≤◌, ◌+◌, length}
-use Rattle.std.specs.List.{slice_split}
-use Rattle.sip_lex.specs.Cut.{is}
-use Rattle.fork_program.specs.Script.{read_from, no_draft}
+use Rattle.fork_program.proofs.Common.{◌≡◌, ◌≤◌, ◌+◌, length, slice_split, is, read_from, no_draft}
 use Rattle.fork_program.proofs.script.Script.read_lines.Given as goal
 
 -- reading on from here gives what the whole gives

@@ -1,6 +1,6 @@
 use Rattle.std.proofs.Common.{ℕ, List, Option, subst}
 use Rattle.std.specs.Prelude.{IfSome}
-use Rattle.fork_server.specs.Filed.{IsDueFirst, IsWithout}
+use Rattle.fork_server.specs.inner.Filed.{IsDueFirst, IsWithout}
 use Rattle.fork_server.proofs.filed.Filed.take.Goals as goal
 
 pub returns-clause-some : goal.returns-clause-some

@@ -2,7 +2,7 @@ use Rattle.std.proofs.Common.{refl, ap}
 use Rattle.std.specs.BTreeMap.{get}
 use Rattle.std.specs.Option.{option_or}
 use Rattle.std.specs.Ordering.{nat_cmp}
-use Rattle.fork_shelf.specs.Desk.{digest_of, number_where}
+use Rattle.fork_shelf.specs.inner.Desk.{digest_of, number_where}
 use Rattle.fork_shelf.proofs.Listing.{other_listed}
 use Rattle.fork_shelf.proofs.desk.Desk.list_other.Goals as goal
 

@@ -15,5 +15,5 @@ loop-i-preserved g c =
 pub returns : goal.returns
 returns g c =
     let past : length c.self.inside.nodes.items ≤ c.loop-i.i = omega (arith, c.loop-i-test.false, c.len-i-end.ensures) in
-    all_waiting _ c.self.inside.nodes.items c.index-2.result.now c.loop-i.i c.number.result c.self.inside.still c.self.view_is c.requires.goes_on c.self.invariant past c.loop-i.invariant
+    all_waiting _ c.self.inside.nodes.items c.index-2.result.now c.loop-i.i c.number.result c.self.inside.open_count c.self.view_is c.requires.goes_on c.self.invariant past c.loop-i.invariant
     c.index-2.ensures c.number.ensures

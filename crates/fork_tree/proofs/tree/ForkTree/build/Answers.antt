@@ -1,5 +1,5 @@
 use Rattle.std.proofs.Common.{ℕ, slice_get, arith, sym, subst, refl}
-use Rattle.fork_tree.specs.Given.{IsHalf}
+use Rattle.fork_tree.specs.inner.Given.{IsHalf}
 use Rattle.fork_tree.proofs.Runs.{half_at, settled_next, all_settled}
 use Rattle.fork_tree.proofs.tree.ForkTree.build.Goals as goal
 

@@ -1,17 +1,12 @@
-use Rattle.std.proofs.Common.{List, map, ap, ◌∙◌}
-use Rattle.fork_model.specs.Table.{Row}
-use Rattle.fork_tree.specs.Places.{rows_of}
-use Rattle.fork_tree.specs.Closing.{closed_row}
+use Rattle.fork_tree.proofs.Common.{List, map, ap, ◌∙◌, Row, rows_of, closed_row, length, arith, sym, subst, AreKnown, AreMet}
 use Rattle.fork_tree.proofs.ClosesAll.{whole_closed}
-use Rattle.std.proofs.Common.{length, arith, sym, subst}
-use Rattle.fork_tree.specs.Search.{AreKnown, AreMet}
 use Rattle.fork_tree.proofs.Ways.{met_closed}
 use Rattle.fork_tree.proofs.Trees.{tree_closed, value_after}
 use Rattle.fork_tree.proofs.tree.ForkTree.close.Goals as goal
 
 pub invariant_of-self : goal.invariant_of-self
 invariant_of-self g c = record {
-  tree = tree_closed c.self.inside.rules c.self.inside.places.items c.self.inside.root c.close-ended.new.self c.self.inside.tally c.close-ended.result
+  tree = tree_closed c.self.inside.rules c.self.inside.places.items c.self.inside.root c.close-ended.new.self c.self.inside.summary c.close-ended.result
       c.self.invariant.tree c.close-ended.ensures.closed c.close-ended.ensures.counted;
   together = c.self.invariant.together;
   path_room = c.self.invariant.path_room;

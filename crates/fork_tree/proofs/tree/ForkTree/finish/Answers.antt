@@ -1,12 +1,6 @@
-use Rattle.std.proofs.Common.{List, Some, map, length, ◌++◌, ap, sym, ◌∙◌, subst, IsTrue, slice_get}
+use Rattle.fork_tree.proofs.Common.{List, Some, map, length, ◌++◌, ap, sym, ◌∙◌, subst, IsTrue, slice_get, Row, is_open, is_row, with_state, plain_state, Ended, waiting_row, Tree, length-state}
 use Rattle.fork_model.specs.Table as spec
-use Rattle.fork_model.specs.Table.{Row, is_open, is_row}
-use Rattle.fork_model.specs.Step.{with_state}
-use Rattle.fork_tree.specs.States.{bare_state}
-use Rattle.fork_tree.specs.declared.row.State.TheVariants.{Ended}
-use Rattle.fork_tree.specs.Seats.{seated}
-use Rattle.fork_tree.specs.Tree.{Tree}
-use Rattle.fork_tree.proofs.Building.{started_open, state_twice, length_state}
+use Rattle.fork_tree.proofs.Building.{started_open, state_twice}
 use Rattle.fork_tree.proofs.tree.ForkTree.finish.Goals as goal
 
 pub end-requires-clause-there : goal.end-requires-clause-there
@@ -16,11 +10,11 @@ end-requires-clause-there g c =
 
 pub end-requires-clause-next : goal.end-requires-clause-next
 end-requires-clause-next g c =
-    c.requires.next ∙ sym (ap (λ (t : Tree). length t.rows) c.start.ensures ∙ length_state c.args.self.now.rows c.args.n spec.Trying)
+    c.requires.next ∙ sym (ap (λ (t : Tree). length t.rows) c.start.ensures ∙ length-state c.args.self.now.rows c.args.n spec.Trying)
 
 pub returns : goal.returns
 returns g c =
     c.end.ensures
-    ∙ ap (λ (t : Tree). record t { rows = with_state t.rows c.args.n (bare_state (Ended c.args.end)) ++ map (seated (Some c.args.n)) c.args.below.seats }) c.start.ensures
-    ∙ ap (λ (r : List Row). record { rules = c.args.self.now.rules; rows = r ++ map (seated (Some c.args.n)) c.args.below.seats })
-    (state_twice c.args.self.now.rows c.args.n spec.Trying (bare_state (Ended c.args.end)))
+    ∙ ap (λ (t : Tree). record t { rows = with_state t.rows c.args.n (plain_state (Ended c.args.end)) ++ map (waiting_row (Some c.args.n)) c.args.below.new_rows }) c.start.ensures
+    ∙ ap (λ (r : List Row). record { rules = c.args.self.now.rules; rows = r ++ map (waiting_row (Some c.args.n)) c.args.below.new_rows })
+    (state_twice c.args.self.now.rows c.args.n spec.Trying (plain_state (Ended c.args.end)))

@@ -1,17 +1,14 @@
-use Rattle.std.proofs.Common.{◌<◌, ◌∙◌, length, arith, ap}
-use Rattle.fork_tree.specs.Below.{under}
-use Rattle.fork_tree.specs.Places.{path_of}
-use Rattle.fork_tree.specs.Tree.{Tree}
-use Rattle.fork_tree.proofs.Counts.{rows_length}
+use Rattle.fork_tree.proofs.Common.{◌<◌, ◌∙◌, length, arith, ap, under, path_of}
 use Rattle.fork_tree.proofs.Below.{is_subtree}
 use Rattle.fork_tree.proofs.tree.ForkTree.node.Goals as goal
+use Rattle.fork_tree.proofs.Counts.{rows_count}
 
 pub returns-then-n-len : goal.returns-then-n-len
 returns-then-n-len g c =
-    omega (arith, c.if-n-len.true, c.len.ensures, ap (λ (t : Tree). length t.rows) c.self.view_is, rows_length c.self.inside.places.items c.self.inside.root 0 c.self.inside.places.items)
+    omega (arith, c.if-n-len.true, c.len.ensures, rows_count _ c.self.inside.places.items c.self.inside.root _ c.self.view_is)
 
 pub returns : goal.returns
 returns g c =
     let known : c.args.n < length c.self.inside.places.items = omega (arith, c.if-n-len.false, c.len.ensures) in
-    is_subtree c.self.inside.rules c.self.inside.places.items c.self.inside.root c.node_of.result.now c.self.inside.tally c.args.self.now c.args.n c.self.view_is
+    is_subtree c.self.inside.rules c.self.inside.places.items c.self.inside.root c.node_of.result.now c.self.inside.summary c.args.self.now c.args.n c.self.view_is
     c.self.invariant.tree known (c.node_of.ensures ∙ ap (λ x. under (path_of x c.args.n) c.self.inside.root) c.deref.ensures.value)

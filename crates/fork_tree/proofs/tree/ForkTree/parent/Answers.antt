@@ -1,16 +1,13 @@
-use Rattle.std.proofs.Common.{◌≡◌, ◌≤◌, ◌∙◌, length, slice_get, Some, arith, ap, sym}
-use Rattle.fork_tree.specs.Below.{parent_of}
-use Rattle.fork_tree.specs.Tree.{Tree}
-use Rattle.fork_tree.proofs.Counts.{rows_length}
-use Rattle.fork_tree.proofs.Finds.{row_none}
-use Rattle.fork_tree.proofs.Mates.{row_of}
+use Rattle.fork_tree.proofs.Common.{◌≡◌, ◌≤◌, ◌∙◌, length, slice_get, Some, arith, ap, sym, parent_of, Tree, slice_get_past}
+use Rattle.fork_tree.proofs.GroupNumbers.{row_of}
 use Rattle.fork_tree.proofs.tree.ForkTree.parent.Goals as goal
+use Rattle.fork_tree.proofs.Counts.{rows_count}
 
 pub returns-then-n-len : goal.returns-then-n-len
 returns-then-n-len g c =
     let past : length c.args.self.now.rows ≤ c.args.n =
-    omega (arith, c.if-n-len.true, c.len.ensures, ap (λ (t : Tree). length t.rows) c.self.view_is, rows_length c.self.inside.places.items c.self.inside.root 0 c.self.inside.places.items) in
-    sym (ap parent_of (row_none c.args.self.now.rows c.args.n past))
+    omega (arith, c.if-n-len.true, c.len.ensures, rows_count _ c.self.inside.places.items c.self.inside.root _ c.self.view_is) in
+    sym (ap parent_of (slice_get_past c.args.self.now.rows c.args.n past))
 
 pub returns : goal.returns
 returns g c =

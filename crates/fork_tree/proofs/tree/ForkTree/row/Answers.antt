@@ -1,17 +1,13 @@
-use Rattle.std.proofs.Common.{◌≡◌, ◌<◌, ◌≤◌, Some, length, slice_get, arith, ap, sym, ◌∙◌}
-use Rattle.std.specs.Option.{option_map}
-use Rattle.fork_tree.specs.Below.{under}
-use Rattle.fork_tree.specs.Places.{path_of}
-use Rattle.fork_tree.specs.Tree.{Tree, row_ref}
-use Rattle.fork_tree.proofs.Counts.{rows_length}
-use Rattle.fork_tree.proofs.Finds.{row_read, row_none}
+use Rattle.fork_tree.proofs.Common.{◌≡◌, ◌<◌, ◌≤◌, Some, length, slice_get, arith, ap, sym, ◌∙◌, option_map, under, path_of, Tree, row_ref, slice_get_past}
+use Rattle.fork_tree.proofs.Finds.{row_read}
 use Rattle.fork_tree.proofs.tree.ForkTree.row.Goals as goal
+use Rattle.fork_tree.proofs.Counts.{rows_count}
 
 pub returns-then-n-len : goal.returns-then-n-len
 returns-then-n-len g c =
     let past : length c.args.self.now.rows ≤ c.args.n =
-    omega (arith, c.if-n-len.true, c.len.ensures, ap (λ (t : Tree). length t.rows) c.self.view_is, rows_length c.self.inside.places.items c.self.inside.root 0 c.self.inside.places.items) in
-    sym (ap (option_map (row_ref c.args.n)) (row_none c.args.self.now.rows c.args.n past))
+    omega (arith, c.if-n-len.true, c.len.ensures, rows_count _ c.self.inside.places.items c.self.inside.root _ c.self.view_is) in
+    sym (ap (option_map (row_ref c.args.n)) (slice_get_past c.args.self.now.rows c.args.n past))
 
 pub returns : goal.returns
 returns g c =

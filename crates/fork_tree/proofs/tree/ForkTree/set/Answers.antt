@@ -1,14 +1,9 @@
-use Rattle.std.proofs.Common.{◌≡◌, ◌++◌, ℕ, List, [], IsTrue, length, arith, ap, sym, subst, ◌∙◌}
-use Rattle.fork_model.specs.Table.{Row}
-use Rattle.fork_model.specs.Step.{with_state}
-use Rattle.fork_tree.specs.States.{bare_state}
-use Rattle.fork_tree.specs.Rows.{open_at, graft, unanswered}
-use Rattle.fork_tree.specs.Places.{path_of, rows_of}
-use Rattle.fork_tree.specs.Tree.{Tree}
+use Rattle.fork_tree.proofs.Common.{ℕ, List, [], IsTrue, length, arith, ap, sym, subst, Row, with_state, plain_state, unanswered, open_at, rows_of, Tree, Changes}
 use Rattle.fork_tree.proofs.Placed.{open_row}
 use Rattle.fork_tree.proofs.Ways.{tree_met_set}
 use Rattle.fork_tree.proofs.Trees.{tree_set, rows_set, value_after}
 use Rattle.fork_tree.proofs.tree.ForkTree.set.Goals as goal
+use Rattle.fork_tree.proofs.Traces.{path_traced}
 
 pub trace-requires-clause-known : goal.trace-requires-clause-known
 trace-requires-clause-known g c =
@@ -23,21 +18,19 @@ trace-requires-clause-room g c =
 pub set-requires-clause-there : goal.set-requires-clause-there
 set-requires-clause-there g c =
     let at = open_row _ c.self.inside.places.items c.self.inside.root c.args.n (ap (λ (t : Tree). t.rows) c.self.view_is) c.requires.there in
-    let p : c.deref-2.result.now ≡ path_of c.self.inside.places.items c.args.n =
-    c.deref-2.ensures.value ∙ c.trace.ensures.items ∙ ap (λ x. x ++ path_of c.deref.result.now c.args.n) c.clear.ensures.items
-    ∙ ap (λ x. path_of x c.args.n) c.deref.ensures.value in
-    let P : List ℕ → Type 0 = λ x. IsTrue (open_at c.self.inside.root x) in
-    subst P (sym p) at.1
+    subst (λ (x : List ℕ). IsTrue (open_at c.self.inside.root x))
+    (sym (path_traced c.self.inside.places.items _ c.args.n _ _ _ c.deref-2.ensures.value c.trace.ensures.items c.clear.ensures.items c.deref.ensures.value))
+    at.1
 
 pub invariant_of-self : goal.invariant_of-self
 invariant_of-self g c =
     let at = open_row _ c.self.inside.places.items c.self.inside.root c.args.n (ap (λ (t : Tree). t.rows) c.self.view_is) c.requires.there in
-    let p : c.deref-2.result.now ≡ path_of c.self.inside.places.items c.args.n =
-    c.deref-2.ensures.value ∙ c.trace.ensures.items ∙ ap (λ x. x ++ path_of c.deref.result.now c.args.n) c.clear.ensures.items
-    ∙ ap (λ x. path_of x c.args.n) c.deref.ensures.value in
+    let change = subst (λ (x : List ℕ). Changes c.self.inside.root c.set.new.self x (unanswered c.args.state) [] 1)
+    (path_traced c.self.inside.places.items _ c.args.n _ _ _ c.deref-2.ensures.value c.trace.ensures.items c.clear.ensures.items c.deref.ensures.value)
+    c.set.ensures in
     record {
-      tree = tree_set c.self.inside.rules c.self.inside.places.items c.self.inside.root c.set.new.self c.self.inside.tally c.args.n c.args.state c.self.invariant.tree at.0 c.requires.waits
-          (c.set.ensures.grafted ∙ ap (λ x. graft c.self.inside.root x (unanswered c.args.state) []) p) c.set.ensures.sized c.set.ensures.counted c.set.ensures.gained;
+      tree = tree_set c.self.inside.rules c.self.inside.places.items c.self.inside.root c.set.new.self c.self.inside.summary c.args.n c.args.state
+          c.self.invariant.tree at.0 c.requires.waits change;
       together = c.self.invariant.together;
       path_room = omega (arith, c.self.invariant.path_room, c.clear.ensures.capacity, c.trace.ensures.capacity);
       places_room = c.self.invariant.places_room;
@@ -46,18 +39,16 @@ invariant_of-self g c =
       known = c.self.invariant.known;
       met = tree_met_set c.self.inside.places.items c.self.inside.root c.set.new.self c.args.self.now.rows c.args.n c.args.state c.self.inside.recent.items
           c.self.invariant.tree.older (ap (λ (t : Tree). t.rows) c.self.view_is) c.self.invariant.met c.requires.there
-          (rows_set c.self.inside.places.items c.self.inside.root c.set.new.self c.args.n c.args.state c.self.invariant.tree.placed at.0
-          (c.set.ensures.grafted ∙ ap (λ x. graft c.self.inside.root x (unanswered c.args.state) []) p))
+          (rows_set c.self.inside.places.items c.self.inside.root c.set.new.self c.args.n c.args.state c.self.invariant.tree.placed at.0 change.branch)
           c.requires.waits c.requires.busy;
     }
 
 pub returns : goal.returns
 returns g c =
     let at = open_row _ c.self.inside.places.items c.self.inside.root c.args.n (ap (λ (t : Tree). t.rows) c.self.view_is) c.requires.there in
-    let p : c.deref-2.result.now ≡ path_of c.self.inside.places.items c.args.n =
-    c.deref-2.ensures.value ∙ c.trace.ensures.items ∙ ap (λ x. x ++ path_of c.deref.result.now c.args.n) c.clear.ensures.items
-    ∙ ap (λ x. path_of x c.args.n) c.deref.ensures.value in
+    let change = subst (λ (x : List ℕ). Changes c.self.inside.root c.set.new.self x (unanswered c.args.state) [] 1)
+    (path_traced c.self.inside.places.items _ c.args.n _ _ _ c.deref-2.ensures.value c.trace.ensures.items c.clear.ensures.items c.deref.ensures.value)
+    c.set.ensures in
     value_after c.self.inside.rules (rows_of c.self.inside.places.items c.self.inside.root) (rows_of c.self.inside.places.items c.set.new.self) c.args.self.now
-    (λ (r : List Row). with_state r c.args.n (bare_state c.args.state)) c.self.view_is
-    (rows_set c.self.inside.places.items c.self.inside.root c.set.new.self c.args.n c.args.state c.self.invariant.tree.placed at.0
-    (c.set.ensures.grafted ∙ ap (λ x. graft c.self.inside.root x (unanswered c.args.state) []) p))
+    (λ (r : List Row). with_state r c.args.n (plain_state c.args.state)) c.self.view_is
+    (rows_set c.self.inside.places.items c.self.inside.root c.set.new.self c.args.n c.args.state c.self.invariant.tree.placed at.0 change.branch)

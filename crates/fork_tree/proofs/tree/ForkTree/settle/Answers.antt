@@ -1,8 +1,4 @@
-use Rattle.std.proofs.Common.{List, ap, sym, ◌∙◌}
-use Rattle.fork_model.specs.Table.{Row}
-use Rattle.fork_model.specs.Step.{with_state}
-use Rattle.fork_tree.specs.declared.row.State.{State}
-use Rattle.fork_tree.specs.States.{bare_state}
+use Rattle.fork_tree.proofs.Common.{List, ap, sym, ◌∙◌, Row, with_state, State, plain_state}
 use Rattle.fork_tree.proofs.Building.{stays}
 use Rattle.fork_tree.proofs.Ways.{with_same}
 use Rattle.fork_tree.proofs.tree.ForkTree.settle.Goals as goal
@@ -16,4 +12,4 @@ pub returns-in-Idle : goal.returns-in-Idle
 returns-in-Idle g c =
     ap (λ (r : List Row). record { rules = c.args.self.now.rules; rows = r })
     (with_same c.args.self.now.rows c.args.row.now.no (sym c.is_waiting.ensures ∙ c.if-not-is_waiting.false)
-    ∙ ap (λ (s : State). with_state c.args.self.now.rows c.args.row.now.no (bare_state s)) (sym c.in-Idle.is))
+    ∙ ap (λ (s : State). with_state c.args.self.now.rows c.args.row.now.no (plain_state s)) (sym c.in-Idle.is))

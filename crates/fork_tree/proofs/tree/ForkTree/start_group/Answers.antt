@@ -1,6 +1,4 @@
-use Rattle.std.proofs.Common.{IsTrue, slice_get, arith, sym, subst}
-use Rattle.fork_model.specs.Table.{is_row, is_idle}
-use Rattle.fork_tree.specs.Tree.{Tree}
+use Rattle.fork_tree.proofs.Common.{IsTrue, slice_get, arith, sym, subst, is_row, is_idle, Tree}
 use Rattle.fork_tree.proofs.Starting.{still_waits, one_more, none_yet}
 use Rattle.fork_tree.proofs.tree.ForkTree.start_group.Goals as goal
 

@@ -1,5 +1,4 @@
-use Rattle.std.proofs.Common.{◌≡◌, ◌-◌, ◌≤◌}
-use Rattle.fork_tree.specs.Ready.{tried}
+use Rattle.fork_tree.proofs.Common.{◌≡◌, ◌-◌, ◌≤◌, tried}
 use Rattle.fork_tree.proofs.tree.ForkTree.start_group.Given as goal
 
 abbrev pub invariant-loop-n : goal.invariant-loop-n

@@ -1,5 +1,5 @@
-use Rattle.std.proofs.Common.{arith, subst}
-use Rattle.fork_tree.specs.Search.{FindsStart}
+use Rattle.fork_tree.proofs.Common.{arith, subst}
+use Rattle.fork_tree.specs.inner.Search.{FindsStart}
 use Rattle.fork_tree.proofs.tree.ForkTree.start_ready.Goals as goal
 
 pub overflow_add-first : goal.overflow_add-first

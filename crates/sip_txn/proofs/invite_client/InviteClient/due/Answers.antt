@@ -1,10 +1,5 @@
 -- What is known of the timers in each state gives the laws of ticks and of the end.
-use Rattle.std.proofs.Common.{◌≡◌, subst, rules}
-use Rattle.sip_txn.specs.declared.machine.Machine.{Machine}
-use Rattle.sip_txn.specs.declared.invite_client.InviteClientState.{InviteClientState}
-use Rattle.sip_txn.specs.declared.invite_client.InviteClientState.TheVariants.{Terminated}
-use Rattle.sip_txn.specs.Runs.{IsOver}
-use Rattle.sip_txn.specs.InviteClient.{invite_client, RunsOutByTicks}
+use Rattle.sip_txn.proofs.Common.{◌≡◌, subst, rules, Machine, InviteClientState, Terminated, IsOver, invite_client, RunsOutByTicks}
 use Rattle.sip_txn.proofs.InviteClientTable.{runs_out, is_over}
 use Rattle.sip_txn.proofs.invite_client.InviteClient.due.Goals as goal
 

@@ -1,8 +1,5 @@
 -- The row that the table lists keeps which timers run.
-use Rattle.std.proofs.Common.{sym, subst}
-use Rattle.sip_txn.specs.declared.machine.Machine.{Machine}
-use Rattle.sip_txn.specs.declared.invite_client.InviteClientState.{InviteClientState}
-use Rattle.sip_txn.specs.InviteClient.{RunsTimersOf}
+use Rattle.sip_txn.proofs.Common.{sym, subst, Machine, InviteClientState, RunsTimersOf}
 use Rattle.sip_txn.proofs.InviteClientTable.{keeps}
 use Rattle.sip_txn.proofs.invite_client.InviteClient.on.Goals as goal
 

@@ -1,10 +1,7 @@
 -- What is known of the timers in each state gives the laws of ticks and of the end.
-use Rattle.std.proofs.Common.{◌≡◌, subst, rules}
-use Rattle.sip_txn.specs.declared.machine.Machine.{Machine}
-use Rattle.sip_txn.specs.declared.invite_server.InviteServerState.{InviteServerState}
+use Rattle.sip_txn.proofs.Common.{◌≡◌, subst, rules, Machine, InviteServerState, IsOver, invite_server}
 use Rattle.sip_txn.specs.declared.invite_server.InviteServerState.TheVariants.{Terminated}
-use Rattle.sip_txn.specs.Runs.{IsOver}
-use Rattle.sip_txn.specs.InviteServer.{invite_server, RunsOutByTicks}
+use Rattle.sip_txn.specs.InviteServer.{RunsOutByTicks}
 use Rattle.sip_txn.proofs.InviteServerTable.{runs_out, is_over}
 use Rattle.sip_txn.proofs.invite_server.InviteServer.due.Goals as goal
 

@@ -1,7 +1,5 @@
 -- The row that the table lists keeps which timers run.
-use Rattle.std.proofs.Common.{sym, subst}
-use Rattle.sip_txn.specs.declared.machine.Machine.{Machine}
-use Rattle.sip_txn.specs.declared.invite_server.InviteServerState.{InviteServerState}
+use Rattle.sip_txn.proofs.Common.{sym, subst, Machine, InviteServerState}
 use Rattle.sip_txn.specs.InviteServer.{RunsTimersOf}
 use Rattle.sip_txn.proofs.InviteServerTable.{keeps}
 use Rattle.sip_txn.proofs.invite_server.InviteServer.on.Goals as goal

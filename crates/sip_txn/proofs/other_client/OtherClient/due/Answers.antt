@@ -1,10 +1,7 @@
 -- What is known of the timers in each state gives the laws of ticks and of the end.
-use Rattle.std.proofs.Common.{◌≡◌, subst, rules}
-use Rattle.sip_txn.specs.declared.machine.Machine.{Machine}
-use Rattle.sip_txn.specs.declared.other_client.OtherClientState.{OtherClientState}
+use Rattle.sip_txn.proofs.Common.{◌≡◌, subst, rules, Machine, OtherClientState, IsOver, other_client}
 use Rattle.sip_txn.specs.declared.other_client.OtherClientState.TheVariants.{Terminated}
-use Rattle.sip_txn.specs.Runs.{IsOver}
-use Rattle.sip_txn.specs.OtherClient.{other_client, RunsOutByTicks}
+use Rattle.sip_txn.specs.OtherClient.{RunsOutByTicks}
 use Rattle.sip_txn.proofs.OtherClientTable.{runs_out, is_over}
 use Rattle.sip_txn.proofs.other_client.OtherClient.due.Goals as goal
 

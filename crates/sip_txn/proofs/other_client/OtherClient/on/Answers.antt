@@ -1,7 +1,5 @@
 -- The row that the table lists keeps which timers run.
-use Rattle.std.proofs.Common.{sym, subst}
-use Rattle.sip_txn.specs.declared.machine.Machine.{Machine}
-use Rattle.sip_txn.specs.declared.other_client.OtherClientState.{OtherClientState}
+use Rattle.sip_txn.proofs.Common.{sym, subst, Machine, OtherClientState}
 use Rattle.sip_txn.specs.OtherClient.{RunsTimersOf}
 use Rattle.sip_txn.proofs.OtherClientTable.{keeps}
 use Rattle.sip_txn.proofs.other_client.OtherClient.on.Goals as goal

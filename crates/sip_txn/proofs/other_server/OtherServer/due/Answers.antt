@@ -1,10 +1,7 @@
 -- What is known of the timers in each state gives the laws of ticks and of the end.
-use Rattle.std.proofs.Common.{◌≡◌, subst}
-use Rattle.sip_txn.specs.declared.machine.Machine.{Machine}
-use Rattle.sip_txn.specs.declared.other_server.OtherServerState.{OtherServerState}
+use Rattle.sip_txn.proofs.Common.{◌≡◌, subst, Machine, OtherServerState, IsOver, other_server}
 use Rattle.sip_txn.specs.declared.other_server.OtherServerState.TheVariants.{Terminated}
-use Rattle.sip_txn.specs.Runs.{IsOver}
-use Rattle.sip_txn.specs.OtherServer.{other_server, RunsOutByTicks}
+use Rattle.sip_txn.specs.OtherServer.{RunsOutByTicks}
 use Rattle.sip_txn.proofs.OtherServerTable.{runs_out, is_over}
 use Rattle.sip_txn.proofs.other_server.OtherServer.due.Goals as goal
 

@@ -1,7 +1,5 @@
 -- The row that the table lists keeps which timers run.
-use Rattle.std.proofs.Common.{sym, subst}
-use Rattle.sip_txn.specs.declared.machine.Machine.{Machine}
-use Rattle.sip_txn.specs.declared.other_server.OtherServerState.{OtherServerState}
+use Rattle.sip_txn.proofs.Common.{sym, subst, Machine, OtherServerState}
 use Rattle.sip_txn.specs.OtherServer.{RunsTimersOf}
 use Rattle.sip_txn.proofs.OtherServerTable.{keeps}
 use Rattle.sip_txn.proofs.other_server.OtherServer.on.Goals as goal

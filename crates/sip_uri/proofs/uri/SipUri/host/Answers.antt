@@ -1,7 +1,4 @@
-use Rattle.std.proofs.Common.{subst, arith}
-use Rattle.std.proofs.lemmas.Grind.{common_steps}
-use Rattle.sip_uri.specs.Grammar.{IsUri}
-use Rattle.sip_uri.specs.Uri.{Uri}
+use Rattle.sip_uri.proofs.Common.{subst, arith, common_steps, IsUri, Uri}
 use Rattle.sip_uri.proofs.Requests.{kept_uri}
 use Rattle.sip_uri.proofs.uri.SipUri.host.Goals as goal
 

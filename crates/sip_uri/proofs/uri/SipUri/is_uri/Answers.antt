@@ -1,6 +1,4 @@
-use Rattle.std.proofs.Common.{subst}
-use Rattle.sip_uri.specs.Grammar.{IsUri}
-use Rattle.sip_uri.specs.Uri.{Uri}
+use Rattle.sip_uri.proofs.Common.{subst, IsUri, Uri}
 use Rattle.sip_uri.proofs.Requests.{kept_uri}
 use Rattle.sip_uri.proofs.uri.SipUri.is_uri.Goals as goal
 

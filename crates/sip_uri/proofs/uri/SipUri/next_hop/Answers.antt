@@ -1,8 +1,5 @@
-use Rattle.std.proofs.Common.{◌≡◌, ◌∙◌, List, ℕ, ap, drop}
-use Rattle.std.proofs.lemmas.List.{take_rest}
-use Rattle.sip_uri.specs.Reading.{Parts, is_port_if_any, parts_of}
-use Rattle.sip_uri.specs.Seen.{parts}
-use Rattle.sip_uri.proofs.Found.{kept_port}
+use Rattle.sip_uri.proofs.Common.{◌≡◌, ◌∙◌, List, ℕ, ap, drop, take_rest, Parts, is_port_if_any, parts_of, parts}
+use Rattle.sip_uri.proofs.laws.Found.{kept_port}
 use Rattle.sip_uri.proofs.uri.SipUri.next_hop.Goals as goal
 
 pub hop_of-requires : goal.hop_of-requires

@@ -1,5 +1,5 @@
-use Rattle.sip_uri.proofs.Found.{is_found}
-use Rattle.sip_uri.proofs.Only.{only_read}
+use Rattle.sip_uri.proofs.laws.Found.{is_found}
+use Rattle.sip_uri.proofs.laws.Only.{only_read}
 use Rattle.sip_uri.proofs.uri.SipUri.read.Goals as goal
 
 pub returns-clause-found : goal.returns-clause-found

@@ -1,8 +1,4 @@
-use Rattle.std.proofs.Common.{◌≡◌, List, true, sym, subst, ℕ}
-use Rattle.std.specs.List.{list_all}
-use Rattle.sip_uri.specs.Grammar.{IsUri, is_uri_byte}
-use Rattle.sip_uri.specs.Reading.{uri_of}
-use Rattle.sip_uri.specs.Uri.{Uri, request_uri}
+use Rattle.sip_uri.proofs.Common.{◌≡◌, List, true, sym, subst, ℕ, list_all, IsUri, is_uri_byte, uri_of, Uri, request_uri}
 use Rattle.sip_uri.proofs.Requests.{kept_uri, request_bytes}
 use Rattle.sip_uri.proofs.uri.SipUri.request_uri.Goals as goal
 

@@ -1,7 +1,4 @@
-use Rattle.std.proofs.Common.{◌≡◌, ◌++◌, ◌∙◌, List, ℕ, ap, subst, sym}
-use Rattle.sip_uri.specs.Kept.{IsKept}
-use Rattle.sip_uri.specs.Reading.{uri_of}
-use Rattle.sip_uri.specs.Uri.{request_uri, requested}
+use Rattle.sip_uri.proofs.Common.{◌≡◌, ◌++◌, ◌∙◌, List, ℕ, ap, subst, sym, IsKept, uri_of, request_uri, requested}
 use Rattle.sip_uri.proofs.Requested.{requested_is_kept, requested_view}
 use Rattle.sip_uri.proofs.uri.SipUri.requested.Goals as goal
 

@@ -1,5 +1,4 @@
-use Rattle.std.proofs.Common.{arith}
-use Rattle.std.proofs.lemmas.Grind.{common_steps}
+use Rattle.sip_uri.proofs.Common.{arith, common_steps}
 use Rattle.sip_uri.proofs.uri.SipUri.user.Goals as goal
 
 pub returns : goal.returns

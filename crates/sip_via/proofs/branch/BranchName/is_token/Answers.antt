@@ -1,7 +1,4 @@
-use Rattle.std.proofs.Common.{◌≡◌, ◌∷◌, ℕ, true, subst}
-use Rattle.std.specs.Fmt.{decimal}
-use Rattle.std.specs.List.{list_all}
-use Rattle.sip_lex.specs.Bytes.{is_token_byte}
+use Rattle.sip_via.proofs.Common.{◌≡◌, ◌∷◌, ℕ, true, subst, decimal, list_all, is_token_byte}
 use Rattle.sip_via.proofs.laws.Tokens.{token_of}
 use Rattle.sip_via.proofs.branch.BranchName.is_token.Goals as goal
 

@@ -1,0 +1,43 @@
+-- The names that most proofs of this crate cite, passed on from one place. Declares nothing.
+pub use Rattle.std.proofs.Common.{Bool, List, None, Option, Some, [], ap, arith, cond, false, fold, inl, inr, is_none, length, length-append, map, min, not, refl, replicate, slice_get, slice_set, subst, suc, sym, take, true, zero, ℕ, ◌&&◌}
+pub use Rattle.std.proofs.Common.{◌++◌, ◌+◌, ◌<◌, ◌==◌, ◌∙◌, ◌∷◌, ◌≡◌, ◌≤◌, ◌⊎◌}
+pub use Rattle.std.proofs.lemmas.Bool.{cases_lt, eqb-true, le-leb, leb-false, lt-leb}
+pub use Rattle.std.proofs.lemmas.Option.{slice_get_within}
+pub use Rattle.std.specs.List.{list_any}
+pub use Rattle.fork_book.specs.Log.{Log, Posted, added, table_of}
+pub use Rattle.fork_call.specs.Carry.{Carries, CarriesAll, Carrying, IsCutOff, IsRunOut, IsSoFar, Lost, Sends, SendsOne, Sent, Silent}
+pub use Rattle.fork_call.specs.Scheduled.{due_of, if_runs, leg_waits, moments_of, row_due, scheduled}
+pub use Rattle.fork_call.specs.Timing.{IsTimed}
+pub use Rattle.fork_call.specs.inner.Scheduled.{IsTimedBut, comes_before, least_of, moment_at}
+pub use Rattle.fork_call.specs.inner.SeenDeed.{seen_deed}
+pub use Rattle.fork_call.specs.inner.Timing.{retimed, room_for, row_moment, row_of_cause, row_of_deed, row_of_recipient, timed}
+pub use Rattle.fork_model.specs.Core.{Core}
+pub use Rattle.fork_model.specs.Event.{Event, row_named}
+pub use Rattle.fork_model.specs.OpenBranches.{OthersAreLeft}
+pub use Rattle.fork_model.specs.Reply.{Reply}
+pub use Rattle.fork_model.specs.Sources.{BecameIsExact, IsNumberIn}
+pub use Rattle.fork_model.specs.Step.{next}
+pub use Rattle.fork_model.specs.Steps.{PositionsAreBounded}
+pub use Rattle.fork_model.specs.Table.{Row, Table, is_cancelled, is_finished, is_row, is_trying, most_targets}
+pub use Rattle.fork_parts.proofs.laws.Logs.{table_added}
+pub use Rattle.fork_parts.specs.Built.{Datagram, answer_of, status_of}
+pub use Rattle.fork_parts.specs.Call.{Call, found, give_up_of, lacks_cancel, leg_at, owes_ack_on, rows_of, runs_timer_c}
+pub use Rattle.fork_parts.specs.Due.{Deed, FireTimerC, GiveUp, IsIdle, IsLeastDue, IsOver, SendAck, SendAnswer, SendCancel, SendRequest, TickCancel, TickClient, TickServer, cancel_at, cancel_client_due, client_at, give_up_at, is_any, is_due_at}
+pub use Rattle.fork_parts.specs.Due.{timer_c_at}
+pub use Rattle.fork_parts.specs.Failed.{Fails, FaultsBy, FaultsClient, cancel_faulted}
+pub use Rattle.fork_parts.specs.Fixed.{Way}
+pub use Rattle.fork_parts.specs.Leg.{Leg}
+pub use Rattle.fork_parts.specs.Posting.{Posts, call_tag}
+pub use Rattle.fork_parts.specs.Pump.{AnswersBy, AnswersWith, Did, Does, FiresTimerC, Idle, Pumped, Pumps, Send, SendsAnswer, TicksClientBy}
+pub use Rattle.fork_parts.specs.Response.{is_redirection}
+pub use Rattle.fork_parts.specs.SeenStep.{pumped}
+pub use Rattle.fork_parts.specs.Server.{Owed, served_due}
+pub use Rattle.fork_parts.specs.Sound.{IsSound, StepsKeepSound}
+pub use Rattle.fork_parts.specs.Take.{Recipient, TakesAs}
+pub use Rattle.fork_parts.specs.declared.cause.Cause.{Cause}
+pub use Rattle.fork_routing.specs.Opening.{Opens}
+pub use Rattle.fork_routing.specs.SeenRecipient.{seen_recipient}
+pub use Rattle.sip_text.specs.Text.{MessageText}
+pub use Rattle.sip_txn.specs.Timers.{earlier, is_due}
+pub use Rattle.sip_uri.specs.Contact.{ContactText}
+pub use Rattle.sip_uri.specs.declared.hop.Hop.{Hop}

@@ -1,0 +1,4 @@
+pub mod Ending
+pub mod Scheduled
+pub mod SeenDeed
+pub mod Timing

@@ -1,0 +1,95 @@
+-- What is done to the rows of a tree is done to the rows of its table.
+use Rattle.fork_context.proofs.Common.{◌≡◌, ℕ, zero, suc, List, [], ◌∷◌, ◌++◌, length, map, refl, ap, arith, Offer, Challenge, Stored, Taken, Silent, Never, Accepted, End, State, Idle, Trying, Rung, Ended, Row, with_state, plain_state}
+use Rattle.fork_context.proofs.Common.{shown, plain_row, RowExtras, end_with_extras, state_with_extras, row_with_extras, with_extras, with_row_extras, tried, never_row, never_state}
+
+plain_extras_state : (state : State) (b : RowExtras) → plain_state (shown (state_with_extras state b)) ≡ plain_state (shown state)
+plain_extras_state Idle b = refl
+plain_extras_state Trying b = refl
+plain_extras_state (Rung cancelled) b = refl
+plain_extras_state (Ended (Stored a)) b = refl
+plain_extras_state (Ended (Taken at)) b = refl
+plain_extras_state (Ended (Silent at)) b = refl
+plain_extras_state (Ended Never) b = refl
+plain_extras_state (Ended (Accepted at)) b = refl
+
+-- the rows of a table without their extras are those of its tree
+pub plain_with_extras : (rows : List Row) (extras : List RowExtras) → map plain_row (with_extras rows extras) ≡ map plain_row rows
+plain_with_extras [] extras = refl
+plain_with_extras (row ∷ rows) [] = ap (λ (rest : List Row). plain_row row ∷ rest) (plain_with_extras rows [])
+plain_with_extras (row ∷ rows) (b ∷ extras) =
+    (λ i. let r : Row = record row { key = []; place = 0; state = plain_extras_state row.state b i } in r ∷ plain_with_extras rows extras i)
+
+pub length-with_extras : (rows : List Row) (extras : List RowExtras) → length (with_extras rows extras) ≡ length rows
+length-with_extras [] extras = refl
+length-with_extras (row ∷ rows) [] = let rest : length (with_extras rows []) ≡ length rows = length-with_extras rows [] in omega arith
+length-with_extras (row ∷ rows) (b ∷ extras) = let rest : length (with_extras rows extras) ≡ length rows = length-with_extras rows extras in omega arith
+
+-- a state that stores no answer
+abbrev pub IsPlain : State → Type 0
+IsPlain state = (b : RowExtras) → state_with_extras state b ≡ state
+
+pub with_extras_state : (rows : List Row) (extras : List RowExtras) (n : ℕ) (state : State) → IsPlain state
+    → with_extras (with_state rows n state) extras ≡ with_state (with_extras rows extras) n state
+with_extras_state [] extras n state plain = refl
+with_extras_state (row ∷ rows) [] zero state plain = refl
+with_extras_state (row ∷ rows) [] (suc n) state plain = ap (λ (rest : List Row). row ∷ rest) (with_extras_state rows [] n state plain)
+with_extras_state (row ∷ rows) (b ∷ extras) zero state plain =
+    (λ i. let r : Row = record row { key = b.key; place = b.place; state = plain b i } in r ∷ with_extras rows extras)
+with_extras_state (row ∷ rows) (b ∷ extras) (suc n) state plain = ap (λ (rest : List Row). row_with_extras row b ∷ rest) (with_extras_state rows extras n state plain)
+
+pub with_extras_tried : (rows : List Row) (extras : List RowExtras) (first count : ℕ)
+    → with_extras (tried rows first count) extras ≡ tried (with_extras rows extras) first count
+with_extras_tried [] extras first count = refl
+with_extras_tried (row ∷ rows) [] zero zero = refl
+with_extras_tried (row ∷ rows) (b ∷ extras) zero zero = refl
+with_extras_tried (row ∷ rows) [] zero (suc count) = ap (λ (rest : List Row). let r : Row = record row { state = Trying } in r ∷ rest) (with_extras_tried rows [] zero count)
+with_extras_tried (row ∷ rows) (b ∷ extras) zero (suc count) =
+    ap (λ (rest : List Row). let r : Row = record row { key = b.key; place = b.place; state = Trying } in r ∷ rest) (with_extras_tried rows extras zero count)
+with_extras_tried (row ∷ rows) [] (suc first) count = ap (λ (rest : List Row). row ∷ rest) (with_extras_tried rows [] first count)
+with_extras_tried (row ∷ rows) (b ∷ extras) (suc first) count = ap (λ (rest : List Row). row_with_extras row b ∷ rest) (with_extras_tried rows extras first count)
+
+never_extras : (state : State) (b : RowExtras) → state_with_extras (never_state state) b ≡ never_state (state_with_extras state b)
+never_extras Idle b = refl
+never_extras Trying b = refl
+never_extras (Rung cancelled) b = refl
+never_extras (Ended end) b = refl
+
+pub with_extras_never : (rows : List Row) (extras : List RowExtras) → with_extras (map never_row rows) extras ≡ map never_row (with_extras rows extras)
+with_extras_never [] extras = refl
+with_extras_never (row ∷ rows) [] = ap (λ (rest : List Row). never_row row ∷ rest) (with_extras_never rows [])
+with_extras_never (row ∷ rows) (b ∷ extras) =
+    (λ i. let r : Row = record row { key = b.key; place = b.place; state = never_extras row.state b i } in r ∷ with_extras_never rows extras i)
+
+pub with_extras_append : (rows more : List Row) (extras fresh : List RowExtras) → length extras ≡ length rows
+    → with_extras (rows ++ more) (extras ++ fresh) ≡ with_extras rows extras ++ with_extras more fresh
+with_extras_append [] more [] fresh same = refl
+with_extras_append [] more (b ∷ extras) fresh same = absurd (omega arith)
+with_extras_append (row ∷ rows) more [] fresh same = absurd (omega arith)
+with_extras_append (row ∷ rows) more (b ∷ extras) fresh same =
+    ap (λ (rest : List Row). row_with_extras row b ∷ rest) (with_extras_append rows more extras fresh (omega arith))
+
+ended_extras : (end : End) (b c : RowExtras) → b.left ≡ c.left → b.challenges ≡ c.challenges → end_with_extras end b ≡ end_with_extras end c
+ended_extras (Stored a) b c l m = (λ i. Stored (record a { left = l i; challenges = m i }))
+ended_extras (Taken at) b c l m = refl
+ended_extras (Silent at) b c l m = refl
+ended_extras Never b c l m = refl
+ended_extras (Accepted at) b c l m = refl
+
+-- a row ends with an answer
+pub with_extras_end : (rows : List Row) (extras : List RowExtras) (n : ℕ) (end : End) (c : RowExtras) → length extras ≡ length rows
+    → with_extras (with_state rows n (Ended end)) (with_row_extras extras n c.left c.challenges) ≡ with_state (with_extras rows extras) n (Ended (end_with_extras end c))
+with_extras_end [] [] n end c same = refl
+with_extras_end [] (b ∷ extras) n end c same = absurd (omega arith)
+with_extras_end (row ∷ rows) [] n end c same = absurd (omega arith)
+with_extras_end (row ∷ rows) (b ∷ extras) zero end c same =
+    let d : RowExtras = record b { left = c.left; challenges = c.challenges } in
+    (λ i. let r : Row = record row { key = b.key; place = b.place; state = Ended (ended_extras end d c refl refl i) } in r ∷ with_extras rows extras)
+with_extras_end (row ∷ rows) (b ∷ extras) (suc n) end c same =
+    ap (λ (rest : List Row). row_with_extras row b ∷ rest) (with_extras_end rows extras n end c (omega arith))
+
+pub length-with_row_extras : (extras : List RowExtras) (n : ℕ) (left : List Offer) (challenges : List Challenge)
+    → length (with_row_extras extras n left challenges) ≡ length extras
+length-with_row_extras [] n left challenges = refl
+length-with_row_extras (b ∷ extras) zero left challenges = refl
+length-with_row_extras (b ∷ extras) (suc n) left challenges =
+    let rest : length (with_row_extras extras n left challenges) ≡ length extras = length-with_row_extras extras n left challenges in omega arith

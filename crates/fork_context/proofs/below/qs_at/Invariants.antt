@@ -1,6 +1,0 @@
-use Rattle.std.proofs.Common.{◌≡◌, map, take}
-use Rattle.fork_context.specs.Dressed.{q_of_pair}
-use Rattle.fork_context.proofs.below.qs_at.Given as goal
-
-abbrev pub invariant-loop-place : goal.invariant-loop-place
-invariant-loop-place g l = l.ordered.items ≡ map (q_of_pair l.qs) (take l.place-index l.numbered)

@@ -1,0 +1,14 @@
+pub mod Askers
+pub mod ByKey
+pub mod Closing
+pub mod RowExtras
+pub mod EffectInside
+pub mod ForkInside
+pub mod Opening
+pub mod Placed
+pub mod ContactsSoFar
+pub mod Ready
+pub mod RowShown
+pub mod StandIn
+pub mod Stepped
+pub mod ContactOutcome

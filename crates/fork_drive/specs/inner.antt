@@ -1,0 +1,4 @@
+pub mod FaultView
+pub mod Faults
+pub mod ReadView
+pub mod Workers

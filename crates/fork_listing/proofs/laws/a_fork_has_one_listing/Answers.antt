@@ -1,8 +1,0 @@
-use Rattle.fork_listing.proofs.OneListing.{one_ranking, one_listing}
-use Rattle.fork_listing.proofs.laws.a_fork_has_one_listing.Goals as goal
-
-pub returns-clause-ranking : goal.returns-clause-ranking
-returns-clause-ranking c = one_ranking
-
-pub returns-clause-listing : goal.returns-clause-listing
-returns-clause-listing c = one_listing

@@ -1,5 +1,0 @@
-use Rattle.fork_listing.proofs.Meanings.{right_tells}
-use Rattle.fork_listing.proofs.laws.accepted_listing_tells_the_choice.Goals as goal
-
-pub returns-clause-right : goal.returns-clause-right
-returns-clause-right c = right_tells

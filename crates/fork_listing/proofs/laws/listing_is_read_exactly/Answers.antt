@@ -1,9 +1,0 @@
-use Rattle.fork_listing.proofs.SpelledListings.{read_exactly}
-use Rattle.fork_listing.proofs.MalformedLines.{refused_by_first}
-use Rattle.fork_listing.proofs.laws.listing_is_read_exactly.Goals as goal
-
-pub returns-clause-exactly : goal.returns-clause-exactly
-returns-clause-exactly c = read_exactly
-
-pub returns-clause-refused : goal.returns-clause-refused
-returns-clause-refused c = refused_by_first

@@ -1,5 +1,0 @@
-use Rattle.fork_listing.proofs.ListedForks.{listings_right}
-use Rattle.fork_listing.proofs.laws.listings_of_forks_are_right.Goals as goal
-
-pub returns : goal.returns
-returns c = listings_right

@@ -1,0 +1,9 @@
+pub mod HeadView
+pub mod LineView
+pub mod Near
+pub mod ReadView
+pub mod Sorting
+pub mod Spelled
+pub mod Stored
+pub mod Text
+pub mod TreeRows

@@ -1,0 +1,4 @@
+pub mod Line
+pub mod LineReading
+pub mod LineView
+pub mod Reading

@@ -1,0 +1,11 @@
+pub mod Below
+pub mod Changes
+pub mod Closing
+pub mod Falls
+pub mod Given
+pub mod Rows
+pub mod Search
+pub mod NewRows
+pub mod States
+pub mod Summary
+pub mod Tree

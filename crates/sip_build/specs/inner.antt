@@ -1,0 +1,5 @@
+pub mod Forwarding
+pub mod Groups
+pub mod Placed
+pub mod Texts
+pub mod ToTarget

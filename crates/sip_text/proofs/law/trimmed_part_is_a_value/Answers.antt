@@ -1,0 +1,5 @@
+use Rattle.sip_text.proofs.HeaderValues.{trimmed_part}
+use Rattle.sip_text.proofs.law.trimmed_part_is_a_value.Goals as goal
+
+pub returns : goal.returns
+returns c = trimmed_part

@@ -1,0 +1,168 @@
+-- What is read is such as may be written.
+use Rattle.sip_text.proofs.Common.{◌≡◌, ℕ, zero, suc, ◌+◌, ◌-◌, ◌≤◌, Bool, true, false, not, eqb, List, [], ◌∷◌, ◌++◌, length, take, drop, reverse, Option, Some, None, refl, sym, ap, subst, ◌∙◌, inl, inr, arith, ◌&&◌, list_all, flat_map}
+use Rattle.sip_text.proofs.Common.{prefix_len, suffix_len, AllByRecursion, and_parts, cases_Bool, cond_both, cond-true, cond-false, ne_eqb, false≢true, take-append-drop, list_all-append, is_space, is_token, trim, trim_end, trim_start, cut}
+use Rattle.sip_text.proofs.Common.{is, behind, line_in, pieces, cut_joins, cut_lacks, is_header, is_line, is_line_byte, is_trimmed, Group, Headers, Lines, before_group, begins_with_space, closed, header_of, header_of_cut, joined}
+use Rattle.sip_text.proofs.Common.{lines_from, part_text, tail_of_group, tail_of_lines, with_header, with_line, HeaderText}
+use Rattle.std.proofs.Common.{length-drop}
+use Rattle.std.proofs.lemmas.List.{drop_at, length-reverse, reverse-append}
+use Rattle.std.proofs.lemmas.List.Sums.{suffix_len-le-length}
+use Rattle.sip_lex.specs.Cut.{Lacks}
+use Rattle.sip_lex.specs.Line.{line_of_cut}
+use Rattle.sip_lex.proofs.laws.Cuts.{Lacks-front}
+use Rattle.sip_lex.proofs.laws.Splits.{pieces_lack}
+use Rattle.sip_text.specs.Reading.{grouped, headers_at, lines_at, tail_at}
+
+abbrev Cut : Type 0
+Cut = List ℕ × Option (List ℕ)
+
+abbrev is_colon : ℕ → Bool
+is_colon = is 58
+
+pub and_both : (x y : Bool) → x ≡ true → y ≡ true → (x && y) ≡ true
+and_both true y e f = f
+and_both false y e f = absurd (false≢true e)
+
+abbrev pub found : {A : Type 0} → A → Option A
+found x = Some x
+
+pub some_is : {A : Type 0} (x y : A) → found x ≡ found y → x ≡ y
+some_is x y e = cc
+
+-- ---- bytes of lines
+
+pub line_of_lacks : (bs : List ℕ) → Lacks 13 bs → Lacks 10 bs → is_line bs ≡ true
+line_of_lacks [] h k = refl
+line_of_lacks (b ∷ bs) h k =
+    let one : is_line_byte b ≡ true = ap (λ x. not x && not (eqb b 10)) (ne_eqb b 13 h.0) ∙ ap (λ x. not x) (ne_eqb b 10 k.0) in
+    and_both (is_line_byte b) (is_line bs) one (line_of_lacks bs h.1 k.1)
+
+all_parts : (p : ℕ → Bool) (n : ℕ) (bs : List ℕ) → list_all p bs ≡ true → (list_all p (take n bs) ≡ true) × (list_all p (drop n bs) ≡ true)
+all_parts p n bs h = and_parts (list_all p (take n bs)) (list_all p (drop n bs)) (sym (list_all-append p (take n bs) (drop n bs)) ∙ ap (list_all p) (take-append-drop n bs) ∙ h)
+
+pub all_trim : (p : ℕ → Bool) (bs : List ℕ) → list_all p bs ≡ true → list_all p (trim bs) ≡ true
+all_trim p bs h =
+    let s = trim_start bs in
+    (all_parts p (length s - suffix_len is_space s) s (all_parts p (prefix_len is_space bs) bs h).1).0
+
+-- ---- space at the ends
+
+drop_spaces : (bs : List ℕ) → begins_with_space (drop (prefix_len is_space bs) bs) ≡ false
+drop_spaces [] = refl
+drop_spaces (b ∷ bs) =
+    cond_both (is_space b) (1 + prefix_len is_space bs) 0 (λ n. begins_with_space (drop n (b ∷ bs)) ≡ false)
+    (λ e. ap (λ n. begins_with_space (drop n (b ∷ bs))) (let k : 1 + prefix_len is_space bs ≡ suc (prefix_len is_space bs) = omega arith in k) ∙ drop_spaces bs)
+    (λ e. e)
+
+take_no_space : (n : ℕ) (bs : List ℕ) → begins_with_space bs ≡ false → begins_with_space (take n bs) ≡ false
+take_no_space zero bs h = refl
+take_no_space (suc n) [] h = refl
+take_no_space (suc n) (b ∷ bs) h = h
+
+reverse_take : (k : ℕ) (bs : List ℕ) → k ≤ length bs → reverse (take (length bs - k) bs) ≡ drop k (reverse bs)
+reverse_take k bs le =
+    let m = length bs - k in
+    let len : length (reverse (drop m bs)) ≡ k = length-reverse (drop m bs) ∙ length-drop m bs ∙ omega arith in
+    sym (ap (λ (x : List ℕ). drop k (reverse x)) (sym (take-append-drop m bs)) ∙ ap (drop k) (reverse-append (take m bs) (drop m bs)) ∙ drop_at (reverse (drop m bs)) (reverse (take m bs)) k len)
+
+pub trim_front : (bs : List ℕ) → begins_with_space (trim bs) ≡ false
+trim_front bs = let s = trim_start bs in take_no_space (length s - suffix_len is_space s) s (drop_spaces bs)
+
+pub trim_trimmed : (bs : List ℕ) → is_trimmed (trim bs) ≡ true
+trim_trimmed bs =
+    let s = trim_start bs in
+    let front : begins_with_space (trim bs) ≡ false = trim_front bs in
+    let back : begins_with_space (reverse (trim bs)) ≡ false = ap begins_with_space (reverse_take (suffix_len is_space s) s (suffix_len-le-length is_space s)) ∙ drop_spaces (reverse s) in
+    ap (λ x. not x && not (begins_with_space (reverse (trim bs)))) front ∙ ap (λ x. not x) back
+
+-- ---- headers
+
+parts_line : (parts : List (List ℕ)) → list_all is_line parts ≡ true → is_line (flat_map part_text parts) ≡ true
+parts_line [] h = refl
+parts_line (part ∷ parts) h =
+    let each = and_parts (is_line part) (list_all is_line parts) h in
+    list_all-append is_line_byte part (flat_map part_text parts) ∙ and_both (is_line part) (is_line (flat_map part_text parts)) each.0 (parts_line parts each.1)
+
+joined_line : (value : List ℕ) (parts : List (List ℕ)) → is_line value ≡ true → list_all is_line parts ≡ true → is_line (joined value parts) ≡ true
+joined_line value parts h k =
+    all_trim is_line_byte (value ++ flat_map part_text parts) (list_all-append is_line_byte value (flat_map part_text parts) ∙ and_both (is_line value) (is_line (flat_map part_text parts)) h (parts_line parts k))
+
+-- what stands behind a byte of a line is one
+pub behind_line : (line front raw : List ℕ) (b : ℕ) → line ≡ front ++ b ∷ raw → is_line line ≡ true → is_line raw ≡ true
+behind_line line front raw b e h =
+    let back = (and_parts (is_line front) (is_line (b ∷ raw)) (sym (list_all-append is_line_byte front (b ∷ raw)) ∙ ap is_line (sym e) ∙ h)).1 in
+    (and_parts (is_line_byte b) (is_line raw) back).1
+
+header_good : (line : List ℕ) (c : Cut) (parts : List (List ℕ)) (h : HeaderText) → line ≡ c.0 ++ behind 58 c.1 → is_line line ≡ true → list_all is_line parts ≡ true → header_of_cut c parts ≡ Some h → is_header h ≡ true
+header_good line (front, None) parts h e l p read = absurd cc
+header_good line (front, Some raw) parts h e l p read =
+    let kept : HeaderText = record { name = trim_end front; value = joined (trim raw) parts } in
+    elim (cases_Bool (is_token (trim_end front))) [
+      | inl token ↦
+          let good : is_header kept ≡ true = and_both (is_token (trim_end front)) _ token (and_both (is_line kept.value) (is_trimmed kept.value) (joined_line (trim raw) parts (all_trim is_line_byte raw (behind_line line front raw 58 e l)) p) (trim_trimmed (trim raw ++ flat_map part_text parts))) in
+          subst (λ (x : HeaderText). is_header x ≡ true) (some_is kept h (sym (cond-true _ _ _ token) ∙ read)) good
+      | inr none ↦ let wrong : None ≡ found h = sym (cond-false _ _ _ none) ∙ read in absurd cc
+    ]
+
+pub record GoodGroup (g : Group) : Type 0 where
+  pub parts : list_all is_line g.0 ≡ true
+  pub headers : list_all is_header g.1 ≡ true
+
+with_header_good : (o : Option HeaderText) (hs : List HeaderText) (g : Group) → ((h : HeaderText) → o ≡ Some h → is_header h ≡ true) → list_all is_header hs ≡ true → with_header o hs ≡ Some g → GoodGroup g
+with_header_good None hs g good all read = absurd cc
+with_header_good (Some h) hs g good all read = subst GoodGroup (some_is ([], h ∷ hs) g read) (record { parts = refl; headers = and_both (is_header h) (list_all is_header hs) (good h refl) all })
+
+before_good : (line : List ℕ) (o : Option Group) (g : Group) → is_line line ≡ true → ((later : Group) → o ≡ Some later → GoodGroup later) → before_group line o ≡ Some g → GoodGroup g
+before_good line None g l good read = absurd cc
+before_good line (Some later) g l good read =
+    let kept = good later refl in
+    elim (cases_Bool (begins_with_space line)) [
+      | inl space ↦
+          subst GoodGroup (some_is (trim line ∷ later.0, later.1) g (sym (cond-true _ _ _ space) ∙ read)) (record { parts = and_both (is_line (trim line)) (list_all is_line later.0) (all_trim is_line_byte line l) kept.parts; headers = kept.headers })
+      | inr none ↦
+          with_header_good (header_of line later.0) later.1 g (λ h e. header_good line (cut is_colon line) later.0 h (cut_joins 58 line) l kept.parts e) kept.headers (sym (cond-false _ _ _ none) ∙ read)
+    ]
+
+pub grouped_good : (lines : List (List ℕ)) (g : Group) → list_all is_line lines ≡ true → grouped lines ≡ Some g → GoodGroup g
+unfolding grouped
+grouped_good [] g l read = subst GoodGroup (some_is ([], []) g read) (record { parts = refl; headers = refl })
+grouped_good (line ∷ lines) g l read =
+    let both = and_parts (is_line line) (list_all is_line lines) l in
+    before_good line (grouped lines) g both.0 (λ later e. grouped_good lines later both.1 e) read
+
+-- ---- lines
+
+line_of_cut_is : (piece line : List ℕ) (c : Cut) → Lacks 10 piece → piece ≡ c.0 ++ behind 13 c.1 → Lacks 13 c.0 → line_of_cut c ≡ Some line → is_line line ≡ true
+line_of_cut_is piece line (l, None) h e k read = absurd cc
+line_of_cut_is piece line (l, Some (b ∷ bs)) h e k read = absurd cc
+line_of_cut_is piece line (l, Some []) h e k read = subst (λ (x : List ℕ). is_line x ≡ true) (some_is l line read) (line_of_lacks l k (Lacks-front 10 l (13 ∷ []) (subst (λ (x : List ℕ). Lacks 10 x) e h)))
+
+with_line_good : (line : List ℕ) (later : Option Lines) (x : Lines) → is_line line ≡ true → ((y : Lines) → later ≡ Some y → list_all is_line y.0 ≡ true) → with_line line later ≡ Some x → list_all is_line x.0 ≡ true
+with_line_good line None x l good read = absurd cc
+with_line_good line (Some y) x l good read = ap (λ (z : Lines). list_all is_line z.0) (sym (some_is (line ∷ y.0, y.1) x read)) ∙ and_both (is_line line) (list_all is_line y.0) l (good y refl)
+
+lines_from_good : (line : Option (List ℕ)) (later : Option Lines) (behind : List (List ℕ)) (x : Lines) → ((l : List ℕ) → line ≡ Some l → is_line l ≡ true) → ((y : Lines) → later ≡ Some y → list_all is_line y.0 ≡ true) → lines_from line later behind ≡ Some x → list_all is_line x.0 ≡ true
+lines_from_good None later behind x l good read = absurd cc
+lines_from_good (Some []) later behind x l good read = ap (λ (z : Lines). list_all is_line z.0) (sym (some_is ([], behind) x read))
+lines_from_good (Some (b ∷ bs)) later behind x l good read = with_line_good (b ∷ bs) later x (l (b ∷ bs) refl) good read
+
+pub lines_good : (ps : List (List ℕ)) (x : Lines) → AllByRecursion (Lacks 10) ps → lines_at ps ≡ Some x → list_all is_line x.0 ≡ true
+unfolding lines_at
+lines_good [] x h read = absurd cc
+lines_good (piece ∷ []) x h read = absurd cc
+lines_good (piece ∷ next ∷ more) x h read =
+    lines_from_good (line_in piece) (lines_at (next ∷ more)) (next ∷ more) x (λ l e. line_of_cut_is piece l (cut (is 13) piece) h.0 (cut_joins 13 piece) (cut_lacks 13 piece) e) (λ y e. lines_good (next ∷ more) y h.1 e) read
+
+-- ---- the headers of a text
+
+closed_group : (o : Option Group) (rest : List (List ℕ)) (x : Headers) → ((g : Group) → o ≡ Some g → GoodGroup g) → closed (tail_of_group o rest) ≡ Some x → list_all is_header x.0 ≡ true
+closed_group None rest x good read = absurd cc
+closed_group (Some (part ∷ parts, hs)) rest x good read = absurd cc
+closed_group (Some ([], hs)) rest x good read = ap (λ (z : Headers). list_all is_header z.0) (sym (some_is (hs, rest) x read)) ∙ (good ([], hs) refl).headers
+
+closed_lines : (o : Option Lines) (x : Headers) → ((y : Lines) → o ≡ Some y → list_all is_line y.0 ≡ true) → closed (tail_of_lines o) ≡ Some x → list_all is_header x.0 ≡ true
+closed_lines None x good read = absurd cc
+closed_lines (Some y) x good read = closed_group (grouped y.0) y.1 x (λ g e. grouped_good y.0 g (good y refl) e) read
+
+pub headers_good : (text : List ℕ) (x : Headers) → headers_at text ≡ Some x → list_all is_header x.0 ≡ true
+unfolding headers_at tail_at
+headers_good text x read = closed_lines (lines_at (pieces 10 text)) x (λ y e. lines_good (pieces 10 text) y (pieces_lack 10 text) e) read

@@ -1,5 +1,0 @@
-use Rattle.sip_text.proofs.Spelled.{read_again}
-use Rattle.sip_text.proofs.laws.round_trip.Goals as goal
-
-pub returns : goal.returns
-returns c = read_again

@@ -1,5 +1,0 @@
-use Rattle.sip_text.proofs.Spelled.{spelled}
-use Rattle.sip_text.proofs.laws.spelling_is_text.Goals as goal
-
-pub returns : goal.returns
-returns c = spelled

@@ -1,0 +1,4 @@
+pub mod Found
+pub mod Hosts
+pub mod Only
+pub mod Values

@@ -1,0 +1,8 @@
+pub mod Checked
+pub mod Hop
+pub mod Host
+pub mod Key
+pub mod Progress
+pub mod Seen
+pub mod SeenContact
+pub mod Tail

@@ -1,0 +1,4 @@
+pub mod BranchParts
+pub mod Edits
+pub mod Fronts
+pub mod SeenParts
