@@ -1,63 +1,73 @@
--- New rows, with their extras, are the rows that a redirection adds.
-use Rattle.fork_context.proofs.Common.{◌≡◌, ℕ, zero, suc, true, List, [], ◌∷◌, length, map, Option, Some, None, unwrap_or, refl, ap, arith, ◌∙◌, sym, slice_get, is_some, option_map, filter_map, cons_option, length-map, Offer, Row, Idle}
-use Rattle.fork_context.proofs.Common.{numbered, fresh_row, fresh_rows, AllPlaces, numbered_places, length_numbered_all, NewRow, waiting_row, new_rows_of, with_extras, row_extras_of, row_extras_at, contact_qs, q_at, q_of_pair}
-use Rattle.fork_context.proofs.NewRowGroups.{group_and_q, group_of_pair, new_rows_numbered, length_new_rows}
+-- New rows, with their extras, are the rows that a redirection adds, and those that a request opens with.
+use Rattle.fork_context.proofs.Common.{◌≡◌, ℕ, zero, suc, true, List, [], ◌∷◌, length, map, Option, Some, None, refl, ap, ◌∙◌, sym, slice_get, is_some, option_map, filter_map, cons_option, length-map, Offer, Row, Idle, numbered}
+use Rattle.fork_context.proofs.Common.{fresh_row, fresh_rows, AllPlaces, numbered_places, NewRow, waiting_row, new_rows_of, RowExtras, with_extras, row_extras_of, row_extras_at, contact_qs, q_at, q_of_pair}
+use Rattle.std.proofs.lemmas.List.{map-id}
+use Rattle.fork_context.proofs.NewRowGroups.{group_and_q, group_of_pair, new_rows_numbered, length_new_rows, length_in_order}
 
-contact_there : (fresh : List (ℕ × Offer)) (place : ℕ) → is_some (slice_get (contact_qs fresh) place) ≡ true
-    → (f : ℕ × Offer) × (slice_get fresh place ≡ Some f) × (q_at (contact_qs fresh) place ≡ f.1.q)
-contact_there [] place e = absurd cc
-contact_there (f ∷ fresh) zero e = (f, refl, refl)
-contact_there (f ∷ fresh) (suc place) e = contact_there fresh place e
+-- what stands at a place
+there_at : {X : Type 0} (q : X → ℕ) (xs : List X) (place : ℕ) → is_some (slice_get (map q xs) place) ≡ true
+    → (x : X) × (slice_get xs place ≡ Some x) × (q_at (map q xs) place ≡ q x)
+there_at q [] place e = absurd cc
+there_at q (x ∷ xs) zero e = (x, refl, refl)
+there_at q (x ∷ xs) (suc place) e = there_at q xs place e
 
-one_row : (n : ℕ) (fresh : List (ℕ × Offer)) (pairs : List (ℕ × ℕ)) (new_rows : List NewRow) → AllPlaces (contact_qs fresh) pairs
-    → map group_and_q new_rows ≡ map (group_of_pair (contact_qs fresh)) pairs
-    → with_extras (map (waiting_row (Some n)) new_rows) (filter_map (row_extras_at fresh) pairs)
-    ≡ filter_map (λ p. option_map (λ f. fresh_row n p.0 f) (slice_get fresh p.1)) pairs
-one_row n fresh [] [] there same = refl
-one_row n fresh [] (s ∷ new_rows) there same = absurd cc
-one_row n fresh (p ∷ pairs) [] there same = absurd cc
-one_row n fresh (p ∷ pairs) (s ∷ new_rows) there same =
-    let f = contact_there fresh p.1 there.0 in
-    let head : group_and_q s ≡ group_of_pair (contact_qs fresh) p = cc in
-    let tail : map group_and_q new_rows ≡ map (group_of_pair (contact_qs fresh)) pairs = cc in
-    let group : s.group ≡ p.0 = ap (λ (x : ℕ × ℕ). x.0) head in
-    let q : s.q ≡ f.0.1.q = ap (λ (x : ℕ × ℕ). x.1) head ∙ f.2 in
-    let rest : with_extras (map (waiting_row (Some n)) new_rows) (filter_map (row_extras_at fresh) pairs)
-    ≡ filter_map (λ p. option_map (λ f. fresh_row n p.0 f) (slice_get fresh p.1)) pairs = one_row n fresh pairs new_rows there.1 tail in
-    ap (λ (o : Option (ℕ × Offer)). with_extras (waiting_row (Some n) s ∷ map (waiting_row (Some n)) new_rows)
-    (cons_option (option_map row_extras_of o) (filter_map (row_extras_at fresh) pairs))) f.1
-    ∙ (λ i. (let r : Row = record { key = unwrap_or f.0.1.key []; q = q i; place = f.0.0; parent = Some n; group = group i; state = Idle } in r) ∷ rest i)
-    ∙ sym (ap (λ (o : Option (ℕ × Offer)). cons_option (option_map (λ (x : ℕ × Offer). fresh_row n p.0 x) o) (filter_map (λ p. option_map (λ f. fresh_row n p.0 f) (slice_get fresh p.1)) pairs)) f.1)
+abbrev pub extras_by : {X : Type 0} → (ℕ → X → RowExtras) → List X → ℕ × ℕ → Option RowExtras
+extras_by extras xs p = option_map (extras p.1) (slice_get xs p.1)
+
+abbrev pub rows_by : {X : Type 0} → (ℕ × ℕ → X → Row) → List X → ℕ × ℕ → Option Row
+rows_by row xs p = option_map (row p) (slice_get xs p.1)
+
+-- each new row with its extras is the row that is made of what stands at its place
+pub rows_made : {X : Type 0} (q : X → ℕ) (extras : ℕ → X → RowExtras) (row : ℕ × ℕ → X → Row) (after : Row → Row) (parent : Option ℕ)
+    → ((p : ℕ × ℕ) (x : X) → record { key = (extras p.1 x).key; q = q x; place = (extras p.1 x).place; parent = parent; group = p.0; state = Idle }
+    ≡ after (row p x))
+    → (xs : List X) (pairs : List (ℕ × ℕ)) (new_rows : List NewRow) → AllPlaces (map q xs) pairs
+    → map group_and_q new_rows ≡ map (group_of_pair (map q xs)) pairs
+    → with_extras (map (waiting_row parent) new_rows) (filter_map (extras_by extras xs) pairs) ≡ map after (filter_map (rows_by row xs) pairs)
+rows_made q extras row after parent one xs [] [] there same = refl
+rows_made q extras row after parent one xs [] (s ∷ new_rows) there same = absurd cc
+rows_made q extras row after parent one xs (p ∷ pairs) [] there same = absurd cc
+rows_made q extras row after parent one xs (p ∷ pairs) (s ∷ new_rows) there same =
+    let x = there_at q xs p.1 there.0 in
+    let b : RowExtras = extras p.1 x.0 in
+    let head : group_and_q s ≡ group_of_pair (map q xs) p = cc in
+    let tail : map group_and_q new_rows ≡ map (group_of_pair (map q xs)) pairs = cc in
+    let group : s.group ≡ p.0 = ap (λ (y : ℕ × ℕ). y.0) head in
+    let value : s.q ≡ q x.0 = ap (λ (y : ℕ × ℕ). y.1) head ∙ x.2 in
+    let rest = rows_made q extras row after parent one xs pairs new_rows there.1 tail in
+    let made : List Row = map (waiting_row parent) new_rows in
+    ap (λ o. with_extras (waiting_row parent s ∷ made) (cons_option (option_map (extras p.1) o) (filter_map (extras_by extras xs) pairs))) x.1
+    ∙ (λ i. (let r : Row = record { key = b.key; q = value i; place = b.place; parent = parent; group = group i; state = Idle } in r) ∷ rest i)
+    ∙ ap (λ (r : Row). r ∷ map after (filter_map (rows_by row xs) pairs)) (one p x.0)
+    ∙ sym (ap (λ o. map after (cons_option (option_map (row p) o) (filter_map (rows_by row xs) pairs))) x.1)
+
+-- there are extras for each
+pub length_extras : {X : Type 0} (q : X → ℕ) (extras : ℕ → X → RowExtras) (xs : List X) (pairs : List (ℕ × ℕ)) → AllPlaces (map q xs) pairs
+    → length (filter_map (extras_by extras xs) pairs) ≡ length pairs
+length_extras q extras xs [] there = refl
+length_extras q extras xs (p ∷ pairs) there =
+    let x = there_at q xs p.1 there.0 in
+    ap (λ o. length (cons_option (option_map (extras p.1) o) (filter_map (extras_by extras xs) pairs))) x.1
+    ∙ ap suc (length_extras q extras xs pairs there.1)
 
 -- the contacts in the order in which they are tried, as rows that wait, with their extras
 pub added_rows : (n : ℕ) (fresh : List (ℕ × Offer))
-    → with_extras (map (waiting_row (Some n)) (new_rows_of (map (q_of_pair (contact_qs fresh)) (numbered (contact_qs fresh))))) (filter_map (row_extras_at fresh) (numbered (contact_qs fresh)))
+    → with_extras (map (waiting_row (Some n)) (new_rows_of (map (q_of_pair (contact_qs fresh)) (numbered (contact_qs fresh)))))
+    (filter_map (row_extras_at fresh) (numbered (contact_qs fresh)))
     ≡ fresh_rows n fresh
 added_rows n fresh =
-    one_row n fresh (numbered (contact_qs fresh)) (new_rows_of (map (q_of_pair (contact_qs fresh)) (numbered (contact_qs fresh))))
-    (numbered_places (contact_qs fresh)) (new_rows_numbered (contact_qs fresh))
-
-all_row_extras : (fresh : List (ℕ × Offer)) (pairs : List (ℕ × ℕ)) → AllPlaces (contact_qs fresh) pairs → length (filter_map (row_extras_at fresh) pairs) ≡ length pairs
-all_row_extras fresh [] there = refl
-all_row_extras fresh (p ∷ pairs) there =
-    let f = contact_there fresh p.1 there.0 in
-    let rest : length (filter_map (row_extras_at fresh) pairs) ≡ length pairs = all_row_extras fresh pairs there.1 in
-    ap (λ (o : Option (ℕ × Offer)). length (cons_option (option_map row_extras_of o) (filter_map (row_extras_at fresh) pairs))) f.1 ∙ more rest
-  where
-    more : {n m : ℕ} → n ≡ m → suc n ≡ suc m
-    more e = ap suc e
+    let qs = contact_qs fresh in
+    rows_made (λ f. f.1.q) (λ place f. row_extras_of f) (λ p f. fresh_row n p.0 f) (λ r. r) (Some n) (λ p f. refl) fresh (numbered qs)
+    (new_rows_of (map (q_of_pair qs) (numbered qs))) (numbered_places qs) (new_rows_numbered qs)
+    ∙ map-id (fresh_rows n fresh)
 
 -- as many rows as contacts, and extras for each
 pub added_sizes : (fresh : List (ℕ × Offer))
     → (length (filter_map (row_extras_at fresh) (numbered (contact_qs fresh))) ≡ length (new_rows_of (map (q_of_pair (contact_qs fresh)) (numbered (contact_qs fresh)))))
     × (length (map (q_of_pair (contact_qs fresh)) (numbered (contact_qs fresh))) ≡ length fresh)
 added_sizes fresh =
-    let one : length (filter_map (row_extras_at fresh) (numbered (contact_qs fresh))) ≡ length (numbered (contact_qs fresh)) =
-    all_row_extras fresh (numbered (contact_qs fresh)) (numbered_places (contact_qs fresh)) in
-    let two : length (map (q_of_pair (contact_qs fresh)) (numbered (contact_qs fresh))) ≡ length (numbered (contact_qs fresh)) =
-    length-map (numbered (contact_qs fresh)) (q_of_pair (contact_qs fresh)) in
-    let three : length (new_rows_of (map (q_of_pair (contact_qs fresh)) (numbered (contact_qs fresh)))) ≡ length (map (q_of_pair (contact_qs fresh)) (numbered (contact_qs fresh))) =
-    length_new_rows None 0 0 (map (q_of_pair (contact_qs fresh)) (numbered (contact_qs fresh))) in
-    let four : length (numbered (contact_qs fresh)) ≡ length (contact_qs fresh) = length_numbered_all (contact_qs fresh) in
-    let five : length (contact_qs fresh) ≡ length fresh = length-map fresh (λ f. f.1.q) in
-    (omega arith, omega arith)
+    let qs = contact_qs fresh in (
+      length_extras (λ f. f.1.q) (λ place f. row_extras_of f) fresh (numbered qs) (numbered_places qs)
+          ∙ sym (length_new_rows None 0 0 (map (q_of_pair qs) (numbered qs)) ∙ length-map (numbered qs) (q_of_pair qs)),
+      length_in_order qs ∙ length-map fresh (λ f. f.1.q),
+    )

@@ -1,7 +1,6 @@
 -- The numbers by key, where one more is put in its place, and where a key is looked up.
-use Rattle.fork_context.proofs.Common.{◌≡◌, eqb-true, ltb-true, ℕ, zero, suc, ◌<◌, ◌≤◌, Bool, true, false, List, [], ◌∷◌, ◌++◌, length, get_or, Option, Some, None, refl, ap, arith, ◌∙◌, sym, subst, inl, inr, nat_eq, cond, slice_get, ◌||◌}
-use Rattle.fork_context.proofs.Common.{◌==◌, nat_lt, insert, list_any, pointwise, Offer, Challenge, RowExtras, with_row_extras, key_at, IsByKey, is_before, Parted, found_at}
-use Rattle.std.proofs.Common.{ltb-false}
+use Rattle.fork_context.proofs.Common.{◌≡◌, eqb-true, ℕ, zero, suc, ◌<◌, ◌≤◌, Bool, true, false, List, [], ◌∷◌, ◌++◌, length, get_or, Option, Some, None, refl, ap, arith, ◌∙◌, sym, subst, inl, inr, nat_eq, cond, slice_get, ◌||◌}
+use Rattle.fork_context.proofs.Common.{◌==◌, insert, list_any, pointwise, Offer, Challenge, RowExtras, with_row_extras, key_at, IsByKey, is_before, Parted, found_at}
 use Rattle.std.specs.Prelude.{slice_index_or, is_ok, IsOk, Result, Ok, Err}
 use Rattle.std.specs.List.Sorted.{IsPartitionedBy, IsPartitionPoint}
 use Rattle.std.specs.Cmp.Lexicographic.{slice_cmp, lists_ties}
@@ -9,7 +8,9 @@ use Rattle.std.specs.declared.cmp.Ordering.{Ordering}
 use Rattle.std.specs.declared.cmp.Ordering.TheVariants.{Less, Equal, Greater}
 use Rattle.std.specs.Ordering.{nat_cmp, is_gt, is_lt, is_eq, eq_by_cmp, ordering_reverse}
 use Rattle.std.proofs.lemmas.Cmp.{nat_list_cmp_total, alike_right}
-use Rattle.std.proofs.lemmas.Bool.{false≢true}
+use Rattle.std.proofs.lemmas.Bool.Decides.{nat_tests}
+use Rattle.std.proofs.Math.Bool.{or-true}
+use Rattle.fork_context.proofs.RowsWithExtras.{length-with_row_extras}
 use Rattle.std.proofs.Math.ListN.{set}
 use Rattle.fork_context.specs.inner.ByKey.{UpTo, AllFrom, Rising, AllBelow, Has}
 
@@ -54,15 +55,7 @@ after_too x k l less up = go (cmp k l) refl up
     go Greater is up = absurd cc
 
 neq_lt : (i j : ℕ) → i ≤ j → (i == j) ≡ false → i < j
-neq_lt i j le e = go (nat_lt i j) refl
-  where
-    go : (b : Bool) → nat_lt i j ≡ b → i < j
-    go true is = ltb-true i j is
-    go false is =
-        let back : j ≤ i = ltb-false i j is in
-        let same : i ≡ j = omega arith in
-        let yes : (i == i) ≡ true = grind arith in
-        absurd (false≢true (sym e ∙ sym (ap (λ (k : ℕ). i == k) same) ∙ yes))
+neq_lt i j le e = grind (arith, nat_tests)
 
 -- ---- the keys before one, and the others
 
@@ -175,12 +168,19 @@ rising_same old new count (n ∷ ns) same all up = (from ns all.1 up.0, rising_s
     from [] below up = tt
     from (m ∷ ms) below up = (ap is_gt (λ i. cmp (same n all.0 i) (same m below.0 i)) ∙ up.0, from ms below.1 up.1)
 
-pub by_key_behind : (extras more : List RowExtras) (ns : List ℕ) → IsByKey extras (length extras) ns → IsByKey (extras ++ more) (length extras) ns
+by_key_behind : (extras more : List RowExtras) (ns : List ℕ) → IsByKey extras (length extras) ns → IsByKey (extras ++ more) (length extras) ns
 by_key_behind extras more ns is = record {
   known = is.known;
   rising = rising_same extras (extras ++ more) (length extras) ns (key_before extras more) is.known is.rising;
   whole = is.whole;
 }
+
+-- the same, as the table's functions tell of it
+pub by_key_grown : (old more grown : List RowExtras) (ns items : List ℕ) (count : ℕ) → IsByKey old (length old) ns → grown ≡ old ++ more → items ≡ ns
+    → count ≡ length old → IsByKey grown count items
+by_key_grown old more grown ns items count is all kept size =
+    subst (λ (bs : List RowExtras). IsByKey bs count items) (sym all)
+    (subst (λ (n : ℕ). IsByKey (old ++ more) n items) (sym size) (subst (IsByKey (old ++ more) (length old)) (sym kept) (by_key_behind old more ns is)))
 
 -- ---- what is stored changes no key
 
@@ -192,16 +192,10 @@ key_stored (b ∷ extras) zero left challenges (suc n) = refl
 key_stored (b ∷ extras) (suc m) left challenges zero = refl
 key_stored (b ∷ extras) (suc m) left challenges (suc n) = key_stored extras m left challenges n
 
-length_stored : (extras : List RowExtras) (m : ℕ) (left : List Offer) (challenges : List Challenge) → length (with_row_extras extras m left challenges) ≡ length extras
-length_stored [] m left challenges = refl
-length_stored (b ∷ extras) zero left challenges = refl
-length_stored (b ∷ extras) (suc m) left challenges = ap suc (length_stored extras m left challenges)
-
 pub by_key_stored : (extras : List RowExtras) (ns : List ℕ) (m : ℕ) (left : List Offer) (challenges : List Challenge) → IsByKey extras (length extras) ns
     → IsByKey (with_row_extras extras m left challenges) (length (with_row_extras extras m left challenges)) ns
 by_key_stored extras ns m left challenges is =
-    let P : ℕ → Type 0 = λ count. IsByKey (with_row_extras extras m left challenges) count ns in
-    subst P (sym (length_stored extras m left challenges)) (record {
+    subst (λ (count : ℕ). IsByKey (with_row_extras extras m left challenges) count ns) (sym (length-with_row_extras extras m left challenges)) (record {
       known = is.known;
       rising = rising_same extras (with_row_extras extras m left challenges) (length extras) ns (λ n lt. key_stored extras m left challenges n) is.known is.rising;
       whole = is.whole;
@@ -273,11 +267,7 @@ some_any : (extras : List RowExtras) (x : List ℕ) (n : ℕ) → n < length ext
 some_any [] x n lt e = absurd (omega arith)
 some_any (b ∷ extras) x zero lt e = ap (λ (c : Bool). c || list_any (λ b. pointwise nat_eq x b.key) extras) e
 some_any (b ∷ extras) x (suc n) lt e =
-    ap (λ (c : Bool). pointwise nat_eq x b.key || c) (some_any extras x n (omega arith) e) ∙ or_true (pointwise nat_eq x b.key)
-  where
-    or_true : (a : Bool) → (a || true) ≡ true
-    or_true true = refl
-    or_true false = refl
+    ap (λ (c : Bool). pointwise nat_eq x b.key || c) (some_any extras x n (omega arith) e) ∙ or-true (pointwise nat_eq x b.key)
 
 below_there : (count : ℕ) (ns : List ℕ) (p n : ℕ) → AllBelow count ns → slice_get ns p ≡ Some n → n < count
 below_there count [] p n all is = absurd cc

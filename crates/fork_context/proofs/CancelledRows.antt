@@ -1,8 +1,8 @@
 -- A table closes row by row.
-use Rattle.fork_context.proofs.Common.{◌≡◌, ℕ, zero, suc, ◌+◌, ◌<◌, Bool, true, false, List, [], ◌∷◌, ◌++◌, length, map, Option, Some, None, refl, ap, arith, ◌∙◌, sym, add-one, slice_get, ◌&&◌, filter, option_map, slice_get-map, Kind, Row}
+use Rattle.fork_context.proofs.Common.{◌≡◌, ℕ, zero, suc, ◌+◌, ◌<◌, Bool, true, false, List, [], ◌∷◌, ◌++◌, length, map, Option, Some, None, refl, ap, ◌∙◌, sym, add-one, slice_get, ◌&&◌, filter, option_map, slice_get-map, Kind, Row}
 use Rattle.fork_context.proofs.Common.{Table, State, Idle, Trying, Rung, Ended, is_row, is_invite, numbers_below, with_state, is_ringing, never_state, never_row, gets_cancel}
-use Rattle.fork_context.proofs.Numbers.{filter_same}
-use Rattle.fork_context.proofs.NumberSteps.{numbers_more, numbers_same}
+use Rattle.fork_context.proofs.Numbers.{filter_same, numbers_more, numbers_same}
+use Rattle.fork_context.proofs.StepTaken.{some_row}
 use Rattle.fork_context.proofs.ClosingRows.{cancelled_to, cancelled_more, cancelled_same}
 
 -- a row not gone through yet is as it was
@@ -15,23 +15,18 @@ pub none_gone : (kind : Kind) (rows : List Row) → cancelled_to 0 kind rows ≡
 none_gone kind [] = refl
 none_gone kind (row ∷ rows) = refl
 
-found_row : (rows : List Row) (n : ℕ) → n < length rows → (row : Row) × (slice_get rows n ≡ Some row)
-found_row [] n lt = absurd (omega arith)
-found_row (row ∷ rows) zero lt = (row, refl)
-found_row (row ∷ rows) (suc n) lt = found_row rows n (omega arith)
-
 -- one row further, where it gets its CANCEL and where it does not
 pub gone_more : (kind : Kind) (n : ℕ) (rows : List Row) → n < length rows → gets_cancel kind rows n ≡ true
     → with_state (cancelled_to n kind rows) n (Rung true) ≡ cancelled_to (n + 1) kind rows
 gone_more kind n rows lt e =
-    let row = found_row rows n lt in
+    let row = some_row rows n lt in
     cancelled_more kind n rows row.0 row.1 (sym (ap (λ (o : Option Row). is_row is_ringing o && is_invite kind) row.1) ∙ e)
     ∙ ap (λ (k : ℕ). cancelled_to k kind rows) (sym (add-one n))
 
 pub gone_same : (kind : Kind) (n : ℕ) (rows : List Row) → n < length rows → gets_cancel kind rows n ≡ false
     → cancelled_to n kind rows ≡ cancelled_to (n + 1) kind rows
 gone_same kind n rows lt e =
-    let row = found_row rows n lt in
+    let row = some_row rows n lt in
     cancelled_same kind n rows row.0 row.1 (sym (ap (λ (o : Option Row). is_row is_ringing o && is_invite kind) row.1) ∙ e)
     ∙ ap (λ (k : ℕ). cancelled_to k kind rows) (sym (add-one n))
 

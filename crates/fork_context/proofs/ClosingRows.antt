@@ -44,10 +44,8 @@ keeps_closed t event at h = go (change t event at) refl
     go : (c : Option Table) → change t event at ≡ c → IsClosedWhole (next t event at)
     go None is = let P : Table → Type 0 = λ u. IsClosedWhole u in subst P (sym (next_of_stray t event at is)) h
     go (Some u) is =
-        let P : Table → Type 0 = λ u. IsClosedWhole u in
-        subst P (sym (next_of_change t u event at is)) (λ done.
-        let R : Table → Type 0 = λ v. AreClosed u.kind v.rows in
-        subst R (sym (settled_closed u done)) (closed_rows_again u.kind u.rows))
+        subst (λ (u : Table). IsClosedWhole u) (sym (next_of_change t u event at is)) (λ done.
+        subst (λ (v : Table). AreClosed u.kind v.rows) (sym (settled_closed u done)) (closed_rows_again u.kind u.rows))
 
 -- closing is: no row waits, and each that rings is cancelled
 close_in_two : (kind : Kind) (state : State) → cond (is_ringing (never_state state) && is_invite kind) (Rung true) (never_state state) ≡ closed_state kind state

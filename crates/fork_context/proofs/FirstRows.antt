@@ -1,5 +1,5 @@
 -- The row that is first, as the choice names it.
-use Rattle.fork_context.proofs.Common.{◌≡◌, ◌≢◌, eqb-true, ℕ, true, refl, ap, arith, ◌∙◌, sym, subst, inl, inr, ◌⊎◌, nat_eq, false, rules, Option, Some, None, Table, Choice, IsChoice, NoneStored, one_choice, IsSound}
+use Rattle.fork_context.proofs.Common.{◌≡◌, ◌≢◌, eqb-true, ℕ, true, refl, ap, arith, ◌∙◌, sym, subst, inl, inr, ◌⊎◌, nat_eq, false, rules, Option, Some, None, Table, Core, Choice, IsChoice, NoneStored, one_choice, IsSound}
 use Rattle.std.proofs.Common.{IsTrue}
 use Rattle.fork_model.specs.Choice.{Best, Only503, NoAnswer408}
 use Rattle.fork_context.specs.Chosen.{HasFirst}
@@ -33,17 +33,19 @@ eq_refl : (n : ℕ) → nat_eq n n ≡ true
 eq_refl n = search rules
 
 -- in a context: the row of its choice is first, and no other is
-pub first_row : (t : Table) (taken : ℕ) → IsSound t taken → (choice : Choice) → IsChoice t.rules t.rows choice → (m n : ℕ) → row_of choice ≡ Some m
-    → (IsTrue (nat_eq m n) → HasFirst t n) × (HasFirst t n → IsTrue (nat_eq m n))
-first_row t taken sound choice is m n row = (there, only)
+pub first_row : (inside core : Core) → inside ≡ core → IsSound inside.table inside.taken → (choice : Choice)
+    → IsChoice inside.table.rules inside.table.rows choice → (m n : ℕ) → row_of choice ≡ Some m
+    → (IsTrue (nat_eq m n) → HasFirst core.table n) × (HasFirst core.table n → IsTrue (nat_eq m n))
+first_row inside core view sound choice is m n row =
+    subst (λ (x : Core). (IsTrue (nat_eq m n) → HasFirst x.table n) × (HasFirst x.table n → IsTrue (nat_eq m n))) view (there, only)
   where
-    there : IsTrue (nat_eq m n) → HasFirst t n
-    there e = choice_first t n choice is (row ∙ ap Some (eqb-true m n e))
+    there : IsTrue (nat_eq m n) → HasFirst inside.table n
+    there e = choice_first inside.table n choice is (row ∙ ap Some (eqb-true m n e))
 
-    only : HasFirst t n → IsTrue (nat_eq m n)
+    only : HasFirst inside.table n → IsTrue (nat_eq m n)
     only first =
-        let other = first_choice t n first in
-        let same : other.0 ≡ choice = one_choice t.rules t.rows taken sound.apart other.0 choice other.1 is in
+        let other = first_choice inside.table n first in
+        let same : other.0 ≡ choice = one_choice inside.table.rules inside.table.rows inside.taken sound.apart other.0 choice other.1 is in
         let eq : m ≡ n = some_eq m n (sym row ∙ ap row_of (sym same) ∙ other.2) in
         subst (λ k. IsTrue (nat_eq m k)) eq (eq_refl m)
 

@@ -1,13 +1,15 @@
 -- A row ends, and new rows come below it.
 use Rattle.fork_context.proofs.Common.{◌≡◌, ℕ, zero, suc, ◌+◌, ◌<◌, ◌≤◌, Bool, true, List, [], ◌∷◌, ◌++◌, length, map, Option, Some, refl, ap, arith, ◌∙◌, sym, subst, length-append, slice_get, ◌||◌, length-map, Offer, Challenge, State}
-use Rattle.fork_context.proofs.Common.{Ended, Row, most_targets, is_open, is_idle, is_row, with_state, length-state, end_of, plain_state, shown, NewRow, waiting_row, plain_row, RowExtras, end_with_extras, with_extras, with_row_extras}
+use Rattle.fork_context.proofs.Common.{Ended, Row, most_targets, is_open, is_idle, is_row, with_state, length-state, end_of, plain_state, shown, NewRow, waiting_row, plain_row, RowExtras, end_with_extras, with_extras, with_row_extras, Kind, Table, Tree}
 use Rattle.fork_context.proofs.Common.{IsFork, accepts_end}
 use Rattle.fork_model.specs.Table.{is_accepted_end}
 use Rattle.fork_tree.specs.declared.row.End.{End}
 use Rattle.fork_tree.specs.declared.row.End.TheVariants as end
-use Rattle.fork_context.proofs.RowsWithExtras.{with_extras_append, with_extras_end, length-with_row_extras}
-use Rattle.fork_context.proofs.ForkRows.{plain_with, row_there}
-use Rattle.fork_context.proofs.Successes.{succeeded_state, succeeded_more, open_not_accepted}
+use Rattle.fork_context.proofs.RowsWithExtras.{with_extras_append, with_extras_end, length-with_row_extras, length-with_extras}
+use Rattle.std.proofs.lemmas.List.{map-append}
+use Rattle.fork_context.proofs.ForkRows.{table_of, tree_row_passes, plain_with, row_within}
+use Rattle.fork_context.proofs.Replies.{row_of_test}
+use Rattle.fork_context.proofs.Successes.{succeeded_state, succeeded_more, not_accepted}
 
 extras_plain_end : (e : End) (c : RowExtras) → end_with_extras (end_of e [] []) c ≡ end_of e c.left c.challenges
 extras_plain_end (end.Stored status arrival received) c = refl
@@ -43,11 +45,11 @@ ended_rows rows more extras fresh n e left challenges same lt =
     ∙ ap (λ (rs : List Row). rs ++ with_extras more fresh)
     (with_extras_end rows extras n (end_of e [] []) c same ∙ ap (λ x. with_state (with_extras rows extras) n (Ended x)) (extras_plain_end e c))
 
-plain_waiting_row : (parent : Option ℕ) (new_rows : List NewRow) → map plain_row (map (waiting_row parent) new_rows) ≡ map (waiting_row parent) new_rows
+pub plain_waiting_row : (parent : Option ℕ) (new_rows : List NewRow) → map plain_row (map (waiting_row parent) new_rows) ≡ map (waiting_row parent) new_rows
 plain_waiting_row parent [] = refl
 plain_waiting_row parent (new_row ∷ new_rows) = ap (λ (rest : List Row). waiting_row parent new_row ∷ rest) (plain_waiting_row parent new_rows)
 
-waiting_row_idle : (parent : Option ℕ) (new_rows : List NewRow) (k : ℕ) (row : Row) → slice_get (map (waiting_row parent) new_rows) k ≡ Some row → is_idle row.state ≡ true
+pub waiting_row_idle : (parent : Option ℕ) (new_rows : List NewRow) (k : ℕ) (row : Row) → slice_get (map (waiting_row parent) new_rows) k ≡ Some row → is_idle row.state ≡ true
 waiting_row_idle parent [] k row is = absurd cc
 waiting_row_idle parent (new_row ∷ new_rows) zero row is = let same : waiting_row parent new_row ≡ row = cc in sym (ap (λ (r : Row). is_idle r.state) same)
 waiting_row_idle parent (new_row ∷ new_rows) (suc k) row is = waiting_row_idle parent new_rows k row is
@@ -64,33 +66,41 @@ pub fork_ended : (rows : List Row) (extras fresh : List RowExtras) (succeeded : 
     → n < length extras
     → IsFork (with_state rows n (Ended (end_of e [] [])) ++ map (waiting_row (Some n)) new_rows) (with_row_extras (extras ++ fresh) n left challenges) (succeeded || accepts_end e)
 fork_ended rows extras fresh succeeded n e left challenges new_rows fork open_yet same few lt =
-    let row = row_there is_open rows n open_yet in
+    let row = row_of_test is_open (slice_get rows n) open_yet in
     let ends : State = Ended (end_of e [] []) in
-    let each : length extras ≡ length rows = fork.each in
-    let a : length (with_state rows n ends ++ map (waiting_row (Some n)) new_rows) ≡ length (with_state rows n ends) + length (map (waiting_row (Some n)) new_rows) =
-    length-append (with_state rows n ends) (map (waiting_row (Some n)) new_rows) in
-    let b : length (with_state rows n ends) ≡ length rows = length-state rows n ends in
-    let c : length (map (waiting_row (Some n)) new_rows) ≡ length new_rows = length-map new_rows (waiting_row (Some n)) in
-    let d : length (with_row_extras (extras ++ fresh) n left challenges) ≡ length (extras ++ fresh) = length-with_row_extras (extras ++ fresh) n left challenges in
-    let f : length (extras ++ fresh) ≡ length extras + length fresh = length-append extras fresh in
+    let a = length-append (with_state rows n ends) (map (waiting_row (Some n)) new_rows) in
+    let b = length-state rows n ends in
+    let c = length-map new_rows (waiting_row (Some n)) in
+    let d = length-with_row_extras (extras ++ fresh) n left challenges in
+    let f = length-append extras fresh in
     record {
-      is_plain = map_both (with_state rows n ends) (map (waiting_row (Some n)) new_rows)
+      is_plain = map-append plain_row (with_state rows n ends) (map (waiting_row (Some n)) new_rows)
           ∙ (λ i. plain_with rows n ends (plain_plain_end e) fork.is_plain i ++ plain_waiting_row (Some n) new_rows i);
-      each = omega arith;
-      few = omega arith;
+      each = omega (arith, a, b, c, d, f, fork.each, same);
+      few = omega (arith, a, b, c, few);
       succeeds = (λ i. fork.succeeds i || sym (accepts_is e [] []) i)
           ∙ sym (succeeded_more (with_state rows n ends) (map (waiting_row (Some n)) new_rows) (waiting_row_idle (Some n) new_rows)
-          ∙ succeeded_state rows n row.0 ends row.1 (open_not_accepted row.0.state row.2));
+          ∙ succeeded_state rows n row.0 ends row.1 (not_accepted is_open (λ end. refl) row.0.state row.2));
     }
-  where
-    map_both : (xs ys : List Row) → map plain_row (xs ++ ys) ≡ map plain_row xs ++ map plain_row ys
-    map_both [] ys = refl
-    map_both (x ∷ xs) ys = ap (λ (rest : List Row). plain_row x ∷ rest) (map_both xs ys)
 
 pub fork_same : (rows rows' : List Row) (extras extras' : List RowExtras) (flag flag' : Bool) → rows' ≡ rows → extras' ≡ extras → flag' ≡ flag
     → IsFork rows extras flag → IsFork rows' extras' flag'
 fork_same rows rows' extras extras' flag flag' r b f fork =
-    let P : List Row → Type 0 = λ x. IsFork x extras' flag' in
-    let Q : List RowExtras → Type 0 = λ x. IsFork rows x flag' in
-    let R : Bool → Type 0 = λ x. IsFork rows extras x in
-    subst P (sym r) (subst Q (sym b) (subst R (sym f) fork))
+    subst (λ (x : List Row). IsFork x extras' flag') (sym r)
+    (subst (λ (x : List RowExtras). IsFork rows x flag') (sym b) (subst (IsFork rows extras) (sym f) fork))
+
+-- what is known where row n of a fork is to end
+pub record IsEnding (extras : List RowExtras) (t : Tree) (now : Table) (n : ℕ) : Type 0 where
+  pub passes : is_row is_open (slice_get t.rows n) ≡ true
+  pub sizes : length now.rows ≡ length t.rows
+  pub within : n < length extras
+
+pub ending : (kind : Kind) (closed : Bool) (extras : List RowExtras) (t : Tree) (now : Table) (n : ℕ) (succeeded : Bool) → IsFork t.rows extras succeeded
+    → table_of kind closed extras t ≡ now → is_row is_open (slice_get now.rows n) ≡ true → IsEnding extras t now n
+ending kind closed extras t now n succeeded fork is open_yet =
+    let passes = tree_row_passes is_open kind closed extras t now n (λ end. refl) is open_yet in
+    record {
+      passes = passes;
+      sizes = sym (ap (λ (x : Table). length x.rows) is) ∙ length-with_extras t.rows extras;
+      within = omega (arith, row_within is_open t.rows n passes, fork.each);
+    }

@@ -1,6 +1,7 @@
 -- What a fork reads of a row, by the tree's row and its extras.
 use Rattle.fork_context.proofs.Common.{◌≡◌, ℕ, zero, suc, List, [], ◌∷◌, length, Option, Some, None, refl, ap, arith, ◌∙◌, sym, slice_get, option_map, option_and_then, Row, State, Stored, Taken, Silent, Never, Accepted, Idle, Trying, Rung}
 use Rattle.fork_context.proofs.Common.{Ended, stored_of, stored_at, RowRef, plain_state, shown, row_ref, RowView, RowExtras, state_with_extras, row_with_extras, with_extras, row_shown}
+use Rattle.fork_context.proofs.RowsWithExtras.{shown_extras}
 
 abbrev both : Option RowExtras → Option Row → Option Row
 both b o = option_and_then (λ (row : Row). option_map (row_with_extras row) b) o
@@ -61,16 +62,6 @@ answer_there rows extras m n r b t =
     ap (λ (x : RowRef). stored_of (state_with_extras (plain_state x.state) b)) t.1
     ∙ ap stored_of (extras_plain t.0.state b)
     ∙ sym (ap stored_at t.2)
-
-pub shown_extras : (state : State) (b : RowExtras) → shown (state_with_extras state b) ≡ shown state
-shown_extras Idle b = refl
-shown_extras Trying b = refl
-shown_extras (Rung cancelled) b = refl
-shown_extras (Ended (Stored a)) b = refl
-shown_extras (Ended (Taken at)) b = refl
-shown_extras (Ended (Silent at)) b = refl
-shown_extras (Ended Never) b = refl
-shown_extras (Ended (Accepted at)) b = refl
 
 pub look_there : (rows : List Row) (extras : List RowExtras) (m n : ℕ) (r : RowRef) (b : RowExtras) → IsThere rows extras m n r b
     → Some (let v : RowView = record { row = r; place = b.place } in v) ≡ option_map (row_shown m) (slice_get (with_extras rows extras) n)

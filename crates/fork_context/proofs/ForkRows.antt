@@ -1,25 +1,16 @@
 -- What holds of every fork is kept by each change, and what its tree says of its rows holds of the table's.
-use Rattle.fork_context.proofs.Common.{◌≡◌, ℕ, zero, suc, ◌+◌, ◌<◌, ◌≤◌, Bool, true, false, List, [], ◌∷◌, length, map, Option, Some, None, refl, ap, arith, ◌∙◌, sym, subst, cond, slice_get, ◌==◌, ◌||◌, ◌&&◌, nat_eq, eqb-true, list_any}
-use Rattle.fork_context.proofs.Common.{pointwise, option_map, slice_get-map, slice_get_within, length-map, State, Idle, Trying, Rung, Ended, Row, most_targets, is_trying, is_open, is_ended, is_accepted, is_row, is_finished, is_succeeded}
-use Rattle.fork_context.proofs.Common.{may_start, with_state, length-state, may_start_facts, plain_state, shown, plain_row, row_ref, is_uncancelled, RowExtras, state_with_extras, with_extras, never_state, never_row, IsReady, tried}
-use Rattle.fork_context.proofs.Common.{ref_shown, IsFork}
+use Rattle.fork_context.proofs.Common.{◌≡◌, ℕ, zero, suc, ◌+◌, ◌<◌, ◌≤◌, Bool, true, false, List, [], ◌∷◌, length, map, Some, refl, ap, arith, ◌∙◌, sym, subst, cond, slice_get, ◌==◌, ◌||◌, ◌&&◌, nat_eq, list_any, pointwise}
+use Rattle.fork_context.proofs.Common.{option_map, slice_get-map, slice_get_within, length-map, State, Idle, Trying, Rung, Ended, Row, is_ended, is_row, is_finished, is_succeeded, End, Kind, Table, Tree, end_with_extras, may_start}
+use Rattle.fork_context.proofs.Common.{with_state, length-state, may_start_facts, plain_state, shown, plain_row, RowExtras, with_extras, never_state, never_row, IsReady, tried, IsFork}
+use Rattle.std.proofs.Math.Bool.{or-false}
+use Rattle.std.proofs.lemmas.Bool.Decides.{nat_tests}
 use Rattle.fork_tree.specs.Tree.{open_rows}
 use Rattle.fork_context.proofs.PlainRows.{may_start-plain_row}
-use Rattle.fork_context.proofs.RowsWithExtras.{plain_with_extras}
-use Rattle.fork_context.proofs.Replies.{length-tried}
-use Rattle.fork_context.proofs.Successes.{succeeded_state, succeeded_tried, succeeded_never, open_not_accepted}
-use Rattle.fork_context.proofs.ForkReads.{shown_extras}
+use Rattle.fork_context.proofs.RowsWithExtras.{state_read, test_with_extras, plain_with_extras}
+use Rattle.fork_context.proofs.Replies.{row_of_test, length-tried}
+use Rattle.fork_context.proofs.Successes.{succeeded_state, succeeded_tried, succeeded_never, not_accepted}
 
 -- ---- rows read
-
-pub row_with_extras : (rows : List Row) (extras : List RowExtras) (m n : ℕ)
-    → option_map (row_ref m) (slice_get rows n) ≡ option_map (ref_shown m) (slice_get (with_extras rows extras) n)
-row_with_extras [] extras m n = refl
-row_with_extras (row ∷ rows) [] m zero = refl
-row_with_extras (row ∷ rows) [] m (suc n) = row_with_extras rows [] m n
-row_with_extras (row ∷ rows) (b ∷ extras) m zero =
-    sym (λ i. Some (record { no = m; parent = row.parent; group = row.group; q = row.q; state = shown_extras row.state b i }))
-row_with_extras (row ∷ rows) (b ∷ extras) m (suc n) = row_with_extras rows extras m n
 
 pub key_with_extras : (rows : List Row) (extras : List RowExtras) (n : ℕ) → length extras ≡ length rows
     → option_map (λ (b : RowExtras). b.key) (slice_get extras n) ≡ option_map (λ (row : Row). row.key) (slice_get (with_extras rows extras) n)
@@ -29,51 +20,10 @@ key_with_extras (row ∷ rows) [] n same = absurd (omega arith)
 key_with_extras (row ∷ rows) (b ∷ extras) zero same = refl
 key_with_extras (row ∷ rows) (b ∷ extras) (suc n) same = key_with_extras rows extras n (omega arith)
 
--- a test that the extras of a row do not change
-pub test_with_extras : (test : State → Bool) → ((state : State) (b : RowExtras) → test (state_with_extras state b) ≡ test state)
-    → (rows : List Row) (extras : List RowExtras) (n : ℕ) → is_row test (slice_get (with_extras rows extras) n) ≡ is_row test (slice_get rows n)
-test_with_extras test same [] extras n = refl
-test_with_extras test same (row ∷ rows) [] zero = refl
-test_with_extras test same (row ∷ rows) [] (suc n) = test_with_extras test same rows [] n
-test_with_extras test same (row ∷ rows) (b ∷ extras) zero = same row.state b
-test_with_extras test same (row ∷ rows) (b ∷ extras) (suc n) = test_with_extras test same rows extras n
-
-trying_extras : (state : State) (b : RowExtras) → is_trying (state_with_extras state b) ≡ is_trying state
-trying_extras Idle b = refl
-trying_extras Trying b = refl
-trying_extras (Rung cancelled) b = refl
-trying_extras (Ended end) b = refl
-
-uncancelled_extras : (state : State) (b : RowExtras) → is_uncancelled (state_with_extras state b) ≡ is_uncancelled state
-uncancelled_extras Idle b = refl
-uncancelled_extras Trying b = refl
-uncancelled_extras (Rung cancelled) b = refl
-uncancelled_extras (Ended end) b = refl
-
-open_extras : (state : State) (b : RowExtras) → is_open (state_with_extras state b) ≡ is_open state
-open_extras Idle b = refl
-open_extras Trying b = refl
-open_extras (Rung cancelled) b = refl
-open_extras (Ended end) b = refl
-
-pub trying_with_extras : (rows : List Row) (extras : List RowExtras) (n : ℕ) → is_row is_trying (slice_get (with_extras rows extras) n) ≡ is_row is_trying (slice_get rows n)
-trying_with_extras = test_with_extras is_trying trying_extras
-
-pub uncancelled_with_extras : (rows : List Row) (extras : List RowExtras) (n : ℕ)
-    → is_row is_uncancelled (slice_get (with_extras rows extras) n) ≡ is_row is_uncancelled (slice_get rows n)
-uncancelled_with_extras = test_with_extras is_uncancelled uncancelled_extras
-
-pub open_with_extras : (rows : List Row) (extras : List RowExtras) (n : ℕ) → is_row is_open (slice_get (with_extras rows extras) n) ≡ is_row is_open (slice_get rows n)
-open_with_extras = test_with_extras is_open open_extras
-
 -- ---- whether all have ended
 
 not_zero : (k : ℕ) → (suc k == 0) ≡ false
-not_zero k = go (suc k == 0) refl
-  where
-    go : (b : Bool) → (suc k == 0) ≡ b → b ≡ false
-    go false e = refl
-    go true e = let same : suc k ≡ 0 = eqb-true (suc k) 0 e in absurd (omega arith)
+not_zero k = grind (arith, nat_tests)
 
 pub none_open : (rows : List Row) → (open_rows rows == 0) ≡ is_finished rows
 none_open [] = refl
@@ -83,16 +33,10 @@ none_open (row ∷ rows) = go (is_ended row.state) (none_open rows)
     go true rest = let e : 0 + open_rows rows ≡ open_rows rows = omega arith in ap (λ (k : ℕ). k == 0) e ∙ rest
     go false rest = let e : 1 + open_rows rows ≡ suc (open_rows rows) = omega arith in ap (λ (k : ℕ). k == 0) e ∙ not_zero (open_rows rows)
 
-ended_extras : (state : State) (b : RowExtras) → is_ended (state_with_extras state b) ≡ is_ended state
-ended_extras Idle b = refl
-ended_extras Trying b = refl
-ended_extras (Rung cancelled) b = refl
-ended_extras (Ended end) b = refl
-
 pub finished_with_extras : (rows : List Row) (extras : List RowExtras) → is_finished (with_extras rows extras) ≡ is_finished rows
 finished_with_extras [] extras = refl
 finished_with_extras (row ∷ rows) [] = ap (λ (b : Bool). is_ended row.state && b) (finished_with_extras rows [])
-finished_with_extras (row ∷ rows) (b ∷ extras) = (λ i. ended_extras row.state b i && finished_with_extras rows extras i)
+finished_with_extras (row ∷ rows) (b ∷ extras) = (λ i. state_read is_ended (λ end b. refl) row.state b i && finished_with_extras rows extras i)
 
 -- ---- groups
 
@@ -131,62 +75,52 @@ none_with_extras rows extras is none =
 
 pub plain_with : (rows : List Row) (n : ℕ) (state : State) → plain_state (shown state) ≡ state → map plain_row rows ≡ rows
     → map plain_row (with_state rows n state) ≡ with_state rows n state
-plain_with rows n state plain is = general rows ∙ (λ i. with_state (is i) n state)
+plain_with rows n state plain is = at rows n ∙ (λ i. with_state (is i) n state)
   where
-    general : (rows : List Row) → map plain_row (with_state rows n state) ≡ with_state (map plain_row rows) n state
-    general rows = at rows n
-      where
-        at : (rows : List Row) (n : ℕ) → map plain_row (with_state rows n state) ≡ with_state (map plain_row rows) n state
-        at [] n = refl
-        at (row ∷ rows) zero = (λ i. (let r : Row = record { key = []; q = row.q; place = 0; parent = row.parent; group = row.group; state = plain i } in r) ∷ map plain_row rows)
-        at (row ∷ rows) (suc n) = ap (λ (rest : List Row). plain_row row ∷ rest) (at rows n)
-
-pub row_there : (test : State → Bool) (rows : List Row) (n : ℕ) → is_row test (slice_get rows n) ≡ true → (row : Row) × (slice_get rows n ≡ Some row) × (test row.state ≡ true)
-row_there test rows n e = go (slice_get rows n) refl e
-  where
-    go : (o : Option Row) → slice_get rows n ≡ o → is_row test o ≡ true → (row : Row) × (slice_get rows n ≡ Some row) × (test row.state ≡ true)
-    go None is e = absurd cc
-    go (Some row) is e = (row, is, e)
+    at : (rows : List Row) (n : ℕ) → map plain_row (with_state rows n state) ≡ with_state (map plain_row rows) n state
+    at [] n = refl
+    at (row ∷ rows) zero = (λ i. (let r : Row = record { key = []; q = row.q; place = 0; parent = row.parent; group = row.group; state = plain i } in r) ∷ map plain_row rows)
+    at (row ∷ rows) (suc n) = ap (λ (rest : List Row). plain_row row ∷ rest) (at rows n)
 
 pub row_within : (test : State → Bool) (rows : List Row) (n : ℕ) → is_row test (slice_get rows n) ≡ true → n < length rows
-row_within test rows n e = let row = row_there test rows n e in slice_get_within rows n row.0 row.1
+row_within test rows n e = let row = row_of_test test (slice_get rows n) e in slice_get_within rows n row.0 row.1
 
--- a row that is open goes on to a state that is no 2xx
-pub fork_moved : (rows : List Row) (extras : List RowExtras) (succeeded : Bool) (n : ℕ) (state : State) → IsFork rows extras succeeded
-    → is_row is_open (slice_get rows n) ≡ true → plain_state (shown state) ≡ state → is_accepted state ≡ false → IsFork (with_state rows n state) extras succeeded
-fork_moved rows extras succeeded n state fork open_yet plain unaccepted =
-    let row = row_there is_open rows n open_yet in
-    let same : length (with_state rows n state) ≡ length rows = length-state rows n state in
-    let each : length extras ≡ length rows = fork.each in
-    let few : length rows ≤ most_targets = fork.few in
-    record {
-      is_plain = plain_with rows n state plain fork.is_plain;
-      each = omega arith;
-      few = omega arith;
-      succeeds = fork.succeeds ∙ sym (succeeded_state rows n row.0 state row.1 (open_not_accepted row.0.state row.2) ∙ ap (λ (b : Bool). is_succeeded rows || b) unaccepted ∙ or_none (is_succeeded rows));
-    }
-  where
-    or_none : (a : Bool) → (a || false) ≡ a
-    or_none true = refl
-    or_none false = refl
+-- the table that callers see
+abbrev pub table_of : Kind → Bool → List RowExtras → Tree → Table
+table_of kind closed extras t = record { kind = kind; rules = t.rules; closed = closed; rows = with_extras t.rows extras }
 
-trying_open : (state : State) → is_trying state ≡ true → is_open state ≡ true
-trying_open Idle e = e
-trying_open Trying e = refl
-trying_open (Rung b) e = refl
-trying_open (Ended end) e = e
+-- a test that no end passes: where the table's row passes it, so does the tree's
+pub tree_row_passes : (test : State → Bool) (kind : Kind) (closed : Bool) (extras : List RowExtras) (t : Tree) (now : Table) (n : ℕ)
+    → ((end : End) → test (Ended end) ≡ false) → table_of kind closed extras t ≡ now → is_row test (slice_get now.rows n) ≡ true
+    → is_row test (slice_get t.rows n) ≡ true
+tree_row_passes test kind closed extras t now n unended is passes =
+    sym (test_with_extras test (λ end b. unended (end_with_extras end b) ∙ sym (unended end)) t.rows extras n)
+    ∙ ap (λ (x : Table). is_row test (slice_get x.rows n)) is
+    ∙ passes
 
-uncancelled_open : (state : State) → is_uncancelled state ≡ true → is_open state ≡ true
-uncancelled_open Idle e = e
-uncancelled_open Trying e = refl
-uncancelled_open (Rung b) e = refl
-uncancelled_open (Ended end) e = e
+-- a change of the tree's rows that changes the table's too
+pub table_changes : (change : List Row → List Row) (kind : Kind) (closed : Bool) (extras : List RowExtras) (t u : Tree) (now : Table)
+    → with_extras (change t.rows) extras ≡ change (with_extras t.rows extras) → table_of kind closed extras t ≡ now → u ≡ record t { rows = change t.rows }
+    → table_of kind closed extras u ≡ record now { rows = change now.rows }
+table_changes change kind closed extras t u now same is made =
+    let with_rows : List Row → Table = λ (rows : List Row). record { kind = kind; rules = t.rules; closed = closed; rows = rows } in
+    let after : Table → Table = λ (x : Table). record x { rows = change x.rows } in
+    ap (table_of kind closed extras) made ∙ ap with_rows same ∙ ap after is
 
-pub open_of_trying : (rows : List Row) (n : ℕ) → is_row is_trying (slice_get rows n) ≡ true → is_row is_open (slice_get rows n) ≡ true
-open_of_trying rows n e = let row = row_there is_trying rows n e in ap (is_row is_open) row.1 ∙ trying_open row.0.state row.2
-
-pub open_of_uncancelled : (rows : List Row) (n : ℕ) → is_row is_uncancelled (slice_get rows n) ≡ true → is_row is_open (slice_get rows n) ≡ true
-open_of_uncancelled rows n e = let row = row_there is_uncancelled rows n e in ap (is_row is_open) row.1 ∙ uncancelled_open row.0.state row.2
+-- a row that passes such a test rings, or is cancelled
+pub fork_rung : (test : State → Bool) (cancelled : Bool) (extras : List RowExtras) (succeeded : Bool) (t u : Tree) (n : ℕ) → IsFork t.rows extras succeeded
+    → ((end : End) → test (Ended end) ≡ false) → is_row test (slice_get t.rows n) ≡ true → u ≡ record t { rows = with_state t.rows n (Rung cancelled) }
+    → IsFork u.rows extras succeeded
+fork_rung test cancelled extras succeeded t u n fork unended passes made =
+    let row = row_of_test test (slice_get t.rows n) passes in
+    let same = length-state t.rows n (Rung cancelled) in
+    subst (λ (x : Tree). IsFork x.rows extras succeeded) (sym made) (record {
+      is_plain = plain_with t.rows n (Rung cancelled) refl fork.is_plain;
+      each = omega (arith, same, fork.each);
+      few = omega (arith, same, fork.few);
+      succeeds = fork.succeeds
+          ∙ sym (succeeded_state t.rows n row.0 (Rung cancelled) row.1 (not_accepted test unended row.0.state row.2) ∙ or-false (is_succeeded t.rows));
+    })
 
 never_plain : (state : State) → plain_state (shown (never_state state)) ≡ never_state (plain_state (shown state))
 never_plain Idle = refl
@@ -202,12 +136,10 @@ plain_never (row ∷ rows) =
 pub fork_closed : (rows : List Row) (extras : List RowExtras) (succeeded : Bool) → IsFork rows extras succeeded → IsFork (map never_row rows) extras succeeded
 fork_closed rows extras succeeded fork =
     let same : length (map never_row rows) ≡ length rows = length-map rows never_row in
-    let each : length extras ≡ length rows = fork.each in
-    let few : length rows ≤ most_targets = fork.few in
     record {
       is_plain = plain_never rows ∙ ap (map never_row) fork.is_plain;
-      each = omega arith;
-      few = omega arith;
+      each = omega (arith, same, fork.each);
+      few = omega (arith, same, fork.few);
       succeeds = fork.succeeds ∙ sym (succeeded_never rows);
     }
 
@@ -222,12 +154,10 @@ pub fork_tried : (rows : List Row) (extras : List RowExtras) (succeeded : Bool) 
     → IsFork (tried rows first count) extras succeeded
 fork_tried rows extras succeeded first count fork ready =
     let same : length (tried rows first count) ≡ length rows = length-tried rows first count in
-    let each : length extras ≡ length rows = fork.each in
-    let few : length rows ≤ most_targets = fork.few in
     record {
       is_plain = plain_tried rows first count ∙ (λ i. tried (fork.is_plain i) first count);
-      each = omega arith;
-      few = omega arith;
+      each = omega (arith, same, fork.each);
+      few = omega (arith, same, fork.few);
       succeeds = fork.succeeds
           ∙ sym (succeeded_tried rows first count (λ k row lo hi is. (may_start_facts rows row (ready.ready k row lo hi is)).idle));
     }
@@ -240,5 +170,3 @@ keys_with_extras key [] [] same = refl
 keys_with_extras key [] (b ∷ extras) same = absurd (omega arith)
 keys_with_extras key (row ∷ rows) [] same = absurd (omega arith)
 keys_with_extras key (row ∷ rows) (b ∷ extras) same = ap (λ (x : Bool). pointwise nat_eq key b.key || x) (keys_with_extras key rows extras (omega arith))
-
--- ---- a row shown

@@ -1,8 +1,8 @@
 -- A fork after some group was started, or none.
-use Rattle.fork_context.proofs.Common.{◌≡◌, ◌≤◌, ◌+◌, ℕ, Bool, false, List, length, Option, Some, None, ap, arith, ◌∙◌, sym, subst, slice_get, IfSome, IfNone, Kind, Row, Table, most_targets, may_start, Tree, RowExtras, with_extras, IsFork}
+use Rattle.fork_context.proofs.Common.{◌≡◌, ◌≤◌, ◌+◌, ℕ, Bool, false, List, Option, Some, None, ap, arith, ◌∙◌, sym, subst, slice_get, IfSome, IfNone, Kind, Row, Table, most_targets, may_start, Tree, RowExtras, IsFork}
 use Rattle.fork_context.proofs.Common.{IsReady, tried}
 use Rattle.fork_context.proofs.RowsWithExtras.{with_extras_tried}
-use Rattle.fork_context.proofs.ForkRows.{ready_with_extras, none_with_extras, fork_tried}
+use Rattle.fork_context.proofs.ForkRows.{table_of, table_changes, ready_with_extras, none_with_extras, fork_tried}
 
 abbrev pub NoneMay : List Row → Type 0
 NoneMay rows = (k : ℕ) (row : Row) → slice_get rows k ≡ Some row → may_start rows row ≡ false
@@ -13,9 +13,6 @@ ToldNone o t u = IfNone o ((u ≡ t) × NoneMay t.rows)
 
 abbrev pub ToldSome : Option (ℕ × ℕ) → Tree → Tree → Type 0
 ToldSome o t u = IfSome o (λ g. IsReady t.rows g.0 g.1 × (u ≡ record t { rows = tried t.rows g.0 g.1 }))
-
-abbrev pub table_of : Kind → Bool → List RowExtras → Tree → Table
-table_of kind closed extras t = record { kind = kind; rules = t.rules; closed = closed; rows = with_extras t.rows extras }
 
 pub started_fork : (o : Option (ℕ × ℕ)) (t u : Tree) (extras : List RowExtras) (flag : Bool) → IsFork t.rows extras flag → ToldNone o t u → ToldSome o t u
     → IsFork u.rows extras flag
@@ -36,17 +33,12 @@ pub started_some : (o : Option (ℕ × ℕ)) (t u : Tree) (extras : List RowExtr
     → IfSome o (λ g. IsReady now.rows g.0 g.1 × (table_of kind closed extras u ≡ record now { rows = tried now.rows g.0 g.1 }))
 started_some None t u extras flag kind closed now fork is some = tt
 started_some (Some g) t u extras flag kind closed now fork is some =
-    let P : Table → Type 0 = λ x. IsReady x.rows g.0 g.1 in
-    let with_rows : List Row → Table = λ (rows : List Row). record { kind = kind; rules = t.rules; closed = closed; rows = rows } in
-    let after : Table → Table = λ (x : Table). record x { rows = tried x.rows g.0 g.1 } in (
+    let P : Table → Type 0 = λ x. IsReady x.rows g.0 g.1 in (
       subst P is (ready_with_extras t.rows extras g.0 g.1 fork.is_plain some.0),
-      ap (table_of kind closed extras) some.1 ∙ ap with_rows (with_extras_tried t.rows extras g.0 g.1) ∙ ap after is,
+      table_changes (λ rows. tried rows g.0 g.1) kind closed extras t u now (with_extras_tried t.rows extras g.0 g.1) is some.1,
     )
 
 pub started_range : (o : Option (ℕ × ℕ)) (t u : Tree) (extras : List RowExtras) (flag : Bool) → IsFork t.rows extras flag → ToldSome o t u
     → IfSome o (λ g. g.0 + g.1 ≤ most_targets)
 started_range None t u extras flag fork some = tt
-started_range (Some g) t u extras flag fork some =
-    let few : length t.rows ≤ most_targets = fork.few in
-    let within : g.0 + g.1 ≤ length t.rows = some.0.within in
-    omega arith
+started_range (Some g) t u extras flag fork some = omega (arith, fork.few, some.0.within)

@@ -50,19 +50,13 @@ length-with_q q (o ∷ os) = go (q == o) (nat_lt o q) (length-with_q q os)
 
 length-falling : (qs : List ℕ) → length (falling qs) ≤ length qs
 length-falling [] = omega arith
-length-falling (q ∷ qs) =
-    let one : length (with_q q (falling qs)) ≤ length (falling qs) + 1 = length-with_q q (falling qs) in
-    let rest : length (falling qs) ≤ length qs = length-falling qs in
-    let all : length (with_q q (falling qs)) ≤ suc (length qs) = omega arith in
-    all
+length-falling (q ∷ qs) = omega (arith, length-with_q q (falling qs), length-falling qs)
 
 pub groups_few : {A : Type 0} (qs : List ℕ) (groups : List (Vec ℕ A)) → lists_of groups ≡ groups_of qs → length groups ≤ length qs
 groups_few qs groups is =
     let lists : length (lists_of groups) ≡ length groups = length-map _ groups in
-    let values : length (map (places_of qs) (falling qs)) ≡ length (falling qs) = length-map _ (falling qs) in
-    let few : length (falling qs) ≤ length qs = length-falling qs in
     let same : length (lists_of groups) ≡ length (map (places_of qs) (falling qs)) = ap length is in
-    omega arith
+    omega (arith, lists, same, length-map (places_of qs) (falling qs), length-falling qs)
 
 -- each place stands in the list
 All-below : (n m : ℕ) → n ≤ m → All (λ k. k < m) (numbers_below n)
@@ -85,8 +79,7 @@ All-group qs [] (x ∷ groups) i places few is lt at = absurd cc
 All-group {A = A} qs (q ∷ values) (x ∷ groups) zero places few is lt at =
     let here : x.items ≡ places_of qs q = cc in
     let same : places_of qs q ≡ places.items = sym here ∙ ap (λ (v : Vec ℕ A). v.items) (sym at) in
-    let P : List ℕ → Type 0 = λ xs. All (λ k. k < most_targets) xs in
-    subst P same (All-places qs most_targets q few)
+    subst (λ (xs : List ℕ). All (λ k. k < most_targets) xs) same (All-places qs most_targets q few)
 All-group qs (q ∷ values) (x ∷ groups) (suc i) places few is lt at =
     let rest : lists_of groups ≡ map (places_of qs) values = cc in
     All-group qs values groups i places few rest (omega arith) at

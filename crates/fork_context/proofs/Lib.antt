@@ -1,8 +1,6 @@
 pub mod Common
 pub mod KeySteps
-pub mod NumberSteps
 pub mod GroupSteps
-pub mod InRange
 pub mod SoundSteps
 pub mod PlainContacts
 pub mod PlainRows
@@ -14,13 +12,12 @@ pub mod RowsWithExtras
 pub mod StepTaken
 pub mod Successes
 pub mod StoredRows
-pub mod PlainEffects
 pub mod NewRowGroups
 pub mod ForkRows
 pub mod ForkEnd
 pub mod CancelledRows
 pub mod AddedRows
-pub mod MayGo
+pub mod Effects
 pub mod ForkStart
 pub mod OpeningStarts
 pub mod NewRowLists
@@ -29,10 +26,8 @@ pub mod FirstRows
 pub mod StepLaws
 pub mod OpeningFork
 pub mod ForkReads
-pub mod FreshIdle
 pub mod Strays
 pub mod Applied
-pub mod Lines
 pub mod Redirected
 pub mod ByKeySteps
 pub mod TakenKeys

@@ -58,26 +58,24 @@ filter_range p first (suc count) (suc len) fits all only =
 
 pub length_numbers_from : (first count : ℕ) → length (numbers_from first count) ≡ count
 length_numbers_from first zero = refl
-length_numbers_from first (suc count) =
-    let rest : length (numbers_from first count) ≡ count = length_numbers_from first count in
-    let more : length (numbers_from first count ++ (first + count) ∷ []) ≡ length (numbers_from first count) + 1 = length-append (numbers_from first count) ((first + count) ∷ []) in
-    omega arith
+length_numbers_from first (suc count) = omega (arith, length_numbers_from first count, length-append (numbers_from first count) ((first + count) ∷ []))
 
 pub numbers_from_more : (first count : ℕ) → numbers_from first (count + 1) ≡ numbers_from first count ++ (first + count) ∷ []
 numbers_from_more first count = ap (numbers_from first) (add-one count)
 
 pub length_passing : (p : ℕ → Bool) (n : ℕ) → length (filter p (numbers_below n)) ≤ n
 length_passing p zero = omega arith
-length_passing p (suc n) = go (p n) refl (length_passing p n)
+length_passing p (suc n) =
+    let is = ap (λ (ns : List ℕ). length ns) (one_more p n (p n) refl) in
+    omega (arith, is, length_passing p n, length-append (filter p (numbers_below n)) (cond (p n) (n ∷ []) []), small (p n))
   where
-    go : (b : Bool) → p n ≡ b → length (filter p (numbers_below n)) ≤ n → length (filter p (numbers_below (suc n))) ≤ suc n
-    go b e rest =
-        let is : length (filter p (numbers_below (suc n))) ≡ length (filter p (numbers_below n) ++ cond b (n ∷ []) []) = ap (λ (ns : List ℕ). length ns) (one_more p n b e) in
-        let all : length (filter p (numbers_below n) ++ cond b (n ∷ []) []) ≡ length (filter p (numbers_below n)) + length (cond b (n ∷ []) []) =
-        length-append (filter p (numbers_below n)) (cond b (n ∷ []) []) in
-        let one : length (cond b (n ∷ []) []) ≤ 1 = small b in
-        omega arith
-      where
-        small : (b : Bool) → length {A = ℕ} (cond b (n ∷ []) []) ≤ 1
-        small true = omega arith
-        small false = omega arith
+    small : (b : Bool) → length {A = ℕ} (cond b (n ∷ []) []) ≤ 1
+    small true = omega arith
+    small false = omega arith
+
+-- steps of a loop that collects the numbers that pass a test
+pub numbers_more : (p : ℕ → Bool) (i : ℕ) → p i ≡ true → filter p (numbers_below (i + 1)) ≡ filter p (numbers_below i) ++ i ∷ []
+numbers_more p i e = ap (λ n. filter p (numbers_below n)) (add-one i) ∙ one_more p i true e
+
+pub numbers_same : (p : ℕ → Bool) (i : ℕ) → p i ≡ false → filter p (numbers_below (i + 1)) ≡ filter p (numbers_below i)
+numbers_same p i e = ap (λ n. filter p (numbers_below n)) (add-one i) ∙ one_more p i false e ∙ append-nil _

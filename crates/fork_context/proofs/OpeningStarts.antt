@@ -1,15 +1,16 @@
 -- The initial targets all wait; settling starts their first group, and that is the opening table.
-use Rattle.fork_context.proofs.Common.{◌≡◌, ℕ, zero, suc, ◌<◌, Bool, true, false, List, [], ◌∷◌, map, Option, Some, None, refl, ap, arith, ◌∙◌, sym, cond, inl, inr, ltb-true, slice_get, ◌==◌, ◌&&◌, ◌||◌, nat_lt, nat_eq, option_map}
+use Rattle.fork_context.proofs.Common.{◌≡◌, ℕ, suc, ◌<◌, Bool, true, false, List, [], ◌∷◌, map, Option, Some, None, refl, ap, arith, ◌∙◌, sym, cond, inl, inr, slice_get, ◌==◌, ◌&&◌, ◌||◌, nat_lt, nat_eq, option_map}
 use Rattle.fork_context.proofs.Common.{list_any, slice_get-map, Kind, Rules, Row, Table, State, Idle, Trying, is_idle, is_ended, in_earlier_group, parent_ended, may_start, settled, settled_row, Target, opening, idled, waiting_rows}
 use Rattle.fork_context.proofs.Common.{waiting_table, OneGroup, may_start_facts}
 use Rattle.std.specs.Option.{option_eq}
+use Rattle.std.proofs.Common.{eqb-true}
+use Rattle.std.proofs.Math.Bool.{and-false}
+use Rattle.std.proofs.lemmas.Bool.Decides.{nat_tests}
+use Rattle.fork_context.proofs.Replies.{differ}
 use Rattle.fork_model.specs.Waiting.{line_of}
 use Rattle.fork_model.specs.History.{opening_rows}
 use Rattle.fork_model.proofs.laws.OpeningSeries.{opening_row, HasFirst, has_first}
 use Rattle.fork_model.proofs.laws.WaitingLemmas.{MayStart, may_start_of, is_earlier, goes_by_group, has_rows, one_group}
-
-differ : {b : Bool} → b ≡ true → b ≡ false → ⊥
-differ h k = cc
 
 found_in : (o : Option Row) (row : Row) → option_map idled o ≡ Some row → (r : Row) × (o ≡ Some r) × (idled r ≡ row)
 found_in None row e = absurd cc
@@ -23,31 +24,18 @@ waits_at : (targets : List Target) (m : ℕ) (row : Row) → slice_get (opening_
 waits_at targets m row is = slice_get-map idled (opening_rows targets) m ∙ ap (option_map idled) is
 
 not_less : (n : ℕ) → nat_lt n 0 ≡ false
-not_less n = go (nat_lt n 0) refl
-  where
-    go : (b : Bool) → nat_lt n 0 ≡ b → b ≡ false
-    go false e = refl
-    go true e = let less : n < 0 = ltb-true n 0 e in absurd (omega arith)
-
-and_false : (a : Bool) → (a && false) ≡ false
-and_false true = refl
-and_false false = refl
+not_less n = grind (arith, nat_tests)
 
 -- no row goes before one of group 0
 none_earlier : (line : List Row) (a : Row) → a.group ≡ 0 → list_any (λ above. in_earlier_group above a) line ≡ false
 none_earlier [] a e = refl
 none_earlier (x ∷ line) a e =
     let here : in_earlier_group x a ≡ false =
-    ap (λ (g : ℕ). option_eq nat_eq x.parent a.parent && nat_lt x.group g) e ∙ ap (λ (b : Bool). option_eq nat_eq x.parent a.parent && b) (not_less x.group) ∙ and_false (option_eq nat_eq x.parent a.parent) in
+    ap (λ (g : ℕ). option_eq nat_eq x.parent a.parent && nat_lt x.group g) e ∙ ap (λ (b : Bool). option_eq nat_eq x.parent a.parent && b) (not_less x.group) ∙ and-false (option_eq nat_eq x.parent a.parent) in
     ap (λ (b : Bool). b || list_any (λ above. in_earlier_group above a) line) here ∙ none_earlier line a e
 
-is_zero : (n : ℕ) → (n == 0) ≡ true → n ≡ 0
-is_zero zero e = refl
-is_zero (suc n) e = grind arith
-
 is_later : (n : ℕ) → (n == 0) ≡ false → 0 < n
-is_later zero e = absurd cc
-is_later (suc n) e = omega arith
+is_later n e = grind (arith, nat_tests)
 
 first_may : (targets : List Target) (m : ℕ) (row : Row) → slice_get (opening_rows targets) m ≡ Some row → row.group ≡ 0
     → may_start (waiting_rows targets) (idled row) ≡ true
@@ -96,7 +84,7 @@ settled_back kind rules targets k row is = go (row.group == 0) refl
         ap (λ (s : State). let r : Row = record row { state = s } in r) now
 
     go : (b : Bool) → (row.group == 0) ≡ b → settled_row (waiting_table kind rules targets) (idled row) ≡ row
-    go true e = state_is true (first_may targets k row is (is_zero row.group e)) e
+    go true e = state_is true (first_may targets k row is (eqb-true row.group 0 e)) e
     go false e = state_is false (later_waits targets k row is (is_later row.group e)) e
 
 -- settling starts the first group, and that is the opening table

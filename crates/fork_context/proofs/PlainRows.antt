@@ -1,22 +1,16 @@
 -- What a table says of its groups it says of its rows without extras.
-use Rattle.fork_context.proofs.Common.{◌≡◌, ℕ, zero, suc, List, ◌∷◌, length, map, Option, Some, None, refl, ap, ◌∙◌, slice_get, not, ◌&&◌, ◌||◌, option_map, list_any, slice_get-map, length-map, State, Idle, Trying, Rung, Ended, Row}
+use Rattle.fork_context.proofs.Common.{◌≡◌, ℕ, zero, suc, List, ◌∷◌, length, map, Option, Some, None, refl, ap, ◌∙◌, slice_get, not, ◌&&◌, ◌||◌, option_map, list_any, slice_get-map, length-map, Bool, State, End, Idle, Trying, Rung, Ended, Row}
 use Rattle.fork_context.proofs.Common.{is_idle, is_ended, is_row, in_earlier_group, parent_ended, may_start, plain_state, shown, plain_row}
 use Rattle.std.specs.List.{list_all}
 use Rattle.std.proofs.lemmas.List.Folds.{list_all-map}
 use Rattle.fork_context.proofs.PlainContacts.{list_any-map}
 use Rattle.fork_model.specs.Waiting.{parent_row, line_from, same_group, goes_before}
 
-pub plain_idle : (state : State) → is_idle (plain_state (shown state)) ≡ is_idle state
-plain_idle Idle = refl
-plain_idle Trying = refl
-plain_idle (Rung cancelled) = refl
-plain_idle (Ended end) = refl
-
-pub plain_ended : (state : State) → is_ended (plain_state (shown state)) ≡ is_ended state
-plain_ended Idle = refl
-plain_ended Trying = refl
-plain_ended (Rung cancelled) = refl
-plain_ended (Ended end) = refl
+plain_test : (test : State → Bool) → ((a b : End) → test (Ended a) ≡ test (Ended b)) → (state : State) → test (plain_state (shown state)) ≡ test state
+plain_test test same Idle = refl
+plain_test test same Trying = refl
+plain_test test same (Rung cancelled) = refl
+plain_test test same (Ended end) = same _ end
 
 pub parent_row-plain_row : (rows : List Row) (p : Option ℕ) → parent_row (map plain_row rows) p ≡ option_map plain_row (parent_row rows p)
 parent_row-plain_row rows None = refl
@@ -40,18 +34,18 @@ members-plain_row : (rows members : List Row) (row : Row)
     ≡ list_all (λ member. not (same_group member row) || is_idle member.state) members
 members-plain_row rows members row =
     list_all-map (λ member. not (same_group member (plain_row row)) || is_idle member.state) plain_row members
-    ∙ (λ i. list_all (λ member. not (same_group member row) || plain_idle member.state i) members)
+    ∙ (λ i. list_all (λ member. not (same_group member row) || plain_test is_idle (λ a b. refl) member.state i) members)
 
 before-plain_row : (rows others : List Row) (row : Row)
     → list_all (λ other. not (goes_before (map plain_row rows) other (plain_row row)) || is_ended other.state) (map plain_row others)
     ≡ list_all (λ other. not (goes_before rows other row) || is_ended other.state) others
 before-plain_row rows others row =
     list_all-map (λ other. not (goes_before (map plain_row rows) other (plain_row row)) || is_ended other.state) plain_row others
-    ∙ (λ i. list_all (λ other. not (goes_before-plain_row rows other row i) || plain_ended other.state i) others)
+    ∙ (λ i. list_all (λ other. not (goes_before-plain_row rows other row i) || plain_test is_ended (λ a b. refl) other.state i) others)
 
 is_row_ended-plain_row : (o : Option Row) → is_row is_ended (option_map plain_row o) ≡ is_row is_ended o
 is_row_ended-plain_row None = refl
-is_row_ended-plain_row (Some row) = plain_ended row.state
+is_row_ended-plain_row (Some row) = plain_test is_ended (λ a b. refl) row.state
 
 parent_ended-plain_row : (rows : List Row) (p : Option ℕ) → parent_ended (map plain_row rows) p ≡ parent_ended rows p
 parent_ended-plain_row rows None = refl
@@ -59,4 +53,5 @@ parent_ended-plain_row rows (Some n) = ap (is_row is_ended) (slice_get-map plain
 
 pub may_start-plain_row : (rows : List Row) (row : Row) → may_start (map plain_row rows) (plain_row row) ≡ may_start rows row
 may_start-plain_row rows row =
-    (λ i. plain_idle row.state i && members-plain_row rows rows row i && parent_ended-plain_row rows row.parent i && before-plain_row rows rows row i)
+    let idle = plain_test is_idle (λ a b. refl) row.state in
+    (λ i. idle i && members-plain_row rows rows row i && parent_ended-plain_row rows row.parent i && before-plain_row rows rows row i)

@@ -1,5 +1,5 @@
 -- The effect of a redirection, made of new rows and of their extras.
-use Rattle.fork_context.proofs.Common.{◌≡◌, ℕ, ◌+◌, ◌-◌, ◌≤◌, Bool, true, false, cond, List, [], length, map, Some, ap, arith, ◌∙◌, sym, subst, ◌||◌, not, nat_lt, length-map, filter_map, Offer, Row, Table, most_targets, numbered, depth_of}
+use Rattle.fork_context.proofs.Common.{◌≡◌, ℕ, ◌+◌, ◌≤◌, Bool, true, false, cond, List, [], length, map, Some, ap, arith, ◌∙◌, sym, subst, ◌||◌, not, nat_lt, length-map, filter_map, Offer, Row, Table, most_targets, numbered, depth_of}
 use Rattle.fork_context.proofs.Common.{ContactLists, keys_of, taking_from, taking_at, fresh_rows, Waiting, waiting_row, new_rows_of, RowExtras, with_extras, row_extras_at, contact_qs, q_of_pair}
 use Rattle.fork_context.proofs.AddedRows.{added_rows, added_sizes}
 use Rattle.fork_context.proofs.PlainContacts.{few_from}
@@ -29,12 +29,9 @@ taking_at_few t row offers few = go (t.closed || not (nat_lt (depth_of t.rows ro
     go : (b : Bool) → length t.rows + length (cond b (record { fresh = []; left = offers }) (taking_from (keys_of t.rows) 0 offers)).fresh ≤ most_targets
     go true = let all : length t.rows + 0 ≤ most_targets = omega arith in all
     go false =
-        let keys : length (keys_of t.rows) ≡ length t.rows = length-map t.rows (λ (row : Row). row.key) in
-        let taken : length (taking_from (keys_of t.rows) 0 offers).fresh ≤ most_targets - length (keys_of t.rows) = few_from (keys_of t.rows) 0 offers in
-        omega arith
+        omega (arith, few, length-map t.rows (λ (row : Row). row.key), few_from (keys_of t.rows) 0 offers)
 
 pub taken_room : (t : Table) (row : Row) (offers : List Offer) (taken : ContactLists) → length t.rows ≤ most_targets → taken ≡ taking_at t row offers
     → length t.rows + length taken.fresh ≤ most_targets
 taken_room t row offers taken few is =
-    let P : ContactLists → Type 0 = λ x. length t.rows + length x.fresh ≤ most_targets in
-    subst P (sym is) (taking_at_few t row offers few)
+    subst (λ (x : ContactLists). length t.rows + length x.fresh ≤ most_targets) (sym is) (taking_at_few t row offers few)

@@ -1,29 +1,15 @@
 -- Which rows a reply names, by what the event changed.
 use Rattle.fork_context.proofs.Common.{◌≡◌, ℕ, zero, suc, ◌+◌, ◌<◌, ◌≤◌, Bool, true, false, List, [], ◌∷◌, ◌++◌, length, Option, Some, None, refl, ap, arith, ◌∙◌, sym, inl, inr, ◌⊎◌, slice_get, not, ◌&&◌, slice_get_within, Row, State}
-use Rattle.fork_context.proofs.Common.{Trying, is_row, with_state, has_become, became, Found, found, changed_row, tried, numbers_from}
+use Rattle.fork_context.proofs.Common.{Trying, is_row, with_state, has_become, became, Found, found, changed_row, tried, numbers_from, length-append, length-state}
+use Rattle.std.proofs.lemmas.Bool.{true≢false, false_from_ne_true, not-true}
+use Rattle.fork_model.proofs.laws.StepLemmas.{and_left, and_right}
 use Rattle.fork_context.proofs.Numbers.{filter_none, filter_range}
 
-differ : {b : Bool} → b ≡ true → b ≡ false → ⊥
-differ h k = cc
-
-and_one : (a b : Bool) → (a && b) ≡ true → a ≡ true
-and_one true b e = refl
-and_one false b e = absurd cc
-
-and_two : (a b : Bool) → (a && b) ≡ true → b ≡ true
-and_two true b e = e
-and_two false b e = absurd cc
-
-not_false : (b : Bool) → not b ≡ true → b ≡ false
-not_false true e = absurd cc
-not_false false e = refl
-
-is_false : (b : Bool) → (b ≡ true → ⊥) → b ≡ false
-is_false true h = absurd (h refl)
-is_false false h = refl
+pub differ : {b : Bool} → b ≡ true → b ≡ false → ⊥
+differ h k = true≢false (sym h ∙ k)
 
 -- the row behind a passed test
-row_of_test : (test : State → Bool) (o : Option Row) → is_row test o ≡ true → (row : Row) × (o ≡ Some row) × (test row.state ≡ true)
+pub row_of_test : (test : State → Bool) (o : Option Row) → is_row test o ≡ true → (row : Row) × (o ≡ Some row) × (test row.state ≡ true)
 row_of_test test None e = absurd cc
 row_of_test test (Some row) e = (row, refl, e)
 
@@ -34,9 +20,9 @@ pub became_none : (test : State → Bool) (old new : List Row)
 became_none test old new h = filter_none (has_become test old new) (length new) none
   where
     none : (k : ℕ) → k < length new → has_become test old new k ≡ false
-    none k lt = is_false _ (λ e.
-        let row = row_of_test test (slice_get new k) (and_one _ _ e) in
-        differ (h k row.0 row.1 row.2) (not_false _ (and_two _ _ e)))
+    none k lt = false_from_ne_true _ (λ e.
+        let row = row_of_test test (slice_get new k) (and_left _ _ e) in
+        differ (h k row.0 row.1 row.2) (not-true _ (and_right _ _ e)))
 
 -- the rows of a range
 pub became_range : (test : State → Bool) (old new : List Row) (first count : ℕ) → first + count ≤ length new
@@ -47,13 +33,10 @@ became_range test old new first count fits all only =
     filter_range (has_become test old new) first count (length new) fits
     (λ k lo hi. (λ i. (all k lo hi).0 i && not ((all k lo hi).1 i)))
     (λ k lt e.
-    let row = row_of_test test (slice_get new k) (and_one _ _ e) in
-    only k row.0 row.1 row.2 (not_false _ (and_two _ _ e)))
+    let row = row_of_test test (slice_get new k) (and_left _ _ e) in
+    only k row.0 row.1 row.2 (not-true _ (and_right _ _ e)))
 
 -- one row changed, and more came behind it
-record Moved (test : State → Bool) (rows fresh : List Row) : Type 0 where
-  none : (k : ℕ) (row : Row) → slice_get fresh k ≡ Some row → test row.state ≡ false
-
 pub moved_none : (test : State → Bool) (rows fresh : List Row) (n : ℕ) (state : State)
     → ((k : ℕ) (row : Row) → slice_get fresh k ≡ Some row → test row.state ≡ false) → test state ≡ false
     → became test rows (with_state rows n state ++ fresh) ≡ []
@@ -65,26 +48,14 @@ moved_none test rows fresh n state none is =
     go k row (inr (inl h)) e = absurd (differ e (ap test h.1 ∙ is))
     go k row (inr (inr h)) e = absurd (differ e (none h.0 row h.1))
 
-length_more : (rows fresh : List Row) (n : ℕ) (state : State) → length rows ≤ length (with_state rows n state ++ fresh)
-length_more [] fresh n state = omega arith
-length_more (x ∷ rows) fresh zero state = longer rows
-  where
-    more : (rows : List Row) → length rows ≤ length (rows ++ fresh)
-    more [] = omega arith
-    more (y ∷ rows) = let rest : length rows ≤ length (rows ++ fresh) = more rows in omega arith
-
-    longer : (rows : List Row) → suc (length rows) ≤ suc (length (rows ++ fresh))
-    longer rows = let rest : length rows ≤ length (rows ++ fresh) = more rows in omega arith
-length_more (x ∷ rows) fresh (suc n) state = let rest : length rows ≤ length (with_state rows n state ++ fresh) = length_more rows fresh n state in omega arith
-
 pub moved_one : (test : State → Bool) (rows fresh : List Row) (n : ℕ) (state : State) (row : Row) → slice_get rows n ≡ Some row
     → ((k : ℕ) (row : Row) → slice_get fresh k ≡ Some row → test row.state ≡ false) → test state ≡ true → test row.state ≡ false
     → became test rows (with_state rows n state ++ fresh) ≡ n ∷ []
 moved_one test rows fresh n state row is none now before =
     let lt : n < length rows = slice_get_within rows n row is in
-    let more : length rows ≤ length (with_state rows n state ++ fresh) = length_more rows fresh n state in
+    let long = length-append (with_state rows n state) fresh in
     let range : became test rows (with_state rows n state ++ fresh) ≡ numbers_from n 1 =
-    became_range test rows (with_state rows n state ++ fresh) n 1 (omega arith) all only in
+    became_range test rows (with_state rows n state ++ fresh) n 1 (omega (arith, lt, long, length-state rows n state)) all only in
     range ∙ ap (λ (k : ℕ). k ∷ []) (omega arith)
   where
     all : (k : ℕ) → n ≤ k → k < n + 1 → (is_row test (slice_get (with_state rows n state ++ fresh) k) ≡ true) × (is_row test (slice_get rows k) ≡ false)

@@ -1,23 +1,44 @@
 -- What is done to the rows of a tree is done to the rows of its table.
-use Rattle.fork_context.proofs.Common.{◌≡◌, ℕ, zero, suc, List, [], ◌∷◌, ◌++◌, length, map, refl, ap, arith, Offer, Challenge, Stored, Taken, Silent, Never, Accepted, End, State, Idle, Trying, Rung, Ended, Row, with_state, plain_state}
+use Rattle.fork_context.proofs.Common.{◌≡◌, ℕ, zero, suc, List, [], ◌∷◌, ◌++◌, length, map, refl, ap, arith, Bool, Option, Some, slice_get, is_row, Offer, Challenge, Stored, Taken, Silent, Never, Accepted, End, State, Idle, Trying, Rung, Ended, Row, with_state, plain_state}
 use Rattle.fork_context.proofs.Common.{shown, plain_row, RowExtras, end_with_extras, state_with_extras, row_with_extras, with_extras, with_row_extras, tried, never_row, never_state}
 
-plain_extras_state : (state : State) (b : RowExtras) → plain_state (shown (state_with_extras state b)) ≡ plain_state (shown state)
-plain_extras_state Idle b = refl
-plain_extras_state Trying b = refl
-plain_extras_state (Rung cancelled) b = refl
-plain_extras_state (Ended (Stored a)) b = refl
-plain_extras_state (Ended (Taken at)) b = refl
-plain_extras_state (Ended (Silent at)) b = refl
-plain_extras_state (Ended Never) b = refl
-plain_extras_state (Ended (Accepted at)) b = refl
+-- what is read of a state, where the extras of an end do not change it, they do not change of any state
+pub state_read : {A : Type 0} (f : State → A) → ((end : End) (b : RowExtras) → f (Ended (end_with_extras end b)) ≡ f (Ended end))
+    → (state : State) (b : RowExtras) → f (state_with_extras state b) ≡ f state
+state_read f same Idle b = refl
+state_read f same Trying b = refl
+state_read f same (Rung cancelled) b = refl
+state_read f same (Ended end) b = same end b
+
+-- what is read of a row, where its extras do not change it
+pub row_read : {A : Type 0} (f : Option Row → A) → ((row : Row) (b : RowExtras) → f (Some (row_with_extras row b)) ≡ f (Some row))
+    → (rows : List Row) (extras : List RowExtras) (n : ℕ) → f (slice_get (with_extras rows extras) n) ≡ f (slice_get rows n)
+row_read f same [] extras n = refl
+row_read f same (row ∷ rows) [] zero = refl
+row_read f same (row ∷ rows) [] (suc n) = row_read f same rows [] n
+row_read f same (row ∷ rows) (b ∷ extras) zero = same row b
+row_read f same (row ∷ rows) (b ∷ extras) (suc n) = row_read f same rows extras n
+
+pub test_with_extras : (test : State → Bool) → ((end : End) (b : RowExtras) → test (Ended (end_with_extras end b)) ≡ test (Ended end))
+    → (rows : List Row) (extras : List RowExtras) (n : ℕ) → is_row test (slice_get (with_extras rows extras) n) ≡ is_row test (slice_get rows n)
+test_with_extras test same = row_read (is_row test) (λ row b. state_read test same row.state b)
+
+pub shown_extras : (state : State) (b : RowExtras) → shown (state_with_extras state b) ≡ shown state
+shown_extras = state_read shown by_end
+  where
+    by_end : (end : End) (b : RowExtras) → shown (Ended (end_with_extras end b)) ≡ shown (Ended end)
+    by_end (Stored a) b = refl
+    by_end (Taken at) b = refl
+    by_end (Silent at) b = refl
+    by_end Never b = refl
+    by_end (Accepted at) b = refl
 
 -- the rows of a table without their extras are those of its tree
 pub plain_with_extras : (rows : List Row) (extras : List RowExtras) → map plain_row (with_extras rows extras) ≡ map plain_row rows
 plain_with_extras [] extras = refl
 plain_with_extras (row ∷ rows) [] = ap (λ (rest : List Row). plain_row row ∷ rest) (plain_with_extras rows [])
 plain_with_extras (row ∷ rows) (b ∷ extras) =
-    (λ i. let r : Row = record row { key = []; place = 0; state = plain_extras_state row.state b i } in r ∷ plain_with_extras rows extras i)
+    (λ i. let r : Row = record row { key = []; place = 0; state = plain_state (shown_extras row.state b i) } in r ∷ plain_with_extras rows extras i)
 
 pub length-with_extras : (rows : List Row) (extras : List RowExtras) → length (with_extras rows extras) ≡ length rows
 length-with_extras [] extras = refl

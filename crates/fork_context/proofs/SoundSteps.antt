@@ -1,10 +1,9 @@
 -- A context that takes an event keeps its bounds.
-use Rattle.fork_context.proofs.Common.{◌≡◌, ◌≢◌, ◌≤◌, ◌+◌, ℕ, suc, Bool, false, List, [], ◌∷◌, ◌++◌, length, arith, subst, refl, ap, sym, ◌∙◌, AllByRecursion, Table, most_targets, Event, next, Core, is_full, targets_bounded, Kind, Rules}
+use Rattle.fork_context.proofs.Common.{◌≡◌, ◌≢◌, ◌≤◌, ℕ, suc, Bool, false, List, [], ◌∷◌, ◌++◌, length, arith, subst, refl, ap, sym, ◌∙◌, AllByRecursion, Table, most_targets, Event, next, Core, is_full, targets_bounded, Kind, Rules}
 use Rattle.fork_context.proofs.Common.{Target, opening, IsTargetInRange, AreRules, IsSound, IsKept}
-use Rattle.std.proofs.Common.{◌*◌}
 use Rattle.std.specs.Prelude.{if◌then◌else◌}
-use Rattle.fork_model.specs.Core.{most_strays, core_next, core_offered, core_after, opening_core}
-use Rattle.fork_model.specs.Steps.{progress, IsWithin}
+use Rattle.fork_model.specs.Core.{core_next, core_offered, core_after, opening_core}
+use Rattle.fork_model.specs.Steps.{IsWithin}
 use Rattle.fork_model.proofs.laws.StepLemmas.{positions_bounded, progress_bounded}
 use Rattle.fork_model.proofs.laws.Arrivals.{next_arrivals}
 use Rattle.fork_model.specs.Range.{IsEventInRange}
@@ -13,13 +12,11 @@ use Rattle.fork_model.proofs.laws.Arrivals.{history_of_arrivals}
 use Rattle.fork_model.proofs.laws.SeriesLemmas.{keeps_series}
 use Rattle.fork_model.proofs.laws.OpeningSeries.{opening_in_series}
 use Rattle.fork_context.specs.Led.{IsLedTo}
-use Rattle.fork_context.proofs.InRange.{all_behind}
 use Rattle.fork_context.proofs.ClosingRows.{keeps_closed}
 
 within_next : (core : Core) (event : Event) → is_full core event ≡ false → IsWithin core → IsWithin (core_next core event)
 within_next core event open_yet within =
-    let P : Bool → Type 0 = λ full. IsWithin (if full then core else core_next core event) in
-    subst P open_yet (positions_bounded core event within)
+    subst (λ (full : Bool). IsWithin (if full then core else core_next core event)) open_yet (positions_bounded core event within)
 
 pub sound_next : (core : Core) (event : Event) → is_full core event ≡ false → IsSound core.table core.taken
     → IsSound (next core.table event core.taken) (suc core.taken)
@@ -31,13 +28,13 @@ sound_next core event open_yet sound = record {
 
 -- a position is small
 pub taken_small : (table : Table) (taken : ℕ) → IsSound table taken → taken ≤ 5121
-taken_small table taken sound =
-    let bound : progress table ≤ 4 * length table.rows + 1 = progress_bounded table in
-    let few : length table.rows ≤ most_targets = sound.few in
-    let within : taken ≤ most_strays + progress table = sound.within in
-    omega arith
+taken_small table taken sound = omega (arith, progress_bounded table, sound.few, sound.within)
 
 -- ---- the way here
+
+all_behind : {X : Type 0} (P : X → Type 0) (xs : List X) (x : X) → AllByRecursion P xs → P x → AllByRecursion P (xs ++ x ∷ [])
+all_behind P [] x all here = (here, tt)
+all_behind P (y ∷ xs) x all here = (all.0, all_behind P xs x all.1 here)
 
 after_one_more : (core : Core) (events : List Event) (event : Event) → core_after core (events ++ event ∷ []) ≡ core_offered (core_after core events) event
 after_one_more core [] event = refl

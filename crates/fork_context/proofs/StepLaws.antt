@@ -1,14 +1,17 @@
 -- One event at a table, arm by arm: the table after it, and what the reply names.
 use Rattle.fork_context.proofs.Common.{◌≡◌, ◌≤◌, ◌<◌, ◌+◌, arith, length-append, ℕ, zero, suc, Bool, true, false, List, [], ◌∷◌, ◌++◌, length, map, Option, Some, None, refl, ap, ◌∙◌, sym, subst, cond, inl, inr, ◌⊎◌, slice_get, not, ◌&&◌}
-use Rattle.fork_context.proofs.Common.{◌||◌, filter, option_map, option_and_then, append-nil, slice_get_within, length-map, length-state, targets_bounded, Kind, Row, Table, State, Idle, Trying, Rung, Ended, is_idle, is_trying, is_cancelled}
+use Rattle.fork_context.proofs.Common.{◌||◌, filter, option_map, option_and_then, append-nil, slice_get_within, length-map, length-state, targets_bounded, Kind, Row, Table, State, End, Idle, Trying, Rung, Ended, is_idle, is_trying, is_cancelled}
 use Rattle.fork_context.proofs.Common.{is_ended, is_row, is_invite, most_targets, Event, Cancel, row_named, numbers_below, Effect, effect, with_state, with_effect, change_at, change, closed_state, next, settled, settled_row, became}
 use Rattle.fork_context.proofs.Common.{IsInSeries, next_of_stray, next_of_change, changed_row, tried, closed_row, IsClosedWhole, is_ringing, gets_cancel, Placed, may_go, placed, effect_at}
-use Rattle.fork_context.proofs.FreshIdle.{IdleEffect, idle_effect}
+use Rattle.fork_context.proofs.Effects.{EffectFacts, effect_facts}
 use Rattle.fork_context.specs.inner.Ready.{Starts}
 use Rattle.fork_context.specs.inner.Stepped.{IsStepped, number_if, cancelled_at, IsSettled}
-use Rattle.fork_context.proofs.MayGo.{effect_goes_on}
 use Rattle.fork_context.proofs.Replies.{became_none, moved_none, moved_one}
-use Rattle.fork_context.proofs.StepTaken.{IsChanged, none_starts, none_started, group_starts, group_started, group_cancels, closing_is, closing_starts, closing_cancels, rang_moved, rang_same, closes_ended, closed_adds_none, change_named, change_by_effect, closed_step}
+use Rattle.fork_context.proofs.StepTaken.{IsChanged, none_starts, none_started, group_starts, group_started, group_cancels, closing_is, closing_starts, closing_cancels, rang_moved, rang_same, idle_not_cancelled, change_named, change_by_effect, closed_step}
+use Rattle.std.proofs.Math.Bool.{or-false}
+use Rattle.std.proofs.lemmas.Bool.{true≢false, not-true}
+use Rattle.fork_model.proofs.laws.StepLemmas.{and_right}
+use Rattle.fork_context.proofs.Applied.{waits_not, tried_not}
 use Rattle.fork_context.proofs.ForkReads.{map_none}
 
 along : (t : Table) (event : Event) (at : ℕ) (v w : Table) (started cancelled : List ℕ) → w ≡ v → IsStepped t event at v started cancelled
@@ -66,46 +69,30 @@ cancel_step t at v started cancelled series e is none numbers =
 -- ---- how a row goes on
 
 goes_not_idle : (a b : State) → may_go a b ≡ true → is_idle b ≡ false
+goes_not_idle a Idle e = absurd (true≢false (sym e ∙ waits_not a))
 goes_not_idle a Trying e = refl
 goes_not_idle a (Rung x) e = refl
 goes_not_idle a (Ended end) e = refl
-goes_not_idle Idle Idle e = absurd cc
-goes_not_idle Trying Idle e = absurd cc
-goes_not_idle (Rung x) Idle e = absurd cc
-goes_not_idle (Ended end) Idle e = absurd cc
 
 goes_not_trying : (a b : State) → may_go a b ≡ true → is_trying b ≡ false
 goes_not_trying a Idle e = refl
+goes_not_trying a Trying e = absurd (true≢false (sym e ∙ tried_not a))
 goes_not_trying a (Rung x) e = refl
 goes_not_trying a (Ended end) e = refl
-goes_not_trying Idle Trying e = absurd cc
-goes_not_trying Trying Trying e = absurd cc
-goes_not_trying (Rung x) Trying e = absurd cc
-goes_not_trying (Ended end) Trying e = absurd cc
-
-not_before : (again before : Bool) → (again && not before) ≡ true → before ≡ false
-not_before true false e = refl
-not_before true true e = absurd cc
-not_before false before e = absurd cc
 
 goes_rung : (a : State) (x : Bool) → may_go a (Rung x) ≡ true → is_cancelled a ≡ false
 goes_rung Idle x e = refl
 goes_rung Trying x e = refl
-goes_rung (Rung c) x e = not_before x c e
+goes_rung (Rung c) x e = not-true c (and_right x (not c) e)
 goes_rung (Ended end) x e = refl
 
--- a row that is cancelled now was not before
-goes_cancelled : (a b : State) → may_go a b ≡ true → is_cancelled b ≡ true → is_cancelled a ≡ false
-goes_cancelled a Idle e now = absurd cc
-goes_cancelled a Trying e now = absurd cc
-goes_cancelled a (Rung x) e now = goes_rung a x e
-goes_cancelled a (Ended end) e now = absurd cc
-
-goes_closed : (kind : Kind) (a b : State) → may_go a b ≡ true → is_cancelled (closed_state kind b) ≡ true → is_cancelled a ≡ false
-goes_closed kind a Idle e now = absurd cc
-goes_closed kind a Trying e now = absurd cc
-goes_closed kind a (Rung x) e now = goes_rung a x e
-goes_closed kind a (Ended end) e now = absurd cc
+-- a row that passes a test now that only one that rings passes was not cancelled before
+goes_cancelled : (test : State → Bool) → test Idle ≡ false → test Trying ≡ false → ((end : End) → test (Ended end) ≡ false)
+    → (a b : State) → may_go a b ≡ true → test b ≡ true → is_cancelled a ≡ false
+goes_cancelled test idle trying ended a Idle e now = absurd (true≢false (sym now ∙ idle))
+goes_cancelled test idle trying ended a Trying e now = absurd (true≢false (sym now ∙ trying))
+goes_cancelled test idle trying ended a (Rung x) e now = goes_rung a x e
+goes_cancelled test idle trying ended a (Ended end) e now = absurd (true≢false (sym now ∙ ended end))
 
 -- the number of the row that was cancelled, if it was
 cancels_one : (rows fresh : List Row) (n : ℕ) (row : Row) (state : State) → slice_get rows n ≡ Some row
@@ -117,12 +104,6 @@ cancels_one rows fresh n row state is none before = go (is_cancelled state) refl
     go : (b : Bool) → is_cancelled state ≡ b → became is_cancelled rows (with_state rows n state ++ fresh) ≡ number_if (is_cancelled state) n
     go true e = moved_one is_cancelled rows fresh n state row is none e (before e) ∙ sym (ap (λ (b : Bool). number_if b n) e)
     go false e = moved_none is_cancelled rows fresh n state none e ∙ sym (ap (λ (b : Bool). number_if b n) e)
-
-idle_not_cancelled : (state : State) → is_idle state ≡ true → is_cancelled state ≡ false
-idle_not_cancelled Idle e = refl
-idle_not_cancelled Trying e = refl
-idle_not_cancelled (Rung x) e = absurd cc
-idle_not_cancelled (Ended end) e = refl
 
 no_rows : (test : State → Bool) (k : ℕ) (r : Row) → slice_get {X = Row} [] k ≡ Some r → test r.state ≡ false
 no_rows test k r is = absurd cc
@@ -136,28 +117,18 @@ pub record HasEffect (t : Table) (event : Event) (at n : ℕ) (row : Row) (e : E
   pub there : slice_get t.rows n ≡ Some row
   pub is : effect t row at event row.state ≡ Some e
 
-goes : (t : Table) (event : Event) (at n : ℕ) (row : Row) (e : Effect) → HasEffect t event at n row e → may_go row.state e.state ≡ true
-goes t event at n row e h = effect_goes_on t row at event e h.is
+facts : (t : Table) (event : Event) (at n : ℕ) (row : Row) (e : Effect) → HasEffect t event at n row e → EffectFacts t row.state e
+facts t event at n row e h = effect_facts t row at event e h.is
 
 changes : (t : Table) (event : Event) (at n : ℕ) (row : Row) (e : Effect) → HasEffect t event at n row e → IsChanged t event at (with_effect t n e)
 changes t event at n row e h = record { series = h.series; changes = change_by_effect t event at n row e h.named h.there h.is }
 
-fresh_idle : (t : Table) (event : Event) (at n : ℕ) (row : Row) (e : Effect) → HasEffect t event at n row e
-    → (k : ℕ) (r : Row) → slice_get e.fresh k ≡ Some r → is_idle r.state ≡ true
-fresh_idle t event at n row e h k r is =
-    let P : Option Effect → Type 0 = λ o. IdleEffect o in
-    subst P h.is (idle_effect t row at event row.state) k r is
-
 -- in a closed table
-or_false : (b : Bool) → (b || false) ≡ b
-or_false true = refl
-or_false false = refl
-
 cancels_now : (kind : Kind) (state : State) → ((is_ringing state && is_invite kind) || is_cancelled state) ≡ is_cancelled (closed_state kind state)
 cancels_now kind Idle = refl
 cancels_now kind Trying = refl
 cancels_now kind (Rung true) = refl
-cancels_now kind (Rung false) = or_false (is_invite kind)
+cancels_now kind (Rung false) = or-false (is_invite kind)
 cancels_now kind (Ended end) = refl
 
 again : (rows : List Row) (n : ℕ) (a b : State) → with_state (with_state rows n a) n b ≡ with_state rows n b
@@ -186,11 +157,11 @@ ringing_at rows fresh n row state kind is = ap (λ (o : Option Row). is_row is_r
 closed_table : (t : Table) (event : Event) (at n : ℕ) (row : Row) (e : Effect) → HasEffect t event at n row e → t.closed ≡ true
     → cancelled_at n (with_effect t n e) ≡ record (with_effect t n e) { rows = with_state t.rows n (closed_state t.kind e.state) }
 closed_table t event at n row e h done =
-    go (closed_late t.kind e.state (goes_not_idle row.state e.state (goes t event at n row e h)))
+    go (closed_late t.kind e.state (goes_not_idle row.state e.state (facts t event at n row e h).goes))
   where
     plain : with_state t.rows n e.state ++ e.fresh ≡ with_state t.rows n e.state
     plain =
-        ap (λ (more : List Row). with_state t.rows n e.state ++ more) (closed_adds_none t row at event row.state e done h.is)
+        ap (λ (more : List Row). with_state t.rows n e.state ++ more) ((facts t event at n row e h).none done)
         ∙ append-nil (with_state t.rows n e.state)
 
     go : (((is_ringing e.state && is_invite t.kind) ≡ true) × (closed_state t.kind e.state ≡ Rung true)) ⊎ (((is_ringing e.state && is_invite t.kind) ≡ false) × (closed_state t.kind e.state ≡ e.state))
@@ -220,7 +191,7 @@ in_closed : (t : Table) (event : Event) (at n : ℕ) (row : Row) (e : Effect) (v
 in_closed t event at n row e v started cancelled h done is none numbers =
     let late : State = closed_state t.kind e.state in
     let after : Table = record (with_effect t n e) { rows = with_state t.rows n late } in
-    let may : may_go row.state e.state ≡ true = goes t event at n row e h in
+    let may : may_go row.state e.state ≡ true = (facts t event at n row e h).goes in
     along t event at after v started cancelled (is ∙ closed_table t event at n row e h done) (record {
       leads = sym (closed_step t event at n row e h.whole done h.named h.there h.is);
       started = none
@@ -230,7 +201,7 @@ in_closed t event at n row e v started cancelled h done is none numbers =
           ∙ ap (λ (b : Bool). number_if (b || is_cancelled e.state) n) (ringing_at t.rows e.fresh n row e.state t.kind h.there)
           ∙ ap (λ (b : Bool). number_if b n) (cancels_now t.kind e.state)
           ∙ sym (no_more is_cancelled t.rows n late
-          ∙ cancels_one t.rows [] n row late h.there (no_rows is_cancelled) (goes_closed t.kind row.state e.state may));
+          ∙ cancels_one t.rows [] n row late h.there (no_rows is_cancelled) (goes_cancelled (λ s. is_cancelled (closed_state t.kind s)) refl refl (λ end. refl) row.state e.state may));
     })
 
 -- it closes the table
@@ -247,11 +218,11 @@ closing t event at n row e v started cancelled h still done is none numbers =
     let u : Table = with_effect t n e in
     let c : IsChanged t event at u = changes t event at n row e h in
     let with_closed : Bool → Table = λ b. record u { closed = b; rows = map (closed_row t.kind) u.rows } in
-    let ends : is_ended e.state ≡ true = closes_ended t row at event row.state e h.is (or_right t.closed e.closes still done) in
+    let ends : is_ended e.state ≡ true = (facts t event at n row e h).ends (or_right t.closed e.closes still done) in
     along t event at (with_closed u.closed) v started cancelled (is ∙ sym (ap with_closed done)) (record {
       leads = sym (closing_is t event at u c.changes done);
       started = none ∙ sym (closing_starts t event at u c);
-      cancelled = numbers ∙ sym (closing_cancels t.rows u.rows t.kind (rang_moved t.rows e.fresh n e.state ends (fresh_idle t event at n row e h)));
+      cancelled = numbers ∙ sym (closing_cancels t.rows u.rows t.kind (rang_moved t.rows e.fresh n e.state ends (facts t event at n row e h).waits));
     })
 
 -- the table stays open
@@ -265,8 +236,8 @@ in_open t event at n row e v started cancelled h still starts numbers = go start
 
     named : became is_cancelled t.rows (with_state t.rows n e.state ++ e.fresh) ≡ number_if (is_cancelled e.state) n
     named =
-        cancels_one t.rows e.fresh n row e.state h.there (λ k r is. idle_not_cancelled r.state (fresh_idle t event at n row e h k r is))
-        (goes_cancelled row.state e.state (goes t event at n row e h))
+        cancels_one t.rows e.fresh n row e.state h.there (λ k r is. idle_not_cancelled r.state ((facts t event at n row e h).waits k r is))
+        (goes_cancelled is_cancelled refl refl (λ end. refl) row.state e.state (facts t event at n row e h).goes)
 
     go : Starts (with_effect t n e) v started → IsStepped t event at v started cancelled
     go (inl s) = along t event at (with_effect t n e) v started cancelled s.1 (record {
@@ -310,7 +281,7 @@ pub placed_goes : (t : Table) (event : Event) (at n : ℕ) (p : Placed) → Some
 placed_goes t event at n p e =
     let is = placed_is t event at n p e in
     let P : Placed → Type 0 = λ x. is_row (λ s. may_go s x.effect.state) (slice_get t.rows x.n) ≡ true in
-    subst P (sym is.4) (ap (is_row (λ s. may_go s is.1.state)) is.2 ∙ effect_goes_on t is.0 at event is.1 is.3)
+    subst P (sym is.4) (ap (is_row (λ s. may_go s is.1.state)) is.2 ∙ (effect_facts t is.0 at event is.1 is.3).goes)
 
 pub placed_first : (t : Table) (event : Event) (at n : ℕ) (p : Placed) → Some p ≡ option_map (placed n t) (effect_at t n event at) → p.first ≡ length t.rows
 placed_first t event at n p e = ap (λ (x : Placed). x.first) (placed_is t event at n p e).4
@@ -335,12 +306,9 @@ effect_few t event at n p named few found =
     let u : Table = with_effect t n is.1 in
     let same : next t event at ≡ settled u = next_of_change t u event at (change_by_effect t event at n is.0 is.1 named is.2 is.3) in
     let one : length (next t event at).rows ≡ length (settled u).rows = ap (λ (x : Table). length x.rows) same in
-    let two : length (settled u).rows ≡ length u.rows = length-map u.rows (settled_row u) in
-    let three : length (next t event at).rows ≤ most_targets = targets_bounded t event at few in
-    let four : length u.rows ≡ length (with_state t.rows n is.1.state) + length is.1.fresh = length-append (with_state t.rows n is.1.state) is.1.fresh in
-    let five : length (with_state t.rows n is.1.state) ≡ length t.rows = length-state t.rows n is.1.state in
-    let six : length p.effect.fresh ≡ length is.1.fresh = ap (λ (x : Placed). length x.effect.fresh) is.4 in
-    omega arith
+    let two : length p.effect.fresh ≡ length is.1.fresh = ap (λ (x : Placed). length x.effect.fresh) is.4 in
+    let three = length-append (with_state t.rows n is.1.state) is.1.fresh in
+    omega (arith, one, two, three, length-map u.rows (settled_row u), targets_bounded t event at few, length-state t.rows n is.1.state)
 
 -- the whole step, from what the functions that take it say
 pub effect_step : (t : Table) (event : Event) (at n : ℕ) (p : Placed) (u v : Table) (started cancelled : List ℕ) (was cancels : Bool)
@@ -359,5 +327,3 @@ effect_step t event at n p u v started cancelled was cancels series whole named 
     settled_by t event at n is.0 is.1 v started cancelled
     (record { series = series; whole = whole; named = named; there = is.2; is = is.3 })
     (subst R before (subst Q state (subst P same settled)))
-
--- ---- what goes up

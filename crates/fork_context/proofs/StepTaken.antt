@@ -1,20 +1,17 @@
 -- One event at a table: what it changes, what settling then changes, and what the reply names.
-use Rattle.fork_context.proofs.Common.{◌≡◌, ℕ, zero, suc, ◌+◌, ◌<◌, ◌≤◌, Bool, true, false, List, [], ◌∷◌, ◌++◌, length, map, Option, Some, None, refl, ap, arith, ◌∙◌, sym, subst, cond, inl, inr, ◌⊎◌, slice_get, not, ◌&&◌, ◌||◌, filter}
-use Rattle.fork_context.proofs.Common.{nat_lt, option_map, slice_get-map, append-nil, length-map, Kind, Row, Table, State, Idle, Trying, Rung, Ended, Silent, is_idle, is_trying, is_cancelled, is_ended, is_row, is_invite, Event, FinalAnswer}
-use Rattle.fork_context.proofs.Common.{Ring, Answer, Timeout, Fault, TimerC, GiveUp, Cancel, row_named, numbers_below, may_start, depth_of, ContactLists, taking_at, taking_from, keys_of, fresh_rows, Effect, effect, moves, assumed, accepts}
-use Rattle.fork_context.proofs.Common.{answers, redirects, stores, with_state, with_effect, change_at, change, closed_state, settled, next, has_become, became, IsInSeries, next_of_change, may_start_facts, Found, found, OneGroup, IsReady}
-use Rattle.fork_context.proofs.Common.{tried, numbers_from, closed_row, IsClosedWhole, is_ringing}
-use Rattle.fork_model.specs.Step.{cancelled}
+use Rattle.fork_context.proofs.Common.{◌≡◌, ℕ, zero, suc, ◌+◌, ◌<◌, ◌≤◌, Bool, true, false, List, [], ◌∷◌, ◌++◌, length, map, Option, Some, None, refl, ap, arith, ◌∙◌, sym, inl, inr, ◌⊎◌, slice_get, not, ◌&&◌, ◌||◌, filter}
+use Rattle.fork_context.proofs.Common.{option_map, slice_get-map, append-nil, length-map, Kind, Row, Table, State, Idle, Trying, Rung, Ended, is_idle, is_trying, is_cancelled, is_ended, is_row, is_invite, Event, Ring, Answer}
+use Rattle.fork_context.proofs.Common.{Timeout, Fault, TimerC, GiveUp, Cancel, row_named, numbers_below, may_start, Effect, effect, with_state, with_effect, change_at, change, closed_state, next, has_become, became, IsInSeries}
+use Rattle.fork_context.proofs.Common.{next_of_change, may_start_facts, Found, found, OneGroup, IsReady, tried, numbers_from, closed_row, IsClosedWhole, is_ringing}
+use Rattle.std.proofs.Math.Bool.{and-true}
 use Rattle.fork_model.proofs.laws.StepLemmas.{Onward, change_advances}
 use Rattle.fork_model.proofs.laws.ChangeLemmas.{IsMove, IsClosing, change_is}
 use Rattle.fork_model.proofs.laws.SeriesLemmas.{one_group_changed, tried_before, idle_before}
 use Rattle.fork_context.proofs.Settling.{settled_none, settled_group}
 use Rattle.fork_context.proofs.Numbers.{filter_same}
-use Rattle.fork_context.proofs.Replies.{became_none, became_range, tried_in, tried_found, length-tried}
+use Rattle.fork_context.proofs.Replies.{differ, became_none, became_range, tried_in, tried_found, length-tried}
 use Rattle.fork_context.proofs.ClosingRows.{settled_closed, still_closed}
-
-differ : {b : Bool} → b ≡ true → b ≡ false → ⊥
-differ h k = cc
+use Rattle.fork_context.proofs.Effects.{effect_facts}
 
 -- ---- an event that changes a table by settling alone after its own change
 
@@ -38,9 +35,6 @@ was_tried t event at u c k row is now = go (is_row is_trying (slice_get t.rows k
     go true e = e
     go false e = absurd (differ now (tried_before t u (moved t event at u c) k row is e))
 
-pub next_is : (t : Table) (event : Event) (at : ℕ) (u : Table) → change t event at ≡ Some u → next t event at ≡ settled u
-next_is t event at u is = next_of_change t u event at is
-
 -- ---- the table stays open
 
 pub one_group_of : (t : Table) (event : Event) (at : ℕ) (u : Table) → IsChanged t event at u → u.closed ≡ false → OneGroup u.rows
@@ -48,7 +42,7 @@ one_group_of t event at u c still = one_group_changed t u (onward t event at u c
 
 pub none_starts : (t : Table) (event : Event) (at : ℕ) (u : Table) → IsChanged t event at u → u.closed ≡ false
     → ((k : ℕ) (row : Row) → slice_get u.rows k ≡ Some row → may_start u.rows row ≡ false) → next t event at ≡ u
-none_starts t event at u c still none = next_is t event at u c.changes ∙ settled_none u still none
+none_starts t event at u c still none = next_of_change t u event at c.changes ∙ settled_none u still none
 
 pub none_started : (t : Table) (event : Event) (at : ℕ) (u : Table) → IsChanged t event at u → became is_trying t.rows u.rows ≡ []
 none_started t event at u c = became_none is_trying t.rows u.rows (was_tried t event at u c)
@@ -56,14 +50,14 @@ none_started t event at u c = became_none is_trying t.rows u.rows (was_tried t e
 pub group_starts : (t : Table) (event : Event) (at : ℕ) (u : Table) (first count : ℕ) → IsChanged t event at u → u.closed ≡ false
     → IsReady u.rows first count → next t event at ≡ record u { rows = tried u.rows first count }
 group_starts t event at u first count c still ready =
-    next_is t event at u c.changes ∙ settled_group u first count still (one_group_of t event at u c still) ready
+    next_of_change t u event at c.changes ∙ settled_group u first count still (one_group_of t event at u c still) ready
 
 -- a row of a group that starts waited till then
 ready_idle : (rows : List Row) (first count : ℕ) → IsReady rows first count → (k : ℕ) (row : Row) → first ≤ k → k < first + count
     → slice_get rows k ≡ Some row → is_idle row.state ≡ true
 ready_idle rows first count ready k row lo hi is = (may_start_facts rows row (ready.ready k row lo hi is)).idle
 
-some_row : (rows : List Row) (k : ℕ) → k < length rows → (row : Row) × (slice_get rows k ≡ Some row)
+pub some_row : (rows : List Row) (k : ℕ) → k < length rows → (row : Row) × (slice_get rows k ≡ Some row)
 some_row [] k lt = absurd (omega arith)
 some_row (row ∷ rows) zero lt = (row, refl)
 some_row (row ∷ rows) (suc k) lt = some_row rows k (omega arith)
@@ -92,6 +86,12 @@ group_started t event at u first count c ready =
         go (inl h) = absurd (differ (was_tried t event at u c k row h now) before)
         go (inr h) = (h.0, h.1)
 
+pub idle_not_cancelled : (state : State) → is_idle state ≡ true → is_cancelled state ≡ false
+idle_not_cancelled Idle e = refl
+idle_not_cancelled Trying e = refl
+idle_not_cancelled (Rung x) e = absurd cc
+idle_not_cancelled (Ended end) e = refl
+
 -- a group that starts cancels nothing
 pub group_cancels : (old rows : List Row) (first count : ℕ) → IsReady rows first count
     → became is_cancelled old (tried rows first count) ≡ became is_cancelled old rows
@@ -107,22 +107,16 @@ group_cancels old rows first count ready =
         ap (λ (b : Bool). b && not (is_row is_cancelled (slice_get old k)))
         (ap (is_row is_cancelled) now.1 ∙ go was.0 now.0 was.1 (tried_found rows first count k now.0 now.1) ∙ sym (ap (is_row is_cancelled) was.1))
       where
-        idle_not : (state : State) → is_idle state ≡ true → false ≡ is_cancelled state
-        idle_not Idle e = refl
-        idle_not Trying e = refl
-        idle_not (Rung b) e = absurd cc
-        idle_not (Ended end) e = refl
-
         go : (was now : Row) → slice_get rows k ≡ Some was → (slice_get rows k ≡ Some now) ⊎ ((first ≤ k) × (k < first + count) × (now.state ≡ Trying))
             → is_cancelled now.state ≡ is_cancelled was.state
         go was now is (inl h) = let same : now ≡ was = cc in ap (λ (r : Row). is_cancelled r.state) same
-        go was now is (inr h) = ap is_cancelled h.2 ∙ idle_not was.state (ready_idle rows first count ready k was h.0 h.1 is)
+        go was now is (inr h) = ap is_cancelled h.2 ∙ sym (idle_not_cancelled was.state (ready_idle rows first count ready k was h.0 h.1 is))
 
 -- ---- the table closes
 
 pub closing_is : (t : Table) (event : Event) (at : ℕ) (u : Table) → change t event at ≡ Some u → u.closed ≡ true
     → next t event at ≡ record u { rows = map (closed_row u.kind) u.rows }
-closing_is t event at u is done = next_is t event at u is ∙ settled_closed u done
+closing_is t event at u is done = next_of_change t u event at is ∙ settled_closed u done
 
 closed_trying : (kind : Kind) (state : State) → is_trying (closed_state kind state) ≡ is_trying state
 closed_trying kind Idle = refl
@@ -157,11 +151,7 @@ closing_cancels old rows kind rang =
     by_state k Trying h = refl
     by_state k (Ended end) h = refl
     by_state k (Rung true) h = ap (λ (b : Bool). not b) (h true refl)
-    by_state k (Rung false) h = ap (λ (b : Bool). is_invite kind && not b) (h false refl) ∙ and_true (is_invite kind)
-      where
-        and_true : (b : Bool) → (b && true) ≡ b
-        and_true true = refl
-        and_true false = refl
+    by_state k (Rung false) h = ap (λ (b : Bool). is_invite kind && not b) (h false refl) ∙ and-true (is_invite kind)
 
     same : (k : ℕ) → k < length rows → has_become is_cancelled old (map (closed_row kind) rows) k ≡ (is_row is_ringing (slice_get rows k) && is_invite kind)
     same k lt =
@@ -172,12 +162,6 @@ closing_cancels old rows kind rang =
         ∙ by_state k row.0.state (λ b e. rang k row.0 b row.1 e)
         ∙ sym (ap (λ (o : Option Row). is_row is_ringing o && is_invite kind) row.1)
 
-state_not_rung : (state : State) (b : Bool) → state ≡ Rung b → is_ended state ≡ true → ⊥
-state_not_rung state b e h = let f : is_ended (Rung b) ≡ true = ap is_ended (sym e) ∙ h in cc
-
-idle_not_rung : (state : State) (b : Bool) → state ≡ Rung b → is_idle state ≡ true → ⊥
-idle_not_rung state b e h = let f : is_idle (Rung b) ≡ true = ap is_idle (sym e) ∙ h in cc
-
 -- it is so where a row has ended and new rows wait
 pub rang_moved : (rows fresh : List Row) (n : ℕ) (state : State) → is_ended state ≡ true
     → ((k : ℕ) (row : Row) → slice_get fresh k ≡ Some row → is_idle row.state ≡ true) → RangBefore rows (with_state rows n state ++ fresh)
@@ -185,95 +169,13 @@ rang_moved rows fresh n state ends waits k row b is rung = go (found rows fresh 
   where
     go : Found rows fresh n state k row → is_row is_cancelled (slice_get rows k) ≡ b
     go (inl h) = ap (is_row is_cancelled) h ∙ ap is_cancelled rung
-    go (inr (inl h)) = absurd (state_not_rung row.state b rung (ap is_ended h.1 ∙ ends))
-    go (inr (inr h)) = absurd (idle_not_rung row.state b rung (waits h.0 row h.1))
+    go (inr (inl h)) = absurd (let e : is_ended (Rung b) ≡ true = ap is_ended (sym rung ∙ h.1) ∙ ends in cc)
+    go (inr (inr h)) = absurd (let e : is_idle (Rung b) ≡ true = ap is_idle (sym rung) ∙ waits h.0 row h.1 in cc)
 
 pub rang_same : (rows : List Row) → RangBefore rows rows
 rang_same rows k row b is rung = ap (is_row is_cancelled) is ∙ ap is_cancelled rung
 
 -- ---- the event's own change, by the row that it names
-
--- only an answer that ends its row closes the table
-abbrev ClosesEnded : Option Effect → Type 0
-ClosesEnded None = Unit {0}
-ClosesEnded (Some e) = e.closes ≡ true → is_ended e.state ≡ true
-
-ended_if : (b : Bool) (e : Effect) → ClosesEnded (Some e) → ClosesEnded (cond b (Some e) None)
-ended_if true e h = h
-ended_if false e h = tt
-
-ended_answers : (t : Table) (n : ℕ) (row : Row) (at : ℕ) (answer : FinalAnswer) → ClosesEnded (Some (answers t n row at answer))
-ended_answers t n row at answer = go (nat_lt answer.status 300) (nat_lt answer.status 400)
-  where
-    go : (a b : Bool) → ClosesEnded (Some (cond a (accepts at) (cond b (redirects n at answer (taking_at t row answer.offers)) (stores at answer))))
-    go true b = λ h. refl
-    go false true = λ h. refl
-    go false false = λ h. refl
-
-ended_effect : (t : Table) (row : Row) (at : ℕ) (event : Event) (state : State) → ClosesEnded (effect t row at event state)
-ended_effect t row at event Idle = tt
-ended_effect t row at event (Ended end) = tt
-ended_effect t row at (Ring n status) Trying = λ h. absurd cc
-ended_effect t row at (Ring n status) (Rung cancelled) = tt
-ended_effect t row at (Answer n answer) Trying = ended_answers t n row at answer
-ended_effect t row at (Answer n answer) (Rung cancelled) = ended_answers t n row at answer
-ended_effect t row at (Timeout n) Trying = λ h. refl
-ended_effect t row at (Timeout n) (Rung cancelled) = λ h. refl
-ended_effect t row at (Fault n) Trying = λ h. refl
-ended_effect t row at (Fault n) (Rung cancelled) = λ h. refl
-ended_effect t row at (TimerC n) Trying = ended_if (is_invite t.kind) (assumed 408 at) (λ h. refl)
-ended_effect t row at (TimerC n) (Rung cancelled) = ended_if (is_invite t.kind && not cancelled) (moves (Rung true)) (λ h. absurd cc)
-ended_effect t row at (GiveUp n) Trying = tt
-ended_effect t row at (GiveUp n) (Rung cancelled) = ended_if cancelled (moves (Ended (Silent at))) (λ h. refl)
-ended_effect t row at Cancel Trying = tt
-ended_effect t row at Cancel (Rung cancelled) = tt
-
-pub closes_ended : (t : Table) (row : Row) (at : ℕ) (event : Event) (state : State) (e : Effect) → effect t row at event state ≡ Some e
-    → e.closes ≡ true → is_ended e.state ≡ true
-closes_ended t row at event state e is = let P : Option Effect → Type 0 = λ o. ClosesEnded o in subst P is (ended_effect t row at event state)
-
--- a closed table takes no contact
-abbrev AddsNone : Option Effect → Type 0
-AddsNone None = Unit {0}
-AddsNone (Some e) = e.fresh ≡ []
-
-none_if : (b : Bool) (e : Effect) → AddsNone (Some e) → AddsNone (cond b (Some e) None)
-none_if true e h = h
-none_if false e h = tt
-
-none_taken : (t : Table) (n : ℕ) (row : Row) (answer : FinalAnswer) → t.closed ≡ true → fresh_rows n (taking_at t row answer.offers).fresh ≡ []
-none_taken t n row answer done =
-    (λ i. fresh_rows n (cond (done i || not (nat_lt (depth_of t.rows row) t.rules.depth)) (let k : ContactLists = record { fresh = []; left = answer.offers } in k) (taking_from (keys_of t.rows) 0 answer.offers)).fresh)
-
-none_answers : (t : Table) (n : ℕ) (row : Row) (at : ℕ) (answer : FinalAnswer) → t.closed ≡ true → AddsNone (Some (answers t n row at answer))
-none_answers t n row at answer done = go (nat_lt answer.status 300) (nat_lt answer.status 400)
-  where
-    go : (a b : Bool) → AddsNone (Some (cond a (accepts at) (cond b (redirects n at answer (taking_at t row answer.offers)) (stores at answer))))
-    go true b = refl
-    go false true = none_taken t n row answer done
-    go false false = refl
-
-none_effect : (t : Table) (row : Row) (at : ℕ) (event : Event) (state : State) → t.closed ≡ true → AddsNone (effect t row at event state)
-none_effect t row at event Idle done = tt
-none_effect t row at event (Ended end) done = tt
-none_effect t row at (Ring n status) Trying done = refl
-none_effect t row at (Ring n status) (Rung cancelled) done = tt
-none_effect t row at (Answer n answer) Trying done = none_answers t n row at answer done
-none_effect t row at (Answer n answer) (Rung cancelled) done = none_answers t n row at answer done
-none_effect t row at (Timeout n) Trying done = refl
-none_effect t row at (Timeout n) (Rung cancelled) done = refl
-none_effect t row at (Fault n) Trying done = refl
-none_effect t row at (Fault n) (Rung cancelled) done = refl
-none_effect t row at (TimerC n) Trying done = none_if (is_invite t.kind) (assumed 408 at) refl
-none_effect t row at (TimerC n) (Rung cancelled) done = none_if (is_invite t.kind && not cancelled) (moves (Rung true)) refl
-none_effect t row at (GiveUp n) Trying done = tt
-none_effect t row at (GiveUp n) (Rung cancelled) done = none_if cancelled (moves (Ended (Silent at))) refl
-none_effect t row at Cancel Trying done = tt
-none_effect t row at Cancel (Rung cancelled) done = tt
-
-pub closed_adds_none : (t : Table) (row : Row) (at : ℕ) (event : Event) (state : State) (e : Effect) → t.closed ≡ true
-    → effect t row at event state ≡ Some e → e.fresh ≡ []
-closed_adds_none t row at event state e done is = let P : Option Effect → Type 0 = λ o. AddsNone o in subst P is (none_effect t row at event state done)
 
 -- the change is that of the row that the event names
 pub change_named : (t : Table) (event : Event) (at n : ℕ) → row_named event ≡ Some n → change t event at ≡ change_at t at event n (slice_get t.rows n)
@@ -296,7 +198,7 @@ pub closed_step : (t : Table) (event : Event) (at n : ℕ) (row : Row) (e : Effe
     → next t event at ≡ record (with_effect t n e) { rows = with_state t.rows n (closed_state t.kind e.state) }
 closed_step t event at n row e whole done named there is =
     let u : Table = with_effect t n e in
-    let none : e.fresh ≡ [] = closed_adds_none t row at event row.state e done is in
+    let none : e.fresh ≡ [] = (effect_facts t row at event e is).none done in
     let rows : with_state t.rows n e.state ++ e.fresh ≡ with_state t.rows n e.state =
     ap (λ (more : List Row). with_state t.rows n e.state ++ more) none ∙ append-nil (with_state t.rows n e.state) in
     let shut : u.closed ≡ true = ap (λ (b : Bool). b || e.closes) done in

@@ -1,26 +1,20 @@
 -- The stored answers of a tree's rows are those of its table.
-use Rattle.fork_context.proofs.Common.{◌≡◌, ℕ, zero, suc, List, [], ◌∷◌, refl, ◌∙◌, sym, slice_get, option_map, Row, Rules, State, Stored, Taken, Silent, Never, Accepted, Idle, Trying, Rung, Ended, stored_of, stored_at, IsFirst, NoneStored}
-use Rattle.fork_context.proofs.Common.{RowExtras, state_with_extras, with_extras}
+use Rattle.fork_context.proofs.Common.{◌≡◌, ℕ, List, refl, ◌∙◌, sym, slice_get, option_map, Row, Rules, End, Stored, Taken, Silent, Never, Accepted, stored_of, stored_at, IsFirst, NoneStored, RowExtras, end_with_extras, with_extras}
+use Rattle.fork_context.proofs.RowsWithExtras.{state_read, row_read}
+use Rattle.fork_model.specs.Table.{stored_end}
 use Rattle.fork_model.specs.Rank.{Score}
 use Rattle.fork_model.specs.Choice.{score_of}
 
-score_extras : (state : State) (b : RowExtras) → option_map score_of (stored_of (state_with_extras state b)) ≡ option_map score_of (stored_of state)
-score_extras Idle b = refl
-score_extras Trying b = refl
-score_extras (Rung cancelled) b = refl
-score_extras (Ended (Stored a)) b = refl
-score_extras (Ended (Taken at)) b = refl
-score_extras (Ended (Silent at)) b = refl
-score_extras (Ended Never) b = refl
-score_extras (Ended (Accepted at)) b = refl
+by_end : (end : End) (b : RowExtras) → option_map score_of (stored_end (end_with_extras end b)) ≡ option_map score_of (stored_end end)
+by_end (Stored a) b = refl
+by_end (Taken at) b = refl
+by_end (Silent at) b = refl
+by_end Never b = refl
+by_end (Accepted at) b = refl
 
 pub score_with_extras : (rows : List Row) (extras : List RowExtras) (n : ℕ)
     → option_map score_of (stored_at (slice_get (with_extras rows extras) n)) ≡ option_map score_of (stored_at (slice_get rows n))
-score_with_extras [] extras n = refl
-score_with_extras (x ∷ rows) [] zero = refl
-score_with_extras (x ∷ rows) [] (suc n) = score_with_extras rows [] n
-score_with_extras (x ∷ rows) (b ∷ extras) zero = score_extras x.state b
-score_with_extras (x ∷ rows) (b ∷ extras) (suc n) = score_with_extras rows extras n
+score_with_extras = row_read (λ o. option_map score_of (stored_at o)) (λ row b. state_read (λ state. option_map score_of (stored_of state)) by_end row.state b)
 
 pub first_with_extras : (rules : Rules) (rows : List Row) (extras : List RowExtras) (n : ℕ) (score : Score) → IsFirst rules rows n score
     → IsFirst rules (with_extras rows extras) n score

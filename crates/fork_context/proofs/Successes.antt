@@ -1,16 +1,10 @@
 -- Whether a 2xx came, as rows change.
 use Rattle.fork_context.proofs.Common.{◌≡◌, ℕ, zero, suc, ◌+◌, ◌<◌, ◌≤◌, Bool, true, false, List, [], ◌∷◌, ◌++◌, map, Some, refl, ap, arith, ◌∙◌, sym, slice_get, ◌||◌, Row, State, Stored, Taken, Silent, Never, Accepted, Idle, Trying, Rung}
-use Rattle.fork_context.proofs.Common.{Ended, is_idle, is_open, is_accepted, is_succeeded, with_state, tried, never_state, never_row, RowExtras, state_with_extras, with_extras}
-
-or_swap : (a b : Bool) → (a || b) ≡ (b || a)
-or_swap true true = refl
-or_swap true false = refl
-or_swap false true = refl
-or_swap false false = refl
-
-or_group : (a b c : Bool) → (a || (b || c)) ≡ ((a || b) || c)
-or_group true b c = refl
-or_group false b c = refl
+use Rattle.fork_context.proofs.Common.{End, Ended, is_idle, is_accepted, is_succeeded, with_state, tried, never_state, never_row, RowExtras, end_with_extras, with_extras}
+use Rattle.std.proofs.Math.Bool.{or_comm, or_assoc}
+use Rattle.std.proofs.lemmas.Bool.{true≢false}
+use Rattle.fork_model.specs.Table.{is_accepted_end}
+use Rattle.fork_context.proofs.RowsWithExtras.{state_read}
 
 -- a row that was not answered with a 2xx goes to another state
 pub succeeded_state : (rows : List Row) (n : ℕ) (row : Row) (state : State) → slice_get rows n ≡ Some row → is_accepted row.state ≡ false
@@ -19,27 +13,22 @@ succeeded_state [] n row state is e = absurd cc
 succeeded_state (x ∷ rows) zero row state is e =
     let same : x ≡ row = cc in
     let none : is_accepted x.state ≡ false = ap (λ (r : Row). is_accepted r.state) same ∙ e in
-    or_swap (is_accepted state) (is_succeeded rows) ∙ sym (ap (λ (b : Bool). (b || is_succeeded rows) || is_accepted state) none)
+    or_comm (is_accepted state) (is_succeeded rows) ∙ sym (ap (λ (b : Bool). (b || is_succeeded rows) || is_accepted state) none)
 succeeded_state (x ∷ rows) (suc n) row state is e =
     ap (λ (b : Bool). is_accepted x.state || b) (succeeded_state rows n row state is e)
-    ∙ or_group (is_accepted x.state) (is_succeeded rows) (is_accepted state)
+    ∙ sym (or_assoc (is_accepted x.state) (is_succeeded rows) (is_accepted state))
 
-pub idle_not_accepted : (state : State) → is_idle state ≡ true → is_accepted state ≡ false
-idle_not_accepted Idle e = refl
-idle_not_accepted Trying e = refl
-idle_not_accepted (Rung b) e = refl
-idle_not_accepted (Ended end) e = absurd cc
+-- a row that passes a test that no end passes
+pub not_accepted : (test : State → Bool) → ((end : End) → test (Ended end) ≡ false) → (state : State) → test state ≡ true → is_accepted state ≡ false
+not_accepted test unended Idle e = refl
+not_accepted test unended Trying e = refl
+not_accepted test unended (Rung b) e = refl
+not_accepted test unended (Ended end) e = absurd (true≢false (sym e ∙ unended end))
 
-pub open_not_accepted : (state : State) → is_open state ≡ true → is_accepted state ≡ false
-open_not_accepted Idle e = refl
-open_not_accepted Trying e = refl
-open_not_accepted (Rung b) e = refl
-open_not_accepted (Ended end) e = absurd cc
-
-none_succeeded : (rows : List Row) → ((k : ℕ) (row : Row) → slice_get rows k ≡ Some row → is_idle row.state ≡ true) → is_succeeded rows ≡ false
+pub none_succeeded : (rows : List Row) → ((k : ℕ) (row : Row) → slice_get rows k ≡ Some row → is_idle row.state ≡ true) → is_succeeded rows ≡ false
 none_succeeded [] h = refl
 none_succeeded (x ∷ rows) h =
-    (λ i. idle_not_accepted x.state (h 0 x refl) i || none_succeeded rows (λ k r is. h (suc k) r is) i)
+    (λ i. not_accepted is_idle (λ end. refl) x.state (h 0 x refl) i || none_succeeded rows (λ k r is. h (suc k) r is) i)
 
 -- rows that wait come behind
 pub succeeded_more : (rows fresh : List Row) → ((k : ℕ) (row : Row) → slice_get fresh k ≡ Some row → is_idle row.state ≡ true)
@@ -54,7 +43,7 @@ pub succeeded_tried : (rows : List Row) (first count : ℕ)
 succeeded_tried [] first count h = refl
 succeeded_tried (x ∷ rows) zero zero h = refl
 succeeded_tried (x ∷ rows) zero (suc count) h =
-    let none : false ≡ is_accepted x.state = sym (idle_not_accepted x.state (h 0 x (omega arith) (omega arith) refl)) in
+    let none : false ≡ is_accepted x.state = sym (not_accepted is_idle (λ end. refl) x.state (h 0 x (omega arith) (omega arith) refl)) in
     let rest : is_succeeded (tried rows zero count) ≡ is_succeeded rows =
     succeeded_tried rows zero count (λ k r lo hi is. h (suc k) r (omega arith) (let less : k < 0 + count = hi in omega arith) is) in
     (λ i. none i || rest i)
@@ -73,17 +62,14 @@ pub succeeded_never : (rows : List Row) → is_succeeded (map never_row rows) �
 succeeded_never [] = refl
 succeeded_never (x ∷ rows) = (λ i. never_accepted x.state i || succeeded_never rows i)
 
-accepted_extras : (state : State) (b : RowExtras) → is_accepted (state_with_extras state b) ≡ is_accepted state
-accepted_extras Idle b = refl
-accepted_extras Trying b = refl
-accepted_extras (Rung cancelled) b = refl
-accepted_extras (Ended (Stored a)) b = refl
-accepted_extras (Ended (Taken at)) b = refl
-accepted_extras (Ended (Silent at)) b = refl
-accepted_extras (Ended Never) b = refl
-accepted_extras (Ended (Accepted at)) b = refl
+accepted_extras : (end : End) (b : RowExtras) → is_accepted_end (end_with_extras end b) ≡ is_accepted_end end
+accepted_extras (Stored a) b = refl
+accepted_extras (Taken at) b = refl
+accepted_extras (Silent at) b = refl
+accepted_extras Never b = refl
+accepted_extras (Accepted at) b = refl
 
 pub succeeded_with_extras : (rows : List Row) (extras : List RowExtras) → is_succeeded (with_extras rows extras) ≡ is_succeeded rows
 succeeded_with_extras [] extras = refl
 succeeded_with_extras (x ∷ rows) [] = ap (λ (b : Bool). is_accepted x.state || b) (succeeded_with_extras rows [])
-succeeded_with_extras (x ∷ rows) (b ∷ extras) = (λ i. accepted_extras x.state b i || succeeded_with_extras rows extras i)
+succeeded_with_extras (x ∷ rows) (b ∷ extras) = (λ i. state_read is_accepted accepted_extras x.state b i || succeeded_with_extras rows extras i)

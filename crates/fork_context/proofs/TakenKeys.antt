@@ -50,10 +50,7 @@ pub sizes : (rows : List Row) (extras : List RowExtras) (all : List (List ℕ)) 
     → length all ≡ length rows + length extras
 sizes rows extras all view =
     let whole : length all ≡ length (all_keys rows extras) = ap (λ (keys : List (List ℕ)). length keys) (sym view) in
-    let sum : length (all_keys rows extras) ≡ length (keys_of rows) + length (map key_of extras) = length-append (keys_of rows) (map key_of extras) in
-    let some : length (keys_of rows) ≡ length rows = length-map rows key_of_row in
-    let others : length (map key_of extras) ≡ length extras = length-map extras key_of in
-    omega arith
+    omega (arith, whole, length-append (keys_of rows) (map key_of extras), length-map rows key_of_row, length-map extras key_of)
 
 pub one_more : (rows : List Row) (extras more : List RowExtras) (b : RowExtras) (all : List (List ℕ))
     → all_keys rows extras ≡ all → more ≡ extras ++ b ∷ [] → all_keys rows more ≡ all ++ b.key ∷ []

@@ -1,8 +1,9 @@
 -- Exactly the texts of right listings are accepted.
-use Rattle.fork_listing.proofs.Common.{◌≡◌, ℕ, zero, suc, ◌<◌, ◌≤◌, List, [], ◌∷◌, ◌++◌, map, Option, Some, None, Result, Ok, Err, refl, sym, ap, subst, ◌∙◌, arith, inl, inr, ◌⊎◌, slice_get, option_and_then, AllByRecursion, cases_lt, Score}
-use Rattle.fork_listing.proofs.Common.{HasScore, AreArrivals, End, Stored, Taken, Silent, Never, Target, Verdict, Line, TargetLine, most_arrival, arrival_of, ended_at, IsInPlace, rows_of, score_in, score_at, IsChosen, IsNotChosen, final_of}
-use Rattle.fork_listing.proofs.Common.{Listing, rule_lines, read_listing, IsRight, IsVerdictOf, IsChecked, verdict_of, IsLine, IsEnd, IsListing, IsRightText, same_Some}
+use Rattle.fork_listing.proofs.Common.{◌≡◌, ℕ, suc, ◌<◌, ◌≤◌, List, map, Some, Result, Ok, Err, refl, sym, ap, subst, ◌∙◌, arith, inl, inr, ◌⊎◌, slice_get, option_and_then, cases_lt, Score}
+use Rattle.fork_listing.proofs.Common.{HasScore, AreArrivals, End, Stored, Target, Verdict, Line, TargetLine, most_arrival, arrival_of, ended_at, IsInPlace, rows_of, score_in, score_at, IsChosen, IsNotChosen, final_of}
+use Rattle.fork_listing.proofs.Common.{Listing, rule_lines, read_listing, IsRight, IsVerdictOf, IsChecked, verdict_of, IsLine, IsEnd, IsListing, IsRightText, same_Some, all_at, looked, option_map, slice_get-map, none_some, slice_get_within}
 use Rattle.std.specs.Prelude.{IfOk, IfErr}
+use Rattle.fork_text.proofs.laws.Lines as texts
 use Rattle.fork_model.proofs.laws.OneReplyLemmas.{one_choice}
 use Rattle.fork_listing.specs.declared.refusal.CheckFault.{CheckFault}
 use Rattle.fork_listing.specs.declared.refusal.CheckFault.TheVariants as fault
@@ -11,28 +12,17 @@ use Rattle.fork_listing.specs.Spelled.{IsFirstMalformed}
 use Rattle.fork_listing.specs.Accepted.{IsOkElseNoMemory, IsLineNamed, AcceptedTextsAreRight, RightTextsAreAccepted}
 use Rattle.fork_listing.proofs.MalformedLines.{refused_by_first}
 use Rattle.fork_listing.proofs.Meanings.{same_score}
-use Rattle.fork_listing.proofs.Placing.{inside}
 use Rattle.fork_listing.proofs.SpelledListings.{read_exactly}
-
-none_some : {X : Type 0} {x : X} → None ≡ Some x → ⊥
-none_some e = absurd cc
 
 -- ---- a score and its arrival
 
 score_arrives : (end : End) (score : Score) → score_in end ≡ Some score → arrival_of end ≡ Some score.arrival
 score_arrives (Stored status arrival received) score e = ap (λ (s : Score). Some s.arrival) (same_Some _ _ e)
-score_arrives (Taken arrival) score e = absurd (none_some e)
-score_arrives (Silent arrival) score e = absurd (none_some e)
-score_arrives Never score e = absurd (none_some e)
+score_arrives end score e = absurd (none_some e)
 
 pub scored_at : (targets : List Target) (n : ℕ) (score : Score) → score_at targets n ≡ Some score
     → (target : Target) × (slice_get targets n ≡ Some target) × (score_in target.end ≡ Some score)
-scored_at targets n score e = go (slice_get targets n) refl e
-  where
-    go : (o : Option Target) → slice_get targets n ≡ o → option_and_then (λ (t : Target). score_in t.end) o ≡ Some score
-        → (target : Target) × (slice_get targets n ≡ Some target) × (score_in target.end ≡ Some score)
-    go None is e = absurd (none_some e)
-    go (Some target) is e = (target, is, e)
+scored_at targets n score e = looked (λ (t : Target). score_in t.end) (slice_get targets n) e
 
 pub score_ends : (targets : List Target) (n : ℕ) (score : Score) → score_at targets n ≡ Some score → ended_at targets n ≡ Some score.arrival
 score_ends targets n score e =
@@ -45,11 +35,7 @@ pub ended_apart : (most_depth : ℕ) (targets : List Target) → ((n : ℕ) (tar
 ended_apart most_depth targets placed m n a x y = go (cases_lt m n) (cases_lt n m)
   where
     clash : (i j : ℕ) → i < j → ended_at targets i ≡ Some a → ended_at targets j ≡ Some a → ⊥
-    clash i j lt x y = by (slice_get targets j) refl y
-      where
-        by : (o : Option Target) → slice_get targets j ≡ o → option_and_then (λ (t : Target). arrival_of t.end) o ≡ Some a → ⊥
-        by None is e = none_some e
-        by (Some target) is e = (placed j target is).apart i a lt x e
+    clash i j lt x y = let s = looked (λ (t : Target). arrival_of t.end) (slice_get targets j) y in (placed j s.0 s.1).apart i a lt x s.2
 
     go : (m < n) ⊎ (n ≤ m) → (n < m) ⊎ (m ≤ n) → m ≡ n
     go (inl lt) other = absurd (clash m n lt x y)
@@ -58,39 +44,26 @@ ended_apart most_depth targets placed m n a x y = go (cases_lt m n) (cases_lt n 
 
 -- ---- the stored answers of a listing arrived apart
 
-lines_at : (targets : List Target) (more : List Line) → AllByRecursion IsLine (map TargetLine targets ++ more)
-    → (n : ℕ) (target : Target) → slice_get targets n ≡ Some target → IsLine (TargetLine target)
-lines_at [] more all n target is = absurd (none_some is)
-lines_at (t ∷ targets) more all zero target is = let P : Target → Type 0 = λ x. IsLine (TargetLine x) in subst P (same_Some _ _ is) all.0
-lines_at (t ∷ targets) more all (suc n) target is = lines_at targets more all.1 n target is
-
-skip : (lines more : List Line) → AllByRecursion IsLine (lines ++ more) → AllByRecursion IsLine more
-skip [] more all = all
-skip (line ∷ lines) more all = skip lines more all.1
-
 pub target_lines : (l : Listing) → IsListing l → (n : ℕ) (target : Target) → slice_get l.targets n ≡ Some target → IsLine (TargetLine target)
-target_lines l h = lines_at l.targets _ (skip (rule_lines l.version l.rules) _ h.lines.1)
+target_lines l h n target is =
+    let lines = texts.all_front IsLine (map TargetLine l.targets) _ (texts.all_back IsLine (rule_lines l.version l.rules) _ h.lines.1) in
+    all_at IsLine (map TargetLine l.targets) lines n (TargetLine target) (slice_get-map TargetLine l.targets n ∙ ap (option_map TargetLine) is)
 
 score_within : (end : End) (score : Score) → IsEnd end → score_in end ≡ Some score → score.arrival ≤ most_arrival
 score_within (Stored status arrival received) score h e =
-    let same : arrival ≡ score.arrival = ap (λ (s : Score). s.arrival) (same_Some _ _ e) in
-    let le : arrival ≤ most_arrival = h.1 in
-    omega arith
-score_within (Taken arrival) score h e = absurd (none_some e)
-score_within (Silent arrival) score h e = absurd (none_some e)
-score_within Never score h e = absurd (none_some e)
+    omega (arith, ap (λ (s : Score). s.arrival) (same_Some _ _ e), h.1)
+score_within end score h e = absurd (none_some e)
 
 arrivals : (l : Listing) → IsListing l → AreBranches l → AreArrivals (rows_of l.targets) (suc most_arrival)
 arrivals l h branches = record { past = past; apart = apart }
   where
     placed : (n : ℕ) (target : Target) → slice_get l.targets n ≡ Some target → IsInPlace l.rules.depth l.targets n target
-    placed n target is = branches n (inside l.targets n target is) target is
+    placed n target is = branches n (slice_get_within l.targets n target is) target is
 
     past : (m : ℕ) (score : Score) → HasScore (rows_of l.targets) m score → score.arrival < suc most_arrival
     past m score is =
         let s = scored_at l.targets m score (sym (same_score l.targets m) ∙ is) in
-        let le : score.arrival ≤ most_arrival = score_within s.0.end score (target_lines l h m s.0 s.1).3 s.2 in
-        omega arith
+        omega (arith, score_within s.0.end score (target_lines l h m s.0 s.1).3 s.2)
 
     apart : (m n : ℕ) (a b : Score) → HasScore (rows_of l.targets) m a → HasScore (rows_of l.targets) n b → a.arrival ≡ b.arrival → m ≡ n
     apart m n a b x y same =
@@ -134,14 +107,9 @@ right_of text (Ok verdict) checked = accepted_right text verdict checked
 right_of text (Err fault) checked = tt
 
 pub named_of : (text : List ℕ) (result : Result Verdict CheckFault) → IsChecked (read_listing text) result → IfErr result (IsLineNamed text)
-named_of text (Ok verdict) checked = tt
-named_of text (Err (fault.Tree n)) checked = tt
-named_of text (Err (fault.Order n)) checked = tt
-named_of text (Err (fault.Absent n)) checked = tt
-named_of text (Err fault.FinalLine) checked = tt
-named_of text (Err fault.NoMemory) checked = tt
 named_of text (Err (fault.Line n)) checked = go (read_listing text) refl checked
   where
     go : (r : Result Listing ℕ) → read_listing text ≡ r → IsChecked r (Err (fault.Line n)) → IsFirstMalformed text n
     go (Ok l) is checked = absurd checked
     go (Err m) is checked = let P : ℕ → Type 0 = IsFirstMalformed text in subst P (sym checked) (refused_by_first text m is)
+named_of text result checked = tt

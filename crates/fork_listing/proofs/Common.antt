@@ -3,12 +3,13 @@ pub use Rattle.std.proofs.Common.{Bool, Err, List, None, Ok, Option, Result, Som
 pub use Rattle.std.proofs.Common.{suc, sym, take, true, zero, ℕ, ◌&&◌, ◌++◌, ◌+◌, ◌-◌, ◌<◌, ◌||◌, ◌∙◌, ◌∷◌, ◌≡◌, ◌≢◌, ◌≤◌, ◌⊎◌}
 pub use Rattle.std.proofs.lemmas.Bool.{cases_lt, eq-eqb, eqb-false, eqb-true, false≢true, ltb-true}
 pub use Rattle.std.proofs.lemmas.List.Splits.{join_with_byte-slice_split}
-pub use Rattle.std.proofs.lemmas.Option.{same_Some}
+pub use Rattle.std.proofs.lemmas.Option.{same_Some, slice_get-map, slice_get_read, slice_get_within}
 pub use Rattle.std.proofs.lemmas.Slice.Eq.{bytes_eq-Decides}
 pub use Rattle.std.specs.BTreeSet.{BTreeSet, contains}
 pub use Rattle.std.specs.Fmt.{decimal}
 pub use Rattle.std.specs.List.{AllByRecursion, slice_split}
 pub use Rattle.std.specs.Option.{option_map}
+pub use Rattle.fork_listing.proofs.Lists.{all_at, cases, get_pushed, length_pushed, looked, mapped, none_some, one_at, some_same, there}
 pub use Rattle.fork_listing.specs.Accepted.{IsRightText}
 pub use Rattle.fork_listing.specs.Checking.{AreInOrder, AreListed, IsChecked, IsRight, IsVerdictOf, verdict_of}
 pub use Rattle.fork_listing.specs.First.{HoldsBelow, IsFirstToFail}

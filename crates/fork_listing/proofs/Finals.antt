@@ -1,18 +1,11 @@
 -- The line of the answer that goes up, by the first of those stored.
 use Rattle.fork_listing.proofs.Common.{◌≡◌, ℕ, length, Bool, true, false, cond, eqb, List, Option, Some, None, refl, sym, ap, ◌∙◌, slice_get, option_map, eqb-true, eq-eqb, false≢true, Rules, Row, Score, Choice, Best, Only503, NoAnswer408}
-use Rattle.fork_listing.proofs.Common.{IsChoice, stored_at, status_at, BestRef, IsBest, Target, Final, HoldsBelow, IsPlaced, rows_of, final_of, IsChosen, IsNotChosen, AreNumbered}
+use Rattle.fork_listing.proofs.Common.{IsChoice, stored_at, status_at, BestRef, IsBest, Target, Final, HoldsBelow, IsPlaced, rows_of, final_of, IsChosen, IsNotChosen, AreNumbered, some_same, none_some, slice_get_within}
 use Rattle.std.specs.Option.{option_map_or}
 use Rattle.fork_model.specs.Table.{StoredAnswer}
 use Rattle.fork_model.specs.Choice as model
 use Rattle.fork_tree.specs.Tree.{score_of_ref}
 use Rattle.fork_listing.specs.inner.Stored.{final_of_best}
-use Rattle.fork_listing.proofs.Placing.{inside}
-
-some_same : {X : Type 0} {x y : X} → Some x ≡ Some y → x ≡ y
-some_same e = cc
-
-none_some : {X : Type 0} {x : X} → None ≡ Some x → ⊥
-none_some e = absurd cc
 
 pub status_seen : (o : Option StoredAnswer) (score : Score) → option_map model.score_of o ≡ Some score → option_map_or (λ (answer : StoredAnswer). answer.status) o 408 ≡ score.status
 status_seen None score e = absurd (none_some e)
@@ -49,4 +42,4 @@ not_chosen rules targets best last is e = let h = chosen_by rules (rows_of targe
 
 -- lines that keep the rules have their numbers
 pub numbered : (most : ℕ) (targets : List Target) → HoldsBelow (IsPlaced most targets) (length targets) → AreNumbered targets
-numbered most targets placed n target here = (placed n (inside targets n target here) target here).number
+numbered most targets placed n target here = (placed n (slice_get_within targets n target here) target here).number

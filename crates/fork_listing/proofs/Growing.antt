@@ -1,21 +1,12 @@
 -- One branch ends, and others may come to stand under it: the branches still stand as they may.
 use Rattle.fork_listing.proofs.Common.{◌≡◌, ◌≢◌, ℕ, zero, suc, ◌+◌, ◌<◌, ◌≤◌, true, false, List, [], ◌∷◌, ◌++◌, length, Option, Some, None, refl, sym, ap, subst, ◌∙◌, arith, inl, inr, ◌⊎◌, slice_get, option_and_then, End, Stored, Taken}
-use Rattle.fork_listing.proofs.Common.{Silent, Never, Target, arrival_of, ended_at, is_redirection, is_redirected, IsParent, IsBefore, Follows, FollowsTarget, line_before, IsEarlier, HasDepth, IsInPlace, IsStatus, IsHow, most_q}
+use Rattle.fork_listing.proofs.Common.{Never, Target, arrival_of, ended_at, is_redirection, is_redirected, IsParent, IsBefore, Follows, FollowsTarget, line_before, IsEarlier, HasDepth, IsInPlace, IsStatus, IsHow, most_q, some_same, none_some, slice_get_within, there, looked}
 use Rattle.std.proofs.lemmas.Bool.{cases_eq}
-use Rattle.fork_listing.proofs.Placing.{inside, there}
-
-some_same : {X : Type 0} {x y : X} → Some x ≡ Some y → x ≡ y
-some_same e = cc
-
-none_some : {X : Type 0} {x : X} → None ≡ Some x → ⊥
-none_some e = absurd cc
 
 -- what a stored answer keeps
 abbrev pub IsKept : End → Type 0
 IsKept (Stored status arrival received) = IsStatus status × IsHow received status
-IsKept (Taken arrival) = Unit {0}
-IsKept (Silent arrival) = Unit {0}
-IsKept Never = Unit {0}
+IsKept end = Unit {0}
 
 -- the branches stand as they may, and each that has ended did so before this position
 pub record IsGrown (most_depth : ℕ) (targets : List Target) (at : ℕ) : Type 0 where
@@ -82,8 +73,7 @@ here_ends (x ∷ old) fresh (suc n) end was is = here_ends old fresh n end was i
 redirection_ends : (end : End) → is_redirection end ≡ true → (a : ℕ) × (arrival_of end ≡ Some a)
 redirection_ends (Stored status arrival received) e = (arrival, refl)
 redirection_ends (Taken arrival) e = (arrival, refl)
-redirection_ends (Silent arrival) e = absurd cc
-redirection_ends Never e = absurd cc
+redirection_ends end e = absurd cc
 
 pub redirected_ends : (targets : List Target) (p : ℕ) → is_redirected (slice_get targets p) ≡ true → (a : ℕ) × (ended_at targets p ≡ Some a)
 redirected_ends targets p e = go (slice_get targets p) e
@@ -118,25 +108,20 @@ module _ {most_depth n at : ℕ} {old fresh : List Target} {was : Target} {end :
 
   -- an end stays
   ended_yet : (m a : ℕ) → ended_at old m ≡ Some a → ended_at now m ≡ Some a
-  ended_yet m a e = go (slice_get old m) refl e
-    where
-      go : (o : Option Target) → slice_get old m ≡ o → option_and_then (λ (t : Target). arrival_of t.end) o ≡ Some a → ended_at now m ≡ Some a
-      go None is e = absurd (none_some e)
-      go (Some target) is e =
-          ap (option_and_then (λ (t : Target). arrival_of t.end)) (other_stays old fresh n end m target is (ended_before m a (ap (option_and_then (λ (t : Target). arrival_of t.end)) is ∙ e))) ∙ e
+  ended_yet m a e =
+      let s = looked (λ (t : Target). arrival_of t.end) (slice_get old m) e in
+      ap (option_and_then (λ (t : Target). arrival_of t.end)) (other_stays old fresh n end m s.0 s.1 (ended_before m a e)) ∙ s.2
 
   -- and each is one of before or of this position
   ended_from : (m a : ℕ) → ended_at now m ≡ Some a → ((m ≡ n) × (a ≡ at)) ⊎ (ended_at old m ≡ Some a)
-  ended_from m a e = go (slice_get now m) refl e
+  ended_from m a e =
+      let s = looked (λ (t : Target). arrival_of t.end) (slice_get now m) e in
+      by s.0 (from_new old fresh n end m s.0 s.1) s.2
     where
       by : (target : Target) → From old fresh n end m target → arrival_of target.end ≡ Some a → ((m ≡ n) × (a ≡ at)) ⊎ (ended_at old m ≡ Some a)
       by target (Old is other) e = inr (ap (option_and_then (λ (t : Target). arrival_of t.end)) is ∙ e)
       by target (Here before is same made) e = inl (same, ends.arrival a (ap (λ (t : Target). arrival_of t.end) (sym made) ∙ e))
       by target (New k place is) e = absurd (none_some (ap arrival_of (sym (ends.waits k target is)) ∙ e))
-
-      go : (o : Option Target) → slice_get now m ≡ o → option_and_then (λ (t : Target). arrival_of t.end) o ≡ Some a → ((m ≡ n) × (a ≡ at)) ⊎ (ended_at old m ≡ Some a)
-      go None is e = absurd (none_some e)
-      go (Some target) is e = by target (from_new old fresh n end m target is) e
 
   not_redirected : is_redirected (slice_get old n) ≡ true → ⊥
   not_redirected e =
@@ -170,12 +155,10 @@ module _ {most_depth n at : ℕ} {old fresh : List Target} {was : Target} {end :
 
   depth_yet : (parent : Option ℕ) (deep : ℕ) → HasDepth old parent deep → HasDepth now parent deep
   depth_yet None zero h = tt
-  depth_yet None (suc deep) h = absurd h
-  depth_yet (Some p) zero h = absurd h
   depth_yet (Some p) (suc deep) h =
       let yet = stays p h.0 h.1 in
-      let P : Option ℕ → Type 0 = λ o. HasDepth now o deep in
-      (yet.line, yet.there, subst P (sym yet.parent) (depth_yet h.0.parent deep h.2))
+      (yet.line, yet.there, subst (λ (o : Option ℕ). HasDepth now o deep) (sym yet.parent) (depth_yet h.0.parent deep h.2))
+  depth_yet parent deep h = absurd h
 
   -- ---- the rules of a line that stood before, whatever its end is now
 
@@ -187,11 +170,8 @@ module _ {most_depth n at : ℕ} {old fresh : List Target} {was : Target} {end :
   before_yet a b h = go (ended_at old a) (ended_at old b) refl refl h
     where
       go : (x y : Option ℕ) → ended_at old a ≡ x → ended_at old b ≡ y → IsBefore x y → IsBefore (ended_at now a) (ended_at now b)
-      go None y ea eb h = absurd h
-      go (Some x) None ea eb h = absurd h
-      go (Some x) (Some y) ea eb h =
-          let P : Option ℕ → Option ℕ → Type 0 = λ v w. IsBefore v w in
-          subst (λ (v : Option ℕ). P v (ended_at now b)) (sym (ended_yet a x ea)) (subst (λ (w : Option ℕ). P (Some x) w) (sym (ended_yet b y eb)) h)
+      go (Some x) (Some y) ea eb h = rw (ended_yet a x ea) (rw (ended_yet b y eb) h)
+      go x y ea eb h = absurd h
 
   old_follows : (a b : Option ℕ) → Follows old a b → Follows now a b
   old_follows None b h = tt
@@ -203,14 +183,10 @@ module _ {most_depth n at : ℕ} {old fresh : List Target} {was : Target} {end :
   old_before : (m : ℕ) (target : Target) (parent : Option ℕ) → slice_get old m ≡ Some target → FollowsTarget old (line_before old m) parent → FollowsTarget now (line_before now m) parent
   old_before zero target parent is h = tt
   old_before (suc m) target parent is h =
-      let lt : m < length old = (let in_list : suc m < length old = inside old (suc m) target is in omega arith) in
-      let b = there old m lt in
+      let b = there old m (omega (arith, slice_get_within old (suc m) target is)) in
       let yet = stays m b.0 b.1 in
-      let P : Option Target → Type 0 = λ o. FollowsTarget old o parent in
-      let was_follows : Follows old b.0.parent parent = subst P b.1 h in
-      let Q : Option ℕ → Type 0 = λ o. Follows now o parent in
-      let R : Option Target → Type 0 = λ o. FollowsTarget now o parent in
-      subst R (sym yet.there) (subst Q (sym yet.parent) (old_follows b.0.parent parent was_follows))
+      let follows = old_follows b.0.parent parent (subst (λ (o : Option Target). FollowsTarget old o parent) b.1 h) in
+      subst (λ (o : Option Target). FollowsTarget now o parent) (sym yet.there) (subst (λ (o : Option ℕ). Follows now o parent) (sym yet.parent) follows)
 
   old_falls : (m : ℕ) (target : Target) (q : ℕ) (parent : Option ℕ) → slice_get old m ≡ Some target
       → ((j : ℕ) (other : Target) → j < m → slice_get old j ≡ Some other → other.parent ≡ parent → q ≤ other.q)
@@ -220,11 +196,8 @@ module _ {most_depth n at : ℕ} {old fresh : List Target} {was : Target} {end :
       go : From old fresh n end j other → q ≤ other.q
       go (Old was_there differs) = h j other lt was_there same
       go (Here before was_there place made) =
-          let parents : before.parent ≡ parent = ap (λ (t : Target). t.parent) (sym made) ∙ same in
-          let qs : other.q ≡ before.q = ap (λ (t : Target). t.q) made in
-          let bound : q ≤ before.q = h j before lt was_there parents in
-          omega arith
-      go (New k place new_there) = absurd (let within : m < length old = inside old m target is in omega arith)
+          omega (arith, ap (λ (t : Target). t.q) made, h j before lt was_there (ap (λ (t : Target). t.parent) (sym made) ∙ same))
+      go (New k place new_there) = absurd (omega (arith, lt, place, slice_get_within old m target is))
 
   -- where the parent was redirected, it has ended, and has now by the same event
   parent_ended : (m p : ℕ) → IsParent old m (Some p) → (a : ℕ) × (ended_at old p ≡ Some a) × (ended_at now p ≡ Some a)
@@ -265,19 +238,14 @@ module _ {most_depth n at : ℕ} {old fresh : List Target} {was : Target} {end :
       apart : IsInPlace most_depth old m target → (j a : ℕ) → j < m → ended_at now j ≡ Some a → arrival_of target.end ≡ Some a → ⊥
       apart h j a lt e mine =
           elim (ended_from j a e) [
-            | inl now_ended ↦
-                let own : ended_at old m ≡ Some a = ap (option_and_then (λ (t : Target). arrival_of t.end)) is ∙ mine in
-                let less : a < at = grown.past m a own in
-                let same : a ≡ at = now_ended.1 in
-                omega arith
+            | inl now_ended ↦ omega (arith, now_ended.1, grown.past m a (ap (option_and_then (λ (t : Target). arrival_of t.end)) is ∙ mine))
             | inr ended ↦ h.apart j a lt ended mine
           ]
 
   placed_here : (target before : Target) → slice_get old n ≡ Some before → target ≡ record before { end = end } → IsInPlace most_depth now n target
   placed_here target before is made =
       let h = grown.placed n before is in
-      let P : Target → Type 0 = λ t. IsInPlace most_depth now n t in
-      subst P (sym made) (record {
+      subst (IsInPlace most_depth now n) (sym made) (record {
         number = h.number;
         parent = old_parent n before.parent h.parent;
         follows = old_before n before before.parent is h.follows;
@@ -290,11 +258,8 @@ module _ {most_depth n at : ℕ} {old fresh : List Target} {was : Target} {end :
       apart : (j a : ℕ) → j < n → ended_at now j ≡ Some a → arrival_of end ≡ Some a → ⊥
       apart j a lt e mine =
           elim (ended_from j a e) [
-            | inl now_ended ↦ let same : j ≡ n = now_ended.0 in omega arith
-            | inr ended ↦
-                let less : a < at = grown.past j a ended in
-                let same : a ≡ at = ends.arrival a mine in
-                omega arith
+            | inl now_ended ↦ omega (arith, lt, now_ended.0)
+            | inr ended ↦ omega (arith, grown.past j a ended, ends.arrival a mine)
           ]
 
   -- ---- the rules of a line that is new
@@ -313,22 +278,14 @@ module _ {most_depth n at : ℕ} {old fresh : List Target} {was : Target} {end :
         behind_old j (Some p) h =
             let x = parent_ended j p h in
             let y = ended_now in
-            let less : x.0 < at = grown.past p x.0 x.1 in
-            let same : y.0 ≡ at = y.2 in
-            let lt : x.0 < y.0 = omega arith in
-            let P : Option ℕ → Type 0 = λ o. IsBefore o (ended_at now n) in
-            let Q : Option ℕ → Type 0 = λ o. IsBefore (Some x.0) o in
-            inr (subst P (sym x.2) (subst Q (sym y.1) lt))
+            let lt : x.0 < y.0 = omega (arith, grown.past p x.0 x.1, y.2) in
+            inr (rw x.2 (rw y.1 lt))
 
         go : From old fresh n end m b → Follows now b.parent (Some n)
         go (Old was_there other) = behind_old m b.parent (grown.placed m b was_there).parent
         go (Here before was_there place made) =
-            let parents : before.parent ≡ b.parent = ap (λ (t : Target). t.parent) (sym made) in
-            let P : Option ℕ → Type 0 = λ o. Follows now o (Some n) in
-            subst P parents (behind_old m before.parent (grown.placed m before was_there).parent)
-        go (New i place is_new) =
-            let P : Option ℕ → Type 0 = λ o. Follows now o (Some n) in
-            subst P (sym (ends.parent i b is_new)) (inl refl)
+            subst (λ (t : Target). Follows now t.parent (Some n)) (sym made) (behind_old m before.parent (grown.placed m before was_there).parent)
+        go (New i place is_new) = subst (λ (o : Option ℕ). Follows now o (Some n)) (sym (ends.parent i b is_new)) (inl refl)
 
     new_before : (m : ℕ) → FollowsTarget now (line_before now m) (Some n)
     new_before zero = tt
@@ -343,8 +300,7 @@ module _ {most_depth n at : ℕ} {old fresh : List Target} {was : Target} {end :
       where
         no_child : (i : ℕ) (t : Target) → slice_get old i ≡ Some t → t.parent ≡ Some n → ⊥
         no_child i t there_old parents =
-            let P : Option ℕ → Type 0 = λ o. IsParent old i o in
-            let h : IsParent old i (Some n) = subst P parents (grown.placed i t there_old).parent in
+            let h : IsParent old i (Some n) = subst (IsParent old i) parents (grown.placed i t there_old).parent in
             not_redirected h.1
 
         go : From old fresh n end j other → target.q ≤ other.q
@@ -354,25 +310,24 @@ module _ {most_depth n at : ℕ} {old fresh : List Target} {was : Target} {end :
 
     placed_new : (m : ℕ) → m ≡ length old + k → IsInPlace most_depth now m target
     placed_new m place =
-        let within : n < length old = inside old n was ends.there in
+        let within : n < length old = slice_get_within old n was ends.there in
         let h = grown.placed n was ends.there in
         let redirects_now : is_redirected (slice_get now n) ≡ true = ap is_redirected (here_ends old fresh n end was ends.there) ∙ ends.redirects k target new_there in
         let lt : n < m = omega arith in
         let under = ends.parent k target new_there in
         let waits = ends.waits k target new_there in
         let number : target.number ≡ m = ends.number k target new_there ∙ sym place in
-        let P : Option ℕ → Type 0 = λ o. IsParent now m o in
-        let Q : Option ℕ → Type 0 = λ o. FollowsTarget now (line_before now m) o in
-        let H : Option ℕ → ℕ → Type 0 = λ o d. HasDepth now o d in
-        let is_deep : HasDepth now (Some n) (suc h.depth.0) = (record was { end = end }, here_ends old fresh n end was ends.there, depth_yet was.parent h.depth.0 h.depth.1) in
+        let deeper : ℕ = suc h.depth.0 in
+        let is_deep : HasDepth now (Some n) deeper =
+        (record was { end = end }, here_ends old fresh n end was ends.there, depth_yet was.parent h.depth.0 h.depth.1) in
         record {
           number = number;
-          parent = subst P (sym under) (lt, redirects_now);
-          follows = subst Q (sym under) (new_before m);
+          parent = subst (IsParent now m) (sym under) (lt, redirects_now);
+          follows = subst (FollowsTarget now (line_before now m)) (sym under) (new_before m);
           falls = λ j other less is same. new_falls m j other place less is (same ∙ under);
           apart = λ j a less e mine. none_some (ap arrival_of (sym waits) ∙ mine);
           later = later waits;
-          depth = (suc h.depth.0, subst (λ (o : Option ℕ). H o (suc h.depth.0)) (sym under) is_deep, ends.shallow k target new_there h.depth.0 h.depth.1);
+          depth = (deeper, subst (λ (o : Option ℕ). HasDepth now o deeper) (sym under) is_deep, ends.shallow k target new_there h.depth.0 h.depth.1);
         }
       where
         none_later : (o : Option ℕ) → IsEarlier o None
@@ -381,8 +336,8 @@ module _ {most_depth n at : ℕ} {old fresh : List Target} {was : Target} {end :
 
         later : target.end ≡ Never → IsEarlier (option_and_then (ended_at now) target.parent) (arrival_of target.end)
         later waits =
-            let P : End → Type 0 = λ e. IsEarlier (option_and_then (ended_at now) target.parent) (arrival_of e) in
-            subst P (sym waits) (none_later (option_and_then (ended_at now) target.parent))
+            subst (λ (e : End). IsEarlier (option_and_then (ended_at now) target.parent) (arrival_of e)) (sym waits)
+            (none_later (option_and_then (ended_at now) target.parent))
 
   pub grows : IsGrown most_depth now (suc at)
   grows = record {
@@ -395,30 +350,26 @@ module _ {most_depth n at : ℕ} {old fresh : List Target} {was : Target} {end :
       placed m target (Old is other) = placed_old m target is other
       placed m target (Here before is same made) =
           let moved : slice_get old n ≡ Some before = ap (slice_get old) (sym same) ∙ is in
-          let P : ℕ → Type 0 = λ i. IsInPlace most_depth now i target in
-          subst P (sym same) (placed_here target before moved made)
+          subst (λ (i : ℕ). IsInPlace most_depth now i target) (sym same) (placed_here target before moved made)
       placed m target (New k place is) = placed_new k target is m place
 
       past : (m a : ℕ) → ended_at now m ≡ Some a → a < suc at
       past m a e =
           elim (ended_from m a e) [
-            | inl now_ended ↦ let same : a ≡ at = now_ended.1 in omega arith
-            | inr ended ↦ let less : a < at = grown.past m a ended in omega arith
+            | inl now_ended ↦ omega (arith, now_ended.1)
+            | inr ended ↦ omega (arith, grown.past m a ended)
           ]
 
       keeps : (m : ℕ) (target : Target) → From old fresh n end m target → (target.q ≤ most_q) × IsKept target.end
       keeps m target (Old is other) = grown.kept m target is
       keeps m target (Here before is same made) =
-          let P : Target → Type 0 = λ t. (t.q ≤ most_q) × IsKept t.end in
-          subst P (sym made) ((grown.kept m before is).0, ends.keeps)
-      keeps m target (New k place is) =
-          let P : End → Type 0 = IsKept in
-          (ends.small k target is, subst P (sym (ends.waits k target is)) tt)
+          subst (λ (t : Target). (t.q ≤ most_q) × IsKept t.end) (sym made) ((grown.kept m before is).0, ends.keeps)
+      keeps m target (New k place is) = (ends.small k target is, subst IsKept (sym (ends.waits k target is)) tt)
 
 -- nothing has ended later than before
 pub waits_on : (most_depth : ℕ) (targets : List Target) (at : ℕ) → IsGrown most_depth targets at → IsGrown most_depth targets (suc at)
 waits_on most_depth targets at grown = record {
   placed = grown.placed;
-  past = λ n a e. let less : a < at = grown.past n a e in let more : a < suc at = omega arith in more;
+  past = λ n a e. omega (arith, grown.past n a e);
   kept = grown.kept;
 }

@@ -2,7 +2,7 @@
 use Rattle.fork_listing.proofs.Common.{◌≡◌, ℕ, zero, suc, ◌+◌, ◌<◌, ◌≤◌, Bool, true, false, cond, List, [], ◌∷◌, ◌++◌, map, length, Option, Some, None, refl, sym, ap, subst, ◌∙◌, arith, inl, inr, slice_get, option_and_then, not, nat_lt}
 use Rattle.fork_listing.proofs.Common.{◌&&◌, ◌||◌, option_map, AllByRecursion, ltb-true, Kind, Rules, Offer, Row, Table, State, Idle, Trying, Rung, Ended, Accepted, Event, numbered, fresh_row, fresh_rows, first_row, opening_rows, Core}
 use Rattle.fork_listing.proofs.Common.{opening_core, core_next, core_offered, core_after, is_full, End, Target, arrival_of, ended_at, is_redirection, IsParent, Follows, FollowsTarget, line_before, IsEarlier, HasDepth, IsInPlace, most_q}
-use Rattle.fork_listing.proofs.Common.{IsStatus, targets_from, targets_of}
+use Rattle.fork_listing.proofs.Common.{IsStatus, targets_from, targets_of, some_same, none_some, slice_get_within, AreArrivals, all_at, looked, mapped}
 use Rattle.std.specs.Prelude.{unwrap_or, ◌==◌}
 use Rattle.std.proofs.lemmas.Bool.{ltb-false, or_parts}
 use Rattle.fork_model.specs.Table.{Taken, Silent, is_idle, is_invite}
@@ -13,19 +13,13 @@ use Rattle.fork_model.specs.Step.{Effect, moves, assumed, accepts, received, red
 use Rattle.fork_model.specs.History.{Target as Named, opening}
 use Rattle.fork_model.proofs.laws.ChangeLemmas.{from_filter_map}
 use Rattle.fork_model.proofs.laws.OpeningSeries.{opening_row}
+use Rattle.fork_model.proofs.laws.Arrivals.{next_arrivals, history_of_arrivals}
 use Rattle.fork_tree.specs.States.{shown}
 use Rattle.fork_listing.specs.declared.line.End.TheVariants as line_end
 use Rattle.fork_model.specs.Range.{IsTargetInRange, IsOfferInRange, IsEventInRange}
 use Rattle.fork_listing.specs.Listed.{state_shown}
-use Rattle.fork_listing.proofs.Placing.{inside, there}
 use Rattle.fork_listing.proofs.FallingRows.{fall_at, fresh_fall, opening_fall}
 use Rattle.fork_listing.proofs.Growing.{IsKept, IsGrown, with_end, grows, waits_on}
-
-some_same : {X : Type 0} {x y : X} → Some x ≡ Some y → x ≡ y
-some_same e = cc
-
-none_some : {X : Type 0} {x : X} → None ≡ Some x → ⊥
-none_some e = absurd cc
 
 -- ---- a row as it would be listed
 
@@ -35,33 +29,19 @@ seen state = state_shown (shown state)
 abbrev pub line_at : ℕ → Row → Target
 line_at n row = record { number = n; parent = row.parent; q = row.q; end = seen row.state }
 
-pub get_from : (k : ℕ) (rows : List Row) (n : ℕ) (row : Row) → slice_get rows n ≡ Some row → slice_get (targets_from k rows) n ≡ Some (line_at (k + n) row)
-get_from k [] n row is = absurd (none_some is)
-get_from k (x ∷ rows) zero row is =
-    let at : k ≡ k + 0 = omega arith in
-    ap (λ (r : Row). Some (line_at k r)) (some_same is) ∙ ap (λ m. Some (line_at m row)) at
-get_from k (x ∷ rows) (suc n) row is =
-    let at : suc k + n ≡ k + suc n = omega arith in
-    get_from (suc k) rows n row is ∙ ap (λ m. Some (line_at m row)) at
+line_get : (k : ℕ) (rows : List Row) (n m : ℕ) → m ≡ k + n → slice_get (targets_from k rows) n ≡ option_map (line_at m) (slice_get rows n)
+line_get k [] n m e = refl
+line_get k (x ∷ rows) zero m e = let at : k ≡ m = omega arith in ap (λ i. Some (line_at i x)) at
+line_get k (x ∷ rows) (suc n) m e = line_get (suc k) rows n m (omega arith)
 
 pub get_row : (k : ℕ) (rows : List Row) (n : ℕ) (target : Target) → slice_get (targets_from k rows) n ≡ Some target → (row : Row) × (slice_get rows n ≡ Some row) × (target ≡ line_at (k + n) row)
-get_row k [] n target is = absurd (none_some is)
-get_row k (x ∷ rows) zero target is =
-    let at : k ≡ k + 0 = omega arith in
-    (x, refl, sym (some_same is) ∙ ap (λ m. line_at m x) at)
-get_row k (x ∷ rows) (suc n) target is =
-    let more = get_row (suc k) rows n target is in
-    let at : suc k + n ≡ k + suc n = omega arith in
-    (more.0, more.1, more.2 ∙ ap (λ m. line_at m more.0) at)
+get_row k rows n target is = mapped (line_at (k + n)) (slice_get rows n) (sym (line_get k rows n (k + n) refl) ∙ is)
 
 pub listed_row : (rows : List Row) (n : ℕ) (row : Row) → slice_get rows n ≡ Some row → slice_get (targets_of rows) n ≡ Some (line_at n row)
-listed_row rows n row is = let at : 0 + n ≡ n = omega arith in get_from 0 rows n row is ∙ ap (λ m. Some (line_at m row)) at
+listed_row rows n row is = line_get 0 rows n n (omega arith) ∙ ap (option_map (line_at n)) is
 
 pub row_listed : (rows : List Row) (n : ℕ) (target : Target) → slice_get (targets_of rows) n ≡ Some target → (row : Row) × (slice_get rows n ≡ Some row) × (target ≡ line_at n row)
-row_listed rows n target is =
-    let r = get_row 0 rows n target is in
-    let at : 0 + n ≡ n = omega arith in
-    (r.0, r.1, r.2 ∙ ap (λ m. line_at m r.0) at)
+row_listed rows n target is = mapped (line_at n) (slice_get rows n) (sym (line_get 0 rows n n (omega arith)) ∙ is)
 
 pub length-targets : (k : ℕ) (rows : List Row) → length (targets_from k rows) ≡ length rows
 length-targets k [] = refl
@@ -71,15 +51,11 @@ length-targets k (row ∷ rows) = ap suc (length-targets (suc k) rows)
 
 closed_seen : (kind : Kind) (state : State) → seen (closed_state kind state) ≡ seen state
 closed_seen kind Idle = refl
-closed_seen kind Trying = refl
-closed_seen kind (Rung cancelled) = refl
-closed_seen kind (Ended end) = refl
+closed_seen kind state = refl
 
 tried_seen : (state : State) (a b c : Bool) → seen (cond (is_idle state && a && b && c) Trying state) ≡ seen state
 tried_seen Idle a b c = elim (a && b && c) as (λ go. seen (cond go Trying Idle) ≡ line_end.Never) [ true ↦ refl | false ↦ refl ]
-tried_seen Trying a b c = refl
-tried_seen (Rung cancelled) a b c = refl
-tried_seen (Ended end) a b c = refl
+tried_seen state a b c = refl
 
 settled_seen : (t : Table) (row : Row) → seen (settled_state t row) ≡ seen row.state
 settled_seen t row =
@@ -116,25 +92,19 @@ changed_from k (row ∷ rows) fresh (suc n) state =
 
 shallower : (most_depth at : ℕ) (targets : List Target) → IsGrown most_depth targets at → (n : ℕ) (parent : Option ℕ) (deep : ℕ) → IsParent targets n parent → HasDepth targets parent deep → deep ≤ n
 shallower most_depth at targets grown n None zero under h = omega arith
-shallower most_depth at targets grown n None (suc deep) under h = absurd h
-shallower most_depth at targets grown n (Some p) zero under h = absurd h
 shallower most_depth at targets grown n (Some p) (suc deep) under h =
-    let lt : p < n = under.0 in
-    let less : deep ≤ p = shallower most_depth at targets grown p h.0.parent deep (grown.placed p h.0 h.1).parent h.2 in
-    omega arith
+    omega (arith, under.0, shallower most_depth at targets grown p h.0.parent deep (grown.placed p h.0 h.1).parent h.2)
+shallower most_depth at targets grown n parent deep under h = absurd h
 
 depth_seen : (rows : List Row) (deep steps : ℕ) (parent : Option ℕ) → HasDepth (targets_of rows) parent deep → deep ≤ steps → length (line_from steps rows (parent_row rows parent)) ≡ deep
 depth_seen rows zero zero None h le = refl
 depth_seen rows zero (suc steps) None h le = refl
-depth_seen rows (suc deep) steps None h le = absurd h
-depth_seen rows zero steps (Some p) h le = absurd h
 depth_seen rows (suc deep) zero (Some p) h le = absurd (omega arith)
 depth_seen rows (suc deep) (suc steps) (Some p) h le =
     let r = row_listed rows p h.0 h.1 in
-    let parents : h.0.parent ≡ r.0.parent = ap (λ (t : Target). t.parent) r.2 in
-    let P : Option ℕ → Type 0 = λ o. HasDepth (targets_of rows) o deep in
-    ap (λ (o : Option Row). length (line_from (suc steps) rows o)) r.1
-    ∙ ap suc (depth_seen rows deep steps r.0.parent (subst P parents h.2) (omega arith))
+    let has : HasDepth (targets_of rows) r.0.parent deep = subst (λ (x : Target). HasDepth (targets_of rows) x.parent deep) r.2 h.2 in
+    ap (λ (o : Option Row). length (line_from (suc steps) rows o)) r.1 ∙ ap suc (depth_seen rows deep steps r.0.parent has (omega arith))
+depth_seen rows deep steps parent h le = absurd h
 
 -- ---- what an event does to the row that it names
 
@@ -193,11 +163,6 @@ taken_small keys place (offer ∷ offers) small = go (outcome_of keys offer.key)
     go (Fresh key) rest all = (small.0, all)
     go Left rest all = all
 
-small_at : (fresh : List (ℕ × Offer)) → FreshSmall fresh → (k : ℕ) (f : ℕ × Offer) → slice_get fresh k ≡ Some f → f.1.q ≤ most_q
-small_at [] all k f is = absurd (none_some is)
-small_at (g ∷ fresh) all zero f is = let P : ℕ × Offer → Type 0 = λ x. x.1.q ≤ most_q in subst P (some_same is) all.0
-small_at (g ∷ fresh) all (suc k) f is = small_at fresh all.1 k f is
-
 redirects_ends : (t : Table) (n : ℕ) (row : Row) (at : ℕ) (answer : FinalAnswer) (state : State) → seen state ≡ line_end.Never → IsEventInRange (Answer n answer) → IsStatus answer.status → nat_lt answer.status 400 ≡ true
     → IsEnding t n at row state (redirects n at answer (taking_at t row answer.offers))
 redirects_ends t n row at answer state open_yet in_range low high =
@@ -224,17 +189,10 @@ redirects_ends t n row at answer state open_yet in_range low high =
     made : (k : ℕ) (f : Row) → slice_get (fresh_rows n taken.fresh) k ≡ Some f → (f.parent ≡ Some n) × (f.state ≡ Idle) × (f.q ≤ most_q)
     made k f is =
         let from = from_filter_map (λ (p : ℕ × ℕ). option_map (λ (o : ℕ × Offer). fresh_row n p.0 o) (slice_get taken.fresh p.1)) (numbered (map (λ (o : ℕ × Offer). o.1.q) taken.fresh)) k f is in
-        go from.0 (slice_get taken.fresh from.0.1) refl from.1
-      where
-        go : (p : ℕ × ℕ) (o : Option (ℕ × Offer)) → slice_get taken.fresh p.1 ≡ o → option_map (λ (x : ℕ × Offer). fresh_row n p.0 x) o ≡ Some f → (f.parent ≡ Some n) × (f.state ≡ Idle) × (f.q ≤ most_q)
-        go p None is e = absurd (none_some e)
-        go p (Some x) is e =
-            let P : ℕ → Type 0 = λ q. q ≤ most_q in
-            let q : x.1.q ≡ f.q = ap (λ (r : Row). r.q) (some_same e) in (
-              ap (λ (r : Row). r.parent) (sym (some_same e)),
-              ap (λ (r : Row). r.state) (sym (some_same e)),
-              subst P q (small_at taken.fresh (smaller (t.closed || not (nat_lt (depth_of t.rows row) t.rules.depth))) p.1 x is),
-            )
+        let x = mapped (λ (o : ℕ × Offer). fresh_row n from.0.0 o) (slice_get taken.fresh from.0.1) from.1 in
+        let small = smaller (t.closed || not (nat_lt (depth_of t.rows row) t.rules.depth)) in
+        let q : x.0.1.q ≤ most_q = all_at (λ (o : ℕ × Offer). o.1.q ≤ most_q) taken.fresh small from.0.1 x.0 x.1 in
+        (ap (λ (r : Row). r.parent) x.2, ap (λ (r : Row). r.state) x.2, subst (λ (r : Row). r.q ≤ most_q) (sym x.2) q)
 
     shallow : (b : Bool) → (t.closed || not (nat_lt (depth_of t.rows row) t.rules.depth)) ≡ b → (k : ℕ) (f : Row)
         → slice_get (fresh_rows n (cond {A = ContactLists} b (record { fresh = []; left = answer.offers }) (taking_from (keys_of t.rows) 0 answer.offers)).fresh) k ≡ Some f
@@ -261,11 +219,9 @@ answers_end t n row at answer state open_yet in_range = first (nat_lt answer.sta
         second true h = redirects_ends t n row at answer state open_yet in_range low h
         second false h = ends_alone t n at row state (Ended (received answer.status at [] answer.challenges)) _ open_yet (arrives at) (low, tt)
 
-timeout_ends : (t : Table) (n at : ℕ) (row : Row) (state : State) → seen state ≡ line_end.Never → IsEnding t n at row state (assumed 408 at)
-timeout_ends t n at row state open_yet = ends_alone t n at row state _ false open_yet (arrives at) ((omega arith, omega arith), inl refl)
-
-fault_ends : (t : Table) (n at : ℕ) (row : Row) (state : State) → seen state ≡ line_end.Never → IsEnding t n at row state (assumed 503 at)
-fault_ends t n at row state open_yet = ends_alone t n at row state _ false open_yet (arrives at) ((omega arith, omega arith), inr refl)
+assumed_ends : (t : Table) (n at : ℕ) (row : Row) (state : State) (status : ℕ) → seen state ≡ line_end.Never → IsKept (seen (assumed status at).state)
+    → IsEnding t n at row state (assumed status at)
+assumed_ends t n at row state status open_yet keeps = ends_alone t n at row state _ false open_yet (arrives at) keeps
 
 rings : (t : Table) (n at : ℕ) (row : Row) (state : State) (cancelled : Bool) → seen state ≡ line_end.Never → IsEnding t n at row state (moves (Rung cancelled))
 rings t n at row state cancelled open_yet = ends_alone t n at row state (Rung cancelled) false open_yet (never_arrives at) tt
@@ -288,21 +244,16 @@ effect_ends : (t : Table) (row : Row) (at : ℕ) (event : Event) (state : State)
 effect_ends t row at event Idle in_range = tt
 effect_ends t row at event (Ended end) in_range = tt
 effect_ends t row at (Ring m status) Trying in_range = rings t m at row Trying false refl
-effect_ends t row at (Ring m status) (Rung cancelled) in_range = tt
-effect_ends t row at (Answer m answer) Trying in_range = answers_end t m row at answer Trying refl in_range
-effect_ends t row at (Answer m answer) (Rung cancelled) in_range = answers_end t m row at answer (Rung cancelled) refl in_range
-effect_ends t row at (Timeout m) Trying in_range = timeout_ends t m at row Trying refl
-effect_ends t row at (Timeout m) (Rung cancelled) in_range = timeout_ends t m at row (Rung cancelled) refl
-effect_ends t row at (Fault m) Trying in_range = fault_ends t m at row Trying refl
-effect_ends t row at (Fault m) (Rung cancelled) in_range = fault_ends t m at row (Rung cancelled) refl
-effect_ends t row at (TimerC m) Trying in_range = where_ends (is_invite t.kind) t m at row Trying (assumed 408 at) (timeout_ends t m at row Trying refl)
+effect_ends t row at (Answer m answer) state in_range = answers_end t m row at answer state refl in_range
+effect_ends t row at (Timeout m) state in_range = assumed_ends t m at row state 408 refl ((omega arith, omega arith), inl refl)
+effect_ends t row at (Fault m) state in_range = assumed_ends t m at row state 503 refl ((omega arith, omega arith), inr refl)
+effect_ends t row at (TimerC m) Trying in_range =
+    where_ends (is_invite t.kind) t m at row Trying (assumed 408 at) (assumed_ends t m at row Trying 408 refl ((omega arith, omega arith), inl refl))
 effect_ends t row at (TimerC m) (Rung cancelled) in_range =
     where_ends (is_invite t.kind && not cancelled) t m at row (Rung cancelled) (moves (Rung true)) (rings t m at row (Rung cancelled) true refl)
-effect_ends t row at (GiveUp m) Trying in_range = tt
 effect_ends t row at (GiveUp m) (Rung cancelled) in_range =
     where_ends cancelled t m at row (Rung cancelled) (moves (Ended (Silent at))) (ends_alone t m at row (Rung cancelled) (Ended (Silent at)) false refl (arrives at) tt)
-effect_ends t row at Cancel Trying in_range = tt
-effect_ends t row at Cancel (Rung cancelled) in_range = tt
+effect_ends t row at event state in_range = tt
 
 -- ---- one event at a table
 
@@ -318,36 +269,30 @@ ending_grows : (t : Table) (n at : ℕ) (row : Row) (e : Effect) → IsGrownTabl
 ending_grows t n at row e grown is ends =
     let here = listed_row t.rows n row is in
     let same : targets_of (with_state t.rows n e.state ++ e.fresh) ≡ with_end (targets_of t.rows) n (seen e.state) ++ targets_from (0 + length t.rows) e.fresh = changed_from 0 t.rows e.fresh n e.state in
-    let P : List Target → Type 0 = λ ts. IsGrown t.rules.depth ts (suc at) in
-    subst P (sym same) (grows grown (record {
+    subst (λ (ts : List Target). IsGrown t.rules.depth ts (suc at)) (sym same) (grows grown (record {
       there = here;
       open_yet = ends.open_yet;
       arrival = ends.arrival;
       keeps = ends.keeps;
       number = number;
       parent = λ k f there. let r = get_row (0 + length t.rows) e.fresh k f there in ap (λ (x : Target). x.parent) r.2 ∙ ends.parent k r.0 r.1;
-      small = λ k f there. let r = get_row (0 + length t.rows) e.fresh k f there in small_line f r.0 (ap (λ (x : Target). x.q) r.2) (ends.small k r.0 r.1);
+      small = λ k f there. let r = get_row (0 + length t.rows) e.fresh k f there in subst (λ (x : Target). x.q ≤ most_q) (sym r.2) (ends.small k r.0 r.1);
       waits = λ k f there. let r = get_row (0 + length t.rows) e.fresh k f there in ap (λ (x : Target). x.end) r.2 ∙ ap seen (ends.waits k r.0 r.1);
       redirects = λ k f there. let r = get_row (0 + length t.rows) e.fresh k f there in ends.redirects k r.0 r.1;
       shallow = λ k f there deep has. let r = get_row (0 + length t.rows) e.fresh k f there in shallow deep has (ends.shallow k r.0 r.1);
       falls = falls;
     }))
   where
-    small_line : (f : Target) (row : Row) → f.q ≡ row.q → row.q ≤ most_q → f.q ≤ most_q
-    small_line f row same le = omega arith
-
     number : (k : ℕ) (f : Target) → slice_get (targets_from (0 + length t.rows) e.fresh) k ≡ Some f → f.number ≡ length (targets_of t.rows) + k
     number k f there =
         let r = get_row (0 + length t.rows) e.fresh k f there in
-        let n_is : f.number ≡ (0 + length t.rows) + k = ap (λ (x : Target). x.number) r.2 in
-        let l_is : length (targets_of t.rows) ≡ length t.rows = length-targets 0 t.rows in
-        omega arith
+        omega (arith, ap (λ (x : Target). x.number) r.2, length-targets 0 t.rows)
 
     shallow : (deep : ℕ) → HasDepth (targets_of t.rows) row.parent deep → depth_of t.rows row < t.rules.depth → suc deep ≤ t.rules.depth
     shallow deep has lt =
         let placed = grown.placed n (line_at n row) (listed_row t.rows n row is) in
         let below : deep ≤ n = shallower t.rules.depth at (targets_of t.rows) grown n row.parent deep placed.parent has in
-        let within : n < length t.rows = inside t.rows n row is in
+        let within = slice_get_within t.rows n row is in
         let same : depth_of t.rows row ≡ deep = depth_seen t.rows deep (length t.rows) row.parent has (omega arith) in
         omega arith
 
@@ -355,10 +300,7 @@ ending_grows t n at row e grown is ends =
     falls j k f g lt a b =
         let r = get_row (0 + length t.rows) e.fresh j f a in
         let s = get_row (0 + length t.rows) e.fresh k g b in
-        let bound : s.0.q ≤ r.0.q = ends.falls j k r.0 s.0 lt r.1 s.1 in
-        let x : f.q ≡ r.0.q = ap (λ (z : Target). z.q) r.2 in
-        let y : g.q ≡ s.0.q = ap (λ (z : Target). z.q) s.2 in
-        omega arith
+        omega (arith, ends.falls j k r.0 s.0 lt r.1 s.1, ap (λ (z : Target). z.q) r.2, ap (λ (z : Target). z.q) s.2)
 
 effect_grows : (t : Table) (at n : ℕ) (row : Row) → IsGrownTable t at → slice_get t.rows n ≡ Some row → (e : Option Effect) → MayEnd t n at row row.state e → MayGrow t at (option_map (with_effect t n) e)
 effect_grows t at n row grown is None ends = tt
@@ -376,22 +318,15 @@ cancelled_grows t at true grown = (waits_on t.rules.depth (targets_of t.rows) at
 cancelled_grows t at false grown = tt
 
 change_grows : (t : Table) (event : Event) (at : ℕ) → IsEventInRange event → IsGrownTable t at → MayGrow t at (change t event at)
-change_grows t (Ring n status) at in_range grown = change_at_grows t at (Ring n status) in_range grown
-change_grows t (Answer n answer) at in_range grown = change_at_grows t at (Answer n answer) in_range grown
-change_grows t (Timeout n) at in_range grown = change_at_grows t at (Timeout n) in_range grown
-change_grows t (Fault n) at in_range grown = change_at_grows t at (Fault n) in_range grown
-change_grows t (TimerC n) at in_range grown = change_at_grows t at (TimerC n) in_range grown
-change_grows t (GiveUp n) at in_range grown = change_at_grows t at (GiveUp n) in_range grown
 change_grows t Cancel at in_range grown = cancelled_grows t at (is_invite t.kind && not t.closed) grown
+change_grows t event at in_range grown = change_at_grows t at event in_range grown
 
 pub next_grows : (t : Table) (event : Event) (at : ℕ) → IsEventInRange event → IsGrownTable t at → IsGrownTable (next t event at) (suc at) × ((next t event at).rules ≡ t.rules)
 next_grows t event at in_range grown = go (change t event at) (change_grows t event at in_range grown)
   where
     go : (o : Option Table) → MayGrow t at o → IsGrownTable (unwrap_or (option_map settled o) t) (suc at) × ((unwrap_or (option_map settled o) t).rules ≡ t.rules)
     go None may = (waits_on t.rules.depth (targets_of t.rows) at grown, refl)
-    go (Some u) may =
-        let P : List Target → Type 0 = λ ts. IsGrown u.rules.depth ts (suc at) in
-        (subst P (sym (settled_from u 0 u.rows)) may.0, may.1)
+    go (Some u) may = (subst (λ (ts : List Target). IsGrown u.rules.depth ts (suc at)) (sym (settled_from u 0 u.rows)) may.0, may.1)
 
 -- ---- the opening table
 
@@ -418,37 +353,21 @@ opening_grown kind rules targets in_range = record {
         let w = waits n r.0 r.1 in
         (ap (λ (t : Target). t.parent) r.2 ∙ w.0, ap (λ (t : Target). t.end) r.2 ∙ w.1)
 
-    never : (n : ℕ) → ended_at (targets_of rows) n ≡ None
-    never n = go (slice_get (targets_of rows) n) refl
-      where
-        go : (o : Option Target) → slice_get (targets_of rows) n ≡ o → option_and_then (λ (t : Target). arrival_of t.end) o ≡ None
-        go None is = refl
-        go (Some target) is = ap arrival_of (lists n target is).1
-
     past : (n a : ℕ) → ended_at (targets_of rows) n ≡ Some a → a < 0
-    past n a e = absurd (none_some (sym (never n) ∙ e))
-
-    named_small : (named : List Named) → AllByRecursion IsTargetInRange named → (k : ℕ) (x : Named) → slice_get named k ≡ Some x → x.q ≤ most_q
-    named_small [] all k x is = absurd (none_some is)
-    named_small (y ∷ named) all zero x is = let P : Named → Type 0 = λ z. z.q ≤ most_q in subst P (some_same is) all.0
-    named_small (y ∷ named) all (suc k) x is = named_small named all.1 k x is
+    past n a e =
+        let s = looked (λ (t : Target). arrival_of t.end) (slice_get (targets_of rows) n) e in
+        absurd (none_some (sym (ap arrival_of (lists n s.0 s.1).1) ∙ s.2))
 
     row_small : (n : ℕ) (row : Row) → slice_get rows n ≡ Some row → row.q ≤ most_q
     row_small n row is =
         let from = from_filter_map (λ (p : ℕ × ℕ). option_map (first_row p.0 p.1) (slice_get targets p.1)) (numbered (map (λ (target : Named). target.q) targets)) n row is in
-        go from.0 (slice_get targets from.0.1) refl from.1
-      where
-        go : (p : ℕ × ℕ) (o : Option Named) → slice_get targets p.1 ≡ o → option_map (first_row p.0 p.1) o ≡ Some row → row.q ≤ most_q
-        go p None there e = absurd (none_some e)
-        go p (Some x) there e = let P : Row → Type 0 = λ r. r.q ≤ most_q in subst P (some_same e) (named_small targets in_range p.1 x there)
+        let x = mapped (first_row from.0.0 from.0.1) (slice_get targets from.0.1) from.1 in
+        subst (λ (r : Row). r.q ≤ most_q) (sym x.2) (all_at IsTargetInRange targets in_range from.0.1 x.0 x.1)
 
     kept : (n : ℕ) (target : Target) → slice_get (targets_of rows) n ≡ Some target → (target.q ≤ most_q) × IsKept target.end
     kept n target is =
         let r = row_listed rows n target is in
-        let same : target.q ≡ r.0.q = ap (λ (t : Target). t.q) r.2 in
-        let small : r.0.q ≤ most_q = row_small n r.0 r.1 in
-        let P : End → Type 0 = IsKept in
-        (omega arith, subst P (sym (lists n target is).1) tt)
+        (subst (λ (t : Target). t.q ≤ most_q) (sym r.2) (row_small n r.0 r.1), subst IsKept (sym (lists n target is).1) tt)
 
     follows : (m : ℕ) (parent : Option ℕ) → FollowsTarget (targets_of rows) (line_before (targets_of rows) m) parent
     follows zero parent = tt
@@ -456,39 +375,33 @@ opening_grown kind rules targets in_range = record {
       where
         go : (o : Option Target) → slice_get (targets_of rows) m ≡ o → FollowsTarget (targets_of rows) o parent
         go None is = tt
-        go (Some b) is =
-            let P : Option ℕ → Type 0 = λ o. Follows (targets_of rows) o parent in
-            subst P (sym (lists m b is).0) tt
+        go (Some b) is = subst (λ (o : Option ℕ). Follows (targets_of rows) o parent) (sym (lists m b is).0) tt
 
     placed : (n : ℕ) (target : Target) (row : Row) → slice_get rows n ≡ Some row → target ≡ line_at n row → IsInPlace rules.depth (targets_of rows) n target
     placed n target row is made =
         let w = waits n row is in
-        let P : Target → Type 0 = λ t. IsInPlace rules.depth (targets_of rows) n t in
-        let Q : Option ℕ → Type 0 = λ o. IsParent (targets_of rows) n o in
         let L : Option ℕ → Type 0 = λ o. IsEarlier (option_and_then (ended_at (targets_of rows)) o) (arrival_of (seen row.state)) in
-        let H : Option ℕ → Type 0 = λ o. HasDepth (targets_of rows) o 0 in
-        subst P (sym made) (record {
+        subst (IsInPlace rules.depth (targets_of rows) n) (sym made) (record {
           number = refl;
-          parent = subst Q (sym w.0) tt;
+          parent = subst (IsParent (targets_of rows) n) (sym w.0) tt;
           follows = follows n row.parent;
           falls = falls;
           apart = λ m a lt e mine. none_some (ap arrival_of (sym w.1) ∙ mine);
           later = subst L (sym w.0) tt;
-          depth = (0, subst H (sym w.0) tt, omega arith);
+          depth = (0, subst (λ (o : Option ℕ). HasDepth (targets_of rows) o 0) (sym w.0) tt, omega arith);
         })
       where
         falls : (m : ℕ) (other : Target) → m < n → slice_get (targets_of rows) m ≡ Some other → other.parent ≡ row.parent → row.q ≤ other.q
         falls m other lt there same =
             let r = row_listed rows m other there in
-            let bound : row.q ≤ r.0.q = fall_at rows (opening_fall targets) m n r.0 row lt r.1 is in
-            let q : other.q ≡ r.0.q = ap (λ (t : Target). t.q) r.2 in
-            omega arith
+            omega (arith, fall_at rows (opening_fall targets) m n r.0 row lt r.1 is, ap (λ (t : Target). t.q) r.2)
 
 -- ---- every history
 
 pub record IsGrownCore (rules : Rules) (core : Core) : Type 0 where
   pub grown : IsGrownTable core.table core.taken
   pub ruled : core.table.rules ≡ rules
+  pub arrivals : AreArrivals core.table.rows core.taken
 
 offered_grows : (rules : Rules) (core : Core) (event : Event) → IsEventInRange event → IsGrownCore rules core → IsGrownCore rules (core_offered core event)
 offered_grows rules core event in_range h = go (is_full core event)
@@ -497,7 +410,7 @@ offered_grows rules core event in_range h = go (is_full core event)
     go true = h
     go false =
         let g = next_grows core.table event core.taken in_range h.grown in
-        record { grown = g.0; ruled = g.1 ∙ h.ruled }
+        record { grown = g.0; ruled = g.1 ∙ h.ruled; arrivals = next_arrivals core.table event core.taken h.arrivals }
 
 pub after_grows : (rules : Rules) (core : Core) (events : List Event) → AllByRecursion IsEventInRange events → IsGrownCore rules core → IsGrownCore rules (core_after core events)
 after_grows rules core [] in_range h = h
@@ -506,4 +419,5 @@ after_grows rules core (event ∷ events) in_range h = after_grows rules (core_o
 pub history_grows : (kind : Kind) (rules : Rules) (targets : List Named) (events : List Event) → AllByRecursion IsTargetInRange targets → AllByRecursion IsEventInRange events
     → IsGrownCore rules (core_after (opening_core kind rules targets) events)
 history_grows kind rules targets events small in_range =
-    after_grows rules (opening_core kind rules targets) events in_range (record { grown = opening_grown kind rules targets small; ruled = refl })
+    after_grows rules (opening_core kind rules targets) events in_range
+    (record { grown = opening_grown kind rules targets small; ruled = refl; arrivals = history_of_arrivals kind rules targets [] })

@@ -1,3 +1,4 @@
+pub mod Lists
 pub mod Common
 pub mod laws
 mod Placing

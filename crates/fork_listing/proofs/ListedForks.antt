@@ -1,9 +1,9 @@
 -- The listing of every fork is right.
-use Rattle.fork_listing.proofs.Common.{◌≡◌, ◌≢◌, ℕ, zero, suc, ◌<◌, ◌≤◌, Bool, true, false, cond, List, [], ◌∷◌, ◌++◌, map, length, Option, Some, None, refl, sym, ap, subst, ◌∙◌, arith, inl, inr, slice_get, option_and_then, option_map}
-use Rattle.fork_listing.proofs.Common.{AllByRecursion, Kind, Rules, Row, Table, State, Idle, Trying, Rung, Ended, Accepted, most_targets, Score, Before, Event, Choice, Best, Only503, NoAnswer408, IsChoice, IsFirst, stored_at, status_at}
+use Rattle.fork_listing.proofs.Common.{◌≡◌, ◌≢◌, ℕ, zero, suc, ◌≤◌, Bool, true, false, cond, List, [], ◌∷◌, ◌++◌, map, length, Option, Some, None, refl, sym, ap, subst, ◌∙◌, arith, inl, inr, slice_get, option_and_then, option_map}
+use Rattle.fork_listing.proofs.Common.{AllByRecursion, Kind, Rules, Row, Table, State, Ended, most_targets, Score, Before, Event, Choice, Best, Only503, NoAnswer408, IsChoice, IsFirst, stored_at, status_at}
 use Rattle.fork_listing.proofs.Common.{Core, opening_core, core_next, core_offered, core_after, is_full, End, Target, Ranked, Final, Verdict, Line, TargetLine, RankLine, FinalLine, most_arrival, most_number, arrival_of, ended_at, IsParent}
-use Rattle.fork_listing.proofs.Common.{IsInPlace, rows_of, score_of, score_in, score_at, RanksBehind, final_of, IsChosen, IsRanking, Listing, AreInOrder, AreListed, IsRight, verdict_of, targets_of, listing_of, IsListingOf, IsStatus, IsEnd}
-use Rattle.fork_listing.proofs.Common.{IsNumberOrNone, IsTargetLine, IsRankLine, IsFinalLine, IsLine, IsListing, IsRightText}
+use Rattle.fork_listing.proofs.Common.{rows_of, score_of, score_in, score_at, RanksBehind, final_of, IsChosen, IsRanking, Listing, AreInOrder, AreListed, IsRight, verdict_of, targets_of, listing_of, IsListingOf, IsStatus, IsEnd}
+use Rattle.fork_listing.proofs.Common.{IsNumberOrNone, IsTargetLine, IsRankLine, IsFinalLine, IsLine, IsListing, IsRightText, AreArrivals, HasScore, some_same, none_some, slice_get_within}
 use Rattle.fork_model.specs.Table.{Stored, Taken, Silent, Never, stored_of}
 use Rattle.fork_model.specs.History as history
 use Rattle.fork_model.specs.Choice as model
@@ -13,20 +13,14 @@ use Rattle.fork_model.proofs.laws.StepLemmas.{rows_keep_numbers}
 use Rattle.fork_model.proofs.laws.OrderLemmas.{Before-total}
 use Rattle.fork_listing.specs.declared.line.End.TheVariants as line_end
 use Rattle.fork_listing.specs.Ranks.{rank_before}
+use Rattle.fork_text.proofs.laws.Lines as texts
 use Rattle.fork_context.specs.Led.{AreRules, IsLedTo}
 use Rattle.fork_listing.specs.Accepted.{ListingsAreRight, AppendsRight}
-use Rattle.fork_listing.proofs.Placing.{inside}
 use Rattle.fork_listing.proofs.Finals.{status_seen}
 use Rattle.fork_listing.proofs.Meanings.{same_score}
 use Rattle.fork_listing.proofs.Growing.{IsKept}
 use Rattle.fork_listing.proofs.GrownTables.{seen, listed_row, row_listed, length-targets, IsGrownTable, history_grows}
-use Rattle.fork_listing.proofs.AcceptedTexts.{scored_at, score_ends, ended_apart}
-
-some_same : {X : Type 0} {x y : X} → Some x ≡ Some y → x ≡ y
-some_same e = cc
-
-none_some : {X : Type 0} {x : X} → None ≡ Some x → ⊥
-none_some e = absurd cc
+use Rattle.fork_listing.proofs.AcceptedTexts.{scored_at, score_ends}
 
 -- ---- how many rows there are
 
@@ -64,17 +58,12 @@ record IsFit (t : Table) (at : ℕ) : Type 0 where
   some : 1 ≤ length t.rows
   few : length t.rows ≤ most_targets
   rules : AreRules t.rules
+  arrivals : AreArrivals t.rows at
 
 -- the score of a row is that of its line
 state_score : (state : State) → option_map model.score_of (stored_of state) ≡ score_in (seen state)
-state_score Idle = refl
-state_score Trying = refl
-state_score (Rung cancelled) = refl
 state_score (Ended (Stored answer)) = refl
-state_score (Ended (Taken arrival)) = refl
-state_score (Ended (Silent arrival)) = refl
-state_score (Ended Never) = refl
-state_score (Ended (Accepted arrival)) = refl
+state_score state = refl
 
 pub row_score : (rows : List Row) (n : ℕ) → option_map model.score_of (stored_at (slice_get rows n)) ≡ score_at (targets_of rows) n
 row_score rows n = go (slice_get rows n) refl
@@ -110,6 +99,42 @@ same_final rules rows (Best n) h =
 same_final rules rows (Only503 n) h = refl
 same_final rules rows NoAnswer408 h = refl
 
+pub is_chosen : (t : Table) (choice : Choice) → IsChoice t.rules t.rows choice → IsChosen t.rules (targets_of t.rows) (final_of t.rows choice)
+is_chosen t choice chosen = (choice, same_choice t.rules t.rows choice chosen, same_final t.rules t.rows choice chosen)
+
+-- where the answers arrived apart, the ranking is in order, and has each
+
+module _ (t : Table) (at : ℕ) (ranks : List Ranked) (choice : Choice) (arrivals : AreArrivals t.rows at)
+    (ranking : IsRanking t.rules (targets_of t.rows) ranks) where
+  next_behind : (j : ℕ) (a b : Ranked) → slice_get ranks j ≡ Some a → slice_get ranks (suc j) ≡ Some b → Before t.rules (score_of a) (score_of b)
+  next_behind j a b x y =
+      elim (Before-total t.rules (score_of a) (score_of b) apart) [
+        | inl before ↦ before
+        | inr behind ↦ absurd (ranking.ordered j (suc j) a b (omega arith) x y behind)
+      ]
+    where
+      stored : (k : ℕ) (r : Ranked) → slice_get ranks k ≡ Some r → HasScore t.rows r.number (score_of r)
+      stored k r is = row_score t.rows r.number ∙ ranking.stored k r is
+
+      apart : a.arrival ≢ b.arrival
+      apart same =
+          let numbers = arrivals.apart a.number b.number (score_of a) (score_of b) (stored j a x) (stored (suc j) b y) same in
+          omega (arith, ranking.once j (suc j) a b x y numbers)
+
+  behind : (k : ℕ) (ranked : Ranked) → slice_get ranks k ≡ Some ranked → RanksBehind t.rules (rank_before ranks k) ranked
+  behind zero ranked is = tt
+  behind (suc j) ranked is = go (slice_get ranks j) refl
+    where
+      go : (o : Option Ranked) → slice_get ranks j ≡ o → RanksBehind t.rules o ranked
+      go None none = tt
+      go (Some before) some = next_behind j before ranked some is
+
+  pub in_order : AreInOrder (listing_of t ranks choice)
+  in_order = λ k lt ranked is. record { stored = ranking.stored k ranked is; behind = behind k ranked is }
+
+  pub all_listed : AreListed (listing_of t ranks choice)
+  all_listed = λ n lt score is. ranking.all n score is
+
 -- ---- its lines
 
 end_line : (end : End) → IsKept end → ((a : ℕ) → arrival_of end ≡ Some a → a ≤ most_arrival) → IsEnd end
@@ -122,30 +147,20 @@ all_map : {X : Type 0} (f : X → Line) (xs : List X) → ((n : ℕ) (x : X) →
 all_map f [] each = tt
 all_map f (x ∷ xs) each = (each 0 x refl, all_map f xs (λ n y is. each (suc n) y is))
 
-all_append : (xs ys : List Line) → AllByRecursion IsLine xs → AllByRecursion IsLine ys → AllByRecursion IsLine (xs ++ ys)
-all_append [] ys a b = b
-all_append (x ∷ xs) ys a b = (a.0, all_append xs ys a.1 b)
-
 module _ (t : Table) (at : ℕ) (ranks : List Ranked) (choice : Choice) (fit : IsFit t at) (ranking : IsRanking t.rules (targets_of t.rows) ranks) (chosen : IsChoice t.rules t.rows choice) where
   abbrev targets : List Target
   targets = targets_of t.rows
 
   small : (n : ℕ) (target : Target) → slice_get targets n ≡ Some target → n ≤ most_number
   small n target is =
-      let lt : n < length targets = inside targets n target is in
-      let same : length targets ≡ length t.rows = length-targets 0 t.rows in
-      let few : length t.rows ≤ most_targets = fit.few in
-      omega arith
+      omega (arith, slice_get_within targets n target is, length-targets 0 t.rows, fit.few)
 
   soon : (n a : ℕ) → ended_at targets n ≡ Some a → a ≤ most_arrival
-  soon n a e =
-      let lt : a < at = fit.grown.past n a e in
-      let le : at ≤ most_taken = fit.soon in
-      omega arith
+  soon n a e = omega (arith, fit.grown.past n a e, fit.soon)
 
   parent_line : (n : ℕ) (parent : Option ℕ) → n ≤ most_number → IsParent targets n parent → IsNumberOrNone parent
   parent_line n None le h = tt
-  parent_line n (Some p) le h = let lt : p < n = h.0 in omega arith
+  parent_line n (Some p) le h = omega (arith, h.0)
 
   end_of_line : (n : ℕ) (target : Target) → slice_get targets n ≡ Some target → IsEnd target.end
   end_of_line n target is =
@@ -165,10 +180,8 @@ module _ (t : Table) (at : ℕ) (ranks : List Ranked) (choice : Choice) (fit : I
       (status s.0.end (end_of_line n s.0 s.1) s.2, soon n score.arrival (score_ends targets n score e), small n s.0 s.1)
     where
       status : (end : End) → IsEnd end → score_in end ≡ Some score → IsStatus score.status
-      status (line_end.Stored s arrival received) h e = let P : Score → Type 0 = λ x. IsStatus x.status in subst P (some_same e) h.0
-      status (line_end.Taken arrival) h e = absurd (none_some e)
-      status (line_end.Silent arrival) h e = absurd (none_some e)
-      status line_end.Never h e = absurd (none_some e)
+      status (line_end.Stored s arrival received) h e = subst (λ (x : Score). IsStatus x.status) (some_same e) h.0
+      status end h e = absurd (none_some e)
 
   rank_line : (k : ℕ) (ranked : Ranked) → slice_get ranks k ≡ Some ranked → IsRankLine ranked
   rank_line k ranked is =
@@ -179,8 +192,7 @@ module _ (t : Table) (at : ℕ) (ranks : List Ranked) (choice : Choice) (fit : I
   final_line (Best n) h =
       let s = score_line n h.0 (sym (row_score t.rows n) ∙ h.1.stored) in
       let status : status_at (slice_get t.rows n) ≡ h.0.status = status_seen (stored_at (slice_get t.rows n)) h.0 h.1.stored in
-      let P : ℕ → Type 0 = IsStatus in
-      (subst P (sym status) s.0, s.2)
+      (subst IsStatus (sym status) s.0, s.2)
   final_line (Only503 n) h =
       let s = score_line n h.0 (sym (row_score t.rows n) ∙ h.1.stored) in
       ((omega arith, omega arith), s.2)
@@ -194,8 +206,8 @@ module _ (t : Table) (at : ℕ) (ranks : List Ranked) (choice : Choice) (fit : I
         fit.rules.preferred,
         (
           fit.rules.depth,
-          all_append (map TargetLine targets) (map RankLine ranks ++ FinalLine (final_of t.rows choice) ∷ []) (all_map TargetLine targets target_line)
-              (all_append (map RankLine ranks) (FinalLine (final_of t.rows choice) ∷ []) (all_map RankLine ranks rank_line) (final_line choice chosen, tt)),
+          texts.all_append IsLine (map TargetLine targets) _ (all_map TargetLine targets target_line)
+              (texts.all_append IsLine (map RankLine ranks) _ (all_map RankLine ranks rank_line) (final_line choice chosen, tt)),
         ),
       ),
     );
@@ -205,43 +217,13 @@ module _ (t : Table) (at : ℕ) (ranks : List Ranked) (choice : Choice) (fit : I
 
   -- ---- it is right
 
-  placed : (n : ℕ) (target : Target) → slice_get targets n ≡ Some target → IsInPlace t.rules.depth targets n target
-  placed n target is = fit.grown.placed n target is
-
-  next_behind : (j : ℕ) (a b : Ranked) → slice_get ranks j ≡ Some a → slice_get ranks (suc j) ≡ Some b → Before t.rules (score_of a) (score_of b)
-  next_behind j a b x y =
-      elim (Before-total t.rules (score_of a) (score_of b) apart) [
-        | inl before ↦ before
-        | inr behind ↦ absurd (ranking.ordered j (suc j) a b (omega arith) x y behind)
-      ]
-    where
-      apart : a.arrival ≢ b.arrival
-      apart same =
-          let first : ended_at targets a.number ≡ Some b.arrival = score_ends targets a.number (score_of a) (ranking.stored j a x) ∙ ap Some same in
-          let second : ended_at targets b.number ≡ Some b.arrival = score_ends targets b.number (score_of b) (ranking.stored (suc j) b y) in
-          let numbers : a.number ≡ b.number = ended_apart t.rules.depth targets placed a.number b.number b.arrival first second in
-          let once : j ≡ suc j = ranking.once j (suc j) a b x y numbers in
-          omega arith
-
-  behind : (k : ℕ) (ranked : Ranked) → slice_get ranks k ≡ Some ranked → RanksBehind t.rules (rank_before ranks k) ranked
-  behind zero ranked is = tt
-  behind (suc j) ranked is = go (slice_get ranks j) refl
-    where
-      go : (o : Option Ranked) → slice_get ranks j ≡ o → RanksBehind t.rules o ranked
-      go None none = tt
-      go (Some before) some = next_behind j before ranked some is
-
-  in_order : AreInOrder (listing_of t ranks choice)
-  in_order = λ k lt ranked is. record { stored = ranking.stored k ranked is; behind = behind k ranked is }
-
-  listed : AreListed (listing_of t ranks choice)
-  listed = λ n lt score is. ranking.all n score is
-
-  is_chosen : IsChosen t.rules targets (final_of t.rows choice)
-  is_chosen = (choice, same_choice t.rules t.rows choice chosen, same_final t.rules t.rows choice chosen)
-
   is_right : IsRight (listing_of t ranks choice)
-  is_right = ((λ n lt target is. placed n target is), in_order, listed, is_chosen)
+  is_right = (
+    (λ n lt target is. fit.grown.placed n target is),
+    in_order t at ranks choice fit.arrivals ranking,
+    all_listed t at ranks choice fit.arrivals ranking,
+    is_chosen t choice chosen,
+  )
 
 fit_right : (t : Table) (at : ℕ) (text : List ℕ) → IsFit t at → IsListingOf t text → (verdict : Verdict) × IsRightText text verdict
 fit_right t at text fit l =
@@ -253,17 +235,16 @@ listings_right core text h listed =
     let end : Core = core_after (opening_core h.kind h.rules h.targets) h.events in
     let grown = history_grows h.kind h.rules h.targets h.events h.targets_in_range h.events_in_range in
     let size = after_size (opening_core h.kind h.rules h.targets) h.events (opening_size h.kind h.rules h.targets h.some h.few) in
-    let P : Rules → Type 0 = AreRules in
-    let Q : Core → Type 0 = λ c. IsListingOf c.table text in
     fit_right end.table end.taken text
     (record {
       grown = grown.grown;
       soon = taken_bounded h.kind h.rules h.targets h.events h.few;
       some = size.some;
       few = size.few;
-      rules = subst P (sym grown.ruled) h.set;
+      rules = subst AreRules (sym grown.ruled) h.set;
+      arrivals = grown.arrivals;
     })
-    (subst Q h.led listed)
+    (subst (λ (c : Core). IsListingOf c.table text) h.led listed)
 
 -- and so is what is appended
 pub appends_right : (core : Core) (old text new : List ℕ) → IsLedTo core → IsListingOf core.table text → new ≡ old ++ text → AppendsRight old new

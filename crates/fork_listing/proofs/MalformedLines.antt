@@ -1,15 +1,12 @@
 -- A text that is no listing is refused by the number of its first line that is not of the form due in its place.
 use Rattle.fork_listing.proofs.Common.{◌≡◌, ℕ, ◌+◌, ◌<◌, length, Option, Some, None, Err, refl, sym, ◌∙◌, arith, option_map, slice_split, join_with_byte-slice_split, is, Phase, Line, Listing, Draft, no_draft, in_phase, drafted_line}
-use Rattle.fork_listing.proofs.Common.{listing_in, or_line}
+use Rattle.fork_listing.proofs.Common.{listing_in, or_line, none_some}
 use Rattle.std.proofs.lemmas.List.Splits.{length-slice_split}
 use Rattle.sip_lex.proofs.laws.Splits.{pieces_lack}
 use Rattle.fork_listing.specs.Text.{phase_after, with_line, read_listing}
 use Rattle.fork_listing.specs.Spelled.{RefusedByFirst}
 use Rattle.fork_text.proofs.laws.Lines.{malformed}
 use Rattle.fork_listing.proofs.SpelledListings.{reader, ok_err}
-
-none_some : {X : Type 0} {x : X} → None ≡ Some x → ⊥
-none_some e = absurd cc
 
 nothing_due : (number : ℕ) (o : Option Listing) → or_line number o ≡ Err number → o ≡ None
 nothing_due number None e = refl

@@ -1,18 +1,11 @@
 -- What a right listing tells.
-use Rattle.fork_listing.proofs.Common.{◌≡◌, ℕ, zero, suc, ◌<◌, ◌⊎◌, List, [], ◌∷◌, length, Option, Some, None, Result, Ok, Err, refl, sym, ap, subst, ◌∙◌, arith, inl, inr, slice_get, option_and_then, option_map, Row, Score, Before, Choice}
+use Rattle.fork_listing.proofs.Common.{◌≡◌, ℕ, zero, suc, ◌<◌, List, [], ◌∷◌, Option, Some, None, Result, Ok, Err, refl, sym, ap, subst, ◌∙◌, arith, inl, inr, slice_get, option_and_then, option_map, Row, Score, Before, Choice}
 use Rattle.fork_listing.proofs.Common.{Best, Only503, NoAnswer408, IsFirst, IsChoice, NoneStored, stored_at, status_at, Before-trans, Target, Ranked, Final, row_of, rows_of, score_of, score_in, score_at, RanksBehind, final_of, IsChosen}
-use Rattle.fork_listing.proofs.Common.{Listing, read_listing, AreInOrder, AreListed, IsChecked, verdict_of, FirstLineIs}
+use Rattle.fork_listing.proofs.Common.{Listing, read_listing, AreInOrder, AreListed, IsChecked, verdict_of, FirstLineIs, slice_get-map, looked, some_same, cases, slice_get_within, there}
 use Rattle.fork_model.specs.Choice as model
 use Rattle.fork_listing.specs.Meaning.{ListedAreStored, AreRanked, FinalIsFirst, TellsTheChoice, RightTellsTheChoice, AcceptedTellsTheChoice}
-use Rattle.fork_listing.proofs.Placing.{inside, there}
-use Rattle.fork_listing.proofs.LineScores.{target_score, get_map}
+use Rattle.fork_listing.proofs.LineScores.{target_score}
 use Rattle.fork_listing.proofs.Finals.{status_seen}
-
-some_same : {X : Type 0} {x y : X} → Some x ≡ Some y → x ≡ y
-some_same e = cc
-
-none_some : {X : Type 0} {x : X} → None ≡ Some x → ⊥
-none_some e = absurd cc
 
 abbrev seen : Option Row → Option Score
 seen row = option_map model.score_of (stored_at row)
@@ -23,55 +16,38 @@ score_seen (Some target) = target_score target
 
 -- the score in a row is that in its line
 pub same_score : (targets : List Target) (n : ℕ) → seen (slice_get (rows_of targets) n) ≡ score_at targets n
-same_score targets n = ap seen (get_map row_of targets n) ∙ score_seen (slice_get targets n)
+same_score targets n = ap seen (slice_get-map row_of targets n) ∙ score_seen (slice_get targets n)
 
 one_line : (a b : Ranked) → a.number ≡ b.number → score_of a ≡ score_of b → a ≡ b
-one_line a b e h =
-    let line : ℕ → ℕ → ℕ → Ranked = λ s n t. record { status = s; number = n; arrival = t } in
-    ap (λ s. line s a.number a.arrival) (ap (λ (x : Score). x.status) h)
-    ∙ ap (λ n. line b.status n a.arrival) e
-    ∙ ap (λ t. line b.status b.number t) (ap (λ (x : Score). x.arrival) h)
+one_line a b e h = (λ i. record { status = (h i).status; number = e i; arrival = (h i).arrival })
 
-listed : (l : Listing) → AreInOrder l → AreListed l → ListedAreStored l
+pub listed : (l : Listing) → AreInOrder l → AreListed l → ListedAreStored l
 listed l order all = λ ranked. (
-  (λ at. same_score l.targets ranked.number ∙ (order at.0 (inside l.ranks at.0 ranked at.1) ranked at.1).stored),
+  (λ at. same_score l.targets ranked.number ∙ (order at.0 (slice_get_within l.ranks at.0 ranked at.1) ranked at.1).stored),
   (λ stored.
       let here : score_at l.targets ranked.number ≡ Some (score_of ranked) = sym (same_score l.targets ranked.number) ∙ stored in
-      let h = all ranked.number (scored_inside l.targets ranked.number (score_of ranked) here) (score_of ranked) here in
-      let found : score_at l.targets h.1.number ≡ Some (score_of h.1) = (order h.0 (inside l.ranks h.0 h.1 h.2) h.1 h.2).stored in
+      let scored = looked (λ (target : Target). score_in target.end) (slice_get l.targets ranked.number) here in
+      let h = all ranked.number (slice_get_within l.targets ranked.number scored.0 scored.1) (score_of ranked) here in
+      let found : score_at l.targets h.1.number ≡ Some (score_of h.1) = (order h.0 (slice_get_within l.ranks h.0 h.1 h.2) h.1 h.2).stored in
       let one : score_of h.1 ≡ score_of ranked = some_same (sym found ∙ ap (score_at l.targets) h.3 ∙ here) in
       (h.0, h.2 ∙ ap Some (one_line h.1 ranked h.3 one))),
 )
-  where
-    scored_inside : (targets : List Target) (m : ℕ) (s : Score) → score_at targets m ≡ Some s → m < length targets
-    scored_inside targets m s e = at (slice_get targets m) refl e
-      where
-        at : (o : Option Target) → slice_get targets m ≡ o → option_and_then (λ (t : Target). score_in t.end) o ≡ Some s → m < length targets
-        at None here e = absurd (none_some e)
-        at (Some target) here e = inside targets m target here
 
-next_behind : (l : Listing) (k : ℕ) (a b : Ranked) → AreInOrder l → slice_get l.ranks k ≡ Some a → slice_get l.ranks (suc k) ≡ Some b → Before l.rules (score_of a) (score_of b)
-next_behind l k a b order x y =
-    let P : Option Ranked → Type 0 = λ o. RanksBehind l.rules o b in
-    subst P x (order (suc k) (inside l.ranks (suc k) b y) b y).behind
-
-cases : (m n : ℕ) → m < suc n → (m < n) ⊎ (m ≡ n)
-cases m n lt = grind arith
-
-ranked : (l : Listing) → AreInOrder l → (k j : ℕ) (a b : Ranked) → j < k → slice_get l.ranks j ≡ Some a → slice_get l.ranks k ≡ Some b → Before l.rules (score_of a) (score_of b)
+pub ranked : (l : Listing) → AreInOrder l → (k j : ℕ) (a b : Ranked) → j < k → slice_get l.ranks j ≡ Some a → slice_get l.ranks k ≡ Some b
+    → Before l.rules (score_of a) (score_of b)
 ranked l order zero j a b lt x y = absurd (omega arith)
 ranked l order (suc k) j a b lt x y =
-    let h = inside l.ranks (suc k) b y in
+    let h = slice_get_within l.ranks (suc k) b y in
     let mid = there l.ranks k (omega arith) in
-    let last : Before l.rules (score_of mid.0) (score_of b) = next_behind l k mid.0 b order mid.1 y in
-    elim (cases j k lt) [
+    let last : Before l.rules (score_of mid.0) (score_of b) = subst (λ (o : Option Ranked). RanksBehind l.rules o b) mid.1 (order (suc k) h b y).behind in
+    elim (cases j k (omega arith)) [
       | inl less ↦ Before-trans l.rules (score_of a) (score_of mid.0) (score_of b) (ranked l order k j a mid.0 less x mid.1) last
       | inr same ↦
           let one : mid.0 ≡ a = some_same (sym mid.1 ∙ ap (slice_get l.ranks) (sym same) ∙ x) in
           subst (λ (r : Ranked). Before l.rules (score_of r) (score_of b)) one last
     ]
 
-first : (l : Listing) → IsChosen l.rules l.targets l.last → FinalIsFirst l
+pub first : (l : Listing) → IsChosen l.rules l.targets l.last → FinalIsFirst l
 first l chosen = at chosen.0 chosen.1 chosen.2
   where
     at : (choice : Choice) → IsChoice l.rules (rows_of l.targets) choice → l.last ≡ final_of (rows_of l.targets) choice → FinalIsFirst l
@@ -95,7 +71,7 @@ leads l n score stored order is = at found.0 found.1
     at : (k : ℕ) → slice_get l.ranks k ≡ Some line → FirstLineIs l.ranks (Some n)
     at zero e = (line, e, refl)
     at (suc k) e =
-        let behind = inside l.ranks (suc k) line e in
+        let behind = slice_get_within l.ranks (suc k) line e in
         let front = there l.ranks 0 (omega arith) in
         absurd (is.first front.0.number (score_of front.0) ((stored front.0).0 (0, front.1)) (order 0 (suc k) front.0 line (omega arith) front.1 e))
 
@@ -107,7 +83,7 @@ no_line l stored none = at l.ranks refl
     at [] e = refl
     at (ranked ∷ ranks) e = absurd (none ranked.number (score_of ranked) ((stored ranked).0 (0, ap (λ (rs : List Ranked). slice_get rs 0) e)))
 
-first_line : (l : Listing) → ListedAreStored l → AreRanked l → FinalIsFirst l → FirstLineIs l.ranks l.last.number
+pub first_line : (l : Listing) → ListedAreStored l → AreRanked l → FinalIsFirst l → FirstLineIs l.ranks l.last.number
 first_line l stored order final =
     elim final [
       | inl best ↦ subst P (sym (ap number best.4)) (leads l best.0 best.1 stored order best.2)

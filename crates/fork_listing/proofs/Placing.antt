@@ -1,36 +1,10 @@
 -- How the place of a line follows from those of the lines before it.
 use Rattle.fork_listing.proofs.Common.{◌≡◌, ℕ, zero, suc, ◌+◌, ◌<◌, ◌≤◌, ◌⊎◌, true, List, [], ◌∷◌, ◌++◌, length, Option, Some, None, refl, sym, ap, subst, ◌∙◌, arith, inl, inr, slice_get, option_and_then, Target, HoldsBelow, arrival_of}
-use Rattle.fork_listing.proofs.Common.{ended_at, is_redirected, IsParent, IsBefore, Follows, FollowsTarget, line_before, HasDepth, IsInPlace, IsPlaced, IsNear}
-use Rattle.std.proofs.Common.{get_or}
+use Rattle.fork_listing.proofs.Common.{ended_at, is_redirected, IsParent, IsBefore, Follows, FollowsTarget, line_before, HasDepth, IsInPlace, IsPlaced, IsNear, some_same, cases, there, slice_get_within, get_pushed, length_pushed}
 use Rattle.fork_listing.specs.inner.Near.{FallsTo, one_more, depth_by}
 
-some_same : {X : Type 0} {x y : X} → Some x ≡ Some y → x ≡ y
-some_same e = cc
-
-pub there : {X : Type 0} (xs : List X) (n : ℕ) → n < length xs → (x : X) × (slice_get xs n ≡ Some x)
-there [] n lt = absurd (omega arith)
-there (x ∷ xs) zero lt = (x, refl)
-there (x ∷ xs) (suc n) lt = there xs n (omega arith)
-
-pub inside : {X : Type 0} (xs : List X) (n : ℕ) (x : X) → slice_get xs n ≡ Some x → n < length xs
-inside [] n x is = absurd cc
-inside (y ∷ xs) zero x is = omega arith
-inside (y ∷ xs) (suc n) x is = let h = inside xs n x is in omega arith
-
--- an element by its index
-pub at_index : {X : Type 0} (xs : List X) (n : ℕ) (x : X) → n < length xs → x ≡ get_or xs n x → slice_get xs n ≡ Some x
-at_index [] n x lt e = absurd (omega arith)
-at_index (y ∷ xs) zero x lt e = ap Some (sym e)
-at_index (y ∷ xs) (suc n) x lt e = at_index xs n x (omega arith) e
-
-pub one_at : {X : Type 0} (xs : List X) (n : ℕ) (x y : X) → slice_get xs n ≡ Some x → slice_get xs n ≡ Some y → x ≡ y
-one_at xs n x y e f = some_same (sym e ∙ f)
-
 pub holds_next : (P : ℕ → Type 0) (n : ℕ) → HoldsBelow P n → P n → HoldsBelow P (n + 1)
-holds_next P n holds at = λ m lt. elim (nearer m n lt) [ inl less ↦ holds m less | inr same ↦ subst P (sym same) at ]
-  where
-    nearer : (m n : ℕ) → m < n + 1 → (m < n) ⊎ (m ≡ n)
-    nearer m n lt = grind arith
+holds_next P n holds at = λ m lt. elim (cases m n lt) [ inl less ↦ holds m less | inr same ↦ subst P (sym same) at ]
 
 pub holds_all : (P : ℕ → Type 0) (n bound : ℕ) → bound ≤ n → HoldsBelow P n → HoldsBelow P bound
 holds_all P n bound le holds = λ m lt. holds m (omega arith)
@@ -45,8 +19,7 @@ one_depth targets (Some p) zero e h k = absurd h
 one_depth targets (Some p) (suc d) zero h k = absurd k
 one_depth targets (Some p) (suc d) (suc e) h k =
     let same : h.0 ≡ k.0 = some_same (sym h.1 ∙ k.1) in
-    let P : Target → Type 0 = λ t. HasDepth targets t.parent d in
-    ap suc (one_depth targets k.0.parent d e (subst P same h.2) k.2)
+    ap suc (one_depth targets k.0.parent d e (subst (λ (t : Target). HasDepth targets t.parent d) same h.2) k.2)
 
 -- these are the depths of the lines before a place
 pub record AreDepths (targets : List Target) (depths : List ℕ) (n : ℕ) : Type 0 where
@@ -61,24 +34,12 @@ depth_right targets depths n (Some p) right is = at (slice_get targets p) refl i
     at None here was = absurd cc
     at (Some target) here was =
         let h = right.right p target is.0 here in
-        let P : Option ℕ → Type 0 = λ d. HasDepth targets (Some p) (one_more d) in
-        subst P (sym h.1) (target, here, h.2)
-
-get_pushed : {X : Type 0} (xs : List X) (x : X) → slice_get (xs ++ x ∷ []) (length xs) ≡ Some x
-get_pushed [] x = refl
-get_pushed (y ∷ xs) x = get_pushed xs x
+        subst (λ (d : Option ℕ). HasDepth targets (Some p) (one_more d)) (sym h.1) (target, here, h.2)
 
 get_kept : {X : Type 0} (xs : List X) (x y : X) (m : ℕ) → slice_get xs m ≡ Some y → slice_get (xs ++ x ∷ []) m ≡ Some y
 get_kept [] x y m is = absurd cc
 get_kept (z ∷ xs) x y zero is = is
 get_kept (z ∷ xs) x y (suc m) is = get_kept xs x y m is
-
-length_pushed : {X : Type 0} (xs : List X) (x : X) → length (xs ++ x ∷ []) ≡ length xs + 1
-length_pushed [] x = refl
-length_pushed (y ∷ xs) x = let h = length_pushed xs x in omega arith
-
-cases : (m n : ℕ) → m < n + 1 → (m < n) ⊎ (m ≡ n)
-cases m n lt = grind arith
 
 pub depths_more : (targets : List Target) (depths : List ℕ) (n : ℕ) (target : Target) (d : ℕ) → slice_get targets n ≡ Some target → AreDepths targets depths n → HasDepth targets target.parent d → AreDepths targets (depths ++ d ∷ []) (n + 1)
 depths_more targets depths n target d here right deep = record {
@@ -87,25 +48,22 @@ depths_more targets depths n target d here right deep = record {
       elim (cases m n lt) [
         | inl less ↦ let h = right.right m other less is in (h.0, get_kept depths d h.0 m h.1, h.2)
         | inr same ↦
-            let P : ℕ → Type 0 = λ k. slice_get (depths ++ d ∷ []) k ≡ Some d in
-            let last : slice_get (depths ++ d ∷ []) m ≡ Some d = subst P (right.long ∙ sym same) (get_pushed depths d) in
+            let last : slice_get (depths ++ d ∷ []) m ≡ Some d = ap (slice_get (depths ++ d ∷ [])) (same ∙ sym right.long) ∙ get_pushed depths d in
             let one : target ≡ other = some_same (sym here ∙ ap (slice_get targets) (sym same) ∙ is) in
-            let Q : Target → Type 0 = λ t. HasDepth targets t.parent d in
-            (d, last, subst Q one deep)
+            (d, last, subst (λ (t : Target). HasDepth targets t.parent d) one deep)
       ];
 }
 
 -- ---- families
 
 before_trans : (a b c : Option ℕ) → IsBefore a b → IsBefore b c → IsBefore a c
-before_trans None b c h k = absurd h
-before_trans (Some a) None c h k = absurd h
 before_trans (Some a) (Some b) None h k = absurd k
-before_trans (Some a) (Some b) (Some c) h k = let x : a < b = h in let y : b < c = k in omega arith
+before_trans (Some a) (Some b) (Some c) h k = omega (arith, h, k)
+before_trans a b c h k = absurd h
 
 before_irrefl : (a : Option ℕ) → IsBefore a a → ⊥
-before_irrefl None h = absurd h
-before_irrefl (Some a) h = let x : a < a = h in omega arith
+before_irrefl (Some a) h = omega (arith, h)
+before_irrefl a h = h
 
 follows_on : (targets : List Target) (a b c : Option ℕ) → Follows targets a b → Follows targets b c → Follows targets a c
 follows_on targets None b c f g = tt
@@ -144,21 +102,20 @@ abbrev pub ArePlaced : ℕ → List Target → ℕ → Type 0
 ArePlaced most targets n = HoldsBelow (IsPlaced most targets) n
 
 next_follows : (targets : List Target) (n : ℕ) (a b : Target) → slice_get targets n ≡ Some a → FollowsTarget targets (line_before targets (suc n)) b.parent → Follows targets a.parent b.parent
-next_follows targets n a b is f = let P : Option Target → Type 0 = λ o. FollowsTarget targets o b.parent in subst P is f
+next_follows targets n a b is f = subst (λ (o : Option Target). FollowsTarget targets o b.parent) is f
 
 -- of two lines that keep the rules the later follows the earlier
 far : (most : ℕ) (targets : List Target) (n m : ℕ) (a b : Target) → m < n → slice_get targets m ≡ Some a → slice_get targets n ≡ Some b → ArePlaced most targets (n + 1) → Follows targets a.parent b.parent
 far most targets zero m a b lt is_a is_b placed = absurd (omega arith)
 far most targets (suc n) m a b lt is_a is_b placed =
-    let h = inside targets (suc n) b is_b in
+    let h = slice_get_within targets (suc n) b is_b in
     let mid = there targets n (omega arith) in
     let last : Follows targets mid.0.parent b.parent = next_follows targets n mid.0 b mid.1 (placed (suc n) (omega arith) b is_b).follows in
     elim (cases m n (omega arith)) [
       | inl less ↦ follows_on targets a.parent mid.0.parent b.parent (far most targets n m a mid.0 less is_a mid.1 (λ k small. placed k (omega arith))) last
       | inr same ↦
           let one : mid.0 ≡ a = some_same (sym mid.1 ∙ ap (slice_get targets) (sym same) ∙ is_a) in
-          let P : Target → Type 0 = λ t. Follows targets t.parent b.parent in
-          subst P one last
+          subst (λ (t : Target). Follows targets t.parent b.parent) one last
     ]
 
 -- q does not rise from the line before, so from none of the family
@@ -168,8 +125,7 @@ falls_all most targets zero target room placed near m other lt is same = absurd 
 falls_all most targets (suc n) target room placed near m other lt is same =
     let mid = there targets n (omega arith) in
     let c = mid.0 in
-    let P : Option Target → Type 0 = λ o. FallsTo o target in
-    let falls : FallsTo (Some c) target = subst P mid.1 near.3 in
+    let falls : FallsTo (Some c) target = subst (λ (o : Option Target). FallsTo o target) mid.1 near.3 in
     let last : Follows targets c.parent target.parent = next_follows targets n c target mid.1 near.2 in
     elim (cases m n (omega arith)) [
       | inl less ↦
@@ -178,14 +134,13 @@ falls_all most targets (suc n) target room placed near m other lt is same =
           let rest : c.q ≤ other.q = (placed n (omega arith) c mid.1).falls m other less is (same ∙ sym family) in
           elim falls [
             | inl differ ↦ absurd (differ family)
-            | inr low ↦ let x : target.q ≤ c.q = low in omega arith
+            | inr low ↦ omega (arith, low, rest)
           ]
       | inr at ↦
           let one : c ≡ other = some_same (sym mid.1 ∙ ap (slice_get targets) (sym at) ∙ is) in
-          let q : c.q ≤ other.q = let e : c.q ≡ other.q = ap (λ (t : Target). t.q) one in omega arith in
           elim falls [
             | inl differ ↦ absurd (differ (ap (λ (t : Target). t.parent) one ∙ same))
-            | inr low ↦ let x : target.q ≤ c.q = low in omega arith
+            | inr low ↦ omega (arith, low, ap (λ (t : Target). t.q) one)
           ]
     ]
 
@@ -200,7 +155,7 @@ in_place most targets n target d here placed near deep small fresh = record {
   number = near.0;
   parent = near.1;
   follows = near.2;
-  falls = falls_all most targets n target (inside targets n target here) placed near;
+  falls = falls_all most targets n target (slice_get_within targets n target here) placed near;
   apart = fresh;
   later = near.4;
   depth = (d, deep, small);
@@ -227,8 +182,7 @@ near_of most targets n target place = (place.number, place.parent, place.follows
 pub too_deep : (most : ℕ) (targets : List Target) (n : ℕ) (target : Target) (d : ℕ) → HasDepth targets target.parent d → most < d → IsInPlace most targets n target → ⊥
 too_deep most targets n target d deep high place =
     let same : d ≡ place.depth.0 = one_depth targets target.parent d place.depth.0 deep place.depth.1 in
-    let low : place.depth.0 ≤ most = place.depth.2 in
-    omega arith
+    omega (arith, same, high, place.depth.2)
 
 -- so the first place that fails
 pub placed_more : (most : ℕ) (targets : List Target) (n : ℕ) (target : Target) → slice_get targets n ≡ Some target → ArePlaced most targets n → IsInPlace most targets n target → ArePlaced most targets (n + 1)
@@ -237,9 +191,7 @@ placed_more most targets n target here placed place = λ m lt.
       | inl less ↦ placed m less
       | inr same ↦ λ other is.
           let one : target ≡ other = some_same (sym here ∙ ap (slice_get targets) (sym same) ∙ is) in
-          let P : Target → Type 0 = λ t. IsInPlace most targets n t in
-          let Q : ℕ → Type 0 = λ k. IsInPlace most targets k other in
-          subst Q (sym same) (subst P one place)
+          subst (λ (k : ℕ). IsInPlace most targets k other) (sym same) (subst (IsInPlace most targets n) one place)
     ]
 
 pub ended : (targets : List Target) (n : ℕ) (target : Target) → slice_get targets n ≡ Some target → ended_at targets n ≡ arrival_of target.end

@@ -1,5 +1,5 @@
 -- Sets that hold what the places of a list give.
-use Rattle.fork_listing.proofs.Common.{◌≡◌, ℕ, ◌+◌, ◌<◌, ◌⊎◌, Bool, true, false, cond, eqb, Option, Some, None, refl, sym, ap, subst, ◌∙◌, arith, inl, inr, not, nat_lt, BTreeSet, contains, eqb-true, eq-eqb, ltb-true, Holds}
+use Rattle.fork_listing.proofs.Common.{◌≡◌, ℕ, ◌+◌, ◌<◌, ◌⊎◌, Bool, true, false, cond, eqb, Option, Some, None, refl, sym, ap, subst, ◌∙◌, arith, inl, inr, not, nat_lt, BTreeSet, contains, eqb-true, eq-eqb, ltb-true, Holds, some_same, none_some, cases}
 use Rattle.std.proofs.Common.{Less, Equal, Greater, nat_cmp}
 use Rattle.std.specs.Ordering.{is_eq}
 use Rattle.std.specs.BTreeMap.{is_at}
@@ -20,23 +20,14 @@ at_self a =
     let eq : eqb a a ≡ true = eq-eqb a a refl in
     ap (λ t. is_eq (cond t Less (cond (eqb a a) Equal Greater))) lt ∙ ap (λ t. is_eq (cond t Equal Greater)) eq
 
-some_same : {X : Type 0} {x y : X} → Some x ≡ Some y → x ≡ y
-some_same e = cc
-
-cases : (m n : ℕ) → m < n + 1 → (m < n) ⊎ (m ≡ n)
-cases m n lt = grind arith
-
 cond_or : (b c : Bool) → cond b true c ≡ true → (b ≡ true) ⊎ (c ≡ true)
-cond_or true c e = inl refl
-cond_or false c e = inr e
+cond_or b c e = grind (arith, e)
 
 cond_left : (b c : Bool) → b ≡ true → cond b true c ≡ true
-cond_left true c e = refl
-cond_left false c e = absurd cc
+cond_left b c e = grind (arith, e)
 
 cond_right : (b c : Bool) → c ≡ true → cond b true c ≡ true
-cond_right true c e = refl
-cond_right false c e = e
+cond_right b c e = grind (arith, e)
 
 pub holds_more : (old new : BTreeSet ℕ) (given : ℕ → Option ℕ) (n : ℕ) (arrival : Option ℕ) (fresh : Bool) → given n ≡ arrival → Notes old new arrival fresh → Holds old given n → Holds new given (n + 1)
 holds_more old new given n None fresh here notes holds = λ q.
@@ -45,12 +36,9 @@ holds_more old new given n None fresh here notes holds = λ q.
       (λ h.
           elim (cases h.0 n h.1) [
             | inl less ↦ subst P (sym notes.0) ((holds q).1 (h.0, less, h.2))
-            | inr same ↦ absurd (none (sym here ∙ ap given (sym same) ∙ h.2))
+            | inr same ↦ absurd (none_some (sym here ∙ ap given (sym same) ∙ h.2))
           ]),
     )
-  where
-    none : {q : ℕ} → None ≡ Some q → ⊥
-    none e = absurd cc
 holds_more old new given n (Some a) fresh here notes holds = λ q.
     let e : contains nat_cmp new q ≡ cond (is_at (nat_cmp a) q) true (contains nat_cmp old q) = notes.1.0 q in (
       (λ has.
@@ -69,12 +57,10 @@ holds_more old new given n (Some a) fresh here notes holds = λ q.
     )
 
 not_false : (b : Bool) → not b ≡ false → b ≡ true
-not_false true e = refl
-not_false false e = absurd cc
+not_false b e = grind (arith, e)
 
 not_true_is : (b : Bool) → not b ≡ true → b ≡ true → ⊥
-not_true_is true e h = absurd cc
-not_true_is false e h = absurd cc
+not_true_is b e h = grind (arith, e, h)
 
 -- what is not new was given before
 pub noted_before : (old new : BTreeSet ℕ) (given : ℕ → Option ℕ) (n : ℕ) (arrival : Option ℕ) (fresh : Bool) → fresh ≡ false → Notes old new arrival fresh → Holds old given n

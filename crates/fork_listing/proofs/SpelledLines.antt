@@ -25,35 +25,21 @@ target_read : (target : Target) → IsTargetLine target
 target_read target h =
     let third : List ℕ = decimal target.q ++ 32 ∷ end_text target.end in
     let second : List ℕ = number_text target.parent ++ 32 ∷ third in
-    ap (option_and_then (λ n.
-    option_and_then (λ p.
-    option_and_then (λ q.
-    option_map (target_with n.0 p.0 q.0) (read_end q.1))
-    (before (plain_number_within most_q) p.1))
-    (before read_parent n.1)))
-    (before_read (plain_number_within most_number) (decimal target.number) second target.number (decimal_lacks 32 target.number refl (omega arith)) (number_read most_number target.number h.0 (omega arith)))
-    ∙ ap (option_and_then (λ p.
-    option_and_then (λ q.
-    option_map (target_with target.number p.0 q.0) (read_end q.1))
-    (before (plain_number_within most_q) p.1)))
-    (before_read read_parent (number_text target.parent) third target.parent (parent_lacks 32 target.parent refl refl h.1) (parent_read target.parent h.1))
-    ∙ ap (option_and_then (λ q.
-    option_map (target_with target.number target.parent q.0) (read_end q.1)))
-    (before_read (plain_number_within most_q) (decimal target.q) (end_text target.end) target.q (decimal_lacks 32 target.q refl (omega arith)) (number_read most_q target.q h.2 (omega arith)))
-    ∙ ap (option_map (target_with target.number target.parent target.q)) (end_read target.end h.3)
+    rw (before_read (plain_number_within most_number) (decimal target.number) second target.number (decimal_lacks 32 target.number refl (omega arith))
+    (number_read most_number target.number h.0 (omega arith)))
+    (rw (before_read read_parent (number_text target.parent) third target.parent (parent_lacks 32 target.parent refl refl h.1) (parent_read target.parent h.1))
+    (rw (before_read (plain_number_within most_q) (decimal target.q) (end_text target.end) target.q (decimal_lacks 32 target.q refl (omega arith))
+    (number_read most_q target.q h.2 (omega arith)))
+    (ap (option_map (target_with target.number target.parent target.q)) (end_read target.end h.3))))
 
 ranked_read : (ranked : Ranked) → IsRankLine ranked → read_ranked (decimal ranked.status ++ 32 ∷ (decimal ranked.number ++ 32 ∷ decimal ranked.arrival)) ≡ Some ranked
 ranked_read ranked h =
     let second : List ℕ = decimal ranked.number ++ 32 ∷ decimal ranked.arrival in
-    ap (option_and_then (λ s.
-    option_and_then (λ n.
-    option_map (ranked_with s.0 n.0) (plain_number_within most_arrival n.1))
-    (before (plain_number_within most_number) s.1)))
-    (before_read read_status (decimal ranked.status) second ranked.status (decimal_lacks 32 ranked.status refl (omega arith)) (status_read ranked.status h.0))
-    ∙ ap (option_and_then (λ n.
-    option_map (ranked_with ranked.status n.0) (plain_number_within most_arrival n.1)))
-    (before_read (plain_number_within most_number) (decimal ranked.number) (decimal ranked.arrival) ranked.number (decimal_lacks 32 ranked.number refl (omega arith)) (number_read most_number ranked.number h.1 (omega arith)))
-    ∙ ap (option_map (ranked_with ranked.status ranked.number)) (number_read most_arrival ranked.arrival h.2 (omega arith))
+    rw (before_read read_status (decimal ranked.status) second ranked.status (decimal_lacks 32 ranked.status refl (omega arith))
+    (status_read ranked.status h.0))
+    (rw (before_read (plain_number_within most_number) (decimal ranked.number) (decimal ranked.arrival) ranked.number
+    (decimal_lacks 32 ranked.number refl (omega arith)) (number_read most_number ranked.number h.1 (omega arith)))
+    (ap (option_map (ranked_with ranked.status ranked.number)) (number_read most_arrival ranked.arrival h.2 (omega arith))))
 
 final_read : (last : Final) → IsFinalLine last → read_final (decimal last.status ++ 32 ∷ number_text last.number) ≡ Some last
 final_read last h =

@@ -127,12 +127,7 @@ at_end draft last [] next l due end =
     let same : in_phase draft (AtEnd last) ≡ next = same_Some _ _ due in
     let here : listing_in (in_phase draft (AtEnd last)) (AtEnd last) ≡ Some l = ap (λ (d : Draft). listing_in d d.phase) same ∙ end in
     (refl, same_Some _ _ here)
-at_end draft last (ForkLine version count ∷ lines) next l due end = absurd cc
-at_end draft last (PreferLine statuses ∷ lines) next l due end = absurd cc
-at_end draft last (DepthLine depth ∷ lines) next l due end = absurd cc
-at_end draft last (TargetLine target ∷ lines) next l due end = absurd cc
-at_end draft last (RankLine ranked ∷ lines) next l due end = absurd cc
-at_end draft last (FinalLine other ∷ lines) next l due end = absurd cc
+at_end draft last (line ∷ lines) next l due end = absurd cc
 
 at_ranks : (draft : Draft) (lines : List Line) (next : Draft) (l : Listing)
     → drafted_lines (in_phase draft AtRanks) lines ≡ Some next → listing_in next next.phase ≡ Some l → RanksFound draft lines l
@@ -156,10 +151,7 @@ at_ranks draft (FinalLine last ∷ lines) next l due end =
       spelled = ap (λ (ls : List Line). FinalLine last ∷ ls) more.0;
       same = ap (λ (rs : List Ranked). listing_by draft draft.targets rs last) (append-nil draft.ranks) ∙ more.1;
     }
-at_ranks draft (ForkLine version count ∷ lines) next l due end = absurd cc
-at_ranks draft (PreferLine statuses ∷ lines) next l due end = absurd cc
-at_ranks draft (DepthLine depth ∷ lines) next l due end = absurd cc
-at_ranks draft (TargetLine target ∷ lines) next l due end = absurd cc
+at_ranks draft (line ∷ lines) next l due end = absurd cc
 
 record TargetsFound (draft : Draft) (count : ℕ) (lines : List Line) (l : Listing) : Type 0 where
   targets : List Target
@@ -189,11 +181,7 @@ at_more draft count (TargetLine target ∷ lines) next l due end again =
       spelled = ap (λ (ls : List Line). TargetLine target ∷ ls) more.spelled;
       same = ap (λ (ts : List Target). listing_by draft ts (draft.ranks ++ more.ranks) more.last) (sym (append_assoc draft.targets (target ∷ []) more.targets)) ∙ more.same;
     }
-at_more draft count (ForkLine version n ∷ lines) next l due end again = absurd cc
-at_more draft count (PreferLine statuses ∷ lines) next l due end again = absurd cc
-at_more draft count (DepthLine depth ∷ lines) next l due end again = absurd cc
-at_more draft count (RankLine ranked ∷ lines) next l due end again = absurd cc
-at_more draft count (FinalLine last ∷ lines) next l due end again = absurd cc
+at_more draft count (line ∷ lines) next l due end again = absurd cc
 
 at_targets : (draft : Draft) (count : ℕ) (lines : List Line) (next : Draft) (l : Listing)
     → drafted_lines (in_phase draft (targets_due count)) lines ≡ Some next → listing_in next next.phase ≡ Some l → TargetsFound draft count lines l
@@ -244,11 +232,7 @@ second_lines count (PreferLine statuses ∷ lines) next l due end =
     let rules : Rules = record usual_rules { preferred = statuses } in
     behind_rules Second count rules lines l refl
     (at_targets (record { phase = AtFork; version = Second; count = count; rules = rules; targets = []; ranks = [] }) count lines next l due end)
-second_lines count (ForkLine version n ∷ lines) next l due end = absurd cc
-second_lines count (DepthLine depth ∷ lines) next l due end = absurd cc
-second_lines count (TargetLine target ∷ lines) next l due end = absurd cc
-second_lines count (RankLine ranked ∷ lines) next l due end = absurd cc
-second_lines count (FinalLine last ∷ lines) next l due end = absurd cc
+second_lines count (line ∷ lines) next l due end = absurd cc
 
 abbrev preferring : ℕ → List ℕ → Draft
 preferring count statuses = record { phase = AtDepth count; version = Third; count = count; rules = record usual_rules { preferred = statuses }; targets = []; ranks = [] }
@@ -260,21 +244,13 @@ depth_lines count statuses (DepthLine depth ∷ lines) next l due end =
     let rules : Rules = record { preferred = statuses; depth = depth } in
     behind_rules Third count rules lines l tt
     (at_targets (record { phase = AtFork; version = Third; count = count; rules = rules; targets = []; ranks = [] }) count lines next l due end)
-depth_lines count statuses (ForkLine version n ∷ lines) next l due end = absurd cc
-depth_lines count statuses (PreferLine others ∷ lines) next l due end = absurd cc
-depth_lines count statuses (TargetLine target ∷ lines) next l due end = absurd cc
-depth_lines count statuses (RankLine ranked ∷ lines) next l due end = absurd cc
-depth_lines count statuses (FinalLine last ∷ lines) next l due end = absurd cc
+depth_lines count statuses (line ∷ lines) next l due end = absurd cc
 
 third_lines : (count : ℕ) (lines : List Line) (next : Draft) (l : Listing)
     → drafted_lines (forked Third count) lines ≡ Some next → listing_in next next.phase ≡ Some l → AreLinesOf l (ForkLine Third count ∷ lines)
 third_lines count [] next l due end = absurd (ends_never (forked Third count) next l refl due end)
 third_lines count (PreferLine statuses ∷ lines) next l due end = depth_lines count statuses lines next l due end
-third_lines count (ForkLine version n ∷ lines) next l due end = absurd cc
-third_lines count (DepthLine depth ∷ lines) next l due end = absurd cc
-third_lines count (TargetLine target ∷ lines) next l due end = absurd cc
-third_lines count (RankLine ranked ∷ lines) next l due end = absurd cc
-third_lines count (FinalLine last ∷ lines) next l due end = absurd cc
+third_lines count (line ∷ lines) next l due end = absurd cc
 
 all_lines : (lines : List Line) (next : Draft) (l : Listing)
     → drafted_lines no_draft lines ≡ Some next → listing_in next next.phase ≡ Some l → AreLinesOf l lines
@@ -284,11 +260,7 @@ all_lines (ForkLine First count ∷ lines) next l due end =
     (at_targets (record { phase = AtFork; version = First; count = count; rules = usual_rules; targets = []; ranks = [] }) count lines next l due end)
 all_lines (ForkLine Second count ∷ lines) next l due end = second_lines count lines next l due end
 all_lines (ForkLine Third count ∷ lines) next l due end = third_lines count lines next l due end
-all_lines (PreferLine statuses ∷ lines) next l due end = absurd cc
-all_lines (DepthLine depth ∷ lines) next l due end = absurd cc
-all_lines (TargetLine target ∷ lines) next l due end = absurd cc
-all_lines (RankLine ranked ∷ lines) next l due end = absurd cc
-all_lines (FinalLine last ∷ lines) next l due end = absurd cc
+all_lines (line ∷ lines) next l due end = absurd cc
 
 pub listing_found : (text : List ℕ) (l : Listing) → read_listing text ≡ Ok l → IsTextOf l text
 unfolding read_listing

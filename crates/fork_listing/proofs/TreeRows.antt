@@ -1,7 +1,7 @@
 -- The branches of a listing, each rightly placed, are the rows of a tree, and its best answer is theirs.
 use Rattle.fork_listing.proofs.Common.{◌≡◌, ℕ, zero, suc, ◌+◌, ◌-◌, ◌<◌, ◌≤◌, ◌⊎◌, inl, inr, Bool, true, false, not, eqb, List, [], ◌∷◌, ◌++◌, length, map, drop, Option, Some, None, refl, ap, sym, subst, ◌∙◌, arith, append_assoc}
 use Rattle.fork_listing.proofs.Common.{append-nil, eqb-true, eq-eqb, false≢true, slice_get, option_map, Rules, stored_at, BestRef, RowRef, IsBest, End, Stored, Taken, Silent, Never, Target, HoldsBelow, rows_of, ended_at, IsParent, IsBefore}
-use Rattle.fork_listing.proofs.Common.{Follows, FollowsTarget, IsInPlace, IsPlaced, AreFormed, group_kept, row_behind, last_row}
+use Rattle.fork_listing.proofs.Common.{Follows, FollowsTarget, IsInPlace, IsPlaced, AreFormed, group_kept, row_behind, last_row, some_same, slice_get_within, get_pushed, length_pushed}
 use Rattle.std.proofs.Common.{if◌then◌else◌}
 use Rattle.fork_model.specs.Table.{stored_end}
 use Rattle.fork_model.specs.Choice.{score_of}
@@ -10,10 +10,6 @@ use Rattle.fork_tree.specs.Given.{AreRows, given_row}
 use Rattle.fork_tree.proofs.laws.Ordering.{IsNext, ordered_rows}
 use Rattle.fork_listing.specs.Ranks.{end_of}
 use Rattle.fork_listing.specs.inner.TreeRows.{tree_end, is_same, group_beside, group_behind, rows_behind, tree_rows}
-use Rattle.fork_listing.proofs.Placing.{inside}
-
-some_same : {X : Type 0} {x y : X} → Some x ≡ Some y → x ≡ y
-some_same e = cc
 
 -- ---- row by row
 
@@ -31,14 +27,6 @@ drop_all (x ∷ xs) (suc n) h = drop_all xs n (omega (arith, h))
 -- the rows so far, and those behind them
 abbrev pub AreBegun : List Target → ℕ → List RowRef → Type 0
 AreBegun targets n rows = rows ++ rows_behind (last_row rows) (drop n targets) ≡ tree_rows targets
-
-get_pushed : (rows : List RowRef) (row : RowRef) → slice_get (rows ++ row ∷ []) (length rows) ≡ Some row
-get_pushed [] row = refl
-get_pushed (r ∷ rows) row = get_pushed rows row
-
-length_pushed : (rows : List RowRef) (row : RowRef) → length (rows ++ row ∷ []) ≡ suc (length rows)
-length_pushed [] row = refl
-length_pushed (r ∷ rows) row = ap suc (length_pushed rows row)
 
 last_pushed : (rows : List RowRef) (row : RowRef) → last_row (rows ++ row ∷ []) ≡ Some row
 last_pushed rows row =
@@ -185,7 +173,7 @@ are_rows depth targets rows formed placed is =
     }))
   where
     place : (n : ℕ) (target : Target) → slice_get targets n ≡ Some target → IsInPlace depth targets n target
-    place n target here = placed n (inside targets n target here) target here
+    place n target here = placed n (slice_get_within targets n target here) target here
 
     parent_of : (n m : ℕ) (row : RowRef) → slice_get (tree_rows targets) n ≡ Some row → row.parent ≡ Some m → IsParent targets n (Some m)
     parent_of n m row at e =

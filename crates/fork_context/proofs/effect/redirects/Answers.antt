@@ -1,19 +1,16 @@
-use Rattle.fork_context.proofs.Common.{◌≡◌, ◌≤◌, ◌+◌, ℕ, List, length, arith, ap, ◌∙◌, IfOk-weaker, Offer, most_targets, FinalAnswer, ContactLists, taking_at, fresh_rows, redirects, Waiting, Placed, placed, tree_row}
+use Rattle.fork_context.proofs.Common.{◌≡◌, ℕ, List, length, arith, ap, ◌∙◌, IfOk-weaker, Offer, FinalAnswer, ContactLists, taking_at, fresh_rows, redirects, Waiting, Placed, placed, tree_row}
 use Rattle.fork_context.proofs.Redirected.{rows_of_added, one_row_extras_each, taken_room}
 use Rattle.fork_context.proofs.effect.redirects.Goals as goal
 
 pub rows_below-requires : goal.rows_below-requires
 rows_below-requires g c =
-    let value : c.count-first.result ≡ length c.args.fork.now.rows = c.count-first.ensures.value in
-    let range : c.count-first.result ≤ most_targets = c.count-first.ensures.range in
-    let offers : c.deref.result.now ≡ c.args.answer.now.offers = c.deref.ensures.value ∙ ap (λ (a : FinalAnswer). a.offers) c.answer.view_is in
+    let offers = c.deref.ensures.value ∙ ap (λ (a : FinalAnswer). a.offers) c.answer.view_is in
     let is : c.in_ok-taken.taken ≡ taking_at c.args.fork.now (tree_row c.args.row.now) c.args.answer.now.offers =
     c.in_ok-taken.ensures.value ∙ ap (taking_at c.args.fork.now (tree_row c.args.row.now)) offers in
-    let room : length c.args.fork.now.rows + length c.in_ok-taken.taken.fresh ≤ most_targets =
-    taken_room c.args.fork.now (tree_row c.args.row.now) c.args.answer.now.offers c.in_ok-taken.taken (omega arith) is in
-    let same : length c.deref-2.result.now ≡ length c.in_ok-taken.taken.fresh =
-    ap (λ (fs : List (ℕ × Offer)). length fs) (c.deref-2.ensures.value ∙ ap (λ (t : ContactLists). t.fresh) c.taken.view_is) in
-    record { few = omega arith }
+    let room = taken_room c.args.fork.now (tree_row c.args.row.now) c.args.answer.now.offers c.in_ok-taken.taken
+    (omega (arith, c.count-first.ensures.value, c.count-first.ensures.range)) is in
+    let same = ap (λ (fs : List (ℕ × Offer)). length fs) (c.deref-2.ensures.value ∙ ap (λ (t : ContactLists). t.fresh) c.taken.view_is) in
+    record { few = omega (arith, room, same, c.count-first.ensures.value) }
 
 pub redirected-requires-clause-rows : goal.redirected-requires-clause-rows
 redirected-requires-clause-rows g c =
@@ -30,7 +27,7 @@ pub returns : goal.returns
 returns g c =
     let first : c.in_ok-below.below.0.first ≡ length c.args.fork.now.rows =
     ap (λ (added : Waiting). added.first) c.in_ok-below.ensures.added ∙ c.count-first.ensures.value in
-    let offers : c.deref.result.now ≡ c.args.answer.now.offers = c.deref.ensures.value ∙ ap (λ (a : FinalAnswer). a.offers) c.answer.view_is in
+    let offers = c.deref.ensures.value ∙ ap (λ (a : FinalAnswer). a.offers) c.answer.view_is in
     let is : c.in_ok-taken.taken ≡ taking_at c.args.fork.now (tree_row c.args.row.now) c.args.answer.now.offers =
     c.in_ok-taken.ensures.value ∙ ap (taking_at c.args.fork.now (tree_row c.args.row.now)) offers in
     let n = c.args.row.now.no in

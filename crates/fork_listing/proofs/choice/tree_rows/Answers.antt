@@ -1,5 +1,4 @@
-use Rattle.fork_listing.proofs.Common.{◌≡◌, ◌<◌, ◌≤◌, ◌+◌, ◌∷◌, ◌++◌, ◌∙◌, [], List, Option, Some, length, ap, sym, subst, arith, slice_get, most_targets, RowRef, group_kept, row_behind, last_row}
-use Rattle.fork_listing.proofs.Placing.{at_index}
+use Rattle.fork_listing.proofs.Common.{◌≡◌, ◌<◌, ◌≤◌, ◌+◌, ◌∷◌, ◌++◌, ◌∙◌, [], List, Option, Some, length, ap, sym, subst, arith, slice_get, most_targets, RowRef, group_kept, row_behind, last_row, slice_get_read, refl}
 use Rattle.fork_listing.proofs.TreeRows.{AreBegun, rows_more, rows_done, group_more}
 use Rattle.fork_listing.proofs.choice.tree_rows.Goals as goal
 
@@ -17,7 +16,7 @@ loop-n-preserved g c =
     let rows = c.loop-n.rows.items in
     let t = c.index-targets-n.result in
     let lt : n < length targets = omega arith in
-    let here : slice_get targets n ≡ Some t = at_index targets n t lt c.index-targets-n.is in
+    let here : slice_get targets n ≡ Some t = slice_get_read targets (length targets) n t refl lt c.index-targets-n.is in
     let before : c.last_row-before.result ≡ last_row rows = c.last_row-before.ensures ∙ ap last_row c.deref.ensures.value in
     let row : c.row_behind-row.result ≡ row_behind (last_row rows) t = c.row_behind-row.ensures ∙ ap (λ (o : Option RowRef). row_behind o t) before in
     let items = c.in_ok-push.ensures.items ∙ ap (λ (r : RowRef). rows ++ r ∷ []) row in

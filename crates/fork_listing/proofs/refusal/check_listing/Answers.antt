@@ -1,18 +1,10 @@
-use Rattle.fork_listing.proofs.Common.{◌≡◌, ◌∙◌, ℕ, List, ap, sym, subst, Rules, Version, Target, Ranked, Final, Listing, IsVerdictOf, AreFormed}
+use Rattle.fork_listing.proofs.Common.{◌≡◌, ℕ, List, sym, subst, Rules, Version, Target, Ranked, Final, Listing, IsVerdictOf, AreFormed}
 use Rattle.fork_listing.proofs.refusal.check_listing.Goals as goal
 
 same_listing : (l : Listing) (v : Version) (n : ℕ) (r : Rules) (ts : List Target) (rs : List Ranked) (f : Final)
     → v ≡ l.version → n ≡ l.count → r ≡ l.rules → ts ≡ l.targets → rs ≡ l.ranks → f ≡ l.last
     → record { version = v; count = n; rules = r; targets = ts; ranks = rs; last = f } ≡ l
-same_listing l v n r ts rs f e0 e1 e2 e3 e4 e5 =
-    let made : Version → ℕ → Rules → List Target → List Ranked → Final → Listing =
-    λ v n r ts rs f. record { version = v; count = n; rules = r; targets = ts; ranks = rs; last = f } in
-    ap (λ x. made x n r ts rs f) e0
-    ∙ ap (λ x. made l.version x r ts rs f) e1
-    ∙ ap (λ x. made l.version l.count x ts rs f) e2
-    ∙ ap (λ x. made l.version l.count l.rules x rs f) e3
-    ∙ ap (λ x. made l.version l.count l.rules l.targets x f) e4
-    ∙ ap (λ x. made l.version l.count l.rules l.targets l.ranks x) e5
+same_listing l v n r ts rs f e0 e1 e2 e3 e4 e5 = (λ i. record { version = e0 i; count = e1 i; rules = e2 i; targets = e3 i; ranks = e4 i; last = e5 i })
 
 pub returns : goal.returns
 returns g c =

@@ -1,5 +1,5 @@
-use Rattle.fork_listing.proofs.Common.{◌≡◌, ◌<◌, ◌≤◌, ◌+◌, ◌∙◌, ◌∷◌, ◌++◌, [], ℕ, true, false, List, Some, length, sym, subst, arith, slice_get, false≢true, ended_at, HasDepth, IsInPlace, IsPlaced, IsNear}
-use Rattle.fork_listing.proofs.Placing.{at_index, holds_all, AreDepths, depth_right, depths_more, in_place, near_of, too_deep, placed_more, ended}
+use Rattle.fork_listing.proofs.Common.{◌≡◌, ◌<◌, ◌≤◌, ◌+◌, ◌∙◌, ◌∷◌, ◌++◌, [], ℕ, true, false, List, Some, length, sym, subst, arith, slice_get, false≢true, ended_at, HasDepth, IsInPlace, IsPlaced, IsNear, slice_get_read, refl}
+use Rattle.fork_listing.proofs.Placing.{holds_all, AreDepths, depth_right, depths_more, in_place, near_of, too_deep, placed_more, ended}
 use Rattle.fork_listing.proofs.Sets.{holds_more, noted_before, noted_first}
 use Rattle.fork_listing.proofs.targets.first_misplaced.Goals as goal
 
@@ -9,7 +9,7 @@ returns-then-not-is_near g c =
     let n = c.loop-n.n in
     let t = c.index-targets-n.result in
     let lt : n < length targets = omega arith in
-    let here : slice_get targets n ≡ Some t = at_index targets n t lt c.index-targets-n.is in
+    let here : slice_get targets n ≡ Some t = slice_get_read targets (length targets) n t refl lt c.index-targets-n.is in
     let no : c.is_near.result ≡ false = grind (arith, c.if-not-is_near.true) in
     (lt, c.loop-n.invariant.1, λ placed. false≢true (sym no ∙ c.is_near.ensures.1 (near_of c.args.most_depth targets n t (placed t here))))
 
@@ -19,7 +19,7 @@ returns-then-depth-from g c =
     let n = c.loop-n.n in
     let t = c.index-targets-n.result in
     let lt : n < length targets = omega arith in
-    let here : slice_get targets n ≡ Some t = at_index targets n t lt c.index-targets-n.is in
+    let here : slice_get targets n ≡ Some t = slice_get_read targets (length targets) n t refl lt c.index-targets-n.is in
     let yes : c.is_near.result ≡ true = grind (arith, c.if-not-is_near.false) in
     let near : IsNear targets n t = c.is_near.ensures.0 yes in
     let P : List ℕ → Type 0 = λ depths. AreDepths targets depths n in
@@ -34,7 +34,7 @@ returns-then-not-branch g c =
     let n = c.loop-n.n in
     let t = c.index-targets-n.result in
     let lt : n < length targets = omega arith in
-    let here : slice_get targets n ≡ Some t = at_index targets n t lt c.index-targets-n.is in
+    let here : slice_get targets n ≡ Some t = slice_get_read targets (length targets) n t refl lt c.index-targets-n.is in
     let known : c.in_ok-note.field-0 ≡ false = grind (arith, c.if-not-branch.true) in
     let before = noted_before c.loop-n.arrivals c.note.new.arrivals (ended_at targets) n c.arrival.result c.in_ok-note.field-0 known c.in_ok-note.ensures c.loop-n.invariant.3 in
     (lt, c.loop-n.invariant.1, λ placed. (placed t here).apart before.2.0 before.0 before.2.1 before.2.2 (sym c.arrival.ensures ∙ before.1))
@@ -45,7 +45,7 @@ loop-n-preserved g c =
     let n = c.loop-n.n in
     let t = c.index-targets-n.result in
     let lt : n < length targets = omega arith in
-    let here : slice_get targets n ≡ Some t = at_index targets n t lt c.index-targets-n.is in
+    let here : slice_get targets n ≡ Some t = slice_get_read targets (length targets) n t refl lt c.index-targets-n.is in
     let yes : c.is_near.result ≡ true = grind (arith, c.if-not-is_near.false) in
     let near : IsNear targets n t = c.is_near.ensures.0 yes in
     let P : List ℕ → Type 0 = λ depths. AreDepths targets depths n in

@@ -1,22 +1,16 @@
-use Rattle.fork_context.proofs.Common.{ap, subst, Core, IsChoice, NoneStored, IsSound, choice_of}
+use Rattle.fork_context.proofs.Common.{ap, subst, Core, IsChoice, NoneStored, choice_of}
 use Rattle.fork_context.proofs.FirstRows.{first_row, none_first, row_of}
 use Rattle.fork_context.proofs.context.Context.is_first.Goals as goal
 
 pub returns-in-Stored : goal.returns-in-Stored
 returns-in-Stored g c =
-    let Sound : Core → Type 0 = λ core. IsSound core.table core.taken in
-    let sound : Sound c.args.self.now = subst Sound c.self.view_is c.self.invariant.sound in
-    let Chosen : Core → Type 0 = λ core. IsChoice core.table.rules core.table.rows (choice_of c.choice.result) in
-    let chosen : Chosen c.args.self.now = subst Chosen c.self.view_is c.choice.ensures in
-    first_row c.args.self.now.table c.args.self.now.taken sound (choice_of c.choice.result) chosen c.in-Stored.first c.args.n (ap (λ x. row_of (choice_of x)) c.in-Stored.is)
+    first_row _ c.args.self.now c.self.view_is c.self.invariant.sound (choice_of c.choice.result) c.choice.ensures c.in-Stored.first c.args.n
+    (ap (λ x. row_of (choice_of x)) c.in-Stored.is)
 
 pub returns-in-Only503 : goal.returns-in-Only503
 returns-in-Only503 g c =
-    let Sound : Core → Type 0 = λ core. IsSound core.table core.taken in
-    let sound : Sound c.args.self.now = subst Sound c.self.view_is c.self.invariant.sound in
-    let Chosen : Core → Type 0 = λ core. IsChoice core.table.rules core.table.rows (choice_of c.choice.result) in
-    let chosen : Chosen c.args.self.now = subst Chosen c.self.view_is c.choice.ensures in
-    first_row c.args.self.now.table c.args.self.now.taken sound (choice_of c.choice.result) chosen c.in-Only503.first c.args.n (ap (λ x. row_of (choice_of x)) c.in-Only503.is)
+    first_row _ c.args.self.now c.self.view_is c.self.invariant.sound (choice_of c.choice.result) c.choice.ensures c.in-Only503.first c.args.n
+    (ap (λ x. row_of (choice_of x)) c.in-Only503.is)
 
 pub returns-in-NoAnswer408 : goal.returns-in-NoAnswer408
 returns-in-NoAnswer408 g c =

@@ -1,4 +1,4 @@
-use Rattle.fork_context.proofs.Common.{◌≡◌, ◌≢◌, ◌≤◌, ◌∙◌, ℕ, List, [], length, arith, ap, sym, subst, Table, most_targets, kind_of, AreRules, HasTwice, IsKept}
+use Rattle.fork_context.proofs.Common.{◌≡◌, ◌≢◌, ◌≤◌, ◌∙◌, ℕ, List, [], length, arith, ap, sym, subst, Table, most_targets, kind_of, AreRules, IsKept}
 use Rattle.std.proofs.lemmas.Bool.{eqb-false}
 use Rattle.fork_rank.specs.Preferred.{IsPreferredList}
 use Rattle.fork_context.proofs.SoundSteps.{kept_opening}
@@ -24,12 +24,10 @@ invariant_of-result g c =
 
 pub returns-in_default-clause-twice : goal.returns-in_default-clause-twice
 returns-in_default-clause-twice g c =
-    let once : HasTwice c.args.targets.items → ⊥ =
-    λ twice. let told = rw c.deref.ensures.value at c.if-has_twice.ensures in let e = told.1 twice in cc in
-    (λ h. absurd cc, λ h. absurd (once h.1))
+    let told = rw c.deref.ensures.value at c.if-has_twice.ensures in
+    (λ h. absurd cc, λ h. absurd (let e = told.1 h.1 in cc))
 
 pub returns-clause-twice : goal.returns-clause-twice
 returns-clause-twice g c =
-    let once : HasTwice c.args.targets.items → ⊥ =
-    λ twice. let told = rw c.deref.ensures.value at c.if-has_twice.ensures in let e = told.1 twice in cc in
-    (λ h. absurd cc, λ h. absurd (once h.1))
+    let told = rw c.deref.ensures.value at c.if-has_twice.ensures in
+    (λ h. absurd cc, λ h. absurd (let e = told.1 h.1 in cc))

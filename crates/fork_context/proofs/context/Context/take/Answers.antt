@@ -13,6 +13,4 @@ invariant_of-self-2 g c =
     let open_yet : is_full core event ≡ false = subst OpenYet (sym c.self.view_is) (sym c.is_full.ensures ∙ c.if-is_full.false) in
     let follows : c.take.new.self ≡ next core.table event core.taken = c.in-Ok.ensures.next in
     let kept : IsKept (next core.table event core.taken) (suc core.taken) = kept_next core event open_yet c.read_range.ensures c.self.invariant in
-    let P : Table → Type 0 = λ t. IsKept t (suc core.taken) in
-    let Q : ℕ → Type 0 = λ n. IsKept c.take.new.self n in
-    subst Q (sym (add-one core.taken)) (subst P (sym follows) kept)
+    subst (λ (n : ℕ). IsKept c.take.new.self n) (sym (add-one core.taken)) (subst (λ (t : Table). IsKept t (suc core.taken)) (sym follows) kept)

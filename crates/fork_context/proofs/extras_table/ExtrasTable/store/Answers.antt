@@ -1,4 +1,4 @@
-use Rattle.fork_context.proofs.Common.{◌≡◌, ◌<◌, List, length, arith, ap, subst, sym, ◌∙◌, IsByKey, RowExtras, with_row_extras}
+use Rattle.fork_context.proofs.Common.{◌≡◌, List, length, arith, ap, subst, sym, ◌∙◌, IsByKey, RowExtras, with_row_extras}
 use Rattle.fork_context.proofs.ByKeySteps.{by_key_stored, set_stored}
 use Rattle.fork_context.proofs.extras_table.ExtrasTable.store.Goals as goal
 
@@ -8,9 +8,8 @@ invariant_of-self g c =
     let challenges = c.args.challenges.items in
     let stored : RowExtras → RowExtras = λ (b : RowExtras). record b { left = left; challenges = challenges } in
     let same : length c.self.inside.all.items ≡ length c.args.self.now = ap (λ (bs : List RowExtras). length bs) c.self.view_is in
-    let there : c.args.n < length c.args.self.now = c.requires.there in
     let P : List RowExtras → Type 0 = λ bs. IsByKey bs (length bs) c.self.inside.by_key.items in
-    subst P (sym (set_stored c.self.inside.all.items c.args.n c.index_mut.result.now c.store.new.self left challenges (omega arith)
+    subst P (sym (set_stored c.self.inside.all.items c.args.n c.index_mut.result.now c.store.new.self left challenges (omega (arith, same, c.requires.there))
     (c.store.ensures ∙ ap stored c.index_mut.ensures.value)))
     (by_key_stored c.self.inside.all.items c.self.inside.by_key.items c.args.n left challenges c.self.invariant)
 
@@ -20,7 +19,6 @@ returns g c =
     let challenges = c.args.challenges.items in
     let stored : RowExtras → RowExtras = λ (b : RowExtras). record b { left = left; challenges = challenges } in
     let same : length c.self.inside.all.items ≡ length c.args.self.now = ap (λ (bs : List RowExtras). length bs) c.self.view_is in
-    let there : c.args.n < length c.args.self.now = c.requires.there in
-    set_stored c.self.inside.all.items c.args.n c.index_mut.result.now c.store.new.self left challenges (omega arith)
+    set_stored c.self.inside.all.items c.args.n c.index_mut.result.now c.store.new.self left challenges (omega (arith, same, c.requires.there))
     (c.store.ensures ∙ ap stored c.index_mut.ensures.value)
     ∙ ap (λ (bs : List RowExtras). with_row_extras bs c.args.n left challenges) c.self.view_is

@@ -11,8 +11,7 @@ returns-in_err-row g c =
 pub returns-in_err-get : goal.returns-in_err-get
 returns-in_err-get g c =
     let n = c.args.n in
-    let none = none_row_extras c.self.inside.tree.rows c.self.inside.extras n c.self.invariant.each
-    c.in_err-get.ensures in
+    let none = none_row_extras c.self.inside.tree.rows c.self.inside.extras n c.self.invariant.each c.in_err-get.ensures in
     c.from_residual-in_err-get.ensures ∙ sym (ap stored_at none) ∙ ap (λ (t : Table). stored_at (slice_get t.rows n)) c.self.view_is
 
 pub returns : goal.returns

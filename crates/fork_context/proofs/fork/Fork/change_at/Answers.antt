@@ -1,4 +1,4 @@
-use Rattle.fork_context.proofs.Common.{arith, ◌≡◌, ◌≤◌, ◌+◌, length, ◌∙◌, sym, None, vec_capacity, option_map, IfOk-weaker, most_targets, event_of, placed, effect_at}
+use Rattle.fork_context.proofs.Common.{arith, ◌≡◌, ◌∙◌, sym, None, option_map, IfOk-weaker, event_of, placed, effect_at}
 use Rattle.fork_context.proofs.StepLaws.{no_effect, with_none, placed_goes, placed_first, effect_few, effect_room, effect_step}
 use Rattle.fork_context.proofs.fork.Fork.change_at.Goals as goal
 
@@ -11,14 +11,9 @@ returns-in_default-clause-ok g c =
 
 pub overflow_add-room : goal.overflow_add-room
 overflow_add-room g c =
-    let t = c.args.self.now in
-    let event = event_of c.args.event.now in
-    let value : c.count.result ≡ length t.rows = c.count.ensures.value in
-    let range : c.count.result ≤ most_targets = c.count.ensures.range in
-    let few : length t.rows + length c.in-Some.effect.effect.fresh ≤ most_targets =
-    effect_few t event c.args.at c.args.n c.in-Some.effect c.requires.named (omega arith) (sym c.in-Some.is ∙ c.in_ok-effect.ensures) in
-    let len : c.fresh_len.result ≡ length c.in-Some.effect.effect.fresh = c.fresh_len.ensures in
-    omega arith
+    let few = effect_few c.args.self.now (event_of c.args.event.now) c.args.at c.args.n c.in-Some.effect c.requires.named
+    (omega (arith, c.count.ensures.value, c.count.ensures.range)) (sym c.in-Some.is ∙ c.in_ok-effect.ensures) in
+    omega (arith, few, c.count.ensures.value, c.fresh_len.ensures)
 
 pub apply-requires-clause-goes : goal.apply-requires-clause-goes
 apply-requires-clause-goes g c = placed_goes c.args.self.now (event_of c.args.event.now) c.args.at c.args.n c.in-Some.effect (sym c.in-Some.is ∙ c.in_ok-effect.ensures)
@@ -28,10 +23,8 @@ apply-requires-clause-first g c = placed_first c.args.self.now (event_of c.args.
 
 pub apply-requires-clause-few : goal.apply-requires-clause-few
 apply-requires-clause-few g c =
-    let t = c.args.self.now in
-    let value : c.count.result ≡ length t.rows = c.count.ensures.value in
-    let range : c.count.result ≤ most_targets = c.count.ensures.range in
-    effect_few t (event_of c.args.event.now) c.args.at c.args.n c.in-Some.effect c.requires.named (omega arith) (sym c.in-Some.is ∙ c.in_ok-effect.ensures)
+    effect_few c.args.self.now (event_of c.args.event.now) c.args.at c.args.n c.in-Some.effect c.requires.named
+    (omega (arith, c.count.ensures.value, c.count.ensures.range)) (sym c.in-Some.is ∙ c.in_ok-effect.ensures)
 
 pub settle-requires-clause-there : goal.settle-requires-clause-there
 settle-requires-clause-there g c =
@@ -39,23 +32,15 @@ settle-requires-clause-there g c =
 
 pub settle-requires-clause-room_started : goal.settle-requires-clause-room_started
 settle-requires-clause-room_started g c =
-    let t = c.args.self.now in
-    let rows : length c.apply.new.self.rows ≡ length t.rows + length c.in-Some.effect.effect.fresh =
-    (effect_room t (event_of c.args.event.now) c.args.at c.args.n c.in-Some.effect c.apply.new.self (sym c.in-Some.is ∙ c.in_ok-effect.ensures) c.in_ok-apply.ensures.ok).1 in
-    let value : c.count.result ≡ length t.rows = c.count.ensures.value in
-    let len : c.fresh_len.result ≡ length c.in-Some.effect.effect.fresh = c.fresh_len.ensures in
-    let room : c.count.result + c.fresh_len.result ≤ vec_capacity c.in_ok-started.started = c.in_ok-started.ensures.room.0 in
-    omega arith
+    let rows = effect_room c.args.self.now (event_of c.args.event.now) c.args.at c.args.n c.in-Some.effect _ (sym c.in-Some.is ∙ c.in_ok-effect.ensures)
+    c.in_ok-apply.ensures.ok in
+    omega (arith, rows.1, c.count.ensures.value, c.fresh_len.ensures, c.in_ok-started.ensures.room.0)
 
 pub settle-requires-clause-room_cancelled : goal.settle-requires-clause-room_cancelled
 settle-requires-clause-room_cancelled g c =
-    let t = c.args.self.now in
-    let rows : length c.apply.new.self.rows ≡ length t.rows + length c.in-Some.effect.effect.fresh =
-    (effect_room t (event_of c.args.event.now) c.args.at c.args.n c.in-Some.effect c.apply.new.self (sym c.in-Some.is ∙ c.in_ok-effect.ensures) c.in_ok-apply.ensures.ok).1 in
-    let value : c.count.result ≡ length t.rows = c.count.ensures.value in
-    let len : c.fresh_len.result ≡ length c.in-Some.effect.effect.fresh = c.fresh_len.ensures in
-    let room : c.count.result + c.fresh_len.result ≤ vec_capacity c.in_ok-started.cancelled = c.in_ok-started.ensures.room.1 in
-    omega arith
+    let rows = effect_room c.args.self.now (event_of c.args.event.now) c.args.at c.args.n c.in-Some.effect _ (sym c.in-Some.is ∙ c.in_ok-effect.ensures)
+    c.in_ok-apply.ensures.ok in
+    omega (arith, rows.1, c.count.ensures.value, c.fresh_len.ensures, c.in_ok-started.ensures.room.1)
 
 pub returns-clause-ok : goal.returns-clause-ok
 returns-clause-ok g c =

@@ -11,8 +11,7 @@ returns-in_err-row g c =
 pub returns-in_err-row_extras : goal.returns-in_err-row_extras
 returns-in_err-row_extras g c =
     let n = c.args.n in
-    let none = none_row_extras c.self.inside.tree.rows c.self.inside.extras n c.self.invariant.each
-    c.in_err-row_extras.ensures in
+    let none = none_row_extras c.self.inside.tree.rows c.self.inside.extras n c.self.invariant.each c.in_err-row_extras.ensures in
     c.from_residual-in_err-row_extras.ensures ∙ sym (ap (option_map (row_shown n)) none) ∙ ap (λ (t : Table). option_map (row_shown n) (slice_get t.rows n)) c.self.view_is
 
 pub returns : goal.returns

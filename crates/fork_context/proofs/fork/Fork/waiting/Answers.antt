@@ -1,61 +1,49 @@
-use Rattle.fork_context.proofs.Common.{◌≡◌, ◌≤◌, ◌∙◌, sym, ap, subst, List, ℕ, false, length, map, arith, None, filter_map, length-map, Row, Rules, Table, most_targets, numbered, Tree, waiting_row, new_rows_of, RowExtras, with_extras}
-use Rattle.fork_context.proofs.Common.{q_of_pair, IsFork, kind_of, target_extras}
+use Rattle.fork_context.proofs.Common.{◌≡◌, ◌∙◌, ap, refl, List, ℕ, false, length, map, arith, None, filter_map, length-map, Row, Rules, Table, numbered, Tree, waiting_row, new_rows_of, with_extras}
+use Rattle.fork_context.proofs.Common.{q_of_pair, kind_of, target_extras}
+use Rattle.fork_context.proofs.NewRowGroups.{in_order}
+use Rattle.fork_context.proofs.ForkEnd.{fork_same}
 use Rattle.fork_context.proofs.OpeningFork.{target_qs, target_new_rows, opening_with_extras, opening_fork, length_ordered}
 use Rattle.fork_context.proofs.fork.Fork.waiting.Goals as goal
 
 pub new-requires : goal.new-requires
 new-requires g c =
     let targets = c.args.targets.now in
-    let qs : c.deref.result.now ≡ target_qs targets = c.deref.ensures.value ∙ c.in_ok-qs.ensures.value in
-    let again : c.deref-2.result.now ≡ target_qs targets = c.deref-2.ensures.value ∙ c.in_ok-qs.ensures.value in
-    let order : c.deref-3.result.now ≡ numbered (target_qs targets) = c.deref-3.ensures.value ∙ c.in_ok-order.ensures ∙ ap numbered qs in
-    let ordered : c.deref-4.result.now ≡ map (q_of_pair (target_qs targets)) (numbered (target_qs targets)) =
-    c.deref-4.ensures.value ∙ c.in_ok-qs_at.ensures ∙ (λ i. map (q_of_pair (again i)) (order i)) in
+    let ordered = in_order (target_qs targets) _ _ _ _ (c.deref.ensures.value ∙ c.in_ok-qs.ensures.value) (c.deref-2.ensures.value ∙ c.in_ok-qs.ensures.value)
+    (c.deref-3.ensures.value ∙ c.in_ok-order.ensures) (c.deref-4.ensures.value ∙ c.in_ok-qs_at.ensures) in
     let long : length c.deref-4.result.now ≡ length targets = ap (λ (vs : List ℕ). length vs) ordered ∙ length_ordered targets in
-    let few : length targets ≤ most_targets = c.requires.few in
-    record { few = omega arith }
+    record { few = omega (arith, long, c.requires.few) }
 
 pub extras_by_key-requires : goal.extras_by_key-requires
 extras_by_key-requires g c =
-    let targets = c.args.targets.now in
-    let pairs = numbered (target_qs targets) in
-    let qs : c.deref.result.now ≡ target_qs targets = c.deref.ensures.value ∙ c.in_ok-qs.ensures.value in
-    let order : c.deref-5.result.now ≡ pairs = c.deref-5.ensures.value ∙ c.in_ok-order.ensures ∙ ap numbered qs in
-    let long : length c.deref-5.result.now ≡ length pairs = ap (λ (ps : List (ℕ × ℕ)). length ps) order in
-    let each : length (map (q_of_pair (target_qs targets)) pairs) ≡ length pairs = length-map pairs (q_of_pair (target_qs targets)) in
-    let all : length (map (q_of_pair (target_qs targets)) pairs) ≡ length targets = length_ordered targets in
-    let few : length targets ≤ most_targets = c.requires.few in
-    record { few = omega arith }
+    let pairs = numbered (target_qs c.args.targets.now) in
+    let order = c.deref-5.ensures.value ∙ c.in_ok-order.ensures ∙ ap numbered (c.deref.ensures.value ∙ c.in_ok-qs.ensures.value) in
+    let long = ap (λ (ps : List (ℕ × ℕ)). length ps) order in
+    let each = length-map pairs (q_of_pair (target_qs c.args.targets.now)) in
+    record { few = omega (arith, long, each, length_ordered c.args.targets.now, c.requires.few) }
 
 pub of-requires : goal.of-requires
 of-requires g c =
     let targets = c.args.targets.now in
-    let qs : c.deref.result.now ≡ target_qs targets = c.deref.ensures.value ∙ c.in_ok-qs.ensures.value in
-    let again : c.deref-2.result.now ≡ target_qs targets = c.deref-2.ensures.value ∙ c.in_ok-qs.ensures.value in
-    let order : c.deref-3.result.now ≡ numbered (target_qs targets) = c.deref-3.ensures.value ∙ c.in_ok-order.ensures ∙ ap numbered qs in
-    let ordered : c.deref-4.result.now ≡ map (q_of_pair (target_qs targets)) (numbered (target_qs targets)) =
-    c.deref-4.ensures.value ∙ c.in_ok-qs_at.ensures ∙ (λ i. map (q_of_pair (again i)) (order i)) in
+    let ordered = in_order (target_qs targets) _ _ _ _ (c.deref.ensures.value ∙ c.in_ok-qs.ensures.value) (c.deref-2.ensures.value ∙ c.in_ok-qs.ensures.value)
+    (c.deref-3.ensures.value ∙ c.in_ok-order.ensures) (c.deref-4.ensures.value ∙ c.in_ok-qs_at.ensures) in
     let rows : c.in_ok-tree.tree.rows ≡ map (waiting_row None) (target_new_rows targets) =
     ap (λ (t : Tree). t.rows) c.in_ok-tree.ensures ∙ ap (λ (vs : List ℕ). map (waiting_row None) (new_rows_of vs)) ordered in
     let extras : c.in_ok-extras.extras ≡ filter_map (target_extras targets) (numbered (target_qs targets)) =
-    c.in_ok-extras.ensures ∙ ap (filter_map (target_extras targets)) (c.deref-5.ensures.value ∙ c.in_ok-order.ensures ∙ ap numbered qs) in
-    let P : List Row → Type 0 = λ rs. IsFork rs (filter_map (target_extras targets) (numbered (target_qs targets))) false in
-    let Q : List RowExtras → Type 0 = λ bs. IsFork c.in_ok-tree.tree.rows bs false in
-    subst Q (sym extras) (subst P (sym rows) (opening_fork targets c.requires.few))
+    c.in_ok-extras.ensures
+    ∙ ap (filter_map (target_extras targets)) (c.deref-5.ensures.value ∙ c.in_ok-order.ensures ∙ ap numbered (c.deref.ensures.value ∙ c.in_ok-qs.ensures.value)) in
+    fork_same _ _ _ _ false false rows extras refl (opening_fork targets c.requires.few)
 
 pub returns-clause-value : goal.returns-clause-value
 returns-clause-value g c =
     let targets = c.args.targets.now in
-    let qs : c.deref.result.now ≡ target_qs targets = c.deref.ensures.value ∙ c.in_ok-qs.ensures.value in
-    let again : c.deref-2.result.now ≡ target_qs targets = c.deref-2.ensures.value ∙ c.in_ok-qs.ensures.value in
-    let order : c.deref-3.result.now ≡ numbered (target_qs targets) = c.deref-3.ensures.value ∙ c.in_ok-order.ensures ∙ ap numbered qs in
-    let ordered : c.deref-4.result.now ≡ map (q_of_pair (target_qs targets)) (numbered (target_qs targets)) =
-    c.deref-4.ensures.value ∙ c.in_ok-qs_at.ensures ∙ (λ i. map (q_of_pair (again i)) (order i)) in
-    let rules : c.in_ok-tree.tree.rules ≡ c.args.rules = ap (λ (t : Tree). t.rules) c.in_ok-tree.ensures in
+    let ordered = in_order (target_qs targets) _ _ _ _ (c.deref.ensures.value ∙ c.in_ok-qs.ensures.value) (c.deref-2.ensures.value ∙ c.in_ok-qs.ensures.value)
+    (c.deref-3.ensures.value ∙ c.in_ok-order.ensures) (c.deref-4.ensures.value ∙ c.in_ok-qs_at.ensures) in
     let rows : c.in_ok-tree.tree.rows ≡ map (waiting_row None) (target_new_rows targets) =
     ap (λ (t : Tree). t.rows) c.in_ok-tree.ensures ∙ ap (λ (vs : List ℕ). map (waiting_row None) (new_rows_of vs)) ordered in
     let extras : c.in_ok-extras.extras ≡ filter_map (target_extras targets) (numbered (target_qs targets)) =
-    c.in_ok-extras.ensures ∙ ap (filter_map (target_extras targets)) (c.deref-5.ensures.value ∙ c.in_ok-order.ensures ∙ ap numbered qs) in
+    c.in_ok-extras.ensures
+    ∙ ap (filter_map (target_extras targets)) (c.deref-5.ensures.value ∙ c.in_ok-order.ensures ∙ ap numbered (c.deref.ensures.value ∙ c.in_ok-qs.ensures.value)) in
+    let rules : c.in_ok-tree.tree.rules ≡ c.args.rules = ap (λ (t : Tree). t.rules) c.in_ok-tree.ensures in
     let of_rows : Rules → List Row → Table = λ (rs : Rules) (xs : List Row). record { kind = kind_of c.args.kind; rules = rs; closed = false; rows = xs } in
     c.of.ensures ∙ (λ i. of_rows (rules i) (with_extras (rows i) (extras i))) ∙ ap (of_rows c.args.rules) (opening_with_extras targets)
 

@@ -1,0 +1,44 @@
+-- Options and lists: what most of the proofs cite.
+use Rattle.std.proofs.Common.{◌≡◌, ℕ, zero, suc, ◌+◌, ◌<◌, ◌⊎◌, List, [], ◌∷◌, ◌++◌, length, Option, Some, None, refl, sym, subst, ◌∙◌, arith, slice_get, option_and_then}
+use Rattle.std.specs.List.{AllByRecursion}
+use Rattle.std.specs.Option.{option_map}
+
+pub some_same : {X : Type 0} {x y : X} → Some x ≡ Some y → x ≡ y
+some_same e = cc
+
+pub none_some : {X : Type 0} {x : X} → None ≡ Some x → ⊥
+none_some e = absurd cc
+
+pub cases : (m n : ℕ) → m < n + 1 → (m < n) ⊎ (m ≡ n)
+cases m n lt = grind arith
+
+pub there : {X : Type 0} (xs : List X) (n : ℕ) → n < length xs → (x : X) × (slice_get xs n ≡ Some x)
+there [] n lt = absurd (omega arith)
+there (x ∷ xs) zero lt = (x, refl)
+there (x ∷ xs) (suc n) lt = there xs n (omega arith)
+
+pub one_at : {X : Type 0} (xs : List X) (n : ℕ) (x y : X) → slice_get xs n ≡ Some x → slice_get xs n ≡ Some y → x ≡ y
+one_at xs n x y e f = some_same (sym e ∙ f)
+
+-- what holds of each holds of the one at a place
+pub all_at : {X : Type 0} (P : X → Type 0) (xs : List X) → AllByRecursion P xs → (n : ℕ) (x : X) → slice_get xs n ≡ Some x → P x
+all_at P [] all n x is = absurd (none_some is)
+all_at P (y ∷ xs) all zero x is = subst P (some_same is) all.0
+all_at P (y ∷ xs) all (suc n) x is = all_at P xs all.1 n x is
+
+-- what is read of an option was there
+pub looked : {X Y : Type 0} (f : X → Option Y) (o : Option X) {y : Y} → option_and_then f o ≡ Some y → (x : X) × (o ≡ Some x) × (f x ≡ Some y)
+looked f None e = absurd (none_some e)
+looked f (Some x) e = (x, refl, e)
+
+pub mapped : {X Y : Type 0} (f : X → Y) (o : Option X) {y : Y} → option_map f o ≡ Some y → (x : X) × (o ≡ Some x) × (y ≡ f x)
+mapped f None e = absurd (none_some e)
+mapped f (Some x) e = (x, refl, sym (some_same e))
+
+pub get_pushed : {X : Type 0} (xs : List X) (x : X) → slice_get (xs ++ x ∷ []) (length xs) ≡ Some x
+get_pushed [] x = refl
+get_pushed (y ∷ xs) x = get_pushed xs x
+
+pub length_pushed : {X : Type 0} (xs : List X) (x : X) → length (xs ++ x ∷ []) ≡ length xs + 1
+length_pushed [] x = refl
+length_pushed (y ∷ xs) x = omega (arith, length_pushed xs x)
