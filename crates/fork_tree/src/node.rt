@@ -375,10 +375,10 @@ pub(crate) fn branches<A: Allocator + Clone>(
 {
     let mut new_rows = Vec::with_capacity(alloc.clone()?, qs.len())?;
     let mut groups = Vec::new(alloc.clone()?);
-    let mut nodes = Vec::new(alloc.clone()?);
+    let mut nodes = no_nodes(alloc, qs)?;
     let mut before = None;
     for i in 0..qs.len() {
-        nodes = in_group(alloc, &mut groups, nodes, another(before, qs[i]))?;
+        nodes = in_group(alloc, &mut groups, nodes, another(before, qs[i]), &qs[i..])?;
         new_rows.push(NewRow {
             group: groups.len() as u16,
             place: nodes.len() as u16,
@@ -400,12 +400,30 @@ fn another(before: Option<u16>, q: u16) -> bool
     }
 }
 
-/// The nodes of the group that goes on, or none, after these were made a group, where another begins.
+/// How many branches of these q the first group has.
+fn group_len(qs: &[u16]) -> usize {
+    for i in 0..qs.len() {
+        if qs[i] != qs[0] {
+            return i;
+        }
+    }
+    qs.len()
+}
+
+/// No node yet, with room for the first group of these q.
+fn no_nodes<A: Allocator + Clone>(alloc: &A, qs: &[u16]) -> Result<Vec<Node<A>, A>, AllocError>
+    ensures { IfOk result (λ nodes. nodes.items ≡ []) }
+{
+    Vec::with_capacity(alloc.clone()?, group_len(qs))
+}
+
+/// The nodes of the group that goes on, or none, after these were made a group, where another begins with the first of `qs`.
 fn in_group<A: Allocator + Clone>(
     alloc: &A,
     groups: &mut Vec<Group<A>, A>,
     nodes: Vec<Node<A>, A>,
     begins: bool,
+    qs: &[u16],
 ) -> Result<Vec<Node<A>, A>, AllocError>
     requires few { length nodes.items ≤ most_targets }
     requires waiting { AreWaiting nodes.items }
@@ -418,7 +436,8 @@ fn in_group<A: Allocator + Clone>(
 {
     if begins {
         groups.push(Group::waiting(nodes))?;
-        Ok(Vec::new(alloc.clone()?))
+        let none = no_nodes(alloc, qs)?;
+        Ok(none)
     } else {
         Ok(nodes)
     }
