@@ -36,6 +36,23 @@ impl<A: Allocator + Clone> Model for Book<A> {
     ghost invariant = { λ b. IsBook b.context b.initial (log_of b.context b.initial b.history.items b.replies.items) };
 }
 
+/// How many events a book has room for at first, where it has as many rows.
+const FIRST_EVENTS: u16 = 4;
+
+/// Lists for events and their replies, with room for one event of each row, but for four at most: they grow by themselves.
+fn lists<A: Allocator + Clone>(
+    alloc: &A,
+    rows: u16,
+) -> Result<(Vec<Posted<A>, A>, Vec<Reply<A>, A>), AllocError>
+    ensures history { IfOk result (λ lists. lists.0.items ≡ []) }
+    ensures replies { IfOk result (λ lists. lists.1.items ≡ []) }
+{
+    let room = rows.min(FIRST_EVENTS) as usize;
+    let history = Vec::with_capacity(alloc.clone()?, room)?;
+    let replies = Vec::with_capacity(alloc.clone()?, room)?;
+    Ok((history, replies))
+}
+
 impl<A: Allocator + Clone> Book<A> {
     /// The book of a request of this kind to these targets, under these rules; nothing was posted yet.
     ///
@@ -53,17 +70,20 @@ impl<A: Allocator + Clone> Book<A> {
         ensures twice { IsErrOf result NewFault.Twice ↔ ((length targets.items ≤ most_targets) × HasTwice targets.items) }
         ensures opened { IfOk result (λ book. book ≡ opening_log (kind_of kind) rules targets.items) }
     {
-        let history: Result<A, AllocError> = alloc.clone();
-        let replies: Result<A, AllocError> = alloc.clone();
+        let own: Result<A, AllocError> = alloc.clone();
         let context = Context::new(alloc, kind, rules, targets)?;
-        let (Ok(history), Ok(replies)) = (history, replies) else {
+        let initial = context.count();
+        let Ok(own) = own else {
+            return Err(NewFault::NoMemory);
+        };
+        let Ok((history, replies)) = lists(&own, initial) else {
             return Err(NewFault::NoMemory);
         };
         Ok(Book {
-            initial: context.count(),
             context,
-            history: Vec::new(history),
-            replies: Vec::new(replies),
+            initial,
+            history,
+            replies,
         })
     }
 
