@@ -39,7 +39,7 @@ fn challenge_in<A: Allocator + Clone>(
     } else {
         return Ok(None);
     };
-    let value = Vec::from_slice(alloc.clone()?, &header.value)?;
+    let value = Vec::from_slice(alloc.clone()?, header.value())?;
     Ok(Some(Challenge::new(proxy, value)))
 }
 

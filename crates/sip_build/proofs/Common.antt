@@ -41,7 +41,6 @@ pub use Rattle.sip_text.specs.Reading.{begins_with_space, is_uri}
 pub use Rattle.sip_text.specs.Seen.{view, view_start, views}
 pub use Rattle.sip_text.specs.Text.{HeaderText, MessageText, Request, Response, StartText, header_text, pieces_text, saturated, start_line}
 pub use Rattle.sip_text.specs.declared.needed.Needed.TheVariants.{CSeq, CallId, From, To, Via}
-pub use Rattle.sip_text.specs.declared.parts.Header.{Header}
 pub use Rattle.sip_uri.specs.Uri.{Uri, request_uri}
 pub use Rattle.sip_via.proofs.laws.Places.{replaced-split}
 pub use Rattle.sip_via.proofs.laws.PlainVia.{is-not}

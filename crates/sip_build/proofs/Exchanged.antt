@@ -1,6 +1,6 @@
 -- Header lines with others in the place of all those of a name, and round one of another name.
 use Rattle.sip_build.proofs.Common.{◌≡◌, ℕ, suc, ◌+◌, ◌<◌, ◌≤◌, true, false, not, List, [], ◌∷◌, ◌++◌, length, take, drop, Option, Some, None, refl, sym, ap, ◌∙◌, append_assoc, arith, inl, inr, codes, filter, cases_Bool, cond-true}
-use Rattle.sip_build.proofs.Common.{cond-false, append-nil, drop-map, Header, same_name, view, views, HeaderText, line, line_if_any, place_of, replaced, exchanged, is_other, apart}
+use Rattle.sip_build.proofs.Common.{cond-false, append-nil, drop-map, same_name, view, views, HeaderText, line, line_if_any, place_of, replaced, exchanged, is_other, apart}
 use Rattle.std.proofs.lemmas.List.{length-map, take-map}
 use Rattle.sip_text.specs.Name.{full_name}
 use Rattle.sip_via.proofs.laws.Places.{replaced-none, replaced-some}
@@ -29,11 +29,11 @@ split name lines (h ∷ hs) =
           ∙ sym (cond-false (same_name name h.name) (lines ++ filter (is_other name) hs) (h ∷ exchanged name lines hs) other)
     ]
 
-pub exchanged-split : {A : Type 0} (name : List ℕ) (lines : List HeaderText) (hs front back : List (Header A)) (n : ℕ) → n ≡ place_of name (views hs) → front ≡ take n hs → back ≡ drop n hs → views front ++ (lines ++ filter (is_other name) (views back)) ≡ exchanged name lines (views hs)
-exchanged-split {A} name lines hs front back n at f b =
+pub exchanged-split : (name : List ℕ) (lines : List HeaderText) (hs front back : List HeaderText) (n : ℕ) → n ≡ place_of name (views hs) → front ≡ take n hs → back ≡ drop n hs → views front ++ (lines ++ filter (is_other name) (views back)) ≡ exchanged name lines (views hs)
+exchanged-split name lines hs front back n at f b =
     let place = place_of name (views hs) in
-    let first : views front ≡ take place (views hs) = ap (λ (xs : List (Header A)). views xs) (f ∙ ap (λ k. take k hs) at) ∙ sym (take-map view place hs) in
-    let rest : views back ≡ drop place (views hs) = ap (λ (xs : List (Header A)). views xs) (b ∙ ap (λ k. drop k hs) at) ∙ sym (drop-map view place hs) in
+    let first : views front ≡ take place (views hs) = ap (λ (xs : List HeaderText). views xs) (f ∙ ap (λ k. take k hs) at) ∙ sym (take-map view place hs) in
+    let rest : views back ≡ drop place (views hs) = ap (λ (xs : List HeaderText). views xs) (b ∙ ap (λ k. drop k hs) at) ∙ sym (drop-map view place hs) in
     ap (λ (xs : List HeaderText). xs ++ (lines ++ filter (is_other name) (views back))) first
     ∙ ap (λ (xs : List HeaderText). take place (views hs) ++ (lines ++ filter (is_other name) xs)) rest
     ∙ split name lines (views hs)
@@ -118,33 +118,33 @@ unfolding full_name
 via-is-no-contact = refl
 
 -- the lines in two parts, at the first of the other name
-pub record Parted {A : Type 0} (via : List ℕ) (hs before behind : List (Header A)) (n : ℕ) : Type 0 where
+pub record Parted (via : List ℕ) (hs before behind : List HeaderText) (n : ℕ) : Type 0 where
   pub place : n ≡ place_of via (views hs)
   pub front : before ≡ take n hs
   pub back : behind ≡ drop n hs
 
-pub parted_at : {A : Type 0} (via : List ℕ) (hs before behind : List (Header A)) (n : ℕ) → n ≡ place_of via (views hs) → before ≡ take n hs → behind ≡ drop n hs → Parted via hs before behind n
+pub parted_at : (via : List ℕ) (hs before behind : List HeaderText) (n : ℕ) → n ≡ place_of via (views hs) → before ≡ take n hs → behind ≡ drop n hs → Parted via hs before behind n
 parted_at via hs before behind n place front back = record { place = place; front = front; back = back }
 
-front-of : {A : Type 0} (via : List ℕ) (hs front back : List (Header A)) (n : ℕ) → Parted via hs front back n → views front ≡ take (place_of via (views hs)) (views hs)
-front-of {A} via hs front back n p = ap (λ (xs : List (Header A)). views xs) (p.front ∙ ap (λ k. take k hs) p.place) ∙ sym (take-map view (place_of via (views hs)) hs)
+front-of : (via : List ℕ) (hs front back : List HeaderText) (n : ℕ) → Parted via hs front back n → views front ≡ take (place_of via (views hs)) (views hs)
+front-of via hs front back n p = ap (λ (xs : List HeaderText). views xs) (p.front ∙ ap (λ k. take k hs) p.place) ∙ sym (take-map view (place_of via (views hs)) hs)
 
-back-of : {A : Type 0} (via : List ℕ) (hs front back : List (Header A)) (n : ℕ) → Parted via hs front back n → drop (place_of via (views hs)) (views hs) ≡ views back
-back-of {A} via hs front back n p = drop-map view (place_of via (views hs)) hs ∙ ap (λ (xs : List (Header A)). views xs) (sym (p.back ∙ ap (λ k. drop k hs) p.place))
+back-of : (via : List ℕ) (hs front back : List HeaderText) (n : ℕ) → Parted via hs front back n → drop (place_of via (views hs)) (views hs) ≡ views back
+back-of via hs front back n p = drop-map view (place_of via (views hs)) hs ∙ ap (λ (xs : List HeaderText). views xs) (sym (p.back ∙ ap (λ k. drop k hs) p.place))
 
-changed : {A : Type 0} (via : List ℕ) (o : Option (List ℕ)) (hs front after : List (Header A)) (top : Header A) (n : ℕ) → Parted via hs front (top ∷ after) n → views front ++ (line_if_any (view top).name o ++ views after) ≡ replaced via o (views hs)
-changed {A} via o hs front after top n p =
+changed : (via : List ℕ) (o : Option (List ℕ)) (hs front after : List HeaderText) (top : HeaderText) (n : ℕ) → Parted via hs front (top ∷ after) n → views front ++ (line_if_any (view top).name o ++ views after) ≡ replaced via o (views hs)
+changed via o hs front after top n p =
     ap (λ (xs : List HeaderText). xs ++ (line_if_any (view top).name o ++ views after)) (front-of via hs front (top ∷ after) n p)
     ∙ sym (replaced-some via o (views hs) (views after) (view top) (back-of via hs front (top ∷ after) n p))
 
-other-named : {A : Type 0} (via name : List ℕ) (hs front after : List (Header A)) (top : Header A) (n : ℕ) → same_name via name ≡ false → Parted via hs front (top ∷ after) n → same_name name (view top).name ≡ false
+other-named : (via name : List ℕ) (hs front after : List HeaderText) (top : HeaderText) (n : ℕ) → same_name via name ≡ false → Parted via hs front (top ∷ after) n → same_name name (view top).name ≡ false
 other-named via name hs front after top n differ p = apart via name (view top).name differ (place-named via (views hs) (views after) (view top) (back-of via hs front (top ∷ after) n p))
 
-pub round-none : {A : Type 0} (via name : List ℕ) (o : Option (List ℕ)) (lines : List HeaderText) (hs front : List (Header A)) (n : ℕ) → Parted via hs front [] n → exchanged name lines (views front) ≡ exchanged name lines (replaced via o (views hs))
+pub round-none : (via name : List ℕ) (o : Option (List ℕ)) (lines : List HeaderText) (hs front : List HeaderText) (n : ℕ) → Parted via hs front [] n → exchanged name lines (views front) ≡ exchanged name lines (replaced via o (views hs))
 round-none via name o lines hs front n p =
     ap (λ (xs : List HeaderText). exchanged name lines xs) (front-of via hs front [] n p ∙ sym (replaced-none via o (views hs) (back-of via hs front [] n p)))
 
-pub round-sooner : {A : Type 0} (via name : List ℕ) (o : Option (List ℕ)) (lines : List HeaderText) (hs front after : List (Header A)) (top : Header A) (n : ℕ) → same_name via name ≡ false → Parted via hs front (top ∷ after) n → place_of name (views front) < length front → exchanged name lines (views front) ++ (line_if_any (view top).name o ++ filter (is_other name) (views after)) ≡ exchanged name lines (replaced via o (views hs))
+pub round-sooner : (via name : List ℕ) (o : Option (List ℕ)) (lines : List HeaderText) (hs front after : List HeaderText) (top : HeaderText) (n : ℕ) → same_name via name ≡ false → Parted via hs front (top ∷ after) n → place_of name (views front) < length front → exchanged name lines (views front) ++ (line_if_any (view top).name o ++ filter (is_other name) (views after)) ≡ exchanged name lines (replaced via o (views hs))
 round-sooner via name o lines hs front after top n differ p lt =
     let x = (view top).name in
     let same : length (views front) ≡ length front = length-map front view in
@@ -152,7 +152,7 @@ round-sooner via name o lines hs front after top n differ p lt =
     ∙ sym (exchanged-sooner name lines (views front) (line_if_any x o ++ views after) (omega (arith, same, lt)))
     ∙ ap (λ (xs : List HeaderText). exchanged name lines xs) (changed via o hs front after top n p)
 
-pub round-later : {A : Type 0} (via name : List ℕ) (o : Option (List ℕ)) (lines : List HeaderText) (hs front after : List (Header A)) (top : Header A) (n : ℕ) → same_name via name ≡ false → Parted via hs front (top ∷ after) n → length front ≤ place_of name (views front) → views front ++ (line_if_any (view top).name o ++ exchanged name lines (views after)) ≡ exchanged name lines (replaced via o (views hs))
+pub round-later : (via name : List ℕ) (o : Option (List ℕ)) (lines : List HeaderText) (hs front after : List HeaderText) (top : HeaderText) (n : ℕ) → same_name via name ≡ false → Parted via hs front (top ∷ after) n → length front ≤ place_of name (views front) → views front ++ (line_if_any (view top).name o ++ exchanged name lines (views after)) ≡ exchanged name lines (replaced via o (views hs))
 round-later via name o lines hs front after top n differ p le =
     let x = (view top).name in
     let same : length (views front) ≡ length front = length-map front view in

@@ -1,6 +1,8 @@
 -- Bytes that were written at a place, piece by piece.
-use Rattle.sip_build.proofs.Common.{◌≡◌, ◌∙◌, ℕ, ◌+◌, ◌<◌, ◌≤◌, List, ◌++◌, length, take, map, ap, append_assoc, arith, subst, length-append, flat_map, flat_map-map, Placed}
+use Rattle.sip_build.proofs.Common.{◌≡◌, ◌∙◌, ℕ, ◌+◌, ◌<◌, ◌≤◌, List, [], ◌∷◌, ◌++◌, length, take, map, sym, ap, append_assoc, append-nil, arith, subst, length-append, flat_map, flat_map-map, Placed}
 use Rattle.std.proofs.Common.{get_or}
+use Rattle.std.proofs.lemmas.Grind.{flat_map-append}
+use Rattle.std.proofs.lemmas.List.{take_more}
 use Rattle.std.proofs.lemmas.List.Folds.{length-flat_map-take}
 
 -- under another name of the text
@@ -32,6 +34,18 @@ fits-seen text seen old mid xs i at next x part below placed fits is same =
     (placed-as old mid at next _ _ placed (flat_map-map text seen (take i xs)))
     (subst (λ (y : List ℕ). at + length y ≤ length old) (flat_map-map text seen xs) fits)
     is same
+
+-- the texts of the parts up to the next one
+pub more-seen : {X Y : Type 0} (text : Y → List ℕ) (seen : X → Y) (xs : List X) (i : ℕ) (x : X) (part : List ℕ) → i < length xs → x ≡ get_or xs i x → part ≡ text (seen x) → flat_map text (map seen (take (i + 1) xs)) ≡ flat_map text (map seen (take i xs)) ++ part
+more-seen {X} text seen xs i x part below is same =
+    let texts : List X → List ℕ = λ ys. flat_map (λ y. text (seen y)) ys in
+    let before = texts (take i xs) in
+    let next : text (seen (get_or xs i x)) ≡ part = ap (λ y. text (seen y)) (sym is) ∙ sym same in
+    flat_map-map text seen (take (i + 1) xs)
+    ∙ ap texts (take_more xs i x below)
+    ∙ flat_map-append (λ y. text (seen y)) (take i xs) (get_or xs i x ∷ [])
+    ∙ ap (λ t. before ++ t) (append-nil (text (seen (get_or xs i x))) ∙ next)
+    ∙ ap (λ t. t ++ part) (sym (flat_map-map text seen (take i xs)))
 
 -- another name of a text that fits
 pub fits-as : (at room : ℕ) (t s : List ℕ) → at + length s ≤ room → t ≡ s → at + length t ≤ room

@@ -54,7 +54,7 @@ fn value_at<A: Allocator>(headers: &[Header<A>], place: usize) -> Option<&[u8]>
     let Some((header, _)) = back.split_first() else {
         return None;
     };
-    Some(&header.value)
+    Some(header.value())
 }
 
 /// The hops that a request goes on with: one fewer than its first Max-Forwards value allows, or the seventy that
@@ -85,7 +85,7 @@ fn lowered_groups<'a, A: Allocator>(
         let seventy = Group::Line(b"Max-Forwards", hops);
         return [seventy, Group::Kept(headers), Group::Kept(&[])];
     };
-    let lowered = Group::Line(&header.name, hops);
+    let lowered = Group::Line(header.name(), hops);
     [Group::Kept(front), lowered, Group::Kept(after)]
 }
 

@@ -21,7 +21,7 @@ fn first_group<'a, A: Allocator>(message: &'a Message<A>, name: &[u8]) -> Group<
 {
     match first_named(message, name) {
         None => Group::Kept(&[]),
-        Some(header) => Group::Line(&header.name, &header.value),
+        Some(header) => Group::Line(header.name(), header.value()),
     }
 }
 
@@ -31,7 +31,7 @@ fn tagged_group<'a, A: Allocator>(message: &'a Message<A>, tag: &'a [u8]) -> Gro
 {
     match first_named(message, b"to") {
         None => Group::Kept(&[]),
-        Some(header) => Group::Joined(&header.name, &header.value, b";tag=", tag),
+        Some(header) => Group::Joined(header.name(), header.value(), b";tag=", tag),
     }
 }
 

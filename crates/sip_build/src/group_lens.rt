@@ -41,7 +41,7 @@ fn kept_len<A: Allocator>(headers: &[Header<A>]) -> usize
 {
     let mut len = 0usize;
     for header in headers {
-        len = len.saturating_add(line_len(&header.name, &header.value));
+        len = len.saturating_add(line_len(header.name(), header.value()));
     }
     len
 }
@@ -52,7 +52,7 @@ fn under_len<A: Allocator>(header: &Header<A>, name: Option<&[u8]>) -> usize
 {
     match name {
         None => 0,
-        Some(name) => line_len(name, &header.value),
+        Some(name) => line_len(name, header.value()),
     }
 }
 

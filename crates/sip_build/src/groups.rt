@@ -55,8 +55,8 @@ pub(crate) fn picked_name<'a, A: Allocator>(
     ensures { option_copied result ≡ picked_name pick.entry (view header.now) }
 {
     match pick {
-        Pick::Named(name) => header.is_named(name).then_some(header.name.as_slice()),
-        Pick::Others(name) => (!header.is_named(name)).then_some(header.name.as_slice()),
+        Pick::Named(name) => header.is_named(name).then_some(header.name()),
+        Pick::Others(name) => (!header.is_named(name)).then_some(header.name()),
         Pick::Renamed(name, other) => header.is_named(name).then_some(other),
     }
 }
@@ -73,7 +73,7 @@ fn place_under<A: Allocator>(
 {
     match name {
         None => at,
-        Some(name) => place_line(out, at, name, &header.value),
+        Some(name) => place_line(out, at, name, header.value()),
     }
 }
 
@@ -84,7 +84,7 @@ fn place_headers<A: Allocator>(out: &mut [u8], at: usize, headers: &[Header<A>])
 {
     let mut end = at;
     for header in headers {
-        end = place_line(out, end, &header.name, &header.value);
+        end = place_line(out, end, header.name(), header.value());
     }
     end
 }

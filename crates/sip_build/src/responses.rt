@@ -118,8 +118,8 @@ fn add_tagged_to<A: Allocator + Clone>(
     match first_named(message, b"to") {
         None => Ok(()),
         Some(header) => {
-            let value = tagged(alloc, &header.value, tag)?;
-            add_made(headers, alloc, &header.name, value)
+            let value = tagged(alloc, header.value(), tag)?;
+            add_made(headers, alloc, header.name(), value)
         }
     }
 }

@@ -66,7 +66,7 @@ fn add_others<A: Allocator + Clone>(
     let mut rest = headers;
     while let Some((header, after)) = rest.split_first() {
         if !begins_named(rest, name) {
-            add_line(out, alloc, &header.name, &header.value)?;
+            add_line(out, alloc, header.name(), header.value())?;
         }
         rest = after;
     }
@@ -112,11 +112,11 @@ fn add_kept<A: Allocator + Clone>(
     };
     if place_of(front, CONTACT) < front.len() {
         add_exchanged(out, alloc, front, kept)?;
-        add_line_if_any(out, alloc, &top.name, others)?;
+        add_line_if_any(out, alloc, top.name(), others)?;
         add_others(out, alloc, after, CONTACT)?;
     } else {
         add_copies(out, alloc, front)?;
-        add_line_if_any(out, alloc, &top.name, others)?;
+        add_line_if_any(out, alloc, top.name(), others)?;
         add_exchanged(out, alloc, after, kept)?;
     }
     Ok(())

@@ -71,7 +71,7 @@ fn replaced_groups<'a, A: Allocator>(
             Group::Kept(&[]),
         ];
     };
-    let top = group_if_any(&top.name, others);
+    let top = group_if_any(top.name(), others);
     [
         front,
         top,
@@ -120,7 +120,7 @@ fn kept_groups<'a, A: Allocator>(
             Group::Kept(&[]),
         ];
     };
-    let top = group_if_any(&top.name, others);
+    let top = group_if_any(top.name(), others);
     if place_of(front, CONTACT) < front.len() {
         let (first, contacts, rest) = exchanged_groups(front, kept);
         let after = Group::Picked(after, Pick::Others(CONTACT));

@@ -27,7 +27,6 @@ pub use Rattle.sip_text.specs.Message.{IsMessage}
 pub use Rattle.sip_text.specs.Name.{first_of, first_value, same_name}
 pub use Rattle.sip_text.specs.Seen.{views}
 pub use Rattle.sip_text.specs.Text.{HeaderText, MessageText}
-pub use Rattle.sip_text.specs.declared.parts.Header.{Header}
 pub use Rattle.sip_via.specs.Edits.{line, replaced, with_headers}
 pub use Rattle.sip_via.specs.OwnPass.{IsOwnPass}
 pub use Rattle.sip_via.specs.Sender.{sender_port}

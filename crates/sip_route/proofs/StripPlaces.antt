@@ -1,6 +1,6 @@
 -- The first header line of a name, changed or taken away at its place.
 use Rattle.sip_route.proofs.Common.{◌≡◌, ℕ, zero, suc, ◌+◌, ◌-◌, ◌<◌, List, [], ◌∷◌, ◌++◌, length, take, drop, get_or, slice_set, Option, Some, None, refl, sym, ap, ◌∙◌, arith, inl, inr, append_assoc, option_map, remove, prefix_len}
-use Rattle.sip_route.proofs.Common.{cases_Bool, cond-true, cond-false, is_space, trim, trim_end, trim_start, Header, first_of, first_value, same_name, views, HeaderText, line, replaced, Own, QuotesAndAngles, Plain, cut_outside, route_name}
+use Rattle.sip_route.proofs.Common.{cases_Bool, cond-true, cond-false, is_space, trim, trim_end, trim_start, first_of, first_value, same_name, views, HeaderText, line, replaced, Own, QuotesAndAngles, Plain, cut_outside, route_name}
 use Rattle.sip_route.proofs.Common.{stripped_at, stripped_headers, LineLeaves, part}
 use Rattle.std.proofs.Common.{slice_get}
 use Rattle.std.specs.List.{suffix_len}
@@ -36,15 +36,15 @@ part-others whole front others rest e r =
 
 -- ---- the value at the place
 
-pub set-views : {A : Type 0} (hs : List (Header A)) (n : ℕ) (h : Header A) → views (slice_set hs n h) ≡ slice_set (views hs) n (view h)
-set-views {A} [] n h = refl
-set-views {A} (x ∷ hs) zero h = refl
-set-views {A} (x ∷ hs) (suc n) h = ap (λ (xs : List HeaderText). view x ∷ xs) (set-views hs n h)
+pub set-views : (hs : List HeaderText) (n : ℕ) (h : HeaderText) → views (slice_set hs n h) ≡ slice_set (views hs) n (view h)
+set-views [] n h = refl
+set-views (x ∷ hs) zero h = refl
+set-views (x ∷ hs) (suc n) h = ap (λ (xs : List HeaderText). view x ∷ xs) (set-views hs n h)
 
-pub at-views : {A : Type 0} (hs : List (Header A)) (n : ℕ) (x : Header A) (h : HeaderText) → x ≡ get_or hs n x → slice_get (views hs) n ≡ Some h → view x ≡ h
-at-views {A} [] n x h e is = absurd cc
-at-views {A} (y ∷ hs) zero x h e is = let same : view y ≡ h = cc in ap (λ (z : Header A). view z) e ∙ same
-at-views {A} (y ∷ hs) (suc n) x h e is = at-views hs n x h e is
+pub at-views : (hs : List HeaderText) (n : ℕ) (x : HeaderText) (h : HeaderText) → x ≡ get_or hs n x → slice_get (views hs) n ≡ Some h → view x ≡ h
+at-views [] n x h e is = absurd cc
+at-views (y ∷ hs) zero x h e is = let same : view y ≡ h = cc in ap (λ (z : HeaderText). view z) e ∙ same
+at-views (y ∷ hs) (suc n) x h e is = at-views hs n x h e is
 
 -- ---- the first line of the name
 
@@ -122,10 +122,10 @@ replaced-set name v (h ∷ hs) x e =
 
 -- ---- the first Route line
 
-get-views : {A : Type 0} (hs : List (Header A)) (n : ℕ) → slice_get (views hs) n ≡ option_map view (slice_get hs n)
-get-views {A} [] n = refl
-get-views {A} (x ∷ hs) zero = refl
-get-views {A} (x ∷ hs) (suc n) = get-views hs n
+get-views : (hs : List HeaderText) (n : ℕ) → slice_get (views hs) n ≡ option_map view (slice_get hs n)
+get-views [] n = refl
+get-views (x ∷ hs) zero = refl
+get-views (x ∷ hs) (suc n) = get-views hs n
 
 get-within : (hs : List HeaderText) (n : ℕ) (x : HeaderText) → slice_get hs n ≡ Some x → n < length hs
 get-within [] n x e = absurd cc
@@ -156,14 +156,14 @@ line-leaves own hs n h (Part start len) at e l = (
       ∙ sym (ap (λ m. slice_set hs m (line h.name (part start len h.value))) at),
 )
 
-pub leaves-some : {A : Type 0} (own : Own) (hs : List (Header A)) (n : ℕ) (h : Header A) (left : Left) → n ≡ place_of route_name (views hs) → slice_get hs n ≡ Some h → LineLeaves own h.value.items (cut_outside QuotesAndAngles 44 Plain h.value.items) left → Leaves own (views hs) n left
-leaves-some {A} own hs n h left at e l = line-leaves own (views hs) n (view h) left at (get-views hs n ∙ ap (λ (o : Option (Header A)). option_map view o) e) l
+pub leaves-some : (own : Own) (hs : List HeaderText) (n : ℕ) (h : HeaderText) (left : Left) → n ≡ place_of route_name (views hs) → slice_get hs n ≡ Some h → LineLeaves own h.value (cut_outside QuotesAndAngles 44 Plain h.value) left → Leaves own (views hs) n left
+leaves-some own hs n h left at e l = line-leaves own (views hs) n (view h) left at (get-views hs n ∙ ap (λ (o : Option HeaderText). option_map view o) e) l
 
-pub leaves-none : {A : Type 0} (own : Own) (hs : List (Header A)) (n : ℕ) → n ≡ place_of route_name (views hs) → slice_get hs n ≡ None → Leaves own (views hs) n All
-leaves-none {A} own hs n at e = ap (stripped_at own (views hs)) (first_nowhere route_name (views hs) (ap (λ m. slice_get (views hs) m) (sym at) ∙ get-views hs n ∙ ap (λ (o : Option (Header A)). option_map view o) e))
+pub leaves-none : (own : Own) (hs : List HeaderText) (n : ℕ) → n ≡ place_of route_name (views hs) → slice_get hs n ≡ None → Leaves own (views hs) n All
+leaves-none own hs n at e = ap (stripped_at own (views hs)) (first_nowhere route_name (views hs) (ap (λ m. slice_get (views hs) m) (sym at) ∙ get-views hs n ∙ ap (λ (o : Option HeaderText). option_map view o) e))
 
-pub removed-views : {A : Type 0} (hs : List (Header A)) (n : ℕ) → views (remove hs n) ≡ remove (views hs) n
-removed-views {A} [] zero = refl
-removed-views {A} [] (suc n) = refl
-removed-views {A} (h ∷ hs) zero = refl
-removed-views {A} (h ∷ hs) (suc n) = ap (λ (xs : List HeaderText). view h ∷ xs) (removed-views hs n)
+pub removed-views : (hs : List HeaderText) (n : ℕ) → views (remove hs n) ≡ remove (views hs) n
+removed-views [] zero = refl
+removed-views [] (suc n) = refl
+removed-views (h ∷ hs) zero = refl
+removed-views (h ∷ hs) (suc n) = ap (λ (xs : List HeaderText). view h ∷ xs) (removed-views hs n)

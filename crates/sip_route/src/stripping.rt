@@ -36,15 +36,6 @@ fn part_of(line: &[u8], others: &[u8]) -> Left
     Left::Part(line.len() - rest.len(), trim_end(rest).len())
 }
 
-/// Keeps so many bytes of a value from a place on.
-fn keep_part<A: Allocator>(value: &mut Vec<u8, A>, start: usize, len: usize)
-    requires { start ≤ length value.old.items }
-    ensures { value.new.items ≡ part start len value.old.items }
-{
-    value.drain(..start);
-    value.truncate(len);
-}
-
 /// Keeps so many bytes from a place on of the value of a header line.
 fn keep_part_at<A: Allocator>(
     headers: &mut Vec<Header<A>, A>,
@@ -56,7 +47,7 @@ fn keep_part_at<A: Allocator>(
     ensures { (h : HeaderText) → slice_get (views headers.old.items) place ≡ Some h
         → views headers.new.items ≡ slice_set (views headers.old.items) place (line h.name (part start len h.value)) }
 {
-    keep_part(&mut headers[place].value, start, len);
+    headers[place].keep_value_part(start, len);
 }
 
 /// What is left of a Route line when its first value is taken away, where that names the proxy.
@@ -87,7 +78,7 @@ fn first_left<A: Allocator>(headers: &[Header<A>], place: usize, own: Own) -> Le
 {
     match line_at(headers, place) {
         None => Left::All,
-        Some(header) => left_of(&header.value, own),
+        Some(header) => left_of(header.value(), own),
     }
 }
 

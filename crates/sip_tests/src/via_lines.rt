@@ -29,7 +29,7 @@ fn copied(alloc: Global, text: &[u8]) -> Option<usize> {
 /// Whether one line stands there, of that name and value.
 fn is_one(lines: &[Header<Global>], name: &[u8], value: &[u8]) -> bool {
     match lines {
-        [line] => *line.name == *name && *line.value == *value,
+        [line] => line.name() == name && line.value() == value,
         _ => false,
     }
 }

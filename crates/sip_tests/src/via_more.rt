@@ -271,7 +271,7 @@ fn are(lines: &[Header<Global>], rows: &[(&[u8], &[u8])]) -> bool {
         match given.next() {
             None => return false,
             Some((name, value)) => {
-                if *line.name != **name || *line.value != **value {
+                if line.name() != *name || line.value() != *value {
                     return false;
                 }
             }
@@ -311,7 +311,7 @@ fn finds_lines(alloc: Global) -> Option<bool> {
     let request = request_with(alloc, TWO_SUBJECTS)?;
     let first = first_named(&request, b"subject")?;
     Some(
-        *first.value == *b"a".as_slice()
+        first.value() == b"a".as_slice()
             && first_named(&request, b"route").is_none()
             && first_value(&request, b"call-id") == b"c1".as_slice()
             && first_value(&request, b"route").is_empty(),

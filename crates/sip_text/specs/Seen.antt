@@ -1,16 +1,15 @@
 -- What lies in memory, as texts.
 use Rattle.std.specs.Prelude.{List, map}
-use Rattle.sip_text.specs.declared.parts.Header.{Header}
 use Rattle.sip_text.specs.declared.parts.Start.{Start}
 use Rattle.sip_text.specs.declared.parts.Start.TheVariants as starts
 use Rattle.sip_text.specs.declared.parts.CSeqLine.{CSeqLine}
 use Rattle.sip_text.specs.Text.{HeaderText, StartText, Request, Response}
 use Rattle.sip_text.specs.Fields.{CSeqText}
 
-abbrev pub view : {A : Type 0} → Header A → HeaderText
-view h = record { name = h.name.items; value = h.value.items }
+abbrev pub view : HeaderText → HeaderText
+view h = h
 
-abbrev pub views : {A : Type 0} → List (Header A) → List HeaderText
+abbrev pub views : List HeaderText → List HeaderText
 views hs = map view hs
 
 abbrev pub view_start : {A : Type 0} → Start A → StartText

@@ -35,9 +35,7 @@ fn copied<A: Allocator, B: Allocator + Clone>(
 ) -> Result<Header<B>, AllocError>
     ensures { IfOk result (λ h. view h ≡ view header.now) }
 {
-    let name = Vec::from_slice(alloc.clone()?, &header.name)?;
-    let value = Vec::from_slice(alloc.clone()?, &header.value)?;
-    Ok(Header { name, value })
+    Header::new(alloc.clone()?, header.name(), header.value())
 }
 
 /// A copy of header lines. The list is allocated once.

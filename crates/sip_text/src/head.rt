@@ -1,17 +1,17 @@
 //! The header lines.
 
-ghost use Rattle.std.specs.Prelude.{◌≡◌, ◌≤◌, [], length, IfOk, IfErr, OnOk, Some, false};
+ghost use Rattle.std.specs.Prelude.{◌≡◌, ◌≤◌, [], length, IfOk, IfErr, Some, false};
 ghost use Rattle.sip_lex.specs.Bytes.{trim};
 ghost use Rattle.sip_lex.specs.Pieces.{pieces};
 ghost use Rattle.sip_text.specs.Fault.{Fails, Gives};
-ghost use Rattle.sip_text.specs.inner.Heads.{continued, front_header, or_bad, put, valued, with_part};
+ghost use Rattle.sip_text.specs.inner.Heads.{continued, front_header, or_bad, put, valued};
 ghost use Rattle.sip_text.specs.Reading.{begins_with_space, headers_at, tail_at};
 ghost use Rattle.sip_text.specs.Seen.{view, views};
 
 use crate::fault::ReadFault;
 use crate::parts::Header;
 use sip_lex::{cut_at, first_line, is_space, is_token, trim, trim_end};
-use std::alloc::{AllocError, Allocator};
+use std::alloc::Allocator;
 
 fn begins_with_space(text: &[u8]) -> bool
     ensures { result ≡ begins_with_space text.now }
@@ -22,50 +22,40 @@ fn begins_with_space(text: &[u8]) -> bool
     }
 }
 
-/// Adds a line that continues a value, with one space between. The value grows once at most.
-fn append_part<A: Allocator>(value: &mut Vec<u8, A>, part: &[u8]) -> Result<(), AllocError>
-    ensures { OnOk result (value.new.items ≡ with_part value.old.items part.now) }
+/// The header without space at the end of its value, where none stands at the value's front.
+fn finish<A: Allocator>(mut header: Header<A>) -> Header<A>
+    requires { begins_with_space header.value ≡ false }
+    ensures { result ≡ record { name = header.name; value = trim header.value } }
 {
-    if value.is_empty() {
-        return value.extend_from_slice(part);
-    }
-    value.reserve(part.len().saturating_add(1))?;
-    value.push(b' ')?;
-    value.extend_from_slice(part)
+    let len = trim_end(header.value()).len();
+    header.keep_value_front(len);
+    header
 }
 
-/// The value without space at its ends, where none stands at its front.
-fn finish<A: Allocator>(mut value: Vec<u8, A>) -> Vec<u8, A>
-    requires { begins_with_space value.items ≡ false }
-    ensures { result.items ≡ trim value.items }
-{
-    let len = trim_end(&value).len();
-    value.truncate(len);
-    value
-}
-
-/// A value and the lines that continue it, and what stands behind them.
-fn value_of<'a, A: Allocator + Clone>(
+/// The header of a name, a value and the lines that continue it, and what stands behind them.
+fn with_lines<'a, A: Allocator + Clone>(
     alloc: &A,
+    name: &[u8],
     raw: &[u8],
     text: &'a [u8],
-) -> Result<(Vec<u8, A>, &'a [u8]), ReadFault<A>>
+) -> Result<(Header<A>, &'a [u8]), ReadFault<A>>
+    ensures name { IfOk result (λ x. x.0.name ≡ name.now) }
     ensures ok { IfOk result
-        (λ x. continued (trim raw.now) (tail_at text.now) ≡ valued x.0.items (headers_at x.1.now)) }
+        (λ x. continued (trim raw.now) (tail_at text.now) ≡ valued x.0.value (headers_at x.1.now)) }
     ensures err { IfErr result
         (λ e. Fails e (or_bad (continued (trim raw.now) (tail_at text.now)))) }
     ensures shorter { IfOk result (λ x. length x.1.now ≤ length text.now) }
 {
-    let mut value = Vec::from_slice(alloc.clone()?, trim(raw))?;
+    let mut header = Header::new(alloc.clone()?, name, trim(raw))?;
     let mut rest = text;
     while begins_with_space(rest) {
         let Some((line, after)) = first_line(rest) else {
             return Err(ReadFault::HeaderLine);
         };
-        append_part(&mut value, trim(line))?;
+        header.append_part(trim(line))?;
         rest = after;
     }
-    Ok((finish(value), rest))
+    Ok((finish(header), rest))
 }
 
 /// The header that begins with a line, and what stands behind the lines that continue it.
@@ -87,10 +77,11 @@ fn header_of<'a, A: Allocator + Clone>(
     if !is_token(name) {
         return Err(ReadFault::HeaderLine);
     }
-    let name = Vec::from_slice(alloc.clone()?, name)?;
-    let (value, rest) = value_of(alloc, raw, text)?;
-    Ok((Header { name, value }, rest))
+    with_lines(alloc, name, raw, text)
 }
+
+/// How many headers a list has room for before it grows.
+const HEADERS_AT_FIRST: usize = 8;
 
 /// The headers up to the empty line, and what stands behind it.
 pub fn headers_of<'a, A: Allocator + Clone>(
@@ -99,7 +90,7 @@ pub fn headers_of<'a, A: Allocator + Clone>(
 ) -> Result<(Vec<Header<A>, A>, &'a [u8]), ReadFault<A>>
     ensures { Gives (λ x. (views x.0.items, pieces 10 x.1.now)) result (or_bad (headers_at text.now)) }
 {
-    let mut headers = Vec::new(alloc.clone()?);
+    let mut headers = Vec::with_capacity(alloc.clone()?, HEADERS_AT_FIRST)?;
     let mut rest = text;
     loop {
         let Some((line, after)) = first_line(rest) else {

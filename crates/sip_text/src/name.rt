@@ -59,8 +59,8 @@ fn split_named<'a, A: Allocator>(
 {
     let mut rest = headers;
     while let Some((header, after)) = rest.split_first() {
-        if same_name(name, &header.name) {
-            return Some((&header.value, after));
+        if same_name(name, header.name()) {
+            return Some((header.value(), after));
         }
         rest = after;
     }

@@ -20,9 +20,8 @@ use std::alloc::{AllocError, Allocator};
 fn zeroed<A: Allocator>(mut header: Header<A>) -> Result<Header<A>, AllocError>
     ensures { IfOk result (λ h. view h ≡ zeroed (view header)) }
 {
-    if same_name(LENGTH_NAME, &header.name) {
-        header.value.clear();
-        header.value.push(b'0')?;
+    if same_name(LENGTH_NAME, header.name()) {
+        header.set_value(b"0")?;
     }
     Ok(header)
 }

@@ -195,7 +195,7 @@ fn append_lines<A: Allocator, B: Allocator>(
     ensures capacity { vec_capacity out.old ≤ vec_capacity out.new }
 {
     for header in headers {
-        append_header(out, &header.name, &header.value)?;
+        append_header(out, header.name(), header.value())?;
     }
     Ok(())
 }
@@ -297,7 +297,7 @@ pub fn headers_len<A: Allocator>(headers: &[Header<A>]) -> usize
 {
     let mut len = 0usize;
     for header in headers {
-        len = len.saturating_add(header_len(&header.name, &header.value));
+        len = len.saturating_add(header_len(header.name(), header.value()));
     }
     len
 }

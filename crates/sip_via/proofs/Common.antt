@@ -33,7 +33,6 @@ pub use Rattle.sip_text.specs.Name.{first_of, first_value, same_name}
 pub use Rattle.sip_text.specs.Reading.{begins_with_space}
 pub use Rattle.sip_text.specs.Seen.{view, views}
 pub use Rattle.sip_text.specs.Text.{HeaderText, MessageText}
-pub use Rattle.sip_text.specs.declared.parts.Header.{Header}
 pub use Rattle.sip_uri.proofs.laws.Hosts.{other_than}
 pub use Rattle.sip_uri.specs.Host.{IsHost, IsPort, host_len, is_address_byte, is_host_byte}
 pub use Rattle.sip_uri.specs.declared.hop.Hop.{Hop}

@@ -44,10 +44,7 @@ fn copy_start<A: Allocator + Clone>(alloc: &A, start: &Start<A>) -> Result<Start
 fn copy_header<A: Allocator + Clone>(alloc: &A, header: &Header<A>) -> Result<Header<A>, AllocError>
     ensures { IfOk result (λ copy. view copy ≡ view header.now) }
 {
-    Ok(Header {
-        name: Vec::from_slice(alloc.clone()?, &header.name)?,
-        value: Vec::from_slice(alloc.clone()?, &header.value)?,
-    })
+    Header::new(alloc.clone()?, header.name(), header.value())
 }
 
 /// Adds copies of header lines, or of some of them.
@@ -134,7 +131,7 @@ fn append_changed<A: Allocator + Clone>(
     let Some((header, after)) = headers.split_first() else {
         return Ok(());
     };
-    add_line_if_any(out, alloc, &header.name, value)?;
+    add_line_if_any(out, alloc, header.name(), value)?;
     append_copies(out, alloc, after)?;
     Ok(())
 }

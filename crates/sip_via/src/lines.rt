@@ -64,9 +64,7 @@ pub fn add_made<A: Allocator + Clone>(
     ensures err { OnErr result (headers.new.items ≡ headers.old.items) }
     ensures begins { take (vec_len headers.old) headers.new.items ≡ headers.old.items }
 {
-    let name = Vec::from_slice(alloc.clone()?, name)?;
-    headers.push(Header { name, value })?;
-    Ok(())
+    add_line(headers, alloc, name, &value)
 }
 
 /// Adds a line of that name with a copy of that value.
@@ -85,8 +83,8 @@ pub fn add_line<A: Allocator + Clone>(
     ensures err { OnErr result (headers.new.items ≡ headers.old.items) }
     ensures begins { take (vec_len headers.old) headers.new.items ≡ headers.old.items }
 {
-    let value = Vec::from_slice(alloc.clone()?, value)?;
-    add_made(headers, alloc, name, value)
+    headers.push(Header::new(alloc.clone()?, name, value)?)?;
+    Ok(())
 }
 
 /// Adds the header lines of that name as they stand, in order, or some of them.
@@ -102,7 +100,7 @@ fn append_named<A: Allocator + Clone>(
 {
     let mut rest = message.headers();
     while let Some((header, after)) = split_named(rest, name) {
-        add_line(headers, alloc, &header.name, &header.value)?;
+        add_line(headers, alloc, header.name(), header.value())?;
         rest = after;
     }
     Ok(())
@@ -145,7 +143,7 @@ pub fn add_first<A: Allocator + Clone>(
 {
     match first_named(message, name) {
         None => Ok(()),
-        Some(header) => add_line(headers, alloc, &header.name, &header.value),
+        Some(header) => add_line(headers, alloc, header.name(), header.value()),
     }
 }
 

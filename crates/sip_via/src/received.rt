@@ -1,13 +1,14 @@
 //! Marking where a request came from, and where its response goes.
 
-ghost use Rattle.std.specs.Prelude.{◌≡◌, ◌++◌, ◌<◌, IfErr, IfOk, List, Ok, OnOk, Some, length, ℕ};
+ghost use Rattle.std.specs.Prelude.{◌≡◌, ◌++◌, ◌<◌, IfErr, IfOk, List, Ok, OnErr, OnOk, Some, length, ℕ};
 ghost use Rattle.std.specs.List.{flat_map, list_any};
 ghost use Rattle.std.specs.Option.{option_copied};
 ghost use Rattle.sip_lex.specs.Cut.{behind};
-ghost use Rattle.sip_text.specs.Seen.{view, views};
+ghost use Rattle.sip_text.specs.Message.{IsMessage};
+ghost use Rattle.sip_text.specs.Seen.{views};
 ghost use Rattle.sip_via.specs.Address.{address_text};
-ghost use Rattle.sip_via.specs.Edits.{line, place_of, replaced};
-ghost use Rattle.sip_via.specs.Received.{IsSource, asks_port, filled, first_via_line, gets_received, line_marked, marked, marked_param, marked_value, received_text, reply_of};
+ghost use Rattle.sip_via.specs.Edits.{place_of, replaced};
+ghost use Rattle.sip_via.specs.Received.{IsSource, asks_port, filled, first_via_line, gets_received, line_marked, marked, marked_param, marked_value, received_text, reply_of, with_via_line};
 ghost use Rattle.sip_via.specs.inner.SeenParts.{seen_parts};
 ghost use Rattle.sip_via.specs.TopVia.{top_value};
 ghost use Rattle.sip_via.specs.ViaFaults.{Gives, refusal};
@@ -266,40 +267,61 @@ pub struct Unmarked<A: Allocator> {
     pub fault: ViaFault,
 }
 
-fn put_value<A: Allocator>(header: &mut Header<A>, value: Vec<u8, A>)
-    ensures { view header.new ≡ line (view header.old).name value.items }
-{
-    header.value = value;
-}
-
-/// The header lines with another value in the one at that place.
-fn with_value_at<A: Allocator>(
-    headers: Vec<Header<A>, A>,
+/// Puts a header line with another value in the place of the one that stands there.
+fn put_value_at<A: Allocator>(
+    headers: &mut Vec<Header<A>, A>,
+    alloc: A,
     place: usize,
-    value: Vec<u8, A>,
-) -> Vec<Header<A>, A>
-    requires { place < length headers.items }
-    ensures { (name : List ℕ) → place ≡ place_of name (views headers.items)
-        → views result.items ≡ replaced name (Some value.items) (views headers.items) }
+    value: &[u8],
+) -> Result<(), AllocError>
+    requires { place < length headers.old.items }
+    ensures ok { OnOk result ((name : List ℕ) → place ≡ place_of name (views headers.old.items)
+        → views headers.new.items ≡ replaced name (Some value.now) (views headers.old.items)) }
+    ensures err { OnErr result (headers.new.items ≡ headers.old.items) }
 {
-    let mut headers = headers;
-    put_value(&mut headers[place], value);
-    headers
+    let made = Header::new(alloc, headers[place].name(), value)?;
+    headers[place] = made;
+    Ok(())
 }
 
-/// The header lines with another value in the first line of that name.
-fn with_first_value<A: Allocator>(
-    headers: Vec<Header<A>, A>,
+/// Puts another value in the first line of that name.
+fn put_first_value<A: Allocator>(
+    headers: &mut Vec<Header<A>, A>,
+    alloc: A,
     name: &[u8],
-    value: Vec<u8, A>,
-) -> Vec<Header<A>, A>
-    ensures { views result.items ≡ replaced name.now (Some value.items) (views headers.items) }
+    value: &[u8],
+) -> Result<(), AllocError>
+    ensures ok { OnOk result
+        (views headers.new.items ≡ replaced name.now (Some value.now) (views headers.old.items)) }
+    ensures err { OnErr result (headers.new.items ≡ headers.old.items) }
 {
-    let place = place_of(&headers, name);
+    let place = place_of(headers, name);
     if place < headers.len() {
-        with_value_at(headers, place, value)
+        put_value_at(headers, alloc, place, value)
     } else {
-        headers
+        Ok(())
+    }
+}
+
+/// The message with another value in its first Via line.
+fn with_via_line<A: Allocator>(
+    alloc: A,
+    message: Message<A>,
+    line: &[u8],
+) -> Result<Message<A>, Unmarked<A>>
+    requires before { IsMessage message }
+    requires after { IsMessage (with_via_line message line.now) }
+    ensures ok { IfOk result (λ m. m ≡ with_via_line message line.now) }
+    ensures err { IfErr result (λ unmarked. unmarked.message ≡ message) }
+    ensures memory { IfErr result (λ unmarked. unmarked.fault ≡ ViaFault.NoMemory) }
+{
+    let (start, mut headers, body) = message.into_parts();
+    match put_first_value(&mut headers, alloc, VIA, line) {
+        Ok(()) => Ok(Message::from_parts(start, headers, body)),
+        Err(_) => Err(Unmarked {
+            message: Message::from_parts(start, headers, body),
+            fault: ViaFault::NoMemory,
+        }),
     }
 }
 
@@ -324,7 +346,5 @@ pub fn mark<A: Allocator + Clone>(
         Ok(line) => line,
         Err(fault) => return Err(Unmarked { message, fault }),
     };
-    let (start, headers, body) = message.into_parts();
-    let headers = with_first_value(headers, VIA, line);
-    Ok(Message::from_parts(start, headers, body))
+    with_via_line(alloc, message, &line)
 }

@@ -38,9 +38,7 @@ fn copied_start(alloc: Global, start: &Start<Global>) -> Result<Start<Global>, A
 fn copied(alloc: Global, header: &Header<Global>) -> Result<Header<Global>, AllocError>
     ensures { IfOk result (λ h. view h ≡ view header.now) }
 {
-    let name = Vec::from_slice(alloc, &header.name)?;
-    let value = Vec::from_slice(alloc, &header.value)?;
-    Ok(Header { name, value })
+    Header::new(alloc, header.name(), header.value())
 }
 
 /// A copy of header lines.
@@ -121,5 +119,18 @@ fn makes_a_message_of_parts(rt: HostRuntime) -> Result<(), Fail> {
     let message = message_with(alloc, 7, b"Content-Length: 4", b"body")?;
     let made = made_again(alloc, &message)?;
     are_the_lengths(&rt, made.headers());
+    Ok(())
+}
+
+/// Whether a header line keeps its name and the part of its value that is asked for.
+fn keeps_part(alloc: Global) -> Result<bool, AllocError> {
+    let mut header = Header::new(alloc, b"Route", b"<sip:a>, <sip:b> ")?;
+    header.keep_value_part(9, 7);
+    Ok(is(header.name(), b"Route") && is(header.value(), b"<sip:b>"))
+}
+
+#[test]
+fn keeps_a_part_of_a_value(rt: HostRuntime) -> Result<(), Fail> {
+    holds(&rt, keeps_part(rt.alloc())?, "the second value alone");
     Ok(())
 }

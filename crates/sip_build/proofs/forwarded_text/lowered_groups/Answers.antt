@@ -24,7 +24,7 @@ returns g c =
     let hops = c.requires.hops ∙ ap (λ (o : Option (List ℕ)). decimal (hops_left o)) some in
     let fewer = decimal (hops_left (Some (view header).value)) in
     let split = replaced-split hops_name (Some fewer) hs front (header ∷ after) c.args.place c.requires.place c.split_at.ensures.front back in
-    ap (λ (name : List ℕ). views front ++ (line name c.args.hops.now ∷ (views after ++ []))) c.deref.ensures.value
+    ap (λ (name : List ℕ). views front ++ (line name c.args.hops.now ∷ (views after ++ []))) c.name.ensures
     ∙ ap (λ (v : List ℕ). views front ++ (line (view header).name v ∷ (views after ++ []))) hops
     ∙ ap (λ (xs : List HeaderText). views front ++ (line (view header).name fewer ∷ xs)) (append-nil (views after))
     ∙ split

@@ -1,4 +1,4 @@
-use Rattle.sip_build.proofs.Common.{◌∙◌, ◌++◌, ◌∷◌, [], List, ℕ, ap, codes, Header, first_value, view_start, views, HeaderText, StartText, line, hops_lowered, to_target, hops_name}
+use Rattle.sip_build.proofs.Common.{◌∙◌, ◌++◌, ◌∷◌, [], List, ℕ, ap, codes, first_value, view_start, views, HeaderText, StartText, line, hops_lowered, to_target, hops_name}
 use Rattle.sip_build.proofs.Forwarded.{parts-good}
 use Rattle.sip_build.proofs.forwarding.forward.Goals as goal
 
@@ -6,7 +6,7 @@ pub from_parts-requires : goal.from_parts-requires
 from_parts-requires g c =
     let m = c.args.message.now in
     let hops = hops_lowered m.headers (first_value hops_name m.headers) in
-    let empty = ap (λ (hs : List (Header g.row.A.Denot)). views hs) c.new-headers.ensures.items in
+    let empty = ap (λ (hs : List HeaderText). views hs) c.new-headers.ensures.items in
     let first = c.in_ok-add_made.ensures.ok ∙ ap (λ (hs : List HeaderText). hs ++ line (codes "Via") c.in_ok-via.via.items ∷ []) empty in
     let all = c.in_ok-add_lowered.ensures ∙ ap (λ (hs : List HeaderText). hs ++ hops) first ∙ ap (λ (v : List ℕ). line (codes "Via") v ∷ hops) c.in_ok-via.ensures.text in
     let begins = c.in_ok-start.ensures.value ∙ ap (λ (s : StartText). to_target s c.args.target.now) c.start.ensures in

@@ -25,7 +25,7 @@ returns-in_ok-add_others g c =
     in_three (views c.args.out.now.items) (exchanged (codes "contact") lines (views front)) (line_if_any (view top).name o) (filter (is_other (codes "contact")) (views after))
     _ _ _ (exchanged (codes "contact") lines (replaced (codes "via") o (views hs)))
     c.in_ok-add_exchanged.ensures
-    (c.in_ok-add_line_if_any.ensures.ok ∙ ap (λ (name : List ℕ). views c.add_exchanged-then-place_of-front.new.out.items ++ line_if_any name o) c.deref.ensures.value)
+    (c.in_ok-add_line_if_any.ensures.ok ∙ ap (λ (name : List ℕ). views c.add_exchanged-then-place_of-front.new.out.items ++ line_if_any name o) c.name.ensures)
     c.in_ok-add_others.ensures
     (round-sooner (codes "via") (codes "contact") o lines hs front after top n via-is-no-contact parted sooner)
 
@@ -43,6 +43,6 @@ returns-in_ok-add_exchanged-2 g c =
     in_three (views c.args.out.now.items) (views front) (line_if_any (view top).name o) (exchanged (codes "contact") lines (views after))
     _ _ _ (exchanged (codes "contact") lines (replaced (codes "via") o (views hs)))
     c.in_ok-add_copies.ensures.ok
-    (c.in_ok-add_line_if_any-2.ensures.ok ∙ ap (λ (name : List ℕ). views c.add_copies.new.out.items ++ line_if_any name o) c.deref-else-place_of-front.ensures.value)
+    (c.in_ok-add_line_if_any-2.ensures.ok ∙ ap (λ (name : List ℕ). views c.add_copies.new.out.items ++ line_if_any name o) c.name-else-place_of-front.ensures)
     c.in_ok-add_exchanged-2.ensures
     (round-later (codes "via") (codes "contact") o lines hs front after top n via-is-no-contact parted later)

@@ -26,7 +26,7 @@ returns-then-place_of-front g c =
     let after = c.in-Some.after.now in
     let parted = parted_at (codes "via") hs front (top ∷ after) n c.place_of.ensures.value c.split_at.ensures.front (sym c.in-Some.ensures.cases.0 ∙ c.split_at.ensures.back) in
     let sooner : place_of (codes "contact") (views front) < length front = omega (arith, c.if-place_of-front.true, c.place_of-2.ensures.value) in
-    let first = c.group_if_any-top.ensures ∙ ap (λ (name : List ℕ). line_if_any name o) c.deref.ensures.value in
+    let first = c.group_if_any-top.ensures ∙ ap (λ (name : List ℕ). line_if_any name o) c.name.ensures in
     let rest = flat_map (λ h. under h (if same_name (codes "contact") h.name then None else Some h.name)) (views after) in
     row-sooner (lines_of c.exchanged_groups-then-place_of-front.result.0) (lines_of c.exchanged_groups-then-place_of-front.result.1) (lines_of c.exchanged_groups-then-place_of-front.result.2) (lines_of c.group_if_any-top.result) rest (map challenge_line c.args.challenges.now) (exchanged (codes "contact") lines (views front)) (exchanged (codes "contact") lines (replaced (codes "via") o (views hs)))
     c.exchanged_groups-then-place_of-front.ensures
@@ -44,7 +44,7 @@ returns-else-place_of-front g c =
     let after = c.in-Some.after.now in
     let parted = parted_at (codes "via") hs front (top ∷ after) n c.place_of.ensures.value c.split_at.ensures.front (sym c.in-Some.ensures.cases.0 ∙ c.split_at.ensures.back) in
     let later : length front ≤ place_of (codes "contact") (views front) = omega (arith, c.if-place_of-front.false, c.place_of-2.ensures.value) in
-    let first = c.group_if_any-top.ensures ∙ ap (λ (name : List ℕ). line_if_any name o) c.deref.ensures.value in
+    let first = c.group_if_any-top.ensures ∙ ap (λ (name : List ℕ). line_if_any name o) c.name.ensures in
     row-later (views front) (lines_of c.group_if_any-top.result) (lines_of c.exchanged_groups-else-place_of-front.result.0) (lines_of c.exchanged_groups-else-place_of-front.result.1) (lines_of c.exchanged_groups-else-place_of-front.result.2) (map challenge_line c.args.challenges.now) (exchanged (codes "contact") lines (views after)) (exchanged (codes "contact") lines (replaced (codes "via") o (views hs)))
     c.exchanged_groups-else-place_of-front.ensures
     (ap (λ (x : List HeaderText). views front ++ (x ++ exchanged (codes "contact") lines (views after))) first

@@ -20,4 +20,4 @@ returns g c =
     let after = c.in-Some.after.now in
     let split = replaced-split (codes "via") o hs front (top ∷ after) c.place_of.result c.place_of.ensures.value c.split_at.ensures.front (sym c.in-Some.ensures.cases.0 ∙ c.split_at.ensures.back) in
     row-three (views front) _ (views after) (map challenge_line c.args.challenges.now) (replaced (codes "via") o (views hs))
-    (ap (λ (x : List HeaderText). views front ++ (x ++ views after)) (c.group_if_any-top.ensures ∙ ap (λ name. line_if_any name o) c.deref.ensures.value) ∙ split)
+    (ap (λ (x : List HeaderText). views front ++ (x ++ views after)) (c.group_if_any-top.ensures ∙ ap (λ name. line_if_any name o) c.name.ensures) ∙ split)

@@ -8,4 +8,4 @@ returns-in-None g c = leaves-none c.args.own c.args.headers.now c.args.place c.r
 pub returns-in-Some : goal.returns-in-Some
 returns-in-Some g c =
     let left = c.left_of.result in
-    leaves-some c.args.own c.args.headers.now c.args.place c.in-Some.header.now left c.requires (sym c.in-Some.ensures) (subst (λ (v : List ℕ). LineLeaves c.args.own v (cut_outside QuotesAndAngles 44 Plain v) left) c.deref.ensures.value c.left_of.ensures)
+    leaves-some c.args.own c.args.headers.now c.args.place c.in-Some.header.now left c.requires (sym c.in-Some.ensures) (subst (λ (v : List ℕ). LineLeaves c.args.own v (cut_outside QuotesAndAngles 44 Plain v) left) c.value.ensures c.left_of.ensures)
