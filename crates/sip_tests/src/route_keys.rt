@@ -5,7 +5,7 @@ use crate::messages::{REQUEST, message_of};
 use crate::rows::holds_in_row;
 use sip_route::{append_request_key, has_key, has_same_key};
 use sip_text::Message;
-use sip_via::{Sender, sender_of};
+use sip_via::{Sender, sender_of, top_branch};
 use std::alloc::Global;
 
 /// The request with this line in place of its Via line.
@@ -46,6 +46,41 @@ fn names_the_sender(rt: HostRuntime) {
             sender_of(value) == *sender,
             "the sender of a value",
             row,
+        );
+    }
+}
+
+/// Via lines, and the branches that their first values name, those that can't be read among them.
+const BRANCHES: [(&[u8], Option<&'static [u8]>); 5] = [
+    (
+        b"Via: SIP/2.0/UDP host.example;x=y;BRANCH=z9hG4bKa, SIP/2.0/UDP other;branch=z9hG4bKb",
+        Some(b"z9hG4bKa"),
+    ),
+    (
+        b"v: sip / 2.0 / TCP HOST ; received=192.0.2.1 ; Branch = z9hG4bKa1 ; branch=z9hG4bKb",
+        Some(b"z9hG4bKa1"),
+    ),
+    (
+        b"Via: SIP/3.0/UDP 192.0.2.1:0;branch=z9hG4bKa",
+        Some(b"z9hG4bKa"),
+    ),
+    (b"Via: SIP/2.0/UDP 192.0.2.1;rport", None),
+    (b"Via: SIP/2.0/UDP 192.0.2.1;branch", None),
+];
+
+/// Whether the top value of the request with that Via line names this branch.
+fn has_branch(alloc: Global, via: &[u8], branch: Option<&[u8]>) -> Option<bool> {
+    Some(top_branch(&request_with(alloc, via)?) == branch)
+}
+
+#[test]
+fn names_the_branch(rt: HostRuntime) {
+    for (via, branch) in BRANCHES {
+        holds_of(
+            &rt,
+            has_branch(rt.alloc(), via, branch) == Some(true),
+            "the branch of a top value",
+            via,
         );
     }
 }

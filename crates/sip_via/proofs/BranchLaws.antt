@@ -1,9 +1,9 @@
 -- A branch parameter is read exactly where it is written so.
-use Rattle.sip_via.proofs.Common.{◌≡◌, ℕ, ◌<◌, ◌≤◌, ◌^◌, true, List, ◌∷◌, ◌++◌, take, drop, Option, Some, None, refl, sym, ap, ◌∙◌, arith, IfSome, decimal, bytes_eq, take-append-drop, bytes_eq-Decides, cut, is, behind, Lacks, cut_again}
+use Rattle.sip_via.proofs.Common.{◌≡◌, ℕ, ◌<◌, ◌≤◌, ◌^◌, true, List, [], ◌∷◌, ◌++◌, length, take, drop, eqb, inl, inr, cases_Bool, cond-true, cond-false, eqb-true, take_at, drop_at, Option, Some, None, refl, sym, ap, ◌∙◌, arith, IfSome, decimal, bytes_eq, take-append-drop, bytes_eq-Decides, cut, is, behind, Lacks, cut_again}
 use Rattle.sip_via.proofs.Common.{cut_joins, BranchParts, branch_parts, BranchName, IsBranch, branch_text, cookie, hex_text, number_read}
 use Rattle.sip_lex.specs.Number.{plain_number_within}
 use Rattle.sip_via.specs.inner.BranchParts.{parts_of, parts_text, with_context, with_instance, with_key}
-use Rattle.sip_via.proofs.laws.HexLaws.{hex_text_lacks}
+use Rattle.sip_via.proofs.laws.HexLaws.{hex_text_length}
 use Rattle.sip_lex.proofs.laws.Numbers.{decimal_lacks, number_spelled}
 
 abbrev Cut : Type 0
@@ -33,24 +33,34 @@ instance_found key (instance, None) p e = absurd cc
 instance_found key (instance, Some rest) p e =
     ap (λ (x : List ℕ). key ++ (46 ∷ (instance ++ (46 ∷ x)))) (cut_joins 46 rest) ∙ context_found key instance (cut (is 46) rest) p e
 
-key_found : (c : Cut) (p : BranchParts) → with_key c ≡ Some p → c.0 ++ behind 46 c.1 ≡ parts_text p
-key_found (key, None) p e = absurd cc
-key_found (key, Some rest) p e =
-    ap (λ (x : List ℕ). key ++ (46 ∷ x)) (cut_joins 46 rest) ∙ instance_found key (cut (is 46) rest) p e
+key_found : (key rest : List ℕ) (p : BranchParts) → with_key key rest ≡ Some p → key ++ rest ≡ parts_text p
+key_found key [] p e = absurd cc
+key_found key (b ∷ rest) p e =
+    elim (cases_Bool (eqb b 46)) [
+      | inl dot ↦
+          ap (λ (c : ℕ). key ++ (c ∷ rest)) (eqb-true b 46 dot)
+          ∙ ap (λ (x : List ℕ). key ++ (46 ∷ x)) (cut_joins 46 rest)
+          ∙ instance_found key (cut (is 46) rest) p (sym (cond-true _ (with_instance key (cut (is 46) rest)) None dot) ∙ e)
+      | inr other ↦ let wrong : None ≡ found p = sym (cond-false _ (with_instance key (cut (is 46) rest)) None other) ∙ e in absurd cc
+    ]
 
 pub parts_found : (text : List ℕ) (p : BranchParts) → parts_of text ≡ Some p → text ≡ parts_text p
-parts_found text p e = cut_joins 46 text ∙ key_found (cut (is 46) text) p e
+parts_found text p e = sym (take-append-drop 32 text) ∙ key_found (take 32 text) (drop 32 text) p e
 
-pub parts_again : (p : BranchParts) → Lacks 46 p.key → Lacks 46 p.instance → Lacks 46 p.context → parts_of (parts_text p) ≡ Some p
-parts_again p key instance context =
-    ap with_key (cut_again 46 p.key (Some (p.instance ++ (46 ∷ (p.context ++ (46 ∷ p.target))))) key)
+pub parts_again : (p : BranchParts) → length p.key ≡ 32 → Lacks 46 p.instance → Lacks 46 p.context → parts_of (parts_text p) ≡ Some p
+parts_again p size instance context =
+    let rest = 46 ∷ (p.instance ++ (46 ∷ (p.context ++ (46 ∷ p.target)))) in
+    ap (λ (k : List ℕ). with_key k (drop 32 (p.key ++ rest))) (take_at p.key rest 32 size)
+    ∙ ap (with_key p.key) (drop_at p.key rest 32 size)
     ∙ ap (with_instance p.key) (cut_again 46 p.instance (Some (p.context ++ (46 ∷ p.target))) instance)
     ∙ ap (with_context p.key p.instance) (cut_again 46 p.context (Some p.target) context)
 
 pub branch_again : (b : BranchName) → IsBranch b → parts_of (parts_text (branch_parts b)) ≡ Some (branch_parts b)
 branch_again b is =
     let small : b.instance < 2 ^ 64 = let h = is.instance in omega (arith, h) in
-    parts_again (branch_parts b) (hex_text_lacks b.key) (decimal_lacks 46 b.instance refl small) (decimal_lacks 46 b.context refl is.context)
+    let digits = hex_text_length b.key in
+    let sixteen = is.sixteen in
+    parts_again (branch_parts b) (omega (arith, digits, sixteen)) (decimal_lacks 46 b.instance refl small) (decimal_lacks 46 b.context refl is.context)
 
 -- ---- the cookie
 

@@ -112,9 +112,25 @@ address_is addr text =
     (λ e. (bytes_eq-Decides text (address_text addr)).1 (address_found addr text e))
     (λ e. ap (is_address addr) ((bytes_eq-Decides text (address_text addr)).0 e) ∙ address_again addr)
 
--- ---- an address, a colon and a port
+-- what stands behind an address is found there
+pub address_rest : (addr rest : List ℕ) → behind_address addr (address_text addr ++ rest) ≡ Some rest
+address_rest addr rest =
+    let a = slice_index addr 0 in
+    let b = slice_index addr 1 in
+    let c = slice_index addr 2 in
+    let d = slice_index addr 3 in
+    let joins : address_text addr ++ rest ≡ decimal a ++ (dotted b ++ (dotted c ++ (dotted d ++ rest))) =
+    append_assoc (decimal a) (dotted b ++ (dotted c ++ dotted d)) rest
+    ∙ ap (λ (x : List ℕ). decimal a ++ x) (append_assoc (dotted b) (dotted c ++ dotted d) rest ∙ ap (λ (x : List ℕ). dotted b ++ x) (append_assoc (dotted c) (dotted d) rest)) in
+    ap (behind_address addr) joins
+    ∙ ap (λ (o : Option (List ℕ)). behind_marked 46 d (behind_marked 46 c (behind_marked 46 b o))) (front_again (decimal a) (dotted b ++ (dotted c ++ (dotted d ++ rest))))
+    ∙ ap (λ (o : Option (List ℕ)). behind_marked 46 d (behind_marked 46 c o)) (dotted_again b (dotted c ++ (dotted d ++ rest)))
+    ∙ ap (λ (o : Option (List ℕ)). behind_marked 46 d o) (dotted_again c (dotted d ++ rest))
+    ∙ dotted_again d rest
 
-pub sent_by_found : (addr text : List ℕ) (port : ℕ) (rest : List ℕ) → behind_marked 58 port (behind_address addr text) ≡ Some rest → text ≡ address_text addr ++ (58 ∷ (decimal port ++ rest))
-sent_by_found addr text port rest e =
-    let last = marked_found 58 port (behind_address addr text) rest e in
-    address_front addr text last.whole last.there ∙ ap (λ (x : List ℕ). address_text addr ++ x) last.joins
+-- ---- a colon and a port
+
+pub port_found : (text : List ℕ) (port : ℕ) (rest : List ℕ) → behind_marked 58 port (Some text) ≡ Some rest → text ≡ 58 ∷ (decimal port ++ rest)
+port_found text port rest e =
+    let last = marked_found 58 port (Some text) rest e in
+    some_is text last.whole last.there ∙ last.joins

@@ -13,3 +13,6 @@ pub mod ViaFound
 pub mod ViaOnly
 pub mod ViaReads
 pub mod Walks
+pub mod SentLaws
+pub mod OwnSent
+pub mod NumberDigits

@@ -5,7 +5,8 @@ use Rattle.sip_via.proofs.Common.{cond-true, eqb-true, false_from_ne_true, false
 use Rattle.sip_via.proofs.Common.{is_token_byte, trim, trim_end, trim_start, cut, is, Lacks, cut_outside, cut_again, cut_outside_again, joined, joined-behind, token_bytes, trim_end-reverse, trim_start-none, trim_start-spaces, own}
 use Rattle.sip_via.proofs.Common.{begins_with_space, Hop, IsHost, IsPort, is_address_byte, is_host_byte, IsAddress, address_text, dotted, IsSource, asks_port, filled, gets_received, marked_param, marked_parts, marked_value, received_text}
 use Rattle.sip_via.proofs.Common.{AreParamGaps, AreViaGaps, IsSpace, IsValue, IsVia, IsViaParam, ParamGaps, ViaGaps, param_spelling, param_text, spaced, spelling, tail_spelling, ViaText, first_named, are_parts, is_named, is_value_byte}
-use Rattle.sip_via.proofs.Common.{is_via, name_of, parts_of, value_of, via_of}
+use Rattle.sip_via.proofs.Common.{is_via, name_of, parts_of, value_of, via_of, ◌+◌, behind, length-append, params_of, suc, take, zero}
+use Rattle.sip_lex.proofs.laws.OutsideSplits.{pieces_from_join}
 use Rattle.std.proofs.lemmas.Grind.{flat_map-append}
 use Rattle.sip_via.specs.ViaParts.{is_trimmed}
 use Rattle.sip_via.proofs.Marked.{sip-begins, trim_end-back}
@@ -494,6 +495,46 @@ finished g via (p ∷ ps) f good =
       trims = ap (λ (x : List ℕ). trim_end (front ++ x)) r.1.whole ∙ ap trim_end (sym (append_assoc front (spelled r.0) r.1.gap)) ∙ end-trims (front ++ spelled r.0) r.1.gap end r.1.space;
       is = made g via r.0 (front ++ spelled r.0) (append_assoc (core g via) g.before_params (spelled r.0) ∙ sym (spelling-split g via r.0)) f r.1.good end;
       same = r.1.same;
+    }
+
+-- ---- a value is cut at its parameters
+
+params_join : (text : Option (List ℕ)) → flat_map param_text (params_of text) ≡ behind 59 text
+params_join None = refl
+params_join (Some bs) = pieces_from_join Quotes 59 Plain bs
+
+front-taken : (front back : List ℕ) (n : ℕ) → n + length back ≡ length (front ++ back) → take n (front ++ back) ≡ front
+front-taken [] back zero e = refl
+front-taken [] back (suc n) e = absurd (omega (arith, e))
+front-taken (b ∷ front) back zero e = let k = length-append front back in absurd (omega (arith, e, k))
+front-taken (b ∷ front) back (suc n) e = ap (λ (x : List ℕ). b ∷ x) (front-taken front back n (omega (arith, e)))
+
+-- the first `;` outside quotes stands before the parameters
+pub record CutsAtParams (value : List ℕ) : Type 0 where
+  pub within : length (behind 59 (parts_of value).params) ≤ length value
+  pub cuts : (n : ℕ) → n + length (behind 59 (parts_of value).params) ≡ length value → cut_outside Quotes 59 Plain value ≡ (take n value, (parts_of value).params)
+
+cuts-at : (value front : List ℕ) (params : Option (List ℕ)) → value ≡ front ++ behind 59 params → cut_outside Quotes 59 Plain value ≡ (front, params) → (n : ℕ) → n + length (behind 59 params) ≡ length value → cut_outside Quotes 59 Plain value ≡ (take n value, params)
+cuts-at value front params joins cuts n e =
+    let taken : take n value ≡ front = ap (take n) joins ∙ front-taken front (behind 59 params) n (e ∙ ap (λ (x : List ℕ). length x) joins) in
+    cuts ∙ ap (λ (x : List ℕ). (x, params)) (sym taken)
+
+pub cuts-at-params : (value : List ℕ) → is_via value ≡ true → CutsAtParams value
+cuts-at-params value h =
+    let both = and_parts (is_trimmed value) (are_parts (parts_of value)) h in
+    let via = via_of value in
+    let params = (parts_of value).params in
+    let found = via_found value both.0 both.1 in
+    let g = found.gaps in
+    let f : IsFront g via = record { spaces = found.spaces; transport = found.transport; host = found.host; port = found.port } in
+    let front = core g via ++ g.before_params in
+    let joins : value ≡ front ++ behind 59 params = found.spelled ∙ spelling-split g via via.params ∙ sym (append_assoc (core g via) g.before_params (spelled via.params)) ∙ ap (λ (x : List ℕ). front ++ x) (params_join params) in
+    let unsplit = unsplit_all 59 semicolon front (all_joined neither (core g via) g.before_params (core-unsplit g via f) (space_unsplit g.before_params found.spaces.before_params)) in
+    let cuts : cut_outside Quotes 59 Plain value ≡ (front, params) = ap (cut_outside Quotes 59 Plain) joins ∙ cut_outside_again Quotes 59 Plain front params unsplit.lacks (on_some params _ unsplit.ends) in
+    let long : length value ≡ length front + length (behind 59 params) = ap (λ (x : List ℕ). length x) joins ∙ length-append front (behind 59 params) in
+    record {
+      within = omega (arith, long);
+      cuts = cuts-at value front params joins cuts;
     }
 
 -- ---- the marked value

@@ -4,7 +4,8 @@ ghost use Rattle.std.specs.Prelude.{◌≡◌, true, ◌≢◌, ◌+◌, ◌++�
 ghost use Rattle.std.specs.Fmt.{decimal};
 ghost use Rattle.std.specs.List.{AllByRecursion, list_all};
 ghost use Rattle.sip_lex.specs.Bytes.{is_token_byte};
-ghost use Rattle.sip_via.specs.inner.BranchParts.{branch_parts, parts_of, seen_parts, view_parts};
+ghost use Rattle.sip_lex.specs.Cut.{cut, is};
+ghost use Rattle.sip_via.specs.inner.BranchParts.{branch_parts, parts_of, seen_parts, view_parts, with_instance, with_key};
 ghost use Rattle.sip_via.specs.declared.branch.BranchName.{BranchName};
 ghost use Rattle.sip_via.specs.BranchText.{IsBranch, branch_text};
 ghost use Rattle.sip_via.specs.HexPair.{hex_text};
@@ -139,7 +140,7 @@ fn read_key(text: &[u8]) -> Option<[u8; 16]>
     Some(key)
 }
 
-/// A branch parameter behind its cookie, cut at its first three dots.
+/// A branch parameter behind its cookie: the digits of the key, and the numbers between the dots.
 #[derive(Drop)]
 struct Parts<'a> {
     key: &'a [u8],
@@ -148,11 +149,11 @@ struct Parts<'a> {
     target: &'a [u8],
 }
 
-fn split_parts(text: &[u8]) -> Option<Parts<'_>>
-    ensures { seen_parts result ≡ parts_of text.now }
+/// The numbers between their dots.
+fn split_numbers<'a>(key: &'a [u8], numbers: &'a [u8]) -> Option<Parts<'a>>
+    ensures { seen_parts result ≡ with_instance key.now (cut (is 46) numbers.now) }
 {
-    let (key, rest) = cut_at(text, b'.');
-    let (instance, rest) = cut_at(rest?, b'.');
+    let (instance, rest) = cut_at(numbers, b'.');
     let (context, rest) = cut_at(rest?, b'.');
     let target = rest?;
     Some(Parts {
@@ -161,6 +162,25 @@ fn split_parts(text: &[u8]) -> Option<Parts<'_>>
         context,
         target,
     })
+}
+
+/// The numbers behind the key's dot.
+fn split_behind_key<'a>(key: &'a [u8], rest: &'a [u8]) -> Option<Parts<'a>>
+    ensures { seen_parts result ≡ with_key key.now rest.now }
+{
+    match rest {
+        [b'.', numbers @ ..] => split_numbers(key, numbers),
+        _ => None,
+    }
+}
+
+fn split_parts(text: &[u8]) -> Option<Parts<'_>>
+    ensures { seen_parts result ≡ parts_of text.now }
+{
+    if text.len() < 32 {
+        return None;
+    }
+    split_behind_key(&text[..32], &text[32..])
 }
 
 fn read_parts(parts: &Parts<'_>) -> Option<BranchName>

@@ -3,6 +3,7 @@
 ghost use Rattle.std.specs.Prelude.{◌≡◌, IfSome, IfNone, false, true};
 ghost use Rattle.std.specs.Option.{option_copied};
 ghost use Rattle.sip_via.specs.inner.SeenParts.{seen_parts};
+ghost use Rattle.sip_via.specs.inner.SentParts.{sent_parts};
 ghost use Rattle.sip_via.specs.ViaParts.{are_parts, is_port_if_any, is_trimmed, is_via, or_empty, parts_of, port_and_params, port_if_any};
 
 use crate::params::are_params;
@@ -42,23 +43,45 @@ fn port_and_params(tail: &[u8]) -> (Option<&[u8]>, Option<&[u8]>)
     }
 }
 
-/// Cuts any text into the parts that a Via value would have.
+/// The parts of a value whose protocol, version and transport are known, by what stands behind these.
+fn cut_sent<'a>(
+    protocol: &'a [u8],
+    version: &'a [u8],
+    transport: &'a [u8],
+    text: &'a [u8],
+) -> Cut<'a>
+    ensures { seen_parts result ≡ sent_parts protocol.now version.now transport.now text.now }
+{
+    let (host, tail) = cut_host(trim_start(text));
+    let (port, params) = port_and_params(tail);
+    Cut {
+        protocol,
+        version,
+        transport,
+        host: trim_end(host),
+        port,
+        params,
+    }
+}
+
+/// Cuts a text of any spelling.
 #[tactic(auto, unfolding(crate::specs::ViaParts::parts_of))]
-pub(crate) fn cut_value(text: &[u8]) -> Cut<'_>
+fn cut_spelled(text: &[u8]) -> Cut<'_>
     ensures { seen_parts result ≡ parts_of text.now }
 {
     let (protocol, rest) = cut_at(text, b'/');
     let (version, rest) = cut_at(or_empty(rest), b'/');
     let (transport, rest) = cut_at_space(trim_start(or_empty(rest)));
-    let (host, tail) = cut_host(trim_start(or_empty(rest)));
-    let (port, params) = port_and_params(tail);
-    Cut {
-        protocol: trim_end(protocol),
-        version: trim(version),
-        transport,
-        host: trim_end(host),
-        port,
-        params,
+    cut_sent(trim_end(protocol), trim(version), transport, or_empty(rest))
+}
+
+/// Cuts any text into the parts that a Via value would have. Most values are spelled in one way up to the transport.
+pub(crate) fn cut_value(text: &[u8]) -> Cut<'_>
+    ensures { seen_parts result ≡ parts_of text.now }
+{
+    match text.strip_prefix(b"SIP/2.0/UDP ") {
+        Some(rest) => cut_sent(b"SIP", b"2.0", b"UDP", rest),
+        None => cut_spelled(text),
     }
 }
 

@@ -35,6 +35,6 @@ pub use own::{BuildFault, Own, ViaFault};
 pub use own_pass::{own_branch, own_branch_of};
 pub use own_value::own_via;
 pub use received::{Unmarked, mark, mark_received, reply_hop, reply_hop_of};
-pub use sender::{Sender, sender_of};
+pub use sender::{Sender, sender_of, top_branch};
 pub use values::{ViaValues, has_second_via, top_via};
 pub use via::Via;

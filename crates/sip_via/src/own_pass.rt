@@ -1,8 +1,10 @@
 //! Which Via values this proxy put, and with which branch.
 
-ghost use Rattle.std.specs.Prelude.{◌≡◌, ◌&&◌, ◌==◌, IfNone, IfSome, Some};
+ghost use Rattle.std.specs.Prelude.{◌≡◌, ◌<◌, ◌&&◌, ◌==◌, ◌++◌, ◌∷◌, IfNone, IfSome, Some, codes};
+ghost use Rattle.std.specs.Fmt.{decimal};
 ghost use Rattle.std.specs.Option.{option_copied};
 ghost use Rattle.std.specs.Str.{bytes_eq};
+ghost use Rattle.sip_text.specs.Reading.{begins_with_space};
 ghost use Rattle.sip_via.specs.Address.{address_text};
 ghost use Rattle.sip_via.specs.declared.branch.BranchName.{BranchName};
 ghost use Rattle.sip_via.specs.BranchText.{IsBranch, branch_text};
@@ -12,7 +14,7 @@ ghost use Rattle.sip_via.specs.inner.SeenParts.{seen_parts};
 ghost use Rattle.sip_via.specs.TopVia.{top_value};
 ghost use Rattle.sip_via.specs.ViaParts.{branch_of, port_if_any, via_of_parts};
 
-use crate::address::{behind_sent_by, is_address};
+use crate::address::{behind_address, behind_port, is_address};
 use crate::branch::{BranchName, read_branch};
 use crate::cut::{Cut, are_parts, cut_value, is_trimmed, port_if_any};
 use crate::own::Own;
@@ -20,6 +22,7 @@ use crate::own_value::is_own_address;
 use crate::params::first_named;
 use crate::received::DEFAULT_PORT;
 use crate::values::top_via;
+use sip_lex::is_space;
 use sip_text::Message;
 use std::alloc::Allocator;
 
@@ -57,18 +60,17 @@ fn own_branch_in(cut: &Cut<'_>, own: Own) -> Option<BranchName>
     branch_in(cut)
 }
 
-/// The branch of a Via value in the spelling that the proxy gives its own, with no parameter behind it. A proxy
-/// at port 0 has none, since no Via value names that port.
-fn plain_own_branch(value: &[u8], own: Own) -> Option<BranchName>
-    ensures found { IfSome result (λ b. IsOwnBranch own value.now b) }
+/// The branch in what stands behind the address, in the spelling that the proxy gives its own, with no parameter
+/// behind it. A proxy at port 0 has none, since no Via value names that port.
+fn plain_branch(text: &[u8], port: u16) -> Option<BranchName>
+    ensures found { IfSome result
+        (λ b. (0 < port) × (text.now ≡ 58 ∷ (decimal port ++ (codes ";branch=" ++ branch_text b)))) }
     ensures bounded { IfSome result (λ b. IsBranch b) }
 {
-    if own.port == 0 {
+    if port == 0 {
         return None;
     }
-    is_own_address(own);
-    let sent_by = value.strip_prefix(b"SIP/2.0/UDP ")?;
-    let rest = behind_sent_by(sent_by, own.addr, own.port)?;
+    let rest = behind_port(text, port)?;
     let name = read_branch(rest.strip_prefix(b";branch=")?)?;
     is_branch(name);
     Some(name)
@@ -90,6 +92,35 @@ fn spelled_own_branch(value: &[u8], own: Own) -> Option<BranchName>
     Some(name)
 }
 
+/// Whether a space stands first.
+fn begins_with_space(text: &[u8]) -> bool
+    ensures { result ≡ begins_with_space text.now }
+{
+    match text {
+        [first, ..] => is_space(*first),
+        [] => false,
+    }
+}
+
+/// The branch of a value that begins as the proxy's own, by what stands behind the transport. Most such values
+/// name another host.
+fn sent_own_branch(value: &[u8], sent: &[u8], own: Own) -> Option<BranchName>
+    requires { value.now ≡ codes "SIP/2.0/UDP " ++ sent.now }
+    ensures found { IfSome result (λ b. IsOwnBranch own value.now b) }
+    ensures bounded { IfSome result (λ b. IsBranch b) }
+    ensures only { (b : BranchName) → IsBranch b → IsOwnBranch own value.now b → result ≡ Some b }
+{
+    if begins_with_space(sent) {
+        return spelled_own_branch(value, own);
+    }
+    is_own_address(own);
+    let rest = behind_address(sent, own.addr)?;
+    match plain_branch(rest, own.port) {
+        Some(name) => Some(name),
+        None => spelled_own_branch(value, own),
+    }
+}
+
 /// The branch of a Via value that this proxy put: its host is the proxy's address, its port the proxy's
 /// (5060 where it names none), its branch one of the proxy's own (RFC 3261 sections 16.3 step 4 and 16.6
 /// step 8). `None` for any other text.
@@ -99,10 +130,10 @@ pub fn own_branch_of(value: &[u8], own: Own) -> Option<BranchName>
     ensures only { (b : BranchName) → IsBranch b → IsOwnBranch own value.now b → result ≡ Some b }
     ensures none { IfNone result ((b : BranchName) → IsBranch b → IsOwnBranch own value.now b → ⊥) }
 {
-    if let Some(name) = plain_own_branch(value, own) {
-        return Some(name);
+    match value.strip_prefix(b"SIP/2.0/UDP ") {
+        Some(sent) => sent_own_branch(value, sent, own),
+        None => spelled_own_branch(value, own),
     }
-    spelled_own_branch(value, own)
 }
 
 /// The branch of the top Via value, where this proxy put it: a response comes home by it (RFC 3261

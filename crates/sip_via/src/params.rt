@@ -1,8 +1,9 @@
 //! The parameters of a Via value.
 
-ghost use Rattle.std.specs.Prelude.{◌≡◌, ◌∷◌, Some};
+ghost use Rattle.std.specs.Prelude.{◌≡◌, ◌∷◌, Some, option_map};
 ghost use Rattle.std.specs.List.{list_all, list_any};
 ghost use Rattle.std.specs.Option.{option_copied};
+ghost use Rattle.sip_lex.specs.Bytes.{trim};
 ghost use Rattle.sip_lex.specs.Quoted.{quoted_at};
 ghost use Rattle.sip_via.specs.ViaParts.{first_named, is_named, is_number, is_param, is_plain_value, is_rport, is_value, is_value_byte, is_value_if_any, is_whole, name_of, number_if_any, params_of, value_of};
 
@@ -72,11 +73,18 @@ fn name_of(param: &[u8]) -> &[u8]
     trim(cut_at(param, b'=').0)
 }
 
+/// A text, if there is one, without the space round it.
+fn trim_if_any(text: Option<&[u8]>) -> Option<&[u8]>
+    ensures { option_copied result ≡ option_map trim (option_copied text.entry) }
+{
+    Some(trim(text?))
+}
+
 /// The value of a parameter, if it has one, without the space round it.
 pub(crate) fn value_of(param: &[u8]) -> Option<&[u8]>
     ensures { option_copied result ≡ value_of param.now }
 {
-    Some(trim(cut_at(param, b'=').1?))
+    trim_if_any(cut_at(param, b'=').1)
 }
 
 /// Whether a parameter has that name, in any case.
@@ -132,7 +140,8 @@ fn is_value_if_any(value: Option<&[u8]>) -> bool
 fn is_param(param: &[u8]) -> bool
     ensures { result ≡ is_param param.now }
 {
-    is_token(name_of(param)) && is_value_if_any(value_of(param))
+    let (name, value) = cut_at(param, b'=');
+    is_token(trim(name)) && is_value_if_any(trim_if_any(value))
 }
 
 /// Whether each of them is a parameter.

@@ -1,27 +1,30 @@
 //! Marking where a request came from, and where its response goes.
 
-ghost use Rattle.std.specs.Prelude.{◌≡◌, ◌++◌, ◌<◌, IfErr, IfOk, List, Ok, OnErr, OnOk, Some, length, ℕ};
+ghost use Rattle.std.specs.Prelude.{◌≡◌, ◌++◌, ◌<◌, IfErr, IfOk, List, Ok, OnErr, OnOk, Some, codes, length, take, true, ◌≤◌, ℕ};
 ghost use Rattle.std.specs.List.{flat_map, list_any};
 ghost use Rattle.std.specs.Option.{option_copied};
 ghost use Rattle.sip_lex.specs.Cut.{behind};
+ghost use Rattle.sip_lex.specs.Sheltered.{cut_outside};
+ghost use Rattle.sip_lex.specs.declared.sheltered.Place.TheVariants.{Plain};
+ghost use Rattle.sip_lex.specs.declared.sheltered.Shelter.TheVariants.{Quotes};
 ghost use Rattle.sip_text.specs.Message.{IsMessage};
 ghost use Rattle.sip_text.specs.Seen.{views};
 ghost use Rattle.sip_via.specs.Address.{address_text};
 ghost use Rattle.sip_via.specs.Edits.{place_of, replaced};
-ghost use Rattle.sip_via.specs.Received.{IsSource, asks_port, filled, first_via_line, gets_received, line_marked, marked, marked_param, marked_value, received_text, reply_of, with_via_line};
+ghost use Rattle.sip_via.specs.Received.{IsSource, asks_port, filled, first_via_line, line_marked, marked, marked_param, marked_value, received_text, reply_of, with_via_line};
 ghost use Rattle.sip_via.specs.inner.SeenParts.{seen_parts};
 ghost use Rattle.sip_via.specs.TopVia.{top_value};
 ghost use Rattle.sip_via.specs.ViaFaults.{Gives, refusal};
-ghost use Rattle.sip_via.specs.ViaParts.{params_of, via_of, via_of_parts};
+ghost use Rattle.sip_via.specs.ViaParts.{is_named, is_via, params_of, parts_of, via_of, via_of_parts};
 
 use crate::address::{append_address, append_number, is_address};
 use crate::cut::{Cut, cut_value, cut_via, port_if_any};
 use crate::edits::{add_replaced, place_of, with_headers};
 use crate::own::ViaFault;
-use crate::params::{Params, has_rport, is_named, value_of};
+use crate::params::{Params, has_rport};
 use crate::values::{VIA, top_via};
 use crate::via::Via;
-use sip_lex::{Shelter, cut_outside, trim, trim_end};
+use sip_lex::{Shelter, cut_at, cut_outside, trim, trim_end};
 use sip_text::{Header, Message};
 use sip_uri::Hop;
 use std::alloc::{AllocError, Allocator};
@@ -66,24 +69,16 @@ pub fn reply_hop_of<A: Allocator>(message: &Message<A>, source: Hop) -> Hop
     reply_hop_of_parts(&cut_value(top_via(message)), source)
 }
 
-/// Whether a parameter is `rport` without a value.
-fn asks_port(param: &[u8]) -> bool
-    ensures { result ≡ asks_port param.now }
+/// Whether a parameter is named `received`, and whether it is `rport` without a value.
+fn marks_of(param: &[u8]) -> (bool, bool)
+    ensures received { result.0 ≡ is_named (codes "received") param.now }
+    ensures asks { result.1 ≡ asks_port param.now }
 {
-    is_named(param, b"rport") && value_of(param).is_none()
-}
-
-/// Whether one of the parameters is.
-fn any_asks_port(text: Option<&[u8]>) -> bool
-    ensures { result ≡ list_any asks_port (params_of (option_copied text.entry)) }
-{
-    let mut params = Params::of(text);
-    while let Some(param) = params.next() {
-        if asks_port(param) {
-            return true;
-        }
-    }
-    false
+    let (name, value) = cut_at(param, b'=');
+    let name = trim(name);
+    let received = name.eq_ignore_ascii_case(b"received");
+    let asks = name.eq_ignore_ascii_case(b"rport") && value.is_none();
+    (received, asks)
 }
 
 /// Appends a parameter with the port right behind its name.
@@ -102,86 +97,103 @@ fn append_filled<A: Allocator>(
     Ok(())
 }
 
-/// Appends a parameter behind its `;`, as it is after marking.
+/// Appends a parameter behind its `;`, as it is after marking; says whether it asked for the port.
 fn append_param<A: Allocator>(
     out: &mut Vec<u8, A>,
     param: &[u8],
     port: u16,
-) -> Result<(), AllocError>
-    ensures { OnOk result (out.new.items ≡ out.old.items ++ marked_param port param.now) }
+) -> Result<bool, AllocError>
+    ensures exact { OnOk result (out.new.items ≡ out.old.items ++ marked_param port param.now) }
+    ensures asks { IfOk result (λ asks. asks ≡ asks_port param.now) }
 {
-    if is_named(param, b"received") {
-        return Ok(());
+    let (received, asks) = marks_of(param);
+    if received {
+        return Ok(asks);
     }
     out.push(b';')?;
-    if asks_port(param) {
-        append_filled(out, param, port)
+    if asks {
+        append_filled(out, param, port)?;
     } else {
-        out.extend_from_slice(param)
+        out.extend_from_slice(param)?;
     }
+    Ok(asks)
 }
 
+/// Appends the parameters, as they are after marking; says whether one asked for the port.
 fn append_params<A: Allocator>(
     out: &mut Vec<u8, A>,
     text: Option<&[u8]>,
     port: u16,
-) -> Result<(), AllocError>
-    ensures { OnOk result
+) -> Result<bool, AllocError>
+    ensures exact { OnOk result
         (out.new.items
         ≡ out.old.items ++ flat_map (marked_param port) (params_of (option_copied text.entry))) }
+    ensures asked { IfOk result
+        (λ asked. asked ≡ list_any asks_port (params_of (option_copied text.entry))) }
 {
     let mut params = Params::of(text);
+    let mut asked = false;
     while let Some(param) = params.next() {
-        append_param(out, param, port)?;
+        let asks = append_param(out, param, port)?;
+        asked = asked || asks;
     }
-    Ok(())
+    Ok(asked)
 }
 
-/// Whether the source's address is to be told.
-fn gets_received(address: [u8; 4], host: &[u8], text: Option<&[u8]>) -> bool
-    ensures { result ≡ gets_received (address_text address) host.now (params_of (option_copied text.entry)) }
-{
-    any_asks_port(text) || !is_address(host, address)
-}
-
-/// Appends the parameter that tells the source's address, where it is wanted.
-fn append_received<A: Allocator>(
+/// Appends the parameters as they are after marking, and the one that tells the source's address, where it is
+/// wanted.
+fn append_marked<A: Allocator>(
     out: &mut Vec<u8, A>,
-    address: [u8; 4],
     host: &[u8],
     text: Option<&[u8]>,
+    source: Hop,
 ) -> Result<(), AllocError>
     ensures { OnOk result
         (out.new.items
         ≡ out.old.items
-        ++ received_text (address_text address) host.now (params_of (option_copied text.entry))) }
+        ++ (flat_map (marked_param source.port) (params_of (option_copied text.entry))
+        ++ received_text (address_text source.addr) host.now (params_of (option_copied text.entry)))) }
 {
-    if !gets_received(address, host, text) {
+    let asked = append_params(out, text, source.port)?;
+    if !asked && is_address(host, source.addr) {
         return Ok(());
     }
     out.extend_from_slice(b";received=")?;
-    append_address(out, address)
+    append_address(out, source.addr)
 }
 
 /// How much longer than before a line is that gets the source's address and port, at most.
 const MARKS: usize = 32;
+
+/// How long a Via value is before its parameters.
+fn front_len(value: &[u8], params: Option<&[u8]>) -> usize
+    requires via { is_via value.now ≡ true }
+    requires params { option_copied params ≡ (parts_of value.now).params }
+    ensures cuts { cut_outside Quotes 59 Plain value.now ≡ (take result value.now, option_copied params.entry) }
+    ensures within { result ≤ length value.now }
+{
+    match params {
+        None => value.len(),
+        Some(text) => value.len() - text.len() - 1,
+    }
+}
 
 /// The top value as it is after marking, in memory that has room for so many bytes.
 fn marked_value<A: Allocator>(
     alloc: A,
     room: usize,
     value: &[u8],
-    host: &[u8],
+    cut: &Cut<'_>,
     source: Hop,
 ) -> Result<Vec<u8, A>, AllocError>
-    requires { host.now ≡ (via_of value.now).host }
+    requires via { is_via value.now ≡ true }
+    requires cut { seen_parts cut.now ≡ parts_of value.now }
     ensures { IfOk result (λ marked. marked.items ≡ marked_value source value.now) }
 {
-    let (front, params) = cut_outside(value, b';', Shelter::Quotes);
+    let front = &value[..front_len(value, cut.params)];
     let mut marked = Vec::with_capacity(alloc, room)?;
     marked.extend_from_slice(front)?;
-    append_params(&mut marked, params, source.port)?;
-    append_received(&mut marked, source.addr, host, params)?;
+    append_marked(&mut marked, cut.host, cut.params, source)?;
     let end = trim_end(&marked).len();
     marked.truncate(end);
     Ok(marked)
@@ -225,7 +237,7 @@ fn marked_line<A: Allocator + Clone>(
     let Some(cut) = cut_via(value) else {
         return Err(ViaFault::BadVia);
     };
-    let mut marked = marked_value(alloc.clone()?, line.len() + MARKS, value, cut.host, source)?;
+    let mut marked = marked_value(alloc.clone()?, line.len() + MARKS, value, &cut, source)?;
     append_others(&mut marked, &top[trim_end(top).len()..], others)?;
     Ok(marked)
 }

@@ -4,11 +4,16 @@ ghost use Rattle.std.specs.Prelude.{◌≡◌, IfNone, IfSome, option_map};
 ghost use Rattle.sip_via.specs.Sender.{seen_sender, sender, sender_if_read};
 ghost use Rattle.sip_via.specs.inner.SeenParts.{seen_parts};
 ghost use Rattle.sip_via.specs.ViaGrammar.{IsVia};
-ghost use Rattle.sip_via.specs.ViaParts.{ViaText, read_via, via_of, via_of_parts};
+ghost use Rattle.sip_via.specs.TopVia.{top_value};
+ghost use Rattle.sip_via.specs.ViaParts.{ViaText, branch_of, read_via, via_of, via_of_parts};
+ghost use Rattle.std.specs.Option.{option_copied};
 
-use crate::cut::{Cut, cut_via, port_if_any};
+use crate::cut::{Cut, cut_value, cut_via, port_if_any};
 use crate::params::first_named;
 use crate::received::DEFAULT_PORT;
+use crate::values::top_via;
+use sip_text::Message;
+use std::alloc::Allocator;
 
 /// What a Via value says of its sender, as it stands in the text.
 #[derive(Clone, Copy, Debug, PartialEq, Eq)]
@@ -41,4 +46,13 @@ pub fn sender_of(value: &[u8]) -> Option<Sender<'_>>
 {
     let cut = cut_via(value)?;
     Some(sender_in(&cut))
+}
+
+/// The branch that the top Via value of a message names: the value of its first parameter `branch` (RFC 3261 section
+/// 8.1.1.7). A top value that is none is read as far as its parts can be told apart; `mark` refuses it. It takes no
+/// memory.
+pub fn top_branch<A: Allocator>(message: &Message<A>) -> Option<&[u8]>
+    ensures { option_copied result ≡ branch_of (via_of (top_value message.now)) }
+{
+    first_named(cut_value(top_via(message)).params, b"branch")
 }

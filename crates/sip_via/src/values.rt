@@ -86,17 +86,23 @@ impl<'a, A: Allocator> ViaValues<'a, A> {
 pub fn top_via<A: Allocator>(message: &Message<A>) -> &[u8]
     ensures { result.now ≡ top_value message.now }
 {
-    match ViaValues::of(message).next() {
-        Some(value) => value,
+    match message.values(VIA).next() {
+        Some(line) => cut_value(line).0,
         None => b"",
     }
 }
 
 /// Whether a Via value stands behind the top one. A response without one was meant for the proxy itself
-/// (RFC 3261 section 16.7 step 3).
+/// (RFC 3261 section 16.7 step 3). Each line holds a value, so that a second line isn't read.
 pub fn has_second_via<A: Allocator>(message: &Message<A>) -> bool
     ensures { result ≡ has_second (via_values message.now) }
 {
-    let mut values = ViaValues::of(message);
-    values.next().is_some() && values.next().is_some()
+    let mut lines = message.values(VIA);
+    let Some(line) = lines.next() else {
+        return false;
+    };
+    if lines.next().is_some() {
+        return true;
+    }
+    cut_outside(line, b',', Shelter::Quotes).1.is_some()
 }

@@ -1,6 +1,6 @@
 -- Bytes in hexadecimal digits.
-use Rattle.sip_via.proofs.Common.{◌≡◌, ◌≢◌, ℕ, suc, zero, ◌+◌, ◌*◌, ◌<◌, ◌/◌, ◌%◌, ◌^◌, List, [], ◌∷◌, ◌++◌, length, get_or, take, Option, Some, None, refl, sym, ap, ◌∙◌, arith, append_assoc, inl, inr, slice_set, AllByRecursion, cond-true}
-use Rattle.sip_via.proofs.Common.{cond-false, lt-ltb, take_all, take_more_set, Lacks, hex_digit, hex_pair, hex_text}
+use Rattle.sip_via.proofs.Common.{◌≡◌, ℕ, suc, zero, ◌+◌, ◌*◌, ◌<◌, ◌/◌, ◌%◌, ◌^◌, List, [], ◌∷◌, ◌++◌, length, get_or, take, Option, Some, None, refl, sym, ap, ◌∙◌, arith, append_assoc, inl, inr, slice_set, AllByRecursion, cond-true}
+use Rattle.sip_via.proofs.Common.{cond-false, lt-ltb, take_all, take_more_set, hex_digit, hex_pair, hex_text}
 use Rattle.std.specs.Prelude.{IfNone}
 use Rattle.std.proofs.lemmas.Bool.{cases_lt, le-ltb}
 use Rattle.std.proofs.lemmas.List.{take_more, flat_map_more}
@@ -67,19 +67,6 @@ hex_text_one (x ∷ xs) (y ∷ ys) e =
     let lower : hex_digit (x % 16) ≡ hex_digit (y % 16) = ap (λ (t : List ℕ). head_of (tail_of t)) e in
     let rest : hex_text xs ≡ hex_text ys = ap (λ (t : List ℕ). tail_of (tail_of t)) e in
     ap (λ n. n ∷ xs) (byte_one x y upper lower) ∙ ap (λ (t : List ℕ). y ∷ t) (hex_text_one xs ys rest)
-
--- ---- no digit is a dot
-
-digit_no_dot : (n : ℕ) → hex_digit n ≢ 46
-digit_no_dot n e =
-    elim (cases_lt n 10) [
-      | inl lt ↦ let a : hex_digit n ≡ 48 + n = cond-true _ _ _ (lt-ltb n 10 lt) in let k : 48 + n ≡ 46 = sym a ∙ e in omega (arith, k)
-      | inr le ↦ let a : hex_digit n ≡ 87 + n = cond-false _ _ _ (le-ltb n 10 le) in let k : 87 + n ≡ 46 = sym a ∙ e in omega (arith, k)
-    ]
-
-pub hex_text_lacks : (key : List ℕ) → Lacks 46 (hex_text key)
-hex_text_lacks [] = tt
-hex_text_lacks (b ∷ key) = (digit_no_dot (b / 16), (digit_no_dot (b % 16), hex_text_lacks key))
 
 -- ---- a step of reading
 

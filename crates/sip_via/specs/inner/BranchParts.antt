@@ -1,5 +1,5 @@
 -- A branch parameter behind its cookie, as its parts between dots.
-use Rattle.std.specs.Prelude.{ℕ, List, ◌∷◌, ◌++◌, Option, Some, None}
+use Rattle.std.specs.Prelude.{ℕ, List, [], ◌∷◌, ◌++◌, take, drop, Option, Some, None, ◌==◌, if◌then◌else◌}
 use Rattle.std.specs.Fmt.{decimal}
 use Rattle.sip_lex.specs.Cut.{cut, is}
 use Rattle.sip_via.specs.declared.branch.Parts.{Parts}
@@ -26,13 +26,13 @@ abbrev pub with_instance : List ℕ → List ℕ × Option (List ℕ) → Option
 with_instance key (instance, None) = None
 with_instance key (instance, Some rest) = with_context key instance (cut (is 46) rest)
 
-abbrev pub with_key : List ℕ × Option (List ℕ) → Option BranchParts
-with_key (key, None) = None
-with_key (key, Some rest) = with_instance key (cut (is 46) rest)
+abbrev pub with_key : List ℕ → List ℕ → Option BranchParts
+with_key key [] = None
+with_key key (b ∷ rest) = if b == 46 then with_instance key (cut (is 46) rest) else None
 
--- what stands before the first three dots, and behind the third
+-- thirty-two digits and a dot, what stands before the next two dots, and what behind these
 abbrev pub parts_of : List ℕ → Option BranchParts
-parts_of text = with_key (cut (is 46) text)
+parts_of text = with_key (take 32 text) (drop 32 text)
 
 -- parts in memory
 abbrev pub view_parts : Parts → BranchParts
