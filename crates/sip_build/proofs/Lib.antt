@@ -19,3 +19,6 @@ pub mod ViasUpward
 pub mod ViasForwarded
 pub mod Placed
 pub mod FirstHops
+pub mod Digits
+pub mod Routes
+pub mod PlainCSeq

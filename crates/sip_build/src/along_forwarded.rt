@@ -1,6 +1,10 @@
 //! The ACK for a failure and the CANCEL of a request that was forwarded, straight as text.
 
-ghost use Rattle.std.specs.Prelude.{◌≡◌, ◌+◌, ◌++◌, ◌∷◌, ◌≤◌, codes, length, true, IsOk, OnErr, OnOk, vec_capacity, vec_len};
+ghost use Rattle.std.specs.Prelude.{◌≡◌, ◌+◌, ◌++◌, ◌∷◌, ◌≤◌, codes, length, true, IsOk, OnErr, OnOk, vec_capacity, vec_len, IfSome};
+ghost use Rattle.std.specs.Option.{option_copied};
+ghost use Rattle.sip_lex.specs.Number.{begins_with_zero};
+ghost use Rattle.sip_text.specs.Name.{first_value, values_of};
+ghost use Rattle.sip_text.specs.Seen.{views};
 ghost use Rattle.sip_text.specs.Text.{spelling};
 ghost use Rattle.sip_uri.specs.Uri.{Uri};
 ghost use Rattle.sip_via.specs.declared.branch.BranchName.{BranchName};
@@ -17,7 +21,8 @@ use crate::groups::{Group, Pick};
 use crate::laws::{ack_of_a_forwarded_request, cancel_of_a_forwarded_request};
 use crate::to_target::append_to_target;
 use itoa::Buffer;
-use sip_text::Message;
+use sip_lex::cut_at_space;
+use sip_text::{Header, Message};
 use sip_uri::SipUri;
 use sip_via::{BranchName, Own, first_value};
 use std::alloc::{AllocError, Allocator};
@@ -31,6 +36,55 @@ fn is_own(own: Own)
 fn is_branch(name: BranchName)
     ensures { IsBranch name }
 {}
+
+/// The value of the first Route line, if there is one.
+fn first_route<A: Allocator>(message: &Message<A>) -> Option<&[u8]>
+    ensures { option_copied result ≡ first_value (codes "route") message.now.headers }
+{
+    message.values(b"route").next()
+}
+
+/// The header lines, or none of them where none is a Route line.
+fn with_routes<A: Allocator>(message: &Message<A>) -> &[Header<A>]
+    ensures { values_of (codes "route") (views result.now) ≡ values_of (codes "route") message.now.headers }
+{
+    match first_route(message) {
+        None => &[],
+        Some(_) => message.headers(),
+    }
+}
+
+/// Whether digits have a zero in front.
+fn begins_with_zero(digits: &[u8]) -> bool
+    ensures { result ≡ begins_with_zero digits.now }
+{
+    match digits {
+        [b'0', ..] => true,
+        _ => false,
+    }
+}
+
+/// The number of the CSeq as it stands there, unless it has a zero in front.
+fn plain_number<A: Allocator>(message: &Message<A>) -> Option<&[u8]>
+    ensures { IfSome result (λ digits. digits.now ≡ cseq_number message.now) }
+{
+    message.is_message();
+    let (digits, _) = cut_at_space(first_value(message, b"cseq"));
+    if begins_with_zero(digits) {
+        return None;
+    }
+    Some(digits)
+}
+
+/// The number of the CSeq in decimal.
+fn number_of<'a, A: Allocator>(message: &'a Message<A>, buffer: &'a mut Buffer) -> &'a [u8]
+    ensures { result.now ≡ cseq_number message.now }
+{
+    match plain_number(message) {
+        Some(digits) => digits,
+        None => buffer.format(message.cseq().number).as_bytes(),
+    }
+}
 
 /// The header lines behind the Via line of a request of that method on the way of one that went to a
 /// target, and whose CSeq has that number.
@@ -46,13 +100,13 @@ fn groups_behind_via<'a, A: Allocator>(
         ≡ (along_to method.now message.now target own branch to.now).headers }
 {
     [
-        Group::Line(b"Max-Forwards", b"70"),
-        Group::Picked(message.headers(), Pick::Renamed(b"route", b"Route")),
-        Group::Line(b"From", first_value(message, b"from")),
-        Group::Line(b"To", to),
-        Group::Line(b"Call-ID", message.call_id()),
+        Group::Seventy,
+        Group::Picked(with_routes(message), Pick::Renamed(b"route", b"Route")),
+        Group::From(first_value(message, b"from")),
+        Group::To(to),
+        Group::CallId(message.call_id()),
         Group::Joined(b"CSeq", number, b" ", method),
-        Group::Line(b"Content-Length", b"0"),
+        Group::NoBody,
     ]
 }
 
@@ -73,7 +127,7 @@ fn append_along_to<A: Allocator + Clone, B: Allocator>(
         → IsOk result }
 {
     let mut buffer = Buffer::new();
-    let number = buffer.format(message.cseq().number).as_bytes();
+    let number = number_of(message, &mut buffer);
     let groups = groups_behind_via(method, message, to, number);
     append_to_target(out, method, target, own, branch, &groups, b"")
 }

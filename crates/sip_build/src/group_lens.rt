@@ -104,6 +104,11 @@ fn group_len<A: Allocator>(group: &Group<'_, A>) -> usize
         Group::Joined(name, a, b, c) => pieces_len(&[name, b": ", a, b, c, b"\r\n"]),
         Group::Contacts(kept) => contacts_len(kept),
         Group::Challenges(challenges) => challenges_len(challenges),
+        Group::Seventy => 18,
+        Group::NoBody => 19,
+        Group::From(value) => line_len(b"From", value),
+        Group::To(value) => line_len(b"To", value),
+        Group::CallId(value) => line_len(b"Call-ID", value),
     }
 }
 

@@ -13,7 +13,7 @@ ghost use Rattle.sip_build.specs.inner.Texts.{lines_text};
 ghost use Rattle.sip_build.specs.Upward.{challenge_line};
 
 use crate::group_lens::{groups_len, pieces_len};
-use crate::place::{place_line, place_pieces};
+use crate::place::{place, place_line, place_pieces};
 use crate::upstream::challenge_name;
 use fork_rank::Challenge;
 use sip_text::Header;
@@ -45,6 +45,16 @@ pub(crate) enum Group<'a, A: Allocator> {
     Contacts(&'a [&'a [u8]]),
     /// A line for each challenge.
     Challenges(&'a [Challenge<A>]),
+    /// A Max-Forwards line of seventy hops.
+    Seventy,
+    /// A Content-Length line of a message that has no body.
+    NoBody,
+    /// A From line of that value.
+    From(&'a [u8]),
+    /// A To line of that value.
+    To(&'a [u8]),
+    /// A Call-ID line of that value.
+    CallId(&'a [u8]),
 }
 
 /// The name that a header line is written under, if it is written.
@@ -143,6 +153,11 @@ fn place_group<A: Allocator>(out: &mut [u8], at: usize, group: &Group<'_, A>) ->
         Group::Joined(name, a, b, c) => place_pieces(out, at, &[name, b": ", a, b, c, b"\r\n"]),
         Group::Contacts(kept) => place_contacts(out, at, kept),
         Group::Challenges(challenges) => place_challenges(out, at, challenges),
+        Group::Seventy => place(out, at, b"Max-Forwards: 70\r\n"),
+        Group::NoBody => place(out, at, b"Content-Length: 0\r\n"),
+        Group::From(value) => place_line(out, at, b"From", value),
+        Group::To(value) => place_line(out, at, b"To", value),
+        Group::CallId(value) => place_line(out, at, b"Call-ID", value),
     }
 }
 

@@ -8,7 +8,7 @@ ghost use Rattle.sip_via.specs.Edits.{line};
 ghost use Rattle.sip_via.specs.OwnVia.{own_via};
 ghost use Rattle.sip_build.specs.inner.Placed.{Placed};
 
-use crate::place::place;
+use crate::place::{place, place_one, place_two};
 use itoa::Buffer;
 use sip_via::{BranchName, Own, write_branch};
 use std::alloc::{AllocError, Allocator};
@@ -22,23 +22,63 @@ fn place_number(out: &mut [u8], at: usize, n: u32) -> usize
     place(out, at, Buffer::new().format(n).as_bytes())
 }
 
-/// Writes a number behind a dot from that place on.
-fn place_dotted(out: &mut [u8], at: usize, n: u8) -> usize
-    requires { at + 11 ≤ length out.old }
-    ensures placed { Placed out.old out.new at (dotted n) result }
-    ensures short { result ≤ at + 11 }
+/// Writes a port in decimal from that place on, which is ten digits at most.
+#[inline(always)]
+fn place_port(out: &mut [u8], at: usize, n: u16) -> usize
+    requires { at + 10 ≤ length out.old }
+    ensures placed { Placed out.old out.new at (decimal n) result }
+    ensures short { result ≤ at + 10 }
 {
-    let at = place(out, at, b".");
-    place_number(out, at, u32::from(n))
+    if n < 1000 || 9999 < n {
+        return place_number(out, at, u32::from(n));
+    }
+    let tens = n / 10;
+    let hundreds = tens / 10;
+    let at = place_two(
+        out,
+        at,
+        b'0' + (hundreds / 10) as u8,
+        b'0' + (hundreds % 10) as u8,
+    );
+    place_two(out, at, b'0' + (tens % 10) as u8, b'0' + (n % 10) as u8)
+}
+
+/// Writes a number below 256 in decimal from that place on.
+#[inline(always)]
+fn place_small(out: &mut [u8], at: usize, n: u8) -> usize
+    requires { at + 3 ≤ length out.old }
+    ensures placed { Placed out.old out.new at (decimal n) result }
+    ensures short { result ≤ at + 3 }
+{
+    if n < 10 {
+        return place_one(out, at, b'0' + n);
+    }
+    if n < 100 {
+        return place_two(out, at, b'0' + n / 10, b'0' + n % 10);
+    }
+    let tens = n / 10;
+    let at = place_two(out, at, b'0' + tens / 10, b'0' + tens % 10);
+    place_one(out, at, b'0' + n % 10)
+}
+
+/// Writes a number behind a dot from that place on.
+#[inline(always)]
+fn place_dotted(out: &mut [u8], at: usize, n: u8) -> usize
+    requires { at + 4 ≤ length out.old }
+    ensures placed { Placed out.old out.new at (dotted n) result }
+    ensures short { result ≤ at + 4 }
+{
+    let at = place_one(out, at, b'.');
+    place_small(out, at, n)
 }
 
 /// Writes an address in dotted decimal from that place on.
 fn place_address(out: &mut [u8], at: usize, addr: [u8; 4]) -> usize
-    requires { at + 43 ≤ length out.old }
+    requires { at + 15 ≤ length out.old }
     ensures placed { Placed out.old out.new at (address_text addr) result }
-    ensures short { result ≤ at + 43 }
+    ensures short { result ≤ at + 15 }
 {
-    let at = place_number(out, at, u32::from(addr[0]));
+    let at = place_small(out, at, addr[0]);
     let at = place_dotted(out, at, addr[1]);
     let at = place_dotted(out, at, addr[2]);
     place_dotted(out, at, addr[3])
@@ -46,15 +86,15 @@ fn place_address(out: &mut [u8], at: usize, addr: [u8; 4]) -> usize
 
 /// Writes the line up to the branch to the front of `out`.
 fn place_front(out: &mut [u8], own: Own) -> usize
-    requires { 79 ≤ length out.old }
+    requires { 51 ≤ length out.old }
     ensures text { take result out.new
         ≡ codes "Via: SIP/2.0/UDP " ++ (address_text own.addr ++ (58 ∷ (decimal own.port ++ codes ";branch="))) }
     ensures within { result ≤ length out.new }
 {
     let at = place(out, 0, b"Via: SIP/2.0/UDP ");
     let at = place_address(out, at, own.addr);
-    let at = place(out, at, b":");
-    let at = place_number(out, at, u32::from(own.port));
+    let at = place_one(out, at, b':');
+    let at = place_port(out, at, own.port);
     place(out, at, b";branch=")
 }
 
@@ -71,7 +111,7 @@ pub(crate) fn append_own_via<B: Allocator>(
         → IsOk result }
     ensures capacity { vec_capacity out.old ≤ vec_capacity out.new }
 {
-    let mut front = [0; 79];
+    let mut front = [0; 51];
     let end = place_front(&mut front, own);
     out.extend_from_slice(&front[..end])?;
     write_branch(branch, out)?;

@@ -16,9 +16,19 @@ pub(crate) fn place(out: &mut [u8], at: usize, text: &[u8]) -> usize
     end
 }
 
+/// Writes a byte at that place.
+#[inline(always)]
+pub(crate) fn place_one(out: &mut [u8], at: usize, byte: u8) -> usize
+    requires { at + 1 ≤ length out.old }
+    ensures { Placed out.old out.new at (byte ∷ []) result }
+{
+    out[at] = byte;
+    at + 1
+}
+
 /// Writes two bytes from that place on.
 #[inline(always)]
-fn place_two(out: &mut [u8], at: usize, first: u8, second: u8) -> usize
+pub(crate) fn place_two(out: &mut [u8], at: usize, first: u8, second: u8) -> usize
     requires { at + 2 ≤ length out.old }
     ensures { Placed out.old out.new at (first ∷ second ∷ []) result }
 {
@@ -28,6 +38,7 @@ fn place_two(out: &mut [u8], at: usize, first: u8, second: u8) -> usize
 }
 
 /// Writes a header line from that place on.
+#[inline(always)]
 pub(crate) fn place_line(out: &mut [u8], at: usize, name: &[u8], value: &[u8]) -> usize
     requires { at + length (header_text (line name.now value.now)) ≤ length out.old }
     ensures { Placed out.old out.new at (header_text (line name.now value.now)) result }

@@ -1,5 +1,5 @@
 -- What the header lines of a message that is written are made of.
-use Rattle.std.specs.Prelude.{ℕ, ◌<◌, List, [], ◌∷◌, ◌++◌, map, Option, Some, None, if◌then◌else◌}
+use Rattle.std.specs.Prelude.{ℕ, ◌<◌, List, [], ◌∷◌, ◌++◌, map, codes, Option, Some, None, if◌then◌else◌}
 use Rattle.std.specs.List.{flat_map}
 use Rattle.sip_text.specs.Name.{same_name}
 use Rattle.sip_text.specs.Seen.{views}
@@ -9,7 +9,7 @@ use Rattle.sip_via.specs.Edits.{line}
 use Rattle.sip_build.specs.declared.groups.Pick.{Pick}
 use Rattle.sip_build.specs.declared.groups.Pick.TheVariants.{Named, Others, Renamed}
 use Rattle.sip_build.specs.declared.groups.Group.{Group}
-use Rattle.sip_build.specs.declared.groups.Group.TheVariants.{Kept, Picked, Line, Joined, Contacts, Challenges}
+use Rattle.sip_build.specs.declared.groups.Group.TheVariants.{Kept, Picked, Line, Joined, Contacts, Challenges, Seventy, NoBody, From, To, CallId}
 use Rattle.sip_build.specs.declared.made_text.Front.{Front}
 use Rattle.sip_build.specs.declared.made_text.Front.TheVariants.{Request, Response}
 use Rattle.sip_build.specs.SeenKept.{texts}
@@ -37,6 +37,11 @@ lines_of (Line name value) = line name.now value.now ∷ []
 lines_of (Joined name a b d) = line name.now (a.now ++ (b.now ++ d.now)) ∷ []
 lines_of (Contacts kept) = contact_lines (texts kept.now)
 lines_of (Challenges challenges) = map challenge_line challenges.now
+lines_of Seventy = line (codes "Max-Forwards") (codes "70") ∷ []
+lines_of NoBody = line (codes "Content-Length") (codes "0") ∷ []
+lines_of (From value) = line (codes "From") value.now ∷ []
+lines_of (To value) = line (codes "To") value.now ∷ []
+lines_of (CallId value) = line (codes "Call-ID") value.now ∷ []
 
 abbrev pub all_lines : {A : Type 0} → List (Group A) → List HeaderText
 all_lines groups = flat_map lines_of groups
