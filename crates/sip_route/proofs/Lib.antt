@@ -1,5 +1,6 @@
 pub mod Common
 pub mod Added
+pub mod Unrouted
 pub mod Commas
 pub mod HopsPass
 pub mod KeyLaws

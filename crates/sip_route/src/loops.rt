@@ -2,16 +2,16 @@
 
 ghost use Rattle.std.specs.Prelude.{◌≡◌, ◌++◌, List, ℕ};
 ghost use Rattle.std.specs.Fmt.{decimal};
-ghost use Rattle.std.specs.List.{join_with_byte};
+ghost use Rattle.std.specs.List.{join_with_byte, list_any};
 ghost use Rattle.std.specs.Option.{option_copied};
 ghost use Rattle.md5.specs.Md5.{Holds};
 ghost use Rattle.sip_route.specs.Loop.{all_values, dialog_fields, field_line, field_lines, loop_key, request_uri, routing_fields};
-ghost use Rattle.sip_route.specs.inner.Loop.{behind_commas};
+ghost use Rattle.sip_route.specs.inner.Loop.{behind_commas, may_route};
 ghost use Rattle.sip_via.specs.ViaParts.{or_empty};
 
 use itoa::Buffer;
 use md5::{Digest, Md5};
-use sip_text::{Message, Start, Values};
+use sip_text::{Header, Message, Start, Values};
 use std::alloc::Allocator;
 
 /// The Request-URI of a request; empty for a response.
@@ -88,14 +88,45 @@ fn add_dialog<A: Allocator>(hasher: &mut Md5, message: &Message<A>)
     add_number(hasher, message.cseq().number);
 }
 
-/// Adds the fields that say how the request is routed.
-fn add_routing<A: Allocator>(hasher: &mut Md5, message: &Message<A>)
+/// Adds the fields that say how the request is routed, each from its header lines.
+fn add_routing_lines<A: Allocator>(hasher: &mut Md5, message: &Message<A>)
     ensures { (m : List ℕ) → Holds hasher.old m
         → Holds hasher.new (m ++ field_lines (routing_fields message.now)) }
 {
     add_values(hasher, message, b"route");
     add_values(hasher, message, b"proxy-require");
     add_values(hasher, message, b"proxy-authorization");
+}
+
+/// Whether a header line may say how the request is routed, by how long its name is. A name of one letter is a compact
+/// form.
+fn may_route<A: Allocator>(header: &Header<A>) -> bool
+    ensures { result ≡ may_route header.now }
+{
+    match header.name().len() {
+        5 => header.is_named(b"route"),
+        1 | 13 | 19 => true,
+        _ => false,
+    }
+}
+
+/// Whether one of the header lines may say how the request is routed.
+fn may_be_routed<A: Allocator>(headers: &[Header<A>]) -> bool
+    ensures { result ≡ list_any may_route headers.now }
+{
+    headers.iter().any(|header| may_route(header))
+}
+
+/// Adds the fields that say how the request is routed. Most requests have none of these header lines.
+fn add_routing<A: Allocator>(hasher: &mut Md5, message: &Message<A>)
+    ensures { (m : List ℕ) → Holds hasher.old m
+        → Holds hasher.new (m ++ field_lines (routing_fields message.now)) }
+{
+    if may_be_routed(message.headers()) {
+        add_routing_lines(hasher, message);
+    } else {
+        hasher.update(b"\n\n\n");
+    }
 }
 
 /// The key that tells two passes of a request through this proxy apart, by what its routing rests on

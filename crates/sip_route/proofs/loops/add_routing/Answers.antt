@@ -1,13 +1,10 @@
-use Rattle.sip_route.proofs.Common.{◌++◌, List, ℕ, subst, Holds}
-use Rattle.std.specs.Prelude.{codes}
-use Rattle.sip_route.specs.Loop.{all_values, field_line}
-use Rattle.sip_route.proofs.Added.{three}
+use Rattle.sip_route.proofs.Common.{◌++◌, List, ℕ, subst, sym, Holds}
+use Rattle.sip_route.proofs.Unrouted.{empty_fields, none_seen}
 use Rattle.sip_route.proofs.loops.add_routing.Goals as goal
 
-pub returns : goal.returns
-returns g c = λ m held.
-    let route = field_line (all_values (codes "route") c.args.message.now) in
-    let require = field_line (all_values (codes "proxy-require") c.args.message.now) in
-    let authorization = field_line (all_values (codes "proxy-authorization") c.args.message.now) in
-    subst (λ (t : List ℕ). Holds c.add_values-3.new.hasher t) (three m route require authorization)
-    (c.add_values-3.ensures ((m ++ route) ++ require) (c.add_values-2.ensures (m ++ route) (c.add_values.ensures m held)))
+pub returns-else-may_be_routed : goal.returns-else-may_be_routed
+returns-else-may_be_routed g c = λ m held.
+    let message = c.args.message.now in
+    subst (λ (t : List ℕ). Holds c.update.new.self (m ++ t))
+    (empty_fields message (none_seen message c.headers.result.now c.headers.ensures (sym c.if-may_be_routed.ensures)))
+    (c.update.ensures m held)
