@@ -7,13 +7,14 @@ ghost use Rattle.sip_uri.specs.Fault.{fault_if_refused};
 ghost use Rattle.sip_uri.specs.Uri.{Uri};
 ghost use Rattle.sip_route.specs.Hops.{hops_of};
 ghost use Rattle.sip_via.specs.BranchText.{cookie};
-ghost use Rattle.sip_via.specs.ViaParts.{or_empty, read_via};
-ghost use Rattle.fork_routing.specs.Admission.{are_hops, asks_extension, begins_with, has_cookie, has_via, is_spent, is_uri_or_other, is_well_formed, target_uri};
+ghost use Rattle.sip_via.specs.ViaParts.{or_empty};
+ghost use Rattle.fork_routing.specs.Admission.{are_hops, asks_extension, begins_with, is_spent, is_uri_or_other, target_uri};
+ghost use Rattle.fork_routing.specs.inner.Admission.{is_formed, names_cookie};
 
 use sip_route::{Hops, routes_are_readable};
 use sip_text::Message;
 use sip_uri::UriFault;
-use sip_via::{sender_of, top_via};
+use sip_via::top_branch;
 use std::alloc::Allocator;
 
 /// Whether a branch begins with the cookie of RFC 3261 section 8.1.1.7.
@@ -26,21 +27,11 @@ fn begins_with_cookie(branch: Option<&[u8]>) -> bool
     }
 }
 
-/// Whether a Via value can be read, and its branch begins so.
-fn has_cookie(value: &[u8]) -> bool
-    ensures { result ≡ has_cookie (read_via value.now) }
+/// Whether the branch that the top Via value of a request names begins as RFC 3261 has it.
+fn has_cookie<A: Allocator>(message: &Message<A>) -> bool
+    ensures { result ≡ names_cookie message.now }
 {
-    match sender_of(value) {
-        Some(sender) => begins_with_cookie(sender.branch),
-        None => false,
-    }
-}
-
-/// Whether the top Via value of a request can be read, and its branch begins as RFC 3261 has it.
-fn has_via<A: Allocator>(message: &Message<A>) -> bool
-    ensures { result ≡ has_via message.now }
-{
-    has_cookie(top_via(message))
+    begins_with_cookie(top_branch(message))
 }
 
 /// Whether Max-Forwards, where it is said, is said well.
@@ -70,18 +61,19 @@ fn is_uri_or_other(fault: Option<UriFault>) -> bool
     }
 }
 
-/// Whether a request whose Request-URI has this fault has all that routing asks for: a top Via value with a branch, a
-/// Max-Forwards value that is a number, URIs in its Route values, and a Request-URI (RFC 3261 section 16.3 step 1).
-pub(crate) fn is_well_formed<A: Allocator>(
+/// Whether a request whose Request-URI has this fault has all that routing asks for where its top Via value can be read: a
+/// branch in that value, a Max-Forwards value that is a number, URIs in its Route values, and a Request-URI (RFC 3261
+/// section 16.3 step 1).
+pub(crate) fn is_formed<A: Allocator>(
     message: &Message<A>,
     hops: Hops,
     fault: Option<UriFault>,
 ) -> bool
     requires hops { hops ≡ hops_of message.now }
     requires fault { fault ≡ fault_if_refused (target_uri message.now) }
-    ensures { result ≡ is_well_formed message.now }
+    ensures { result ≡ is_formed message.now }
 {
-    has_via(message) && are_hops(hops) && routes_are_readable(message) && is_uri_or_other(fault)
+    has_cookie(message) && are_hops(hops) && routes_are_readable(message) && is_uri_or_other(fault)
 }
 
 /// Whether so many proxies are none.

@@ -15,7 +15,7 @@ use crate::transaction::Recipient;
 use fork_parts::Parts;
 use sip_route::has_same_key;
 use sip_text::{Message, Start};
-use sip_via::{BranchName, Own, ViaValues, own_branch_of};
+use sip_via::{BranchName, Own, has_second_via, own_branch_of, top_via};
 use std::alloc::Allocator;
 
 /// Shows that the numbers of a branch are bounded.
@@ -28,11 +28,7 @@ fn top_of<A: Allocator>(message: &Message<A>) -> (&[u8], bool)
     ensures top { result.0.now ≡ top_value message.now }
     ensures second { result.1 ≡ has_second (via_values message.now) }
 {
-    let mut values = ViaValues::of(message);
-    match values.next() {
-        Some(top) => (top, values.next().is_some()),
-        None => (b"", false),
-    }
+    (top_via(message), has_second_via(message))
 }
 
 /// The target that a Via value names, where it names a branch of the call.
