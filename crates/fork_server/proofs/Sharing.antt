@@ -7,8 +7,8 @@ use Rattle.std.specs.contracts.alloc.Global.{the_row as heap_row}
 use Rattle.std.specs.contracts.impls.GlobalAllocator.TheImpl.{ghosts}
 use Rattle.fork_call.proofs.laws.Crossing.{call_send}
 use Rattle.fork_call.specs.contracts.call.Call.{the_row as call_row}
-use Rattle.fork_shelf.proofs.shelf.Shelf.TheSendSync as shelf
-use Rattle.fork_setup.proofs.setup.Setup.TheSendSync as setup
+use Rattle.fork_shelf.proofs.laws.Crossing.{shelf_sync}
+use Rattle.fork_setup.proofs.laws.Crossing.{setup_sync}
 use Rattle.fork_server.proofs.dropped.Dropped.TheSendSync as dropped
 use Rattle.fork_server.proofs.schedule.Schedule.TheSendSync as filed
 use Rattle.fork_server.proofs.socket.Socket.TheSendSync as socket
@@ -17,7 +17,7 @@ use Rattle.fork_server.specs.contracts.serving.Server as server
 
 proxy_sync : (h : clone.Ghosts heap_row.Denot) → IsSync (proxy.the_field heap_row ghosts h).row
 proxy_sync h = struct_sync (shape (proxy.the_type heap_row ghosts h))
-    (sync, (setup.the_sync heap_row ghosts sync, (socket.the_field_sync, (shelf.the_field_sync (call_row heap_row ghosts h) heap_row ghosts (call_send h) send sync frees, (search (filed.the_field_sync, send, frees), (dropped.the_field_sync, (dropped.the_field_sync, tt)))))))
+    (sync, (setup_sync heap_row ghosts sync, (socket.the_field_sync, (shelf_sync (call_row heap_row ghosts h) heap_row ghosts (call_send h) send sync frees, (search (filed.the_field_sync, send, frees), (dropped.the_field_sync, (dropped.the_field_sync, tt)))))))
 
 pub server_sync : IsSync server.the_row
 server_sync = recorded_sync server.the_field.row _ _ (server.the_type).to_one (struct_sync (shape server.the_type) (search proxy_sync, tt))

@@ -1,4 +1,5 @@
 pub mod Common
+pub mod laws
 pub mod LineLaws
 pub mod SpelledLines
 pub mod DraftedLines

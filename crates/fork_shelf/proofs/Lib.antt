@@ -1,2 +1,3 @@
 mod InOrder
 pub mod Listing
+pub mod laws
