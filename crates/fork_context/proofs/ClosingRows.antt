@@ -1,6 +1,6 @@
 -- A table that closes, and one that is closed.
-use Rattle.fork_context.proofs.Common.{◌≡◌, ℕ, zero, suc, Bool, true, false, List, [], ◌∷◌, length, map, Option, Some, None, refl, ap, arith, ◌∙◌, sym, subst, cond, slice_get, ◌&&◌, Kind, Row, Table, State, Idle, Trying, Rung, Ended}
-use Rattle.fork_context.proofs.Common.{is_invite, Event, may_start, with_state, closed_state, settled, next, change, next_of_change, next_of_stray, closed_row, IsClosedWhole, is_ringing, never_state, never_row, cancel_row}
+use Rattle.fork_context.proofs.Common.{◌≡◌, ℕ, zero, suc, ◌<◌, Bool, true, false, List, [], ◌∷◌, length, map, Option, Some, None, refl, ap, arith, ◌∙◌, sym, subst, cond, ◌&&◌, Kind, Row, Table, State, Idle, Trying, Rung, Ended}
+use Rattle.fork_context.proofs.Common.{is_invite, Event, may_start, with_state, closed_state, settled, next, change, next_of_change, next_of_stray, closed_row, IsClosedWhole, is_ringing, gets_cancel, never_state, never_row, cancel_row}
 use Rattle.fork_model.specs.Table.{Invite, Other}
 use Rattle.fork_context.specs.Closing.{AreClosed}
 
@@ -47,17 +47,16 @@ keeps_closed t event at h = go (change t event at) refl
         subst (λ (u : Table). IsClosedWhole u) (sym (next_of_change t u event at is)) (λ done.
         subst (λ (v : Table). AreClosed u.kind v.rows) (sym (settled_closed u done)) (closed_rows_again u.kind u.rows))
 
--- closing is: no row waits, and each that rings is cancelled
-close_in_two : (kind : Kind) (state : State) → cond (is_ringing (never_state state) && is_invite kind) (Rung true) (never_state state) ≡ closed_state kind state
+-- closing is: each that rings is cancelled, and no row waits
+close_in_two : (kind : Kind) (state : State) → never_state (cond (is_ringing state && is_invite kind) (Rung true) state) ≡ closed_state kind state
 close_in_two kind Idle = refl
 close_in_two kind Trying = refl
-close_in_two Invite (Rung true) = refl
+close_in_two kind (Rung true) = refl
 close_in_two Invite (Rung false) = refl
-close_in_two Other (Rung true) = refl
 close_in_two Other (Rung false) = refl
 close_in_two kind (Ended end) = refl
 
-pub closed_in_two : (kind : Kind) (rows : List Row) → map (cancel_row kind) (map never_row rows) ≡ map (closed_row kind) rows
+pub closed_in_two : (kind : Kind) (rows : List Row) → map never_row (map (cancel_row kind) rows) ≡ map (closed_row kind) rows
 closed_in_two kind [] = refl
 closed_in_two kind (row ∷ rows) = (λ i. let r : Row = record row { state = close_in_two kind row.state i } in r ∷ closed_in_two kind rows i)
 
@@ -67,40 +66,32 @@ cancelled_to n kind [] = []
 cancelled_to zero kind (row ∷ rows) = row ∷ rows
 cancelled_to (suc n) kind (row ∷ rows) = cancel_row kind row ∷ cancelled_to n kind rows
 
+pub none_gone : (kind : Kind) (rows : List Row) → cancelled_to 0 kind rows ≡ rows
+none_gone kind [] = refl
+none_gone kind (row ∷ rows) = refl
+
 pub cancelled_all : (kind : Kind) (n : ℕ) (rows : List Row) → length rows ≡ n → cancelled_to n kind rows ≡ map (cancel_row kind) rows
 cancelled_all kind n [] e = refl
 cancelled_all kind zero (row ∷ rows) e = absurd (omega arith)
 cancelled_all kind (suc n) (row ∷ rows) e = ap (λ (rest : List Row). cancel_row kind row ∷ rest) (cancelled_all kind n rows (omega arith))
 
--- one row further
-pub cancelled_more : (kind : Kind) (n : ℕ) (rows : List Row) (row : Row) → slice_get rows n ≡ Some row
-    → (is_ringing row.state && is_invite kind) ≡ true → with_state (cancelled_to n kind rows) n (Rung true) ≡ cancelled_to (suc n) kind rows
-cancelled_more kind n [] row is e = absurd cc
-cancelled_more kind zero (x ∷ rows) row is e =
-    let same : x ≡ row = cc in
-    let here : (is_ringing x.state && is_invite kind) ≡ true = ap (λ (r : Row). is_ringing r.state && is_invite kind) same ∙ e in
-    let tail : cancelled_to zero kind rows ≡ rows = nothing rows in
-    let this : record x { state = Rung true } ≡ cancel_row kind x =
-    ap (λ (b : Bool). let r : Row = record x { state = cond b (Rung true) x.state } in r) (sym here) in
-    let rest : rows ≡ cancelled_to zero kind rows = sym tail in
-    (λ i. this i ∷ rest i)
-  where
-    nothing : (rows : List Row) → cancelled_to zero kind rows ≡ rows
-    nothing [] = refl
-    nothing (r ∷ rest) = refl
-cancelled_more kind (suc n) (x ∷ rows) row is e = ap (λ (rest : List Row). cancel_row kind x ∷ rest) (cancelled_more kind n rows row is e)
+pub cond_rows : (b : Bool) (u : Table) (rows : List Row) → cond b (record u { rows = rows }) u ≡ record u { rows = cond b rows u.rows }
+cond_rows true u rows = refl
+cond_rows false u rows = refl
 
-pub cancelled_same : (kind : Kind) (n : ℕ) (rows : List Row) (row : Row) → slice_get rows n ≡ Some row
-    → (is_ringing row.state && is_invite kind) ≡ false → cancelled_to n kind rows ≡ cancelled_to (suc n) kind rows
-cancelled_same kind n [] row is e = absurd cc
-cancelled_same kind zero (x ∷ rows) row is e =
-    let same : x ≡ row = cc in
-    let here : (is_ringing x.state && is_invite kind) ≡ false = ap (λ (r : Row). is_ringing r.state && is_invite kind) same ∙ e in
-    let this : x ≡ cancel_row kind x = ap (λ (b : Bool). let r : Row = record x { state = cond b (Rung true) x.state } in r) (sym here) in
-    let tail : rows ≡ cancelled_to zero kind rows = nothing rows in
-    (λ i. this i ∷ tail i)
+cond_cons : {X : Type 0} (b : Bool) (x : X) (xs ys : List X) → cond b (x ∷ xs) (x ∷ ys) ≡ x ∷ cond b xs ys
+cond_cons true x xs ys = refl
+cond_cons false x xs ys = refl
+
+-- one row further
+pub cancelled_next : (kind : Kind) (n : ℕ) (rows : List Row) → n < length rows
+    → cond (gets_cancel kind (cancelled_to n kind rows) n) (with_state (cancelled_to n kind rows) n (Rung true)) (cancelled_to n kind rows) ≡ cancelled_to (suc n) kind rows
+cancelled_next kind n [] lt = absurd (omega arith)
+cancelled_next kind zero (row ∷ rows) lt = go (is_ringing row.state && is_invite kind) ∙ ap (λ (rest : List Row). cancel_row kind row ∷ rest) (sym (none_gone kind rows))
   where
-    nothing : (rows : List Row) → rows ≡ cancelled_to zero kind rows
-    nothing [] = refl
-    nothing (r ∷ rest) = refl
-cancelled_same kind (suc n) (x ∷ rows) row is e = ap (λ (rest : List Row). cancel_row kind x ∷ rest) (cancelled_same kind n rows row is e)
+    go : (b : Bool) → cond b (record row { state = Rung true } ∷ rows) (row ∷ rows) ≡ record row { state = cond b (Rung true) row.state } ∷ rows
+    go true = refl
+    go false = refl
+cancelled_next kind (suc n) (row ∷ rows) lt =
+    cond_cons (gets_cancel kind (cancelled_to n kind rows) n) (cancel_row kind row) (with_state (cancelled_to n kind rows) n (Rung true)) (cancelled_to n kind rows)
+    ∙ ap (λ (rest : List Row). cancel_row kind row ∷ rest) (cancelled_next kind n rows (omega arith))

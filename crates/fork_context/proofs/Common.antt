@@ -22,7 +22,7 @@ pub use Rattle.fork_context.specs.inner.ByKey.{IsByKey, Parted, found_at, is_bef
 pub use Rattle.fork_context.specs.inner.Closing.{cancel_row, gets_cancel, is_ringing, never_row, never_state}
 pub use Rattle.fork_context.specs.inner.ForkInside.{IsFork, accepts_end}
 pub use Rattle.fork_context.specs.inner.Opening.{extras_of_target, idled, target_extras, waiting_rows, waiting_table}
-pub use Rattle.fork_context.specs.inner.Placed.{Placed, effect_at, may_go, placed}
+pub use Rattle.fork_context.specs.inner.Change.{MayChange, changed, effect_of, may_take}
 pub use Rattle.fork_context.specs.inner.Ready.{numbers_from}
 pub use Rattle.fork_context.specs.inner.RowExtras.{RowExtras, contact_qs, end_with_extras, q_at, q_of_pair, row_extras_at, row_extras_of, row_with_extras, state_with_extras, with_extras, with_row_extras}
 pub use Rattle.fork_context.specs.inner.RowShown.{ref_shown}

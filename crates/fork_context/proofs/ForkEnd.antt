@@ -11,19 +11,14 @@ use Rattle.fork_context.proofs.ForkRows.{table_of, tree_row_passes, plain_with, 
 use Rattle.fork_context.proofs.Replies.{row_of_test}
 use Rattle.fork_context.proofs.Successes.{succeeded_state, succeeded_more, not_accepted}
 
-extras_plain_end : (e : End) (c : RowExtras) → end_with_extras (end_of e [] []) c ≡ end_of e c.left c.challenges
-extras_plain_end (end.Stored status arrival received) c = refl
-extras_plain_end (end.Taken arrival) c = refl
-extras_plain_end (end.Silent arrival) c = refl
-extras_plain_end end.Never c = refl
-extras_plain_end (end.Accepted arrival) c = refl
-
-plain_plain_end : (e : End) → plain_state (shown (Ended (end_of e [] []))) ≡ Ended (end_of e [] [])
-plain_plain_end (end.Stored status arrival received) = refl
-plain_plain_end (end.Taken arrival) = refl
-plain_plain_end (end.Silent arrival) = refl
-plain_plain_end end.Never = refl
-plain_plain_end (end.Accepted arrival) = refl
+-- an end with what stands beside it, shown, and whether it is that of a 2xx
+of_end : (e : End) → ((c : RowExtras) → end_with_extras (end_of e [] []) c ≡ end_of e c.left c.challenges)
+    × (plain_state (shown (Ended (end_of e [] []))) ≡ Ended (end_of e [] [])) × (is_accepted_end (end_of e [] []) ≡ accepts_end e)
+of_end (end.Stored status arrival received) = (λ c. refl, refl, refl)
+of_end (end.Taken arrival) = (λ c. refl, refl, refl)
+of_end (end.Silent arrival) = (λ c. refl, refl, refl)
+of_end end.Never = (λ c. refl, refl, refl)
+of_end (end.Accepted arrival) = (λ c. refl, refl, refl)
 
 row_extras_before : (extras fresh : List RowExtras) (n : ℕ) (left : List Offer) (challenges : List Challenge) → n < length extras
     → with_row_extras (extras ++ fresh) n left challenges ≡ with_row_extras extras n left challenges ++ fresh
@@ -43,7 +38,7 @@ ended_rows rows more extras fresh n e left challenges same lt =
     ap (with_extras (with_state rows n (Ended (end_of e [] [])) ++ more)) (row_extras_before extras fresh n left challenges lt)
     ∙ with_extras_append (with_state rows n (Ended (end_of e [] []))) more (with_row_extras extras n left challenges) fresh (omega arith)
     ∙ ap (λ (rs : List Row). rs ++ with_extras more fresh)
-    (with_extras_end rows extras n (end_of e [] []) c same ∙ ap (λ x. with_state (with_extras rows extras) n (Ended x)) (extras_plain_end e c))
+    (with_extras_end rows extras n (end_of e [] []) c same ∙ ap (λ x. with_state (with_extras rows extras) n (Ended x)) ((of_end e).0 c))
 
 pub plain_waiting_row : (parent : Option ℕ) (new_rows : List NewRow) → map plain_row (map (waiting_row parent) new_rows) ≡ map (waiting_row parent) new_rows
 plain_waiting_row parent [] = refl
@@ -53,13 +48,6 @@ pub waiting_row_idle : (parent : Option ℕ) (new_rows : List NewRow) (k : ℕ) 
 waiting_row_idle parent [] k row is = absurd cc
 waiting_row_idle parent (new_row ∷ new_rows) zero row is = let same : waiting_row parent new_row ≡ row = cc in sym (ap (λ (r : Row). is_idle r.state) same)
 waiting_row_idle parent (new_row ∷ new_rows) (suc k) row is = waiting_row_idle parent new_rows k row is
-
-accepts_is : (e : End) (left : List Offer) (challenges : List Challenge) → is_accepted_end (end_of e left challenges) ≡ accepts_end e
-accepts_is (end.Stored status arrival received) left challenges = refl
-accepts_is (end.Taken arrival) left challenges = refl
-accepts_is (end.Silent arrival) left challenges = refl
-accepts_is end.Never left challenges = refl
-accepts_is (end.Accepted arrival) left challenges = refl
 
 pub fork_ended : (rows : List Row) (extras fresh : List RowExtras) (succeeded : Bool) (n : ℕ) (e : End) (left : List Offer) (challenges : List Challenge) (new_rows : List NewRow)
     → IsFork rows extras succeeded → is_row is_open (slice_get rows n) ≡ true → length fresh ≡ length new_rows → length rows + length new_rows ≤ most_targets
@@ -75,10 +63,10 @@ fork_ended rows extras fresh succeeded n e left challenges new_rows fork open_ye
     let f = length-append extras fresh in
     record {
       is_plain = map-append plain_row (with_state rows n ends) (map (waiting_row (Some n)) new_rows)
-          ∙ (λ i. plain_with rows n ends (plain_plain_end e) fork.is_plain i ++ plain_waiting_row (Some n) new_rows i);
+          ∙ (λ i. plain_with rows n ends (of_end e).1 fork.is_plain i ++ plain_waiting_row (Some n) new_rows i);
       each = omega (arith, a, b, c, d, f, fork.each, same);
       few = omega (arith, a, b, c, few);
-      succeeds = (λ i. fork.succeeds i || sym (accepts_is e [] []) i)
+      succeeds = (λ i. fork.succeeds i || sym (of_end e).2 i)
           ∙ sym (succeeded_more (with_state rows n ends) (map (waiting_row (Some n)) new_rows) (waiting_row_idle (Some n) new_rows)
           ∙ succeeded_state rows n row.0 ends row.1 (not_accepted is_open (λ end. refl) row.0.state row.2));
     }

@@ -26,7 +26,7 @@ pub mod FirstRows
 pub mod StepLaws
 pub mod OpeningFork
 pub mod ForkReads
-pub mod Strays
+pub mod RowChanges
 pub mod Applied
 pub mod Redirected
 pub mod ByKeySteps

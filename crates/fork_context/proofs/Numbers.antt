@@ -1,8 +1,9 @@
 -- The numbers that pass a test, where they follow each other.
 use Rattle.fork_context.proofs.Common.{◌≡◌, ℕ, zero, suc, ◌+◌, ◌<◌, ◌≤◌, Bool, true, false, List, [], ◌∷◌, ◌++◌, length, refl, ap, arith, ◌∙◌, sym, cond, length-append, add-one, filter, append-nil, filter-append, numbers_below}
 use Rattle.fork_context.proofs.Common.{numbers_from}
+use Rattle.std.proofs.lemmas.Bool.{true≢false, false_from_ne_true}
 
-one_more : (p : ℕ → Bool) (n : ℕ) (b : Bool) → p n ≡ b → filter p (numbers_below (suc n)) ≡ filter p (numbers_below n) ++ cond b (n ∷ []) []
+pub one_more : (p : ℕ → Bool) (n : ℕ) (b : Bool) → p n ≡ b → filter p (numbers_below (suc n)) ≡ filter p (numbers_below n) ++ cond b (n ∷ []) []
 one_more p n b e = filter-append p (numbers_below n) (n ∷ []) ∙ ap (λ b. filter p (numbers_below n) ++ cond b (n ∷ []) []) e
 
 pub filter_none : (p : ℕ → Bool) (len : ℕ) → ((k : ℕ) → k < len → p k ≡ false) → filter p (numbers_below len) ≡ []
@@ -56,6 +57,16 @@ filter_range p first (suc count) (suc len) fits all only =
         before : (b : Bool) → b ≡ false → (first ≤ len → len < first + suc count → b ≡ true) → first + suc count ≤ len
         before b e h = grind arith
 
+-- one number at most
+pub filter_one : (p : ℕ → Bool) (n len : ℕ) → n < len → ((k : ℕ) → k < len → p k ≡ true → k ≡ n) → filter p (numbers_below len) ≡ cond (p n) (n ∷ []) []
+filter_one p n len lt only = go (p n) refl
+  where
+    go : (b : Bool) → p n ≡ b → filter p (numbers_below len) ≡ cond b (n ∷ []) []
+    go true e =
+        filter_range p n 1 len (omega arith) (λ k lo hi. let same : k ≡ n = omega arith in ap p same ∙ e)
+        (λ k lt is. let same : k ≡ n = only k lt is in (omega arith, omega arith)) ∙ ap (λ (k : ℕ). k ∷ []) (omega arith)
+    go false e = filter_none p len (λ k lt. false_from_ne_true (p k) (λ is. true≢false (sym is ∙ ap p (only k lt is) ∙ e)))
+
 pub length_numbers_from : (first count : ℕ) → length (numbers_from first count) ≡ count
 length_numbers_from first zero = refl
 length_numbers_from first (suc count) = omega (arith, length_numbers_from first count, length-append (numbers_from first count) ((first + count) ∷ []))
@@ -72,10 +83,3 @@ length_passing p (suc n) =
     small : (b : Bool) → length {A = ℕ} (cond b (n ∷ []) []) ≤ 1
     small true = omega arith
     small false = omega arith
-
--- steps of a loop that collects the numbers that pass a test
-pub numbers_more : (p : ℕ → Bool) (i : ℕ) → p i ≡ true → filter p (numbers_below (i + 1)) ≡ filter p (numbers_below i) ++ i ∷ []
-numbers_more p i e = ap (λ n. filter p (numbers_below n)) (add-one i) ∙ one_more p i true e
-
-pub numbers_same : (p : ℕ → Bool) (i : ℕ) → p i ≡ false → filter p (numbers_below (i + 1)) ≡ filter p (numbers_below i)
-numbers_same p i e = ap (λ n. filter p (numbers_below n)) (add-one i) ∙ one_more p i false e ∙ append-nil _

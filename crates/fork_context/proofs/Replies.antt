@@ -1,6 +1,6 @@
 -- Which rows a reply names, by what the event changed.
-use Rattle.fork_context.proofs.Common.{◌≡◌, ℕ, zero, suc, ◌+◌, ◌<◌, ◌≤◌, Bool, true, false, List, [], ◌∷◌, ◌++◌, length, Option, Some, None, refl, ap, arith, ◌∙◌, sym, inl, inr, ◌⊎◌, slice_get, not, ◌&&◌, slice_get_within, Row, State}
-use Rattle.fork_context.proofs.Common.{Trying, is_row, with_state, has_become, became, Found, found, changed_row, tried, numbers_from, length-append, length-state}
+use Rattle.fork_context.proofs.Common.{◌≡◌, ℕ, zero, suc, ◌+◌, ◌<◌, ◌≤◌, Bool, true, false, List, [], ◌∷◌, length, Option, Some, None, refl, ap, arith, ◌∙◌, sym, inl, inr, ◌⊎◌, slice_get, not, ◌&&◌, Row, State}
+use Rattle.fork_context.proofs.Common.{Trying, is_row, has_become, became, tried, numbers_from}
 use Rattle.std.proofs.lemmas.Bool.{true≢false, false_from_ne_true, not-true}
 use Rattle.fork_model.proofs.laws.StepLemmas.{and_left, and_right}
 use Rattle.fork_context.proofs.Numbers.{filter_none, filter_range}
@@ -35,44 +35,6 @@ became_range test old new first count fits all only =
     (λ k lt e.
     let row = row_of_test test (slice_get new k) (and_left _ _ e) in
     only k row.0 row.1 row.2 (not-true _ (and_right _ _ e)))
-
--- one row changed, and more came behind it
-pub moved_none : (test : State → Bool) (rows fresh : List Row) (n : ℕ) (state : State)
-    → ((k : ℕ) (row : Row) → slice_get fresh k ≡ Some row → test row.state ≡ false) → test state ≡ false
-    → became test rows (with_state rows n state ++ fresh) ≡ []
-moved_none test rows fresh n state none is =
-    became_none test rows (with_state rows n state ++ fresh) (λ k row there e. go k row (found rows fresh n state k row there) e)
-  where
-    go : (k : ℕ) (row : Row) → Found rows fresh n state k row → test row.state ≡ true → is_row test (slice_get rows k) ≡ true
-    go k row (inl h) e = ap (is_row test) h ∙ e
-    go k row (inr (inl h)) e = absurd (differ e (ap test h.1 ∙ is))
-    go k row (inr (inr h)) e = absurd (differ e (none h.0 row h.1))
-
-pub moved_one : (test : State → Bool) (rows fresh : List Row) (n : ℕ) (state : State) (row : Row) → slice_get rows n ≡ Some row
-    → ((k : ℕ) (row : Row) → slice_get fresh k ≡ Some row → test row.state ≡ false) → test state ≡ true → test row.state ≡ false
-    → became test rows (with_state rows n state ++ fresh) ≡ n ∷ []
-moved_one test rows fresh n state row is none now before =
-    let lt : n < length rows = slice_get_within rows n row is in
-    let long = length-append (with_state rows n state) fresh in
-    let range : became test rows (with_state rows n state ++ fresh) ≡ numbers_from n 1 =
-    became_range test rows (with_state rows n state ++ fresh) n 1 (omega (arith, lt, long, length-state rows n state)) all only in
-    range ∙ ap (λ (k : ℕ). k ∷ []) (omega arith)
-  where
-    all : (k : ℕ) → n ≤ k → k < n + 1 → (is_row test (slice_get (with_state rows n state ++ fresh) k) ≡ true) × (is_row test (slice_get rows k) ≡ false)
-    all k lo hi =
-        let same : k ≡ n = omega arith in (
-          ap (λ (j : ℕ). is_row test (slice_get (with_state rows n state ++ fresh) j)) same ∙ ap (is_row test) (changed_row rows fresh n state row is) ∙ now,
-          ap (λ (j : ℕ). is_row test (slice_get rows j)) same ∙ ap (is_row test) is ∙ before,
-        )
-
-    only : (k : ℕ) (r : Row) → slice_get (with_state rows n state ++ fresh) k ≡ Some r → test r.state ≡ true → is_row test (slice_get rows k) ≡ false
-        → (n ≤ k) × (k < n + 1)
-    only k r there e was = go (found rows fresh n state k r there)
-      where
-        go : Found rows fresh n state k r → (n ≤ k) × (k < n + 1)
-        go (inl h) = absurd (differ (ap (is_row test) h ∙ e) was)
-        go (inr (inl h)) = let same : k ≡ n = h.0 in (omega arith, omega arith)
-        go (inr (inr h)) = absurd (differ e (none h.0 r h.1))
 
 -- ---- a group that starts
 

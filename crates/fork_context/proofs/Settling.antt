@@ -2,7 +2,6 @@
 use Rattle.fork_context.proofs.Common.{◌≡◌, ℕ, zero, suc, ◌+◌, ◌<◌, ◌≤◌, Bool, true, false, List, [], ◌∷◌, length, map, Some, refl, ap, arith, ◌∙◌, cond, slice_get, get_or, Row, Table, State, Trying, may_start, settled_row, settled}
 use Rattle.fork_context.proofs.Common.{may_start_facts, OneGroup, IsReady, tried}
 use Rattle.std.proofs.lemmas.Option.{slice_get-get_or}
-use Rattle.fork_model.specs.Step.{settled_state}
 use Rattle.fork_model.proofs.laws.SeriesLemmas.{settled_open}
 
 map_same : (f : Row → Row) (rows : List Row) → ((k : ℕ) (row : Row) → slice_get rows k ≡ Some row → f row ≡ row) → map f rows ≡ rows
@@ -31,18 +30,17 @@ map_tried f (row ∷ rows) (suc first) count starts stays =
     (λ k r is out. stays (suc k) r is (λ lo hi. out (let le : suc first ≤ suc k = lo in omega arith) (let less : suc k < suc first + count = hi in omega arith))) in
     (λ i. here i ∷ rest i)
 
+-- a row of an open table once it is settled
+settled_to : (u : Table) (row : Row) (b : Bool) → u.closed ≡ false → may_start u.rows row ≡ b → settled_row u row ≡ record row { state = cond b Trying row.state }
+settled_to u row b open_yet e =
+    ap (λ (state : State). let r : Row = record row { state = state } in r) (settled_open u row open_yet ∙ ap (λ (b : Bool). cond b Trying row.state) e)
+
 -- where none may start, settling leaves all as it is
 pub settled_none : (u : Table) → u.closed ≡ false → ((k : ℕ) (row : Row) → slice_get u.rows k ≡ Some row → may_start u.rows row ≡ false)
     → settled u ≡ u
 settled_none u open_yet none =
-    let rows : map (settled_row u) u.rows ≡ u.rows =
-    map_same (settled_row u) u.rows (λ k row is. same row (none k row is)) in
-    ap (λ (rows : List Row). let t : Table = record u { rows = rows } in t) rows
-  where
-    same : (row : Row) → may_start u.rows row ≡ false → settled_row u row ≡ row
-    same row e =
-        let s : settled_state u row ≡ row.state = settled_open u row open_yet ∙ ap (λ (b : Bool). cond b Trying row.state) e in
-        ap (λ (state : State). let r : Row = record row { state = state } in r) s
+    ap (λ (rows : List Row). let t : Table = record u { rows = rows } in t)
+    (map_same (settled_row u) u.rows (λ k row is. settled_to u row false open_yet (none k row is)))
 
 -- where a group may start, its rows are tried and all others stay
 pub settled_group : (u : Table) (first count : ℕ) → u.closed ≡ false → OneGroup u.rows → IsReady u.rows first count
@@ -53,10 +51,7 @@ settled_group u first count open_yet one ready =
     ap (λ (rows : List Row). let t : Table = record u { rows = rows } in t) rows
   where
     starts : (k : ℕ) (row : Row) → slice_get u.rows k ≡ Some row → first ≤ k → k < first + count → settled_row u row ≡ record row { state = Trying }
-    starts k row is lo hi =
-        let s : settled_state u row ≡ Trying =
-        settled_open u row open_yet ∙ ap (λ (b : Bool). cond b Trying row.state) (ready.ready k row lo hi is) in
-        ap (λ (state : State). let r : Row = record row { state = state } in r) s
+    starts k row is lo hi = settled_to u row true open_yet (ready.ready k row lo hi is)
 
     of : (k : ℕ) (row : Row) → slice_get u.rows k ≡ Some row → may_start u.rows row ≡ true → (first ≤ k) × (k < first + count)
     of k row is e =
@@ -74,6 +69,4 @@ settled_group u first count open_yet one ready =
       where
         go : (b : Bool) → may_start u.rows row ≡ b → settled_row u row ≡ row
         go true e = let at = of k row is e in absurd (out at.0 at.1)
-        go false e =
-            let s : settled_state u row ≡ row.state = settled_open u row open_yet ∙ ap (λ (b : Bool). cond b Trying row.state) e in
-            ap (λ (state : State). let r : Row = record row { state = state } in r) s
+        go false e = settled_to u row false open_yet e

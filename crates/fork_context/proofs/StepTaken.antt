@@ -1,8 +1,7 @@
 -- One event at a table: what it changes, what settling then changes, and what the reply names.
-use Rattle.fork_context.proofs.Common.{◌≡◌, ℕ, zero, suc, ◌+◌, ◌<◌, ◌≤◌, Bool, true, false, List, [], ◌∷◌, ◌++◌, length, map, Option, Some, None, refl, ap, arith, ◌∙◌, sym, inl, inr, ◌⊎◌, slice_get, not, ◌&&◌, ◌||◌, filter}
-use Rattle.fork_context.proofs.Common.{option_map, slice_get-map, append-nil, length-map, Kind, Row, Table, State, Idle, Trying, Rung, Ended, is_idle, is_trying, is_cancelled, is_ended, is_row, is_invite, Event, Ring, Answer}
-use Rattle.fork_context.proofs.Common.{Timeout, Fault, TimerC, GiveUp, Cancel, row_named, numbers_below, may_start, Effect, effect, with_state, with_effect, change_at, change, closed_state, next, has_become, became, IsInSeries}
-use Rattle.fork_context.proofs.Common.{next_of_change, may_start_facts, Found, found, OneGroup, IsReady, tried, numbers_from, closed_row, IsClosedWhole, is_ringing}
+use Rattle.fork_context.proofs.Common.{◌≡◌, ℕ, zero, suc, ◌+◌, ◌<◌, ◌≤◌, Bool, true, false, List, [], ◌∷◌, ◌++◌, length, map, Option, Some, None, refl, ap, arith, ◌∙◌, sym, inl, inr, ◌⊎◌, slice_get, not, ◌&&◌, filter, option_map, slice_get-map}
+use Rattle.fork_context.proofs.Common.{length-map, Kind, Row, Table, State, Idle, Trying, Rung, Ended, is_idle, is_trying, is_cancelled, is_ended, is_row, is_invite, Event, numbers_below, may_start, with_state, change, closed_state, next, has_become, became, IsInSeries}
+use Rattle.fork_context.proofs.Common.{next_of_change, may_start_facts, Found, found, OneGroup, IsReady, tried, numbers_from, closed_row, is_ringing}
 use Rattle.std.proofs.Math.Bool.{and-true}
 use Rattle.fork_model.proofs.laws.StepLemmas.{Onward, change_advances}
 use Rattle.fork_model.proofs.laws.ChangeLemmas.{IsMove, IsClosing, change_is}
@@ -10,8 +9,7 @@ use Rattle.fork_model.proofs.laws.SeriesLemmas.{one_group_changed, tried_before,
 use Rattle.fork_context.proofs.Settling.{settled_none, settled_group}
 use Rattle.fork_context.proofs.Numbers.{filter_same}
 use Rattle.fork_context.proofs.Replies.{differ, became_none, became_range, tried_in, tried_found, length-tried}
-use Rattle.fork_context.proofs.ClosingRows.{settled_closed, still_closed}
-use Rattle.fork_context.proofs.Effects.{effect_facts}
+use Rattle.fork_context.proofs.ClosingRows.{settled_closed}
 
 -- ---- an event that changes a table by settling alone after its own change
 
@@ -174,34 +172,3 @@ rang_moved rows fresh n state ends waits k row b is rung = go (found rows fresh 
 
 pub rang_same : (rows : List Row) → RangBefore rows rows
 rang_same rows k row b is rung = ap (is_row is_cancelled) is ∙ ap is_cancelled rung
-
--- ---- the event's own change, by the row that it names
-
--- the change is that of the row that the event names
-pub change_named : (t : Table) (event : Event) (at n : ℕ) → row_named event ≡ Some n → change t event at ≡ change_at t at event n (slice_get t.rows n)
-change_named t (Ring m status) at n e = let same : m ≡ n = cc in ap (λ k. change_at t at (Ring m status) k (slice_get t.rows k)) same
-change_named t (Answer m answer) at n e = let same : m ≡ n = cc in ap (λ k. change_at t at (Answer m answer) k (slice_get t.rows k)) same
-change_named t (Timeout m) at n e = let same : m ≡ n = cc in ap (λ k. change_at t at (Timeout m) k (slice_get t.rows k)) same
-change_named t (Fault m) at n e = let same : m ≡ n = cc in ap (λ k. change_at t at (Fault m) k (slice_get t.rows k)) same
-change_named t (TimerC m) at n e = let same : m ≡ n = cc in ap (λ k. change_at t at (TimerC m) k (slice_get t.rows k)) same
-change_named t (GiveUp m) at n e = let same : m ≡ n = cc in ap (λ k. change_at t at (GiveUp m) k (slice_get t.rows k)) same
-change_named t Cancel at n e = absurd cc
-
-pub change_by_effect : (t : Table) (event : Event) (at n : ℕ) (row : Row) (e : Effect) → row_named event ≡ Some n → slice_get t.rows n ≡ Some row
-    → effect t row at event row.state ≡ Some e → change t event at ≡ Some (with_effect t n e)
-change_by_effect t event at n row e named there is =
-    change_named t event at n named ∙ ap (change_at t at event n) there ∙ ap (option_map (with_effect t n)) is
-
--- in a closed table the named row alone changes, and where it rings it is cancelled
-pub closed_step : (t : Table) (event : Event) (at n : ℕ) (row : Row) (e : Effect) → IsClosedWhole t → t.closed ≡ true
-    → row_named event ≡ Some n → slice_get t.rows n ≡ Some row → effect t row at event row.state ≡ Some e
-    → next t event at ≡ record (with_effect t n e) { rows = with_state t.rows n (closed_state t.kind e.state) }
-closed_step t event at n row e whole done named there is =
-    let u : Table = with_effect t n e in
-    let none : e.fresh ≡ [] = (effect_facts t row at event e is).none done in
-    let rows : with_state t.rows n e.state ++ e.fresh ≡ with_state t.rows n e.state =
-    ap (λ (more : List Row). with_state t.rows n e.state ++ more) none ∙ append-nil (with_state t.rows n e.state) in
-    let shut : u.closed ≡ true = ap (λ (b : Bool). b || e.closes) done in
-    closing_is t event at u (change_by_effect t event at n row e named there is) shut
-    ∙ ap (λ (rs : List Row). let v : Table = record (with_effect t n e) { rows = rs } in v)
-    (ap (map (closed_row t.kind)) rows ∙ still_closed t.kind t.rows n e.state (whole done))

@@ -2,10 +2,9 @@ pub mod Askers
 pub mod ByKey
 pub mod Closing
 pub mod RowExtras
-pub mod EffectInside
 pub mod ForkInside
 pub mod Opening
-pub mod Placed
+pub mod Change
 pub mod ContactsSoFar
 pub mod Ready
 pub mod RowShown

@@ -1,5 +1,5 @@
 //! How a fork closes: by a 2xx, by a 6xx or by the caller's CANCEL (RFC 3261 sections 9.1, 16.7 step 5 and 16.10).
-ghost use Rattle.std.specs.Prelude.{◌≡◌, ◌≤◌, ◌+◌, ◌&&◌, ◌||◌, not, true, [], length, map, slice_get, vec_capacity, filter, nat_le};
+ghost use Rattle.std.specs.Prelude.{◌≡◌, ◌≤◌, ◌+◌, ◌++◌, ◌&&◌, ◌||◌, not, true, [], length, map, slice_get, vec_capacity, filter, nat_le};
 ghost use Rattle.fork_model.specs.Table.{is_row, is_invite};
 ghost use Rattle.fork_context.specs.Closing.{closed_row};
 ghost use Rattle.fork_context.specs.inner.Closing.{gets_cancel, is_ringing, cancel_row};
@@ -35,7 +35,7 @@ impl<A: Allocator + Clone> Fork<A> {
         requires none_started { started.old.items ≡ [] }
         requires none_cancelled { cancelled.old.items ≡ [] }
         requires room_started { length self.old.rows ≤ vec_capacity started.old }
-        requires room_cancelled { length self.old.rows ≤ vec_capacity cancelled.old }
+        requires room_cancelled { length cancelled.old.items + length self.old.rows ≤ vec_capacity cancelled.old }
         ensures { IsSettled n was_closed cancels self.old self.new started.new.items cancelled.new.items }
     {
         if was_closed {
@@ -68,8 +68,8 @@ impl<A: Allocator + Clone> Fork<A> {
         ensures rows { self.new ≡ record self.old { closed = true; rows = map (closed_row self.old.kind) self.old.rows } }
         ensures numbers { cancelled.new.items ≡ filter (gets_cancel self.old.kind self.old.rows) (numbers_below (length self.old.rows)) }
     {
-        self.close();
         self.cancel_rung(cancelled);
+        self.close();
     }
 
     /// Each row that has rung gets its CANCEL, where the request is an INVITE; their numbers.
@@ -80,10 +80,9 @@ impl<A: Allocator + Clone> Fork<A> {
         ensures numbers { cancelled.new.items ≡ filter (gets_cancel self.old.kind self.old.rows) (numbers_below (length self.old.rows)) }
     {
         for n in 0..self.count() {
-            if self.gets_cancel(n) {
-                self.mark_cancel(n);
-                cancelled.push_reserved(n);
-            }
+            let rings = self.gets_cancel(n);
+            self.cancel_if(rings, n);
+            push_if(rings, cancelled, n);
         }
     }
 
@@ -122,9 +121,9 @@ pub(crate) fn closes_with(before: bool, closes: bool) -> bool
 
 /// Adds the number where it is to be.
 fn push_if<A: Allocator>(adds: bool, numbers: &mut Vec<u16, A>, n: u16)
-    requires none { numbers.old.items ≡ [] }
-    requires room { 1 ≤ vec_capacity numbers.old }
-    ensures { numbers.new.items ≡ number_if adds n }
+    requires room { length numbers.old.items + 1 ≤ vec_capacity numbers.old }
+    ensures items { numbers.new.items ≡ numbers.old.items ++ number_if adds n }
+    ensures capacity { vec_capacity numbers.new ≡ vec_capacity numbers.old }
 {
     if adds {
         numbers.push_reserved(n);

@@ -3,7 +3,7 @@ ghost use Rattle.std.specs.Prelude.{◌≡◌, ◌≤◌, ◌↔◌, ◌++◌, [
 ghost use Rattle.std.specs.Option.{option_map, option_copied, option_and_then};
 ghost use Rattle.fork_model.specs.Table.{most_targets, is_finished, is_succeeded};
 ghost use Rattle.fork_model.specs.Choice as spec_choice;
-ghost use Rattle.fork_model.specs.Choice.{IsChoice};
+ghost use Rattle.fork_model.specs.Choice.{IsChoice, status_sent};
 ghost use Rattle.fork_model.specs.Core.{opening_core, core_next, is_full};
 ghost use Rattle.fork_model.specs.Reply.{IsReply};
 ghost use Rattle.fork_model.specs.Step.{next};
@@ -258,6 +258,21 @@ impl<A: Allocator + Clone> Context<A> {
     {
         let fork = &self.fork;
         if fork.finished() && !fork.succeeded() {
+            Some(fork.choice().0)
+        } else {
+            None
+        }
+    }
+
+    /// Which answer goes up, as `choice` has it, and under which status: a 500 in place of a 503, a 408 where nothing is
+    /// stored.
+    pub fn choice_with_status(&self) -> Option<(Choice, u16)>
+        ensures due { IsSome result ↔ ((is_finished self.now.table.rows ≡ true) × (is_succeeded self.now.table.rows ≡ false)) }
+        ensures value { IfSome result (λ sent. IsChoice self.now.table.rules self.now.table.rows (choice_of sent.0)) }
+        ensures status { IfSome result (λ sent. sent.1 ≡ status_sent self.now.table.rows (choice_of sent.0)) }
+    {
+        let fork = &self.fork;
+        if !fork.succeeded() && fork.finished() {
             Some(fork.choice())
         } else {
             None
@@ -269,7 +284,7 @@ impl<A: Allocator + Clone> Context<A> {
     pub fn is_first(&self, n: u16) -> bool
         ensures { IsTrue result ↔ HasFirst self.now.table n }
     {
-        match self.fork.choice() {
+        match self.fork.choice().0 {
             Choice::Stored(first) => first == n,
             Choice::Only503(first) => first == n,
             Choice::NoAnswer408 => false,

@@ -1,147 +1,108 @@
-//! What an event does to the row that it names (RFC 3261 sections 16.7 to 16.9).
-ghost use Rattle.std.specs.Prelude.{◌≡◌, ◌&&◌, not, [], Some, IfOk, length, map};
+//! What an event changes in a table (RFC 3261 sections 9.1 and 16.7 to 16.10).
+ghost use Rattle.std.specs.Prelude.{◌≡◌, ℕ, [], true, slice_get, IfOk, IfSome, OnOk, OnErr};
 ghost use Rattle.std.specs.Option.{option_map};
-ghost use Rattle.fork_model.specs.Table.{Trying, Rung};
+ghost use Rattle.fork_model.specs.Table.{Ended, is_row, is_open};
 ghost use Rattle.fork_model.specs.Event.{row_named};
 ghost use Rattle.fork_model.specs.Contacts as contacts;
 ghost use Rattle.fork_model.specs.Step as step;
-ghost use Rattle.fork_tree.specs.States.{state_of, plain_state};
-ghost use Rattle.fork_tree.specs.NewRows.{waiting_row};
-ghost use Rattle.fork_context.specs.inner.RowExtras.{with_extras};
+ghost use Rattle.fork_model.specs.Step.{with_effect};
+ghost use Rattle.fork_tree.specs.States.{end_of, plain_state};
 ghost use Rattle.fork_context.specs.EventView.{event_of};
-ghost use Rattle.fork_context.specs.inner.Placed.{placed, effect_at};
+ghost use Rattle.fork_context.specs.inner.Change.{effect_of, cancels, may_take, changed, MayChange};
 ghost use Rattle.fork_context.specs.inner.StandIn.{tree_row};
+ghost use Rattle.fork_context.specs.inner.Stepped.{HasRoom};
 
 use crate::closing::is_global_failure;
 use crate::contacts::{ContactLists, taking_at};
 use crate::copy::copied_challenges;
 use crate::event::{Answer, Event};
 use crate::fork::Fork;
-use crate::new_rows::rows_below;
+use crate::new_rows::{no_rows, rows_below};
 use crate::offer::Offer;
-use crate::row_extras::RowExtras;
+use crate::reply::Numbers;
 use fork_rank::{Challenge, Status};
-use fork_tree::{End, NewRows, RowRef, State};
+use fork_tree::{End, RowRef, State};
 use std::alloc::{AllocError, Allocator};
-use std::marker::Model;
 
-/// The row that it is on, the state that the row goes to, the contacts left and the challenges of its answer, the rows
-/// that come below it with their extras, and whether the table closes.
+/// What becomes of the row that an event names.
 #[derive(Drop)]
-pub(crate) struct Effect<A: Allocator> {
-    pub(crate) n: u16,
-    pub(crate) state: State,
-    pub(crate) left: Vec<Offer<A>, A>,
-    pub(crate) challenges: Vec<Challenge<A>, A>,
-    pub(crate) below: NewRows<A>,
-    pub(crate) fresh: Vec<RowExtras<A>, A>,
-    pub(crate) closes: bool,
+pub(crate) enum Effect<'a, A: Allocator> {
+    /// It has rung.
+    Rings,
+    /// Its CANCEL is sent.
+    GetsCancel,
+    /// It ends, cancelled and given up without an answer.
+    GivenUp,
+    /// It ends with an answer of this status that the proxy assumes (sections 16.8 and 16.9).
+    Assumed(Status),
+    /// It ends with this answer.
+    Answered(&'a Answer<A>),
 }
 
-impl<A: Allocator> Model for Effect<A> {
-    ghost use Rattle.std.specs.Prelude.{Some, map};
-    ghost use Rattle.fork_context.specs.inner.Placed as spec;
-    ghost use Rattle.fork_tree.specs.NewRows.{waiting_row};
-    ghost use Rattle.fork_tree.specs.States.{state_of};
-    ghost use Rattle.fork_context.specs.inner.RowExtras.{with_extras};
-    ghost use Rattle.fork_context.specs.inner.EffectInside.{IsEffect};
-
-    ghost Value = { spec.Placed };
-
-    ghost view = { λ e. record {
-      n = e.n;
-      first = e.below.first;
-      effect = record {
-        state = state_of e.state e.left.items e.challenges.items;
-        fresh = with_extras (map (waiting_row (Some e.n)) e.below.new_rows) e.fresh.items;
-        closes = e.closes;
-      };
-    } };
-
-    ghost invariant = { λ e. IsEffect e.state e.below.new_rows e.fresh.items e.closes };
+impl<'a, A: Allocator> Effect<'a, A> {
+    /// Whether the CANCEL of its row is sent.
+    pub(crate) fn cancels(&self) -> bool
+        ensures { result ≡ cancels self.now }
+    {
+        matches!(self, Effect::GetsCancel)
+    }
 }
 
-/// Row n moves to this state, and nothing else changes.
-fn moves<A: Allocator + Clone>(
-    alloc: &A,
+/// What an event changes.
+#[derive(Drop)]
+pub(crate) enum Change<'a, A: Allocator> {
+    /// The table closes.
+    Closes,
+    /// A row.
+    Row(RowRef, Effect<'a, A>),
+}
+
+/// What becomes of this row by an event that names it; `None` where the event fits no case.
+fn effect_on<'a, A: Allocator + Clone>(
     fork: &Fork<A>,
-    n: u16,
-    state: State,
-) -> Result<Effect<A>, AllocError>
-    ensures { IfOk result (λ e. e ≡ placed n fork.now (step.moves (state_of state [] []))) }
+    row: &RowRef,
+    event: &'a Event<A>,
+) -> Option<Effect<'a, A>>
+    requires { row_named (event_of event.now) ≡ Some row.now.no }
+    ensures effect { (at : ℕ) → option_map (effect_of fork.now row.now at) result ≡ step.effect fork.now (tree_row row.now) at (event_of event.now) (plain_state row.now.state) }
+    ensures may { IfSome result (λ effect. may_take effect (plain_state row.now.state) ≡ true) }
 {
-    Ok(Effect {
-        n,
-        state,
-        left: Vec::new(alloc.clone()?),
-        challenges: Vec::new(alloc.clone()?),
-        below: fork.no_new_rows(alloc)?,
-        fresh: Vec::new(alloc.clone()?),
-        closes: false,
-    })
+    match row.state {
+        State::Idle | State::Ended(_) => None,
+        State::Trying => match event {
+            Event::Ring(..) => Some(Effect::Rings),
+            Event::Answer(_, answer) => Some(Effect::Answered(answer)),
+            Event::Timeout(_) => Some(Effect::Assumed(Status::request_timeout())),
+            Event::Fault(_) => Some(Effect::Assumed(Status::service_unavailable())),
+            Event::TimerC(_) if fork.is_invite() => {
+                Some(Effect::Assumed(Status::request_timeout()))
+            }
+            Event::TimerC(_) | Event::GiveUp(_) | Event::Cancel => None,
+        },
+        State::Rung { cancelled } => match event {
+            Event::Answer(_, answer) => Some(Effect::Answered(answer)),
+            Event::Timeout(_) => Some(Effect::Assumed(Status::request_timeout())),
+            Event::Fault(_) => Some(Effect::Assumed(Status::service_unavailable())),
+            Event::TimerC(_) if fork.is_invite() && !cancelled => Some(Effect::GetsCancel),
+            Event::GiveUp(_) if cancelled => Some(Effect::GivenUp),
+            Event::Ring(..) | Event::TimerC(_) | Event::GiveUp(_) | Event::Cancel => None,
+        },
+    }
 }
 
-/// An answer is stored that the proxy assumes (sections 16.8 and 16.9).
-fn assumed<A: Allocator + Clone>(
-    alloc: &A,
-    fork: &Fork<A>,
-    n: u16,
-    status: Status,
-    at: u32,
-) -> Result<Effect<A>, AllocError>
-    ensures { IfOk result (λ e. e ≡ placed n fork.now (step.assumed status at)) }
+/// How a row ends by a 3xx: spent where it had a contact and none is left, else stored with those left.
+fn redirected<A: Allocator>(answer: &Answer<A>, taken: &ContactLists<A>, at: u32) -> End
+    ensures { end_of result taken.now.left answer.now.challenges ≡ step.redirected at answer.now taken.now }
 {
-    let end = End::Stored {
-        status,
-        arrival: at,
-        received: false,
-    };
-    moves(alloc, fork, n, State::Ended(end))
-}
-
-/// A 2xx ends the branch and closes the table (section 16.7 step 5).
-fn accepts<A: Allocator + Clone>(
-    alloc: &A,
-    fork: &Fork<A>,
-    n: u16,
-    at: u32,
-) -> Result<Effect<A>, AllocError>
-    ensures { IfOk result (λ e. e ≡ placed n fork.now (step.accepts at)) }
-{
-    Ok(Effect {
-        n,
-        state: State::Ended(End::Accepted { arrival: at }),
-        left: Vec::new(alloc.clone()?),
-        challenges: Vec::new(alloc.clone()?),
-        below: fork.no_new_rows(alloc)?,
-        fresh: Vec::new(alloc.clone()?),
-        closes: true,
-    })
-}
-
-/// Any other answer is stored; a 6xx closes the table.
-fn stores<A: Allocator + Clone>(
-    alloc: &A,
-    fork: &Fork<A>,
-    n: u16,
-    at: u32,
-    answer: &Answer<A>,
-) -> Result<Effect<A>, AllocError>
-    ensures { IfOk result (λ e. e ≡ placed n fork.now (step.stores at answer.now)) }
-{
-    Ok(Effect {
-        n,
-        state: State::Ended(End::Stored {
+    if is_nonempty(&answer.offers) && !is_nonempty(&taken.left) {
+        End::Taken { arrival: at }
+    } else {
+        End::Stored {
             status: answer.status,
             arrival: at,
             received: true,
-        }),
-        left: Vec::new(alloc.clone()?),
-        challenges: copied_challenges(alloc, &answer.challenges)?,
-        below: fork.no_new_rows(alloc)?,
-        fresh: Vec::new(alloc.clone()?),
-        closes: is_global_failure(answer.status),
-    })
+        }
+    }
 }
 
 /// Whether there is a contact.
@@ -151,175 +112,189 @@ fn is_nonempty<A: Allocator>(offers: &[Offer<A>]) -> bool
     !offers.is_empty()
 }
 
-/// Whether all contacts of the answer were taken, and it had one.
-fn is_spent<A: Allocator>(answer: &Answer<A>, taken: &ContactLists<A>) -> bool
-    ensures { result ≡ (step.is_nonempty answer.now.offers && not (step.is_nonempty taken.now.left)) }
-{
-    is_nonempty(&answer.offers) && !is_nonempty(&taken.left)
-}
-
-/// A 3xx is spent where it had a contact and none is left, else it is stored with those left; the rows of the contacts
-/// taken come below its row.
-fn redirected<A: Allocator + Clone>(
-    alloc: &A,
-    n: u16,
-    at: u32,
-    answer: &Answer<A>,
-    taken: ContactLists<A>,
-    below: (NewRows<A>, Vec<RowExtras<A>, A>),
-) -> Result<Effect<A>, AllocError>
-    requires rows { with_extras (map (waiting_row (Some n)) below.0.new_rows) below.1.items ≡ contacts.fresh_rows n taken.fresh }
-    requires each { length below.1.items ≡ length below.0.new_rows }
-    ensures { IfOk result (λ e. e ≡ record { n = n; first = below.0.first; effect = step.redirects n at answer.now taken }) }
-{
-    let (added, fresh) = below;
-    if is_spent(answer, &taken) {
-        Ok(Effect {
-            n,
-            state: State::Ended(End::Taken { arrival: at }),
-            left: Vec::new(alloc.clone()?),
-            challenges: Vec::new(alloc.clone()?),
-            below: added,
-            fresh,
-            closes: false,
-        })
-    } else {
-        Ok(Effect {
-            n,
-            state: State::Ended(End::Stored {
-                status: answer.status,
-                arrival: at,
-                received: true,
-            }),
-            left: taken.left,
-            challenges: copied_challenges(alloc, &answer.challenges)?,
-            below: added,
-            fresh,
-            closes: false,
-        })
-    }
-}
-
-/// A 3xx of this row takes contacts as further targets (section 16.7 step 4).
-fn redirects<A: Allocator + Clone>(
-    alloc: &A,
-    fork: &Fork<A>,
-    row: &RowRef,
-    at: u32,
-    answer: &Answer<A>,
-) -> Result<Effect<A>, AllocError>
-    ensures { IfOk result (λ e. e ≡ placed row.now.no fork.now (step.redirects row.now.no at answer.now (contacts.taking_at fork.now (tree_row row.now) answer.now.offers))) }
-{
-    let first = fork.count();
-    let taken = taking_at(alloc, fork, row, &answer.offers)?;
-    let below = rows_below(alloc, first, &taken.fresh)?;
-    redirected(alloc, row.no, at, answer, taken, below)
-}
-
-/// A final answer to this row.
-fn answers<A: Allocator + Clone>(
-    alloc: &A,
-    fork: &Fork<A>,
-    row: &RowRef,
-    at: u32,
-    answer: &Answer<A>,
-) -> Result<Effect<A>, AllocError>
-    ensures { IfOk result (λ e. e ≡ placed row.now.no fork.now (step.answers fork.now row.now.no (tree_row row.now) at answer.now)) }
-{
-    let code = answer.status.code();
-    if code < 300 {
-        accepts(alloc, fork, row.no, at)
-    } else if code < 400 {
-        redirects(alloc, fork, row, at, answer)
-    } else {
-        stores(alloc, fork, row.no, at, answer)
-    }
-}
-
-/// The effect of an event on a row that was tried and has not rung; `None` where the event fits no case.
-fn effect_on_trying<A: Allocator + Clone>(
-    alloc: &A,
-    fork: &Fork<A>,
-    row: &RowRef,
-    at: u32,
-    event: &Event<A>,
-) -> Result<Option<Effect<A>>, AllocError>
-    requires { row_named (event_of event.now) ≡ Some row.now.no }
-    ensures { IfOk result (λ o. o ≡ option_map (placed row.now.no fork.now) (step.effect fork.now (tree_row row.now) at (event_of event.now) Trying)) }
-{
-    let n = row.no;
-    Ok(match event {
-        Event::Ring(..) => Some(moves(alloc, fork, n, State::Rung { cancelled: false })?),
-        Event::Answer(_, answer) => Some(answers(alloc, fork, row, at, answer)?),
-        Event::Timeout(_) => Some(assumed(alloc, fork, n, Status::request_timeout(), at)?),
-        Event::Fault(_) => Some(assumed(alloc, fork, n, Status::service_unavailable(), at)?),
-        Event::TimerC(_) if fork.is_invite() => {
-            Some(assumed(alloc, fork, n, Status::request_timeout(), at)?)
+impl<A: Allocator + Clone> Fork<A> {
+    /// What the event changes; `None` where it changes nothing.
+    pub(crate) fn change_of<'a>(&self, event: &'a Event<A>) -> Option<Change<'a, A>>
+        ensures change { (at : ℕ) → step.change self.now (event_of event.now) at ≡ option_map (changed self.now at) result }
+        ensures may { IfSome result (λ change. MayChange self.now change) }
+    {
+        match event {
+            Event::Ring(n, _)
+            | Event::Answer(n, _)
+            | Event::Timeout(n)
+            | Event::Fault(n)
+            | Event::TimerC(n)
+            | Event::GiveUp(n) => self.row_change_of(*n, event),
+            Event::Cancel if self.can_close() => Some(Change::Closes),
+            Event::Cancel => None,
         }
-        Event::TimerC(_) | Event::GiveUp(_) | Event::Cancel => None,
-    })
-}
-
-/// The effect of an event on a row that has rung, whose CANCEL was sent or not; `None` where the event fits no
-/// case.
-fn effect_on_rung<A: Allocator + Clone>(
-    alloc: &A,
-    fork: &Fork<A>,
-    row: &RowRef,
-    at: u32,
-    event: &Event<A>,
-    cancelled: bool,
-) -> Result<Option<Effect<A>>, AllocError>
-    requires { row_named (event_of event.now) ≡ Some row.now.no }
-    ensures { IfOk result (λ o. o ≡ option_map (placed row.now.no fork.now) (step.effect fork.now (tree_row row.now) at (event_of event.now) (Rung cancelled))) }
-{
-    let n = row.no;
-    Ok(match event {
-        Event::Answer(_, answer) => Some(answers(alloc, fork, row, at, answer)?),
-        Event::Timeout(_) => Some(assumed(alloc, fork, n, Status::request_timeout(), at)?),
-        Event::Fault(_) => Some(assumed(alloc, fork, n, Status::service_unavailable(), at)?),
-        Event::TimerC(_) if fork.is_invite() && !cancelled => {
-            Some(moves(alloc, fork, n, State::Rung { cancelled: true })?)
-        }
-        Event::GiveUp(_) if cancelled => {
-            Some(moves(alloc, fork, n, State::Ended(End::Silent { arrival: at }))?)
-        }
-        Event::Ring(..) | Event::TimerC(_) | Event::GiveUp(_) | Event::Cancel => None,
-    })
-}
-
-/// The effect of an event on this row; `None` where the event fits no case.
-fn effect_on<A: Allocator + Clone>(
-    alloc: &A,
-    fork: &Fork<A>,
-    row: &RowRef,
-    at: u32,
-    event: &Event<A>,
-) -> Result<Option<Effect<A>>, AllocError>
-    requires { row_named (event_of event.now) ≡ Some row.now.no }
-    ensures { IfOk result (λ o. o ≡ option_map (placed row.now.no fork.now) (step.effect fork.now (tree_row row.now) at (event_of event.now) (plain_state row.now.state))) }
-{
-    match row.state {
-        State::Idle | State::Ended(_) => Ok(None),
-        State::Trying => effect_on_trying(alloc, fork, row, at, event),
-        State::Rung { cancelled } => effect_on_rung(alloc, fork, row, at, event, cancelled),
     }
-}
 
-/// The effect of an event on the row n that it names; `None` where there is no such row, or the event fits no case. The
-/// only error is want of memory.
-pub(crate) fn effect_of<A: Allocator + Clone>(
-    alloc: &A,
-    fork: &Fork<A>,
-    n: u16,
-    at: u32,
-    event: &Event<A>,
-) -> Result<Option<Effect<A>>, AllocError>
-    requires { row_named (event_of event.now) ≡ Some n }
-    ensures { IfOk result (λ o. o ≡ option_map (placed n fork.now) (effect_at fork.now n (event_of event.now) at)) }
-{
-    match fork.row(n) {
-        None => Ok(None),
-        Some(row) => effect_on(alloc, fork, &row, at, event),
+    /// What an event changes that names the row n.
+    fn row_change_of<'a>(&self, n: u16, event: &'a Event<A>) -> Option<Change<'a, A>>
+        requires { row_named (event_of event.now) ≡ Some n }
+        ensures change { (at : ℕ) → step.change_at self.now at (event_of event.now) n (slice_get self.now.rows n) ≡ option_map (changed self.now at) result }
+        ensures may { IfSome result (λ change. MayChange self.now change) }
+    {
+        let row = self.row(n)?;
+        match effect_on(self, &row, event) {
+            Some(effect) => Some(Change::Row(row, effect)),
+            None => None,
+        }
+    }
+
+    /// Whether the event changes nothing.
+    pub(crate) fn is_stray(&self, event: &Event<A>) -> bool
+        ensures { (at : ℕ) → result ≡ step.is_stray self.now (event_of event.now) at }
+    {
+        self.change_of(event).is_none()
+    }
+
+    /// Takes this row on by the effect of the event that stands at this position; room for the numbers of the reply.
+    ///
+    /// # Errors
+    ///
+    /// Only where the allocator refuses; then the fork is as it was.
+    pub(crate) fn apply(
+        &mut self,
+        alloc: &A,
+        row: &RowRef,
+        effect: Effect<'_, A>,
+        at: u32,
+    ) -> Result<Numbers<A>, AllocError>
+        requires may { is_row (may_take effect) (slice_get self.old.rows row.now.no) ≡ true }
+        ensures ok { OnOk result (self.new ≡ with_effect self.old row.now.no (effect_of self.old row.now at effect.entry)) }
+        ensures room { IfOk result (λ numbers. HasRoom numbers self.new.rows) }
+        ensures err { OnErr result (self.new ≡ self.old) }
+    {
+        let n = row.no;
+        match effect {
+            Effect::Rings => {
+                let numbers = Numbers::with_room(alloc, self.count() as usize)?;
+                self.ring(n);
+                Ok(numbers)
+            }
+            Effect::GetsCancel => {
+                let numbers = Numbers::with_room(alloc, self.count() as usize)?;
+                self.mark_cancel(n);
+                Ok(numbers)
+            }
+            Effect::GivenUp => self.end_alone(alloc, n, End::Silent { arrival: at }, false),
+            Effect::Assumed(status) => {
+                let end = End::Stored {
+                    status,
+                    arrival: at,
+                    received: false,
+                };
+                self.end_alone(alloc, n, end, false)
+            }
+            Effect::Answered(answer) => self.end_by(alloc, row, answer, at),
+        }
+    }
+
+    /// A final answer ends this row: a 2xx closes the table, the contacts of a 3xx become rows below it, any other is
+    /// stored, and a 6xx closes the table, too (section 16.7 steps 4 and 5).
+    fn end_by(
+        &mut self,
+        alloc: &A,
+        row: &RowRef,
+        answer: &Answer<A>,
+        at: u32,
+    ) -> Result<Numbers<A>, AllocError>
+        requires open_yet { is_row is_open (slice_get self.old.rows row.now.no) ≡ true }
+        ensures ok { OnOk result (self.new ≡ with_effect self.old row.now.no (step.answers self.old row.now.no (tree_row row.now) at answer.now)) }
+        ensures room { IfOk result (λ numbers. HasRoom numbers self.new.rows) }
+        ensures err { OnErr result (self.new ≡ self.old) }
+    {
+        let n = row.no;
+        let code = answer.status.code();
+        if code < 300 {
+            self.end_alone(alloc, n, End::Accepted { arrival: at }, true)
+        } else if code < 400 {
+            self.redirect(alloc, row, answer, at)
+        } else {
+            self.store(alloc, n, answer, at)
+        }
+    }
+
+    /// A 3xx ends this row, and those of its contacts that are taken become rows below it.
+    fn redirect(
+        &mut self,
+        alloc: &A,
+        row: &RowRef,
+        answer: &Answer<A>,
+        at: u32,
+    ) -> Result<Numbers<A>, AllocError>
+        requires open_yet { is_row is_open (slice_get self.old.rows row.now.no) ≡ true }
+        ensures ok { OnOk result (self.new ≡ with_effect self.old row.now.no (step.redirects row.now.no at answer.now (contacts.taking_at self.old (tree_row row.now) answer.now.offers))) }
+        ensures room { IfOk result (λ numbers. HasRoom numbers self.new.rows) }
+        ensures err { OnErr result (self.new ≡ self.old) }
+    {
+        let taken = taking_at(alloc, self, row, &answer.offers)?;
+        let below = rows_below(alloc, self.count(), &taken.fresh)?;
+        let end = redirected(answer, &taken, at);
+        let challenges = copied_challenges(alloc, &answer.challenges)?;
+        self.end(alloc, row.no, end, (taken.left, challenges), below, false)
+    }
+
+    /// This answer ends row n, which is open, and is stored; a 6xx closes the table.
+    fn store(
+        &mut self,
+        alloc: &A,
+        n: u16,
+        answer: &Answer<A>,
+        at: u32,
+    ) -> Result<Numbers<A>, AllocError>
+        requires open_yet { is_row is_open (slice_get self.old.rows n) ≡ true }
+        ensures ok { OnOk result (self.new ≡ with_effect self.old n (step.stores at answer.now)) }
+        ensures room { IfOk result (λ numbers. HasRoom numbers self.new.rows) }
+        ensures err { OnErr result (self.new ≡ self.old) }
+    {
+        let end = End::Stored {
+            status: answer.status,
+            arrival: at,
+            received: true,
+        };
+        let closes = is_global_failure(answer.status);
+        let challenges = copied_challenges(alloc, &answer.challenges)?;
+        self.end_with(alloc, n, end, challenges, closes)
+    }
+
+    /// Row n, which is open, has ended, without a challenge.
+    fn end_alone(
+        &mut self,
+        alloc: &A,
+        n: u16,
+        end: End,
+        closes: bool,
+    ) -> Result<Numbers<A>, AllocError>
+        requires open_yet { is_row is_open (slice_get self.old.rows n) ≡ true }
+        ensures ok { OnOk result (self.new ≡ with_effect self.old n (record { state = Ended (end_of end [] []); fresh = []; closes = closes })) }
+        ensures room { IfOk result (λ numbers. HasRoom numbers self.new.rows) }
+        ensures err { OnErr result (self.new ≡ self.old) }
+    {
+        let challenges = Vec::new(alloc.clone()?);
+        self.end_with(alloc, n, end, challenges, closes)
+    }
+
+    /// Row n, which is open, has ended, with these challenges, and nothing comes below it.
+    fn end_with(
+        &mut self,
+        alloc: &A,
+        n: u16,
+        end: End,
+        challenges: Vec<Challenge<A>, A>,
+        closes: bool,
+    ) -> Result<Numbers<A>, AllocError>
+        requires open_yet { is_row is_open (slice_get self.old.rows n) ≡ true }
+        ensures ok { OnOk result (self.new ≡ with_effect self.old n (record { state = Ended (end_of end [] challenges.items); fresh = []; closes = closes })) }
+        ensures room { IfOk result (λ numbers. HasRoom numbers self.new.rows) }
+        ensures err { OnErr result (self.new ≡ self.old) }
+    {
+        let first = self.count();
+        let left = Vec::new(alloc.clone()?);
+        let added = no_rows(alloc, first)?;
+        let fresh = Vec::new(alloc.clone()?);
+        self.end(alloc, n, end, (left, challenges), (added, fresh), closes)
     }
 }

@@ -1,12 +1,11 @@
 //! The table of a fork, its rows kept in a tree.
-ghost use Rattle.std.specs.Prelude.{◌≡◌, ◌≤◌, ◌+◌, ◌++◌, ◌||◌, ℕ, true, false, [], Some, length, map, nat_eq, slice_get, vec_capacity, IfOk, OnOk, OnErr, IfSome, IfNone};
+ghost use Rattle.std.specs.Prelude.{◌≡◌, ◌≤◌, ◌+◌, ◌||◌, ℕ, true, false, [], Some, length, map, nat_eq, slice_get, vec_capacity, IfOk, OnOk, OnErr, IfSome, IfNone};
 ghost use Rattle.std.specs.List.{list_any};
 ghost use Rattle.std.specs.Cmp.Lexicographic.{pointwise};
 ghost use Rattle.std.specs.Option.{option_map, option_copied, option_and_then};
 ghost use Rattle.fork_model.specs.Table.{Row, Rung, Ended, is_row, is_trying, is_open, is_accepted, is_finished, is_succeeded, is_invite, most_targets};
 ghost use Rattle.fork_model.specs.Step.{with_state, with_effect};
-ghost use Rattle.fork_context.specs.inner.Placed.{may_go};
-ghost use Rattle.fork_model.specs.Choice.{IsChoice, stored_at};
+ghost use Rattle.fork_model.specs.Choice.{IsChoice, status_sent, stored_at};
 ghost use Rattle.fork_model.specs.Waiting.{may_start, line_from, parent_row};
 ghost use Rattle.fork_tree.specs.Below.{parent_of};
 ghost use Rattle.fork_tree.specs.Tree.{is_uncancelled};
@@ -19,17 +18,17 @@ ghost use Rattle.fork_context.specs.KindView.{kind_of};
 ghost use Rattle.fork_context.specs.LeftView.{left_of};
 ghost use Rattle.fork_tree.specs.Ready.{IsReady, tried};
 ghost use Rattle.fork_context.specs.inner.Ready.{Starts, numbers_from};
+ghost use Rattle.fork_context.specs.inner.Stepped.{HasRoom};
 ghost use Rattle.fork_context.specs.ReplyView.{choice_of};
 ghost use Rattle.fork_context.specs.RowShown.{row_shown};
 ghost use Rattle.fork_context.specs.inner.RowShown.{ref_shown};
 
 use crate::challenges::{StoredAnswer, stored_answer};
 use crate::closing::closes_with;
-use crate::effect::Effect;
 use crate::extras_table::ExtrasTable;
 use crate::kind::Kind;
 use crate::offer::Offer;
-use crate::reply::Choice;
+use crate::reply::{Choice, Numbers};
 use crate::row::RowView;
 use crate::row_extras::RowExtras;
 use fork_rank::{Challenge, Rules};
@@ -152,18 +151,20 @@ impl<A: Allocator + Clone> Fork<A> {
         }
     }
 
-    /// What goes up once every branch has ended: the first of the stored answers, a 500 in place of a 503, a 408 where
-    /// nothing is stored.
-    pub(crate) fn choice(&self) -> Choice
-        ensures { IsChoice self.now.rules self.now.rows (choice_of result) }
+    /// What goes up once every branch has ended, with its status: the first of the stored answers, a 500 in place of a
+    /// 503, a 408 where nothing is stored.
+    pub(crate) fn choice(&self) -> (Choice, u16)
+        ensures choice { IsChoice self.now.rules self.now.rows (choice_of result.0) }
+        ensures status { result.1 ≡ status_sent self.now.rows (choice_of result.0) }
     {
         match self.tree.best() {
-            None => Choice::NoAnswer408,
+            None => (Choice::NoAnswer408, 408),
             Some(first) => {
-                if first.status.code() == 503 {
-                    Choice::Only503(first.no)
+                let code = first.status.code();
+                if code == 503 {
+                    (Choice::Only503(first.no), 500)
                 } else {
-                    Choice::Stored(first.no)
+                    (Choice::Stored(first.no), code)
                 }
             }
         }
@@ -281,86 +282,39 @@ impl<A: Allocator + Clone> Fork<A> {
         self.line_len(self.count(), parent)
     }
 
-    /// No new rows.
-    pub(crate) fn no_new_rows(&self, alloc: &A) -> Result<NewRows<A>, AllocError>
-        ensures { IfOk result (λ added. added ≡ record { first = length self.now.rows; new_rows = [] }) }
-    {
-        NewRows::idle(alloc.clone()?, self.count(), &[])
-    }
-
     /// Row n, which is open, has ended, with these contacts left and these challenges; the new rows come below it, each
-    /// with its extras.
+    /// with its extras; the table closes where it is to. Room for the numbers of the reply.
     ///
     /// # Errors
     ///
     /// Only where the allocator refuses; then the fork is as it was.
     pub(crate) fn end(
         &mut self,
+        alloc: &A,
         n: u16,
         end: End,
         stored: (Vec<Offer<A>, A>, Vec<Challenge<A>, A>),
-        below: NewRows<A>,
-        fresh: Vec<RowExtras<A>, A>,
-    ) -> Result<(), AllocError>
+        below: (NewRows<A>, Vec<RowExtras<A>, A>),
+        closes: bool,
+    ) -> Result<Numbers<A>, AllocError>
         requires open_yet { is_row is_open (slice_get self.old.rows n) ≡ true }
-        requires first { below.first ≡ length self.old.rows }
-        requires each { length fresh.items ≡ length below.new_rows }
-        requires few { length self.old.rows + length below.new_rows ≤ most_targets }
-        ensures ok { OnOk result (self.new ≡ record self.old { rows = with_state self.old.rows n (Ended (end_of end stored.0.items stored.1.items)) ++ with_extras (map (waiting_row (Some n)) below.new_rows) fresh.items }) }
+        requires first { below.0.first ≡ length self.old.rows }
+        requires each { length below.1.items ≡ length below.0.new_rows }
+        requires few { length self.old.rows + length below.0.new_rows ≤ most_targets }
+        ensures ok { OnOk result (self.new ≡ with_effect self.old n (record { state = Ended (end_of end stored.0.items stored.1.items); fresh = with_extras (map (waiting_row (Some n)) below.0.new_rows) below.1.items; closes = closes })) }
+        ensures room { IfOk result (λ numbers. HasRoom numbers self.new.rows) }
         ensures err { OnErr result (self.new ≡ self.old) }
     {
+        let (added, fresh) = below;
+        let numbers = Numbers::with_room(alloc, self.count() as usize + fresh.len())?;
         let succeeded = succeeds(self.succeeded, &end);
         self.extras.append(fresh)?;
         let (left, challenges) = stored;
         self.extras.store(n, left, challenges);
-        self.tree.end(n, end, below);
+        self.tree.end(n, end, added);
         self.succeeded = succeeded;
-        Ok(())
-    }
-
-    /// The effect on its row: the row goes on, and new rows come below it.
-    ///
-    /// # Errors
-    ///
-    /// Only where the allocator refuses; then the fork is as it was.
-    pub(crate) fn apply(&mut self, effect: Effect<A>) -> Result<(), AllocError>
-        requires goes { is_row (λ s. may_go s effect.effect.state) (slice_get self.old.rows effect.n) ≡ true }
-        requires first { effect.first ≡ length self.old.rows }
-        requires few { length self.old.rows + length effect.effect.fresh ≤ most_targets }
-        ensures ok { OnOk result (self.new ≡ with_effect self.old effect.n effect.effect) }
-        ensures err { OnErr result (self.new ≡ self.old) }
-    {
-        let Effect {
-            n,
-            state,
-            left,
-            challenges,
-            below,
-            fresh,
-            closes,
-        } = effect;
-        match state {
-            State::Rung { cancelled } => self.go_on(n, cancelled),
-            State::Ended(end) => {
-                self.end(n, end, (left, challenges), below, fresh)?;
-                self.closed = closes_with(self.closed, closes);
-            }
-            State::Idle => {}
-            State::Trying => {}
-        }
-        Ok(())
-    }
-
-    /// Row n, which was tried, has rung; or its CANCEL is sent, once it has.
-    fn go_on(&mut self, n: u16, cancelled: bool)
-        requires goes { is_row (λ s. may_go s (Rung cancelled)) (slice_get self.old.rows n) ≡ true }
-        ensures { self.new ≡ record self.old { rows = with_state self.old.rows n (Rung cancelled) } }
-    {
-        if cancelled {
-            self.mark_cancel(n);
-        } else {
-            self.ring(n);
-        }
+        self.closed = closes_with(self.closed, closes);
+        Ok(numbers)
     }
 
     /// Some group that may start is tried; the numbers of its rows.

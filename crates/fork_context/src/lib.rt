@@ -20,7 +20,6 @@ mod reply;
 mod row;
 mod row_extras;
 mod step;
-mod stray;
 mod targets;
 
 pub use context::{Context, NewFault, PostError, Refusal};

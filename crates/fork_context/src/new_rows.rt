@@ -1,5 +1,5 @@
 //! The rows that come below a redirected row (RFC 3261 sections 16.5 to 16.7).
-ghost use Rattle.std.specs.Prelude.{◌≡◌, ◌≤◌, ◌+◌, length, map, IfOk, OnOk};
+ghost use Rattle.std.specs.Prelude.{◌≡◌, ◌≤◌, ◌+◌, [], length, map, IfOk, OnOk};
 ghost use Rattle.std.specs.List.{filter_map};
 ghost use Rattle.fork_model.specs.Groups as groups;
 ghost use Rattle.fork_model.specs.Table.{most_targets};
@@ -96,6 +96,14 @@ fn extras_at<A: Allocator + Clone>(
         push_row_extras_at(alloc, &mut extras, fresh, pair)?;
     }
     Ok(extras)
+}
+
+/// No rows; the only error is want of memory.
+pub(crate) fn no_rows<A: Allocator + Clone>(alloc: &A, first: u16) -> Result<NewRows<A>, AllocError>
+    requires few { first ≤ most_targets }
+    ensures { IfOk result (λ added. added ≡ record { first = first; new_rows = [] }) }
+{
+    NewRows::idle(alloc.clone()?, first, &[])
 }
 
 /// The rows of these contacts in the order in which they are tried, numbered from the first on, and the extras of each;

@@ -1,8 +1,8 @@
 //! What is answered to an event.
-ghost use Rattle.std.specs.Prelude.{◌≡◌};
+ghost use Rattle.std.specs.Prelude.{◌≡◌, ◌≤◌, [], vec_capacity, IfOk};
 ghost use Rattle.fork_context.specs.ReplyView.{up_of};
 
-use std::alloc::{Allocator, Global};
+use std::alloc::{AllocError, Allocator, Global};
 use std::marker::Model;
 
 /// Which answer goes up once every branch has ended and none was answered with a 2xx (RFC 3261 section 16.7
@@ -27,6 +27,26 @@ pub enum Up {
     Success(u16),
     /// The final answer.
     Final(Choice),
+}
+
+/// The rows that are tried from now on, and those that are cancelled, by rising number.
+#[derive(Drop)]
+pub(crate) struct Numbers<A: Allocator> {
+    pub(crate) started: Vec<u16, A>,
+    pub(crate) cancelled: Vec<u16, A>,
+}
+
+impl<A: Allocator + Clone> Numbers<A> {
+    /// No number, and room for so many of each; the only error is want of memory.
+    pub(crate) fn with_room(alloc: &A, count: usize) -> Result<Self, AllocError>
+        ensures none { IfOk result (λ numbers. (numbers.started.items ≡ []) × (numbers.cancelled.items ≡ [])) }
+        ensures room { IfOk result (λ numbers. (count ≤ vec_capacity numbers.started) × (count ≤ vec_capacity numbers.cancelled)) }
+    {
+        Ok(Numbers {
+            started: Vec::with_capacity(alloc.clone()?, count)?,
+            cancelled: Vec::with_capacity(alloc.clone()?, count)?,
+        })
+    }
 }
 
 /// The reply to an event: its position in the history, the rows that the request is to be sent to and

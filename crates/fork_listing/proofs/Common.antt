@@ -1,15 +1,14 @@
 -- The names that most proofs of this crate cite, passed on from one place. Declares nothing.
-pub use Rattle.std.proofs.Common.{Bool, Err, List, None, Ok, Option, Result, Some, [], ap, append-nil, append_assoc, arith, bytes_eq, codes, cond, drop, eqb, false, inl, inr, length, map, nat_lt, not, option_and_then, refl, slice_get, subst}
+pub use Rattle.std.proofs.Common.{Bool, Err, List, None, Ok, Option, Result, Some, [], ap, append-nil, append_assoc, arith, bytes_eq, codes, cond, eqb, false, inl, inr, length, map, nat_lt, not, option_and_then, refl, slice_get, subst}
 pub use Rattle.std.proofs.Common.{suc, sym, take, true, zero, ℕ, ◌&&◌, ◌++◌, ◌+◌, ◌-◌, ◌<◌, ◌||◌, ◌∙◌, ◌∷◌, ◌≡◌, ◌≢◌, ◌≤◌, ◌⊎◌}
 pub use Rattle.std.proofs.lemmas.Bool.{cases_lt, eq-eqb, eqb-false, eqb-true, false≢true, ltb-true}
 pub use Rattle.std.proofs.lemmas.List.Splits.{join_with_byte-slice_split}
 pub use Rattle.std.proofs.lemmas.Option.{same_Some, slice_get-map, slice_get_read, slice_get_within}
 pub use Rattle.std.proofs.lemmas.Slice.Eq.{bytes_eq-Decides}
-pub use Rattle.std.specs.BTreeSet.{BTreeSet, contains}
 pub use Rattle.std.specs.Fmt.{decimal}
 pub use Rattle.std.specs.List.{AllByRecursion, slice_split}
 pub use Rattle.std.specs.Option.{option_map}
-pub use Rattle.fork_listing.proofs.Lists.{all_at, cases, get_pushed, length_pushed, looked, mapped, none_some, one_at, some_same, there}
+pub use Rattle.fork_listing.proofs.Lists.{all_at, cases, first_same, first_to_fail, looked, mapped, none_some, one_at, some_same, there}
 pub use Rattle.fork_listing.specs.Accepted.{IsRightText}
 pub use Rattle.fork_listing.specs.Checking.{AreInOrder, AreListed, IsChecked, IsRight, IsVerdictOf, verdict_of}
 pub use Rattle.fork_listing.specs.First.{HoldsBelow, IsFirstToFail}
@@ -23,20 +22,17 @@ pub use Rattle.fork_listing.specs.Spelled.{IsEnd, IsFinalLine, IsHow, IsLine, Is
 pub use Rattle.fork_listing.specs.Targets.{Follows, FollowsTarget, HasDepth, IsBefore, IsEarlier, IsInPlace, IsParent, IsPlaced, arrival_of, ended_at, is_redirected, is_redirection, line_before}
 pub use Rattle.fork_listing.specs.Text.{Draft, Listing, drafted_line, in_phase, lines_text, listing_in, listing_text, no_draft, or_line, read_from, read_listing, rule_lines}
 pub use Rattle.fork_listing.specs.declared.draft.Phase.{Phase}
-pub use Rattle.fork_listing.specs.declared.line.End.{End}
-pub use Rattle.fork_listing.specs.declared.line.End.TheVariants.{Never, Silent, Stored, Taken}
+pub use Rattle.fork_tree.specs.declared.row.End.{End}
+pub use Rattle.fork_tree.specs.declared.row.End.TheVariants.{Never, Silent, Stored, Taken}
 pub use Rattle.fork_listing.specs.declared.line.Final.{Final}
 pub use Rattle.fork_listing.specs.declared.line.Ranked.{Ranked}
 pub use Rattle.fork_listing.specs.declared.line.Target.{Target}
 pub use Rattle.fork_listing.specs.declared.line.Version.{Version}
 pub use Rattle.fork_listing.specs.declared.line.Version.TheVariants.{First, Second, Third}
 pub use Rattle.fork_listing.specs.declared.refusal.Verdict.{Verdict}
-pub use Rattle.fork_listing.specs.inner.Near.{Holds, IsNear}
-pub use Rattle.fork_listing.specs.inner.Sorting.{IsPlaceFor}
-pub use Rattle.fork_listing.specs.inner.Stored.{AreNumbered, number_at, ranked_in}
+pub use Rattle.fork_listing.specs.inner.Near.{IsNear}
+pub use Rattle.fork_listing.specs.inner.Stored.{AreNumbered, ranked_in}
 pub use Rattle.fork_listing.specs.inner.Text.{ranks_text, targets_text}
-pub use Rattle.fork_listing.specs.inner.TreeRows.{AreFormed, group_kept, last_row, row_behind}
-pub use Rattle.fork_model.proofs.laws.Headline.{Before-total}
 pub use Rattle.fork_model.proofs.laws.OrderLemmas.{Before-trans}
 pub use Rattle.fork_model.specs.Choice.{Best, Choice, HasScore, IsChoice, IsFirst, NoAnswer408, NoneStored, Only503, status_at, stored_at}
 pub use Rattle.fork_model.specs.Contacts.{fresh_row, fresh_rows}

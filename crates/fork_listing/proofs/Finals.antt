@@ -1,6 +1,6 @@
 -- The line of the answer that goes up, by the first of those stored.
-use Rattle.fork_listing.proofs.Common.{◌≡◌, ℕ, length, Bool, true, false, cond, eqb, List, Option, Some, None, refl, sym, ap, ◌∙◌, slice_get, option_map, eqb-true, eq-eqb, false≢true, Rules, Row, Score, Choice, Best, Only503, NoAnswer408}
-use Rattle.fork_listing.proofs.Common.{IsChoice, stored_at, status_at, BestRef, IsBest, Target, Final, HoldsBelow, IsPlaced, rows_of, final_of, IsChosen, IsNotChosen, AreNumbered, some_same, none_some, slice_get_within}
+use Rattle.fork_listing.proofs.Common.{◌≡◌, ℕ, Bool, true, false, cond, eqb, List, Option, Some, None, refl, sym, ap, ◌∙◌, slice_get, option_map, eqb-true, eq-eqb, false≢true, Rules, Row, Score, Choice, Best, Only503, NoAnswer408}
+use Rattle.fork_listing.proofs.Common.{IsChoice, stored_at, status_at, BestRef, IsBest, Target, Final, rows_of, final_of, IsChosen, IsNotChosen, some_same, none_some}
 use Rattle.std.specs.Option.{option_map_or}
 use Rattle.fork_model.specs.Table.{StoredAnswer}
 use Rattle.fork_model.specs.Choice as model
@@ -39,7 +39,3 @@ is_chosen rules targets best last is e = let h = chosen_by rules (rows_of target
 
 pub not_chosen : (rules : Rules) (targets : List Target) (best : Option BestRef) (last : Final) → IsBest rules (rows_of targets) best → (last ≡ final_of_best best → ⊥) → IsNotChosen rules targets last
 not_chosen rules targets best last is e = let h = chosen_by rules (rows_of targets) best is in (h.0, h.1, (λ same. e (same ∙ sym h.2)))
-
--- lines that keep the rules have their numbers
-pub numbered : (most : ℕ) (targets : List Target) → HoldsBelow (IsPlaced most targets) (length targets) → AreNumbered targets
-numbered most targets placed n target here = (placed n (slice_get_within targets n target here) target here).number

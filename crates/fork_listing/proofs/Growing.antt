@@ -27,9 +27,6 @@ pub data From (old fresh : List Target) (n : ℕ) (end : End) (m : ℕ) (target 
   Here : (was : Target) → slice_get old m ≡ Some was → m ≡ n → target ≡ record was { end = end } → From old fresh n end m target
   New : (k : ℕ) → m ≡ length old + k → slice_get fresh k ≡ Some target → From old fresh n end m target
 
-from_fresh : (fresh : List Target) (n : ℕ) (end : End) (m : ℕ) (target : Target) → slice_get fresh m ≡ Some target → From [] fresh n end m target
-from_fresh fresh n end m target is = New m (let e : m ≡ 0 + m = omega arith in e) is
-
 lift : (x : Target) (old fresh : List Target) (n : ℕ) (end : End) (m : ℕ) (target : Target) → From old fresh n end m target → From (x ∷ old) fresh (suc n) end (suc m) target
 lift x old fresh n end m target (Old is other) = Old is (λ e. other (let h : m ≡ n = omega arith in h))
 lift x old fresh n end m target (Here was is same by) = Here was is (ap suc same) by
@@ -46,7 +43,7 @@ behind x (y ∷ old) fresh end (suc m) target is = go (behind y old fresh end m 
     go (New k at is) = New k (let e : suc (suc m) ≡ length (x ∷ y ∷ old) + k = omega arith in e) is
 
 pub from_new : (old fresh : List Target) (n : ℕ) (end : End) (m : ℕ) (target : Target) → slice_get (with_end old n end ++ fresh) m ≡ Some target → From old fresh n end m target
-from_new [] fresh n end m target is = from_fresh fresh n end m target is
+from_new [] fresh n end m target is = New m (let e : m ≡ 0 + m = omega arith in e) is
 from_new (x ∷ old) fresh zero end zero target is = Here x refl refl (sym (some_same is))
 from_new (x ∷ old) fresh zero end (suc m) target is = behind x old fresh end m target is
 from_new (x ∷ old) fresh (suc n) end zero target is = Old is (λ e. absurd (let h : zero ≡ suc n = e in omega arith))

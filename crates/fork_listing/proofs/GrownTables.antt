@@ -2,7 +2,7 @@
 use Rattle.fork_listing.proofs.Common.{◌≡◌, ℕ, zero, suc, ◌+◌, ◌<◌, ◌≤◌, Bool, true, false, cond, List, [], ◌∷◌, ◌++◌, map, length, Option, Some, None, refl, sym, ap, subst, ◌∙◌, arith, inl, inr, slice_get, option_and_then, not, nat_lt}
 use Rattle.fork_listing.proofs.Common.{◌&&◌, ◌||◌, option_map, AllByRecursion, ltb-true, Kind, Rules, Offer, Row, Table, State, Idle, Trying, Rung, Ended, Accepted, Event, numbered, fresh_row, fresh_rows, first_row, opening_rows, Core}
 use Rattle.fork_listing.proofs.Common.{opening_core, core_next, core_offered, core_after, is_full, End, Target, arrival_of, ended_at, is_redirection, IsParent, Follows, FollowsTarget, line_before, IsEarlier, HasDepth, IsInPlace, most_q}
-use Rattle.fork_listing.proofs.Common.{IsStatus, targets_from, targets_of, some_same, none_some, slice_get_within, AreArrivals, all_at, looked, mapped}
+use Rattle.fork_listing.proofs.Common.{IsStatus, targets_from, targets_of, some_same, none_some, slice_get_within, AreArrivals, all_at, looked, mapped, most_targets, ◌≢◌}
 use Rattle.std.specs.Prelude.{unwrap_or, ◌==◌}
 use Rattle.std.proofs.lemmas.Bool.{ltb-false, or_parts}
 use Rattle.fork_model.specs.Table.{Taken, Silent, is_idle, is_invite}
@@ -12,10 +12,12 @@ use Rattle.fork_model.specs.Contacts.{ContactOutcome, Known, Fresh, Left, Contac
 use Rattle.fork_model.specs.Step.{Effect, moves, assumed, accepts, received, redirects, stores, is_nonempty, effect, answers, change_at, with_state, with_effect, change, next, settled, settled_row, settled_state, closed_state, cancelled}
 use Rattle.fork_model.specs.History.{Target as Named, opening}
 use Rattle.fork_model.proofs.laws.ChangeLemmas.{from_filter_map}
+use Rattle.fork_model.proofs.laws.ContactLemmas.{targets_bounded, each_target}
 use Rattle.fork_model.proofs.laws.OpeningSeries.{opening_row}
+use Rattle.fork_model.proofs.laws.StepLemmas.{rows_keep_numbers}
 use Rattle.fork_model.proofs.laws.Arrivals.{next_arrivals, history_of_arrivals}
 use Rattle.fork_tree.specs.States.{shown}
-use Rattle.fork_listing.specs.declared.line.End.TheVariants as line_end
+use Rattle.fork_tree.specs.declared.row.End.TheVariants as line_end
 use Rattle.fork_model.specs.Range.{IsTargetInRange, IsOfferInRange, IsEventInRange}
 use Rattle.fork_listing.specs.Listed.{state_shown}
 use Rattle.fork_listing.proofs.FallingRows.{fall_at, fresh_fall, opening_fall}
@@ -29,7 +31,7 @@ seen state = state_shown (shown state)
 abbrev pub line_at : ℕ → Row → Target
 line_at n row = record { number = n; parent = row.parent; q = row.q; end = seen row.state }
 
-line_get : (k : ℕ) (rows : List Row) (n m : ℕ) → m ≡ k + n → slice_get (targets_from k rows) n ≡ option_map (line_at m) (slice_get rows n)
+pub line_get : (k : ℕ) (rows : List Row) (n m : ℕ) → m ≡ k + n → slice_get (targets_from k rows) n ≡ option_map (line_at m) (slice_get rows n)
 line_get k [] n m e = refl
 line_get k (x ∷ rows) zero m e = let at : k ≡ m = omega arith in ap (λ i. Some (line_at i x)) at
 line_get k (x ∷ rows) (suc n) m e = line_get (suc k) rows n m (omega arith)
@@ -209,7 +211,7 @@ answers_end t n row at answer state open_yet in_range = first (nat_lt answer.sta
   where
     first : (b : Bool) → nat_lt answer.status 300 ≡ b
         → IsEnding t n at row state (cond b (accepts at) (cond (nat_lt answer.status 400) (redirects n at answer (taking_at t row answer.offers)) (stores at answer)))
-    first true e = ends_alone t n at row state (Ended (Accepted at)) true open_yet (never_arrives at) tt
+    first true e = ends_alone t n at row state (Ended (Accepted at)) true open_yet (arrives at) tt
     first false e = second (nat_lt answer.status 400) refl
       where
         low : IsStatus answer.status
@@ -402,6 +404,8 @@ pub record IsGrownCore (rules : Rules) (core : Core) : Type 0 where
   pub grown : IsGrownTable core.table core.taken
   pub ruled : core.table.rules ≡ rules
   pub arrivals : AreArrivals core.table.rows core.taken
+  pub some : 1 ≤ length core.table.rows
+  pub few : length core.table.rows ≤ most_targets
 
 offered_grows : (rules : Rules) (core : Core) (event : Event) → IsEventInRange event → IsGrownCore rules core → IsGrownCore rules (core_offered core event)
 offered_grows rules core event in_range h = go (is_full core event)
@@ -410,14 +414,34 @@ offered_grows rules core event in_range h = go (is_full core event)
     go true = h
     go false =
         let g = next_grows core.table event core.taken in_range h.grown in
-        record { grown = g.0; ruled = g.1 ∙ h.ruled; arrivals = next_arrivals core.table event core.taken h.arrivals }
+        let more = (rows_keep_numbers core.table event core.taken).length in
+        let one : 1 ≤ length core.table.rows = h.some in
+        record {
+          grown = g.0;
+          ruled = g.1 ∙ h.ruled;
+          arrivals = next_arrivals core.table event core.taken h.arrivals;
+          some = omega arith;
+          few = targets_bounded core.table event core.taken h.few;
+        }
 
 pub after_grows : (rules : Rules) (core : Core) (events : List Event) → AllByRecursion IsEventInRange events → IsGrownCore rules core → IsGrownCore rules (core_after core events)
 after_grows rules core [] in_range h = h
 after_grows rules core (event ∷ events) in_range h = after_grows rules (core_offered core event) events in_range.1 (offered_grows rules core event in_range.0 h)
 
-pub history_grows : (kind : Kind) (rules : Rules) (targets : List Named) (events : List Event) → AllByRecursion IsTargetInRange targets → AllByRecursion IsEventInRange events
+some_length : (targets : List Named) → targets ≢ [] → 1 ≤ length targets
+some_length [] some = absurd (some refl)
+some_length (target ∷ targets) some = omega arith
+
+pub history_grows : (kind : Kind) (rules : Rules) (targets : List Named) (events : List Event) → targets ≢ [] → length targets ≤ most_targets → AllByRecursion IsTargetInRange targets → AllByRecursion IsEventInRange events
     → IsGrownCore rules (core_after (opening_core kind rules targets) events)
-history_grows kind rules targets events small in_range =
+history_grows kind rules targets events some few small in_range =
+    let same : length (opening_core kind rules targets).table.rows ≡ length targets = each_target kind rules targets in
+    let one = some_length targets some in
     after_grows rules (opening_core kind rules targets) events in_range
-    (record { grown = opening_grown kind rules targets small; ruled = refl; arrivals = history_of_arrivals kind rules targets [] })
+    (record {
+      grown = opening_grown kind rules targets small;
+      ruled = refl;
+      arrivals = history_of_arrivals kind rules targets [];
+      some = omega arith;
+      few = omega arith;
+    })

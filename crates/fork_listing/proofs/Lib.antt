@@ -2,13 +2,12 @@ pub mod Lists
 pub mod Common
 pub mod laws
 mod Placing
-mod Sets
+mod Arrivals
 mod LineScores
-mod Listed
-mod Sorting
 mod Meanings
 mod Finals
 mod ListedRows
+mod Rankings
 mod SpelledParts
 mod SpelledLines
 mod SpelledListings

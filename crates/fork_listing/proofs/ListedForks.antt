@@ -1,17 +1,17 @@
 -- The listing of every fork is right.
-use Rattle.fork_listing.proofs.Common.{◌≡◌, ◌≢◌, ℕ, zero, suc, ◌≤◌, Bool, true, false, cond, List, [], ◌∷◌, ◌++◌, map, length, Option, Some, None, refl, sym, ap, subst, ◌∙◌, arith, inl, inr, slice_get, option_and_then, option_map}
-use Rattle.fork_listing.proofs.Common.{AllByRecursion, Kind, Rules, Row, Table, State, Ended, most_targets, Score, Before, Event, Choice, Best, Only503, NoAnswer408, IsChoice, IsFirst, stored_at, status_at}
-use Rattle.fork_listing.proofs.Common.{Core, opening_core, core_next, core_offered, core_after, is_full, End, Target, Ranked, Final, Verdict, Line, TargetLine, RankLine, FinalLine, most_arrival, most_number, arrival_of, ended_at, IsParent}
+use Rattle.fork_listing.proofs.Common.{◌≡◌, ◌≢◌, ℕ, zero, suc, ◌≤◌, true, false, List, [], ◌∷◌, ◌++◌, map, length, Option, Some, None, refl, sym, ap, subst, ◌∙◌, arith, inl, inr, slice_get, option_and_then, option_map}
+use Rattle.fork_listing.proofs.Common.{AllByRecursion, Rules, Row, Table, State, Ended, most_targets, Score, Before, Choice, Best, Only503, NoAnswer408, IsChoice, IsFirst, stored_at, status_at}
+use Rattle.fork_listing.proofs.Common.{Core, opening_core, core_after, End, Target, Ranked, Final, Verdict, Line, TargetLine, RankLine, most_arrival, most_number, arrival_of, ended_at, IsParent}
 use Rattle.fork_listing.proofs.Common.{rows_of, score_of, score_in, score_at, RanksBehind, final_of, IsChosen, IsRanking, Listing, AreInOrder, AreListed, IsRight, verdict_of, targets_of, listing_of, IsListingOf, IsStatus, IsEnd}
-use Rattle.fork_listing.proofs.Common.{IsNumberOrNone, IsTargetLine, IsRankLine, IsFinalLine, IsLine, IsListing, IsRightText, AreArrivals, HasScore, some_same, none_some, slice_get_within}
-use Rattle.fork_model.specs.Table.{Stored, Taken, Silent, Never, stored_of}
-use Rattle.fork_model.specs.History as history
+use Rattle.fork_listing.proofs.Common.{IsNumberOrNone, IsTargetLine, IsRankLine, IsFinalLine, IsLine, IsListing, IsRightText, AreArrivals, HasScore, some_same, none_some, slice_get_within, Accepted, false≢true}
+use Rattle.std.proofs.lemmas.List.Folds.{list_any_at}
+use Rattle.std.proofs.lemmas.Option.{get_or_from_slice_get}
+use Rattle.fork_model.specs.Table.{Stored, stored_of, is_accepted, is_succeeded}
 use Rattle.fork_model.specs.Choice as model
 use Rattle.fork_model.specs.Steps.{most_taken}
-use Rattle.fork_model.proofs.laws.ContactLemmas.{targets_bounded, each_target, taken_bounded}
-use Rattle.fork_model.proofs.laws.StepLemmas.{rows_keep_numbers}
+use Rattle.fork_model.proofs.laws.ContactLemmas.{taken_bounded}
 use Rattle.fork_model.proofs.laws.OrderLemmas.{Before-total}
-use Rattle.fork_listing.specs.declared.line.End.TheVariants as line_end
+use Rattle.fork_tree.specs.declared.row.End.TheVariants as line_end
 use Rattle.fork_listing.specs.Ranks.{rank_before}
 use Rattle.fork_text.proofs.laws.Lines as texts
 use Rattle.fork_context.specs.Led.{AreRules, IsLedTo}
@@ -19,36 +19,8 @@ use Rattle.fork_listing.specs.Accepted.{ListingsAreRight, AppendsRight}
 use Rattle.fork_listing.proofs.Finals.{status_seen}
 use Rattle.fork_listing.proofs.Meanings.{same_score}
 use Rattle.fork_listing.proofs.Growing.{IsKept}
-use Rattle.fork_listing.proofs.GrownTables.{seen, listed_row, row_listed, length-targets, IsGrownTable, history_grows}
+use Rattle.fork_listing.proofs.GrownTables.{seen, line_at, line_get, row_listed, length-targets, IsGrownTable, history_grows}
 use Rattle.fork_listing.proofs.AcceptedTexts.{scored_at, score_ends}
-
--- ---- how many rows there are
-
-pub record HasSize (core : Core) : Type 0 where
-  pub some : 1 ≤ length core.table.rows
-  pub few : length core.table.rows ≤ most_targets
-
-offered_size : (core : Core) (event : Event) → HasSize core → HasSize (core_offered core event)
-offered_size core event h = go (is_full core event)
-  where
-    go : (full : Bool) → HasSize (cond full core (core_next core event))
-    go true = h
-    go false =
-        let more = (rows_keep_numbers core.table event core.taken).length in
-        let one : 1 ≤ length core.table.rows = h.some in
-        record { some = omega arith; few = targets_bounded core.table event core.taken h.few }
-
-after_size : (core : Core) (events : List Event) → HasSize core → HasSize (core_after core events)
-after_size core [] h = h
-after_size core (event ∷ events) h = after_size (core_offered core event) events (offered_size core event h)
-
-opening_size : (kind : Kind) (rules : Rules) (targets : List history.Target) → targets ≢ [] → length targets ≤ most_targets → HasSize (opening_core kind rules targets)
-opening_size kind rules [] some few = absurd (some refl)
-opening_size kind rules (target ∷ targets) some few =
-    let same : length (opening_core kind rules (target ∷ targets)).table.rows ≡ length (target ∷ targets) = each_target kind rules (target ∷ targets) in
-    let le : length (target ∷ targets) ≤ most_targets = few in
-    let one : 1 ≤ length (target ∷ targets) = omega arith in
-    record { some = omega arith; few = omega arith }
 
 -- ---- a table whose rows stand as they may
 
@@ -66,15 +38,11 @@ state_score (Ended (Stored answer)) = refl
 state_score state = refl
 
 pub row_score : (rows : List Row) (n : ℕ) → option_map model.score_of (stored_at (slice_get rows n)) ≡ score_at (targets_of rows) n
-row_score rows n = go (slice_get rows n) refl
+row_score rows n = go (slice_get rows n) ∙ sym (ap (option_and_then (λ (t : Target). score_in t.end)) (line_get 0 rows n n (omega arith)))
   where
-    none : (o : Option Target) → slice_get (targets_of rows) n ≡ o → slice_get rows n ≡ None → None ≡ option_and_then (λ (t : Target). score_in t.end) o
-    none None is no_row = refl
-    none (Some target) is no_row = let r = row_listed rows n target is in absurd (none_some (sym no_row ∙ r.1))
-
-    go : (o : Option Row) → slice_get rows n ≡ o → option_map model.score_of (stored_at o) ≡ score_at (targets_of rows) n
-    go None is = none (slice_get (targets_of rows) n) refl is
-    go (Some row) is = state_score row.state ∙ sym (ap (option_and_then (λ (t : Target). score_in t.end)) (listed_row rows n row is))
+    go : (o : Option Row) → option_map model.score_of (stored_at o) ≡ option_and_then (λ (t : Target). score_in t.end) (option_map (line_at n) o)
+    go None = refl
+    go (Some row) = state_score row.state
 
 -- the rows that the lines tell of have the same scores
 lines_score : (rows : List Row) (n : ℕ) → option_map model.score_of (stored_at (slice_get rows n)) ≡ option_map model.score_of (stored_at (slice_get (rows_of (targets_of rows)) n))
@@ -137,17 +105,29 @@ module _ (t : Table) (at : ℕ) (ranks : List Ranked) (choice : Choice) (arrival
 
 -- ---- its lines
 
-end_line : (end : End) → IsKept end → ((a : ℕ) → arrival_of end ≡ Some a → a ≤ most_arrival) → IsEnd end
-end_line (line_end.Stored status arrival received) kept arrives = (kept.0, arrives arrival refl, kept.1)
-end_line (line_end.Taken arrival) kept arrives = arrives arrival refl
-end_line (line_end.Silent arrival) kept arrives = arrives arrival refl
-end_line line_end.Never kept arrives = tt
+accepted_seen : (state : State) (a : ℕ) → seen state ≡ line_end.Accepted a → is_accepted state ≡ true
+accepted_seen (Ended (Accepted b)) a e = refl
+accepted_seen state a e = absurd cc
+
+none_accepted : (rows : List Row) → is_succeeded rows ≡ false → (n : ℕ) (target : Target) → slice_get (targets_of rows) n ≡ Some target → (a : ℕ) → target.end ≡ line_end.Accepted a → ⊥
+none_accepted rows failed n target is a e =
+    let r = row_listed rows n target is in
+    let here = get_or_from_slice_get rows n r.0 r.0 r.1 in
+    let accepted = accepted_seen r.0.state a (sym (ap (λ (t : Target). t.end) r.2) ∙ e) in
+    false≢true (sym failed ∙ list_any_at (λ (row : Row). is_accepted row.state) rows n r.0 (slice_get_within rows n r.0 r.1) (ap (λ (row : Row). is_accepted row.state) here ∙ accepted))
+
+end_line : (end : End) → IsKept end → ((a : ℕ) → arrival_of end ≡ Some a → a ≤ most_arrival) → ((a : ℕ) → end ≡ line_end.Accepted a → ⊥) → IsEnd end
+end_line (line_end.Stored status arrival received) kept arrives none = (kept.0, arrives arrival refl, kept.1)
+end_line (line_end.Taken arrival) kept arrives none = arrives arrival refl
+end_line (line_end.Silent arrival) kept arrives none = arrives arrival refl
+end_line line_end.Never kept arrives none = tt
+end_line (line_end.Accepted arrival) kept arrives none = none arrival refl
 
 all_map : {X : Type 0} (f : X → Line) (xs : List X) → ((n : ℕ) (x : X) → slice_get xs n ≡ Some x → IsLine (f x)) → AllByRecursion IsLine (map f xs)
 all_map f [] each = tt
 all_map f (x ∷ xs) each = (each 0 x refl, all_map f xs (λ n y is. each (suc n) y is))
 
-module _ (t : Table) (at : ℕ) (ranks : List Ranked) (choice : Choice) (fit : IsFit t at) (ranking : IsRanking t.rules (targets_of t.rows) ranks) (chosen : IsChoice t.rules t.rows choice) where
+module _ (t : Table) (at : ℕ) (ranks : List Ranked) (choice : Choice) (fit : IsFit t at) (ranking : IsRanking t.rules (targets_of t.rows) ranks) (chosen : IsChoice t.rules t.rows choice) (failed : is_succeeded t.rows ≡ false) where
   abbrev targets : List Target
   targets = targets_of t.rows
 
@@ -165,7 +145,7 @@ module _ (t : Table) (at : ℕ) (ranks : List Ranked) (choice : Choice) (fit : I
   end_of_line : (n : ℕ) (target : Target) → slice_get targets n ≡ Some target → IsEnd target.end
   end_of_line n target is =
       end_line target.end (fit.grown.kept n target is).1
-      (λ a e. soon n a (ap (option_and_then (λ (x : Target). arrival_of x.end)) is ∙ e))
+      (λ a e. soon n a (ap (option_and_then (λ (x : Target). arrival_of x.end)) is ∙ e)) (none_accepted t.rows failed n target is)
 
   target_line : (n : ℕ) (target : Target) → slice_get targets n ≡ Some target → IsTargetLine target
   target_line n target is =
@@ -228,19 +208,18 @@ module _ (t : Table) (at : ℕ) (ranks : List Ranked) (choice : Choice) (fit : I
 fit_right : (t : Table) (at : ℕ) (text : List ℕ) → IsFit t at → IsListingOf t text → (verdict : Verdict) × IsRightText text verdict
 fit_right t at text fit l =
     let listing : Listing = listing_of t l.ranks l.choice in
-    (verdict_of listing, (listing, (l.spelled, is_listing t at l.ranks l.choice fit l.ranking l.chosen), is_right t at l.ranks l.choice fit l.ranking l.chosen, refl))
+    (verdict_of listing, (listing, (l.spelled, is_listing t at l.ranks l.choice fit l.ranking l.chosen l.failed), is_right t at l.ranks l.choice fit l.ranking l.chosen l.failed, refl))
 
 pub listings_right : ListingsAreRight
 listings_right core text h listed =
     let end : Core = core_after (opening_core h.kind h.rules h.targets) h.events in
-    let grown = history_grows h.kind h.rules h.targets h.events h.targets_in_range h.events_in_range in
-    let size = after_size (opening_core h.kind h.rules h.targets) h.events (opening_size h.kind h.rules h.targets h.some h.few) in
+    let grown = history_grows h.kind h.rules h.targets h.events h.some h.few h.targets_in_range h.events_in_range in
     fit_right end.table end.taken text
     (record {
       grown = grown.grown;
       soon = taken_bounded h.kind h.rules h.targets h.events h.few;
-      some = size.some;
-      few = size.few;
+      some = grown.some;
+      few = grown.few;
       rules = subst AreRules (sym grown.ruled) h.set;
       arrivals = grown.arrivals;
     })

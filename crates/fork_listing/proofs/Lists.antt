@@ -1,7 +1,9 @@
 -- Options and lists: what most of the proofs cite.
-use Rattle.std.proofs.Common.{◌≡◌, ℕ, zero, suc, ◌+◌, ◌<◌, ◌⊎◌, List, [], ◌∷◌, ◌++◌, length, Option, Some, None, refl, sym, subst, ◌∙◌, arith, slice_get, option_and_then}
+use Rattle.std.proofs.Common.{◌≡◌, ℕ, zero, suc, ◌+◌, ◌<◌, ◌≤◌, ◌⊎◌, List, [], ◌∷◌, length, Option, Some, None, refl, sym, subst, ◌∙◌, arith, slice_get, option_and_then}
 use Rattle.std.specs.List.{AllByRecursion}
-use Rattle.std.specs.Option.{option_map}
+use Rattle.std.specs.Prelude.{◌↔◌}
+use Rattle.std.specs.Option.{MatchOption, option_map}
+use Rattle.fork_listing.specs.First.{IsFirstToFail}
 
 pub some_same : {X : Type 0} {x y : X} → Some x ≡ Some y → x ≡ y
 some_same e = cc
@@ -35,10 +37,12 @@ pub mapped : {X Y : Type 0} (f : X → Y) (o : Option X) {y : Y} → option_map 
 mapped f None e = absurd (none_some e)
 mapped f (Some x) e = (x, refl, sym (some_same e))
 
-pub get_pushed : {X : Type 0} (xs : List X) (x : X) → slice_get (xs ++ x ∷ []) (length xs) ≡ Some x
-get_pushed [] x = refl
-get_pushed (y ∷ xs) x = get_pushed xs x
+-- what `find` over the places answers is the first to fail
+pub first_to_fail : (P : ℕ → Type 0) (bound : ℕ) (r : Option ℕ) → MatchOption r ((k : ℕ) → 0 ≤ k → k < bound → P k) (λ i. (0 ≤ i) × (i < bound) × (P i → ⊥) × ((k : ℕ) → 0 ≤ k → k < i → P k))
+    → IsFirstToFail P bound r
+first_to_fail P bound None h = λ n lt. h n (omega arith) lt
+first_to_fail P bound (Some i) h = (h.1, (λ n lt. h.3 n (omega arith) lt), h.2)
 
-pub length_pushed : {X : Type 0} (xs : List X) (x : X) → length (xs ++ x ∷ []) ≡ length xs + 1
-length_pushed [] x = refl
-length_pushed (y ∷ xs) x = omega (arith, length_pushed xs x)
+pub first_same : (P Q : ℕ → Type 0) → ((n : ℕ) → P n ↔ Q n) → (bound : ℕ) (r : Option ℕ) → IsFirstToFail P bound r → IsFirstToFail Q bound r
+first_same P Q same bound None h = λ n lt. (same n).0 (h n lt)
+first_same P Q same bound (Some i) h = (h.0, (λ n lt. (same n).0 (h.1 n lt)), (λ q. h.2 ((same i).1 q)))

@@ -6,11 +6,11 @@ use Rattle.sip_lex.proofs.laws.Splits.{pieces_lack}
 use Rattle.fork_listing.specs.Text.{phase_after, with_line, read_listing}
 use Rattle.fork_listing.specs.Spelled.{RefusedByFirst}
 use Rattle.fork_text.proofs.laws.Lines.{malformed}
-use Rattle.fork_listing.proofs.SpelledListings.{reader, ok_err}
+use Rattle.fork_listing.proofs.SpelledListings.{reader}
 
 nothing_due : (number : ℕ) (o : Option Listing) → or_line number o ≡ Err number → o ≡ None
 nothing_due number None e = refl
-nothing_due number (Some l) e = absurd (ok_err e)
+nothing_due number (Some l) e = absurd cc
 
 not_due : (draft : Draft) (line : Line) → drafted_line draft line ≡ None → phase_after draft.phase line ≡ None
 not_due draft line e = go (phase_after draft.phase line) refl e

@@ -4,6 +4,7 @@ use Rattle.fork_listing.proofs.Common.{plain_number_within, most_targets, Versio
 use Rattle.fork_listing.proofs.Common.{version_text, number_text, how_text, end_text, line_text, most_arrival, most_listed, most_q, most_number, before, read_status, read_parent, read_version, read_count, read_end, read_line, IsTargetLine}
 use Rattle.fork_listing.proofs.Common.{IsRankLine, IsFinalLine, IsLine, IsEnd, number_read, number_spelled, decimal_lacks, found_map, found_then, found_one, before_read, before_found}
 use Rattle.std.specs.List.{list_all}
+use Rattle.fork_tree.specs.declared.row.End.TheVariants as tree
 use Rattle.sip_lex.proofs.laws.Cuts.{Lacks-append, Lacks-pass}
 use Rattle.fork_text.proofs.laws.Preferred.{preferred_read, preferred_found, list_lacks}
 use Rattle.fork_listing.specs.declared.line.Word.{Word}
@@ -217,6 +218,7 @@ end_lacks (Stored status arrival received) h =
 end_lacks (Taken arrival) h = worded (codes "taken ") _ refl (decimal_lacks 10 arrival refl (omega arith))
 end_lacks (Silent arrival) h = worded (codes "silent ") _ refl (decimal_lacks 10 arrival refl (omega arith))
 end_lacks Never h = Lacks-pass is_plain 10 (codes "never") refl refl
+end_lacks (tree.Accepted arrival) h = absurd h
 
 fork_lacks : (version : Version) (count : ℕ) → IsLine (ForkLine version count) → Lacks 10 (line_text (ForkLine version count))
 fork_lacks version count h =

@@ -1,5 +1,5 @@
 -- A listing is read of exactly the text that spells it.
-use Rattle.fork_listing.proofs.Common.{◌≡◌, ℕ, zero, suc, ◌-◌, List, [], ◌∷◌, ◌++◌, map, length, Option, Some, None, Result, Ok, Err, refl, sym, ap, subst, ◌∙◌, arith, append_assoc, append-nil, slice_split, AllByRecursion}
+use Rattle.fork_listing.proofs.Common.{◌≡◌, ℕ, zero, suc, ◌-◌, List, [], ◌∷◌, ◌++◌, map, length, Option, Some, None, Ok, Err, refl, sym, ap, subst, ◌∙◌, arith, append_assoc, append-nil, slice_split, AllByRecursion}
 use Rattle.fork_listing.proofs.Common.{join_with_byte-slice_split, is, Rules, Version, First, Second, Third, Target, Ranked, Final, Phase, Line, ForkLine, PreferLine, DepthLine, TargetLine, RankLine, FinalLine, line_text, read_line}
 use Rattle.fork_listing.proofs.Common.{Listing, rule_lines, lines_text, listing_text, Draft, no_draft, in_phase, drafted_line, listing_in, or_line, read_from, IsLine, IsListing, same_Some}
 use Rattle.std.proofs.lemmas.Bool.{cond-false, ne_eqb}
@@ -11,24 +11,9 @@ use Rattle.fork_text.proofs.laws.Lines as texts
 use Rattle.fork_listing.specs.Spelled.{IsUsualElse, IsTextOf, ReadExactly, drafted_lines}
 use Rattle.fork_listing.proofs.SpelledLines.{line_read, line_found, line_lacks}
 
-abbrev found_as : Listing → Result Listing ℕ
-found_as l = Ok l
-
-ok_is : {x y : Listing} → found_as x ≡ found_as y → x ≡ y
-ok_is e = cc
-
-abbrev refused_as : ℕ → Result Listing ℕ
-refused_as n = Err n
-
-pub err_is : {m n : ℕ} → refused_as m ≡ refused_as n → m ≡ n
-err_is e = cc
-
-pub ok_err : {x : Listing} {n : ℕ} → found_as x ≡ refused_as n → ⊥
-ok_err e = absurd cc
-
 refused_at : (number m : ℕ) (o : Option Listing) → or_line number o ≡ Err m → number ≡ m
-refused_at number m None e = err_is e
-refused_at number m (Some l) e = absurd (ok_err e)
+refused_at number m None e = cc
+refused_at number m (Some l) e = absurd cc
 
 -- a listing is read one line at a time
 pub reader : IsReader IsLine IsLine line_text read_line drafted_line read_from
@@ -107,7 +92,7 @@ listing_read l h =
 
 listed_end : (number : ℕ) (l : Listing) (o : Option Listing) → or_line number o ≡ Ok l → o ≡ Some l
 listed_end number l None e = absurd cc
-listed_end number l (Some m) e = ap Some (ok_is e)
+listed_end number l (Some m) e = cc
 
 -- ---- lines that are due from the first to the last are those of a listing
 

@@ -4,6 +4,7 @@ use Rattle.fork_listing.proofs.Common.{option_map, decimal, eqb-false, eqb-true,
 use Rattle.fork_listing.proofs.Common.{Taken, Silent, Never, version_text, number_text, how_text, end_text, most_arrival, most_listed, most_number, before, read_status, read_parent, read_version, read_count, read_end, IsStatus, IsHow}
 use Rattle.fork_listing.proofs.Common.{IsEnd, IsNumberOrNone, number_read, number_spelled, decimal_lacks}
 use Rattle.std.proofs.Common.{◌^◌}
+use Rattle.fork_tree.specs.declared.row.End.TheVariants as tree
 use Rattle.std.specs.Char.{is_ascii_digit}
 use Rattle.std.proofs.lemmas.Bool.{and_parts}
 use Rattle.sip_lex.specs.Cut.{cut, behind}
@@ -104,6 +105,7 @@ end_read (Stored status arrival received) h =
 end_read (Taken arrival) h = ap (option_map Taken) (number_read most_arrival arrival h (omega arith))
 end_read (Silent arrival) h = ap (option_map Silent) (number_read most_arrival arrival h (omega arith))
 end_read Never h = refl
+end_read (tree.Accepted arrival) h = absurd h
 
 abbrev IsEndText : List ℕ → End → Type 0
 IsEndText text end = (text ≡ end_text end) × IsEnd end

@@ -1,73 +1,39 @@
 -- The branches of a listing, each rightly placed, are the rows of a tree, and its best answer is theirs.
-use Rattle.fork_listing.proofs.Common.{◌≡◌, ℕ, zero, suc, ◌+◌, ◌-◌, ◌<◌, ◌≤◌, ◌⊎◌, inl, inr, Bool, true, false, not, eqb, List, [], ◌∷◌, ◌++◌, length, map, drop, Option, Some, None, refl, ap, sym, subst, ◌∙◌, arith, append_assoc}
-use Rattle.fork_listing.proofs.Common.{append-nil, eqb-true, eq-eqb, false≢true, slice_get, option_map, Rules, stored_at, BestRef, RowRef, IsBest, End, Stored, Taken, Silent, Never, Target, HoldsBelow, rows_of, ended_at, IsParent, IsBefore}
-use Rattle.fork_listing.proofs.Common.{Follows, FollowsTarget, IsInPlace, IsPlaced, AreFormed, group_kept, row_behind, last_row, some_same, slice_get_within, get_pushed, length_pushed}
-use Rattle.std.proofs.Common.{if◌then◌else◌}
-use Rattle.fork_model.specs.Table.{stored_end}
+use Rattle.fork_listing.proofs.Common.{◌≡◌, ℕ, zero, suc, ◌+◌, ◌<◌, ◌≤◌, ◌⊎◌, inl, inr, Bool, true, false, not, eqb, List, [], ◌∷◌, length, map, Option, Some, None, refl, ap, sym, subst, ◌∙◌, arith}
+use Rattle.fork_listing.proofs.Common.{false≢true, slice_get, option_map, Rules, stored_at, BestRef, RowRef, IsBest, Target, HoldsBelow, rows_of, ended_at, IsParent, IsBefore}
+use Rattle.fork_listing.proofs.Common.{Follows, FollowsTarget, IsInPlace, IsPlaced, most_targets, some_same, slice_get_within}
+use Rattle.std.proofs.Common.{if◌then◌else◌, min, nat_eq}
+use Rattle.std.specs.Option.{option_eq}
+use Rattle.std.specs.Cmp.Lexicographic.{options_equiv}
+use Rattle.std.proofs.lemmas.Cmp.{nat_eq_equiv}
+use Rattle.fork_model.proofs.laws.WaitingLemmas.{option_same}
 use Rattle.fork_model.specs.Choice.{score_of}
-use Rattle.fork_tree.specs.States.{has_ended, end_of as tree_end_of}
+use Rattle.fork_tree.specs.States.{has_ended}
 use Rattle.fork_tree.specs.Given.{AreRows, given_row}
 use Rattle.fork_tree.proofs.laws.Ordering.{IsNext, ordered_rows}
-use Rattle.fork_listing.specs.Ranks.{end_of}
-use Rattle.fork_listing.specs.inner.TreeRows.{tree_end, is_same, group_beside, group_behind, rows_behind, tree_rows}
+use Rattle.fork_listing.specs.inner.TreeRows.{group_beside, group_behind, row_behind, rows_behind, tree_rows}
 
 -- ---- row by row
 
-drop_one : {X : Type 0} (xs : List X) (n : ℕ) (x : X) → slice_get xs n ≡ Some x → drop n xs ≡ x ∷ drop (suc n) xs
-drop_one [] n x is = absurd cc
-drop_one {X} (y ∷ xs) zero x is = ap (λ (z : X). z ∷ xs) (some_same is)
-drop_one (y ∷ xs) (suc n) x is = drop_one xs n x is
-
-drop_all : {X : Type 0} (xs : List X) (n : ℕ) → length xs ≤ n → drop n xs ≡ []
-drop_all [] zero h = refl
-drop_all [] (suc n) h = refl
-drop_all (x ∷ xs) zero h = absurd (omega (arith, h))
-drop_all (x ∷ xs) (suc n) h = drop_all xs n (omega (arith, h))
-
--- the rows so far, and those behind them
-abbrev pub AreBegun : List Target → ℕ → List RowRef → Type 0
-AreBegun targets n rows = rows ++ rows_behind (last_row rows) (drop n targets) ≡ tree_rows targets
-
-last_pushed : (rows : List RowRef) (row : RowRef) → last_row (rows ++ row ∷ []) ≡ Some row
-last_pushed rows row =
-    let at : length (rows ++ row ∷ []) - 1 ≡ length rows = omega (arith, length_pushed rows row) in
-    ap (slice_get (rows ++ row ∷ [])) at ∙ get_pushed rows row
-
-pub rows_more : (targets : List Target) (n : ℕ) (target : Target) (rows : List RowRef) → slice_get targets n ≡ Some target
-    → AreBegun targets n rows → AreBegun targets (n + 1) (rows ++ row_behind (last_row rows) target ∷ [])
-rows_more targets n target rows here was =
-    let before : Option RowRef = last_row rows in
-    let row : RowRef = row_behind before target in
-    let one : n + 1 ≡ suc n = omega arith in
-    ap (λ (o : Option RowRef). (rows ++ row ∷ []) ++ rows_behind o (drop (n + 1) targets)) (last_pushed rows row)
-    ∙ ap (λ k. (rows ++ row ∷ []) ++ rows_behind (Some row) (drop k targets)) one
-    ∙ append_assoc rows (row ∷ []) (rows_behind (Some row) (drop (suc n) targets))
-    ∙ ap (λ (ts : List Target). rows ++ rows_behind before ts) (sym (drop_one targets n target here))
-    ∙ was
-
-pub rows_done : (targets : List Target) (n : ℕ) (rows : List RowRef) → length targets ≤ n → AreBegun targets n rows → rows ≡ tree_rows targets
-rows_done targets n rows past was =
-    sym (append-nil rows)
-    ∙ ap (λ (ts : List Target). rows ++ rows_behind (last_row rows) ts) (sym (drop_all targets n past))
-    ∙ was
+-- the group of the row before
+abbrev group_kept : Option RowRef → ℕ
+group_kept None = 0
+group_kept (Some before) = before.group
 
 group_bound : (before : Option RowRef) (target : Target) → group_behind before target ≤ suc (group_kept before)
 group_bound None target = omega arith
-group_bound (Some b) target = at (is_same b.parent target.parent) (eqb b.q target.q)
+group_bound (Some b) target = at (option_eq nat_eq b.parent target.parent) (eqb b.q target.q)
   where
-    at : (s e : Bool) → (if s then (if e then b.group else suc b.group) else 0) ≤ suc b.group
+    at : (s e : Bool) → (if s then (if e then b.group else min (b.group + 1) 65535) else 0) ≤ suc b.group
     at true true = omega arith
     at true false = omega arith
     at false e = omega arith
 
 -- a group is no further on than the rows
-pub group_more : (n : ℕ) (target : Target) (rows : List RowRef) → group_kept (last_row rows) ≤ n
-    → group_kept (last_row (rows ++ row_behind (last_row rows) target ∷ [])) ≤ n + 1
-group_more n target rows low =
-    let P : Option RowRef → Type 0 = λ o. group_kept o ≤ n + 1 in
-    let bound : group_behind (last_row rows) target ≤ suc (group_kept (last_row rows)) = group_bound (last_row rows) target in
-    let here : group_behind (last_row rows) target ≤ n + 1 = omega (arith, bound, low) in
-    subst P (sym (last_pushed rows (row_behind (last_row rows) target))) here
+group_low : (before : Option RowRef) (targets : List Target) (n : ℕ) (row : RowRef) → slice_get (rows_behind before targets) n ≡ Some row → row.group ≤ suc (group_kept before) + n
+group_low before [] n row is = absurd cc
+group_low before (t ∷ ts) zero row is = omega (arith, group_bound before t, ap (λ (x : RowRef). x.group) (some_same is))
+group_low before (t ∷ ts) (suc n) row is = omega (arith, group_bound before t, group_low (Some (row_behind before t)) ts n row is)
 
 length_behind : (before : Option RowRef) (targets : List Target) → length (rows_behind before targets) ≡ length targets
 length_behind before [] = refl
@@ -123,41 +89,31 @@ follows_order targets (Some k) (Some m) h = elim h [
   | inr before ↦ inr (let up = rising (ended_at targets k) (ended_at targets m) before in omega (arith, up))
 ]
 
-same_found : (a b : Option ℕ) → is_same a b ≡ true → a ≡ b
-same_found None None e = refl
-same_found None (Some b) e = absurd (false≢true e)
-same_found (Some a) None e = absurd (false≢true e)
-same_found (Some a) (Some b) e = ap Some (eqb-true a b e)
+turned : (b : Bool) (g : ℕ) → g < 65535 → (if b then g else min (g + 1) 65535) ≡ (if not b then suc g else g)
+turned true g low = refl
+turned false g low = omega arith
 
-same_self : (a : Option ℕ) → is_same a a ≡ true
-same_self None = refl
-same_self (Some a) = eq-eqb a a refl
-
-turned : (b : Bool) (m n : ℕ) → (if b then m else n) ≡ (if not b then n else m)
-turned true m n = refl
-turned false m n = refl
-
-next_behind : (targets : List Target) (a : RowRef) (t : Target) → Follows targets a.parent t.parent → IsNext (order targets) a (row_behind (Some a) t)
-next_behind targets a t follows = at (is_same a.parent t.parent) refl
+next_behind : (targets : List Target) (a : RowRef) (t : Target) → a.group < 65535 → Follows targets a.parent t.parent → IsNext (order targets) a (row_behind (Some a) t)
+next_behind targets a t low follows = at (option_eq nat_eq a.parent t.parent) refl
   where
     group_if : Bool → ℕ
     group_if s = if s then group_beside a t.q else 0
 
-    at : (s : Bool) → is_same a.parent t.parent ≡ s → IsNext (order targets) a (row_behind (Some a) t)
-    at true e = inl (same_found a.parent t.parent e, ap group_if e ∙ turned (eqb a.q t.q) a.group (suc a.group))
+    at : (s : Bool) → option_eq nat_eq a.parent t.parent ≡ s → IsNext (order targets) a (row_behind (Some a) t)
+    at true e = inl (option_same a.parent t.parent e, ap group_if e ∙ turned (eqb a.q t.q) a.group low)
     at false e = elim (follows_order targets a.parent t.parent follows) [
-      | inl same ↦ absurd (false≢true (sym e ∙ ap (is_same a.parent) (sym same) ∙ same_self a.parent))
+      | inl same ↦ absurd (false≢true (sym e ∙ ap (option_eq nat_eq a.parent) (sym same) ∙ (options_equiv nat_eq_equiv).refl a.parent))
       | inr later ↦ inr (later, ap group_if e)
     ]
 
 -- ---- so they are the rows of a tree
 
-pub are_rows : (depth : ℕ) (targets : List Target) (rows : List RowRef) → AreFormed targets → HoldsBelow (IsPlaced depth targets) (length targets)
+pub are_rows : (depth : ℕ) (targets : List Target) (rows : List RowRef) → length targets ≤ most_targets → HoldsBelow (IsPlaced depth targets) (length targets)
     → rows ≡ tree_rows targets → AreRows rows
-are_rows depth targets rows formed placed is =
+are_rows depth targets rows few placed is =
     let P : List RowRef → Type 0 = λ x. AreRows x in
     subst P (sym is) (ordered_rows (order targets) (tree_rows targets) (record {
-      few = omega (arith, length_behind None targets, formed.few);
+      few = omega (arith, length_behind None targets, few);
       number = λ n row at.
           let h = row_found None targets n row at in
           ap (λ (x : RowRef). x.no) h.same ∙ (place n h.target h.here).number;
@@ -169,7 +125,7 @@ are_rows depth targets rows formed placed is =
       next = λ n a b ia ib.
           let h = next_found None targets n a b ia ib in
           let Q : RowRef → Type 0 = λ x. IsNext (order targets) a x in
-          subst Q (sym h.2) (next_behind targets a h.0 (behind n a h.0 ia h.1));
+          subst Q (sym h.2) (next_behind targets a h.0 (low n a ia) (behind n a h.0 ia h.1));
     }))
   where
     place : (n : ℕ) (target : Target) → slice_get targets n ≡ Some target → IsInPlace depth targets n target
@@ -182,6 +138,9 @@ are_rows depth targets rows formed placed is =
         let same : h.target.parent ≡ Some m = sym (ap (λ (x : RowRef). x.parent) h.same) ∙ e in
         subst Q same (place n h.target h.here).parent
 
+    low : (n : ℕ) (a : RowRef) → slice_get (tree_rows targets) n ≡ Some a → a.group < 65535
+    low n a ia = omega (arith, group_low None targets n a ia, slice_get_within (tree_rows targets) n a ia, length_behind None targets, few)
+
     behind : (n : ℕ) (a : RowRef) (t : Target) → slice_get (tree_rows targets) n ≡ Some a → slice_get targets (suc n) ≡ Some t → Follows targets a.parent t.parent
     behind n a t ia here =
         let k = row_found None targets n a ia in
@@ -192,15 +151,9 @@ are_rows depth targets rows formed placed is =
 
 -- ---- and the best of the tree is theirs
 
-same_end : (end : End) → stored_end (tree_end_of (tree_end end) [] []) ≡ stored_end (end_of end)
-same_end (Stored status arrival received) = refl
-same_end (Taken arrival) = refl
-same_end (Silent arrival) = refl
-same_end Never = refl
-
 same_stored : (before : Option RowRef) (targets : List Target) (n : ℕ) → stored_at (slice_get (map given_row (rows_behind before targets)) n) ≡ stored_at (slice_get (rows_of targets) n)
 same_stored before [] n = refl
-same_stored before (t ∷ ts) zero = same_end t.end
+same_stored before (t ∷ ts) zero = refl
 same_stored before (t ∷ ts) (suc n) = same_stored (Some (row_behind before t)) ts n
 
 pub best_same : (rules : Rules) (targets : List Target) (best : Option BestRef) → IsBest rules (map given_row (tree_rows targets)) best → IsBest rules (rows_of targets) best

@@ -7,8 +7,8 @@ use Rattle.fork_model.specs.Table.{most_targets}
 use Rattle.fork_text.specs.RuleLines.{prefer_text, depth_text}
 use Rattle.fork_listing.specs.declared.line.Version.{Version}
 use Rattle.fork_listing.specs.declared.line.Version.TheVariants.{First, Second, Third}
-use Rattle.fork_listing.specs.declared.line.End.{End}
-use Rattle.fork_listing.specs.declared.line.End.TheVariants.{Stored, Taken, Silent, Never}
+use Rattle.fork_tree.specs.declared.row.End.{End}
+use Rattle.fork_tree.specs.declared.row.End.TheVariants.{Stored, Taken, Silent, Never, Accepted}
 use Rattle.fork_listing.specs.declared.line.Target.{Target}
 use Rattle.fork_listing.specs.declared.line.Ranked.{Ranked}
 use Rattle.fork_listing.specs.declared.line.Final.{Final}
@@ -40,6 +40,8 @@ end_text (Stored status arrival received) = codes "stored " ++ (decimal status +
 end_text (Taken arrival) = codes "taken " ++ decimal arrival
 end_text (Silent arrival) = codes "silent " ++ decimal arrival
 end_text Never = codes "never"
+-- no line tells of a 2xx
+end_text (Accepted arrival) = codes "never"
 
 -- how a line is spelled
 abbrev pub line_text : Line → List ℕ

@@ -4,32 +4,23 @@ use Rattle.fork_model.specs.Table as table
 use Rattle.fork_model.specs.Choice.{Choice, IsChoice}
 use Rattle.fork_tree.specs.declared.row.State.{State}
 use Rattle.fork_tree.specs.declared.row.State.TheVariants as state
-use Rattle.fork_tree.specs.declared.row.End as shown_end
-use Rattle.fork_tree.specs.declared.row.End.TheVariants as shown
 use Rattle.fork_context.specs.declared.row.RowView.{RowView}
 use Rattle.fork_context.specs.RowShown.{row_shown}
 use Rattle.fork_listing.specs.declared.line.Version.TheVariants.{Third}
-use Rattle.fork_listing.specs.declared.line.End.{End}
-use Rattle.fork_listing.specs.declared.line.End.TheVariants.{Stored, Taken, Silent, Never}
+use Rattle.fork_tree.specs.declared.row.End.{End}
+use Rattle.fork_tree.specs.declared.row.End.TheVariants.{Never}
 use Rattle.fork_listing.specs.declared.line.Target.{Target}
 use Rattle.fork_listing.specs.declared.line.Ranked.{Ranked}
 use Rattle.fork_listing.specs.Ranks.{final_of}
 use Rattle.fork_listing.specs.Ranking.{IsRanking}
 use Rattle.fork_listing.specs.Text.{Listing, listing_text}
 
--- how a branch has ended; no other end is left once all have ended and none was answered with a 2xx
-abbrev pub end_shown : shown_end.End → End
-end_shown (shown.Stored status arrival received) = Stored status arrival received
-end_shown (shown.Taken arrival) = Taken arrival
-end_shown (shown.Silent arrival) = Silent arrival
-end_shown shown.Never = Never
-end_shown (shown.Accepted arrival) = Never
-
+-- how a branch has ended; no other state is left once all have
 abbrev pub state_shown : State → End
 state_shown state.Idle = Never
 state_shown state.Trying = Never
 state_shown (state.Rung cancelled) = Never
-state_shown (state.Ended end) = end_shown end
+state_shown (state.Ended end) = end
 
 abbrev pub target_shown : RowView → Target
 target_shown view = record { number = view.row.no; parent = view.row.parent; q = view.row.q; end = state_shown view.row.state }

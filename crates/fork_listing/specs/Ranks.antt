@@ -4,23 +4,16 @@ use Rattle.fork_model.specs.Table as table
 use Rattle.fork_model.specs.Table.{Row, Rules}
 use Rattle.fork_model.specs.Rank.{Score, Before}
 use Rattle.fork_model.specs.Choice.{Choice, Best, Only503, NoAnswer408, IsChoice, status_sent}
-use Rattle.fork_listing.specs.declared.line.End.{End}
-use Rattle.fork_listing.specs.declared.line.End.TheVariants.{Stored, Taken, Silent, Never}
+use Rattle.fork_tree.specs.States.{end_of}
+use Rattle.fork_tree.specs.declared.row.End.{End}
+use Rattle.fork_tree.specs.declared.row.End.TheVariants.{Stored, Taken, Silent, Never, Accepted}
 use Rattle.fork_listing.specs.declared.line.Target.{Target}
 use Rattle.fork_listing.specs.declared.line.Ranked.{Ranked}
 use Rattle.fork_listing.specs.declared.line.Final.{Final}
 
--- the end that a line tells of, without contacts and challenges
-abbrev pub end_of : End → table.End
-end_of (Stored status arrival received) =
-    table.Stored (record { status = status; arrival = arrival; received = received; left = []; challenges = [] })
-end_of (Taken arrival) = table.Taken arrival
-end_of (Silent arrival) = table.Silent arrival
-end_of Never = table.Never
-
--- the row that a line tells of; of its key, place and group it tells nothing
+-- the row that a line tells of; of its key, place and group, of contacts and challenges it tells nothing
 abbrev pub row_of : Target → Row
-row_of target = record { key = []; q = target.q; place = 0; parent = target.parent; group = 0; state = table.Ended (end_of target.end) }
+row_of target = record { key = []; q = target.q; place = 0; parent = target.parent; group = 0; state = table.Ended (end_of target.end [] []) }
 
 abbrev pub rows_of : List Target → List Row
 rows_of targets = map row_of targets
@@ -42,6 +35,7 @@ score_in (Stored status arrival received) = Some (record { status = status; arri
 score_in (Taken arrival) = None
 score_in (Silent arrival) = None
 score_in Never = None
+score_in (Accepted arrival) = None
 
 abbrev pub score_at : List Target → ℕ → Option Score
 score_at targets n = option_and_then (λ (target : Target). score_in target.end) (slice_get targets n)

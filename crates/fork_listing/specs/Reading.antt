@@ -10,8 +10,8 @@ use Rattle.fork_listing.specs.declared.line.Word.{Word}
 use Rattle.fork_listing.specs.declared.line.Word.TheVariants as word
 use Rattle.fork_listing.specs.declared.line.Version.{Version}
 use Rattle.fork_listing.specs.declared.line.Version.TheVariants.{First, Second, Third}
-use Rattle.fork_listing.specs.declared.line.End.{End}
-use Rattle.fork_listing.specs.declared.line.End.TheVariants.{Stored, Taken, Silent, Never}
+use Rattle.fork_tree.specs.declared.row.End.{End}
+use Rattle.fork_tree.specs.declared.row.End.TheVariants.{Stored, Taken, Silent, Never}
 use Rattle.fork_listing.specs.declared.line.Target.{Target}
 use Rattle.fork_listing.specs.declared.line.Ranked.{Ranked}
 use Rattle.fork_listing.specs.declared.line.Final.{Final}

@@ -5,8 +5,8 @@ use Rattle.fork_rank.specs.Preferred.{IsPreferredList}
 use Rattle.fork_model.specs.Table.{Rules, most_targets}
 use Rattle.fork_listing.specs.declared.line.Version.{Version}
 use Rattle.fork_listing.specs.declared.line.Version.TheVariants.{First, Second, Third}
-use Rattle.fork_listing.specs.declared.line.End.{End}
-use Rattle.fork_listing.specs.declared.line.End.TheVariants.{Stored, Taken, Silent, Never}
+use Rattle.fork_tree.specs.declared.row.End.{End}
+use Rattle.fork_tree.specs.declared.row.End.TheVariants.{Stored, Taken, Silent, Never, Accepted}
 use Rattle.fork_listing.specs.declared.line.Target.{Target}
 use Rattle.fork_listing.specs.declared.line.Ranked.{Ranked}
 use Rattle.fork_listing.specs.declared.line.Final.{Final}
@@ -30,6 +30,7 @@ IsEnd (Stored status arrival received) = IsStatus status × (arrival ≤ most_ar
 IsEnd (Taken arrival) = arrival ≤ most_arrival
 IsEnd (Silent arrival) = arrival ≤ most_arrival
 IsEnd Never = Unit {0}
+IsEnd (Accepted arrival) = ⊥
 
 abbrev pub IsNumberOrNone : Option ℕ → Type 0
 IsNumberOrNone None = Unit {0}

@@ -1,7 +1,7 @@
 -- Which branches may stand in a listing, line by line: what a fork can come to (RFC 3261 sections 16.5 to 16.7).
 use Rattle.std.specs.Prelude.{◌≡◌, ◌<◌, ◌≤◌, ◌⊎◌, ℕ, zero, suc, ◌&&◌, nat_lt, Bool, true, false, List, Option, Some, None, slice_get, option_and_then}
-use Rattle.fork_listing.specs.declared.line.End.{End}
-use Rattle.fork_listing.specs.declared.line.End.TheVariants.{Stored, Taken, Silent, Never}
+use Rattle.fork_tree.specs.declared.row.End.{End}
+use Rattle.fork_tree.specs.declared.row.End.TheVariants.{Stored, Taken, Silent, Never, Accepted}
 use Rattle.fork_listing.specs.declared.line.Target.{Target}
 
 -- the position of the event that ended a branch
@@ -10,6 +10,7 @@ arrival_of (Stored status arrival received) = Some arrival
 arrival_of (Taken arrival) = Some arrival
 arrival_of (Silent arrival) = Some arrival
 arrival_of Never = None
+arrival_of (Accepted arrival) = Some arrival
 
 abbrev pub ended_at : List Target → ℕ → Option ℕ
 ended_at targets n = option_and_then (λ (target : Target). arrival_of target.end) (slice_get targets n)
@@ -20,6 +21,7 @@ is_redirection (Stored status arrival received) = received && nat_lt status 400
 is_redirection (Taken arrival) = true
 is_redirection (Silent arrival) = false
 is_redirection Never = false
+is_redirection (Accepted arrival) = false
 
 abbrev pub is_redirected : Option Target → Bool
 is_redirected None = false

@@ -1,8 +1,7 @@
-pub mod HeadView
 pub mod LineView
 pub mod Near
 pub mod ReadView
-pub mod Sorting
+pub mod Shown
 pub mod Spelled
 pub mod Stored
 pub mod Text

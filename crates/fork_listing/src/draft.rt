@@ -1,5 +1,5 @@
 //! A whole listing, read line by line.
-ghost use Rattle.std.specs.Prelude.{◌≡◌, ◌++◌, ◌∷◌, [], OnOk, IfOk, Some, None, if◌then◌else◌};
+ghost use Rattle.std.specs.Prelude.{◌≡◌, OnOk, IfOk, Some, None, if◌then◌else◌};
 ghost use Rattle.fork_listing.specs.inner.LineView.{line_of};
 ghost use Rattle.fork_listing.specs.Text.{targets_due, phase_after, with_line, no_draft, drafted, finished_draft, read_listing};
 ghost use Rattle.fork_listing.specs.inner.ReadView.{GivesListing};
@@ -79,16 +79,16 @@ impl From<AllocError> for ReadFault {
     }
 }
 
-/// A listing: its version, the rules of the fork, its branches, its stored answers in order of rank, and the answer that
+/// A listing: its version, how many targets its first line says that there are, the rules of the fork, its branches, its stored answers in order of rank, and the answer that
 /// went up.
 #[derive(Drop)]
 pub struct Listing<A: Allocator> {
-    version: Version,
-    count: u16,
-    rules: Rules,
-    targets: Vec<Target, A>,
-    ranks: Vec<Ranked, A>,
-    last: Final,
+    pub(crate) version: Version,
+    pub(crate) count: u16,
+    pub(crate) rules: Rules,
+    pub(crate) targets: Vec<Target, A>,
+    pub(crate) ranks: Vec<Ranked, A>,
+    pub(crate) last: Final,
 }
 
 impl<A: Allocator> Model for Listing<A> {
@@ -132,49 +132,19 @@ impl<A: Allocator + Clone> Draft<A> {
         })
     }
 
-    fn set_phase(&mut self, phase: Phase)
-        ensures { self.new ≡ record self.old { phase = phase } }
-    {
-        self.phase = phase;
-    }
-
-    fn set_version(&mut self, version: Version, count: u16)
-        ensures { self.new ≡ record self.old { version = version; count = count } }
-    {
-        self.version = version;
-        self.count = count;
-    }
-
-    fn set_rules(&mut self, rules: Rules)
-        ensures { self.new ≡ record self.old { rules = rules } }
-    {
-        self.rules = rules;
-    }
-
-    fn add_target(&mut self, target: Target) -> Result<(), AllocError>
-        ensures { OnOk result (self.new ≡ record self.old { targets = self.old.targets ++ target ∷ [] }) }
-    {
-        self.targets.push(target)?;
-        Ok(())
-    }
-
-    fn add_ranked(&mut self, ranked: Ranked) -> Result<(), AllocError>
-        ensures { OnOk result (self.new ≡ record self.old { ranks = self.old.ranks ++ ranked ∷ [] }) }
-    {
-        self.ranks.push(ranked)?;
-        Ok(())
-    }
-
     /// Adds what a line says.
     fn add_line(&mut self, line: Line) -> Result<(), AllocError>
         ensures { OnOk result (self.new ≡ with_line self.old (line_of line)) }
     {
         match line {
-            Line::Fork(version, count) => self.set_version(version, count),
-            Line::Prefer(preferred) => self.set_rules(with_preferred(self.rules, preferred)),
-            Line::Depth(depth) => self.set_rules(with_depth(self.rules, depth)),
-            Line::Target(target) => self.add_target(target)?,
-            Line::Rank(ranked) => self.add_ranked(ranked)?,
+            Line::Fork(version, count) => {
+                self.version = version;
+                self.count = count;
+            }
+            Line::Prefer(preferred) => self.rules = with_preferred(self.rules, preferred),
+            Line::Depth(depth) => self.rules = with_depth(self.rules, depth),
+            Line::Target(target) => self.targets.push(target)?,
+            Line::Rank(ranked) => self.ranks.push(ranked)?,
             Line::Final(_) => {}
         }
         Ok(())
@@ -191,7 +161,7 @@ impl<A: Allocator + Clone> Draft<A> {
             return Ok(false);
         };
         self.add_line(line)?;
-        self.set_phase(phase);
+        self.phase = phase;
         Ok(true)
     }
 
@@ -218,46 +188,6 @@ impl<A: Allocator + Clone> Draft<A> {
             }),
             _ => Err(ReadFault::Line(number)),
         }
-    }
-}
-
-impl<A: Allocator> Listing<A> {
-    pub fn version(&self) -> Version
-        ensures { result ≡ self.now.version }
-    {
-        self.version
-    }
-
-    /// How many targets its first line says that there are.
-    pub fn count(&self) -> u16
-        ensures { result ≡ self.now.count }
-    {
-        self.count
-    }
-
-    pub fn rules(&self) -> Rules
-        ensures { result ≡ self.now.rules }
-    {
-        self.rules
-    }
-
-    pub fn targets(&self) -> &[Target]
-        ensures { result.now ≡ self.now.targets }
-    {
-        &self.targets
-    }
-
-    pub fn ranks(&self) -> &[Ranked]
-        ensures { result.now ≡ self.now.ranks }
-    {
-        &self.ranks
-    }
-
-    /// The answer that went up.
-    pub fn last(&self) -> Final
-        ensures { result ≡ self.now.last }
-    {
-        self.last
     }
 }
 

@@ -19,7 +19,6 @@ pub fn accepted_listing_tells_the_choice()
 /// refused by the number of its first line that is not of the form due in its place.
 ///
 /// A law over the definitions, with nothing to run.
-#[tactic(auto, using(crate::proofs::SpelledListings::read_exactly, crate::proofs::MalformedLines::refused_by_first))]
 pub fn listing_is_read_exactly()
     ensures exactly { ReadExactly }
     ensures refused { RefusedByFirst }
@@ -28,7 +27,6 @@ pub fn listing_is_read_exactly()
 /// `check` accepts exactly the texts of right listings, want of memory aside.
 ///
 /// A law over the definitions, with nothing to run.
-#[tactic(auto, using(crate::proofs::AcceptedTexts::accepted_right, crate::proofs::AcceptedTexts::right_accepted))]
 pub fn right_texts_are_accepted()
     ensures accepted { AcceptedTextsAreRight }
     ensures right { RightTextsAreAccepted }
@@ -37,7 +35,6 @@ pub fn right_texts_are_accepted()
 /// Whatever has happened to a fork, its listing is right, so that `check` accepts it (RFC 3261 sections 16.5 to 16.7).
 ///
 /// A law over the definitions, with nothing to run.
-#[tactic(auto, using(crate::proofs::ListedForks::listings_right))]
 pub fn listings_of_forks_are_right()
     ensures { ListingsAreRight }
 {}

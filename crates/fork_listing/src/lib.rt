@@ -16,5 +16,5 @@ pub use law::{
     a_fork_has_one_listing, accepted_listing_tells_the_choice, listing_is_read_exactly,
     listings_of_forks_are_right, right_texts_are_accepted, the_choice_is_listed_first,
 };
-pub use lister::{ListFault, listing};
+pub use lister::{ListFault, listing, status_at};
 pub use refusal::{CheckFault, Verdict, check};

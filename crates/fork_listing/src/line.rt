@@ -9,6 +9,7 @@ ghost use Rattle.fork_listing.specs.inner.LineView.{line_of};
 
 use fork_rank::{MOST_TARGETS, Preferred, Status};
 use fork_text::{Depth, read_depth, read_number, read_number_before, read_preferred};
+use fork_tree::End;
 use sip_lex::{cut_at, read_plain_number};
 
 /// A q is in thousandths, and at most one.
@@ -25,28 +26,8 @@ pub enum Version {
     Third,
 }
 
-/// How a branch ended; an arrival is the position of the event that ended it.
-#[derive(Clone, Copy, Debug, PartialEq, Eq)]
-pub enum End {
-    /// With an answer that is stored: received from the branch, or assumed by the proxy.
-    Stored {
-        status: Status,
-        arrival: u32,
-        received: bool,
-    },
-    /// With a 3xx all of whose contacts were taken.
-    Taken {
-        arrival: u32,
-    },
-    /// Cancelled, and given up without an answer.
-    Silent {
-        arrival: u32,
-    },
-    /// It was never tried.
-    Never,
-}
-
-/// A branch: its number, the number of the branch it stands under (None: an initial target), its q in thousandths.
+/// A branch: its number, the number of the branch it stands under (None: an initial target), its q in thousandths, and
+/// how it ended, other than with a 2xx.
 #[derive(Clone, Copy, Debug, PartialEq, Eq)]
 pub struct Target {
     pub number: u16,

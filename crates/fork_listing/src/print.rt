@@ -5,9 +5,10 @@ ghost use Rattle.fork_listing.specs.Line.{number_text, how_text, end_text, line_
 ghost use Rattle.fork_listing.specs.inner.Text.{head_text, targets_text, ranks_text};
 ghost use Rattle.fork_text.specs.RuleLines.{ended};
 
-use crate::line::{End, Ranked, Target};
+use crate::line::{Ranked, Target};
 use fork_rank::Rules;
 use fork_text::{append, append_depth, append_preferred};
+use fork_tree::End;
 use sip_lex::append_decimal;
 use std::alloc::{AllocError, Allocator};
 
@@ -64,7 +65,7 @@ fn append_end<A: Allocator>(text: &mut Vec<u8, A>, end: End) -> Result<(), Alloc
             append(text, b"silent ")?;
             append_decimal(text, u64::from(arrival))
         }
-        End::Never => append(text, b"never"),
+        End::Never | End::Accepted { .. } => append(text, b"never"),
     }
 }
 

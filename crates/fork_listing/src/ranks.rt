@@ -1,17 +1,17 @@
 //! The stored answers of a listing in order of rank, and the answer that goes up (RFC 3261 section 16.7 step 6).
-ghost use Rattle.std.specs.Prelude.{◌≡◌, ◌↔◌, IsTrue, IfOk, is_some, not, ◌||◌, Some, length};
-ghost use Rattle.fork_model.specs.Rank.{Before};
-ghost use Rattle.fork_listing.specs.First.{IsFirstToFail};
-ghost use Rattle.fork_listing.specs.inner.Near.{Holds};
+ghost use Rattle.std.specs.Prelude.{◌≡◌, ◌↔◌, IsTrue, IfOk, Some, length, map};
+ghost use Rattle.std.specs.BTreeSet.{IsFromIterResult};
 ghost use Rattle.std.specs.Ordering.{nat_cmp};
-ghost use Rattle.std.specs.BTreeSet.{contains};
+ghost use Rattle.fork_model.specs.Rank.{Before};
+ghost use Rattle.std.specs.Bool.{MatchBool};
+ghost use Rattle.fork_listing.specs.First.{IsFirstToFail};
 ghost use Rattle.fork_listing.specs.Ranks.{score_of, score_in, score_at, RanksBehind, rank_before, IsInOrder, IsOrdered, IsListed};
-ghost use Rattle.fork_listing.specs.inner.Stored.{ranked_in, AreNumbered, final_of_best, number_at};
+ghost use Rattle.fork_listing.specs.inner.Stored.{ranked_in, final_of_best, number_in, IsCounted};
 
-use crate::line::{End, Final, Ranked, Target};
-use crate::targets::{note, target_at};
+use crate::line::{Final, Ranked, Target};
+use crate::targets::target_at;
 use fork_rank::{Rules, ranks_before};
-use fork_tree::BestRef;
+use fork_tree::{BestRef, End};
 use std::alloc::{AllocError, Allocator};
 use std::collections::BTreeSet;
 
@@ -25,7 +25,7 @@ fn is_answer(end: End, ranked: &Ranked) -> bool
             arrival,
             ..
         } => status == ranked.status && arrival == ranked.arrival,
-        End::Taken { .. } | End::Silent { .. } | End::Never => false,
+        _ => false,
     }
 }
 
@@ -38,7 +38,7 @@ fn is_stored(targets: &[Target], ranked: &Ranked) -> bool
     }
 }
 
-pub fn goes_before(rules: &Rules, first: &Ranked, later: &Ranked) -> bool
+fn goes_before(rules: &Rules, first: &Ranked, later: &Ranked) -> bool
     ensures { IsTrue result ↔ Before rules.now (score_of first.now) (score_of later.now) }
 {
     ranks_before(
@@ -79,77 +79,33 @@ fn is_in_order(
     is_stored(targets, ranked) && ranks_behind(rules, rank_before(ranks, k), ranked)
 }
 
+fn is_misordered(rules: &Rules, targets: &[Target], ranks: &[Ranked], k: usize) -> bool
+    ensures { MatchBool result (IsOrdered rules.now targets.now ranks.now k → ⊥) (IsOrdered rules.now targets.now ranks.now k) }
+{
+    match ranks.get(k) {
+        None => false,
+        Some(ranked) => !is_in_order(rules, targets, ranks, k, ranked),
+    }
+}
+
 /// The first line that tells of no stored answer, or of one that does not rank behind that of the line before.
 pub fn first_misordered(rules: &Rules, targets: &[Target], ranks: &[Ranked]) -> Option<usize>
     ensures { IsFirstToFail (IsOrdered rules.now targets.now ranks.now) (length ranks.now) result }
 {
-    let mut k = 0;
-    while k < ranks.len() {
-        if !is_in_order(rules, targets, ranks, k, &ranks[k]) {
-            return Some(k);
-        }
-        k += 1;
-    }
-    None
+    (0..ranks.len()).find(|k| is_misordered(rules, targets, ranks, *k))
 }
 
 /// The numbers that the lines name.
 fn numbers_of<A: Allocator + Clone>(
     alloc: A,
     ranks: &[Ranked],
-) -> Result<BTreeSet<u32, A>, AllocError>
-    ensures { IfOk result (λ numbers. Holds numbers (number_at ranks.now) (length ranks.now)) }
+) -> Result<BTreeSet<usize, A>, AllocError>
+    ensures { IfOk result (IsFromIterResult nat_cmp (map number_in ranks.now)) }
 {
-    let mut numbers = BTreeSet::new(alloc);
-    let mut k = 0;
-    while k < ranks.len() {
-        note(&mut numbers, Some(u32::from(ranks[k].number)))?;
-        k += 1;
-    }
-    Ok(numbers)
-}
-
-fn has_stored(end: End) -> bool
-    ensures { result ≡ is_some (score_in end) }
-{
-    matches!(end, End::Stored { .. })
-}
-
-fn has_line<A: Allocator>(numbers: &BTreeSet<u32, A>, number: u16) -> bool
-    ensures { result ≡ contains nat_cmp numbers.now number }
-{
-    numbers.contains(&u32::from(number))
-}
-
-/// Whether the branch has no stored answer, or that has its line.
-fn is_accounted<A: Allocator>(numbers: &BTreeSet<u32, A>, target: &Target) -> bool
-    ensures { result ≡ not (is_some (score_in target.now.end)) || contains nat_cmp numbers.now target.now.number }
-{
-    !has_stored(target.end) || has_line(numbers, target.number)
-}
-
-/// The first branch whose stored answer has no line.
-///
-/// # Errors
-///
-/// Only where the allocator refuses.
-pub fn first_unlisted<A: Allocator + Clone>(
-    alloc: A,
-    targets: &[Target],
-    ranks: &[Ranked],
-) -> Result<Option<usize>, AllocError>
-    requires numbered { AreNumbered targets.now }
-    ensures { IfOk result (IsFirstToFail (IsListed targets.now ranks.now) (length targets.now)) }
-{
-    let numbers = numbers_of(alloc, ranks)?;
-    let mut n = 0;
-    while n < targets.len() {
-        if !is_accounted(&numbers, &targets[n]) {
-            return Ok(Some(n));
-        }
-        n += 1;
-    }
-    Ok(None)
+    ranks
+        .iter()
+        .map(|ranked| usize::from(ranked.number))
+        .collect(alloc)
 }
 
 /// The stored answer of a branch.
@@ -166,8 +122,34 @@ pub fn stored_in(target: &Target) -> Option<Ranked>
             number: target.number,
             arrival,
         }),
-        End::Taken { .. } | End::Silent { .. } | End::Never => None,
+        _ => None,
     }
+}
+
+/// Whether the branch has a stored answer, and none of these numbers.
+fn is_unlisted<A: Allocator>(targets: &[Target], numbers: &BTreeSet<usize, A>, n: usize) -> bool
+    ensures { MatchBool result (IsCounted targets.now numbers.now n → ⊥) (IsCounted targets.now numbers.now n) }
+{
+    match targets.get(n) {
+        None => false,
+        Some(target) => stored_in(target).is_some() && !numbers.contains(&n),
+    }
+}
+
+/// The first branch whose stored answer has no line.
+///
+/// # Errors
+///
+/// Only where the allocator refuses.
+pub fn first_unlisted<A: Allocator + Clone>(
+    alloc: A,
+    targets: &[Target],
+    ranks: &[Ranked],
+) -> Result<Option<usize>, AllocError>
+    ensures { IfOk result (IsFirstToFail (IsListed targets.now ranks.now) (length targets.now)) }
+{
+    let numbers = numbers_of(alloc, ranks)?;
+    Ok((0..targets.len()).find(|n| is_unlisted(targets, &numbers, *n)))
 }
 
 /// Whether the line says that the first answer goes up: a 500 in place of a 503, a 408 where nothing is stored.

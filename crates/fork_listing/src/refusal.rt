@@ -1,22 +1,17 @@
 //! Whether a text is the listing of a fork as it may have ended, and tells its choice.
-ghost use Rattle.std.specs.Prelude.{◌≡◌, ◌+◌, IfOk, IfErr, length};
+ghost use Rattle.std.specs.Prelude.{◌≡◌, ◌≤◌, IfOk, IfErr, length};
+ghost use Rattle.fork_model.specs.Table.{most_targets};
 ghost use Rattle.fork_listing.specs.declared.refusal.Verdict as spec;
 ghost use Rattle.fork_listing.specs.Accepted.{IsRightText, IsOkElseNoMemory, IsLineNamed};
 ghost use Rattle.fork_listing.specs.Text.{read_listing};
 ghost use Rattle.fork_listing.specs.Checking.{IsChecked, IsVerdictOf, first_target};
-ghost use Rattle.fork_listing.specs.inner.HeadView.{listing_with, AreBranchesChecked, IsOrderChecked, AreListedChecked, IsLastChecked};
-ghost use Rattle.fork_listing.specs.First.{HoldsBelow};
-ghost use Rattle.fork_listing.specs.Targets.{IsPlaced};
-ghost use Rattle.fork_listing.specs.inner.Stored.{AreNumbered};
-ghost use Rattle.fork_listing.specs.inner.TreeRows.{AreFormed};
 
 use crate::choice::best_stored;
 use crate::draft::{Listing, ReadFault};
-use crate::line::{Final, Ranked, Target, Version};
+use crate::line::Version;
 use crate::ranks::{first_misordered, first_unlisted, is_final_of};
 use crate::targets::first_misplaced;
 use bumpalo::Bump;
-use fork_rank::Rules;
 use std::alloc::{AllocError, Allocator};
 use thiserror::Error;
 
@@ -71,107 +66,35 @@ fn first_target(version: Version) -> usize
     }
 }
 
-/// What a listing tells beside its branches and ranks.
-#[derive(Clone, Copy)]
-struct Head {
-    version: Version,
-    count: u16,
-    rules: Rules,
-    last: Final,
-}
-
-/// Whether each branch stands as it may.
-fn check_branches<A: Allocator + Clone>(
-    alloc: A,
-    head: &Head,
-    targets: &[Target],
-) -> Result<(), CheckFault>
-    ensures { AreBranchesChecked head.now targets.now result }
-{
-    match first_misplaced(alloc, head.rules.depth(), targets)? {
-        None => Ok(()),
-        Some(n) => Err(CheckFault::Tree(first_target(head.version) + n)),
-    }
-}
-
-/// Whether each line of the ranks tells of a stored answer, and they are in order.
-fn check_order(head: &Head, targets: &[Target], ranks: &[Ranked]) -> Result<(), CheckFault>
-    ensures { IsOrderChecked head.now targets.now ranks.now result }
-{
-    match first_misordered(&head.rules, targets, ranks) {
-        None => Ok(()),
-        Some(k) => Err(CheckFault::Order(first_target(head.version) + usize::from(head.count) + k)),
-    }
-}
-
-/// Whether each stored answer is listed.
-fn check_listed<A: Allocator + Clone>(
-    alloc: A,
-    targets: &[Target],
-    ranks: &[Ranked],
-) -> Result<(), CheckFault>
-    requires numbered { AreNumbered targets.now }
-    ensures { AreListedChecked targets.now ranks.now result }
-{
-    match first_unlisted(alloc, targets, ranks)? {
-        None => Ok(()),
-        Some(n) => Err(CheckFault::Absent(n)),
-    }
-}
-
-/// Whether the last line tells the choice.
-fn check_last<A: Allocator + Clone>(
-    alloc: A,
-    head: &Head,
-    targets: &[Target],
-) -> Result<(), CheckFault>
-    requires formed { AreFormed targets.now }
-    requires placed { HoldsBelow (IsPlaced head.now.rules.depth targets.now) (length targets.now) }
-    ensures { IsLastChecked head.now targets.now result }
-{
-    let best = best_stored(alloc, head.rules, targets)?;
-    if is_final_of(best, &head.last) {
-        Ok(())
-    } else {
-        Err(CheckFault::FinalLine)
-    }
-}
-
 /// Checks the parts of a listing, in their order.
-fn check_parts<A: Allocator + Clone>(
-    alloc: A,
-    head: &Head,
-    targets: &[Target],
-    ranks: &[Ranked],
-) -> Result<Verdict, CheckFault>
-    requires formed { AreFormed targets.now }
-    ensures { IsVerdictOf (listing_with head.now targets.now ranks.now) result }
-{
-    check_branches(alloc.clone()?, head, targets)?;
-    check_order(head, targets, ranks)?;
-    check_listed(alloc.clone()?, targets, ranks)?;
-    check_last(alloc, head, targets)?;
-    Ok(Verdict {
-        targets: head.count,
-        status: head.last.status.code(),
-        no: head.last.number,
-    })
-}
-
 fn check_listing<A: Allocator + Clone>(
     alloc: A,
     listing: &Listing<A>,
 ) -> Result<Verdict, CheckFault>
-    requires formed { AreFormed listing.now.targets }
+    requires few { length listing.now.targets ≤ most_targets }
     ensures { IsVerdictOf listing.now result }
 {
-    let head = Head {
-        version: listing.version(),
-        count: listing.count(),
-        rules: listing.rules(),
-        last: listing.last(),
-    };
-    check_parts(alloc, &head, listing.targets(), listing.ranks())
+    let line = first_target(listing.version);
+    let targets = listing.targets.as_slice();
+    let ranks = listing.ranks.as_slice();
+    if let Some(n) = first_misplaced(alloc.clone()?, &listing.rules, targets)? {
+        return Err(CheckFault::Tree(line + n));
+    }
+    if let Some(k) = first_misordered(&listing.rules, targets, ranks) {
+        return Err(CheckFault::Order(line + usize::from(listing.count) + k));
+    }
+    if let Some(n) = first_unlisted(alloc.clone()?, targets, ranks)? {
+        return Err(CheckFault::Absent(n));
+    }
+    let best = best_stored(alloc, listing.rules, targets)?;
+    if !is_final_of(best, &listing.last) {
+        return Err(CheckFault::FinalLine);
+    }
+    Ok(Verdict {
+        targets: listing.count,
+        status: listing.last.status.code(),
+        no: listing.last.number,
+    })
 }
 
 fn check_in<A: Allocator + Clone>(alloc: A, text: &[u8]) -> Result<Verdict, CheckFault>

@@ -1,39 +1,40 @@
 //! Which branches may stand in a listing.
-ghost use Rattle.std.specs.Prelude.{◌≡◌, ◌<◌, ◌↔◌, IsTrue, IfOk, Some, length, slice_get, option_and_then};
+ghost use Rattle.std.specs.Prelude.{◌≡◌, ◌↔◌, IsTrue, IfOk, length, slice_get, option_and_then};
 ghost use Rattle.fork_listing.specs.First.{IsFirstToFail};
 ghost use Rattle.fork_listing.specs.Targets.{arrival_of, ended_at, is_redirection, is_redirected, IsParent, IsBefore, Follows, FollowsTarget, line_before, IsEarlier, IsPlaced};
-ghost use Rattle.fork_listing.specs.inner.Near.{FallsTo, IsNear, depth_by, Notes};
+ghost use Rattle.fork_listing.specs.inner.Near.{FallsTo, IsShallow, IsNear, Notes};
 
-use crate::line::{End, Target};
+use crate::line::Target;
+use fork_rank::Rules;
+use fork_tree::End;
 use std::alloc::{AllocError, Allocator};
 use std::collections::BTreeSet;
 
-impl End {
-    /// The position of the event that ended the branch.
-    fn arrival(self) -> Option<u32>
-        ensures { result ≡ arrival_of self }
-    {
-        match self {
-            End::Stored { arrival, .. } | End::Taken { arrival } | End::Silent { arrival } => Some(
-                arrival,
-            ),
-            End::Never => None,
-        }
+/// The position of the event that ended a branch.
+fn arrival_of(end: End) -> Option<u32>
+    ensures { result ≡ arrival_of end }
+{
+    match end {
+        End::Stored { arrival, .. }
+        | End::Taken { arrival }
+        | End::Silent { arrival }
+        | End::Accepted { arrival } => Some(arrival),
+        End::Never => None,
     }
+}
 
-    /// Whether it is a 3xx whose contacts may have been tried.
-    fn is_redirection(self) -> bool
-        ensures { result ≡ is_redirection self }
-    {
-        match self {
-            End::Stored {
-                status,
-                received,
-                ..
-            } => received && status.code() < 400,
-            End::Taken { .. } => true,
-            End::Silent { .. } | End::Never => false,
-        }
+/// Whether it is a 3xx whose contacts may have been tried.
+fn is_redirection(end: End) -> bool
+    ensures { result ≡ is_redirection end }
+{
+    match end {
+        End::Stored {
+            status,
+            received,
+            ..
+        } => received && status.code() < 400,
+        End::Taken { .. } => true,
+        _ => false,
     }
 }
 
@@ -46,7 +47,7 @@ pub fn target_at(targets: &[Target], n: u16) -> Option<Target>
 fn ended_at(targets: &[Target], n: u16) -> Option<u32>
     ensures { result ≡ ended_at targets.now n }
 {
-    target_at(targets, n)?.end.arrival()
+    arrival_of(target_at(targets, n)?.end)
 }
 
 fn is_redirected(targets: &[Target], n: u16) -> bool
@@ -54,7 +55,7 @@ fn is_redirected(targets: &[Target], n: u16) -> bool
 {
     match target_at(targets, n) {
         None => false,
-        Some(target) => target.end.is_redirection(),
+        Some(target) => is_redirection(target.end),
     }
 }
 
@@ -134,9 +135,22 @@ fn parent_ended_at(targets: &[Target], parent: Option<u16>) -> Option<u32>
     ended_at(targets, parent?)
 }
 
-/// Whether the line keeps the rules that its parent and the line before it decide.
-fn is_near(targets: &[Target], n: usize, target: &Target) -> bool
-    ensures { IsTrue result ↔ IsNear targets.now n target.now }
+/// Whether a line under this parent has so many lines above it at most.
+fn is_shallow(targets: &[Target], parent: Option<u16>, most: u16) -> bool
+    ensures { IsTrue result ↔ IsShallow targets.now parent most }
+{
+    match parent {
+        None => true,
+        Some(parent) => match target_at(targets, parent) {
+            Some(target) if most > 0 => is_shallow(targets, target.parent, most - 1),
+            _ => false,
+        },
+    }
+}
+
+/// Whether the line has its number, and keeps the rules that its parents and the line before it decide.
+fn is_near(rules: &Rules, targets: &[Target], n: usize, target: &Target) -> bool
+    ensures { IsTrue result ↔ IsNear rules.now.depth targets.now n target.now }
 {
     usize::from(target.number) == n
         && is_parent(targets, n, target.parent)
@@ -144,25 +158,13 @@ fn is_near(targets: &[Target], n: usize, target: &Target) -> bool
         && falls_to(line_before(targets, n), target)
         && is_earlier(
             parent_ended_at(targets, target.parent),
-            target.end.arrival(),
+            arrival_of(target.end),
         )
-}
-
-/// The depth of a line, by those of the lines before it.
-fn depth_by(depths: &[u16], parent: Option<u16>) -> u32
-    ensures { result ≡ depth_by depths.now parent }
-{
-    match parent {
-        None => 0,
-        Some(parent) => match depths.get(usize::from(parent)).copied() {
-            None => 0,
-            Some(depth) => u32::from(depth) + 1,
-        },
-    }
+        && is_shallow(targets, target.parent, rules.depth())
 }
 
 /// Notes an arrival, and answers whether it is new.
-pub fn note<A: Allocator + Clone>(
+fn note<A: Allocator + Clone>(
     arrivals: &mut BTreeSet<u32, A>,
     arrival: Option<u32>,
 ) -> Result<bool, AllocError>
@@ -181,27 +183,21 @@ pub fn note<A: Allocator + Clone>(
 /// Only where the allocator refuses.
 pub fn first_misplaced<A: Allocator + Clone>(
     alloc: A,
-    most_depth: u16,
+    rules: &Rules,
     targets: &[Target],
 ) -> Result<Option<usize>, AllocError>
-    ensures { IfOk result (IsFirstToFail (IsPlaced most_depth targets.now) (length targets.now)) }
+    ensures { IfOk result (IsFirstToFail (IsPlaced rules.now.depth targets.now) (length targets.now)) }
 {
-    let mut depths = Vec::new(alloc.clone()?);
     let mut arrivals = BTreeSet::new(alloc);
     let mut n = 0;
     while n < targets.len() {
         let target = targets[n];
-        let depth = depth_by(&depths, target.parent);
-        if !is_near(targets, n, &target) {
+        if !is_near(rules, targets, n, &target) {
             return Ok(Some(n));
         }
-        if depth > u32::from(most_depth) {
+        if !note(&mut arrivals, arrival_of(target.end))? {
             return Ok(Some(n));
         }
-        if !note(&mut arrivals, target.end.arrival())? {
-            return Ok(Some(n));
-        }
-        depths.push(depth as u16)?;
         n += 1;
     }
     Ok(None)

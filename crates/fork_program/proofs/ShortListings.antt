@@ -13,8 +13,8 @@ use Rattle.fork_model.specs.Rank.{Score, Before}
 use Rattle.fork_text.specs.Preferred.{list_text}
 use Rattle.fork_listing.specs.declared.line.Version.{Version}
 use Rattle.fork_listing.specs.declared.line.Version.TheVariants.{First, Second, Third}
-use Rattle.fork_listing.specs.declared.line.End.{End}
-use Rattle.fork_listing.specs.declared.line.End.TheVariants.{Stored, Taken, Silent, Never}
+use Rattle.fork_tree.specs.declared.row.End.{End}
+use Rattle.fork_tree.specs.declared.row.End.TheVariants.{Stored, Taken, Silent, Never, Accepted}
 use Rattle.fork_listing.specs.declared.line.Target.{Target}
 use Rattle.fork_listing.specs.declared.line.Ranked.{Ranked}
 use Rattle.fork_listing.specs.Line.{Line, ForkLine, PreferLine, DepthLine, TargetLine, RankLine, FinalLine, version_text, number_text, how_text, end_text, line_text, most_listed}
@@ -61,6 +61,7 @@ end_short (Stored status arrival received) h =
 end_short (Taken arrival) h = let d : length (decimal arrival) ≤ 10 = short arrival (omega arith) in omega arith
 end_short (Silent arrival) h = let d : length (decimal arrival) ≤ 10 = short arrival (omega arith) in omega arith
 end_short Never h = omega arith
+end_short (Accepted arrival) h = absurd h
 
 statuses_short : (statuses : List ℕ) → All (λ n. (400 ≤ n) × (n < 500)) statuses → length (flat_map (λ m. 44 ∷ decimal m) statuses) ≤ 11 * length statuses
 statuses_short [] h = omega arith

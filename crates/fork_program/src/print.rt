@@ -3,15 +3,14 @@ ghost use Rattle.std.specs.Prelude.{◌≡◌, ◌++◌, Some, codes, OnOk, slic
 ghost use Rattle.std.specs.Fmt.{decimal};
 ghost use Rattle.fork_model.specs.Table.{is_ended, is_trying, is_row};
 ghost use Rattle.fork_model.specs.Choice as spec_choice;
-ghost use Rattle.fork_model.specs.Choice.{status_at};
 ghost use Rattle.fork_model.specs.Challenges.{challenge_list};
 ghost use Rattle.fork_context.specs.Chosen.{IsChosen};
 ghost use Rattle.fork_context.specs.ReplyView.{choice_of, up_of};
 ghost use Rattle.fork_program.specs.Replay.{tried, opening_text, final_text, up_text, reply_text, branches_left, field_name, added_text, added_lines, EndsWith};
 ghost use Rattle.fork_text.specs.RuleLines.{ended};
 
-use fork_context::{Choice, Context, End, Reply, State, Up};
-use fork_listing::{ListFault, listing};
+use fork_context::{Choice, Context, Reply, State, Up};
+use fork_listing::{ListFault, listing, status_at};
 use fork_rank::Challenge;
 use fork_text::{append, append_list};
 use sip_lex::append_decimal;
@@ -29,19 +28,6 @@ fn append_numbered<A: Allocator>(
     append_decimal(text, u64::from(n))
 }
 
-/// The status of a row's stored answer, 408 where it has none.
-fn status_of<A: Allocator + Clone>(context: &Context<A>, n: u16) -> u16
-    ensures { result ≡ status_at (slice_get context.now.table.rows n) }
-{
-    match context.look(n) {
-        Some(view) => match &view.row.state {
-            State::Ended(End::Stored { status, .. }) => status.code(),
-            _ => 408,
-        },
-        None => 408,
-    }
-}
-
 /// Appends the final answer of a choice.
 fn append_final<A: Allocator + Clone>(
     text: &mut Vec<u8, A>,
@@ -52,7 +38,7 @@ fn append_final<A: Allocator + Clone>(
 {
     match choice {
         Choice::Stored(n) => {
-            append_numbered(text, b"final ", status_of(context, n))?;
+            append_numbered(text, b"final ", status_at(context, n))?;
             append_numbered(text, b" ", n)
         }
         Choice::Only503(n) => append_numbered(text, b"final 500 ", n),

@@ -1,6 +1,6 @@
 -- A table after one event, and what the reply to it names (RFC 3261 sections 16.7 to 16.10).
-use Rattle.std.specs.Prelude.{◌≡◌, ℕ, ◌&&◌, ◌||◌, ◌⊎◌, Bool, true, false, not, List, [], ◌∷◌, Option, Some, None, filter, length, map, if◌then◌else◌}
-use Rattle.fork_model.specs.Table.{Table, Rung, is_trying, is_cancelled, is_finished, is_succeeded}
+use Rattle.std.specs.Prelude.{◌≡◌, ◌≤◌, ◌+◌, ℕ, ◌&&◌, ◌||◌, ◌⊎◌, Bool, true, false, not, List, [], ◌∷◌, Option, Some, None, filter, length, map, vec_capacity, if◌then◌else◌}
+use Rattle.fork_model.specs.Table.{Row, Table, Rung, is_trying, is_cancelled, is_finished, is_succeeded}
 use Rattle.fork_model.specs.Event.{Event}
 use Rattle.fork_model.specs.Groups.{numbers_below}
 use Rattle.fork_model.specs.Choice.{IsChoice}
@@ -9,12 +9,19 @@ use Rattle.fork_model.specs.Reply.{Up, Nothing, Provisional, Success, Final, bec
 use Rattle.fork_context.specs.Closing.{closed_row}
 use Rattle.fork_context.specs.inner.Closing.{gets_cancel}
 use Rattle.fork_context.specs.inner.Ready.{Starts}
+use Rattle.fork_context.specs.declared.reply.Numbers.{Numbers}
 
 -- the table after the event, the rows tried since, and those cancelled since
 pub record IsStepped (t : Table) (event : Event) (at : ℕ) (after : Table) (begun ended : List ℕ) : Type 0 where
   pub leads : after ≡ next t event at
   pub started : begun ≡ became is_trying t.rows after.rows
   pub cancelled : ended ≡ became is_cancelled t.rows after.rows
+
+-- lists with no number yet, and with room for those of all rows
+abbrev pub HasRoom : {A : Type 0} → Numbers A → List Row → Type 0
+HasRoom numbers rows =
+    (numbers.started.items ≡ []) × (numbers.cancelled.items ≡ [])
+    × (length rows ≤ vec_capacity numbers.started) × (length numbers.cancelled.items + length rows ≤ vec_capacity numbers.cancelled)
 
 abbrev pub number_if : Bool → ℕ → List ℕ
 number_if b n = if b then n ∷ [] else []

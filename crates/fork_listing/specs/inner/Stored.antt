@@ -1,12 +1,14 @@
 -- The lines of the stored answers, and of the answer that goes up.
-use Rattle.std.specs.Prelude.{◌≡◌, ◌==◌, ℕ, List, Option, Some, None, slice_get, if◌then◌else◌}
+use Rattle.std.specs.Prelude.{◌≡◌, ◌==◌, ℕ, IsTrue, List, Option, Some, None, slice_get, if◌then◌else◌}
+use Rattle.std.specs.BTreeSet.{BTreeSet, contains}
 use Rattle.std.specs.Option.{option_map}
+use Rattle.std.specs.Ordering.{nat_cmp}
 use Rattle.fork_model.specs.Rank.{Score}
 use Rattle.fork_tree.specs.declared.summary.BestRef.{BestRef}
 use Rattle.fork_listing.specs.declared.line.Target.{Target}
 use Rattle.fork_listing.specs.declared.line.Ranked.{Ranked}
 use Rattle.fork_listing.specs.declared.line.Final.{Final}
-use Rattle.fork_listing.specs.Ranks.{score_in}
+use Rattle.fork_listing.specs.Ranks.{score_in, score_at}
 
 abbrev pub ranked_as : ℕ → Score → Ranked
 ranked_as n score = record { status = score.status; number = n; arrival = score.arrival }
@@ -26,6 +28,9 @@ final_of_best (Some first) =
     if first.status == 503 then record { status = 500; number = Some first.no }
     else record { status = first.status; number = Some first.no }
 
--- the number that a line of the ranks names
-abbrev pub number_at : List Ranked → ℕ → Option ℕ
-number_at ranks k = option_map (λ (ranked : Ranked). ranked.number) (slice_get ranks k)
+abbrev pub number_in : Ranked → ℕ
+number_in ranked = ranked.number
+
+-- a stored answer is that of a branch with one of these numbers
+abbrev pub IsCounted : List Target → BTreeSet ℕ → ℕ → Type 0
+IsCounted targets numbers n = (score : Score) → score_at targets n ≡ Some score → IsTrue (contains nat_cmp numbers n)

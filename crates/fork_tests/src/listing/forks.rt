@@ -1,8 +1,8 @@
 //! Listings of forks: what each finished one has, and why others have none.
 use crate::holds::holds;
-use crate::listing::play::{Aim, Step, listed, refusal, rules_of};
+use crate::listing::play::{Aim, Step, fork_after, listed, refusal, rules_of};
 use crate::listing::read::{holds_of, is_right};
-use fork_listing::ListFault;
+use fork_listing::{ListFault, status_at};
 use fork_rank::{Preferred, Rules};
 use std::process::Abort;
 use std::test::Fail;
@@ -116,5 +116,15 @@ fn other_forks_are_not_listed(rt: HostRuntime) -> Result<(), Fail> {
         "a fork with a 2xx has no listing",
     );
     holds(&rt, is_empty, "nothing is appended for a fork with a 2xx");
+    Ok(())
+}
+
+#[test]
+fn stored_statuses_are_told(rt: HostRuntime) -> Result<(), Fail> {
+    let steps = [Step::Answers(0, 503), Step::Rings(1)];
+    let fork = fork_after(rt.alloc(), Rules::usual(), &TWO, &steps)?;
+    holds(&rt, status_at(&fork, 0) == 503, "what is stored is told");
+    holds(&rt, status_at(&fork, 1) == 408, "nothing is stored yet");
+    holds(&rt, status_at(&fork, 2) == 408, "there is no such branch");
     Ok(())
 }

@@ -107,7 +107,7 @@ fn listing_of(alloc: Global, fork: &Context) -> Result<Vec<u8>, ListFault> {
 }
 
 /// The fork of these targets after these steps.
-fn fork_after(
+pub fn fork_after(
     alloc: Global,
     rules: Rules,
     aims: &[Aim<'_>],

@@ -6,7 +6,7 @@ use Rattle.fork_listing.proofs.choice.best_stored.Goals as goal
 
 pub build-requires : goal.build-requires
 build-requires g c =
-    are_rows c.args.rules.depth c.args.targets.now c.deref.result.now c.requires.formed c.requires.placed (c.deref.ensures.value ∙ c.in_ok-rows.ensures)
+    are_rows c.args.rules.depth c.args.targets.now c.deref.result.now c.requires.few c.requires.placed (c.deref.ensures.value ∙ c.in_ok-rows.ensures)
 
 pub returns : goal.returns
 returns g c =

@@ -1,26 +1,35 @@
-use Rattle.fork_listing.proofs.Common.{◌≡◌, ◌<◌, ◌∙◌, true, false, Some, length, sym, arith, slice_get, IsListed, slice_get_read, refl}
-use Rattle.fork_listing.proofs.Placing.{holds_next}
-use Rattle.fork_listing.proofs.Listed.{accounted, not_accounted}
+use Rattle.fork_listing.proofs.Common.{◌≡◌, ◌∙◌, ℕ, List, Some, map, sym, ap, slice_get, slice_get-map, slice_get_within, option_map, mapped, Ranked, IsListed, first_to_fail, first_same}
+use Rattle.std.proofs.Common.{rules}
+use Rattle.std.specs.Prelude.{IsTrue, ◌↔◌}
+use Rattle.std.specs.BTreeSet.{BTreeSet, IsFromIterResult, contains}
+use Rattle.std.specs.Ordering.{nat_cmp}
+use Rattle.std.proofs.lemmas.Cmp.{nat_cmp_total}
+use Rattle.std.proofs.lemmas.Iterator.{first_from_Range}
+use Rattle.std.proofs.lemmas.Map.Lookups.{exact_unsigned}
+use Rattle.std.proofs.lemmas.Map.Views.{btree_set_contains_from_list}
+use Rattle.std.proofs.lemmas.Option.{slice_get-get_or, get_or_from_slice_get}
+use Rattle.fork_listing.specs.inner.Stored.{number_in, IsCounted}
 use Rattle.fork_listing.proofs.ranks.first_unlisted.Goals as goal
 
-pub returns-then-not-is_accounted : goal.returns-then-not-is_accounted
-returns-then-not-is_accounted g c =
-    let targets = c.args.targets.now in
-    let n = c.loop-n.n in
-    let t = c.index-targets-n.result in
-    let lt : n < length targets = omega arith in
-    let here : slice_get targets n ≡ Some t = slice_get_read targets (length targets) n t refl lt c.index-targets-n.is in
-    let none : c.is_accounted.result ≡ false = grind (arith, c.if-not-is_accounted.true) in
-    (lt, c.loop-n.invariant, not_accounted c.in_ok-numbers.numbers targets c.args.ranks.now n t here (c.requires.numbered n t here) (sym c.is_accounted.ensures ∙ none) c.in_ok-numbers.ensures)
+-- the set has the numbers that the lines name
+named : (ranks : List Ranked) (numbers : BTreeSet ℕ) → IsFromIterResult nat_cmp (map number_in ranks) numbers → (n : ℕ)
+    → IsTrue (contains nat_cmp numbers n) ↔ ((k : ℕ) × (ranked : Ranked) × (slice_get ranks k ≡ Some ranked) × (ranked.number ≡ n))
+named ranks numbers made n =
+    let all : List ℕ = map number_in ranks in
+    let both = btree_set_contains_from_list nat_cmp_total exact_unsigned all numbers made n in (
+      (λ has.
+          let h = both.0 has in
+          let r = mapped number_in (slice_get ranks h.0) (sym (slice_get-map number_in ranks h.0) ∙ slice_get-get_or all h.0 n h.1 ∙ ap Some h.2) in
+          (h.0, r.0, r.1, sym r.2)),
+      (λ h.
+          let at : slice_get all h.0 ≡ Some n = slice_get-map number_in ranks h.0 ∙ ap (option_map number_in) h.2 ∙ ap Some h.3 in
+          both.1 (h.0, slice_get_within all h.0 n at, get_or_from_slice_get all h.0 n n at)),
+    )
 
-pub loop-n-preserved : goal.loop-n-preserved
-loop-n-preserved g c =
+pub returns : goal.returns
+returns g c =
     let targets = c.args.targets.now in
-    let ranks = c.args.ranks.now in
-    let n = c.loop-n.n in
-    let t = c.index-targets-n.result in
-    let lt : n < length targets = omega arith in
-    let here : slice_get targets n ≡ Some t = slice_get_read targets (length targets) n t refl lt c.index-targets-n.is in
-    let yes : c.is_accounted.result ≡ true = grind (arith, c.if-not-is_accounted.false) in
-    holds_next (IsListed targets ranks) n c.loop-n.invariant
-    (accounted c.in_ok-numbers.numbers targets ranks n t here (c.requires.numbered n t here) (sym c.is_accounted.ensures ∙ yes) c.in_ok-numbers.ensures)
+    let P : ℕ → Type 0 = IsCounted targets c.in_ok-numbers.numbers in
+    let names = named c.args.ranks.now c.in_ok-numbers.numbers c.in_ok-numbers.ensures in
+    first_same P (IsListed targets c.args.ranks.now) (λ n. ((λ counted score e. (names n).0 (counted score e)), (λ listed score e. (names n).1 (listed score e)))) _ _
+    (first_to_fail P _ _ (first_from_Range _ _ _ _ (λ n. P n → ⊥) P c.find.ensures.ran (λ x q k. search rules) (λ x q k. search rules)))

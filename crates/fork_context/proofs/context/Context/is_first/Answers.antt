@@ -4,18 +4,18 @@ use Rattle.fork_context.proofs.context.Context.is_first.Goals as goal
 
 pub returns-in-Stored : goal.returns-in-Stored
 returns-in-Stored g c =
-    first_row _ c.args.self.now c.self.view_is c.self.invariant.sound (choice_of c.choice.result) c.choice.ensures c.in-Stored.first c.args.n
+    first_row _ c.args.self.now c.self.view_is c.self.invariant.sound (choice_of c.choice.result.0) c.choice.ensures.choice c.in-Stored.first c.args.n
     (ap (λ x. row_of (choice_of x)) c.in-Stored.is)
 
 pub returns-in-Only503 : goal.returns-in-Only503
 returns-in-Only503 g c =
-    first_row _ c.args.self.now c.self.view_is c.self.invariant.sound (choice_of c.choice.result) c.choice.ensures c.in-Only503.first c.args.n
+    first_row _ c.args.self.now c.self.view_is c.self.invariant.sound (choice_of c.choice.result.0) c.choice.ensures.choice c.in-Only503.first c.args.n
     (ap (λ x. row_of (choice_of x)) c.in-Only503.is)
 
 pub returns-in-NoAnswer408 : goal.returns-in-NoAnswer408
 returns-in-NoAnswer408 g c =
-    let Chosen : Core → Type 0 = λ core. IsChoice core.table.rules core.table.rows (choice_of c.choice.result) in
-    let chosen : Chosen c.args.self.now = subst Chosen c.self.view_is c.choice.ensures in
+    let Chosen : Core → Type 0 = λ core. IsChoice core.table.rules core.table.rows (choice_of c.choice.result.0) in
+    let chosen : Chosen c.args.self.now = subst Chosen c.self.view_is c.choice.ensures.choice in
     let None : Core → Type 0 = λ core. NoneStored core.table.rows in
     let none : None c.args.self.now = subst (λ x. IsChoice c.args.self.now.table.rules c.args.self.now.table.rows (choice_of x)) c.in-NoAnswer408.is chosen in
     none_first c.args.self.now.table c.args.n none

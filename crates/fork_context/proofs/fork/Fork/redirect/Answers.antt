@@ -1,0 +1,34 @@
+use Rattle.fork_context.proofs.Common.{◌≡◌, ℕ, false, List, length, arith, ap, ◌∙◌, Offer, End, Ended, Row, Table, FinalAnswer, ContactLists, taking_at, tree_row, fresh_rows, with_effect, end_of}
+use Rattle.std.proofs.lemmas.Result.{on_ok_weaker}
+use Rattle.fork_model.specs.Step.{redirected}
+use Rattle.fork_context.proofs.Redirected.{are_below, taking_at_few}
+use Rattle.fork_context.proofs.fork.Fork.redirect.Goals as goal
+
+pub rows_below-requires : goal.rows_below-requires
+rows_below-requires g c =
+    let row = tree_row c.args.row.now in
+    let offers = c.deref.ensures.value ∙ ap (λ (a : FinalAnswer). a.offers) c.answer.view_is in
+    let is : c.in_ok-taken.taken ≡ taking_at c.args.self.now row c.args.answer.now.offers = c.in_ok-taken.ensures.value ∙ ap (taking_at c.args.self.now row) offers in
+    let same = ap (λ (fs : List (ℕ × Offer)). length fs) (c.deref-2.ensures.value ∙ ap (λ (t : ContactLists). t.fresh) (c.taken.view_is ∙ is)) in
+    let few = taking_at_few c.args.self.now row c.args.answer.now.offers (omega (arith, c.count.ensures.value, c.count.ensures.range)) in
+    record { few = omega (arith, few, same, c.count.ensures.value) }
+
+pub end-requires-clause-each : goal.end-requires-clause-each
+end-requires-clause-each g c =
+    (are_below c.args.row.now.no c.count.result c.deref-2.result.now c.in_ok-below.below.0 c.in_ok-below.below.1.items c.in_ok-below.ensures.added c.in_ok-below.ensures.extras).each
+
+pub returns-clause-ok : goal.returns-clause-ok
+returns-clause-ok g c =
+    let now = c.args.self.now in
+    let n = c.args.row.now.no in
+    let row = tree_row c.args.row.now in
+    let answer = c.args.answer.now in
+    let offers = c.deref.ensures.value ∙ ap (λ (a : FinalAnswer). a.offers) c.answer.view_is in
+    let is : c.in_ok-taken.taken ≡ taking_at now row answer.offers = c.in_ok-taken.ensures.value ∙ ap (taking_at now row) offers in
+    let below = are_below n c.count.result c.deref-2.result.now c.in_ok-below.below.0 c.in_ok-below.below.1.items c.in_ok-below.ensures.added c.in_ok-below.ensures.extras in
+    let rows = below.rows ∙ ap (fresh_rows n) (c.deref-2.ensures.value ∙ ap (λ (t : ContactLists). t.fresh) (c.taken.view_is ∙ is)) in
+    let left = ap (λ (t : ContactLists). t.left) c.taken.view_is in
+    let challenges = c.in_ok-challenges.ensures ∙ c.deref-3.ensures.value ∙ ap (λ (a : FinalAnswer). a.challenges) c.answer.view_is in
+    let ends = (λ i. end_of c.redirected-end.result (left i) (challenges i)) ∙ c.redirected-end.ensures ∙ ap (redirected c.args.at answer) is in
+    let of : End → List Row → Table = λ (end : End) (rows : List Row). with_effect now n (record { state = Ended end; fresh = rows; closes = false }) in
+    on_ok_weaker c.end.result (λ e. e ∙ (λ i. of (ends i) (rows i))) c.end.ensures.ok
