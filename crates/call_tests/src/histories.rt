@@ -6,6 +6,7 @@ mod four_targets;
 mod groups;
 mod one_target;
 mod playing;
+mod redirecting;
 mod refusing;
 mod texts;
 mod timers;

@@ -223,6 +223,33 @@ fn each_request_goes_its_way(rt: HostRuntime) {
     }
 }
 
+/// Changes of the request, and whether the proxy is responsible for its Request-URI.
+const URIS: [(Change, bool); 6] = [
+    ((2, b"Subject: x"), true),
+    ((0, b"OPTIONS sip:bob@EXAMPLE.com SIP/2.0"), true),
+    ((0, b"OPTIONS sip:bob@192.0.2.9 SIP/2.0"), true),
+    ((7, b"Route: <sip:192.0.2.8;lr>"), true),
+    ((0, b"OPTIONS sip:bob@192.0.2.7:5061 SIP/2.0"), false),
+    ((0, b"OPTIONS sip:192.0.2.7 SIP/2.0"), false),
+];
+
+/// Whether the proxy is responsible for the URI of the call that the request with this change opens.
+fn is_responsible_with(alloc: Global, change: Change) -> Option<bool> {
+    let parts = call_with(alloc, &[change])?;
+    Some(parts.fixed().is_responsible())
+}
+
+#[test]
+fn the_proxy_is_responsible_for_the_domain_alone(rt: HostRuntime) {
+    for (change, well) in URIS {
+        holds(
+            &rt,
+            is_responsible_with(rt.alloc(), change) == Some(well),
+            "whether the proxy is responsible for a URI",
+        );
+    }
+}
+
 // ---- why none opens
 
 /// The fault with which the request with these changes opens no call.

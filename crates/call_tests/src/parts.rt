@@ -263,7 +263,7 @@ fn fixed_by(request: Message<Global>) -> Option<Fixed> {
         return None;
     }
     match request.start() {
-        Start::Request { .. } => Some(Fixed::new(3, OWN, 7, request, CALLER, None)),
+        Start::Request { .. } => Some(Fixed::new(3, OWN, 7, request, CALLER, None, true)),
         Start::Response { .. } => None,
     }
 }

@@ -15,7 +15,7 @@ opened_timed begun setup number m source call moments opens times =
     let begins = reaches.begins in
     let P : Call → Type 0 = λ x. IsTimed x (scheduled x) in
     let Q : List (Option ℕ) → Type 0 = λ ms. IsTimed call ms in
-    let fixed = fixed_of setup number request source in
+    let fixed = fixed_of setup number request source uri in
     subst Q (sym times) (subst P (sym begins.2) (record {
       sound = begun fixed setup.rules (targets_of (choices_for setup request uri)) begins.0;
       times = refl;

@@ -11,7 +11,7 @@ use Rattle.fork_parts.specs.Call.{set_leg, with_leg}
 use Rattle.fork_parts.specs.Due as due
 use Rattle.fork_parts.specs.Failed.{faulted, faulted_cancel}
 use Rattle.fork_parts.specs.Pump.{sent_if, stopped, ticked}
-use Rattle.fork_parts.specs.Response.{challenges_by, contacts_by, event_by, offer_of}
+use Rattle.fork_parts.specs.Response.{challenges_by, contact_for, contacts_by, contacts_for, event_by, offer_of}
 use Rattle.fork_parts.specs.Server.{Again, CancelOk, Final, Passed, Server, Trying, answer_event, served_after, served_out}
 use Rattle.fork_parts.specs.Take as to
 use Rattle.fork_parts.specs.Take.{CancelledBy, Responds, Taken, going_up, leg_after, leg_posted, owes_cancel_ok}
@@ -169,25 +169,25 @@ fails_touch call new now cause.CancelOk e = inl (beside_same call new None e)
 
 -- ---- messages
 
-abbrev answer_by : (status : ℕ) → MessageText → FinalAnswer
-answer_by status m = record { status = status; offers = map offer_of (contacts_by status m); challenges = challenges_by status m }
+abbrev answer_by : (responsible : Bool) → (status : ℕ) → MessageText → FinalAnswer
+answer_by responsible status m = record { status = status; offers = map offer_of (contacts_for responsible status m); challenges = challenges_by status m }
 
-event_named : (n status : ℕ) (m : MessageText) → row_named (event_by n status m) ≡ Some n
-event_named n status m = by_test (nat_lt status 200)
+event_named : (responsible : Bool) (n status : ℕ) (m : MessageText) → row_named (event_by responsible n status m) ≡ Some n
+event_named responsible n status m = by_test (nat_lt status 200)
   where
-    by_test : (ring : Bool) → row_named (cond {A = Event} ring (fork.Ring n status) (fork.Answer n (answer_by status m))) ≡ Some n
+    by_test : (ring : Bool) → row_named (cond {A = Event} ring (fork.Ring n status) (fork.Answer n (answer_by responsible status m))) ≡ Some n
     by_test true = refl
     by_test false = refl
 
-bare_offers : (n status : ℕ) (m : MessageText) → is_redirection status ≡ false → offers_of (event_by n status m) ≡ []
-bare_offers n status m e = by_test (nat_lt status 200)
+bare_offers : (responsible : Bool) (n status : ℕ) (m : MessageText) → is_redirection status ≡ false → offers_of (event_by responsible n status m) ≡ []
+bare_offers responsible n status m e = by_test (nat_lt status 200)
   where
     none : contacts_by status m ≡ []
     none = rw e refl
 
-    by_test : (ring : Bool) → offers_of (cond {A = Event} ring (fork.Ring n status) (fork.Answer n (answer_by status m))) ≡ []
+    by_test : (ring : Bool) → offers_of (cond {A = Event} ring (fork.Ring n status) (fork.Answer n (answer_by responsible status m))) ≡ []
     by_test true = refl
-    by_test false = ap (map offer_of) none
+    by_test false = ap (λ (cs : List ContactText). map offer_of (map (contact_for responsible) cs)) none
 
 cancel_touches : (call new : Call) (cancel : MessageText) (hop : Hop) (taken : Taken) (nothing_due : Type 0) → CancelledBy call cancel hop taken new → Touches call new None nothing_due
 cancel_touches call new cancel hop to.Absorbed nothing_due (c, e) = inl (beside_server call new _ None e)
@@ -209,13 +209,13 @@ response_touches : (call new : Call) (now n : ℕ) (leg : Leg) (way : Way) (m : 
 response_touches call new now n leg way m to.Absorbed (p, e) = inl (beside_leg call new n _ e)
 response_touches call new now n leg way m (to.Posted at) (p, reply, placed, first, leads, posts) = inr (record {
   mid = set_leg call n (leg_posted first (leg_after call n leg way now m) now (status_of m) m);
-  event = event_by n (status_of m) m;
-  contacts = contacts_by (status_of m) m;
+  event = event_by call.fixed.is_responsible n (status_of m) m;
+  contacts = contacts_for call.fixed.is_responsible (status_of m) m;
   response = going_up (status_of m) m;
   reply = reply;
   beside = beside_leg call _ n _ refl;
-  named = of_row n (event_by n (status_of m) m) (event_named n (status_of m) m);
-  plain = bare_offers n (status_of m) m;
+  named = of_row n (event_by call.fixed.is_responsible n (status_of m) m) (event_named call.fixed.is_responsible n (status_of m) m);
+  plain = bare_offers call.fixed.is_responsible n (status_of m) m;
   posts = posts;
 })
 response_touches call new now n leg way m to.Full (p, f, e) = inl (beside_same call new (Some n) e)

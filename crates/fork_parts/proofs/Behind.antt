@@ -4,7 +4,7 @@ use Rattle.fork_parts.proofs.Common.{and_parts, cond-false, cond-true, Event, Fi
 use Rattle.fork_parts.proofs.Common.{with_state, Kind, Row, State, StoredAnswer, Table, is_open, is_row, stored_of, may_start, HasFirst, Log, added, event_posted, events_of, table_of, MessageText, ContactText, Hop, TxEvent}
 use Rattle.fork_parts.proofs.Common.{InviteClientState, OtherClientState, invite_client, other_client, row_out, Cause, answer_in, answer_of, status_of, Call, found, leg_at, row_passes, set_leg, with_leg, Client, InviteClient, OtherClient}
 use Rattle.fork_parts.proofs.Common.{client_out, Deed, is_due_at, Fails, FaultsBy, FaultsClient, cancel_faulted, faulted_cancel, Way, kind_of, Cancelling, Leg, Posts, call_tag, no_leg, Pumped, Send, Did, Does, Pumps, SendsAnswer, AnswersBy}
-use Rattle.fork_parts.proofs.Common.{AnswersWith, TicksClientBy, FiresTimerC, challenges_by, contacts_by, event_by, offer_of, Owed, Passed, Final, Again, CancelOk, IsSound, awaits, invite_awaits, other_awaits, CancelledBy, Responds, Taken}
+use Rattle.fork_parts.proofs.Common.{AnswersWith, TicksClientBy, FiresTimerC, challenges_by, contacts_for, event_by, offer_of, Fixed, Owed, Passed, Final, Again, CancelOk, IsSound, awaits, invite_awaits, other_awaits, CancelledBy, Responds, Taken}
 use Rattle.fork_parts.proofs.Common.{TakesAs, is_passed, leg_after, leg_posted, response_event}
 use Rattle.std.specs.Prelude.{is_none}
 use Rattle.fork_model.specs.Event as fork
@@ -73,17 +73,27 @@ last_event (q ∷ history) p = last_event history p
 
 -- ---- without an event
 
-kept_same : (call new : Call) → new.log ≡ call.log → SameAnswers call new → KeepsAnswers call → KeepsAnswers new
-kept_same call new e same kept n stored has came first =
+-- what a call was opened with, and its log
+abbrev base_of : Call → Fixed × Log
+base_of call = (call.fixed, call.log)
+
+-- the event that a response of branch n is to a call that was opened so
+abbrev said_by : (n : ℕ) → MessageText → Fixed → Option Event
+said_by n m fixed = Some (event_by fixed.is_responsible n (status_of m) m)
+
+kept_same : (call new : Call) → base_of new ≡ base_of call → SameAnswers call new → KeepsAnswers call → KeepsAnswers new
+kept_same call new b same kept n stored has came first =
+    let f : new.fixed ≡ call.fixed = ap (λ (base : Fixed × Log). base.0) b in
+    let e : new.log ≡ call.log = ap (λ (base : Fixed × Log). base.1) b in
     let H : Log → Type 0 = λ l. HasStored (table_of l) n stored in
     let F : Log → Type 0 = λ l. HasFirst (table_of l) n in
     let old = kept n stored (subst H e has) came (subst F e first) in
-    (old.0, same n ∙ old.1, ap (λ (l : Log). slice_get (events_of l.history) stored.arrival) e ∙ old.2)
+    (old.0, same n ∙ old.1, ap (λ (l : Log). slice_get (events_of l.history) stored.arrival) e ∙ old.2 ∙ ap (said_by n old.0) (sym f))
 
-kept_as : (call new x : Call) → new ≡ x → x.log ≡ call.log → SameAnswers call x → KeepsAnswers call → KeepsAnswers new
-kept_as call new x e l same kept =
+kept_as : (call new x : Call) → new ≡ x → base_of x ≡ base_of call → SameAnswers call x → KeepsAnswers call → KeepsAnswers new
+kept_as call new x e b same kept =
     let P : Call → Type 0 = λ c. KeepsAnswers c in
-    subst P (sym e) (kept_same call x l same kept)
+    subst P (sym e) (kept_same call x b same kept)
 
 -- ---- with an event
 
@@ -95,12 +105,13 @@ module _ (stores : EventsStoreAnswers) (goes_on : BranchesGoOn) (grows : RowsKee
       → stored.received ≡ true → HasFirst (table_of new.log) n → HasStored (table_of call.log) n stored ⊎ KeepsEvent new n stored.arrival
 
   posted : (call mid new : Call) (ev : Event) (contacts : List ContactText) (response : Option MessageText) (reply : Reply)
-      → mid.log ≡ call.log
+      → base_of mid ≡ base_of call
       → ((n : ℕ) (stored : StoredAnswer) → HasStored (table_of call.log) n stored → answer_in (leg_at mid n) ≡ answer_in (leg_at call n))
       → Posts mid ev contacts response reply new
       → StoresAs call ev new
       → KeepsAnswers call → KeepsAnswers new
-  posted call mid new ev contacts response reply l same posts by kept n stored has came leads =
+  posted call mid new ev contacts response reply b same posts by kept n stored has came leads =
+      let l : mid.log ≡ call.log = ap (λ (base : Fixed × Log). base.1) b in
       let log : new.log ≡ added call.log call_tag ev reply = ap (λ (x : Call). x.log) posts.follows ∙ ap (λ (x : Log). added x call_tag ev reply) l in
       let goes : table_of new.log ≡ next (table_of call.log) ev (length call.log.history) = ap table_of log ∙ table_added call.log call_tag ev reply in
       let T : Table → Type 0 = λ t. HasStored t n stored in
@@ -110,6 +121,8 @@ module _ (stores : EventsStoreAnswers) (goes_on : BranchesGoOn) (grows : RowsKee
       at_last : HasStored (table_of call.log) n stored ⊎ KeepsEvent new n stored.arrival → KeepsEvent new n stored.arrival
       at_last (inr keeps) = keeps
       at_last (inl old) =
+          let f : new.fixed ≡ call.fixed = ap (λ (x : Call). x.fixed) posts.follows ∙ ap (λ (base : Fixed × Log). base.0) b in
+          let l : mid.log ≡ call.log = ap (λ (base : Fixed × Log). base.1) b in
           let log : new.log ≡ added call.log call_tag ev reply = ap (λ (x : Call). x.log) posts.follows ∙ ap (λ (x : Log). added x call_tag ev reply) l in
           let goes : table_of new.log ≡ next (table_of call.log) ev (length call.log.history) = ap table_of log ∙ table_added call.log call_tag ev reply in
           let F : Table → Type 0 = λ t. HasFirst t n in
@@ -122,7 +135,8 @@ module _ (stores : EventsStoreAnswers) (goes_on : BranchesGoOn) (grows : RowsKee
             legs ∙ same n stored old ∙ before.1,
             ap (λ (x : Log). slice_get (events_of x.history) stored.arrival) log
                 ∙ ap (λ (es : List Event). slice_get es stored.arrival) (events_added call.log.history (record { tag = call_tag; event = ev }))
-                ∙ more_there (events_of call.log.history) _ stored.arrival _ before.2,
+                ∙ more_there (events_of call.log.history) _ stored.arrival _ before.2
+                ∙ ap (said_by n before.0) (sym f),
           )
 
       by_source : HasStored (next (table_of call.log) ev (length call.log.history)) n stored → HasStored (table_of call.log) n stored ⊎ IsStoredBy ev (length call.log.history) n stored
@@ -132,11 +146,11 @@ module _ (stores : EventsStoreAnswers) (goes_on : BranchesGoOn) (grows : RowsKee
 
   -- an event that is no response stores nothing that came
   assumed : (call mid new : Call) (ev : Event) (contacts : List ContactText) (response : Option MessageText) (reply : Reply)
-      → mid.log ≡ call.log → SameAnswers call mid
+      → base_of mid ≡ base_of call → SameAnswers call mid
       → ((at n : ℕ) (stored : StoredAnswer) → IsStoredBy ev at n stored → stored.received ≡ true → ⊥)
       → Posts mid ev contacts response reply new → KeepsAnswers call → KeepsAnswers new
-  assumed call mid new ev contacts response reply l same never posts kept =
-      posted call mid new ev contacts response reply l (λ n stored has. same n) posts (λ n stored has is came leads. absurd (never _ n stored is came)) kept
+  assumed call mid new ev contacts response reply b same never posts kept =
+      posted call mid new ev contacts response reply b (λ n stored has. same n) posts (λ n stored has is came leads. absurd (never _ n stored is came)) kept
 
   no_timeout : (k at n : ℕ) (stored : StoredAnswer) → IsStoredBy (fork.Timeout k) at n stored → stored.received ≡ true → ⊥
   no_timeout k at n stored by came = let e : false ≡ true = sym by.1.received ∙ came in absurd cc
@@ -332,7 +346,8 @@ module _ (stores : EventsStoreAnswers) (goes_on : BranchesGoOn) (grows : RowsKee
         by (inl at) = here (nat_lt (status_of m) 300) refl at
         by (inr e) = ap answer_in e
 
-    kept_here : (ev : Event) → Posts posted_mid ev (contacts_by (status_of m) m) (to.going_up (status_of m) m) reply new → nat_lt (status_of m) 300 ≡ false → ev ≡ event_by n (status_of m) m
+    kept_here : (ev : Event) → Posts posted_mid ev (contacts_for call.fixed.is_responsible (status_of m) m) (to.going_up (status_of m) m) reply new → nat_lt (status_of m) 300 ≡ false
+        → ev ≡ event_by call.fixed.is_responsible n (status_of m) m
         → (k at : ℕ) → k ≡ n → at ≡ length call.log.history → HasFirst (table_of new.log) k → KeepsEvent new k at
     kept_here ev posts e is k at k_is at_is led =
         let log : new.log ≡ added call.log call_tag ev reply = ap (λ (x : Call). x.log) posts.follows in
@@ -340,18 +355,22 @@ module _ (stores : EventsStoreAnswers) (goes_on : BranchesGoOn) (grows : RowsKee
         let part_is : posted_part.answer ≡ Some m = cond-false _ _ _ e ∙ cond-true _ _ _ (leads.1 (subst F k_is led)) in
         let legs : answer_in (leg_at new n) ≡ Some m =
         ap (λ (x : Call). answer_in (leg_at x n)) posts.follows ∙ ap answer_in (leg_more posted_mid.legs _ n ∙ here_with call.legs n leg posted_part there) ∙ part_is in
-        let last : slice_get (events_of new.log.history) (length call.log.history) ≡ Some (event_by n (status_of m) m) =
-        ap (λ (l : Log). slice_get (events_of l.history) (length call.log.history)) log ∙ last_event call.log.history (record { tag = call_tag; event = ev }) ∙ ap (λ (x : Event). Some x) is in
-        (m, ap (λ (i : ℕ). answer_in (leg_at new i)) k_is ∙ legs, ap (λ (i : ℕ). slice_get (events_of new.log.history) i) at_is ∙ last ∙ ap (λ (i : ℕ). Some (event_by i (status_of m) m)) (sym k_is))
+        let f : new.fixed ≡ call.fixed = ap (λ (x : Call). x.fixed) posts.follows in
+        let last : slice_get (events_of new.log.history) (length call.log.history) ≡ Some (event_by call.fixed.is_responsible n (status_of m) m) =
+        ap (λ (l : Log). slice_get (events_of l.history) (length call.log.history)) log ∙ last_event call.log.history (record { tag = call_tag; event = ev }) ∙ ap (λ (x : Event). Some x) is in (
+          m,
+          ap (λ (i : ℕ). answer_in (leg_at new i)) k_is ∙ legs,
+          ap (λ (i : ℕ). slice_get (events_of new.log.history) i) at_is ∙ last ∙ ap (said_by n m) (sym f) ∙ ap (λ (i : ℕ). said_by i m new.fixed) (sym k_is),
+        )
 
     abbrev answer_by : FinalAnswer
-    answer_by = record { status = status_of m; offers = map offer_of (contacts_by (status_of m) m); challenges = challenges_by (status_of m) m }
+    answer_by = record { status = status_of m; offers = map offer_of (contacts_for call.fixed.is_responsible (status_of m) m); challenges = challenges_by (status_of m) m }
 
-    keeps_posted : Posts posted_mid (event_by n (status_of m) m) (contacts_by (status_of m) m) (to.going_up (status_of m) m) reply new → KeepsAnswers new
+    keeps_posted : Posts posted_mid (event_by call.fixed.is_responsible n (status_of m) m) (contacts_for call.fixed.is_responsible (status_of m) m) (to.going_up (status_of m) m) reply new → KeepsAnswers new
     keeps_posted posts = by (nat_lt (status_of m) 200) refl
       where
-        at_answer : (b : Bool) → nat_lt (status_of m) 300 ≡ b → fork.Answer n answer_by ≡ event_by n (status_of m) m
-            → Posts posted_mid (fork.Answer n answer_by) (contacts_by (status_of m) m) (to.going_up (status_of m) m) reply new
+        at_answer : (b : Bool) → nat_lt (status_of m) 300 ≡ b → fork.Answer n answer_by ≡ event_by call.fixed.is_responsible n (status_of m) m
+            → Posts posted_mid (fork.Answer n answer_by) (contacts_for call.fixed.is_responsible (status_of m) m) (to.going_up (status_of m) m) reply new
             → StoresAs call (fork.Answer n answer_by) new
         at_answer true e is posts k stored has now came led =
             let H : ℕ → Type 0 = λ i. HasStored (next (table_of call.log) (fork.Answer n answer_by) (length call.log.history)) i stored in
@@ -361,12 +380,12 @@ module _ (stores : EventsStoreAnswers) (goes_on : BranchesGoOn) (grows : RowsKee
 
         by : (b : Bool) → nat_lt (status_of m) 200 ≡ b → KeepsAnswers new
         by true e =
-            let is : event_by n (status_of m) m ≡ fork.Ring n (status_of m) = cond-true _ _ _ e in
-            let P : Event → Type 0 = λ v. Posts posted_mid v (contacts_by (status_of m) m) (to.going_up (status_of m) m) reply new in
+            let is : event_by call.fixed.is_responsible n (status_of m) m ≡ fork.Ring n (status_of m) = cond-true _ _ _ e in
+            let P : Event → Type 0 = λ v. Posts posted_mid v (contacts_for call.fixed.is_responsible (status_of m) m) (to.going_up (status_of m) m) reply new in
             posted call posted_mid new (fork.Ring n (status_of m)) _ _ reply refl same_stored (subst P is posts) (λ k stored has now came led. absurd now) kept
         by false e =
-            let is : event_by n (status_of m) m ≡ fork.Answer n answer_by = cond-false _ _ _ e in
-            let P : Event → Type 0 = λ v. Posts posted_mid v (contacts_by (status_of m) m) (to.going_up (status_of m) m) reply new in
+            let is : event_by call.fixed.is_responsible n (status_of m) m ≡ fork.Answer n answer_by = cond-false _ _ _ e in
+            let P : Event → Type 0 = λ v. Posts posted_mid v (contacts_for call.fixed.is_responsible (status_of m) m) (to.going_up (status_of m) m) reply new in
             let posts-2 = subst P is posts in
             posted call posted_mid new (fork.Answer n answer_by) _ _ reply refl same_stored posts-2 (at_answer (nat_lt (status_of m) 300) refl (sym is) posts-2) kept
 

@@ -35,7 +35,7 @@ pub use Rattle.fork_parts.specs.PartsInside.{IsSized}
 pub use Rattle.fork_parts.specs.Posting.{Posts, call_tag, gone_on, no_leg, owed_by, owes, rows_more, way_of_contact, ways_of}
 pub use Rattle.fork_parts.specs.Pump.{AnswersBy, AnswersWith, Did, Does, FiresTimerC, OnPart, Pumped, Pumps, Send, SendsAnswer, TicksClientBy, is_request, is_timeout, sent_if, stopped, ticked}
 pub use Rattle.fork_parts.specs.Queue.{HaveMessages, queue_of}
-pub use Rattle.fork_parts.specs.Response.{challenge_in, challenges_by, contacts_at, contacts_by, contacts_in, contacts_or, event_by, is_redirection, offer_of}
+pub use Rattle.fork_parts.specs.Response.{challenge_in, challenges_by, contact_for, contacts_at, contacts_by, contacts_for, contacts_in, contacts_or, event_by, is_redirection, offer_of}
 pub use Rattle.fork_parts.specs.SeenDatagram.{seen}
 pub use Rattle.fork_parts.specs.Server.{Again, CancelOk, Final, Owed, Passed, Served, Server, first_owed, served_start}
 pub use Rattle.fork_parts.specs.Sound.{IsForward, IsSound, IsSoundOwed, StoresValues, awaits, invite_awaits, is_text, other_awaits}

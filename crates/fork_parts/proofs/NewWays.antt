@@ -3,7 +3,7 @@ use Rattle.fork_parts.proofs.Common.{◌≡◌, ◌≢◌, ◌∙◌, ℕ, zero,
 use Rattle.fork_parts.proofs.Common.{nat_lt, Result, Ok, Err, codes, AllByRecursion, cons_option, flat_map, list_all, option_and_then, and_from, and_parts, list_all-append, Offer, Row, Event, Ring, Answer, FinalAnswer, next, values_of}
 use Rattle.fork_parts.proofs.Common.{MessageText, ContactText, Form, are_items, contact_of, contact_of_form, contact_params, form_of, is_contact_param, items_behind, q_of, takeable, read_uri, Uri, Hop, UriFault, BadText, is_closed}
 use Rattle.fork_parts.proofs.Common.{QuotesAndAngles, Fixed, Way, HaveWays, IsNone, count_in, place_of, way_for, without, Leg, no_leg, way_of_contact, ways_of, challenges_by, contacts_at, contacts_by, contacts_in, contacts_or, event_by}
-use Rattle.fork_parts.proofs.Common.{is_redirection, offer_of, ◌&&◌}
+use Rattle.fork_parts.proofs.Common.{contact_for, contacts_for, is_redirection, offer_of, ◌&&◌}
 use Rattle.std.proofs.Common.{option_map, append_assoc, ltb-true, ltb-false}
 use Rattle.fork_model.specs.Sources.{AddsNoRow, IsRowOf, NewRowsAreContacts}
 use Rattle.sip_uri.specs.Contact.{contacts_of}
@@ -63,6 +63,17 @@ contacts_hop status m = by (is_redirection status)
     by : (b : Bool) → list_all has_hop (cond {A = List ContactText} b (contacts_in m) []) ≡ true
     by true = values_hop (values_of (codes "contact") m.headers)
     by false = refl
+
+-- one that is not tried needs none
+hop_for : (responsible : Bool) (contact : ContactText) → has_hop contact ≡ true → has_hop (contact_for responsible contact) ≡ true
+hop_for true contact h = h
+hop_for false contact h = refl
+
+hops_for : (responsible : Bool) (cs : List ContactText) → list_all has_hop cs ≡ true → list_all has_hop (map (contact_for responsible) cs) ≡ true
+hops_for responsible [] h = refl
+hops_for responsible (c ∷ cs) h =
+    let each = and_parts (has_hop c) (list_all has_hop cs) h in
+    and_from (has_hop (contact_for responsible c)) (list_all has_hop (map (contact_for responsible) cs)) (hop_for responsible c each.0) (hops_for responsible cs each.1)
 
 hop_at : (cs : List ContactText) (place : ℕ) (c : ContactText) → list_all has_hop cs ≡ true → slice_get cs place ≡ Some c → has_hop c ≡ true
 hop_at [] place c h e = absurd cc
@@ -141,31 +152,32 @@ module _ (each : NewRowsAreContacts) (none : AddsNoRow) where
         apart = added_apart t n at answer;
       }
 
-  pub gives_ways : (fixed : Fixed) (n status : ℕ) (m : MessageText) → GivesWays (event_by n status m) (map (way_of_contact fixed) (contacts_by status m))
-  gives_ways fixed n status m = by (nat_lt status 200)
+  pub gives_ways : (fixed : Fixed) (responsible : Bool) (n status : ℕ) (m : MessageText) → GivesWays (event_by responsible n status m) (map (way_of_contact fixed) (contacts_for responsible status m))
+  gives_ways fixed responsible n status m = by (nat_lt status 200)
     where
-      by : (b : Bool) → GivesWays (cond {A = Event} b (Ring n status) (Answer n (record { status = status; offers = map offer_of (contacts_by status m); challenges = challenges_by status m }))) (map (way_of_contact fixed) (contacts_by status m))
-      by true = no_rows n status (map (way_of_contact fixed) (contacts_by status m))
+      by : (b : Bool) → GivesWays (cond {A = Event} b (Ring n status) (Answer n (record { status = status; offers = map offer_of (contacts_for responsible status m); challenges = challenges_by status m }))) (map (way_of_contact fixed) (contacts_for responsible status m))
+      by true = no_rows n status (map (way_of_contact fixed) (contacts_for responsible status m))
       by false =
-          let answer : FinalAnswer = record { status = status; offers = map offer_of (contacts_by status m); challenges = challenges_by status m } in
-          some_rows fixed n (contacts_by status m) answer (contacts_hop status m) refl
+          let answer : FinalAnswer = record { status = status; offers = map offer_of (contacts_for responsible status m); challenges = challenges_by status m } in
+          some_rows fixed n (contacts_for responsible status m) answer (hops_for responsible (contacts_by status m) (contacts_hop status m)) refl
 
-  pub event_gives : (fixed : Fixed) (n status : ℕ) (m : MessageText) (event : Event) (ways : List (Option Way)) → event ≡ event_by n status m
-      → ways ≡ map (way_of_contact fixed) (contacts_by status m) → GivesWays event ways
-  event_gives fixed n status m event ways e w = subst (λ (v : Event). GivesWays v ways) (sym e) (subst (GivesWays (event_by n status m)) (sym w) (gives_ways fixed n status m))
+  pub event_gives : (fixed : Fixed) (responsible : Bool) (n status : ℕ) (m : MessageText) (event : Event) (ways : List (Option Way)) → event ≡ event_by responsible n status m
+      → ways ≡ map (way_of_contact fixed) (contacts_for responsible status m) → GivesWays event ways
+  event_gives fixed responsible n status m event ways e w =
+      subst (λ (v : Event). GivesWays v ways) (sym e) (subst (GivesWays (event_by responsible n status m)) (sym w) (gives_ways fixed responsible n status m))
 
-pub rings : (n status ring : ℕ) (m : MessageText) → ring ≡ status → status < 200 → Ring n ring ≡ event_by n status m
-rings n status ring m e lt = by (nat_lt status 200) refl
+pub rings : (responsible : Bool) (n status ring : ℕ) (m : MessageText) → ring ≡ status → status < 200 → Ring n ring ≡ event_by responsible n status m
+rings responsible n status ring m e lt = by (nat_lt status 200) refl
   where
-    by : (b : Bool) → nat_lt status 200 ≡ b → Ring n ring ≡ cond {A = Event} b (Ring n status) (Answer n (record { status = status; offers = map offer_of (contacts_by status m); challenges = challenges_by status m }))
+    by : (b : Bool) → nat_lt status 200 ≡ b → Ring n ring ≡ cond {A = Event} b (Ring n status) (Answer n (record { status = status; offers = map offer_of (contacts_for responsible status m); challenges = challenges_by status m }))
     by true is = ap (Ring n) e
     by false is = absurd (omega (arith, ltb-false status 200 is))
 
-pub answers_with : (n status : ℕ) (m : MessageText) (answer : FinalAnswer) → 200 ≤ status
-    → answer ≡ record { status = status; offers = map offer_of (contacts_by status m); challenges = challenges_by status m } → Answer n answer ≡ event_by n status m
-answers_with n status m answer le e = by (nat_lt status 200) refl
+pub answers_with : (responsible : Bool) (n status : ℕ) (m : MessageText) (answer : FinalAnswer) → 200 ≤ status
+    → answer ≡ record { status = status; offers = map offer_of (contacts_for responsible status m); challenges = challenges_by status m } → Answer n answer ≡ event_by responsible n status m
+answers_with responsible n status m answer le e = by (nat_lt status 200) refl
   where
-    by : (b : Bool) → nat_lt status 200 ≡ b → Answer n answer ≡ cond {A = Event} b (Ring n status) (Answer n (record { status = status; offers = map offer_of (contacts_by status m); challenges = challenges_by status m }))
+    by : (b : Bool) → nat_lt status 200 ≡ b → Answer n answer ≡ cond {A = Event} b (Ring n status) (Answer n (record { status = status; offers = map offer_of (contacts_for responsible status m); challenges = challenges_by status m }))
     by true is = absurd (omega (arith, ltb-true status 200 is))
     by false is = ap (Answer n) e
 

@@ -1,5 +1,5 @@
 use Rattle.fork_parts.proofs.Common.{◌≡◌, ◌∙◌, ℕ, ap, refl, sym, subst, true, false, Bool, List, Option, Some, None, slice_get, ◌↔◌, IsTrue, nat_lt, cond, Event, MessageText, spelling, TxOut, TxSend, Way, Client, client_after, client_out}
-use Rattle.fork_parts.proofs.Common.{Leg, Call, leg_at, set_leg, with_leg, ack_to, status_of, responded, kept, changed_leg, ack_made, answer_if, kept_if, is_full, HasFirst, core_of, table_of, PostsSaid, contacts_by, event_by, Posts}
+use Rattle.fork_parts.proofs.Common.{Leg, Call, leg_at, set_leg, with_leg, ack_to, status_of, responded, kept, changed_leg, ack_made, answer_if, kept_if, is_full, HasFirst, core_of, table_of, PostsSaid, contacts_for, event_by, Posts}
 use Rattle.fork_parts.proofs.Common.{RespondsOn, Absorbed, Posted, Full, going_up, response_event, is_passed, ack_by, leg_after, leg_posted, timer_c_again, answer_kept}
 use Rattle.sip_txn.specs.declared.event.TxSend.TheVariants as send
 use Rattle.fork_parts.proofs.LegLists.{changed_is, found_is}
@@ -58,8 +58,8 @@ module _ (call : Call) (n now status : ℕ) (m : MessageText) (leg : Leg) (way :
       made ∙ all ∙ rw status_is refl
 
   pub posted : (event : Event) (at : ℕ) (first : Bool) (mid new last : Call)
-      → PostsSaid call event (contacts_by status m) (going_up status m) at mid
-      → event ≡ event_by n status m
+      → PostsSaid call event (contacts_for call.fixed.is_responsible status m) (going_up status m) at mid
+      → event ≡ event_by call.fixed.is_responsible n status m
       → is_passed out.pass ≡ true
       → new ≡ record mid { legs = changed_leg (responded client ack) mid.legs n }
       → (IsTrue first ↔ HasFirst (table_of mid.log) n)
@@ -69,7 +69,7 @@ module _ (call : Call) (n now status : ℕ) (m : MessageText) (leg : Leg) (way :
       let f = kept (timer_c_again now status leg.timer_c_at) (kept_if first (answer_if status m)) in
       let part = leg_last first in
       let l = responded client ack leg in
-      let cs = contacts_by status m in
+      let cs = contacts_for call.fixed.is_responsible status m in
       let later : leg_at mid n ≡ Some leg = still_there call mid event cs (going_up status m) reply posts n leg there in
       let once : new ≡ set_leg mid n l = went ∙ changed_part (responded client ack) mid n leg later in
       let P : Call → Type 0 = λ x. leg_at x n ≡ Some l in
@@ -78,12 +78,12 @@ module _ (call : Call) (n now status : ℕ) (m : MessageText) (leg : Leg) (way :
       second ∙ changed_part f new n l after ∙ ap (λ (x : Call). set_leg x n (f l)) once ∙ set_twice mid n l (f l) ∙ ap (set_leg mid n) (last_is first) in
       let all : Posts (set_leg call n part) event cs (going_up status m) reply (set_leg mid n part) = posts_part call mid event cs (going_up status m) reply posts n leg part there in
       let E : Event → Type 0 = λ e. Posts (set_leg call n part) e cs (going_up status m) reply (set_leg mid n part) in
-      let S : ℕ → Type 0 = λ s. Posts (set_leg call n part) (event_by n s m) (contacts_by s m) (going_up s m) reply (set_leg mid n part) in
-      let N : Call → Type 0 = λ x. Posts (set_leg call n part) (event_by n (status_of m) m) (contacts_by (status_of m) m) (going_up (status_of m) m) reply x in
+      let S : ℕ → Type 0 = λ s. Posts (set_leg call n part) (event_by call.fixed.is_responsible n s m) (contacts_for call.fixed.is_responsible s m) (going_up s m) reply (set_leg mid n part) in
+      let N : Call → Type 0 = λ x. Posts (set_leg call n part) (event_by call.fixed.is_responsible n (status_of m) m) (contacts_for call.fixed.is_responsible (status_of m) m) (going_up (status_of m) m) reply x in
       let L : Call → Type 0 = λ x. IsTrue first ↔ HasFirst (table_of x.log) n in
       (leg, way, there, goes, (passes_by ∙ passed_on, reply, at_is, first, subst L (sym twice) leads, subst N (sym twice) (subst S status_is (subst E event_is all))))
 
-  pub refused : (event : Event) → event ≡ event_by n status m → is_full (core_of call.log) event ≡ true → is_passed out.pass ≡ true → RespondsOn call n now m Full call
+  pub refused : (event : Event) → event ≡ event_by call.fixed.is_responsible n status m → is_full (core_of call.log) event ≡ true → is_passed out.pass ≡ true → RespondsOn call n now m Full call
   refused event event_is full passed_on =
-      let full_by : is_full (core_of call.log) (event_by n (status_of m) m) ≡ true = sym (ap (λ (s : ℕ). is_full (core_of call.log) (event_by n s m)) status_is) ∙ sym (ap (is_full (core_of call.log)) event_is) ∙ full in
+      let full_by : is_full (core_of call.log) (event_by call.fixed.is_responsible n (status_of m) m) ≡ true = sym (ap (λ (s : ℕ). is_full (core_of call.log) (event_by call.fixed.is_responsible n s m)) status_is) ∙ sym (ap (is_full (core_of call.log)) event_is) ∙ full in
       (leg, way, there, goes, (passes_by ∙ passed_on, full_by, refl))

@@ -3,7 +3,7 @@ use Rattle.fork_parts.proofs.Common.{◌≡◌, ◌∙◌, ◌⊎◌, ℕ, zero,
 use Rattle.fork_parts.proofs.Common.{and_parts, cond-false, cond-true, Event, RowsStay, Reply, challenges_of, offers_of, next, RowsKeepTheirNumbers, Row, State, Table, is_open, is_row, is_trying, added, table_of, IsMessage, is_value}
 use Rattle.fork_parts.proofs.Common.{values_of, MessageText, TxEvent, ContactText, Hop, is_challenge, Cause, answer_of, status_of, Call, leg_at, row_passes, set_leg, with_leg, found, Client, client_after, client_out, Deed, SendRequest}
 use Rattle.fork_parts.proofs.Common.{SendCancel, SendAck, SendAnswer, TickServer, TickClient, TickCancel, FireTimerC, GiveUp, is_due_at, Fails, FaultsBy, FaultsClient, cancel_faulted, faulted, faulted_cancel, is_fault, Way, kind_of}
-use Rattle.fork_parts.proofs.Common.{Cancelling, Leg, leg_start, Posts, call_tag, owed_by, AnswersBy, AnswersWith, Did, Does, FiresTimerC, Pumped, Pumps, Send, SendsAnswer, TicksClientBy, is_timeout, stopped, ticked, contacts_by, event_by}
+use Rattle.fork_parts.proofs.Common.{Cancelling, Leg, leg_start, Posts, call_tag, owed_by, AnswersBy, AnswersWith, Did, Does, FiresTimerC, Pumped, Pumps, Send, SendsAnswer, TicksClientBy, is_timeout, stopped, ticked, contacts_for, event_by}
 use Rattle.fork_parts.proofs.Common.{Again, CancelOk, Final, Owed, Passed, Server, IsForward, IsSound, IsSoundOwed, StoresValues, awaits, is_text, Absorbed, Full, Posted, Responds, Taken, TakesAs, answer_kept, going_up, leg_after}
 use Rattle.fork_parts.proofs.Common.{leg_posted, response_event, timer_c_again}
 use Rattle.fork_model.specs.Event as fork
@@ -288,32 +288,32 @@ module _ (passes : StoredAnswersPass) (grows : RowsKeepTheirNumbers) (stay : Row
   up_forward false m h = tt
 
   posted : (call : Call) (n : ℕ) (leg : Leg) (way : Way) (now : ℕ) (m : MessageText) (reply : Reply) (first : Bool) (new : Call) → IsSound call → leg_at call n ≡ Some leg → IsMessage m → IsForward m
-      → Posts (set_leg call n (leg_posted first (leg_after call n leg way now m) now (status_of m) m)) (event_by n (status_of m) m) (contacts_by (status_of m) m) (going_up (status_of m) m) reply new
+      → Posts (set_leg call n (leg_posted first (leg_after call n leg way now m) now (status_of m) m)) (event_by call.fixed.is_responsible n (status_of m) m) (contacts_for call.fixed.is_responsible (status_of m) m) (going_up (status_of m) m) reply new
       → IsSound new
   posted call n leg way now m reply first new is there message forward posts =
       let l = leg_posted first (leg_after call n leg way now m) now (status_of m) m in
-      let ev = event_by n (status_of m) m in
-      let values = event_values values_are n (status_of m) m message in
+      let ev = event_by call.fixed.is_responsible n (status_of m) m in
+      let values = event_values values_are call.fixed.is_responsible n (status_of m) m message in
       let part = is.legs n leg there in
       let answer = kept_forward (nat_lt (status_of m) 300) first m leg.answer forward part.answer in
       let timer = timer_kept now (status_of m) leg.timer_c_at in
-      posts_sound call (set_leg call n l) new ev (contacts_by (status_of m) m) (going_up (status_of m) m) reply is refl refl is.owed
+      posts_sound call (set_leg call n l) new ev (contacts_for call.fixed.is_responsible (status_of m) m) (going_up (status_of m) m) reply is refl refl is.owed
       (by (nat_lt (status_of m) 200) refl answer) values.0 values.1 (up_forward (nat_lt (status_of m) 300) m forward) posts
     where
       by : (b : Bool) → nat_lt (status_of m) 200 ≡ b → IfSome (answer_kept first (status_of m) m leg.answer) IsForward
-          → IsSoundAll (after_event call (event_by n (status_of m) m)) (set_leg call n (leg_posted first (leg_after call n leg way now m) now (status_of m) m))
+          → IsSoundAll (after_event call (event_by call.fixed.is_responsible n (status_of m) m)) (set_leg call n (leg_posted first (leg_after call n leg way now m) now (status_of m) m))
       by true e answer =
           let l = leg_posted first (leg_after call n leg way now m) now (status_of m) m in
           let t = table_of call.log in
-          let ring : event_by n (status_of m) m ≡ fork.Ring n (status_of m) = cond-true _ _ _ e in
+          let ring : event_by call.fixed.is_responsible n (status_of m) m ≡ fork.Ring n (status_of m) = cond-true _ _ _ e in
           let here : IsSoundLeg t n l = next_sound t n leg l (is.legs n leg there) (waiting.waited (response_event (status_of m)) now leg.client) (timer_kept now (status_of m) leg.timer_c_at) answer in
           let P : Event → Type 0 = λ v. IsSoundAll (after_event call v) (set_leg call n l) in
           subst P (sym ring) (open_all call (set_leg call n l) (fork.Ring n (status_of m)) (set_sound t call n l here (λ k x d h. is.legs k x h))
           (λ k. ring_stays t (length call.log.history) n k (status_of m)))
       by false e answer =
           let l = leg_posted first (leg_after call n leg way now m) now (status_of m) m in
-          let named : row_named (event_by n (status_of m) m) ≡ Some n = ap row_named (cond-false _ _ _ e) in
-          ended_all call n l (event_by n (status_of m) m) is named (awaits_after now (status_of m) leg.client e)
+          let named : row_named (event_by call.fixed.is_responsible n (status_of m) m) ≡ Some n = ap row_named (cond-false _ _ _ e) in
+          ended_all call n l (event_by call.fixed.is_responsible n (status_of m) m) is named (awaits_after now (status_of m) leg.client e)
           (λ h. (is.legs n leg there).timer_c (timer_kept now (status_of m) leg.timer_c_at h)) answer
 
   responded : (call : Call) (n : ℕ) (leg : Leg) (way : Way) (now : ℕ) (m : MessageText) (k : Taken) (new : Call) → IsSound call → leg_at call n ≡ Some leg → IsMessage m → IsForward m → Responds call n leg way now m k new → IsSound new

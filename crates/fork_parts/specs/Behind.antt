@@ -17,7 +17,9 @@ use Rattle.fork_parts.specs.Step.{Turn, Step}
 -- branch n keeps a response, which was posted as the event at this position
 abbrev pub KeepsEvent : Call → (n at : ℕ) → Type 0
 KeepsEvent call n at =
-    (m : MessageText) × (answer_in (leg_at call n) ≡ Some m) × (slice_get (events_of call.log.history) at ≡ Some (event_by n (status_of m) m))
+    (m : MessageText)
+    × (answer_in (leg_at call n) ≡ Some m)
+    × (slice_get (events_of call.log.history) at ≡ Some (event_by call.fixed.is_responsible n (status_of m) m))
 
 -- a branch with a stored answer that came, and that no stored answer ranks before, keeps the response that it was
 abbrev pub KeepsAnswers : Call → Type 0

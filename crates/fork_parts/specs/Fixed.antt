@@ -20,6 +20,8 @@ pub record Fixed : Type 0 where
   pub caller : Hop
   -- the hop of its first Route value, if it has one
   pub route : Option Hop
+  -- its Request-URI is one that the proxy is responsible for; for any other the contacts of a 3xx are not tried (section 16.5)
+  pub is_responsible : Bool
 
 abbrev pub method_of : StartText → List ℕ
 method_of (Request method uri) = method

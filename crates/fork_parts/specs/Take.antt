@@ -26,7 +26,7 @@ use Rattle.fork_parts.specs.Server as server
 use Rattle.fork_parts.specs.Server.{served_after, served_out}
 use Rattle.fork_parts.specs.Call.{Call, leg_at, set_leg}
 use Rattle.fork_parts.specs.Built.{ack_to, status_of}
-use Rattle.fork_parts.specs.Response.{contacts_by, event_by}
+use Rattle.fork_parts.specs.Response.{contacts_for, event_by}
 use Rattle.fork_parts.specs.Posting.{Posts, owes}
 
 -- the transactions of a call that messages come to
@@ -146,15 +146,15 @@ Responds call n leg way now m (Posted at) new =
     × (IsTrue first ↔ HasFirst (table_of new.log) n)
     × Posts
     (set_leg call n (leg_posted first (leg_after call n leg way now m) now (status_of m) m))
-    (event_by n (status_of m) m)
-    (contacts_by (status_of m) m)
+    (event_by call.fixed.is_responsible n (status_of m) m)
+    (contacts_for call.fixed.is_responsible (status_of m) m)
     (going_up (status_of m) m)
     reply
     new
 -- it would hand it up, and the book does not take it
 Responds call n leg way now m Full new =
     (is_passed (client_out (response_event (status_of m)) now leg.client).pass ≡ true)
-    × (is_full (core_of call.log) (event_by n (status_of m) m) ≡ true)
+    × (is_full (core_of call.log) (event_by call.fixed.is_responsible n (status_of m) m) ≡ true)
     × (new ≡ call)
 
 -- the response comes to branch n, whose part and way there are

@@ -16,8 +16,9 @@ use std::alloc::Allocator;
 impl<A: Allocator + Clone> Parts<A> {
     /// Takes a response to branch n: its client transaction absorbs it, or hands it up, and it is posted (RFC 3261
     /// sections 16.7 and 17.1). A failure is kept where no stored answer ranks before it, for it may go up later, and an
-    /// ACK is owed where the transaction says so; a provisional response sets timer C again. Contacts of a 3xx may become further targets, whose requests are
-    /// then to be sent; the challenges of a 401 or a 407 are stored with it.
+    /// ACK is owed where the transaction says so; a provisional response sets timer C again. Where the proxy is
+    /// responsible for the Request-URI of the call, contacts of a 3xx may become further targets, whose requests are then
+    /// to be sent (section 16.5); the challenges of a 401 or a 407 are stored with it.
     ///
     /// # Errors
     ///

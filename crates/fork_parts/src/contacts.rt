@@ -7,7 +7,7 @@ ghost use Rattle.sip_uri.specs.Key.{key_of};
 ghost use Rattle.sip_uri.specs.SeenContact.{view_contact, view_contacts};
 ghost use Rattle.fork_parts.specs.Fixed.{way_to};
 ghost use Rattle.fork_parts.specs.Posting.{way_of_contact};
-ghost use Rattle.fork_parts.specs.Response.{contacts_at, contacts_by, contacts_in, is_redirection, offer_of};
+ghost use Rattle.fork_parts.specs.Response.{contact_for, contacts_at, contacts_by, contacts_for, contacts_in, is_redirection, offer_of};
 
 use crate::fixed::Fixed;
 use crate::way::Way;
@@ -146,14 +146,16 @@ fn key_of<A: Allocator + Clone>(
 }
 
 impl<A: Allocator + Clone> Offered<A> {
-    /// Adds a contact.
+    /// Adds a contact, which may be tried only where the proxy is responsible for the Request-URI of the call (RFC 3261
+    /// section 16.5).
     fn push(&mut self, alloc: &A, fixed: &Fixed<A>, contact: Contact<A>) -> Result<(), AllocError>
         requires { contact.q ≤ most_q }
-        ensures offers { OnOk result (self.new.offers.items ≡ self.old.offers.items ++ offer_of (view_contact contact) ∷ []) }
-        ensures ways { OnOk result (self.new.ways.items ≡ self.old.ways.items ++ way_of_contact fixed.now (view_contact contact) ∷ []) }
+        ensures offers { OnOk result (self.new.offers.items ≡ self.old.offers.items ++ offer_of (contact_for fixed.now.is_responsible (view_contact contact)) ∷ []) }
+        ensures ways { OnOk result (self.new.ways.items ≡ self.old.ways.items ++ way_of_contact fixed.now (contact_for fixed.now.is_responsible (view_contact contact)) ∷ []) }
     {
-        let key = key_of(alloc, contact.uri.as_ref())?;
         let Contact { text, q, uri } = contact;
+        let uri = if fixed.is_responsible() { uri } else { None };
+        let key = key_of(alloc, uri.as_ref())?;
         self.offers.push(Offer::new(text, q, key))?;
         self.ways.push(way_of(fixed, uri))?;
         Ok(())
@@ -167,8 +169,8 @@ fn offers_of<A: Allocator + Clone>(
     contacts: Vec<Contact<A>, A>,
 ) -> Result<Offered<A>, AllocError>
     requires { AllByRecursion (λ c. c.q ≤ most_q) (view_contacts contacts.items) }
-    ensures offers { IfOk result (λ o. o.offers.items ≡ map offer_of (view_contacts contacts.items)) }
-    ensures ways { IfOk result (λ o. o.ways.items ≡ map (way_of_contact fixed.now) (view_contacts contacts.items)) }
+    ensures offers { IfOk result (λ o. o.offers.items ≡ map offer_of (map (contact_for fixed.now.is_responsible) (view_contacts contacts.items))) }
+    ensures ways { IfOk result (λ o. o.ways.items ≡ map (way_of_contact fixed.now) (map (contact_for fixed.now.is_responsible) (view_contacts contacts.items))) }
 {
     let mut made = Offered {
         offers: Vec::with_capacity(alloc.clone()?, contacts.len())?,
@@ -181,15 +183,16 @@ fn offers_of<A: Allocator + Clone>(
 }
 
 /// The contacts of a response that count, offered to the fork of a call: each with the URI and the hop of its request,
-/// where it may be tried (RFC 3261 sections 16.5 and 16.6).
+/// where it may be tried, as none may where the proxy is not responsible for the Request-URI of the call (RFC 3261 sections
+/// 16.5 and 16.6).
 pub(crate) fn offered_by<A: Allocator + Clone>(
     alloc: &A,
     fixed: &Fixed<A>,
     status: u16,
     message: &Message<A>,
 ) -> Result<Offered<A>, AllocError>
-    ensures offers { IfOk result (λ o. o.offers.items ≡ map offer_of (contacts_by status message.now)) }
-    ensures ways { IfOk result (λ o. o.ways.items ≡ map (way_of_contact fixed.now) (contacts_by status message.now)) }
+    ensures offers { IfOk result (λ o. o.offers.items ≡ map offer_of (contacts_for fixed.now.is_responsible status message.now)) }
+    ensures ways { IfOk result (λ o. o.ways.items ≡ map (way_of_contact fixed.now) (contacts_for fixed.now.is_responsible status message.now)) }
 {
     let contacts = contacts_by(alloc, status, message)?;
     offers_of(alloc, fixed, contacts)

@@ -32,6 +32,7 @@ pub struct Fixed<A: Allocator = Global> {
     request: Message<A>,
     caller: Hop,
     route: Option<Hop>,
+    is_responsible: bool,
     key: [u8; 16],
     invite: bool,
 }
@@ -42,9 +43,9 @@ impl<A: Allocator> Model for Fixed<A> {
 
     ghost Value = { spec.Fixed };
 
-    ghost view = { λ f. record { number = f.number; own = f.own; instance = f.instance; request = f.request; caller = f.caller; route = f.route } };
+    ghost view = { λ f. record { number = f.number; own = f.own; instance = f.instance; request = f.request; caller = f.caller; route = f.route; is_responsible = f.is_responsible } };
 
-    ghost invariant = { λ f. IsFixed (record { number = f.number; own = f.own; instance = f.instance; request = f.request; caller = f.caller; route = f.route }) f.key f.invite };
+    ghost invariant = { λ f. IsFixed (record { number = f.number; own = f.own; instance = f.instance; request = f.request; caller = f.caller; route = f.route; is_responsible = f.is_responsible }) f.key f.invite };
 }
 
 /// Whether a request is an INVITE.
@@ -59,8 +60,8 @@ fn is_invite<A: Allocator>(request: &Message<A>) -> bool
 
 impl<A: Allocator> Fixed<A> {
     /// What a call of this number is opened with: the request as it was marked with its source and stripped of the
-    /// proxy's own Route value, where its answers go, and the hop of its first Route value, if it has one (RFC 3261
-    /// sections 16.3, 16.4 and 18.2.2).
+    /// proxy's own Route value, where its answers go, the hop of its first Route value, if it has one, and whether the
+    /// proxy is responsible for its Request-URI (RFC 3261 sections 16.3 to 16.5 and 18.2.2).
     pub fn new(
         number: u64,
         own: Own,
@@ -68,10 +69,11 @@ impl<A: Allocator> Fixed<A> {
         request: Message<A>,
         caller: Hop,
         route: Option<Hop>,
+        is_responsible: bool,
     ) -> Self
         requires request { is_request request.start ≡ true }
         requires hops { IfSome (first_value hops_name request.headers) IsHops }
-        ensures { result ≡ record { number = number; own = own; instance = instance; request = request; caller = caller; route = route } }
+        ensures { result ≡ record { number = number; own = own; instance = instance; request = request; caller = caller; route = route; is_responsible = is_responsible } }
     {
         let key = loop_key(&request);
         let invite = is_invite(&request);
@@ -82,6 +84,7 @@ impl<A: Allocator> Fixed<A> {
             request,
             caller,
             route,
+            is_responsible,
             key,
             invite,
         }
@@ -127,6 +130,14 @@ impl<A: Allocator> Fixed<A> {
         ensures { result ≡ self.now.route }
     {
         self.route
+    }
+
+    /// Whether the proxy is responsible for the Request-URI of the request; for any other it tries no contact of a 3xx (RFC
+    /// 3261 section 16.5).
+    pub fn is_responsible(&self) -> bool
+        ensures { result ≡ self.now.is_responsible }
+    {
+        self.is_responsible
     }
 
     /// Whether it is an INVITE.

@@ -27,7 +27,7 @@ ghost use Rattle.fork_parts.specs.Pump as pump;
 ghost use Rattle.fork_parts.specs.Pump.{AnswersWith, FiresTimerC, GivesUp, OnLeg, OnPart, SendsAck, SendsCancel, SendsRequest, TicksCancel, TicksClient, TicksServer};
 ghost use Rattle.fork_parts.specs.inner.NewWays.{GivesWays, PostsSaid};
 ghost use Rattle.fork_parts.specs.Posting.{way_of_contact};
-ghost use Rattle.fork_parts.specs.Response.{contacts_by, event_by};
+ghost use Rattle.fork_parts.specs.Response.{contacts_for, event_by};
 ghost use Rattle.fork_parts.specs.SeenDatagram.{seen};
 ghost use Rattle.fork_parts.specs.SeenStep.{pumped};
 ghost use Rattle.fork_parts.specs.SeenTaken.{seen_taken};
@@ -542,8 +542,8 @@ impl<A: Allocator + Clone> Parts<A> {
     ) -> Result<Said<A>, AllocError>
         requires least { 100 ≤ status }
         requires most { status ≤ 699 }
-        ensures event { IfOk result (λ said. event_of said.event ≡ event_by n status message.now) }
-        ensures ways { IfOk result (λ said. said.ways.items ≡ map (way_of_contact self.now.fixed) (contacts_by status message.now)) }
+        ensures event { IfOk result (λ said. event_of said.event ≡ event_by self.now.fixed.is_responsible n status message.now) }
+        ensures ways { IfOk result (λ said. said.ways.items ≡ map (way_of_contact self.now.fixed) (contacts_for self.now.fixed.is_responsible status message.now)) }
         ensures gives { IfOk result (λ said. GivesWays (event_of said.event) said.ways.items) }
     {
         Said::of(&self.alloc, &self.fixed, n, status, message)

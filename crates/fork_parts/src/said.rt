@@ -6,7 +6,7 @@ ghost use Rattle.fork_context.specs.EventView.{event_of};
 ghost use Rattle.sip_text.specs.Seen.{view, views};
 ghost use Rattle.fork_parts.specs.inner.NewWays.{GivesWays};
 ghost use Rattle.fork_parts.specs.Posting.{way_of_contact};
-ghost use Rattle.fork_parts.specs.Response.{challenge_in, challenges_by, contacts_by, event_by};
+ghost use Rattle.fork_parts.specs.Response.{challenge_in, challenges_by, contacts_for, event_by};
 
 use crate::contacts::offered_by;
 use crate::fixed::Fixed;
@@ -88,7 +88,8 @@ fn challenges_by<A: Allocator + Clone>(
 
 impl<A: Allocator + Clone> Said<A> {
     /// What a response with this status says to the fork as one of branch n: the contacts of a 3xx and the challenges of a
-    /// 401 or a 407 count (RFC 3261 section 16.7).
+    /// 401 or a 407 count; the contacts may be tried only where the proxy is responsible for the Request-URI of the call
+    /// (RFC 3261 sections 16.5 and 16.7).
     ///
     /// # Errors
     ///
@@ -102,8 +103,8 @@ impl<A: Allocator + Clone> Said<A> {
     ) -> Result<Self, AllocError>
         requires least { 100 ≤ status }
         requires most { status ≤ 699 }
-        ensures event { IfOk result (λ said. event_of said.event ≡ event_by n status message.now) }
-        ensures ways { IfOk result (λ said. said.ways.items ≡ map (way_of_contact fixed.now) (contacts_by status message.now)) }
+        ensures event { IfOk result (λ said. event_of said.event ≡ event_by fixed.now.is_responsible n status message.now) }
+        ensures ways { IfOk result (λ said. said.ways.items ≡ map (way_of_contact fixed.now) (contacts_for fixed.now.is_responsible status message.now)) }
         ensures gives { IfOk result (λ said. GivesWays (event_of said.event) said.ways.items) }
     {
         new_rows_are_contacts();

@@ -1,5 +1,5 @@
 -- What is known where a request was admitted, and where it was not.
-use Rattle.fork_routing.proofs.Common.{◌≡◌, ◌∙◌, true, false, ℕ, List, [], Option, Result, Ok, Err, ap, subst, IfOk, list_all, Rules, MessageText, StartText, Own, top_value, via_of, Call, Fixed, IsAdmitted, target_uri, IsTurnedAway}
+use Rattle.fork_routing.proofs.Common.{◌≡◌, ◌∙◌, true, false, Bool, ℕ, List, [], Option, Result, Ok, Err, ap, subst, IfOk, list_all, Rules, MessageText, StartText, Own, top_value, via_of, Call, Fixed, IsAdmitted, target_uri, IsTurnedAway}
 use Rattle.fork_routing.proofs.Common.{IsBegun, Choice, has_hop}
 use Rattle.std.specs.Prelude.{IfErr}
 use Rattle.sip_text.specs.Text as texts
@@ -14,7 +14,7 @@ use Rattle.fork_routing.specs.declared.fault.OpenFault.{OpenFault}
 use Rattle.fork_routing.specs.declared.fault.OpenFault.TheVariants.{BadRequest, Scheme, Hops, Loop, Extension, NoTarget, NoHop, NoMemory}
 use Rattle.fork_routing.specs.Admission.{asks_extension}
 use Rattle.fork_routing.specs.Opening.{Asks, IsOpenable, IsRefused, IsUnreachable, Opens, Reaches, Refuses, choices_for, fixed_of}
-use Rattle.fork_routing.specs.Targets.{choices, hop_if_any}
+use Rattle.fork_routing.specs.Targets.{choices, choices_by, hop_if_any, is_domain}
 
 pub openable : (start other : StartText) → start ≡ other → IsOpenable other → is_request start ≡ true
 openable start (texts.Request method uri) e h = ap is_request e
@@ -76,19 +76,19 @@ asked_if setup request uri a t (Err fault) h = asked setup request uri a t fault
 
 -- ---- the call that opens for a request to a URI
 
-pub fixed_so : (setup : Setup) (number : ℕ) (request : MessageText) (source : Hop) (own : Own) (instance : ℕ) (caller : Hop) (route : Option Hop) (first : FirstRoute) (fixed : Fixed)
-    → fixed ≡ record { number = number; own = own; instance = instance; request = request; caller = caller; route = route }
+pub fixed_so : (setup : Setup) (number : ℕ) (request : MessageText) (source : Hop) (uri : Uri) (own : Own) (instance : ℕ) (caller : Hop) (route : Option Hop) (inside : Bool) (first : FirstRoute) (fixed : Fixed)
+    → fixed ≡ record { number = number; own = own; instance = instance; request = request; caller = caller; route = route; is_responsible = inside }
     → own ≡ setup.own → instance ≡ setup.instance → caller ≡ reply_of (via_of (top_value request)) source
-    → route ≡ hop_if_any first → first ≡ first_route request → fixed ≡ fixed_of setup number request source
-fixed_so setup number request source own instance caller route first fixed e p q r s t =
+    → route ≡ hop_if_any first → first ≡ first_route request → inside ≡ is_domain setup uri.host → fixed ≡ fixed_of setup number request source uri
+fixed_so setup number request source uri own instance caller route inside first fixed e p q r s t u =
     let way : route ≡ hop_if_any (first_route request) = s ∙ ap hop_if_any t in
-    e ∙ (λ k. record { number = number; own = p k; instance = q k; request = request; caller = r k; route = way k })
+    e ∙ (λ k. record { number = number; own = p k; instance = q k; request = request; caller = r k; route = way k; is_responsible = u k })
 
-pub reaches : (setup : Setup) (number : ℕ) (request : MessageText) (source : Hop) (uri : Uri) (rules : Rules) (route : FirstRoute) (fixed : Fixed) (cs : List Choice) (call : Call)
-    → cs ≡ choices setup route uri → (cs ≡ [] → ⊥) → list_all has_hop cs ≡ true → rules ≡ setup.rules → route ≡ first_route request
-    → fixed ≡ fixed_of setup number request source → IsBegun rules fixed cs call → Reaches setup number request source uri call
-reaches setup number request source uri rules route fixed cs call p n h q r s b =
-    let whole : cs ≡ choices_for setup request uri = p ∙ ap (λ (x : FirstRoute). choices setup x uri) r in
+pub reaches : (setup : Setup) (number : ℕ) (request : MessageText) (source : Hop) (uri : Uri) (rules : Rules) (inside : Bool) (route : FirstRoute) (fixed : Fixed) (cs : List Choice) (call : Call)
+    → cs ≡ choices_by inside setup route uri → inside ≡ is_domain setup uri.host → (cs ≡ [] → ⊥) → list_all has_hop cs ≡ true → rules ≡ setup.rules → route ≡ first_route request
+    → fixed ≡ fixed_of setup number request source uri → IsBegun rules fixed cs call → Reaches setup number request source uri call
+reaches setup number request source uri rules inside route fixed cs call p i n h q r s b =
+    let whole : cs ≡ choices_for setup request uri = p ∙ ap (λ (x : Bool). choices_by x setup route uri) i ∙ ap (λ (x : FirstRoute). choices setup x uri) r in
     let H : List Choice → Type 0 = λ x. list_all has_hop x ≡ true in
     let B : List Choice → Type 0 = λ x. IsBegun rules fixed x call in
     let C : Rules → Type 0 = λ x. IsBegun x fixed (choices_for setup request uri) call in

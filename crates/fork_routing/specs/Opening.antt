@@ -20,22 +20,24 @@ use Rattle.fork_routing.specs.declared.fault.OpenFault.{OpenFault}
 use Rattle.fork_routing.specs.declared.fault.OpenFault.TheVariants.{BadRequest, Scheme, Hops, Loop, Extension, NoTarget, NoHop, NoMemory}
 use Rattle.fork_routing.specs.Admission.{IsAdmitted, asks_extension, target_uri}
 use Rattle.fork_routing.specs.Refusing.{IsTurnedAway}
-use Rattle.fork_routing.specs.Targets.{AreWays, Choice, choices, has_hop, hop_if_any, targets_of}
+use Rattle.fork_routing.specs.Targets.{AreWays, Choice, choices, has_hop, hop_if_any, is_domain, targets_of}
 
 -- a request that opens a call: neither an ACK nor a CANCEL (sections 9.2 and 17.2.1)
 abbrev pub IsOpenable : StartText → Type 0
 IsOpenable (texts.Request method uri) = (method ≢ codes "ACK") × (method ≢ codes "CANCEL")
 IsOpenable (texts.Response status reason) = ⊥
 
--- what the request, as it was prepared, opens with; its answers go where its top Via value says (section 18.2.2)
-abbrev pub fixed_of : Setup → ℕ → MessageText → Hop → Fixed
-fixed_of setup number request source = record {
+-- what the request to this URI, as it was prepared, opens with; its answers go where its top Via value says (section
+-- 18.2.2), and the proxy is responsible for a URI for whose host it answers (section 16.5)
+abbrev pub fixed_of : Setup → ℕ → MessageText → Hop → Uri → Fixed
+fixed_of setup number request source uri = record {
   number = number;
   own = setup.own;
   instance = setup.instance;
   request = request;
   caller = reply_of (via_of (top_value request)) source;
   route = hop_if_any (first_route request);
+  is_responsible = is_domain setup uri.host;
 }
 
 -- a fork to these targets, of which nothing was sent yet
@@ -65,7 +67,7 @@ IsUnreachable setup request uri _ = ⊥
 pub record Reaches (setup : Setup) (number : ℕ) (request : MessageText) (source : Hop) (uri : Uri) (call : Call) : Type 0 where
   pub some : choices_for setup request uri ≢ []
   pub hops : list_all has_hop (choices_for setup request uri) ≡ true
-  pub begins : IsBegun setup.rules (fixed_of setup number request source) (choices_for setup request uri) call
+  pub begins : IsBegun setup.rules (fixed_of setup number request source uri) (choices_for setup request uri) call
 
 -- it asks for no extension (section 16.3 step 5), and this is the URI that it names
 abbrev pub Asks : MessageText → (Uri → Type 0) → Type 0

@@ -44,11 +44,14 @@ abbrev pub choices_of : FirstRoute → List Location → Option (List ℕ) → L
 choices_of route locations None = []
 choices_of route locations (Some user) = map (choice_at route) (locations_of user locations)
 
--- in the domain the locations of the user, else the Request-URI alone
-abbrev pub choices : Setup → FirstRoute → Uri → List Choice
-choices setup route uri =
-    if is_domain setup uri.host then choices_of route setup.locations uri.user
+-- where the proxy answers for the host the locations of the user, else the Request-URI alone
+abbrev pub choices_by : (inside : Bool) → Setup → FirstRoute → Uri → List Choice
+choices_by inside setup route uri =
+    if inside then choices_of route setup.locations uri.user
     else record { q = most_q; uri = uri; hop = hop_by route uri } ∷ []
+
+abbrev pub choices : Setup → FirstRoute → Uri → List Choice
+choices setup route uri = choices_by (is_domain setup uri.host) setup route uri
 
 abbrev pub target_of : Choice → Target
 target_of choice = record { key = key_of choice.uri; q = choice.q }

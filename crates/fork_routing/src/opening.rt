@@ -15,7 +15,7 @@ ghost use Rattle.fork_routing.specs.Targets.{AreWays, has_hop, targets_of, way_t
 use crate::admission::admit;
 use crate::checks::asks_extension;
 use crate::fault::OpenFault;
-use crate::targets::{Choice, choices, have_hops, hop_if_any, targets_of};
+use crate::targets::{Choice, choices, have_hops, hop_if_any, is_domain, targets_of};
 use fork_book::Book;
 use fork_context::Kind;
 use fork_parts::{Fixed, Parts, Way, place_of};
@@ -150,7 +150,8 @@ fn open_to<A: Allocator + Clone>(
     ensures refused { IfErr result (IsUnreachable setup.now request uri.now) }
 {
     let route = first_route(&request);
-    let choices = choices(alloc.clone()?, setup, route, uri)?;
+    let inside = is_domain(alloc.clone()?, setup, uri.host())?;
+    let choices = choices(alloc.clone()?, setup, inside, route, uri)?;
     if choices.is_empty() {
         return Err(OpenFault::NoTarget);
     }
@@ -165,6 +166,7 @@ fn open_to<A: Allocator + Clone>(
         request,
         caller,
         hop_if_any(route),
+        inside,
     );
     match begin(alloc, heap, setup.rules(), fixed, &choices, now) {
         Ok(parts) => Ok(parts),
@@ -208,9 +210,9 @@ pub fn is_openable<A: Allocator>(message: &Message<A>) -> bool
 }
 
 /// The parts of the call that a request from `source` opens under this number; it is neither an ACK nor a CANCEL. The
-/// targets of a request to the domain are the locations of its user, that of any other is its Request-URI (RFC 3261
-/// sections 16.3 to 16.6). Nothing was sent yet; a 100 is owed to an INVITE. The queue of what is owed to the caller lies on
-/// `heap`, all else in `alloc`.
+/// targets of a request to the domain are the locations of its user, that of any other is its Request-URI, for which the
+/// proxy is not responsible: contacts of a 3xx are tried in the domain alone (RFC 3261 sections 16.3 to 16.6). Nothing was
+/// sent yet; a 100 is owed to an INVITE. The queue of what is owed to the caller lies on `heap`, all else in `alloc`.
 ///
 /// # Errors
 ///

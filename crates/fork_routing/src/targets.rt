@@ -5,7 +5,7 @@ ghost use Rattle.std.specs.Option.{option_copied};
 ghost use Rattle.sip_via.specs.Address.{address_text, dotted};
 ghost use Rattle.fork_text.specs.Field.{most_q};
 ghost use Rattle.fork_setup.specs.Setup.{locations_of};
-ghost use Rattle.fork_routing.specs.Targets.{choice_at, choices, choices_of, has_hop, hop_by, hop_if_any, is_domain, target_of, targets_of};
+ghost use Rattle.fork_routing.specs.Targets.{choice_at, choices_by, choices_of, has_hop, hop_by, hop_if_any, is_domain, target_of, targets_of};
 
 use fork_context::Target;
 use fork_setup::{Location, Setup};
@@ -177,17 +177,17 @@ fn alone<'a, A: Allocator + Clone>(
     Ok(choices)
 }
 
-/// The targets of a request to this URI with this first Route value: in the domain the locations of its user, else the URI
-/// alone (RFC 3261 section 16.5).
+/// The targets of a request to this URI, inside the domain or not, with this first Route value: in the domain the locations
+/// of its user, else the URI alone (RFC 3261 section 16.5).
 pub(crate) fn choices<'a, A: Allocator + Clone>(
     alloc: A,
     setup: &'a Setup<A>,
+    inside: bool,
     route: FirstRoute,
     uri: &'a SipUri<A>,
 ) -> Result<Vec<Choice<'a, A>, A>, AllocError>
-    ensures { IfOk result (λ found. found.items ≡ choices setup.now route uri.now) }
+    ensures { IfOk result (λ found. found.items ≡ choices_by inside setup.now route uri.now) }
 {
-    let inside = is_domain(alloc.clone()?, setup, uri.host())?;
     if inside {
         located_if_any(alloc, route, setup.locations(), uri.user())
     } else {

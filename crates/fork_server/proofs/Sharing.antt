@@ -17,7 +17,7 @@ use Rattle.fork_server.specs.contracts.serving.Server as server
 
 proxy_sync : (h : clone.Ghosts heap_row.Denot) → IsSync (proxy.the_field heap_row ghosts h).row
 proxy_sync h = struct_sync (shape (proxy.the_type heap_row ghosts h))
-    (sync, (setup_sync heap_row ghosts sync, (socket.the_field_sync, (shelf_sync (call_row heap_row ghosts h) heap_row ghosts (call_send h) send sync frees, (search (filed.the_field_sync, send, frees), (dropped.the_field_sync, (dropped.the_field_sync, tt)))))))
+    (sync, (setup_sync heap_row ghosts sync, (socket.the_field_sync, (shelf_sync (call_row heap_row ghosts h) heap_row ghosts (call_send h) send sync frees, (search (filed.the_field_sync, send, frees), (dropped.the_field_sync, (dropped.the_field_sync, (dropped.the_field_sync, tt))))))))
 
 pub server_sync : IsSync server.the_row
 server_sync = recorded_sync server.the_field.row _ _ (server.the_type).to_one (struct_sync (shape server.the_type) (search proxy_sync, tt))

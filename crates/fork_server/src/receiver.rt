@@ -33,8 +33,9 @@ pub(crate) struct Senders<'a, A: Allocator> {
     is_first: bool,
 }
 
-/// Gives a datagram's job to this worker, to the other one where it has no room, or, where neither has, to this one once it has
-/// few jobs left or some hundred milliseconds are over, in which datagrams wait in the socket. Says whether it was taken.
+/// Gives a datagram's job to this worker, or to the other one where it has no room. Where neither has, both are tried once more, as
+/// soon as this one has few jobs left or some hundred milliseconds are over, in which datagrams wait in the socket. Says whether
+/// it was taken.
 fn give_to_either<R: Wait, A: Allocator>(
     rt: &R,
     worker: &mut JobSender<'_, A>,
@@ -48,7 +49,10 @@ fn give_to_either<R: Wait, A: Allocator>(
         return true;
     };
     worker.make_room(rt);
-    worker.give(rt, job).is_ok()
+    let Err(job) = worker.give(rt, job) else {
+        return true;
+    };
+    other.give(rt, job).is_ok()
 }
 
 impl<'a, A: Allocator> Senders<'a, A> {

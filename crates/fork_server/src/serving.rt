@@ -202,8 +202,10 @@ fn serve_setup<R: Threads + Wait + Net + Log + Sync, P: Print>(
     ensures { IfErr result IsSystemFault }
 {
     let server = server_of(rt, alloc, setup)?;
-    run_workers(rt, out, alloc, &server, turns)?;
-    print_listings(rt, out, &server.proxy)?;
+    let ran = run_workers(rt, out, alloc, &server, turns);
+    let printed = print_listings(rt, out, &server.proxy);
+    ran?;
+    printed?;
     match out.println(format_args!("turns {turns}")) {
         Ok(()) => Ok(()),
         Err(error) => Err(of_system(error)),
@@ -236,8 +238,8 @@ pub fn serve_to<R: Threads + Wait + Net + Log + Sync, P: Print>(
 /// Sets a proxy up by a configuration (see [`Setup::read`]), binds its address, and serves for so many turns: a turn is one
 /// receive of at most 10 ms. The time that its timers go by is 10 ms for each turn before in which nothing came.
 ///
-/// It prints `listening ADDRESS PORT` as soon as it can receive; after the last turn the listing of each call that has finished
-/// without success, by number, and `turns TURNS`. What is dropped is noted on standard error. What its threads do is
+/// It prints `listening ADDRESS PORT` as soon as it can receive; after the last turn, or a receive that failed, the listing of each
+/// call that has finished without success, by number; and after the last turn `turns TURNS`. What is dropped is noted on standard error. What its threads do is
 /// proved call by call (`fork_dispatch::handle`, `fork_call::carry`); no clause says what they do together.
 ///
 /// # Errors

@@ -15,8 +15,22 @@ use std::time::Duration;
 /// How long a receive waits at most, in milliseconds.
 pub(crate) const TURN: u64 = 10;
 
+/// How long a send waits at most for room in the socket, in milliseconds.
+const LONGEST_SEND: u64 = 10;
+
 /// How many bytes of room are asked of the system for datagrams that wait to be received.
 const ROOM: i32 = 4_194_304;
+
+/// What became of a send.
+#[derive(Clone, Copy, PartialEq, Eq)]
+enum Sent {
+    /// The system took the whole datagram.
+    Whole,
+    /// It had no room in time, so the datagram is lost, as it may be on its way: a transaction sends its own again.
+    Lost,
+    /// It refused the datagram.
+    Refused,
+}
 
 /// The UDP socket that all threads of a proxy share.
 #[derive(Drop)]
@@ -47,7 +61,8 @@ fn ask_for_room(udp: &UdpSocket) {
 }
 
 impl Socket {
-    /// A socket that receives at this address, and whose receives wait 10 ms at most.
+    /// A socket that receives at this address, and whose receives and sends wait 10 ms at most: what waits for hosts that
+    /// cannot be found fills the room of all others, and would hold every worker for seconds.
     ///
     /// # Errors
     ///
@@ -60,6 +75,9 @@ impl Socket {
             Err(error) => return Err(of_system(error)),
         };
         if let Err(error) = udp.set_read_timeout(Some(Duration::from_millis(TURN))) {
+            return Err(of_system(error));
+        }
+        if let Err(error) = udp.set_write_timeout(Some(Duration::from_millis(LONGEST_SEND))) {
             return Err(of_system(error));
         }
         ask_for_room(&udp);
@@ -87,16 +105,20 @@ impl Socket {
         }
     }
 
-    /// Sends a datagram, and says whether it went out whole.
-    fn send(&self, bytes: &[u8], to: Hop) -> bool {
+    /// Sends a datagram.
+    fn send(&self, bytes: &[u8], to: Hop) -> Sent {
         match self.udp.send_to(bytes, address(to)) {
-            Ok(count) => count == bytes.len(),
-            Err(_) => false,
+            Ok(count) if count == bytes.len() => Sent::Whole,
+            Ok(_) => Sent::Refused,
+            Err(error) => match error.kind() {
+                ErrorKind::WouldBlock | ErrorKind::TimedOut | ErrorKind::Interrupted => Sent::Lost,
+                _ => Sent::Refused,
+            },
         }
     }
 }
 
-/// A worker's way to the socket, which counts the sends that failed.
+/// A worker's way to the socket, which counts the sends that the system refused.
 #[derive(Drop)]
 pub(crate) struct SocketPort<'a> {
     socket: &'a Socket,
@@ -117,11 +139,11 @@ impl<'a> Port for SocketPort<'a> {
     ghost count = { λ port. port.failures };
 
     fn send<A: Allocator>(&mut self, datagram: &Datagram<A>) -> bool {
-        let went = self.socket.send(datagram.bytes.as_slice(), datagram.to);
-        if !went {
+        let sent = self.socket.send(datagram.bytes.as_slice(), datagram.to);
+        if sent == Sent::Refused {
             self.failures = self.failures.saturating_add(1);
         }
-        went
+        sent == Sent::Whole
     }
 
     fn failures(&self) -> u64 {

@@ -42,6 +42,8 @@ pub(crate) struct Proxy<A: Allocator + Clone = Global> {
     pub(crate) crowded_out: Dropped,
     /// Datagrams that were left for want of memory.
     pub(crate) refused: Dropped,
+    /// Datagrams that the system refused to send.
+    pub(crate) unsent: Dropped,
 }
 
 /// Carries a call, and answers when something is to be done next.
@@ -72,6 +74,7 @@ impl<A: Allocator + Clone> Proxy<A> {
             schedule,
             crowded_out: Dropped::new(),
             refused: Dropped::new(),
+            unsent: Dropped::new(),
         })
     }
 
@@ -133,10 +136,20 @@ impl<A: Allocator + Clone> Proxy<A> {
         }
     }
 
+    /// Notes each send that the system refused since so many were noted, and answers how many it has refused.
+    fn note_unsent<R: Log>(&self, rt: &R, noted: u64, failures: u64) -> u64 {
+        for _ in noted..failures {
+            self.unsent
+                .note(rt, "datagrams that the system refused to send");
+        }
+        failures
+    }
+
     /// Does the jobs that a worker is given, until the end job. The queues of the calls that it opens lie on `heap`.
     pub(crate) fn work<R: Wait + Log>(&self, rt: &R, heap: Global, mut jobs: JobReceiver<'_, A>) {
         let mut port = SocketPort::new(&self.socket);
         let mut left = 0u32;
+        let mut noted = 0u64;
         for _ in rt.forever() {
             if left == 0 {
                 hold_ready(heap);
@@ -155,6 +168,7 @@ impl<A: Allocator + Clone> Proxy<A> {
                 Job::Tick(now) => self.tick(rt, &mut port, now),
                 Job::Finish => return,
             }
+            noted = self.note_unsent(rt, noted, port.failures());
         }
         unreachable!()
     }

@@ -29,6 +29,24 @@ const INVITE: &[u8] =
 const LISTING: &[u8] =
     b"listening 127.0.0.1 47321\nfork 3 1\nprefer 401,407,415,420,484\ndepth 256\ntarget 0 - 1000 stored 404 0 received\nrank 404 0 0\nfinal 404 0\nturns 400\n";
 
+/// Where the proxy of a call that cannot be sent listens.
+const OTHER_PROXY: u16 = 47_331;
+
+/// Where its caller does.
+const OTHER_CALLER: u16 = 47_332;
+
+/// The configuration: one user at an address to which the system sends no single datagram.
+const UNREACHED: &[u8] =
+    b"own 127.0.0.1 47331\ninstance 7\ndomain example.com\nlocation bob 1000 sip:bob@255.255.255.255\n";
+
+/// The other caller's OPTIONS.
+const OPTIONS: &[u8] =
+    b"OPTIONS sip:bob@example.com SIP/2.0\r\nVia: SIP/2.0/UDP 127.0.0.1:47332;branch=z9hG4bK74bfa\r\nMax-Forwards: 70\r\nFrom: <sip:alice@example.com>;tag=9fxced76sm\r\nTo: <sip:bob@example.com>\r\nCall-ID: 3848276298220188512@127.0.0.1\r\nCSeq: 1 OPTIONS\r\nContent-Length: 0\r\n\r\n";
+
+/// What is printed of a call whose one request the system refused to send.
+const UNSENT: &[u8] =
+    b"listening 127.0.0.1 47331\nfork 3 1\nprefer 401,407,415,420,484\ndepth 256\ntarget 0 - 1000 stored 503 0 assumed\nrank 503 0 0\nfinal 500 0\nturns 400\n";
+
 fn at(port: u16) -> SocketAddr {
     SocketAddr::V4(SocketAddrV4::new(Ipv4Addr::new(127, 0, 0, 1), port))
 }
@@ -105,5 +123,31 @@ fn a_refusal_reaches_the_caller(rt: HostRuntime) -> Result<(), Fail> {
     holds(&rt, served.is_ok(), "the proxy serves");
     holds(&rt, heard == Some(true), "the caller hears the 404");
     holds(&rt, printed.is(LISTING), "the call is listed");
+    Ok(())
+}
+
+/// Asks for bob until an answer comes, and says whether it is a 500.
+fn ask<R: Net>(rt: &R, alloc: Global) -> Option<bool> {
+    let caller = socket_at(rt, OTHER_CALLER)?;
+    for _ in 0..100u32 {
+        let _ = caller.send_to(OPTIONS, at(OTHER_PROXY));
+        if let Some(text) = received(alloc, &caller) {
+            return Some(text.as_slice().starts_with(b"SIP/2.0 500 "));
+        }
+    }
+    None
+}
+
+#[test]
+fn what_the_system_does_not_send_is_answered(rt: HostRuntime) -> Result<(), Fail> {
+    let printed = Printed::new(rt, rt.alloc());
+    let (served, heard) = join(
+        &rt,
+        || serve_to(&rt, &printed, rt.alloc(), UNREACHED, 400),
+        || ask(&rt, rt.alloc()),
+    );
+    holds(&rt, served.is_ok(), "the proxy serves");
+    holds(&rt, heard == Some(true), "the caller hears the 500");
+    holds(&rt, printed.is(UNSENT), "the call is listed");
     Ok(())
 }

@@ -1,6 +1,7 @@
-use Rattle.fork_routing.proofs.Common.{◌≡◌, [], true, List, subst, list_all, Choice, has_hop, IsBegun}
+use Rattle.fork_routing.proofs.Common.{◌≡◌, ◌∙◌, [], true, List, ap, subst, list_all, Choice, has_hop, IsBegun}
 use Rattle.std.proofs.Common.{rules}
 use Rattle.fork_routing.proofs.Opened.{fixed_so, reaches}
+use Rattle.fork_routing.specs.Targets.{is_domain}
 use Rattle.fork_routing.proofs.opening.open_to.Goals as goal
 
 pub returns-in-Ok-clause-opened : goal.returns-in-Ok-clause-opened
@@ -8,11 +9,12 @@ returns-in-Ok-clause-opened g c =
     let request = c.args.request in
     let some : c.in_ok-choices.choices.items ≡ [] → ⊥ = search rules in
     let hops : list_all has_hop c.deref.result.now ≡ true = search rules in
-    let fixed = fixed_so c.args.setup.now c.args.number request c.args.source c.own.result c.instance.result c.reply_hop_of-caller.result
-    c.hop_if_any.result c.first_route-route.result c.new-fixed.result c.new-fixed.ensures c.own.ensures.value c.instance.ensures c.reply_hop_of-caller.ensures
-    c.hop_if_any.ensures c.first_route-route.ensures in
+    let inside : c.in_ok-inside.inside ≡ is_domain c.args.setup.now c.args.uri.now.host = c.in_ok-inside.ensures ∙ ap (is_domain c.args.setup.now) c.host.ensures.value in
+    let fixed = fixed_so c.args.setup.now c.args.number request c.args.source c.args.uri.now c.own.result c.instance.result c.reply_hop_of-caller.result
+    c.hop_if_any.result c.in_ok-inside.inside c.first_route-route.result c.new-fixed.result c.new-fixed.ensures c.own.ensures.value c.instance.ensures c.reply_hop_of-caller.ensures
+    c.hop_if_any.ensures c.first_route-route.ensures inside in
     let P : List Choice → Type 0 = λ cs. list_all has_hop cs ≡ true in
     let B : List Choice → Type 0 = λ cs. IsBegun c.rules.result c.new-fixed.result cs c.in-Ok.parts in
-    reaches c.args.setup.now c.args.number request c.args.source c.args.uri.now c.rules.result c.first_route-route.result c.new-fixed.result
-    c.in_ok-choices.choices.items c.in-Ok.parts c.in_ok-choices.ensures some (subst P c.deref.ensures.value hops) c.rules.ensures
+    reaches c.args.setup.now c.args.number request c.args.source c.args.uri.now c.rules.result c.in_ok-inside.inside c.first_route-route.result c.new-fixed.result
+    c.in_ok-choices.choices.items c.in-Ok.parts c.in_ok-choices.ensures inside some (subst P c.deref.ensures.value hops) c.rules.ensures
     c.first_route-route.ensures fixed (subst B c.deref-2.ensures.value c.in-Ok.ensures)

@@ -1,4 +1,4 @@
-use Rattle.fork_parts.proofs.Common.{◌≡◌, ◌↔◌, ◌<◌, ◌≤◌, ◌∙◌, IsTrue, ap, sym, subst, arith, length, Option, refl, true, false, option_map, TxEvent, Call, client_after, client_out, Leg, MessageText, PostsSaid, contacts_by, HasFirst}
+use Rattle.fork_parts.proofs.Common.{◌≡◌, ◌↔◌, ◌<◌, ◌≤◌, ◌∙◌, IsTrue, ap, sym, subst, arith, length, Option, refl, true, false, option_map, TxEvent, Call, client_after, client_out, Leg, MessageText, PostsSaid, contacts_for, HasFirst}
 use Rattle.fork_parts.proofs.Common.{event_of, core_of, table_of, Core, changed_leg, responded, kept, answer_if, kept_if, RespondsOn, response_event, is_passed, going_up, timer_c_again, Absorbed, Full}
 use Rattle.fork_parts.proofs.LegLists.{length_changed}
 use Rattle.fork_parts.proofs.Changing.{leg_below}
@@ -53,9 +53,9 @@ returns-clause-ok g c =
     c.fed-client.ensures.out ∙ ap (λ (e : TxEvent). client_out e c.args.now c.part-leg.result.now.client) c.response_event.ensures in
     let ack = option_map (λ v. v.items) c.in_ok-ack.ack in
     let passed_on : is_passed c.fed-client.result.1.pass ≡ true = let a = c.is_passed.ensures in let b = c.if-not-is_passed.false in cc in
-    let post : PostsSaid c.args.self.now (event_of c.in_ok-said.said.event) (contacts_by c.args.status c.args.message) (going_up c.args.status c.args.message) c.in-Ok.at c.post_said.new.self =
-    let U : Option MessageText → Type 0 = λ up. PostsSaid c.args.self.now (event_of c.in_ok-said.said.event) (contacts_by c.args.status c.args.message) up c.in-Ok.at c.post_said.new.self in
-    subst U c.parted-up.ensures.up (c.in-Ok.ensures.ok (contacts_by c.args.status c.args.message) c.in_ok-said.ensures.ways) in
+    let post : PostsSaid c.args.self.now (event_of c.in_ok-said.said.event) (contacts_for c.args.self.now.fixed.is_responsible c.args.status c.args.message) (going_up c.args.status c.args.message) c.in-Ok.at c.post_said.new.self =
+    let U : Option MessageText → Type 0 = λ up. PostsSaid c.args.self.now (event_of c.in_ok-said.said.event) (contacts_for c.args.self.now.fixed.is_responsible c.args.status c.args.message) up c.in-Ok.at c.post_said.new.self in
+    subst U c.parted-up.ensures.up (c.in-Ok.ensures.ok (contacts_for c.args.self.now.fixed.is_responsible c.args.status c.args.message) c.in_ok-said.ensures.ways) in
     let mid = c.respond_part-2.new.self in
     let first = c.is_first-first.result in
     let B : Core → Type 0 = λ core. IsTrue first ↔ HasFirst core.table c.args.n in

@@ -1,0 +1,209 @@
+//! A 302 with two contacts, to an INVITE for the domain and to one for a URI that the proxy is not responsible for (RFC 3261
+//! section 16.5).
+use crate::histories::playing::{Entry, Moment, Posted, Sent, Turn, goes_so};
+use crate::histories::texts::{ACK_SENT, CALLER, INVITE, INVITE_SENT, TARGET, TRYING};
+use crate::holds::holds;
+use crate::requests::SETUP;
+use fork_call::{Cause, Taken};
+use fork_context::{Choice, Up};
+use sip_uri::Hop;
+
+// ---- an INVITE for the domain
+
+/// The 302 of the target.
+const MOVED: &[u8] = b"SIP/2.0 302 Moved Temporarily\r\n\
+Via: SIP/2.0/UDP 192.0.2.9:5060;branch=z9hG4bK8c31e71e0ddbf1a0e56f5f0279990857.7.3.0\r\n\
+v: SIP/2.0/UDP 192.0.2.1:5060;branch=z9hG4bKa;rport=40000;received=192.0.2.1\r\n\
+f: <sip:alice@example.com>;tag=1\r\n\
+t: <sip:bob@example.com>;tag=9\r\n\
+i: c1\r\n\
+CSeq: 1 INVITE\r\n\
+Contact: <sip:dave@192.0.2.7>;q=0.3\r\n\
+Contact: <sip:dave@192.0.2.8:5070>\r\n\
+l: 0\r\n\
+\r\n";
+
+/// The INVITE as it goes to the contact of the higher q.
+const CONTACT_SENT: Sent = Sent {
+    cause: Cause::Request(1),
+    to: Hop {
+        addr: [192, 0, 2, 8],
+        port: 5070,
+    },
+    text: b"INVITE sip:dave@192.0.2.8:5070 SIP/2.0\r\n\
+Via: SIP/2.0/UDP 192.0.2.9:5060;branch=z9hG4bK8c31e71e0ddbf1a0e56f5f0279990857.7.3.1\r\n\
+v: SIP/2.0/UDP 192.0.2.1:5060;branch=z9hG4bKa;rport=40000;received=192.0.2.1\r\n\
+Max-Forwards: 69\r\n\
+f: <sip:alice@example.com>;tag=1\r\n\
+t: <sip:bob@example.com>\r\n\
+i: c1\r\n\
+CSeq: 1 INVITE\r\n\
+l: 0\r\n\
+\r\n",
+};
+
+/// The contacts are tried.
+const FOLLOWED: &[Moment] = &[
+    (0, Turn::Sends(&TRYING)),
+    (0, Turn::Sends(&INVITE_SENT)),
+    (0, Turn::Waits(Some(500))),
+    (20, Turn::Takes(TARGET, MOVED, Ok(Taken::Posted(0)))),
+    (20, Turn::Sends(&ACK_SENT)),
+    (20, Turn::Sends(&CONTACT_SENT)),
+    (20, Turn::Waits(Some(520))),
+];
+
+/// Its event.
+const REDIRECTION: &[Entry] = &[Entry {
+    event: Posted::Answer(0, 302),
+    started: &[1],
+    cancelled: &[],
+    up: Up::Nothing,
+}];
+
+#[test]
+fn a_redirection_in_the_domain_is_followed(rt: HostRuntime) {
+    holds(
+        &rt,
+        goes_so(rt.alloc(), SETUP, INVITE, FOLLOWED, REDIRECTION),
+        "a call for the domain",
+    );
+}
+
+// ---- an INVITE for another URI
+
+/// The request.
+const OTHER_INVITE: &[u8] = b"INVITE sip:carol@198.51.100.7 SIP/2.0\r\n\
+v: SIP/2.0/UDP 192.0.2.1:5060;branch=z9hG4bKa;rport\r\n\
+Max-Forwards: 70\r\n\
+f: <sip:alice@example.com>;tag=1\r\n\
+t: <sip:carol@198.51.100.7>\r\n\
+i: c1\r\n\
+CSeq: 1 INVITE\r\n\
+l: 0\r\n\
+\r\n";
+
+/// The 100 to it.
+const OTHER_TRYING: Sent = Sent {
+    cause: Cause::Answer,
+    to: CALLER,
+    text: b"SIP/2.0 100 Trying\r\n\
+v: SIP/2.0/UDP 192.0.2.1:5060;branch=z9hG4bKa;rport=40000;received=192.0.2.1\r\n\
+f: <sip:alice@example.com>;tag=1\r\n\
+t: <sip:carol@198.51.100.7>\r\n\
+i: c1\r\n\
+CSeq: 1 INVITE\r\n\
+Content-Length: 0\r\n\
+\r\n",
+};
+
+/// Where it goes.
+const OTHER: Hop = Hop {
+    addr: [198, 51, 100, 7],
+    port: 5060,
+};
+
+/// The request as it goes there.
+const OTHER_SENT: Sent = Sent {
+    cause: Cause::Request(0),
+    to: OTHER,
+    text: b"INVITE sip:carol@198.51.100.7 SIP/2.0\r\n\
+Via: SIP/2.0/UDP 192.0.2.9:5060;branch=z9hG4bK481874b252d79036b982196cfdf6fd8f.7.3.0\r\n\
+v: SIP/2.0/UDP 192.0.2.1:5060;branch=z9hG4bKa;rport=40000;received=192.0.2.1\r\n\
+Max-Forwards: 69\r\n\
+f: <sip:alice@example.com>;tag=1\r\n\
+t: <sip:carol@198.51.100.7>\r\n\
+i: c1\r\n\
+CSeq: 1 INVITE\r\n\
+l: 0\r\n\
+\r\n",
+};
+
+/// The same 302.
+const OTHER_MOVED: &[u8] = b"SIP/2.0 302 Moved Temporarily\r\n\
+Via: SIP/2.0/UDP 192.0.2.9:5060;branch=z9hG4bK481874b252d79036b982196cfdf6fd8f.7.3.0\r\n\
+v: SIP/2.0/UDP 192.0.2.1:5060;branch=z9hG4bKa;rport=40000;received=192.0.2.1\r\n\
+f: <sip:alice@example.com>;tag=1\r\n\
+t: <sip:carol@198.51.100.7>;tag=9\r\n\
+i: c1\r\n\
+CSeq: 1 INVITE\r\n\
+Contact: <sip:dave@192.0.2.7>;q=0.3\r\n\
+Contact: <sip:dave@192.0.2.8:5070>\r\n\
+l: 0\r\n\
+\r\n";
+
+/// The 302 as it goes up: as it came, but for the proxy's own Via line.
+const OTHER_MOVED_UP: Sent = Sent {
+    cause: Cause::Answer,
+    to: CALLER,
+    text: b"SIP/2.0 302 Moved Temporarily\r\n\
+v: SIP/2.0/UDP 192.0.2.1:5060;branch=z9hG4bKa;rport=40000;received=192.0.2.1\r\n\
+f: <sip:alice@example.com>;tag=1\r\n\
+t: <sip:carol@198.51.100.7>;tag=9\r\n\
+i: c1\r\n\
+CSeq: 1 INVITE\r\n\
+Contact: <sip:dave@192.0.2.7>;q=0.3\r\n\
+Contact: <sip:dave@192.0.2.8:5070>\r\n\
+l: 0\r\n\
+\r\n",
+};
+
+/// The ACK to it.
+const OTHER_ACK_SENT: Sent = Sent {
+    cause: Cause::Ack(0),
+    to: OTHER,
+    text: b"ACK sip:carol@198.51.100.7 SIP/2.0\r\n\
+Via: SIP/2.0/UDP 192.0.2.9:5060;branch=z9hG4bK481874b252d79036b982196cfdf6fd8f.7.3.0\r\n\
+Max-Forwards: 70\r\n\
+From: <sip:alice@example.com>;tag=1\r\n\
+To: <sip:carol@198.51.100.7>;tag=9\r\n\
+Call-ID: c1\r\n\
+CSeq: 1 ACK\r\n\
+Content-Length: 0\r\n\
+\r\n",
+};
+
+/// The caller's ACK to it.
+const OTHER_ACK: &[u8] = b"ACK sip:carol@198.51.100.7 SIP/2.0\r\n\
+v: SIP/2.0/UDP 192.0.2.1:5060;branch=z9hG4bKa;rport\r\n\
+Max-Forwards: 70\r\n\
+f: <sip:alice@example.com>;tag=1\r\n\
+t: <sip:carol@198.51.100.7>;tag=9\r\n\
+i: c1\r\n\
+CSeq: 1 ACK\r\n\
+l: 0\r\n\
+\r\n";
+
+/// The 302 goes up with its contacts, and no request is sent to them until the call is over.
+const NOT_FOLLOWED: &[Moment] = &[
+    (0, Turn::Sends(&OTHER_TRYING)),
+    (0, Turn::Sends(&OTHER_SENT)),
+    (0, Turn::Waits(Some(500))),
+    (20, Turn::Takes(OTHER, OTHER_MOVED, Ok(Taken::Posted(0)))),
+    (20, Turn::Sends(&OTHER_MOVED_UP)),
+    (20, Turn::Sends(&OTHER_ACK_SENT)),
+    (20, Turn::Waits(Some(520))),
+    (30, Turn::Takes(CALLER, OTHER_ACK, Ok(Taken::Absorbed))),
+    (30, Turn::Waits(Some(5030))),
+    (5030, Turn::Does),
+    (5030, Turn::Waits(Some(32_020))),
+    (32_020, Turn::Does),
+    (32_020, Turn::Waits(None)),
+];
+
+/// Its event.
+const LEFT: &[Entry] = &[Entry {
+    event: Posted::Answer(0, 302),
+    started: &[],
+    cancelled: &[],
+    up: Up::Final(Choice::Stored(0)),
+}];
+
+#[test]
+fn a_redirection_elsewhere_goes_up(rt: HostRuntime) {
+    holds(
+        &rt,
+        goes_so(rt.alloc(), SETUP, OTHER_INVITE, NOT_FOLLOWED, LEFT),
+        "a call for another URI",
+    );
+}
