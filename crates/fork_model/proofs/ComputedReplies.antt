@@ -1,6 +1,6 @@
 -- Each event has a reply, and this computes it.
-use Rattle.fork_model.proofs.Common.{◌≡◌, ℕ, suc, Bool, true, false, List, [], ◌∷◌, Option, Some, None, refl, if◌then◌else◌, Table, is_trying, is_cancelled, Event, next, Up, Nothing, Provisional, Success, Final, Reply, IsUp, IsReply}
-use Rattle.fork_model.proofs.Common.{became, provisional, success, finishes, AreReplies}
+use Rattle.fork_model.proofs.Common.{◌≡◌, ℕ, suc, Bool, List, [], ◌∷◌, Option, Some, None, if◌then◌else◌, Table, is_trying, is_cancelled, Event, next, Up, Nothing, Provisional, Success, Final, Reply, IsUp, IsReply, became, provisional, success}
+use Rattle.fork_model.proofs.Common.{finishes, AreReplies, arith}
 use Rattle.fork_model.proofs.FirstStored.{choice_of, choice_of_is}
 
 abbrev pub up_by : Option ℕ → Option ℕ → Bool → Table → Up
@@ -18,18 +18,10 @@ reply_to t event at = record {
 
 up_by_is : (t : Table) (event : Event) (new : Table) (p s : Option ℕ) (f : Bool) → provisional t event ≡ p → success t event ≡ s → finishes t new ≡ f
     → IsUp t event new (up_by p s f new)
-up_by_is t event new (Some n) s f pe se fe = pe
-up_by_is t event new None (Some n) f pe se fe = (pe, se)
-up_by_is t event new None None true pe se fe = (pe, se, fe, choice_of_is new.rules new.rows)
-up_by_is t event new None None false pe se fe = (pe, se, fe)
+up_by_is t event new p s f pe se fe = grind (arith, choice_of_is)
 
 pub reply_to_is : (t : Table) (event : Event) (at : ℕ) → IsReply t event at (reply_to t event at)
-reply_to_is t event at = record {
-  position = refl;
-  started = refl;
-  cancelled = refl;
-  up = up_by_is t event (next t event at) (provisional t event) (success t event) (finishes t (next t event at)) refl refl refl;
-}
+reply_to_is t event at = grind (arith, up_by_is)
 
 abbrev pub replies_to : Table → ℕ → List Event → List Reply
 replies_to t at [] = []

@@ -1,6 +1,6 @@
 -- Each table has a choice, and this finds it.
-use Rattle.fork_model.proofs.Common.{◌≡◌, ℕ, zero, suc, Bool, true, false, cond, List, [], ◌∷◌, Option, Some, None, refl, arith, nat_lt, ◌==◌, ◌&&◌, ◌||◌, if◌then◌else◌, Rules, Row, Rank, Score, RanksBefore, Choice, Best, Only503}
-use Rattle.fork_model.proofs.Common.{NoAnswer408, HasScore, IsFirst, NoneStored, IsChoice}
+use Rattle.fork_model.proofs.Common.{◌≡◌, ℕ, zero, suc, Bool, true, false, cond, List, [], ◌∷◌, Option, Some, None, refl, arith, nat_lt, ◌==◌, ◌&&◌, ◌||◌, if◌then◌else◌, Rules, Row, Rank, Score, RanksBefore, Choice, Best, Only503, NoAnswer408}
+use Rattle.fork_model.proofs.Common.{HasScore, IsFirst, NoneStored, IsChoice, common_steps, rules}
 use Rattle.fork_model.specs.Rank.{rank_of, Before}
 use Rattle.fork_model.proofs.laws.OrderLemmas.{Before-trans, Before-between, Before-same}
 use Rattle.fork_model.proofs.laws.Choosing.{row_score, none_stored_empty}
@@ -42,16 +42,8 @@ IsFound rules rows (Some found) = IsFirst rules rows found.0 found.1
 
 found_with : (rules : Rules) (row : Row) (rows : List Row) (here : Option Score) (found : Option (ℕ × Score)) → row_score row ≡ here → IsFound rules rows found
     → IsFound rules (row ∷ rows) (first_with rules here found)
-found_with rules row rows None None is none = go
-  where
-    go : NoneStored (row ∷ rows)
-    go zero score h = cc
-    go (suc m) score h = none m score h
-found_with rules row rows None (Some found) is first = record { stored = first.stored; first = go }
-  where
-    go : (m : ℕ) (other : Score) → HasScore (row ∷ rows) m other → Before rules other found.1 → ⊥
-    go zero other h before = absurd cc
-    go (suc m) other h before = first.first m other h before
+found_with rules row rows None None is none = grind (arith, common_steps)
+found_with rules row rows None (Some found) is first = grind (arith, common_steps, found)
 found_with rules row rows (Some score) None is none = record { stored = is; first = go }
   where
     go : (m : ℕ) (other : Score) → HasScore (row ∷ rows) m other → Before rules other score → ⊥
@@ -82,12 +74,7 @@ choice_by None = NoAnswer408
 choice_by (Some found) = if found.1.status == 503 then Only503 found.0 else Best found.0
 
 choice_by_is : (rules : Rules) (rows : List Row) (found : Option (ℕ × Score)) → IsFound rules rows found → IsChoice rules rows (choice_by found)
-choice_by_is rules rows None none = none
-choice_by_is rules rows (Some found) first = go (found.1.status == 503) refl
-  where
-    go : (b : Bool) → (found.1.status == 503) ≡ b → IsChoice rules rows (cond b (Only503 found.0) (Best found.0))
-    go true e = (found.1, first, grind arith)
-    go false e = (found.1, first, λ same. absurd (grind arith))
+choice_by_is rules rows found none = grind (arith, common_steps, found)
 
 abbrev pub choice_of : Rules → List Row → Choice
 choice_of rules rows = choice_by (first_of rules rows)

@@ -1,5 +1,6 @@
 -- An event that is offered to a context has one outcome.
-use Rattle.fork_model.proofs.Common.{◌≡◌, suc, Bool, true, false, List, [], ◌∷◌, refl, ap, cond, Table, Event, next, Core, Outcome, Full, Replied, is_full, core_next, core_offered, core_after, opening_core, AreOutcomes, AreArrivals}
+use Rattle.fork_model.proofs.Common.{◌≡◌, suc, Bool, true, false, List, [], ◌∷◌, refl, ap, cond, Table, Event, next, Core, Outcome, Full, Replied, is_full, core_next, core_offered, core_after, opening_core, AreOutcomes, AreArrivals, common_steps}
+use Rattle.fork_model.proofs.Common.{arith, rules}
 use Rattle.fork_model.specs.Core.{IsOutcome}
 use Rattle.fork_model.specs.OneReply.{OneOutcome}
 use Rattle.fork_model.specs.OneHistory.{OneHistory}
@@ -51,11 +52,7 @@ outcomes_of core [] [] (o ∷ b) kept x y = absurd y
 outcomes_of core [] (o ∷ a) b kept x y = absurd x
 outcomes_of core (event ∷ events) [] b kept x y = absurd x
 outcomes_of core (event ∷ events) (o ∷ a) [] kept x y = absurd y
-outcomes_of core (event ∷ events) (o ∷ a) (p ∷ b) kept x y =
-    let first : o ≡ p = outcome_of core event o p kept x.0 y.0 in
-    let rest : a ≡ b = outcomes_of (core_offered core event) events a b (arrivals_offered core event kept) x.1 y.1 in
-    (λ i. first i ∷ rest i)
+outcomes_of core (event ∷ events) (o ∷ a) (p ∷ b) kept x y = grind (arith, common_steps, outcome_of, arrivals_offered, outcomes_of (core_offered core event) events a b (arrivals_offered core event kept) x.1 y.1)
 
 pub one_history : OneHistory
-one_history kind rules targets events a b x y =
-    outcomes_of (opening_core kind rules targets) events a b (history_of_arrivals kind rules targets []) x y
+one_history kind rules targets events a b x y = grind (arith, common_steps, outcomes_of (opening_core kind rules targets) events a b (history_of_arrivals kind rules targets []) x y, history_of_arrivals)

@@ -1,7 +1,6 @@
 -- The opening table of a list with a target has a branch that is tried.
-use Rattle.fork_model.proofs.Common.{◌≡◌, ◌≢◌, ℕ, zero, suc, ◌<◌, Bool, true, false, List, [], ◌∷◌, ◌++◌, length, map, filter, Option, Some, None, refl, ap, arith, ◌∙◌, sym, subst, cond, inl, inr, ◌⊎◌, slice_get, ◌||◌, nat_lt, ◌==◌}
-use Rattle.fork_model.proofs.Common.{option_map, list_any, cons_option, Kind, Rules, Row, is_open, is_finished, numbers_below, with_q, falling, is_value, places_of, in_group, numbered_from, Target, first_row, opening_rows, opening}
-use Rattle.fork_model.proofs.Common.{filter-append}
+use Rattle.fork_model.proofs.Common.{◌≡◌, ◌≢◌, ℕ, zero, suc, ◌<◌, Bool, true, false, List, [], ◌∷◌, ◌++◌, length, map, filter, Option, Some, refl, ap, arith, ◌∙◌, sym, subst, cond, inl, inr, ◌⊎◌, slice_get, ◌||◌, nat_lt, ◌==◌, option_map, list_any}
+use Rattle.fork_model.proofs.Common.{cons_option, Kind, Rules, Row, is_open, is_finished, numbers_below, with_q, falling, is_value, places_of, in_group, numbered_from, Target, first_row, opening_rows, opening, filter-append, common_steps, rules}
 use Rattle.std.specs.List.{filter_map}
 use Rattle.fork_model.proofs.OneFinalLemmas.{open_unfinished}
 use Rattle.fork_model.proofs.laws.WaitingLemmas.{or_right}
@@ -35,8 +34,7 @@ abbrev Among : ℕ → List ℕ → Type 0
 Among n numbers = list_any (λ number. number == n) numbers ≡ true
 
 or_first : (a b : Bool) → a ≡ true → (a || b) ≡ true
-or_first true b e = refl
-or_first false b e = absurd cc
+or_first a b e = grind (arith, common_steps)
 
 same_number : (n : ℕ) → (n == n) ≡ true
 same_number n = grind arith
@@ -66,14 +64,12 @@ opening_row targets p = option_map (first_row p.0 p.1) (slice_get targets p.1)
 
 cons_tried : (found : Option Row) (rows : List Row) → list_any (λ row. is_open row.state) rows ≡ true
     → list_any (λ row. is_open row.state) (cons_option found rows) ≡ true
-cons_tried None rows e = e
-cons_tried (Some row) rows e = or_right (is_open row.state) (list_any (λ row. is_open row.state) rows) e
+cons_tried found rows e = grind (arith, common_steps, or_right)
 
 first_tried : (targets : List Target) (place : ℕ) (target : Target) (rows : List Row) → slice_get targets place ≡ Some target
     → list_any (λ row. is_open row.state) (cons_option (opening_row targets (0, place)) rows) ≡ true
 unfolding opening_row
-first_tried targets place target rows there =
-    ap (λ (found : Option Target). list_any (λ row. is_open row.state) (cons_option (option_map (first_row 0 place) found) rows)) there
+first_tried targets place target rows there = grind (arith, common_steps)
 
 group_tried : (targets : List Target) (places : List ℕ) (more : List (ℕ × ℕ)) (n : ℕ) (target : Target) → Among n places → slice_get targets n ≡ Some target
     → list_any (λ row. is_open row.state) (filter_map (opening_row targets) (in_group 0 places ++ more)) ≡ true
@@ -107,16 +103,8 @@ is_value_at q found e = ap (is_value q) e ∙ same_number q
 opening_tried : (targets : List Target) → Greatest (map (λ target. target.q) targets) (falling (map (λ target. target.q) targets))
     → list_any (λ row. is_open row.state) (opening_rows targets) ≡ true
 unfolding opening_row
-opening_tried targets g =
-    let qs : List ℕ = map (λ target. target.q) targets in
-    let found = target_at targets g.place g.q g.stands in
-    let among : Among g.place (places_of qs g.q) =
-    kept_among (λ place. is_value g.q (slice_get qs place)) g.place (length qs) (slice_get_within qs g.place g.q g.stands)
-    (is_value_at g.q (slice_get qs g.place) g.stands) in
-    ap (λ (falls : List ℕ). list_any (λ row. is_open row.state) (filter_map (opening_row targets) (numbered_from 0 (map (places_of qs) falls)))) g.first
-    ∙ group_tried targets (places_of qs g.q) (numbered_from 1 (map (places_of qs) g.rest)) g.place found.0 among found.1
+opening_tried targets g = grind (arith, common_steps, target_at, kept_among, slice_get_within, is_value_at, opening_row, group_tried)
 
 pub opening_is_unfinished : (kind : Kind) (rules : Rules) (targets : List Target) → targets ≢ [] → is_finished (opening kind rules targets).rows ≡ false
 opening_is_unfinished kind rules [] some = absurd (some refl)
-opening_is_unfinished kind rules (target ∷ targets) some =
-    open_unfinished (opening_rows (target ∷ targets)) (opening_tried (target ∷ targets) (greatest target.q (map (λ target. target.q) targets)))
+opening_is_unfinished kind rules (target ∷ targets) some = search (rules, open_unfinished, opening_tried, greatest)

@@ -1,16 +1,14 @@
 -- Where the rows and the stored answers of a table come from.
-use Rattle.fork_model.proofs.Common.{◌≡◌, ℕ, zero, suc, ◌+◌, ◌<◌, ◌≤◌, Bool, true, false, List, [], ◌∷◌, ◌++◌, length, length-append, map, filter, Option, Some, None, refl, ap, arith, ◌∙◌, sym, subst, cond, inl, inr, ◌⊎◌, slice_get, not}
-use Rattle.fork_model.proofs.Common.{◌&&◌, ◌||◌, unwrap_or, nat_lt, filter_map, option_map, cons_option, list_all, Kind, Rules, Row, Table, State, Offer, StoredAnswer, Idle, Trying, Rung, Ended, Taken, Silent, stored_of, is_invite, is_row}
-use Rattle.fork_model.proofs.Common.{Event, FinalAnswer, Ring, Answer, Timeout, Fault, TimerC, GiveUp, Cancel, may_start, depth_of, numbered, numbers_below, ContactOutcome, Known, Fresh, Left, is_known, outcome_of, keys_after, with_outcome}
-use Rattle.fork_model.proofs.Common.{ContactLists, taking_from, taking_at, keys_of, fresh_row, fresh_rows, Effect, effect, moves, assumed, accepts, answers, redirected, redirects, stores, is_nonempty, with_state, with_effect, change_at}
-use Rattle.fork_model.proofs.Common.{change, cancelled, closed_state, settled_state, settled_row, settled, next, Target, first_row, opening, after}
-use Rattle.std.proofs.lemmas.Bool.{and_from, and_parts, cases_lt}
+use Rattle.fork_model.proofs.Common.{◌≡◌, ℕ, zero, suc, ◌+◌, ◌<◌, ◌≤◌, Bool, true, false, List, [], ◌∷◌, ◌++◌, length, map, filter, Option, Some, None, refl, ap, arith, ◌∙◌, sym, subst, cond, inl, inr, ◌⊎◌, slice_get, unwrap_or, filter_map}
+use Rattle.fork_model.proofs.Common.{option_map, cons_option, list_all, Kind, Rules, Row, Table, State, Offer, StoredAnswer, stored_of, is_row, Event, FinalAnswer, Ring, Answer, Cancel, numbered, numbers_below, ContactOutcome, Known, Fresh, Left}
+use Rattle.fork_model.proofs.Common.{outcome_of, keys_after, with_outcome, ContactLists, taking_from, taking_at, fresh_row, fresh_rows, Effect, effect, answers, with_state, with_effect, change_at, change, cancelled, settled_row, settled, next}
+use Rattle.fork_model.proofs.Common.{Target, opening, after, common_steps, rules}
+use Rattle.std.proofs.lemmas.Bool.{and_parts, cases_lt}
 use Rattle.std.specs.List.{AllByRecursion}
 use Rattle.fork_model.specs.Table.{Challenge}
-use Rattle.fork_model.specs.Step.{received}
 use Rattle.fork_model.specs.Reply.{has_become}
-use Rattle.fork_model.specs.Sources.{offers_of, challenges_of, IsRowOf, AddsNoRow, NewRowsAreContacts, IsOneOf, IsReceived, IsAssumed, IsStoredBy, HasStored, EventsStoreAnswers, StoredAnswersCame, Passes, StoredAnswersPass, BecameIsExact}
-use Rattle.fork_model.proofs.laws.StepLemmas.{next_of_change, next_of_stray, rows_keep_numbers}
+use Rattle.fork_model.specs.Sources.{offers_of, challenges_of, IsRowOf, AddsNoRow, NewRowsAreContacts, IsOneOf, IsStoredBy, HasStored, EventsStoreAnswers, StoredAnswersCame, Passes, StoredAnswersPass, BecameIsExact}
+use Rattle.fork_model.proofs.laws.StepLemmas.{rows_keep_numbers}
 
 -- ---- rows of lists
 
@@ -25,23 +23,10 @@ get_joined (x ∷ xs) ys (suc n) y is = get_joined xs ys n y is
 get_state : (rows : List Row) (m n : ℕ) (state : State) (row : Row) → slice_get (with_state rows m state) n ≡ Some row
     → (slice_get rows n ≡ Some row) ⊎ ((n ≡ m) × (old : Row) × (slice_get rows n ≡ Some old) × (row.state ≡ state))
 get_state [] m n state row is = absurd cc
-get_state (x ∷ rows) zero zero state row is =
-    let same : record x { state = state } ≡ row = cc in
-    inr (refl, x, refl, sym (ap (λ (r : Row). r.state) same))
+get_state (x ∷ rows) zero zero state row is = grind arith
 get_state (x ∷ rows) zero (suc n) state row is = inl is
 get_state (x ∷ rows) (suc m) zero state row is = inl is
-get_state (x ∷ rows) (suc m) (suc n) state row is =
-    elim (get_state rows m n state row is) [
-      | inl old ↦ inl old
-      | inr new ↦ inr (ap suc new.0, new.1, new.2, new.3)
-    ]
-
-none_state : (rows : List Row) (m n : ℕ) (state : State) → slice_get rows n ≡ None → slice_get (with_state rows m state) n ≡ None
-none_state [] m n state is = refl
-none_state (x ∷ rows) zero zero state is = absurd cc
-none_state (x ∷ rows) zero (suc n) state is = is
-none_state (x ∷ rows) (suc m) zero state is = absurd cc
-none_state (x ∷ rows) (suc m) (suc n) state is = none_state rows m n state is
+get_state (x ∷ rows) (suc m) (suc n) state row is = grind (arith, get_state rows m n state row is)
 
 get_mapped : {X Y : Type 0} (f : X → Y) (xs : List X) (n : ℕ) (y : Y) → slice_get (map f xs) n ≡ Some y
     → (x : X) × (slice_get xs n ≡ Some x) × (f x ≡ y)
@@ -71,13 +56,7 @@ later_contact start offer offers f c =
     let e : f.0 ≡ suc start + c.0 = c.1 in (suc c.0, omega (arith, e), c.2, c.3, c.4)
 
 is_fresh : (keys : List (List ℕ)) (key : Option (List ℕ)) (new : List ℕ) → outcome_of keys key ≡ Fresh new → key ≡ Some new
-is_fresh keys None new is = absurd cc
-is_fresh keys (Some key) new is = go (is_known keys key) (nat_lt (length keys) 256) is
-  where
-    go : (known few : Bool) → cond known Known (cond few (Fresh key) Left) ≡ Fresh new → Some key ≡ Some new
-    go true few is = absurd cc
-    go false true is = let same : key ≡ new = cc in ap Some same
-    go false false is = absurd cc
+is_fresh keys key new is = grind arith
 
 taken_contacts : (keys : List (List ℕ)) (start : ℕ) (offers : List Offer) (n : ℕ) (f : ℕ × Offer)
     → slice_get (taking_from keys start offers).fresh n ≡ Some f → IsContact start offers f
@@ -119,25 +98,13 @@ left_contacts keys start (offer ∷ offers) = go (outcome_of keys offer.key) (λ
 
 -- a new row waits, so it has no stored answer
 fresh_is_unanswered : (m : ℕ) (fresh : List (ℕ × Offer)) (place : ℕ) (row : Row) → slice_get (fresh_rows m fresh) place ≡ Some row → stored_of row.state ≡ None
-fresh_is_unanswered m fresh place row is =
-    let made = get_filtered (λ (p : ℕ × ℕ). option_map (λ (f : ℕ × Offer). fresh_row m p.0 f) (slice_get fresh p.1)) (numbered (map (λ (f : ℕ × Offer). f.1.q) fresh)) place row is in
-    go made.0.0 (slice_get fresh made.0.1) made.1
-  where
-    go : (group : ℕ) (o : Option (ℕ × Offer)) → option_map (λ (f : ℕ × Offer). fresh_row m group f) o ≡ Some row → stored_of row.state ≡ None
-    go group None is = absurd cc
-    go group (Some f) is =
-        let same : fresh_row m group f ≡ row = cc in
-        let P : Row → Type 0 = λ r. stored_of r.state ≡ None in
-        subst P same refl
+fresh_is_unanswered m fresh place row is = grind (arith, get_filtered)
 
 -- its new rows are contacts of the event, and what it stores the event brought
 pub record Brings (event : Event) (at n : ℕ) (e : Effect) : Type 0 where
   pub rows : (place : ℕ) (row : Row) → slice_get e.fresh place ≡ Some row → IsRowOf (offers_of event) row
   pub unanswered : (place : ℕ) (row : Row) → slice_get e.fresh place ≡ Some row → stored_of row.state ≡ None
   pub stored : (stored : StoredAnswer) → stored_of e.state ≡ Some stored → IsStoredBy event at n stored
-
-no_unanswered : (place : ℕ) (row : Row) → slice_get [] place ≡ Some row → stored_of row.state ≡ None
-no_unanswered place row is = absurd cc
 
 no_rows : (event : Event) (place : ℕ) (row : Row) → slice_get [] place ≡ Some row → IsRowOf (offers_of event) row
 no_rows event place row is = absurd cc
@@ -163,108 +130,23 @@ row_of_contact n offers taking from place row is =
           q = refl;
         })
 
--- what a 3xx that is stored has
-stored_received : (answer : FinalAnswer) (at : ℕ) (left : List Offer) (stored : StoredAnswer) → AllByRecursion (IsOneOf answer.offers) left
-    → stored_of (Ended (received answer.status at left answer.challenges)) ≡ Some stored → IsReceived answer at stored
-stored_received answer at left stored all is =
-    let P : StoredAnswer → Type 0 = λ s. IsReceived answer at s in
-    let same : record { status = answer.status; arrival = at; received = true; left = left; challenges = answer.challenges } ≡ stored = cc in
-    subst P same (record { received = refl; status = refl; arrival = refl; left = all; challenges = refl })
-
-redirected_brings : (answer : FinalAnswer) (at : ℕ) (taking : ContactLists) (stored : StoredAnswer) → AllByRecursion (IsOneOf answer.offers) taking.left
-    → stored_of (Ended (redirected at answer taking)) ≡ Some stored → IsReceived answer at stored
-redirected_brings answer at taking stored all is = go (is_nonempty answer.offers && not (is_nonempty taking.left)) is
-  where
-    go : (b : Bool) → stored_of (Ended (cond b (Taken at) (received answer.status at taking.left answer.challenges))) ≡ Some stored → IsReceived answer at stored
-    go true is = absurd cc
-    go false is = stored_received answer at taking.left stored all is
-
 taken_at : (t : Table) (row : Row) (offers : List Offer)
     → ((m : ℕ) (f : ℕ × Offer) → slice_get (taking_at t row offers).fresh m ≡ Some f → IsContact 0 offers f)
     × AllByRecursion (IsOneOf offers) (taking_at t row offers).left
-taken_at t row offers = go (t.closed || not (nat_lt (depth_of t.rows row) t.rules.depth))
-  where
-    none : ContactLists
-    none = record { fresh = []; left = offers }
-
-    go : (b : Bool)
-        → ((m : ℕ) (f : ℕ × Offer) → slice_get (cond b none (taking_from (keys_of t.rows) 0 offers)).fresh m ≡ Some f → IsContact 0 offers f)
-        × AllByRecursion (IsOneOf offers) (cond b none (taking_from (keys_of t.rows) 0 offers)).left
-    go true = (λ m f is. absurd cc, all_of_itself offers)
-    go false = (λ m f is. taken_contacts (keys_of t.rows) 0 offers m f is, left_contacts (keys_of t.rows) 0 offers)
+taken_at t row offers = grind (arith, all_of_itself, taken_contacts, left_contacts)
 
 answers_bring : (t : Table) (n : ℕ) (row : Row) (at : ℕ) (answer : FinalAnswer) → Brings (Answer n answer) at n (answers t n row at answer)
-answers_bring t n row at answer = go (nat_lt answer.status 300) (nat_lt answer.status 400)
-  where
-    go : (a b : Bool) → Brings (Answer n answer) at n (cond a (accepts at) (cond b (redirects n at answer (taking_at t row answer.offers)) (stores at answer)))
-    go true b = record { rows = no_rows (Answer n answer); unanswered = no_unanswered; stored = λ stored is. absurd cc }
-    go false true =
-        let taken = taken_at t row answer.offers in
-        record {
-          rows = row_of_contact n answer.offers (taking_at t row answer.offers) taken.0;
-          unanswered = fresh_is_unanswered n (taking_at t row answer.offers).fresh;
-          stored = λ stored is. (refl, redirected_brings answer at (taking_at t row answer.offers) stored taken.1 is);
-        }
-    go false false = record { rows = no_rows (Answer n answer); unanswered = no_unanswered; stored = λ stored is. (refl, stored_received answer at [] stored tt is) }
-
-assumes : (status at : ℕ) (stored : StoredAnswer) → stored_of (assumed status at).state ≡ Some stored → IsAssumed status at stored
-assumes status at stored is =
-    let P : StoredAnswer → Type 0 = λ s. IsAssumed status at s in
-    let same : record { status = status; arrival = at; received = false; left = []; challenges = [] } ≡ stored = cc in
-    subst P same (record { received = refl; status = refl; arrival = refl; left = refl; challenges = refl })
+answers_bring t n row at answer = grind (arith, taken_at, row_of_contact, fresh_is_unanswered)
 
 abbrev MayBring : Event → ℕ → ℕ → Option Effect → Type 0
 MayBring event at n None = Unit {0}
 MayBring event at n (Some e) = Brings event at n e
 
-brings_if : (event : Event) (at n : ℕ) (b : Bool) (e : Effect) → Brings event at n e → MayBring event at n (cond b (Some e) None)
-brings_if event at n true e h = h
-brings_if event at n false e h = tt
-
--- a change of state that stores nothing
-brings_state : (event : Event) (at n : ℕ) (state : State) → stored_of state ≡ None → Brings event at n (moves state)
-brings_state event at n state none = record { rows = no_rows event; unanswered = no_unanswered; stored = λ stored is. absurd cc }
-
-timeout_brings : (at n : ℕ) → Brings (Timeout n) at n (assumed 408 at)
-timeout_brings at n = record { rows = no_rows (Timeout n); unanswered = no_unanswered; stored = λ stored is. (refl, assumes 408 at stored is) }
-
-fault_brings : (at n : ℕ) → Brings (Fault n) at n (assumed 503 at)
-fault_brings at n = record { rows = no_rows (Fault n); unanswered = no_unanswered; stored = λ stored is. (refl, assumes 503 at stored is) }
-
-timer_brings : (at n : ℕ) → Brings (TimerC n) at n (assumed 408 at)
-timer_brings at n = record { rows = no_rows (TimerC n); unanswered = no_unanswered; stored = λ stored is. (refl, assumes 408 at stored is) }
-
 ring_brings : (t : Table) (row : Row) (at n status : ℕ) (state : State) → MayBring (Ring n status) at n (effect t row at (Ring n status) state)
-ring_brings t row at n status Idle = tt
-ring_brings t row at n status Trying = brings_state (Ring n status) at n (Rung false) refl
-ring_brings t row at n status (Rung cancelled) = tt
-ring_brings t row at n status (Ended end) = tt
+ring_brings t row at n status state = grind arith
 
 answer_brings : (t : Table) (row : Row) (at n : ℕ) (answer : FinalAnswer) (state : State) → MayBring (Answer n answer) at n (effect t row at (Answer n answer) state)
-answer_brings t row at n answer Idle = tt
-answer_brings t row at n answer Trying = answers_bring t n row at answer
-answer_brings t row at n answer (Rung cancelled) = answers_bring t n row at answer
-answer_brings t row at n answer (Ended end) = tt
-
-ends_brings : (t : Table) (row : Row) (at n : ℕ) (state : State) → MayBring (Timeout n) at n (effect t row at (Timeout n) state) × MayBring (Fault n) at n (effect t row at (Fault n) state)
-ends_brings t row at n Idle = (tt, tt)
-ends_brings t row at n Trying = (timeout_brings at n, fault_brings at n)
-ends_brings t row at n (Rung cancelled) = (timeout_brings at n, fault_brings at n)
-ends_brings t row at n (Ended end) = (tt, tt)
-
-timer_c_brings : (t : Table) (row : Row) (at n : ℕ) (state : State) → MayBring (TimerC n) at n (effect t row at (TimerC n) state)
-timer_c_brings t row at n Idle = tt
-timer_c_brings t row at n Trying = brings_if (TimerC n) at n (is_invite t.kind) (assumed 408 at) (timer_brings at n)
-timer_c_brings t row at n (Rung cancelled) =
-    brings_if (TimerC n) at n (is_invite t.kind && not cancelled) (moves (Rung true)) (brings_state (TimerC n) at n (Rung true) refl)
-timer_c_brings t row at n (Ended end) = tt
-
-give_up_brings : (t : Table) (row : Row) (at n : ℕ) (state : State) → MayBring (GiveUp n) at n (effect t row at (GiveUp n) state)
-give_up_brings t row at n Idle = tt
-give_up_brings t row at n Trying = tt
-give_up_brings t row at n (Rung cancelled) =
-    brings_if (GiveUp n) at n cancelled (moves (Ended (Silent at))) (brings_state (GiveUp n) at n (Ended (Silent at)) refl)
-give_up_brings t row at n (Ended end) = tt
+answer_brings t row at n answer state = grind (arith, answers_bring)
 
 -- ---- the change of a table
 
@@ -274,27 +156,10 @@ pub record From (event : Event) (at : ℕ) (t u : Table) : Type 0 where
   pub stored : (n : ℕ) (stored : StoredAnswer) → HasStored u n stored → HasStored t n stored ⊎ IsStoredBy event at n stored
 
 from_same : (event : Event) (at : ℕ) (t u : Table) → u.rows ≡ t.rows → From event at t u
-from_same event at t u same = record {
-  rows = λ n row none is. absurd (let e : slice_get t.rows n ≡ Some row = ap (λ (rows : List Row). slice_get rows n) (sym same) ∙ is in cc);
-  stored = λ n stored has. inl (has.0, ap (λ (rows : List Row). slice_get rows n) (sym same) ∙ has.1, has.2);
-}
+from_same event at t u same = grind arith
 
 from_effect : (event : Event) (at : ℕ) (t : Table) (n : ℕ) (e : Effect) → Brings event at n e → From event at t (with_effect t n e)
-from_effect event at t n e brings = record {
-  rows = λ k row none is. elim (get_joined (with_state t.rows n e.state) e.fresh k row is) [
-    | inl there ↦ absurd (let e : slice_get (with_state t.rows n e.state) k ≡ None = none_state t.rows n k e.state none in cc)
-    | inr new ↦ brings.rows new.1 row new.2
-  ];
-  stored = λ k stored has. elim (get_joined (with_state t.rows n e.state) e.fresh k has.0 has.1) [
-    | inr new ↦ absurd (let none : stored_of has.0.state ≡ None = brings.unanswered new.1 has.0 new.2 in let some : stored_of has.0.state ≡ Some stored = has.2 in cc)
-    | inl there ↦ elim (get_state t.rows n k e.state has.0 there) [
-      | inl old ↦ inl (has.0, old, has.2)
-      | inr here ↦
-          let P : ℕ → Type 0 = λ m. IsStoredBy event at m stored in
-          inr (subst P (sym here.0) (brings.stored stored (sym (ap stored_of here.3) ∙ has.2)))
-    ]
-  ];
-}
+from_effect event at t n e brings = grind (arith, get_joined, get_state)
 
 from_at : (t u : Table) (at : ℕ) (event : Event) (n : ℕ) (row : Option Row)
     → ((row : Row) → MayBring event at n (effect t row at event row.state)) → change_at t at event n row ≡ Some u → From event at t u
@@ -309,61 +174,21 @@ from_at t u at event n (Some row) brings is = go (effect t row at event row.stat
         subst P made (from_effect event at t n e h)
 
 from_cancelled : (t u : Table) (at : ℕ) → cancelled t ≡ Some u → From Cancel at t u
-from_cancelled t u at is = go (is_invite t.kind && not t.closed) is
-  where
-    go : (b : Bool) → cond b (Some (record t { closed = true })) None ≡ Some u → From Cancel at t u
-    go false is = absurd cc
-    go true is =
-        let made : record t { closed = true } ≡ u = cc in
-        from_same Cancel at t u (sym (ap (λ (v : Table). v.rows) made))
+from_cancelled t u at is = grind arith
 
 from_change : (t u : Table) (event : Event) (at : ℕ) → change t event at ≡ Some u → From event at t u
-from_change t u (Ring n status) at is = from_at t u at (Ring n status) n _ (λ row. ring_brings t row at n status row.state) is
-from_change t u (Answer n answer) at is = from_at t u at (Answer n answer) n _ (λ row. answer_brings t row at n answer row.state) is
-from_change t u (Timeout n) at is = from_at t u at (Timeout n) n _ (λ row. (ends_brings t row at n row.state).0) is
-from_change t u (Fault n) at is = from_at t u at (Fault n) n _ (λ row. (ends_brings t row at n row.state).1) is
-from_change t u (TimerC n) at is = from_at t u at (TimerC n) n _ (λ row. timer_c_brings t row at n row.state) is
-from_change t u (GiveUp n) at is = from_at t u at (GiveUp n) n _ (λ row. give_up_brings t row at n row.state) is
-from_change t u Cancel at is = from_cancelled t u at is
+from_change t u event at is = grind (arith, from_at, ring_brings, answer_brings, from_cancelled)
 
 -- ---- settling
-
-closed_stored : (kind : Kind) (state : State) (stored : StoredAnswer) → stored_of (closed_state kind state) ≡ Some stored → stored_of state ≡ Some stored
-closed_stored kind Idle stored is = absurd cc
-closed_stored kind Trying stored is = is
-closed_stored kind (Rung cancelled) stored is = absurd cc
-closed_stored kind (Ended end) stored is = is
-
-settled_stored : (u : Table) (row : Row) (stored : StoredAnswer) → stored_of (settled_state u row) ≡ Some stored → stored_of row.state ≡ Some stored
-settled_stored u row stored is = go u.closed (may_start u.rows row) is
-  where
-    go : (a b : Bool) → stored_of (cond a (closed_state u.kind row.state) (cond b Trying row.state)) ≡ Some stored → stored_of row.state ≡ Some stored
-    go true b is = closed_stored u.kind row.state stored is
-    go false true is = absurd cc
-    go false false is = is
 
 same_contact : (offers : List Offer) (u : Table) (row : Row) → IsRowOf offers row → IsRowOf offers (settled_row u row)
 same_contact offers u row is = record { offer = is.offer; contact = is.contact; key = is.key; q = is.q }
 
 from_settled : (event : Event) (at : ℕ) (t u : Table) → From event at t u → From event at t (settled u)
-from_settled event at t u from = record {
-  rows = λ n row none is.
-      let old = get_mapped (settled_row u) u.rows n row is in
-      let P : Row → Type 0 = λ r. IsRowOf (offers_of event) r in
-      subst P old.2 (same_contact (offers_of event) u old.0 (from.rows n old.0 none old.1));
-  stored = λ n stored has.
-      let old = get_mapped (settled_row u) u.rows n has.0 has.1 in
-      from.stored n stored (old.0, old.1, settled_stored u old.0 stored (ap (λ (r : Row). stored_of r.state) old.2 ∙ has.2));
-}
+from_settled event at t u from = grind (arith, get_mapped, same_contact)
 
 next_from : (t : Table) (event : Event) (at : ℕ) → From event at t (next t event at)
-next_from t event at = go (change t event at) refl
-  where
-    go : (c : Option Table) → change t event at ≡ c → From event at t (next t event at)
-    go None is = from_same event at t (next t event at) (ap (λ (u : Table). u.rows) (next_of_stray t event at is))
-    go (Some u) is =
-        let P : Table → Type 0 = λ v. From event at t v in
-        subst P (sym (next_of_change t u event at is)) (from_settled event at t u (from_change t u event at is))
+next_from t event at = grind (arith, from_same, from_settled, from_change)
 
 -- ---- the laws of rows
 
@@ -407,13 +232,7 @@ CameAt at events n stored =
     (place : ℕ) × (stored.arrival ≡ at + place) × (event : Event) × (slice_get events place ≡ Some event) × IsStoredBy event stored.arrival n stored
 
 arrival_of : (event : Event) (at n : ℕ) (stored : StoredAnswer) → IsStoredBy event at n stored → stored.arrival ≡ at
-arrival_of (Ring m status) at n stored is = absurd is
-arrival_of (Answer m answer) at n stored is = is.1.arrival
-arrival_of (Timeout m) at n stored is = is.1.arrival
-arrival_of (Fault m) at n stored is = is.1.arrival
-arrival_of (TimerC m) at n stored is = is.1.arrival
-arrival_of (GiveUp m) at n stored is = absurd is
-arrival_of Cancel at n stored is = absurd is
+arrival_of event at n stored is = grind arith
 
 came_after : (t : Table) (at : ℕ) (events : List Event) (n : ℕ) (stored : StoredAnswer) → HasStored (after t at events) n stored
     → HasStored t n stored ⊎ CameAt at events n stored
@@ -434,19 +253,7 @@ came_after t at (event ∷ events) n stored has =
 
 -- no initial target has a stored answer
 opening_is_unanswered : (kind : Kind) (rules : Rules) (targets : List Target) (n : ℕ) (stored : StoredAnswer) → HasStored (opening kind rules targets) n stored → ⊥
-opening_is_unanswered kind rules targets n stored has =
-    let made = get_filtered (λ (p : ℕ × ℕ). option_map (first_row p.0 p.1) (slice_get targets p.1)) (numbered (map (λ (target : Target). target.q) targets)) n has.0 has.1 in
-    go made.0.0 made.0.1 (slice_get targets made.0.1) has.0 made.1 has.2
-  where
-    unanswered : (b : Bool) → stored_of (cond b Trying Idle) ≡ Some stored → ⊥
-    unanswered true is = absurd cc
-    unanswered false is = absurd cc
-
-    go : (group place : ℕ) (o : Option Target) (row : Row) → option_map (first_row group place) o ≡ Some row → stored_of row.state ≡ Some stored → ⊥
-    go group place None row is has = absurd cc
-    go group place (Some target) row is has =
-        let same : first_row group place target ≡ row = cc in
-        unanswered _ (ap (λ (r : Row). stored_of r.state) same ∙ has)
+opening_is_unanswered kind rules targets n stored has = grind (arith, get_filtered)
 
 pub answers_came : StoredAnswersCame
 answers_came kind rules targets events n stored has =
@@ -459,27 +266,16 @@ answers_came kind rules targets events n stored has =
 
 all_from : {X : Type 0} (p : X → Bool) (xs : List X) (place : ℕ) (x : X) → list_all p xs ≡ true → slice_get xs place ≡ Some x → p x ≡ true
 all_from p [] place x all is = absurd cc
-all_from p (y ∷ xs) zero x all is =
-    let same : y ≡ x = cc in sym (ap p same) ∙ (and_parts (p y) (list_all p xs) all).0
+all_from p (y ∷ xs) zero x all is = grind arith
 all_from p (y ∷ xs) (suc place) x all is = all_from p xs place x (and_parts (p y) (list_all p xs) all).1 is
 
 left_pass : (p : Offer → Bool) (offers left : List Offer) → list_all p offers ≡ true → AllByRecursion (IsOneOf offers) left → list_all p left ≡ true
 left_pass p offers [] all from = refl
-left_pass p offers (offer ∷ left) all from =
-    and_from (p offer) (list_all p left) (all_from p offers from.0.0 offer all from.0.1) (left_pass p offers left all from.1)
-
-assumed_pass : (p : Offer → Bool) (r : Challenge → Bool) (status at : ℕ) (stored : StoredAnswer) → IsAssumed status at stored → Passes p r stored
-assumed_pass p r status at stored is = (ap (list_all p) is.left, ap (list_all r) is.challenges)
+left_pass p offers (offer ∷ left) all from = grind (arith, all_from, left_pass p offers left all from.1)
 
 stored_pass : (p : Offer → Bool) (r : Challenge → Bool) (event : Event) (at n : ℕ) (stored : StoredAnswer)
     → list_all p (offers_of event) ≡ true → list_all r (challenges_of event) ≡ true → IsStoredBy event at n stored → Passes p r stored
-stored_pass p r (Ring m status) at n stored ps rs is = absurd is
-stored_pass p r (Answer m answer) at n stored ps rs is = (left_pass p answer.offers stored.left ps is.1.left, ap (list_all r) is.1.challenges ∙ rs)
-stored_pass p r (Timeout m) at n stored ps rs is = assumed_pass p r 408 at stored is.1
-stored_pass p r (Fault m) at n stored ps rs is = assumed_pass p r 503 at stored is.1
-stored_pass p r (TimerC m) at n stored ps rs is = assumed_pass p r 408 at stored is.1
-stored_pass p r (GiveUp m) at n stored ps rs is = absurd is
-stored_pass p r Cancel at n stored ps rs is = absurd is
+stored_pass p r event at n stored ps rs is = grind (arith, left_pass)
 
 pub answers_pass : StoredAnswersPass
 answers_pass p r t event at ps rs each n stored has =
@@ -503,9 +299,7 @@ get_kept p (y ∷ xs) place x is = go (p y) refl place (λ m h. get_kept p xs m 
 kept : {X : Type 0} (p : X → Bool) (xs : List X) (place : ℕ) (x : X) → slice_get xs place ≡ Some x → p x ≡ true
     → (at : ℕ) × (slice_get (filter p xs) at ≡ Some x)
 kept p [] place x is h = absurd cc
-kept p (y ∷ xs) zero x is h =
-    let same : y ≡ x = cc in
-    (zero, ap (λ (b : Bool). slice_get (cond b (y ∷ filter p xs) (filter p xs)) zero) (ap p same ∙ h) ∙ ap Some same)
+kept p (y ∷ xs) zero x is h = grind arith
 kept p (y ∷ xs) (suc place) x is h =
     let rest = kept p xs place x is h in
     go (p y) rest.0 rest.1
@@ -525,10 +319,7 @@ get_last (y ∷ xs) x = get_last xs x
 
 count_below : (count : ℕ) → length (numbers_below count) ≡ count
 count_below zero = refl
-count_below (suc count) =
-    let sum : length (numbers_below count ++ count ∷ []) ≡ length (numbers_below count) + 1 = length-append (numbers_below count) (count ∷ []) in
-    let rest : length (numbers_below count) ≡ count = count_below count in
-    omega (arith, sum, rest)
+count_below (suc count) = grind (arith, common_steps, count_below count)
 
 number_there : (count n : ℕ) → n < count → slice_get (numbers_below count) n ≡ Some n
 number_there zero n lt = absurd (omega arith)

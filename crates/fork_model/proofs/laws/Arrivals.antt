@@ -1,8 +1,8 @@
 -- In every history the stored answers arrived apart.
-use Rattle.fork_model.proofs.Common.{◌≡◌, ℕ, zero, suc, ◌+◌, ◌<◌, Bool, true, false, cond, List, [], ◌∷◌, ◌++◌, length, map, Option, Some, None, refl, ap, arith, ◌∙◌, sym, subst, inl, inr, ◌⊎◌, slice_get, not, ◌&&◌, unwrap_or, nat_lt, ◌==◌}
-use Rattle.fork_model.proofs.Common.{option_map, cons_option, Kind, Rules, Offer, StoredAnswer, Row, Table, State, Idle, Trying, Rung, Ended, Taken, Silent, is_idle, is_invite, stored_of, Score, numbered, FinalAnswer, Event, Ring, Answer}
-use Rattle.fork_model.proofs.Common.{Timeout, Fault, TimerC, GiveUp, Cancel, may_start, ContactLists, taking_at, fresh_row, fresh_rows, Effect, moves, assumed, accepts, redirected, redirects, stores, is_nonempty, effect, answers, change_at}
-use Rattle.fork_model.proofs.Common.{with_state, with_effect, change, next, settled, settled_row, settled_state, closed_state, score_of, HasScore, Target, first_row, opening_rows, opening, after, table, AreArrivals}
+use Rattle.fork_model.proofs.Common.{◌≡◌, ℕ, zero, suc, ◌+◌, ◌<◌, Bool, true, false, cond, List, [], ◌∷◌, ◌++◌, length, map, Option, Some, None, refl, ap, arith, ◌∙◌, sym, subst, inl, inr, ◌⊎◌, ◌&&◌, unwrap_or, ◌==◌, option_map, Kind, Rules, Offer}
+use Rattle.fork_model.proofs.Common.{StoredAnswer, Row, Table, State, Idle, Trying, Rung, Ended, Taken, is_idle, is_invite, stored_of, Score, FinalAnswer, Event, Ring, Answer, Timeout, Fault, TimerC, GiveUp, Cancel, ContactLists, fresh_rows, Effect}
+use Rattle.fork_model.proofs.Common.{moves, assumed, accepts, redirected, redirects, stores, effect, answers, change_at, with_state, with_effect, change, next, settled, settled_row, settled_state, closed_state, score_of, HasScore, Target, first_row}
+use Rattle.fork_model.proofs.Common.{opening_rows, opening, after, table, AreArrivals, common_steps, rules}
 use Rattle.std.specs.List.{filter_map}
 use Rattle.fork_model.specs.Table.{Stored}
 
@@ -14,23 +14,13 @@ NoScore rows = (m : ℕ) (score : Score) → HasScore rows m score → ⊥
 
 -- settling stores nothing
 closed_score : (kind : Kind) (state : State) → state_score (closed_state kind state) ≡ state_score state
-closed_score kind Idle = refl
-closed_score kind Trying = refl
-closed_score kind (Rung cancelled) = refl
-closed_score kind (Ended end) = refl
+closed_score kind state = grind (arith, common_steps)
 
 tried_score : (state : State) (a b c : Bool) → state_score (cond (is_idle state && a && b && c) Trying state) ≡ state_score state
-tried_score Idle a b c = elim (a && b && c) as (λ go. state_score (cond go Trying Idle) ≡ None) [ true ↦ refl | false ↦ refl ]
-tried_score Trying a b c = refl
-tried_score (Rung cancelled) a b c = refl
-tried_score (Ended end) a b c = refl
+tried_score state a b c = grind (arith, common_steps)
 
 settled_score : (t : Table) (row : Row) → state_score (settled_state t row) ≡ state_score row.state
-settled_score t row =
-    elim t.closed as (λ b. state_score (cond b (closed_state t.kind row.state) (cond (may_start t.rows row) Trying row.state)) ≡ state_score row.state) [
-      | true ↦ closed_score t.kind row.state
-      | false ↦ tried_score row.state _ _ _
-    ]
+settled_score t row = grind (arith, common_steps, closed_score, tried_score)
 
 settled_has : (t : Table) (rows : List Row) (m : ℕ) (score : Score) → HasScore (map (settled_row t) rows) m score → HasScore rows m score
 settled_has t [] m score e = e
@@ -49,40 +39,28 @@ put_has [] more n state none m score e = absurd (none m score e)
 put_has (row ∷ rows) more zero state none zero score e = inl (refl, e)
 put_has (row ∷ rows) more zero state none (suc m) score e = inr (append_has rows more none m score e)
 put_has (row ∷ rows) more (suc n) state none zero score e = inr e
-put_has (row ∷ rows) more (suc n) state none (suc m) score e =
-    elim (put_has rows more n state none m score e) [ inl h ↦ inl (ap suc h.0, h.1) | inr h ↦ inr h ]
+put_has (row ∷ rows) more (suc n) state none (suc m) score e = grind (arith, common_steps, put_has rows more n state none m score e)
 
 -- new rows store nothing
 no_score_empty : NoScore []
 no_score_empty m score e = cc
 
 no_score_cons : (row : Row) (rows : List Row) → state_score row.state ≡ None → NoScore rows → NoScore (row ∷ rows)
-no_score_cons row rows is none zero score e = cc
-no_score_cons row rows is none (suc m) score e = none m score e
+no_score_cons row rows is none fact score e = grind (arith, common_steps)
 
 no_score_map : {X Y : Type 0} (row_of : X → Y → Row) (y_of : X → Option Y) → ((x : X) (y : Y) → state_score (row_of x y).state ≡ None) → (xs : List X)
     → NoScore (filter_map (λ x. option_map (row_of x) (y_of x)) xs)
 no_score_map row_of y_of idle [] = no_score_empty
-no_score_map {Y = Y} row_of y_of idle (x ∷ xs) = go (y_of x) (no_score_map row_of y_of idle xs)
-  where
-    rest : List Row
-    rest = filter_map (λ x. option_map (row_of x) (y_of x)) xs
-
-    go : (y : Option Y) → NoScore rest → NoScore (cons_option (option_map (row_of x) y) rest)
-    go None none = none
-    go (Some y) none = no_score_cons (row_of x y) rest (idle x y) none
+no_score_map {Y = Y} row_of y_of idle (x ∷ xs) = grind (arith, common_steps, no_score_cons, no_score_map row_of y_of idle xs)
 
 fresh_none : (n : ℕ) (fresh : List (ℕ × Offer)) → NoScore (fresh_rows n fresh)
-fresh_none n fresh =
-    no_score_map (λ (p : ℕ × ℕ) (f : ℕ × Offer). fresh_row n p.0 f) (λ (p : ℕ × ℕ). slice_get fresh p.1) (λ p f. refl) (numbered (map (λ f. f.1.q) fresh))
+fresh_none n fresh = search (rules, no_score_map)
 
 first_none : (group place : ℕ) (target : Target) → state_score (first_row group place target).state ≡ None
 first_none group place target = elim (group == 0) as (λ first. state_score (cond first Trying Idle) ≡ None) [ true ↦ refl | false ↦ refl ]
 
 opening_none : (targets : List Target) → NoScore (opening_rows targets)
-opening_none targets =
-    no_score_map (λ (p : ℕ × ℕ) (target : Target). first_row p.0 p.1 target) (λ (p : ℕ × ℕ). slice_get targets p.1) (λ p target. first_none p.0 p.1 target)
-    (numbered (map (λ target. target.q) targets))
+opening_none targets = search (rules, no_score_map, first_none)
 
 -- what an event stores arrived with it
 record Arrives (at : ℕ) (e : Effect) : Type 0 where
@@ -101,49 +79,32 @@ stored_here at answer is score e = let same : score_of answer ≡ score = cc in 
 
 taken_or_stored : (taken : Bool) (at : ℕ) (answer : StoredAnswer) → answer.arrival ≡ at → (score : Score)
     → state_score (Ended (cond taken (Taken at) (Stored answer))) ≡ Some score → score.arrival ≡ at
-taken_or_stored true at answer is score e = absurd cc
-taken_or_stored false at answer is score e = stored_here at answer is score e
+taken_or_stored taken at answer is score e = grind (arith, common_steps, stored_here)
 
 redirected_stored : (at : ℕ) (answer : FinalAnswer) (taken : ContactLists) (score : Score) → state_score (Ended (redirected at answer taken)) ≡ Some score → score.arrival ≡ at
-redirected_stored at answer taken score e =
-    taken_or_stored (is_nonempty answer.offers && not (is_nonempty taken.left)) at
-    (record { status = answer.status; arrival = at; received = true; left = taken.left; challenges = answer.challenges }) refl score e
+redirected_stored at answer taken score e = grind (arith, common_steps, taken_or_stored)
 
 either_arrives : (b : Bool) (at : ℕ) (x y : Effect) → Arrives at x → Arrives at y → Arrives at (cond b x y)
-either_arrives true at x y here there = here
-either_arrives false at x y here there = there
+either_arrives b at x y here there = grind (arith, common_steps)
 
 accepts_arrives : (at : ℕ) → Arrives at (accepts at)
-accepts_arrives at = record { stored = λ score e. absurd (nothing score e); fresh = no_score_empty }
-  where
-    nothing : (score : Score) → None ≡ Some score → ⊥
-    nothing score e = cc
+accepts_arrives at = grind (arith, common_steps, no_score_empty)
 
 redirects_arrives : (n at : ℕ) (answer : FinalAnswer) (taken : ContactLists) → Arrives at (redirects n at answer taken)
 redirects_arrives n at answer taken = record { stored = redirected_stored at answer taken; fresh = fresh_none n taken.fresh }
 
 stores_arrives : (at : ℕ) (answer : FinalAnswer) → Arrives at (stores at answer)
-stores_arrives at answer = record {
-  stored = stored_here at (record { status = answer.status; arrival = at; received = true; left = []; challenges = answer.challenges }) refl;
-  fresh = no_score_empty;
-}
+stores_arrives at answer = grind (arith, common_steps, stored_here, no_score_empty)
 
 answers_arrive : (t : Table) (n : ℕ) (row : Row) (at : ℕ) (answer : FinalAnswer) → Arrives at (answers t n row at answer)
-answers_arrive t n row at answer =
-    let taken : ContactLists = taking_at t row answer.offers in
-    either_arrives (nat_lt answer.status 300) at _ _ (accepts_arrives at)
-    (either_arrives (nat_lt answer.status 400) at (redirects n at answer taken) (stores at answer) (redirects_arrives n at answer taken) (stores_arrives at answer))
+answers_arrive t n row at answer = search (rules, either_arrives, accepts_arrives, redirects_arrives, stores_arrives)
 
 assumed_arrives : (status at : ℕ) → Arrives at (assumed status at)
-assumed_arrives status at = record {
-  stored = stored_here at (record { status = status; arrival = at; received = false; left = []; challenges = [] }) refl;
-  fresh = no_score_empty;
-}
+assumed_arrives status at = grind (arith, common_steps, stored_here, no_score_empty)
 
 where_arrives : (b : Bool) (at : ℕ) (e : Effect) → Arrives at e → MayArrive at (cond b (Some e) None)
 unfolding MayArrive
-where_arrives true at e arrives = arrives
-where_arrives false at e arrives = tt
+where_arrives b at e arrives = grind (arith, common_steps)
 
 effect_arrives : (t : Table) (row : Row) (at : ℕ) (event : Event) (state : State) → MayArrive at (effect t row at event state)
 unfolding MayArrive
@@ -158,11 +119,9 @@ effect_arrives t row at (Timeout n) (Rung cancelled) = assumed_arrives 408 at
 effect_arrives t row at (Fault n) Trying = assumed_arrives 503 at
 effect_arrives t row at (Fault n) (Rung cancelled) = assumed_arrives 503 at
 effect_arrives t row at (TimerC n) Trying = where_arrives (is_invite t.kind) at (assumed 408 at) (assumed_arrives 408 at)
-effect_arrives t row at (TimerC n) (Rung cancelled) =
-    where_arrives (is_invite t.kind && not cancelled) at (moves (Rung true)) (moves_none at (Rung true) refl)
+effect_arrives t row at (TimerC n) (Rung cancelled) = grind (arith, common_steps, where_arrives, moves_none)
 effect_arrives t row at (GiveUp n) Trying = tt
-effect_arrives t row at (GiveUp n) (Rung cancelled) =
-    where_arrives cancelled at (moves (Ended (Silent at))) (moves_none at (Ended (Silent at)) refl)
+effect_arrives t row at (GiveUp n) (Rung cancelled) = grind (arith, common_steps, where_arrives, moves_none)
 effect_arrives t row at Cancel Trying = tt
 effect_arrives t row at Cancel (Rung cancelled) = tt
 
@@ -189,22 +148,14 @@ effect_brings t at n (Some e) arrives = record {
 
 change_at_brings : (t : Table) (at : ℕ) (event : Event) (n : ℕ) (row : Option Row) → MayBring t at (change_at t at event n row)
 unfolding MayBring
-change_at_brings t at event n None = tt
-change_at_brings t at event n (Some row) = effect_brings t at n (effect t row at event row.state) (effect_arrives t row at event row.state)
+change_at_brings t at event n row = grind (arith, common_steps, effect_brings, effect_arrives)
 
 cancelled_brings : (t : Table) (at : ℕ) (b : Bool) → MayBring t at (cond b (Some (record t { closed = true })) None)
 unfolding MayBring
-cancelled_brings t at true = record { named = 0; here = λ m score is. inr is }
-cancelled_brings t at false = tt
+cancelled_brings t at b = grind (arith, common_steps)
 
 change_brings : (t : Table) (event : Event) (at : ℕ) → MayBring t at (change t event at)
-change_brings t (Ring n status) at = change_at_brings t at (Ring n status) n (slice_get t.rows n)
-change_brings t (Answer n answer) at = change_at_brings t at (Answer n answer) n (slice_get t.rows n)
-change_brings t (Timeout n) at = change_at_brings t at (Timeout n) n (slice_get t.rows n)
-change_brings t (Fault n) at = change_at_brings t at (Fault n) n (slice_get t.rows n)
-change_brings t (TimerC n) at = change_at_brings t at (TimerC n) n (slice_get t.rows n)
-change_brings t (GiveUp n) at = change_at_brings t at (GiveUp n) n (slice_get t.rows n)
-change_brings t Cancel at = cancelled_brings t at (is_invite t.kind && not t.closed)
+change_brings t event at = grind (arith, common_steps, change_at_brings, cancelled_brings)
 
 -- one event
 older : (a at : ℕ) → a < at → a < suc at
@@ -217,55 +168,26 @@ clash : (a b at : ℕ) → a < at → b ≡ at → a ≡ b → ⊥
 clash a b at lt is same = omega arith
 
 brought : (old new : List Row) (at : ℕ) → AreArrivals old at → Brings old new at → AreArrivals new (suc at)
-brought old new at kept brings = record { past = past; apart = apart }
-  where
-    past : (m : ℕ) (score : Score) → HasScore new m score → score.arrival < suc at
-    past m score is =
-        elim (brings.here m score is) [
-          | inl h ↦ newest score.arrival at h.1
-          | inr h ↦ older score.arrival at (kept.past m score h)
-        ]
-
-    both : (m n : ℕ) (a b : Score) → ((m ≡ brings.named) × (a.arrival ≡ at)) ⊎ HasScore old m a → ((n ≡ brings.named) × (b.arrival ≡ at)) ⊎ HasScore old n b
-        → a.arrival ≡ b.arrival → m ≡ n
-    both m n a b (inl x) (inl y) same = x.0 ∙ sym y.0
-    both m n a b (inl x) (inr y) same = absurd (clash b.arrival a.arrival at (kept.past n b y) x.1 (sym same))
-    both m n a b (inr x) (inl y) same = absurd (clash a.arrival b.arrival at (kept.past m a x) y.1 same)
-    both m n a b (inr x) (inr y) same = kept.apart m n a b x y same
-
-    apart : (m n : ℕ) (a b : Score) → HasScore new m a → HasScore new n b → a.arrival ≡ b.arrival → m ≡ n
-    apart m n a b x y same = both m n a b (brings.here m a x) (brings.here n b y) same
+brought old new at kept brings = grind (arith, common_steps, newest, older, clash)
 
 later : (rows : List Row) (at : ℕ) → AreArrivals rows at → AreArrivals rows (suc at)
 later rows at kept = record { past = λ m score is. older score.arrival at (kept.past m score is); apart = kept.apart }
 
 settled_arrivals : (t : Table) (at : ℕ) → AreArrivals t.rows at → AreArrivals (settled t).rows at
-settled_arrivals t at kept = record {
-  past = λ m score is. kept.past m score (settled_has t t.rows m score is);
-  apart = λ m n a b x y same. kept.apart m n a b (settled_has t t.rows m a x) (settled_has t t.rows n b y) same;
-}
+settled_arrivals t at kept = grind (arith, common_steps, settled_has)
 
 changed_arrivals : (t : Table) (at : ℕ) (c : Option Table) → AreArrivals t.rows at → MayBring t at c
     → AreArrivals (unwrap_or (option_map settled c) t).rows (suc at)
 unfolding MayBring
-changed_arrivals t at None kept brings = later t.rows at kept
-changed_arrivals t at (Some u) kept brings = settled_arrivals u (suc at) (brought t.rows u.rows at kept brings)
+changed_arrivals t at c kept brings = grind (arith, common_steps, later, settled_arrivals, brought)
 
 pub next_arrivals : (t : Table) (event : Event) (at : ℕ) → AreArrivals t.rows at → AreArrivals (next t event at).rows (suc at)
 next_arrivals t event at kept = changed_arrivals t at (change t event at) kept (change_brings t event at)
 
 -- a whole history
 pub after_arrivals : (t : Table) (at : ℕ) (events : List Event) → AreArrivals t.rows at → AreArrivals (after t at events).rows (at + length events)
-after_arrivals t at [] kept = let P : ℕ → Type 0 = λ n. AreArrivals t.rows n in subst P (plus_none at) kept
-  where
-    plus_none : (at : ℕ) → at ≡ at + 0
-    plus_none at = omega arith
-after_arrivals t at (event ∷ events) kept =
-    let P : ℕ → Type 0 = λ n. AreArrivals (after (next t event at) (suc at) events).rows n in
-    subst P (plus_one at (length events)) (after_arrivals (next t event at) (suc at) events (next_arrivals t event at kept))
-  where
-    plus_one : (at n : ℕ) → suc at + n ≡ at + suc n
-    plus_one at n = omega arith
+after_arrivals t at [] kept = grind (arith, common_steps)
+after_arrivals t at (event ∷ events) kept = grind (arith, common_steps, next_arrivals, after_arrivals (next t event at) (suc at) events (next_arrivals t event at kept))
 
 pub history_of_arrivals : (kind : Kind) (rules : Rules) (targets : List Target) (events : List Event)
     → AreArrivals (table kind rules targets events).rows (length events)

@@ -1,7 +1,7 @@
 -- What a change of a table is: the table closes, or one row goes on and new rows may come under it.
-use Rattle.fork_model.proofs.Common.{◌≡◌, ℕ, zero, suc, ◌<◌, Bool, true, false, List, [], ◌∷◌, ◌++◌, map, Option, Some, None, refl, ap, arith, ◌∙◌, sym, subst, cond, inl, inr, ◌⊎◌, slice_get, not, ◌&&◌, nat_lt, filter_map, option_map}
-use Rattle.fork_model.proofs.Common.{cons_option, Row, Table, State, Idle, Trying, Rung, Ended, Silent, Offer, is_idle, is_trying, is_ended, is_open, is_invite, Event, FinalAnswer, Ring, Answer, Timeout, Fault, TimerC, GiveUp, Cancel}
-use Rattle.fork_model.proofs.Common.{row_named, numbered, taking_at, fresh_row, fresh_rows, Effect, effect, moves, assumed, accepts, answers, redirected, redirects, stores, with_state, with_effect, change_at, change, cancelled, steps_of}
+use Rattle.fork_model.proofs.Common.{◌≡◌, ℕ, zero, suc, Bool, true, false, List, [], ◌∷◌, ◌++◌, Option, Some, None, refl, ap, arith, ◌∙◌, sym, subst, cond, inl, inr, ◌⊎◌, slice_get, not, ◌&&◌, nat_lt, filter_map, option_map, cons_option, Row, Table}
+use Rattle.fork_model.proofs.Common.{State, Idle, Trying, Rung, Ended, Silent, Offer, is_idle, is_trying, is_ended, is_open, is_invite, Event, FinalAnswer, Ring, Answer, Timeout, Fault, TimerC, GiveUp, Cancel, row_named, taking_at, fresh_rows}
+use Rattle.fork_model.proofs.Common.{Effect, effect, moves, assumed, accepts, answers, redirected, redirects, stores, with_state, with_effect, change_at, change, cancelled}
 use Rattle.fork_model.proofs.laws.StepLemmas.{effect_moves, MovesBy, MovesOn}
 
 -- ---- rows found
@@ -32,19 +32,16 @@ found_behind (x ∷ rows) fresh (suc m) row is = found_behind rows fresh m row i
 pub found : (rows fresh : List Row) (n : ℕ) (state : State) (m : ℕ) (row : Row) → slice_get (with_state rows n state ++ fresh) m ≡ Some row
     → Found rows fresh n state m row
 found [] fresh n state m row is = inr (inr (m, is))
-found (x ∷ rows) fresh zero state zero row is =
-    let same : record x { state = state } ≡ row = cc in inr (inl (refl, sym (ap (λ (r : Row). r.state) same)))
+found (x ∷ rows) fresh zero state zero row is = grind arith
 found (x ∷ rows) fresh zero state (suc m) row is = elim (found_behind rows fresh m row is) [ inl h ↦ inl h | inr h ↦ inr (inr h) ]
 found (x ∷ rows) fresh (suc n) state zero row is = inl is
-found (x ∷ rows) fresh (suc n) state (suc m) row is =
-    elim (found rows fresh n state m row is) [ inl h ↦ inl h | inr (inl h) ↦ inr (inl (ap suc h.0, h.1)) | inr (inr h) ↦ inr (inr h) ]
+found (x ∷ rows) fresh (suc n) state (suc m) row is = grind (arith, found rows fresh n state m row is)
 
 -- each row that was there is there still, or is the changed one
 pub stays : (rows fresh : List Row) (n : ℕ) (state : State) (m : ℕ) (row : Row) → slice_get rows m ≡ Some row
     → (slice_get (with_state rows n state ++ fresh) m ≡ Some row) ⊎ ((m ≡ n) × (slice_get (with_state rows n state ++ fresh) m ≡ Some (record row { state = state })))
 stays [] fresh n state m row is = absurd cc
-stays (x ∷ rows) fresh zero state zero row is =
-    let same : x ≡ row = cc in inr (refl, ap (λ (r : Row). Some (record r { state = state })) same)
+stays (x ∷ rows) fresh zero state zero row is = grind arith
 stays (x ∷ rows) fresh zero state (suc m) row is = inl (kept rows m is)
   where
     kept : (rows : List Row) (m : ℕ) → slice_get rows m ≡ Some row → slice_get (rows ++ fresh) m ≡ Some row
@@ -52,8 +49,7 @@ stays (x ∷ rows) fresh zero state (suc m) row is = inl (kept rows m is)
     kept (x ∷ rows) zero is = is
     kept (x ∷ rows) (suc m) is = kept rows m is
 stays (x ∷ rows) fresh (suc n) state zero row is = inl is
-stays (x ∷ rows) fresh (suc n) state (suc m) row is =
-    elim (stays rows fresh n state m row is) [ inl h ↦ inl h | inr h ↦ inr (ap suc h.0, h.1) ]
+stays (x ∷ rows) fresh (suc n) state (suc m) row is = grind (arith, stays rows fresh n state m row is)
 
 pub changed_row : (rows fresh : List Row) (n : ℕ) (state : State) (row : Row) → slice_get rows n ≡ Some row
     → slice_get (with_state rows n state ++ fresh) n ≡ Some (record row { state = state })
@@ -72,24 +68,14 @@ none_below : (n : Option ℕ) (e : Effect) → e.fresh ≡ [] → AreBelow n e.s
 none_below n e none k row is = absurd (let nothing : slice_get {X = Row} [] k ≡ Some row = ap (λ (rows : List Row). slice_get rows k) (sym none) ∙ is in cc)
 
 fresh_below : (n : ℕ) (state : State) (fresh : List (ℕ × Offer)) → is_ended state ≡ true → AreBelow (Some n) state (fresh_rows n fresh)
-fresh_below n state fresh ends k row is =
-    let from = from_filter_map (λ (p : ℕ × ℕ). option_map (λ (f : ℕ × Offer). fresh_row n p.0 f) (slice_get fresh p.1)) (numbered (map (λ (f : ℕ × Offer). f.1.q) fresh)) k row is in
-    go from.0.0 (slice_get fresh from.0.1) from.1
-  where
-    go : (g : ℕ) (o : Option (ℕ × Offer)) → option_map (λ (f : ℕ × Offer). fresh_row n g f) o ≡ Some row
-        → (row.parent ≡ Some n) × (is_idle row.state ≡ true) × (is_ended state ≡ true)
-    go g None made = absurd cc
-    go g (Some f) made =
-        let same : fresh_row n g f ≡ row = cc in
-        (sym (ap (λ (r : Row). r.parent) same), sym (ap (λ (r : Row). is_idle r.state) same), ends)
+fresh_below n state fresh ends k row is = grind (arith, from_filter_map)
 
 abbrev pub BelowEffect : Option ℕ → Option Effect → Type 0
 BelowEffect n None = Unit {0}
 BelowEffect n (Some e) = AreBelow n e.state e.fresh
 
 below_if : (n : Option ℕ) (b : Bool) (e : Effect) → AreBelow n e.state e.fresh → BelowEffect n (cond b (Some e) None)
-below_if n true e h = h
-below_if n false e h = tt
+below_if n b e h = grind arith
 
 below_answers : (t : Table) (n : ℕ) (row : Row) (at : ℕ) (answer : FinalAnswer) → BelowEffect (Some n) (Some (answers t n row at answer))
 below_answers t n row at answer = go (nat_lt answer.status 300) (nat_lt answer.status 400)
@@ -136,30 +122,9 @@ pub record IsClosing (t u : Table) : Type 0 where
   pub closed : u.closed ≡ true
   pub rows : u.rows ≡ t.rows
 
-past_trying : (state new : State) → MovesOn state new → is_trying new ≡ false
-past_trying state Idle m = refl
-past_trying state (Rung b) m = refl
-past_trying state (Ended end) m = refl
-past_trying Idle Trying m = absurd (let e : is_open Idle ≡ true = m.was_open in cc)
-past_trying Trying Trying m = absurd (let less : steps_of Trying < steps_of Trying = m.steps in omega arith)
-past_trying (Rung true) Trying m = absurd (let less : steps_of (Rung true) < steps_of Trying = m.steps in omega arith)
-past_trying (Rung false) Trying m = absurd (let less : steps_of (Rung false) < steps_of Trying = m.steps in omega arith)
-past_trying (Ended end) Trying m = absurd (let e : is_open (Ended end) ≡ true = m.was_open in cc)
-
 move_of : (t : Table) (n : ℕ) (row : Row) (e : Effect) → slice_get t.rows n ≡ Some row → MovesOn row.state e.state → AreBelow (Some n) e.state e.fresh
     → IsMove t (with_effect t n e)
-move_of t n row e is m below = record {
-  n = n;
-  row = row;
-  state = e.state;
-  fresh = e.fresh;
-  there = is;
-  was_open = m.was_open;
-  not_idle = m.started;
-  not_trying = past_trying row.state e.state m;
-  rows = refl;
-  below = below;
-}
+move_of t n row e is m below = grind arith
 
 move_at : (t u : Table) (at : ℕ) (event : Event) (n : ℕ) (row : Option Row) → row_named event ≡ Some n → slice_get t.rows n ≡ row
     → change_at t at event n row ≡ Some u → IsMove t u
@@ -176,16 +141,4 @@ move_at t u at event n (Some row) named there is =
         subst Q made (move_of t n row e there m (subst P named below))
 
 pub change_is : (t u : Table) (event : Event) (at : ℕ) → change t event at ≡ Some u → (IsMove t u) ⊎ (IsClosing t u)
-change_is t u (Ring n status) at is = inl (move_at t u at (Ring n status) n _ refl refl is)
-change_is t u (Answer n answer) at is = inl (move_at t u at (Answer n answer) n _ refl refl is)
-change_is t u (Timeout n) at is = inl (move_at t u at (Timeout n) n _ refl refl is)
-change_is t u (Fault n) at is = inl (move_at t u at (Fault n) n _ refl refl is)
-change_is t u (TimerC n) at is = inl (move_at t u at (TimerC n) n _ refl refl is)
-change_is t u (GiveUp n) at is = inl (move_at t u at (GiveUp n) n _ refl refl is)
-change_is t u Cancel at is = inr (go (is_invite t.kind && not t.closed) is)
-  where
-    go : (b : Bool) → cond b (Some (record t { closed = true })) None ≡ Some u → IsClosing t u
-    go false is = absurd cc
-    go true is =
-        let made : record t { closed = true } ≡ u = cc in
-        record { closed = sym (ap (λ (v : Table). v.closed) made); rows = sym (ap (λ (v : Table). v.rows) made) }
+change_is t u event at is = grind (arith, move_at)

@@ -1,6 +1,6 @@
 -- A table whose stored answers arrived apart has one choice, and an event there one reply.
-use Rattle.fork_model.proofs.Common.{◌≡◌, ◌≢◌, ℕ, Bool, true, false, List, Option, Some, None, refl, ap, arith, ◌∙◌, sym, subst, inl, inr, ◌⊎◌, Rules, Row, Table, Score, Event, next, Choice, Best, Only503, NoAnswer408, HasScore, IsFirst}
-use Rattle.fork_model.proofs.Common.{IsChoice, Up, Nothing, Provisional, Success, Final, Reply, IsUp, IsReply, AreArrivals}
+use Rattle.fork_model.proofs.Common.{◌≡◌, ◌≢◌, ℕ, Bool, true, false, List, Option, Some, None, refl, ap, arith, ◌∙◌, inl, inr, ◌⊎◌, Rules, Row, Table, Score, Event, next, Choice, Best, Only503, NoAnswer408, HasScore, IsFirst, IsChoice, Up, Nothing}
+use Rattle.fork_model.proofs.Common.{Provisional, Success, Final, Reply, IsUp, IsReply, AreArrivals, rules}
 use Rattle.fork_model.proofs.laws.OrderLemmas.{Before-total}
 
 same_or : (a b : ℕ) → (a ≡ b) ⊎ (a ≢ b)
@@ -17,24 +17,16 @@ first_same rules rows at kept n m s k x y =
     ]
 
 score_same : (rows : List Row) (n m : ℕ) (s k : Score) → HasScore rows n s → HasScore rows m k → n ≡ m → s ≡ k
-score_same rows n m s k x y same =
-    let P : ℕ → Type 0 = λ n. HasScore rows n s in
-    let z : HasScore rows m s = subst P same x in
-    some_same (sym z ∙ y)
-  where
-    some_same : Some s ≡ Some k → s ≡ k
-    some_same e = cc
+score_same rows n m s k x y same = grind arith
 
 apart_by_status : (s k : Score) → s ≡ k → s.status ≢ 503 → k.status ≡ 503 → ⊥
 apart_by_status s k same differ is = differ (ap (λ (x : Score). x.status) same ∙ is)
 
 pub one_choice : (rules : Rules) (rows : List Row) (at : ℕ) → AreArrivals rows at → (a b : Choice) → IsChoice rules rows a → IsChoice rules rows b → a ≡ b
 one_choice rules rows at kept (Best n) (Best m) x y = ap Best (first_same rules rows at kept n m x.0 y.0 x.1 y.1)
-one_choice rules rows at kept (Best n) (Only503 m) x y =
-    absurd (apart_by_status x.0 y.0 (score_same rows n m x.0 y.0 x.1.stored y.1.stored (first_same rules rows at kept n m x.0 y.0 x.1 y.1)) x.2 y.2)
+one_choice rules rows at kept (Best n) (Only503 m) x y = search (rules, apart_by_status, score_same, first_same)
 one_choice rules rows at kept (Best n) NoAnswer408 x y = absurd (y n x.0 x.1.stored)
-one_choice rules rows at kept (Only503 n) (Best m) x y =
-    absurd (apart_by_status y.0 x.0 (sym (score_same rows n m x.0 y.0 x.1.stored y.1.stored (first_same rules rows at kept n m x.0 y.0 x.1 y.1))) y.2 x.2)
+one_choice rules rows at kept (Only503 n) (Best m) x y = search (rules, apart_by_status, score_same, first_same)
 one_choice rules rows at kept (Only503 n) (Only503 m) x y = ap Only503 (first_same rules rows at kept n m x.0 y.0 x.1 y.1)
 one_choice rules rows at kept (Only503 n) NoAnswer408 x y = absurd (y n x.0 x.1.stored)
 one_choice rules rows at kept NoAnswer408 (Best m) x y = absurd (x m y.0 y.1.stored)
@@ -72,9 +64,4 @@ one_up t new event one Nothing Nothing x y = refl
 pub one_reply : (t : Table) (event : Event) (at : ℕ)
     → ((a b : Choice) → IsChoice (next t event at).rules (next t event at).rows a → IsChoice (next t event at).rules (next t event at).rows b → a ≡ b)
     → (a b : Reply) → IsReply t event at a → IsReply t event at b → a ≡ b
-one_reply t event at one a b x y =
-    let position : a.at ≡ b.at = x.position ∙ sym y.position in
-    let started : a.started ≡ b.started = x.started ∙ sym y.started in
-    let cancelled : a.cancelled ≡ b.cancelled = x.cancelled ∙ sym y.cancelled in
-    let up : a.up ≡ b.up = one_up t (next t event at) event one a.up b.up x.up y.up in
-    (λ i. record { at = position i; started = started i; cancelled = cancelled i; up = up i })
+one_reply t event at one a b x y = grind (arith, one_up)

@@ -1,8 +1,8 @@
 -- In the opening table the first group is tried, and all others wait for it.
-use Rattle.fork_model.proofs.Common.{◌≡◌, ℕ, zero, suc, ◌<◌, Bool, true, false, List, [], ◌∷◌, map, Option, Some, None, refl, ap, arith, ◌∙◌, sym, subst, cond, inl, inr, ◌⊎◌, slice_get, filter_map, ◌==◌, option_map, cons_option, Row, Table}
-use Rattle.fork_model.proofs.Common.{Idle, Trying, is_idle, is_ended, is_value, numbered, Event, in_earlier_group, parent_ended, may_start, next, Target, first_row, opening_rows, opening, after, table, IsInSeries}
+use Rattle.fork_model.proofs.Common.{◌≡◌, ℕ, zero, suc, ◌<◌, Bool, true, false, List, [], ◌∷◌, map, Some, None, refl, ap, arith, ◌∙◌, sym, cond, inl, inr, ◌⊎◌, slice_get, ◌==◌, Row, Table, Idle, Trying, is_idle, is_ended, is_value, Event}
+use Rattle.fork_model.proofs.Common.{in_earlier_group, parent_ended, may_start, next, Target, opening_rows, after, IsInSeries, rules}
 use Rattle.fork_model.specs.Series.{OpeningIsInSeries, OneGroupStartsAtATime}
-use Rattle.fork_model.proofs.laws.GroupLemmas.{FirstPlace, first_place}
+use Rattle.fork_model.proofs.laws.GroupLemmas.{first_place}
 use Rattle.fork_model.proofs.laws.ChangeLemmas.{from_filter_map}
 use Rattle.fork_model.proofs.laws.WaitingLemmas.{MayStart, may_start_facts, is_earlier, goes_by_group, has_rows}
 use Rattle.fork_model.proofs.laws.SeriesLemmas.{keeps_series, one_group_starts}
@@ -13,16 +13,7 @@ pub record IsOpeningRow (row : Row) : Type 0 where
   pub state : row.state ≡ cond (row.group == 0) Trying Idle
 
 pub opening_row : (targets : List Target) (m : ℕ) (row : Row) → slice_get (opening_rows targets) m ≡ Some row → IsOpeningRow row
-opening_row targets m row is =
-    let from = from_filter_map (λ (p : ℕ × ℕ). option_map (first_row p.0 p.1) (slice_get targets p.1)) (numbered (map (λ (target : Target). target.q) targets)) m row is in
-    go from.0.0 from.0.1 (slice_get targets from.0.1) from.1
-  where
-    go : (group place : ℕ) (o : Option Target) → option_map (first_row group place) o ≡ Some row → IsOpeningRow row
-    go group place None made = absurd cc
-    go group place (Some target) made =
-        let same : first_row group place target ≡ row = cc in
-        let P : Row → Type 0 = λ r. IsOpeningRow r in
-        subst P same (record { parent = refl; state = refl })
+opening_row targets m row is = grind (arith, from_filter_map)
 
 target_at : (targets : List Target) (q place : ℕ) → is_value q (slice_get (map (λ (target : Target). target.q) targets) place) ≡ true
     → (target : Target) × (slice_get targets place ≡ Some target)
@@ -35,26 +26,13 @@ abbrev pub HasFirst : List Row → Type 0
 HasFirst rows = (rows ≡ []) ⊎ ((row : Row) × (rest : List Row) × (rows ≡ row ∷ rest) × (row.group ≡ 0))
 
 pub has_first : (targets : List Target) → HasFirst (opening_rows targets)
-has_first targets = go (first_place (map (λ (target : Target). target.q) targets))
-  where
-    go : FirstPlace (map (λ (target : Target). target.q) targets) → HasFirst (opening_rows targets)
-    go (inl none) = inl (ap (filter_map (λ (p : ℕ × ℕ). option_map (first_row p.0 p.1) (slice_get targets p.1))) none)
-    go (inr h) =
-        let at = target_at targets h.2 h.0 h.4 in
-        inr (
-          first_row 0 h.0 at.0,
-          _,
-          ap (filter_map (λ (p : ℕ × ℕ). option_map (first_row p.0 p.1) (slice_get targets p.1))) h.3
-              ∙ ap (λ (o : Option Target). cons_option (option_map (first_row 0 h.0) o) (filter_map (λ (p : ℕ × ℕ). option_map (first_row p.0 p.1) (slice_get targets p.1)) h.1)) at.1,
-          refl,
-        )
+has_first targets = grind (arith, first_place, target_at)
 
 differ : {b : Bool} → b ≡ true → b ≡ false → ⊥
 differ h k = cc
 
 later_group : (group : ℕ) → is_idle (cond (group == 0) Trying Idle) ≡ true → 0 < group
-later_group zero e = absurd (let f : is_idle Trying ≡ true = e in cc)
-later_group (suc group) e = omega arith
+later_group group e = grind arith
 
 none_waits_opening : (targets : List Target) (m : ℕ) (row : Row) → slice_get (opening_rows targets) m ≡ Some row → may_start (opening_rows targets) row ≡ false
 none_waits_opening targets m row is = go (has_first targets) (may_start (opening_rows targets) row) refl
@@ -86,6 +64,4 @@ after_in_series t at [] h = h
 after_in_series t at (event ∷ events) h = after_in_series (next t event at) (suc at) events (keeps_series t event at h)
 
 pub one_group_at_a_time : OneGroupStartsAtATime
-one_group_at_a_time kind rules targets events event at =
-    one_group_starts (table kind rules targets events) event at
-    (after_in_series (opening kind rules targets) 0 events (opening_in_series kind rules targets))
+one_group_at_a_time kind rules targets events event at = search (rules, one_group_starts, after_in_series, opening_in_series)

@@ -1,5 +1,5 @@
 -- The order of stored answers is a strict total order on arrivals, for any rules.
-use Rattle.fork_model.proofs.Common.{◌≡◌, ◌≢◌, ◌⊎◌, inl, inr, arith, subst, Rules, Rank, Score, RanksBefore}
+use Rattle.fork_model.proofs.Common.{◌≡◌, ◌≢◌, ◌⊎◌, arith, subst, Rules, Rank, Score, RanksBefore, common_steps}
 use Rattle.fork_model.specs.Rank.{rank_of, Before}
 
 pub ranks_irrefl : (a : Rank) → RanksBefore a a → ⊥
@@ -19,18 +19,7 @@ same_rank a b class part arrival = λ i. record { class = class i; part = part i
 
 -- of three numbers that are not all the same the first that differs decides
 pub ranks_total_apart : (a b : Rank) → a ≢ b → RanksBefore a b ⊎ RanksBefore b a
-ranks_total_apart a b differ =
-    elim (ranks_decide a b) [
-      | inl before ↦ inl before
-      | inr not ↦ elim (ranks_decide b a) [
-        | inl after ↦ inr after
-        | inr neither ↦
-            let class : a.class ≡ b.class = grind arith in
-            let part : a.part ≡ b.part = grind arith in
-            let arrival : a.arrival ≡ b.arrival = grind arith in
-            absurd (differ (same_rank a b class part arrival))
-      ]
-    ]
+ranks_total_apart a b differ = grind (arith, common_steps, ranks_decide, same_rank)
 
 ranks_between : (o k s : Rank) → RanksBefore o k → (RanksBefore s k → ⊥) → RanksBefore o s
 ranks_between o k s h not = grind arith

@@ -1,14 +1,15 @@
 -- Why an event starts one group at most. In a settled table no group waits that may start. So a group that starts
 -- waited for the row that the event ends, or stands below it. Then one line of rows, that row's, passes all groups
 -- that start; of two under different parents the one would stand below what the other waits for.
-use Rattle.fork_model.proofs.Common.{◌≡◌, ℕ, zero, suc, ◌+◌, Bool, true, false, List, [], ◌∷◌, ◌++◌, length, map, Option, Some, None, refl, ap, arith, ◌∙◌, sym, subst, cond, inl, inr, ◌⊎◌, length-append, slice_get, not, ◌&&◌, ◌==◌, nat_eq}
-use Rattle.fork_model.proofs.Common.{nat_lt, option_eq, list_any, Kind, Row, Table, State, Idle, Trying, Rung, Ended, is_idle, is_trying, is_ended, is_row, parent_row, line_from, same_group, goes_before, parent_ended, may_start, with_state}
-use Rattle.fork_model.proofs.Common.{change, closed_state, settled_state, settled_row, settled, next, IsSameTarget, IsInSeries}
+use Rattle.fork_model.proofs.Common.{◌≡◌, ℕ, zero, suc, ◌+◌, Bool, true, false, List, [], ◌∷◌, ◌++◌, length, map, Option, Some, None, refl, ap, arith, ◌∙◌, sym, subst, cond, inl, inr, ◌⊎◌, length-append, slice_get, not, ◌&&◌, ◌==◌, nat_eq, option_eq}
+use Rattle.fork_model.proofs.Common.{Kind, Row, Table, State, Trying, is_idle, is_trying, is_ended, is_row, parent_row, line_from, same_group, goes_before, parent_ended, may_start, with_state, change, closed_state, settled_state, settled_row}
+use Rattle.fork_model.proofs.Common.{settled, next, IsSameTarget, IsInSeries}
 use Rattle.fork_model.specs.Series.{IsStarted, OneGroupStarts, EventsKeepSeries, AnEventStartsOneGroup, GroupsStartWhole}
 use Rattle.fork_model.proofs.laws.StepLemmas.{and_left, and_right, Goes, Extends, extends_row, extends_length, extends_settled, Onward, change_advances, next_of_change, next_of_stray}
 use Rattle.fork_model.proofs.laws.ContactLemmas.{length-state}
 use Rattle.fork_model.proofs.laws.WaitingLemmas.{MayStart, may_start_facts, may_start_of, waits_for, Passes, line_more, line_fuel, has_rows, not_above, one_group, one_parent, and_both, same_group_refl}
 use Rattle.fork_model.proofs.laws.ChangeLemmas.{AreBelow, IsMove, IsClosing, change_is, Found, found, stays, changed_row}
+use Rattle.fork_model.proofs.Common.{common_steps}
 
 differ : {b : Bool} → b ≡ true → b ≡ false → ⊥
 differ h k = cc
@@ -22,14 +23,7 @@ goes_more : (rows later : List Row) (a r s : Row) → Extends rows later → IsS
 goes_more rows later a r s ext same is = line_more (length rows) (length later) rows later a r s (extends_length rows later ext) ext same is
 
 parent_ended_more : (rows later : List Row) (p : Option ℕ) → Extends rows later → parent_ended rows p ≡ true → parent_ended later p ≡ true
-parent_ended_more rows later None ext e = refl
-parent_ended_more rows later (Some n) ext e = go (slice_get rows n) refl e
-  where
-    go : (o : Option Row) → slice_get rows n ≡ o → is_row is_ended o ≡ true → is_row is_ended (slice_get later n) ≡ true
-    go None there e = absurd cc
-    go (Some row) there e =
-        let new = extends_row rows later ext n row there in
-        ap (is_row is_ended) new.1 ∙ ap is_ended (new.2.state.ended e) ∙ e
+parent_ended_more rows later p ext e = grind (arith, extends_row)
 
 -- ---- settling
 
@@ -51,12 +45,10 @@ pub settled_open : (t : Table) (row : Row) → t.closed ≡ false → settled_st
 settled_open t row still = ap (λ (b : Bool). cond b (closed_state t.kind row.state) (cond (may_start t.rows row) Trying row.state)) still
 
 idle_back : (start : Bool) (state : State) → is_idle (cond start Trying state) ≡ true → is_idle state ≡ true
-idle_back true state e = absurd (let f : is_idle Trying ≡ true = e in cc)
-idle_back false state e = e
+idle_back start state e = grind arith
 
 ended_back : (start : Bool) (state : State) → is_ended (cond start Trying state) ≡ true → is_ended state ≡ true
-ended_back true state e = absurd (let f : is_ended Trying ≡ true = e in cc)
-ended_back false state e = e
+ended_back start state e = grind arith
 
 was_idle : (t : Table) (row : Row) → t.closed ≡ false → is_idle (settled_state t row) ≡ true → is_idle row.state ≡ true
 was_idle t row still e = idle_back (may_start t.rows row) row.state (ap is_idle (sym (settled_open t row still)) ∙ e)
@@ -91,46 +83,14 @@ might_before t row still h = record {
 
 -- after settling none waits that may start
 none_waits_settled : (t : Table) → t.closed ≡ false → (n : ℕ) (row : Row) → slice_get (settled t).rows n ≡ Some row → may_start (settled t).rows row ≡ false
-none_waits_settled t still n row is =
-    let from = settled_from t t.rows n row is in
-    go from.0 (may_start (settled t).rows row) refl from.2
-  where
-    go : (r : Row) (b : Bool) → may_start (settled t).rows row ≡ b → settled_row t r ≡ row → may_start (settled t).rows row ≡ false
-    go r false e same = e
-    go r true e same =
-        let P : Row → Type 0 = λ x. MayStart (settled t).rows x in
-        let facts : MayStart (settled t).rows (settled_row t r) = subst P (sym same) (may_start_facts (settled t).rows row e) in
-        let starts : may_start t.rows r ≡ true = may_start_of t.rows r (might_before t r still facts) in
-        let tried : settled_state t r ≡ Trying = settled_open t r still ∙ ap (λ (b : Bool). cond b Trying r.state) starts in
-        absurd (differ facts.idle (ap is_idle tried))
-
-pub closed_not_idle : (kind : Kind) (state : State) → is_idle (closed_state kind state) ≡ false
-closed_not_idle kind Idle = refl
-closed_not_idle kind Trying = refl
-closed_not_idle kind (Rung b) = refl
-closed_not_idle kind (Ended end) = refl
+none_waits_settled t still n row is = grind (arith, settled_from, may_start_facts, may_start_of, might_before)
 
 -- in a closed table none waits at all
 none_waits_closed : (t : Table) → t.closed ≡ true → (n : ℕ) (row : Row) → slice_get (settled t).rows n ≡ Some row → may_start (settled t).rows row ≡ false
-none_waits_closed t done n row is =
-    let from = settled_from t t.rows n row is in
-    go from.0 (may_start (settled t).rows row) refl from.2
-  where
-    go : (r : Row) (b : Bool) → may_start (settled t).rows row ≡ b → settled_row t r ≡ row → may_start (settled t).rows row ≡ false
-    go r false e same = e
-    go r true e same =
-        let idle : is_idle row.state ≡ true = (may_start_facts (settled t).rows row e).idle in
-        let state : is_idle row.state ≡ is_idle (settled_state t r) = sym (ap (λ (x : Row). is_idle x.state) same) in
-        let closed : is_idle (settled_state t r) ≡ is_idle (closed_state t.kind r.state) =
-        ap (λ (b : Bool). is_idle (cond b (closed_state t.kind r.state) (cond (may_start t.rows r) Trying r.state))) done in
-        absurd (differ idle (state ∙ closed ∙ closed_not_idle t.kind r.state))
+none_waits_closed t done n row is = grind (arith, settled_from)
 
 none_waits_after : (t : Table) (n : ℕ) (row : Row) → slice_get (settled t).rows n ≡ Some row → may_start (settled t).rows row ≡ false
-none_waits_after t n row is = go t.closed refl
-  where
-    go : (b : Bool) → t.closed ≡ b → may_start (settled t).rows row ≡ false
-    go true e = none_waits_closed t e n row is
-    go false e = none_waits_settled t e n row is
+none_waits_after t n row is = grind (arith, none_waits_closed, none_waits_settled)
 
 -- ---- the invariant is kept
 
@@ -167,11 +127,7 @@ parents_settled t parents m row is =
     ∙ parent_ended_more t.rows (settled t).rows from.0.parent (extends_settled t t.rows) (parents m from.0 from.1)
 
 parents_changed : (t u : Table) → Onward t u → (IsMove t u) ⊎ (IsClosing t u) → Parents t.rows → Parents u.rows
-parents_changed t u on (inl m) parents =
-    let P : List Row → Type 0 = λ rows. Parents rows in
-    let Q : List Row → Type 0 = λ rows. Extends t.rows rows in
-    subst P (sym m.rows) (parents_moved t.rows m.fresh m.n m.row m.state m.there (subst Q m.rows on.rows) m.below parents)
-parents_changed t u on (inr c) parents = let P : List Row → Type 0 = λ rows. Parents rows in subst P (sym c.rows) parents
+parents_changed t u on change parents = grind (arith, parents_moved)
 
 pub keeps_series : EventsKeepSeries
 keeps_series t event at h = go (change t event at) refl
@@ -266,38 +222,20 @@ one_group_moved rows fresh n rn s there busy ext below parents waits i j a b is 
 -- ---- what is started
 
 idle_not_trying : (state : State) → is_idle state ≡ true → is_trying state ≡ false
-idle_not_trying Idle e = refl
-idle_not_trying Trying e = absurd cc
-idle_not_trying (Rung b) e = absurd cc
-idle_not_trying (Ended end) e = absurd cc
+idle_not_trying state e = grind arith
 
 -- a row that settling starts was open to start, in an open table
 started_by_settling : (state : State) (kind : Kind) (closed start : Bool) → is_trying state ≡ false
     → is_trying (cond closed (closed_state kind state) (cond start Trying state)) ≡ true → (closed ≡ false) × (start ≡ true)
-started_by_settling Idle kind true start not_yet now = absurd cc
-started_by_settling Trying kind true start not_yet now = absurd cc
-started_by_settling (Rung b) kind true start not_yet now = absurd cc
-started_by_settling (Ended end) kind true start not_yet now = absurd cc
-started_by_settling state kind false true not_yet now = (refl, refl)
-started_by_settling state kind false false not_yet now = absurd (differ now not_yet)
+started_by_settling state kind closed start not_yet now = grind arith
 
 -- a row that is tried after the change was tried before it
 pub tried_before : (t u : Table) → (IsMove t u) ⊎ (IsClosing t u) → (n : ℕ) (row : Row) → slice_get u.rows n ≡ Some row
     → is_row is_trying (slice_get t.rows n) ≡ false → is_trying row.state ≡ false
-tried_before t u (inr c) n row is not_yet =
-    let there : slice_get t.rows n ≡ Some row = ap (λ (rows : List Row). slice_get rows n) (sym c.rows) ∙ is in
-    ap (is_row is_trying) (sym there) ∙ not_yet
-tried_before t u (inl m) n row is not_yet =
-    go (found t.rows m.fresh m.n m.state n row (ap (λ (rows : List Row). slice_get rows n) (sym m.rows) ∙ is))
-  where
-    go : Found t.rows m.fresh m.n m.state n row → is_trying row.state ≡ false
-    go (inl h) = ap (is_row is_trying) (sym h) ∙ not_yet
-    go (inr (inl h)) = ap is_trying h.1 ∙ m.not_trying
-    go (inr (inr h)) = idle_not_trying row.state (m.below h.0 row h.1).1
+tried_before t u change n row is not_yet = grind (arith, found, idle_not_trying)
 
 not_true : (b : Bool) → not b ≡ true → b ≡ false
-not_true true e = absurd cc
-not_true false e = refl
+not_true b e = grind arith
 
 -- the row that settling started, as the change left it
 record Begun (t u : Table) (n : ℕ) (row : Row) : Type 0 where
@@ -311,28 +249,13 @@ begun : (t u : Table) → (IsMove t u) ⊎ (IsClosing t u) → (n : ℕ) (row : 
 begun t u change n row started =
     let from = settled_from u u.rows n row started.0 in
     let not_yet : is_row is_trying (slice_get t.rows n) ≡ false = not_true _ (and_right _ _ started.1) in
-    let before : is_trying from.0.state ≡ false = tried_before t u change n from.0 from.1 not_yet in
-    let now : is_trying row.state ≡ true = sym (ap (is_row is_trying) started.0) ∙ and_left _ _ started.1 in
-    let now' : is_trying (settled_state u from.0) ≡ true = ap (λ (r : Row). is_trying r.state) from.2 ∙ now in
-    let why = started_by_settling from.0.state u.kind u.closed (may_start u.rows from.0) before now' in
-    record { was = from.0; there = from.1; same = from.2; still = why.0; may = may_start_facts u.rows from.0 why.1 }
+    grind (arith, common_steps, tried_before t u change n from.0 from.1 not_yet, and_left, started_by_settling, may_start_facts)
 
 pub one_group_changed : (t u : Table) → Onward t u → (IsMove t u) ⊎ (IsClosing t u) → IsInSeries t → u.closed ≡ false → OneGroup u.rows
-one_group_changed t u on (inr c) h still = absurd (differ c.closed still)
-one_group_changed t u on (inl m) h still =
-    let P : List Row → Type 0 = λ rows. OneGroup rows in
-    let Q : List Row → Type 0 = λ rows. Extends t.rows rows in
-    subst P (sym m.rows)
-    (one_group_moved t.rows m.fresh m.n m.row m.state m.there m.not_idle (subst Q m.rows on.rows) m.below h.parents h.none_waits)
+one_group_changed t u on change h still = grind (arith, one_group_moved)
 
 one_group_settled : (t u : Table) → Onward t u → (IsMove t u) ⊎ (IsClosing t u) → IsInSeries t → OneGroupStarts t (settled u)
-one_group_settled t u on change h n m row other one two =
-    let a : Begun t u n row = begun t u change n row one in
-    let b : Begun t u m other = begun t u change m other two in
-    let same = one_group_changed t u on change h a.still n m a.was b.was a.there b.there a.may b.may in (
-      sym (ap (λ (r : Row). r.parent) a.same) ∙ same.0 ∙ ap (λ (r : Row). r.parent) b.same,
-      sym (ap (λ (r : Row). r.group) a.same) ∙ same.1 ∙ ap (λ (r : Row). r.group) b.same,
-    )
+one_group_settled t u on change h n m row other one two = grind (arith, common_steps, begun t u change n row one, begun t u change m other two, one_group_changed)
 
 none_become : (t : Table) (n : ℕ) (row : Row) → IsStarted t t n row → ⊥
 none_become t n row is = differ (and_left _ _ is.1) (not_true _ (and_right _ _ is.1))
@@ -355,58 +278,26 @@ same_group_of : (a b c : Row) → b.parent ≡ c.parent → b.group ≡ c.group 
 same_group_of a b c p g = (λ i. option_eq nat_eq a.parent (p i) && a.group == g i)
 
 goes_before_of : (rows : List Row) (a b c : Row) → b.parent ≡ c.parent → b.group ≡ c.group → goes_before rows a b ≡ goes_before rows a c
-goes_before_of rows a b c p g =
-    (λ i. list_any (λ above. option_eq nat_eq above.parent (p i) && nat_lt above.group (g i)) (line_from (length rows) rows (Some a)))
+goes_before_of rows a b c p g = grind arith
 
 -- a row of the same group may start too
 member_may : (rows : List Row) (m : ℕ) (a b : Row) → slice_get rows m ≡ Some b → MayStart rows a → b.parent ≡ a.parent → b.group ≡ a.group → MayStart rows b
-member_may rows m a b is may p g = record {
-  idle = may.members m b is (same_group_of b a b (sym p) (sym g) ∙ same_group_refl b);
-  members = λ k member at same. may.members k member at (sym (same_group_of member b a p g) ∙ same);
-  parent = ap (parent_ended rows) p ∙ may.parent;
-  before = λ k other at goes. may.before k other at (sym (goes_before_of rows other b a p g) ∙ goes);
-}
+member_may rows m a b is may p g = grind (arith, common_steps, same_group_of b a b (sym p) (sym g), same_group_refl b, goes_before_of)
 
 true_not : (b : Bool) → b ≡ false → not b ≡ true
-true_not true e = absurd cc
-true_not false e = refl
+true_not b e = grind arith
 
 trying_not_idle : (state : State) → is_trying state ≡ true → is_idle state ≡ false
-trying_not_idle Idle e = absurd cc
-trying_not_idle Trying e = refl
-trying_not_idle (Rung b) e = refl
-trying_not_idle (Ended end) e = refl
+trying_not_idle state e = grind arith
 
 -- a row that waits was not tried before
 pub idle_before : (rows later : List Row) (m : ℕ) (b : Row) → Extends rows later → slice_get later m ≡ Some b → is_idle b.state ≡ true
     → is_row is_trying (slice_get rows m) ≡ false
-idle_before rows later m b ext is idle = go (slice_get rows m) refl
-  where
-    of_row : (x new : Row) → slice_get later m ≡ Some new → Goes x new → (now : Bool) → is_trying x.state ≡ now → now ≡ false
-    of_row x new at goes false e = refl
-    of_row x new at goes true e =
-        let same : new ≡ b = cc in
-        absurd (differ idle (ap (λ (r : Row). is_idle r.state) (sym same) ∙ goes.state.started (trying_not_idle x.state e)))
-
-    go : (o : Option Row) → slice_get rows m ≡ o → is_row is_trying (slice_get rows m) ≡ false
-    go None at = ap (is_row is_trying) at
-    go (Some x) at =
-        let new = extends_row rows later ext m x at in
-        ap (is_row is_trying) at ∙ of_row x new.0 new.1 new.2 (is_trying x.state) refl
+idle_before rows later m b ext is idle = grind (arith, common_steps, differ, trying_not_idle, extends_row)
 
 whole_settled : (t u : Table) → Onward t u → (IsMove t u) ⊎ (IsClosing t u) → (n m : ℕ) (row other : Row) → IsStarted t (settled u) n row
     → slice_get (settled u).rows m ≡ Some other → other.parent ≡ row.parent → other.group ≡ row.group → IsStarted t (settled u) m other
-whole_settled t u on change n m row other started is p g =
-    let a : Begun t u n row = begun t u change n row started in
-    let from = settled_from u u.rows m other is in
-    let parents : from.0.parent ≡ a.was.parent = ap (λ (r : Row). r.parent) from.2 ∙ p ∙ sym (ap (λ (r : Row). r.parent) a.same) in
-    let groups : from.0.group ≡ a.was.group = ap (λ (r : Row). r.group) from.2 ∙ g ∙ sym (ap (λ (r : Row). r.group) a.same) in
-    let may : MayStart u.rows from.0 = member_may u.rows m a.was from.0 from.1 a.may parents groups in
-    let tried : settled_state u from.0 ≡ Trying =
-    settled_open u from.0 a.still ∙ ap (λ (b : Bool). cond b Trying from.0.state) (may_start_of u.rows from.0 may) in
-    let now : is_row is_trying (slice_get (settled u).rows m) ≡ true =
-    ap (is_row is_trying) is ∙ sym (ap (λ (r : Row). is_trying r.state) from.2) ∙ ap is_trying tried in
-    (is, and_both _ _ now (true_not _ (idle_before t.rows u.rows m from.0 on.rows from.1 may.idle)))
+whole_settled t u on change n m row other started is p g = grind (arith, common_steps, begun t u change n row started, settled_from, member_may, settled_open, may_start_of, and_both, true_not, idle_before)
 
 pub groups_whole : GroupsStartWhole
 groups_whole t event at n m row other = go (change t event at) refl

@@ -1,7 +1,6 @@
 -- When a row may start, as facts in place of tests; how the lines above two rows meet.
-use Rattle.fork_model.proofs.Common.{◌≡◌, ℕ, zero, suc, ◌<◌, ◌≤◌, Bool, true, false, List, [], ◌∷◌, length, Option, Some, None, refl, ap, arith, ◌∙◌, sym, inl, inr, ◌⊎◌, eqb-true, ltb-true, ltb-false, eq-eqb, slice_get, not, ◌&&◌, ◌||◌}
-use Rattle.fork_model.proofs.Common.{nat_lt, nat_eq, option_eq, list_all, list_any, Row, State, Idle, Trying, Rung, Ended, is_idle, is_ended, parent_row, line_from, same_group, in_earlier_group, goes_before, parent_ended, may_start}
-use Rattle.fork_model.proofs.Common.{IsSameTarget}
+use Rattle.fork_model.proofs.Common.{◌≡◌, ℕ, zero, suc, ◌<◌, ◌≤◌, Bool, true, false, List, [], ◌∷◌, length, Option, Some, None, refl, ap, arith, ◌∙◌, sym, inl, inr, ◌⊎◌, eq-eqb, slice_get, not, ◌&&◌, ◌||◌, nat_eq, option_eq, list_all, list_any, Row}
+use Rattle.fork_model.proofs.Common.{State, is_idle, is_ended, parent_row, line_from, same_group, in_earlier_group, goes_before, parent_ended, may_start, IsSameTarget, common_steps}
 use Rattle.std.proofs.Common.{lt-ltb}
 use Rattle.fork_model.proofs.laws.StepLemmas.{and_left, and_right, Extends, extends_same, extends_row}
 
@@ -32,28 +31,18 @@ all_fails {X} p (x ∷ xs) e = go (p x) refl e (λ h. all_fails p xs h)
     go true is e rest = let later = rest e in (suc later.0, later.1, later.2, later.3)
 
 implied : (a b : Bool) → (not a || b) ≡ true → a ≡ true → b ≡ true
-implied true b e h = e
-implied false b e h = absurd cc
+implied a b e h = grind arith
 
 implies : (a b : Bool) → (a ≡ true → b ≡ true) → (not a || b) ≡ true
-implies true b h = h refl
-implies false b h = refl
-
-not_implied : (a b : Bool) → (not a || b) ≡ false → (a ≡ true) × (b ≡ false)
-not_implied true b e = (refl, e)
-not_implied false b e = absurd cc
+implies a b h = grind arith
 
 -- ---- groups
 
 pub option_same : (a b : Option ℕ) → option_eq nat_eq a b ≡ true → a ≡ b
-option_same None None e = refl
-option_same None (Some y) e = absurd cc
-option_same (Some x) None e = absurd cc
-option_same (Some x) (Some y) e = ap (λ (n : ℕ). Some n) (eqb-true x y e)
+option_same a b e = grind arith
 
 option_refl : (a : Option ℕ) → option_eq nat_eq a a ≡ true
-option_refl None = refl
-option_refl (Some x) = eq-eqb x x refl
+option_refl a = grind arith
 
 option_eq_of : (a b : Option ℕ) → a ≡ b → option_eq nat_eq a b ≡ true
 option_eq_of a b e = ap (option_eq nat_eq a) (sym e) ∙ option_refl a
@@ -68,10 +57,7 @@ pub is_earlier : (a b : Row) → a.parent ≡ b.parent → a.group < b.group →
 is_earlier a b same less = and_both _ _ (option_eq_of a.parent b.parent same) (lt-ltb a.group b.group less)
 
 earlier_of_same : (r s a : Row) → IsSameTarget r s → in_earlier_group r a ≡ true → in_earlier_group s a ≡ true
-earlier_of_same r s a same e =
-    let parents : option_eq nat_eq s.parent a.parent ≡ option_eq nat_eq r.parent a.parent = ap (λ (p : Option ℕ). option_eq nat_eq p a.parent) same.parent in
-    let groups : nat_lt s.group a.group ≡ nat_lt r.group a.group = ap (λ (g : ℕ). nat_lt g a.group) same.group in
-    and_both _ _ (parents ∙ and_left _ _ e) (groups ∙ and_right _ _ e)
+earlier_of_same r s a same e = grind arith
 
 -- ---- what a row waits for
 
@@ -82,21 +68,10 @@ pub record MayStart (rows : List Row) (row : Row) : Type 0 where
   pub before : (m : ℕ) (other : Row) → slice_get rows m ≡ Some other → goes_before rows other row ≡ true → is_ended other.state ≡ true
 
 pub may_start_facts : (rows : List Row) (row : Row) → may_start rows row ≡ true → MayStart rows row
-may_start_facts rows row e = record {
-  idle = and_left _ _ (and_left _ _ (and_left _ _ e));
-  members = λ m member is same.
-      implied _ _ (all_at (λ member. not (same_group member row) || is_idle member.state) rows (and_right _ _ (and_left _ _ (and_left _ _ e))) m member is) same;
-  parent = and_right _ _ (and_left _ _ e);
-  before = λ m other is goes.
-      implied _ _ (all_at (λ other. not (goes_before rows other row) || is_ended other.state) rows (and_right _ _ e) m other is) goes;
-}
+may_start_facts rows row e = grind (arith, common_steps, and_left, implied, all_at, and_right)
 
 pub may_start_of : (rows : List Row) (row : Row) → MayStart rows row → may_start rows row ≡ true
-may_start_of rows row h =
-    and_both _ _ (and_both _ _ (and_both _ _ h.idle
-    (all_from (λ member. not (same_group member row) || is_idle member.state) rows (λ m member is. implies _ _ (h.members m member is))))
-    h.parent)
-    (all_from (λ other. not (goes_before rows other row) || is_ended other.state) rows (λ m other is. implies _ _ (h.before m other is)))
+may_start_of rows row h = grind (arith, all_from)
 
 -- a row goes before it that has not ended
 abbrev pub WaitsFor : List Row → Row → Type 0
@@ -107,21 +82,10 @@ WaitsFor rows row =
 pub waits_for : (rows : List Row) (row : Row) → is_idle row.state ≡ true
     → ((m : ℕ) (member : Row) → slice_get rows m ≡ Some member → same_group member row ≡ true → is_idle member.state ≡ true)
     → parent_ended rows row.parent ≡ true → may_start rows row ≡ false → WaitsFor rows row
-waits_for rows row idle members parent e =
-    let ready : (is_idle row.state && list_all (λ member. not (same_group member row) || is_idle member.state) rows && parent_ended rows row.parent) ≡ true =
-    and_both _ _ (and_both _ _ idle (all_from (λ member. not (same_group member row) || is_idle member.state) rows (λ m member is. implies _ _ (members m member is)))) parent in
-    let fails : list_all (λ other. not (goes_before rows other row) || is_ended other.state) rows ≡ false =
-    sym (ap (λ (b : Bool). b && list_all (λ other. not (goes_before rows other row) || is_ended other.state) rows) ready) ∙ e in
-    found (all_fails (λ other. not (goes_before rows other row) || is_ended other.state) rows fails)
-  where
-    found : Failing (λ (other : Row). not (goes_before rows other row) || is_ended other.state) rows → WaitsFor rows row
-    found f = let split = not_implied _ _ f.3 in (f.0, f.1, f.2, split.0, split.1)
+waits_for rows row idle members parent e = grind (arith, all_from, implies, all_fails)
 
 pub idle_not_ended : (state : State) → is_idle state ≡ true → is_ended state ≡ true → ⊥
-idle_not_ended Idle i e = cc
-idle_not_ended Trying i e = cc
-idle_not_ended (Rung b) i e = cc
-idle_not_ended (Ended end) i e = cc
+idle_not_ended state i e = grind arith
 
 -- ---- lines
 
@@ -130,15 +94,13 @@ abbrev pub Passes : List Row → Row → Type 0
 Passes line a = list_any (λ above. in_earlier_group above a) line ≡ true
 
 pub or_cases : (a b : Bool) → (a || b) ≡ true → (a ≡ true) ⊎ (b ≡ true)
-or_cases true b e = inl refl
-or_cases false b e = inr e
+or_cases a b e = grind arith
 
 or_left : (a b : Bool) → a ≡ true → (a || b) ≡ true
 or_left a b e = ap (λ (x : Bool). x || b) e
 
 pub or_right : (a b : Bool) → b ≡ true → (a || b) ≡ true
-or_right true b e = refl
-or_right false b e = e
+or_right a b e = grind arith
 
 -- with more steps and more rows a line is longer
 pub line_more : (k l : ℕ) (rows later : List Row) (a r s : Row) → k ≤ l → Extends rows later → IsSameTarget r s
@@ -167,9 +129,7 @@ line_more (suc k) (suc l) rows later a r s le ext same is =
     up (Some p) h rest = at p (slice_get rows p) refl h rest
 
 pub line_fuel : (k l : ℕ) (rows : List Row) (a : Row) (o : Option Row) → k ≤ l → Passes (line_from k rows o) a → Passes (line_from l rows o) a
-line_fuel k l rows a None le is = absurd cc
-line_fuel k l rows a (Some r) le is =
-    line_more k l rows rows a r r le (extends_same rows) (record { key = refl; q = refl; place = refl; parent = refl; group = refl }) is
+line_fuel k l rows a o le is = grind (arith, line_more, extends_same)
 
 -- the line above the row passes the other's
 abbrev pub AbovePasses : ℕ → List Row → Row → Row → Type 0
@@ -205,12 +165,10 @@ has_rows [] m a is = absurd cc
 has_rows (x ∷ rows) m a is = (length rows, refl)
 
 goes_by_above : (rows : List Row) (l : ℕ) (a b : Row) → length rows ≡ suc l → AbovePasses l rows a b → goes_before rows a b ≡ true
-goes_by_above rows l a b len h =
-    ap (λ (k : ℕ). list_any (λ above. in_earlier_group above b) (line_from k rows (Some a))) len ∙ or_right _ _ h
+goes_by_above rows l a b len h = grind arith
 
 pub goes_by_group : (rows : List Row) (l : ℕ) (a b : Row) → length rows ≡ suc l → in_earlier_group a b ≡ true → goes_before rows a b ≡ true
-goes_by_group rows l a b len h =
-    ap (λ (k : ℕ). list_any (λ above. in_earlier_group above b) (line_from k rows (Some a))) len ∙ or_left _ _ h
+goes_by_group rows l a b len h = grind arith
 
 -- of two that may start neither goes before the other
 pub not_before : (rows : List Row) (m : ℕ) (a b : Row) → slice_get rows m ≡ Some a → MayStart rows a → MayStart rows b → goes_before rows a b ≡ true → ⊥
@@ -223,16 +181,7 @@ not_above rows l m a b len is f g h = not_before rows m a b is f g (goes_by_abov
 -- under one parent they stand in one group
 pub one_group : (rows : List Row) (i j : ℕ) (a b : Row) → slice_get rows i ≡ Some a → slice_get rows j ≡ Some b
     → MayStart rows a → MayStart rows b → a.parent ≡ b.parent → a.group ≡ b.group
-one_group rows i j a b is also f g same =
-    let len = has_rows rows i a is in
-    go len.0 len.1 (nat_lt a.group b.group) (nat_lt b.group a.group) refl refl
-  where
-    go : (l : ℕ) → length rows ≡ suc l → (x y : Bool) → nat_lt a.group b.group ≡ x → nat_lt b.group a.group ≡ y → a.group ≡ b.group
-    go l len true y e h =
-        absurd (not_before rows i a b is f g (goes_by_group rows l a b len (is_earlier a b same (ltb-true a.group b.group e))))
-    go l len false true e h =
-        absurd (not_before rows j b a also g f (goes_by_group rows l b a len (is_earlier b a (sym same) (ltb-true b.group a.group h))))
-    go l len false false e h = omega (arith, ltb-false a.group b.group e, ltb-false b.group a.group h)
+one_group rows i j a b is also f g same = grind (arith, common_steps, not_before)
 
 -- where one line passes both, they stand under one parent
 pub one_parent : (rows : List Row) (k i j : ℕ) (a b : Row) (o : Option Row) → k ≤ length rows → slice_get rows i ≡ Some a → slice_get rows j ≡ Some b

@@ -1,4 +1,4 @@
-use Rattle.std.proofs.Common.{refl}
+use Rattle.fork_model.proofs.Common.{refl}
 use Rattle.fork_model.specs.Rank.{rank_of}
 use Rattle.fork_model.specs.Worked.{preferred_status_first, operators_preferred_first, earliest_of_equals, unavailable_last, unavailable_alone, asked_twice}
 use Rattle.fork_model.proofs.Scripts.{goes}

@@ -1,6 +1,7 @@
-use Rattle.std.proofs.Common.{refl}
+use Rattle.fork_model.proofs.Common.{refl}
 use Rattle.fork_model.specs.Rank.{rank_of}
-use Rattle.fork_model.specs.Worked.{decline_waits_for_branches, success_after_decline, each_success_of_invite, first_success_of_other, provisional_until_success, cancelled_and_silent, ring_after_cancel, timer_ends_silent_branch, timer_cancels_rung_branch}
+use Rattle.fork_model.specs.Worked.{decline_waits_for_branches, success_after_decline, each_success_of_invite, first_success_of_other, provisional_until_success, cancelled_and_silent, ring_after_cancel, timer_ends_silent_branch}
+use Rattle.fork_model.specs.Worked.{timer_cancels_rung_branch}
 use Rattle.fork_model.proofs.Scripts.{goes}
 use Rattle.fork_model.proofs.worked.worked_closings.Goals as goal
 

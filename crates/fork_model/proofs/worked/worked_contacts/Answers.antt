@@ -1,4 +1,4 @@
-use Rattle.std.proofs.Common.{refl}
+use Rattle.fork_model.proofs.Common.{refl}
 use Rattle.fork_model.specs.Rank.{rank_of}
 use Rattle.fork_model.specs.Worked.{contacts_are_tried, contact_left_to_caller, contact_known_already, redirection_without_contact, no_contact_at_depth_zero, one_step_at_depth_one}
 use Rattle.fork_model.proofs.Scripts.{goes}

@@ -1,4 +1,4 @@
-use Rattle.std.proofs.Common.{refl}
+use Rattle.fork_model.proofs.Common.{refl}
 use Rattle.fork_model.specs.Rank.{rank_of}
 use Rattle.fork_model.specs.Worked.{lower_q_waits, lower_q_never_tried, contacts_before_lower_q}
 use Rattle.fork_model.proofs.Scripts.{goes}

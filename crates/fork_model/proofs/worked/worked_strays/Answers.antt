@@ -1,4 +1,4 @@
-use Rattle.std.proofs.Common.{refl}
+use Rattle.fork_model.proofs.Common.{refl}
 use Rattle.fork_model.specs.Rank.{rank_of}
 use Rattle.fork_model.specs.Worked.{strays_take_positions}
 use Rattle.fork_model.proofs.Scripts.{goes}
