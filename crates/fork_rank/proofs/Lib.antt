@@ -1,3 +1,4 @@
+mod Common
 pub mod FallingValues
 pub mod Grouped
 pub mod Members

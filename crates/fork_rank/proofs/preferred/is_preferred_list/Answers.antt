@@ -1,4 +1,4 @@
-use Rattle.std.proofs.Common.{rules}
+use Rattle.fork_rank.proofs.Common.{rules}
 use Rattle.fork_rank.proofs.preferred.is_preferred_list.Goals as goal
 
 pub returns-then-are_client_errors : goal.returns-then-are_client_errors

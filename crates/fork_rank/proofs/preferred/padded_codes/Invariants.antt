@@ -1,4 +1,4 @@
-use Rattle.std.proofs.Common.{◌≡◌, ◌-◌, ◌++◌, take}
+use Rattle.fork_rank.proofs.Common.{◌≡◌, ◌-◌, ◌++◌, take}
 use Rattle.std.specs.Prelude.{replicate}
 use Rattle.fork_rank.specs.Preferred.{most_preferred}
 use Rattle.fork_rank.proofs.preferred.padded_codes.Given as goal

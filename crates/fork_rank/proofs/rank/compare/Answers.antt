@@ -1,4 +1,4 @@
-use Rattle.std.proofs.Common.{rules}
+use Rattle.fork_rank.proofs.Common.{rules}
 use Rattle.fork_rank.proofs.rank.compare.Goals as goal
 
 pub returns-clause-less : goal.returns-clause-less

@@ -1,4 +1,4 @@
-use Rattle.std.proofs.Common.{rules}
+use Rattle.fork_rank.proofs.Common.{rules}
 use Rattle.fork_rank.proofs.challenge.Challenge.value.Goals as goal
 
 pub returns : goal.returns

@@ -1,4 +1,4 @@
-use Rattle.std.proofs.Common.{rules}
+use Rattle.fork_rank.proofs.Common.{rules}
 use Rattle.fork_rank.proofs.ring_status.RingStatus.code.Goals as goal
 
 pub returns-clause-value : goal.returns-clause-value

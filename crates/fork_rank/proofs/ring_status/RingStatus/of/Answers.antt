@@ -1,4 +1,4 @@
-use Rattle.std.proofs.Common.{rules}
+use Rattle.fork_rank.proofs.Common.{rules}
 use Rattle.fork_rank.proofs.ring_status.RingStatus.of.Goals as goal
 
 pub returns-then-code-lt200-clause-valid : goal.returns-then-code-lt200-clause-valid

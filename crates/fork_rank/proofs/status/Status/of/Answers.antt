@@ -1,4 +1,4 @@
-use Rattle.std.proofs.Common.{rules}
+use Rattle.fork_rank.proofs.Common.{rules}
 use Rattle.fork_rank.proofs.status.Status.of.Goals as goal
 
 pub returns-else-code-ge200-clause-valid : goal.returns-else-code-ge200-clause-valid
