@@ -1,15 +1,11 @@
 -- Up to the first mark, quote or opening bracket each byte is plain text.
-use Rattle.sip_lex.proofs.Common.{◌≡◌, ℕ, suc, ◌+◌, false, not, cond, eqb, List, [], ◌∷◌, drop, refl, sym, ap, ◌∙◌, arith, inl, inr, ◌&&◌, cases_Bool, cond-false, is_byte3, Shelter, Plain, Quoted, Angled, place_after, outside_len}
+use Rattle.sip_lex.proofs.Common.{◌≡◌, ℕ, suc, ◌+◌, false, not, cond, eqb, List, [], ◌∷◌, drop, refl, sym, ap, ◌∙◌, arith, inl, inr, cases_Bool, cond-false, is_byte3, Shelter, Plain, place_after, outside_len, position_or_len}
 use Rattle.std.specs.Prelude.{◌||◌}
-use Rattle.std.specs.List.{position_or_len}
 use Rattle.std.proofs.lemmas.Bool.{or_parts}
-use Rattle.sip_lex.specs.Sheltered.{has_angles}
 
 -- such a byte leaves the text behind it plain
 stays_plain : (shelter : Shelter) (b : ℕ) → eqb b 34 ≡ false → eqb b 60 ≡ false → place_after shelter Plain b ≡ Plain
-stays_plain shelter b quote angle =
-    cond-false (eqb b 34) Quoted (cond (eqb b 60 && has_angles shelter) Angled Plain) quote
-    ∙ ap (λ t. cond (t && has_angles shelter) Angled Plain) angle
+stays_plain shelter b quote angle = grind arith
 
 -- the first mark outside is looked for behind the bare front alone
 pub bare_front : (shelter : Shelter) (mark : ℕ) (bs : List ℕ) → position_or_len (is_byte3 mark 34 60) bs + outside_len shelter mark Plain (drop (position_or_len (is_byte3 mark 34 60) bs) bs) ≡ outside_len shelter mark Plain bs

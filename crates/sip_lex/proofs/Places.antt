@@ -1,8 +1,6 @@
 -- What memchr says of a place, in the words of std
-use Rattle.std.proofs.Common.{◌≡◌, ℕ, Bool, cond, ltb, List, length, Option, Some, None, sym, ap, ◌∙◌, arith}
-use Rattle.std.specs.List.{position_or_len, position}
+use Rattle.sip_lex.proofs.Common.{◌≡◌, ℕ, Bool, List, length, Option, Some, None, arith, position_or_len, position, false_from_ne_true}
 use Rattle.std.specs.Option.{unwrap_or}
-use Rattle.std.proofs.lemmas.Bool.{false_from_ne_true, lt-ltb, le-ltb}
 use Rattle.std.proofs.lemmas.List.Sums.{position_or_len_is}
 use Rattle.memchr.specs.Find.{IsFirstByte}
 
@@ -15,13 +13,7 @@ pub first_passes : (p : ℕ → Bool) (bs : List ℕ) (k : ℕ) → IsFirstByte 
 first_passes p bs k h = position_or_len_is p bs k 0 (omega (arith, h.0.high)) (λ i lt. false_from_ne_true _ (h.0.before i (omega arith) lt)) (λ lt. h.1)
 
 pub place_is : (p : ℕ → Bool) (bs : List ℕ) (r : Option ℕ) → IsFirstByte p bs r → r ≡ position p bs
-place_is p bs None h =
-    let at = none_passes p bs h in
-    sym (ap (λ n. cond (ltb n (length bs)) (Some n) None) at ∙ ap (λ t. cond t (Some (length bs)) None) (le-ltb (length bs) (length bs) (omega arith)))
-place_is p bs (Some k) h =
-    let at = first_passes p bs k h in
-    sym (ap (λ n. cond (ltb n (length bs)) (Some n) None) at ∙ ap (λ t. cond t (Some k) None) (lt-ltb k (length bs) h.0.high))
+place_is p bs r h = grind (arith, none_passes, first_passes)
 
 pub place_or : (p : ℕ → Bool) (bs : List ℕ) (r : Option ℕ) → IsFirstByte p bs r → unwrap_or r (length bs) ≡ position_or_len p bs
-place_or p bs None h = sym (none_passes p bs h)
-place_or p bs (Some k) h = sym (first_passes p bs k h)
+place_or p bs r h = grind (arith, none_passes, first_passes)

@@ -1,8 +1,7 @@
 -- Cutting at the first mark.
-use Rattle.std.proofs.Common.{◌≡◌, ℕ, suc, ◌+◌, Bool, true, false, not, cond, ltb, eqb, List, [], ◌∷◌, ◌++◌, length, take, drop, Option, Some, None, refl, sym, ap, ◌∙◌, arith, inl, inr}
-use Rattle.std.specs.List.{position_or_len, position, list_all}
-use Rattle.std.proofs.lemmas.Bool.{eqb-true, eqb-false, cases_lt, le-ltb, lt-ltb, cond_both, cond-true, cond-false, eq-eqb, ne_eqb, and_parts, false≢true}
-use Rattle.sip_lex.specs.Cut.{cut, is, behind, Lacks}
+use Rattle.sip_lex.proofs.Common.{◌≡◌, ℕ, ◌+◌, Bool, true, false, cond, ltb, List, [], ◌∷◌, ◌++◌, length, take, drop, Option, Some, None, refl, sym, ap, ◌∙◌, arith, position, list_all, lt-ltb, cond-true, cond-false, eq-eqb, and_parts, false≢true}
+use Rattle.sip_lex.proofs.Common.{cut, is, behind, Lacks, common_steps}
+use Rattle.std.proofs.lemmas.Bool.{ne_eqb}
 
 abbrev Cut : Type 0
 Cut = List ℕ × Option (List ℕ)
@@ -16,46 +15,24 @@ abbrev at_place : ℕ → List ℕ → Cut
 at_place n bs = cut_at (cond (ltb n (length bs)) (Some n) None) bs
 
 next : (p : ℕ → Bool) (b : ℕ) (bs : List ℕ) (n : ℕ) → cut p bs ≡ at_place n bs → (b ∷ (cut p bs).0, (cut p bs).1) ≡ at_place (1 + n) (b ∷ bs)
-next p b bs n h =
-    elim (cases_lt n (length bs)) [
-      | inl lt ↦
-          let here : cut p bs ≡ (take n bs, Some (drop (n + 1) bs)) = h ∙ ap (λ t. cut_at (cond t (Some n) None) bs) (lt-ltb _ _ lt) in
-          let there : at_place (1 + n) (b ∷ bs) ≡ cut_at (Some (1 + n)) (b ∷ bs) = ap (λ t. cut_at (cond t (Some (1 + n)) None) (b ∷ bs)) (lt-ltb _ _ (omega arith)) in
-          let front : take (1 + n) (b ∷ bs) ≡ b ∷ take n bs = ap (λ k. take k (b ∷ bs)) (let e : 1 + n ≡ suc n = omega arith in e) in
-          let back : drop (1 + n + 1) (b ∷ bs) ≡ drop (n + 1) bs = ap (λ k. drop k (b ∷ bs)) (let e : 1 + n + 1 ≡ suc (n + 1) = omega arith in e) in
-          ap (λ (r : Cut). (b ∷ r.0, r.1)) here ∙ sym (there ∙ rw (front, back) refl)
-      | inr le ↦
-          let here : cut p bs ≡ (bs, None) = h ∙ ap (λ t. cut_at (cond t (Some n) None) bs) (le-ltb _ _ le) in
-          let there : at_place (1 + n) (b ∷ bs) ≡ (b ∷ bs, None) = ap (λ t. cut_at (cond t (Some (1 + n)) None) (b ∷ bs)) (le-ltb _ _ (omega arith)) in
-          ap (λ (r : Cut). (b ∷ r.0, r.1)) here ∙ sym there
-    ]
+next p b bs n h = grind arith
 
 first : (b : ℕ) (bs : List ℕ) → ([], Some bs) ≡ at_place 0 (b ∷ bs)
 first b bs = sym (ap (λ t. cut_at (cond t (Some 0) None) (b ∷ bs)) (lt-ltb 0 (length (b ∷ bs)) (omega arith)))
 
 pub cut-position : (p : ℕ → Bool) (bs : List ℕ) → cut p bs ≡ cut_at (position p bs) bs
 cut-position p [] = refl
-cut-position p (b ∷ bs) =
-    elim (p b) as (λ t. cond {A = Cut} t ([], Some bs) (b ∷ (cut p bs).0, (cut p bs).1) ≡ at_place (cond (not t) (1 + position_or_len p bs) 0) (b ∷ bs)) [
-      | true ↦ first b bs
-      | false ↦ next p b bs (position_or_len p bs) (cut-position p bs)
-    ]
+cut-position p (b ∷ bs) = grind (arith, common_steps, cut-position p bs)
 
 -- the parts, with the mark between them, are the whole
 pub cut_joins : (mark : ℕ) (bs : List ℕ) → bs ≡ (cut (is mark) bs).0 ++ behind mark (cut (is mark) bs).1
 cut_joins mark [] = refl
-cut_joins mark (b ∷ bs) =
-    cond_both (eqb b mark) ([], Some bs) (b ∷ (cut (is mark) bs).0, (cut (is mark) bs).1) (λ (r : Cut). b ∷ bs ≡ r.0 ++ behind mark r.1)
-    (λ e. ap (λ c. c ∷ bs) (eqb-true _ _ e))
-    (λ e. ap (λ (cs : List ℕ). b ∷ cs) (cut_joins mark bs))
+cut_joins mark (b ∷ bs) = grind (arith, cut_joins mark bs)
 
 -- the front lacks the mark
 pub cut_lacks : (mark : ℕ) (bs : List ℕ) → Lacks mark (cut (is mark) bs).0
 cut_lacks mark [] = tt
-cut_lacks mark (b ∷ bs) =
-    cond_both (eqb b mark) ([], Some bs) (b ∷ (cut (is mark) bs).0, (cut (is mark) bs).1) (λ (r : Cut). Lacks mark r.0)
-    (λ e. tt)
-    (λ e. (eqb-false _ _ e, cut_lacks mark bs))
+cut_lacks mark (b ∷ bs) = grind (arith, cut_lacks mark bs)
 
 -- what was joined is cut so
 pub cut_again : (mark : ℕ) (front : List ℕ) (back : Option (List ℕ)) → Lacks mark front → cut (is mark) (front ++ behind mark back) ≡ (front, back)

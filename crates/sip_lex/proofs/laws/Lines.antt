@@ -1,5 +1,5 @@
 -- The line at the front of a text, by the whole text.
-use Rattle.sip_lex.proofs.Common.{◌≡◌, ℕ, List, [], ◌∷◌, ◌++◌, Option, Some, None, refl, sym, ap, subst, ◌∙◌, IfSome, IfNone, Bor, eqb-false, cut, is, behind, Lacks, seen_line}
+use Rattle.sip_lex.proofs.Common.{◌≡◌, ℕ, List, [], ◌∷◌, ◌++◌, Option, Some, None, refl, sym, ap, subst, ◌∙◌, IfSome, IfNone, Bor, eqb-false, cut, is, behind, Lacks, seen_line, arith}
 use Rattle.std.proofs.Common.{append_assoc}
 use Rattle.sip_lex.specs.Line.{IsLine, ended, line_at, line_at_cut, line_of_cut, with_rest}
 use Rattle.sip_lex.proofs.laws.Cuts.{cut_joins, cut_lacks, cut_again, Lacks-front, Lacks-append}
@@ -46,9 +46,7 @@ line_at-again line rest h =
     ap line_at regrouped ∙ ap line_at_cut (cut_again 10 (line ++ 13 ∷ []) (Some rest) (Lacks-append 10 line (13 ∷ []) h.no_lf (eqb-false 13 10 refl, tt))) ∙ ap (λ c. with_rest (line_of_cut c) rest) (cut_again 13 line (Some []) h.no_cr)
 
 pub is_found : (text : List ℕ) (r : Option (Bor (List ℕ) × Bor (List ℕ))) → seen_line r ≡ line_at text → IfSome r (λ p. IsLine p.0.now × (text ≡ ended p.0.now ++ p.1.now))
-is_found text None e = tt
-is_found text (Some p) e = let t = line_at-takes text p.0.now p.1.now (sym e) in (t.is_line, t.whole)
+is_found text r e = grind (arith, line_at-takes)
 
 pub is_none : (text : List ℕ) (r : Option (Bor (List ℕ) × Bor (List ℕ))) → seen_line r ≡ line_at text → IfNone r ((line rest : List ℕ) → IsLine line → text ≡ ended line ++ rest → ⊥)
-is_none text (Some p) e = tt
-is_none text None e = λ line rest is_line whole. let both = e ∙ ap line_at whole ∙ line_at-again line rest is_line in cc
+is_none text r e = grind (arith, line_at-again)

@@ -1,15 +1,14 @@
 -- A number is read exactly where it is the decimal spelling of a number within the limit.
-use Rattle.std.proofs.Common.{◌≡◌, ℕ, zero, suc, ◌^◌, ◌<◌, ◌≤◌, Bool, true, false, cond, eqb, List, [], ◌∷◌, length, get_or, fold, Option, Some, None, refl, sym, ap, ◌∙◌, arith, rules, inl, inr}
+use Rattle.sip_lex.proofs.Common.{◌≡◌, ℕ, zero, suc, ◌^◌, ◌<◌, ◌≤◌, Bool, true, false, cond, List, length, get_or, fold, Option, Some, None, sym, ap, ◌∙◌, arith, list_all, and_parts, lt-ltb, Lacks, with_digit, number}
+use Rattle.std.proofs.Common.{rules}
 use Rattle.std.specs.Prelude.{◌&&◌, nat_lt, nat_le}
 use Rattle.std.specs.Char.{is_ascii_digit}
-use Rattle.std.specs.List.{list_all}
 use Rattle.std.specs.Fmt.{decimal}
-use Rattle.std.proofs.lemmas.Bool.{and_parts, and_from, eqb-true, eq-eqb, ltb-true, leb-true, lt-ltb, le-leb, cases_lt, false≢true, false_from_ne_true}
+use Rattle.std.proofs.lemmas.Bool.{and_from, ltb-true, leb-true}
 use Rattle.std.proofs.lemmas.Option.{cond_some}
 use Rattle.std.proofs.lemmas.Str.Parse.{IsNumeralModel, IsDigitsTest, FoldsDigits, numerals_by_fold}
 use Rattle.std.proofs.lemmas.Fmt.{decimal_digit, first_decimal, digits_decimal, digits_value-decimal, decimal-digits_value, decimal_nonempty}
-use Rattle.sip_lex.specs.Cut.{Lacks}
-use Rattle.sip_lex.specs.Number.{with_digit, number, is_number, number_within, begins_with_zero, plain_number_within}
+use Rattle.sip_lex.specs.Number.{is_number, number_within, begins_with_zero, plain_number_within}
 use Rattle.sip_lex.proofs.laws.Cuts.{Lacks-pass}
 
 digits_test : IsDigitsTest (λ ds. list_all is_ascii_digit ds ≡ true)
@@ -30,22 +29,14 @@ is_number-decimal : (n : ℕ) → n < 2 ^ 64 → is_number (decimal n) ≡ true
 is_number-decimal n small = and_from _ _ (lt-ltb _ _ (decimal_nonempty n small)) (digits_decimal own n small)
 
 leading : (ds : List ℕ) → nat_lt 1 (length ds) && begins_with_zero ds ≡ true → (1 < length ds) × (get_or ds 0 0 ≡ 48)
-leading [] e = absurd (false≢true e)
-leading (d ∷ ds) e =
-    let parts = and_parts (nat_lt 1 (length (d ∷ ds))) (eqb d 48) e in
-    (ltb-true _ _ parts.0, eqb-true _ _ parts.1)
+leading ds e = grind arith
 
 not_leading : (n : ℕ) → n < 2 ^ 64 → nat_lt 1 (length (decimal n)) && begins_with_zero (decimal n) ≡ false
 not_leading zero small = ap (λ ds. nat_lt 1 (length ds) && begins_with_zero ds) (decimal_digit 0 (omega arith))
-not_leading (suc n) small =
-    let first : 48 < get_or (decimal (suc n)) 0 0 = first_decimal (suc n) (omega arith) small in
-    false_from_ne_true _ (λ e. let h = leading (decimal (suc n)) e in omega arith)
+not_leading (suc n) small = grind (arith, first_decimal, leading)
 
 fits : (limit n : ℕ) → n ≤ limit → n < 2 ^ 64 → number_within limit (decimal n) ≡ Some n
-fits limit n within small =
-    let value : number (decimal n) ≡ n = digits_value-decimal own n small in
-    let test : is_number (decimal n) && nat_le (number (decimal n)) limit ≡ true = and_from _ _ (is_number-decimal n small) (le-leb _ _ (omega arith)) in
-    ap (λ t. cond t (Some (number (decimal n))) None) test ∙ ap Some value
+fits limit n within small = grind (arith, digits_value-decimal, own, is_number-decimal)
 
 pub number_read : (limit n : ℕ) → n ≤ limit → n < 2 ^ 64 → plain_number_within limit (decimal n) ≡ Some n
 number_read limit n within small =
@@ -57,16 +48,10 @@ pub record IsSpelled (limit : ℕ) (ds : List ℕ) (n : ℕ) : Type 0 where
   pub within : n ≤ limit
 
 cond_none : (b : Bool) (r : Option ℕ) (n : ℕ) → cond b None r ≡ Some n → (b ≡ false) × (r ≡ Some n)
-cond_none true r n e = absurd cc
-cond_none false r n e = (refl, e)
+cond_none b r n e = grind arith
 
 zero_alone : (ds : List ℕ) → nat_lt 1 (length ds) && begins_with_zero ds ≡ false → get_or ds 0 0 ≡ 48 → 0 < length ds → length ds ≡ 1
-zero_alone [] e z more = absurd (omega arith)
-zero_alone (d ∷ ds) e z more =
-    elim (cases_lt 1 (length (d ∷ ds))) [
-      | inl lt ↦ absurd (false≢true (sym e ∙ and_from _ _ (lt-ltb 1 (length (d ∷ ds)) lt) (eq-eqb d 48 z)))
-      | inr le ↦ omega arith
-    ]
+zero_alone ds e z more = grind arith
 
 pub number_spelled : (limit : ℕ) (ds : List ℕ) (n : ℕ) → limit < 2 ^ 64 → plain_number_within limit ds ≡ Some n → IsSpelled limit ds n
 number_spelled limit ds n small e =

@@ -1,21 +1,17 @@
 -- Texts without space at their ends.
-use Rattle.std.proofs.Common.{◌≡◌, ℕ, zero, suc, ◌+◌, ◌-◌, ◌<◌, Bool, true, false, eqb, ltb, List, [], ◌∷◌, length, take, drop, get_or, ap, subst, ◌∙◌, arith, inl, inr, reverse, sym, refl, ◌++◌}
+use Rattle.sip_lex.proofs.Common.{◌≡◌, ℕ, zero, suc, ◌+◌, ◌-◌, ◌<◌, Bool, true, false, ltb, List, [], ◌∷◌, length, take, drop, get_or, ap, ◌∙◌, arith, sym, refl, ◌++◌, list_all, suffix_len, and_parts, cases_Bool, cond-false, cond-true, take_all}
+use Rattle.sip_lex.proofs.Common.{take_at, take-append-drop, length-drop, is_space, trim_start, Lacks, common_steps}
+use Rattle.std.proofs.Common.{reverse}
 use Rattle.std.specs.Prelude.{◌&&◌}
-use Rattle.std.specs.List.{list_all, prefix_len, suffix_len}
-use Rattle.std.proofs.lemmas.Bool.{and_parts, cases_Bool, cond-false, cond-true, eqb-true, false_from_ne_true, false≢true, or_cases}
+use Rattle.std.specs.List.{prefix_len}
 use Rattle.std.proofs.lemmas.List.Sums.{suffix_len_is}
-use Rattle.std.proofs.lemmas.List.{take_all, take_at, take-append-drop, length-drop, length-reverse, reverse-append, reverse-reverse}
-use Rattle.sip_lex.specs.Bytes.{is_space, is_token, is_token_byte, trim, trim_end, trim_start}
-use Rattle.sip_lex.specs.Cut.{Lacks}
+use Rattle.std.proofs.lemmas.List.{length-reverse, reverse-append, reverse-reverse}
+use Rattle.sip_lex.specs.Bytes.{is_token, is_token_byte, trim, trim_end}
 use Rattle.sip_lex.proofs.laws.Cuts.{Lacks-pass}
 
 -- a byte of a token is no space
 pub token_byte-space : (b : ℕ) → is_token_byte b ≡ true → is_space b ≡ false
-token_byte-space b h =
-    false_from_ne_true (is_space b) (λ space. elim (or_cases (eqb b 32) (eqb b 9) space) [
-      | inl e ↦ let bad : is_token_byte 32 ≡ true = subst (λ x. is_token_byte x ≡ true) (eqb-true b 32 e) h in absurd (false≢true bad)
-      | inr e ↦ let bad : is_token_byte 9 ≡ true = subst (λ x. is_token_byte x ≡ true) (eqb-true b 9 e) h in absurd (false≢true bad)
-    ])
+token_byte-space b h = grind arith
 
 -- the bytes of a token
 pub token_bytes : (bs : List ℕ) → is_token bs ≡ true → list_all is_token_byte bs ≡ true
@@ -48,14 +44,7 @@ spaces_before [] = refl
 spaces_before (b ∷ bs) =
     let n = prefix_len is_space bs in
     let k : suc n ≡ 1 + n = omega arith in
-    elim (cases_Bool (is_space b)) [
-      | inl space ↦
-          let len : prefix_len is_space (b ∷ bs) ≡ suc n = cond-true _ _ _ space ∙ sym k in
-          ap (λ m. list_all is_space (take m (b ∷ bs))) len ∙ ap (λ t. t && list_all is_space (take n bs)) space ∙ spaces_before bs
-      | inr other ↦
-          let len : prefix_len is_space (b ∷ bs) ≡ 0 = cond-false _ _ _ other in
-          ap (λ m. list_all is_space (take m (b ∷ bs))) len
-    ]
+    grind (arith, common_steps, cases_Bool, cond-true, cond-false, spaces_before bs)
 
 -- what trimming takes from the front
 pub record TrimsStart (bs trimmed : List ℕ) : Type 0 where
@@ -85,15 +74,11 @@ pub trim_end-reverse : (bs : List ℕ) → trim_end bs ≡ reverse (trim_start (
 trim_end-reverse bs =
     let rs = reverse bs in
     let k = prefix_len is_space rs in
-    let whole : bs ≡ reverse (drop k rs) ++ reverse (take k rs) = sym (reverse-reverse bs) ∙ ap reverse (sym (take-append-drop k rs)) ∙ reverse-append (take k rs) (drop k rs) in
-    let len : length (reverse (drop k rs)) ≡ length bs - k = length-reverse (drop k rs) ∙ length-drop k rs ∙ ap (λ n. n - k) (length-reverse bs) in
-    ap (take (length bs - k)) whole ∙ take_at (reverse (drop k rs)) (reverse (take k rs)) (length bs - k) len
+    grind (arith, common_steps, reverse-reverse bs, take-append-drop k rs, reverse-append (take k rs) (drop k rs), length-reverse, length-drop, take_at)
 
 all-append : (p : ℕ → Bool) (xs ys : List ℕ) → list_all p xs ≡ true → list_all p ys ≡ true → list_all p (xs ++ ys) ≡ true
 all-append p [] ys h k = k
-all-append p (x ∷ xs) ys h k =
-    let both = and_parts (p x) (list_all p xs) h in
-    ap (λ t. t && list_all p (xs ++ ys)) both.0 ∙ all-append p xs ys both.1 k
+all-append p (x ∷ xs) ys h k = grind (arith, common_steps)
 
 all-reverse : (p : ℕ → Bool) (bs : List ℕ) → list_all p bs ≡ true → list_all p (reverse bs) ≡ true
 all-reverse p [] h = refl
@@ -107,19 +92,11 @@ pub record TrimsEnd (bs trimmed : List ℕ) : Type 0 where
   pub whole : bs ≡ trimmed ++ gap
 
 pub trim_end-whole : (bs : List ℕ) → TrimsEnd bs (trim_end bs)
-trim_end-whole bs =
-    let t = trim_start-whole (reverse bs) in
-    let whole : bs ≡ reverse (trim_start (reverse bs)) ++ reverse t.gap = sym (reverse-reverse bs) ∙ ap reverse t.whole ∙ reverse-append t.gap (trim_start (reverse bs)) in
-    record { gap = reverse t.gap; spaces = all-reverse is_space t.gap t.spaces; whole = whole ∙ ap (λ (x : List ℕ). x ++ reverse t.gap) (sym (trim_end-reverse bs)) }
+trim_end-whole bs = grind (arith, common_steps, trim_start-whole (reverse bs), reverse-reverse bs, trim_end-reverse bs, reverse-append, all-reverse)
 
 trim_start-passes : (p : ℕ → Bool) → ((b : ℕ) → p b ≡ true → is_space b ≡ false) → (bs : List ℕ) → list_all p bs ≡ true → trim_start bs ≡ bs
-trim_start-passes p other [] h = refl
-trim_start-passes p other (b ∷ bs) h = trim_start-none b bs (other b (and_parts (p b) (list_all p bs) h).0)
+trim_start-passes p other bs h = grind arith
 
 -- space behind bytes that are none is taken away, and nothing else
 pub trim_end-passes : (p : ℕ → Bool) → ((b : ℕ) → p b ≡ true → is_space b ≡ false) → (bs gap : List ℕ) → list_all p bs ≡ true → list_all is_space gap ≡ true → trim_end (bs ++ gap) ≡ bs
-trim_end-passes p other bs gap h spaces =
-    trim_end-reverse (bs ++ gap)
-    ∙ ap (λ (x : List ℕ). reverse (trim_start x)) (reverse-append bs gap)
-    ∙ ap reverse (trim_start-spaces (reverse gap) (reverse bs) (all-reverse is_space gap spaces) ∙ trim_start-passes p other (reverse bs) (all-reverse p bs h))
-    ∙ reverse-reverse bs
+trim_end-passes p other bs gap h spaces = grind (arith, common_steps, trim_end-reverse (bs ++ gap), reverse-append bs gap, trim_start-spaces (reverse gap) (reverse bs) (all-reverse is_space gap spaces), trim_start-passes p other (reverse bs) (all-reverse p bs h), reverse-reverse bs, all-reverse)

@@ -1,4 +1,4 @@
-use Rattle.sip_lex.proofs.Common.{sym, ap, ◌∙◌, take_rest, is_space}
+use Rattle.sip_lex.proofs.Common.{sym, ap, ◌∙◌, is_space, common_steps, arith}
 use Rattle.sip_lex.proofs.laws.Cuts.{cut-position, cut_at}
 use Rattle.sip_lex.proofs.cut.cut_at_space.Goals as goal
 
@@ -6,6 +6,4 @@ pub returns-in-None-clause-value : goal.returns-in-None-clause-value
 returns-in-None-clause-value c = sym (cut-position is_space c.args.text.now ∙ ap (λ i. cut_at i c.args.text.now) (sym c.in-None.ensures.value))
 
 pub returns-in-Some-clause-value : goal.returns-in-Some-clause-value
-returns-in-Some-clause-value c =
-    let e = cut-position is_space c.args.text.now ∙ ap (λ i. cut_at i c.args.text.now) (sym c.in-Some.ensures.value) in
-    rw take_rest (sym e)
+returns-in-Some-clause-value c = grind (arith, common_steps, cut-position)

@@ -1,4 +1,4 @@
-use Rattle.sip_lex.specs.Cut.{is}
+use Rattle.sip_lex.proofs.Common.{is}
 use Rattle.sip_lex.proofs.Places.{place_is}
 use Rattle.sip_lex.proofs.cut.place_of.Goals as goal
 

@@ -1,4 +1,4 @@
-use Rattle.sip_lex.specs.Bytes.{is_space}
+use Rattle.sip_lex.proofs.Common.{is_space}
 use Rattle.sip_lex.proofs.Places.{place_is}
 use Rattle.sip_lex.proofs.cut.place_of_space.Goals as goal
 

@@ -1,6 +1,5 @@
 use Rattle.sip_lex.proofs.Common.{ℕ, List, Option, ◌≡◌, ◌++◌, sym, subst, Plain, behind, LacksOutside}
-use Rattle.sip_lex.proofs.laws.Shelters.{cut_outside_joins, cut_outside_lacks}
-use Rattle.sip_lex.proofs.laws.Shelters.{stands_outside}
+use Rattle.sip_lex.proofs.laws.Shelters.{cut_outside_joins, cut_outside_lacks, stands_outside}
 use Rattle.sip_lex.proofs.sheltered.cut_outside.Goals as goal
 
 pub returns-clause-whole : goal.returns-clause-whole

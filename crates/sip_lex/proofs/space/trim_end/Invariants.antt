@@ -1,5 +1,4 @@
-use Rattle.sip_lex.proofs.Common.{◌≡◌, ◌+◌, ◌-◌, ◌≤◌, length, take, is_space}
-use Rattle.std.specs.List.{suffix_len}
+use Rattle.sip_lex.proofs.Common.{◌≡◌, ◌+◌, ◌-◌, ◌≤◌, length, take, is_space, suffix_len}
 use Rattle.sip_lex.proofs.space.trim_end.Given as goal
 
 abbrev pub invariant-loop-n : goal.invariant-loop-n

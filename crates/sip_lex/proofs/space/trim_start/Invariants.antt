@@ -1,5 +1,4 @@
-use Rattle.std.proofs.Common.{◌≡◌, length}
-use Rattle.sip_lex.specs.Bytes.{trim_start}
+use Rattle.sip_lex.proofs.Common.{◌≡◌, length, trim_start}
 use Rattle.sip_lex.proofs.space.trim_start.Given as goal
 
 abbrev pub invariant-loop-rest : goal.invariant-loop-rest
