@@ -1,6 +1,7 @@
 -- The names that most proofs of this crate cite, passed on from one place. Declares nothing.
 pub use Rattle.std.proofs.Common.{Bool, List, None, Option, Some, [], ap, arith, cond, lit≤, map, min, refl, rules, subst, suc, sym, true, zero, ℕ, ◌+◌, ◌<◌, ◌∙◌, ◌∷◌, ◌≡◌, ◌≤◌}
 pub use Rattle.std.proofs.lemmas.Bool.{cond-false, le-leb, lt-leb}
+pub use Rattle.std.proofs.lemmas.Grind.{common_steps}
 pub use Rattle.sip_txn.specs.InviteClient.{RunsOutByTicks, RunsTimersOf, invite_client}
 pub use Rattle.sip_txn.specs.InviteServer.{invite_server}
 pub use Rattle.sip_txn.specs.Machine.{Table, machine_after, out_of, passes, row_machine, row_out, sends, silent}

@@ -1,4 +1,4 @@
-use Rattle.std.proofs.Common.{rules}
+use Rattle.sip_txn.proofs.Common.{rules}
 use Rattle.sip_txn.proofs.invite_client.listed.Goals as goal
 
 pub returns-in-Calling-Event-Provisional : goal.returns-in-Calling-Event-Provisional

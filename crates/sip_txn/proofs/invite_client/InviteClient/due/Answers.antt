@@ -1,5 +1,5 @@
 -- What is known of the timers in each state gives the laws of ticks and of the end.
-use Rattle.sip_txn.proofs.Common.{◌≡◌, subst, rules, Machine, InviteClientState, Terminated, IsOver, invite_client, RunsOutByTicks}
+use Rattle.sip_txn.proofs.Common.{subst, rules, Machine, InviteClientState, RunsOutByTicks, arith}
 use Rattle.sip_txn.proofs.InviteClientTable.{runs_out, is_over}
 use Rattle.sip_txn.proofs.invite_client.InviteClient.due.Goals as goal
 
@@ -9,9 +9,7 @@ returns-clause-runs_out c =
     subst Law c.self.view_is (runs_out _ _ _ c.self.invariant)
 
 pub returns-clause-over : goal.returns-clause-over
-returns-clause-over c =
-    let Law : Machine InviteClientState → Type 0 = λ m. m.state ≡ Terminated → IsOver invite_client m in
-    subst Law c.self.view_is (is_over _ _ c.self.invariant)
+returns-clause-over c = grind (arith, is_over)
 
 pub returns-clause-value : goal.returns-clause-value
 returns-clause-value c = search rules

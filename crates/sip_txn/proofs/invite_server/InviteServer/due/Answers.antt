@@ -1,6 +1,5 @@
 -- What is known of the timers in each state gives the laws of ticks and of the end.
-use Rattle.sip_txn.proofs.Common.{◌≡◌, subst, rules, Machine, InviteServerState, IsOver, invite_server}
-use Rattle.sip_txn.specs.declared.invite_server.InviteServerState.TheVariants.{Terminated}
+use Rattle.sip_txn.proofs.Common.{subst, rules, Machine, InviteServerState, arith}
 use Rattle.sip_txn.specs.InviteServer.{RunsOutByTicks}
 use Rattle.sip_txn.proofs.InviteServerTable.{runs_out, is_over}
 use Rattle.sip_txn.proofs.invite_server.InviteServer.due.Goals as goal
@@ -11,9 +10,7 @@ returns-clause-runs_out c =
     subst Law c.self.view_is (runs_out _ _ _ c.self.invariant)
 
 pub returns-clause-over : goal.returns-clause-over
-returns-clause-over c =
-    let Law : Machine InviteServerState → Type 0 = λ m. m.state ≡ Terminated → IsOver invite_server m in
-    subst Law c.self.view_is (is_over _ _ c.self.invariant)
+returns-clause-over c = grind (arith, is_over)
 
 pub returns-clause-value : goal.returns-clause-value
 returns-clause-value c = search rules

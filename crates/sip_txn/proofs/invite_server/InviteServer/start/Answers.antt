@@ -1,5 +1,5 @@
 -- The laws of a machine that starts.
-use Rattle.std.proofs.Common.{lit≤}
+use Rattle.sip_txn.proofs.Common.{lit≤}
 use Rattle.sip_txn.proofs.InviteServerTable.{hands_up_one, unacknowledged}
 use Rattle.sip_txn.proofs.invite_server.InviteServer.start.Goals as goal
 

@@ -1,6 +1,5 @@
 -- What is known of the timers in each state gives the laws of ticks and of the end.
-use Rattle.sip_txn.proofs.Common.{◌≡◌, subst, rules, Machine, OtherClientState, IsOver, other_client}
-use Rattle.sip_txn.specs.declared.other_client.OtherClientState.TheVariants.{Terminated}
+use Rattle.sip_txn.proofs.Common.{subst, rules, Machine, OtherClientState, arith}
 use Rattle.sip_txn.specs.OtherClient.{RunsOutByTicks}
 use Rattle.sip_txn.proofs.OtherClientTable.{runs_out, is_over}
 use Rattle.sip_txn.proofs.other_client.OtherClient.due.Goals as goal
@@ -11,9 +10,7 @@ returns-clause-runs_out c =
     subst Law c.self.view_is (runs_out _ _ _ c.self.invariant)
 
 pub returns-clause-over : goal.returns-clause-over
-returns-clause-over c =
-    let Law : Machine OtherClientState → Type 0 = λ m. m.state ≡ Terminated → IsOver other_client m in
-    subst Law c.self.view_is (is_over _ _ c.self.invariant)
+returns-clause-over c = grind (arith, is_over)
 
 pub returns-clause-value : goal.returns-clause-value
 returns-clause-value c = search rules

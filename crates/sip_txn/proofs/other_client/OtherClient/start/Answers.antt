@@ -1,5 +1,5 @@
 -- The laws of a machine that starts.
-use Rattle.std.proofs.Common.{lit≤}
+use Rattle.sip_txn.proofs.Common.{lit≤}
 use Rattle.sip_txn.proofs.OtherClientTable.{hands_up_one, unanswered}
 use Rattle.sip_txn.proofs.other_client.OtherClient.start.Goals as goal
 

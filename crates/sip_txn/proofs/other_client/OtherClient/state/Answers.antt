@@ -1,4 +1,4 @@
-use Rattle.std.proofs.Common.{rules}
+use Rattle.sip_txn.proofs.Common.{rules}
 use Rattle.sip_txn.proofs.other_client.OtherClient.state.Goals as goal
 
 pub returns : goal.returns

@@ -1,6 +1,5 @@
 -- What is known of the timers in each state gives the laws of ticks and of the end.
-use Rattle.sip_txn.proofs.Common.{◌≡◌, subst, Machine, OtherServerState, IsOver, other_server}
-use Rattle.sip_txn.specs.declared.other_server.OtherServerState.TheVariants.{Terminated}
+use Rattle.sip_txn.proofs.Common.{subst, Machine, OtherServerState, arith}
 use Rattle.sip_txn.specs.OtherServer.{RunsOutByTicks}
 use Rattle.sip_txn.proofs.OtherServerTable.{runs_out, is_over}
 use Rattle.sip_txn.proofs.other_server.OtherServer.due.Goals as goal
@@ -11,6 +10,4 @@ returns-clause-runs_out c =
     subst Law c.self.view_is (runs_out _ _ _ c.self.invariant)
 
 pub returns-clause-over : goal.returns-clause-over
-returns-clause-over c =
-    let Law : Machine OtherServerState → Type 0 = λ m. m.state ≡ Terminated → IsOver other_server m in
-    subst Law c.self.view_is (is_over _ _ c.self.invariant)
+returns-clause-over c = grind (arith, is_over)

@@ -1,4 +1,4 @@
-use Rattle.std.proofs.Common.{rules}
+use Rattle.sip_txn.proofs.Common.{rules}
 use Rattle.sip_txn.proofs.timers.Growth.next.Goals as goal
 
 pub returns-in-Doubled : goal.returns-in-Doubled
