@@ -1,11 +1,10 @@
 -- What is spelled in a field is read, and what is read is spelled so.
-use Rattle.fork_text.proofs.Common.{◌≡◌, ℕ, ◌<◌, ◌≤◌, Bool, true, false, cond, List, [], ◌∷◌, ◌++◌, length, Option, Some, None, refl, ap, subst, ◌∙◌, arith, nat_le, bytes_eq, codes, option_and_then, option_map, decimal, leb-true}
-use Rattle.fork_text.proofs.Common.{false_from_ne_true, cond_some, same_Some, bytes_eq-Decides, cut, is, Lacks, plain_number_within, cut_again, cut_joins, number_read, number_spelled, decimal_lacks}
+use Rattle.fork_text.proofs.Common.{◌≡◌, ℕ, ◌<◌, ◌≤◌, Bool, true, false, cond, List, ◌∷◌, ◌++◌, Option, Some, None, refl, ap, subst, ◌∙◌, arith, bytes_eq, codes, option_and_then, option_map, decimal, same_Some, bytes_eq-Decides, cut, is, Lacks}
+use Rattle.fork_text.proofs.Common.{plain_number_within, cut_again, cut_joins, number_read, number_spelled, decimal_lacks, common_steps}
 use Rattle.std.proofs.Common.{◌^◌}
-use Rattle.std.proofs.lemmas.Bool.{le-leb}
 use Rattle.std.proofs.lemmas.Fmt.{decimal_nonempty}
 use Rattle.sip_lex.specs.Cut.{behind}
-use Rattle.fork_text.specs.Field.{before_cut, before, numbered_text, number_before, at_least, number_from}
+use Rattle.fork_text.specs.Field.{before_cut, before, numbered_text, number_before, number_from}
 
 module _ {X : Type 0} where
   -- what was read was made of something
@@ -44,31 +43,14 @@ number_before_read most n text within small =
 pub number_before_found : (most : ℕ) (text : List ℕ) (p : ℕ × List ℕ) → most < 2 ^ 64 → number_before most text ≡ Some p → (text ≡ numbered_text p.0 p.1) × (p.0 ≤ most)
 number_before_found most text p small e =
     let f = before_found (plain_number_within most) text p e in
-    let h = number_spelled most f.0 p.0 small f.2 in
-    (f.1 ∙ ap (λ (ds : List ℕ). ds ++ 32 ∷ p.1) h.spelled, h.within)
+    grind (arith, number_spelled most f.0 p.0 small f.2)
 
 -- a number of a range
 pub number_from_read : (least most n : ℕ) → least ≤ n → n ≤ most → n < 2 ^ 64 → number_from least most (decimal n) ≡ Some n
-number_from_read least most n low high small =
-    ap (option_and_then (at_least least)) (number_read most n high small) ∙ ap (λ t. cond t (Some n) None) (le-leb least n low)
+number_from_read least most n low high small = grind (arith, number_read)
 
 pub number_from_found : (least most : ℕ) (digits : List ℕ) (n : ℕ) → most < 2 ^ 64 → number_from least most digits ≡ Some n → (digits ≡ decimal n) × (least ≤ n) × (n ≤ most)
-number_from_found least most digits n small e =
-    found_then (at_least least) (plain_number_within most digits) n ((digits ≡ decimal n) × (least ≤ n) × (n ≤ most))
-    (λ m at is.
-    let h = number_spelled most digits m small at in
-    let g = cond_some (nat_le least m) m n is in
-    let Q : ℕ → Type 0 = λ k. (digits ≡ decimal k) × (least ≤ k) × (k ≤ most) in
-    subst Q g.1 (h.spelled, leb-true _ _ g.0, h.within))
-    e
-
--- a number is not the dash
-front_differs : (front back : List ℕ) → Lacks 45 front → 0 < length front → front ++ back ≡ 45 ∷ [] → ⊥
-front_differs [] back lacks some same = absurd (omega arith)
-front_differs (b ∷ front) back lacks some same = lacks.0 (let h : b ≡ 45 = cc in h)
+number_from_found least most digits n small e = grind (arith, number_spelled)
 
 pub no_dash : (n : ℕ) (back : List ℕ) → n < 2 ^ 64 → bytes_eq (decimal n ++ back) (codes "-") ≡ false
-no_dash n back small =
-    false_from_ne_true _ (λ e.
-    let same : decimal n ++ back ≡ codes "-" = (bytes_eq-Decides (decimal n ++ back) (codes "-")).0 e in
-    front_differs (decimal n) back (decimal_lacks 45 n refl small) (decimal_nonempty n small) same)
+no_dash n back small = grind (arith, common_steps, decimal_lacks 45 n refl small, decimal_nonempty n small, bytes_eq-Decides)

@@ -1,7 +1,7 @@
 -- A text that is read one line at a time: what its lines lead to, and the line that it is refused by.
-use Rattle.fork_text.proofs.Common.{◌≡◌, ℕ, ◌<◌, Bool, true, false, cond, List, [], ◌∷◌, ◌++◌, length, Option, Some, None, refl, sym, ap, subst, ◌∙◌, arith, append_assoc, option_and_then, option_copied, slice_split, join_with_byte}
-use Rattle.fork_text.proofs.Common.{length-append, same_Some, cut, is, Lacks, cut_again, cut_joins, is_empty}
-use Rattle.std.proofs.Common.{suc, ◌+◌, Result, Ok, Err, Bor}
+use Rattle.fork_text.proofs.Common.{◌≡◌, ℕ, ◌<◌, Bool, true, false, cond, List, [], ◌∷◌, ◌++◌, length, Option, Some, None, refl, sym, ap, subst, ◌∙◌, arith, append_assoc, option_and_then, option_copied, slice_split, join_with_byte, length-append}
+use Rattle.fork_text.proofs.Common.{same_Some, cut, is, Lacks, cut_again, cut_joins, is_empty, suc, ◌+◌}
+use Rattle.std.proofs.Common.{Result, Ok, Err, Bor}
 use Rattle.std.specs.List.{AllByRecursion}
 use Rattle.sip_lex.specs.Cut as cuts
 use Rattle.sip_lex.proofs.laws.Cuts.{Lacks-back}

@@ -1,14 +1,13 @@
 -- A list of preferred statuses is read exactly where it is spelled.
-use Rattle.fork_text.proofs.Common.{◌≡◌, ℕ, ◌<◌, ◌≤◌, Bool, true, false, cond, List, [], ◌∷◌, ◌++◌, length, Option, Some, None, refl, sym, ap, subst, ◌∙◌, arith, append_assoc, bytes_eq, codes, option_and_then, slice_split, flat_map}
-use Rattle.fork_text.proofs.Common.{join_with_byte, decimal, cond_some, same_Some, bytes_eq-Decides, is, Lacks, plain_number_within, cut_again, number_read, number_spelled, decimal_lacks, numbers_onto, preferred_if, read_preferred}
+use Rattle.fork_text.proofs.Common.{◌≡◌, ℕ, ◌<◌, ◌≤◌, Bool, true, false, cond, List, [], ◌∷◌, ◌++◌, Option, Some, None, refl, sym, ap, subst, ◌∙◌, arith, append_assoc, bytes_eq, codes, option_and_then, slice_split, flat_map, join_with_byte, decimal}
+use Rattle.fork_text.proofs.Common.{cond_some, same_Some, bytes_eq-Decides, is, Lacks, plain_number_within, cut_again, number_read, number_spelled, decimal_lacks, numbers_onto, preferred_if, read_preferred, All, IfSome, IsPreferredList}
+use Rattle.fork_text.proofs.Common.{is_preferred_list}
 use Rattle.std.proofs.Common.{map, append-nil}
-use Rattle.std.specs.Prelude.{All, IfSome}
 use Rattle.std.proofs.lemmas.Bool.{eqb-false}
 use Rattle.std.proofs.lemmas.List.Elements.{All-head, All-tail}
-use Rattle.std.proofs.lemmas.List.Splits.{join_with_byte-slice_split, length-slice_split}
+use Rattle.std.proofs.lemmas.List.Splits.{join_with_byte-slice_split}
 use Rattle.sip_lex.proofs.laws.Cuts.{Lacks-append}
-use Rattle.fork_rank.specs.Preferred.{IsPreferredList}
-use Rattle.fork_text.specs.Preferred.{list_text, is_preferred_list}
+use Rattle.fork_text.specs.Preferred.{list_text}
 use Rattle.fork_text.proofs.PreferredLists.{preferred_passes, preferred_is}
 use Rattle.fork_text.proofs.laws.Pieces.{pieces-cut}
 use Rattle.fork_text.proofs.laws.Field.{found_then, no_dash}
@@ -39,9 +38,7 @@ preferred_read [] h = refl
 preferred_read (n ∷ ns) h =
     let first = All-head (λ k. (400 ≤ k) × (k < 500)) n ns h.client_errors in
     let read : numbers_onto [] (slice_split (is 44) (list_text (n ∷ ns))) ≡ Some (n ∷ ns) = ap (numbers_onto []) (split_list n ns h.client_errors) ∙ numbers_read [] (n ∷ ns) h.client_errors in
-    ap (λ t. cond t (Some []) (option_and_then preferred_if (numbers_onto [] (slice_split (is 44) (list_text (n ∷ ns)))))) (no_dash n (flat_map (λ m. 44 ∷ decimal m) ns) (omega arith))
-    ∙ ap (option_and_then preferred_if) read
-    ∙ ap (λ t. cond t (Some (n ∷ ns)) None) (preferred_passes (n ∷ ns) h)
+    grind (arith, preferred_passes (n ∷ ns) h, no_dash)
 
 -- the numbers between the commas are spelled there, one a piece
 record Pieces (before : List ℕ) (pieces : List (List ℕ)) (out : List ℕ) : Type 0 where
@@ -68,15 +65,7 @@ joined n [] = sym (append-nil (decimal n))
 joined n (m ∷ ns) = ap (λ (text : List ℕ). decimal n ++ 44 ∷ text) (joined m ns)
 
 list_found : (text out : List ℕ) → numbers_onto [] (slice_split (is 44) text) ≡ Some out → text ≡ list_text out
-list_found text out e = spelled (pieces_found [] (slice_split (is 44) text) out e)
-  where
-    spelled : Pieces [] (slice_split (is 44) text) out → text ≡ list_text out
-    spelled found = by_more found.more found.all found.spelled
-      where
-        by_more : (more : List ℕ) → out ≡ more → slice_split (is 44) text ≡ map decimal more → text ≡ list_text out
-        by_more [] all pieces = absurd (let n : length (slice_split (is 44) text) ≡ 0 = ap length pieces in omega (arith, n, length-slice_split (is 44) text))
-        by_more (n ∷ ns) all pieces =
-            sym (join_with_byte-slice_split 44 text) ∙ ap (join_with_byte 44) pieces ∙ joined n ns ∙ ap list_text (sym all)
+list_found text out e = grind (arith, pieces_found [] (slice_split (is 44) text) out e, join_with_byte-slice_split 44 text, joined)
 
 pub preferred_found : (text statuses : List ℕ) → read_preferred text ≡ Some statuses → (text ≡ list_text statuses) × IsPreferredList statuses
 preferred_found text statuses e = by_dash (bytes_eq text (codes "-")) (bytes_eq-Decides text (codes "-")).0 e
@@ -112,5 +101,4 @@ pub reads_only : (r : Option (List ℕ)) (text : List ℕ) → r ≡ read_prefer
 reads_only r text exact statuses is spelled = exact ∙ ap read_preferred spelled ∙ preferred_read statuses is
 
 pub reads_found : (r : Option (List ℕ)) (text : List ℕ) → r ≡ read_preferred text → IfSome r (λ statuses. text ≡ list_text statuses)
-reads_found None text exact = tt
-reads_found (Some statuses) text exact = (preferred_found text statuses (sym exact)).0
+reads_found r text exact = grind (arith, preferred_found)

@@ -1,6 +1,4 @@
-use Rattle.fork_text.proofs.Common.{◌≡◌, ◌∷◌, ◌++◌, ◌∙◌, [], ℕ, List, Option, Some, None, length, ap, sym, arith, option_and_then, option_copied, slice_split, length-append, cut, is, plain_number_within, pieces_behind, numbers_onto}
-use Rattle.fork_text.proofs.Common.{preferred_if}
-use Rattle.std.proofs.lemmas.Bool.{eqb-true}
+use Rattle.fork_text.proofs.Common.{◌≡◌, ◌∙◌, ℕ, List, Option, Some, None, ap, sym, arith, option_and_then, option_copied, slice_split, cut, is, plain_number_within, numbers_onto, preferred_if, common_steps}
 use Rattle.fork_text.proofs.Numbers.{none, next, too_many}
 use Rattle.fork_text.proofs.preferred.read_numbers.Goals as goal
 
@@ -10,15 +8,7 @@ returns-in_default c =
     sym (ap (option_and_then preferred_if) (sym c.loop-number.invariant ∙ nothing))
 
 pub returns-then-is_full : goal.returns-then-is_full
-returns-then-is_full c =
-    let numbers = c.loop-number.numbers.items in
-    let number = c.in-Some.number in
-    let more : Option (List ℕ) = option_copied c.cut_at.result.1 in
-    let some : plain_number_within 499 c.cut_at.result.0.now ≡ Some number = sym c.read_number.ensures.value ∙ c.in-Some.is in
-    let step = next numbers c.loop-number.rest.now c.cut_at.result.0.now more number c.cut_at.ensures.value some in
-    let full : length numbers ≡ 16 = eqb-true _ _ (sym c.is_full.ensures.value ∙ c.if-is_full.true) in
-    let many = too_many (numbers ++ number ∷ []) (pieces_behind 44 more) (omega (arith, full, length-append numbers (number ∷ []))) in
-    sym (ap (option_and_then preferred_if) (sym c.loop-number.invariant ∙ step) ∙ many)
+returns-then-is_full c = grind (arith, common_steps, too_many)
 
 pub returns-in-None : goal.returns-in-None
 returns-in-None c =
