@@ -1,6 +1,6 @@
 -- The names that most proofs of this crate cite, passed on from one place. Declares nothing.
-pub use Rattle.std.proofs.Common.{Bool, Err, IfNone, IfOk, IfSome, List, None, Ok, OnSome, Option, Ordering, Result, Some, [], ap, append_assoc, arith, codes, cond, drop, eqb, false, fold, if◌then◌else◌, inl, inr, leb, length, length-take, ltb}
-pub use Rattle.std.proofs.Common.{map, not, refl, subst, suc, sym, take, true, vec_len, ℕ, ◌&&◌, ◌++◌, ◌+◌, ◌-◌, ◌||◌, ◌∙◌, ◌∷◌, ◌≡◌, ◌≢◌, ◌≤◌}
+pub use Rattle.std.proofs.Common.{Bool, Err, IfNone, IfOk, IfSome, List, None, Ok, OnSome, Option, Ordering, Result, Some, [], ap, append_assoc, arith, codes, cond, drop, eqb, false, fold, if◌then◌else◌, inl, inr, leb, length, length-take, ltb, map}
+pub use Rattle.std.proofs.Common.{not, refl, subst, suc, sym, take, true, vec_len, ℕ, ◌&&◌, ◌++◌, ◌+◌, ◌-◌, ◌||◌, ◌∙◌, ◌∷◌, ◌≡◌, ◌≢◌, ◌≤◌, rules}
 pub use Rattle.std.proofs.lemmas.Bool.{and_from, and_parts, cases_Bool, cond-false, cond-true, cond_both, eqb-false, eqb-true, false_from_ne_true, false≢true, le-leb, leb-true, lt-ltb, ltb-true, or_cases}
 pub use Rattle.std.proofs.lemmas.Grind.{common_steps}
 pub use Rattle.std.proofs.lemmas.List.{append-nil, drop_at, length-append, length-map, take-append-drop, take_at, take_rest}

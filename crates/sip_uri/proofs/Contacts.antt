@@ -1,8 +1,7 @@
 -- Items and parameters by cuts.
-use Rattle.sip_uri.proofs.Common.{◌≡◌, ℕ, Bool, true, false, eqb, ltb, List, [], ◌∷◌, ◌++◌, length, map, Option, Some, sym, ap, ◌∙◌, append_assoc, arith, ◌&&◌, list_all, cond-true, cond-false, eqb-true, eqb-false, lt-ltb, QuotesAndAngles}
-use Rattle.sip_uri.proofs.Common.{Plain, trim, cut_outside, pieces_outside-cut, view_contacts, ContactText, are_items, contact_of, contact_params, is_contact_param, items_behind, q_of, q_value_if_any}
+use Rattle.sip_uri.proofs.Common.{◌≡◌, ℕ, Bool, true, false, eqb, List, [], ◌∷◌, ◌++◌, length, map, Option, Some, sym, ap, ◌∙◌, append_assoc, arith, list_all, QuotesAndAngles, Plain, trim, cut_outside, pieces_outside-cut, view_contacts, ContactText}
+use Rattle.sip_uri.proofs.Common.{are_items, contact_of, contact_params, is_contact_param, items_behind, q_of, q_value_if_any}
 use Rattle.std.proofs.lemmas.List.{map-append}
-use Rattle.std.proofs.lemmas.Bool.{le-ltb}
 use Rattle.sip_uri.specs.declared.contact.Contact.{Contact}
 use Rattle.sip_uri.specs.SeenContact.{view_contact}
 use Rattle.sip_uri.specs.Contact.{is_q, value_of}
@@ -21,30 +20,22 @@ items_cut text item after e = ap (map trim) (pieces_outside-cut QuotesAndAngles 
 -- ---- steps of the loops
 
 pub good_first : (text param : List ℕ) (after : Option (List ℕ)) (all : Bool) → (param, after) ≡ cut_outside QuotesAndAngles 59 Plain text → is_contact_param param ≡ true → list_all is_contact_param (contact_params (Some text)) ≡ all → list_all is_contact_param (contact_params after) ≡ all
-good_first text param after all e good h =
-    ap (λ t. t && list_all is_contact_param (contact_params after)) (sym good) ∙ sym (ap (list_all is_contact_param) (params_cut text param after e)) ∙ h
+good_first text param after all e good h = grind (arith, params_cut text param after e)
 
 pub bad_first : (text param : List ℕ) (after : Option (List ℕ)) (all : Bool) → (param, after) ≡ cut_outside QuotesAndAngles 59 Plain text → is_contact_param param ≡ false → list_all is_contact_param (contact_params (Some text)) ≡ all → false ≡ all
-bad_first text param after all e bad h =
-    ap (λ t. t && list_all is_contact_param (contact_params after)) (sym bad) ∙ sym (ap (list_all is_contact_param) (params_cut text param after e)) ∙ h
+bad_first text param after all e bad h = grind (arith, params_cut text param after e)
 
 pub q_first : (text param : List ℕ) (after : Option (List ℕ)) (all : ℕ) → (param, after) ≡ cut_outside QuotesAndAngles 59 Plain text → is_q param ≡ true → q_of (contact_params (Some text)) ≡ all → q_value_if_any (value_of param) ≡ all
-q_first text param after all e q h =
-    sym (cond-true (is_q param) (q_value_if_any (value_of param)) (q_of (contact_params after)) q) ∙ sym (ap q_of (params_cut text param after e)) ∙ h
+q_first text param after all e q h = grind (arith, params_cut text param after e)
 
 pub q_later : (text param : List ℕ) (after : Option (List ℕ)) (all : ℕ) → (param, after) ≡ cut_outside QuotesAndAngles 59 Plain text → is_q param ≡ false → q_of (contact_params (Some text)) ≡ all → q_of (contact_params after) ≡ all
-q_later text param after all e other h =
-    sym (cond-false (is_q param) (q_value_if_any (value_of param)) (q_of (contact_params after)) other) ∙ sym (ap q_of (params_cut text param after e)) ∙ h
+q_later text param after all e other h = grind (arith, params_cut text param after e)
 
 pub item_full : (text item trimmed : List ℕ) (after : Option (List ℕ)) (all : Bool) → (item, after) ≡ cut_outside QuotesAndAngles 44 Plain text → trimmed ≡ trim item → eqb (length trimmed) 0 ≡ false → are_items (items_behind (Some text)) ≡ all → are_items (items_behind after) ≡ all
-item_full text item trimmed after all e t filled h =
-    let long : ltb 0 (length (trim item)) ≡ true = lt-ltb 0 (length (trim item)) (omega (arith, eqb-false _ _ filled, ap length t)) in
-    ap (λ b. b && are_items (items_behind after)) (sym long) ∙ sym (ap are_items (items_cut text item after e)) ∙ h
+item_full text item trimmed after all e t filled h = grind (arith, items_cut text item after e)
 
 pub item_empty : (text item trimmed : List ℕ) (after : Option (List ℕ)) (all : Bool) → (item, after) ≡ cut_outside QuotesAndAngles 44 Plain text → trimmed ≡ trim item → eqb (length trimmed) 0 ≡ true → are_items (items_behind (Some text)) ≡ all → false ≡ all
-item_empty text item trimmed after all e t empty h =
-    let short : ltb 0 (length (trim item)) ≡ false = le-ltb 0 (length (trim item)) (omega (arith, eqb-true _ _ empty, ap length t)) in
-    ap (λ b. b && are_items (items_behind after)) (sym short) ∙ sym (ap are_items (items_cut text item after e)) ∙ h
+item_empty text item trimmed after all e t empty h = grind (arith, items_cut text item after e)
 
 module _ {A : Type 0} where
   pub next_contact : (done more : List (Contact A)) (c : Contact A) (text item trimmed : List ℕ) (after : Option (List ℕ)) (all : List ContactText) → (item, after) ≡ cut_outside QuotesAndAngles 44 Plain text → trimmed ≡ trim item → more ≡ done ++ c ∷ [] → view_contact c ≡ contact_of trimmed → view_contacts done ++ map contact_of (items_behind (Some text)) ≡ all → view_contacts more ++ map contact_of (items_behind after) ≡ all

@@ -1,7 +1,6 @@
 -- The items of a value are contacts, and are what stands between its commas.
-use Rattle.sip_uri.proofs.Common.{◌≡◌, ℕ, true, false, List, [], ◌∷◌, map, Option, Some, None, Result, Ok, Err, refl, sym, ap, subst, ◌∙◌, inl, inr, ◌&&◌, IfOk, list_all, AllByRecursion, and_parts, cases_Bool, cond_both, cond-false}
-use Rattle.sip_uri.proofs.Common.{cond-true, same_Some, QuotesAndAngles, is_closed, UriFault, BadText, ContactText, Form, are_items, contact_of, contact_params, form_of, is_contact_param, items_behind, q_of, Gives, AreItems, read_uri, Uri}
-use Rattle.sip_uri.proofs.Common.{is_line, is_value}
+use Rattle.sip_uri.proofs.Common.{◌≡◌, ℕ, true, false, List, [], ◌∷◌, map, Option, Some, None, Result, Ok, Err, refl, sym, ap, subst, ◌∙◌, inl, inr, IfOk, list_all, AllByRecursion, cases_Bool, cond-false, cond-true, same_Some, QuotesAndAngles}
+use Rattle.sip_uri.proofs.Common.{is_closed, UriFault, ContactText, Form, are_items, contact_of, contact_params, form_of, is_contact_param, items_behind, q_of, Gives, AreItems, read_uri, Uri, is_line, is_value, arith}
 use Rattle.sip_uri.specs.Contact.{contact_of_form, contacts_of, takeable}
 use Rattle.sip_uri.specs.Items.{IsContact, IsFormless, texts}
 use Rattle.sip_uri.proofs.Forms.{form_again, form_found}
@@ -9,11 +8,7 @@ use Rattle.sip_uri.proofs.Items.{items_again, items_are, items_pass}
 use Rattle.sip_uri.proofs.laws.Values.{items_values}
 
 text_of_form : (item : List ℕ) (form : Option Form) → (contact_of_form item form).text ≡ item
-text_of_form item None = refl
-text_of_form item (Some form) =
-    cond_both (list_all is_contact_param (contact_params form.1)) (record { text = item; q = q_of (contact_params form.1); uri = takeable (read_uri form.0) }) (record { text = item; q = 1000; uri = None }) (λ (c : ContactText). c.text ≡ item)
-    (λ e. refl)
-    (λ e. refl)
+text_of_form item form = grind arith
 
 pub texts_of : (items : List (List ℕ)) → texts (map contact_of items) ≡ items
 texts_of [] = refl
@@ -42,9 +37,6 @@ all_contacts (item ∷ items) = (contact_by_form item (form_of item) refl, all_c
 abbrev done : List ContactText → Result (List ContactText) UriFault
 done cs = Ok cs
 
-done_is : (a b : List ContactText) → done a ≡ done b → a ≡ b
-done_is a b e = cc
-
 record IsListed (value : List ℕ) (contacts : List ContactText) : Type 0 where
   closed : is_closed QuotesAndAngles value ≡ true
   full : are_items (items_behind (Some value)) ≡ true
@@ -52,13 +44,7 @@ record IsListed (value : List ℕ) (contacts : List ContactText) : Type 0 where
 
 listed : (value : List ℕ) (contacts : List ContactText) → contacts_of value ≡ Ok contacts → IsListed value contacts
 unfolding contacts_of
-listed value contacts e =
-    elim (cases_Bool (is_closed QuotesAndAngles value && are_items (items_behind (Some value)))) [
-      | inl here ↦
-          let both = and_parts (is_closed QuotesAndAngles value) (are_items (items_behind (Some value))) here in
-          record { closed = both.0; full = both.1; contacts_are = sym (done_is (map contact_of (items_behind (Some value))) contacts (sym (cond-true _ _ _ here) ∙ e)) }
-      | inr other ↦ let wrong : Err BadText ≡ done contacts = sym (cond-false _ _ _ other) ∙ e in absurd cc
-    ]
+listed value contacts e = grind arith
 
 texts_are : (value : List ℕ) (contacts : List ContactText) → IsListed value contacts → texts contacts ≡ items_behind (Some value)
 texts_are value contacts h = ap texts h.contacts_are ∙ texts_of (items_behind (Some value))
@@ -84,13 +70,11 @@ contact_again c (inr h) = formless_at c (form_of c.text) h refl
 
 contacts_again : (cs : List ContactText) → AllByRecursion IsContact cs → map contact_of (texts cs) ≡ cs
 contacts_again [] h = refl
-contacts_again (c ∷ cs) h =
-    ap (λ (x : ContactText). x ∷ map contact_of (texts cs)) (sym (contact_again c h.0)) ∙ ap (λ (xs : List ContactText). c ∷ xs) (contacts_again cs h.1)
+contacts_again (c ∷ cs) h = grind (arith, contact_again, contacts_again cs h.1)
 
 list_again : (value : List ℕ) (cs : List ContactText) → AreItems value (texts cs) → AllByRecursion IsContact cs → contacts_of value ≡ Ok cs
 unfolding contacts_of
-list_again value cs items contacts =
-    cond-true _ _ _ (items_pass value (texts cs) items) ∙ ap (λ (xs : List (List ℕ)). done (map contact_of xs)) (items_again value (texts cs) items) ∙ ap done (contacts_again cs contacts)
+list_again value cs items contacts = grind (arith, items_pass value (texts cs) items, items_again value (texts cs) items, contacts_again cs contacts)
 
 -- ---- the clauses of what was read
 

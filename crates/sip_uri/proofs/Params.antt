@@ -1,6 +1,6 @@
 -- Parameters read from left to right are the pieces between semicolons.
-use Rattle.sip_uri.proofs.Common.{◌≡◌, ℕ, Bool, true, false, cond, eqb, ltb, List, [], ◌∷◌, length, fold, Option, Some, None, refl, sym, ap, ◌∙◌, arith, ◌&&◌, list_all, lt-ltb, cut, is, pieces, pieces_behind, pieces-cut, Begun, is_uri_byte}
-use Rattle.sip_uri.proofs.Common.{is_whole, progress_after, is_full, is_param}
+use Rattle.sip_uri.proofs.Common.{◌≡◌, ℕ, Bool, true, false, cond, eqb, ltb, List, [], ◌∷◌, length, fold, Option, Some, None, refl, sym, ap, ◌∙◌, arith, ◌&&◌, list_all, cut, is, pieces, pieces_behind, pieces-cut, Begun, is_uri_byte, is_whole}
+use Rattle.sip_uri.proofs.Common.{progress_after, is_full, is_param}
 use Rattle.std.proofs.Math.Bool.{and-true}
 use Rattle.std.proofs.lemmas.Bool.{and_right}
 use Rattle.sip_uri.specs.declared.checks.Progress.{Progress}
@@ -22,39 +22,13 @@ abbrev are_read : Progress → List ℕ → Bool
 are_read progress bs = is_whole (fold progress_after progress bs)
 
 ends_nothing : (s : Progress) → ends s [] ≡ is_whole s
-ends_nothing Begun = refl
-ends_nothing Named = refl
-ends_nothing Valueless = refl
-ends_nothing Valued = refl
-ends_nothing Broken = refl
+ends_nothing s = grind arith
 
 abbrev full_at : Cut → Bool
 full_at c = ltb 0 (length c.0) && is_full c.1
 
-ends_more : (s : Progress) (b : ℕ) (bs : List ℕ) → ends s (b ∷ bs) ≡ ends (behind_other s b) bs
-ends_more Begun b bs =
-    elim (eqb b 61) as (λ t. full_at (cond {A = Cut} t ([], Some bs) (b ∷ (cut (is 61) bs).0, (cut (is 61) bs).1)) ≡ ends (cond t Broken Named) bs) [
-      | true ↦ refl
-      | false ↦ ap (λ t. t && is_full (cut (is 61) bs).1) (lt-ltb 0 (length (b ∷ (cut (is 61) bs).0)) (omega arith))
-    ]
-ends_more Named b bs =
-    elim (eqb b 61) as (λ t. is_full (cond {A = Cut} t ([], Some bs) (b ∷ (cut (is 61) bs).0, (cut (is 61) bs).1)).1 ≡ ends (cond t Valueless Named) bs) [
-      | true ↦ refl
-      | false ↦ refl
-    ]
-ends_more Valueless b bs = lt-ltb 0 (length (b ∷ bs)) (omega arith)
-ends_more Valued b bs = refl
-ends_more Broken b bs = refl
-
 broken_stays : (b : ℕ) → progress_after Broken b ≡ Broken
-broken_stays b =
-    elim (is_uri_byte b) as (λ t. cond t (cond (eqb b 59) Broken Broken) Broken ≡ Broken) [
-      | true ↦ elim (eqb b 59) as (λ t. cond t Broken Broken ≡ Broken) [
-        | true ↦ refl
-        | false ↦ refl
-      ]
-      | false ↦ refl
-    ]
+broken_stays b = grind arith
 
 broken_reads : (bs : List ℕ) → are_read Broken bs ≡ false
 broken_reads [] = refl
@@ -71,24 +45,13 @@ whole_first : (bs : List ℕ) → list_all is_param (pieces 59 bs) ≡ good Begu
 whole_first bs = ap (list_all is_param) (pieces-cut 59 bs)
 
 begins_again : (s : Progress) (bs : List ℕ) → ((t : Progress) → are_read t bs ≡ wanted t bs) → are_read (behind_semicolon s) bs ≡ (good s ([], Some bs) && list_all is_uri_byte bs)
-begins_again s bs h =
-    let e = ends_nothing s in
-    let goal = ap (λ t. (t && list_all is_param (pieces 59 bs)) && list_all is_uri_byte bs) e in
-    elim (is_whole s) as (λ t. are_read (cond t Begun Broken) bs ≡ ((t && list_all is_param (pieces 59 bs)) && list_all is_uri_byte bs)) [
-      | true ↦ h Begun ∙ sym (ap (λ t. t && list_all is_uri_byte bs) (whole_first bs))
-      | false ↦ broken_reads bs
-    ] ∙ sym goal
+begins_again s bs h = grind (arith, whole_first)
 
 goes_on : (s : Progress) (b : ℕ) (bs : List ℕ) → ((t : Progress) → are_read t bs ≡ wanted t bs) → are_read (behind_other s b) bs ≡ (good s (b ∷ (cut (is 59) bs).0, (cut (is 59) bs).1) && list_all is_uri_byte bs)
-goes_on s b bs h =
-    h (behind_other s b) ∙ sym (ap (λ t. (t && list_all is_param (pieces_behind 59 (cut (is 59) bs).1)) && list_all is_uri_byte bs) (ends_more s b (cut (is 59) bs).0))
+goes_on s b bs h = grind arith
 
 step : (s : Progress) (b : ℕ) (bs : List ℕ) → ((t : Progress) → are_read t bs ≡ wanted t bs) → are_read (cond (eqb b 59) (behind_semicolon s) (behind_other s b)) bs ≡ (good s (cut (is 59) (b ∷ bs)) && list_all is_uri_byte bs)
-step s b bs h =
-    elim (eqb b 59) as (λ t. are_read (cond t (behind_semicolon s) (behind_other s b)) bs ≡ (good s (cond {A = Cut} t ([], Some bs) (b ∷ (cut (is 59) bs).0, (cut (is 59) bs).1)) && list_all is_uri_byte bs)) [
-      | true ↦ begins_again s bs h
-      | false ↦ goes_on s b bs h
-    ]
+step s b bs h = grind (arith, begins_again)
 
 reads : (s : Progress) (bs : List ℕ) → are_read s bs ≡ wanted s bs
 reads s [] = sym (and-true (good s ([], None)) ∙ and-true (ends s []) ∙ ends_nothing s)

@@ -1,6 +1,5 @@
 -- The tests that a text passes which is read.
-use Rattle.sip_uri.proofs.Common.{◌≡◌, ℕ, ◌≤◌, true, not, List, length, map, take, drop, None, Ok, sym, ap, ◌∙◌, arith, length-take, list_all, length-map, cond-false, codes, to_ascii_lowercase, is_uri_byte, is_sip, or_fault, parts_of}
-use Rattle.sip_uri.proofs.Common.{uri_of}
+use Rattle.sip_uri.proofs.Common.{◌≡◌, ℕ, ◌≤◌, true, List, length, map, take, drop, None, Ok, sym, ap, arith, length-take, list_all, length-map, codes, to_ascii_lowercase, is_uri_byte, is_sip, parts_of, uri_of}
 use Rattle.std.specs.Cmp.Lexicographic.{same_text}
 use Rattle.sip_uri.specs.Reading.{fault_of, read_uri}
 
@@ -13,5 +12,4 @@ long_enough text h = omega (arith, ap length (scheme_is text h), length-map (tak
 
 pub read_ok : (text : List ℕ) → is_sip text ≡ true → list_all is_uri_byte text ≡ true → fault_of (parts_of (drop 4 text)) ≡ None → read_uri text ≡ Ok (uri_of text)
 unfolding read_uri
-read_ok text sip bytes parts =
-    cond-false _ _ _ (ap not sip) ∙ cond-false _ _ _ (ap not bytes) ∙ ap (λ f. or_fault f (uri_of text)) parts
+read_ok text sip bytes parts = grind arith

@@ -1,13 +1,12 @@
 -- A URI without the parameter `method` and the headers is one again, with the same key.
-use Rattle.sip_uri.proofs.Common.{◌≡◌, ℕ, Bool, true, false, cond, not, List, [], ◌∷◌, ◌++◌, Option, Some, None, Ok, ap, map, refl, sym, inl, inr, ◌∙◌, IfNone, AllByRecursion, list_all, Lacks, behind, cases_Bool, cond-false, cond-true}
-use Rattle.sip_uri.proofs.Common.{str_to_ascii_lowercase, IsParam, IsUri, is_uri_byte, IsKept, add_distinct, read_uri, uri_of, Uri, is_method, params_text, request_uri, requested, rest_text, spelling, user_text, without_methods}
-use Rattle.std.proofs.Common.{append-nil, filter}
+use Rattle.sip_uri.proofs.Common.{◌≡◌, ℕ, Bool, true, false, cond, not, List, [], ◌∷◌, ◌++◌, Option, Ok, ap, map, refl, sym, inl, inr, ◌∙◌, IfNone, AllByRecursion, list_all, Lacks, behind, cases_Bool, cond-false, cond-true, str_to_ascii_lowercase}
+use Rattle.sip_uri.proofs.Common.{IsParam, IsUri, is_uri_byte, IsKept, add_distinct, read_uri, uri_of, Uri, is_method, params_text, request_uri, requested, rest_text, spelling, user_text, without_methods, common_steps, arith}
+use Rattle.std.proofs.Common.{filter}
 use Rattle.std.specs.Prelude.{IsTrue}
 use Rattle.std.specs.List.{fold}
 use Rattle.sip_uri.specs.Key.{key_of, port_key}
 use Rattle.sip_uri.proofs.laws.Found.{read_parts}
 use Rattle.sip_uri.proofs.laws.Only.{read_again}
-use Rattle.sip_uri.proofs.Readings.{long_enough}
 use Rattle.sip_uri.proofs.Requests.{kept_uri, request_bytes}
 
 module _ {A : Type 0} (P : A → Type 0) where
@@ -50,12 +49,10 @@ lacks_rest u h =
     (all_join _ (params_text (without_methods u.params)) [] params tt))
 
 if_none : {X : Type 0} {A B : Type 0} (o : Option X) → (A → B) → IfNone o A → IfNone o B
-if_none None f h = f h
-if_none (Some x) f h = tt
+if_none o f h = grind arith
 
 spelled : (u : Uri) → spelling (requested u) ≡ request_uri u
-spelled u =
-    ap (λ (t : List ℕ). u.scheme ++ (user_text u.user ++ (u.host ++ (behind 58 u.port ++ t)))) (append-nil (params_text (without_methods u.params)))
+spelled u = grind (arith, common_steps)
 
 is_requested : (u : Uri) → IsUri u → IsTrue (list_all is_uri_byte (request_uri u)) → IsUri (requested u)
 is_requested u h bytes = record {
@@ -87,8 +84,7 @@ same_key u =
 -- ---- what is kept of it
 
 read_requested : (u : Uri) → IsUri u → read_uri (request_uri u) ≡ Ok (requested u)
-read_requested u good =
-    ap read_uri (sym (spelled u)) ∙ read_again (requested u) (is_requested u good (request_bytes u good))
+read_requested u good = grind (arith, common_steps, read_again (requested u) (is_requested u good (request_bytes u good)))
 
 pub requested_view : (text key : List ℕ) → IsKept text key → uri_of (request_uri (uri_of text)) ≡ requested (uri_of text)
 requested_view text key k =
@@ -98,11 +94,4 @@ requested_view text key k =
 pub requested_is_kept : (text key : List ℕ) → IsKept text key → IsKept (request_uri (uri_of text)) key
 requested_is_kept text key k =
     let u = uri_of text in
-    let made = request_uri u in
-    let read = read_requested u (kept_uri text key k) in
-    let view = requested_view text key k in
-    record {
-      long = long_enough made (read_parts made (requested u) read).sip;
-      read = read ∙ ap (λ (v : Uri). Ok v) (sym view);
-      keyed = k.keyed ∙ sym (same_key u) ∙ ap key_of (sym view);
-    }
+    grind (arith, read_requested u (kept_uri text key k), requested_view text key k, same_key u)

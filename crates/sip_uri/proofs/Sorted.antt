@@ -1,5 +1,5 @@
 -- The parameters of a key are sorted, each once, and are those that count.
-use Rattle.sip_uri.proofs.Common.{◌≡◌, ℕ, Bool, true, false, List, [], ◌∷◌, fold, refl, sym, ap, ◌∙◌, Ordering, ◌||◌, AllByRecursion, nat_cmp, match_ordering, slice_cmp, Less, Equal, Greater, add_distinct, counted, key_params}
+use Rattle.sip_uri.proofs.Common.{◌≡◌, ℕ, Bool, false, List, [], ◌∷◌, fold, refl, ap, ◌∙◌, Ordering, ◌||◌, AllByRecursion, nat_cmp, match_ordering, slice_cmp, Less, Equal, Greater, add_distinct, counted, key_params, arith}
 use Rattle.std.specs.List.{list_any}
 use Rattle.std.specs.List.Sorted.{IsStrictlySortedBy}
 use Rattle.std.specs.Ordering.{ordering_reverse}
@@ -21,9 +21,7 @@ abbrev placed : Ordering → List ℕ → List ℕ → Texts → Texts
 placed o key x keys = match_ordering o (key ∷ x ∷ keys) (x ∷ keys) (x ∷ add_distinct keys key)
 
 all_placed : (P : List ℕ → Type 0) (o : Ordering) (key x : List ℕ) (keys : Texts) → P key → AllByRecursion P (x ∷ keys) → AllByRecursion P (add_distinct keys key) → AllByRecursion P (placed o key x keys)
-all_placed P Less key x keys h all more = (h, all)
-all_placed P Equal key x keys h all more = all
-all_placed P Greater key x keys h all more = (all.0, more)
+all_placed P o key x keys h all more = grind arith
 
 all_add : (P : List ℕ → Type 0) (keys : Texts) (key : List ℕ) → AllByRecursion P keys → P key → AllByRecursion P (add_distinct keys key)
 all_add P [] key all h = (h, tt)
@@ -53,30 +51,11 @@ pub key_params_sorted : (params : Texts) → IsStrictlySortedBy (slice_cmp nat_c
 unfolding IsStrictlySortedBy
 key_params_sorted params = sorted_fold [] (counted params) tt
 
-or_again : (a b : Bool) → (a || b) ≡ (a || (a || b))
-or_again true b = refl
-or_again false b = refl
-
-or_swap : (a b c : Bool) → (a || (b || c)) ≡ (b || (a || c))
-or_swap true true c = refl
-or_swap true false c = refl
-or_swap false true c = refl
-or_swap false false c = refl
-
 or_none : (a : Bool) → a ≡ (a || false)
-or_none true = refl
-or_none false = refl
-
-or_regroup : (a b c : Bool) → ((a || b) || c) ≡ (b || (a || c))
-or_regroup true true c = refl
-or_regroup true false c = refl
-or_regroup false true c = refl
-or_regroup false false c = refl
+or_none a = grind arith
 
 any_placed : (p : List ℕ → Bool) (o : Ordering) (key x : List ℕ) (keys : Texts) → order key x ≡ o → list_any p (add_distinct keys key) ≡ (p key || list_any p keys) → list_any p (placed o key x keys) ≡ (p key || (p x || list_any p keys))
-any_placed p Less key x keys e more = refl
-any_placed p Equal key x keys e more = or_again (p x) (list_any p keys) ∙ ap (λ (t : List ℕ). p t || (p x || list_any p keys)) (sym (exact_bytes key x e))
-any_placed p Greater key x keys e more = ap (λ t. p x || t) more ∙ or_swap (p x) (p key) (list_any p keys)
+any_placed p o key x keys e more = grind (arith, exact_bytes)
 
 any_add : (p : List ℕ → Bool) (keys : Texts) (key : List ℕ) → list_any p (add_distinct keys key) ≡ (p key || list_any p keys)
 any_add p [] key = refl
@@ -84,8 +63,7 @@ any_add p (x ∷ keys) key = any_placed p (order key x) key x keys refl (any_add
 
 any_fold : (p : List ℕ → Bool) (keys more : Texts) → list_any p (fold add_distinct keys more) ≡ (list_any p keys || list_any p more)
 any_fold p keys [] = or_none (list_any p keys)
-any_fold p keys (x ∷ more) =
-    any_fold p (add_distinct keys x) more ∙ ap (λ t. t || list_any p more) (any_add p keys x) ∙ or_regroup (p x) (list_any p keys) (list_any p more)
+any_fold p keys (x ∷ more) = grind (arith, any_add, any_fold p (add_distinct keys x) more)
 
 -- whatever some parameter that counts is, some of the key's is
 pub key_params_members : (params : Texts) (p : List ℕ → Bool) → list_any p (key_params params) ≡ list_any p (counted params)

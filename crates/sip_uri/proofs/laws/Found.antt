@@ -1,16 +1,12 @@
 -- What is read is a URI, and is spelled so.
-use Rattle.sip_uri.proofs.Common.{◌≡◌, ◌≢◌, ℕ, suc, ◌+◌, Bool, true, false, not, cond, eqb, ltb, leb, List, [], ◌∷◌, ◌++◌, length, take, drop, Option, Some, None, Result, Ok, Err, refl, sym, ap, subst, ◌∙◌, append_assoc, inl, inr, arith}
-use Rattle.sip_uri.proofs.Common.{IfOk, IfSome, IfNone, ◌||◌, ◌&&◌, if◌then◌else◌, list_all, AllByRecursion, take-append-drop, append-nil, cond_both, eqb-true, and_parts, leb-true, ltb-true, behind, cut, is, Lacks, number, pieces_behind}
-use Rattle.sip_uri.proofs.Common.{cut_joins, cut_lacks, pieces_behind_join, UriFault, NotSip, BadHost, BadPort, BadText, Gives, IsParam, IsUri, is_uri_byte, IsPort, ends_host, host_len, is_host, IsKept, Parts, is_full, is_param}
-use Rattle.sip_uri.proofs.Common.{is_port_if_any, is_sip, or_fault, port_and_params, uri_of, user_of, Uri, params_text, spelling, user_text}
+use Rattle.sip_uri.proofs.Common.{◌≡◌, ◌≢◌, ℕ, suc, ◌+◌, Bool, true, false, not, cond, eqb, ltb, List, [], ◌∷◌, ◌++◌, length, take, drop, Option, Some, None, Result, Ok, Err, refl, sym, ap, subst, ◌∙◌, inl, inr, arith, IfOk, IfSome, IfNone, ◌||◌}
+use Rattle.sip_uri.proofs.Common.{◌&&◌, if◌then◌else◌, list_all, AllByRecursion, take-append-drop, cond_both, and_parts, behind, cut, is, Lacks, pieces_behind, cut_joins, cut_lacks, pieces_behind_join, UriFault, NotSip, Gives, IsParam, IsUri}
+use Rattle.sip_uri.proofs.Common.{is_uri_byte, IsPort, ends_host, host_len, is_host, IsKept, Parts, is_full, is_param, is_port_if_any, is_sip, or_fault, port_and_params, uri_of, user_of, Uri, params_text, spelling, user_text, common_steps}
 use Rattle.std.proofs.Common.{◌⊎◌}
-use Rattle.sip_lex.specs.Number.{is_number}
 use Rattle.sip_lex.proofs.laws.Cuts.{Lacks-back}
 use Rattle.sip_lex.proofs.laws.Splits.{pieces_lack, pieces_lack_other}
-use Rattle.sip_uri.specs.Host.{is_port}
 use Rattle.sip_uri.specs.Reading.{fault_of, parts_of, read_uri}
 use Rattle.sip_uri.proofs.laws.Hosts.{full, is_host-IsHost}
-use Rattle.sip_uri.proofs.Readings.{scheme_is}
 
 abbrev Cut : Type 0
 Cut = List ℕ × Option (List ℕ)
@@ -19,20 +15,6 @@ abbrev Marks : Type 0
 Marks = Option (List ℕ) × Option (List ℕ)
 
 -- ---- the parts joined are the text
-
-user_joins : (c : Cut) → c.0 ++ behind 64 c.1 ≡ user_text (user_of c).0 ++ (user_of c).1
-user_joins (all, None) = append-nil all
-user_joins (user, Some rest) = sym (append_assoc user (64 ∷ []) rest)
-
-or_but : (a b : Bool) → (a || b) ≡ true → b ≡ false → a ≡ true
-or_but true b h e = refl
-or_but false b h e = absurd cc
-
-or_swapped : (a b : Bool) → (a || b) ≡ true → (b || a) ≡ true
-or_swapped true true h = refl
-or_swapped true false h = refl
-or_swapped false true h = refl
-or_swapped false false h = h
 
 -- a text is empty, or begins with a byte that passes
 abbrev Begins : (ℕ → Bool) → List ℕ → Type 0
@@ -53,26 +35,10 @@ host_stops inside (b ∷ bs) =
     (λ e. let k : 1 + host_len step bs ≡ suc (host_len step bs) = omega arith in rw k (host_stops step bs))
 
 front_begins : (bs : List ℕ) → Begins ends_host bs → Begins begins_port (cut (is 63) bs).0
-front_begins [] h = inl refl
-front_begins (b ∷ bs) (inl e) = absurd cc
-front_begins (b ∷ bs) (inr h) =
-    let same : b ≡ h.0 = cc in
-    cond_both (eqb b 63) ([], Some bs) (b ∷ (cut (is 63) bs).0, (cut (is 63) bs).1) (λ (r : Cut). Begins begins_port r.0)
-    (λ e. inl refl)
-    (λ e. inr (b, (cut (is 63) bs).0, refl, or_but (begins_port b) (eqb b 63) (rw same h.3) e))
+front_begins bs h = grind arith
 
 marks_join : (tail : List ℕ) → Begins begins_port tail → tail ≡ behind 58 (port_and_params tail).0 ++ behind 59 (port_and_params tail).1
-marks_join [] h = refl
-marks_join (b ∷ bs) (inl e) = absurd cc
-marks_join (b ∷ bs) (inr h) =
-    let same : b ≡ h.0 = cc in
-    cond_both (eqb b 58) (Some (cut (is 59) bs).0, (cut (is 59) bs).1) (None, Some bs) (λ (r : Marks). b ∷ bs ≡ behind 58 r.0 ++ behind 59 r.1)
-    (λ e. ap (λ c. c ∷ bs) (eqb-true _ _ e) ∙ ap (λ (cs : List ℕ). 58 ∷ cs) (cut_joins 59 bs))
-    (λ e. ap (λ c. c ∷ bs) (eqb-true _ _ (or_but (eqb b 59) (eqb b 58) (or_swapped (eqb b 58) (eqb b 59) (rw same h.3)) e)))
-
-glue : (rest host tail front port params split headers : List ℕ) → host ++ tail ≡ rest → tail ≡ front ++ headers → front ≡ port ++ params → split ≡ params → rest ≡ host ++ (port ++ (split ++ headers))
-glue rest host tail front port params split headers b c d e =
-    sym b ∙ ap (λ (x : List ℕ). host ++ x) (c ∙ ap (λ (x : List ℕ). x ++ headers) d ∙ append_assoc port params headers ∙ ap (λ (x : List ℕ). port ++ (x ++ headers)) (sym e))
+marks_join tail h = grind (arith, cut_joins)
 
 abbrev parts_rest : Parts → List ℕ
 parts_rest p = p.host ++ (behind 58 p.port ++ (params_text (pieces_behind 59 p.params) ++ behind 63 p.headers))
@@ -85,20 +51,14 @@ rest_joins body =
     let n = host_len false user.1 in
     let tail = cut (is 63) (drop n user.1) in
     let marks = port_and_params tail.0 in
-    glue user.1 (take n user.1) (drop n user.1) tail.0 (behind 58 marks.0) (behind 59 marks.1) (params_text (pieces_behind 59 marks.1)) (behind 63 tail.1)
-    (take-append-drop n user.1)
-    (cut_joins 63 (drop n user.1))
-    (marks_join tail.0 (front_begins (drop n user.1) (host_stops false user.1)))
-    (pieces_behind_join 59 marks.1)
+    grind (arith, common_steps, cut_joins 63 (drop n user.1), marks_join tail.0 (front_begins (drop n user.1) (host_stops false user.1)), pieces_behind_join 59 marks.1)
 
 user_is : (body : List ℕ) → (user_of (cut (is 64) body)).0 ≡ (parts_of body).user
 unfolding parts_of
 user_is body = refl
 
 pub parts_join : (body : List ℕ) → body ≡ user_text (parts_of body).user ++ parts_rest (parts_of body)
-parts_join body =
-    let user = user_of (cut (is 64) body) in
-    cut_joins 64 body ∙ user_joins (cut (is 64) body) ∙ ap (λ (x : List ℕ). user_text user.0 ++ x) (rest_joins body) ∙ ap (λ (w : Option (List ℕ)). user_text w ++ parts_rest (parts_of body)) (user_is body)
+parts_join body = grind (arith, common_steps, cut_joins 64 body, rest_joins body, user_is body)
 
 pub spelled : (text : List ℕ) → text ≡ spelling (uri_of text)
 spelled text = sym (take-append-drop 4 text) ∙ ap (λ (x : List ℕ). take 4 text ++ x) (parts_join (drop 4 text))
@@ -106,16 +66,13 @@ spelled text = sym (take-append-drop 4 text) ∙ ap (λ (x : List ℕ). take 4 t
 -- ---- each test that passed
 
 guard : {A : Type 0} (b : Bool) (d : UriFault) (r : Result A UriFault) (u : A) → cond (not b) (Err d) r ≡ Ok u → (b ≡ true) × (r ≡ Ok u)
-guard true d r u e = (refl, e)
-guard false d r u e = absurd cc
+guard b d r u e = grind arith
 
 pub passes : (b : Bool) (f : UriFault) (rest : Option UriFault) → cond (not b) (Some f) rest ≡ None → (b ≡ true) × (rest ≡ None)
-passes true f rest e = (refl, e)
-passes false f rest e = absurd cc
+passes b f rest e = grind arith
 
 no_fault : (o : Option UriFault) (x u : Uri) → or_fault o x ≡ Ok u → (o ≡ None) × (u ≡ x)
-no_fault None x u e = (refl, cc)
-no_fault (Some f) x u e = absurd cc
+no_fault o x u e = grind arith
 
 -- what was read is the parts of the text, and each test passed
 pub record IsRead (text : List ℕ) (u : Uri) : Type 0 where
@@ -128,9 +85,7 @@ pub read_parts : (text : List ℕ) (u : Uri) → read_uri text ≡ Ok u → IsRe
 unfolding read_uri
 read_parts text u e =
     let a = guard (is_sip text) NotSip _ u e in
-    let b = guard (list_all is_uri_byte text) BadText _ u a.1 in
-    let c = no_fault (fault_of (parts_of (drop 4 text))) (uri_of text) u b.1 in
-    record { sip = a.0; bytes = b.0; parts = c.0; value = c.1 }
+    grind arith
 
 pub record AreGood (p : Parts) : Type 0 where
   pub host : is_host p.host ≡ true
@@ -140,37 +95,21 @@ pub record AreGood (p : Parts) : Type 0 where
 
 pub are_good : (p : Parts) → fault_of p ≡ None → AreGood p
 unfolding fault_of
-are_good p e =
-    let a = passes (is_host p.host) BadHost _ e in
-    let b = passes (is_port_if_any p.port) BadPort _ a.1 in
-    let c = passes (is_full p.user && list_all is_param (pieces_behind 59 p.params)) BadText None b.1 in
-    let both = and_parts (is_full p.user) (list_all is_param (pieces_behind 59 p.params)) c.0 in
-    record { host = a.0; port = b.0; user = both.0; params = both.1 }
+are_good p e = grind arith
 
 -- ---- the parts are those of the grammar
 
-pub port_is : (digits : List ℕ) → is_port digits ≡ true → IsPort digits
-port_is digits h =
-    let a = and_parts (leb (length digits) 5 && is_number digits && ltb 0 (number digits)) (leb (number digits) 65535) h in
-    let b = and_parts (leb (length digits) 5 && is_number digits) (ltb 0 (number digits)) a.0 in
-    let c = and_parts (leb (length digits) 5) (is_number digits) b.0 in
-    record { digits = c.1; short = leb-true _ _ c.0; positive = ltb-true _ _ b.1; within = leb-true _ _ a.1 }
-
 pub port_if_any : (port : Option (List ℕ)) → is_port_if_any port ≡ true → IfSome port IsPort
-port_if_any None h = tt
-port_if_any (Some digits) h = port_is digits h
+port_if_any port h = grind arith
 
 user_lacks : (c : Cut) → Lacks 64 c.0 → is_full (user_of c).0 ≡ true → IfSome (user_of c).0 (λ user. (user ≢ []) × Lacks 64 user)
-user_lacks (all, None) h f = tt
-user_lacks (user, Some rest) h f = (full user f, h)
+user_lacks c h f = grind arith
 
 rest_lacks : (c : Cut) → Lacks 64 c.0 → IfNone (user_of c).0 (Lacks 64 (user_of c).1)
-rest_lacks (all, None) h = h
-rest_lacks (user, Some rest) h = tt
+rest_lacks c h = grind arith
 
 valued : (value : Option (List ℕ)) → is_full value ≡ true → IfSome value (λ v. v ≢ [])
-valued None h = tt
-valued (Some v) h = full v h
+valued value h = grind arith
 
 param_is : (param : List ℕ) → is_param param ≡ true → Lacks 59 param → Lacks 63 param → IsParam param
 param_is param h semicolon question =
@@ -192,26 +131,17 @@ back_lacks : (mark other : ℕ) (bs : List ℕ) → Lacks other bs → IfSome (c
 back_lacks mark other bs h = of_back mark other bs (cut (is mark) bs) (cut_joins mark bs) h
 
 marked_lacks : (tail : List ℕ) → Lacks 63 tail → IfSome (port_and_params tail).1 (Lacks 63)
-marked_lacks [] h = tt
-marked_lacks (b ∷ bs) h =
-    cond_both (eqb b 58) (Some (cut (is 59) bs).0, (cut (is 59) bs).1) (None, Some bs) (λ (r : Marks). IfSome r.1 (Lacks 63))
-    (λ e. back_lacks 59 63 bs h.1)
-    (λ e. h.1)
+marked_lacks tail h = grind (arith, back_lacks)
 
 pieces_behind_lack : (params : Option (List ℕ)) → AllByRecursion (Lacks 59) (pieces_behind 59 params)
-pieces_behind_lack None = tt
-pieces_behind_lack (Some text) = pieces_lack 59 text
+pieces_behind_lack params = grind (arith, pieces_lack)
 
 pieces_behind_lack_other : (params : Option (List ℕ)) → IfSome params (Lacks 63) → AllByRecursion (Lacks 63) (pieces_behind 59 params)
-pieces_behind_lack_other None h = tt
-pieces_behind_lack_other (Some text) h = pieces_lack_other 59 63 text h
+pieces_behind_lack_other params h = grind (arith, pieces_lack_other)
 
 no_question : (body : List ℕ) → IfSome (parts_of body).params (Lacks 63)
 unfolding parts_of
-no_question body =
-    let user = user_of (cut (is 64) body) in
-    let tail = drop (host_len false user.1) user.1 in
-    marked_lacks (cut (is 63) tail).0 (cut_lacks 63 tail)
+no_question body = grind (arith, marked_lacks, cut_lacks)
 
 user_good : (body : List ℕ) → is_full (parts_of body).user ≡ true → IfSome (parts_of body).user (λ user. (user ≢ []) × Lacks 64 user)
 unfolding parts_of
@@ -226,25 +156,13 @@ is_uri text r =
     let body = drop 4 text in
     let p = parts_of body in
     let good = are_good p r.parts in
-    record {
-      scheme = scheme_is text r.sip;
-      bytes = subst (λ (t : List ℕ). list_all is_uri_byte t ≡ true) (spelled text) r.bytes;
-      user = user_good body good.user;
-      no_user = subst (λ (t : List ℕ). IfNone p.user (Lacks 64 t)) (rest_joins body) (rest_good body);
-      host = is_host-IsHost p.host good.host;
-      port = port_if_any p.port good.port;
-      params = params_are (pieces_behind 59 p.params) good.params (pieces_behind_lack p.params) (pieces_behind_lack_other p.params (no_question body));
-    }
+    grind (arith, common_steps, spelled text, rest_joins body, rest_good body, no_question body, user_good, is_host-IsHost, port_if_any, params_are, pieces_behind_lack, pieces_behind_lack_other)
 
 pub found : (text : List ℕ) (u : Uri) → read_uri text ≡ Ok u → IsUri u × (text ≡ spelling u)
-found text u e =
-    let r = read_parts text u e in
-    let same : uri_of text ≡ u = sym r.value in
-    subst (λ (v : Uri). IsUri v × (text ≡ spelling v)) same (is_uri text (record { sip = r.sip; bytes = r.bytes; parts = r.parts; value = refl }), spelled text)
+found text u e = grind (arith, read_parts text u e, spelled text, is_uri)
 
 pub is_found : (text : List ℕ) (r : Result Uri UriFault) → Gives (λ (u : Uri). u) r (read_uri text) → IfOk r (λ u. IsUri u × (text ≡ spelling u))
-is_found text (Ok u) h = found text u h
-is_found text (Err f) h = tt
+is_found text r h = grind (arith, found)
 
 -- the port of a URI that is kept is one
 pub kept_port : (text key : List ℕ) → IsKept text key → is_port_if_any (parts_of (drop 4 text)).port ≡ true

@@ -1,9 +1,8 @@
 -- What is a URI is read.
-use Rattle.sip_uri.proofs.Common.{◌≡◌, ◌≢◌, ℕ, ◌+◌, Bool, true, false, not, eqb, ltb, List, [], ◌∷◌, ◌++◌, length, map, take, drop, Option, Some, None, Result, Ok, Err, refl, sym, ap, subst, ◌∙◌, append_assoc, inl, inr, arith, IfSome}
-use Rattle.sip_uri.proofs.Common.{IfNone, ◌||◌, ◌&&◌, codes, to_ascii_lowercase, is_ascii_digit, list_all, AllByRecursion, append-nil, drop_at, length-append, length-map, take_at, cond-true, cond-false, eqb-true, eqb-false, and_from}
-use Rattle.sip_uri.proofs.Common.{and_parts, false≢true, false_from_ne_true, lt-ltb, le-leb, or_cases, behind, cut, is, Lacks, number, pieces_behind, cut_again, Lacks-append, Lacks-pass, joined, joined-behind, pieces_again, UriFault, Gives}
-use Rattle.sip_uri.proofs.Common.{IsParam, IsUri, hop_if_read, IsHost, IsPort, ends_host, host_len, is_address_byte, is_host, is_host_byte, Parts, is_full, is_param, is_port_if_any, is_sip, port_and_params, read_uri, uri_of, user_of, Uri}
-use Rattle.sip_uri.proofs.Common.{params_text, rest_text, spelling, user_text}
+use Rattle.sip_uri.proofs.Common.{◌≡◌, ◌≢◌, ℕ, ◌+◌, Bool, true, false, eqb, ltb, List, [], ◌∷◌, ◌++◌, length, map, take, drop, Option, Some, None, Result, Ok, Err, refl, sym, ap, subst, ◌∙◌, append_assoc, arith, IfSome, IfNone, ◌&&◌, codes}
+use Rattle.sip_uri.proofs.Common.{to_ascii_lowercase, is_ascii_digit, list_all, AllByRecursion, append-nil, drop_at, length-map, take_at, eqb-true, eqb-false, and_from, and_parts, false≢true, false_from_ne_true, behind, cut, is, Lacks, pieces_behind}
+use Rattle.sip_uri.proofs.Common.{cut_again, Lacks-append, Lacks-pass, joined, pieces_again, UriFault, Gives, IsParam, IsUri, hop_if_read, IsHost, IsPort, ends_host, host_len, is_address_byte, is_host, is_host_byte, Parts, is_full, is_param}
+use Rattle.sip_uri.proofs.Common.{is_port_if_any, is_sip, port_and_params, read_uri, user_of, Uri, params_text, rest_text, spelling, user_text, common_steps}
 use Rattle.std.specs.Prelude.{◌↔◌}
 use Rattle.std.specs.Str.{bytes_eq}
 use Rattle.sip_uri.specs.Fault.{fault_if_refused}
@@ -11,7 +10,7 @@ use Rattle.sip_uri.specs.Grammar.{IsUriText}
 use Rattle.sip_uri.specs.Hop.{hop_of}
 use Rattle.sip_uri.specs.Reading.{fault_of, parts_of}
 use Rattle.sip_uri.proofs.laws.Found.{found}
-use Rattle.sip_uri.proofs.laws.Hosts.{IsHost-is_host, full-ltb}
+use Rattle.sip_uri.proofs.laws.Hosts.{IsHost-is_host}
 use Rattle.sip_uri.proofs.Readings.{read_ok}
 
 abbrev Cut : Type 0
@@ -25,28 +24,13 @@ Ends [] = Unit {0}
 Ends (b ∷ bs) = ends_host b ≡ true
 
 stops_at : (tail : List ℕ) → Ends tail → host_len false tail ≡ 0
-stops_at [] h = refl
-stops_at (b ∷ bs) h = cond-true _ _ _ h
-
-name_byte : (b : ℕ) → is_host_byte b ≡ true → (ends_host b ≡ false) × (eqb b 91 ≡ false)
-name_byte b h = (
-  false_from_ne_true (ends_host b) (λ e. elim (or_cases (eqb b 58 || eqb b 59) (eqb b 63) e) [
-    | inl two ↦ elim (or_cases (eqb b 58) (eqb b 59) two) [
-      | inl colon ↦ let bad : is_host_byte 58 ≡ true = subst (λ x. is_host_byte x ≡ true) (eqb-true b 58 colon) h in absurd (false≢true bad)
-      | inr semicolon ↦ let bad : is_host_byte 59 ≡ true = subst (λ x. is_host_byte x ≡ true) (eqb-true b 59 semicolon) h in absurd (false≢true bad)
-    ]
-    | inr question ↦ let bad : is_host_byte 63 ≡ true = subst (λ x. is_host_byte x ≡ true) (eqb-true b 63 question) h in absurd (false≢true bad)
-  ]),
-  false_from_ne_true (eqb b 91) (λ e. let bad : is_host_byte 91 ≡ true = subst (λ x. is_host_byte x ≡ true) (eqb-true b 91 e) h in absurd (false≢true bad)),
-)
+stops_at tail h = grind arith
 
 name_len : (host tail : List ℕ) → list_all is_host_byte host ≡ true → Ends tail → host_len false (host ++ tail) ≡ length host
 name_len [] tail h ends = stops_at tail ends
 name_len (b ∷ bs) tail h ends =
     let both = and_parts (is_host_byte b) (list_all is_host_byte bs) h in
-    let byte = name_byte b both.0 in
-    let k : 1 + length bs ≡ length (b ∷ bs) = omega arith in
-    cond-false _ _ _ byte.0 ∙ ap (λ t. 1 + host_len t (bs ++ tail)) byte.1 ∙ ap (λ n. 1 + n) (name_len bs tail both.1 ends) ∙ k
+    grind (arith, name_len bs tail both.1 ends)
 
 address_byte : (b : ℕ) → is_address_byte b ≡ true → eqb b 93 ≡ false
 address_byte b h = false_from_ne_true (eqb b 93) (λ e. let bad : is_address_byte 93 ≡ true = subst (λ x. is_address_byte x ≡ true) (eqb-true b 93 e) h in absurd (false≢true bad))
@@ -55,15 +39,10 @@ inner_len : (inner tail : List ℕ) → list_all is_address_byte inner ≡ true 
 inner_len [] tail h ends = ap (λ n. 1 + n) (stops_at tail ends)
 inner_len (b ∷ bs) tail h ends =
     let both = and_parts (is_address_byte b) (list_all is_address_byte bs) h in
-    let k : 1 + length bs ≡ length (b ∷ bs) = omega arith in
-    ap (λ t. 1 + host_len (not t) (bs ++ 93 ∷ tail)) (address_byte b both.0) ∙ ap (λ n. 1 + n) (inner_len bs tail both.1 ends ∙ k)
+    grind (arith, inner_len bs tail both.1 ends)
 
 host_len-host : (host tail : List ℕ) → IsHost host → Ends tail → host_len false (host ++ tail) ≡ length host
-host_len-host host tail (inl n) ends = name_len host tail n.1 ends
-host_len-host host tail (inr r) ends =
-    let text : host ++ tail ≡ 91 ∷ (r.0 ++ 93 ∷ tail) = ap (λ (x : List ℕ). x ++ tail) r.1 ∙ ap (λ (x : List ℕ). 91 ∷ x) (append_assoc r.0 (93 ∷ []) tail) in
-    let n : 1 + (1 + length r.0) ≡ length host = omega (arith, ap length r.1, length-append r.0 (93 ∷ [])) in
-    ap (host_len false) text ∙ ap (λ m. 1 + m) (inner_len r.0 tail r.3 ends) ∙ n
+host_len-host host tail fact ends = grind (arith, common_steps, name_len, inner_len)
 
 -- ---- the tail is cut into port, parameters and headers
 
@@ -71,8 +50,7 @@ pub digits_lack : (mark : ℕ) (port : List ℕ) → is_ascii_digit mark ≡ fal
 digits_lack mark port fails p = Lacks-pass is_ascii_digit mark port fails (and_parts (ltb 0 (length port)) (list_all is_ascii_digit port) p.digits).1
 
 port_lacks : (port : Option (List ℕ)) → IfSome port IsPort → Lacks 63 (behind 58 port)
-port_lacks None h = tt
-port_lacks (Some digits) h = (eqb-false 58 63 refl, digits_lack 63 digits refl h)
+port_lacks port h = grind (arith, digits_lack)
 
 pub params_lack : (params : List (List ℕ)) → AllByRecursion IsParam params → Lacks 63 (params_text params)
 params_lack [] h = tt
@@ -82,21 +60,13 @@ pub each_lacks : (params : List (List ℕ)) → AllByRecursion IsParam params �
 each_lacks [] h = tt
 each_lacks (p ∷ ps) h = (h.0.no_semicolon, each_lacks ps h.1)
 
-ends_tail : (port : Option (List ℕ)) (params : List (List ℕ)) (headers : Option (List ℕ)) → Ends (behind 58 port ++ (params_text params ++ behind 63 headers))
-ends_tail (Some digits) params headers = refl
-ends_tail None [] None = tt
-ends_tail None [] (Some headers) = refl
-ends_tail None (p ∷ ps) headers = refl
-
 tail_cut : (port : Option (List ℕ)) (params : List (List ℕ)) (headers : Option (List ℕ)) → IfSome port IsPort → AllByRecursion IsParam params → cut (is 63) (behind 58 port ++ (params_text params ++ behind 63 headers)) ≡ (behind 58 port ++ params_text params, headers)
-tail_cut port params headers h k =
-    ap (cut (is 63)) (sym (append_assoc (behind 58 port) (params_text params) (behind 63 headers))) ∙ cut_again 63 (behind 58 port ++ params_text params) headers (Lacks-append 63 (behind 58 port) (params_text params) (port_lacks port h) (params_lack params k))
+tail_cut port params headers h k = grind (arith, common_steps, cut_again, port_lacks, params_lack)
 
 marks_again : (port : Option (List ℕ)) (params : List (List ℕ)) → IfSome port IsPort → port_and_params (behind 58 port ++ params_text params) ≡ (port, joined 59 params)
 marks_again None [] h = refl
 marks_again None (p ∷ ps) h = refl
-marks_again (Some digits) params h =
-    ap (λ (r : Cut). (Some r.0, r.1)) (ap (λ (x : List ℕ). cut (is 59) (digits ++ x)) (joined-behind 59 params) ∙ cut_again 59 digits (joined 59 params) (digits_lack 59 digits refl h))
+marks_again (Some digits) params h = grind (arith, cut_again 59 digits (joined 59 params) (digits_lack 59 digits refl h))
 
 -- ---- the parts are found again
 
@@ -124,37 +94,24 @@ abbrev parts_in : Uri → Parts
 parts_in u = record { user = u.user; host = u.host; port = u.port; params = joined 59 u.params; headers = u.headers }
 
 parts_again : (u : Uri) → IsUri u → parts_of (user_text u.user ++ rest_text u) ≡ parts_in u
-parts_again u h =
-    let tail = behind 58 u.port ++ (params_text u.params ++ behind 63 u.headers) in
-    parts_of-user (user_text u.user ++ rest_text u)
-    ∙ ap with_user (user_again u.user (rest_text u) h.user h.no_user)
-    ∙ ap (with_len u.user (rest_text u)) (host_len-host u.host tail h.host (ends_tail u.port u.params u.headers))
-    ∙ ap (λ (x : List ℕ). with_tail u.user x (cut (is 63) (drop (length u.host) (rest_text u)))) (take_at u.host tail _ refl)
-    ∙ ap (λ (x : List ℕ). with_tail u.user u.host (cut (is 63) x)) (drop_at u.host tail _ refl)
-    ∙ ap (with_tail u.user u.host) (tail_cut u.port u.params u.headers h.port h.params)
-    ∙ ap (with_marks u.user u.host u.headers) (marks_again u.port u.params h.port)
+parts_again u h = grind (arith, common_steps, parts_of-user, user_again, host_len-host, tail_cut, marks_again)
 
 -- ---- and pass each test
 
 pub port_good : (port : Option (List ℕ)) → IfSome port IsPort → is_port_if_any port ≡ true
-port_good None h = refl
-port_good (Some digits) h =
-    and_from _ _ (and_from _ _ (and_from _ _ (le-leb (length digits) 5 h.short) h.digits) (lt-ltb 0 (number digits) h.positive)) (le-leb (number digits) 65535 h.within)
+port_good port h = grind arith
 
 user_good : (user : Option (List ℕ)) → IfSome user (λ w. (w ≢ []) × Lacks 64 w) → is_full user ≡ true
-user_good None h = refl
-user_good (Some user) h = full-ltb user h.0
+user_good user h = grind (arith, common_steps)
 
 value_good : (value : Option (List ℕ)) → IfSome value (λ v. v ≢ []) → is_full value ≡ true
-value_good None h = refl
-value_good (Some v) h = full-ltb v h
+value_good value h = grind (arith, common_steps)
 
 abbrev good_cut : Cut → Bool
 good_cut c = ltb 0 (length c.0) && is_full c.1
 
 param_good : (param : List ℕ) → IsParam param → is_param param ≡ true
-param_good param h =
-    ap good_cut (ap (cut (is 61)) h.spelled ∙ cut_again 61 h.name h.value h.no_equals) ∙ and_from _ _ (full-ltb h.name h.full) (value_good h.value h.valued)
+param_good param h = grind (arith, common_steps, cut_again)
 
 params_good : (params : List (List ℕ)) → AllByRecursion IsParam params → list_all is_param params ≡ true
 params_good [] h = refl
@@ -162,16 +119,12 @@ params_good (p ∷ ps) h = and_from _ _ (param_good p h.0) (params_good ps h.1)
 
 no_fault : (p : Parts) → is_host p.host ≡ true → is_port_if_any p.port ≡ true → is_full p.user ≡ true → list_all is_param (pieces_behind 59 p.params) ≡ true → fault_of p ≡ None
 unfolding fault_of
-no_fault p host port user params =
-    cond-false _ _ _ (ap not host) ∙ cond-false _ _ _ (ap not port) ∙ cond-false _ _ _ (ap not (and_from _ _ user params))
+no_fault p host port user params = grind arith
 
 -- ---- the whole
 
 scheme_len : (u : Uri) → IsUri u → length u.scheme ≡ 4
 scheme_len u h = sym (length-map u.scheme to_ascii_lowercase) ∙ ap length h.scheme
-
-abbrev uri_from : List ℕ → Parts → Uri
-uri_from scheme p = record { scheme = scheme; user = p.user; host = p.host; port = p.port; params = pieces_behind 59 p.params; headers = p.headers }
 
 abbrev with_params : Uri → List (List ℕ) → Uri
 with_params u params = record { scheme = u.scheme; user = u.user; host = u.host; port = u.port; params = params; headers = u.headers }
@@ -188,8 +141,7 @@ read_again u h =
     let params = pieces_again 59 u.params (each_lacks u.params h.params) in
     let sip : is_sip text ≡ true = ap (λ (s : List ℕ). bytes_eq (map to_ascii_lowercase s) (codes "sip:")) front ∙ ap (λ (s : List ℕ). bytes_eq s (codes "sip:")) h.scheme in
     let passed = no_fault (parts_in u) (IsHost-is_host u.host h.host) (port_good u.port h.port) (user_good u.user h.user) (ap (list_all is_param) params ∙ params_good u.params h.params) in
-    let whole : uri_of text ≡ u = ap (λ (s : List ℕ). uri_from s (parts_of (drop 4 text))) front ∙ ap (uri_from u.scheme) parts ∙ ap (with_params u) params in
-    read_ok text sip h.bytes (ap fault_of parts ∙ passed) ∙ ap (λ (v : Uri). is_ok v) whole
+    grind (arith, read_ok)
 
 pub only_read : (text : List ℕ) (r : Result Uri UriFault) → Gives (λ (v : Uri). v) r (read_uri text) → (u : Uri) → IsUri u → text ≡ spelling u → Gives (λ (v : Uri). v) r (Ok u)
 only_read text r h u good spelled = subst (λ (x : Result Uri UriFault). Gives (λ (v : Uri). v) r x) (ap read_uri spelled ∙ read_again u good) h

@@ -1,9 +1,7 @@
 -- The items of a value within a line are values.
-use Rattle.sip_uri.proofs.Common.{◌≡◌, ℕ, suc, ◌+◌, ◌-◌, Bool, true, false, not, eqb, List, [], ◌∷◌, length, map, take, drop, refl, sym, ap, ◌∙◌, arith, ◌&&◌, Some, list_all, onto_first, prefix_len, and_from, and_parts, cond_both}
-use Rattle.sip_uri.proofs.Common.{take-append-drop, QuotesAndAngles, Place, Plain, is_space, trim, trim_start, pieces_from, pieces_outside, is_plain, place_after, items_behind, is_line, is_value}
-use Rattle.std.proofs.Common.{zero, reverse}
+use Rattle.sip_uri.proofs.Common.{◌≡◌, ℕ, suc, ◌+◌, ◌-◌, Bool, true, false, List, [], ◌∷◌, length, map, take, drop, refl, sym, ap, ◌∙◌, arith, Some, list_all, onto_first, prefix_len, and_from, and_parts, cond_both, take-append-drop, QuotesAndAngles}
+use Rattle.sip_uri.proofs.Common.{Place, Plain, is_space, trim, trim_start, pieces_from, pieces_outside, place_after, items_behind, is_line, is_value, common_steps}
 use Rattle.std.specs.List.{suffix_len}
-use Rattle.std.proofs.lemmas.List.{reverse-reverse}
 use Rattle.std.proofs.lemmas.List.Folds.{list_all-append}
 use Rattle.sip_lex.proofs.laws.Trims.{trim_end-reverse}
 use Rattle.sip_lex.specs.Values.{begins_with_space, is_line_byte, is_trimmed}
@@ -18,16 +16,10 @@ no_space_left (b ∷ bs) =
     (λ e. e)
 
 front_as_before : (n : ℕ) (bs : List ℕ) → begins_with_space bs ≡ false → begins_with_space (take n bs) ≡ false
-front_as_before zero bs h = refl
-front_as_before (suc n) [] h = refl
-front_as_before (suc n) (b ∷ bs) h = h
+front_as_before n bs h = grind arith
 
 trim_trimmed : (bs : List ℕ) → is_trimmed (trim bs) ≡ true
-trim_trimmed bs =
-    let s = trim_start bs in
-    let front : begins_with_space (trim bs) ≡ false = front_as_before (length s - suffix_len is_space s) s (no_space_left bs) in
-    let back : begins_with_space (reverse (trim bs)) ≡ false = ap (λ (x : List ℕ). begins_with_space (reverse x)) (trim_end-reverse s) ∙ ap begins_with_space (reverse-reverse (trim_start (reverse s))) ∙ no_space_left (reverse s) in
-    and_from (not (begins_with_space (trim bs))) (not (begins_with_space (reverse (trim bs)))) (ap not front) (ap not back)
+trim_trimmed bs = grind (arith, common_steps, front_as_before, no_space_left, trim_end-reverse)
 
 -- ---- parts of a line
 
@@ -40,19 +32,14 @@ trim_line bs h =
     (all_parts is_line_byte (length s - suffix_len is_space s) s (all_parts is_line_byte (prefix_len is_space bs) bs h).1).0
 
 pub onto_line : (b : ℕ) (parts : List (List ℕ)) → is_line_byte b ≡ true → list_all is_line parts ≡ true → list_all is_line (onto_first b parts) ≡ true
-onto_line b [] h k = and_from (is_line (b ∷ [])) true (and_from (is_line_byte b) true h refl) refl
-onto_line b (part ∷ parts) h k =
-    let each = and_parts (is_line part) (list_all is_line parts) k in
-    and_from (is_line (b ∷ part)) (list_all is_line parts) (and_from (is_line_byte b) (is_line part) h each.0) each.1
+onto_line b parts h k = grind arith
 
 pieces_line : (place : Place) (bs : List ℕ) → is_line bs ≡ true → list_all is_line (pieces_from QuotesAndAngles 44 place bs) ≡ true
 pieces_line place [] h = refl
 pieces_line place (b ∷ bs) h =
     let each = and_parts (is_line_byte b) (is_line bs) h in
     let later = place_after QuotesAndAngles place b in
-    cond_both (is_plain place && eqb b 44) ([] ∷ pieces_outside QuotesAndAngles 44 bs) (onto_first b (pieces_from QuotesAndAngles 44 later bs)) (λ (ps : List (List ℕ)). list_all is_line ps ≡ true)
-    (λ e. pieces_line Plain bs each.1)
-    (λ e. onto_line b (pieces_from QuotesAndAngles 44 later bs) each.0 (pieces_line later bs each.1))
+    grind (arith, onto_line b (pieces_from QuotesAndAngles 44 later bs) each.0 (pieces_line later bs each.1))
 
 trimmed_values : (ps : List (List ℕ)) → list_all is_line ps ≡ true → list_all is_value (map trim ps) ≡ true
 trimmed_values [] h = refl

@@ -1,4 +1,4 @@
-use Rattle.std.specs.Option.{option_copied}
+use Rattle.sip_uri.proofs.Common.{option_copied}
 use Rattle.sip_uri.proofs.Contacts.{next_contact}
 use Rattle.sip_uri.proofs.contact.contacts_of.Goals as goal
 

@@ -1,4 +1,4 @@
-use Rattle.sip_uri.specs.SeenContact.{view_contacts}
+use Rattle.sip_uri.proofs.Common.{view_contacts}
 use Rattle.sip_uri.proofs.Listed.{contacts_found, items_found, only_contacts, values_found}
 use Rattle.sip_uri.proofs.contact.read_contacts.Goals as goal
 

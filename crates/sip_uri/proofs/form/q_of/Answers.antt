@@ -1,4 +1,4 @@
-use Rattle.sip_uri.proofs.Common.{◌∙◌, sym, ap, option_copied, q_value_if_any}
+use Rattle.sip_uri.proofs.Common.{◌∙◌, sym, ap, option_copied, q_value_if_any, rules}
 use Rattle.sip_uri.proofs.Contacts.{q_first, q_later}
 use Rattle.sip_uri.proofs.form.q_of.Goals as goal
 
@@ -8,6 +8,4 @@ returns-then-is_q c =
     c.q_value_if_any.ensures ∙ ap q_value_if_any c.value_of.ensures ∙ q_first c.in-Some.text.now c.cut_param.result.0.now (option_copied c.cut_param.result.1) _ c.cut_param.ensures.value (sym c.is_q.ensures ∙ c.if-is_q.true) (rw c.in-Some.is at h)
 
 pub loop-rest-preserved : goal.loop-rest-preserved
-loop-rest-preserved c =
-    let h = c.loop-rest.invariant in
-    q_later c.in-Some.text.now c.cut_param.result.0.now (option_copied c.cut_param.result.1) _ c.cut_param.ensures.value (sym c.is_q.ensures ∙ c.if-is_q.false) (rw c.in-Some.is at h)
+loop-rest-preserved c = search (rules, q_later)

@@ -1,4 +1,4 @@
-use Rattle.std.proofs.Common.{◌∙◌, sym}
+use Rattle.sip_uri.proofs.Common.{◌∙◌, sym}
 use Rattle.sip_uri.proofs.laws.Hosts.{IsHost-is_host, is_host-IsHost}
 use Rattle.sip_uri.proofs.host.is_host.Goals as goal
 

@@ -1,4 +1,4 @@
-use Rattle.std.proofs.Common.{◌∙◌, sym}
+use Rattle.sip_uri.proofs.Common.{◌∙◌, sym}
 use Rattle.sip_uri.proofs.laws.Hosts.{address_of-cut}
 use Rattle.sip_uri.proofs.host.read_address.Goals as goal
 

@@ -1,7 +1,7 @@
-use Rattle.std.proofs.Common.{rules, tests}
+use Rattle.sip_uri.proofs.Common.{rules, is}
+use Rattle.std.proofs.Common.{tests}
 use Rattle.std.proofs.lemmas.Iterator.Search.{all_from_yields_List}
 use Rattle.std.proofs.lemmas.Iterator.Splits.{YieldsList-from_slice_split}
-use Rattle.sip_lex.specs.Cut.{is}
 use Rattle.sip_uri.specs.Hop.{allows_udp}
 use Rattle.sip_uri.proofs.next.all_allow_udp.Goals as goal
 

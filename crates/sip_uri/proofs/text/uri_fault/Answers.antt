@@ -1,4 +1,4 @@
-use Rattle.std.proofs.Common.{rules}
+use Rattle.sip_uri.proofs.Common.{rules}
 use Rattle.sip_uri.proofs.laws.Only.{no_fault_exactly}
 use Rattle.sip_uri.proofs.text.uri_fault.Goals as goal
 

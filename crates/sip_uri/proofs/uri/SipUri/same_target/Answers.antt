@@ -1,4 +1,4 @@
-use Rattle.std.proofs.Common.{rules}
+use Rattle.sip_uri.proofs.Common.{rules}
 use Rattle.sip_uri.proofs.uri.SipUri.same_target.Goals as goal
 
 pub returns : goal.returns

@@ -1,4 +1,4 @@
-use Rattle.std.proofs.Common.{rules}
+use Rattle.sip_uri.proofs.Common.{rules}
 use Rattle.sip_uri.proofs.Sorted.{key_params_members, key_params_sorted}
 use Rattle.sip_uri.proofs.uri.SipUri.target_key.Goals as goal
 
