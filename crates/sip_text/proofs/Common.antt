@@ -1,6 +1,6 @@
 -- The names that most proofs of this crate cite, passed on from one place. Declares nothing.
-pub use Rattle.std.proofs.Common.{Bool, Err, List, None, Ok, Option, Result, Some, [], ap, append_assoc, arith, codes, cond, drop, eqb, false, get_or, inl, inr, leb, length, length-take, ltb, map, not, refl, reverse, subst, suc, sym, take}
-pub use Rattle.std.proofs.Common.{true, zero, ℕ, ◌%◌, ◌&&◌, ◌++◌, ◌+◌, ◌-◌, ◌/◌, ◌<◌, ◌∙◌, ◌∷◌, ◌≡◌, ◌≢◌, ◌≤◌}
+pub use Rattle.std.proofs.Common.{Bool, Err, List, None, Ok, Option, Result, Some, [], ap, append_assoc, arith, codes, cond, drop, eqb, false, get_or, inl, inr, leb, length, length-take, ltb, map, not, refl, reverse, subst, suc, sym, take, true}
+pub use Rattle.std.proofs.Common.{zero, ℕ, ◌%◌, ◌&&◌, ◌++◌, ◌+◌, ◌-◌, ◌/◌, ◌<◌, ◌∙◌, ◌∷◌, ◌≡◌, ◌≢◌, ◌≤◌, rules}
 pub use Rattle.std.proofs.lemmas.Bool.{and_parts, cases_Bool, cond-false, cond-true, cond_both, eq-eqb, eqb-true, false_from_ne_true, false≢true, le-leb, leb-true, ne_eqb}
 pub use Rattle.std.proofs.lemmas.List.{append-nil, length-append, take-append-drop}
 pub use Rattle.std.proofs.lemmas.List.Folds.{list_all-append}
@@ -9,6 +9,7 @@ pub use Rattle.std.specs.Char.{is_ascii_digit}
 pub use Rattle.std.specs.List.{AllByRecursion, flat_map, join_with_byte, list_all, prefix_len, suffix_len}
 pub use Rattle.std.specs.Option.{option_copied}
 pub use Rattle.std.specs.Str.{bytes_eq, str_to_ascii_lowercase}
+pub use Rattle.std.proofs.lemmas.Grind.{common_steps}
 pub use Rattle.sip_lex.proofs.laws.Cuts.{cut_joins, cut_lacks}
 pub use Rattle.sip_lex.proofs.laws.Lines.{line_at-again, line_at-takes}
 pub use Rattle.sip_lex.proofs.laws.Trims.{token_byte-space, token_bytes, trim-space}
@@ -24,8 +25,8 @@ pub use Rattle.sip_text.specs.Grammar.{AreHeaders, IsBody, IsFull, IsHeader, IsS
 pub use Rattle.sip_text.specs.Message.{IsMessage, after_headers, after_line, after_start, fits_body, head_of, if_present, is_header, is_line, is_line_byte, is_start, is_trimmed, is_value, read_at, zeroed}
 pub use Rattle.sip_text.specs.Name.{same_name, values_of}
 pub use Rattle.sip_text.specs.Reading.{BadCSeq, BadHeader, BadLength, BadStart, BadStatus, BadVersion, Fault, Group, Headers, Lacks, Lines, Short, after_uri, before_group, begins_with_sip, begins_with_space, closed, header_of, header_of_cut}
-pub use Rattle.sip_text.specs.Reading.{headers_at, is_printed, is_status, is_uri, is_version, joined, lines_at, lines_from, number_of, part_text, request_of, response_of, skip, start_of, status_of, tail_at, tail_of_group, tail_of_lines}
-pub use Rattle.sip_text.specs.Reading.{with_header, with_line}
+pub use Rattle.sip_text.specs.Reading.{headers_at, is_printed, is_status, is_uri, is_version, joined, lines_at, lines_from, number_of, part_text, request_of, response_of, skip, start_of, status_of, tail_at, tail_of_group, tail_of_lines, with_header}
+pub use Rattle.sip_text.specs.Reading.{with_line}
 pub use Rattle.sip_text.specs.Seen.{view, view_start, views}
 pub use Rattle.sip_text.specs.StartFaults.{HasStartFault}
 pub use Rattle.sip_text.specs.Tag.{tag_of_params}

@@ -1,5 +1,5 @@
 -- Cutting at the first byte that passes a test.
-use Rattle.sip_text.proofs.Common.{◌≡◌, ℕ, Bool, true, false, List, [], ◌∷◌, ◌++◌, Option, Some, None, refl, ap, ◌∙◌, AllByRecursion, cond_both, cond-true, cond-false, cut}
+use Rattle.sip_text.proofs.Common.{◌≡◌, ℕ, Bool, true, false, List, [], ◌∷◌, ◌++◌, Option, Some, None, refl, ap, ◌∙◌, AllByRecursion, cond_both, cond-true, cond-false, cut, common_steps, arith}
 
 abbrev pub Cut : Type 0
 Cut = List ℕ × Option (List ℕ)
@@ -9,16 +9,9 @@ abbrev pub JoinsAt : (ℕ → Bool) → List ℕ → Cut → Type 0
 JoinsAt p bs (front, None) = bs ≡ front
 JoinsAt p bs (front, Some back) = (b : ℕ) × (p b ≡ true) × (bs ≡ front ++ b ∷ back)
 
-join_more : (p : ℕ → Bool) (b : ℕ) (bs : List ℕ) (c : Cut) → JoinsAt p bs c → JoinsAt p (b ∷ bs) (b ∷ c.0, c.1)
-join_more p b bs (front, None) h = ap (λ (x : List ℕ). b ∷ x) h
-join_more p b bs (front, Some back) h = (h.0, h.1, ap (λ (x : List ℕ). b ∷ x) h.2)
-
 pub cut_joins_at : (p : ℕ → Bool) (bs : List ℕ) → JoinsAt p bs (cut p bs)
 cut_joins_at p [] = refl
-cut_joins_at p (b ∷ bs) =
-    cond_both (p b) ([], Some bs) (b ∷ (cut p bs).0, (cut p bs).1) (λ (c : Cut). JoinsAt p (b ∷ bs) c)
-    (λ e. (b, e, refl))
-    (λ e. join_more p b bs (cut p bs) (cut_joins_at p bs))
+cut_joins_at p (b ∷ bs) = grind (arith, cut_joins_at p bs)
 
 -- what was joined is cut so
 pub cut_again_at : (p : ℕ → Bool) (front : List ℕ) (b : ℕ) (back : List ℕ) → AllByRecursion (λ x. p x ≡ false) front → p b ≡ true → cut p (front ++ b ∷ back) ≡ (front, Some back)

@@ -1,6 +1,6 @@
 -- Lines as headers, by the relation and by the function.
-use Rattle.sip_text.proofs.Common.{◌≡◌, ℕ, Bool, true, false, List, [], ◌∷◌, ◌++◌, map, Option, Some, None, refl, sym, ap, subst, ◌∙◌, inl, inr, flat_map, AllByRecursion, cases_Bool, cond-true, cond-false, false_from_ne_true, is_token}
-use Rattle.sip_text.proofs.Common.{trim, trim_end, cut, is, behind, cut_joins, cut_lacks, AreHeaders, IsHeader, Group, before_group, begins_with_space, header_of, header_of_cut, joined, part_text, with_header, HeaderText}
+use Rattle.sip_text.proofs.Common.{◌≡◌, ℕ, Bool, true, false, List, [], ◌∷◌, ◌++◌, map, Option, Some, None, refl, sym, ap, subst, ◌∙◌, inl, inr, flat_map, AllByRecursion, cases_Bool, cond-true, cond-false, false_from_ne_true, is_token, trim}
+use Rattle.sip_text.proofs.Common.{trim_end, cut, is, behind, cut_joins, cut_lacks, AreHeaders, IsHeader, Group, before_group, begins_with_space, header_of, header_of_cut, joined, part_text, with_header, HeaderText, rules, common_steps, arith}
 use Rattle.sip_lex.specs.Cut.{Lacks}
 use Rattle.sip_lex.proofs.laws.Cuts.{cut_again}
 use Rattle.sip_text.specs.Reading.{grouped}
@@ -28,31 +28,13 @@ parts_are (l ∷ more) = ap (λ (x : List ℕ). part_of l ++ x) (parts_are more)
 abbrev kept : List ℕ → List ℕ → List (List ℕ) → HeaderText
 kept front raw parts = record { name = trim_end front; value = joined (trim raw) parts }
 
-same_header : (h : HeaderText) (name value : List ℕ) → h.name ≡ name → h.value ≡ value → found (record { name = name; value = value }) ≡ Some h
-same_header h name value n v = ap (λ (x : List ℕ). found (record { name = x; value = value })) (sym n) ∙ ap (λ (x : List ℕ). found (record { name = h.name; value = x })) (sym v)
-
 header_again : (line : List ℕ) (more : List (List ℕ)) (h : HeaderText) → IsHeader line more h → header_of line (trims more) ≡ Some h
 header_again line more h t =
     let c : cut is_colon line ≡ (t.front, Some t.raw) = ap (cut is_colon) t.parts ∙ cut_again 58 t.front (Some t.raw) t.no_colon in
-    let token : is_token (trim_end t.front) ≡ true = ap is_token (sym t.name) ∙ t.is_name in
-    ap (λ (x : Cut). header_of_cut x (trims more)) c ∙ cond-true _ _ _ token ∙ same_header h (trim_end t.front) (joined (trim t.raw) (trims more)) t.name (t.value ∙ ap (λ (x : List ℕ). trim (trim t.raw ++ x)) (sym (parts_are more)))
+    grind (arith, parts_are)
 
 header_cut_found : (line : List ℕ) (c : Cut) (more : List (List ℕ)) (h : HeaderText) → line ≡ c.0 ++ behind 58 c.1 → Lacks 58 c.0 → AllByRecursion (λ l. begins_with_space l ≡ true) more → header_of_cut c (trims more) ≡ Some h → IsHeader line more h
-header_cut_found line (front, None) more h e lacks cont read = absurd cc
-header_cut_found line (front, Some raw) more h e lacks cont read =
-    elim (cases_Bool (is_token (trim_end front))) [
-      | inl token ↦ subst (IsHeader line more) (some_is (kept front raw (trims more)) h (sym (cond-true _ _ _ token) ∙ read)) (record {
-        front = front;
-        raw = raw;
-        parts = e;
-        no_colon = lacks;
-        name = refl;
-        is_name = token;
-        value = ap (λ (x : List ℕ). trim (trim raw ++ x)) (parts_are more);
-        continues = cont;
-      })
-      | inr none ↦ let wrong : None ≡ found h = sym (cond-false _ _ _ none) ∙ read in absurd cc
-    ]
+header_cut_found line c more h e lacks cont read = search (rules, cases_Bool, some_is, cond-true, parts_are, found, cond-false)
 
 -- ---- what is spelled so is read
 

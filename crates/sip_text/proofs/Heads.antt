@@ -1,6 +1,6 @@
 -- What was read where reading answered.
-use Rattle.sip_text.proofs.Common.{◌≡◌, ◌∙◌, ℕ, true, cond, List, Option, Some, None, Result, Ok, Err, ap, sym, cond-true, line_at, pieces, Needed, cseq_fits, missing, said_length, after_headers, after_line, after_start, if_present, or_bad}
-use Rattle.sip_text.proofs.Common.{BadCSeq, Fault, Headers, headers_at, skip, start_of, HeaderText, StartText}
+use Rattle.sip_text.proofs.Common.{◌≡◌, ◌∙◌, ℕ, true, cond, List, Option, Some, None, Result, Ok, Err, ap, sym, cond-true, line_at, pieces, Needed, cseq_fits, missing, said_length, after_headers, after_line, after_start, if_present, or_bad, BadCSeq}
+use Rattle.sip_text.proofs.Common.{Fault, Headers, headers_at, skip, start_of, HeaderText, StartText, common_steps, arith}
 use Rattle.sip_text.specs.Message.{body_at, checked, read_at}
 use Rattle.sip_text.proofs.Joins.{join_pieces}
 
@@ -8,8 +8,7 @@ abbrev there : Headers → Option Headers
 there x = Some x
 
 pub some_headers : (o : Option Headers) (x : Headers) → or_bad o ≡ Ok x → o ≡ Some x
-some_headers None x e = absurd cc
-some_headers (Some y) x e = let same : y ≡ x = cc in ap there same
+some_headers o x e = grind arith
 
 pub checked_is : (s : StartText) (hs : List HeaderText) (rest : List ℕ) → missing hs ≡ None → cseq_fits s hs ≡ true → checked s hs rest ≡ body_at s hs rest (said_length hs)
 unfolding checked

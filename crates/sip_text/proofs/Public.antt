@@ -1,12 +1,11 @@
 -- What reading answered, by the relation.
-use Rattle.sip_text.proofs.Common.{ℕ, List, Result, Ok, Err, sym, subst, ◌∙◌, FailsAs, Gives, fault_seen, IsText, read_at, Fault, MessageText}
+use Rattle.sip_text.proofs.Common.{ℕ, List, Result, Ok, Err, sym, subst, ◌∙◌, FailsAs, Gives, fault_seen, IsText, read_at, Fault, MessageText, common_steps, arith}
 use Rattle.std.specs.Prelude.{IfOk}
 use Rattle.sip_text.specs.declared.fault.ReadFault.{ReadFault}
 use Rattle.sip_text.proofs.Whole.{text_found, text_read}
 
 pub is_found : {A : Type 0} (text : List ℕ) (r : Result MessageText (ReadFault A)) → Gives (λ m. m) r (read_at text) → IfOk r (λ m. IsText text m)
-is_found text (Ok m) e = text_found text m e
-is_found text (Err f) e = tt
+is_found text r e = grind (arith, text_found)
 
 pub is_only : {A : Type 0} (text : List ℕ) (r : Result MessageText (ReadFault A)) → Gives (λ m. m) r (read_at text) → (m : MessageText) → IsText text m → Gives (λ m. m) r (Ok m)
 is_only text (Ok x) e m t = sym (text_read text m t) ∙ e

@@ -1,8 +1,8 @@
 -- Texts that are refused, by the relation and by the function.
-use Rattle.sip_text.proofs.Common.{◌≡◌, ◌≢◌, ℕ, ◌<◌, ◌≤◌, false, cond, eqb, leb, List, [], ◌∷◌, ◌++◌, length, take, get_or, Option, Some, None, Result, Ok, Err, refl, sym, ap, subst, ◌∙◌, inl, inr, arith, ◌&&◌, join_with_byte, cases_Bool}
-use Rattle.sip_text.proofs.Common.{cond_both, cond-true, cond-false, false_from_ne_true, false≢true, leb-true, ended, line_at, pieces, line_at-again, line_at-takes, BodyLength, Unsaid, Bytes, Wrong, Needed, cseq_fits, missing, said_length}
-use Rattle.sip_text.proofs.Common.{blank_lines, after_headers, after_line, after_start, head_of, if_present, Fault, BadStart, BadHeader, Lacks, BadVersion, BadStatus, Short, BadCSeq, BadLength, Headers, headers_at, skip, start_of}
-use Rattle.sip_text.proofs.Common.{HasStartFault, HeaderText, MessageText, StartText}
+use Rattle.sip_text.proofs.Common.{◌≡◌, ◌≢◌, ℕ, ◌<◌, ◌≤◌, false, cond, eqb, leb, List, [], ◌∷◌, ◌++◌, length, take, get_or, Option, Some, None, Result, Ok, Err, refl, sym, ap, subst, ◌∙◌, inl, inr, arith, ◌&&◌, join_with_byte, cases_Bool, cond_both}
+use Rattle.sip_text.proofs.Common.{cond-true, cond-false, false_from_ne_true, false≢true, leb-true, ended, line_at, pieces, line_at-again, line_at-takes, BodyLength, Unsaid, Bytes, Wrong, Needed, cseq_fits, missing, said_length, blank_lines}
+use Rattle.sip_text.proofs.Common.{after_headers, after_line, after_start, head_of, if_present, Fault, BadStart, BadHeader, Lacks, BadVersion, BadStatus, Short, BadCSeq, BadLength, Headers, headers_at, skip, start_of, HasStartFault, HeaderText}
+use Rattle.sip_text.proofs.Common.{MessageText, StartText, common_steps}
 use Rattle.std.proofs.lemmas.Bool.{leb-false}
 use Rattle.sip_text.specs.Message.{body_at, checked, read_at}
 use Rattle.sip_text.specs.Refusal.{Begins, FirstLine, HasFields, HasHead, HasHeaders, IsRefused}
@@ -41,17 +41,10 @@ first_found : (text line rest : List ℕ) → line_at (skip text) ≡ Some (line
 first_found text line rest at =
     let t = line_at-takes (skip text) line rest at in
     let blank = skip_found text in
-    record {
-      blank = blank.0;
-      whole = blank.1 ∙ ap (λ (x : List ℕ). blank_lines blank.0 ++ x) t.whole;
-      is_line = t.is_line;
-      full = not_empty text line rest t.whole;
-    }
+    grind (arith, not_empty)
 
 first_read : (text line rest : List ℕ) → FirstLine text line rest → line_at (skip text) ≡ Some (line, rest)
-first_read text line rest f =
-    let front : skip text ≡ ended line ++ rest = ap skip f.whole ∙ skip_blank f.blank (ended line ++ rest) ∙ skip_line line rest f.is_line f.full in
-    ap line_at front ∙ line_at-again line rest f.is_line
+first_read text line rest f = grind (arith, skip_blank, skip_line, line_at-again)
 
 -- ---- each fault has its cause
 
@@ -69,13 +62,7 @@ start_line_refused text line rest BadLength first fault = absurd fault
 
 body_refused : (text : List ℕ) (start : StartText) (hs : List HeaderText) (rest : List ℕ) (said : BodyLength) (f : Fault) → HasHead text start hs rest → HasFields start hs → said_length hs ≡ said → body_at start hs rest said ≡ Err f → IsRefused text f
 unfolding body_at
-body_refused text start hs rest Unsaid f head fields at e = no_fault (record { start = start; headers = hs; body = rest }) f _ e
-body_refused text start hs rest Wrong f head fields at e = subst (IsRefused text) (same_fault BadLength f e) (start, hs, rest, head, fields, at)
-body_refused text start hs rest (Bytes n) f head fields at e =
-    elim (cases_Bool (leb n (length rest))) [
-      | inl fits ↦ no_fault (record { start = start; headers = hs; body = take n rest }) f _ (sym (cond-true _ _ _ fits) ∙ e)
-      | inr short ↦ subst (IsRefused text) (same_fault (Short (head_of start hs)) f (sym (cond-false _ _ _ short) ∙ e)) (start, hs, rest, head, fields, record { said = n; said_is = at; fewer = leb-false n (length rest) short; head = refl })
-    ]
+body_refused text start hs rest said f head fields at e = grind arith
 
 fields_refused : (text : List ℕ) (start : StartText) (hs : List HeaderText) (rest : List ℕ) (o : Option Needed) (f : Fault) → HasHead text start hs rest → missing hs ≡ o → if_present o (cond (cseq_fits start hs) (body_at start hs rest (said_length hs)) (Err BadCSeq)) ≡ Err f → IsRefused text f
 fields_refused text start hs rest (Some name) f head at e = subst (IsRefused text) (same_fault (Lacks name) f e) (start, hs, rest, head, at)
@@ -150,9 +137,7 @@ body_wrong start hs rest = refl
 
 body_short : (start : StartText) (hs : List HeaderText) (rest : List ℕ) (n : ℕ) (m : MessageText) → length rest < n → m ≡ head_of start hs → body_at start hs rest (Bytes n) ≡ Err (Short m)
 unfolding body_at
-body_short start hs rest n m fewer same =
-    let short : leb n (length rest) ≡ false = false_from_ne_true (leb n (length rest)) (λ e. let fits : n ≤ length rest = leb-true n (length rest) e in absurd (omega arith)) in
-    cond-false _ _ _ short ∙ ap (λ (x : MessageText). failed (Short x)) (sym same)
+body_short start hs rest n m fewer same = grind arith
 
 pub refused_again : (text : List ℕ) (f : Fault) → IsRefused text f → read_at text ≡ Err f
 unfolding read_at

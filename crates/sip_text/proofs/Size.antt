@@ -1,5 +1,5 @@
 -- The measure of a loop over what stands behind marks.
-use Rattle.std.proofs.Common.{ℕ, ◌+◌, List, length, Option, Some, None}
+use Rattle.sip_text.proofs.Common.{ℕ, ◌+◌, List, length, Option, Some, None}
 
 -- how much text is left
 abbrev pub size : Option (List ℕ) → ℕ

@@ -1,8 +1,8 @@
 -- Start lines that are spelled so are read.
-use Rattle.sip_text.proofs.Common.{◌≡◌, ℕ, ◌+◌, ◌/◌, ◌%◌, ◌≤◌, Bool, true, false, cond, eqb, leb, ltb, List, [], ◌∷◌, ◌++◌, length, take, map, get_or, Some, Result, Ok, Err, refl, sym, ap, subst, ◌∙◌, inl, inr, arith, ◌&&◌, codes}
-use Rattle.sip_text.proofs.Common.{is_ascii_digit, list_all, AllByRecursion, bytes_eq, str_to_ascii_lowercase, and_parts, cond_both, cond-true, cond-false, false_from_ne_true, false≢true, eqb-true, le-leb, leb-true, bytes_eq-Decides}
-use Rattle.sip_text.proofs.Common.{is_space, is_token, is_token_byte, cut, token_bytes, token_byte-space, IsStartLine, Fault, BadStatus, after_uri, begins_with_sip, is_printed, is_status, is_uri, is_version, number_of, request_of}
-use Rattle.sip_text.proofs.Common.{response_of, status_of, StartText, Request, Response, status_text}
+use Rattle.sip_text.proofs.Common.{◌≡◌, ℕ, ◌+◌, ◌/◌, ◌%◌, ◌≤◌, Bool, true, false, cond, eqb, leb, ltb, List, [], ◌∷◌, ◌++◌, length, take, map, get_or, Some, Result, Ok, Err, refl, sym, ap, subst, ◌∙◌, inl, inr, arith, ◌&&◌, codes, is_ascii_digit}
+use Rattle.sip_text.proofs.Common.{list_all, AllByRecursion, bytes_eq, str_to_ascii_lowercase, and_parts, cond_both, cond-true, cond-false, false_from_ne_true, false≢true, eqb-true, le-leb, leb-true, bytes_eq-Decides, is_space, is_token}
+use Rattle.sip_text.proofs.Common.{is_token_byte, cut, token_bytes, token_byte-space, IsStartLine, Fault, BadStatus, after_uri, begins_with_sip, is_printed, is_status, is_uri, is_version, number_of, request_of, response_of, status_of, StartText}
+use Rattle.sip_text.proofs.Common.{Request, Response, status_text, common_steps}
 use Rattle.std.specs.Char.{to_ascii_lowercase}
 use Rattle.std.proofs.lemmas.Bool.{ltb-false, or_cases}
 use Rattle.sip_text.specs.Grammar.{IsRequestLine, IsStatusLine}
@@ -24,11 +24,7 @@ token_apart bs h = all_apart is_token_byte bs token_byte-space (token_bytes bs h
 
 -- a space or a tab, in what holds of both
 space_case : (b : ℕ) (P : ℕ → Type 0) → is_space b ≡ true → P 32 → P 9 → P b
-space_case b P h x y =
-    elim (or_cases (eqb b 32) (eqb b 9) h) [
-      | inl e ↦ subst P (sym (eqb-true b 32 e)) x
-      | inr e ↦ subst P (sym (eqb-true b 9 e)) y
-    ]
+space_case b P h x y = grind arith
 
 not_space : (p : ℕ → Bool) (b : ℕ) → p 32 ≡ false → p 9 ≡ false → p b ≡ true → is_space b ≡ false
 not_space p b x y h = false_from_ne_true (is_space b) (λ e. false≢true (sym (space_case b (λ n. p n ≡ false) e x y) ∙ h))
@@ -71,17 +67,8 @@ version_begins (a ∷ b ∷ c ∷ d ∷ more) rest e = ap (λ (bs : List ℕ). b
 number_text : (n : ℕ) → n ≤ 699 → number_of (48 + n / 100) (48 + n / 10 % 10) (48 + n % 10) ≡ n
 number_text n h = omega arith
 
-pub is_digit : (d : ℕ) → d ≤ 9 → is_ascii_digit (48 + d) ≡ true
-is_digit d h = and_both (leb 48 (48 + d)) (leb (48 + d) 57) (le-leb 48 (48 + d) (omega arith)) (le-leb (48 + d) 57 (omega arith))
-
 status_again : (n gap : ℕ) (reason : List ℕ) → is_status n ≡ true → is_space gap ≡ true → status_of (status_text n ++ (gap ∷ reason)) ≡ Ok (Response n reason)
-status_again n gap reason s g =
-    let top : n ≤ 699 = leb-true n 699 (and_parts (leb 100 n) (leb n 699) s).1 in
-    let a = is_digit (n / 100) (omega arith) in
-    let b = is_digit (n / 10 % 10) (omega arith) in
-    let c = is_digit (n % 10) (omega arith) in
-    let form = and_both (is_ascii_digit (48 + n / 100) && is_ascii_digit (48 + n / 10 % 10) && is_ascii_digit (48 + n % 10)) (is_space gap) (and_both (is_ascii_digit (48 + n / 100) && is_ascii_digit (48 + n / 10 % 10)) (is_ascii_digit (48 + n % 10)) (and_both (is_ascii_digit (48 + n / 100)) (is_ascii_digit (48 + n / 10 % 10)) a b) c) g in
-    cond-true _ _ _ form ∙ ap (λ m. cond {A = Result StartText Fault} (is_status m) (Ok (Response m reason)) (Err BadStatus)) (number_text n top) ∙ cond-true _ _ _ s
+status_again n gap reason s g = grind arith
 
 response_again : (line : List ℕ) (status : ℕ) (reason : List ℕ) → IsStatusLine line status reason → start_of line ≡ Ok (Response status reason)
 unfolding start_of
@@ -91,14 +78,6 @@ response_again line status reason h =
     ap start_of h.parts ∙ cond-true _ _ _ (version_begins h.version (h.gap ∷ rest) (is_sip h.version h.version_is)) ∙ ap response_of c ∙ cond-true _ _ _ h.version_is ∙ status_again status h.second_gap reason h.status_is h.second_gap_is
 
 -- ---- a request line doesn't
-
-no_slash : (d : ℕ) → is_token_byte d ≡ true → to_ascii_lowercase d ≡ 47 → ⊥
-no_slash d h =
-    cond_both (ltb d 65) d (cond (ltb d 91) (d + 32) d) (λ n. n ≡ 47 → ⊥)
-    (λ low e. false≢true (subst (λ n. is_token_byte n ≡ true) e h))
-    (λ high. cond_both (ltb d 91) (d + 32) d (λ n. n ≡ 47 → ⊥)
-    (λ upper e. let large : 65 ≤ d = ltb-false d 65 high in omega arith)
-    (λ other e. let large : 65 ≤ d = ltb-false d 65 high in omega arith))
 
 pub gap_differs : (gap n : ℕ) → is_space gap ≡ true → is_space n ≡ false → to_ascii_lowercase gap ≡ n → ⊥
 gap_differs gap n h apart e = false≢true (sym (ap is_space e ∙ apart) ∙ lower_space gap h)
@@ -111,12 +90,7 @@ method_begins [] rest gap t g e = false≢true t
 method_begins (a ∷ []) rest gap t g e = gap_differs gap 105 g refl (ap (λ (x : List ℕ). get_or x 1 0) e)
 method_begins (a ∷ b ∷ []) rest gap t g e = gap_differs gap 112 g refl (ap (λ (x : List ℕ). get_or x 2 0) e)
 method_begins (a ∷ b ∷ c ∷ []) rest gap t g e = gap_differs gap 47 g refl (ap (λ (x : List ℕ). get_or x 3 0) e)
-method_begins (a ∷ b ∷ c ∷ d ∷ more) rest gap t g e =
-    let all = token_bytes (a ∷ b ∷ c ∷ d ∷ more) t in
-    let second = (and_parts (is_token_byte a) (list_all is_token_byte (b ∷ c ∷ d ∷ more)) all).1 in
-    let third = (and_parts (is_token_byte b) (list_all is_token_byte (c ∷ d ∷ more)) second).1 in
-    let fourth = (and_parts (is_token_byte c) (list_all is_token_byte (d ∷ more)) third).1 in
-    no_slash d (and_parts (is_token_byte d) (list_all is_token_byte more) fourth).0 (ap (λ (x : List ℕ). get_or x 3 0) e)
+method_begins (a ∷ b ∷ c ∷ d ∷ more) rest gap t g e = grind (arith, common_steps, and_parts)
 
 no_sip : (method rest : List ℕ) (gap : ℕ) → is_token method ≡ true → is_space gap ≡ true → begins_with_sip (method ++ gap ∷ rest) ≡ false
 no_sip method rest gap t g = false_from_ne_true (begins_with_sip (method ++ gap ∷ rest)) (λ h. method_begins method rest gap t g ((bytes_eq-Decides (lowered_front (method ++ gap ∷ rest)) (codes "sip/")).0 h))
@@ -130,5 +104,4 @@ request_again line method uri h =
     ap start_of h.parts ∙ cond-false _ _ _ (no_sip method rest h.gap h.method_is h.gap_is) ∙ ap request_of first ∙ ap (after_uri method) second ∙ cond-true _ _ _ h.version_is ∙ cond-true _ _ _ (and_both (is_token method) (is_uri uri) h.method_is h.uri_is)
 
 pub start_again : (line : List ℕ) (s : StartText) → IsStartLine line s → start_of line ≡ Ok s
-start_again line (Request method uri) h = request_again line method uri h
-start_again line (Response status reason) h = response_again line status reason h
+start_again line s h = grind (arith, request_again, response_again)

@@ -1,22 +1,19 @@
 -- The faults of a first line, by their statements and by the function.
-use Rattle.sip_text.proofs.Common.{◌≡◌, ℕ, ◌+◌, ◌/◌, ◌%◌, ◌<◌, true, false, cond, List, [], ◌∷◌, ◌++◌, get_or, Some, None, Result, Ok, Err, refl, sym, ap, subst, ◌∙◌, inl, inr, arith, ◌&&◌, codes, is_ascii_digit, bytes_eq, and_parts}
-use Rattle.sip_text.proofs.Common.{cond_both, cond-true, cond-false, bytes_eq-Decides, is_space, is_token, cut, Fault, BadStart, BadHeader, Lacks, BadVersion, BadStatus, Short, BadCSeq, BadLength, after_uri, begins_with_sip, is_status}
-use Rattle.sip_text.proofs.Common.{is_uri, is_version, number_of, request_of, response_of, status_of, HasStartFault, StartText, Request, Response, status_text}
+use Rattle.sip_text.proofs.Common.{◌≡◌, ℕ, ◌+◌, ◌/◌, ◌%◌, ◌<◌, true, false, cond, List, [], ◌∷◌, ◌++◌, get_or, Some, None, Result, Ok, Err, refl, sym, ap, subst, ◌∙◌, inl, inr, arith, ◌&&◌, codes, is_ascii_digit, bytes_eq, and_parts, cond_both}
+use Rattle.sip_text.proofs.Common.{cond-true, cond-false, bytes_eq-Decides, is_space, is_token, cut, Fault, BadStart, BadHeader, Lacks, BadVersion, BadStatus, Short, BadCSeq, BadLength, after_uri, begins_with_sip, is_status, is_uri, is_version}
+use Rattle.sip_text.proofs.Common.{number_of, request_of, response_of, status_of, HasStartFault, StartText, Request, Response, status_text, common_steps}
 use Rattle.sip_text.specs.Reading.{start_of}
 use Rattle.sip_text.specs.StartFaults.{HasBadStatus, HasOtherVersion, IsRequestVersion, IsWord}
 use Rattle.sip_text.proofs.Gaps.{Cut, JoinsAt, cut_again_at, cut_joins_at}
 use Rattle.sip_text.proofs.laws.Good.{and_both}
-use Rattle.sip_text.proofs.StartAgain.{gap_differs, is_digit, is_sip, lowered_front, start_again, version_apart, version_begins}
+use Rattle.sip_text.proofs.StartAgain.{gap_differs, is_sip, lowered_front, start_again, version_apart, version_begins}
 use Rattle.sip_text.proofs.StartLines.{digit_range, digits_text, start_found}
 
 -- ---- words
 
 word_cut : (bs : List ℕ) → IsWord (cut is_space bs).0
 word_cut [] = tt
-word_cut (b ∷ bs) =
-    cond_both (is_space b) ([], Some bs) (b ∷ (cut is_space bs).0, (cut is_space bs).1) (λ (c : Cut). IsWord c.0)
-    (λ e. tt)
-    (λ e. (e, word_cut bs))
+word_cut (b ∷ bs) = grind (arith, word_cut bs)
 
 cut_word : (word : List ℕ) → IsWord word → cut is_space word ≡ (word, None)
 cut_word [] h = refl
@@ -27,11 +24,7 @@ sip_front bs h = (bytes_eq-Decides (lowered_front bs) (codes "sip/")).0 h
 
 -- where a line begins with `SIP/`, so does its first word
 first_word_begins : (word rest : List ℕ) (gap : ℕ) → is_space gap ≡ true → lowered_front (word ++ gap ∷ rest) ≡ codes "sip/" → begins_with_sip word ≡ true
-first_word_begins [] rest gap g e = absurd (gap_differs gap 115 g refl (ap (λ (x : List ℕ). get_or x 0 0) e))
-first_word_begins (a ∷ []) rest gap g e = absurd (gap_differs gap 105 g refl (ap (λ (x : List ℕ). get_or x 1 0) e))
-first_word_begins (a ∷ b ∷ []) rest gap g e = absurd (gap_differs gap 112 g refl (ap (λ (x : List ℕ). get_or x 2 0) e))
-first_word_begins (a ∷ b ∷ c ∷ []) rest gap g e = absurd (gap_differs gap 47 g refl (ap (λ (x : List ℕ). get_or x 3 0) e))
-first_word_begins (a ∷ b ∷ c ∷ d ∷ more) rest gap g e = ap (λ (bs : List ℕ). bytes_eq bs (codes "sip/")) e
+first_word_begins word rest gap g e = grind arith
 
 -- ---- what the function answers has been told of the bytes
 
@@ -77,15 +70,7 @@ status_told line version (a ∷ b ∷ c ∷ s ∷ reason) gap v g e =
     (λ other. tt)
 
 response_told : (line : List ℕ) (c : Cut) → begins_with_sip line ≡ true → JoinsAt is_space line c → IsWord c.0 → Told line (response_of c)
-response_told line (version, None) sip joins word =
-    cond_both (is_version version) (Err BadStart) (Err BadVersion) (Told line)
-    (λ v. tt)
-    (λ other. record {
-      version = version;
-      place = inl (record { response = sip; is_word = word; whole = inl joins });
-      begins = sym (ap begins_with_sip joins) ∙ sip;
-      other = other;
-    })
+response_told line (version, None) sip joins word = grind arith
 response_told line (version, Some rest) sip joins word =
     cond_both (is_version version) (status_of rest) (Err BadVersion) (Told line)
     (λ v. status_told line version rest joins.0 v joins.1 joins.2)
@@ -160,12 +145,7 @@ number_text : (n : ℕ) → n < 1000 → number_of (48 + n / 100) (48 + n / 10 %
 number_text n h = omega arith
 
 digits_again : (n gap : ℕ) (reason : List ℕ) → n < 1000 → is_status n ≡ false → is_space gap ≡ true → status_of (status_text n ++ (gap ∷ reason)) ≡ Err BadStatus
-digits_again n gap reason top none g =
-    let a = is_digit (n / 100) (omega arith) in
-    let b = is_digit (n / 10 % 10) (omega arith) in
-    let c = is_digit (n % 10) (omega arith) in
-    let form = and_both (is_ascii_digit (48 + n / 100) && is_ascii_digit (48 + n / 10 % 10) && is_ascii_digit (48 + n % 10)) (is_space gap) (and_both (is_ascii_digit (48 + n / 100) && is_ascii_digit (48 + n / 10 % 10)) (is_ascii_digit (48 + n % 10)) (and_both (is_ascii_digit (48 + n / 100)) (is_ascii_digit (48 + n / 10 % 10)) a b) c) g in
-    cond-true _ _ _ form ∙ ap (λ m. cond {A = Result StartText Fault} (is_status m) (Ok (Response m reason)) (Err BadStatus)) (number_text n top) ∙ cond-false _ _ _ none
+digits_again n gap reason top none g = grind arith
 
 pub status_again : (line : List ℕ) → HasBadStatus line → start_of line ≡ Err BadStatus
 unfolding start_of
@@ -176,22 +156,8 @@ status_again line h =
 
 -- ---- both ways
 
-other_answer : (line : List ℕ) (a b : Result StartText Fault) (P : Type 0) → start_of line ≡ a → start_of line ≡ b → (a ≡ b → ⊥) → P
-other_answer line a b P x y apart = absurd (apart (sym x ∙ y))
-
 pub fault_found : (line : List ℕ) (f : Fault) → start_of line ≡ Err f → HasStartFault line f
-fault_found line BadStart at = (
-  (λ s is. other_answer line (Err BadStart) (Ok s) ⊥ at (start_again line s is) (λ e. absurd cc)),
-  (λ h. other_answer line (Err BadStart) (Err BadVersion) ⊥ at (version_again line h) (λ e. absurd cc)),
-  (λ h. other_answer line (Err BadStart) (Err BadStatus) ⊥ at (status_again line h) (λ e. absurd cc)),
-)
-fault_found line BadVersion at = subst (Told line) at (start_told line)
-fault_found line BadStatus at = subst (Told line) at (start_told line)
-fault_found line BadHeader at = absurd (subst (Told line) at (start_told line))
-fault_found line (Lacks name) at = absurd (subst (Told line) at (start_told line))
-fault_found line (Short m) at = absurd (subst (Told line) at (start_told line))
-fault_found line BadCSeq at = absurd (subst (Told line) at (start_told line))
-fault_found line BadLength at = absurd (subst (Told line) at (start_told line))
+fault_found line f at = grind (arith, start_again, version_again, status_again, start_told)
 
 no_start : (line : List ℕ) (r : Result StartText Fault) → start_of line ≡ r → HasStartFault line BadStart → r ≡ Err BadStart
 no_start line (Ok s) at h = absurd (h.0 s (start_found line s at))

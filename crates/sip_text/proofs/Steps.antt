@@ -1,6 +1,5 @@
 -- Headers of one name, one by one.
-use Rattle.sip_text.proofs.Common.{◌≡◌, ℕ, true, false, List, [], ◌∷◌, length, refl, sym, ap, ◌∙◌, arith, cond-true, cond-false, same_name, view, views}
-use Rattle.sip_text.specs.Text.{HeaderText}
+use Rattle.sip_text.proofs.Common.{◌≡◌, ℕ, true, false, List, [], ◌∷◌, length, refl, sym, ap, ◌∙◌, arith, cond-true, cond-false, same_name, view, views, HeaderText, common_steps}
 use Rattle.sip_text.specs.Name.{values_of}
 
 pub named_here : (name : List ℕ) (hs rest : List HeaderText) (h : HeaderText) (all : List (List ℕ)) → hs ≡ h ∷ rest → same_name name (view h).name ≡ true → values_of name (views hs) ≡ all → all ≡ (view h).value ∷ values_of name (views rest)
@@ -13,5 +12,4 @@ named_later name hs rest h all split other e = sym (cond-false _ _ _ other) ∙ 
 
 pub none_named : (name : List ℕ) (hs : List HeaderText) → length hs ≡ 0 → values_of name (views hs) ≡ []
 unfolding values_of
-none_named name [] e = refl
-none_named name (h ∷ hs) e = absurd (omega arith)
+none_named name hs e = grind (arith, common_steps)

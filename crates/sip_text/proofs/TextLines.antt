@@ -1,6 +1,6 @@
 -- The lines of a text up to the empty one, by the whole text.
-use Rattle.sip_text.proofs.Common.{◌≡◌, ◌≢◌, ℕ, zero, suc, ◌<◌, List, [], ◌∷◌, ◌++◌, length, Option, Some, None, refl, sym, ap, subst, ◌∙◌, arith, append_assoc, flat_map, AllByRecursion, length-append, IsLine, ended, line_at, pieces}
-use Rattle.sip_text.proofs.Common.{line_at-again, line_at-takes, IsFull, Lines, lines_at, lines_from, with_line}
+use Rattle.sip_text.proofs.Common.{◌≡◌, ◌≢◌, ℕ, zero, suc, ◌<◌, List, [], ◌∷◌, ◌++◌, length, Option, Some, None, refl, sym, ap, subst, ◌∙◌, arith, append_assoc, flat_map, AllByRecursion, length-append, IsLine, ended, line_at, pieces, line_at-again}
+use Rattle.sip_text.proofs.Common.{line_at-takes, IsFull, Lines, lines_at, lines_from, with_line, common_steps}
 use Rattle.sip_lex.proofs.laws.Lines.{TakesLine}
 use Rattle.sip_text.proofs.laws.Good.{some_is}
 use Rattle.sip_text.proofs.Tails.{Front, lines_at-line, lines_front}
@@ -10,16 +10,9 @@ use Rattle.sip_text.proofs.Tails.{Front, lines_at-line, lines_front}
 empty_line : IsLine []
 empty_line = record { no_cr = tt; no_lf = tt }
 
-add_full : (line : List ℕ) (later : Option Lines) (behind : List (List ℕ)) → (line ≢ []) → lines_from (Some line) later behind ≡ with_line line later
-add_full [] later behind full = absurd (full refl)
-add_full (b ∷ bs) later behind full = refl
-
 pub lines_again : (lines : List (List ℕ)) (rest : List ℕ) → AllByRecursion IsFull lines → lines_at (pieces 10 (flat_map ended lines ++ (ended [] ++ rest))) ≡ Some (lines, pieces 10 rest)
 lines_again [] rest h = lines_at-line (ended [] ++ rest) ∙ ap lines_front (line_at-again [] rest empty_line)
-lines_again (line ∷ lines) rest h =
-    let tail = flat_map ended lines ++ (ended [] ++ rest) in
-    let whole : flat_map ended (line ∷ lines) ++ (ended [] ++ rest) ≡ ended line ++ tail = append_assoc (ended line) (flat_map ended lines) (ended [] ++ rest) in
-    ap (λ (x : List ℕ). lines_at (pieces 10 x)) whole ∙ lines_at-line (ended line ++ tail) ∙ ap lines_front (line_at-again line tail h.0.0) ∙ add_full line (lines_at (pieces 10 tail)) (pieces 10 tail) h.0.1 ∙ ap (with_line line) (lines_again lines rest h.1)
+lines_again (line ∷ lines) rest h = grind (arith, common_steps, lines_at-line, line_at-again, lines_again lines rest h.1)
 
 -- ---- and what is read is spelled so
 
@@ -36,16 +29,10 @@ shorter : (text line after : List ℕ) → TakesLine text line after → length 
 shorter text line after t = omega (arith, ap length t.whole, length-append (ended line) after, length-append line (13 ∷ 10 ∷ []))
 
 longer : (text line after : List ℕ) (y : Lines) → TakesLine text line after → (line ≢ []) → Split after y → Split text (line ∷ y.0, y.1)
-longer text line after y t full s = record {
-  rest = s.rest;
-  whole = t.whole ∙ ap (λ (x : List ℕ). ended line ++ x) s.whole ∙ sym (append_assoc (ended line) (flat_map ended y.0) (ended [] ++ s.rest));
-  are_full = ((t.is_line, full), s.are_full);
-  behind = s.behind;
-}
+longer text line after y t full s = grind (arith, common_steps)
 
 with_line_takes : (text line after : List ℕ) (later : Option Lines) (x : Lines) → TakesLine text line after → (line ≢ []) → ((y : Lines) → later ≡ Some y → Split after y) → with_line line later ≡ Some x → Split text x
-with_line_takes text line after None x t full s e = absurd cc
-with_line_takes text line after (Some y) x t full s e = subst (Split text) (some_is (line ∷ y.0, y.1) x e) (longer text line after y t full (s y refl))
+with_line_takes text line after later x t full s e = grind (arith, longer)
 
 cons_full : (b : ℕ) (bs : List ℕ) → (b ∷ bs) ≢ []
 cons_full b bs e = absurd cc

@@ -1,8 +1,8 @@
 -- Whole texts, by the relation and by the function.
-use Rattle.sip_text.proofs.Common.{◌≡◌, ◌≢◌, ℕ, zero, suc, ◌≤◌, true, cond, eqb, leb, List, [], ◌∷◌, ◌++◌, length, map, take, drop, Option, Some, None, Result, Ok, Err, refl, sym, ap, subst, ◌∙◌, inl, inr, arith, length-take, ◌&&◌}
-use Rattle.sip_text.proofs.Common.{flat_map, join_with_byte, AllByRecursion, and_parts, cases_Bool, cond_both, cond-true, cond-false, eqb-true, le-leb, leb-true, ne_eqb, length-append, take-append-drop, trim, IsLine, ended, line_at, pieces}
-use Rattle.sip_text.proofs.Common.{line_at-again, line_at-takes, BodyLength, Unsaid, Bytes, Wrong, Needed, cseq_fits, missing, said_length, AreHeaders, IsBody, IsFull, IsText, blank_lines, after_headers, after_line, after_start, head_of}
-use Rattle.sip_text.proofs.Common.{if_present, Fault, BadCSeq, BadHeader, BadLength, BadStart, Group, Headers, Lacks, Lines, Short, closed, lines_at, skip, tail_of_group, tail_of_lines, HeaderText, MessageText, StartText}
+use Rattle.sip_text.proofs.Common.{◌≡◌, ◌≢◌, ℕ, zero, suc, ◌≤◌, true, cond, eqb, leb, List, [], ◌∷◌, ◌++◌, length, map, take, drop, Option, Some, None, Result, Ok, Err, refl, sym, ap, subst, ◌∙◌, inl, inr, arith, length-take, ◌&&◌, flat_map}
+use Rattle.sip_text.proofs.Common.{join_with_byte, AllByRecursion, and_parts, cases_Bool, cond_both, cond-true, cond-false, eqb-true, le-leb, leb-true, ne_eqb, length-append, take-append-drop, trim, IsLine, ended, line_at, pieces, line_at-again}
+use Rattle.sip_text.proofs.Common.{line_at-takes, BodyLength, Unsaid, Bytes, Wrong, Needed, cseq_fits, missing, said_length, AreHeaders, IsBody, IsFull, IsText, blank_lines, after_headers, after_line, after_start, head_of, if_present, Fault, BadCSeq}
+use Rattle.sip_text.proofs.Common.{BadHeader, BadLength, BadStart, Group, Headers, Lacks, Lines, Short, closed, lines_at, skip, tail_of_group, tail_of_lines, HeaderText, MessageText, StartText, common_steps, rules}
 use Rattle.std.proofs.lemmas.List.{take_at}
 use Rattle.sip_text.specs.Message.{body_at, checked, read_at}
 use Rattle.sip_text.specs.Reading.{grouped, headers_at, start_of, tail_at}
@@ -47,22 +47,15 @@ skip_found (b ∷ c ∷ bs) =
 
 body_again : (m : MessageText) (rest : List ℕ) (said : BodyLength) → IsBody said rest m.body → body_at m.start m.headers rest said ≡ Ok m
 unfolding body_at
-body_again m rest Unsaid h = ap (λ (x : List ℕ). done (record { start = m.start; headers = m.headers; body = x })) h
-body_again m rest (Bytes n) h =
-    let long : n ≤ length rest = omega (arith, h.2, ap length h.1, length-append m.body h.0) in
-    let same : take n rest ≡ m.body = ap (take n) h.1 ∙ take_at m.body h.0 n h.2 in
-    cond-true _ _ _ (le-leb n (length rest) long) ∙ ap (λ (x : List ℕ). done (record { start = m.start; headers = m.headers; body = x })) same
-body_again m rest Wrong h = absurd h
+body_again m rest said h = grind (arith, common_steps)
 
 pub headers_read : (lines : List (List ℕ)) (hs : List HeaderText) (rest : List ℕ) → AllByRecursion IsFull lines → AreHeaders lines hs → headers_at (flat_map ended lines ++ (ended [] ++ rest)) ≡ Some (hs, pieces 10 rest)
 unfolding headers_at tail_at
-headers_read lines hs rest full are =
-    ap (λ (x : Option Lines). closed (tail_of_lines x)) (lines_again lines rest full) ∙ ap (λ (x : Option Group). closed (tail_of_group x (pieces 10 rest))) (headers_again lines hs are)
+headers_read lines hs rest full are = grind (arith, lines_again, headers_again)
 
 checked_again : (m : MessageText) (rest : List ℕ) → missing m.headers ≡ None → cseq_fits m.start m.headers ≡ true → IsBody (said_length m.headers) rest m.body → checked m.start m.headers rest ≡ Ok m
 unfolding checked
-checked_again m rest needed cseq body =
-    ap (λ (x : Option Needed). if_present x (cond (cseq_fits m.start m.headers) (body_at m.start m.headers rest (said_length m.headers)) (Err BadCSeq))) needed ∙ cond-true _ _ _ cseq ∙ body_again m rest (said_length m.headers) body
+checked_again m rest needed cseq body = grind (arith, body_again)
 
 no_start : (s : StartText) (line : List ℕ) → start_of line ≡ Ok s → (line ≢ [])
 unfolding start_of
@@ -74,12 +67,7 @@ text_read text m t =
     let tail = flat_map ended t.lines ++ (ended [] ++ t.rest) in
     let start = start_again t.line m.start t.start in
     let front : skip text ≡ ended t.line ++ tail = ap skip t.whole ∙ skip_blank t.blank (ended t.line ++ tail) ∙ skip_line t.line tail t.is_line (no_start m.start t.line start) in
-    ap (λ (x : List ℕ). after_line (line_at x)) front
-    ∙ ap after_line (line_at-again t.line tail t.is_line)
-    ∙ ap (λ (x : Result StartText Fault). after_start x tail) start
-    ∙ ap (after_headers m.start) (headers_read t.lines m.headers t.rest t.are_full t.headers)
-    ∙ ap (checked m.start m.headers) (join_pieces t.rest)
-    ∙ checked_again m t.rest t.needed t.cseq t.body
+    grind (arith, line_at-again, headers_read, join_pieces, checked_again)
 
 -- ---- and what is read is spelled so
 
@@ -104,14 +92,7 @@ group_are text lines None x s at e = absurd cc
 group_are text lines (Some (part ∷ parts, hs)) x s at e = absurd cc
 group_are text lines (Some ([], hs)) x s at e =
     let g = grouped_found lines.0 ([], hs) at in
-    subst (HeadersAre text) (some_is (hs, lines.1) x e) (record {
-      lines = lines.0;
-      rest = s.rest;
-      whole = s.whole;
-      are_full = s.are_full;
-      headers = own_headers lines.0 g.more g.others hs g.whole g.parts g.headers;
-      behind = s.behind;
-    })
+    grind (arith, own_headers)
 
 lines_are : (text : List ℕ) (o : Option Lines) (x : Headers) → lines_at (pieces 10 text) ≡ o → closed (tail_of_lines o) ≡ Some x → HeadersAre text x
 lines_are text None x at e = absurd cc
@@ -133,9 +114,7 @@ bad f m P e = absurd cc
 
 body_found : (start : StartText) (hs : List HeaderText) (rest : List ℕ) (said : BodyLength) (m : MessageText) → body_at start hs rest said ≡ Ok m → (m.start ≡ start) × ((m.headers ≡ hs) × IsBody said rest m.body)
 unfolding body_at
-body_found start hs rest Unsaid m e =
-    let same = ok_is (record { start = start; headers = hs; body = rest }) m e in
-    (ap (λ (x : MessageText). x.start) (sym same), (ap (λ (x : MessageText). x.headers) (sym same), ap (λ (x : MessageText). x.body) same))
+body_found start hs rest Unsaid m e = grind arith
 body_found start hs rest Wrong m e = bad BadLength m _ e
 body_found start hs rest (Bytes n) m e =
     elim (cases_Bool (leb n (length rest))) [
@@ -148,8 +127,7 @@ body_found start hs rest (Bytes n) m e =
     ]
 
 present_found : (o : Option Needed) (r : Read) (m : MessageText) → if_present o r ≡ Ok m → (o ≡ None) × (r ≡ Ok m)
-present_found None r m e = (refl, e)
-present_found (Some name) r m e = bad (Lacks name) m _ e
+present_found o r m e = grind arith
 
 pub checked_found : (start : StartText) (hs : List HeaderText) (rest : List ℕ) (m : MessageText) → checked start hs rest ≡ Ok m → Checked start hs rest m
 unfolding checked
@@ -169,34 +147,17 @@ all_found : (text line rest : List ℕ) (start : StartText) (x : Headers) (m : M
 all_found text line rest start x m at read are ok =
     let t = line_at-takes (skip text) line rest at in
     let blank = skip_found text in
-    let behind : join_with_byte 10 x.1 ≡ are.rest = ap (join_with_byte 10) (sym are.behind) ∙ join_pieces are.rest in
-    let whole : IsText text (with_body start x.0 m.body) = record {
-      blank = blank.0;
-      line = line;
-      lines = are.lines;
-      rest = are.rest;
-      whole = blank.1 ∙ ap (λ (y : List ℕ). blank_lines blank.0 ++ y) (t.whole ∙ ap (λ (y : List ℕ). ended line ++ y) are.whole);
-      is_line = t.is_line;
-      are_full = are.are_full;
-      start = start_found line start read;
-      headers = are.headers;
-      needed = ok.needed;
-      cseq = ok.cseq;
-      body = subst (λ (y : List ℕ). IsBody (said_length x.0) y m.body) behind ok.body;
-    } in
-    subst (λ (s : StartText). IsText text (with_body s m.headers m.body)) (sym ok.start_is) (subst (λ (hs : List HeaderText). IsText text (with_body start hs m.body)) (sym ok.headers_are) whole)
+    grind (arith, join_pieces, start_found)
 
 after_headers_found : (text line rest : List ℕ) (start : StartText) (o : Option Headers) (m : MessageText) → line_at (skip text) ≡ Some (line, rest) → start_of line ≡ Ok start → headers_at rest ≡ o → after_headers start o ≡ Ok m → IsText text m
 after_headers_found text line rest start None m at read hs e = bad BadHeader m _ e
 after_headers_found text line rest start (Some x) m at read hs e = all_found text line rest start x m at read (headers_found rest x hs) (checked_found start x.0 (join_with_byte 10 x.1) m e)
 
 after_start_found : (text line rest : List ℕ) (r : Result StartText Fault) (m : MessageText) → line_at (skip text) ≡ Some (line, rest) → start_of line ≡ r → after_start r rest ≡ Ok m → IsText text m
-after_start_found text line rest (Err f) m at read e = bad f m _ e
-after_start_found text line rest (Ok start) m at read e = after_headers_found text line rest start (headers_at rest) m at read refl e
+after_start_found text line rest r m at read e = search (rules, bad, after_headers_found)
 
 after_line_found : (text : List ℕ) (o : Option (List ℕ × List ℕ)) (m : MessageText) → line_at (skip text) ≡ o → after_line o ≡ Ok m → IsText text m
-after_line_found text None m at e = bad BadStart m _ e
-after_line_found text (Some (line, rest)) m at e = after_start_found text line rest (start_of line) m at refl e
+after_line_found text o m at e = search (rules, bad, after_start_found)
 
 pub text_found : (text : List ℕ) (m : MessageText) → read_at text ≡ Ok m → IsText text m
 unfolding read_at

@@ -1,7 +1,7 @@
 -- A message whose Content-Length is set to zero.
-use Rattle.sip_text.proofs.Common.{◌≡◌, ℕ, true, false, cond, List, [], ◌∷◌, map, length, Option, Some, None, refl, sym, ap, subst, ◌∙◌, ◌≤◌, take, inl, inr, arith, length-take, list_all, bytes_eq, str_to_ascii_lowercase, and_parts}
-use Rattle.sip_text.proofs.Common.{cases_Bool, cond_both, cond-true, cond-false, eq-eqb, false_from_ne_true, false≢true, bytes_eq-Decides, is_token, BodyLength, Unsaid, Bytes, Wrong, Needed, cseq_fits, missing, said_length, says, IsMessage}
-use Rattle.sip_text.proofs.Common.{fits_body, head_of, is_header, is_value, zeroed, same_name, HeaderText, StartText}
+use Rattle.sip_text.proofs.Common.{◌≡◌, ℕ, true, false, cond, List, [], ◌∷◌, map, length, Option, Some, None, refl, sym, ap, subst, ◌∙◌, ◌≤◌, take, inl, inr, arith, length-take, list_all, bytes_eq, str_to_ascii_lowercase, and_parts, cases_Bool}
+use Rattle.sip_text.proofs.Common.{cond_both, cond-true, cond-false, eq-eqb, false_from_ne_true, false≢true, bytes_eq-Decides, is_token, BodyLength, Unsaid, Bytes, Wrong, Needed, cseq_fits, missing, said_length, says, IsMessage, fits_body, head_of}
+use Rattle.sip_text.proofs.Common.{is_header, is_value, zeroed, same_name, HeaderText, StartText, common_steps, rules}
 use Rattle.std.specs.Prelude.{is_none}
 use Rattle.sip_text.specs.declared.needed.Needed.TheVariants.{Via, From, To, CallId, CSeq}
 use Rattle.sip_text.specs.Fields.{cseq_in, fits_start, length_name, needed_name, said_by}
@@ -9,17 +9,8 @@ use Rattle.sip_text.specs.Message.{IsHead}
 use Rattle.sip_text.specs.Name.{first_of, full_name, values_of}
 use Rattle.sip_text.proofs.laws.Good.{and_both}
 
-abbrev zero_header : HeaderText → HeaderText
-zero_header h = record { name = h.name; value = 48 ∷ [] }
-
-zeroed-name : (h : HeaderText) → (zeroed h).name ≡ h.name
-zeroed-name h = cond_both (same_name length_name h.name) (zero_header h) h (λ (x : HeaderText). x.name ≡ h.name) (λ e. refl) (λ e. refl)
-
 zeroed_good : (h : HeaderText) → is_header h ≡ true → is_header (zeroed h) ≡ true
-zeroed_good h good =
-    cond_both (same_name length_name h.name) (zero_header h) h (λ (x : HeaderText). is_header x ≡ true)
-    (λ e. and_both (is_token h.name) (is_value (48 ∷ [])) (and_parts (is_token h.name) (is_value h.value) good).0 refl)
-    (λ e. good)
+zeroed_good h good = grind arith
 
 all_good : (hs : List HeaderText) → list_all is_header hs ≡ true → list_all is_header (map zeroed hs) ≡ true
 all_good [] h = refl
@@ -33,15 +24,7 @@ step name h later = cond (same_name name h.name) (h.value ∷ later) later
 values_other : (name : List ℕ) (hs : List HeaderText) → ((n : List ℕ) → same_name name n ≡ true → same_name length_name n ≡ false) → values_of name (map zeroed hs) ≡ values_of name hs
 unfolding values_of
 values_other name [] apart = refl
-values_other name (h ∷ hs) apart =
-    let later = values_other name hs apart in
-    elim (cases_Bool (same_name name h.name)) [
-      | inl same ↦
-          let kept : zeroed h ≡ h = cond-false _ _ _ (apart h.name same) in
-          ap (λ (x : HeaderText). step name x (values_of name (map zeroed hs))) kept ∙ ap (step name h) later
-      | inr other ↦
-          ap (λ (n : List ℕ). cond (same_name name n) ((zeroed h).value ∷ values_of name (map zeroed hs)) (values_of name (map zeroed hs))) (zeroed-name h) ∙ cond-false _ _ _ other ∙ later ∙ sym (cond-false _ _ _ other)
-    ]
+values_other name (h ∷ hs) apart = grind (arith, values_other name hs apart)
 
 -- and each length is zero
 abbrev zeros : List (List ℕ) → List (List ℕ)
@@ -50,16 +33,7 @@ zeros vs = map (λ (v : List ℕ). 48 ∷ []) vs
 values_zero : (hs : List HeaderText) → values_of length_name (map zeroed hs) ≡ zeros (values_of length_name hs)
 unfolding values_of
 values_zero [] = refl
-values_zero (h ∷ hs) =
-    let later = values_zero hs in
-    elim (cases_Bool (same_name length_name h.name)) [
-      | inl same ↦
-          let kept : zeroed h ≡ zero_header h = cond-true _ _ _ same in
-          ap (λ (x : HeaderText). step length_name x (values_of length_name (map zeroed hs))) kept ∙ cond-true _ _ _ same ∙ ap (λ (vs : List (List ℕ)). (48 ∷ []) ∷ vs) later ∙ ap zeros (sym (cond-true _ _ _ same))
-      | inr other ↦
-          let kept : zeroed h ≡ h = cond-false _ _ _ other in
-          ap (λ (x : HeaderText). step length_name x (values_of length_name (map zeroed hs))) kept ∙ cond-false _ _ _ other ∙ later ∙ ap zeros (sym (cond-false _ _ _ other))
-    ]
+values_zero (h ∷ hs) = grind (arith, values_zero hs)
 
 say_zero : (vs : List (List ℕ)) → list_all (says 0) (zeros vs) ≡ true
 say_zero [] = refl
@@ -79,18 +53,10 @@ lowered_name name = str_to_ascii_lowercase (full_name name)
 
 differ : (which : Needed) → bytes_eq (lowered_name (needed_name which)) (lowered_name length_name) ≡ false
 unfolding full_name
-differ Via = refl
-differ From = refl
-differ To = refl
-differ CallId = refl
-differ CSeq = refl
+differ which = grind arith
 
 apart_from : (which : Needed) (n : List ℕ) → same_name (needed_name which) n ≡ true → same_name length_name n ≡ false
-apart_from which n same =
-    false_from_ne_true (same_name length_name n) (λ also.
-    let a = (bytes_eq-Decides (lowered_name (needed_name which)) (lowered_name n)).0 same in
-    let b = (bytes_eq-Decides (lowered_name length_name) (lowered_name n)).0 also in
-    false≢true (sym (differ which) ∙ (bytes_eq-Decides (lowered_name (needed_name which)) (lowered_name length_name)).1 (a ∙ sym b)))
+apart_from which n same = grind (arith, bytes_eq-Decides, differ)
 
 needed_values : (which : Needed) (hs : List HeaderText) → values_of (needed_name which) (map zeroed hs) ≡ values_of (needed_name which) hs
 needed_values which hs = values_other (needed_name which) hs (apart_from which)
@@ -104,24 +70,13 @@ missing_by via from to call cseq =
     (cond (is_none (first_of cseq)) (Some CSeq) None))))
 
 same_missing : (hs : List HeaderText) → missing (map zeroed hs) ≡ missing hs
-same_missing hs =
-    let rest = map zeroed hs in
-    ap (λ (v : List (List ℕ)). missing_by v (values_of (needed_name From) rest) (values_of (needed_name To) rest) (values_of (needed_name CallId) rest) (values_of (needed_name CSeq) rest)) (needed_values Via hs)
-    ∙ ap (λ (v : List (List ℕ)). missing_by (values_of (needed_name Via) hs) v (values_of (needed_name To) rest) (values_of (needed_name CallId) rest) (values_of (needed_name CSeq) rest)) (needed_values From hs)
-    ∙ ap (λ (v : List (List ℕ)). missing_by (values_of (needed_name Via) hs) (values_of (needed_name From) hs) v (values_of (needed_name CallId) rest) (values_of (needed_name CSeq) rest)) (needed_values To hs)
-    ∙ ap (λ (v : List (List ℕ)). missing_by (values_of (needed_name Via) hs) (values_of (needed_name From) hs) (values_of (needed_name To) hs) v (values_of (needed_name CSeq) rest)) (needed_values CallId hs)
-    ∙ ap (λ (v : List (List ℕ)). missing_by (values_of (needed_name Via) hs) (values_of (needed_name From) hs) (values_of (needed_name To) hs) (values_of (needed_name CallId) hs) v) (needed_values CSeq hs)
+same_missing hs = search (rules, needed_values)
 
 same_cseq : (start : StartText) (hs : List HeaderText) → cseq_fits start (map zeroed hs) ≡ cseq_fits start hs
 same_cseq start hs = ap (λ (v : List (List ℕ)). fits_start start (cseq_in (first_of v))) (needed_values CSeq hs)
 
 pub zeroed_head : (start : StartText) (hs : List HeaderText) → IsHead start hs → IsHead start (map zeroed hs)
-zeroed_head start hs h = record {
-  start = h.start;
-  headers = all_good hs h.headers;
-  needed = same_missing hs ∙ h.needed;
-  cseq = same_cseq start hs ∙ h.cseq;
-}
+zeroed_head start hs h = grind (arith, all_good, same_missing, same_cseq)
 
 -- ---- what a message has
 

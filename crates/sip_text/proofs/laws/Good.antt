@@ -1,8 +1,8 @@
 -- What is read is such as may be written.
-use Rattle.sip_text.proofs.Common.{◌≡◌, ℕ, zero, suc, ◌+◌, ◌-◌, ◌≤◌, Bool, true, false, not, eqb, List, [], ◌∷◌, ◌++◌, length, take, drop, reverse, Option, Some, None, refl, sym, ap, subst, ◌∙◌, inl, inr, arith, ◌&&◌, list_all, flat_map}
-use Rattle.sip_text.proofs.Common.{prefix_len, suffix_len, AllByRecursion, and_parts, cases_Bool, cond_both, cond-true, cond-false, ne_eqb, false≢true, take-append-drop, list_all-append, is_space, is_token, trim, trim_end, trim_start, cut}
-use Rattle.sip_text.proofs.Common.{is, behind, line_in, pieces, cut_joins, cut_lacks, is_header, is_line, is_line_byte, is_trimmed, Group, Headers, Lines, before_group, begins_with_space, closed, header_of, header_of_cut, joined}
-use Rattle.sip_text.proofs.Common.{lines_from, part_text, tail_of_group, tail_of_lines, with_header, with_line, HeaderText}
+use Rattle.sip_text.proofs.Common.{◌≡◌, ℕ, zero, suc, ◌+◌, ◌-◌, ◌≤◌, Bool, true, false, not, eqb, List, [], ◌∷◌, ◌++◌, length, take, drop, reverse, Option, Some, None, refl, sym, ap, subst, ◌∙◌, inl, inr, arith, ◌&&◌, list_all, flat_map, prefix_len}
+use Rattle.sip_text.proofs.Common.{suffix_len, AllByRecursion, and_parts, cases_Bool, cond_both, cond-true, cond-false, ne_eqb, false≢true, take-append-drop, list_all-append, is_space, is_token, trim, trim_end, trim_start, cut, is, behind, line_in}
+use Rattle.sip_text.proofs.Common.{pieces, cut_joins, cut_lacks, is_header, is_line, is_line_byte, is_trimmed, Group, Headers, Lines, before_group, begins_with_space, closed, header_of, header_of_cut, joined, lines_from, part_text, tail_of_group}
+use Rattle.sip_text.proofs.Common.{tail_of_lines, with_header, with_line, HeaderText, common_steps, rules}
 use Rattle.std.proofs.Common.{length-drop}
 use Rattle.std.proofs.lemmas.List.{drop_at, length-reverse, reverse-append}
 use Rattle.std.proofs.lemmas.List.Sums.{suffix_len-le-length}
@@ -19,8 +19,7 @@ abbrev is_colon : ℕ → Bool
 is_colon = is 58
 
 pub and_both : (x y : Bool) → x ≡ true → y ≡ true → (x && y) ≡ true
-and_both true y e f = f
-and_both false y e f = absurd (false≢true e)
+and_both x y e f = grind arith
 
 abbrev pub found : {A : Type 0} → A → Option A
 found x = Some x
@@ -32,9 +31,7 @@ some_is x y e = cc
 
 pub line_of_lacks : (bs : List ℕ) → Lacks 13 bs → Lacks 10 bs → is_line bs ≡ true
 line_of_lacks [] h k = refl
-line_of_lacks (b ∷ bs) h k =
-    let one : is_line_byte b ≡ true = ap (λ x. not x && not (eqb b 10)) (ne_eqb b 13 h.0) ∙ ap (λ x. not x) (ne_eqb b 10 k.0) in
-    and_both (is_line_byte b) (is_line bs) one (line_of_lacks bs h.1 k.1)
+line_of_lacks (b ∷ bs) h k = grind (arith, line_of_lacks bs h.1 k.1)
 
 all_parts : (p : ℕ → Bool) (n : ℕ) (bs : List ℕ) → list_all p bs ≡ true → (list_all p (take n bs) ≡ true) × (list_all p (drop n bs) ≡ true)
 all_parts p n bs h = and_parts (list_all p (take n bs)) (list_all p (drop n bs)) (sym (list_all-append p (take n bs) (drop n bs)) ∙ ap (list_all p) (take-append-drop n bs) ∙ h)
@@ -54,9 +51,7 @@ drop_spaces (b ∷ bs) =
     (λ e. e)
 
 take_no_space : (n : ℕ) (bs : List ℕ) → begins_with_space bs ≡ false → begins_with_space (take n bs) ≡ false
-take_no_space zero bs h = refl
-take_no_space (suc n) [] h = refl
-take_no_space (suc n) (b ∷ bs) h = h
+take_no_space n bs h = grind arith
 
 reverse_take : (k : ℕ) (bs : List ℕ) → k ≤ length bs → reverse (take (length bs - k) bs) ≡ drop k (reverse bs)
 reverse_take k bs le =
@@ -68,11 +63,7 @@ pub trim_front : (bs : List ℕ) → begins_with_space (trim bs) ≡ false
 trim_front bs = let s = trim_start bs in take_no_space (length s - suffix_len is_space s) s (drop_spaces bs)
 
 pub trim_trimmed : (bs : List ℕ) → is_trimmed (trim bs) ≡ true
-trim_trimmed bs =
-    let s = trim_start bs in
-    let front : begins_with_space (trim bs) ≡ false = trim_front bs in
-    let back : begins_with_space (reverse (trim bs)) ≡ false = ap begins_with_space (reverse_take (suffix_len is_space s) s (suffix_len-le-length is_space s)) ∙ drop_spaces (reverse s) in
-    ap (λ x. not x && not (begins_with_space (reverse (trim bs)))) front ∙ ap (λ x. not x) back
+trim_trimmed bs = grind (arith, trim_front, reverse_take, drop_spaces)
 
 -- ---- headers
 
@@ -83,33 +74,21 @@ parts_line (part ∷ parts) h =
     list_all-append is_line_byte part (flat_map part_text parts) ∙ and_both (is_line part) (is_line (flat_map part_text parts)) each.0 (parts_line parts each.1)
 
 joined_line : (value : List ℕ) (parts : List (List ℕ)) → is_line value ≡ true → list_all is_line parts ≡ true → is_line (joined value parts) ≡ true
-joined_line value parts h k =
-    all_trim is_line_byte (value ++ flat_map part_text parts) (list_all-append is_line_byte value (flat_map part_text parts) ∙ and_both (is_line value) (is_line (flat_map part_text parts)) h (parts_line parts k))
+joined_line value parts h k = grind (arith, common_steps, all_trim, parts_line)
 
 -- what stands behind a byte of a line is one
 pub behind_line : (line front raw : List ℕ) (b : ℕ) → line ≡ front ++ b ∷ raw → is_line line ≡ true → is_line raw ≡ true
-behind_line line front raw b e h =
-    let back = (and_parts (is_line front) (is_line (b ∷ raw)) (sym (list_all-append is_line_byte front (b ∷ raw)) ∙ ap is_line (sym e) ∙ h)).1 in
-    (and_parts (is_line_byte b) (is_line raw) back).1
+behind_line line front raw b e h = grind (arith, common_steps)
 
 header_good : (line : List ℕ) (c : Cut) (parts : List (List ℕ)) (h : HeaderText) → line ≡ c.0 ++ behind 58 c.1 → is_line line ≡ true → list_all is_line parts ≡ true → header_of_cut c parts ≡ Some h → is_header h ≡ true
-header_good line (front, None) parts h e l p read = absurd cc
-header_good line (front, Some raw) parts h e l p read =
-    let kept : HeaderText = record { name = trim_end front; value = joined (trim raw) parts } in
-    elim (cases_Bool (is_token (trim_end front))) [
-      | inl token ↦
-          let good : is_header kept ≡ true = and_both (is_token (trim_end front)) _ token (and_both (is_line kept.value) (is_trimmed kept.value) (joined_line (trim raw) parts (all_trim is_line_byte raw (behind_line line front raw 58 e l)) p) (trim_trimmed (trim raw ++ flat_map part_text parts))) in
-          subst (λ (x : HeaderText). is_header x ≡ true) (some_is kept h (sym (cond-true _ _ _ token) ∙ read)) good
-      | inr none ↦ let wrong : None ≡ found h = sym (cond-false _ _ _ none) ∙ read in absurd cc
-    ]
+header_good line c parts h e l p read = search (rules, cases_Bool, and_both, joined_line, all_trim, behind_line, trim_trimmed, some_is, cond-true, found, cond-false)
 
 pub record GoodGroup (g : Group) : Type 0 where
   pub parts : list_all is_line g.0 ≡ true
   pub headers : list_all is_header g.1 ≡ true
 
 with_header_good : (o : Option HeaderText) (hs : List HeaderText) (g : Group) → ((h : HeaderText) → o ≡ Some h → is_header h ≡ true) → list_all is_header hs ≡ true → with_header o hs ≡ Some g → GoodGroup g
-with_header_good None hs g good all read = absurd cc
-with_header_good (Some h) hs g good all read = subst GoodGroup (some_is ([], h ∷ hs) g read) (record { parts = refl; headers = and_both (is_header h) (list_all is_header hs) (good h refl) all })
+with_header_good o hs g good all read = grind arith
 
 before_good : (line : List ℕ) (o : Option Group) (g : Group) → is_line line ≡ true → ((later : Group) → o ≡ Some later → GoodGroup later) → before_group line o ≡ Some g → GoodGroup g
 before_good line None g l good read = absurd cc
@@ -137,8 +116,7 @@ line_of_cut_is piece line (l, Some (b ∷ bs)) h e k read = absurd cc
 line_of_cut_is piece line (l, Some []) h e k read = subst (λ (x : List ℕ). is_line x ≡ true) (some_is l line read) (line_of_lacks l k (Lacks-front 10 l (13 ∷ []) (subst (λ (x : List ℕ). Lacks 10 x) e h)))
 
 with_line_good : (line : List ℕ) (later : Option Lines) (x : Lines) → is_line line ≡ true → ((y : Lines) → later ≡ Some y → list_all is_line y.0 ≡ true) → with_line line later ≡ Some x → list_all is_line x.0 ≡ true
-with_line_good line None x l good read = absurd cc
-with_line_good line (Some y) x l good read = ap (λ (z : Lines). list_all is_line z.0) (sym (some_is (line ∷ y.0, y.1) x read)) ∙ and_both (is_line line) (list_all is_line y.0) l (good y refl)
+with_line_good line later x l good read = grind arith
 
 lines_from_good : (line : Option (List ℕ)) (later : Option Lines) (behind : List (List ℕ)) (x : Lines) → ((l : List ℕ) → line ≡ Some l → is_line l ≡ true) → ((y : Lines) → later ≡ Some y → list_all is_line y.0 ≡ true) → lines_from line later behind ≡ Some x → list_all is_line x.0 ≡ true
 lines_from_good None later behind x l good read = absurd cc
@@ -155,9 +133,7 @@ lines_good (piece ∷ next ∷ more) x h read =
 -- ---- the headers of a text
 
 closed_group : (o : Option Group) (rest : List (List ℕ)) (x : Headers) → ((g : Group) → o ≡ Some g → GoodGroup g) → closed (tail_of_group o rest) ≡ Some x → list_all is_header x.0 ≡ true
-closed_group None rest x good read = absurd cc
-closed_group (Some (part ∷ parts, hs)) rest x good read = absurd cc
-closed_group (Some ([], hs)) rest x good read = ap (λ (z : Headers). list_all is_header z.0) (sym (some_is (hs, rest) x read)) ∙ (good ([], hs) refl).headers
+closed_group o rest x good read = grind arith
 
 closed_lines : (o : Option Lines) (x : Headers) → ((y : Lines) → o ≡ Some y → list_all is_line y.0 ≡ true) → closed (tail_of_lines o) ≡ Some x → list_all is_header x.0 ≡ true
 closed_lines None x good read = absurd cc

@@ -1,4 +1,4 @@
-use Rattle.std.proofs.Common.{rules}
+use Rattle.sip_text.proofs.Common.{rules}
 use Rattle.sip_text.proofs.fields.has_method.Goals as goal
 
 pub returns-in-Request : goal.returns-in-Request

@@ -1,4 +1,4 @@
-use Rattle.std.proofs.Common.{rules}
+use Rattle.sip_text.proofs.Common.{rules}
 use Rattle.sip_text.proofs.head.header_of.Goals as goal
 
 pub returns-clause-ok : goal.returns-clause-ok

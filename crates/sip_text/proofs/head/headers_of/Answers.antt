@@ -1,4 +1,4 @@
-use Rattle.sip_text.proofs.Common.{◌∙◌, sym, ap, eqb-true, fault_seen, headers_at, view, views}
+use Rattle.sip_text.proofs.Common.{◌∙◌, sym, ap, eqb-true, fault_seen, headers_at, view, views, common_steps, arith}
 use Rattle.std.proofs.lemmas.Bool.{eqb-false}
 use Rattle.std.proofs.lemmas.List.{map_push}
 use Rattle.std.proofs.lemmas.Result.{err_from_is_err_and}
@@ -15,7 +15,4 @@ pub loop-line-preserved : goal.loop-line-preserved
 loop-line-preserved g c = headers_go_on (views c.loop-line.headers.items) _ (view c.in_ok-header.header) c.loop-line.rest.now c.in-Some.line.now c.in-Some.after.now c.in_ok-header.behind.now _ c.in-Some.ensures.value (eqb-false _ _ (sym c.is_empty.ensures ∙ c.if-is_empty.false)) c.in_ok-header.ensures.ok (ap views c.in_ok-push.ensures.items ∙ map_push view c.loop-line.headers.items _) c.loop-line.invariant
 
 pub returns-in_err-header : goal.returns-in_err-header
-returns-in_err-header g c =
-    let p = err_from_is_err_and c.from_residual-in_err-header.result c.from_residual-in_err-header.ensures.1 in
-    let e = c.in_err-header in
-    rw (p.1, p.2) (headers_fail (views c.loop-line.headers.items) c.loop-line.rest.now c.in-Some.line.now c.in-Some.after.now (fault_seen e.field-0.0) (headers_at c.args.text.now) c.in-Some.ensures.value (eqb-false _ _ (sym c.is_empty.ensures ∙ c.if-is_empty.false)) e.ensures.err c.loop-line.invariant)
+returns-in_err-header g c = grind (arith, headers_fail)

@@ -1,4 +1,4 @@
-use Rattle.sip_text.proofs.Common.{◌≡◌, ◌∙◌, true, None, Result, ap, subst, sym, line_at, Gives, cseq_fits, missing, Fault, view_start, views, MessageText}
+use Rattle.sip_text.proofs.Common.{◌≡◌, ◌∙◌, true, None, Result, ap, subst, sym, line_at, Gives, cseq_fits, missing, Fault, view_start, views, MessageText, common_steps, arith}
 use Rattle.sip_text.proofs.laws.Good.{headers_good}
 use Rattle.sip_text.proofs.Heads.{all_read, some_headers}
 use Rattle.sip_text.proofs.StartLines.{start_found, start_line_good}
@@ -14,7 +14,4 @@ body_of-requires g c = record {
 }
 
 pub returns : goal.returns
-returns g c =
-    let needed : missing (views c.in_ok-headers.headers.items) ≡ None = cc in
-    let fits : cseq_fits (view_start c.in_ok-start.start) (views c.in_ok-headers.headers.items) ≡ true = cc in
-    subst (λ (r : Result MessageText Fault). Gives (λ m. m) c.body_of.result r) (sym (all_read c.args.text.now c.in-Some.line.now c.in-Some.rest.now c.in_ok-headers.rest.now (view_start c.in_ok-start.start) (views c.in_ok-headers.headers.items) (c.in-Some.ensures.value ∙ ap line_at c.skip.ensures) c.in_ok-start.ensures c.in_ok-headers.ensures needed fits)) c.body_of.ensures
+returns g c = grind (arith, all_read)

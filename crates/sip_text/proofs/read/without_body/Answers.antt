@@ -1,4 +1,4 @@
-use Rattle.sip_text.specs.Seen.{view_start, views}
+use Rattle.sip_text.proofs.Common.{view_start, views}
 use Rattle.sip_text.proofs.Zeroed.{without_body_good}
 use Rattle.sip_text.proofs.read.without_body.Goals as goal
 

@@ -1,5 +1,4 @@
-use Rattle.std.proofs.Common.{rules}
-use Rattle.sip_text.proofs.Common.{view, header_text}
+use Rattle.sip_text.proofs.Common.{rules, view, header_text}
 use Rattle.sip_text.proofs.Grown.{none_for_seen, of_err}
 use Rattle.sip_text.proofs.write.append_lines.Goals as goal
 

@@ -1,4 +1,4 @@
-use Rattle.std.proofs.Common.{rules}
+use Rattle.sip_text.proofs.Common.{rules}
 use Rattle.sip_text.proofs.message.Message.body.Goals as goal
 
 pub returns : goal.returns
