@@ -1,8 +1,8 @@
 -- A branch parameter is read exactly where it is written so.
-use Rattle.sip_via.proofs.Common.{◌≡◌, ℕ, ◌<◌, ◌≤◌, ◌^◌, true, List, [], ◌∷◌, ◌++◌, length, take, drop, eqb, inl, inr, cases_Bool, cond-true, cond-false, eqb-true, take_at, drop_at, Option, Some, None, refl, sym, ap, ◌∙◌, arith, IfSome, decimal, bytes_eq, take-append-drop, bytes_eq-Decides, cut, is, behind, Lacks, cut_again}
-use Rattle.sip_via.proofs.Common.{cut_joins, BranchParts, branch_parts, BranchName, IsBranch, branch_text, cookie, hex_text, number_read}
+use Rattle.sip_via.proofs.Common.{◌≡◌, ℕ, ◌<◌, ◌≤◌, ◌^◌, true, List, [], ◌∷◌, ◌++◌, length, take, drop, eqb, cases_Bool, cond-true, cond-false, eqb-true, take_at, drop_at, Option, Some, None, refl, sym, ap, ◌∙◌, arith, IfSome, decimal, bytes_eq}
+use Rattle.sip_via.proofs.Common.{take-append-drop, cut, is, behind, Lacks, cut_again, cut_joins, BranchParts, branch_parts, BranchName, IsBranch, branch_text, cookie, number_read, with_key, common_steps}
 use Rattle.sip_lex.specs.Number.{plain_number_within}
-use Rattle.sip_via.specs.inner.BranchParts.{parts_of, parts_text, with_context, with_instance, with_key}
+use Rattle.sip_via.specs.inner.BranchParts.{parts_of, parts_text, with_context, with_instance}
 use Rattle.sip_via.proofs.laws.HexLaws.{hex_text_length}
 use Rattle.sip_lex.proofs.laws.Numbers.{decimal_lacks, number_spelled}
 
@@ -12,37 +12,18 @@ Cut = List ℕ × Option (List ℕ)
 abbrev found : BranchParts → Option BranchParts
 found p = Some p
 
-abbrev number_found : ℕ → Option ℕ
-number_found n = Some n
-
-abbrev branch_found : BranchName → Option BranchName
-branch_found b = Some b
-
 -- ---- parts
 
 context_found : (key instance : List ℕ) (c : Cut) (p : BranchParts) → with_context key instance c ≡ Some p → key ++ (46 ∷ (instance ++ (46 ∷ (c.0 ++ behind 46 c.1)))) ≡ parts_text p
-context_found key instance (context, None) p e = absurd cc
-context_found key instance (context, Some target) p e =
-    let q : BranchParts = record { key = key; instance = instance; context = context; target = target } in
-    let same : found q ≡ found p = e in
-    let is : q ≡ p = cc in
-    ap parts_text is
+context_found key instance c p e = grind arith
 
 instance_found : (key : List ℕ) (c : Cut) (p : BranchParts) → with_instance key c ≡ Some p → key ++ (46 ∷ (c.0 ++ behind 46 c.1)) ≡ parts_text p
 instance_found key (instance, None) p e = absurd cc
-instance_found key (instance, Some rest) p e =
-    ap (λ (x : List ℕ). key ++ (46 ∷ (instance ++ (46 ∷ x)))) (cut_joins 46 rest) ∙ context_found key instance (cut (is 46) rest) p e
+instance_found key (instance, Some rest) p e = grind (arith, common_steps, cut_joins 46 rest, context_found key)
 
 key_found : (key rest : List ℕ) (p : BranchParts) → with_key key rest ≡ Some p → key ++ rest ≡ parts_text p
 key_found key [] p e = absurd cc
-key_found key (b ∷ rest) p e =
-    elim (cases_Bool (eqb b 46)) [
-      | inl dot ↦
-          ap (λ (c : ℕ). key ++ (c ∷ rest)) (eqb-true b 46 dot)
-          ∙ ap (λ (x : List ℕ). key ++ (46 ∷ x)) (cut_joins 46 rest)
-          ∙ instance_found key (cut (is 46) rest) p (sym (cond-true _ (with_instance key (cut (is 46) rest)) None dot) ∙ e)
-      | inr other ↦ let wrong : None ≡ found p = sym (cond-false _ (with_instance key (cut (is 46) rest)) None other) ∙ e in absurd cc
-    ]
+key_found key (b ∷ rest) p e = grind (arith, common_steps, cases_Bool (eqb b 46), cut_joins 46 rest, eqb-true, instance_found, cond-true, cond-false)
 
 pub parts_found : (text : List ℕ) (p : BranchParts) → parts_of text ≡ Some p → text ≡ parts_text p
 parts_found text p e = sym (take-append-drop 32 text) ∙ key_found (take 32 text) (drop 32 text) p e
@@ -65,58 +46,38 @@ branch_again b is =
 -- ---- the cookie
 
 pub cookie_found : (text rest : List ℕ) → bytes_eq (take 7 text) cookie ≡ true → rest ≡ drop 7 text → text ≡ cookie ++ rest
-cookie_found text rest same e =
-    let front : take 7 text ≡ cookie = (bytes_eq-Decides (take 7 text) cookie).0 same in
-    sym (take-append-drop 7 text) ∙ ap (λ (x : List ℕ). x ++ drop 7 text) front ∙ ap (λ (x : List ℕ). cookie ++ x) (sym e)
+cookie_found text rest same e = grind arith
 
 pub cookie_rest : (text rest more : List ℕ) → rest ≡ drop 7 text → text ≡ cookie ++ more → rest ≡ more
 cookie_rest text rest more e is = e ∙ ap (λ (t : List ℕ). drop 7 t) is
 
 pub text_is : (text rest : List ℕ) (p : BranchParts) (b : BranchName) → bytes_eq (take 7 text) cookie ≡ true → rest ≡ drop 7 text → Some p ≡ parts_of rest → p ≡ branch_parts b → text ≡ branch_text b
-text_is text rest p b same behind_it cut is =
-    cookie_found text rest same behind_it ∙ ap (λ (x : List ℕ). cookie ++ x) (parts_found rest p (sym cut)) ∙ ap (λ (q : BranchParts). cookie ++ parts_text q) is
+text_is text rest p b same behind_it cut is = grind (arith, common_steps, cookie_found text rest same behind_it, parts_found rest p (sym cut))
 
 parts_there : (text rest : List ℕ) (b : BranchName) → IsBranch b → rest ≡ drop 7 text → text ≡ branch_text b → parts_of rest ≡ Some (branch_parts b)
 parts_there text rest b is behind_it e = ap parts_of (cookie_rest text rest (parts_text (branch_parts b)) behind_it e) ∙ branch_again b is
 
 pub parts_refused : (text rest : List ℕ) (b : BranchName) → IsBranch b → rest ≡ drop 7 text → text ≡ branch_text b → None ≡ parts_of rest → ⊥
-parts_refused text rest b is behind_it e refused =
-    let wrong : None ≡ found (branch_parts b) = refused ∙ parts_there text rest b is behind_it e in absurd cc
+parts_refused text rest b is behind_it e refused = grind (arith, common_steps, parts_there text rest b is behind_it e)
 
 pub parts_same : (text rest : List ℕ) (p : BranchParts) (b : BranchName) → IsBranch b → rest ≡ drop 7 text → text ≡ branch_text b → Some p ≡ parts_of rest → p ≡ branch_parts b
-parts_same text rest p b is behind_it e cut =
-    let same : found p ≡ found (branch_parts b) = cut ∙ parts_there text rest b is behind_it e in cc
+parts_same text rest p b is behind_it e cut = grind (arith, common_steps, parts_there text rest b is behind_it e)
 
 pub some_map : {X : Type 0} (o : Option X) (P Q : X → Type 0) → ((x : X) → P x → Q x) → IfSome o P → IfSome o Q
-some_map None P Q f h = tt
-some_map (Some x) P Q f h = f x h
+some_map o P Q f h = grind arith
 
 -- ---- numbers
 
 pub number_refused : (limit : ℕ) (ds : List ℕ) (n : ℕ) → n ≤ limit → n < 2 ^ 64 → None ≡ plain_number_within limit ds → ds ≡ decimal n → ⊥
-number_refused limit ds n within small refused is =
-    let wrong : None ≡ number_found n = refused ∙ ap (plain_number_within limit) is ∙ number_read limit n within small in absurd cc
+number_refused limit ds n within small refused is = grind (arith, number_read)
 
 pub number_same : (limit : ℕ) (ds : List ℕ) (m n : ℕ) → n ≤ limit → n < 2 ^ 64 → Some m ≡ plain_number_within limit ds → ds ≡ decimal n → m ≡ n
-number_same limit ds m n within small read is =
-    let same : number_found m ≡ number_found n = read ∙ ap (plain_number_within limit) is ∙ number_read limit n within small in cc
+number_same limit ds m n within small read is = grind (arith, number_read)
 
 pub number_text : (limit : ℕ) (ds : List ℕ) (n : ℕ) → limit < 2 ^ 64 → Some n ≡ plain_number_within limit ds → ds ≡ decimal n
 number_text limit ds n small read = (number_spelled limit ds n small (sym read)).spelled
 
 -- ---- all parts
 
-pub parts_is : (p : BranchParts) (b : BranchName) → p.key ≡ hex_text b.key → p.instance ≡ decimal b.instance → p.context ≡ decimal b.context → p.target ≡ decimal b.target → p ≡ branch_parts b
-parts_is p b key instance context target =
-    ap (λ (x : List ℕ). record { key = x; instance = p.instance; context = p.context; target = p.target }) key
-    ∙ ap (λ (x : List ℕ). record { key = hex_text b.key; instance = x; context = p.context; target = p.target }) instance
-    ∙ ap (λ (x : List ℕ). record { key = hex_text b.key; instance = decimal b.instance; context = x; target = p.target }) context
-    ∙ ap (λ (x : List ℕ). record { key = hex_text b.key; instance = decimal b.instance; context = decimal b.context; target = x }) target
-
 pub branch_is : (a b : BranchName) → a.key ≡ b.key → a.instance ≡ b.instance → a.context ≡ b.context → a.target ≡ b.target → Some a ≡ Some b
-branch_is a b key instance context target =
-    ap branch_found
-    (ap (λ (x : List ℕ). record { key = x; instance = a.instance; context = a.context; target = a.target }) key
-    ∙ ap (λ (x : ℕ). record { key = b.key; instance = x; context = a.context; target = a.target }) instance
-    ∙ ap (λ (x : ℕ). record { key = b.key; instance = b.instance; context = x; target = a.target }) context
-    ∙ ap (λ (x : ℕ). record { key = b.key; instance = b.instance; context = b.context; target = x }) target)
+branch_is a b key instance context target = grind arith

@@ -1,6 +1,6 @@
 -- The names that most proofs of this crate cite, passed on from one place. Declares nothing.
-pub use Rattle.std.proofs.Common.{Bool, Err, IfSome, List, None, Ok, Option, Result, Some, [], ap, append_assoc, arith, codes, cond, drop, eqb, false, get_or, inl, inr, is_none, length, ltb, map, nat_le, not, option_map, refl, reverse}
-pub use Rattle.std.proofs.Common.{slice_index, slice_set, subst, suc, sym, take, true, vec_len, zero, ℕ, ◌%◌, ◌&&◌, ◌*◌, ◌++◌, ◌+◌, ◌-◌, ◌/◌, ◌<◌, ◌^◌, ◌||◌, ◌∙◌, ◌∷◌, ◌≡◌, ◌≢◌, ◌≤◌}
+pub use Rattle.std.proofs.Common.{Bool, Err, IfSome, List, None, Ok, Option, Result, Some, [], ap, append_assoc, arith, codes, cond, drop, eqb, false, get_or, inl, inr, is_none, length, ltb, map, nat_le, not, option_map, refl, reverse, slice_index}
+pub use Rattle.std.proofs.Common.{slice_set, subst, suc, sym, take, true, vec_len, zero, ℕ, ◌%◌, ◌&&◌, ◌*◌, ◌++◌, ◌+◌, ◌-◌, ◌/◌, ◌<◌, ◌^◌, ◌||◌, ◌∙◌, ◌∷◌, ◌≡◌, ◌≢◌, ◌≤◌, rules}
 pub use Rattle.std.proofs.lemmas.Bool.{agree_below_at, and_from, and_parts, cases_Bool, cond-false, cond-true, cond_both, eqb-true, false_from_ne_true, false≢true, le-leb, leb-true, lt-ltb, or_cases}
 pub use Rattle.std.proofs.lemmas.Fmt.{decimal_nonempty, digits_decimal, length-decimal-le}
 pub use Rattle.std.proofs.lemmas.List.{append-nil, drop_all, drop_at, length-append, length-set, reverse-append, reverse-reverse, take-append-drop, take_all, take_at, take_more_set}
@@ -12,9 +12,10 @@ pub use Rattle.std.specs.Fmt.{decimal}
 pub use Rattle.std.specs.List.{AllByRecursion, flat_map, list_all, list_any, prefix_len, suffix_len}
 pub use Rattle.std.specs.Option.{option_copied}
 pub use Rattle.std.specs.Str.{bytes_eq, str_to_ascii_lowercase}
+pub use Rattle.std.proofs.lemmas.Grind.{common_steps}
 pub use Rattle.sip_lex.proofs.laws.Cuts.{cut_again, cut_joins}
 pub use Rattle.sip_lex.proofs.laws.Numbers.{number_read, own}
-pub use Rattle.sip_lex.proofs.laws.OutsideSplits.{pieces_outside-cut}
+pub use Rattle.sip_lex.proofs.laws.OutsideSplits.{pieces_outside-cut, pieces_from_join}
 pub use Rattle.sip_lex.proofs.laws.Shelters.{cut_outside_again, cut_outside_joins}
 pub use Rattle.sip_lex.proofs.laws.Splits.{joined, joined-behind}
 pub use Rattle.sip_lex.proofs.laws.Trims.{token_byte-space, token_bytes, trim_end-reverse, trim_end-whole, trim_start-none, trim_start-spaces, trim_start-whole}
@@ -50,6 +51,8 @@ pub use Rattle.sip_via.specs.declared.branch.BranchName.{BranchName}
 pub use Rattle.sip_via.specs.declared.own.Own.{Own}
 pub use Rattle.sip_via.specs.declared.own.ViaFault.{ViaFault}
 pub use Rattle.sip_via.specs.declared.own.ViaFault.TheVariants.{BadVia}
-pub use Rattle.sip_via.specs.inner.BranchParts.{BranchParts, branch_parts}
+pub use Rattle.sip_via.specs.inner.BranchParts.{BranchParts, branch_parts, with_key}
 pub use Rattle.sip_via.specs.inner.Edits.{changed_first}
-pub use Rattle.sip_via.specs.inner.Fronts.{behind_address, behind_marked, behind_number, is_end}
+pub use Rattle.sip_via.specs.inner.Fronts.{behind_address, behind_marked, behind_number, is_end, behind_text}
+pub use Rattle.sip_via.specs.OwnPass.{IsOwnBranch}
+pub use Rattle.sip_via.specs.SeenVia.{values_behind}

@@ -1,17 +1,15 @@
 -- A Via value that was marked is one, and names the same host, port and branch.
-use Rattle.sip_via.proofs.Common.{◌≡◌, ◌≢◌, ℕ, ◌<◌, ◌≤◌, ◌^◌, Bool, true, false, not, cond, eqb, List, [], ◌∷◌, ◌++◌, length, drop, reverse, Option, Some, None, refl, sym, ap, subst, ◌∙◌, append_assoc, arith, inl, inr, ◌&&◌, IfSome, codes}
-use Rattle.sip_via.proofs.Common.{is_none, nat_le, option_map, slice_index, is_ascii_digit, decimal, AllByRecursion, flat_map, list_all, bytes_eq, str_to_ascii_lowercase, agree_below_at, and_from, and_parts, cases_Bool, cond-false}
-use Rattle.sip_via.proofs.Common.{cond-true, eqb-true, false_from_ne_true, false≢true, leb-true, decimal_nonempty, digits_decimal, append-nil, drop_at, reverse-append, reverse-reverse, bytes_eq-Decides, Quotes, Plain, is_space, is_token}
-use Rattle.sip_via.proofs.Common.{is_token_byte, trim, trim_end, trim_start, cut, is, Lacks, cut_outside, cut_again, cut_outside_again, joined, joined-behind, token_bytes, trim_end-reverse, trim_start-none, trim_start-spaces, own}
-use Rattle.sip_via.proofs.Common.{begins_with_space, Hop, IsHost, IsPort, is_address_byte, is_host_byte, IsAddress, address_text, dotted, IsSource, asks_port, filled, gets_received, marked_param, marked_parts, marked_value, received_text}
-use Rattle.sip_via.proofs.Common.{AreParamGaps, AreViaGaps, IsSpace, IsValue, IsVia, IsViaParam, ParamGaps, ViaGaps, param_spelling, param_text, spaced, spelling, tail_spelling, ViaText, first_named, are_parts, is_named, is_value_byte}
-use Rattle.sip_via.proofs.Common.{is_via, name_of, parts_of, value_of, via_of, ◌+◌, behind, length-append, params_of, suc, take, zero}
-use Rattle.sip_lex.proofs.laws.OutsideSplits.{pieces_from_join}
-use Rattle.std.proofs.lemmas.Grind.{flat_map-append}
+use Rattle.sip_via.proofs.Common.{◌≡◌, ◌≢◌, ℕ, ◌<◌, ◌≤◌, ◌^◌, true, false, cond, List, [], ◌∷◌, ◌++◌, length, drop, Option, Some, None, refl, sym, ap, subst, ◌∙◌, append_assoc, arith, inl, inr, IfSome, codes, is_none, slice_index, is_ascii_digit}
+use Rattle.sip_via.proofs.Common.{decimal, AllByRecursion, flat_map, list_all, bytes_eq, str_to_ascii_lowercase, and_parts, cases_Bool, cond-false, cond-true, false≢true, decimal_nonempty, digits_decimal, append-nil, drop_at, bytes_eq-Decides}
+use Rattle.sip_via.proofs.Common.{Quotes, Plain, is_token, trim, trim_end, is, Lacks, cut_outside, cut_again, cut_outside_again, joined, joined-behind, trim_end-reverse, trim_start-none, trim_start-spaces, own, Hop, IsHost, IsPort, IsAddress}
+use Rattle.sip_via.proofs.Common.{address_text, dotted, IsSource, asks_port, filled, gets_received, marked_param, marked_parts, marked_value, received_text, AreParamGaps, AreViaGaps, IsSpace, IsValue, IsVia, IsViaParam, ParamGaps, ViaGaps}
+use Rattle.sip_via.proofs.Common.{param_spelling, param_text, spaced, spelling, ViaText, first_named, are_parts, is_named, is_value_byte, is_via, name_of, parts_of, value_of, via_of, ◌+◌, behind, length-append, params_of, take, pieces_from_join}
+use Rattle.sip_via.proofs.Common.{common_steps}
 use Rattle.sip_via.specs.ViaParts.{is_trimmed}
 use Rattle.sip_via.proofs.Marked.{sip-begins, trim_end-back}
 use Rattle.sip_via.proofs.ViaFound.{via_found}
-use Rattle.sip_via.proofs.ViaOnly.{IsBare, Starts, all_joined, all_reverse, bare_trim, unsplit_all, class_unsplit, digits_all, host_bare, neither, on_some, param_front, param_joins, params_again, port_bare, semicolon, sip_lacks, space_unsplit, tail_of, token_bare, value_bare, value_in, value_trims, with_params}
+use Rattle.sip_via.proofs.ViaOnly.{IsBare, Starts, all_joined, all_reverse, bare_trim, unsplit_all, class_unsplit, host_bare, neither, on_some, param_front, param_joins, params_again, port_bare, semicolon, sip_lacks, space_unsplit, tail_of}
+use Rattle.sip_via.proofs.ViaOnly.{token_bare, value_bare, value_in, value_trims, with_params}
 use Rattle.sip_via.proofs.laws.OwnVia.{IsEnd, end-behind}
 use Rattle.sip_via.proofs.laws.Tokens.{all_pass}
 
@@ -20,25 +18,14 @@ Cut = List ℕ × Option (List ℕ)
 
 -- ---- space at the ends
 
-trim_start-kept : (bs : List ℕ) → begins_with_space bs ≡ false → trim_start bs ≡ bs
-trim_start-kept [] h = refl
-trim_start-kept (b ∷ bs) h = trim_start-none b bs h
-
 pub end-trims : (bs gap : List ℕ) → IsEnd bs → IsSpace gap → trim_end (bs ++ gap) ≡ bs
-end-trims bs gap end space =
-    trim_end-reverse (bs ++ gap)
-    ∙ ap (λ (x : List ℕ). reverse (trim_start x)) (reverse-append bs gap)
-    ∙ ap reverse (trim_start-spaces (reverse gap) (reverse bs) (all_reverse is_space gap space) ∙ trim_start-kept (reverse bs) end.ends)
-    ∙ reverse-reverse bs
+end-trims bs gap end space = grind (arith, common_steps, trim_end-reverse, trim_start-spaces, all_reverse)
 
 bare-some : (bs : List ℕ) → Starts bs → 0 < length bs
-bare-some [] h = absurd h
-bare-some (b ∷ bs) h = omega arith
+bare-some bs h = grind arith
 
 pub bare-end : (bs : List ℕ) → IsBare bs → IsEnd bs
-bare-end bs bare =
-    let whole : trim_end bs ≡ bs = ap trim_end (sym (append-nil bs)) ∙ bare.ends [] refl in
-    record { some = bare-some bs bare.starts; ends = ap (λ (x : List ℕ). begins_with_space (reverse x)) (sym whole) ∙ trim_end-back bs }
+bare-end bs bare = grind (arith, common_steps, append-nil bs, trim_end-back bs, bare-some)
 
 -- an equation behind a text that both sides begin with
 pushed : (xs ys zs rest : List ℕ) → ys ≡ zs ++ rest → xs ++ ys ≡ (xs ++ zs) ++ rest
@@ -47,12 +34,7 @@ pushed xs ys zs rest e = ap (λ (x : List ℕ). xs ++ x) e ∙ sym (append_assoc
 -- ---- what a parameter says
 
 param-says : (param : List ℕ) (h : IsViaParam param) → (name_of param ≡ h.name) × (value_of param ≡ h.value)
-param-says param h =
-    let front = h.gaps.before ++ (h.name ++ h.gaps.behind_name) in
-    let cuts : cut (is 61) param ≡ (front, value_in h.gaps h.value) = ap (cut (is 61)) (h.spelled ∙ param_joins h.gaps h.name h.value) ∙ cut_again 61 front (value_in h.gaps h.value) (param_front h.gaps h.name h.spaces h.token) in (
-      ap (λ (c : Cut). trim c.0) cuts ∙ bare_trim h.gaps.before h.name h.gaps.behind_name h.spaces.before h.spaces.behind_name (token_bare h.name h.token),
-      ap (λ (c : Cut). option_map trim c.1) cuts ∙ value_trims h.gaps h.value h.spaces h.valued,
-    )
+param-says param h = grind (arith, common_steps, value_in, param_joins, cut_again, param_front, bare_trim, token_bare, value_trims)
 
 -- a parameter without the space at its end
 record IsTrimmed (param kept name : List ℕ) (value : Option (List ℕ)) : Type 0 where
@@ -93,11 +75,7 @@ trimmed-by param g name (Some value) e spaces token valued =
     } in
     let says = param-says kept good in
     let ends = end-behind g.before (name ++ tail) (end-behind name tail (end-behind g.behind_name (61 ∷ inner) (end-behind (61 ∷ g.before_value) value (bare-end value (value_bare value valued))))) in
-    let whole = pushed g.before (name ++ (g.behind_name ++ (61 ∷ (g.before_value ++ (value ++ g.behind_value))))) (name ++ tail) g.behind_value
-    (pushed name (g.behind_name ++ (61 ∷ (g.before_value ++ (value ++ g.behind_value)))) tail g.behind_value
-    (pushed g.behind_name (61 ∷ (g.before_value ++ (value ++ g.behind_value))) (61 ∷ inner) g.behind_value
-    (pushed (61 ∷ g.before_value) (value ++ g.behind_value) value g.behind_value refl))) in
-    (kept, record { gap = g.behind_value; space = spaces.behind_value; whole = e ∙ whole; good = good; named = says.0; valued = says.1; ends = ends })
+    grind (arith, common_steps, pushed)
 
 trimmed : (param : List ℕ) (h : IsViaParam param) → (kept : List ℕ) × IsTrimmed param kept h.name h.value
 trimmed param h = trimmed-by param h.gaps h.name h.value h.spelled h.spaces h.token h.valued
@@ -157,44 +135,23 @@ added_params address host params = cond (gets_received address host params) ((co
 abbrev new_params : Hop → List ℕ → List (List ℕ) → List (List ℕ)
 new_params source host params = flat_map (kept_params source.port) params ++ added_params (address_text source.addr) host params
 
-kept-spelled : (t : Bool) (x : List ℕ) → cond t [] (59 ∷ x) ≡ spelled (cond t [] (x ∷ []))
-kept-spelled true x = refl
-kept-spelled false x = ap (λ (y : List ℕ). 59 ∷ y) (sym (append-nil x))
-
-added-spelled : (t : Bool) (x : List ℕ) → cond t (59 ∷ x) [] ≡ spelled (cond t (x ∷ []) [])
-added-spelled true x = ap (λ (y : List ℕ). 59 ∷ y) (sym (append-nil x))
-added-spelled false x = refl
-
 all-spelled : (port : ℕ) (params : List (List ℕ)) → flat_map (marked_param port) params ≡ spelled (flat_map (kept_params port) params)
 all-spelled port [] = refl
-all-spelled port (p ∷ ps) =
-    ap (λ (x : List ℕ). x ++ flat_map (marked_param port) ps) (kept-spelled (is_named (codes "received") p) (cond (asks_port p) (filled port p) p))
-    ∙ ap (λ (x : List ℕ). spelled (kept_params port p) ++ x) (all-spelled port ps)
-    ∙ sym (flat_map-append param_text (kept_params port p) (flat_map (kept_params port) ps))
+all-spelled port (p ∷ ps) = grind (arith, all-spelled port ps)
 
 new-spelled : (source : Hop) (host : List ℕ) (params : List (List ℕ)) → flat_map (marked_param source.port) params ++ received_text (address_text source.addr) host params ≡ spelled (new_params source host params)
-new-spelled source host params =
-    let address = address_text source.addr in
-    ap (λ (x : List ℕ). x ++ received_text address host params) (all-spelled source.port params)
-    ∙ ap (λ (x : List ℕ). spelled (flat_map (kept_params source.port) params) ++ x) (added-spelled (gets_received address host params) (codes "received=" ++ address))
-    ∙ sym (flat_map-append param_text (flat_map (kept_params source.port) params) (added_params address host params))
+new-spelled source host params = grind (arith, common_steps, all-spelled)
 
 -- ---- they are such
 
-abbrev digit_or_value : ℕ → Bool
-digit_or_value b = cond (is_ascii_digit b) (is_value_byte b) true
-
 digit-value : (b : ℕ) → is_ascii_digit b ≡ true → is_value_byte b ≡ true
-digit-value b h =
-    let high : b ≤ 57 = leb-true b 57 (and_parts (nat_le 48 b) (nat_le b 57) h).1 in
-    sym (cond-true (is_ascii_digit b) (is_value_byte b) true h) ∙ agree_below_at digit_or_value (λ _. true) 58 b refl (omega (arith, high))
+digit-value b h = grind arith
 
 decimal-bytes : (n : ℕ) → n < 2 ^ 64 → list_all is_value_byte (decimal n) ≡ true
 decimal-bytes n small = all_pass is_ascii_digit is_value_byte (decimal n) digit-value (digits_decimal own n small)
 
 some-not-empty : (bs : List ℕ) → 0 < length bs → bs ≢ []
-some-not-empty [] some = absurd (omega arith)
-some-not-empty (b ∷ bs) some = λ e. absurd cc
+some-not-empty bs some = grind arith
 
 decimal-some : (n : ℕ) → n < 2 ^ 64 → decimal n ≢ []
 decimal-some n small = some-not-empty (decimal n) (decimal_nonempty n small)
@@ -203,8 +160,7 @@ decimal-value : (n : ℕ) → n < 2 ^ 64 → IsValue (decimal n)
 decimal-value n small = inl (decimal-some n small, decimal-bytes n small)
 
 longer : (xs ys : List ℕ) → 0 < length xs → 0 < length (xs ++ ys)
-longer [] ys some = absurd (omega arith)
-longer (x ∷ xs) ys some = omega arith
+longer xs ys some = grind (arith, common_steps)
 
 address-value : (addr : List ℕ) → IsAddress addr → IsValue (address_text addr)
 address-value addr is =
@@ -258,17 +214,7 @@ filled-good port param small h asks =
     filled-by port param h.gaps h.name h.value small h.spelled h.spaces h.token (ap is_none (sym (param-says param h).1) ∙ none)
 
 kept-good : (port : ℕ) (param : List ℕ) → port < 2 ^ 64 → IsViaParam param → AllByRecursion IsViaParam (kept_params port param)
-kept-good port param small h =
-    elim (cases_Bool (is_named (codes "received") param)) [
-      | inl dropped ↦ subst (AllByRecursion IsViaParam) (sym (cond-true _ _ _ dropped)) tt
-      | inr stays ↦ subst (AllByRecursion IsViaParam) (sym (cond-false _ _ _ stays)) (
-        elim (cases_Bool (asks_port param)) [
-          | inl asks ↦ subst IsViaParam (sym (cond-true _ _ _ asks)) (filled-good port param small h asks).0
-          | inr other ↦ subst IsViaParam (sym (cond-false _ _ _ other)) h
-        ],
-        tt,
-      )
-    ]
+kept-good port param small h = grind (arith, common_steps, cases_Bool (asks_port param), filled-good port param small h, cond-true, cond-false)
 
 joined-good : (xs ys : List (List ℕ)) → AllByRecursion IsViaParam xs → AllByRecursion IsViaParam ys → AllByRecursion IsViaParam (xs ++ ys)
 joined-good [] ys h k = k
@@ -321,36 +267,15 @@ branch-step port param rest params small h e =
 
 branch-all : (port : ℕ) (params rest : List (List ℕ)) → port < 2 ^ 64 → AllByRecursion IsViaParam params → first_named branch rest ≡ None → first_named branch (flat_map (kept_params port) params ++ rest) ≡ first_named branch params
 branch-all port [] rest small h e = e
-branch-all port (p ∷ ps) rest small h e =
-    ap (first_named branch) (append_assoc (kept_params port p) (flat_map (kept_params port) ps) rest)
-    ∙ branch-step port p (flat_map (kept_params port) ps ++ rest) ps small h.0 (branch-all port ps rest small h.1 e)
-
-added-branch : (address host : List ℕ) (params : List (List ℕ)) → IsValue address → first_named branch (added_params address host params) ≡ None
-added-branch address host params valued =
-    elim (cases_Bool (gets_received address host params)) [
-      | inl gets ↦
-          let named : name_of (codes "received=" ++ address) ≡ codes "received" = (param-says (codes "received=" ++ address) (received-good address valued)).0 in
-          let other : is_named branch (codes "received=" ++ address) ≡ false = ap (λ (n : List ℕ). bytes_eq (lowered n) (lowered branch)) named in
-          ap (first_named branch) (cond-true _ _ _ gets) ∙ cond-false (is_named branch (codes "received=" ++ address)) (value_of (codes "received=" ++ address)) None other
-      | inr not_so ↦ ap (first_named branch) (cond-false _ _ _ not_so)
-    ]
+branch-all port (p ∷ ps) rest small h e = grind (arith, common_steps, branch-step, branch-all port ps rest small h.1 e)
 
 new-branch : (source : Hop) (host : List ℕ) (params : List (List ℕ)) → IsSource source → AllByRecursion IsViaParam params → first_named branch (new_params source host params) ≡ first_named branch params
-new-branch source host params is h =
-    branch-all source.port params (added_params (address_text source.addr) host params) is.port h (added-branch (address_text source.addr) host params (address-value source.addr is.address))
+new-branch source host params is h = grind (arith, branch-all)
 
 -- ---- what stands before the parameters
 
-spaced-split : (mark : ℕ) (before after inner kept rest : List ℕ) → inner ≡ kept ++ rest → spaced mark before after inner ≡ spaced mark before after kept ++ rest
-spaced-split mark before after inner kept rest e = pushed before (mark ∷ (after ++ inner)) (mark ∷ (after ++ kept)) rest (pushed (mark ∷ after) inner kept rest e)
-
 spaced-end : (mark : ℕ) (before after inner : List ℕ) → IsEnd inner → IsEnd (spaced mark before after inner)
 spaced-end mark before after inner h = end-behind before (mark ∷ (after ++ inner)) (end-behind (mark ∷ after) inner h)
-
-spaced-unsplit : (mark : ℕ) (before after inner : List ℕ) → neither mark ≡ true → IsSpace before → IsSpace after → list_all neither inner ≡ true → list_all neither (spaced mark before after inner) ≡ true
-spaced-unsplit mark before after inner plain front back h =
-    all_joined neither before (mark ∷ (after ++ inner)) (space_unsplit before front)
-    (and_from (neither mark) (list_all neither (after ++ inner)) plain (all_joined neither after inner (space_unsplit after back) h))
 
 abbrev sender : ViaGaps → ViaText → List ℕ → List ℕ
 sender g via tail = g.before_host ++ (via.host ++ tail)
@@ -361,32 +286,16 @@ behind_name g via tail = spaced 47 g.before_version.0 g.before_version.1 (codes 
 abbrev body : ViaGaps → ViaText → List ℕ → List ℕ
 body g via tail = g.name ++ behind_name g via tail
 
-body-split : (g : ViaGaps) (via : ViaText) (tail rest : List ℕ) → body g via (tail ++ rest) ≡ body g via tail ++ rest
-body-split g via tail rest =
-    let host = pushed via.host (tail ++ rest) tail rest refl in
-    let sent = pushed g.before_host (via.host ++ (tail ++ rest)) (via.host ++ tail) rest host in
-    let transport = pushed via.transport (sender g via (tail ++ rest)) (sender g via tail) rest sent in
-    let second = spaced-split 47 g.before_transport.0 g.before_transport.1 (via.transport ++ sender g via (tail ++ rest)) (via.transport ++ sender g via tail) rest transport in
-    let version = pushed (codes "2.0") (spaced 47 g.before_transport.0 g.before_transport.1 (via.transport ++ sender g via (tail ++ rest))) (spaced 47 g.before_transport.0 g.before_transport.1 (via.transport ++ sender g via tail)) rest second in
-    let first = spaced-split 47 g.before_version.0 g.before_version.1 (codes "2.0" ++ spaced 47 g.before_transport.0 g.before_transport.1 (via.transport ++ sender g via (tail ++ rest))) (codes "2.0" ++ spaced 47 g.before_transport.0 g.before_transport.1 (via.transport ++ sender g via tail)) rest version in
-    pushed g.name (behind_name g via (tail ++ rest)) (behind_name g via tail) rest first
-
 abbrev port_spelling : List ℕ × List ℕ → Option (List ℕ) → List ℕ
 port_spelling gaps None = []
 port_spelling gaps (Some port) = spaced 58 gaps.0 gaps.1 port
-
-tail-split : (gaps : List ℕ × List ℕ) (gap : List ℕ) (port : Option (List ℕ)) (params : List (List ℕ)) → tail_spelling gaps gap port params ≡ port_spelling gaps port ++ (gap ++ spelled params)
-tail-split gaps gap None params = refl
-tail-split gaps gap (Some port) params = spaced-split 58 gaps.0 gaps.1 (port ++ (gap ++ spelled params)) port (gap ++ spelled params) refl
 
 -- all but the parameters and the space before them
 abbrev pub core : ViaGaps → ViaText → List ℕ
 core g via = body g via (port_spelling g.before_port via.port)
 
 pub spelling-split : (g : ViaGaps) (via : ViaText) (params : List (List ℕ)) → spelling g (with_params via params) ≡ core g via ++ (g.before_params ++ spelled params)
-spelling-split g via params =
-    ap (body g via) (tail-split g.before_port g.before_params via.port params)
-    ∙ body-split g via (port_spelling g.before_port via.port) (g.before_params ++ spelled params)
+spelling-split g via params = grind (arith, common_steps)
 
 pub record IsFront (g : ViaGaps) (via : ViaText) : Type 0 where
   pub spaces : AreViaGaps g
@@ -396,32 +305,13 @@ pub record IsFront (g : ViaGaps) (via : ViaText) : Type 0 where
 
 lacks-unsplit : (bs : List ℕ) → Lacks 59 bs → Lacks 44 bs → Lacks 34 bs → list_all neither bs ≡ true
 lacks-unsplit [] h k l = refl
-lacks-unsplit (b ∷ bs) h k l =
-    let semi : eqb b 59 ≡ false = false_from_ne_true (eqb b 59) (λ e. h.0 (eqb-true b 59 e)) in
-    let between : eqb b 44 ≡ false = false_from_ne_true (eqb b 44) (λ e. k.0 (eqb-true b 44 e)) in
-    let quote : eqb b 34 ≡ false = false_from_ne_true (eqb b 34) (λ e. l.0 (eqb-true b 34 e)) in
-    and_from (neither b) (list_all neither bs)
-    (ap (λ t. not t && (not (eqb b 44) && not (eqb b 34))) semi ∙ ap (λ t. not t && not (eqb b 34)) between ∙ ap not quote)
-    (lacks-unsplit bs h.1 k.1 l.1)
-
-host-unsplit : (host : List ℕ) → IsHost host → list_all neither host ≡ true
-host-unsplit host (inl name) = class_unsplit is_host_byte refl refl refl host name.1
-host-unsplit host (inr r) = ap (list_all neither) r.1 ∙ all_joined neither r.0 (93 ∷ []) (class_unsplit is_address_byte refl refl refl r.0 r.3) refl
+lacks-unsplit (b ∷ bs) h k l = grind (arith, lacks-unsplit bs h.1 k.1 l.1)
 
 port-unsplit : (gaps : List ℕ × List ℕ) (port : Option (List ℕ)) → IsSpace gaps.0 × IsSpace gaps.1 → IfSome port IsPort → list_all neither (port_spelling gaps port) ≡ true
-port-unsplit gaps None spaces h = refl
-port-unsplit gaps (Some port) spaces h = spaced-unsplit 58 gaps.0 gaps.1 port refl spaces.0 spaces.1 (class_unsplit is_ascii_digit refl refl refl port (digits_all port h))
+port-unsplit gaps port spaces h = grind (arith, common_steps, class_unsplit)
 
 pub core-unsplit : (g : ViaGaps) (via : ViaText) → IsFront g via → list_all neither (core g via) ≡ true
-core-unsplit g via f =
-    let s = f.spaces in
-    let port = port_spelling g.before_port via.port in
-    let name = lacks-unsplit g.name (sip_lacks 59 g.name refl refl s.sip) (sip_lacks 44 g.name refl refl s.sip) (sip_lacks 34 g.name refl refl s.sip) in
-    let sent = all_joined neither g.before_host (via.host ++ port) (space_unsplit g.before_host s.before_host.1) (all_joined neither via.host port (host-unsplit via.host f.host) (port-unsplit g.before_port via.port s.before_port f.port)) in
-    let transport = all_joined neither via.transport (sender g via port) (class_unsplit is_token_byte refl refl refl via.transport (token_bytes via.transport f.transport)) sent in
-    let second = spaced-unsplit 47 g.before_transport.0 g.before_transport.1 (via.transport ++ sender g via port) refl s.before_transport.0 s.before_transport.1 transport in
-    let first = spaced-unsplit 47 g.before_version.0 g.before_version.1 (codes "2.0" ++ spaced 47 g.before_transport.0 g.before_transport.1 (via.transport ++ sender g via port)) refl s.before_version.0 s.before_version.1 second in
-    all_joined neither g.name (behind_name g via port) name first
+core-unsplit g via f = grind (arith, common_steps, lacks-unsplit, sip_lacks, port-unsplit, class_unsplit)
 
 sent-end : (host : List ℕ) (gaps : List ℕ × List ℕ) (port : Option (List ℕ)) → IsHost host → IfSome port IsPort → IsEnd (host ++ port_spelling gaps port)
 sent-end host gaps None h p = subst IsEnd (sym (append-nil host)) (bare-end host (host_bare host h))
@@ -432,17 +322,14 @@ core-end g via f =
     let port = port_spelling g.before_port via.port in
     let sent = end-behind g.before_host (via.host ++ port) (sent-end via.host g.before_port via.port f.host f.port) in
     let transport = end-behind via.transport (sender g via port) sent in
-    let second = spaced-end 47 g.before_transport.0 g.before_transport.1 (via.transport ++ sender g via port) transport in
-    let version = end-behind (codes "2.0") (spaced 47 g.before_transport.0 g.before_transport.1 (via.transport ++ sender g via port)) second in
-    end-behind g.name (behind_name g via port) (spaced-end 47 g.before_version.0 g.before_version.1 (codes "2.0" ++ spaced 47 g.before_transport.0 g.before_transport.1 (via.transport ++ sender g via port)) version)
+    grind (arith, common_steps, spaced-end, end-behind)
 
 -- ---- a text of such parts
 
 trim-whole : (g : ViaGaps) (via : ViaText) (text : List ℕ) → text ≡ spelling g via → AreViaGaps g → IsEnd text → trim text ≡ text
 trim-whole g via text e spaces end =
     let begins = sip-begins g.name (behind_name g via (tail_of g via)) spaces.sip in
-    let start : trim_start text ≡ text = ap trim_start (e ∙ begins.is) ∙ trim_start-none begins.first begins.rest begins.no_space ∙ sym (e ∙ begins.is) in
-    ap trim_end start ∙ ap trim_end (sym (append-nil text)) ∙ end-trims text [] end refl
+    grind (arith, common_steps, append-nil text, end-trims text [] end refl, trim_start-none)
 
 made : (g : ViaGaps) (via : ViaText) (params : List (List ℕ)) (text : List ℕ) → text ≡ spelling g (with_params via params) → IsFront g via → AllByRecursion IsViaParam params → IsEnd text → IsVia text (with_params via params)
 made g via params text e f good end = record {
@@ -467,12 +354,7 @@ abbrev without_gap : ViaGaps → ViaGaps
 without_gap g = record { name = g.name; before_version = g.before_version; before_transport = g.before_transport; before_host = g.before_host; before_port = g.before_port; before_params = [] }
 
 front-without : (g : ViaGaps) (via : ViaText) → IsFront g via → IsFront (without_gap g) via
-front-without g via f = record {
-  spaces = record { sip = f.spaces.sip; before_version = f.spaces.before_version; before_transport = f.spaces.before_transport; before_host = f.spaces.before_host; before_port = f.spaces.before_port; before_params = refl };
-  transport = f.transport;
-  host = f.host;
-  port = f.port;
-}
+front-without g via f = grind arith
 
 finished : (g : ViaGaps) (via : ViaText) (params : List (List ℕ)) → IsFront g via → AllByRecursion IsViaParam params → IsFinished g via params
 finished g via [] f good =
@@ -503,21 +385,13 @@ params_join : (text : Option (List ℕ)) → flat_map param_text (params_of text
 params_join None = refl
 params_join (Some bs) = pieces_from_join Quotes 59 Plain bs
 
-front-taken : (front back : List ℕ) (n : ℕ) → n + length back ≡ length (front ++ back) → take n (front ++ back) ≡ front
-front-taken [] back zero e = refl
-front-taken [] back (suc n) e = absurd (omega (arith, e))
-front-taken (b ∷ front) back zero e = let k = length-append front back in absurd (omega (arith, e, k))
-front-taken (b ∷ front) back (suc n) e = ap (λ (x : List ℕ). b ∷ x) (front-taken front back n (omega (arith, e)))
-
 -- the first `;` outside quotes stands before the parameters
 pub record CutsAtParams (value : List ℕ) : Type 0 where
   pub within : length (behind 59 (parts_of value).params) ≤ length value
   pub cuts : (n : ℕ) → n + length (behind 59 (parts_of value).params) ≡ length value → cut_outside Quotes 59 Plain value ≡ (take n value, (parts_of value).params)
 
 cuts-at : (value front : List ℕ) (params : Option (List ℕ)) → value ≡ front ++ behind 59 params → cut_outside Quotes 59 Plain value ≡ (front, params) → (n : ℕ) → n + length (behind 59 params) ≡ length value → cut_outside Quotes 59 Plain value ≡ (take n value, params)
-cuts-at value front params joins cuts n e =
-    let taken : take n value ≡ front = ap (take n) joins ∙ front-taken front (behind 59 params) n (e ∙ ap (λ (x : List ℕ). length x) joins) in
-    cuts ∙ ap (λ (x : List ℕ). (x, params)) (sym taken)
+cuts-at value front params joins cuts n e = grind (arith, common_steps)
 
 pub cuts-at-params : (value : List ℕ) → is_via value ≡ true → CutsAtParams value
 cuts-at-params value h =

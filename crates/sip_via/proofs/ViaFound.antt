@@ -1,9 +1,8 @@
 -- What is read is a Via value of these parts.
-use Rattle.sip_via.proofs.Common.{◌≡◌, ℕ, true, false, cond, eqb, ltb, List, [], ◌∷◌, ◌++◌, length, map, take, drop, Option, Some, None, refl, sym, ap, subst, ◌∙◌, append_assoc, inl, inr, IfSome, ◌&&◌, codes, option_map, to_ascii_lowercase}
-use Rattle.sip_via.proofs.Common.{list_all, AllByRecursion, flat_map, bytes_eq, str_to_ascii_lowercase, and_parts, cond_both, eqb-true, false≢true, or_cases, append-nil, take-append-drop, bytes_eq-Decides, Quotes, Plain, is_space, is_token}
-use Rattle.sip_via.proofs.Common.{trim, trim_end, trim_start, behind, cut, is, quoted_at, cut_joins, trim_end-whole, trim_start-whole, IsPort, host_len, IsSpace, IsValue, IsVia, IsViaParam, param_text, spaced, tail_spelling, Parts, ViaText}
-use Rattle.sip_via.proofs.Common.{is_param, is_value_byte, is_value_if_any, is_whole, name_of, or_empty, params_of, port_and_params, value_of, via_of}
-use Rattle.sip_lex.proofs.laws.OutsideSplits.{pieces_from_join}
+use Rattle.sip_via.proofs.Common.{◌≡◌, ℕ, true, false, ltb, List, [], ◌∷◌, ◌++◌, length, map, take, drop, Option, Some, None, refl, sym, ap, subst, ◌∙◌, append_assoc, inl, inr, IfSome, ◌&&◌, codes, option_map, to_ascii_lowercase, list_all}
+use Rattle.sip_via.proofs.Common.{AllByRecursion, flat_map, bytes_eq, str_to_ascii_lowercase, and_parts, false≢true, or_cases, append-nil, take-append-drop, bytes_eq-Decides, Quotes, Plain, is_space, is_token, trim, trim_end, trim_start, behind, cut}
+use Rattle.sip_via.proofs.Common.{is, quoted_at, cut_joins, trim_end-whole, trim_start-whole, IsPort, host_len, IsSpace, IsValue, IsVia, IsViaParam, param_text, spaced, tail_spelling, Parts, ViaText, is_param, is_value_byte, is_value_if_any}
+use Rattle.sip_via.proofs.Common.{is_whole, name_of, or_empty, params_of, port_and_params, value_of, via_of, pieces_from_join, common_steps, arith}
 use Rattle.sip_lex.proofs.laws.Quotes.{quoted_at-takes}
 use Rattle.sip_uri.specs.Host.{is_host}
 use Rattle.sip_uri.proofs.laws.Found.{port_if_any}
@@ -26,10 +25,7 @@ pub record Trims (bs inner : List ℕ) : Type 0 where
   pub whole : bs ≡ before ++ (inner ++ after)
 
 pub trims : (bs : List ℕ) → Trims bs (trim bs)
-trims bs =
-    let s = trim_start-whole bs in
-    let e = trim_end-whole (trim_start bs) in
-    record { before = s.gap; after = e.gap; front_space = s.spaces; back_space = e.spaces; whole = s.whole ∙ ap (λ (x : List ℕ). s.gap ++ x) e.whole }
+trims bs = grind (arith, common_steps, trim_start-whole bs, trim_end-whole (trim_start bs))
 
 -- what stands behind such a text
 padded : (before inner after rest : List ℕ) → (before ++ (inner ++ after)) ++ rest ≡ before ++ (inner ++ (after ++ rest))
@@ -75,9 +71,7 @@ param_cut param (front, Some back) e token valued =
     }
 
 param_found : (param : List ℕ) → is_param param ≡ true → IsViaParam param
-param_found param h =
-    let both = and_parts (is_token (name_of param)) (is_value_if_any (value_of param)) h in
-    param_cut param (cut (is 61) param) (cut_joins 61 param) both.0 both.1
+param_found param h = grind (arith, common_steps, and_parts (is_token (name_of param)) (is_value_if_any (value_of param)) h, cut_joins 61 param, param_cut)
 
 params_found : (params : List (List ℕ)) → list_all is_param params ≡ true → AllByRecursion IsViaParam params
 params_found [] h = tt
@@ -122,12 +116,7 @@ abbrev Tails : List ℕ → Marks → Type 0
 Tails text r = is_port_if_any r.0 ≡ true → IsTail text r.0 (params_of r.1)
 
 behind_mark : (gap : List ℕ) (b : ℕ) (bs : List ℕ) → IsSpace gap → Tails (gap ++ (b ∷ bs)) (port_and_params (b ∷ bs))
-behind_mark gap b bs space =
-    cond_both (eqb b 58) (Some (trim (cut (is 59) bs).0), (cut (is 59) bs).1) (cond (eqb b 59) (None, Some bs) (Some [], None)) (Tails (gap ++ (b ∷ bs)))
-    (λ e good. subst (λ (c : ℕ). IsTail (gap ++ (c ∷ bs)) (Some (trim (cut (is 59) bs).0)) (params_of (cut (is 59) bs).1)) (sym (eqb-true b 58 e)) (with_port gap bs (cut (is 59) bs) space (cut_joins 59 bs)))
-    (λ other. cond_both (eqb b 59) (None, Some bs) (Some [], None) (Tails (gap ++ (b ∷ bs)))
-    (λ e good. subst (λ (c : ℕ). IsTail (gap ++ (c ∷ bs)) None (params_of (Some bs))) (sym (eqb-true b 59 e)) (without_port gap bs space))
-    (λ e good. absurd (false≢true good)))
+behind_mark gap b bs space = grind (arith, with_port, cut_joins, without_port)
 
 tail_found : (gap tail : List ℕ) → IsSpace gap → Tails (gap ++ tail) (port_and_params tail)
 tail_found gap [] space = λ good. record { before_port = ([], []); before_params = gap; port_space = (refl, refl); params_space = space; spelled = refl }
@@ -136,34 +125,24 @@ tail_found gap (b ∷ bs) space = behind_mark gap b bs space
 -- ---- cuts that found their mark
 
 version_there : (text : List ℕ) (c : Cut) → text ≡ c.0 ++ behind 47 c.1 → bytes_eq (trim (cut (is 47) (or_empty c.1)).0) (codes "2.0") ≡ true → text ≡ c.0 ++ (47 ∷ or_empty c.1)
-version_there text (front, None) e h = absurd (false≢true h)
-version_there text (front, Some back) e h = e
+version_there text c e h = grind arith
 
 transport_there : (text : List ℕ) (c : Cut) → text ≡ c.0 ++ behind 47 c.1 → is_token (cut is_space (trim_start (or_empty c.1))).0 ≡ true → text ≡ c.0 ++ (47 ∷ or_empty c.1)
-transport_there text (front, None) e h = absurd (false≢true h)
-transport_there text (front, Some back) e h = e
+transport_there text c e h = grind arith
 
 -- at a space, which the cut does not keep
 abbrev CutAt : List ℕ → Cut → Type 0
 CutAt bs c = IfSome c.1 (λ back. (b : ℕ) × (is_space b ≡ true) × (bs ≡ c.0 ++ (b ∷ back)))
 
-cut_later : (b : ℕ) (bs : List ℕ) (c : Cut) → CutAt bs c → CutAt (b ∷ bs) (b ∷ c.0, c.1)
-cut_later b bs (front, None) h = tt
-cut_later b bs (front, Some back) h = (h.0, h.1, ap (λ (x : List ℕ). b ∷ x) h.2)
-
 space_cut : (bs : List ℕ) → CutAt bs (cut is_space bs)
 space_cut [] = tt
-space_cut (b ∷ bs) =
-    cond_both (is_space b) ([], Some bs) (b ∷ (cut is_space bs).0, (cut is_space bs).1) (CutAt (b ∷ bs))
-    (λ e. (b, e, refl))
-    (λ e. cut_later b bs (cut is_space bs) (space_cut bs))
+space_cut (b ∷ bs) = grind (arith, space_cut bs)
 
 abbrev host_in : List ℕ → List ℕ
 host_in sent = trim_end (take (host_len false sent) sent)
 
 host_there : (bs : List ℕ) (c : Cut) → CutAt bs c → is_host (host_in (trim_start (or_empty c.1))) ≡ true → (b : ℕ) × (is_space b ≡ true) × (bs ≡ c.0 ++ (b ∷ or_empty c.1))
-host_there bs (front, None) h good = absurd (false≢true good)
-host_there bs (front, Some back) h good = h
+host_there bs c h good = grind arith
 
 -- ---- each test that passed
 
@@ -177,13 +156,7 @@ record AreGood (p : Parts) : Type 0 where
 
 are_good : (p : Parts) → are_parts p ≡ true → AreGood p
 unfolding are_parts
-are_good p h =
-    let a = and_parts _ (list_all is_param (params_of p.params)) h in
-    let b = and_parts _ (is_port_if_any p.port) a.0 in
-    let c = and_parts _ (is_host p.host) b.0 in
-    let d = and_parts _ (is_token p.transport) c.0 in
-    let e = and_parts (bytes_eq (str_to_ascii_lowercase p.protocol) (codes "sip")) (bytes_eq p.version (codes "2.0")) d.0 in
-    record { protocol = e.0; version = e.1; transport = d.1; host = c.1; port = b.1; params = a.1 }
+are_good p h = grind (arith, and_parts)
 
 -- ---- the whole
 
@@ -224,15 +197,10 @@ record AreCut (text : List ℕ) (p : Parts) : Type 0 where
 
 parts_cut : (text : List ℕ) → AreCut text (parts_of text)
 unfolding parts_of
-parts_cut text =
-    let first = cut (is 47) text in
-    let second = cut (is 47) (or_empty first.1) in
-    record { first = first; second = second; third = cut is_space (trim_start (or_empty second.1)); first_is = refl; second_is = refl; third_is = refl; protocol = refl; version = refl; transport = refl; host = refl; marks = refl }
+parts_cut text = grind arith
 
 joined : (text name a p v q r1 r2 g s transport lws r3 : List ℕ) → text ≡ (name ++ a) ++ (47 ∷ r1) → r1 ≡ (p ++ (v ++ q)) ++ (47 ∷ r2) → r2 ≡ g ++ s → s ≡ transport ++ (lws ++ r3) → text ≡ name ++ spaced 47 a p (v ++ spaced 47 q g (transport ++ (lws ++ r3)))
-joined text name a p v q r1 r2 g s transport lws r3 e1 e2 e3 e4 =
-    e1 ∙ append_assoc name a (47 ∷ r1)
-    ∙ ap (λ (x : List ℕ). name ++ (a ++ (47 ∷ x))) (e2 ∙ padded p v q (47 ∷ r2) ∙ ap (λ (x : List ℕ). p ++ (v ++ (q ++ (47 ∷ x)))) (e3 ∙ ap (λ (x : List ℕ). g ++ x) e4))
+joined text name a p v q r1 r2 g s transport lws r3 e1 e2 e3 e4 = grind (arith, common_steps)
 
 assembled : (text : List ℕ) (via : ViaText) (p : Parts) → AreCut text p → AreGood p → via.transport ≡ p.transport → via.host ≡ p.host → via.port ≡ p.port → via.params ≡ params_of p.params → trim text ≡ text → IsVia text via
 assembled text via p c good transport host port params trimmed =

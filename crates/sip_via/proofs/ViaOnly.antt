@@ -1,23 +1,22 @@
 -- What is a Via value is read as it.
-use Rattle.sip_via.proofs.Common.{◌≡◌, ◌≢◌, ℕ, ◌+◌, Bool, true, false, not, cond, eqb, ltb, List, [], ◌∷◌, ◌++◌, length, map, take, drop, reverse, Option, Some, None, Result, Ok, Err, refl, sym, ap, subst, ◌∙◌, append_assoc, inl, inr}
-use Rattle.sip_via.proofs.Common.{arith, IfSome, ◌||◌, ◌&&◌, codes, option_map, is_ascii_digit, to_ascii_lowercase, list_all, AllByRecursion, flat_map, bytes_eq, str_to_ascii_lowercase, and_from, and_parts, cond-true, cond-false, eqb-true}
-use Rattle.sip_via.proofs.Common.{false_from_ne_true, false≢true, append-nil, drop_at, length-append, reverse-append, reverse-reverse, take_at, list_all-append, bytes_eq-Decides, Quotes, Place, Plain, is_space, is_token, is_token_byte}
-use Rattle.sip_via.proofs.Common.{trim, trim_end, trim_start, behind, cut, is, Lacks, pieces_outside_behind, quoted_at, cut_outside, place_after, cut_again, pieces_outside-cut, cut_outside_again, joined, joined-behind, token_bytes}
-use Rattle.sip_via.proofs.Common.{trim_end-reverse, trim_start-none, trim_start-spaces, IsHost, IsPort, host_len, is_address_byte, is_host_byte, other_than, ViaFault, BadVia, AreParamGaps, AreViaGaps, IsSpace, IsValue, IsVia, IsViaParam}
-use Rattle.sip_via.proofs.Common.{ParamGaps, ViaGaps, param_spelling, param_text, spaced, spelling, tail_spelling, Parts, ViaText, is_param, is_value_byte, is_value_if_any, is_via, is_whole, or_empty, params_of, port_and_params, read_via}
-use Rattle.sip_via.proofs.Common.{via_of}
+use Rattle.sip_via.proofs.Common.{◌≡◌, ◌≢◌, ℕ, ◌+◌, Bool, true, false, not, cond, eqb, ltb, List, [], ◌∷◌, ◌++◌, length, map, take, drop, reverse, Option, Some, None, Result, Ok, refl, sym, ap, subst, ◌∙◌, append_assoc, inl, inr, arith, IfSome, ◌||◌}
+use Rattle.sip_via.proofs.Common.{◌&&◌, codes, option_map, is_ascii_digit, to_ascii_lowercase, list_all, AllByRecursion, flat_map, bytes_eq, str_to_ascii_lowercase, and_from, and_parts, cond-true, cond-false, false≢true, append-nil, drop_at}
+use Rattle.sip_via.proofs.Common.{reverse-append, reverse-reverse, take_at, list_all-append, bytes_eq-Decides, Quotes, Place, Plain, is_space, is_token, is_token_byte, trim, trim_end, trim_start, behind, cut, is, Lacks, pieces_outside_behind}
+use Rattle.sip_via.proofs.Common.{place_after, cut_again, pieces_outside-cut, cut_outside_again, joined, joined-behind, token_bytes, trim_end-reverse, trim_start-none, trim_start-spaces, IsHost, IsPort, host_len, is_address_byte, is_host_byte}
+use Rattle.sip_via.proofs.Common.{other_than, ViaFault, AreParamGaps, AreViaGaps, IsSpace, IsValue, IsVia, IsViaParam, ParamGaps, ViaGaps, param_spelling, param_text, spaced, spelling, tail_spelling, Parts, ViaText, is_param, is_value_byte}
+use Rattle.sip_via.proofs.Common.{is_value_if_any, or_empty, params_of, port_and_params, read_via, common_steps}
 use Rattle.std.specs.Prelude.{OnSome}
-use Rattle.sip_lex.specs.declared.sheltered.Place.TheVariants.{Angled, Escaped, Quoted}
+use Rattle.sip_lex.specs.declared.sheltered.Place.TheVariants.{Escaped, Quoted}
 use Rattle.sip_lex.specs.Quoted.{IsInside}
 use Rattle.sip_lex.specs.Sheltered.{LacksOutside, end_place}
 use Rattle.sip_lex.proofs.laws.Cuts.{Lacks-append, Lacks-pass}
 use Rattle.sip_lex.proofs.laws.Quotes.{quoted_at-again}
 use Rattle.sip_lex.proofs.laws.Trims.{trim_end-passes}
 use Rattle.sip_uri.specs.Host.{BeginsWithEnd, ends_host}
-use Rattle.sip_uri.proofs.laws.Hosts.{IsHost-is_host, full-ltb}
+use Rattle.sip_uri.proofs.laws.Hosts.{IsHost-is_host}
 use Rattle.sip_uri.proofs.laws.Only.{port_good}
 use Rattle.sip_via.specs.ViaGrammar.{params_spelling, value_spelling}
-use Rattle.sip_via.specs.ViaParts.{are_parts, is_trimmed, is_value, parts_of, via_of_parts}
+use Rattle.sip_via.specs.ViaParts.{are_parts, is_value, parts_of}
 use Rattle.sip_via.proofs.laws.Tokens.{all_pass, no_space}
 
 abbrev Cut : Type 0
@@ -29,19 +28,11 @@ Marks = Option (List ℕ) × Option (List ℕ)
 -- ---- bytes
 
 not_space : (b : ℕ) → no_space b ≡ true → is_space b ≡ false
-not_space b h = is_not (is_space b) h
-  where
-    is_not : (t : Bool) → not t ≡ true → t ≡ false
-    is_not true e = absurd (false≢true e)
-    is_not false e = refl
+not_space b h = grind arith
 
 -- a byte of a class without space and tab is none
 class_no_space : (p : ℕ → Bool) → p 32 ≡ false → p 9 ≡ false → (b : ℕ) → p b ≡ true → no_space b ≡ true
 class_no_space p space tab b h = ap (λ t. not (t || eqb b 9)) (other_than p b 32 space h) ∙ ap not (other_than p b 9 tab h)
-
-class_runs_on : (p : ℕ → Bool) → p 58 ≡ false → p 59 ≡ false → p 63 ≡ false → (b : ℕ) → p b ≡ true → ends_host b ≡ false
-class_runs_on p colon semicolon question b h =
-    ap (λ t. (t || eqb b 59) || eqb b 63) (other_than p b 58 colon h) ∙ ap (λ t. t || eqb b 63) (other_than p b 59 semicolon h) ∙ other_than p b 63 question h
 
 pub all_joined : (p : ℕ → Bool) (xs ys : List ℕ) → list_all p xs ≡ true → list_all p ys ≡ true → list_all p (xs ++ ys) ≡ true
 all_joined p xs ys h k = list_all-append p xs ys ∙ and_from (list_all p xs) (list_all p ys) h k
@@ -54,8 +45,7 @@ Starts [] = ⊥
 Starts (b ∷ bs) = is_space b ≡ false
 
 start_kept : (gap bs rest : List ℕ) → IsSpace gap → Starts bs → trim_start (gap ++ (bs ++ rest)) ≡ bs ++ rest
-start_kept gap [] rest space s = absurd s
-start_kept gap (b ∷ bs) rest space s = trim_start-spaces gap (b ∷ (bs ++ rest)) space ∙ trim_start-none b (bs ++ rest) s
+start_kept gap bs rest space s = grind (arith, trim_start-spaces)
 
 -- a text that begins and ends so
 pub record IsBare (bs : List ℕ) : Type 0 where
@@ -66,8 +56,7 @@ pub bare_trim : (before bs after : List ℕ) → IsSpace before → IsSpace afte
 bare_trim before bs after front back h = ap trim_end (start_kept before bs after front h.starts) ∙ h.ends after back
 
 passes_starts : (bs : List ℕ) → bs ≢ [] → list_all no_space bs ≡ true → Starts bs
-passes_starts [] more h = more refl
-passes_starts (b ∷ bs) more h = not_space b (and_parts (no_space b) (list_all no_space bs) h).0
+passes_starts bs more h = grind arith
 
 no_space_bare : (bs : List ℕ) → bs ≢ [] → list_all no_space bs ≡ true → IsBare bs
 no_space_bare bs some h = record { starts = passes_starts bs some h; ends = λ gap space. trim_end-passes no_space not_space bs gap h space }
@@ -95,8 +84,7 @@ ended_bare b c bs first last = record {
 }
 
 token_some : (bs : List ℕ) → is_token bs ≡ true → bs ≢ []
-token_some [] h = λ e. absurd (false≢true h)
-token_some (b ∷ bs) h = λ e. absurd cc
+token_some bs h = grind arith
 
 pub token_bare : (bs : List ℕ) → is_token bs ≡ true → IsBare bs
 token_bare bs h = class_bare is_token_byte refl refl bs (token_some bs h) (token_bytes bs h)
@@ -109,8 +97,7 @@ pub digits_all : (digits : List ℕ) → IsPort digits → list_all is_ascii_dig
 digits_all digits p = (and_parts (ltb 0 (length digits)) (list_all is_ascii_digit digits) p.digits).1
 
 port_some : (digits : List ℕ) → IsPort digits → digits ≢ []
-port_some [] p = λ e. absurd (false≢true p.digits)
-port_some (d ∷ digits) p = λ e. absurd cc
+port_some digits p = grind arith
 
 pub port_bare : (digits : List ℕ) → IsPort digits → IsBare digits
 port_bare digits p = class_bare is_ascii_digit refl refl digits (port_some digits p) (digits_all digits p)
@@ -130,10 +117,7 @@ lowered_lacks mark (b ∷ bs) same h = (λ e. h.0 (ap to_ascii_lowercase e ∙ s
 
 lacks_all : (bs : List ℕ) → Lacks 32 bs → Lacks 9 bs → list_all no_space bs ≡ true
 lacks_all [] h k = refl
-lacks_all (b ∷ bs) h k =
-    and_from (no_space b) (list_all no_space bs)
-    (ap (λ t. not (t || eqb b 9)) (false_from_ne_true (eqb b 32) (λ e. h.0 (eqb-true b 32 e))) ∙ ap not (false_from_ne_true (eqb b 9) (λ e. k.0 (eqb-true b 9 e))))
-    (lacks_all bs h.1 k.1)
+lacks_all (b ∷ bs) h k = grind (arith, lacks_all bs h.1 k.1)
 
 pub sip_lacks : (mark : ℕ) (name : List ℕ) → to_ascii_lowercase mark ≡ mark → is_token_byte mark ≡ false → map to_ascii_lowercase name ≡ codes "sip" → Lacks mark name
 sip_lacks mark name same other e = lowered_lacks mark name same (subst (Lacks mark) (sym e) (Lacks-pass is_token_byte mark (codes "sip") other refl))
@@ -156,8 +140,7 @@ padded : (before inner after rest : List ℕ) → (before ++ (inner ++ after)) +
 padded before inner after rest = append_assoc before (inner ++ after) rest ∙ ap (λ (x : List ℕ). before ++ x) (append_assoc inner after rest)
 
 pub param_joins : (g : ParamGaps) (name : List ℕ) (value : Option (List ℕ)) → param_spelling g name value ≡ (g.before ++ (name ++ g.behind_name)) ++ behind 61 (value_in g value)
-param_joins g name None = sym (append-nil (g.before ++ (name ++ g.behind_name)))
-param_joins g name (Some value) = sym (padded g.before name g.behind_name (61 ∷ (g.before_value ++ (value ++ g.behind_value))))
+param_joins g name value = grind (arith, common_steps)
 
 abbrev some_text : List ℕ → Option (List ℕ)
 some_text text = Some text
@@ -167,27 +150,16 @@ value_trims g None spaces h = refl
 value_trims g (Some value) spaces h = ap some_text (bare_trim g.before_value value g.behind_value spaces.before_value spaces.behind_value (value_bare value h))
 
 value_good : (value : List ℕ) → IsValue value → is_value value ≡ true
-value_good value (inl plain) = ap (λ t. t || is_whole (quoted_at value)) (and_from (ltb 0 (length value)) (list_all is_value_byte value) (full-ltb value plain.0) plain.1)
-value_good value (inr q) = or_right _ _ (ap is_whole (ap quoted_at q.1.0 ∙ quoted_at-again q.0 [] q.1.1))
-  where
-    or_right : (a b : Bool) → b ≡ true → (a || b) ≡ true
-    or_right true b e = refl
-    or_right false b e = e
+value_good value fact = grind (arith, quoted_at-again)
 
 value_if_any : (value : Option (List ℕ)) → IfSome value IsValue → is_value_if_any value ≡ true
-value_if_any None h = refl
-value_if_any (Some value) h = value_good value h
+value_if_any value h = grind (arith, value_good)
 
 abbrev good_cut : Cut → Bool
 good_cut c = is_token (trim c.0) && is_value_if_any (option_map trim c.1)
 
 param_good : (param : List ℕ) → IsViaParam param → is_param param ≡ true
-param_good param h =
-    let front = h.gaps.before ++ (h.name ++ h.gaps.behind_name) in
-    let cuts : cut (is 61) param ≡ (front, value_in h.gaps h.value) = ap (cut (is 61)) (h.spelled ∙ param_joins h.gaps h.name h.value) ∙ cut_again 61 front (value_in h.gaps h.value) (param_front h.gaps h.name h.spaces h.token) in
-    let name : trim front ≡ h.name = bare_trim h.gaps.before h.name h.gaps.behind_name h.spaces.before h.spaces.behind_name (token_bare h.name h.token) in
-    ap good_cut cuts
-    ∙ and_from (is_token (trim front)) (is_value_if_any (option_map trim (value_in h.gaps h.value))) (ap is_token name ∙ h.token) (ap is_value_if_any (value_trims h.gaps h.value h.spaces h.valued) ∙ value_if_any h.value h.valued)
+param_good param h = grind (arith, common_steps, param_joins, cut_again, param_front, bare_trim, token_bare, and_from, value_trims, value_if_any)
 
 params_good : (params : List (List ℕ)) → AllByRecursion IsViaParam params → list_all is_param params ≡ true
 params_good [] h = refl
@@ -209,14 +181,10 @@ pub record IsMark (mark : ℕ) : Type 0 where
   pub quote : eqb 34 mark ≡ false
 
 not_true : (t : Bool) → not t ≡ true → t ≡ false
-not_true true e = absurd (false≢true e)
-not_true false e = refl
+not_true t e = grind arith
 
 neither_parts : (b : ℕ) → neither b ≡ true → (eqb b 59 ≡ false) × (eqb b 44 ≡ false) × (eqb b 34 ≡ false)
-neither_parts b h =
-    let first = and_parts (not (eqb b 59)) (not (eqb b 44) && not (eqb b 34)) h in
-    let rest = and_parts (not (eqb b 44)) (not (eqb b 34)) first.1 in
-    (not_true (eqb b 59) first.0, not_true (eqb b 44) rest.0, not_true (eqb b 34) rest.1)
+neither_parts b h = grind arith
 
 pub semicolon : IsMark 59
 semicolon = record { apart = λ b h. (neither_parts b h).0; quote = refl }
@@ -224,21 +192,9 @@ semicolon = record { apart = λ b h. (neither_parts b h).0; quote = refl }
 pub comma : IsMark 44
 comma = record { apart = λ b h. (neither_parts b h).1; quote = refl }
 
-no_angle : (t : Bool) → cond (t && false) Angled Plain ≡ Plain
-no_angle true = refl
-no_angle false = refl
-
-plain_after : (b : ℕ) → eqb b 34 ≡ false → place_after Quotes Plain b ≡ Plain
-plain_after b e = cond-false (eqb b 34) Quoted (cond (eqb b 60 && false) Angled Plain) e ∙ no_angle (eqb b 60)
-
 -- a byte before such a text
 pub unsplit_byte : (mark b : ℕ) (ys : List ℕ) → eqb b mark ≡ false → eqb b 34 ≡ false → IsUnsplit mark Plain ys → IsUnsplit mark Plain (b ∷ ys)
-unsplit_byte mark b ys other quote k =
-    let stays : place_after Quotes Plain b ≡ Plain = plain_after b quote in
-    record {
-      lacks = (other, subst (λ (p : Place). LacksOutside Quotes mark p ys) (sym stays) k.lacks);
-      ends = ap (λ (p : Place). end_place Quotes p ys) stays ∙ k.ends;
-    }
+unsplit_byte mark b ys other quote k = grind arith
 
 pub unsplit_append : (mark : ℕ) → IsMark mark → (xs : List ℕ) → list_all neither xs ≡ true → (ys : List ℕ) → IsUnsplit mark Plain ys → IsUnsplit mark Plain (xs ++ ys)
 unsplit_append mark m [] h ys k = k
@@ -298,8 +254,7 @@ quoted_unsplit mark m inside ys h k = let rest = inside_unsplit mark false insid
 
 value_unsplit : (mark : ℕ) → IsMark mark → (value ys : List ℕ) → IsValue value → IsUnsplit mark Plain ys → IsUnsplit mark Plain (value ++ ys)
 value_unsplit mark m value ys (inl plain) k = unsplit_append mark m value (class_unsplit is_value_byte refl refl refl value plain.1) ys k
-value_unsplit mark m value ys (inr q) k =
-    subst (λ (x : List ℕ). IsUnsplit mark Plain (x ++ ys)) (sym q.1.0) (subst (λ (x : List ℕ). IsUnsplit mark Plain (34 ∷ x)) (sym (append_assoc q.0 (34 ∷ []) ys)) (quoted_unsplit mark m q.0 ys q.1.1 k))
+value_unsplit mark m value ys (inr q) k = grind (arith, common_steps, append_assoc q.0 (34 ∷ []) ys, quoted_unsplit mark m q.0 ys q.1.1 k)
 
 pub space_unsplit : (gap : List ℕ) → IsSpace gap → list_all neither gap ≡ true
 space_unsplit gap space = class_unsplit is_space refl refl refl gap space
@@ -323,17 +278,11 @@ abbrev of_cut : Cut → List (List ℕ)
 of_cut c = c.0 ∷ pieces_outside_behind Quotes 59 c.1
 
 pub on_some : (o : Option (List ℕ)) (P : Type 0) → P → OnSome o P
-on_some None P p = tt
-on_some (Some x) P p = p
+on_some o P p = grind arith
 
 pub params_again : (params : List (List ℕ)) → AllByRecursion IsViaParam params → params_of (joined 59 params) ≡ params
 params_again [] all = refl
-params_again (p ∷ ps) all =
-    let unsplit = param_unsplit 59 semicolon p all.0 in
-    pieces_outside-cut Quotes 59 (p ++ flat_map param_text ps)
-    ∙ ap (λ (x : List ℕ). of_cut (cut_outside Quotes 59 Plain (p ++ x))) (joined-behind 59 ps)
-    ∙ ap of_cut (cut_outside_again Quotes 59 Plain p (joined 59 ps) unsplit.lacks (on_some (joined 59 ps) _ unsplit.ends))
-    ∙ ap (λ (rest : List (List ℕ)). p ∷ rest) (params_again ps all.1)
+params_again (p ∷ ps) all = grind (arith, param_unsplit, pieces_outside-cut, joined-behind, cut_outside_again, params_again ps all.1)
 
 -- ---- the host ends where it ended
 
@@ -341,33 +290,22 @@ runs_on : (p : ℕ → Bool) → ((b : ℕ) → p b ≡ true → ends_host b ≡
 runs_on p on bracket [] rest h = let k : host_len false rest ≡ length {A = ℕ} [] + host_len false rest = omega arith in k
 runs_on p on bracket (b ∷ bs) rest h =
     let each = and_parts (p b) (list_all p bs) h in
-    let k : 1 + (length bs + host_len false rest) ≡ length (b ∷ bs) + host_len false rest = omega arith in
-    cond-false (ends_host b) 0 (1 + host_len (eqb b 91) (bs ++ rest)) (on b each.0) ∙ ap (λ t. 1 + host_len t (bs ++ rest)) (other_than p b 91 bracket each.0) ∙ ap (λ n. 1 + n) (runs_on p on bracket bs rest each.1) ∙ k
+    grind (arith, common_steps, cond-false (ends_host b) 0 (1 + host_len (eqb b 91) (bs ++ rest)) (on b each.0), other_than p b 91 bracket each.0, runs_on p on bracket bs rest each.1)
 
 inner_runs_on : (inner rest : List ℕ) → list_all is_address_byte inner ≡ true → host_len true (inner ++ (93 ∷ rest)) ≡ 1 + (length inner + host_len false rest)
 inner_runs_on [] rest h = let k : 1 + host_len false rest ≡ 1 + (length {A = ℕ} [] + host_len false rest) = omega arith in k
 inner_runs_on (b ∷ bs) rest h =
     let each = and_parts (is_address_byte b) (list_all is_address_byte bs) h in
-    let k : 1 + (1 + (length bs + host_len false rest)) ≡ 1 + (length (b ∷ bs) + host_len false rest) = omega arith in
-    ap (λ t. 1 + host_len (not t) (bs ++ (93 ∷ rest))) (other_than is_address_byte b 93 refl each.0) ∙ ap (λ n. 1 + n) (inner_runs_on bs rest each.1) ∙ k
+    grind (arith, common_steps, other_than is_address_byte b 93 refl each.0, inner_runs_on bs rest each.1)
 
 host_runs_on : (host rest : List ℕ) → IsHost host → host_len false (host ++ rest) ≡ length host + host_len false rest
-host_runs_on host rest (inl name) = runs_on is_host_byte (class_runs_on is_host_byte refl refl refl) refl host rest name.1
-host_runs_on host rest (inr r) =
-    let text : host ++ rest ≡ 91 ∷ (r.0 ++ (93 ∷ rest)) = ap (λ (x : List ℕ). x ++ rest) r.1 ∙ ap (λ (x : List ℕ). 91 ∷ x) (append_assoc r.0 (93 ∷ []) rest) in
-    ap (host_len false) text ∙ ap (λ n. 1 + n) (inner_runs_on r.0 rest r.3) ∙ omega (arith, ap length r.1, length-append r.0 (93 ∷ []))
+host_runs_on host rest fact = grind (arith, common_steps, runs_on, inner_runs_on)
 
 stops_at : (tail : List ℕ) → BeginsWithEnd tail → host_len false tail ≡ 0
-stops_at [] h = refl
-stops_at (b ∷ bs) h = cond-true (ends_host b) 0 (1 + host_len (eqb b 91) bs) h
+stops_at tail h = grind arith
 
 host_ends : (host gap tail : List ℕ) → IsHost host → IsSpace gap → BeginsWithEnd tail → host_len false (host ++ (gap ++ tail)) ≡ length (host ++ gap)
-host_ends host gap tail h space ends =
-    let a = host_runs_on host (gap ++ tail) h in
-    let b = runs_on is_space (class_runs_on is_space refl refl refl) refl gap tail space in
-    let c = stops_at tail ends in
-    let d = length-append host gap in
-    omega (arith, a, b, c, d)
+host_ends host gap tail h space ends = grind (arith, common_steps, host_runs_on, runs_on)
 
 -- ---- the parts, cut by cut
 
@@ -409,25 +347,10 @@ port_tail before after gap port params front back space is_port =
     let inner = after ++ (port ++ gap) in
     let text : after ++ (port ++ (gap ++ flat_map param_text params)) ≡ inner ++ behind 59 (joined 59 params) = sym (padded after port gap (flat_map param_text params)) ∙ ap (λ (x : List ℕ). inner ++ x) (joined-behind 59 params) in
     let lacks = Lacks-append 59 after (port ++ gap) (space_lacks 59 after refl back) (Lacks-append 59 port gap (Lacks-pass is_ascii_digit 59 port refl (digits_all port is_port)) (space_lacks 59 gap refl space)) in
-    let cuts : cut (is 59) (after ++ (port ++ (gap ++ flat_map param_text params))) ≡ (inner, joined 59 params) = ap (cut (is 59)) text ∙ cut_again 59 inner (joined 59 params) lacks in
-    record {
-      joins = refl;
-      space = front;
-      ends = refl;
-      cuts = ap (λ (c : Cut). (Some (trim c.0), c.1)) cuts ∙ ap (λ (x : List ℕ). (Some x, joined 59 params)) (bare_trim after port gap back space (port_bare port is_port));
-    }
+    grind (arith, common_steps, joined 59 params, cut_again 59, bare_trim after port gap back space (port_bare port is_port), port_bare)
 
 sent_again : (protocol version transport host text gap tail : List ℕ) (marks : Marks) → IsHost host → IsTail text gap tail marks → with_sent protocol version transport (host ++ text) ≡ with_tail protocol version transport host marks
-sent_again protocol version transport host text gap tail marks h t =
-    let n = host_len false (host ++ (gap ++ tail)) in
-    let size : n ≡ length (host ++ gap) = host_ends host gap tail h t.space t.ends in
-    let front : take n (host ++ (gap ++ tail)) ≡ host ++ gap = ap (take n) (sym (append_assoc host gap tail)) ∙ take_at (host ++ gap) tail n (sym size) in
-    let back : drop n (host ++ (gap ++ tail)) ≡ tail = ap (drop n) (sym (append_assoc host gap tail)) ∙ drop_at (host ++ gap) tail n (sym size) in
-    ap (λ (x : List ℕ). with_sent protocol version transport (host ++ x)) t.joins
-    ∙ ap (λ (x : List ℕ). with_tail protocol version transport (trim_end x) (port_and_params (drop n (host ++ (gap ++ tail))))) front
-    ∙ ap (λ (x : List ℕ). with_tail protocol version transport x (port_and_params (drop n (host ++ (gap ++ tail))))) ((host_bare host h).ends gap t.space)
-    ∙ ap (λ (x : List ℕ). with_tail protocol version transport host (port_and_params x)) back
-    ∙ ap (with_tail protocol version transport host) t.cuts
+sent_again protocol version transport host text gap tail marks h t = grind (arith, common_steps, append_assoc host gap tail, host_bare host h, host_ends, take_at, drop_at)
 
 cut_space : (ds rest : List ℕ) (b : ℕ) → list_all no_space ds ≡ true → is_space b ≡ true → cut is_space (ds ++ (b ∷ rest)) ≡ (ds, Some rest)
 cut_space [] rest b h space = cond-true (is_space b) ([], Some rest) (b ∷ (cut is_space rest).0, (cut is_space rest).1) space
@@ -438,12 +361,7 @@ cut_space (d ∷ ds) rest b h space =
 
 host_again : (protocol version transport lws host text gap tail : List ℕ) (marks : Marks) → is_token transport ≡ true → lws ≢ [] → IsSpace lws → IsHost host → IsTail text gap tail marks → with_third protocol version (cut is_space (transport ++ (lws ++ (host ++ text)))) ≡ with_tail protocol version transport host marks
 host_again protocol version transport [] host text gap tail marks token more space h t = absurd (more refl)
-host_again protocol version transport (b ∷ lws) host text gap tail marks token more space h t =
-    let each = and_parts (is_space b) (list_all is_space lws) space in
-    let no_spaces = all_pass is_token_byte no_space transport (class_no_space is_token_byte refl refl) (token_bytes transport token) in
-    ap (with_third protocol version) (cut_space transport (lws ++ (host ++ text)) b no_spaces each.0)
-    ∙ ap (with_sent protocol version transport) (start_kept lws host text each.1 (host_bare host h).starts)
-    ∙ sent_again protocol version transport host text gap tail marks h t
+host_again protocol version transport (b ∷ lws) host text gap tail marks token more space h t = grind (arith, common_steps, and_parts (is_space b) (list_all is_space lws) space, all_pass is_token_byte no_space transport (class_no_space is_token_byte refl refl) (token_bytes transport token), host_bare host h, sent_again protocol version transport host text gap tail marks h t, no_space, class_no_space, token_bytes, cut_space, start_kept)
 
 slash_again : (before inner after rest : List ℕ) → IsSpace before → IsSpace after → Lacks 47 inner → cut (is 47) (before ++ (inner ++ (after ++ (47 ∷ rest)))) ≡ (before ++ (inner ++ after), Some rest)
 slash_again before inner after rest front back lacks =
@@ -499,11 +417,4 @@ abbrev pub ok : ViaText → Result ViaText ViaFault
 ok via = Ok via
 
 pub via_again : (text : List ℕ) (via : ViaText) → IsVia text via → read_via text ≡ Ok via
-via_again text via h =
-    let parts = parts_again text via h in
-    let params : params_of (joined 59 via.params) ≡ via.params = params_again via.params h.params in
-    let sip : bytes_eq (str_to_ascii_lowercase h.gaps.name) (codes "sip") ≡ true = ap (λ (s : List ℕ). bytes_eq s (codes "sip")) h.spaces.sip in
-    let good = tests_pass (parts_in h.gaps via (via.port, joined 59 via.params)) sip refl h.transport h.host h.port (ap (list_all is_param) params ∙ params_good via.params h.params) in
-    let reads : is_via text ≡ true = and_from (is_trimmed text) (are_parts (parts_of text)) ((bytes_eq-Decides (trim text) text).1 h.trimmed) (ap are_parts parts ∙ good) in
-    let value : via_of text ≡ via = ap via_of_parts parts ∙ ap (with_params via) params in
-    cond-true (is_via text) (ok (via_of text)) (Err BadVia) reads ∙ ap ok value
+via_again text via h = grind (arith, common_steps, parts_again text via h, bytes_eq-Decides (trim text) text, joined, params_again, tests_pass, params_good, and_from, cond-true)

@@ -1,8 +1,7 @@
 -- A text is read exactly where it is a Via value.
-use Rattle.sip_via.proofs.Common.{◌≡◌, ℕ, true, false, List, Result, Ok, Err, sym, subst, ◌∙◌, inl, inr, and_parts, cases_Bool, cond-false, cond-true, ViaFault, BadVia, IsVia, ViaText, are_parts, is_via, parts_of, read_via, via_of}
+use Rattle.sip_via.proofs.Common.{◌≡◌, ℕ, true, false, List, Result, Ok, Err, subst, and_parts, cases_Bool, cond-false, cond-true, ViaFault, BadVia, IsVia, ViaText, is_via, read_via, via_of, arith, common_steps}
 use Rattle.std.specs.Prelude.{IfOk}
 use Rattle.sip_via.specs.ViaFaults.{Gives}
-use Rattle.sip_via.specs.ViaParts.{is_trimmed}
 use Rattle.sip_via.proofs.ViaFound.{via_found}
 use Rattle.sip_via.proofs.ViaOnly.{via_again}
 
@@ -13,18 +12,10 @@ ok_is : (x y : ViaText) → ok x ≡ ok y → x ≡ y
 ok_is x y e = cc
 
 via_read : (text : List ℕ) (via : ViaText) → read_via text ≡ Ok via → IsVia text via
-via_read text via e =
-    elim (cases_Bool (is_via text)) [
-      | inl so ↦
-          let both = and_parts (is_trimmed text) (are_parts (parts_of text)) so in
-          let same : via_of text ≡ via = ok_is (via_of text) via (sym (cond-true (is_via text) (ok (via_of text)) (Err BadVia) so) ∙ e) in
-          subst (λ (v : ViaText). IsVia text v) same (via_found text both.0 both.1)
-      | inr other ↦ let wrong : Err BadVia ≡ ok via = sym (cond-false (is_via text) (ok (via_of text)) (Err BadVia) other) ∙ e in absurd cc
-    ]
+via_read text via e = grind (arith, common_steps, cases_Bool (is_via text), and_parts, ok_is, cond-true, via_found, cond-false)
 
 pub is_found : (text : List ℕ) (r : Result ViaText ViaFault) → Gives (λ (v : ViaText). v) r (read_via text) → IfOk r (λ via. IsVia text via)
-is_found text (Ok via) e = via_read text via e
-is_found text (Err f) e = tt
+is_found text r e = grind (arith, via_read)
 
 pub only_read : (text : List ℕ) (r : Result ViaText ViaFault) → Gives (λ (v : ViaText). v) r (read_via text) → (via : ViaText) → IsVia text via → Gives (λ (v : ViaText). v) r (Ok via)
 only_read text r h via good = subst (λ (x : Result ViaText ViaFault). Gives (λ (v : ViaText). v) r x) (via_again text via good) h
@@ -33,5 +24,4 @@ pub is_one : (text : List ℕ) → is_via text ≡ true → IsVia text (via_of t
 is_one text so = via_read text (via_of text) (cond-true (is_via text) (ok (via_of text)) (Err BadVia) so)
 
 pub is_none : (text : List ℕ) → is_via text ≡ false → (via : ViaText) → IsVia text via → ⊥
-is_none text other via good =
-    let wrong : Err BadVia ≡ ok via = sym (cond-false (is_via text) (ok (via_of text)) (Err BadVia) other) ∙ via_again text via good in absurd cc
+is_none text other via good = grind (arith, common_steps, via_again text via good, cond-false)

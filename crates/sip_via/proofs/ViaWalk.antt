@@ -1,7 +1,6 @@
 -- Via values and parameters, one by one.
-use Rattle.sip_via.proofs.Common.{◌≡◌, ℕ, List, ◌∷◌, map, Option, Some, sym, ap, ◌∙◌, Bor, option_copied, Quotes, Plain, trim, pieces_outside, pieces_outside_behind, cut_outside, pieces_outside-cut, values_in, params_of}
+use Rattle.sip_via.proofs.Common.{◌≡◌, ℕ, List, ◌∷◌, map, Option, Some, sym, ap, ◌∙◌, Bor, option_copied, Quotes, Plain, trim, pieces_outside, pieces_outside_behind, cut_outside, pieces_outside-cut, values_in, params_of, values_behind}
 use Rattle.sip_lex.specs.Cut.{seen_cut}
-use Rattle.sip_via.specs.SeenVia.{values_behind}
 
 abbrev Cut : Type 0
 Cut = Bor (List ℕ) × Option (Bor (List ℕ))

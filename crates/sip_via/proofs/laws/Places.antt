@@ -1,7 +1,6 @@
 -- Header lines round the first of a name.
-use Rattle.sip_via.proofs.Common.{◌≡◌, ℕ, zero, suc, ◌+◌, ◌<◌, ◌≤◌, false, get_or, List, [], ◌∷◌, ◌++◌, length, take, drop, Option, Some, refl, sym, ap, ◌∙◌, arith, inl, inr, append-nil, drop_all, take_all, slice_set, cases_Bool, cond-true}
-use Rattle.sip_via.proofs.Common.{cond-false, same_name, view, views, HeaderText, begins_named, line, line_if_any, place_of, replaced, changed_first}
-use Rattle.std.proofs.lemmas.List.{drop-map, length-map, take-map}
+use Rattle.sip_via.proofs.Common.{◌≡◌, ℕ, zero, suc, ◌+◌, ◌<◌, ◌≤◌, false, get_or, List, [], ◌∷◌, ◌++◌, length, take, drop, Option, Some, refl, sym, ap, ◌∙◌, arith, inl, inr, slice_set, cases_Bool, cond-true, cond-false, same_name, view, views}
+use Rattle.sip_via.proofs.Common.{HeaderText, begins_named, line, line_if_any, place_of, replaced, changed_first, common_steps}
 
 -- no line has the name
 pub replaced-none : (name : List ℕ) (value : Option (List ℕ)) (hs : List HeaderText) → drop (place_of name hs) hs ≡ [] → replaced name value hs ≡ take (place_of name hs) hs
@@ -53,28 +52,16 @@ place-later name (h ∷ hs) (suc i) lt b =
     place-later name hs i (omega arith) b ∙ ap (λ n. 1 + place_of name (views (drop n (h ∷ hs)))) (let k : suc (i + 1) ≡ suc i + 1 = omega arith in k)
 
 split : (name : List ℕ) (value : Option (List ℕ)) (hs back : List HeaderText) → drop (place_of name hs) hs ≡ back → take (place_of name hs) hs ++ changed_first value back ≡ replaced name value hs
-split name value hs [] e = append-nil (take (place_of name hs) hs) ∙ sym (replaced-none name value hs e)
-split name value hs (x ∷ after) e = sym (replaced-some name value hs after x e)
+split name value hs back e = grind (arith, common_steps, replaced-none, replaced-some)
 
 pub replaced-split : (name : List ℕ) (value : Option (List ℕ)) (hs front back : List HeaderText) (n : ℕ) → n ≡ place_of name (views hs) → front ≡ take n hs → back ≡ drop n hs → views front ++ changed_first value (views back) ≡ replaced name value (views hs)
-replaced-split name value hs front back n at f b =
-    let place = place_of name (views hs) in
-    let first : views front ≡ take place (views hs) = ap (λ (xs : List HeaderText). views xs) (f ∙ ap (λ k. take k hs) at) ∙ sym (take-map view place hs) in
-    let rest : drop place (views hs) ≡ views back = drop-map view place hs ∙ ap (λ (xs : List HeaderText). views xs) (sym (b ∙ ap (λ k. drop k hs) at)) in
-    ap (λ (xs : List HeaderText). xs ++ changed_first value (views back)) first ∙ split name value (views hs) (views back) rest
+replaced-split name value hs front back n at f b = grind (arith, common_steps, split)
 
 -- ---- another value in that line
 
 pub replaced-at : (name v : List ℕ) (hs : List HeaderText) (n : ℕ) (old new : HeaderText) → n ≡ place_of name (views hs) → n < length hs → old ≡ get_or hs n old → view new ≡ line (view old).name v → views (slice_set hs n new) ≡ replaced name (Some v) (views hs)
 replaced-at name v [] n old new at lt is e = absurd (omega arith)
-replaced-at name v (h ∷ hs) zero old new at lt is e =
-    let n = place_of name (views hs) in
-    elim (cases_Bool (same_name name (view h).name)) [
-      | inl same ↦
-          ap (λ (x : HeaderText). x ∷ views hs) (e ∙ ap (λ (x : HeaderText). line (view x).name v) is)
-          ∙ sym (cond-true (same_name name (view h).name) (line (view h).name v ∷ views hs) (view h ∷ replaced name (Some v) (views hs)) same)
-      | inr other ↦ let k : 0 ≡ 1 + n = at ∙ cond-false (same_name name (view h).name) 0 (1 + n) other in absurd (omega (arith, k))
-    ]
+replaced-at name v (h ∷ hs) zero old new at lt is e = grind arith
 replaced-at name v (h ∷ hs) (suc i) old new at lt is e =
     let n = place_of name (views hs) in
     elim (cases_Bool (same_name name (view h).name)) [
@@ -88,8 +75,4 @@ replaced-at name v (h ∷ hs) (suc i) old new at lt is e =
 
 -- no line has the name
 pub replaced-nowhere : (name v : List ℕ) (hs : List HeaderText) (n : ℕ) → n ≡ place_of name (views hs) → length hs ≤ n → views hs ≡ replaced name (Some v) (views hs)
-replaced-nowhere name v hs n at le =
-    let place = place_of name (views hs) in
-    let size : length (views hs) ≡ length hs = length-map hs view in
-    let past : length (views hs) ≤ place = omega (arith, size, at, le) in
-    sym (replaced-none name (Some v) (views hs) (drop_all place (views hs) past) ∙ take_all place (views hs) past)
+replaced-nowhere name v hs n at le = grind (arith, common_steps, replaced-none)

@@ -1,11 +1,9 @@
 -- A message of which header lines were replaced is one.
-use Rattle.sip_via.proofs.Common.{◌≡◌, ℕ, Bool, true, false, cond, List, [], ◌∷◌, ◌++◌, length, Option, Some, None, refl, sym, ap, ◌∙◌, inl, inr, codes, is_none, list_all, bytes_eq, str_to_ascii_lowercase, and_parts, cases_Bool, cond_both}
-use Rattle.sip_via.proofs.Common.{cond-true, cond-false, false_from_ne_true, false≢true, bytes_eq-Decides, is_token, IsMessage, is_header, is_value, first_of, first_value, same_name, HeaderText, MessageText, and_both, line, line_if_any}
-use Rattle.sip_via.proofs.Common.{replaced, with_headers}
+use Rattle.sip_via.proofs.Common.{◌≡◌, ℕ, Bool, true, false, cond, List, [], ◌∷◌, ◌++◌, Option, Some, None, refl, sym, ap, ◌∙◌, inl, inr, codes, is_none, list_all, bytes_eq, str_to_ascii_lowercase, and_parts, cases_Bool, cond_both, cond-true}
+use Rattle.sip_via.proofs.Common.{cond-false, bytes_eq-Decides, is_token, IsMessage, is_header, is_value, first_of, first_value, same_name, HeaderText, MessageText, and_both, line_if_any, replaced, with_headers, arith, common_steps}
 use Rattle.sip_text.specs.declared.needed.Needed.{Needed}
 use Rattle.sip_text.specs.declared.needed.Needed.TheVariants.{Via, From, To, CallId, CSeq}
-use Rattle.sip_text.specs.Fields.{cseq_in, fits_start, length_name, missing, said_by}
-use Rattle.sip_text.specs.Message.{fits_body}
+use Rattle.sip_text.specs.Fields.{length_name, missing}
 use Rattle.sip_text.specs.Name.{full_name, values_of}
 
 -- ---- names that differ have no line in common
@@ -17,48 +15,22 @@ abbrev Differ : List ℕ → List ℕ → Type 0
 Differ a b = bytes_eq (lowered_name a) (lowered_name b) ≡ false
 
 pub apart : (a b n : List ℕ) → Differ a b → same_name a n ≡ true → same_name b n ≡ false
-apart a b n differ same =
-    false_from_ne_true (same_name b n) (λ also.
-    let x = (bytes_eq-Decides (lowered_name a) (lowered_name n)).0 same in
-    let y = (bytes_eq-Decides (lowered_name b) (lowered_name n)).0 also in
-    false≢true (sym differ ∙ (bytes_eq-Decides (lowered_name a) (lowered_name b)).1 (x ∙ sym y)))
+apart a b n differ same = grind (arith, bytes_eq-Decides)
 
 values-line : (other n : List ℕ) (value : Option (List ℕ)) (hs : List HeaderText) → same_name other n ≡ false → values_of other (line_if_any n value ++ hs) ≡ values_of other hs
 unfolding values_of
-values-line other n None hs differs = refl
-values-line other n (Some v) hs differs = cond-false _ _ _ differs
+values-line other n value hs differs = grind arith
 
 pub values-replaced : (other name : List ℕ) (value : Option (List ℕ)) (hs : List HeaderText) → Differ name other → values_of other (replaced name value hs) ≡ values_of other hs
 unfolding values_of
 values-replaced other name value [] differ = refl
-values-replaced other name value (h ∷ hs) differ =
-    elim (cases_Bool (same_name name h.name)) [
-      | inl same ↦
-          let differs = apart name other h.name differ same in
-          ap (values_of other) (cond-true (same_name name h.name) (line_if_any h.name value ++ hs) (h ∷ replaced name value hs) same)
-          ∙ values-line other h.name value hs differs
-          ∙ sym (cond-false (same_name other h.name) (h.value ∷ values_of other hs) (values_of other hs) differs)
-      | inr none ↦
-          ap (values_of other) (cond-false (same_name name h.name) (line_if_any h.name value ++ hs) (h ∷ replaced name value hs) none)
-          ∙ ap (λ (vs : List (List ℕ)). cond (same_name other h.name) (h.value ∷ vs) vs) (values-replaced other name value hs differ)
-    ]
+values-replaced other name value (h ∷ hs) differ = grind (arith, apart, values-replaced other name value hs differ)
 
 -- a line that stays keeps its name there
 pub first-replaced : (name v : List ℕ) (hs : List HeaderText) → is_none (first_value name (replaced name (Some v) hs)) ≡ is_none (first_value name hs)
 unfolding values_of
 first-replaced name v [] = refl
-first-replaced name v (h ∷ hs) =
-    elim (cases_Bool (same_name name h.name)) [
-      | inl same ↦
-          ap (λ (ys : List HeaderText). is_none (first_value name ys)) (cond-true (same_name name h.name) (line h.name v ∷ hs) (h ∷ replaced name (Some v) hs) same)
-          ∙ ap (λ (vs : List (List ℕ)). is_none (first_of vs)) (cond-true (same_name name h.name) (v ∷ values_of name hs) (values_of name hs) same)
-          ∙ sym (ap (λ (vs : List (List ℕ)). is_none (first_of vs)) (cond-true (same_name name h.name) (h.value ∷ values_of name hs) (values_of name hs) same))
-      | inr none ↦
-          ap (λ (ys : List HeaderText). is_none (first_value name ys)) (cond-false (same_name name h.name) (line h.name v ∷ hs) (h ∷ replaced name (Some v) hs) none)
-          ∙ ap (λ (vs : List (List ℕ)). is_none (first_of vs)) (cond-false (same_name name h.name) (h.value ∷ values_of name (replaced name (Some v) hs)) (values_of name (replaced name (Some v) hs)) none)
-          ∙ first-replaced name v hs
-          ∙ sym (ap (λ (vs : List (List ℕ)). is_none (first_of vs)) (cond-false (same_name name h.name) (h.value ∷ values_of name hs) (values_of name hs) none))
-    ]
+first-replaced name v (h ∷ hs) = grind (arith, first-replaced name v hs)
 
 -- ---- each line is a header
 
@@ -67,16 +39,13 @@ GoodValue None = Unit {0}
 GoodValue (Some v) = is_value v ≡ true
 
 all-line : (n : List ℕ) (value : Option (List ℕ)) (hs : List HeaderText) → is_token n ≡ true → GoodValue value → list_all is_header hs ≡ true → list_all is_header (line_if_any n value ++ hs) ≡ true
-all-line n None hs t g h = h
-all-line n (Some v) hs t g h = and_both (is_header (line n v)) (list_all is_header hs) (and_both (is_token n) (is_value v) t g) h
+all-line n value hs t g h = grind arith
 
 pub all-replaced : (name : List ℕ) (value : Option (List ℕ)) (hs : List HeaderText) → list_all is_header hs ≡ true → GoodValue value → list_all is_header (replaced name value hs) ≡ true
 all-replaced name value [] h g = refl
 all-replaced name value (x ∷ hs) h g =
     let both = and_parts (is_header x) (list_all is_header hs) h in
-    cond_both (same_name name x.name) (line_if_any x.name value ++ hs) (x ∷ replaced name value hs) (λ (ys : List HeaderText). list_all is_header ys ≡ true)
-    (λ e. all-line x.name value hs (and_parts (is_token x.name) (is_value x.value) both.0).0 g both.1)
-    (λ e. and_both (is_header x) (list_all is_header (replaced name value hs)) both.0 (all-replaced name value hs both.1 g))
+    grind (arith, common_steps, all-line x.name value hs (and_parts (is_token x.name) (is_value x.value) both.0).0 g both.1, and_both (is_header x) (list_all is_header (replaced name value hs)) both.0 (all-replaced name value hs both.1 g), cond_both, and_parts)
 
 -- the first value of a name is such as a line may have
 pub first-good : (name v : List ℕ) (hs : List HeaderText) → list_all is_header hs ≡ true → first_value name hs ≡ Some v → is_value v ≡ true
@@ -114,52 +83,25 @@ missing_by via from to call cseq =
     (cond (is_none (first_of cseq)) (Some CSeq) None))))
 
 some-none : (b : Bool) (which : Needed) (rest : Option Needed) → cond b (Some which) rest ≡ None → (b ≡ false) × (rest ≡ None)
-some-none true which rest e = absurd cc
-some-none false which rest e = (refl, e)
+some-none b which rest e = grind arith
 
 -- nothing is missing in a message
 via-there : (ks : List HeaderText) → missing ks ≡ None → no_via ks ≡ false
 via-there ks e = (some-none (no_via ks) Via _ e).0
 
 pub same-missing : (hs ks : List HeaderText) → no_via hs ≡ false → missing ks ≡ None → SameOthers hs ks → missing hs ≡ None
-same-missing hs ks via none same =
-    ap (λ v. missing_by v (values_of (codes "from") hs) (values_of (codes "to") hs) (values_of (codes "call-id") hs) (values_of (codes "cseq") hs)) via
-    ∙ ap (λ (v : List (List ℕ)). missing_by false v (values_of (codes "to") hs) (values_of (codes "call-id") hs) (values_of (codes "cseq") hs)) same.from
-    ∙ ap (λ (v : List (List ℕ)). missing_by false (values_of (codes "from") ks) v (values_of (codes "call-id") hs) (values_of (codes "cseq") hs)) same.to
-    ∙ ap (λ (v : List (List ℕ)). missing_by false (values_of (codes "from") ks) (values_of (codes "to") ks) v (values_of (codes "cseq") hs)) same.call_id
-    ∙ ap (λ (v : List (List ℕ)). missing_by false (values_of (codes "from") ks) (values_of (codes "to") ks) (values_of (codes "call-id") ks) v) same.cseq
-    ∙ (some-none (no_via ks) Via _ none).1
+same-missing hs ks via none same = grind arith
 
 pub edited-good : (m : MessageText) (hs : List HeaderText) → IsMessage m → list_all is_header hs ≡ true → no_via hs ≡ false → SameOthers hs m.headers → IsMessage (with_headers m hs)
-edited-good m hs good all via same = record {
-  head = record {
-    start = good.head.start;
-    headers = all;
-    needed = same-missing hs m.headers via good.head.needed same;
-    cseq = ap (λ (v : List (List ℕ)). fits_start m.start (cseq_in (first_of v))) same.cseq ∙ good.head.cseq;
-  };
-  body = ap (λ (v : List (List ℕ)). fits_body (said_by v) (length m.body)) same.length ∙ good.body;
-}
+edited-good m hs good all via same = grind arith
 
 others-via : (value : Option (List ℕ)) (hs : List HeaderText) → SameOthers (replaced (codes "via") value hs) hs
 unfolding full_name
-others-via value hs = record {
-  from = values-replaced (codes "from") (codes "via") value hs refl;
-  to = values-replaced (codes "to") (codes "via") value hs refl;
-  call_id = values-replaced (codes "call-id") (codes "via") value hs refl;
-  cseq = values-replaced (codes "cseq") (codes "via") value hs refl;
-  length = values-replaced length_name (codes "via") value hs refl;
-}
+others-via value hs = grind (arith, values-replaced)
 
 others-route : (value : Option (List ℕ)) (hs : List HeaderText) → SameOthers (replaced (codes "route") value hs) hs
 unfolding full_name
-others-route value hs = record {
-  from = values-replaced (codes "from") (codes "route") value hs refl;
-  to = values-replaced (codes "to") (codes "route") value hs refl;
-  call_id = values-replaced (codes "call-id") (codes "route") value hs refl;
-  cseq = values-replaced (codes "cseq") (codes "route") value hs refl;
-  length = values-replaced length_name (codes "route") value hs refl;
-}
+others-route value hs = grind (arith, values-replaced)
 
 via-route : (value : Option (List ℕ)) (hs : List HeaderText) → no_via (replaced (codes "route") value hs) ≡ no_via hs
 unfolding full_name

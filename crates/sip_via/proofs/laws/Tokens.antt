@@ -1,7 +1,6 @@
 -- Digits: what they are not, and what they make.
-use Rattle.sip_via.proofs.Common.{◌≡◌, ℕ, suc, get_or, ◌+◌, ◌<◌, ◌≤◌, ◌/◌, ◌%◌, ◌^◌, Bool, true, false, not, cond, eqb, ltb, List, [], ◌∷◌, ◌++◌, refl, sym, ap, ◌∙◌, arith, ◌&&◌, ◌||◌, nat_le, is_ascii_digit, decimal, list_all}
-use Rattle.sip_via.proofs.Common.{AllByRecursion, agree_below_at, and_parts, and_from, cond_both, cond-true, eqb-true, false_from_ne_true, leb-true, le-leb, digits_decimal, list_all-append, is_space, is_token_byte, hex_digit, is_line_byte}
-use Rattle.sip_via.proofs.Common.{BranchName, IsBranch, branch_text, hex_text, own}
+use Rattle.sip_via.proofs.Common.{◌≡◌, ℕ, suc, get_or, ◌<◌, ◌^◌, Bool, true, false, not, eqb, List, [], ◌∷◌, refl, ap, ◌∙◌, arith, ◌&&◌, ◌||◌, nat_le, is_ascii_digit, decimal, list_all, AllByRecursion, and_parts, and_from, eqb-true}
+use Rattle.sip_via.proofs.Common.{false_from_ne_true, leb-true, digits_decimal, is_space, is_token_byte, is_line_byte, BranchName, IsBranch, branch_text, hex_text, own, common_steps}
 
 abbrev pub no_space : ℕ → Bool
 no_space b = not (is_space b)
@@ -30,14 +29,9 @@ high_no_space b h = ap (λ x. not (x || eqb b 9)) (not_eq b 32 (omega arith) h) 
 digit_high : (b : ℕ) → is_ascii_digit b ≡ true → is_high b ≡ true
 digit_high b h = (and_parts (is_high b) (nat_le b 57) h).0
 
-hex_high : (n : ℕ) → is_high (hex_digit n) ≡ true
-hex_high n = cond_both (ltb n 10) (48 + n) (87 + n) (λ d. is_high d ≡ true) (λ e. le-leb 48 (48 + n) (omega arith)) (λ e. le-leb 48 (87 + n) (omega arith))
-
 pub hex_text_high : (bytes : List ℕ) → list_all is_high (hex_text bytes) ≡ true
 hex_text_high [] = refl
-hex_text_high (b ∷ bytes) =
-    and_from (is_high (hex_digit (b / 16))) (list_all is_high (hex_digit (b % 16) ∷ hex_text bytes)) (hex_high (b / 16))
-    (and_from (is_high (hex_digit (b % 16))) (list_all is_high (hex_text bytes)) (hex_high (b % 16)) (hex_text_high bytes))
+hex_text_high (b ∷ bytes) = grind (arith, hex_text_high bytes)
 
 pub decimal_digits : (n : ℕ) → n < 2 ^ 64 → list_all is_ascii_digit (decimal n) ≡ true
 decimal_digits n small = digits_decimal own n small
@@ -47,42 +41,18 @@ decimal_high n small = all_pass is_ascii_digit is_high (decimal n) digit_high (d
 
 -- ---- a branch is a token
 
-abbrev digit_or_token : ℕ → Bool
-digit_or_token b = cond (is_ascii_digit b) (is_token_byte b) true
-
 digit_token : (b : ℕ) → is_ascii_digit b ≡ true → is_token_byte b ≡ true
-digit_token b h =
-    let high : b ≤ 57 = leb-true b 57 (and_parts (nat_le 48 b) (nat_le b 57) h).1 in
-    sym (cond-true (is_ascii_digit b) (is_token_byte b) true h) ∙ agree_below_at digit_or_token (λ _. true) 58 b refl (omega (arith, high))
-
-hex_token : (n : ℕ) → n < 16 → is_token_byte (hex_digit n) ≡ true
-hex_token n lt = agree_below_at (λ n. is_token_byte (hex_digit n)) (λ _. true) 16 n refl lt
+digit_token b h = grind arith
 
 pub key_token : (key : List ℕ) → AllByRecursion (λ byte. byte < 2 ^ 8) key → list_all is_token_byte (hex_text key) ≡ true
 key_token [] all = refl
-key_token (b ∷ key) all =
-    let upper : b / 16 < 16 = omega (arith, all.0) in
-    let lower : b % 16 < 16 = omega arith in
-    and_from (is_token_byte (hex_digit (b / 16))) (list_all is_token_byte (hex_digit (b % 16) ∷ hex_text key)) (hex_token (b / 16) upper)
-    (and_from (is_token_byte (hex_digit (b % 16))) (list_all is_token_byte (hex_text key)) (hex_token (b % 16) lower) (key_token key all.1))
-
-joined_token : (xs ys : List ℕ) → list_all is_token_byte xs ≡ true → list_all is_token_byte ys ≡ true → list_all is_token_byte (xs ++ ys) ≡ true
-joined_token xs ys h k = list_all-append is_token_byte xs ys ∙ and_from (list_all is_token_byte xs) (list_all is_token_byte ys) h k
+key_token (b ∷ key) all = grind (arith, common_steps, key_token key all.1)
 
 pub dotted : (n : ℕ) → n < 2 ^ 64 → list_all is_token_byte (46 ∷ decimal n) ≡ true
 dotted n small = all_pass is_ascii_digit is_token_byte (decimal n) digit_token (decimal_digits n small)
 
-pub token_of : (b : BranchName) → list_all is_token_byte (hex_text b.key) ≡ true → list_all is_token_byte (46 ∷ decimal b.instance) ≡ true → list_all is_token_byte (46 ∷ decimal b.context) ≡ true → list_all is_token_byte (46 ∷ decimal b.target) ≡ true → list_all is_token_byte (branch_text b) ≡ true
-token_of b key instance context target =
-    joined_token (hex_text b.key) (46 ∷ (decimal b.instance ++ (46 ∷ (decimal b.context ++ (46 ∷ decimal b.target))))) key
-    (joined_token (46 ∷ decimal b.instance) (46 ∷ (decimal b.context ++ (46 ∷ decimal b.target))) instance
-    (joined_token (46 ∷ decimal b.context) (46 ∷ decimal b.target) context target))
-
 pub branch_token : (b : BranchName) → IsBranch b → list_all is_token_byte (branch_text b) ≡ true
-branch_token b is =
-    let instance = is.instance in
-    let target = is.target in
-    token_of b (key_token b.key is.bytes) (dotted b.instance (omega (arith, instance))) (dotted b.context is.context) (dotted b.target (omega (arith, target)))
+branch_token b is = grind (arith, common_steps, key_token, dotted)
 
 pub all_small : (bs : List ℕ) → ((i : ℕ) → get_or bs i 0 < 2 ^ 8) → AllByRecursion (λ byte. byte < 2 ^ 8) bs
 all_small [] h = tt

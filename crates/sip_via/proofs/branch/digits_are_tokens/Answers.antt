@@ -1,4 +1,4 @@
-use Rattle.std.proofs.Common.{arith}
+use Rattle.sip_via.proofs.Common.{arith}
 use Rattle.sip_via.proofs.laws.Tokens.{all_small, key_token}
 use Rattle.sip_via.proofs.branch.digits_are_tokens.Goals as goal
 

@@ -1,4 +1,4 @@
-use Rattle.std.proofs.Common.{arith}
+use Rattle.sip_via.proofs.Common.{arith}
 use Rattle.sip_via.proofs.laws.Tokens.{dotted}
 use Rattle.sip_via.proofs.branch.number_is_token.Goals as goal
 

@@ -1,4 +1,4 @@
-use Rattle.sip_via.proofs.Common.{◌≡◌, ◌+◌, ◌-◌, arith, length-decimal-le}
+use Rattle.sip_via.proofs.Common.{arith, length-decimal-le, common_steps}
 use Rattle.std.proofs.lemmas.List.{drop-set}
 use Rattle.sip_via.proofs.branch.place_dotted.Goals as goal
 
@@ -17,5 +17,4 @@ pub returns-clause-text : goal.returns-clause-text
 returns-clause-text c =
     let w = c.write_digits-start in
     let long = length-decimal-le 20 c.args.n (omega arith) (omega arith) c.ranges.n.fits in
-    let e : w.result - 1 + 1 ≡ w.result = omega (arith, long) in
-    rw (drop-set w.new.buf (w.result - 1) 46 (omega (arith, long)), e, w.ensures.written)
+    grind (arith, common_steps, drop-set)

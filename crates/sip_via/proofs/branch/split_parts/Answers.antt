@@ -1,6 +1,5 @@
-use Rattle.sip_via.proofs.Common.{sym, ap, ◌∙◌, ◌-◌, arith, drop, drop_all, length, take, take_all}
+use Rattle.sip_via.proofs.Common.{sym, ap, arith, drop, drop_all, take, take_all, with_key, common_steps}
 use Rattle.std.proofs.lemmas.List.{length-drop}
-use Rattle.sip_via.specs.inner.BranchParts.{with_key}
 use Rattle.sip_via.proofs.branch.split_parts.Goals as goal
 
 pub returns-then-text-lt32 : goal.returns-then-text-lt32
@@ -13,5 +12,4 @@ pub returns : goal.returns
 returns c =
     let text = c.args.text.now in
     let rest = drop 32 text in
-    let size = length-drop 32 text in
-    c.split_behind_key.ensures ∙ ap (with_key (take 32 text)) (take_all (length text - 32) rest (omega (arith, size)))
+    grind (arith, common_steps, length-drop 32 text, take_all)

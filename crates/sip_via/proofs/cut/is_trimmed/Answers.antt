@@ -1,4 +1,4 @@
-use Rattle.std.proofs.Common.{ℕ, eqb, List, length, ap, ◌∙◌}
+use Rattle.sip_via.proofs.Common.{ℕ, eqb, List, length, ap, ◌∙◌}
 use Rattle.sip_via.proofs.TrimmedLen.{trimmed-len}
 use Rattle.sip_via.proofs.cut.is_trimmed.Goals as goal
 

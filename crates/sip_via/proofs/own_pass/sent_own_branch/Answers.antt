@@ -1,4 +1,4 @@
-use Rattle.std.proofs.Common.{◌<◌, ◌^◌, ◌∙◌, arith, rules, sym}
+use Rattle.sip_via.proofs.Common.{◌<◌, ◌^◌, ◌∙◌, arith, rules, sym}
 use Rattle.sip_via.proofs.OwnSent.{sent_other, sent_own}
 use Rattle.sip_via.proofs.laws.PlainVia.{own-one}
 use Rattle.sip_via.proofs.own_pass.sent_own_branch.Goals as goal

@@ -1,23 +1,16 @@
-use Rattle.sip_via.proofs.Common.{◌≡◌, ◌∙◌, ◌≤◌, ◌+◌, ◌-◌, Bor, List, None, Option, Some, ap, arith, behind, is_via, length, option_copied, parts_of, suc, sym, take, true, ℕ}
+use Rattle.sip_via.proofs.Common.{◌≡◌, ◌∙◌, ◌≤◌, ◌+◌, ◌-◌, Bor, List, None, Option, Some, ap, arith, behind, is_via, length, option_copied, parts_of, suc, sym, take, true, ℕ, common_steps}
 use Rattle.sip_via.proofs.MarkedVia.{cuts-at-params}
 use Rattle.sip_via.proofs.received.front_len.Goals as goal
 
 -- the `;` and the parameters are within the value
 behind-params : (value text : List ℕ) → is_via value ≡ true → (parts_of value).params ≡ Some text → 1 + length text ≤ length value
-behind-params value text via is =
-    let within = (cuts-at-params value via).within in
-    let long : length (behind 59 (parts_of value).params) ≡ suc (length text) = ap (λ (o : Option (List ℕ)). length (behind 59 o)) is in
-    omega (arith, within, long)
+behind-params value text via is = grind (arith, common_steps, cuts-at-params value via)
 
 pub overflow_sub-result : goal.overflow_sub-result
-overflow_sub-result c =
-    let k = behind-params c.args.value.now c.in-Some.text.now c.requires.via (sym c.requires.params ∙ ap (λ (o : Option (Bor (List ℕ))). option_copied o) c.in-Some.is) in
-    omega (arith, k)
+overflow_sub-result c = grind (arith, behind-params)
 
 pub overflow_sub-result-in-Some : goal.overflow_sub-result-in-Some
-overflow_sub-result-in-Some c =
-    let k = behind-params c.args.value.now c.in-Some.text.now c.requires.via (sym c.requires.params ∙ ap (λ (o : Option (Bor (List ℕ))). option_copied o) c.in-Some.is) in
-    omega (arith, k)
+overflow_sub-result-in-Some c = grind (arith, behind-params)
 
 pub returns-in-None-clause-cuts : goal.returns-in-None-clause-cuts
 returns-in-None-clause-cuts c =

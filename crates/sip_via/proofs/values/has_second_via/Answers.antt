@@ -1,8 +1,7 @@
-use Rattle.sip_via.proofs.Common.{◌≡◌, ◌∙◌, ◌++◌, ◌∷◌, [], ℕ, Bor, List, None, Option, Plain, Quotes, Some, ap, cut_outside, false, false≢true, flat_map, map, option_copied, pieces_outside-cut, refl, sym, trim, true, values_in}
+use Rattle.sip_via.proofs.Common.{◌≡◌, ◌∙◌, ◌++◌, ◌∷◌, [], ℕ, Bor, List, Option, Plain, Quotes, ap, cut_outside, false, flat_map, map, option_copied, pieces_outside-cut, refl, sym, trim, true, values_in, values_behind, arith}
 use Rattle.std.specs.Iterator.{YieldsFirstBy}
 use Rattle.std.specs.Option.{is_some}
 use Rattle.sip_via.proofs.ViaWalk.{next_value}
-use Rattle.sip_via.specs.SeenVia.{values_behind}
 use Rattle.sip_via.specs.TopVia.{has_second}
 use Rattle.sip_via.proofs.values.has_second_via.Goals as goal
 
@@ -14,30 +13,21 @@ begins line = ap (map trim) (pieces_outside-cut Quotes 44 line)
 second-line : (value line : List ℕ) (rest : List (List ℕ)) → has_second (value ∷ (values_in line ++ rest)) ≡ true
 second-line value line rest = ap (λ (vs : List (List ℕ)). has_second (value ∷ (vs ++ rest))) (begins line)
 
-behind-value : (value : List ℕ) (after : Option (List ℕ)) (line : List ℕ) (rest : List (List ℕ)) → has_second (value ∷ (values_behind after ++ (values_in line ++ rest))) ≡ true
-behind-value value None line rest = second-line value line rest
-behind-value value (Some text) line rest = second-line value text (values_in line ++ rest)
-
 two-lines : (first line : List ℕ) (rest : List (List ℕ)) → has_second (values_in first ++ (values_in line ++ rest)) ≡ true
-two-lines first line rest =
-    let c = cut_outside Quotes 44 Plain first in
-    ap (λ (vs : List (List ℕ)). has_second (vs ++ (values_in line ++ rest))) (begins first) ∙ behind-value (trim c.0) c.1 line rest
+two-lines first line rest = grind (arith, begins)
 
 one-line : (line value : List ℕ) (after : Option (Bor (List ℕ))) → values_in line ≡ value ∷ values_behind (option_copied after) → is_some after ≡ has_second (values_in line ++ [])
-one-line line value None e = sym (ap (λ (vs : List (List ℕ)). has_second (vs ++ [])) e)
-one-line line value (Some text) e = sym (ap (λ (vs : List (List ℕ)). has_second (vs ++ [])) e ∙ second-line value text.now [])
+one-line line value after e = grind (arith, second-line)
 
 -- how the lines behind the first give their next one
 abbrev Gives : List (List ℕ) → Option (Bor (List ℕ)) → List (List ℕ) → Type 0
 Gives lines next left = YieldsFirstBy (λ (v : Bor (List ℕ)). v.now) (λ (s : List (List ℕ)). s) lines next left
 
 with-next : (line : List ℕ) (lines left : List (List ℕ)) (next : Option (Bor (List ℕ))) → Gives lines next left → true ≡ is_some next → true ≡ has_second (values_in line ++ flat_map values_in lines)
-with-next line lines left None h e = absurd (false≢true (sym e))
-with-next line lines left (Some next) h e = sym (ap (λ (ls : List (List ℕ)). has_second (values_in line ++ flat_map values_in ls)) h ∙ two-lines line next.now (flat_map values_in left))
+with-next line lines left next h e = grind (arith, two-lines)
 
 without-next : (line value : List ℕ) (lines left : List (List ℕ)) (next after : Option (Bor (List ℕ))) → Gives lines next left → is_some next ≡ false → values_in line ≡ value ∷ values_behind (option_copied after) → is_some after ≡ has_second (values_in line ++ flat_map values_in lines)
-without-next line value lines left (Some next) after h e v = absurd (false≢true (sym e))
-without-next line value lines left None after h e v = one-line line value after v ∙ ap (λ (ls : List (List ℕ)). has_second (values_in line ++ flat_map values_in ls)) (sym h.0)
+without-next line value lines left next after h e v = grind (arith, one-line)
 
 pub returns-then-is_some : goal.returns-then-is_some
 returns-then-is_some g c =
