@@ -1,5 +1,5 @@
 -- A text that grew by pieces.
-use Rattle.std.proofs.Common.{◌≡◌, ℕ, List, [], ◌++◌, sym, ap, ◌∙◌, append_assoc}
+use Rattle.sip_route.proofs.Common.{◌≡◌, ℕ, List, [], ◌++◌, sym, ap, ◌∙◌, append_assoc}
 use Rattle.std.proofs.lemmas.List.{append-nil}
 
 pub three : (m a b d : List ℕ) → ((m ++ a) ++ b) ++ d ≡ m ++ (a ++ (b ++ (d ++ [])))

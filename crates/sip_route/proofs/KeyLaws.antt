@@ -1,15 +1,13 @@
 -- What the key of a request tells.
-use Rattle.sip_route.proofs.Common.{◌≡◌, ℕ, ◌+◌, ◌≤◌, Bool, true, false, cond, List, [], ◌∷◌, ◌++◌, Option, Some, None, refl, sym, ap, subst, ◌∙◌, inl, inr, arith, append_assoc, IfSome, list_all, str_to_ascii_lowercase, and_parts}
-use Rattle.sip_route.proofs.Common.{cond_both, false≢true, number, sender_port, IsSameSender, key_text, key_with, via_key}
+use Rattle.sip_route.proofs.Common.{◌≡◌, ℕ, ◌≤◌, Bool, true, false, List, [], ◌∷◌, ◌++◌, Option, Some, None, refl, sym, ap, subst, ◌∙◌, arith, append_assoc, IfSome, list_all, str_to_ascii_lowercase, and_parts, false≢true, sender_port, IsSameSender}
+use Rattle.sip_route.proofs.Common.{key_text, key_with, via_key, to_ascii_lowercase, common_steps}
 use Rattle.std.proofs.Common.{◌≢◌}
-use Rattle.std.specs.Prelude.{nat_lt}
-use Rattle.std.specs.Char.{to_ascii_lowercase}
 use Rattle.std.specs.Fmt.{decimal}
-use Rattle.std.proofs.lemmas.Bool.{eqb-false, ltb-false}
+use Rattle.std.proofs.lemmas.Bool.{eqb-false}
 use Rattle.sip_lex.specs.Cut.{Lacks}
 use Rattle.sip_lex.specs.Number.{plain_number_within}
 use Rattle.sip_lex.proofs.laws.Numbers.{decimal_lacks, number_read}
-use Rattle.sip_uri.specs.Host.{IsHost, IsPort, is_address_byte, is_host_byte, is_port}
+use Rattle.sip_uri.specs.Host.{IsHost, IsPort}
 use Rattle.sip_via.specs.Received.{port_or_default}
 use Rattle.sip_via.specs.ViaGrammar.{IsVia}
 use Rattle.sip_via.specs.ViaParts.{ViaText, branch_of, port_if_any}
@@ -17,12 +15,7 @@ use Rattle.sip_via.specs.ViaParts.{ViaText, branch_of, port_if_any}
 -- ---- a host has no space, in lower case either
 
 lower-space : (b : ℕ) → to_ascii_lowercase b ≡ 32 → b ≡ 32
-lower-space b =
-    cond_both (nat_lt b 65) b (cond (nat_lt b 91) (b + 32) b) (λ x. x ≡ 32 → b ≡ 32)
-    (λ small e. e)
-    (λ large. cond_both (nat_lt b 91) (b + 32) b (λ x. x ≡ 32 → b ≡ 32)
-    (λ letter e. let from = ltb-false b 65 large in absurd (omega (arith, from, e)))
-    (λ other e. e))
+lower-space b = grind arith
 
 lower-lacks : (p : ℕ → Bool) (bs : List ℕ) → p 32 ≡ false → list_all p bs ≡ true → Lacks 32 (str_to_ascii_lowercase bs)
 lower-lacks p [] fails h = tt
@@ -30,15 +23,8 @@ lower-lacks p (b ∷ bs) fails h =
     let both = and_parts (p b) (list_all p bs) h in
     (λ e. false≢true (sym fails ∙ ap p (sym (lower-space b e)) ∙ both.0), lower-lacks p bs fails both.1)
 
-lower-closed : (bs : List ℕ) → list_all is_address_byte bs ≡ true → Lacks 32 (str_to_ascii_lowercase (bs ++ 93 ∷ []))
-lower-closed [] h = (eqb-false 93 32 refl, tt)
-lower-closed (b ∷ bs) h =
-    let both = and_parts (is_address_byte b) (list_all is_address_byte bs) h in
-    (λ e. let bad : is_address_byte 32 ≡ true = sym (ap is_address_byte (lower-space b e)) ∙ both.0 in false≢true bad, lower-closed bs both.1)
-
 host-lacks : (host : List ℕ) → IsHost host → Lacks 32 (str_to_ascii_lowercase host)
-host-lacks host (inl name) = lower-lacks is_host_byte host refl name.1
-host-lacks host (inr reference) = rw reference.1 (eqb-false 91 32 refl, lower-closed reference.0 reference.3)
+host-lacks host fact = grind (arith, common_steps, lower-lacks)
 
 -- ---- a text cut at a mark
 
@@ -72,8 +58,7 @@ same-back m (a ∷ us) (b ∷ bs) x y h k e =
 -- ---- the parts of a key
 
 port-within : (o : Option (List ℕ)) → IfSome o IsPort → port_or_default (port_if_any o) ≤ 65535
-port-within None h = omega arith
-port-within (Some digits) h = cond_both (is_port digits) (Some (number digits)) None (λ (n : Option ℕ). port_or_default n ≤ 65535) (λ e. h.within) (λ e. omega arith)
+port-within o h = grind arith
 
 some_is : (x y : ℕ) (a b : Option ℕ) → a ≡ Some x → b ≡ Some y → a ≡ b → x ≡ y
 some_is x y a b e f same = cc
@@ -116,8 +101,7 @@ pub same_sender : (text other : List ℕ) (a b : ViaText) → IsVia text a → I
 same_sender text other a b is also some same = same-with text other a b (branch_of a) (branch_of b) is also refl refl some same
 
 with_parts : (a b : ViaText) (x : Option (List ℕ)) → str_to_ascii_lowercase a.host ≡ str_to_ascii_lowercase b.host → sender_port a ≡ sender_port b → key_with a x ≡ key_with b x
-with_parts a b None host port = refl
-with_parts a b (Some x) host port = ap (λ (h : List ℕ). Some (h ++ (58 ∷ (decimal (sender_port a) ++ (32 ∷ x))))) host ∙ ap (λ p. Some (str_to_ascii_lowercase b.host ++ (58 ∷ (decimal p ++ (32 ∷ x))))) port
+with_parts a b x host port = grind arith
 
 pub same_key : (a b : ViaText) → IsSameSender a b → via_key a ≡ via_key b
 same_key a b same = with_parts a b (branch_of a) same.host same.port ∙ ap (key_with b) same.branch

@@ -1,14 +1,11 @@
 -- A text against a key, and two keys against one another.
-use Rattle.sip_route.proofs.Common.{◌≡◌, ℕ, Bool, true, false, eqb, ◌+◌, List, [], ◌∷◌, ◌++◌, length, take, drop, Option, Some, None, refl, sym, ap, ◌∙◌, ◌↔◌, ◌&&◌, IsTrue, Bor, option_copied, bytes_eq, str_to_ascii_lowercase, and_parts}
-use Rattle.sip_route.proofs.Common.{eqb-true, MessageText, sender_port, IsSameSender, key_text, key_with, via_key, is_rest}
-use Rattle.std.specs.Prelude.{◌==◌, MatchOption}
-use Rattle.std.proofs.Math.Bool.{and_assoc}
-use Rattle.std.proofs.lemmas.Bool.{eq-eqb}
-use Rattle.std.proofs.lemmas.Slice.Eq.{bytes_eq-Decides}
+use Rattle.sip_route.proofs.Common.{◌≡◌, ℕ, Bool, true, false, eqb, ◌+◌, List, [], ◌∷◌, ◌++◌, length, take, drop, Option, Some, None, refl, sym, ap, ◌∙◌, ◌↔◌, ◌&&◌, IsTrue, Bor, option_copied, bytes_eq, str_to_ascii_lowercase, and_parts, eqb-true}
+use Rattle.sip_route.proofs.Common.{MessageText, IsSameSender, via_key, is_rest, ◌==◌, eq-eqb, bytes_eq-Decides, arith}
+use Rattle.std.specs.Prelude.{MatchOption}
 use Rattle.sip_via.specs.TopVia.{top_value}
 use Rattle.sip_route.specs.RequestKey.{HaveSameKey}
 use Rattle.sip_route.specs.inner.RequestKey.{IsSentBy}
-use Rattle.sip_route.proofs.KeyLaws.{same_key, same_sender}
+use Rattle.sip_route.proofs.KeyLaws.{same_sender}
 
 -- ---- a text behind its front
 
@@ -16,13 +13,10 @@ use Rattle.sip_route.proofs.KeyLaws.{same_key, same_sender}
 split_at : (front text rest : List ℕ) → bytes_eq text (front ++ rest) ≡ (bytes_eq (take (length front) text) front && bytes_eq (drop (length front) text) rest)
 split_at [] text rest = refl
 split_at (b ∷ bs) [] rest = refl
-split_at (b ∷ bs) (c ∷ cs) rest =
-    ap (λ z. eqb c b && z) (split_at bs cs rest) ∙ sym (and_assoc (eqb c b) (bytes_eq (take (length bs) cs) bs) (bytes_eq (drop (length bs) cs) rest))
+split_at (b ∷ bs) (c ∷ cs) rest = grind (arith, split_at bs cs rest)
 
 pub left_behind : (front text : List ℕ) (o : Option (Bor (List ℕ))) → MatchOption o (bytes_eq (take (length front) text) front ≡ false) (λ x. (bytes_eq (take (length front) text) front ≡ true) × (x.now ≡ drop (length front) text) × (length x.now + length front ≡ length text)) → (rest : List ℕ) → is_rest (option_copied o) rest ≡ bytes_eq text (front ++ rest)
-left_behind front text None other rest = sym (split_at front text rest ∙ ap (λ z. z && bytes_eq (drop (length front) text) rest) other)
-left_behind front text (Some x) found rest =
-    ap (λ t. bytes_eq t rest) found.1 ∙ sym (split_at front text rest ∙ ap (λ z. z && bytes_eq (drop (length front) text) rest) found.0)
+left_behind front text o found rest = grind (arith, split_at)
 
 -- ---- two keys
 
@@ -30,21 +24,13 @@ abbrev some_key : List ℕ → Option (List ℕ)
 some_key key = Some key
 
 same_parts : (m n : MessageText) (h k x y : List ℕ) (p q : ℕ) (s : IsSentBy m h p x) (t : IsSentBy n k q y) → IsSameSender s.via t.via → (str_to_ascii_lowercase h ≡ str_to_ascii_lowercase k) × (p ≡ q) × (x ≡ y)
-same_parts m n h k x y p q s t same =
-    let branches : some_key x ≡ some_key y = sym s.names_branch ∙ same.branch ∙ t.names_branch in
-    (sym (ap str_to_ascii_lowercase s.names_host) ∙ same.host ∙ ap str_to_ascii_lowercase t.names_host, sym s.names_port ∙ same.port ∙ t.names_port, cc)
+same_parts m n h k x y p q s t same = grind arith
 
 same_senders : (m n : MessageText) (h k x y : List ℕ) (p q : ℕ) (s : IsSentBy m h p x) (t : IsSentBy n k q y) → str_to_ascii_lowercase h ≡ str_to_ascii_lowercase k → p ≡ q → x ≡ y → IsSameSender s.via t.via
-same_senders m n h k x y p q s t hosts ports branches = record {
-  host = ap str_to_ascii_lowercase s.names_host ∙ hosts ∙ sym (ap str_to_ascii_lowercase t.names_host);
-  port = s.names_port ∙ ports ∙ sym t.names_port;
-  branch = s.names_branch ∙ ap some_key branches ∙ sym t.names_branch;
-}
+same_senders m n h k x y p q s t hosts ports branches = grind arith
 
 of_senders : (m n : MessageText) (h k x y : List ℕ) (p q : ℕ) (s : IsSentBy m h p x) (t : IsSentBy n k q y) → IsSameSender s.via t.via → HaveSameKey m n
-of_senders m n h k x y p q s t same =
-    let is : via_key s.via ≡ Some (key_text s.via.host (sender_port s.via) x) = ap (key_with s.via) s.names_branch in
-    (key_text s.via.host (sender_port s.via) x, s.key ∙ is, t.key ∙ sym (same_key s.via t.via same) ∙ is)
+of_senders m n h k x y p q s t same = grind arith
 
 to_senders : (m n : MessageText) (h k x y : List ℕ) (p q : ℕ) (s : IsSentBy m h p x) (t : IsSentBy n k q y) → HaveSameKey m n → IsSameSender s.via t.via
 to_senders m n h k x y p q s t same =

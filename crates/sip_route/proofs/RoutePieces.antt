@@ -1,6 +1,6 @@
 -- The pieces of a text between its marks, one by one.
-use Rattle.sip_route.proofs.Common.{◌≡◌, ℕ, true, false, cond, eqb, List, [], ◌∷◌, Option, Some, refl, sym, ap, ◌∙◌, ◌&&◌, Bor, onto_first, option_copied, QuotesAndAngles, Place, Plain, pieces_from, cut_outside, is_plain, place_after}
-use Rattle.sip_route.proofs.Common.{values_in, values_behind}
+use Rattle.sip_route.proofs.Common.{◌≡◌, ℕ, true, false, cond, eqb, List, [], ◌∷◌, Option, Some, refl, sym, ap, ◌∙◌, ◌&&◌, Bor, onto_first, option_copied, QuotesAndAngles, Place, Plain, pieces_from, cut_outside, is_plain, place_after, values_in}
+use Rattle.sip_route.proofs.Common.{values_behind}
 use Rattle.sip_lex.specs.declared.sheltered.Shelter.{Shelter}
 use Rattle.sip_lex.specs.Cut.{seen_cut}
 use Rattle.sip_lex.specs.Outside.{pieces_outside, pieces_outside_behind}

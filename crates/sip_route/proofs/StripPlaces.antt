@@ -1,10 +1,9 @@
 -- The first header line of a name, changed or taken away at its place.
-use Rattle.sip_route.proofs.Common.{◌≡◌, ℕ, zero, suc, ◌+◌, ◌-◌, ◌<◌, List, [], ◌∷◌, ◌++◌, length, take, drop, get_or, slice_set, Option, Some, None, refl, sym, ap, ◌∙◌, arith, inl, inr, append_assoc, option_map, remove, prefix_len}
-use Rattle.sip_route.proofs.Common.{cases_Bool, cond-true, cond-false, is_space, trim, trim_end, trim_start, first_of, first_value, same_name, views, HeaderText, line, replaced, Own, QuotesAndAngles, Plain, cut_outside, route_name}
-use Rattle.sip_route.proofs.Common.{stripped_at, stripped_headers, LineLeaves, part}
+use Rattle.sip_route.proofs.Common.{◌≡◌, ℕ, zero, suc, ◌+◌, ◌-◌, ◌<◌, List, [], ◌∷◌, ◌++◌, length, take, get_or, slice_set, Option, Some, None, refl, sym, ap, ◌∙◌, arith, inl, inr, append_assoc, option_map, remove, prefix_len, cases_Bool, cond-true}
+use Rattle.sip_route.proofs.Common.{cond-false, is_space, trim, trim_end, trim_start, first_of, first_value, same_name, views, HeaderText, line, replaced, Own, QuotesAndAngles, Plain, cut_outside, route_name, stripped_at, stripped_headers}
+use Rattle.sip_route.proofs.Common.{LineLeaves, part, common_steps}
 use Rattle.std.proofs.Common.{slice_get}
-use Rattle.std.specs.List.{suffix_len}
-use Rattle.std.proofs.lemmas.List.{drop_at, length-append, take-append-drop}
+use Rattle.std.proofs.lemmas.List.{take-append-drop}
 use Rattle.sip_text.specs.Name.{values_of}
 use Rattle.sip_text.specs.Seen.{view}
 use Rattle.sip_via.specs.Edits.{place_of}
@@ -14,16 +13,6 @@ use Rattle.sip_route.specs.inner.Stripping.{Leaves}
 
 -- ---- a part of a text
 
-take-len : (n : ℕ) (xs : List ℕ) → take (length (take n xs)) xs ≡ take n xs
-take-len zero xs = refl
-take-len (suc n) [] = refl
-take-len (suc n) (x ∷ xs) = ap (λ (ys : List ℕ). x ∷ ys) (take-len n xs)
-
-drop-tail : (front back : List ℕ) → drop (length (front ++ back) - length back) (front ++ back) ≡ back
-drop-tail front back =
-    let all : length (front ++ back) ≡ length front + length back = length-append front back in
-    drop_at front back _ (let n : length front ≡ length (front ++ back) - length back = omega arith in n)
-
 -- what stands behind a comma, without the space round it
 pub part-others : (whole front others rest : List ℕ) → whole ≡ front ++ 44 ∷ others → rest ≡ trim_start others → part (length whole - length rest) (length (trim_end rest)) whole ≡ trim others
 part-others whole front others rest e r =
@@ -31,8 +20,7 @@ part-others whole front others rest e r =
     let spaces = take n others in
     let split : whole ≡ (front ++ 44 ∷ spaces) ++ trim_start others =
     e ∙ ap (λ (xs : List ℕ). front ++ 44 ∷ xs) (sym (take-append-drop n others)) ∙ sym (append_assoc front (44 ∷ spaces) (trim_start others)) in
-    rw (r, split)
-    (ap (take (length (trim others))) (drop-tail (front ++ 44 ∷ spaces) (trim_start others)) ∙ take-len (length (trim_start others) - suffix_len is_space (trim_start others)) (trim_start others))
+    grind (arith, common_steps)
 
 -- ---- the value at the place
 
@@ -161,9 +149,3 @@ leaves-some own hs n h left at e l = line-leaves own (views hs) n (view h) left 
 
 pub leaves-none : (own : Own) (hs : List HeaderText) (n : ℕ) → n ≡ place_of route_name (views hs) → slice_get hs n ≡ None → Leaves own (views hs) n All
 leaves-none own hs n at e = ap (stripped_at own (views hs)) (first_nowhere route_name (views hs) (ap (λ m. slice_get (views hs) m) (sym at) ∙ get-views hs n ∙ ap (λ (o : Option HeaderText). option_map view o) e))
-
-pub removed-views : (hs : List HeaderText) (n : ℕ) → views (remove hs n) ≡ remove (views hs) n
-removed-views [] zero = refl
-removed-views [] (suc n) = refl
-removed-views (h ∷ hs) zero = refl
-removed-views (h ∷ hs) (suc n) = ap (λ (xs : List HeaderText). view h ∷ xs) (removed-views hs n)

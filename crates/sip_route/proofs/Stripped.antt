@@ -1,6 +1,6 @@
 -- A message without the Route value that names the proxy is one.
-use Rattle.sip_route.proofs.Common.{◌≡◌, ℕ, List, Option, Some, None, refl, option_map, cond_both, QuotesAndAngles, Plain, trim, cut_outside, IsMessage, first_value, HeaderText, MessageText, Own, replaced, with_headers, names_own}
-use Rattle.sip_route.proofs.Common.{route_name, stripped, stripped_at}
+use Rattle.sip_route.proofs.Common.{◌≡◌, ℕ, List, Option, Some, None, refl, option_map, cond_both, QuotesAndAngles, Plain, trim, cut_outside, IsMessage, first_value, HeaderText, MessageText, Own, replaced, with_headers, names_own, route_name}
+use Rattle.sip_route.proofs.Common.{stripped, stripped_at}
 use Rattle.sip_via.proofs.laws.TrimmedValues.{others-good}
 use Rattle.sip_via.proofs.laws.Replaced.{GoodValue, first-good, with_route-good}
 

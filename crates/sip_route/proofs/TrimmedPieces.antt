@@ -1,28 +1,20 @@
 -- Space at the ends of a text is at the ends of its pieces.
-use Rattle.sip_route.proofs.Common.{◌≡◌, ℕ, suc, ◌+◌, true, false, cond, eqb, List, [], ◌∷◌, ◌++◌, map, drop, refl, sym, ap, subst, ◌∙◌, inl, inr, arith, ◌&&◌, onto_first, prefix_len, cases_Bool, cond-true, cond-false, eqb-true, false≢true}
-use Rattle.sip_route.proofs.Common.{QuotesAndAngles, Place, Plain, is_space, trim, trim_end, trim_start, pieces_from, is_plain, place_after, values_in}
+use Rattle.sip_route.proofs.Common.{◌≡◌, ℕ, ◌+◌, true, false, cond, eqb, List, [], ◌∷◌, ◌++◌, map, drop, refl, sym, ap, subst, ◌∙◌, inl, inr, arith, ◌&&◌, onto_first, prefix_len, cases_Bool, cond-false, eqb-true, false≢true, QuotesAndAngles, Place}
+use Rattle.sip_route.proofs.Common.{Plain, is_space, trim, trim_end, trim_start, pieces_from, is_plain, place_after, values_in, false_from_ne_true, common_steps}
 use Rattle.std.proofs.Common.{reverse}
-use Rattle.std.proofs.lemmas.Bool.{false_from_ne_true, or_cases}
-use Rattle.std.proofs.lemmas.List.{reverse-append, reverse-reverse}
 use Rattle.sip_lex.proofs.laws.Trims.{trim_end-reverse}
 use Rattle.sip_route.proofs.RoutePieces.{pieces_from-cut}
 
 -- ---- space at the ends of a text
 
 trim_start-space : (b : ℕ) (bs : List ℕ) → is_space b ≡ true → trim_start (b ∷ bs) ≡ trim_start bs
-trim_start-space b bs e =
-    let n = prefix_len is_space bs in
-    ap (λ m. drop m (b ∷ bs)) (cond-true (is_space b) (1 + n) 0 e ∙ (let k : 1 + n ≡ suc n = omega arith in k))
+trim_start-space b bs e = grind arith
 
 trim_start-other : (b : ℕ) (bs : List ℕ) → is_space b ≡ false → trim_start (b ∷ bs) ≡ b ∷ bs
 trim_start-other b bs e = ap (λ m. drop m (b ∷ bs)) (cond-false (is_space b) (1 + prefix_len is_space bs) 0 e)
 
 trim_end-space : (bs : List ℕ) (b : ℕ) → is_space b ≡ true → trim_end (bs ++ b ∷ []) ≡ trim_end bs
-trim_end-space bs b e =
-    trim_end-reverse (bs ++ b ∷ [])
-    ∙ ap (λ (xs : List ℕ). reverse (trim_start xs)) (reverse-append bs (b ∷ []))
-    ∙ ap reverse (trim_start-space b (reverse bs) e)
-    ∙ sym (trim_end-reverse bs)
+trim_end-space bs b e = grind (arith, common_steps)
 
 trim-first : (b : ℕ) (bs : List ℕ) → is_space b ≡ true → trim (b ∷ bs) ≡ trim bs
 trim-first b bs e = ap trim_end (trim_start-space b bs e)
@@ -43,9 +35,7 @@ onto_last b (p ∷ []) = (p ++ b ∷ []) ∷ []
 onto_last b (p ∷ q ∷ ps) = p ∷ onto_last b (q ∷ ps)
 
 both-ends : (c b : ℕ) (ps : List (List ℕ)) → onto_first c (onto_last b ps) ≡ onto_last b (onto_first c ps)
-both-ends c b [] = refl
-both-ends c b (p ∷ []) = refl
-both-ends c b (p ∷ q ∷ ps) = refl
+both-ends c b ps = grind arith
 
 behind-empty : (b : ℕ) (p : List ℕ) (ps all : List (List ℕ)) → all ≡ p ∷ ps → [] ∷ onto_last b all ≡ onto_last b ([] ∷ all)
 behind-empty b p ps all e = rw e refl
@@ -74,49 +64,22 @@ no_comma b space = false_from_ne_true (eqb b 44) (λ e. let bad : is_space 44 �
 -- ---- the values of a line with space at its ends
 
 behind : (bs : List ℕ) (b : ℕ) → is_space b ≡ true → map trim (values_in (bs ++ b ∷ [])) ≡ map trim (values_in bs)
-behind bs b e =
-    let cut = pieces_from-cut QuotesAndAngles 44 Plain bs in
-    ap (map trim) (pieces-last Plain bs b (no_comma b e))
-    ∙ ap (λ (ps : List (List ℕ)). map trim (onto_last b ps)) cut
-    ∙ trim-onto_last b _ _ e
-    ∙ sym (ap (map trim) cut)
+behind bs b e = grind (arith, pieces_from-cut, pieces-last, trim-onto_last)
 
 onto-trim : (b : ℕ) (p : List ℕ) (ps all : List (List ℕ)) → is_space b ≡ true → all ≡ p ∷ ps → map trim (onto_first b all) ≡ map trim all
 onto-trim b p ps all e is = rw is (ap (λ (t : List ℕ). t ∷ map trim ps) (trim-first b p e))
 
 before : (b : ℕ) (bs : List ℕ) → is_space b ≡ true → map trim (values_in (b ∷ bs)) ≡ map trim (values_in bs)
-before b bs e =
-    let cut = pieces_from-cut QuotesAndAngles 44 Plain bs in
-    elim (or_cases (eqb b 32) (eqb b 9) e) [
-      | inl is ↦ ap (λ x. map trim (values_in (x ∷ bs))) (eqb-true b 32 is) ∙ onto-trim 32 _ _ (values_in bs) refl cut
-      | inr is ↦ ap (λ x. map trim (values_in (x ∷ bs))) (eqb-true b 9 is) ∙ onto-trim 9 _ _ (values_in bs) refl cut
-    ]
+before b bs e = grind (arith, pieces_from-cut, onto-trim)
 
 without_front : (bs : List ℕ) → map trim (values_in (trim_start bs)) ≡ map trim (values_in bs)
 without_front [] = refl
-without_front (b ∷ bs) =
-    elim (cases_Bool (is_space b)) [
-      | inl space ↦ ap (λ (x : List ℕ). map trim (values_in x)) (trim_start-space b bs space) ∙ without_front bs ∙ sym (before b bs space)
-      | inr other ↦ ap (λ (x : List ℕ). map trim (values_in x)) (trim_start-other b bs other)
-    ]
+without_front (b ∷ bs) = grind (arith, trim_start-space, before, without_front bs)
 
 without_back : (rs : List ℕ) → map trim (values_in (reverse (trim_start rs))) ≡ map trim (values_in (reverse rs))
 without_back [] = refl
-without_back (r ∷ rs) =
-    elim (cases_Bool (is_space r)) [
-      | inl space ↦
-          ap (λ (x : List ℕ). map trim (values_in (reverse x))) (trim_start-space r rs space)
-          ∙ without_back rs
-          ∙ sym (behind (reverse rs) r space)
-          ∙ sym (ap (λ (x : List ℕ). map trim (values_in x)) (reverse-append (r ∷ []) rs))
-      | inr other ↦ ap (λ (x : List ℕ). map trim (values_in (reverse x))) (trim_start-other r rs other)
-    ]
+without_back (r ∷ rs) = grind (arith, common_steps, trim_start-space, behind, without_back rs)
 
 -- space at the ends of a line makes no difference
 pub values-trim : (bs : List ℕ) → map trim (values_in (trim bs)) ≡ map trim (values_in bs)
-values-trim bs =
-    let s = trim_start bs in
-    ap (λ (x : List ℕ). map trim (values_in x)) (trim_end-reverse s)
-    ∙ without_back (reverse s)
-    ∙ ap (λ (x : List ℕ). map trim (values_in x)) (reverse-reverse s)
-    ∙ without_front bs
+values-trim bs = grind (arith, common_steps, trim_end-reverse, without_back, without_front)

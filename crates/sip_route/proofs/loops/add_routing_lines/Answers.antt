@@ -1,5 +1,4 @@
-use Rattle.sip_route.proofs.Common.{◌++◌, List, ℕ, subst, Holds}
-use Rattle.std.specs.Prelude.{codes}
+use Rattle.sip_route.proofs.Common.{◌++◌, List, ℕ, subst, Holds, codes}
 use Rattle.sip_route.specs.Loop.{all_values, field_line}
 use Rattle.sip_route.proofs.Added.{three}
 use Rattle.sip_route.proofs.loops.add_routing_lines.Goals as goal
