@@ -1,6 +1,6 @@
 -- A CSeq is read as it was written.
-use Rattle.sip_build.proofs.Common.{◌≡◌, ℕ, ◌-◌, ◌<◌, ◌^◌, Bool, true, false, not, List, [], ◌∷◌, ◌++◌, Option, Some, None, refl, ap, ◌∙◌, decimal, list_all, and_parts, cond-true, cond-false, false≢true, is_space, is_token, trim_start, cut}
-use Rattle.sip_build.proofs.Common.{number_within, cseq_of, cseq_of_cut, cseq_with, all_pass, decimal_high, high_no_space, is_high, no_space}
+use Rattle.sip_build.proofs.Common.{◌≡◌, ℕ, ◌-◌, ◌<◌, ◌^◌, Bool, true, false, not, List, [], ◌∷◌, ◌++◌, Option, Some, refl, ap, ◌∙◌, decimal, list_all, and_parts, cond-true, cond-false, false≢true, is_space, is_token, trim_start, cut, number_within}
+use Rattle.sip_build.proofs.Common.{cseq_of, all_pass, decimal_high, high_no_space, is_high, no_space, common_steps, arith}
 
 cut_digits : (ds rest : List ℕ) → list_all no_space ds ≡ true → cut is_space (ds ++ 32 ∷ rest) ≡ (ds, Some rest)
 cut_digits [] rest h = refl
@@ -20,9 +20,4 @@ pub record IsMethod (method : List ℕ) : Type 0 where
   pub trimmed : trim_start method ≡ method
 
 pub cseq_again : (n : ℕ) (method : List ℕ) → IsMethod method → n < 2 ^ 64 → number_within (2 ^ 31 - 1) (decimal n) ≡ Some n → cseq_of (decimal n ++ 32 ∷ method) ≡ Some (record { number = n; method = method })
-cseq_again n method is small within =
-    let digits = all_pass is_high no_space (decimal n) high_no_space (decimal_high n small) in
-    ap cseq_of_cut (cut_digits (decimal n) method digits)
-    ∙ ap (λ (o : Option ℕ). cseq_with o (trim_start method)) within
-    ∙ ap (λ (m : List ℕ). cseq_with (Some n) m) is.trimmed
-    ∙ cond-true (is_token method) (Some (record { number = n; method = method })) None is.token
+cseq_again n method is small within = grind (arith, common_steps, all_pass is_high no_space (decimal n) high_no_space (decimal_high n small), is_high, no_space, high_no_space, decimal_high, cut_digits, cond-true)

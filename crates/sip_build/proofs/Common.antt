@@ -1,31 +1,23 @@
 -- The names that most proofs of this crate cite, passed on from one place. Declares nothing.
-pub use Rattle.std.proofs.Common.{Bool, IfSome, List, None, OnOk, Option, Some, [], ap, append_assoc, arith, codes, cond, drop, eqb, false, if◌then◌else◌, inl, inr, is_none, length, map, not, option_map, refl, reverse, rules, subst, suc, sym}
-pub use Rattle.std.proofs.Common.{take, true, ℕ, ◌&&◌, ◌*◌, ◌++◌, ◌+◌, ◌-◌, ◌<◌, ◌^◌, ◌∙◌, ◌∷◌, ◌≡◌, ◌≤◌}
+pub use Rattle.std.proofs.Common.{Bool, IfSome, List, None, OnOk, Option, Some, [], ap, append_assoc, arith, codes, cond, drop, eqb, false, if◌then◌else◌, inl, inr, is_none, length, map, not, option_map, refl, reverse, rules, subst, suc, sym, take}
+pub use Rattle.std.proofs.Common.{true, ℕ, ◌&&◌, ◌*◌, ◌++◌, ◌+◌, ◌-◌, ◌<◌, ◌^◌, ◌∙◌, ◌∷◌, ◌≡◌, ◌≤◌, Err, Ok, OnErr, Result, get_or}
 pub use Rattle.std.proofs.lemmas.Bool.{and_from, and_parts, cases_Bool, cond-false, cond-true, cond_both, false≢true}
-pub use Rattle.std.proofs.lemmas.List.{append-nil, drop-map, length-append, reverse-append}
+pub use Rattle.std.proofs.lemmas.List.{append-nil, drop-map, length-append, reverse-append, length-set}
 pub use Rattle.std.proofs.lemmas.List.Folds.{flat_map-map, list_all-append}
 pub use Rattle.std.specs.Borrow.{Bor}
 pub use Rattle.std.specs.Fmt.{decimal}
 pub use Rattle.std.specs.List.{filter, flat_map, list_all, onto_first}
 pub use Rattle.std.specs.Option.{option_copied}
 pub use Rattle.std.specs.Str.{bytes_eq}
+pub use Rattle.std.proofs.lemmas.Fmt.{decimal_digit, decimal_step}
+pub use Rattle.std.proofs.lemmas.Grind.{common_steps, flat_map-append}
 pub use Rattle.md5.specs.Md5.{md5}
-pub use Rattle.sip_build.specs.Exchanged.{exchanged, is_other}
-pub use Rattle.sip_build.specs.Forwarding.{forwarded, hops_lowered, is_request, to_target}
-pub use Rattle.sip_build.specs.Generated.{code_of, generated_of, gets_tag, reason_of, tagged, to_lines, unsupported_lines, with_tag}
-pub use Rattle.sip_build.specs.Requests.{along, along_to, to_value}
-pub use Rattle.sip_build.specs.SeenKept.{seen_kept, texts}
-pub use Rattle.sip_build.specs.Upward.{challenge_line, challenge_name, contact_lines, others_of, upward_headers, upward_of, with_contacts, without_top}
-pub use Rattle.sip_build.specs.declared.responses.OwnStatus.{OwnStatus}
-pub use Rattle.sip_build.specs.inner.Groups.{lines_of, picked, start_of, tail_text, under}
-pub use Rattle.sip_build.specs.inner.Placed.{Placed}
-pub use Rattle.sip_build.specs.inner.Texts.{lines_text}
 pub use Rattle.sip_lex.proofs.laws.OutsideSplits.{pieces_outside-cut}
 pub use Rattle.sip_lex.proofs.laws.Trims.{trim_end-reverse}
 pub use Rattle.sip_lex.specs.Bytes.{is_space, is_token, trim, trim_end, trim_start}
 pub use Rattle.sip_lex.specs.Cut.{cut}
 pub use Rattle.sip_lex.specs.Line.{ended}
-pub use Rattle.sip_lex.specs.Number.{number, number_within}
+pub use Rattle.sip_lex.specs.Number.{number, number_within, begins_with_zero}
 pub use Rattle.sip_lex.specs.Outside.{pieces_from, pieces_outside_behind}
 pub use Rattle.sip_lex.specs.Sheltered.{cut_outside, is_plain, place_after}
 pub use Rattle.sip_lex.specs.declared.sheltered.Place.{Place}
@@ -56,3 +48,13 @@ pub use Rattle.sip_via.specs.TopVia.{first_or_empty, has_second, top_value, valu
 pub use Rattle.sip_via.specs.ViaParts.{or_empty}
 pub use Rattle.sip_via.specs.declared.branch.BranchName.{BranchName}
 pub use Rattle.sip_via.specs.declared.own.Own.{Own}
+pub use Rattle.sip_build.specs.Exchanged.{exchanged, is_other}
+pub use Rattle.sip_build.specs.Forwarding.{forwarded, hops_lowered, is_request, to_target}
+pub use Rattle.sip_build.specs.Generated.{code_of, generated_of, gets_tag, reason_of, tagged, to_lines, unsupported_lines, with_tag}
+pub use Rattle.sip_build.specs.Requests.{along, along_to, to_value}
+pub use Rattle.sip_build.specs.SeenKept.{seen_kept, texts}
+pub use Rattle.sip_build.specs.Upward.{challenge_line, challenge_name, contact_lines, others_of, upward_headers, upward_of, with_contacts, without_top}
+pub use Rattle.sip_build.specs.declared.responses.OwnStatus.{OwnStatus}
+pub use Rattle.sip_build.specs.inner.Groups.{lines_of, picked, start_of, tail_text, under}
+pub use Rattle.sip_build.specs.inner.Placed.{Placed}
+pub use Rattle.sip_build.specs.inner.Texts.{lines_text}

@@ -1,7 +1,6 @@
 -- The value of the first header line of a name, by the place of that line.
-use Rattle.sip_build.proofs.Common.{◌≡◌, ◌∙◌, ℕ, suc, ◌+◌, List, [], ◌∷◌, ◌++◌, drop, Some, None, refl, sym, ap, arith, inl, inr, drop-map, decimal, codes, cases_Bool, cond-true, cond-false, first_of, first_value, same_name, view}
-use Rattle.sip_build.proofs.Common.{views, HeaderText, place_of}
-use Rattle.std.proofs.lemmas.Fmt.{decimal_digit, decimal_step}
+use Rattle.sip_build.proofs.Common.{◌≡◌, ◌∙◌, ℕ, suc, ◌+◌, List, [], ◌∷◌, ◌++◌, drop, Some, None, refl, sym, ap, arith, inl, inr, drop-map, decimal, codes, cases_Bool, cond-true, cond-false, first_of, first_value, same_name, view, views, HeaderText}
+use Rattle.sip_build.proofs.Common.{place_of, decimal_digit, decimal_step}
 use Rattle.sip_text.specs.Name.{values_of}
 
 -- no line has the name

@@ -1,10 +1,9 @@
 -- A request as it goes to a target is a message.
-use Rattle.sip_build.proofs.Common.{◌≡◌, ℕ, ◌-◌, ◌<◌, ◌^◌, true, false, not, eqb, map, List, [], ◌∷◌, ◌++◌, length, Option, Some, None, refl, sym, ap, subst, ◌∙◌, arith, ◌&&◌, codes, IfSome, is_none, decimal, list_all, and_parts}
-use Rattle.sip_build.proofs.Common.{false≢true, is_token, number, CSeqText, cseq_in, fits_start, length_name, said_by, IsMessage, fits_body, is_header, is_start, is_value, first_of, first_value, is_uri, HeaderText, MessageText, Request}
-use Rattle.sip_build.proofs.Common.{Response, StartText, and_both, Uri, request_uri, Own, BranchName, line, own_via, forwarded, hops_lowered, is_request, to_target, IsHops, hops_name, SameOthers, all-replaced, values-replaced}
+use Rattle.sip_build.proofs.Common.{◌≡◌, ℕ, true, false, not, eqb, map, List, [], ◌∷◌, ◌++◌, length, Option, refl, ap, ◌∙◌, arith, ◌&&◌, codes, IfSome, is_none, list_all, and_parts, is_token, CSeqText, cseq_in, fits_start, said_by, IsMessage}
+use Rattle.sip_build.proofs.Common.{fits_body, is_header, is_start, is_value, first_of, first_value, is_uri, HeaderText, MessageText, StartText, and_both, Uri, request_uri, Own, BranchName, line, own_via, forwarded, hops_lowered, is_request}
+use Rattle.sip_build.proofs.Common.{to_target, IsHops, hops_name, SameOthers, all-replaced, values-replaced, common_steps}
 use Rattle.std.proofs.Common.{ltb}
 use Rattle.std.specs.Char.{to_ascii_lowercase}
-use Rattle.std.proofs.lemmas.Bool.{lt-ltb}
 use Rattle.sip_text.specs.Name.{full_name, values_of}
 use Rattle.sip_text.specs.Reading.{is_printed}
 use Rattle.sip_uri.specs.Grammar.{IsUri, is_uri_byte}
@@ -23,42 +22,25 @@ all-printed (b ∷ bs) h =
     and_both (is_printed b) (list_all is_printed bs) (printed b each.0) (all-printed bs each.1)
 
 some-scheme : (scheme rest : List ℕ) → map to_ascii_lowercase scheme ≡ codes "sip:" → ltb 0 (length (scheme ++ rest)) ≡ true
-some-scheme [] rest e = absurd cc
-some-scheme (s ∷ scheme) rest e = lt-ltb 0 (length (s ∷ (scheme ++ rest))) (omega arith)
+some-scheme scheme rest e = grind (arith, common_steps)
 
 uri-good : (u : Uri) → IsUri u → list_all is_uri_byte (request_uri u) ≡ true → is_uri (request_uri u) ≡ true
 uri-good u is h = and_both (ltb 0 (length (request_uri u))) (list_all is_printed (request_uri u)) (some-scheme u.scheme _ is.scheme) (all-printed (request_uri u) h)
 
 start-good : (s : StartText) (u : Uri) → is_request s ≡ true → is_start s ≡ true → is_uri (request_uri u) ≡ true → is_start (to_target s u) ≡ true
-start-good (Request method uri) u request h k = and_both (is_token method) (is_uri (request_uri u)) (and_parts (is_token method) (is_uri uri) h).0 k
-start-good (Response status reason) u request h k = absurd (false≢true request)
+start-good s u request h k = grind arith
 
 cseq-same : (s : StartText) (u : Uri) (c : Option CSeqText) → fits_start (to_target s u) c ≡ fits_start s c
-cseq-same (Request method uri) u None = refl
-cseq-same (Request method uri) u (Some c) = refl
-cseq-same (Response status reason) u None = refl
-cseq-same (Response status reason) u (Some c) = refl
+cseq-same s u c = grind arith
 
 -- ---- the header lines
 
-lowered-small : (value : List ℕ) → IsHops value → number value - 1 < 2 ^ 64
-lowered-small value is = let h = is.within in omega arith
-
 hops-good : (hs : List HeaderText) (o : Option (List ℕ)) → list_all is_header hs ≡ true → IfSome o IsHops → list_all is_header (hops_lowered hs o) ≡ true
-hops-good hs None h is = h
-hops-good hs (Some value) h is = all-replaced hops_name (Some (decimal (number value - 1))) hs h (decimal-value (number value - 1) (lowered-small value is))
+hops-good hs o h is = grind (arith, all-replaced, decimal-value)
 
 pub hops-others : (hs : List HeaderText) (o : Option (List ℕ)) → SameOthers (hops_lowered hs o) hs
 unfolding full_name values_of
-hops-others hs None = record { from = refl; to = refl; call_id = refl; cseq = refl; length = refl }
-hops-others hs (Some value) =
-    let lowered = Some (decimal (number value - 1)) in record {
-      from = values-replaced (codes "from") hops_name lowered hs refl;
-      to = values-replaced (codes "to") hops_name lowered hs refl;
-      call_id = values-replaced (codes "call-id") hops_name lowered hs refl;
-      cseq = values-replaced (codes "cseq") hops_name lowered hs refl;
-      length = values-replaced length_name hops_name lowered hs refl;
-    }
+hops-others hs o = grind (arith, values-replaced)
 
 pub via-others : (v : List ℕ) (hs ks : List HeaderText) → SameOthers hs ks → SameOthers (line (codes "Via") v ∷ hs) ks
 unfolding full_name values_of
@@ -85,8 +67,4 @@ forwarded-good m target proxy b good request hops uri bytes value =
 
 -- parts that are those of a forwarded request
 pub parts-good : (m : MessageText) (target : Uri) (proxy : Own) (b : BranchName) (start : StartText) (hs : List HeaderText) (body : List ℕ) → IsMessage m → is_request m.start ≡ true → IfSome (first_value hops_name m.headers) IsHops → IsUri target → list_all is_uri_byte (request_uri target) ≡ true → is_value (own_via proxy b) ≡ true → start ≡ to_target m.start target → hs ≡ line (codes "Via") (own_via proxy b) ∷ hops_lowered m.headers (first_value hops_name m.headers) → body ≡ m.body → IsMessage (record { start = start; headers = hs; body = body })
-parts-good m target proxy b start hs body good request hops uri bytes value s h e =
-    let whole = forwarded-good m target proxy b good request hops uri bytes value in
-    let with_body = subst (λ (x : List ℕ). IsMessage (record { start = to_target m.start target; headers = line (codes "Via") (own_via proxy b) ∷ hops_lowered m.headers (first_value hops_name m.headers); body = x })) (sym e) whole in
-    let with_lines = subst (λ (x : List HeaderText). IsMessage (record { start = to_target m.start target; headers = x; body = body })) (sym h) with_body in
-    subst (λ (x : StartText). IsMessage (record { start = x; headers = hs; body = body })) (sym s) with_lines
+parts-good m target proxy b start hs body good request hops uri bytes value s h e = grind (arith, common_steps, forwarded-good m target proxy b good request hops uri bytes value)

@@ -1,37 +1,22 @@
 -- A response of the proxy's own is a message.
-use Rattle.sip_build.proofs.Common.{◌≡◌, ℕ, true, List, [], ◌∷◌, ◌++◌, map, take, Option, Some, refl, sym, ap, subst, ◌∙◌, arith, codes, list_all, and_parts, and_from, cond_both, md5, is_token, Via, From, To, CallId, CSeq, CSeqText}
-use Rattle.sip_build.proofs.Common.{cseq_in, fits_start, length_name, message_cseq, said_by, value_of, IsMessage, fits_body, is_header, is_line, is_line_byte, is_start, is_value, first_of, HeaderText, MessageText, StartText, Response}
-use Rattle.sip_build.proofs.Common.{OwnStatus, code_of, generated_of, gets_tag, reason_of, tagged, to_lines, unsupported_lines, with_tag, line, first_line, lines_named, field_lines, all_pass, high_line, high_no_space, is_high, no_space}
+use Rattle.sip_build.proofs.Common.{◌≡◌, ℕ, true, List, [], ◌∷◌, ◌++◌, map, take, Some, refl, ap, ◌∙◌, arith, codes, list_all, and_parts, and_from, cond_both, md5, Via, From, To, CallId, CSeq, length_name, said_by, value_of, IsMessage, fits_body}
+use Rattle.sip_build.proofs.Common.{is_header, is_line, is_line_byte, is_start, first_of, HeaderText, MessageText, StartText, Response, OwnStatus, code_of, generated_of, gets_tag, reason_of, tagged, to_lines, unsupported_lines, with_tag, line}
+use Rattle.sip_build.proofs.Common.{first_line, lines_named, field_lines, all_pass, high_line, high_no_space, is_high, no_space, common_steps}
 use Rattle.sip_text.specs.Fields.{cseq_fits}
 use Rattle.sip_text.specs.Name.{full_name, values_of}
-use Rattle.sip_build.specs.declared.responses.OwnStatus.TheVariants as own
 use Rattle.sip_build.specs.OwnTag.{own_tag, tag_fields}
-use Rattle.sip_build.proofs.Named.{AreNamed, Has, all_keep, cseq_there, first_keeps, has_all, named_filter, named_first, named_lines, named_tagged, none_missing, skip, tagged_keeps}
+use Rattle.sip_build.proofs.Named.{AreNamed, Has, all_keep, cseq_there, first_keeps, has_all, named_filter, named_first, named_lines, none_missing, skip, tagged_keeps}
 use Rattle.sip_via.proofs.laws.Tokens.{hex_text_high}
-use Rattle.sip_build.proofs.HeaderValues.{behind_good, filter_good, joined_good, lines_good, one_good, values_good}
+use Rattle.sip_build.proofs.HeaderValues.{behind_good, filter_good, lines_good, one_good, values_good}
 
 -- ---- each part of the header lines is of one name
 
 to_named : (status : OwnStatus) (m : MessageText) → AreNamed (codes "to") (to_lines status m)
-to_named status m =
-    let first = named_first (codes "to") (lines_named (codes "to") m) (named_filter (codes "to") m.headers) in
-    cond_both (gets_tag status m) (map (tagged (own_tag m)) (first_line (codes "to") m)) (first_line (codes "to") m) (λ (b : List HeaderText). AreNamed (codes "to") b)
-    (λ e. named_tagged (codes "to") (own_tag m) (first_line (codes "to") m) first)
-    (λ e. first)
+to_named status m = grind (arith, named_filter)
 
 unsupported_named : (status : OwnStatus) (m : MessageText) → AreNamed (codes "Unsupported") (unsupported_lines status m)
 unfolding full_name
-unsupported_named own.BadExtension m = named_lines (codes "Unsupported") (codes "Unsupported") (values_of (codes "proxy-require") m.headers) refl
-unsupported_named own.Trying m = tt
-unsupported_named own.Okay m = tt
-unsupported_named own.BadRequest m = tt
-unsupported_named own.RequestTimeout m = tt
-unsupported_named own.UnsupportedUriScheme m = tt
-unsupported_named own.TemporarilyUnavailable m = tt
-unsupported_named own.CallDoesNotExist m = tt
-unsupported_named own.LoopDetected m = tt
-unsupported_named own.TooManyHops m = tt
-unsupported_named own.ServerInternalError m = tt
+unsupported_named status m = grind (arith, named_lines)
 
 via_named : (m : MessageText) → AreNamed (codes "via") (lines_named (codes "via") m)
 via_named m = named_filter (codes "via") m.headers
@@ -143,60 +128,25 @@ tagged_good : (m : MessageText) (block : List HeaderText) → list_all is_header
 tagged_good m [] h = refl
 tagged_good m (x ∷ block) h =
     let each = and_parts (is_header x) (list_all is_header block) h in
-    let parts = and_parts (is_token x.name) (is_value x.value) each.0 in
-    let value = behind_good x.value (codes ";tag=" ++ own_tag m) parts.1 (tag_line m) (omega arith) (tag_no_space m) in
-    and_from (is_header (tagged (own_tag m) x)) (list_all is_header (map (tagged (own_tag m)) block))
-    (and_from (is_token x.name) (is_value (x.value ++ (codes ";tag=" ++ own_tag m))) parts.0 value) (tagged_good m block each.1)
+    grind (arith, common_steps, tag_line m, tag_no_space m, and_from (is_header (tagged (own_tag m) x)) (list_all is_header (map (tagged (own_tag m)) block)), tagged_good m block each.1, and_parts, behind_good)
 
 first_line_good : (name : List ℕ) (m : MessageText) → list_all is_header m.headers ≡ true → list_all is_header (first_line name m) ≡ true
 first_line_good name m h = one_good (lines_named name m) (filter_good name m.headers h)
 
 to_good : (status : OwnStatus) (m : MessageText) → list_all is_header m.headers ≡ true → list_all is_header (to_lines status m) ≡ true
-to_good status m h =
-    cond_both (gets_tag status m) (map (tagged (own_tag m)) (first_line (codes "to") m)) (first_line (codes "to") m) (λ (b : List HeaderText). list_all is_header b ≡ true)
-    (λ e. tagged_good m (first_line (codes "to") m) (first_line_good (codes "to") m h))
-    (λ e. first_line_good (codes "to") m h)
+to_good status m h = grind (arith, tagged_good, first_line_good)
 
 unsupported_good : (status : OwnStatus) (m : MessageText) → list_all is_header m.headers ≡ true → list_all is_header (unsupported_lines status m) ≡ true
-unsupported_good own.BadExtension m h = lines_good (codes "Unsupported") (values_of (codes "proxy-require") m.headers) refl (values_good (codes "proxy-require") m.headers h)
-unsupported_good own.Trying m h = refl
-unsupported_good own.Okay m h = refl
-unsupported_good own.BadRequest m h = refl
-unsupported_good own.RequestTimeout m h = refl
-unsupported_good own.UnsupportedUriScheme m h = refl
-unsupported_good own.TemporarilyUnavailable m h = refl
-unsupported_good own.CallDoesNotExist m h = refl
-unsupported_good own.LoopDetected m h = refl
-unsupported_good own.TooManyHops m h = refl
-unsupported_good own.ServerInternalError m h = refl
+unsupported_good status m h = grind (arith, lines_good, values_good)
 
 all_good : (status : OwnStatus) (m : MessageText) → list_all is_header m.headers ≡ true → list_all is_header (all_lines status m) ≡ true
-all_good status m h =
-    joined_good (lines_named (codes "via") m) (from_from status m) (filter_good (codes "via") m.headers h)
-    (joined_good (first_line (codes "from") m) (from_to status m) (first_line_good (codes "from") m h)
-    (joined_good (to_lines status m) (from_call status m) (to_good status m h)
-    (joined_good (first_line (codes "call-id") m) (from_cseq status m) (first_line_good (codes "call-id") m h)
-    (joined_good (first_line (codes "cseq") m) (from_unsupported status m) (first_line_good (codes "cseq") m h)
-    (joined_good (unsupported_lines status m) end_lines (unsupported_good status m h) refl)))))
+all_good status m h = grind (arith, common_steps, filter_good, first_line_good, to_good, unsupported_good)
 
 start_good : (status : OwnStatus) → is_start (Response (code_of status) (reason_of status)) ≡ true
-start_good own.Trying = refl
-start_good own.Okay = refl
-start_good own.BadRequest = refl
-start_good own.RequestTimeout = refl
-start_good own.UnsupportedUriScheme = refl
-start_good own.BadExtension = refl
-start_good own.TemporarilyUnavailable = refl
-start_good own.CallDoesNotExist = refl
-start_good own.LoopDetected = refl
-start_good own.TooManyHops = refl
-start_good own.ServerInternalError = refl
+start_good status = grind arith
 
 fits_good : (status : OwnStatus) (m : MessageText) → (h : Has CSeq m.headers) → cseq_fits m.start m.headers ≡ true → cseq_fits (Response (code_of status) (reason_of status)) (all_lines status m) ≡ true
-fits_good status m h fits =
-    let there = cseq_there m.start (message_cseq m.headers) fits in
-    let same : message_cseq (all_lines status m) ≡ message_cseq m.headers = ap cseq_in (cseq_has status m h ∙ sym h.1) in
-    ap (λ (o : Option CSeqText). fits_start (Response (code_of status) (reason_of status)) o) (same ∙ there.1)
+fits_good status m h fits = grind (arith, common_steps, cseq_has status m h, cseq_there)
 
 pub generated_good : (m : MessageText) (status : OwnStatus) → IsMessage m → IsMessage (generated_of m status)
 generated_good m status is =
@@ -219,8 +169,4 @@ generated_good m status is =
 
 -- what is made of parts like these
 pub made_so : (m : MessageText) (start : StartText) (hs : List HeaderText) (body : List ℕ) → IsMessage m → start ≡ m.start → hs ≡ m.headers → body ≡ m.body → IsMessage (record { start = start; headers = hs; body = body })
-made_so m start hs body is s h b =
-    subst (λ (x : MessageText). IsMessage x)
-    (sym (ap (λ (x : StartText). record { start = x; headers = hs; body = body }) s
-    ∙ ap (λ (x : List HeaderText). record { start = m.start; headers = x; body = body }) h
-    ∙ ap (λ (x : List ℕ). record { start = m.start; headers = m.headers; body = x }) b)) is
+made_so m start hs body is s h b = grind arith

@@ -1,9 +1,8 @@
 -- Header lines in groups, as lines and as text.
-use Rattle.sip_build.proofs.Common.{◌≡◌, ◌+◌, ◌-◌, ◌^◌, ◌<◌, ◌≤◌, arith, Option, Some, None, inl, inr, OnOk, length, subst, ℕ, List, [], ◌∷◌, ◌++◌, map, refl, sym, ap, ◌∙◌, append_assoc, Bor, filter, flat_map, flat_map-map, codes}
-use Rattle.sip_build.proofs.Common.{if◌then◌else◌, cases_Bool, cond-false, cond-true, ended, same_name, HeaderText, MessageText, Request, StartText, header_text, saturated, start_line, Uri, request_uri, BranchName, Own, lines_among}
-use Rattle.sip_build.proofs.Common.{own_via, line, length-append, texts, lines_text, challenge_line, contact_lines, is_other, lines_of, start_of, tail_text, under}
-use Rattle.std.proofs.Common.{Result, Ok, Err, OnErr, min}
-use Rattle.std.proofs.lemmas.Grind.{flat_map-append}
+use Rattle.sip_build.proofs.Common.{◌≡◌, ◌+◌, ◌-◌, ◌^◌, ◌<◌, ◌≤◌, arith, Some, None, OnOk, length, subst, ℕ, List, [], ◌∷◌, ◌++◌, map, refl, sym, ap, ◌∙◌, append_assoc, Bor, filter, flat_map, flat_map-map, codes, if◌then◌else◌, cases_Bool}
+use Rattle.sip_build.proofs.Common.{cond-false, cond-true, ended, same_name, HeaderText, MessageText, Request, header_text, saturated, start_line, Uri, request_uri, BranchName, Own, lines_among, own_via, line, texts, lines_text, challenge_line}
+use Rattle.sip_build.proofs.Common.{contact_lines, is_other, lines_of, start_of, tail_text, under, Result, OnErr, flat_map-append, common_steps}
+use Rattle.std.proofs.Common.{min}
 use Rattle.std.specs.Prelude.{IsOk}
 use Rattle.fork_model.specs.Table as table
 use Rattle.sip_text.specs.Name.{values_of}
@@ -12,7 +11,6 @@ use Rattle.sip_build.specs.declared.groups.Group.{Group}
 use Rattle.sip_build.specs.declared.made_text.Front.{Front}
 use Rattle.sip_build.specs.inner.Groups.{all_lines, made_of}
 use Rattle.sip_build.specs.inner.ToTarget.{request_to}
-use Rattle.sip_build.proofs.Exchanged.{filter-named, filter-other}
 
 -- what each part's lines are as text, and the text of all lines
 pub texts-of-lines : {X : Type 0} (f : X → List HeaderText) (xs : List X) → flat_map (λ x. lines_text (f x)) xs ≡ lines_text (flat_map f xs)
@@ -39,89 +37,40 @@ ok-as r old new t s h e = subst (λ (x : List ℕ). OnOk r (new ≡ old ++ x)) e
 
 pub named-lines : (name : List ℕ) (hs : List HeaderText) → flat_map (λ h. under h (if same_name name h.name then Some h.name else None)) hs ≡ lines_among name hs
 named-lines name [] = refl
-named-lines name (h ∷ hs) =
-    let rest = flat_map (λ x. under x (if same_name name x.name then Some x.name else None)) hs in
-    elim (cases_Bool (same_name name h.name)) [
-      | inl same ↦
-          ap (λ (o : Option (List ℕ)). under h o ++ rest) (cond-true (same_name name h.name) (Some h.name) None same)
-          ∙ ap (λ (xs : List HeaderText). h ∷ xs) (named-lines name hs)
-          ∙ sym (cond-true (same_name name h.name) (h ∷ lines_among name hs) (lines_among name hs) same)
-      | inr other ↦
-          ap (λ (o : Option (List ℕ)). under h o ++ rest) (cond-false (same_name name h.name) (Some h.name) None other)
-          ∙ named-lines name hs
-          ∙ sym (cond-false (same_name name h.name) (h ∷ lines_among name hs) (lines_among name hs) other)
-    ]
+named-lines name (h ∷ hs) = grind (arith, named-lines name hs)
 
 pub other-lines : (name : List ℕ) (hs : List HeaderText) → flat_map (λ h. under h (if same_name name h.name then None else Some h.name)) hs ≡ filter (is_other name) hs
 other-lines name [] = refl
-other-lines name (h ∷ hs) =
-    let rest = flat_map (λ x. under x (if same_name name x.name then None else Some x.name)) hs in
-    elim (cases_Bool (same_name name h.name)) [
-      | inl same ↦
-          ap (λ (o : Option (List ℕ)). under h o ++ rest) (cond-true (same_name name h.name) None (Some h.name) same)
-          ∙ other-lines name hs
-          ∙ sym (filter-named name h hs same)
-      | inr other ↦
-          ap (λ (o : Option (List ℕ)). under h o ++ rest) (cond-false (same_name name h.name) None (Some h.name) other)
-          ∙ ap (λ (xs : List HeaderText). h ∷ xs) (other-lines name hs)
-          ∙ sym (filter-other name h hs other)
-    ]
+other-lines name (h ∷ hs) = grind (arith, other-lines name hs)
 
 pub renamed-lines : (name other : List ℕ) (hs : List HeaderText) → flat_map (λ h. under h (if same_name name h.name then Some other else None)) hs ≡ map (line other) (values_of name hs)
 unfolding values_of
 renamed-lines name other [] = refl
-renamed-lines name other (h ∷ hs) =
-    let rest = flat_map (λ x. under x (if same_name name x.name then Some other else None)) hs in
-    elim (cases_Bool (same_name name h.name)) [
-      | inl same ↦
-          ap (λ (o : Option (List ℕ)). under h o ++ rest) (cond-true (same_name name h.name) (Some other) None same)
-          ∙ ap (λ (xs : List HeaderText). line other h.value ∷ xs) (renamed-lines name other hs)
-          ∙ sym (ap (λ (vs : List (List ℕ)). map (line other) vs) (cond-true (same_name name h.name) (h.value ∷ values_of name hs) (values_of name hs) same))
-      | inr apart ↦
-          ap (λ (o : Option (List ℕ)). under h o ++ rest) (cond-false (same_name name h.name) (Some other) None apart)
-          ∙ renamed-lines name other hs
-          ∙ sym (ap (λ (vs : List (List ℕ)). map (line other) vs) (cond-false (same_name name h.name) (h.value ∷ values_of name hs) (values_of name hs) apart))
-    ]
+renamed-lines name other (h ∷ hs) = grind (arith, common_steps, cases_Bool (same_name name h.name), renamed-lines name other hs, cond-true, cond-false)
 
 -- ---- a message that is another by its parts
 
 pub spelled-as : {A : Type 0} (front : Front) (groups : List (Group A)) (body : List ℕ) (m : MessageText) → start_of front ≡ m.start → all_lines groups ≡ m.headers → body ≡ m.body → spelling (made_of front groups body) ≡ spelling m
-spelled-as front groups body m s h b =
-    ap (λ (x : StartText). spelling (record { start = x; headers = all_lines groups; body = body })) s
-    ∙ ap (λ (x : List HeaderText). spelling (record { start = m.start; headers = x; body = body })) h
-    ∙ ap (λ (x : List ℕ). spelling (record { start = m.start; headers = m.headers; body = x })) b
+spelled-as front groups body m s h b = grind arith
 
 pub room-as : {E : Type 0} (r : Result Unit E) (room len : ℕ) (t s : List ℕ) → OnErr r (room < len + length t) → t ≡ s → len + length s ≤ room → IsOk r
-room-as (Ok x) room len t s full e fits = refl
-room-as (Err x) room len t s full e fits = let same : length t ≡ length s = ap length e in absurd (omega (arith, full, fits, same))
+room-as r room len t s full e fits = grind arith
 
 -- ---- a start line and what stands behind it
 
 pub behind-full : (old n1 : List ℕ) (room0 room1 len0 len1 : ℕ) (a t s : List ℕ) → len0 ≡ length old → len1 ≡ length n1 → n1 ≡ old ++ a → room0 ≤ room1 → room1 < len1 + length t → s ≡ a ++ t → room0 < len0 + length s
-behind-full old n1 room0 room1 len0 len1 a t s l0 l1 e1 kept full k =
-    let long : length s ≡ length a + length t = ap length k ∙ length-append a t in
-    let mid : length n1 ≡ length old + length a = ap length e1 ∙ length-append old a in
-    omega (arith, long, mid)
+behind-full old n1 room0 room1 len0 len1 a t s l0 l1 e1 kept full k = grind (arith, common_steps)
 
 pub two-full : (room len all front tail : ℕ) (a t s : List ℕ) → front ≡ saturated (length a) → tail ≡ saturated (length t) → all ≡ min (front + tail) (2 ^ 64 - 1) → room < len + all → s ≡ a ++ t → room < len + length s
-two-full room len all front tail a t s f e sum full k =
-    let long : length s ≡ length a + length t = ap length k ∙ length-append a t in
-    omega (arith, long, f, e, sum, full)
+two-full room len all front tail a t s f e sum full k = grind (arith, common_steps)
 
 -- ---- a request line, the proxy's own Via line, and what stands behind them
 
 pub request_text : {A : Type 0} (method : List ℕ) (target : Uri) (proxy : Own) (branch : BranchName) (groups : List (Group A)) (body : List ℕ) → spelling (request_to method target proxy branch groups body) ≡ ended (start_line (Request method (request_uri target))) ++ (header_text (line (codes "Via") (own_via proxy branch)) ++ tail_text groups body)
-request_text method target proxy branch groups body =
-    let via = header_text (line (codes "Via") (own_via proxy branch)) in
-    ap (λ (x : List ℕ). ended (start_line (Request method (request_uri target))) ++ x)
-    (append_assoc via (lines_text (all_lines groups)) (ended [] ++ body)
-    ∙ ap (λ (x : List ℕ). via ++ (x ++ (ended [] ++ body))) (sym (texts-of-lines lines_of groups)))
+request_text method target proxy branch groups body = grind (arith, common_steps, texts-of-lines lines_of groups, append_assoc)
 
 pub request-as : {A : Type 0} (method : List ℕ) (target : Uri) (proxy : Own) (branch : BranchName) (groups : List (Group A)) (body : List ℕ) (m : MessageText) → Request method (request_uri target) ≡ m.start → line (codes "Via") (own_via proxy branch) ∷ all_lines groups ≡ m.headers → body ≡ m.body → spelling (request_to method target proxy branch groups body) ≡ spelling m
-request-as method target proxy branch groups body m s h b =
-    ap (λ (x : StartText). spelling (record { start = x; headers = line (codes "Via") (own_via proxy branch) ∷ all_lines groups; body = body })) s
-    ∙ ap (λ (x : List HeaderText). spelling (record { start = m.start; headers = x; body = body })) h
-    ∙ ap (λ (x : List ℕ). spelling (record { start = m.start; headers = m.headers; body = x })) b
+request-as method target proxy branch groups body m s h b = grind arith
 
 -- room for a text, under another name of it
 pub room-under : {E : Type 0} (r : Result Unit E) (room len : ℕ) (t s : List ℕ) → (len + length t ≤ room → IsOk r) → t ≡ s → len + length s ≤ room → IsOk r

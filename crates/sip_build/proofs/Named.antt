@@ -1,6 +1,6 @@
 -- Values by name in lists of header lines.
-use Rattle.sip_build.proofs.Common.{◌≡◌, ℕ, true, false, cond, List, [], ◌∷◌, ◌++◌, map, take, Option, Some, None, refl, sym, ap, ◌∙◌, inl, inr, is_none, filter, cases_Bool, cond_both, cond-true, cond-false, false≢true, bytes_eq, Via, From}
-use Rattle.sip_build.proofs.Common.{To, CallId, CSeq, CSeqText, fits_start, value_of, first_of, same_name, HeaderText, StartText, found, tagged, with_tag, line, has_name}
+use Rattle.sip_build.proofs.Common.{◌≡◌, ℕ, true, false, List, [], ◌∷◌, ◌++◌, map, take, Option, Some, None, refl, sym, ap, ◌∙◌, inl, inr, filter, cases_Bool, cond-true, cond-false, Via, From, To, CallId, CSeq, CSeqText, fits_start, value_of}
+use Rattle.sip_build.proofs.Common.{first_of, same_name, HeaderText, StartText, found, tagged, with_tag, line, has_name, arith}
 use Rattle.std.specs.List.{AllByRecursion}
 use Rattle.std.specs.Str.{str_to_ascii_lowercase}
 use Rattle.std.proofs.lemmas.Slice.Eq.{bytes_eq-Decides}
@@ -29,29 +29,18 @@ lowered name = str_to_ascii_lowercase (full_name name)
 
 -- what has one name has no other
 apart : (other name n : List ℕ) → same_name other name ≡ false → same_name name n ≡ true → same_name other n ≡ false
-apart other name n differ same =
-    let e = (bytes_eq-Decides (lowered name) (lowered n)).0 same in
-    ap (λ (t : List ℕ). bytes_eq (lowered other) t) (sym e) ∙ differ
+apart other name n differ same = grind (arith, bytes_eq-Decides)
 
 pub skip : (other name : List ℕ) (block rest : List HeaderText) → same_name other name ≡ false → AreNamed name block → values_of other (block ++ rest) ≡ values_of other rest
 skip other name [] rest differ all = refl
-skip other name (h ∷ block) rest differ all =
-    later other h (block ++ rest) (apart other name h.name differ all.0) ∙ skip other name block rest differ all.1
+skip other name (h ∷ block) rest differ all = grind (arith, later, apart, skip other name block rest differ all.1)
 
 pub named_filter : (name : List ℕ) (hs : List HeaderText) → AreNamed name (filter (has_name name) hs)
 named_filter name [] = tt
-named_filter name (h ∷ hs) =
-    cond_both (has_name name h) (h ∷ filter (has_name name) hs) (filter (has_name name) hs) (λ (b : List HeaderText). AreNamed name b)
-    (λ e. (e, named_filter name hs))
-    (λ e. named_filter name hs)
+named_filter name (h ∷ hs) = grind (arith, named_filter name hs)
 
 pub named_first : (name : List ℕ) (block : List HeaderText) → AreNamed name block → AreNamed name (take 1 block)
-named_first name [] all = tt
-named_first name (h ∷ block) all = (all.0, tt)
-
-pub named_tagged : (name tag : List ℕ) (block : List HeaderText) → AreNamed name block → AreNamed name (map (tagged tag) block)
-named_tagged name tag [] all = tt
-named_tagged name tag (h ∷ block) all = (all.0, named_tagged name tag block all.1)
+named_first name block all = grind arith
 
 pub named_lines : (name other : List ℕ) (values : List (List ℕ)) → same_name name other ≡ true → AreNamed name (map (line other) values)
 named_lines name other [] same = tt
@@ -107,10 +96,6 @@ tagged_keeps name tag (h ∷ hs) rest v e =
 
 -- ---- the five that a message needs
 
-abbrev missing_of : (via from to call cseq : Option (List ℕ)) → Option Needed
-missing_of via from to call cseq =
-    cond (is_none via) (Some Via) (cond (is_none from) (Some From) (cond (is_none to) (Some To) (cond (is_none call) (Some CallId) (cond (is_none cseq) (Some CSeq) None))))
-
 abbrev pub Has : Needed → List HeaderText → Type 0
 Has which hs = (v : List ℕ) × (value_of which hs ≡ Some v)
 
@@ -122,12 +107,7 @@ pub record HasAll (hs : List HeaderText) : Type 0 where
   pub cseq : Has CSeq hs
 
 pub none_missing : (hs : List HeaderText) → HasAll hs → missing hs ≡ None
-none_missing hs all =
-    ap (λ (o : Option (List ℕ)). missing_of o (value_of From hs) (value_of To hs) (value_of CallId hs) (value_of CSeq hs)) all.via.1
-    ∙ ap (λ (o : Option (List ℕ)). missing_of (Some all.via.0) o (value_of To hs) (value_of CallId hs) (value_of CSeq hs)) all.from.1
-    ∙ ap (λ (o : Option (List ℕ)). missing_of (Some all.via.0) (Some all.from.0) o (value_of CallId hs) (value_of CSeq hs)) all.to.1
-    ∙ ap (λ (o : Option (List ℕ)). missing_of (Some all.via.0) (Some all.from.0) (Some all.to.0) o (value_of CSeq hs)) all.call_id.1
-    ∙ ap (λ (o : Option (List ℕ)). missing_of (Some all.via.0) (Some all.from.0) (Some all.to.0) (Some all.call_id.0) o) all.cseq.1
+none_missing hs all = grind arith
 
 abbrev Filled : Option (List ℕ) → Type 0
 Filled o = (v : List ℕ) × (o ≡ Some v)
@@ -139,21 +119,10 @@ record AllFilled (via from to call cseq : Option (List ℕ)) : Type 0 where
   call_is : Filled call
   cseq_is : Filled cseq
 
-all_filled : (via from to call cseq : Option (List ℕ)) → missing_of via from to call cseq ≡ None → AllFilled via from to call cseq
-all_filled None from to call cseq e = absurd cc
-all_filled (Some v) None to call cseq e = absurd cc
-all_filled (Some v) (Some f) None call cseq e = absurd cc
-all_filled (Some v) (Some f) (Some t) None cseq e = absurd cc
-all_filled (Some v) (Some f) (Some t) (Some i) None e = absurd cc
-all_filled (Some v) (Some f) (Some t) (Some i) (Some s) e = record { via_is = (v, refl); from_is = (f, refl); to_is = (t, refl); call_is = (i, refl); cseq_is = (s, refl) }
-
 pub has_all : (hs : List HeaderText) → missing hs ≡ None → HasAll hs
-has_all hs e =
-    let f = all_filled (value_of Via hs) (value_of From hs) (value_of To hs) (value_of CallId hs) (value_of CSeq hs) e in
-    record { via = f.via_is; from = f.from_is; to = f.to_is; call_id = f.call_is; cseq = f.cseq_is }
+has_all hs e = grind arith
 
 -- ---- the CSeq
 
 pub cseq_there : (start : StartText) (o : Option CSeqText) → fits_start start o ≡ true → (c : CSeqText) × (o ≡ Some c)
-cseq_there start None e = absurd (false≢true e)
-cseq_there start (Some c) e = (c, refl)
+cseq_there start o e = grind arith

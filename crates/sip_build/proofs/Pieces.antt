@@ -1,5 +1,5 @@
 -- Texts that grow by pieces.
-use Rattle.sip_build.proofs.Common.{◌≡◌, ℕ, List, [], ◌∷◌, ◌++◌, sym, ap, ◌∙◌, append_assoc, header_text, codes, decimal, Own, BranchName, address_text, branch_text, line, own_via}
+use Rattle.sip_build.proofs.Common.{◌≡◌, ℕ, List, [], ◌∷◌, ◌++◌, sym, ap, ◌∙◌, append_assoc, header_text, codes, decimal, Own, BranchName, address_text, branch_text, line, own_via, common_steps, arith}
 
 abbrev pub Text : Type 0
 Text = List ℕ
@@ -10,9 +10,7 @@ pub joined : (old mid new a b all : Text) → mid ≡ old ++ a → new ≡ mid +
 joined old mid new a b all e h k = h ∙ ap (λ (x : Text). x ++ b) e ∙ append_assoc old a b ∙ ap (λ (x : Text). old ++ x) k
 
 pub three : (old n1 n2 n3 a b d all : Text) → n1 ≡ old ++ a → n2 ≡ n1 ++ b → n3 ≡ n2 ++ d → a ++ (b ++ d) ≡ all → n3 ≡ old ++ all
-three old n1 n2 n3 a b d all e1 e2 e3 k =
-    let rest : n3 ≡ n1 ++ (b ++ d) = e3 ∙ ap (λ (x : Text). x ++ d) e2 ∙ append_assoc n1 b d in
-    joined old n1 n3 a (b ++ d) all e1 rest k
+three old n1 n2 n3 a b d all e1 e2 e3 k = grind (arith, common_steps)
 
 -- ---- the proxy's own Via line
 

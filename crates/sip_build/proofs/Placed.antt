@@ -1,7 +1,5 @@
 -- Bytes that were written at a place, piece by piece.
-use Rattle.sip_build.proofs.Common.{◌≡◌, ◌∙◌, ℕ, ◌+◌, ◌<◌, ◌≤◌, List, [], ◌∷◌, ◌++◌, length, take, map, sym, ap, append_assoc, append-nil, arith, subst, length-append, flat_map, flat_map-map, Placed}
-use Rattle.std.proofs.Common.{get_or}
-use Rattle.std.proofs.lemmas.Grind.{flat_map-append}
+use Rattle.sip_build.proofs.Common.{◌≡◌, ℕ, ◌+◌, ◌<◌, ◌≤◌, List, ◌++◌, length, take, map, ap, append-nil, arith, subst, flat_map, flat_map-map, Placed, get_or, flat_map-append, common_steps}
 use Rattle.std.proofs.lemmas.List.{take_more}
 use Rattle.std.proofs.lemmas.List.Folds.{length-flat_map-take}
 
@@ -11,41 +9,22 @@ placed-as old new at end a b placed e = subst (λ (x : List ℕ). Placed old new
 
 -- a text behind another one
 pub placed-then : (old mid new : List ℕ) (at next end : ℕ) (a b : List ℕ) → Placed old mid at a next → Placed mid new next b end → Placed old new at (a ++ b) end
-placed-then old mid new at next end a b first second = record {
-  bytes = second.bytes ∙ ap (λ (x : List ℕ). x ++ b) first.bytes ∙ append_assoc (take at old) a b;
-  moved = omega (arith, first.moved, second.moved, length-append a b);
-  len = second.len ∙ first.len;
-}
+placed-then old mid new at next end a b first second = grind (arith, common_steps)
 
 -- the text of the next part fits behind those before it
 pub fits-next : {X : Type 0} (text : X → List ℕ) (old mid : List ℕ) (xs : List X) (i at next : ℕ) (d : X) → i < length xs → Placed old mid at (flat_map text (take i xs)) next → at + length (flat_map text xs) ≤ length old → next + length (text (get_or xs i d)) ≤ length mid
-fits-next text old mid xs i at next d below placed fits =
-    omega (arith, placed.moved, placed.len, length-flat_map-take text xs i d below)
+fits-next text old mid xs i at next d below placed fits = grind (arith, length-flat_map-take)
 
 -- the same of a part that is read from the list, and of parts that are seen as values
 pub fits-item : {X : Type 0} (text : X → List ℕ) (old mid : List ℕ) (xs : List X) (i at next : ℕ) (x : X) (part : List ℕ) → i < length xs → Placed old mid at (flat_map text (take i xs)) next → at + length (flat_map text xs) ≤ length old → x ≡ get_or xs i x → part ≡ text x → next + length part ≤ length mid
-fits-item text old mid xs i at next x part below placed fits is same =
-    let whole : length part ≡ length (text (get_or xs i x)) = ap length same ∙ ap (λ y. length (text y)) is in
-    omega (arith, whole, fits-next text old mid xs i at next x below placed fits)
+fits-item text old mid xs i at next x part below placed fits is same = grind (arith, fits-next)
 
 pub fits-seen : {X Y : Type 0} (text : Y → List ℕ) (seen : X → Y) (old mid : List ℕ) (xs : List X) (i at next : ℕ) (x : X) (part : List ℕ) → i < length xs → Placed old mid at (flat_map text (map seen (take i xs))) next → at + length (flat_map text (map seen xs)) ≤ length old → x ≡ get_or xs i x → part ≡ text (seen x) → next + length part ≤ length mid
-fits-seen text seen old mid xs i at next x part below placed fits is same =
-    fits-item (λ y. text (seen y)) old mid xs i at next x part below
-    (placed-as old mid at next _ _ placed (flat_map-map text seen (take i xs)))
-    (subst (λ (y : List ℕ). at + length y ≤ length old) (flat_map-map text seen xs) fits)
-    is same
+fits-seen text seen old mid xs i at next x part below placed fits is same = grind (arith, fits-item, flat_map-map)
 
 -- the texts of the parts up to the next one
 pub more-seen : {X Y : Type 0} (text : Y → List ℕ) (seen : X → Y) (xs : List X) (i : ℕ) (x : X) (part : List ℕ) → i < length xs → x ≡ get_or xs i x → part ≡ text (seen x) → flat_map text (map seen (take (i + 1) xs)) ≡ flat_map text (map seen (take i xs)) ++ part
-more-seen {X} text seen xs i x part below is same =
-    let texts : List X → List ℕ = λ ys. flat_map (λ y. text (seen y)) ys in
-    let before = texts (take i xs) in
-    let next : text (seen (get_or xs i x)) ≡ part = ap (λ y. text (seen y)) (sym is) ∙ sym same in
-    flat_map-map text seen (take (i + 1) xs)
-    ∙ ap texts (take_more xs i x below)
-    ∙ flat_map-append (λ y. text (seen y)) (take i xs) (get_or xs i x ∷ [])
-    ∙ ap (λ t. before ++ t) (append-nil (text (seen (get_or xs i x))) ∙ next)
-    ∙ ap (λ t. t ++ part) (sym (flat_map-map text seen (take i xs)))
+more-seen {X} text seen xs i x part below is same = grind (arith, common_steps, flat_map-map text seen (take (i + 1) xs), flat_map-map text seen (take i xs), take_more xs i x below, append-nil (text (seen (get_or xs i x))), flat_map-append)
 
 -- another name of a text that fits
 pub fits-as : (at room : ℕ) (t s : List ℕ) → at + length s ≤ room → t ≡ s → at + length t ≤ room

@@ -1,8 +1,8 @@
 -- An ACK or CANCEL is a message.
-use Rattle.sip_build.proofs.Common.{◌≡◌, ℕ, ◌-◌, ◌^◌, ◌<◌, true, false, not, List, [], ◌∷◌, ◌++◌, reverse, Option, Some, None, refl, sym, ap, ◌∙◌, arith, inl, inr, codes, decimal, list_all, bytes_eq, and_parts, and_from, cases_Bool}
-use Rattle.sip_build.proofs.Common.{cond-true, cond-false, false≢true, reverse-append, list_all-append, is_space, is_token, trim_start, cut, number_within, Via, From, To, CallId, CSeq, CSeqText, cseq_in, cseq_of, cseq_of_cut, cseq_with}
-use Rattle.sip_build.proofs.Common.{fits_start, length_name, message_cseq, said_by, value_of, IsMessage, fits_body, is_header, is_line, is_line_byte, is_start, is_trimmed, is_value, first_of, same_name, begins_with_space, is_uri}
-use Rattle.sip_build.proofs.Common.{HeaderText, MessageText, StartText, Request, Response, found, line, lines_as, number_text, is_request, along, to_value, top_value, all_pass, decimal_high, high_line, high_no_space, is_high, no_space}
+use Rattle.sip_build.proofs.Common.{◌≡◌, ℕ, ◌-◌, ◌^◌, ◌<◌, true, false, List, [], ◌∷◌, ◌++◌, reverse, Option, Some, None, refl, ap, ◌∙◌, arith, codes, decimal, list_all, bytes_eq, and_from, reverse-append, list_all-append, is_token, number_within}
+use Rattle.sip_build.proofs.Common.{Via, From, To, CallId, CSeq, CSeqText, cseq_in, cseq_of, cseq_with, fits_start, length_name, message_cseq, said_by, value_of, IsMessage, fits_body, is_header, is_line, is_line_byte, is_start, is_trimmed, is_value}
+use Rattle.sip_build.proofs.Common.{first_of, same_name, begins_with_space, is_uri, HeaderText, MessageText, StartText, Request, line, lines_as, number_text, is_request, along, to_value, top_value, all_pass, decimal_high, high_line, high_no_space}
+use Rattle.sip_build.proofs.Common.{is_high, no_space, common_steps}
 use Rattle.std.proofs.lemmas.Fmt.{decimal_nonempty}
 use Rattle.sip_text.specs.Name.{full_name, values_of}
 use Rattle.sip_route.specs.Loop.{call_id, cseq_number, request_uri}
@@ -72,41 +72,15 @@ number_in None = 0
 number_in (Some c) = c.number
 
 with_parts : (o : Option ℕ) (method : List ℕ) (c : CSeqText) → cseq_with o method ≡ Some c → o ≡ Some c.number
-with_parts None method c e = absurd cc
-with_parts (Some n) method c e =
-    let read : CSeqText = record { number = n; method = method } in
-    elim (cases_Bool (is_token method)) [
-      | inl token ↦
-          let same : found read ≡ found c = sym (cond-true (is_token method) (Some read) None token) ∙ e in
-          ap (λ (o : Option CSeqText). Some (number_in o)) same
-      | inr other ↦
-          let wrong : None ≡ found c = sym (cond-false (is_token method) (Some read) None other) ∙ e in absurd cc
-    ]
-
-cut_parts : (r : List ℕ × Option (List ℕ)) (c : CSeqText) → cseq_of_cut r ≡ Some c → number_within (2 ^ 31 - 1) r.0 ≡ Some c.number
-cut_parts (digits, None) c e = absurd cc
-cut_parts (digits, Some rest) c e = with_parts (number_within (2 ^ 31 - 1) digits) (trim_start rest) c e
-
-in_parts : (o : Option (List ℕ)) (c : CSeqText) → cseq_in o ≡ Some c → (v : List ℕ) × (cseq_of v ≡ Some c)
-in_parts None c e = absurd cc
-in_parts (Some v) c e = (v, e)
+with_parts o method c e = grind arith
 
 cseq_is : (hs : List HeaderText) (c : CSeqText) → message_cseq hs ≡ Some c → IsCSeq c
-cseq_is hs c e =
-    let read = in_parts (value_of CSeq hs) c e in
-    let digits = (cut is_space read.0).0 in
-    let again = number_read_within (2 ^ 31 - 1) digits c.number (omega arith) (cut_parts (cut is_space read.0) c read.1) in
-    record { small = again.0; within = again.1 }
+cseq_is hs c e = grind (arith, number_read_within)
 
 -- ---- header lines
 
 cseq_value : (n : ℕ) (method : List ℕ) → n < 2 ^ 64 → is_line (32 ∷ method) ≡ true → begins_with_space (reverse (32 ∷ method) ++ reverse (decimal n)) ≡ false → is_value (decimal n ++ 32 ∷ method) ≡ true
-cseq_value n method small tail last =
-    let digits = decimal_high n small in
-    let front : begins_with_space (decimal n ++ 32 ∷ method) ≡ false = ends (decimal n) (32 ∷ method) (decimal_nonempty n small) (all_pass is_high no_space (decimal n) high_no_space digits) in
-    and_from (is_line (decimal n ++ 32 ∷ method)) (is_trimmed (decimal n ++ 32 ∷ method))
-    (list_all-append is_line_byte (decimal n) (32 ∷ method) ∙ and_from (is_line (decimal n)) (is_line (32 ∷ method)) (all_pass is_high is_line_byte (decimal n) high_line digits) tail)
-    (and_from (not (begins_with_space (decimal n ++ 32 ∷ method))) (not (begins_with_space (reverse (decimal n ++ 32 ∷ method)))) (ap not front) (ap not (ap begins_with_space (reverse-append (decimal n) (32 ∷ method)) ∙ last)))
+cseq_value n method small tail last = grind (arith, common_steps, decimal_high n small, decimal_nonempty n small, and_from (is_line (decimal n ++ 32 ∷ method)) (is_trimmed (decimal n ++ 32 ∷ method)), list_all-append is_line_byte (decimal n) (32 ∷ method), reverse-append (decimal n) (32 ∷ method), ends, all_pass, is_high, no_space, high_no_space, high_line)
 
 pub record IsOwnMethod (method : List ℕ) : Type 0 where
   pub is_method : IsMethod method
@@ -121,17 +95,10 @@ cancel : IsOwnMethod (codes "CANCEL")
 cancel = record { is_method = record { token = refl; trimmed = refl }; tail = refl; last = λ ds. refl; same = refl }
 
 uri_good : (start : StartText) → is_request start ≡ true → is_start start ≡ true → is_uri (request_uri start) ≡ true
-uri_good (Request method uri) is good = (and_parts (is_token method) (is_uri uri) good).1
-uri_good (Response status reason) is good = absurd (false≢true is)
+uri_good start is good = grind arith
 
 tail_good : (method : List ℕ) (sent : MessageText) (to : List ℕ) → is_value (from_value sent) ≡ true → is_value to ≡ true → is_value (call_id sent) ≡ true → is_value (cseq_number sent ++ 32 ∷ method) ≡ true → list_all is_header (tail_lines method sent to) ≡ true
-tail_good method sent to from value call spoken =
-    let seq = line (codes "CSeq") (cseq_number sent ++ 32 ∷ method) in
-    let end = line (codes "Content-Length") (codes "0") in
-    and_from (is_header (line (codes "From") (from_value sent))) (list_all is_header (line (codes "To") to ∷ line (codes "Call-ID") (call_id sent) ∷ seq ∷ end ∷ [])) from
-    (and_from (is_header (line (codes "To") to)) (list_all is_header (line (codes "Call-ID") (call_id sent) ∷ seq ∷ end ∷ [])) value
-    (and_from (is_header (line (codes "Call-ID") (call_id sent))) (list_all is_header (seq ∷ end ∷ [])) call
-    (and_from (is_header seq) (list_all is_header (end ∷ [])) spoken refl)))
+tail_good method sent to from value call spoken = grind arith
 
 along_good : (method : List ℕ) (sent : MessageText) (to : List ℕ) → IsOwnMethod method → is_request sent.start ≡ true → is_value to ≡ true → IsMessage sent → IsMessage (along method sent to)
 along_good method sent to own request value is =
@@ -175,11 +142,4 @@ cancel_good sent request is = along_good (codes "CANCEL") sent (to_value sent) c
 
 -- the same header lines with what was read of the messages
 pub along_lines : (method : List ℕ) (sent : MessageText) (to via from call seq : List ℕ) → via ≡ top_value sent → from ≡ from_value sent → call ≡ call_id sent → seq ≡ cseq_number sent ++ 32 ∷ method → line (codes "Via") via ∷ line (codes "Max-Forwards") (codes "70") ∷ (lines_as (codes "Route") (codes "route") sent ++ line (codes "From") from ∷ line (codes "To") to ∷ line (codes "Call-ID") call ∷ line (codes "CSeq") seq ∷ line (codes "Content-Length") (codes "0") ∷ []) ≡ (along method sent to).headers
-along_lines method sent to via from call seq v f i s =
-    let routes = lines_as (codes "Route") (codes "route") sent in
-    let forwards = line (codes "Max-Forwards") (codes "70") in
-    let end = line (codes "Content-Length") (codes "0") in
-    ap (λ (x : List ℕ). line (codes "Via") x ∷ forwards ∷ (routes ++ line (codes "From") from ∷ line (codes "To") to ∷ line (codes "Call-ID") call ∷ line (codes "CSeq") seq ∷ end ∷ [])) v
-    ∙ ap (λ (x : List ℕ). line (codes "Via") (top_value sent) ∷ forwards ∷ (routes ++ line (codes "From") x ∷ line (codes "To") to ∷ line (codes "Call-ID") call ∷ line (codes "CSeq") seq ∷ end ∷ [])) f
-    ∙ ap (λ (x : List ℕ). line (codes "Via") (top_value sent) ∷ forwards ∷ (routes ++ line (codes "From") (from_value sent) ∷ line (codes "To") to ∷ line (codes "Call-ID") x ∷ line (codes "CSeq") seq ∷ end ∷ [])) i
-    ∙ ap (λ (x : List ℕ). line (codes "Via") (top_value sent) ∷ forwards ∷ (routes ++ line (codes "From") (from_value sent) ∷ line (codes "To") to ∷ line (codes "Call-ID") (call_id sent) ∷ line (codes "CSeq") x ∷ end ∷ [])) s
+along_lines method sent to via from call seq v f i s = grind arith

@@ -1,4 +1,4 @@
-use Rattle.std.proofs.Common.{rules}
+use Rattle.sip_build.proofs.Common.{rules}
 use Rattle.sip_via.proofs.laws.Tokens.{all_small}
 use Rattle.sip_build.proofs.along_forwarded.is_branch.Goals as goal
 

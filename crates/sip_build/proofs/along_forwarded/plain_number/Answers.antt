@@ -1,5 +1,4 @@
-use Rattle.sip_build.proofs.Common.{◌≡◌, ◌∙◌, ℕ, List, Option, ap, sym, codes, cut, first_value, is_space, or_empty}
-use Rattle.sip_lex.specs.Number.{begins_with_zero}
+use Rattle.sip_build.proofs.Common.{◌≡◌, ◌∙◌, ℕ, List, Option, ap, sym, codes, cut, first_value, is_space, or_empty, begins_with_zero}
 use Rattle.sip_build.proofs.PlainCSeq.{as-written}
 use Rattle.sip_build.proofs.along_forwarded.plain_number.Goals as goal
 

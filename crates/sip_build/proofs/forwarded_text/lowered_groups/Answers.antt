@@ -1,4 +1,4 @@
-use Rattle.sip_build.proofs.Common.{◌∷◌, ◌∙◌, [], ◌++◌, List, ℕ, Option, ap, sym, Some, codes, decimal, append-nil, view, views, HeaderText, line, hops_name, replaced-split, hops_lowered}
+use Rattle.sip_build.proofs.Common.{◌∷◌, ◌∙◌, [], ◌++◌, List, ℕ, Option, ap, sym, Some, codes, decimal, append-nil, view, views, HeaderText, line, hops_name, replaced-split, hops_lowered, common_steps, arith}
 use Rattle.sip_build.specs.inner.Forwarding.{hops_left}
 use Rattle.sip_build.proofs.Exchanged.{none-left}
 use Rattle.sip_build.proofs.FirstHops.{first-nowhere, first-there, seventy-text}
@@ -24,8 +24,4 @@ returns g c =
     let hops = c.requires.hops ∙ ap (λ (o : Option (List ℕ)). decimal (hops_left o)) some in
     let fewer = decimal (hops_left (Some (view header).value)) in
     let split = replaced-split hops_name (Some fewer) hs front (header ∷ after) c.args.place c.requires.place c.split_at.ensures.front back in
-    ap (λ (name : List ℕ). views front ++ (line name c.args.hops.now ∷ (views after ++ []))) c.name.ensures
-    ∙ ap (λ (v : List ℕ). views front ++ (line (view header).name v ∷ (views after ++ []))) hops
-    ∙ ap (λ (xs : List HeaderText). views front ++ (line (view header).name fewer ∷ xs)) (append-nil (views after))
-    ∙ split
-    ∙ sym (ap (λ (o : Option (List ℕ)). hops_lowered (views hs) o) some)
+    grind (arith, common_steps, append-nil (views after))

@@ -1,11 +1,9 @@
-use Rattle.sip_build.proofs.Common.{◌∙◌, ◌∷◌, List, ℕ, Option, ap, subst, sym, IfSome, codes, first_value, HeaderText, line, own_via, IsHops, hops_name, forwarded, hops_lowered}
+use Rattle.sip_build.proofs.Common.{◌∙◌, ◌∷◌, List, ap, sym, codes, first_value, HeaderText, line, own_via, hops_name, forwarded, hops_lowered, arith}
 use Rattle.sip_build.proofs.GroupTexts.{ok-as, request-as, room-under}
 use Rattle.sip_build.proofs.forwarded_text.write_forwarded.Goals as goal
 
 pub hops_left-requires : goal.hops_left-requires
-hops_left-requires g c =
-    let first = c.value_at.ensures ∙ ap (λ (hs : List HeaderText). first_value hops_name hs) c.headers-headers.ensures in
-    subst (λ (o : Option (List ℕ)). IfSome o IsHops) (sym first) c.requires.hops
+hops_left-requires g c = grind arith
 
 pub returns-clause-ok : goal.returns-clause-ok
 returns-clause-ok g c =

@@ -1,4 +1,4 @@
-use Rattle.std.proofs.Common.{◌≡◌, ◌+◌, ◌≤◌, take}
+use Rattle.sip_build.proofs.Common.{◌≡◌, ◌+◌, ◌≤◌, take}
 use Rattle.sip_build.proofs.groups.append_blank.Given as goal
 
 abbrev pub invariant-loop-left : goal.invariant-loop-left

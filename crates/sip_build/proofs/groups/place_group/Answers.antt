@@ -1,4 +1,4 @@
-use Rattle.sip_build.proofs.Common.{◌∙◌, ap, sym, views, lines_of, picked, lines_text}
+use Rattle.sip_build.proofs.Common.{◌∙◌, ap, sym, views, lines_of, picked, lines_text, arith}
 use Rattle.sip_build.proofs.GroupTexts.{challenges-text, contacts-text, texts-of-lines}
 use Rattle.sip_build.proofs.Placed.{fits-as, placed-as}
 use Rattle.sip_build.proofs.groups.place_group.Goals as goal
@@ -12,17 +12,13 @@ returns-in-Picked g c =
     placed-as _ _ _ _ _ _ c.place_picked.ensures (texts-of-lines (picked c.in-Picked.pick) (views c.in-Picked.headers.now) ∙ ap (λ x. lines_text (lines_of x)) (sym c.in-Picked.is))
 
 pub place_contacts-requires : goal.place_contacts-requires
-place_contacts-requires g c =
-    fits-as c.args.at _ _ _ c.requires (contacts-text c.in-Contacts.kept.now ∙ ap (λ x. lines_text (lines_of x)) (sym c.in-Contacts.is))
+place_contacts-requires g c = grind (arith, contacts-text)
 
 pub returns-in-Contacts : goal.returns-in-Contacts
-returns-in-Contacts g c =
-    placed-as _ _ _ _ _ _ c.place_contacts.ensures (contacts-text c.in-Contacts.kept.now ∙ ap (λ x. lines_text (lines_of x)) (sym c.in-Contacts.is))
+returns-in-Contacts g c = grind (arith, placed-as, contacts-text)
 
 pub place_challenges-requires : goal.place_challenges-requires
-place_challenges-requires g c =
-    fits-as c.args.at _ _ _ c.requires (challenges-text c.in-Challenges.challenges.now ∙ ap (λ x. lines_text (lines_of x)) (sym c.in-Challenges.is))
+place_challenges-requires g c = grind (arith, challenges-text)
 
 pub returns-in-Challenges : goal.returns-in-Challenges
-returns-in-Challenges g c =
-    placed-as _ _ _ _ _ _ c.place_challenges.ensures (challenges-text c.in-Challenges.challenges.now ∙ ap (λ x. lines_text (lines_of x)) (sym c.in-Challenges.is))
+returns-in-Challenges g c = grind (arith, placed-as, challenges-text)

@@ -1,11 +1,9 @@
-use Rattle.sip_build.proofs.Common.{List, ℕ, Option, sym, ap, option_copied, view, picked, under, lines_text}
+use Rattle.sip_build.proofs.Common.{List, ℕ, Option, sym, ap, option_copied, view, picked, under, lines_text, arith}
 use Rattle.sip_build.proofs.Placed.{fits-seen, more-seen, placed-as, placed-then}
 use Rattle.sip_build.proofs.groups.place_picked.Goals as goal
 
 pub place_under-end-requires : goal.place_under-end-requires
-place_under-end-requires g c =
-    let part = ap (λ (name : Option (List ℕ)). lines_text (under (view c.header-item.result) name)) c.picked_name.ensures in
-    fits-seen (λ h. lines_text (picked c.args.pick h)) view c.args.out.now c.loop-header.out c.args.headers.now c.loop-header.header-index c.args.at c.loop-header.end c.header-item.result (lines_text (under (view c.header-item.result) (option_copied c.picked_name.result))) c.loop-header-test.true c.loop-header.invariant c.requires c.header-item.is part
+place_under-end-requires g c = grind (arith, fits-seen)
 
 pub loop-header-preserved : goal.loop-header-preserved
 loop-header-preserved g c =

@@ -1,4 +1,4 @@
-use Rattle.sip_build.proofs.Common.{◌++◌, ◌∙◌, append_assoc, arith, refl, sym, codes, ended, Request, header_text, start_line, request_uri, line, own_via, tail_text}
+use Rattle.sip_build.proofs.Common.{append_assoc, arith, sym, codes, ended, Request, header_text, start_line, request_uri, line, own_via, tail_text, common_steps}
 use Rattle.sip_build.proofs.Grown.{on_err, on_ok}
 use Rattle.sip_build.proofs.GroupTexts.{behind-full, request_text, room-as}
 use Rattle.sip_build.proofs.Pieces.{joined, three}
@@ -18,5 +18,4 @@ returns-clause-room g c =
     let via = header_text (line (codes "Via") (own_via c.args.own c.args.branch.now)) in
     let tail = tail_text c.args.groups.now c.args.body.now in
     let whole = request_text c.args.method.now c.args.target.now c.args.own c.args.branch.now c.args.groups.now c.args.body.now in
-    let front = joined c.args.out.now.items c.append_request_line.new.out.items c.append_own_via.new.out.items first via (first ++ via) c.in_ok-append_request_line.ensures.ok c.in_ok-append_own_via.ensures.ok refl in
-    room-as c.append_tail.result _ _ _ _ (on_err c.append_tail.result (λ full. behind-full c.args.out.now.items c.append_own_via.new.out.items _ _ _ _ (first ++ via) tail _ c.args.out.now.ok.0 c.append_own_via.new.out.ok.0 front (omega (arith, c.append_request_line.ensures.capacity, c.append_own_via.ensures.capacity)) full (whole ∙ sym (append_assoc first via tail))) c.append_tail.ensures.full) refl
+    grind (arith, common_steps, append_assoc first via tail, joined, room-as, on_err, behind-full)

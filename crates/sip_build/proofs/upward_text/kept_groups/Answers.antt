@@ -1,5 +1,5 @@
-use Rattle.sip_build.proofs.Common.{◌<◌, ◌≤◌, ◌∙◌, ◌++◌, ◌∷◌, [], List, ℕ, length, map, sym, ap, arith, None, Some, codes, if◌then◌else◌, flat_map, option_copied, same_name, views, HeaderText, line_if_any, place_of, replaced, exchanged}
-use Rattle.sip_build.proofs.Common.{lines_of, under, texts, challenge_line, contact_lines}
+use Rattle.sip_build.proofs.Common.{◌<◌, ◌∙◌, ◌++◌, ◌∷◌, List, ℕ, length, map, sym, ap, arith, None, Some, codes, if◌then◌else◌, flat_map, option_copied, same_name, views, line_if_any, place_of, replaced, exchanged, lines_of, under, texts}
+use Rattle.sip_build.proofs.Common.{challenge_line, contact_lines, common_steps}
 use Rattle.sip_build.proofs.Exchanged.{none-left, parted_at, round-later, round-none, round-sooner, via-is-no-contact}
 use Rattle.sip_build.proofs.GroupTexts.{other-lines}
 use Rattle.sip_build.proofs.UpwardTexts.{row-later, row-sooner, row-three}
@@ -11,9 +11,7 @@ returns-in_default g c =
     let o = option_copied c.args.others in
     let lines = contact_lines (texts c.args.kept.now) in
     let front = c.split_at.result.0.now in
-    let parted = parted_at (codes "via") hs front [] c.place_of.result c.place_of.ensures.value c.split_at.ensures.front (sym (none-left c.split_at.result.1.now c.in_default.ensures.cases) ∙ c.split_at.ensures.back) in
-    row-three (lines_of c.exchanged_groups.result.0) (lines_of c.exchanged_groups.result.1) (lines_of c.exchanged_groups.result.2) (map challenge_line c.args.challenges.now) (exchanged (codes "contact") lines (replaced (codes "via") o (views hs)))
-    (c.exchanged_groups.ensures ∙ round-none (codes "via") (codes "contact") o lines hs front c.place_of.result parted)
+    grind (arith, common_steps, parted_at, none-left, row-three, round-none)
 
 pub returns-then-place_of-front : goal.returns-then-place_of-front
 returns-then-place_of-front g c =
@@ -34,18 +32,4 @@ returns-then-place_of-front g c =
     ∙ round-sooner (codes "via") (codes "contact") o lines hs front after top n via-is-no-contact parted sooner)
 
 pub returns-else-place_of-front : goal.returns-else-place_of-front
-returns-else-place_of-front g c =
-    let hs = c.args.headers.now in
-    let o = option_copied c.args.others in
-    let lines = contact_lines (texts c.args.kept.now) in
-    let n = c.place_of.result in
-    let front = c.split_at.result.0.now in
-    let top = c.in-Some.top.now in
-    let after = c.in-Some.after.now in
-    let parted = parted_at (codes "via") hs front (top ∷ after) n c.place_of.ensures.value c.split_at.ensures.front (sym c.in-Some.ensures.cases.0 ∙ c.split_at.ensures.back) in
-    let later : length front ≤ place_of (codes "contact") (views front) = omega (arith, c.if-place_of-front.false, c.place_of-2.ensures.value) in
-    let first = c.group_if_any-top.ensures ∙ ap (λ (name : List ℕ). line_if_any name o) c.name.ensures in
-    row-later (views front) (lines_of c.group_if_any-top.result) (lines_of c.exchanged_groups-else-place_of-front.result.0) (lines_of c.exchanged_groups-else-place_of-front.result.1) (lines_of c.exchanged_groups-else-place_of-front.result.2) (map challenge_line c.args.challenges.now) (exchanged (codes "contact") lines (views after)) (exchanged (codes "contact") lines (replaced (codes "via") o (views hs)))
-    c.exchanged_groups-else-place_of-front.ensures
-    (ap (λ (x : List HeaderText). views front ++ (x ++ exchanged (codes "contact") lines (views after))) first
-    ∙ round-later (codes "via") (codes "contact") o lines hs front after top n via-is-no-contact parted later)
+returns-else-place_of-front g c = grind (arith, row-later, round-later, via-is-no-contact)
