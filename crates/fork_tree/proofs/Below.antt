@@ -1,7 +1,7 @@
 -- What a node keeps is the best, and its count that, of the rows at or below its number.
-use Rattle.fork_tree.proofs.Common.{◌≡◌, ℕ, suc, ◌+◌, ◌<◌, ◌&&◌, inl, inr, Bool, true, false, IsTrue, not, List, [], ◌∷◌, ◌++◌, length, Option, Some, None, slice_get, refl, ap, sym, subst, ◌∙◌, arith, if◌then◌else◌, is_some, option_map}
-use Rattle.fork_tree.proofs.Common.{Row, Rules, is_ended, stored_of, Rank, Score, RanksBefore, rank_of, HasScore, score_of, stored_at, Kept, BestRef, Summary, Place, has_ended, Cell, Entry, find, path_of, row_at, rows_of, number_of}
-use Rattle.fork_tree.proofs.Common.{IsPlaced, AreOlder, HasKept, IsKept, best_of, open_of, AreListed, AreRanked, IsTree, Tree, score_of_ref, leads, lies_below, open_where, open_below, stripped, put_under, under}
+use Rattle.fork_tree.proofs.Common.{◌≡◌, ℕ, suc, ◌+◌, ◌<◌, ◌&&◌, inl, inr, Bool, true, false, IsTrue, not, List, [], ◌∷◌, length, Option, Some, None, slice_get, refl, ap, sym, subst, ◌∙◌, arith, if◌then◌else◌, is_some, option_map, Row, Rules}
+use Rattle.fork_tree.proofs.Common.{is_ended, stored_of, Rank, Score, RanksBefore, rank_of, HasScore, score_of, stored_at, Kept, Summary, Place, has_ended, Cell, Entry, find, path_of, row_at, rows_of, IsPlaced, AreOlder, HasKept, IsKept, best_of}
+use Rattle.fork_tree.proofs.Common.{open_of, AreListed, AreRanked, IsTree, Tree, score_of_ref, leads, lies_below, open_where, open_below, stripped, put_under, under, common_steps, rules}
 use Rattle.fork_model.specs.Rank.{Before}
 use Rattle.fork_tree.specs.Below.{IsBestBelow, IsSubtree}
 use Rattle.fork_tree.proofs.Traces.{path_below}
@@ -13,19 +13,9 @@ use Rattle.fork_tree.proofs.Chains.{up_of, lies_same, GoesOn, leads_on, on_leads
 
 -- ---- the walk by parents
 
-path_there : (all : List Place) (root : List Entry) (n : ℕ) (path : List ℕ) → IsPlaced all root → n < length all → path ≡ path_of all n → IsTrue (is_some (find root path))
-path_there all root n path placed lt e = go (find root path) (ap (λ p. number_of (find root p)) e ∙ placed n lt)
-  where
-    go : (o : Option Cell) → number_of o ≡ Some n → IsTrue (is_some o)
-    go None h = absurd cc
-    go (Some c) h = cc
-
 pub further_there : (all : List Place) (root node : List Entry) (n m : ℕ) (p : Place) → AreOlder all → IsPlaced all root → n < length all → slice_get all n ≡ Some p → p.parent ≡ Some m
     → node ≡ under (path_of all m) root → IsTrue (is_some (find node (p.group ∷ p.place ∷ [])))
-further_there all root node n m p older placed lt is up e =
-    let P : Option Cell → Type 0 = λ x. IsTrue (is_some x) in
-    subst P (sym (ap (λ x. find x (p.group ∷ p.place ∷ [])) e ∙ find_under (path_of all m) root (p.group ∷ p.place ∷ [])))
-    (path_there all root n (path_of all m ++ p.group ∷ p.place ∷ []) placed lt (sym (path_below all n m p older is up)))
+further_there all root node n m p older placed lt is up e = grind (arith, find_under, path_below)
 
 -- ---- the best
 
@@ -79,8 +69,7 @@ kept_below rules all root (e ∷ es) n k older placed lt l r h = go (stripped (p
 
 best_below : (rules : Rules) (all : List Place) (root : List Entry) (n : ℕ) (kept : Option Kept) → AreOlder all → IsPlaced all root → n < length all → AreListed all root root
     → AreRanked rules root → IsKept (under (path_of all n) root) kept → IsBestBelow rules (rows_of all root) n (best_of kept)
-best_below rules all root n None older placed lt listed ranked k =
-    λ m score below s. (let found = score_below rules all root n m score older ranked below s in k found.0 found.1)
+best_below rules all root n None older placed lt listed ranked k = grind (arith, common_steps, score_below)
 best_below rules all root n (Some b) older placed lt listed ranked k =
     let own : KeptBelow rules (rows_of all root) n b = kept_below rules all root root n b older placed lt listed ranked k.stored in
     record {
@@ -130,9 +119,7 @@ opens_below all root (e ∷ es) n older placed lt l = go (stripped (path_of all 
 
 where_passing : (f g : ℕ → Bool) (k : ℕ) (rows : List Row) → ((i : ℕ) → f i ≡ g i) → open_where f k rows ≡ passing_rows (λ i s. g i && not (is_ended s)) k rows
 where_passing f g k [] h = refl
-where_passing f g k (row ∷ rows) h =
-    ap (λ (b : Bool). (if b && not (is_ended row.state) then 1 else 0) + open_where f (suc k) rows) (h k)
-    ∙ ap (λ x. one (g k && not (is_ended row.state)) + x) (where_passing f g (suc k) rows h)
+where_passing f g k (row ∷ rows) h = grind (arith, where_passing f g (suc k) rows h)
 
 pub count_below : (all : List Place) (root : List Entry) (n : ℕ) → AreOlder all → IsPlaced all root → n < length all → AreListed all root root → length root ≡ length all
     → open_of (under (path_of all n) root) ≡ open_below (rows_of all root) n
@@ -146,10 +133,4 @@ count_below all root n older placed lt listed sized =
 
 pub is_subtree : (rules : Rules) (all : List Place) (root node : List Entry) (t : Summary) (now : Tree) (n : ℕ) → record { rules = rules; rows = rows_of all root } ≡ now
     → IsTree rules all root t → n < length all → node ≡ under (path_of all n) root → IsSubtree now n node
-is_subtree rules all root node t now n v was lt e =
-    subst (λ (x : Tree). IsSubtree x n node) v (subst (IsSubtree (record { rules = rules; rows = rows_of all root }) n) (sym e) (record {
-      known = omega (arith, lt, rows_length all root 0 all);
-      best = λ b is. (let B : Option BestRef → Type 0 = λ x. IsBestBelow rules (rows_of all root) n x in
-          subst B is.2 (best_below rules all root n is.0 was.older was.placed lt was.listed was.ranked is.1));
-      count = count_below all root n was.older was.placed lt was.listed was.sized;
-    }))
+is_subtree rules all root node t now n v was lt e = grind (arith, rows_length, best_below, count_below)

@@ -1,8 +1,6 @@
 -- A change at a path goes into the part that the path names.
-use Rattle.fork_tree.proofs.Common.{◌≡◌, ℕ, zero, suc, ◌+◌, ◌<◌, ◌≤◌, true, false, IsTrue, List, [], ◌∷◌, ◌++◌, length, map, Option, Some, None, refl, ap, sym, subst, ◌∙◌, arith, get_or, append_assoc, length-append, if◌then◌else◌, set}
-use Rattle.fork_tree.proofs.Common.{append-nil, map-append, eq-eqb, Standing, has_ended, Cell, Entry, same, find, pushed, joined, is_open_cell, open_at, led, in_standing, changed, with_branch, ne_eqb, not-true, nil_from_length}
-use Rattle.fork_tree.proofs.Common.{get_or_default, map-id, MayEnd}
-use Rattle.fork_tree.specs.inner.Falls.{length_pushed}
+use Rattle.fork_tree.proofs.Common.{◌≡◌, ℕ, zero, suc, ◌+◌, ◌<◌, ◌≤◌, false, IsTrue, List, [], ◌∷◌, ◌++◌, length, map, Option, Some, None, refl, ap, sym, subst, ◌∙◌, arith, get_or, length-append, if◌then◌else◌, set, append-nil, eq-eqb, Standing}
+use Rattle.fork_tree.proofs.Common.{has_ended, Cell, Entry, same, find, pushed, joined, is_open_cell, open_at, led, in_standing, with_branch, ne_eqb, nil_from_length, get_or_default, map-id, MayEnd, length_pushed, common_steps}
 
 pub find_pushed : (k : ℕ) (rows : List Entry) (path : List ℕ) → find (map (pushed k) rows) (k ∷ path) ≡ find rows path
 find_pushed k [] path = refl
@@ -28,10 +26,7 @@ find_later j k (x ∷ xs) path h =
 -- what stands in the part of this number
 pub find_joined : (j i k : ℕ) (parts : List (List Entry)) (path : List ℕ) → k ≡ j + i → find (joined j parts) (k ∷ path) ≡ find (get_or parts i []) path
 find_joined j i k [] path e = refl
-find_joined j zero k (x ∷ xs) path e =
-    let at : k ≡ j = omega arith in
-    let P : ℕ → Type 0 = λ n. find (map (pushed j) x ++ joined (suc j) xs) (n ∷ path) ≡ find x path in
-    subst P (sym at) (find_before (map (pushed j) x) (joined (suc j) xs) (j ∷ path) (find_later (suc j) j xs path (omega arith)) ∙ find_pushed j x path)
+find_joined j zero k (x ∷ xs) path e = grind (arith, find_before, find_later, find_pushed)
 find_joined j (suc i) k (x ∷ xs) path e =
     find_past (map (pushed j) x) (joined (suc j) xs) (k ∷ path) (find_other j k x path (λ h. omega arith)) ∙ find_joined (suc j) i k xs path (omega arith)
 
@@ -46,20 +41,11 @@ map_twice k path (e ∷ es) = ap (λ r. led (k ∷ path) e ∷ r) (map_twice k p
 
 pub with_branch_append : (xs ys : List Entry) (path : List ℕ) (s : Standing) (b : List Entry) → with_branch (xs ++ ys) path s b ≡ with_branch xs path s b ++ with_branch ys path s b
 with_branch_append [] ys path s b = refl
-with_branch_append (x ∷ xs) ys path s b =
-    ap (λ r. (if same x.path path then changed x s b else x ∷ []) ++ r) (with_branch_append xs ys path s b)
-    ∙ sym (append_assoc (if same x.path path then changed x s b else x ∷ []) (with_branch xs path s b) (with_branch ys path s b))
+with_branch_append (x ∷ xs) ys path s b = grind (arith, common_steps, with_branch_append xs ys path s b)
 
 pub with_branch_pushed : (k : ℕ) (rows : List Entry) (path : List ℕ) (s : Standing) (b : List Entry) → with_branch (map (pushed k) rows) (k ∷ path) s b ≡ map (pushed k) (with_branch rows path s b)
 with_branch_pushed k [] path s b = refl
-with_branch_pushed k (e ∷ es) path s b =
-    rw (eq-eqb k k refl)
-    (elim (same e.path path) as (λ t. (if t then changed (pushed k e) s b else pushed k e ∷ []) ++ with_branch (map (pushed k) es) (k ∷ path) s b
-    ≡ map (pushed k) ((if t then changed e s b else e ∷ []) ++ with_branch es path s b)) [
-      | true ↦ rw (map-append (pushed k) (changed e s b) (with_branch es path s b), map_twice k e.path b)
-          (ap (λ r. pushed k (record { path = e.path; cell = in_standing s e.cell }) ∷ (map (pushed k) (map (led e.path) b) ++ r)) (with_branch_pushed k es path s b))
-      | false ↦ ap (λ r. pushed k e ∷ r) (with_branch_pushed k es path s b)
-    ])
+with_branch_pushed k (e ∷ es) path s b = grind (arith, common_steps, map_twice, with_branch_pushed k es path s b)
 
 pub with_branch_other : (j k : ℕ) (rows : List Entry) (path : List ℕ) (s : Standing) (b : List Entry) → (j ≡ k → ⊥) → with_branch (map (pushed j) rows) (k ∷ path) s b ≡ map (pushed j) rows
 with_branch_other j k [] path s b h = refl
@@ -75,13 +61,7 @@ with_branch_later j k (x ∷ xs) path s b h =
 pub with_branch_joined : (j i k : ℕ) (parts : List (List Entry)) (path : List ℕ) (s : Standing) (b : List Entry) → k ≡ j + i → i < length parts
     → with_branch (joined j parts) (k ∷ path) s b ≡ joined j (set parts i (with_branch (get_or parts i []) path s b))
 with_branch_joined j i k [] path s b e h = absurd (omega arith)
-with_branch_joined j zero k (x ∷ xs) path s b e h =
-    let at : k ≡ j = omega arith in
-    let P : ℕ → Type 0 = λ n. with_branch (map (pushed j) x ++ joined (suc j) xs) (n ∷ path) s b ≡ map (pushed j) (with_branch x path s b) ++ joined (suc j) xs in
-    subst P (sym at)
-    (with_branch_append (map (pushed j) x) (joined (suc j) xs) (j ∷ path) s b
-    ∙ ap (λ r. r ++ with_branch (joined (suc j) xs) (j ∷ path) s b) (with_branch_pushed j x path s b)
-    ∙ ap (λ r. map (pushed j) (with_branch x path s b) ++ r) (with_branch_later (suc j) j xs path s b (omega arith)))
+with_branch_joined j zero k (x ∷ xs) path s b e h = grind (arith, common_steps, with_branch_append (map (pushed j) x) (joined (suc j) xs) (j ∷ path) s b, with_branch_pushed j x path s b, with_branch_later)
 with_branch_joined j (suc i) k (x ∷ xs) path s b e h =
     with_branch_append (map (pushed j) x) (joined (suc j) xs) (k ∷ path) s b
     ∙ ap (λ r. r ++ with_branch (joined (suc j) xs) (k ∷ path) s b) (with_branch_other j k x path s b (λ t. omega arith))
@@ -96,9 +76,7 @@ pub step_open : (rows : List Entry) (parts : List (List Entry)) (path rest : Lis
     → part ≡ get_or parts i part → IsTrue (open_at rows path) → IsTrue (open_at part rest)
 step_open rows parts path rest i part v p is h =
     let lt : i < length parts = step_in rows parts path rest i v p h in
-    let P : Option Cell → Type 0 = λ x. IsTrue (is_open_cell x) in
-    subst P (sym (ap (λ r. find r path) v) ∙ ap (λ q. find (joined 0 parts) q) p ∙ find_joined 0 i i parts rest (omega arith)
-    ∙ ap (λ x. find x rest) (sym (is ∙ get_or_default parts i part [] lt))) h
+    grind (arith, common_steps, get_or_default parts i part [] lt, find_joined)
 
 pub never_here : (parts : List (List Entry)) (j : ℕ) → find (joined j parts) [] ≡ None
 never_here [] j = refl
@@ -114,26 +92,20 @@ node_here e s b h = rw h (ap (λ r. record { path = []; cell = in_standing s e.c
 
 -- no new row stands at the empty path
 pub none_here : (rows : List Entry) (parts : List (List Entry)) (path : List ℕ) → joined 0 parts ≡ rows → length path ≡ 0 → IsTrue (open_at rows path) → ⊥
-none_here rows parts path v p h =
-    let P : Option Cell → Type 0 = λ x. IsTrue (is_open_cell x) in
-    let bad : IsTrue false = subst P (sym (ap (λ r. find r path) v) ∙ ap (λ q. find (joined 0 parts) q) (nil_from_length path p) ∙ never_here parts 0) h in
-    absurd cc
+none_here rows parts path v p h = grind (arith, common_steps, never_here)
 
 -- a node whose path is empty
 pub at_node : (rows below : List Entry) (c : Cell) (path : List ℕ) → record { path = []; cell = c } ∷ below ≡ rows → length path ≡ 0
     → IsTrue (open_at rows path)
     → has_ended c.standing.state ≡ false
-at_node rows below c path v p h =
-    let P : Option Cell → Type 0 = λ x. IsTrue (is_open_cell x) in
-    not-true _ (subst P (sym (ap (λ r. find r path) v) ∙ ap (find (record { path = []; cell = c } ∷ below)) (nil_from_length path p)) h)
+at_node rows below c path v p h = grind arith
 
 -- a node whose own row changes
 pub node_ends : (rows below : List Entry) (c : Cell) (path : List ℕ) (s : Standing) (b : List Entry) → record { path = []; cell = c } ∷ below ≡ rows → length path ≡ 0
     → (has_ended c.standing.state ≡ false → below ≡ []) → IsTrue (open_at rows path) → record { path = []; cell = in_standing s c } ∷ b ≡ with_branch rows path s b
 node_ends rows below c path s b v p none h =
     let own : Entry = record { path = []; cell = c } in
-    sym (node_here own s b refl) ∙ ap (λ r. with_branch (own ∷ r) [] s b) (sym (none (at_node rows below c path v p h)))
-    ∙ ap (λ q. with_branch (own ∷ below) q s b) (sym (nil_from_length path p)) ∙ ap (λ r. with_branch r path s b) v
+    grind (arith, common_steps, node_here own s b refl, at_node rows below c path v p h, nil_from_length path p)
 
 pub length_part : (j i : ℕ) (parts : List (List Entry)) → length (get_or parts i []) ≤ length (joined j parts)
 length_part j i [] = omega arith
@@ -146,10 +118,4 @@ pub step_few : (rows : List Entry) (parts : List (List Entry)) (path rest : List
     → part ≡ get_or parts i part → MayEnd rows path s b count → MayEnd part rest s b count
 step_few rows parts path rest i part b s count v p is h =
     let lt : i < length parts = step_in rows parts path rest i v p h.there in
-    record {
-      there = step_open rows parts path rest i part v p is h.there;
-      ended = h.ended;
-      fresh = h.fresh;
-      opens = h.opens;
-      few = omega (arith, ap length v, h.few, ap length (is ∙ get_or_default parts i part [] lt), length_part 0 i parts);
-    }
+    grind (arith, common_steps, get_or_default parts i part [] lt, length_part 0 i parts, step_open)

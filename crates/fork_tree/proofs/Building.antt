@@ -1,37 +1,26 @@
 -- Rows that stand where they are given, some of them not yet in their state.
-use Rattle.fork_tree.proofs.Common.{◌≡◌, ℕ, zero, suc, ◌≤◌, ◌⊎◌, inl, inr, Bool, true, false, List, [], ◌∷◌, ◌++◌, length, map, take, drop, Option, Some, IsTrue, slice_get, refl, ap, sym, subst, ◌∙◌, arith, if◌then◌else◌, Row, is_row}
-use Rattle.fork_tree.proofs.Common.{is_idle, is_open, with_state, RowRef, State, plain_state, differs, new_rows_with, new_rows_from, waiting_row}
+use Rattle.fork_tree.proofs.Common.{◌≡◌, ℕ, zero, suc, ◌≤◌, ◌⊎◌, inl, inr, Bool, true, false, List, [], ◌∷◌, ◌++◌, length, map, take, drop, Option, Some, IsTrue, slice_get, refl, ap, sym, subst, ◌∙◌, arith, if◌then◌else◌, Row, is_row, is_idle}
+use Rattle.fork_tree.proofs.Common.{is_open, with_state, RowRef, State, plain_state, differs, new_rows_with, new_rows_from, waiting_row, given_row, IsHalf, AllHalf, q_of, common_steps}
 use Rattle.fork_model.specs.Table as spec
-use Rattle.fork_tree.specs.Given.{given_row}
-use Rattle.fork_tree.specs.inner.Given.{waiting, IsHalf, IsHalfRow, AllHalf, q_of}
+use Rattle.fork_tree.specs.inner.Given.{IsHalfRow}
 
 -- ---- a row comes into its state
-
-row_same : (r s : Row) (x : spec.State) → waiting r ≡ waiting s → record r { state = x } ≡ record s { state = x }
-row_same r s x h = ap (λ (y : Row). record y { state = x }) h
 
 pub half_with : (rows : List Row) (gs : List RowRef) (n : ℕ) (g : RowRef) → AllHalf rows gs → slice_get gs n ≡ Some g → AllHalf (with_state rows n (plain_state g.state)) gs
 half_with [] gs n g h is = tt
 half_with (r ∷ rs) [] n g h is = absurd h
-half_with (r ∷ rs) (x ∷ gs) zero g h is =
-    let at : x ≡ g = cc in
-    (record { shape = h.0.shape; half = inr (ap (λ (y : RowRef). plain_state y.state) (sym at)) }, h.1)
+half_with (r ∷ rs) (x ∷ gs) zero g h is = grind arith
 half_with (r ∷ rs) (x ∷ gs) (suc n) g h is = (h.0, half_with rs gs n g h.1 is)
 
 pub given_next : (rows : List Row) (gs : List RowRef) (n : ℕ) (g : RowRef) → AllHalf rows gs → slice_get gs n ≡ Some g
     → take n rows ≡ take n (map given_row gs) → take (suc n) (with_state rows n (plain_state g.state)) ≡ take (suc n) (map given_row gs) ⊎ (length rows ≤ n)
 given_next [] gs n g h is e = inr (omega arith)
 given_next (r ∷ rs) [] n g h is e = absurd h
-given_next (r ∷ rs) (x ∷ gs) zero g h is e =
-    let at : x ≡ g = cc in
-    inl (ap (λ y. y ∷ []) (ap (λ (y : RowRef). record r { state = plain_state y.state }) (sym at) ∙ row_same r (given_row x) (plain_state x.state) h.0.shape))
+given_next (r ∷ rs) (x ∷ gs) zero g h is e = grind arith
 given_next (r ∷ rs) (x ∷ gs) (suc n) g h is e =
     let head : r ≡ given_row x = cc in
     let tail : take n rs ≡ take n (map given_row gs) = cc in
-    elim (given_next rs gs n g h.1 is tail) [
-      | inl f ↦ inl (ap (λ y. y ∷ take (suc n) (with_state rs n (plain_state g.state))) head ∙ ap (λ z. given_row x ∷ z) f)
-      | inr f ↦ inr (omega (arith, f))
-    ]
+    grind (arith, common_steps, given_next rs gs n g h.1 is tail)
 
 -- ---- more rows come
 
@@ -83,12 +72,5 @@ state_twice (r ∷ rs) (suc n) s t = ap (λ x. r ∷ x) (state_twice rs n s t)
 -- a row that does not wait any more is in its state
 pub stays : (rows : List Row) (n : ℕ) (s : State) → IsHalf (slice_get rows n) s → is_row is_idle (slice_get rows n) ≡ false → rows ≡ with_state rows n (plain_state s)
 stays [] n s h f = absurd h
-stays (r ∷ rs) zero s h f =
-    elim h [
-      | inl e ↦ absurd (true_false (sym (ap is_idle e) ∙ f))
-      | inr e ↦ ap (λ (x : spec.State). record r { state = x } ∷ rs) e
-    ]
-  where
-    true_false : true ≡ false → ⊥
-    true_false e = cc
+stays (r ∷ rs) zero s h f = grind arith
 stays (r ∷ rs) (suc n) s h f = ap (λ x. r ∷ x) (stays rs n s h f)

@@ -1,6 +1,6 @@
 -- A row lies below another one where its path goes on from the other's.
-use Rattle.fork_tree.proofs.Common.{◌≡◌, ℕ, zero, suc, ◌+◌, ◌*◌, ◌<◌, ◌≤◌, ◌||◌, Bool, true, false, List, [], ◌∷◌, ◌++◌, length, Option, Some, None, slice_get, refl, ap, sym, ◌∙◌, arith, append_assoc, length-append, eqb, eq-eqb, eqb-true}
-use Rattle.fork_tree.proofs.Common.{append-nil, Place, Cell, Entry, find, above, path_at, path_to, path_of, row_at, rows_from, rows_of, IsPlaced, AreOlder, parent_of, from_parent, leads, lies_below, there_at, nil_from_length}
+use Rattle.fork_tree.proofs.Common.{◌≡◌, ℕ, zero, suc, ◌+◌, ◌*◌, ◌<◌, ◌≤◌, ◌||◌, true, false, List, [], ◌∷◌, ◌++◌, length, Option, Some, None, slice_get, refl, ap, sym, ◌∙◌, arith, append_assoc, length-append, eqb, eq-eqb, eqb-true, append-nil}
+use Rattle.fork_tree.proofs.Common.{Place, Entry, above, path_at, path_to, path_of, rows_from, rows_of, IsPlaced, AreOlder, parent_of, from_parent, leads, lies_below, there_at, nil_from_length, common_steps}
 use Rattle.fork_tree.proofs.Traces.{path_below, path_top}
 use Rattle.fork_tree.proofs.Placed.{paths_differ}
 
@@ -15,21 +15,12 @@ up_of all k = place_parent (slice_get all k)
 
 parent_same : (all : List Place) (root : List Entry) (k : ℕ) (ps : List Place) (i : ℕ) → parent_of (slice_get (rows_from all root k ps) i) ≡ place_parent (slice_get ps i)
 parent_same all root k [] i = refl
-parent_same all root k (x ∷ ps) zero = go (find root (path_of all k))
-  where
-    go : (o : Option Cell) → (row_at x o).parent ≡ x.parent
-    go None = refl
-    go (Some c) = refl
+parent_same all root k (x ∷ ps) zero = grind arith
 parent_same all root k (x ∷ ps) (suc i) = parent_same all root (suc k) ps i
 
 leads_same : (f g : ℕ → Option ℕ) (n steps m : ℕ) → ((k : ℕ) → f k ≡ g k) → leads f n steps m ≡ leads g n steps m
 leads_same f g n zero m h = refl
-leads_same f g n (suc steps) m h =
-    ap (λ o. eqb m n || from_parent o (leads f n steps)) (h m) ∙ ap (λ (b : Bool). eqb m n || b) (go (g m) (λ u. leads_same f g n steps u h))
-  where
-    go : (o : Option ℕ) → ((u : ℕ) → leads f n steps u ≡ leads g n steps u) → from_parent o (leads f n steps) ≡ from_parent o (leads g n steps)
-    go None again = refl
-    go (Some u) again = again u
+leads_same f g n (suc steps) m h = grind arith
 
 pub lies_same : (all : List Place) (root : List Entry) (n m : ℕ) → lies_below (rows_of all root) n m ≡ leads (up_of all) n m m
 lies_same all root n m = leads_same (λ k. parent_of (slice_get (rows_of all root) k)) (up_of all) n m m (parent_same all root 0 all)
@@ -79,8 +70,7 @@ even_to all (suc steps) n = at (λ m. even_to all steps m) (slice_get all n)
     at again (Some p) = up again p p.parent
 
 pub long : (all : List Place) (n : ℕ) (p : Place) → slice_get all n ≡ Some p → 2 ≤ length (path_of all n)
-long all n p is =
-    omega (arith, ap (λ o. length (path_at o (path_to all n))) is, length-append (above p.parent (path_to all n)) (p.group ∷ p.place ∷ []))
+long all n p is = grind (arith, common_steps)
 
 pub shorter : (a b c d : List ℕ) → a ++ b ≡ c ++ d → length c ≤ length a → (q : List ℕ) × (a ≡ c ++ q)
 shorter a b [] d e h = (a, refl)

@@ -1,6 +1,6 @@
 -- Parts closed one after another are the whole closed.
-use Rattle.fork_tree.proofs.Common.{◌-◌, Option, Some, None, inl, inr, false, ◌≡◌, ℕ, zero, suc, ◌+◌, ◌<◌, ◌≤◌, List, [], ◌∷◌, ◌++◌, length, map, refl, ap, sym, subst, ◌∙◌, arith, get_or, set, map-append, Kept, State, Idle, has_ended}
-use Rattle.fork_tree.proofs.Common.{closed_state, Standing, Summary, HasKept, IsKept, open_state, open_of, IsNode, Entry, node_rows, pushed, joined, closed_standing, closed_entry, closed_to, get_or_default}
+use Rattle.fork_tree.proofs.Common.{◌-◌, Option, inl, inr, false, ◌≡◌, ℕ, zero, suc, ◌+◌, ◌<◌, ◌≤◌, List, [], ◌∷◌, ◌++◌, length, map, refl, ap, sym, ◌∙◌, arith, get_or, set, map-append, Kept, State, has_ended, closed_state, Standing, Summary}
+use Rattle.fork_tree.proofs.Common.{HasKept, IsKept, open_state, open_of, IsNode, Entry, pushed, joined, closed_standing, closed_entry, closed_to, get_or_default, common_steps}
 use Rattle.fork_tree.proofs.Summaries.{opens_joined}
 use Rattle.fork_tree.proofs.BranchChanges.{length_part}
 
@@ -35,20 +35,13 @@ closed_all j (suc i) (p ∷ ps) h =
     ∙ sym (map-append closed_entry (map (pushed j) p) (joined (suc j) ps))
 
 pub close_part : (rows : List Entry) (parts items : List (List Entry)) (i : ℕ) (part : List Entry) → joined 0 parts ≡ rows → items ≡ closed_to i parts → part ≡ get_or items i part → i < length items → length part ≤ length rows
-close_part rows parts items i part v e is lt =
-    let same : part ≡ get_or parts i part = is ∙ ap (λ x. get_or x i part) e ∙ closed_to_at i parts part in
-    let below : i < length parts = omega (arith, lt, ap length e, length_closed_to i parts) in
-    omega (arith, ap length v, ap length (same ∙ get_or_default parts i part [] below), length_part 0 i parts)
+close_part rows parts items i part v e is lt = grind (arith, common_steps, closed_to_at i parts part, length_closed_to i parts, length_part 0 i parts, get_or_default)
 
 pub close_more : (parts items : List (List Entry)) (i : ℕ) (part new : List Entry) → items ≡ closed_to i parts → part ≡ get_or items i part → i < length items → new ≡ map closed_entry part → set items i new ≡ closed_to (i + 1) parts
-close_more parts items i part new e is lt n =
-    let same : part ≡ get_or parts i part = is ∙ ap (λ x. get_or x i part) e ∙ closed_to_at i parts part in
-    ap (λ x. set items i x) (n ∙ ap (map closed_entry) same) ∙ ap (λ x. set x i (map closed_entry (get_or parts i part))) e
-    ∙ closed_to_more i parts part (omega (arith, ap length e, length_closed_to i parts))
+close_more parts items i part new e is lt n = grind (arith, closed_to_at, closed_to_more, length_closed_to)
 
 pub close_done : (rows : List Entry) (parts items : List (List Entry)) (i : ℕ) → joined 0 parts ≡ rows → items ≡ closed_to i parts → length items ≤ i → joined 0 items ≡ map closed_entry rows
-close_done rows parts items i v e h =
-    ap (joined 0) e ∙ closed_all 0 i parts (omega (arith, ap length e, length_closed_to i parts)) ∙ ap (map closed_entry) v
+close_done rows parts items i v e h = grind (arith, closed_all, length_closed_to)
 
 -- ---- what is kept, and what has not ended
 
@@ -61,38 +54,21 @@ closed_has [] o h = h
 closed_has (e ∷ es) o h = elim h [ inl k ↦ inl k | inr t ↦ inr (closed_has es o t) ]
 
 pub kept_closed : (rows : List Entry) (kept : Option Kept) → IsKept rows kept → IsKept (map closed_entry rows) kept
-kept_closed rows None h = λ o u. h o (has_closed rows o u)
-kept_closed rows (Some k) h = record { stored = closed_has rows k h.stored; first = λ o u. h.first o (has_closed rows o u) }
+kept_closed rows kept h = grind (arith, has_closed, closed_has)
 
 pub closed_open : (s : State) → open_state (closed_state s) ≤ open_state s
-closed_open Idle = omega arith
-closed_open s = omega arith
+closed_open s = grind arith
 
 pub closed_waits : (s : State) → has_ended (closed_state s) ≡ false → has_ended s ≡ false
-closed_waits Idle h = refl
-closed_waits s h = h
+closed_waits s h = grind arith
 
 -- one more part is closed
 pub count_more : (parts items : List (List Entry)) (i : ℕ) (part new : List Entry) (before more : ℕ) → part ≡ get_or items i part → i < length items
     → open_of (joined 0 items) + before ≡ open_of (joined 0 parts) → open_of new + more ≡ open_of part → open_of (joined 0 (set items i new)) + (before + more) ≡ open_of (joined 0 parts)
-count_more parts items i part new before more is lt was now =
-    omega (arith, was, now, ap open_of (is ∙ get_or_default items i part [] lt), opens_joined 0 i items new lt)
+count_more parts items i part new before more is lt was now = grind (arith, common_steps, opens_joined)
 
 -- a node closed
 pub node_closed : (n q : ℕ) (s new : Standing) (below rest : List Entry) (t : Summary) (before now more : ℕ) → IsNode n q s below t → new ≡ closed_standing s → rest ≡ map closed_entry below
     → before ≡ open_state s.state → now ≡ open_state new.state → open_of rest + more ≡ open_of below
     → IsNode n q new rest (record { kept = t.kept; open_count = t.open_count - (before - now + more) })
-node_closed n q s new below rest t before now more was e f was_open is_open count =
-    let less : open_state new.state ≤ open_state s.state = subst (λ (x : Standing). open_state x.state ≤ open_state s.state) (sym e) (closed_open s.state) in
-    let P : Standing → List Entry → Type 0 = λ x y. IsKept (node_rows n q x y) t.kept in
-    record {
-      tried = λ h. f ∙ ap (map closed_entry) (was.tried (waits h));
-      silent = λ h. ap (λ (x : Standing). x.answer) e ∙ was.silent (waits h);
-      summary = record {
-        kept = subst (λ y. P new y) (sym f) (subst (λ x. P x (map closed_entry below)) (sym e) (kept_closed (node_rows n q s below) t.kept was.summary.kept));
-        open_count = omega (arith, was.summary.open_count, was_open, is_open, count, less);
-      };
-    }
-  where
-    waits : has_ended new.state ≡ false → has_ended s.state ≡ false
-    waits h = closed_waits s.state (sym (ap (λ (x : Standing). has_ended x.state) e) ∙ h)
+node_closed n q s new below rest t before now more was e f was_open is_open count = grind (arith, common_steps, closed_open, kept_closed, closed_waits)

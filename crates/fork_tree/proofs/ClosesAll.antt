@@ -1,6 +1,6 @@
 -- Closing the tree closes each row.
-use Rattle.fork_tree.proofs.Common.{◌≡◌, ℕ, suc, List, [], ◌∷◌, map, Option, Some, None, refl, ap, sym, ◌∙◌, Rules, Place, State, Idle, plain_state, closed_state, Cell, Entry, find, in_standing, path_of, arith}
-use Rattle.fork_tree.proofs.Common.{row_at, rows_from, rows_of, number_of, IsPlaced, never_tried, closed_row, closed_standing, closed_entry, AreListed, AreRanked, kept_of}
+use Rattle.fork_tree.proofs.Common.{◌≡◌, ℕ, suc, List, [], ◌∷◌, map, Option, Some, None, refl, ap, sym, ◌∙◌, Rules, Place, State, closed_state, Cell, Entry, find, in_standing, path_of, arith, rows_from, rows_of, number_of, IsPlaced, closed_row}
+use Rattle.fork_tree.proofs.Common.{closed_standing, closed_entry, AreListed, AreRanked, kept_of, common_steps, rules}
 
 abbrev pub closed_cell : Option Cell → Option Cell
 closed_cell None = None
@@ -16,32 +16,19 @@ number_closed c = grind arith
 pub closed_placed : (all : List Place) (root : List Entry) → IsPlaced all root → IsPlaced all (map closed_entry root)
 closed_placed all root h n lt = ap number_of (find_closed root (path_of all n)) ∙ number_closed (find root (path_of all n)) ∙ h n lt
 
-closed_plain : (s : State) → plain_state (closed_state s) ≡ never_tried (plain_state s)
-closed_plain Idle = refl
-closed_plain s = refl
-
-row_closed : (p : Place) (c : Option Cell) → row_at p (closed_cell c) ≡ closed_row (row_at p c)
-row_closed p None = refl
-row_closed p (Some c) = ap (λ s. record { key = []; q = c.q; place = 0; parent = p.parent; group = p.group; state = s }) (closed_plain c.standing.state)
-
 pub rows_closed : (all : List Place) (root : List Entry) (k : ℕ) (ps : List Place) → rows_from all (map closed_entry root) k ps ≡ map closed_row (rows_from all root k ps)
 rows_closed all root k [] = refl
-rows_closed all root k (p ∷ ps) =
-    ap (λ c. row_at p c ∷ rows_from all (map closed_entry root) (suc k) ps) (find_closed root (path_of all k))
-    ∙ ap (λ r. r ∷ rows_from all (map closed_entry root) (suc k) ps) (row_closed p (find root (path_of all k)))
-    ∙ ap (λ r. closed_row (row_at p (find root (path_of all k))) ∷ r) (rows_closed all root (suc k) ps)
+rows_closed all root k (p ∷ ps) = grind (arith, find_closed, rows_closed all root (suc k) ps)
 
 pub whole_closed : (all : List Place) (root : List Entry) → rows_of all (map closed_entry root) ≡ map closed_row (rows_of all root)
 whole_closed all root = rows_closed all root 0 all
 
 pub closed_listed : (all : List Place) (root es : List Entry) → AreListed all root es → AreListed all (map closed_entry root) (map closed_entry es)
 closed_listed all root [] l = l
-closed_listed all root (e ∷ es) l =
-    (record { known = l.0.known; path = l.0.path; found = find_closed root (path_of all e.cell.number) ∙ ap closed_cell l.0.found }, closed_listed all root es l.1)
+closed_listed all root (e ∷ es) l = grind (arith, common_steps, closed_listed all root es l.1, find_closed)
 
 kept_closed_state : (rules : Rules) (n : ℕ) (s : State) → kept_of rules n (closed_state s) ≡ kept_of rules n s
-kept_closed_state rules n Idle = refl
-kept_closed_state rules n s = refl
+kept_closed_state rules n s = grind arith
 
 pub closed_ranked : (rules : Rules) (es : List Entry) → AreRanked rules es → AreRanked rules (map closed_entry es)
 closed_ranked rules [] r = r

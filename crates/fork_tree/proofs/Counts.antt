@@ -1,6 +1,6 @@
 -- The branches that have not ended are as many by number as in the tree.
-use Rattle.fork_tree.proofs.Common.{◌≡◌, ℕ, zero, suc, ◌+◌, ◌<◌, ◌≤◌, Bool, true, false, not, List, [], ◌∷◌, length, Option, Some, None, refl, ap, sym, ◌∙◌, arith, if◌then◌else◌, eqb, eq-eqb, Row, is_ended, Place, has_ended}
-use Rattle.fork_tree.proofs.Common.{Rules, Tree, plain_state, Cell, Entry, same, find, open_of, path_of, number_of, IsPlaced, row_at, rows_from, rows_of, open_rows, ne_eqb}
+use Rattle.fork_tree.proofs.Common.{◌≡◌, ℕ, zero, suc, ◌+◌, ◌<◌, ◌≤◌, Bool, true, false, not, List, [], ◌∷◌, length, Option, Some, None, refl, ap, sym, ◌∙◌, arith, if◌then◌else◌, eqb, eq-eqb, Row, is_ended, Place, has_ended, Rules, Tree, plain_state}
+use Rattle.fork_tree.proofs.Common.{Cell, Entry, same, find, open_of, path_of, number_of, IsPlaced, row_at, rows_from, rows_of, open_rows, ne_eqb, common_steps}
 use Rattle.fork_model.specs.Table as spec
 use Rattle.fork_tree.proofs.Placed.{ended_plain}
 
@@ -125,7 +125,4 @@ passing_agree t r all root agree placed sized =
     )
 
 pub counts_agree : (all : List Place) (root : List Entry) → IsPlaced all root → length root ≡ length all → open_of root ≡ open_rows (rows_of all root)
-counts_agree all root placed sized =
-    opens_are root
-    ∙ passing_agree (λ c. not (has_ended c.standing.state)) (λ i s. not (is_ended s)) all root (λ c. ap not (ended_plain c.standing.state)) placed sized
-    ∙ sym (open_rows_are 0 (rows_of all root))
+counts_agree all root placed sized = grind (arith, common_steps, opens_are root, open_rows_are 0 (rows_of all root), passing_agree, ended_plain)

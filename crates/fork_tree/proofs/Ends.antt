@@ -1,9 +1,8 @@
 -- A row ends, and new rows come below it.
 use Rattle.fork_tree.proofs.Common.{◌-◌, ltb-true, ltb-false, ◌≡◌, ℕ, zero, suc, ◌+◌, ◌<◌, ◌≤◌, Bool, true, false, IsTrue, List, [], ◌∷◌, ◌++◌, length, map, Option, Some, None, slice_get, refl, ap, sym, subst, ◌∙◌, arith, length-append}
-use Rattle.fork_tree.proofs.Common.{if◌then◌else◌, nat_lt, eq-eqb, Row, Rules, is_row, is_open, most_targets, with_state, Standing, Summary, NewRow, Place, plain_state, Cell, Entry, same, find, led, in_standing, changed, with_branch}
-use Rattle.fork_tree.proofs.Common.{Better, above, path_at, path_to, path_of, row_at, rows_from, rows_of, number_of, IsPlaced, AreOlder, waiting_row, new_entries, place_in, AreListed, AreRanked, IsTree, kept_of, is_unended, there_at}
-use Rattle.fork_tree.proofs.Common.{get_map, get_left, get_right, length-map, Changes, slice_get_within}
-use Rattle.fork_model.specs.Table as spec
+use Rattle.fork_tree.proofs.Common.{if◌then◌else◌, nat_lt, eq-eqb, Row, Rules, is_row, is_open, most_targets, with_state, Standing, Summary, NewRow, Place, plain_state, Cell, Entry, same, find, led, in_standing, changed, with_branch, Better, above}
+use Rattle.fork_tree.proofs.Common.{path_at, path_to, path_of, row_at, rows_from, rows_of, number_of, IsPlaced, AreOlder, waiting_row, new_entries, place_in, AreListed, AreRanked, IsTree, kept_of, is_unended, there_at, get_map, get_left, get_right}
+use Rattle.fork_tree.proofs.Common.{length-map, Changes, slice_get_within, common_steps, rules}
 use Rattle.fork_tree.specs.Listed.{IsAt}
 use Rattle.fork_tree.proofs.Traces.{path_below}
 use Rattle.fork_tree.proofs.Summaries.{summary_gained}
@@ -33,8 +32,7 @@ path_kept all more (suc steps) n old h =
 
 new_parent : (n : ℕ) (new_rows : List NewRow) (i : ℕ) (p : Place) (up : ℕ) → slice_get (map (place_in (Some n)) new_rows) i ≡ Some p → p.parent ≡ Some up → up ≡ n
 new_parent n [] i p up h e = absurd cc
-new_parent n (s ∷ new_rows) zero p up h e =
-    let at : place_in (Some n) s ≡ p = cc in let same_up : Some n ≡ Some up = ap (λ (x : Place). x.parent) at ∙ e in cc
+new_parent n (s ∷ new_rows) zero p up h e = grind arith
 new_parent n (s ∷ new_rows) (suc i) p up h e = new_parent n new_rows i p up h e
 
 pub older_grown : (all : List Place) (n : ℕ) (new_rows : List NewRow) → AreOlder all → n < length all → AreOlder (grown all n new_rows)
@@ -62,8 +60,7 @@ same_led (x ∷ xs) a b = rw (eq-eqb x x refl) (same_led xs a b)
 
 pub find_led : (p : List ℕ) (rows : List Entry) (q : List ℕ) → find (map (led p) rows) (p ++ q) ≡ find rows q
 find_led p [] q = refl
-find_led p (e ∷ es) q =
-    ap (λ t. if t then Some e.cell else find (map (led p) es) (p ++ q)) (same_led p e.path q) ∙ ap (λ r. if same e.path q then Some e.cell else r) (find_led p es q)
+find_led p (e ∷ es) q = grind (arith, same_led, find_led p es q)
 
 find_first : (xs ys : List Entry) (q : List ℕ) (c : Cell) → find xs q ≡ Some c → find (xs ++ ys) q ≡ Some c
 find_first [] ys q c h = absurd cc
@@ -240,17 +237,7 @@ ranked_led rules p (x ∷ xs) h = (h.0, ranked_led rules p xs h.1)
 pub ranked_grown : (rules : Rules) (all : List Place) (root es : List Entry) (n : ℕ) (st : Standing) (b : List Entry) → IsPlaced all root → n < length all → AreListed all root es → AreRanked rules es
     → AreRanked rules b → st.answer ≡ kept_of rules n st.state → AreRanked rules (with_branch es (path_of all n) st b)
 ranked_grown rules all root [] n st b placed lt l r rb a = tt
-ranked_grown rules all root (e ∷ es) n st b placed lt l r rb a =
-    elim (same e.path (path_of all n)) as (λ t. same e.path (path_of all n) ≡ t → AreRanked rules ((if t then changed e st b else e ∷ []) ++ with_branch es (path_of all n) st b)) [
-      | true ↦ (λ k. ranked_append rules (changed e st b) (with_branch es (path_of all n) st b)
-          (a ∙ ap (λ x. kept_of rules x st.state) (number k), ranked_led rules e.path b rb) (ranked_grown rules all root es n st b placed lt l.1 r.1 rb a))
-      | false ↦ (λ k. (r.0, ranked_grown rules all root es n st b placed lt l.1 r.1 rb a))
-    ] refl
-  where
-    number : same e.path (path_of all n) ≡ true → n ≡ e.cell.number
-    number k =
-        let at : path_of all e.cell.number ≡ path_of all n = sym l.0.path ∙ same_true e.path (path_of all n) k in
-        let both : Some n ≡ Some e.cell.number = sym (placed n lt) ∙ ap (λ p. number_of (find root p)) (sym at) ∙ ap number_of l.0.found in cc
+ranked_grown rules all root (e ∷ es) n st b placed lt l r rb a = grind (arith, common_steps, ranked_append rules (changed e st b) (with_branch es (path_of all n) st b), ranked_grown rules all root es n st b placed lt l.1 r.1 rb a, changed, ranked_led, same_true)
 
 ending : (rules : Rules) (all : List Place) (root new b : List Entry) (t : Summary) (n : ℕ) (st : Standing) (new_rows : List NewRow) (count : ℕ)
     → IsTree rules all root t → n < length all
@@ -262,27 +249,13 @@ pub tree_ended : (rules : Rules) (all : List Place) (root new : List Entry) (t r
     → n < length all → AreRising new_rows → st.answer ≡ kept_of rules n st.state → first ≡ length all → first + length new_rows ≤ most_targets
     → Changes root new (path_of all n) st (new_entries first new_rows) count → Better t.kept st.answer r.kept → r.open_count + 1 ≡ t.open_count + count
     → IsTree rules (grown all n new_rows) new r
-tree_ended rules all root new t r n st new_rows first count was lt rise a at few h better open_count =
-    let is = ending rules all root new (new_entries first new_rows) t n st new_rows count was lt rise h in
-    let new_is : new ≡ ended_root all root n st new_rows = h.branch ∙ ap (λ x. with_branch root (path_of all n) st (new_entries x new_rows)) at in
-    record {
-      older = older_grown all n new_rows was.older lt;
-      placed = subst (IsPlaced (grown all n new_rows)) (sym new_is) (placed_grown all root n st new_rows is);
-      listed = let P : List Entry → Type 0 = λ x. AreListed (grown all n new_rows) x x in subst P (sym new_is) (listed_grown all root root n st new_rows is was.listed);
-      ranked = subst (AreRanked rules) (sym new_is) (ranked_grown rules all root root n st (new_entries (length all) new_rows) was.placed lt was.listed
-          was.ranked (new_rows_ranked rules (length all) new_rows) a);
-      summary = summary_gained root new t r st.answer count was.summary h.gained better h.counted open_count;
-      sized = omega (arith, h.sized, was.sized, length_new_entries first new_rows, length_grown all n new_rows);
-      few = omega (arith, at, few, length_grown all n new_rows);
-    }
+tree_ended rules all root new t r n st new_rows first count was lt rise a at few h better open_count = grind (arith, common_steps, ending rules all root new (new_entries first new_rows) t n st new_rows count was lt rise h, new_rows_ranked rules (length all) new_rows, length_new_entries first new_rows, length_grown all n new_rows, older_grown, placed_grown, listed_grown, ranked_grown, summary_gained)
 
 -- ---- the rows afterwards
 
 rows_append : (all : List Place) (root : List Entry) (k : ℕ) (xs ys : List Place) → rows_from all root k (xs ++ ys) ≡ rows_from all root k xs ++ rows_from all root (k + length xs) ys
 rows_append all root k [] ys = let at : k ≡ k + 0 = omega arith in ap (λ x. rows_from all root x ys) at
-rows_append all root k (x ∷ xs) ys =
-    let at : suc k + length xs ≡ k + suc (length xs) = omega arith in
-    ap (λ r. row_at x (find root (path_of all k)) ∷ r) (rows_append all root (suc k) xs ys ∙ ap (λ z. rows_from all root (suc k) xs ++ rows_from all root z ys) at)
+rows_append all root k (x ∷ xs) ys = grind (arith, rows_append all root (suc k) xs ys)
 
 rows_old : (all : List Place) (root new : List Entry) (n : ℕ) (new_rows : List NewRow) (k : ℕ) (ps : List Place) → IsEnding all root n new_rows → k + length ps ≤ length all
     → rows_from (grown all n new_rows) new k ps ≡ rows_from all new k ps
@@ -308,9 +281,4 @@ rows_ended rules all root new t n st new_rows first count was lt rise at h =
     (rows_found (grown all n new_rows) end (path_of all n) (Some n) (length all) new_rows (new_found all root n st new_rows is))
 
 pub open_unended : (o : Option Row) → IsTrue (is_row is_open o) → IsTrue (is_row is_unended o)
-open_unended None h = absurd cc
-open_unended (Some r) h = go r.state h
-  where
-    go : (s : spec.State) → IsTrue (is_open s) → IsTrue (is_unended s)
-    go (spec.Ended end) h = absurd cc
-    go s h = refl
+open_unended o h = grind arith

@@ -1,9 +1,9 @@
 -- Rows stand where their places say, and those of one group have numbers in a row.
-use Rattle.fork_tree.proofs.Common.{◌≡◌, ℕ, zero, suc, ◌+◌, ◌<◌, ◌⊎◌, inl, inr, true, false, List, [], ◌∷◌, ◌++◌, map, Option, Some, None, slice_get, refl, ap, sym, subst, ◌∙◌, arith, Row, parent_of, Place, Cell, Entry, find, path_of}
-use Rattle.fork_tree.proofs.Common.{row_at, rows_of, AreOlder, AreTogether, differs, new_rows_with, new_rows_from, new_rows_of, place_in}
+use Rattle.fork_tree.proofs.Common.{◌≡◌, ℕ, zero, suc, ◌+◌, ◌<◌, ◌⊎◌, inl, true, false, List, [], ◌∷◌, ◌++◌, map, Option, Some, None, slice_get, refl, ap, sym, subst, ◌∙◌, arith, Row, parent_of, Place, Cell, Entry, find, path_of, row_at, rows_of}
+use Rattle.fork_tree.proofs.Common.{AreOlder, AreTogether, differs, new_rows_with, new_rows_from, new_rows_of, place_in, common_steps}
 use Rattle.fork_tree.specs.Places.{AllBehind}
 use Rattle.fork_tree.proofs.Lines.{AreOlderRows}
-use Rattle.fork_tree.proofs.Placed.{get_row, row_got, IsRowAt}
+use Rattle.fork_tree.proofs.Placed.{get_row, row_got}
 
 -- ---- rows stand where their places say
 
@@ -20,14 +20,7 @@ pub record IsPlaceOf (all : List Place) (n : ℕ) (row : Row) : Type 0 where
   pub group : row.group ≡ spot.group
 
 pub place_got : (all : List Place) (root : List Entry) (rows : List Row) (n : ℕ) (row : Row) → rows_of all root ≡ rows → slice_get rows n ≡ Some row → IsPlaceOf all n row
-place_got all root rows n row v is =
-    let got : IsRowAt all root 0 n all row = row_got all root 0 n all row (ap (λ r. slice_get r n) v ∙ is) in
-    record {
-      spot = got.0;
-      there = got.1;
-      parent = ap (λ (r : Row). r.parent) got.2 ∙ row_parent got.0 (find root (path_of all (0 + n)));
-      group = ap (λ (r : Row). r.group) got.2 ∙ row_group got.0 (find root (path_of all (0 + n)));
-    }
+place_got all root rows n row v is = grind (arith, row_got)
 
 pub record IsRowOf (rows : List Row) (n : ℕ) (p : Place) : Type 0 where
   pub row : Row
@@ -36,13 +29,7 @@ pub record IsRowOf (rows : List Row) (n : ℕ) (p : Place) : Type 0 where
   pub group : row.group ≡ p.group
 
 pub row_of : (all : List Place) (root : List Entry) (rows : List Row) (n : ℕ) (p : Place) → rows_of all root ≡ rows → slice_get all n ≡ Some p → IsRowOf rows n p
-row_of all root rows n p v is =
-    record {
-      row = row_at p (find root (path_of all (0 + n)));
-      there = ap (λ r. slice_get r n) (sym v) ∙ get_row all root 0 n all p is;
-      parent = row_parent p (find root (path_of all (0 + n)));
-      group = row_group p (find root (path_of all (0 + n)));
-    }
+row_of all root rows n p v is = grind (arith, common_steps, get_row all root 0 n all p is, row_parent p (find root (path_of all (0 + n))), row_group p (find root (path_of all (0 + n))))
 
 -- parents are older
 pub older_rows : (all : List Place) (root : List Entry) (rows : List Row) → AreOlder all → rows_of all root ≡ rows → AreOlderRows rows
@@ -68,14 +55,10 @@ behind_from before [] n p place s is e = absurd cc
 behind_from before (x ∷ ps) zero p place s is e =
     let same : x ≡ p = cc in
     inl (refl, subst (λ (y : Place). y.place ≡ suc place → before ≡ Some (record { parent = y.parent; group = y.group; place = place })) same (s.0 place) e)
-behind_from before (x ∷ ps) (suc n) p place s is e =
-    elim (behind_from (Some x) ps n p place s.1 is e)
-    [ inl h ↦ inr (0, ap (λ (k : ℕ). suc k) h.0, h.1) | inr b ↦ inr (suc b.0, ap (λ (k : ℕ). suc k) b.1, b.2) ]
+behind_from before (x ∷ ps) (suc n) p place s is e = grind (arith, behind_from (Some x) ps n p place s.1 is e)
 
 pub behind : (all : List Place) (n : ℕ) (p : Place) (place : ℕ) → AreTogether all → slice_get all n ≡ Some p → p.place ≡ suc place → Follows all n p place
-behind all n p place s is e =
-    elim (behind_from None all n p place s is e)
-    [ inl h ↦ absurd (none_some (record { parent = p.parent; group = p.group; place = place }) h.1) | inr b ↦ b ]
+behind all n p place s is e = grind (arith, common_steps, behind_from None all n p place s is e, none_some)
 
 -- ---- places of new rows
 

@@ -1,11 +1,11 @@
 -- The groups under one row, by the rows' numbers.
-use Rattle.fork_tree.proofs.Common.{◌≡◌, ℕ, zero, suc, ◌+◌, ◌<◌, ◌≤◌, Bool, true, false, List, [], ◌∷◌, ◌++◌, length, Option, Some, None, slice_get, refl, ap, sym, subst, ◌∙◌, arith, append_assoc, length-append, if◌then◌else◌, eqb}
-use Rattle.fork_tree.proofs.Common.{append-nil, Row, is_ended, Place, has_ended, Cell, Entry, same, find, above, path_of, row_at, rows_of, number_of, IsPlaced, AreOlder, open_state, open_of, AreListed, lies_below, open_below, stripped}
-use Rattle.fork_tree.proofs.Common.{put_under, under, IsKnown, IsShape, eqb-true, slice_get_within, there_at}
-use Rattle.fork_tree.proofs.Traces.{path_below, path_top}
-use Rattle.fork_tree.proofs.Placed.{same_true, paths_differ, get_row, ended_plain}
+use Rattle.fork_tree.proofs.Common.{◌≡◌, ℕ, zero, suc, ◌+◌, ◌<◌, ◌≤◌, Bool, true, false, List, [], ◌∷◌, ◌++◌, length, Option, Some, None, slice_get, refl, ap, sym, subst, ◌∙◌, arith, append_assoc, length-append, if◌then◌else◌, append-nil, Row}
+use Rattle.fork_tree.proofs.Common.{is_ended, Place, has_ended, Cell, Entry, same, find, above, path_of, row_at, rows_of, number_of, IsPlaced, AreOlder, open_of, AreListed, lies_below, open_below, stripped, put_under, under, IsKnown, IsShape}
+use Rattle.fork_tree.proofs.Common.{slice_get_within, there_at, common_steps}
+use Rattle.fork_tree.proofs.Traces.{path_below}
+use Rattle.fork_tree.proofs.Placed.{same_true, get_row, ended_plain}
 use Rattle.fork_tree.proofs.Unders.{stripped_is, find_under, under_twice}
-use Rattle.fork_tree.proofs.Chains.{lies_same, GoesOn, on_leads, IsEven, even_to, long, shorter, unequal}
+use Rattle.fork_tree.proofs.Chains.{lies_same, GoesOn, on_leads, IsEven, even_to, long, shorter}
 use Rattle.fork_tree.proofs.Below.{count_below}
 
 -- ---- the path to the groups under a row, or at the top
@@ -18,29 +18,17 @@ abbrev pub level_of : List Place → List Entry → Option ℕ → List Entry
 level_of all root p = under (path_above all p) root
 
 pub path_split : (all : List Place) (k : ℕ) (s : Place) → AreOlder all → slice_get all k ≡ Some s → path_of all k ≡ path_above all s.parent ++ s.group ∷ s.place ∷ []
-path_split all k s older is = go s.parent refl
-  where
-    go : (o : Option ℕ) → s.parent ≡ o → path_of all k ≡ path_above all o ++ s.group ∷ s.place ∷ []
-    go None e = path_top all k s is e
-    go (Some m) e = path_below all k m s older is e
+path_split all k s older is = grind (arith, path_below)
 
 pub parent_known : (all : List Place) (k : ℕ) (s : Place) → AreOlder all → slice_get all k ≡ Some s → IsKnown (length all) s.parent
-parent_known all k s older is = go s.parent refl
-  where
-    go : (o : Option ℕ) → s.parent ≡ o → IsKnown (length all) o
-    go None e = tt
-    go (Some m) e = omega (arith, older k s m is e, slice_get_within all k s is)
+parent_known all k s older is = grind (arith, slice_get_within)
 
 -- two rows have two paths, and neither has that of the top
 same_above : (all : List Place) (root : List Entry) (a b : Option ℕ) → IsPlaced all root → IsKnown (length all) a → IsKnown (length all) b → path_above all a ≡ path_above all b → a ≡ b
 same_above all root None None placed ka kb e = refl
 same_above all root None (Some m) placed ka kb e = let q = there_at all m kb in absurd (omega (arith, long all m q.0 q.1, ap length e))
 same_above all root (Some u) None placed ka kb e = let q = there_at all u ka in absurd (omega (arith, long all u q.0 q.1, ap length e))
-same_above all root (Some u) (Some m) placed ka kb e =
-    elim (eqb u m) as (λ t. eqb u m ≡ t → Some u ≡ Some m) [
-      | true ↦ (λ y. ap (λ (x : ℕ). Some x) (eqb-true u m y))
-      | false ↦ (λ y. absurd (paths_differ all root u m placed ka kb (λ x. unequal u m x y) e))
-    ] refl
+same_above all root (Some u) (Some m) placed ka kb e = grind arith
 
 both_parts : (a b c d : List ℕ) → a ++ b ≡ c ++ d → length a ≡ length c → (a ≡ c) × (b ≡ d)
 both_parts [] b [] d e l = (refl, e)
@@ -107,23 +95,14 @@ stands_at all root p group place c shape known h = at (there_at all c.number pat
 
 under_fewer : (p : List ℕ) (rows : List Entry) → open_of (under p rows) ≤ open_of rows
 under_fewer p [] = omega arith
-under_fewer p (e ∷ es) = go (stripped p e.path) (under_fewer p es)
-  where
-    go : (o : Option (List ℕ)) → open_of (under p es) ≤ open_of es → open_of (put_under o e (under p es)) ≤ open_state e.cell.standing.state + open_of es
-    go None rest = omega (arith, rest)
-    go (Some q) rest = omega (arith, rest)
+under_fewer p (e ∷ es) = grind (arith, under_fewer p es)
 
 pub none_in_group : (all : List Place) (root : List Entry) (k : ℕ) (s : Place) → IsShape all root → slice_get all k ≡ Some s
     → open_of (under (s.group ∷ []) (level_of all root s.parent)) ≡ 0 → open_below (rows_of all root) k ≡ 0
 none_in_group all root k s shape is none =
     let level = level_of all root s.parent in
     let fewer : open_of (under (s.place ∷ []) (under (s.group ∷ []) level)) ≤ open_of (under (s.group ∷ []) level) = under_fewer (s.place ∷ []) (under (s.group ∷ []) level) in
-    let twice : open_of (under (s.place ∷ []) (under (s.group ∷ []) level)) ≡ open_of (under (path_of all k) root) =
-    ap open_of (under_twice (s.group ∷ []) (s.place ∷ []) level ∙ under_twice (path_above all s.parent) (s.group ∷ s.place ∷ []) root
-    ∙ ap (λ x. under x root) (sym (path_split all k s shape.older is))) in
-    let count : open_of (under (path_of all k) root) ≡ open_below (rows_of all root) k =
-    count_below all root k shape.older shape.placed (slice_get_within all k s is) shape.listed shape.sized in
-    omega (arith, fewer, twice, count, none)
+    grind (arith, common_steps, slice_get_within all k s is, under_twice, path_split, count_below)
 
 -- ---- a group in which something is
 

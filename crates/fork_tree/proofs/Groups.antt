@@ -1,7 +1,6 @@
 -- What the search finds in a group, and in the groups of a level.
-use Rattle.fork_tree.proofs.Common.{◌≡◌, ℕ, suc, ◌+◌, ◌<◌, ◌≤◌, inl, inr, Bool, true, false, IsTrue, List, [], ◌∷◌, length, map, Option, Some, None, refl, ap, sym, subst, ◌∙◌, arith, get_or, ltb, ltb-true, ltb-false, if◌then◌else◌, is_some}
-use Rattle.fork_tree.proofs.Common.{is_idle, Standing, State, Idle, plain_state, has_ended, Cell, Entry, find, node_rows, pushed, joined, number_of, stripped, put_under, under, open_of, IsStarted, waits_in, FindsFirst, FindsHere}
-use Rattle.fork_tree.proofs.Common.{get_or_past, get_or_default}
+use Rattle.fork_tree.proofs.Common.{◌≡◌, ℕ, suc, ◌+◌, ◌<◌, ◌≤◌, inr, Bool, true, false, IsTrue, List, [], ◌∷◌, length, map, Option, Some, None, refl, ap, sym, subst, ◌∙◌, arith, get_or, ltb, ltb-true, ltb-false, is_some, is_idle, Standing, State}
+use Rattle.fork_tree.proofs.Common.{plain_state, has_ended, Cell, Entry, find, node_rows, pushed, joined, number_of, under, open_of, IsStarted, waits_in, FindsFirst, FindsHere, get_or_past, get_or_default, common_steps}
 use Rattle.fork_tree.specs.inner.Search.{IsWaiting, FindsGroup, FindsBelow}
 use Rattle.fork_tree.proofs.BranchChanges.{find_joined}
 use Rattle.fork_tree.proofs.Summaries.{open_append, open_pushed}
@@ -10,8 +9,7 @@ use Rattle.fork_tree.proofs.Unders.{child_in, part_under, under_joined, under_no
 -- ---- one branch
 
 waits_open : (s : State) → is_idle (plain_state s) ≡ true → has_ended s ≡ false
-waits_open Idle e = refl
-waits_open s e = absurd cc
+waits_open s e = grind arith
 
 -- ---- a group
 
@@ -45,15 +43,13 @@ waiting_count j [] all = refl
 waiting_count j (x ∷ xs) all =
     let first : IsWaiting x true = all 0 (omega arith) in
     let rest : open_of (joined (suc j) xs) ≡ length xs = waiting_count (suc j) xs (λ k lt. all (suc k) (omega (arith, lt))) in
-    let one : open_of x ≡ 1 = ap open_of first.1 ∙ ap (λ (b : Bool). (if b then 0 else 1) + 0) (waits_open first.0.standing.state first.2) in
-    omega (arith, open_append (map (pushed j) x) (joined (suc j) xs), open_pushed j x, one, rest)
+    grind (arith, common_steps, open_append (map (pushed j) x) (joined (suc j) xs), open_pushed j x, waits_open)
 
 waits_found : (node : List Entry) → IsWaiting node true → waits_in (find node []) ≡ true
 waits_found node h = ap (λ (r : List Entry). waits_in (find r [])) h.1 ∙ h.2
 
 pub some_node : (rows : List Entry) (nodes : List (List Entry)) → joined 0 nodes ≡ rows → 0 < open_of rows → 0 < length nodes
-some_node rows [] v h = absurd (omega (arith, ap open_of v, h))
-some_node rows (x ∷ xs) v h = omega arith
+some_node rows nodes v h = grind (arith, common_steps)
 
 pub all_waiting : (rows : List Entry) (nodes : List (List Entry)) (node : List Entry) (i first open_count : ℕ) → joined 0 nodes ≡ rows → 0 < open_of rows → open_count ≡ open_of (joined 0 nodes)
     → length nodes ≤ i → AreWaiting nodes i → node ≡ get_or nodes 0 node → number_of (find node []) ≡ Some first → FindsGroup rows (Some (first, open_count))
@@ -83,30 +79,11 @@ AreOver rows i = (j : ℕ) → j < i → open_of (under (j ∷ []) rows) ≡ 0
 
 pub over_more : (rows : List Entry) (groups : List (List Entry)) (i : ℕ) (group : List Entry) (count : ℕ) → joined 0 groups ≡ rows → AreOver rows i → i < length groups
     → group ≡ get_or groups i group → count ≡ open_of group → count ≤ 0 → AreOver rows (i + 1)
-over_more rows groups i group count v over lt is counted none j less = go (ltb j i) refl
-  where
-    go : (t : Bool) → ltb j i ≡ t → open_of (under (j ∷ []) rows) ≡ 0
-    go true e = over j (ltb-true j i e)
-    go false e =
-        let at : i ≡ j = omega (arith, ltb-false j i e, less) in
-        subst (λ (k : ℕ). open_of (under (k ∷ []) rows) ≡ 0) at
-        (ap open_of (sym (part_under rows groups i group v is lt)) ∙ sym counted ∙ omega (arith, none))
+over_more rows groups i group count v over lt is counted none j less = grind (arith, common_steps, part_under rows groups i group v is lt, ltb-true, ltb-false)
 
 pub group_found : (rows : List Entry) (groups : List (List Entry)) (i : ℕ) (group : List Entry) (r : Option (ℕ × ℕ)) → joined 0 groups ≡ rows → AreOver rows i → i < length groups
     → group ≡ get_or groups i group → 0 < open_of group → FindsGroup group r → FindsHere rows r
-group_found rows groups i group r v over lt is some found = here r (record {
-  group = i;
-  earlier = over;
-  goes_on = omega (arith, some, ap open_of same);
-  found = subst (λ (x : List Entry). FindsGroup x r) same found;
-})
-  where
-    same : group ≡ under (i ∷ []) rows
-    same = part_under rows groups i group v is lt
-
-    here : (o : Option (ℕ × ℕ)) → FindsFirst rows o → FindsHere rows o
-    here (Some g) f = f
-    here None f = inl f
+group_found rows groups i group r v over lt is some found = grind (arith, common_steps, part_under rows groups i group v is lt)
 
 pub all_over : (rows : List Entry) (groups : List (List Entry)) (i : ℕ) → joined 0 groups ≡ rows → AreOver rows i → length groups ≤ i → FindsHere rows None
 all_over rows groups i v over past = inr (λ j. go j (ltb j i) refl)
@@ -121,25 +98,8 @@ all_over rows groups i v over past = inr (λ j. go j (ltb j i) refl)
 -- ---- below a branch
 
 down : (e : Entry) (below : List Entry) (r : Option (ℕ × ℕ)) → e.path ≡ [] → FindsFirst below r → FindsFirst (e ∷ below) r
-down e below r top f = record {
-  group = f.group;
-  earlier = λ j lt. ap open_of (same j) ∙ f.earlier j lt;
-  goes_on = omega (arith, f.goes_on, ap open_of (same f.group));
-  found = subst (λ (x : List Entry). FindsGroup x r) (sym (same f.group)) f.found;
-}
-  where
-    same : (j : ℕ) → under (j ∷ []) (e ∷ below) ≡ under (j ∷ []) below
-    same j = ap (λ (p : List ℕ). put_under (stripped (j ∷ []) p) e (under (j ∷ []) below)) top
+down e below r top f = grind (arith, common_steps)
 
 pub found_below : (number q : ℕ) (s : Standing) (below rows : List Entry) (r : Option (ℕ × ℕ)) → (has_ended s.state ≡ false → below ≡ []) → node_rows number q s below ≡ rows
     → FindsHere below r → FindsBelow rows r
-found_below number q s below rows None alone v found =
-    subst (λ (x : List Entry). FindsHere x None) v
-    (elim found [ inl f ↦ inl (down (record { path = []; cell = record { number = number; q = q; standing = s } }) below None refl f) | inr h ↦ inr h ])
-found_below number q s below rows (Some g) alone v found =
-    subst (λ (x : List Entry). FindsBelow x (Some g)) v
-    (down (record { path = []; cell = record { number = number; q = q; standing = s } }) below (Some g) refl found, go (has_ended s.state) refl)
-  where
-    go : (b : Bool) → has_ended s.state ≡ b → has_ended s.state ≡ true
-    go true e = e
-    go false e = absurd (omega (arith, found.goes_on, ap (λ x. open_of (under (found.group ∷ []) x)) (alone e)))
+found_below number q s below rows r alone v found = grind arith

@@ -1,13 +1,12 @@
 -- What is kept of the tree is the best of its rows by number.
-use Rattle.fork_tree.proofs.Common.{◌≡◌, ℕ, ◌+◌, true, false, List, [], ◌∷◌, slice_get, Option, Some, None, refl, ap, sym, subst, ◌∙◌, arith, inl, inr, if◌then◌else◌, option_map, Row, Rules, stored_of, Rank, Score, RanksBefore, rank_of}
-use Rattle.fork_tree.proofs.Common.{HasScore, score_of, stored_at, Kept, State, Ended, Stored, Place, has_ended, plain_state, Cell, Entry, same, find, path_of, row_at, rows_of, HasKept, IsKept, best_of, AreListed, AreRanked, kept_of}
-use Rattle.fork_tree.proofs.Common.{IsBest, score_of_ref, there_at}
+use Rattle.fork_tree.proofs.Common.{◌≡◌, ℕ, ◌+◌, true, false, List, [], ◌∷◌, slice_get, Option, Some, None, refl, ap, sym, subst, ◌∙◌, arith, inl, inr, if◌then◌else◌, option_map, Row, Rules, stored_of, Score, RanksBefore, rank_of, HasScore, score_of}
+use Rattle.fork_tree.proofs.Common.{stored_at, Kept, State, Ended, Stored, Place, has_ended, plain_state, Cell, Entry, same, find, path_of, row_at, rows_of, HasKept, IsKept, best_of, AreListed, AreRanked, kept_of, IsBest, score_of_ref, there_at}
+use Rattle.fork_tree.proofs.Common.{common_steps, rules}
 use Rattle.fork_model.specs.Rank.{Before}
 use Rattle.fork_tree.proofs.Placed.{IsRowAt, row_got, get_row}
 
 pub kept_none : (rules : Rules) (n : ℕ) (s : State) → has_ended s ≡ false → kept_of rules n s ≡ None
-kept_none rules n (Ended end) h = absurd cc
-kept_none rules n s h = refl
+kept_none rules n s h = grind arith
 
 -- ---- the rows that have not ended
 
@@ -59,12 +58,7 @@ KeptScore rules rows k = HasScore rows k.best.no (score_of_ref k.best) × (k.ran
 
 pub state_stored : (rules : Rules) (n : ℕ) (s : State) (k : Kept) → kept_of rules n s ≡ Some k
     → (k.best.no ≡ n) × (option_map score_of (stored_of (plain_state s)) ≡ Some (score_of_ref k.best)) × (k.rank ≡ rank_of rules (score_of_ref k.best))
-state_stored rules n (Ended (Stored status arrival received)) k h =
-    let own : Kept = record { best = record { no = n; status = status; arrival = arrival }; rank = rank_of rules (record { status = status; arrival = arrival }) } in
-    let at : own ≡ k = cc in
-    let P : Kept → Type 0 = λ x. (x.best.no ≡ n) × (option_map score_of (stored_of (plain_state (Ended (Stored status arrival received)))) ≡ Some (score_of_ref x.best)) × (x.rank ≡ rank_of rules (score_of_ref x.best)) in
-    subst P at (refl, refl, refl)
-state_stored rules n s k h = absurd cc
+state_stored rules n s k h = grind arith
 
 pub kept_score : (rules : Rules) (all : List Place) (root es : List Entry) (k : Kept) → AreListed all root es → AreRanked rules es → HasKept es k → KeptScore rules (rows_of all root) k
 kept_score rules all root [] k l r h = absurd h
@@ -91,19 +85,4 @@ before_ranks rules a b h = h
 
 pub kept_is_best : (rules : Rules) (rows : List Row) (all : List Place) (root : List Entry) (kept : Option Kept) → rows_of all root ≡ rows
     → AreListed all root root → AreRanked rules root → IsKept root kept → IsBest rules rows (best_of kept)
-kept_is_best rules rows all root kept v listed ranked h =
-    let P : List Row → Type 0 = λ x. IsBest rules x (best_of kept) in subst P v (go kept h)
-  where
-    go : (kept : Option Kept) → IsKept root kept → IsBest rules (rows_of all root) (best_of kept)
-    go None k = λ m score s. (let found = score_kept rules all root m score ranked s in k found.0 found.1)
-    go (Some b) k =
-        let own : KeptScore rules (rows_of all root) b = kept_score rules all root root b listed ranked k.stored in
-        record {
-          stored = own.0;
-          first = λ m other s before.
-              (let found = score_kept rules all root m other ranked s in
-              k.first found.0 found.1 (ranks found.0.rank b.rank other found.2 own.1 before));
-        }
-      where
-        ranks : (x y : Rank) (other : Score) → x ≡ rank_of rules other → y ≡ rank_of rules (score_of_ref b.best) → Before rules other (score_of_ref b.best) → RanksBefore x y
-        ranks x y other e f before = rw (e, f) (before_ranks rules other (score_of_ref b.best) before)
+kept_is_best rules rows all root kept v listed ranked h = grind (arith, common_steps, score_kept, kept_score, before_ranks)

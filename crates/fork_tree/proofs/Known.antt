@@ -1,12 +1,9 @@
 -- What stays known of the groups that may start when rows change.
-use Rattle.fork_tree.proofs.Common.{◌≡◌, ℕ, zero, suc, ◌⊎◌, inl, inr, ◌&&◌, Bool, true, false, IsTrue, List, [], ◌∷◌, ◌++◌, map, Option, Some, None, slice_get, refl, ap, sym, subst, ◌∙◌, eqb, nat_eq, nat_lt, option_eq, Row, is_idle}
-use Rattle.fork_tree.proofs.Common.{is_ended, is_row, with_state, in_earlier_group, goes_before, parent_ended, and_left, and_right, MayStart, option_same, or_cases, or_right, NewRow, waiting_row, parent_of, from_parent, leads}
-use Rattle.fork_tree.proofs.Common.{eqb-true}
-use Rattle.std.specs.Prelude.{◌==◌}
-use Rattle.fork_model.specs.Table.{State, Ended, is_trying}
+use Rattle.fork_tree.proofs.Common.{◌≡◌, ℕ, zero, suc, ◌⊎◌, inl, inr, Bool, true, false, IsTrue, List, [], ◌∷◌, ◌++◌, map, Option, Some, None, slice_get, refl, ap, sym, subst, ◌∙◌, eqb, Row, is_idle, is_ended, is_row, with_state, in_earlier_group}
+use Rattle.fork_tree.proofs.Common.{goes_before, parent_ended, and_left, and_right, MayStart, option_same, or_cases, or_right, NewRow, waiting_row, parent_of, from_parent, leads, eqb-true, AreBelow, stays, common_steps, arith}
+use Rattle.fork_model.specs.Table.{State, is_trying}
 use Rattle.fork_model.specs.Waiting.{same_group}
-use Rattle.fork_model.proofs.laws.ChangeLemmas.{AreBelow, stays, changed_row}
-use Rattle.fork_model.proofs.laws.WaitingLemmas.{same_group_refl}
+use Rattle.fork_model.proofs.laws.ChangeLemmas.{changed_row}
 use Rattle.fork_tree.proofs.Lines.{AreOlderRows, IsBefore, before_found, before_goes, or_left}
 
 abbrev pub AreMates : Row → Row → Type 0
@@ -16,9 +13,7 @@ pub differ : (b : Bool) → b ≡ true → b ≡ false → ⊥
 differ b e f = cc
 
 pub is_member : (a b : Row) → AreMates a b → same_group a b ≡ true
-is_member a b m =
-    ap (λ (p : Option ℕ). option_eq nat_eq a.parent p && a.group == b.group) (sym m.0) ∙ ap (λ (g : ℕ). option_eq nat_eq a.parent a.parent && a.group == g) (sym m.1)
-    ∙ same_group_refl a
+is_member a b m = grind arith
 
 pub members_of : (a b : Row) → same_group a b ≡ true → AreMates a b
 members_of a b e = (option_same a.parent b.parent (and_left _ _ e), eqb-true a.group b.group (and_right _ _ e))
@@ -53,17 +48,14 @@ up_later rows later keeps k u e = go (slice_get rows k) refl e
     go (Some row) is h = let new : StandsSo later k row = keeps k row is in ap parent_of new.there ∙ new.members.0 ∙ h
 
 pub earlier_as : (a b row : Row) → AreMates a b → in_earlier_group b row ≡ true → in_earlier_group a row ≡ true
-earlier_as a b row m e =
-    ap (λ (p : Option ℕ). option_eq nat_eq p row.parent && nat_lt a.group row.group) m.0
-    ∙ ap (λ (g : ℕ). option_eq nat_eq b.parent row.parent && nat_lt g row.group) m.1 ∙ e
+earlier_as a b row m e = grind arith
 
 goes_later : (rows later : List Row) (k : ℕ) (other new row : Row) → AreOlderRows rows → AreOlderRows later → KeepsPlaces rows later
     → slice_get rows k ≡ Some other → slice_get later k ≡ Some new → goes_before rows other row ≡ true → goes_before later new row ≡ true
 goes_later rows later k other new row older olds keeps is at goes =
     let b : IsBefore rows row k = before_found rows row other k older is goes in
     let f : StandsSo later b.number b.first = keeps b.number b.first b.there in
-    before_goes later row f.new new b.number k olds f.there (earlier_as f.new b.first row f.members b.earlier) at
-    (leads_more (λ (j : ℕ). parent_of (slice_get rows j)) (λ (j : ℕ). parent_of (slice_get later j)) b.number k k (up_later rows later keeps) b.below)
+    grind (arith, common_steps, up_later rows later keeps, before_goes, earlier_as, leads_more)
 
 -- the row of this number is in another state, and did not hold the other row up
 pub record IsMoved (rows later : List Row) (m : ℕ) (other row : Row) : Type 0 where
@@ -123,22 +115,17 @@ pub none_new : (i : ℕ) (row : Row) → slice_get {X = Row} [] i ≡ Some row �
 none_new i row e = cc
 
 pub places_kept : (rows later fresh : List Row) (n : ℕ) (rn : Row) (s : State) → IsStep rows later fresh n rn s → KeepsPlaces rows later
-places_kept rows later fresh n rn s step k r is =
-    elim (kept rows later fresh n rn s step k r is)
-    [ inl h ↦ record { new = r; there = h; members = (refl, refl) } | inr h ↦ record { new = record r { state = s }; there = h.1; members = (refl, refl) } ]
+places_kept rows later fresh n rn s step k r is = grind (arith, common_steps, kept rows later fresh n rn s step k r is)
 
 pub some_row : (test : State → Bool) (o : Option Row) → IsTrue (is_row test o) → (row : Row) × (o ≡ Some row)
-some_row test None h = absurd cc
-some_row test (Some row) h = (row, refl)
+some_row test o h = grind arith
 
 pub ended_busy : (s : State) → is_ended s ≡ true → (is_idle s ≡ false) × (is_trying s ≡ false)
-ended_busy (Ended end) e = (refl, refl)
-ended_busy s e = absurd cc
+ended_busy s e = grind arith
 
 pub new_rows_below : (n : ℕ) (new_rows : List NewRow) (s : State) → is_ended s ≡ true → AreBelow (Some n) s (map (waiting_row (Some n)) new_rows)
 new_rows_below n [] s ends k row is = absurd cc
-new_rows_below n (x ∷ new_rows) s ends zero row is =
-    let same : waiting_row (Some n) x ≡ row = cc in (sym (ap (λ (r : Row). r.parent) same), sym (ap (λ (r : Row). is_idle r.state) same), ends)
+new_rows_below n (x ∷ new_rows) s ends zero row is = grind arith
 new_rows_below n (x ∷ new_rows) s ends (suc k) row is = new_rows_below n new_rows s ends k row is
 
 pub top_parent : (new_rows : List NewRow) (k : ℕ) (row : Row) → slice_get (map (waiting_row None) new_rows) k ≡ Some row → row.parent ≡ None

@@ -1,7 +1,7 @@
 -- What the search finds under a row, or at the top, says which of the rows there may start.
-use Rattle.fork_tree.proofs.Common.{◌≡◌, ℕ, zero, suc, ◌+◌, ◌-◌, ◌<◌, ◌≤◌, inl, inr, Bool, true, false, List, [], ◌∷◌, length, Option, Some, None, slice_get, refl, ap, sym, subst, ◌∙◌, arith, ltb, ltb-true, ltb-false, nat_eq, nat_lt}
-use Rattle.fork_tree.proofs.Common.{option_eq, append-nil, Row, is_idle, is_ended, is_row, parent_ended, and_left, and_right, MayStart, may_start_facts, may_start_of, option_same, Place, has_ended, Cell, Entry, find, state_in, path_of}
-use Rattle.fork_tree.proofs.Common.{row_at, rows_of, number_of, under, open_of, IsReady, IsOnWay, IsKnown, IsShape, IsStarted, waits_in, FindsFirst, FindsHere, NoneUnder, FindsOnWay, slice_get_within, one_there}
+use Rattle.fork_tree.proofs.Common.{◌≡◌, ℕ, zero, suc, ◌+◌, ◌-◌, ◌<◌, ◌≤◌, inl, inr, Bool, true, false, List, [], ◌∷◌, length, Option, Some, None, slice_get, refl, ap, sym, subst, ◌∙◌, arith, ltb, ltb-true, ltb-false, nat_eq, nat_lt, option_eq}
+use Rattle.fork_tree.proofs.Common.{append-nil, Row, is_idle, is_ended, is_row, parent_ended, and_left, and_right, MayStart, may_start_facts, may_start_of, option_same, Place, has_ended, Cell, Entry, find, state_in, path_of, row_at, rows_of}
+use Rattle.fork_tree.proofs.Common.{number_of, under, open_of, IsReady, IsOnWay, IsKnown, IsShape, IsStarted, waits_in, FindsFirst, FindsHere, NoneUnder, FindsOnWay, slice_get_within, one_there, common_steps}
 use Rattle.std.specs.Prelude.{IfSome}
 use Rattle.fork_model.proofs.laws.WaitingLemmas.{is_earlier}
 use Rattle.fork_tree.specs.inner.Search.{AllWait, OrBelow, FindsUnder}
@@ -19,12 +19,7 @@ use Rattle.fork_tree.proofs.Grouped.{level_of, found_at, numbered, StandsAt, sta
 -- a row of a group in which nothing is open
 over_waits : (all : List Place) (root : List Entry) (p : Option ℕ) (k : ℕ) (row : Row) → IsShape all root → slice_get (rows_of all root) k ≡ Some row → row.parent ≡ p
     → open_of (under (row.group ∷ []) (level_of all root p)) ≡ 0 → is_idle row.state ≡ true → ⊥
-over_waits all root p k row shape is up none waits =
-    let a : IsPlaceOf all k row = place_got all root (rows_of all root) k row refl is in
-    let P : Option ℕ → ℕ → Type 0 = λ x y. open_of (under (y ∷ []) (level_of all root x)) ≡ 0 in
-    let here : P a.spot.parent a.spot.group =
-    subst (λ x. P x a.spot.group) (sym up ∙ a.parent) (subst (λ y. P p y) a.group none) in
-    idle_open (rows_of all root) k row (older_rows all root (rows_of all root) shape.older refl) is waits (none_in_group all root k a.spot shape a.there here)
+over_waits all root p k row shape is up none waits = grind (arith, common_steps, place_got all root (rows_of all root) k row refl is, level_of, idle_open, older_rows, none_in_group)
 
 none_over : (all : List Place) (root : List Entry) (p : Option ℕ) → IsShape all root → ((j : ℕ) → open_of (under (j ∷ []) (level_of all root p)) ≡ 0)
     → NoneUnder (rows_of all root) p
@@ -90,8 +85,7 @@ none_busy all root p shape known f k row is up e = go (may_start_facts rows row 
 -- ---- where a group waits
 
 idle_at : (s : Place) (o : Option Cell) → waits_in o ≡ true → is_idle (row_at s o).state ≡ true
-idle_at s None e = absurd cc
-idle_at s (Some c) e = e
+idle_at s o e = grind arith
 
 -- the branch at each place is that of its number
 new_row_at : (all : List Place) (root : List Entry) (p : Option ℕ) (first count group i : ℕ) → IsShape all root → IsKnown (length all) p
@@ -223,23 +217,13 @@ top_finds all root None shape found = λ parent way.
 
 row_over : (all : List Place) (root node : List Entry) (n : ℕ) (s : Place) → slice_get all n ≡ Some s → node ≡ under (path_of all n) root → has_ended (state_in (find node [])) ≡ true
     → is_row is_ended (slice_get (rows_of all root) n) ≡ true
-row_over all root node n s is same ended =
-    let at : 0 + n ≡ n = omega arith in
-    let cell : find node [] ≡ find root (path_of all (0 + n)) =
-    ap (λ x. find x []) same ∙ find_under (path_of all n) root [] ∙ ap (find root) (append-nil (path_of all n)) ∙ ap (λ k. find root (path_of all k)) (sym at) in
-    ap (is_row is_ended) (get_row all root 0 n all s is)
-    ∙ go (find root (path_of all (0 + n))) (sym (ap (λ o. has_ended (state_in o)) cell) ∙ ended)
-  where
-    go : (o : Option Cell) → has_ended (state_in o) ≡ true → is_ended (row_at s o).state ≡ true
-    go None e = refl
-    go (Some c) e = ended_plain c.standing.state ∙ e
+row_over all root node n s is same ended = grind (arith, common_steps, find_under (path_of all n) root [], append-nil (path_of all n), get_row all root 0 n all s is, ended_plain)
 
 -- on the way down to a row, where on that to the row above it this was found
 pub way_finds : (all : List Place) (root node : List Entry) (n : ℕ) (s : Place) (found r : Option (ℕ × ℕ)) → IsShape all root → slice_get all n ≡ Some s → node ≡ under (path_of all n) root
     → FindsOnWay (rows_of all root) s.parent found → OrBelow found node r → FindsOnWay (rows_of all root) (Some n) r
 way_finds all root node n s (Some g) r shape is same up or = subst (FindsOnWay (rows_of all root) (Some n)) (sym or) up
-way_finds all root node n s None (Some g) shape is same up or =
-    level_finds all root node (Some n) (Some g) shape (slice_get_within all n s is) same (row_over all root node n s is same or.1) or.0
+way_finds all root node n s None (Some g) shape is same up or = grind (arith, common_steps, level_finds all root node (Some n) (Some g) shape (slice_get_within all n s is) same (row_over all root node n s is same or.1) or.0, slice_get_within, row_over)
 way_finds all root node n s None None shape is same up or = λ parent way.
     elim (way_up (rows_of all root) n here.row parent (older_rows all root (rows_of all root) shape.older refl) here.there way) [
       | inl e ↦ subst (NoneUnder (rows_of all root)) (sym e) (level_finds all root node (Some n) None shape (slice_get_within all n s is) same tt or)

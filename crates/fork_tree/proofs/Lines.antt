@@ -1,6 +1,6 @@
 -- What goes before a row stands at or below a row of an earlier group beside it.
-use Rattle.fork_tree.proofs.Common.{◌≡◌, ℕ, zero, suc, ◌+◌, ◌<◌, ◌≤◌, inl, inr, ◌&&◌, ◌||◌, Bool, true, false, not, List, [], ◌∷◌, length, Option, Some, None, slice_get, refl, ap, sym, ◌∙◌, arith, if◌then◌else◌, eqb, eq-eqb, eqb-true, Row}
-use Rattle.fork_tree.proofs.Common.{is_ended, in_earlier_group, goes_before, or_cases, or_right, parent_of, from_parent, leads, lies_below, open_where, open_below, slice_get_within, one_there}
+use Rattle.fork_tree.proofs.Common.{◌≡◌, ℕ, zero, suc, ◌+◌, ◌<◌, ◌≤◌, inl, inr, ◌||◌, Bool, true, List, [], ◌∷◌, length, Option, Some, None, slice_get, refl, ap, sym, ◌∙◌, arith, if◌then◌else◌, eqb, eq-eqb, eqb-true, Row, is_ended, in_earlier_group}
+use Rattle.fork_tree.proofs.Common.{goes_before, or_cases, or_right, parent_of, from_parent, leads, lies_below, open_where, open_below, slice_get_within, one_there, common_steps}
 use Rattle.std.specs.List.{list_any}
 use Rattle.fork_model.specs.Waiting.{parent_row, line_from}
 
@@ -14,8 +14,7 @@ AreOlderRows rows = (k u : ℕ) → parent_of (slice_get rows k) ≡ Some u → 
 -- ---- the steps from a row to one that it lies below
 
 leads_here : (f : ℕ → Option ℕ) (n s m : ℕ) → eqb m n ≡ true → leads f n s m ≡ true
-leads_here f n zero m e = e
-leads_here f n (suc s) m e = or_left (eqb m n) (from_parent (f m) (leads f n s)) e
+leads_here f n s m e = grind arith
 
 pub leads_up : (f : ℕ → Option ℕ) (n s m u : ℕ) → f m ≡ Some u → leads f n s u ≡ true → leads f n (suc s) m ≡ true
 leads_up f n s m u is e = or_right (eqb m n) (from_parent (f m) (leads f n s)) (ap (λ o. from_parent o (leads f n s)) is ∙ e)
@@ -87,24 +86,14 @@ line_led (suc steps) rows row other k is h =
     up (Some u) parent h again = at u (slice_get rows u) parent refl h (again u)
 
 pub before_found : (rows : List Row) (row other : Row) (k : ℕ) → AreOlderRows rows → slice_get rows k ≡ Some other → goes_before rows other row ≡ true → IsBefore rows row k
-before_found rows row other k older is h =
-    let led : IsLed rows row k = line_led (length rows) rows row other k is h in
-    record {
-      number = led.number;
-      first = led.first;
-      there = led.there;
-      earlier = led.earlier;
-      below = leads_enough (up_in rows) led.number led.steps k k older (omega arith) led.leading;
-    }
+before_found rows row other k older is h = grind (arith, common_steps, line_led (length rows) rows row other k is h, leads_enough)
 
 -- ---- and the other way
 
 line_passes : (t s : ℕ) (rows : List Row) (row first other : Row) (m k : ℕ) → AreOlderRows rows → slice_get rows m ≡ Some first → in_earlier_group first row ≡ true
     → slice_get rows k ≡ Some other → k < s → leads (up_in rows) m t k ≡ true → Passes (line_from s rows (Some other)) row
 line_passes t zero rows row first other m k older there earlier is lt h = absurd (omega (arith, lt))
-line_passes zero (suc s) rows row first other m k older there earlier is lt h =
-    let one : other ≡ first = one_there rows k other first is (ap (slice_get rows) (eqb-true k m h) ∙ there) in
-    or_left _ _ (ap (λ (x : Row). in_earlier_group x row) one ∙ earlier)
+line_passes zero (suc s) rows row first other m k older there earlier is lt h = grind (arith, common_steps, eqb-true k m h, one_there, or_left)
 line_passes (suc t) (suc s) rows row first other m k older there earlier is lt h =
     elim (or_cases (eqb k m) (from_parent (up_in rows k) (leads (up_in rows) m t)) h) [
       | inl e ↦ (
@@ -143,25 +132,16 @@ line_passes (suc t) (suc s) rows row first other m k older there earlier is lt h
 
 pub before_goes : (rows : List Row) (row first other : Row) (m k : ℕ) → AreOlderRows rows → slice_get rows m ≡ Some first → in_earlier_group first row ≡ true
     → slice_get rows k ≡ Some other → lies_below rows m k ≡ true → goes_before rows other row ≡ true
-before_goes rows row first other m k older there earlier is h =
-    line_passes k (length rows) rows row first other m k older there earlier is (slice_get_within rows k other is) h
+before_goes rows row first other m k older there earlier is h = grind (arith, line_passes, slice_get_within)
 
 -- ---- rows that have not ended
 
 abbrev counted : Bool → ℕ
 counted b = if b then 1 else 0
 
-one_free : (t ended : Bool) (rest : ℕ) → t ≡ true → counted (t && not ended) + rest ≡ 0 → ended ≡ true
-one_free true true rest t e = refl
-one_free true false rest t e = let one : 1 + rest ≡ 0 = e in absurd (omega (arith, one))
-one_free false ended rest t e = absurd cc
-
 none_where : (test : ℕ → Bool) (k i : ℕ) (rows : List Row) (row : Row) → open_where test k rows ≡ 0 → slice_get rows i ≡ Some row → test (k + i) ≡ true → is_ended row.state ≡ true
 none_where test k i [] row e is t = absurd cc
-none_where test k zero (x ∷ rows) row e is t =
-    let at : k + zero ≡ k = omega arith in
-    let same : x ≡ row = cc in
-    ap (λ (r : Row). is_ended r.state) (sym same) ∙ one_free (test k) (is_ended x.state) (open_where test (suc k) rows) (ap test (sym at) ∙ t) e
+none_where test k zero (x ∷ rows) row e is t = grind arith
 none_where test k (suc i) (x ∷ rows) row e is t =
     let at : suc k + i ≡ k + suc i = omega arith in
     let rest : open_where test (suc k) rows ≡ 0 = omega (arith, e) in

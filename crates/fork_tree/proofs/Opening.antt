@@ -1,7 +1,7 @@
 -- Rows that wait, each at its place, are a tree.
-use Rattle.fork_tree.proofs.Common.{◌≡◌, ℕ, zero, suc, ◌+◌, ◌<◌, ◌≤◌, ◌⊎◌, inl, inr, Bool, true, false, List, [], ◌∷◌, length, map, Option, Some, None, slice_get, refl, ap, sym, subst, ◌∙◌, arith, if◌then◌else◌, eq-eqb, Rules}
-use Rattle.fork_tree.proofs.Common.{led, Entry, ◌++◌, most_targets, NewRow, Place, Kept, Summary, Cell, same, find, HasKept, IsKept, open_of, path_of, row_at, rows_from, rows_of, number_of, AreOlder, differs, new_rows_with, new_rows_from}
-use Rattle.fork_tree.proofs.Common.{idle, new_entries, waiting_row, place_in, AreListed, AreRanked, IsTree, there_at, get_map, length-map, map-id, slice_get_within}
+use Rattle.fork_tree.proofs.Common.{◌≡◌, ℕ, zero, suc, ◌+◌, ◌<◌, ◌≤◌, ◌⊎◌, inl, inr, List, [], ◌∷◌, length, map, Option, Some, None, slice_get, refl, ap, sym, subst, ◌∙◌, arith, Rules, led, Entry, ◌++◌, most_targets, NewRow, Place, Kept, Summary}
+use Rattle.fork_tree.proofs.Common.{Cell, find, HasKept, IsKept, open_of, path_of, rows_from, rows_of, number_of, AreOlder, new_rows_from, idle, new_entries, waiting_row, place_in, AreListed, AreRanked, IsTree, there_at, get_map, length-map, map-id}
+use Rattle.fork_tree.proofs.Common.{slice_get_within, common_steps}
 use Rattle.fork_tree.proofs.Traces.{path_top}
 
 -- ---- new rows rise
@@ -27,19 +27,11 @@ all_on g p h r (s ∷ new_rows) a b = (follow_on g p h r s a b.0, all_on g p h r
 
 pub new_rows_follow : (before : Option ℕ) (g p : ℕ) (qs : List ℕ) → AllFollow g p (new_rows_from before g p qs)
 new_rows_follow before g p [] = tt
-new_rows_follow before g p (q ∷ qs) =
-    elim (differs before q) as (λ b. AllFollow g p (new_rows_with b g p q (λ x y z. new_rows_from x y z qs))) [
-      | true ↦ (inl (omega arith), all_on g p (suc g) 1 (new_rows_from (Some q) (suc g) 1 qs) (inl (omega arith)) (new_rows_follow (Some q) (suc g) 1 qs))
-      | false ↦ (inr (refl, omega arith), all_on g p g (suc p) (new_rows_from (Some q) g (suc p) qs) (inr (refl, omega arith)) (new_rows_follow (Some q) g (suc p) qs))
-    ]
+new_rows_follow before g p (q ∷ qs) = grind (arith, all_on, new_rows_follow (Some q) (suc g) 1 qs, new_rows_follow (Some q) g (suc p) qs)
 
 pub new_rows_rise : (before : Option ℕ) (g p : ℕ) (qs : List ℕ) → AreRising (new_rows_from before g p qs)
 new_rows_rise before g p [] = tt
-new_rows_rise before g p (q ∷ qs) =
-    elim (differs before q) as (λ b. AreRising (new_rows_with b g p q (λ x y z. new_rows_from x y z qs))) [
-      | true ↦ (new_rows_follow (Some q) (suc g) 1 qs, new_rows_rise (Some q) (suc g) 1 qs)
-      | false ↦ (new_rows_follow (Some q) g (suc p) qs, new_rows_rise (Some q) g (suc p) qs)
-    ]
+new_rows_rise before g p (q ∷ qs) = grind (arith, new_rows_follow, new_rows_rise (Some q) (suc g) 1 qs, new_rows_rise (Some q) g (suc p) qs)
 
 pub new_rows_count : (before : Option ℕ) (g p : ℕ) (qs : List ℕ) → length (new_rows_from before g p qs) ≡ length qs
 new_rows_count before g p [] = refl
@@ -53,12 +45,6 @@ new_row_path s = s.group ∷ s.place ∷ []
 abbrev pub new_row_cell : ℕ → NewRow → Cell
 new_row_cell n s = record { number = n; q = s.q; standing = idle }
 
-not_same : (a b : NewRow) → Follows a.group (suc a.place) b → same (new_row_path a) (new_row_path b) ≡ false
-not_same a b h = grind arith
-
-new_row_same : (s : NewRow) → same (new_row_path s) (new_row_path s) ≡ true
-new_row_same s = rw (eq-eqb s.group s.group refl, eq-eqb s.place s.place refl) refl
-
 follows_at : (g p : ℕ) (new_rows : List NewRow) (i : ℕ) (s : NewRow) → AllFollow g p new_rows → slice_get new_rows i ≡ Some s → Follows g p s
 follows_at g p [] i s a is = absurd cc
 follows_at g p (x ∷ new_rows) zero s a is = let at : x ≡ s = cc in subst (Follows g p) at a.0
@@ -66,15 +52,8 @@ follows_at g p (x ∷ new_rows) (suc i) s a is = follows_at g p new_rows i s a.1
 
 pub find_new_row : (new_rows : List NewRow) (n i : ℕ) (s : NewRow) → AreRising new_rows → slice_get new_rows i ≡ Some s → find (new_entries n new_rows) (new_row_path s) ≡ Some (new_row_cell (n + i) s)
 find_new_row [] n i s rise is = absurd cc
-find_new_row (x ∷ new_rows) n zero s rise is =
-    let at : x ≡ s = cc in
-    let zero_more : n ≡ n + zero = omega arith in
-    let P : NewRow → Type 0 = λ y. find (new_entries n (x ∷ new_rows)) (new_row_path y) ≡ Some (new_row_cell (n + zero) y) in
-    subst P at (ap (λ (t : Bool). if t then Some (new_row_cell n x) else find (new_entries (suc n) new_rows) (new_row_path x)) (new_row_same x) ∙ ap (λ k. Some (new_row_cell k x)) zero_more)
-find_new_row (x ∷ new_rows) n (suc i) s rise is =
-    let later : suc n + i ≡ n + suc i = omega arith in
-    ap (λ (t : Bool). if t then Some (new_row_cell n x) else find (new_entries (suc n) new_rows) (new_row_path s)) (not_same x s (follows_at x.group (suc x.place) new_rows i s rise.0 is))
-    ∙ find_new_row new_rows (suc n) i s rise.1 is ∙ ap (λ k. Some (new_row_cell k s)) later
+find_new_row (x ∷ new_rows) n zero s rise is = grind arith
+find_new_row (x ∷ new_rows) n (suc i) s rise is = grind (arith, follows_at, find_new_row new_rows (suc n) i s rise.1 is)
 
 -- ---- what new rows are where they are found
 
@@ -98,16 +77,12 @@ more_found all root p k s more found i t is = let at : k + suc i ≡ suc k + i =
 pub rows_found : (all : List Place) (root : List Entry) (p : List ℕ) (parent : Option ℕ) (k : ℕ) (new_rows : List NewRow) → AreFound all root p k new_rows
     → rows_from all root k (map (place_in parent) new_rows) ≡ map (waiting_row parent) new_rows
 rows_found all root p parent k [] found = refl
-rows_found all root p parent k (s ∷ more) found =
-    ap (λ c. row_at (place_in parent s) c ∷ rows_from all root (suc k) (map (place_in parent) more)) (first_found all root p k s more found).found
-    ∙ ap (λ r. waiting_row parent s ∷ r) (rows_found all root p parent (suc k) more (more_found all root p k s more found))
+rows_found all root p parent k (s ∷ more) found = grind (arith, common_steps, first_found all root p k s more found, rows_found all root p parent (suc k) more (more_found all root p k s more found), more_found)
 
 pub listed_found : (all : List Place) (root : List Entry) (p : List ℕ) (k : ℕ) (new_rows : List NewRow) → AreFound all root p k new_rows
     → AreListed all root (map (led p) (new_entries k new_rows))
 listed_found all root p k [] found = tt
-listed_found all root p k (s ∷ more) found =
-    let here = first_found all root p k s more found in
-    (record { known = here.known; path = sym here.path; found = here.found }, listed_found all root p (suc k) more (more_found all root p k s more found))
+listed_found all root p k (s ∷ more) found = grind (arith, common_steps, first_found all root p k s more found, listed_found all root p (suc k) more (more_found all root p k s more found), more_found)
 
 -- ---- a tree of such rows alone
 
@@ -136,16 +111,7 @@ older_top new_rows n p m is up = none new_rows n p m is up
     none (s ∷ new_rows) (suc n) p m is up = omega (arith, none new_rows n p m is up)
 
 top_found : (new_rows : List NewRow) → AreRising new_rows → AreFound (map (place_in None) new_rows) (new_entries 0 new_rows) [] 0 new_rows
-top_found new_rows rise i s is =
-    let at : 0 + i ≡ i = omega arith in
-    let path : path_of (map (place_in None) new_rows) (0 + i) ≡ new_row_path s =
-    ap (path_of (map (place_in None) new_rows)) at ∙ path_top (map (place_in None) new_rows) i (place_in None s) (get_map (place_in None) new_rows i s is)
-    refl in
-    record {
-      known = omega (arith, slice_get_within new_rows i s is, length-map new_rows (place_in None));
-      path = path;
-      found = ap (find (new_entries 0 new_rows)) path ∙ find_new_row new_rows 0 i s rise is;
-    }
+top_found new_rows rise i s is = grind (arith, common_steps, path_top (map (place_in None) new_rows) i (place_in None s) (get_map (place_in None) new_rows i s is), slice_get_within new_rows i s is, length-map new_rows (place_in None), find_new_row new_rows 0 i s rise is, get_map)
 
 pub rows_opened : (new_rows : List NewRow) → AreRising new_rows → rows_of (map (place_in None) new_rows) (new_entries 0 new_rows) ≡ map (waiting_row None) new_rows
 rows_opened new_rows rise = rows_found (map (place_in None) new_rows) (new_entries 0 new_rows) [] None 0 new_rows (top_found new_rows rise)

@@ -1,15 +1,12 @@
 -- Rows come below their parents, run by run.
-use Rattle.fork_tree.proofs.Common.{◌≡◌, ℕ, zero, suc, ◌+◌, ◌-◌, ◌<◌, ◌≤◌, inl, inr, List, [], ◌∷◌, ◌++◌, length, map, take, drop, Option, Some, None, IsTrue, slice_get, IsSome, refl, ap, sym, subst, ◌∙◌, arith, length-append, length-map}
-use Rattle.fork_tree.proofs.Common.{map-append, Row, is_row, is_idle, with_state, RowRef, State, Ended, NewRow, plain_state, new_rows_of, waiting_row, Tree, cases_lt, length-state, get_right, there_at, one_there, slice_get_past}
-use Rattle.fork_tree.proofs.Common.{slice_get_within, get_or_from_slice_get, take_all}
+use Rattle.fork_tree.proofs.Common.{◌≡◌, ℕ, zero, suc, ◌+◌, ◌-◌, ◌<◌, ◌≤◌, inl, inr, List, [], ◌∷◌, ◌++◌, length, map, take, drop, Option, Some, None, IsTrue, slice_get, IsSome, refl, ap, sym, subst, ◌∙◌, arith, length-append, length-map, map-append}
+use Rattle.fork_tree.proofs.Common.{Row, is_row, is_idle, with_state, RowRef, State, Ended, NewRow, plain_state, new_rows_of, waiting_row, Tree, cases_lt, length-state, get_right, there_at, slice_get_past, slice_get_within, get_or_from_slice_get}
+use Rattle.fork_tree.proofs.Common.{AreRows, IsBeside, IsFirstUnder, given_row, IsHalf, AllHalf, IsRun, IsStanding, q_of, stays, common_steps, rules}
 use Rattle.std.proofs.Common.{take-append-drop}
 use Rattle.fork_model.specs.Table as spec
 use Rattle.fork_tree.specs.declared.row.End.{End}
-use Rattle.fork_tree.specs.Given.{AreRows, IsBeside, IsFirstUnder, given_row}
-use Rattle.fork_tree.specs.inner.Given.{IsHalf, AllHalf, IsRun, IsStanding, q_of}
 use Rattle.fork_tree.proofs.Opening.{new_rows_count}
 use Rattle.fork_tree.proofs.Building.{half_with, half_append, half_waiting_row, given_next, AreBeside}
-use Rattle.fork_model.proofs.laws.ChangeLemmas.{stays}
 use Rattle.std.proofs.Math.Seq.{take-suc}
 
 -- ---- lists
@@ -65,28 +62,17 @@ run_half gs parent first qs h run alone =
     (λ n a b i j e. h.beside (first + n) a b (sym (get_drop gs first n (first + n) refl) ∙ i) (sym (get_drop gs first (suc n) (suc (first + n)) (omega arith)) ∙ j) e)
     (λ n r l i. run.all (first + n) r (omega arith) (omega (arith, l)) (sym (get_drop gs first n (first + n) refl) ∙ i))
     (λ x i e. h.first_group first x (sym (get_drop gs first 0 first (omega arith)) ∙ i) (λ m r l k f. alone m r l k (f ∙ e))) in
-    let P : List ℕ → Type 0 = λ y. AllHalf (map (waiting_row parent) (new_rows_of y)) (drop first gs) in
-    subst P (sym run.each) (subst (AllHalf (map (waiting_row parent) (new_rows_of (map q_of under)))) (take-append-drop (length qs) (drop first gs))
-    (half_waiting_row parent None 0 0 under (drop (length qs) (drop first gs)) beside))
+    grind (arith, common_steps, take-append-drop (length qs) (drop first gs), half_waiting_row parent None 0 0 under (drop (length qs) (drop first gs)) beside)
 
 -- ---- a run and what comes after it
 
 pub run_some : (gs : List RowRef) (parent : Option ℕ) (first : ℕ) (qs : List ℕ) (x : RowRef) → IsRun gs parent first qs → slice_get gs first ≡ Some x → x.parent ≡ parent
     → 0 < length qs
-run_some gs parent first [] x run is e =
-    let at : first + 0 ≡ first = omega arith in
-    absurd (run.ends x (ap (slice_get gs) at ∙ is) e)
-run_some gs parent first (q ∷ qs) x run is e = omega arith
+run_some gs parent first qs x run is e = grind arith
 
 run_cut : (gs : List RowRef) (parent : Option ℕ) (first : ℕ) (qs : List ℕ) (x : RowRef) → AreRows gs → IsRun gs parent first qs → slice_get gs first ≡ Some x → x.parent ≡ parent
     → (n : ℕ) (c : RowRef) → n ≡ first + length qs → slice_get gs n ≡ Some c → IsFirstUnder gs n c.parent
-run_cut gs parent first qs x h run is px n c e ic m r l ir er =
-    let there : slice_get gs (first + length qs) ≡ Some c = ap (slice_get gs) (sym e) ∙ ic in
-    let some : 0 < length qs = run_some gs parent first qs x run is px in
-    elim (cases_lt m first) [
-      | inl b ↦ run.ends c there (sym er ∙ sym (h.together m first n r x c b (omega (arith, e, some)) ir is ic er) ∙ px)
-      | inr b ↦ run.ends c there (sym er ∙ run.all m r b (omega (arith, l, e)) ir)
-    ]
+run_cut gs parent first qs x h run is px n c e ic m r l ir er = grind arith
 
 -- ---- new rows wait
 
@@ -108,12 +94,7 @@ initial x gs h = go x.parent refl
     go (Some m) e = absurd (omega (arith, (h.parent 0 m x refl e).older))
 
 pub standing_first : (gs : List RowRef) (qs : List ℕ) → AreRows gs → IsRun gs None 0 qs → IsStanding (map (waiting_row None) (new_rows_of qs)) gs
-standing_first [] qs h run = record {
-  half = run_half [] None 0 qs h run (λ m r l. absurd (omega (arith, l)));
-  begun = λ l. absurd (omega (arith, l));
-  waits = λ n l none. new_idle None (new_rows_of qs) n (omega (arith, l, new_length None qs, new_rows_count None 0 0 qs));
-  cut = λ c is. absurd cc;
-}
+standing_first [] qs h run = grind arith
 standing_first (x ∷ gs) qs h run =
     let px : x.parent ≡ None = initial x gs h in
     record {
@@ -127,8 +108,7 @@ standing_first (x ∷ gs) qs h run =
 
 pub grown_length : (rows : List Row) (m : ℕ) (s : spec.State) (qs : List ℕ)
     → length (with_state rows m s ++ map (waiting_row (Some m)) (new_rows_of qs)) ≡ length rows + length qs
-grown_length rows m s qs =
-    omega (arith, length-append (with_state rows m s) (map (waiting_row (Some m)) (new_rows_of qs)), length-state rows m s, new_length (Some m) qs)
+grown_length rows m s qs = grind (arith, common_steps, length-state, new_length)
 
 pub standing_next : (rows : List Row) (gs : List RowRef) (m : ℕ) (g c : RowRef) (end : End) (qs : List ℕ) → AreRows gs → IsStanding rows gs
     → slice_get gs (length rows) ≡ Some c → c.parent ≡ Some m → slice_get gs m ≡ Some g → g.state ≡ Ended end → IsRun gs (Some m) (length rows) qs
@@ -162,34 +142,17 @@ standing_next rows gs m g c end qs h s ic pc ig eg run =
 
 pub run_more : (gs : List RowRef) (first i : ℕ) (qs : List ℕ) (x : RowRef) → first + length qs ≡ i → qs ≡ map q_of (take (length qs) (drop first gs)) → slice_get gs i ≡ Some x
     → qs ++ x.q ∷ [] ≡ map q_of (take (length (qs ++ x.q ∷ [])) (drop first gs))
-run_more gs first i qs x count each is =
-    let len : length (qs ++ x.q ∷ []) ≡ suc (length qs) = omega (arith, length-append qs (x.q ∷ [])) in
-    let at : slice_get (drop first gs) (length qs) ≡ Some x = get_drop gs first (length qs) i (sym count) ∙ is in
-    ap (λ y. y ++ x.q ∷ []) each
-    ∙ sym (map-append q_of (take (length qs) (drop first gs)) (x ∷ []))
-    ∙ ap (map q_of) (sym (take_one (drop first gs) (length qs) x at))
-    ∙ ap (λ n. map q_of (take n (drop first gs))) (sym len)
+run_more gs first i qs x count each is = grind (arith, common_steps, get_drop gs first (length qs) i (sym count), map-append q_of (take (length qs) (drop first gs)) (x ∷ []), length-append, take_one)
 
 pub all_more : (gs : List RowRef) (parent : Option ℕ) (first i : ℕ) (x : RowRef) → ((n : ℕ) (r : RowRef) → first ≤ n → n < i → slice_get gs n ≡ Some r → r.parent ≡ parent)
     → slice_get gs i ≡ Some x → x.parent ≡ parent → (n : ℕ) (r : RowRef) → first ≤ n → n < i + 1 → slice_get gs n ≡ Some r → r.parent ≡ parent
-all_more gs parent first i x all ix px n r f l is =
-    elim (cases_lt n i) [
-      | inl b ↦ all n r f b is
-      | inr b ↦
-          let e : n ≡ i = omega (arith, l, b) in
-          ap (λ (y : RowRef). y.parent) (one_there gs n r x is (ap (slice_get gs) e ∙ ix)) ∙ px
-    ]
+all_more gs parent first i x all ix px n r f l is = grind arith
 
 -- it ends before a row of another parent, or with the last row
 pub run_ends : (gs : List RowRef) (parent : Option ℕ) (first i : ℕ) (qs : List ℕ) → first + length qs ≡ i → qs ≡ map q_of (take (length qs) (drop first gs))
     → ((n : ℕ) (r : RowRef) → first ≤ n → n < i → slice_get gs n ≡ Some r → r.parent ≡ parent) → i ≤ length gs
     → ((r : RowRef) → slice_get gs i ≡ Some r → r.parent ≡ parent → ⊥) → IsRun gs parent first qs
-run_ends gs parent first i qs count each all few ends = record {
-  few = omega (arith, count, few);
-  each = each;
-  all = λ n r f l is. all n r f (omega (arith, l, count)) is;
-  ends = λ r is e. ends r (ap (slice_get gs) (sym count) ∙ is) e;
-}
+run_ends gs parent first i qs count each all few ends = grind arith
 
 pub past_end : (gs : List RowRef) (i : ℕ) (r : RowRef) → length gs ≤ i → slice_get gs i ≡ Some r → ⊥
 past_end gs i r l is = let none : None ≡ Some r = sym (slice_get_past gs i l) ∙ is in cc
@@ -205,27 +168,20 @@ pub half_at : (rows : List Row) (gs : List RowRef) (n : ℕ) (g : RowRef) → Al
 half_at [] [] n g h e is = absurd cc
 half_at [] (x ∷ gs) n g h e is = absurd (omega (arith, e))
 half_at (r ∷ rs) [] n g h e is = absurd h
-half_at (r ∷ rs) (x ∷ gs) zero g h e is =
-    let at : x ≡ g = cc in
-    subst (λ (y : RowRef). IsHalf (Some r) y.state) at h.0.half
+half_at (r ∷ rs) (x ∷ gs) zero g h e is = grind arith
 half_at (r ∷ rs) (x ∷ gs) (suc n) g h e is = half_at rs gs n g h.1 (omega (arith, e)) is
 
 -- the next run has a parent that waits
 pub next_parent : (rows : List Row) (gs : List RowRef) (c : RowRef) (m : ℕ) → AreRows gs → IsStanding rows gs → slice_get gs (length rows) ≡ Some c → c.parent ≡ Some m
     → IsTrue (is_row is_idle (slice_get rows m))
-next_parent rows gs c m h s ic pc =
-    s.waits m (h.parent (length rows) m c ic pc).older (λ i r l is e. s.cut c ic i r l is (e ∙ sym pc))
+next_parent rows gs c m h s ic pc = grind arith
 
 next_has_parent : (rows : List Row) (gs : List RowRef) (c : RowRef) → AreRows gs → IsStanding rows gs → slice_get gs (length rows) ≡ Some c → c.parent ≡ None → ⊥
 next_has_parent rows [] c h s ic e = absurd cc
 next_has_parent rows (x ∷ gs) c h s ic e = s.cut c ic 0 x (s.begun (omega arith)) refl (initial x gs h ∙ sym e)
 
 pub next_under : (rows : List Row) (gs : List RowRef) (c : RowRef) → AreRows gs → IsStanding rows gs → slice_get gs (length rows) ≡ Some c → IsSome c.parent
-next_under rows gs c h s ic = there c.parent (next_has_parent rows gs c h s ic)
-  where
-    there : (parent : Option ℕ) → (parent ≡ None → ⊥) → IsSome parent
-    there None not_none = absurd (not_none refl)
-    there (Some m) not_none = refl
+next_under rows gs c h s ic = grind (arith, next_has_parent)
 
 -- ---- the rows come into their states one after another
 
@@ -237,25 +193,7 @@ pub record IsSettled (rules : spec.Rules) (gs : List RowRef) (i : ℕ) (t : Tree
 
 pub settled_next : (rules : spec.Rules) (gs : List RowRef) (i : ℕ) (t new : Tree) (g : RowRef) → AreRows gs → IsSettled rules gs i t → slice_get gs i ≡ Some g
     → new ≡ record t { rows = with_state t.rows g.no (plain_state g.state) } → IsSettled rules gs (i + 1) new
-settled_next rules gs i t new g h s is e =
-    let rows : List Row = with_state t.rows i (plain_state g.state) in
-    let at : new ≡ record t { rows = rows } = e ∙ ap (λ (k : ℕ). record t { rows = with_state t.rows k (plain_state g.state) }) (h.number i g is) in
-    let one : suc i ≡ i + 1 = omega arith in
-    let len : length rows ≡ length t.rows = length-state t.rows i (plain_state g.state) in
-    let next : take (suc i) rows ≡ take (suc i) (map given_row gs) =
-    elim (given_next t.rows gs i g s.half is s.settled) [
-      | inl f ↦ f
-      | inr f ↦ absurd (past_end gs i g (omega (arith, f, s.count)) is)
-    ] in
-    subst (IsSettled rules gs (i + 1)) (sym at) (record {
-      rules_kept = s.rules_kept;
-      half = half_with t.rows gs i g s.half is;
-      count = len ∙ s.count;
-      settled = subst (λ (k : ℕ). take k rows ≡ take k (map given_row gs)) one next;
-    })
+settled_next rules gs i t new g h s is e = grind (arith, common_steps, length-state, given_next, past_end, half_with)
 
 pub all_settled : (rules : spec.Rules) (gs : List RowRef) (i : ℕ) (t : Tree) → IsSettled rules gs i t → length gs ≤ i → t ≡ record { rules = rules; rows = map given_row gs }
-all_settled rules gs i t s le =
-    let rows : t.rows ≡ map given_row gs =
-    sym (take_all i t.rows (omega (arith, s.count, le))) ∙ s.settled ∙ take_all i (map given_row gs) (omega (arith, length-map gs given_row, le)) in
-    ap (λ (r : spec.Rules). record { rules = r; rows = t.rows }) s.rules_kept ∙ ap (λ (r : List Row). record { rules = rules; rows = r }) rows
+all_settled rules gs i t s le = grind (arith, common_steps)

@@ -1,6 +1,6 @@
 -- The rows of a group that may start, tried one after another.
-use Rattle.fork_tree.proofs.Common.{◌≡◌, ℕ, zero, suc, ◌+◌, ◌<◌, ◌≤◌, true, IsTrue, ◌-◌, List, [], ◌∷◌, Option, Some, None, slice_get, refl, ap, sym, subst, ◌∙◌, arith, Row, is_idle, is_row, with_state, may_start_facts, Tree, IsReady}
-use Rattle.fork_tree.proofs.Common.{tried, there_at}
+use Rattle.fork_tree.proofs.Common.{◌≡◌, ℕ, zero, suc, ◌+◌, ◌<◌, ◌≤◌, true, IsTrue, ◌-◌, List, [], ◌∷◌, Option, Some, None, slice_get, refl, ap, sym, ◌∙◌, arith, Row, is_idle, is_row, with_state, may_start_facts, Tree, IsReady, tried, there_at}
+use Rattle.fork_tree.proofs.Common.{common_steps}
 use Rattle.fork_model.specs.Table.{Trying}
 
 -- ---- the rows of a group tried one after another
@@ -31,27 +31,17 @@ with_rows t rows = record t { rows = rows }
 
 idle_there : (o : Option Row) (row : Row) → o ≡ Some row → is_idle row.state ≡ true → IsTrue (is_row is_idle o)
 idle_there None row e h = absurd cc
-idle_there (Some r) row e h =
-    let same : r ≡ row = cc in
-    let yes : is_idle r.state ≡ true = ap (λ (x : Row). is_idle x.state) same ∙ h in
-    let one : IsTrue true = cc in
-    subst IsTrue (sym yes) one
+idle_there (Some r) row e h = grind (arith, common_steps)
 
 pub still_waits : (rows : List Row) (first end n : ℕ) → IsReady rows first (end - first) → first ≤ n → n < end
     → IsTrue (is_row is_idle (slice_get (tried rows first (n - first)) n))
 still_waits rows first end n ready low high =
     let at : (row : Row) × (slice_get rows n ≡ Some row) = there_at rows n (omega (arith, ready.within, low, high)) in
-    idle_there (slice_get (tried rows first (n - first)) n) at.0 (tried_later rows first (n - first) n (omega (arith, low)) ∙ at.1)
-    (may_start_facts rows at.0 (ready.ready n at.0 low (omega (arith, low, high)) at.1)).idle
+    grind (arith, common_steps, idle_there, tried_later, may_start_facts)
 
 pub one_more : (old now new : Tree) (first n : ℕ) → first ≤ n → now ≡ record old { rows = tried old.rows first (n - first) }
     → new ≡ record now { rows = with_state now.rows n Trying } → new ≡ record old { rows = tried old.rows first (n + 1 - first) }
-one_more old now new first n low e f =
-    let next : suc (n - first) ≡ n + 1 - first = omega (arith, low) in
-    let at : n ≡ first + (n - first) = omega (arith, low) in
-    f ∙ ap (λ (t : Tree). record t { rows = with_state t.rows n Trying }) e
-    ∙ ap (with_rows old) (tried_more old.rows first (n - first) n at)
-    ∙ ap (λ (k : ℕ). record old { rows = tried old.rows first k }) next
+one_more old now new first n low e f = grind (arith, tried_more)
 
 pub none_yet : (t : Tree) (first : ℕ) → t ≡ record t { rows = tried t.rows first (first - first) }
 none_yet t first =

@@ -1,12 +1,9 @@
 -- What is kept of branches as one of them changes.
-use Rattle.fork_tree.proofs.Common.{◌≡◌, ℕ, zero, suc, ◌+◌, ◌<◌, ◌≤◌, Bool, false, IsTrue, not, List, [], ◌∷◌, ◌++◌, length, map, Option, Some, None, refl, ap, sym, subst, ◌∙◌, arith, inl, inr, ◌⊎◌, get_or, length-append}
-use Rattle.fork_tree.proofs.Common.{if◌then◌else◌, set, RanksBefore, Standing, Kept, Summary, State, has_ended, Cell, Entry, find, node_rows, pushed, joined, open_at, HasKept, IsKept, open_state, open_of, IsNode, Better}
-use Rattle.fork_tree.proofs.Common.{Gains, nil_from_length, get_or_default, Changes}
+use Rattle.fork_tree.proofs.Common.{◌≡◌, ℕ, zero, suc, ◌+◌, ◌<◌, ◌≤◌, Bool, false, IsTrue, List, [], ◌∷◌, ◌++◌, length, map, Option, Some, None, refl, ap, sym, subst, ◌∙◌, arith, inl, inr, ◌⊎◌, get_or, length-append, if◌then◌else◌, set, Standing}
+use Rattle.fork_tree.proofs.Common.{Kept, Summary, State, has_ended, Cell, Entry, find, node_rows, pushed, joined, open_at, HasKept, IsKept, open_state, open_of, IsNode, Better, Gains, nil_from_length, get_or_default, Changes, with_branch}
+use Rattle.fork_tree.proofs.Common.{common_steps}
 use Rattle.fork_tree.specs.Summary.{IsSummary}
 use Rattle.fork_tree.proofs.BranchChanges.{step_in, find_joined, at_node, with_branch_joined, node_ends}
-use Rattle.fork_model.proofs.laws.OrderLemmas.{ranks_irrefl, ranks_trans}
-use Rattle.fork_tree.specs.inner.Falls.{length_pushed}
-use Rattle.fork_tree.specs.inner.Rows.{with_branch}
 
 -- ---- ranks
 
@@ -57,41 +54,22 @@ open_some (e ∷ es) path h = grind (arith, open_some es path)
 pub sized_joined : (j i : ℕ) (parts : List (List Entry)) (new : List Entry) → i < length parts
     → length (joined j (set parts i new)) + length (get_or parts i []) ≡ length (joined j parts) + length new
 sized_joined j i [] new lt = absurd (omega arith)
-sized_joined j zero (x ∷ xs) new lt =
-    omega (arith, length-append (map (pushed j) x) (joined (suc j) xs), length-append (map (pushed j) new) (joined (suc j) xs), length_pushed j x, length_pushed j new)
+sized_joined j zero (x ∷ xs) new lt = grind (arith, common_steps)
 sized_joined j (suc i) (x ∷ xs) new lt =
     omega (arith, length-append (map (pushed j) x) (joined (suc j) xs), length-append (map (pushed j) x) (joined (suc j) (set xs i new)), sized_joined (suc j) i xs new (omega arith))
 
 pub opens_joined : (j i : ℕ) (parts : List (List Entry)) (new : List Entry) → i < length parts
     → open_of (joined j (set parts i new)) + open_of (get_or parts i []) ≡ open_of (joined j parts) + open_of new
 opens_joined j i [] new lt = absurd (omega arith)
-opens_joined j zero (x ∷ xs) new lt =
-    omega (arith, open_append (map (pushed j) x) (joined (suc j) xs), open_append (map (pushed j) new) (joined (suc j) xs), open_pushed j x, open_pushed j new)
+opens_joined j zero (x ∷ xs) new lt = grind (arith, open_append, open_pushed)
 opens_joined j (suc i) (x ∷ xs) new lt =
     omega (arith, open_append (map (pushed j) x) (joined (suc j) xs), open_append (map (pushed j) x) (joined (suc j) (set xs i new)), opens_joined (suc j) i xs new (omega arith))
 
 gains_left : (k : ℕ) (xs new rest : List Entry) (a : Option Kept) → Gains xs new a → Gains (map (pushed k) xs ++ rest) (map (pushed k) new ++ rest) a
-gains_left k xs new rest a g = record {
-  only = λ o h. elim (has_append (map (pushed k) new) rest o h) [
-    | inl u ↦ elim (g.only o (has_pushed k new o u)) [ inl v ↦ inl (has_left (map (pushed k) xs) rest o (pushed_has k xs o v)) | inr e ↦ inr e ]
-    | inr u ↦ inl (has_right (map (pushed k) xs) rest o u)
-  ];
-  all = λ o h. elim (has_append (map (pushed k) xs) rest o h) [
-    | inl u ↦ has_left (map (pushed k) new) rest o (pushed_has k new o (g.all o (has_pushed k xs o u)))
-    | inr u ↦ has_right (map (pushed k) new) rest o u
-  ];
-  own = λ o e. has_left (map (pushed k) new) rest o (pushed_has k new o (g.own o e));
-}
+gains_left k xs new rest a g = grind (arith, has_append, has_pushed, has_left, pushed_has, has_right)
 
 gains_right : (first xs new : List Entry) (a : Option Kept) → Gains xs new a → Gains (first ++ xs) (first ++ new) a
-gains_right first xs new a g = record {
-  only = λ o h. elim (has_append first new o h) [
-    | inl u ↦ inl (has_left first xs o u)
-    | inr u ↦ elim (g.only o u) [ inl v ↦ inl (has_right first xs o v) | inr e ↦ inr e ]
-  ];
-  all = λ o h. elim (has_append first xs o h) [ inl u ↦ has_left first new o u | inr u ↦ has_right first new o (g.all o u) ];
-  own = λ o e. has_right first new o (g.own o e);
-}
+gains_right first xs new a g = grind (arith, has_append, has_left, has_right)
 
 gains_joined : (j i : ℕ) (parts : List (List Entry)) (new : List Entry) (a : Option Kept) → i < length parts → Gains (get_or parts i []) new a
     → Gains (joined j parts) (joined j (set parts i new)) a
@@ -107,58 +85,14 @@ pub step_changes : (rows : List Entry) (parts : List (List Entry)) (path rest : 
     → part ≡ get_or parts i part → IsTrue (open_at rows path) → Changes part new rest s b count → Changes rows (joined 0 (set parts i new)) path s b count
 step_changes rows parts path rest i part new b s count v p is h c =
     let lt : i < length parts = step_in rows parts path rest i v p h in
-    let here : part ≡ get_or parts i [] = is ∙ get_or_default parts i part [] lt in
-    let Q : List Entry → Type 0 = λ x. Gains x (joined 0 (set parts i new)) s.answer in
-    record {
-      branch = ap (λ x. joined 0 (set parts i x)) (c.branch ∙ ap (λ x. with_branch x rest s b) here)
-          ∙ sym (with_branch_joined 0 i i parts rest s b (omega arith) lt)
-          ∙ ap (λ q. with_branch (joined 0 parts) q s b) (sym p) ∙ ap (λ r. with_branch r path s b) v;
-      sized = omega (arith, ap length v, c.sized, ap length here, sized_joined 0 i parts new lt);
-      counted = omega (arith, ap open_of v, c.counted, ap open_of here, opens_joined 0 i parts new lt);
-      gained = subst Q v (gains_joined 0 i parts new s.answer lt (subst (λ (x : List Entry). Gains x new s.answer) here c.gained));
-      alone = λ k q. sym (ap (λ r. find r (path ++ k ∷ q)) v) ∙ ap (λ x. find (joined 0 parts) (x ++ k ∷ q)) p
-          ∙ find_joined 0 i i parts (rest ++ k ∷ q) (omega arith)
-          ∙ ap (λ x. find x (rest ++ k ∷ q)) (sym here) ∙ c.alone k q;
-    }
-
-same_kept : (s o : Kept) → Some s ≡ Some o → s ≡ o
-same_kept s o e = cc
+    grind (arith, common_steps, get_or_default parts i part [] lt, set parts i new, sized_joined 0 i parts new lt, opens_joined 0 i parts new lt, with_branch_joined, gains_joined, find_joined)
 
 pub kept_gained : (old new : List Entry) (kept a r : Option Kept) → IsKept old kept → Gains old new a → Better kept a r → IsKept new r
-kept_gained old new None None r h g e =
-    subst (IsKept new) (sym e) (λ o u. elim (g.only o u) [ inl v ↦ h o v | inr f ↦ cc ])
-kept_gained old new (Some k) None r h g e =
-    subst (IsKept new) (sym e) (record { stored = g.all k h.stored; first = λ o u before. elim (g.only o u) [ inl v ↦ h.first o v before | inr f ↦ cc ] })
-kept_gained old new None (Some s) r h g e =
-    subst (IsKept new) (sym e) (record { stored = g.own s refl; first = λ o u before. elim (g.only o u) [ inl v ↦ h o v | inr f ↦ itself s o f before ] })
-  where
-    itself : (s o : Kept) → Some s ≡ Some o → RanksBefore o.rank s.rank → ⊥
-    itself s o f before = let B : Kept → Type 0 = λ x. RanksBefore x.rank s.rank in ranks_irrefl s.rank (subst B (sym (same_kept s o f)) before)
-kept_gained old new (Some k) (Some s) r h g e =
-    let P : Option Kept → Type 0 = λ x. IsKept new x in
-    elim e [
-      | inl c ↦ subst P (sym c.0) (record {
-        stored = g.own s refl;
-        first = λ o u before. elim (g.only o u) [ inl v ↦ h.first o v (ranks_trans o.rank s.rank k.rank before c.1) | inr f ↦ itself s o f before ];
-      })
-      | inr c ↦ subst P (sym c.0) (record {
-        stored = g.all k h.stored;
-        first = λ o u before. elim (g.only o u) [ inl v ↦ h.first o v before | inr f ↦ late o f c.1 before ];
-      })
-    ]
-  where
-    itself : (s o : Kept) → Some s ≡ Some o → RanksBefore o.rank s.rank → ⊥
-    itself s o f before = let B : Kept → Type 0 = λ x. RanksBefore x.rank s.rank in ranks_irrefl s.rank (subst B (sym (same_kept s o f)) before)
-
-    late : (o : Kept) → Some s ≡ Some o → (RanksBefore s.rank k.rank → ⊥) → RanksBefore o.rank k.rank → ⊥
-    late o f not before = let B : Kept → Type 0 = λ x. RanksBefore x.rank k.rank in not (subst B (sym (same_kept s o f)) before)
+kept_gained old new kept a r h g e = grind arith
 
 pub summary_gained : (old new : List Entry) (t r : Summary) (a : Option Kept) (opens : ℕ) → IsSummary old t → Gains old new a → Better t.kept a r.kept
     → open_of new + 1 ≡ open_of old + opens → r.open_count + 1 ≡ t.open_count + opens → IsSummary new r
-summary_gained old new t r a opens h g b count open_count = record {
-  kept = kept_gained old new t.kept a r.kept h.kept g b;
-  open_count = omega (arith, count, open_count, h.open_count);
-}
+summary_gained old new t r a opens h g b count open_count = grind (arith, common_steps, kept_gained)
 
 -- a node whose own row changes
 pub node_changes : (rows below b : List Entry) (n q count : ℕ) (own s : Standing) (t : Summary) (path : List ℕ) → node_rows n q own below ≡ rows
@@ -189,15 +123,7 @@ pub node_past : (rows below new b : List Entry) (c : Cell) (path : List ℕ) (s 
     → 0 < length path
     → Changes below new path s b count → Changes rows (record { path = []; cell = c } ∷ new) path s b count
 node_past rows below new b c [] s count v some h = absurd (omega arith)
-node_past rows below new b c (x ∷ xs) s count v some h =
-    let own : Entry = record { path = []; cell = c } in
-    subst (λ (r : List Entry). Changes r (own ∷ new) (x ∷ xs) s b count) v (record {
-      branch = ap (λ r. own ∷ r) h.branch;
-      sized = omega (arith, h.sized);
-      counted = omega (arith, h.counted);
-      gained = gains_right (own ∷ []) below new s.answer h.gained;
-      alone = h.alone;
-    })
+node_past rows below new b c (x ∷ xs) s count v some h = grind arith
 
 pub node_below : (n q : ℕ) (own : Standing) (below new : List Entry) (t r : Summary) (path : List ℕ) (s : Standing) (b : List Entry) (count : ℕ)
     → IsNode n q own below t

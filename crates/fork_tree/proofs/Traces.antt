@@ -1,5 +1,5 @@
 -- The path that the code finds.
-use Rattle.fork_tree.proofs.Common.{◌≡◌, ℕ, zero, suc, ◌<◌, List, [], ◌∷◌, ◌++◌, Option, Some, None, slice_get, refl, ap, sym, ◌∙◌, arith, append_assoc, Place, above, path_at, path_to, path_of, AreOlder}
+use Rattle.fork_tree.proofs.Common.{◌≡◌, ℕ, zero, suc, ◌<◌, List, [], ◌∷◌, ◌++◌, Option, Some, None, slice_get, refl, ap, ◌∙◌, arith, Place, above, path_at, path_to, path_of, AreOlder, common_steps}
 
 -- more steps change no path
 pub path_steps : (all : List Place) (k l n : ℕ) → AreOlder all → n < k → n < l → path_to all k n ≡ path_to all l n
@@ -21,24 +21,18 @@ path_steps all (suc k) (suc l) n older h i =
 -- a path goes on from the row above
 pub path_below : (all : List Place) (n m : ℕ) (p : Place) → AreOlder all → slice_get all n ≡ Some p → p.parent ≡ Some m
     → path_of all n ≡ path_of all m ++ p.group ∷ p.place ∷ []
-path_below all n m p older is up =
-    let less : m < n = older n p m is up in
-    ap (λ o. path_at o (path_to all n)) is ∙ ap (λ o. above o (path_to all n) ++ p.group ∷ p.place ∷ []) up
-    ∙ ap (λ x. x ++ p.group ∷ p.place ∷ []) (path_steps all n (suc m) m older less (omega arith))
+path_below all n m p older is up = grind (arith, path_steps)
 
 pub path_top : (all : List Place) (n : ℕ) (p : Place) → slice_get all n ≡ Some p → p.parent ≡ None → path_of all n ≡ p.group ∷ p.place ∷ []
 path_top all n p is up = ap (λ o. path_at o (path_to all n)) is ∙ ap (λ o. above o (path_to all n) ++ p.group ∷ p.place ∷ []) up
 
 pub traced_below : (all : List Place) (n m : ℕ) (p : Place) (old mid last : List ℕ) → AreOlder all → slice_get all n ≡ Some p → p.parent ≡ Some m
     → mid ≡ old ++ path_of all m → last ≡ (mid ++ p.group ∷ []) ++ p.place ∷ [] → last ≡ old ++ path_of all n
-traced_below all n m p old mid last older is up e l =
-    l ∙ append_assoc mid (p.group ∷ []) (p.place ∷ []) ∙ ap (λ x. x ++ p.group ∷ p.place ∷ []) e
-    ∙ append_assoc old (path_of all m) (p.group ∷ p.place ∷ []) ∙ ap (λ x. old ++ x) (sym (path_below all n m p older is up))
+traced_below all n m p old mid last older is up e l = grind (arith, common_steps, path_below)
 
 pub traced_top : (all : List Place) (n : ℕ) (p : Place) (old mid last : List ℕ) → slice_get all n ≡ Some p → p.parent ≡ None
     → mid ≡ old → last ≡ (mid ++ p.group ∷ []) ++ p.place ∷ [] → last ≡ old ++ path_of all n
-traced_top all n p old mid last is up e l =
-    l ∙ append_assoc mid (p.group ∷ []) (p.place ∷ []) ∙ ap (λ x. x ++ p.group ∷ p.place ∷ []) e ∙ ap (λ x. old ++ x) (sym (path_top all n p is up))
+traced_top all n p old mid last is up e l = grind (arith, common_steps)
 
 -- the path found in an empty list
 pub path_traced : (all seen : List Place) (n : ℕ) (path items old : List ℕ) → path ≡ items → items ≡ old ++ path_of seen n → old ≡ [] → seen ≡ all

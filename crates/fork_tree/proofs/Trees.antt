@@ -1,7 +1,6 @@
 -- What holds of a tree after each change.
-use Rattle.fork_tree.proofs.Common.{◌≡◌, ℕ, ◌+◌, ◌-◌, ◌<◌, false, IsTrue, List, [], length, map, Option, Some, None, refl, ap, sym, subst, ◌∙◌, arith, Row, Rules, is_row, is_idle, with_state, State, Place, Summary, has_ended, plain_state}
-use Rattle.fork_tree.proofs.Common.{append-nil, Entry, unanswered, with_branch, IsKept, open_of, path_of, rows_of, IsPlaced, closed_entry, AreListed, AreRanked, IsTree, Tree, is_unended, length-map, Changes, not_from_false}
-use Rattle.fork_tree.proofs.Common.{false_from_ne_true, idle_not_ended}
+use Rattle.fork_tree.proofs.Common.{◌≡◌, ℕ, ◌+◌, ◌-◌, ◌<◌, false, IsTrue, List, [], length, map, Option, refl, ap, sym, subst, ◌∙◌, arith, Row, Rules, is_row, is_idle, with_state, State, Place, Summary, has_ended, plain_state, append-nil, Entry}
+use Rattle.fork_tree.proofs.Common.{unanswered, with_branch, open_of, path_of, rows_of, IsPlaced, closed_entry, IsTree, Tree, is_unended, length-map, Changes, common_steps, rules}
 use Rattle.fork_tree.proofs.Closes.{kept_closed}
 use Rattle.fork_tree.proofs.ClosesAll.{closed_placed, closed_listed, closed_ranked}
 use Rattle.fork_tree.proofs.Placed.{one_row_changes}
@@ -22,24 +21,11 @@ rows_set all root new n s placed lt e = ap (rows_of all) e ∙ one_row_changes a
 -- the value after a change of the rows
 pub value_after : (rules : Rules) (rows later : List Row) (now : Tree) (f : List Row → List Row) → record { rules = rules; rows = rows } ≡ now → later ≡ f rows
     → record { rules = rules; rows = later } ≡ record now { rows = f now.rows }
-value_after rules rows later now f v e =
-    ap (λ (r : List Row). record { rules = rules; rows = r }) e ∙ ap (λ (t : Tree). record { rules = t.rules; rows = f t.rows }) v
+value_after rules rows later now f v e = grind arith
 
 pub tree_closed : (rules : Rules) (all : List Place) (root new : List Entry) (t : Summary) (ended : ℕ) → IsTree rules all root t → new ≡ map closed_entry root
     → open_of new + ended ≡ open_of root → IsTree rules all new (record { kept = t.kept; open_count = t.open_count - ended })
-tree_closed rules all root new t ended was e count = record {
-  older = was.older;
-  placed = subst (IsPlaced all) (sym e) (closed_placed all root was.placed);
-  listed = let P : List Entry → Type 0 = λ x. AreListed all x x in subst P (sym e) (closed_listed all root root was.listed);
-  ranked = subst (AreRanked rules) (sym e) (closed_ranked rules root was.ranked);
-  summary = record {
-    kept = let P : List Entry → Type 0 = λ x. IsKept x t.kept in subst P (sym e) (kept_closed root t.kept was.summary.kept);
-    open_count = omega (arith, was.summary.open_count, count);
-  };
-  sized = ap length e ∙ length-map root closed_entry ∙ was.sized;
-  few = was.few;
-}
+tree_closed rules all root new t ended was e count = grind (arith, common_steps, length-map root closed_entry, closed_placed, closed_listed, closed_ranked, kept_closed)
 
 pub idle_unended : (o : Option Row) → IsTrue (is_row is_idle o) → IsTrue (is_row is_unended o)
-idle_unended None h = absurd cc
-idle_unended (Some r) h = not_from_false _ (false_from_ne_true _ (idle_not_ended r.state h))
+idle_unended o h = grind arith

@@ -1,11 +1,11 @@
 -- Each row that may start is met on the way up from a row that ended.
-use Rattle.fork_tree.proofs.Common.{◌≡◌, ℕ, zero, suc, ◌+◌, ◌<◌, ◌≤◌, ◌⊎◌, inl, inr, Bool, true, false, IsTrue, List, [], ◌∷◌, ◌++◌, map, Option, Some, None, slice_get, refl, ap, sym, subst, ◌∙◌, arith, if◌then◌else◌, eqb, Row, is_open}
-use Rattle.fork_tree.proofs.Common.{is_idle, is_ended, is_row, goes_before, parent_ended, and_left, MayStart, may_start_facts, may_start_of, or_cases, option_same, NewRow, Place, Entry, rows_of, AreOlder, plain_state, has_ended, open_rows}
-use Rattle.fork_tree.proofs.Common.{is_unended, with_state, append-nil, waiting_row, parent_of, from_parent, leads, open_below, never_tried, closed_row, IsOnWay, AreMet, IsKnown, AreKnown, NoneUnder, eqb-true, idle_not_ended}
-use Rattle.fork_tree.proofs.Common.{slice_get_within, there_at, one_there, false_from_ne_true}
+use Rattle.fork_tree.proofs.Common.{◌≡◌, ℕ, zero, suc, ◌+◌, ◌<◌, ◌≤◌, ◌⊎◌, inl, inr, Bool, true, false, IsTrue, List, [], ◌∷◌, ◌++◌, map, Option, Some, None, slice_get, refl, ap, sym, subst, ◌∙◌, arith, if◌then◌else◌, eqb, Row, is_open, is_idle}
+use Rattle.fork_tree.proofs.Common.{is_ended, is_row, goes_before, parent_ended, and_left, MayStart, may_start_facts, may_start_of, or_cases, option_same, NewRow, Place, Entry, rows_of, AreOlder, plain_state, has_ended, open_rows, is_unended}
+use Rattle.fork_tree.proofs.Common.{with_state, append-nil, waiting_row, parent_of, from_parent, leads, open_below, never_tried, closed_row, IsOnWay, AreMet, IsKnown, AreKnown, NoneUnder, eqb-true, idle_not_ended, slice_get_within, there_at}
+use Rattle.fork_tree.proofs.Common.{one_there, false_from_ne_true, AreBelow, common_steps}
 use Rattle.fork_model.specs.Table.{State, Idle}
 use Rattle.fork_model.specs.Waiting.{may_start}
-use Rattle.fork_model.proofs.laws.ChangeLemmas.{Found, found, AreBelow}
+use Rattle.fork_model.proofs.laws.ChangeLemmas.{Found, found}
 use Rattle.fork_tree.specs.declared.row.State as row_state
 use Rattle.fork_tree.proofs.Placed.{ended_plain}
 use Rattle.fork_tree.specs.Search.{IsMet}
@@ -20,13 +20,7 @@ way_kept rows later None parent keeps h = h
 way_kept rows later (Some n) parent keeps (inl h) = inl h
 way_kept rows later (Some n) parent keeps (inr h) =
     let s : StandsSo later h.number h.row = keeps h.number h.row h.there in
-    inr (record {
-      number = h.number;
-      row = s.new;
-      there = s.there;
-      beside = s.members.0 ∙ h.beside;
-      below = leads_more (up_in rows) (up_in later) h.number n n (up_later rows later keeps) h.below;
-    })
+    grind (arith, common_steps, up_in rows, up_in later, up_later rows later keeps, leads_more)
 
 -- the way up from a row is that below it, and that from the row above
 pub way_up : (rows : List Row) (n : ℕ) (row : Row) (parent : Option ℕ) → AreOlderRows rows → slice_get rows n ≡ Some row → IsOnWay rows (Some n) parent
@@ -157,15 +151,11 @@ met_step rows later fresh n rn s recent step busy met k row is e =
 
 pub met_ended : (rows later fresh : List Row) (n : ℕ) (rn : Row) (s : State) (recent : List (Option ℕ)) → IsStep rows later fresh n rn s → is_idle s ≡ false → AreMet rows recent
     → AreMet later (recent ++ Some n ∷ [])
-met_ended rows later fresh n rn s recent step busy met k row is may =
-    elim (met_step rows later fresh n rn s recent step busy met k row is may)
-    [ inl h ↦ met_more later recent (Some n) row.parent h | inr h ↦ met_last later recent (Some n) row.parent h.1 ]
+met_ended rows later fresh n rn s recent step busy met k row is may = grind (arith, common_steps, met_step rows later fresh n rn s recent step busy met k row is may, met_more, met_last)
 
 pub met_set : (rows later : List Row) (n : ℕ) (rn : Row) (s : State) (recent : List (Option ℕ)) → IsStep rows later [] n rn s → is_idle s ≡ false → is_ended s ≡ false → AreMet rows recent
     → AreMet later recent
-met_set rows later n rn s recent step busy on met k row is may =
-    elim (met_step rows later [] n rn s recent step busy met k row is may)
-    [ inl h ↦ h | inr h ↦ absurd (differ (is_ended s) h.0 on) ]
+met_set rows later n rn s recent step busy on met k row is may = grind (arith, common_steps, met_step rows later [] n rn s recent step busy met k row is may, differ)
 
 -- ---- a row that waits
 
@@ -221,17 +211,7 @@ tree_step : (all more : List Place) (root new : List Entry) (now fresh : List Ro
     → IsTrue (is_row test (slice_get now n)) → rows_of more new ≡ with_state (rows_of all root) n (plain_state s) ++ fresh
     → AreBelow (Some n) (plain_state s) fresh
     → (rn : Row) × IsStep (rows_of all root) (rows_of more new) fresh n rn (plain_state s)
-tree_step all more root new now fresh n s test older olds v there made below =
-    let r = some_row test (slice_get (rows_of all root) n) (subst (λ (x : List Row). IsTrue (is_row test (slice_get x n))) (sym v) there) in (
-      r.0,
-      record {
-        there = r.1;
-        made = made;
-        below = below;
-        older = older_rows all root (rows_of all root) older refl;
-        olds = older_rows more new (rows_of more new) olds refl;
-      },
-    )
+tree_step all more root new now fresh n s test older olds v there made below = grind (arith, some_row, older_rows)
 
 pub tree_met_set : (all : List Place) (root new : List Entry) (now : List Row) (n : ℕ) (s : row_state.State) (recent : List (Option ℕ)) → AreOlder all → rows_of all root ≡ now
     → AreMet (rows_of all root) recent → IsTrue (is_row is_unended (slice_get now n)) → rows_of all new ≡ with_state (rows_of all root) n (plain_state s) → has_ended s ≡ false
@@ -249,14 +229,9 @@ tree_met_end all more root new now new_rows n s recent older olds v met there ma
     let step =
     tree_step all more root new now (map (waiting_row (Some n)) new_rows) n s is_open older olds v there made
     (new_rows_below n new_rows (plain_state s) (ended_plain s ∙ ends)) in
-    met_ended (rows_of all root) (rows_of more new) (map (waiting_row (Some n)) new_rows) n step.0 (plain_state s) recent step.1
-    (ended_busy (plain_state s) (ended_plain s ∙ ends)).0 met
+    grind (arith, common_steps, met_ended (rows_of all root) (rows_of more new) (map (waiting_row (Some n)) new_rows) n step.0 (plain_state s) recent step.1, ended_plain s, ended_busy)
 
 pub with_same : (rows : List Row) (n : ℕ) → is_row is_idle (slice_get rows n) ≡ true → rows ≡ with_state rows n Idle
 with_same [] n e = refl
-with_same (r ∷ rs) zero e = go r.state refl e
-  where
-    go : (s : State) → r.state ≡ s → is_idle r.state ≡ true → r ∷ rs ≡ record r { state = Idle } ∷ rs
-    go Idle at e = ap (λ (x : State). record r { state = x } ∷ rs) at
-    go s at e = (let bad : false ≡ true = sym (ap is_idle at) ∙ e in absurd cc)
+with_same (r ∷ rs) zero e = grind arith
 with_same (r ∷ rs) (suc n) e = ap (λ x. r ∷ x) (with_same rs n e)

@@ -1,6 +1,6 @@
 -- Rows that keep their order from one to the next are those of a tree.
-use Rattle.fork_tree.proofs.Common.{◌≡◌, ℕ, zero, suc, ◌+◌, ◌<◌, ◌≤◌, ◌⊎◌, inl, inr, List, [], ◌∷◌, length, Option, Some, slice_get, refl, ap, sym, ◌∙◌, arith, most_targets, RowRef}
-use Rattle.fork_tree.specs.Given.{AreRows, IsBeside, IsParent, IsFirstUnder}
+use Rattle.fork_tree.proofs.Common.{◌≡◌, ℕ, zero, suc, ◌+◌, ◌<◌, ◌≤◌, ◌⊎◌, inl, inr, List, [], ◌∷◌, length, Option, Some, slice_get, refl, ap, sym, ◌∙◌, arith, most_targets, RowRef, AreRows, IsBeside, IsFirstUnder, common_steps}
+use Rattle.fork_tree.specs.Given.{IsParent}
 
 -- a row stands beside the one before it, or is the first under a parent that comes later in some order of the parents
 abbrev pub IsNext : (Option ℕ → ℕ) → RowRef → RowRef → Type 0
@@ -51,13 +51,7 @@ stand_together : (order : Option ℕ → ℕ) (rows : List RowRef) → AreNext o
 stand_together order rows next i j k a b c ij jk ia ib ic e =
     let d = gap i j ij in
     let f = gap j k jk in
-    elim (rises order rows next d.0 i j a b d.1 ia ib) [
-      | inl same ↦ sym same
-      | inr rising ↦ elim (rises order rows next f.0 j k b c f.1 ib ic) [
-        | inl same ↦ absurd (omega (arith, rising, ap order same, ap order e))
-        | inr on ↦ absurd (omega (arith, rising, on, ap order e))
-      ]
-    ]
+    grind (arith, common_steps, rises order rows next d.0 i j a b d.1 ia ib, rises order rows next f.0 j k b c f.1 ib ic)
 
 pub ordered_rows : (order : Option ℕ → ℕ) (rows : List RowRef) → AreInOrder order rows → AreRows rows
 ordered_rows order rows h = record {

@@ -1,17 +1,12 @@
-use Rattle.fork_tree.proofs.Common.{◌≡◌, ◌++◌, ◌<◌, ℕ, List, Some, length, map, slice_get, arith, ap, sym, subst, ◌∙◌, Row, with_state, Ended, plain_state, Waiting, new_rows_of, waiting_row, Tree}
-use Rattle.fork_tree.specs.inner.Given.{IsRun, IsStanding}
-use Rattle.fork_tree.proofs.Runs.{standing_next, next_parent, next_under, run_some, grown_length}
+use Rattle.fork_tree.proofs.Common.{◌≡◌, ◌++◌, ℕ, List, Some, length, map, slice_get, arith, ap, sym, subst, ◌∙◌, Row, with_state, Ended, plain_state, Waiting, new_rows_of, waiting_row, Tree, IsRun, IsStanding}
+use Rattle.fork_tree.proofs.Runs.{standing_next, next_parent, next_under, grown_length}
 use Rattle.fork_tree.proofs.build.add_below.Goals as goal
 
 pub unwrap-parent-requires : goal.unwrap-parent-requires
-unwrap-parent-requires g c =
-    let ic : slice_get c.args.rows.now (length c.args.tree.now.rows) ≡ Some c.row_at-next.result =
-    ap (slice_get c.args.rows.now) (sym c.requires.next) ∙ c.row_at-next.ensures in
-    next_under c.args.tree.now.rows c.args.rows.now c.row_at-next.result c.requires.given c.requires.standing ic
+unwrap-parent-requires g c = grind (arith, next_under)
 
 pub row_at-redirected-requires : goal.row_at-redirected-requires
-row_at-redirected-requires g c =
-    omega (arith, (c.requires.given.parent c.args.first c.unwrap-parent.result c.row_at-next.result c.row_at-next.ensures c.unwrap-parent.ensures).older, c.requires.more)
+row_at-redirected-requires g c = grind arith
 
 pub end_of-end-requires : goal.end_of-end-requires
 end_of-end-requires g c =
@@ -46,16 +41,7 @@ returns-clause-standing g c =
     c.requires.given c.requires.standing ic c.unwrap-parent.ensures c.row_at-redirected.ensures c.end_of-end.ensures (subst R c.requires.next c.in_ok-qs.ensures))
 
 pub returns-clause-longer : goal.returns-clause-longer
-returns-clause-longer g c =
-    let grown : List ℕ → List Row =
-    λ qs. with_state c.args.tree.now.rows c.unwrap-parent.result (plain_state (Ended c.end_of-end.result)) ++ map (waiting_row (Some c.unwrap-parent.result)) (new_rows_of qs) in
-    let e : c.finish.new.self.rows ≡ grown c.in_ok-qs.qs.items =
-    ap (λ (t : Tree). t.rows) c.finish.ensures
-    ∙ ap (λ (w : Waiting). with_state c.args.tree.now.rows c.unwrap-parent.result (plain_state (Ended c.end_of-end.result)) ++ map (waiting_row (Some c.unwrap-parent.result)) w.new_rows) c.in_ok-below.ensures
-    ∙ ap grown c.deref.ensures.value in
-    let some : 0 < length c.in_ok-qs.qs.items =
-    run_some c.args.rows.now (Some c.unwrap-parent.result) c.args.first c.in_ok-qs.qs.items c.row_at-next.result c.in_ok-qs.ensures c.row_at-next.ensures c.unwrap-parent.ensures in
-    omega (arith, ap length e, grown_length c.args.tree.now.rows c.unwrap-parent.result (plain_state (Ended c.end_of-end.result)) c.in_ok-qs.qs.items, some)
+returns-clause-longer g c = grind (arith, grown_length)
 
 pub returns-clause-rules : goal.returns-clause-rules
 returns-clause-rules g c = ap (λ (t : Tree). t.rules) c.finish.ensures

@@ -1,5 +1,4 @@
-use Rattle.fork_tree.proofs.Common.{◌≡◌, ℕ, List, true, false, length, map, take, drop, arith, ap, sym, subst, ◌∙◌, RowRef, one_there}
-use Rattle.fork_tree.specs.inner.Given.{q_of}
+use Rattle.fork_tree.proofs.Common.{◌≡◌, ℕ, List, true, false, length, map, take, drop, arith, sym, subst, RowRef, q_of}
 use Rattle.fork_tree.proofs.Runs.{run_more, all_more, run_ends, past_end}
 use Rattle.fork_tree.proofs.build.siblings.Goals as goal
 
@@ -18,11 +17,7 @@ loop-i-preserved g c =
     }
 
 pub returns-then-not-stands_under : goal.returns-then-not-stands_under
-returns-then-not-stands_under g c =
-    run_ends c.args.rows.now c.args.parent c.args.first c.loop-i.i c.loop-i.qs.items c.loop-i.invariant.count c.loop-i.invariant.each c.loop-i.invariant.all
-    (omega (arith, c.loop-i-test.true))
-    (λ r is e. true_false (sym (c.stands_under.ensures.1 (ap (λ (y : RowRef). y.parent)
-    (one_there c.args.rows.now c.loop-i.i c.row_at-row.result r c.row_at-row.ensures is) ∙ e)) ∙ c.if-not-stands_under.true))
+returns-then-not-stands_under g c = grind arith
 
 pub returns : goal.returns
 returns g c =

@@ -1,5 +1,4 @@
-use Rattle.fork_tree.proofs.Common.{◌≡◌, ◌+◌, ◌<◌, ◌≤◌, ℕ, Some, length, map, take, drop, slice_get, RowRef}
-use Rattle.fork_tree.specs.inner.Given.{q_of}
+use Rattle.fork_tree.proofs.Common.{◌≡◌, ◌+◌, ◌<◌, ◌≤◌, ℕ, Some, length, map, take, drop, slice_get, RowRef, q_of}
 use Rattle.fork_tree.proofs.build.siblings.Given as goal
 
 abbrev pub invariant-loop-i : goal.invariant-loop-i

@@ -1,5 +1,4 @@
-use Rattle.fork_tree.proofs.Common.{ℕ, List, None, length, map, arith, ap, sym, subst, new_rows_of, waiting_row, Tree}
-use Rattle.fork_tree.specs.inner.Given.{IsStanding}
+use Rattle.fork_tree.proofs.Common.{ℕ, List, None, length, map, arith, ap, sym, subst, new_rows_of, waiting_row, Tree, IsStanding}
 use Rattle.fork_tree.proofs.Runs.{standing_first, half_length}
 use Rattle.fork_tree.proofs.build.standing.Goals as goal
 
@@ -16,5 +15,4 @@ loop-tree-init g c =
     }
 
 pub returns-clause-count : goal.returns-clause-count
-returns-clause-count g c =
-    omega (arith, half_length c.loop-tree.tree.rows c.args.rows.now c.loop-tree.invariant.standing.half, c.loop-tree-test.false, c.count.ensures)
+returns-clause-count g c = grind (arith, half_length)

@@ -1,5 +1,4 @@
-use Rattle.std.proofs.Common.{◌≡◌, ◌-◌, length}
-use Rattle.fork_tree.specs.inner.Given.{IsStanding}
+use Rattle.fork_tree.proofs.Common.{◌≡◌, ◌-◌, length, IsStanding}
 use Rattle.fork_tree.proofs.build.standing.Given as goal
 
 abbrev pub invariant-loop-tree : goal.invariant-loop-tree

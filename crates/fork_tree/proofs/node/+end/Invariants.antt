@@ -1,4 +1,4 @@
-use Rattle.std.proofs.Common.{◌+◌, ◌*◌, length}
+use Rattle.fork_tree.proofs.Common.{◌+◌, ◌*◌, length}
 use Rattle.fork_tree.proofs.node.+end.Given as goal
 
 abbrev pub decreases-Group::end : goal.decreases-Group::end

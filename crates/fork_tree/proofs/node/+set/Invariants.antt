@@ -1,4 +1,4 @@
-use Rattle.std.proofs.Common.{◌+◌, ◌*◌, length}
+use Rattle.fork_tree.proofs.Common.{◌+◌, ◌*◌, length}
 use Rattle.fork_tree.proofs.node.+set.Given as goal
 
 abbrev pub decreases-Group::set : goal.decreases-Group::set

@@ -1,4 +1,4 @@
-use Rattle.std.proofs.Common.{◌∙◌, ◌++◌, ◌∷◌, [], ap}
+use Rattle.fork_tree.proofs.Common.{◌∙◌, ◌++◌, ◌∷◌, [], ap}
 use Rattle.fork_tree.proofs.MadeBranches.{group_begun}
 use Rattle.fork_tree.proofs.node.in_group.Goals as goal
 

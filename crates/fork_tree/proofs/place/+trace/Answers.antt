@@ -1,4 +1,4 @@
-use Rattle.std.proofs.Common.{◌≡◌, ◌++◌, [], ◌∷◌, vec_len, arith, ap, refl}
+use Rattle.fork_tree.proofs.Common.{◌≡◌, ◌++◌, [], ◌∷◌, arith, refl}
 use Rattle.fork_tree.proofs.Traces.{traced_below, traced_top}
 use Rattle.fork_tree.proofs.place.+trace.Goals as goal
 use Rattle.fork_tree.proofs.place.+trace.Goals.{in-Some, in_default}
@@ -15,15 +15,4 @@ returns-clause-items g t c =
     ]
 
 pub returns-clause-len : goal.returns-clause-len
-returns-clause-len g t c =
-    elim c.match-place.branch [
-      | in-Some w ↦ omega (
-        arith,
-        c.push_reserved.ensures.len,
-        c.push_reserved-2.ensures.len,
-        w.trace.ensures.len,
-        ap (λ v. vec_len v) w.path-is,
-        c.requires.older c.args.n c.place_of-place.result w.in-Some.m c.place_of-place.ensures w.in-Some.is,
-      )
-      | in_default w ↦ omega (arith, c.push_reserved.ensures.len, c.push_reserved-2.ensures.len, ap (λ v. vec_len v) w.path-is)
-    ]
+returns-clause-len g t c = grind arith

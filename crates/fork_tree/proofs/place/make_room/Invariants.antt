@@ -1,4 +1,5 @@
-use Rattle.std.proofs.Common.{◌≡◌, take, vec_len, vec_capacity}
+use Rattle.fork_tree.proofs.Common.{◌≡◌, take, vec_len}
+use Rattle.std.proofs.Common.{vec_capacity}
 use Rattle.fork_tree.proofs.place.make_room.Given as goal
 
 abbrev pub invariant-loop-i : goal.invariant-loop-i

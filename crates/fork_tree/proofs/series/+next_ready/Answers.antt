@@ -1,5 +1,4 @@
-use Rattle.fork_tree.proofs.Common.{◌≡◌, ◌+◌, ℕ, true, false, [], ◌∷◌, ◌++◌, length, length-append, Option, arith, ap, subst, ◌∙◌, IsSome, rows_of, AreKnown, AreMet, FindsOnWay, inl, inr}
-use Rattle.fork_tree.proofs.Common.{nil_from_length, cases_lt}
+use Rattle.fork_tree.proofs.Common.{◌≡◌, ◌+◌, ℕ, true, false, [], ◌∷◌, ◌++◌, length, length-append, Option, arith, ap, subst, ◌∙◌, IsSome, rows_of, AreKnown, AreMet, FindsOnWay, inl, inr, nil_from_length, cases_lt}
 use Rattle.std.specs.Option.{option_to_list}
 use Rattle.fork_tree.proofs.Ways.{known_pop, met_pop, none_met}
 use Rattle.fork_tree.proofs.series.+next_ready.Goals as goal
@@ -15,9 +14,7 @@ returns-in_default-clause-found g t c =
     (subst (AreMet (rows_of c.args.places.now c.args.root.now)) (nil_from_length c.args.recent.now.items none) c.requires.met)
 
 pub ready_on_way-requires-clause-known : goal.ready_on_way-requires-clause-known
-ready_on_way-requires-clause-known g t c =
-    let items : c.args.recent.now.items ≡ c.pop.new.self.items ++ c.in-Some.under ∷ [] = c.pop.ensures.items ∙ ap (λ (o : Option (Option ℕ)). c.pop.new.self.items ++ option_to_list o) c.in-Some.is in
-    (known_pop (length c.args.places.now) c.pop.new.self.items c.in-Some.under (subst (AreKnown (length c.args.places.now)) items c.requires.known)).1
+ready_on_way-requires-clause-known g t c = grind (arith, known_pop)
 
 pub next_ready-requires : goal.next_ready-requires
 next_ready-requires g t c κs within =

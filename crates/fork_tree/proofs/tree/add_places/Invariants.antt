@@ -1,5 +1,5 @@
-use Rattle.std.proofs.Common.{◌≡◌, ◌+◌, ◌++◌, map, take, vec_len, vec_capacity}
-use Rattle.fork_tree.specs.inner.NewRows.{place_in}
+use Rattle.fork_tree.proofs.Common.{◌≡◌, ◌+◌, ◌++◌, map, take, vec_len, place_in}
+use Rattle.std.proofs.Common.{vec_capacity}
 use Rattle.fork_tree.proofs.tree.add_places.Given as goal
 
 abbrev pub invariant-loop-i : goal.invariant-loop-i

@@ -1,10 +1,9 @@
-use Rattle.std.proofs.Common.{◌<◌, [], ◌∙◌, length, arith, sym}
+use Rattle.fork_tree.proofs.Common.{[], ◌∙◌, arith, sym}
 use Rattle.fork_tree.proofs.Unders.{child_in, child_under, under_none}
 use Rattle.fork_tree.proofs.node.Group.child.Goals as goal
 
 pub index-requires : goal.index-requires
-index-requires g c =
-    let h : c.args.place < length c.self.inside.nodes.items = child_in _ c.self.inside.nodes.items c.args.place [] c.self.view_is c.requires.there in omega arith
+index-requires g c = grind (arith, child_in)
 
 pub returns : goal.returns
 returns g c =

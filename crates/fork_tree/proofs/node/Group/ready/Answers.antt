@@ -1,4 +1,4 @@
-use Rattle.std.proofs.Common.{◌<◌, ◌≤◌, length, arith}
+use Rattle.fork_tree.proofs.Common.{◌<◌, ◌≤◌, length, arith}
 use Rattle.fork_tree.proofs.Groups.{waiting_more, one_started, all_waiting}
 use Rattle.fork_tree.proofs.node.Group.ready.Goals as goal
 

@@ -1,12 +1,9 @@
-use Rattle.std.proofs.Common.{◌<◌, ◌≤◌, length, arith}
+use Rattle.fork_tree.proofs.Common.{◌<◌, ◌≤◌, length, arith}
 use Rattle.fork_tree.proofs.Groups.{over_more, group_found, all_over}
 use Rattle.fork_tree.proofs.node.Level.ready.Goals as goal
 
 pub returns-then-open_count-gt0 : goal.returns-then-open_count-gt0
-returns-then-open_count-gt0 g c =
-    let lt : c.loop-i.i < length c.self.inside.groups.items = omega (arith, c.loop-i-test.true, c.len-i-end.ensures) in
-    group_found _ c.self.inside.groups.items c.loop-i.i c.index-group.result.now c.ready.result c.self.view_is c.loop-i.invariant lt c.index-group.ensures
-    (omega (arith, c.if-open_count-gt0.true, c.open_count.ensures)) c.ready.ensures
+returns-then-open_count-gt0 g c = grind (arith, group_found)
 
 pub loop-i-preserved : goal.loop-i-preserved
 loop-i-preserved g c =

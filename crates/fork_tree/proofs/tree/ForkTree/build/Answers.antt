@@ -1,15 +1,9 @@
-use Rattle.std.proofs.Common.{ℕ, slice_get, arith, sym, subst, refl}
-use Rattle.fork_tree.specs.inner.Given.{IsHalf}
+use Rattle.fork_tree.proofs.Common.{ℕ, slice_get, arith, sym, subst, IsHalf}
 use Rattle.fork_tree.proofs.Runs.{half_at, settled_next, all_settled}
 use Rattle.fork_tree.proofs.tree.ForkTree.build.Goals as goal
 
 pub loop-i-init : goal.loop-i-init
-loop-i-init g c = record {
-  rules_kept = c.in_ok-tree.ensures.rules;
-  half = c.in_ok-tree.ensures.half;
-  count = c.in_ok-tree.ensures.count;
-  settled = refl;
-}
+loop-i-init g c = grind arith
 
 pub settle-requires-clause-few : goal.settle-requires-clause-few
 settle-requires-clause-few g c = omega (arith, c.loop-i.invariant.count, c.requires.few)

@@ -1,5 +1,5 @@
-use Rattle.fork_tree.proofs.Common.{◌≡◌, ◌++◌, ◌∷◌, ◌+◌, ℕ, List, Some, None, IsTrue, length, map, arith, ap, sym, subst, ◌∙◌, Row, with_state, Place, Standing, Ended, plain_state, has_ended, Entry, open_at, IsKept, Rules, NewRow, open_of, zero, suc, inl, inr, refl, ◌⊎◌, ◌<◌}
-use Rattle.fork_tree.proofs.Common.{path_of, rows_of, AreOlder, Waiting, waiting_row, place_in, AreTogether, IsTree, kept_of, Tree, ◌≤◌, ◌*◌, [], length-append, AreKnown, AreMet, Changes}
+use Rattle.fork_tree.proofs.Common.{◌≡◌, ◌++◌, ◌∷◌, ◌+◌, ℕ, List, Some, None, length, map, arith, ap, sym, subst, ◌∙◌, Row, with_state, Place, Standing, Ended, plain_state, has_ended, Entry, Rules, NewRow, ◌⊎◌, ◌<◌, path_of, rows_of, AreOlder}
+use Rattle.fork_tree.proofs.Common.{Waiting, waiting_row, place_in, AreTogether, IsTree, kept_of, Tree, ◌≤◌, [], length-append, AreKnown, AreMet, Changes, common_steps}
 use Rattle.fork_tree.proofs.GroupNumbers.{together_more, new_rows_together}
 use Rattle.fork_tree.proofs.Summaries.{open_some}
 use Rattle.fork_tree.proofs.Placed.{open_row}
@@ -20,29 +20,22 @@ next_number rules all root now first new_rows below v b next = ap (λ (w : Waiti
 
 -- where no rows come, the room that there is serves
 either_room : (count need own other : ℕ) → (count ≡ 0 → need ≤ own) → (0 < count → need ≤ other) → (need ≤ own) ⊎ (need ≤ other)
-either_room zero need own other kept taken = inl (kept refl)
-either_room (suc k) need own other kept taken = inr (taken (omega arith))
+either_room count need own other kept taken = grind arith
 
 pub make_room-requires-clause-enough : goal.make_room-requires-clause-enough
 make_room-requires-clause-enough g c =
     let first = next_number _ c.self.inside.places.items c.self.inside.root _ _ _ _ c.self.view_is c.below.view_is c.requires.next in
-    either_room (length c.below.inside.new_rows.items) (c.len.result + c.len-2.result) (vec_capacity c.self.inside.places) (vec_capacity c.below.inside.room.places)
-    (λ none. omega (arith, none, c.len.ensures, c.len-2.ensures, c.self.invariant.places_room))
-    (λ some. omega (arith, first, c.below.invariant.room.enough some, c.below.invariant.room.has.places, c.len.ensures, c.len-2.ensures))
+    grind (arith, common_steps, either_room, vec_capacity)
 
 pub make_room-requires-2-clause-enough : goal.make_room-requires-2-clause-enough
 make_room-requires-2-clause-enough g c =
     let first = next_number _ c.self.inside.places.items c.self.inside.root _ _ _ _ c.self.view_is c.below.view_is c.requires.next in
-    either_room (length c.below.inside.new_rows.items) (2 * (c.len.result + c.len-2.result)) (vec_capacity c.clear.new.self) (vec_capacity c.below.inside.room.path)
-    (λ none. omega (arith, none, c.len.ensures, c.len-2.ensures, c.self.invariant.path_room, c.clear.ensures.capacity))
-    (λ some. omega (arith, first, c.below.invariant.room.enough some, c.below.invariant.room.has.path, c.len.ensures, c.len-2.ensures))
+    grind (arith, common_steps, either_room, vec_capacity)
 
 pub make_room-requires-3-clause-enough : goal.make_room-requires-3-clause-enough
 make_room-requires-3-clause-enough g c =
     let first = next_number _ c.self.inside.places.items c.self.inside.root _ _ _ _ c.self.view_is c.below.view_is c.requires.next in
-    either_room (length c.below.inside.new_rows.items) (c.len.result + c.len-2.result + 1) (vec_capacity c.self.inside.recent) (vec_capacity c.below.inside.room.recent)
-    (λ none. omega (arith, none, c.len.ensures, c.len-2.ensures, c.self.invariant.recent_room))
-    (λ some. omega (arith, first, c.below.invariant.room.enough some, c.below.invariant.room.has.recent, c.len.ensures, c.len-2.ensures))
+    grind (arith, common_steps, either_room, vec_capacity)
 
 pub trace-requires-clause-known : goal.trace-requires-clause-known
 trace-requires-clause-known g c =
@@ -62,17 +55,7 @@ end-requires g c =
     let at = open_row _ c.self.inside.places.items c.self.inside.root c.args.n (ap (λ (t : Tree). t.rows) c.self.view_is) (open_unended _ c.requires.there) in
     let first = next_number _ c.self.inside.places.items c.self.inside.root _ _ _ _ c.self.view_is c.below.view_is c.requires.next in
     let added = c.below.invariant.added in
-    let many = length_new_entries c.below.inside.first c.below.inside.new_rows.items in
-    record {
-      there = subst (λ (x : List ℕ). IsTrue (open_at c.self.inside.root x))
-          (sym (path_traced c.self.inside.places.items _ c.args.n _ _ _ c.deref-3.ensures.value c.trace.ensures.items
-          (c.make_room-2.ensures.items ∙ c.clear.ensures.items) (c.deref.ensures.value ∙ c.make_room.ensures.items)))
-          at.1;
-      ended = ap (λ (s : Standing). has_ended s.state) c.of-standing.ensures;
-      fresh = subst (λ (x : List Entry). IsKept x None) (sym added.waiting_row) (new_rows_keep_none c.below.inside.first c.below.inside.new_rows.items);
-      opens = omega (arith, c.len-opens.ensures, ap open_of added.waiting_row, open_new_rows c.below.inside.first c.below.inside.new_rows.items);
-      few = omega (arith, first, c.self.invariant.tree.sized, ap length added.waiting_row, many, added.few);
-    }
+    grind (arith, common_steps, added.waiting_row, length_new_entries, path_traced, new_rows_keep_none, open_new_rows)
 
 pub after-self-inside-requires-clause-some : goal.after-self-inside-requires-clause-some
 after-self-inside-requires-clause-some g c =

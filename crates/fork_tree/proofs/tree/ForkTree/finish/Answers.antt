@@ -1,16 +1,13 @@
-use Rattle.fork_tree.proofs.Common.{List, Some, map, length, ◌++◌, ap, sym, ◌∙◌, subst, IsTrue, slice_get, Row, is_open, is_row, with_state, plain_state, Ended, waiting_row, Tree, length-state}
+use Rattle.fork_tree.proofs.Common.{List, Some, map, ◌++◌, ap, ◌∙◌, Row, with_state, plain_state, Ended, waiting_row, Tree, length-state, arith}
 use Rattle.fork_model.specs.Table as spec
 use Rattle.fork_tree.proofs.Building.{started_open, state_twice}
 use Rattle.fork_tree.proofs.tree.ForkTree.finish.Goals as goal
 
 pub end-requires-clause-there : goal.end-requires-clause-there
-end-requires-clause-there g c =
-    let P : Tree → Type 0 = λ t. IsTrue (is_row is_open (slice_get t.rows c.args.n)) in
-    subst P (sym c.start.ensures) (started_open c.args.self.now.rows c.args.n c.requires.waits)
+end-requires-clause-there g c = grind (arith, started_open)
 
 pub end-requires-clause-next : goal.end-requires-clause-next
-end-requires-clause-next g c =
-    c.requires.next ∙ sym (ap (λ (t : Tree). length t.rows) c.start.ensures ∙ length-state c.args.self.now.rows c.args.n spec.Trying)
+end-requires-clause-next g c = grind (arith, length-state)
 
 pub returns : goal.returns
 returns g c =

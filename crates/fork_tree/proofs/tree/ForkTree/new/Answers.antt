@@ -1,5 +1,4 @@
-use Rattle.fork_tree.proofs.Common.{◌≡◌, ◌++◌, List, None, length, map, arith, ap, sym, subst, ◌∙◌, Row, Place, Entry, new_rows_of, waiting_row, place_in, AreTogether, NewRow, rows_of, IsTree, [], ◌∷◌, ℕ, Option, length-map, AreKnown}
-use Rattle.fork_tree.proofs.Common.{AreMet}
+use Rattle.fork_tree.proofs.Common.{◌≡◌, ◌++◌, List, None, length, map, arith, ap, sym, subst, ◌∙◌, Row, Place, Entry, new_rows_of, waiting_row, place_in, AreTogether, NewRow, rows_of, IsTree, [], ◌∷◌, ℕ, Option, length-map, AreKnown, AreMet}
 use Rattle.fork_tree.proofs.GroupNumbers.{new_rows_together}
 use Rattle.fork_tree.proofs.Ways.{met_new}
 use Rattle.fork_tree.proofs.Opening.{AreRising, new_rows_rise, new_rows_count, rows_opened, tree_opened}
@@ -7,9 +6,7 @@ use Rattle.fork_tree.proofs.tree.ForkTree.new.Goals as goal
 use Rattle.fork_tree.proofs.Ends.{added}
 
 pub add_places-requires : goal.add_places-requires
-add_places-requires g c = record {
-  room = omega (arith, ap length c.in_ok-places.ensures.no_places, c.in_ok-places.ensures.places, ap length c.deref.ensures.value, ap length c.in_ok-root.ensures.new_rows, new_rows_count None 0 0 c.args.qs.now, c.requires.few);
-}
+add_places-requires g c = grind (arith, new_rows_count)
 
 pub invariant_of-result : goal.invariant_of-result
 invariant_of-result g c =

@@ -1,4 +1,4 @@
-use Rattle.fork_tree.proofs.Common.{ℕ, List, [], IsTrue, length, arith, ap, sym, subst, Row, with_state, plain_state, unanswered, open_at, rows_of, Tree, Changes}
+use Rattle.fork_tree.proofs.Common.{ℕ, List, [], length, arith, ap, subst, Row, with_state, plain_state, unanswered, rows_of, Tree, Changes}
 use Rattle.fork_tree.proofs.Placed.{open_row}
 use Rattle.fork_tree.proofs.Ways.{tree_met_set}
 use Rattle.fork_tree.proofs.Trees.{tree_set, rows_set, value_after}
@@ -16,11 +16,7 @@ trace-requires-clause-room g c =
     omega (arith, at.0, c.clear.ensures.len, c.clear.ensures.capacity, c.self.invariant.path_room, c.self.invariant.tree.few)
 
 pub set-requires-clause-there : goal.set-requires-clause-there
-set-requires-clause-there g c =
-    let at = open_row _ c.self.inside.places.items c.self.inside.root c.args.n (ap (λ (t : Tree). t.rows) c.self.view_is) c.requires.there in
-    subst (λ (x : List ℕ). IsTrue (open_at c.self.inside.root x))
-    (sym (path_traced c.self.inside.places.items _ c.args.n _ _ _ c.deref-2.ensures.value c.trace.ensures.items c.clear.ensures.items c.deref.ensures.value))
-    at.1
+set-requires-clause-there g c = grind (arith, open_row)
 
 pub invariant_of-self : goal.invariant_of-self
 invariant_of-self g c =
