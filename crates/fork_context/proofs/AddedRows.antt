@@ -1,6 +1,6 @@
 -- New rows, with their extras, are the rows that a redirection adds, and those that a request opens with.
-use Rattle.fork_context.proofs.Common.{◌≡◌, ℕ, zero, suc, true, List, [], ◌∷◌, length, map, Option, Some, None, refl, ap, ◌∙◌, sym, slice_get, is_some, option_map, filter_map, cons_option, length-map, Offer, Row, Idle, numbered}
-use Rattle.fork_context.proofs.Common.{fresh_row, fresh_rows, AllPlaces, numbered_places, NewRow, waiting_row, new_rows_of, RowExtras, with_extras, row_extras_of, row_extras_at, contact_qs, q_at, q_of_pair}
+use Rattle.fork_context.proofs.Common.{◌≡◌, ℕ, zero, suc, true, List, [], ◌∷◌, length, map, Option, Some, None, refl, ◌∙◌, sym, slice_get, is_some, option_map, filter_map, length-map, Offer, Row, Idle, numbered, fresh_row, fresh_rows, AllPlaces}
+use Rattle.fork_context.proofs.Common.{numbered_places, NewRow, waiting_row, new_rows_of, RowExtras, with_extras, row_extras_of, row_extras_at, contact_qs, q_at, q_of_pair, common_steps, arith}
 use Rattle.std.proofs.lemmas.List.{map-id}
 use Rattle.fork_context.proofs.NewRowGroups.{group_and_q, group_of_pair, new_rows_numbered, length_new_rows, length_in_order}
 
@@ -32,23 +32,13 @@ rows_made q extras row after parent one xs (p ∷ pairs) (s ∷ new_rows) there 
     let b : RowExtras = extras p.1 x.0 in
     let head : group_and_q s ≡ group_of_pair (map q xs) p = cc in
     let tail : map group_and_q new_rows ≡ map (group_of_pair (map q xs)) pairs = cc in
-    let group : s.group ≡ p.0 = ap (λ (y : ℕ × ℕ). y.0) head in
-    let value : s.q ≡ q x.0 = ap (λ (y : ℕ × ℕ). y.1) head ∙ x.2 in
-    let rest = rows_made q extras row after parent one xs pairs new_rows there.1 tail in
-    let made : List Row = map (waiting_row parent) new_rows in
-    ap (λ o. with_extras (waiting_row parent s ∷ made) (cons_option (option_map (extras p.1) o) (filter_map (extras_by extras xs) pairs))) x.1
-    ∙ (λ i. (let r : Row = record { key = b.key; q = value i; place = b.place; parent = parent; group = group i; state = Idle } in r) ∷ rest i)
-    ∙ ap (λ (r : Row). r ∷ map after (filter_map (rows_by row xs) pairs)) (one p x.0)
-    ∙ sym (ap (λ o. map after (cons_option (option_map (row p) o) (filter_map (rows_by row xs) pairs))) x.1)
+    grind (arith, common_steps, rows_made q extras row after parent one xs pairs new_rows there.1 tail)
 
 -- there are extras for each
 pub length_extras : {X : Type 0} (q : X → ℕ) (extras : ℕ → X → RowExtras) (xs : List X) (pairs : List (ℕ × ℕ)) → AllPlaces (map q xs) pairs
     → length (filter_map (extras_by extras xs) pairs) ≡ length pairs
 length_extras q extras xs [] there = refl
-length_extras q extras xs (p ∷ pairs) there =
-    let x = there_at q xs p.1 there.0 in
-    ap (λ o. length (cons_option (option_map (extras p.1) o) (filter_map (extras_by extras xs) pairs))) x.1
-    ∙ ap suc (length_extras q extras xs pairs there.1)
+length_extras q extras xs (p ∷ pairs) there = grind (arith, common_steps, there_at, there, length_extras q extras xs pairs there.1)
 
 -- the contacts in the order in which they are tried, as rows that wait, with their extras
 pub added_rows : (n : ℕ) (fresh : List (ℕ × Offer))

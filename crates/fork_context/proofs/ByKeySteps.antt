@@ -1,14 +1,13 @@
 -- The numbers by key, where one more is put in its place, and where a key is looked up.
-use Rattle.fork_context.proofs.Common.{◌≡◌, eqb-true, ℕ, zero, suc, ◌<◌, ◌≤◌, Bool, true, false, List, [], ◌∷◌, ◌++◌, length, get_or, Option, Some, None, refl, ap, arith, ◌∙◌, sym, subst, inl, inr, nat_eq, cond, slice_get, ◌||◌}
-use Rattle.fork_context.proofs.Common.{◌==◌, insert, list_any, pointwise, Offer, Challenge, RowExtras, with_row_extras, key_at, IsByKey, is_before, Parted, found_at}
-use Rattle.std.specs.Prelude.{slice_index_or, is_ok, IsOk, Result, Ok, Err}
+use Rattle.fork_context.proofs.Common.{◌≡◌, eqb-true, ℕ, zero, suc, ◌<◌, ◌≤◌, Bool, true, false, List, [], ◌∷◌, ◌++◌, length, get_or, Option, Some, None, refl, ap, arith, ◌∙◌, sym, inl, inr, nat_eq, cond, slice_get, ◌||◌, ◌==◌, insert, list_any}
+use Rattle.fork_context.proofs.Common.{pointwise, Offer, Challenge, RowExtras, with_row_extras, key_at, IsByKey, is_before, Parted, found_at, common_steps}
+use Rattle.std.specs.Prelude.{slice_index_or, is_ok, IsOk, Result}
 use Rattle.std.specs.List.Sorted.{IsPartitionedBy, IsPartitionPoint}
 use Rattle.std.specs.Cmp.Lexicographic.{slice_cmp, lists_ties}
 use Rattle.std.specs.declared.cmp.Ordering.{Ordering}
-use Rattle.std.specs.declared.cmp.Ordering.TheVariants.{Less, Equal, Greater}
+use Rattle.std.specs.declared.cmp.Ordering.TheVariants.{Less}
 use Rattle.std.specs.Ordering.{nat_cmp, is_gt, is_lt, is_eq, eq_by_cmp, ordering_reverse}
 use Rattle.std.proofs.lemmas.Cmp.{nat_list_cmp_total, alike_right}
-use Rattle.std.proofs.lemmas.Bool.Decides.{nat_tests}
 use Rattle.std.proofs.Math.Bool.{or-true}
 use Rattle.fork_context.proofs.RowsWithExtras.{length-with_row_extras}
 use Rattle.std.proofs.Math.ListN.{set}
@@ -20,42 +19,23 @@ abbrev cmp : List ℕ → List ℕ → Ordering
 cmp = slice_cmp nat_cmp
 
 lt_then_upto : (o : Ordering) → is_lt o ≡ true → is_gt o ≡ false
-lt_then_upto Less e = refl
-lt_then_upto Equal e = absurd cc
-lt_then_upto Greater e = absurd cc
+lt_then_upto o e = grind arith
 
 not_lt_back : (o : Ordering) → is_lt o ≡ false → is_gt (ordering_reverse o) ≡ false
-not_lt_back Less e = absurd cc
-not_lt_back Equal e = refl
-not_lt_back Greater e = refl
+not_lt_back o e = grind arith
 
 -- what is not before a key does not come before it
 from_here : (k l : List ℕ) → is_lt (cmp k l) ≡ false → UpTo l k
 from_here k l e = ap is_gt (nat_list_cmp_total.antisymm l k) ∙ not_lt_back (cmp k l) e
 
 pub before_too : (k l x : List ℕ) → UpTo k l → is_lt (cmp l x) ≡ true → is_lt (cmp k x) ≡ true
-before_too k l x up e = go (cmp k l) refl up (is_less (cmp l x) e)
-  where
-    is_less : (o : Ordering) → is_lt o ≡ true → o ≡ Less
-    is_less Less e = refl
-    is_less Equal e = absurd cc
-    is_less Greater e = absurd cc
-
-    go : (o : Ordering) → cmp k l ≡ o → is_gt o ≡ false → cmp l x ≡ Less → is_lt (cmp k x) ≡ true
-    go Less is up less = ap is_lt (nat_list_cmp_total.trans k l x is less)
-    go Equal is up less = ap is_lt (nat_list_cmp_total.congr k l x is ∙ less)
-    go Greater is up less = absurd cc
+before_too k l x up e = grind (arith, common_steps, nat_list_cmp_total)
 
 after_too : (x k l : List ℕ) → cmp x k ≡ Less → UpTo k l → cmp x l ≡ Less
-after_too x k l less up = go (cmp k l) refl up
-  where
-    go : (o : Ordering) → cmp k l ≡ o → is_gt o ≡ false → cmp x l ≡ Less
-    go Less is up = nat_list_cmp_total.trans x k l less is
-    go Equal is up = sym (alike_right nat_list_cmp_total k l x is) ∙ less
-    go Greater is up = absurd cc
+after_too x k l less up = grind (arith, common_steps, nat_list_cmp_total, alike_right)
 
 neq_lt : (i j : ℕ) → i ≤ j → (i == j) ≡ false → i < j
-neq_lt i j le e = grind (arith, nat_tests)
+neq_lt i j le e = grind arith
 
 -- ---- the keys before one, and the others
 
@@ -109,10 +89,7 @@ rising_insert : (extras : List RowExtras) (ns : List ℕ) (p m : ℕ) → Rising
 rising_insert extras [] zero m up part = (tt, tt)
 rising_insert extras [] (suc p) m up part = (tt, tt)
 rising_insert extras (n ∷ ns) zero m up part = (all_from_here extras (key_at extras m) (n ∷ ns) part, up)
-rising_insert extras (n ∷ ns) (suc p) m up part = (
-  all_from_insert extras (key_at extras n) ns p m up.0 (lt_then_upto (cmp (key_at extras n) (key_at extras m)) part.0),
-  rising_insert extras ns p m up.1 part.1,
-)
+rising_insert extras (n ∷ ns) (suc p) m up part = grind (arith, common_steps, all_from_insert, lt_then_upto, rising_insert extras ns p m up.1 part.1)
 
 below_insert : (count : ℕ) (ns : List ℕ) (p : ℕ) → AllBelow count ns → AllBelow (suc count) (insert ns p count)
 below_insert count [] zero all = (omega arith, tt)
@@ -138,19 +115,10 @@ has_still (n ∷ ns) (suc p) m k (inr has) = inr (has_still ns p m k has)
 
 pub by_key_more : (extras : List RowExtras) (count : ℕ) (ns : List ℕ) (p : ℕ) → IsByKey extras count ns → Parted extras (key_at extras count) ns p
     → IsByKey extras (suc count) (insert ns p count)
-by_key_more extras count ns p is part = record {
-  known = below_insert count ns p is.known;
-  rising = rising_insert extras ns p count is.rising part;
-  whole = λ n lt. go n (n == count) refl lt;
-}
-  where
-    go : (n : ℕ) (b : Bool) → (n == count) ≡ b → n < suc count → Has (insert ns p count) n
-    go n true is' lt = let same : count ≡ n = sym (eqb-true n count is') in subst (λ k. Has (insert ns p count) k) same (has_itself ns p count)
-    go n false is' lt = has_still ns p count n (is.whole n (neq_lt n count (omega arith) is'))
+by_key_more extras count ns p is part = grind (arith, common_steps, below_insert, rising_insert, eqb-true, has_itself, has_still, neq_lt)
 
 pub in_ok : {T E X : Type 0} (r : Result T E) (a b : X) → IsOk r → cond (is_ok r) a b ≡ a
-in_ok (Ok x) a b ok = refl
-in_ok (Err e) a b ok = absurd cc
+in_ok r a b ok = grind arith
 
 -- ---- more rows behind
 
@@ -169,18 +137,12 @@ rising_same old new count (n ∷ ns) same all up = (from ns all.1 up.0, rising_s
     from (m ∷ ms) below up = (ap is_gt (λ i. cmp (same n all.0 i) (same m below.0 i)) ∙ up.0, from ms below.1 up.1)
 
 by_key_behind : (extras more : List RowExtras) (ns : List ℕ) → IsByKey extras (length extras) ns → IsByKey (extras ++ more) (length extras) ns
-by_key_behind extras more ns is = record {
-  known = is.known;
-  rising = rising_same extras (extras ++ more) (length extras) ns (key_before extras more) is.known is.rising;
-  whole = is.whole;
-}
+by_key_behind extras more ns is = grind (arith, common_steps, rising_same, key_before)
 
 -- the same, as the table's functions tell of it
 pub by_key_grown : (old more grown : List RowExtras) (ns items : List ℕ) (count : ℕ) → IsByKey old (length old) ns → grown ≡ old ++ more → items ≡ ns
     → count ≡ length old → IsByKey grown count items
-by_key_grown old more grown ns items count is all kept size =
-    subst (λ (bs : List RowExtras). IsByKey bs count items) (sym all)
-    (subst (λ (n : ℕ). IsByKey (old ++ more) n items) (sym size) (subst (IsByKey (old ++ more) (length old)) (sym kept) (by_key_behind old more ns is)))
+by_key_grown old more grown ns items count is all kept size = grind (arith, common_steps, by_key_behind)
 
 -- ---- what is stored changes no key
 
@@ -194,12 +156,7 @@ key_stored (b ∷ extras) (suc m) left challenges (suc n) = key_stored extras m 
 
 pub by_key_stored : (extras : List RowExtras) (ns : List ℕ) (m : ℕ) (left : List Offer) (challenges : List Challenge) → IsByKey extras (length extras) ns
     → IsByKey (with_row_extras extras m left challenges) (length (with_row_extras extras m left challenges)) ns
-by_key_stored extras ns m left challenges is =
-    subst (λ (count : ℕ). IsByKey (with_row_extras extras m left challenges) count ns) (sym (length-with_row_extras extras m left challenges)) (record {
-      known = is.known;
-      rising = rising_same extras (with_row_extras extras m left challenges) (length extras) ns (λ n lt. key_stored extras m left challenges n) is.known is.rising;
-      whole = is.whole;
-    })
+by_key_stored extras ns m left challenges is = grind (arith, common_steps, length-with_row_extras, rising_same, key_stored)
 
 -- a write of the extras of one row
 pub set_stored : (extras : List RowExtras) (n : ℕ) (b new : RowExtras) (left : List Offer) (challenges : List Challenge) → n < length extras
@@ -220,20 +177,10 @@ same_key : (k l : List ℕ) → pointwise nat_eq k l ≡ is_eq (cmp k l)
 same_key k l = lists_ties nat_cmp nat_tied k l
 
 lt_not_eq : (k x : List ℕ) → is_lt (cmp k x) ≡ true → pointwise nat_eq x k ≡ false
-lt_not_eq k x e = same_key x k ∙ ap is_eq (nat_list_cmp_total.antisymm x k) ∙ flip (cmp k x) e
-  where
-    flip : (o : Ordering) → is_lt o ≡ true → is_eq (ordering_reverse o) ≡ false
-    flip Less e = refl
-    flip Equal e = absurd cc
-    flip Greater e = absurd cc
+lt_not_eq k x e = grind (arith, common_steps, same_key, nat_list_cmp_total)
 
 not_lt_not_eq : (k x : List ℕ) → is_lt (cmp k x) ≡ false → pointwise nat_eq x k ≡ false → cmp x k ≡ Less
-not_lt_not_eq k x e d = go (cmp x k) (ap is_lt (sym (nat_list_cmp_total.antisymm k x)) ∙ e) (sym (same_key x k) ∙ d)
-  where
-    go : (o : Ordering) → is_lt (ordering_reverse o) ≡ false → is_eq o ≡ false → o ≡ Less
-    go Less e d = refl
-    go Equal e d = absurd cc
-    go Greater e d = absurd cc
+not_lt_not_eq k x e d = grind (arith, common_steps, nat_list_cmp_total, same_key)
 
 less_not_eq : (x k : List ℕ) → cmp x k ≡ Less → pointwise nat_eq x k ≡ false
 less_not_eq x k e = same_key x k ∙ ap is_eq e
@@ -245,16 +192,14 @@ NotAt extras x (Some n) = is_key extras x n ≡ false
 
 none_behind : (extras : List RowExtras) (x : List ℕ) (k : List ℕ) (ns : List ℕ) (m : ℕ) → cmp x k ≡ Less → AllFrom extras k ns → Has ns m → is_key extras x m ≡ false
 none_behind extras x k [] m less all has = absurd has
-none_behind extras x k (n ∷ ns) m less all (inl e) =
-    ap (λ (j : ℕ). is_key extras x j) (sym e) ∙ less_not_eq x (key_at extras n) (after_too x k (key_at extras n) less all.0)
+none_behind extras x k (n ∷ ns) m less all (inl e) = grind (arith, common_steps, less_not_eq, after_too)
 none_behind extras x k (n ∷ ns) m less all (inr has) = none_behind extras x k ns m less all.1 has
 
 none_there : (extras : List RowExtras) (x ns : List ℕ) (p m : ℕ) → Rising extras ns → Parted extras x ns p → NotAt extras x (slice_get ns p)
     → Has ns m → is_key extras x m ≡ false
 none_there extras x [] p m up part not has = absurd has
 none_there extras x (n ∷ ns) zero m up part not (inl e) = ap (λ (j : ℕ). is_key extras x j) (sym e) ∙ not
-none_there extras x (n ∷ ns) zero m up part not (inr has) =
-    none_behind extras x (key_at extras n) ns m (not_lt_not_eq (key_at extras n) x part.0 not) up.0 has
+none_there extras x (n ∷ ns) zero m up part not (inr has) = grind (arith, common_steps, none_behind, not_lt_not_eq)
 none_there extras x (n ∷ ns) (suc p) m up part not (inl e) = ap (λ (j : ℕ). is_key extras x j) (sym e) ∙ lt_not_eq (key_at extras n) x part.0
 none_there extras x (n ∷ ns) (suc p) m up part not (inr has) = none_there extras x ns p m up.1 part.1 not has
 
@@ -276,15 +221,4 @@ below_there count (m ∷ ns) (suc p) n all is = below_there count ns p n all.1 i
 
 pub found : (extras : List RowExtras) (ns x : List ℕ) (p : ℕ) → IsByKey extras (length extras) ns → Parted extras x ns p
     → found_at extras x (slice_get ns p) ≡ list_any (λ b. pointwise nat_eq x b.key) extras
-found extras ns x p is part = go (slice_get ns p) refl
-  where
-    none : NotAt extras x (slice_get ns p) → false ≡ list_any (λ b. pointwise nat_eq x b.key) extras
-    none not = sym (none_any extras x (λ n lt. none_there extras x ns p n is.rising part not (is.whole n lt)))
-
-    with_key : (n : ℕ) (b : Bool) → slice_get ns p ≡ Some n → is_key extras x n ≡ b → b ≡ list_any (λ b. pointwise nat_eq x b.key) extras
-    with_key n true there e = sym (some_any extras x n (below_there (length extras) ns p n is.known there) e)
-    with_key n false there e = let P : Option ℕ → Type 0 = λ o. NotAt extras x o in none (subst P (sym there) e)
-
-    go : (o : Option ℕ) → slice_get ns p ≡ o → found_at extras x o ≡ list_any (λ b. pointwise nat_eq x b.key) extras
-    go None there = let P : Option ℕ → Type 0 = λ o. NotAt extras x o in none (subst P (sym there) tt)
-    go (Some n) there = with_key n (is_key extras x n) there refl
+found extras ns x p is part = grind (arith, common_steps, none_any, none_there, some_any, below_there)

@@ -1,22 +1,14 @@
 -- A table that closes, and one that is closed.
-use Rattle.fork_context.proofs.Common.{◌≡◌, ℕ, zero, suc, ◌<◌, Bool, true, false, List, [], ◌∷◌, length, map, Option, Some, None, refl, ap, arith, ◌∙◌, sym, subst, cond, ◌&&◌, Kind, Row, Table, State, Idle, Trying, Rung, Ended}
-use Rattle.fork_context.proofs.Common.{is_invite, Event, may_start, with_state, closed_state, settled, next, change, next_of_change, next_of_stray, closed_row, IsClosedWhole, is_ringing, gets_cancel, never_state, never_row, cancel_row}
-use Rattle.fork_model.specs.Table.{Invite, Other}
+use Rattle.fork_context.proofs.Common.{◌≡◌, ℕ, zero, suc, ◌<◌, Bool, true, List, [], ◌∷◌, length, map, refl, ap, arith, ◌∙◌, cond, ◌&&◌, Kind, Row, Table, State, Rung, is_invite, Event, with_state, closed_state, settled, next, next_of_change}
+use Rattle.fork_context.proofs.Common.{next_of_stray, closed_row, IsClosedWhole, is_ringing, gets_cancel, never_state, never_row, cancel_row, common_steps}
 use Rattle.fork_context.specs.Closing.{AreClosed}
 
 -- settling a closed table
 pub settled_closed : (u : Table) → u.closed ≡ true → settled u ≡ record u { rows = map (closed_row u.kind) u.rows }
-settled_closed u done =
-    (λ i. let t : Table = record u { rows = map (λ row. let r : Row = record row { state = cond (done i) (closed_state u.kind row.state) (cond (may_start u.rows row) Trying row.state) } in r) u.rows } in t)
+settled_closed u done = grind arith
 
 pub closed_again : (kind : Kind) (state : State) → closed_state kind (closed_state kind state) ≡ closed_state kind state
-closed_again kind Idle = refl
-closed_again kind Trying = refl
-closed_again Invite (Rung true) = refl
-closed_again Invite (Rung false) = refl
-closed_again Other (Rung true) = refl
-closed_again Other (Rung false) = refl
-closed_again kind (Ended end) = refl
+closed_again kind state = grind arith
 
 pub closed_rows_again : (kind : Kind) (rows : List Row) → AreClosed kind (map (closed_row kind) rows)
 closed_rows_again kind [] = refl
@@ -30,31 +22,18 @@ closed_first kind row rows e = (cc, cc)
 pub still_closed : (kind : Kind) (rows : List Row) (n : ℕ) (state : State) → AreClosed kind rows
     → map (closed_row kind) (with_state rows n state) ≡ with_state rows n (closed_state kind state)
 still_closed kind [] n state e = refl
-still_closed kind (row ∷ rows) zero state e =
-    ap (λ (rest : List Row). let r : Row = record row { state = closed_state kind state } in r ∷ rest) (closed_first kind row rows e).1
+still_closed kind (row ∷ rows) zero state e = grind arith
 still_closed kind (row ∷ rows) (suc n) state e =
     let first = closed_first kind row rows e in
-    let rest = still_closed kind rows n state first.1 in
-    (λ i. first.0 i ∷ rest i)
+    grind (arith, common_steps, still_closed kind rows n state first.1)
 
 -- a table that is closed whole stays so after an event, and one that closes is then closed whole
 pub keeps_closed : (t : Table) (event : Event) (at : ℕ) → IsClosedWhole t → IsClosedWhole (next t event at)
-keeps_closed t event at h = go (change t event at) refl
-  where
-    go : (c : Option Table) → change t event at ≡ c → IsClosedWhole (next t event at)
-    go None is = let P : Table → Type 0 = λ u. IsClosedWhole u in subst P (sym (next_of_stray t event at is)) h
-    go (Some u) is =
-        subst (λ (u : Table). IsClosedWhole u) (sym (next_of_change t u event at is)) (λ done.
-        subst (λ (v : Table). AreClosed u.kind v.rows) (sym (settled_closed u done)) (closed_rows_again u.kind u.rows))
+keeps_closed t event at h = grind (arith, common_steps, next_of_stray, next_of_change, settled_closed, closed_rows_again)
 
 -- closing is: each that rings is cancelled, and no row waits
 close_in_two : (kind : Kind) (state : State) → never_state (cond (is_ringing state && is_invite kind) (Rung true) state) ≡ closed_state kind state
-close_in_two kind Idle = refl
-close_in_two kind Trying = refl
-close_in_two kind (Rung true) = refl
-close_in_two Invite (Rung false) = refl
-close_in_two Other (Rung false) = refl
-close_in_two kind (Ended end) = refl
+close_in_two kind state = grind arith
 
 pub closed_in_two : (kind : Kind) (rows : List Row) → map never_row (map (cancel_row kind) rows) ≡ map (closed_row kind) rows
 closed_in_two kind [] = refl
@@ -76,22 +55,16 @@ cancelled_all kind zero (row ∷ rows) e = absurd (omega arith)
 cancelled_all kind (suc n) (row ∷ rows) e = ap (λ (rest : List Row). cancel_row kind row ∷ rest) (cancelled_all kind n rows (omega arith))
 
 pub cond_rows : (b : Bool) (u : Table) (rows : List Row) → cond b (record u { rows = rows }) u ≡ record u { rows = cond b rows u.rows }
-cond_rows true u rows = refl
-cond_rows false u rows = refl
+cond_rows b u rows = grind arith
 
 cond_cons : {X : Type 0} (b : Bool) (x : X) (xs ys : List X) → cond b (x ∷ xs) (x ∷ ys) ≡ x ∷ cond b xs ys
-cond_cons true x xs ys = refl
-cond_cons false x xs ys = refl
+cond_cons b x xs ys = grind arith
 
 -- one row further
 pub cancelled_next : (kind : Kind) (n : ℕ) (rows : List Row) → n < length rows
     → cond (gets_cancel kind (cancelled_to n kind rows) n) (with_state (cancelled_to n kind rows) n (Rung true)) (cancelled_to n kind rows) ≡ cancelled_to (suc n) kind rows
 cancelled_next kind n [] lt = absurd (omega arith)
-cancelled_next kind zero (row ∷ rows) lt = go (is_ringing row.state && is_invite kind) ∙ ap (λ (rest : List Row). cancel_row kind row ∷ rest) (sym (none_gone kind rows))
-  where
-    go : (b : Bool) → cond b (record row { state = Rung true } ∷ rows) (row ∷ rows) ≡ record row { state = cond b (Rung true) row.state } ∷ rows
-    go true = refl
-    go false = refl
+cancelled_next kind zero (row ∷ rows) lt = grind (arith, common_steps, none_gone)
 cancelled_next kind (suc n) (row ∷ rows) lt =
     cond_cons (gets_cancel kind (cancelled_to n kind rows) n) (cancel_row kind row) (with_state (cancelled_to n kind rows) n (Rung true)) (cancelled_to n kind rows)
     ∙ ap (λ (rest : List Row). cancel_row kind row ∷ rest) (cancelled_next kind n rows (omega arith))

@@ -1,5 +1,5 @@
 -- The row that is first, as the choice names it.
-use Rattle.fork_context.proofs.Common.{◌≡◌, ◌≢◌, eqb-true, ℕ, true, refl, ap, arith, ◌∙◌, sym, subst, inl, inr, ◌⊎◌, nat_eq, false, rules, Option, Some, None, Table, Core, Choice, IsChoice, NoneStored, one_choice, IsSound}
+use Rattle.fork_context.proofs.Common.{◌≡◌, ◌≢◌, eqb-true, ℕ, true, refl, ap, arith, ◌∙◌, sym, subst, inl, inr, ◌⊎◌, nat_eq, rules, Option, Some, None, Table, Core, Choice, IsChoice, one_choice, IsSound}
 use Rattle.std.proofs.Common.{IsTrue}
 use Rattle.fork_model.specs.Choice.{Best, Only503, NoAnswer408}
 use Rattle.fork_context.specs.Chosen.{HasFirst}
@@ -22,9 +22,7 @@ first_choice t n (score, first) =
     ]
 
 choice_first : (t : Table) (n : ℕ) (choice : Choice) → IsChoice t.rules t.rows choice → row_of choice ≡ Some n → HasFirst t n
-choice_first t n (Best m) is e = let same : m ≡ n = cc in let P : ℕ → Type 0 = λ k. HasFirst t k in subst P same (is.0, is.1)
-choice_first t n (Only503 m) is e = let same : m ≡ n = cc in let P : ℕ → Type 0 = λ k. HasFirst t k in subst P same (is.0, is.1)
-choice_first t n NoAnswer408 is e = absurd cc
+choice_first t n choice is e = grind arith
 
 some_eq : (m n : ℕ) → Some m ≡ Some n → m ≡ n
 some_eq m n e = cc
@@ -48,10 +46,3 @@ first_row inside core view sound choice is m n row =
         let same : other.0 ≡ choice = one_choice inside.table.rules inside.table.rows inside.taken sound.apart other.0 choice other.1 is in
         let eq : m ≡ n = some_eq m n (sym row ∙ ap row_of (sym same) ∙ other.2) in
         subst (λ k. IsTrue (nat_eq m k)) eq (eq_refl m)
-
--- where nothing is stored no row is first
-pub none_first : (t : Table) (n : ℕ) → NoneStored t.rows → (IsTrue false → HasFirst t n) × (HasFirst t n → IsTrue false)
-none_first t n none = (λ e. absurd (no e), λ first. absurd (none n first.0 first.1.stored))
-  where
-    no : IsTrue false → ⊥
-    no e = cc

@@ -1,12 +1,9 @@
 -- A row ends, and new rows come below it.
-use Rattle.fork_context.proofs.Common.{◌≡◌, ℕ, zero, suc, ◌+◌, ◌<◌, ◌≤◌, Bool, true, List, [], ◌∷◌, ◌++◌, length, map, Option, Some, refl, ap, arith, ◌∙◌, sym, subst, length-append, slice_get, ◌||◌, length-map, Offer, Challenge, State}
-use Rattle.fork_context.proofs.Common.{Ended, Row, most_targets, is_open, is_idle, is_row, with_state, length-state, end_of, plain_state, shown, NewRow, waiting_row, plain_row, RowExtras, end_with_extras, with_extras, with_row_extras, Kind, Table, Tree}
-use Rattle.fork_context.proofs.Common.{IsFork, accepts_end}
-use Rattle.fork_model.specs.Table.{is_accepted_end}
+use Rattle.fork_context.proofs.Common.{◌≡◌, ℕ, zero, suc, ◌+◌, ◌<◌, ◌≤◌, Bool, true, List, [], ◌∷◌, ◌++◌, length, map, Option, Some, refl, ap, arith, ◌∙◌, sym, length-append, slice_get, ◌||◌, length-map, Offer, Challenge, State, Ended, Row}
+use Rattle.fork_context.proofs.Common.{most_targets, is_open, is_idle, is_row, with_state, length-state, end_of, plain_state, shown, NewRow, waiting_row, plain_row, RowExtras, end_with_extras, with_extras, with_row_extras, Kind, Table, Tree, IsFork}
+use Rattle.fork_context.proofs.Common.{accepts_end, is_accepted_end, map-append, common_steps}
 use Rattle.fork_tree.specs.declared.row.End.{End}
-use Rattle.fork_tree.specs.declared.row.End.TheVariants as end
 use Rattle.fork_context.proofs.RowsWithExtras.{with_extras_append, with_extras_end, length-with_row_extras, length-with_extras}
-use Rattle.std.proofs.lemmas.List.{map-append}
 use Rattle.fork_context.proofs.ForkRows.{table_of, tree_row_passes, plain_with, row_within}
 use Rattle.fork_context.proofs.Replies.{row_of_test}
 use Rattle.fork_context.proofs.Successes.{succeeded_state, succeeded_more, not_accepted}
@@ -14,11 +11,7 @@ use Rattle.fork_context.proofs.Successes.{succeeded_state, succeeded_more, not_a
 -- an end with what stands beside it, shown, and whether it is that of a 2xx
 of_end : (e : End) → ((c : RowExtras) → end_with_extras (end_of e [] []) c ≡ end_of e c.left c.challenges)
     × (plain_state (shown (Ended (end_of e [] []))) ≡ Ended (end_of e [] [])) × (is_accepted_end (end_of e [] []) ≡ accepts_end e)
-of_end (end.Stored status arrival received) = (λ c. refl, refl, refl)
-of_end (end.Taken arrival) = (λ c. refl, refl, refl)
-of_end (end.Silent arrival) = (λ c. refl, refl, refl)
-of_end end.Never = (λ c. refl, refl, refl)
-of_end (end.Accepted arrival) = (λ c. refl, refl, refl)
+of_end e = grind arith
 
 row_extras_before : (extras fresh : List RowExtras) (n : ℕ) (left : List Offer) (challenges : List Challenge) → n < length extras
     → with_row_extras (extras ++ fresh) n left challenges ≡ with_row_extras extras n left challenges ++ fresh
@@ -33,12 +26,7 @@ pub ended_rows : (rows more : List Row) (extras fresh : List RowExtras) (n : ℕ
     ≡ with_state (with_extras rows extras) n (Ended (end_of e left challenges)) ++ with_extras more fresh
 ended_rows rows more extras fresh n e left challenges same lt =
     let c : RowExtras = record { key = []; place = 0; left = left; challenges = challenges } in
-    let one : length (with_row_extras extras n left challenges) ≡ length extras = length-with_row_extras extras n left challenges in
-    let two : length (with_state rows n (Ended (end_of e [] []))) ≡ length rows = length-state rows n (Ended (end_of e [] [])) in
-    ap (with_extras (with_state rows n (Ended (end_of e [] [])) ++ more)) (row_extras_before extras fresh n left challenges lt)
-    ∙ with_extras_append (with_state rows n (Ended (end_of e [] []))) more (with_row_extras extras n left challenges) fresh (omega arith)
-    ∙ ap (λ (rs : List Row). rs ++ with_extras more fresh)
-    (with_extras_end rows extras n (end_of e [] []) c same ∙ ap (λ x. with_state (with_extras rows extras) n (Ended x)) ((of_end e).0 c))
+    grind (arith, common_steps, length-with_row_extras extras n left challenges, length-state rows n (Ended (end_of e [] [])), row_extras_before extras fresh n left challenges lt, with_extras_end rows extras n (end_of e [] []) c same, of_end e, with_extras_append)
 
 pub plain_waiting_row : (parent : Option ℕ) (new_rows : List NewRow) → map plain_row (map (waiting_row parent) new_rows) ≡ map (waiting_row parent) new_rows
 plain_waiting_row parent [] = refl
@@ -73,9 +61,7 @@ fork_ended rows extras fresh succeeded n e left challenges new_rows fork open_ye
 
 pub fork_same : (rows rows' : List Row) (extras extras' : List RowExtras) (flag flag' : Bool) → rows' ≡ rows → extras' ≡ extras → flag' ≡ flag
     → IsFork rows extras flag → IsFork rows' extras' flag'
-fork_same rows rows' extras extras' flag flag' r b f fork =
-    subst (λ (x : List Row). IsFork x extras' flag') (sym r)
-    (subst (λ (x : List RowExtras). IsFork rows x flag') (sym b) (subst (IsFork rows extras) (sym f) fork))
+fork_same rows rows' extras extras' flag flag' r b f fork = grind arith
 
 -- what is known where row n of a fork is to end
 pub record IsEnding (extras : List RowExtras) (t : Tree) (now : Table) (n : ℕ) : Type 0 where
@@ -87,8 +73,4 @@ pub ending : (kind : Kind) (closed : Bool) (extras : List RowExtras) (t : Tree) 
     → table_of kind closed extras t ≡ now → is_row is_open (slice_get now.rows n) ≡ true → IsEnding extras t now n
 ending kind closed extras t now n succeeded fork is open_yet =
     let passes = tree_row_passes is_open kind closed extras t now n (λ end. refl) is open_yet in
-    record {
-      passes = passes;
-      sizes = sym (ap (λ (x : Table). length x.rows) is) ∙ length-with_extras t.rows extras;
-      within = omega (arith, row_within is_open t.rows n passes, fork.each);
-    }
+    grind (arith, common_steps, length-with_extras, row_within)

@@ -1,9 +1,7 @@
 -- What holds of every fork is kept by each change, and what its tree says of its rows holds of the table's.
-use Rattle.fork_context.proofs.Common.{◌≡◌, ℕ, zero, suc, ◌+◌, ◌<◌, ◌≤◌, Bool, true, false, List, [], ◌∷◌, length, map, Some, refl, ap, arith, ◌∙◌, sym, subst, cond, slice_get, ◌==◌, ◌||◌, ◌&&◌, nat_eq, list_any, pointwise}
-use Rattle.fork_context.proofs.Common.{option_map, slice_get-map, slice_get_within, length-map, State, Idle, Trying, Rung, Ended, Row, is_ended, is_row, is_finished, is_succeeded, End, Kind, Table, Tree, end_with_extras, may_start}
-use Rattle.fork_context.proofs.Common.{with_state, length-state, may_start_facts, plain_state, shown, plain_row, RowExtras, with_extras, never_state, never_row, IsReady, tried, IsFork}
-use Rattle.std.proofs.Math.Bool.{or-false}
-use Rattle.std.proofs.lemmas.Bool.Decides.{nat_tests}
+use Rattle.fork_context.proofs.Common.{◌≡◌, ℕ, zero, suc, ◌+◌, ◌<◌, ◌≤◌, Bool, true, false, List, [], ◌∷◌, length, map, Some, refl, ap, arith, ◌∙◌, sym, subst, slice_get, ◌==◌, ◌||◌, ◌&&◌, nat_eq, list_any, pointwise, option_map, slice_get-map}
+use Rattle.fork_context.proofs.Common.{slice_get_within, length-map, State, Rung, Ended, Row, is_ended, is_row, is_finished, is_succeeded, End, Kind, Table, Tree, may_start, with_state, length-state, may_start_facts, plain_state, shown, plain_row}
+use Rattle.fork_context.proofs.Common.{RowExtras, with_extras, never_state, never_row, IsReady, tried, IsFork, or-false, common_steps}
 use Rattle.fork_tree.specs.Tree.{open_rows}
 use Rattle.fork_context.proofs.PlainRows.{may_start-plain_row}
 use Rattle.fork_context.proofs.RowsWithExtras.{state_read, test_with_extras, plain_with_extras}
@@ -23,15 +21,11 @@ key_with_extras (row ∷ rows) (b ∷ extras) (suc n) same = key_with_extras row
 -- ---- whether all have ended
 
 not_zero : (k : ℕ) → (suc k == 0) ≡ false
-not_zero k = grind (arith, nat_tests)
+not_zero k = grind arith
 
 pub none_open : (rows : List Row) → (open_rows rows == 0) ≡ is_finished rows
 none_open [] = refl
-none_open (row ∷ rows) = go (is_ended row.state) (none_open rows)
-  where
-    go : (b : Bool) → (open_rows rows == 0) ≡ is_finished rows → ((cond b 0 1 + open_rows rows) == 0) ≡ (b && is_finished rows)
-    go true rest = let e : 0 + open_rows rows ≡ open_rows rows = omega arith in ap (λ (k : ℕ). k == 0) e ∙ rest
-    go false rest = let e : 1 + open_rows rows ≡ suc (open_rows rows) = omega arith in ap (λ (k : ℕ). k == 0) e ∙ not_zero (open_rows rows)
+none_open (row ∷ rows) = grind (arith, common_steps, not_zero, none_open rows)
 
 pub finished_with_extras : (rows : List Row) (extras : List RowExtras) → is_finished (with_extras rows extras) ≡ is_finished rows
 finished_with_extras [] extras = refl
@@ -51,8 +45,7 @@ ready_of_plain rows first count ready = record {
 
 pub none_of_plain : (rows : List Row) → ((k : ℕ) (row : Row) → slice_get (map plain_row rows) k ≡ Some row → may_start (map plain_row rows) row ≡ false)
     → (k : ℕ) (row : Row) → slice_get rows k ≡ Some row → may_start rows row ≡ false
-none_of_plain rows none k row is =
-    sym (may_start-plain_row rows row) ∙ none k (plain_row row) (slice_get-map plain_row rows k ∙ ap (option_map plain_row) is)
+none_of_plain rows none k row is = grind (arith, common_steps, may_start-plain_row rows row, slice_get-map plain_row rows k)
 
 -- the tree's rows are the table's, bare
 pub tree_rows : (rows : List Row) (extras : List RowExtras) → map plain_row rows ≡ rows → map plain_row (with_extras rows extras) ≡ rows
@@ -67,9 +60,7 @@ ready_with_extras rows extras first count is ready =
 pub none_with_extras : (rows : List Row) (extras : List RowExtras) → map plain_row rows ≡ rows
     → ((k : ℕ) (row : Row) → slice_get rows k ≡ Some row → may_start rows row ≡ false)
     → (k : ℕ) (row : Row) → slice_get (with_extras rows extras) k ≡ Some row → may_start (with_extras rows extras) row ≡ false
-none_with_extras rows extras is none =
-    let P : List Row → Type 0 = λ rs. (k : ℕ) (row : Row) → slice_get rs k ≡ Some row → may_start rs row ≡ false in
-    none_of_plain (with_extras rows extras) (subst P (sym (tree_rows rows extras is)) none)
+none_with_extras rows extras is none = grind (arith, common_steps, none_of_plain, tree_rows)
 
 -- ---- what holds of every fork is kept
 
@@ -93,19 +84,13 @@ table_of kind closed extras t = record { kind = kind; rules = t.rules; closed = 
 pub tree_row_passes : (test : State → Bool) (kind : Kind) (closed : Bool) (extras : List RowExtras) (t : Tree) (now : Table) (n : ℕ)
     → ((end : End) → test (Ended end) ≡ false) → table_of kind closed extras t ≡ now → is_row test (slice_get now.rows n) ≡ true
     → is_row test (slice_get t.rows n) ≡ true
-tree_row_passes test kind closed extras t now n unended is passes =
-    sym (test_with_extras test (λ end b. unended (end_with_extras end b) ∙ sym (unended end)) t.rows extras n)
-    ∙ ap (λ (x : Table). is_row test (slice_get x.rows n)) is
-    ∙ passes
+tree_row_passes test kind closed extras t now n unended is passes = grind (arith, common_steps, test_with_extras)
 
 -- a change of the tree's rows that changes the table's too
 pub table_changes : (change : List Row → List Row) (kind : Kind) (closed : Bool) (extras : List RowExtras) (t u : Tree) (now : Table)
     → with_extras (change t.rows) extras ≡ change (with_extras t.rows extras) → table_of kind closed extras t ≡ now → u ≡ record t { rows = change t.rows }
     → table_of kind closed extras u ≡ record now { rows = change now.rows }
-table_changes change kind closed extras t u now same is made =
-    let with_rows : List Row → Table = λ (rows : List Row). record { kind = kind; rules = t.rules; closed = closed; rows = rows } in
-    let after : Table → Table = λ (x : Table). record x { rows = change x.rows } in
-    ap (table_of kind closed extras) made ∙ ap with_rows same ∙ ap after is
+table_changes change kind closed extras t u now same is made = grind arith
 
 -- a row that passes such a test rings, or is cancelled
 pub fork_rung : (test : State → Bool) (cancelled : Bool) (extras : List RowExtras) (succeeded : Bool) (t u : Tree) (n : ℕ) → IsFork t.rows extras succeeded
@@ -123,10 +108,7 @@ fork_rung test cancelled extras succeeded t u n fork unended passes made =
     })
 
 never_plain : (state : State) → plain_state (shown (never_state state)) ≡ never_state (plain_state (shown state))
-never_plain Idle = refl
-never_plain Trying = refl
-never_plain (Rung b) = refl
-never_plain (Ended end) = refl
+never_plain state = grind arith
 
 plain_never : (rows : List Row) → map plain_row (map never_row rows) ≡ map never_row (map plain_row rows)
 plain_never [] = refl
@@ -134,33 +116,17 @@ plain_never (row ∷ rows) =
     (λ i. (let r : Row = record { key = []; q = row.q; place = 0; parent = row.parent; group = row.group; state = never_plain row.state i } in r) ∷ plain_never rows i)
 
 pub fork_closed : (rows : List Row) (extras : List RowExtras) (succeeded : Bool) → IsFork rows extras succeeded → IsFork (map never_row rows) extras succeeded
-fork_closed rows extras succeeded fork =
-    let same : length (map never_row rows) ≡ length rows = length-map rows never_row in
-    record {
-      is_plain = plain_never rows ∙ ap (map never_row) fork.is_plain;
-      each = omega (arith, same, fork.each);
-      few = omega (arith, same, fork.few);
-      succeeds = fork.succeeds ∙ sym (succeeded_never rows);
-    }
+fork_closed rows extras succeeded fork = grind (arith, common_steps, length-map, plain_never, succeeded_never)
 
 plain_tried : (rows : List Row) (first count : ℕ) → map plain_row (tried rows first count) ≡ tried (map plain_row rows) first count
 plain_tried [] first count = refl
 plain_tried (row ∷ rows) zero zero = refl
-plain_tried (row ∷ rows) zero (suc count) =
-    ap (λ (rest : List Row). (let r : Row = record { key = []; q = row.q; place = 0; parent = row.parent; group = row.group; state = Trying } in r) ∷ rest) (plain_tried rows zero count)
+plain_tried (row ∷ rows) zero (suc count) = grind (arith, common_steps, plain_tried rows zero count)
 plain_tried (row ∷ rows) (suc first) count = ap (λ (rest : List Row). plain_row row ∷ rest) (plain_tried rows first count)
 
 pub fork_tried : (rows : List Row) (extras : List RowExtras) (succeeded : Bool) (first count : ℕ) → IsFork rows extras succeeded → IsReady rows first count
     → IsFork (tried rows first count) extras succeeded
-fork_tried rows extras succeeded first count fork ready =
-    let same : length (tried rows first count) ≡ length rows = length-tried rows first count in
-    record {
-      is_plain = plain_tried rows first count ∙ (λ i. tried (fork.is_plain i) first count);
-      each = omega (arith, same, fork.each);
-      few = omega (arith, same, fork.few);
-      succeeds = fork.succeeds
-          ∙ sym (succeeded_tried rows first count (λ k row lo hi is. (may_start_facts rows row (ready.ready k row lo hi is)).idle));
-    }
+fork_tried rows extras succeeded first count fork ready = grind (arith, common_steps, length-tried, plain_tried, succeeded_tried, may_start_facts)
 
 -- ---- keys
 

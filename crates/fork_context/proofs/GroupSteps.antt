@@ -1,6 +1,6 @@
 -- The pairs of groups and places, group after group.
-use Rattle.fork_context.proofs.Common.{◌≡◌, ℕ, zero, suc, ◌+◌, ◌<◌, ◌≤◌, Bool, true, false, List, [], ◌∷◌, ◌++◌, length, map, refl, ap, arith, sym, ◌∙◌, subst, take, get_or, append_assoc, cond, add-one, All, nat_lt, ◌==◌, slice_get}
-use Rattle.fork_context.proofs.Common.{take_more, append-nil, most_targets, numbers_below, falling, is_value, places_of, groups_of, in_group, numbered_from, lists_of}
+use Rattle.fork_context.proofs.Common.{◌≡◌, ℕ, zero, suc, ◌+◌, ◌<◌, ◌≤◌, List, [], ◌∷◌, ◌++◌, length, map, refl, ap, arith, sym, ◌∙◌, subst, take, get_or, append_assoc, add-one, All, slice_get, take_more, append-nil, most_targets, numbers_below}
+use Rattle.fork_context.proofs.Common.{falling, is_value, places_of, groups_of, in_group, numbered_from, lists_of, common_steps}
 use Rattle.std.proofs.Common.{Vec}
 use Rattle.std.proofs.lemmas.List.Elements.{All-append, All-nil, All-filter}
 use Rattle.fork_model.specs.Groups.{with_q}
@@ -13,50 +13,33 @@ in_group-append group (x ∷ xs) ys = ap (λ rest. (group, x) ∷ rest) (in_grou
 -- one more place of the group
 pub in_group_more : (group : ℕ) (places : List ℕ) (i : ℕ) → i < length places
     → in_group group (take (i + 1) places) ≡ in_group group (take i places) ++ (group, get_or places i 0) ∷ []
-in_group_more group places i lt =
-    ap (in_group group) (take_more places i 0 lt) ∙ in_group-append group (take i places) (get_or places i 0 ∷ [])
+in_group_more group places i lt = grind (arith, common_steps, take_more, in_group-append)
 
 -- one more group
 numbered_from_more : {A : Type 0} (k : ℕ) (groups : List (Vec ℕ A)) (i : ℕ) (places : Vec ℕ A) → i < length groups → places ≡ get_or groups i places
     → numbered_from k (take (suc i) (lists_of groups)) ≡ numbered_from k (take i (lists_of groups)) ++ in_group (k + i) places.items
 numbered_from_more k [] i places lt is = absurd (omega arith)
-numbered_from_more {A = A} k (x ∷ groups) zero places lt is =
-    let e : x ≡ places = sym is in
-    let n : k + 0 ≡ k = omega arith in
-    append-nil (in_group k x.items) ∙ ap (λ (v : Vec ℕ A). in_group k v.items) e ∙ ap (λ m. in_group m places.items) (sym n)
+numbered_from_more {A = A} k (x ∷ groups) zero places lt is = grind (arith, common_steps, append-nil)
 numbered_from_more k (x ∷ groups) (suc i) places lt is =
     let rest : numbered_from (suc k) (take (suc i) (lists_of groups)) ≡ numbered_from (suc k) (take i (lists_of groups)) ++ in_group (suc k + i) places.items =
     numbered_from_more (suc k) groups i places (omega arith) is in
-    let n : suc k + i ≡ k + suc i = omega arith in
-    ap (λ more. in_group k x.items ++ more) (rest ∙ ap (λ m. numbered_from (suc k) (take i (lists_of groups)) ++ in_group m places.items) n)
-    ∙ sym (append_assoc (in_group k x.items) (numbered_from (suc k) (take i (lists_of groups))) (in_group (k + suc i) places.items))
+    grind (arith, common_steps, append_assoc)
 
 pub numbered_more : {A : Type 0} (groups : List (Vec ℕ A)) (i : ℕ) (places : Vec ℕ A) → i < length groups → places ≡ get_or groups i places
     → numbered_from 0 (take (i + 1) (lists_of groups)) ≡ numbered_from 0 (take i (lists_of groups)) ++ in_group i places.items
-numbered_more groups i places lt is =
-    let n : 0 + i ≡ i = omega arith in
-    ap (λ m. numbered_from 0 (take m (lists_of groups))) (add-one i) ∙ numbered_from_more 0 groups i places lt is ∙ ap (λ m. numbered_from 0 (take i (lists_of groups)) ++ in_group m places.items) n
+numbered_more groups i places lt is = grind (arith, common_steps, add-one, numbered_from_more)
 
 -- there are no more groups than places
 length-with_q : (q : ℕ) (qs : List ℕ) → length (with_q q qs) ≤ length qs + 1
 length-with_q q [] = omega arith
-length-with_q q (o ∷ os) = go (q == o) (nat_lt o q) (length-with_q q os)
-  where
-    go : (same less : Bool) → length (with_q q os) ≤ length os + 1
-        → length (cond same (o ∷ os) (cond less (q ∷ o ∷ os) (o ∷ with_q q os))) ≤ suc (length os) + 1
-    go true less few = omega arith
-    go false true few = omega arith
-    go false false few = let all : suc (length (with_q q os)) ≤ suc (length os) + 1 = omega arith in all
+length-with_q q (o ∷ os) = grind (arith, common_steps, length-with_q q os)
 
 length-falling : (qs : List ℕ) → length (falling qs) ≤ length qs
 length-falling [] = omega arith
 length-falling (q ∷ qs) = omega (arith, length-with_q q (falling qs), length-falling qs)
 
 pub groups_few : {A : Type 0} (qs : List ℕ) (groups : List (Vec ℕ A)) → lists_of groups ≡ groups_of qs → length groups ≤ length qs
-groups_few qs groups is =
-    let lists : length (lists_of groups) ≡ length groups = length-map _ groups in
-    let same : length (lists_of groups) ≡ length (map (places_of qs) (falling qs)) = ap length is in
-    omega (arith, lists, same, length-map (places_of qs) (falling qs), length-falling qs)
+groups_few qs groups is = grind (arith, common_steps, length-map, length-falling)
 
 -- each place stands in the list
 All-below : (n m : ℕ) → n ≤ m → All (λ k. k < m) (numbers_below n)

@@ -1,5 +1,5 @@
 -- Targets with one key, found target by target.
-use Rattle.fork_context.proofs.Common.{◌≡◌, ℕ, zero, suc, ◌+◌, ◌<◌, ◌≤◌, Bool, true, false, List, [], ◌∷◌, length, Some, refl, ap, arith, sym, ◌∙◌, take, get_or, ◌⊎◌, inl, inr, slice_get, nat_eq, ◌||◌, list_any, pointwise, Target, HasTwice}
+use Rattle.fork_context.proofs.Common.{◌≡◌, ℕ, zero, suc, ◌+◌, ◌<◌, ◌≤◌, Bool, true, false, List, [], ◌∷◌, length, Some, refl, ap, arith, sym, take, get_or, slice_get, nat_eq, ◌||◌, list_any, pointwise, Target, HasTwice, common_steps}
 use Rattle.std.specs.Cmp.Lexicographic.{same_text, other_text}
 use Rattle.fork_context.specs.Refusals.{keys_of_targets}
 
@@ -54,24 +54,11 @@ key_within (t ∷ targets) (suc n) key is = let lt : n < length targets = key_wi
 
 pub twice_at : (targets : List Target) (n : ℕ) (target : Target) → n < length targets → target ≡ get_or targets n target
     → has_key target.key (take n targets) ≡ true → HasTwice targets
-twice_at targets n target lt is e =
-    let at = found targets n target.key e in (at.0, n, target.key, at.1, at.2, key_at targets n target lt is)
+twice_at targets n target lt is e = grind (arith, common_steps, found, key_at)
 
 pub none_more : (targets : List Target) (n : ℕ) (target : Target) → n < length targets → target ≡ get_or targets n target
     → has_key target.key (take n targets) ≡ false → NoneTwice targets n → NoneTwice targets (n + 1)
-none_more targets n target lt is e none m k key less below one two = go (cases k n below)
-  where
-    cases : (k n : ℕ) → k < n + 1 → (k < n) ⊎ (k ≡ n)
-    cases k n below = grind arith
-
-    go : (k < n) ⊎ (k ≡ n) → ⊥
-    go (inl before) = none m k key less before one two
-    go (inr at) =
-        let there : slice_get (keys_of_targets targets) n ≡ Some key = ap (slice_get (keys_of_targets targets)) (sym at) ∙ two in
-        let same : target.key ≡ key = let e : Some target.key ≡ Some key = sym (key_at targets n target lt is) ∙ there in cc in
-        not_found targets n target.key e m (omega arith) (one ∙ ap Some (sym same))
+none_more targets n target lt is e none m k key less below one two = grind (arith, common_steps, key_at targets n target lt is, not_found)
 
 pub none_twice : (targets : List Target) (n : ℕ) → length targets ≤ n → NoneTwice targets n → HasTwice targets → ⊥
-none_twice targets n all none twice =
-    let lt : twice.1 < length targets = key_within targets twice.1 twice.2 twice.5 in
-    none twice.0 twice.1 twice.2 twice.3 (omega arith) twice.4 twice.5
+none_twice targets n all none twice = grind (arith, common_steps, key_within)

@@ -1,7 +1,6 @@
 -- The numbers that pass a test, where they follow each other.
-use Rattle.fork_context.proofs.Common.{◌≡◌, ℕ, zero, suc, ◌+◌, ◌<◌, ◌≤◌, Bool, true, false, List, [], ◌∷◌, ◌++◌, length, refl, ap, arith, ◌∙◌, sym, cond, length-append, add-one, filter, append-nil, filter-append, numbers_below}
-use Rattle.fork_context.proofs.Common.{numbers_from}
-use Rattle.std.proofs.lemmas.Bool.{true≢false, false_from_ne_true}
+use Rattle.fork_context.proofs.Common.{◌≡◌, ℕ, zero, suc, ◌+◌, ◌<◌, ◌≤◌, Bool, true, false, List, [], ◌∷◌, ◌++◌, length, refl, ap, arith, ◌∙◌, sym, cond, length-append, add-one, filter, append-nil, filter-append, numbers_below, numbers_from}
+use Rattle.fork_context.proofs.Common.{true≢false, false_from_ne_true, common_steps}
 
 pub one_more : (p : ℕ → Bool) (n : ℕ) (b : Bool) → p n ≡ b → filter p (numbers_below (suc n)) ≡ filter p (numbers_below n) ++ cond b (n ∷ []) []
 one_more p n b e = filter-append p (numbers_below n) (n ∷ []) ∙ ap (λ b. filter p (numbers_below n) ++ cond b (n ∷ []) []) e
@@ -22,14 +21,7 @@ pub filter_range : (p : ℕ → Bool) (first count len : ℕ) → first + count 
     → ((k : ℕ) → first ≤ k → k < first + count → p k ≡ true)
     → ((k : ℕ) → k < len → p k ≡ true → (first ≤ k) × (k < first + count))
     → filter p (numbers_below len) ≡ numbers_from first count
-filter_range p first zero len fits all only = filter_none p len none
-  where
-    none : (k : ℕ) → k < len → p k ≡ false
-    none k lt = go (p k) refl
-      where
-        go : (b : Bool) → p k ≡ b → p k ≡ false
-        go false e = e
-        go true e = let at = only k lt e in let lo : first ≤ k = at.0 in let hi : k < first + 0 = at.1 in absurd (omega arith)
+filter_range p first zero len fits all only = grind (arith, common_steps, filter_none)
 filter_range p first (suc count) zero fits all only = absurd (omega arith)
 filter_range p first (suc count) (suc len) fits all only =
     go (p len) refl
@@ -76,10 +68,4 @@ numbers_from_more first count = ap (numbers_from first) (add-one count)
 
 pub length_passing : (p : ℕ → Bool) (n : ℕ) → length (filter p (numbers_below n)) ≤ n
 length_passing p zero = omega arith
-length_passing p (suc n) =
-    let is = ap (λ (ns : List ℕ). length ns) (one_more p n (p n) refl) in
-    omega (arith, is, length_passing p n, length-append (filter p (numbers_below n)) (cond (p n) (n ∷ []) []), small (p n))
-  where
-    small : (b : Bool) → length {A = ℕ} (cond b (n ∷ []) []) ≤ 1
-    small true = omega arith
-    small false = omega arith
+length_passing p (suc n) = grind (arith, common_steps, one_more, length-append, length_passing p n)

@@ -1,7 +1,6 @@
 -- The new rows of the initial targets, with the extras of each, are their rows; the first group starts.
-use Rattle.fork_context.proofs.Common.{◌≡◌, ℕ, ◌≤◌, false, List, length, map, Option, Some, None, refl, ap, arith, ◌∙◌, sym, subst, slice_get, IfSome, IfNone, filter_map, length-map, Kind, Rules, Row, Table, most_targets, numbered}
-use Rattle.fork_context.proofs.Common.{may_start, settled, Target, opening, numbered_places, NewRow, waiting_row, new_rows_of, with_extras, q_of_pair, IsFork, idled, waiting_rows, waiting_table, extras_of_target, target_extras}
-use Rattle.fork_context.proofs.Common.{OneGroup, IsReady, tried}
+use Rattle.fork_context.proofs.Common.{◌≡◌, ℕ, ◌≤◌, false, List, length, map, Option, Some, None, refl, arith, ◌∙◌, slice_get, IfSome, IfNone, filter_map, length-map, Kind, Rules, Row, Table, most_targets, numbered, may_start, Target, opening}
+use Rattle.fork_context.proofs.Common.{numbered_places, NewRow, waiting_row, new_rows_of, with_extras, q_of_pair, IsFork, idled, waiting_rows, waiting_table, extras_of_target, target_extras, IsReady, tried, common_steps, rules}
 use Rattle.fork_model.specs.History.{first_row}
 use Rattle.fork_context.proofs.AddedRows.{rows_made, length_extras}
 use Rattle.fork_context.proofs.ForkEnd.{plain_waiting_row, waiting_row_idle}
@@ -31,32 +30,11 @@ opening_fork targets few =
     let qs = target_qs targets in
     let one : length (filter_map (target_extras targets) (numbered qs)) ≡ length (numbered qs) =
     length_extras (λ (t : Target). t.q) extras_of_target targets (numbered qs) (numbered_places qs) in
-    let two = length-map (numbered qs) (q_of_pair qs) in
-    let three : length (target_new_rows targets) ≡ length (map (q_of_pair qs) (numbered qs)) = length_new_rows None 0 0 (map (q_of_pair qs) (numbered qs)) in
-    let four = length-map (target_new_rows targets) (waiting_row None) in
-    record {
-      is_plain = plain_waiting_row None (target_new_rows targets);
-      each = omega (arith, one, two, three, four);
-      few = omega (arith, three, four, length_ordered targets);
-      succeeds = sym (none_succeeded (map (waiting_row None) (target_new_rows targets)) (waiting_row_idle None (target_new_rows targets)));
-    }
+    grind (arith, common_steps, length-map (numbered qs) (q_of_pair qs), length_new_rows None 0 0 (map (q_of_pair qs) (numbered qs)), length_ordered targets, plain_waiting_row, none_succeeded, waiting_row_idle)
 
 -- the first group started
 pub opened : (kind : Kind) (rules : Rules) (targets : List Target) (t after : Table) (result : Option (ℕ × ℕ)) → t ≡ waiting_table kind rules targets
     → IfNone result ((after ≡ t) × ((k : ℕ) (row : Row) → slice_get t.rows k ≡ Some row → may_start t.rows row ≡ false))
     → IfSome result (λ (g : ℕ × ℕ). IsReady t.rows g.0 g.1 × (after ≡ record t { rows = tried t.rows g.0 g.1 }))
     → after ≡ opening kind rules targets
-opened kind rules targets t after result is none some =
-    go result none some ∙ ap settled is ∙ opening_settled kind rules targets
-  where
-    open_yet : t.closed ≡ false
-    open_yet = ap (λ (x : Table). x.closed) is
-
-    one_group : OneGroup t.rows
-    one_group = subst (λ (x : Table). OneGroup x.rows) (sym is) (opening_one_group targets)
-
-    go : (result : Option (ℕ × ℕ)) → IfNone result ((after ≡ t) × ((k : ℕ) (row : Row) → slice_get t.rows k ≡ Some row → may_start t.rows row ≡ false))
-        → IfSome result (λ (g : ℕ × ℕ). IsReady t.rows g.0 g.1 × (after ≡ record t { rows = tried t.rows g.0 g.1 }))
-        → after ≡ settled t
-    go None none some = none.0 ∙ sym (settled_none t open_yet none.1)
-    go (Some g) none some = some.1 ∙ sym (settled_group t g.0 g.1 open_yet one_group some.0)
+opened kind rules targets t after result is none some = grind (arith, common_steps, opening_settled kind rules targets, opening_one_group targets, settled_none, settled_group)

@@ -1,11 +1,7 @@
 -- The initial targets all wait; settling starts their first group, and that is the opening table.
-use Rattle.fork_context.proofs.Common.{◌≡◌, ℕ, suc, ◌<◌, Bool, true, false, List, [], ◌∷◌, map, Option, Some, None, refl, ap, arith, ◌∙◌, sym, cond, inl, inr, slice_get, ◌==◌, ◌&&◌, ◌||◌, nat_lt, nat_eq, option_map}
-use Rattle.fork_context.proofs.Common.{list_any, slice_get-map, Kind, Rules, Row, Table, State, Idle, Trying, is_idle, is_ended, in_earlier_group, parent_ended, may_start, settled, settled_row, Target, opening, idled, waiting_rows}
-use Rattle.fork_context.proofs.Common.{waiting_table, OneGroup, may_start_facts}
-use Rattle.std.specs.Option.{option_eq}
-use Rattle.std.proofs.Common.{eqb-true}
+use Rattle.fork_context.proofs.Common.{◌≡◌, ℕ, suc, ◌<◌, Bool, true, false, List, [], ◌∷◌, map, Option, Some, refl, ap, arith, ◌∙◌, sym, inl, inr, slice_get, ◌==◌, nat_lt, option_map, list_any, slice_get-map, Kind, Rules, Row, Idle, is_idle}
+use Rattle.fork_context.proofs.Common.{is_ended, in_earlier_group, parent_ended, may_start, settled, settled_row, Target, opening, idled, waiting_rows, waiting_table, OneGroup, may_start_facts, eqb-true, common_steps, rules}
 use Rattle.std.proofs.Math.Bool.{and-false}
-use Rattle.std.proofs.lemmas.Bool.Decides.{nat_tests}
 use Rattle.fork_context.proofs.Replies.{differ}
 use Rattle.fork_model.specs.Waiting.{line_of}
 use Rattle.fork_model.specs.History.{opening_rows}
@@ -13,8 +9,7 @@ use Rattle.fork_model.proofs.laws.OpeningSeries.{opening_row, HasFirst, has_firs
 use Rattle.fork_model.proofs.laws.WaitingLemmas.{MayStart, may_start_of, is_earlier, goes_by_group, has_rows, one_group}
 
 found_in : (o : Option Row) (row : Row) → option_map idled o ≡ Some row → (r : Row) × (o ≡ Some r) × (idled r ≡ row)
-found_in None row e = absurd cc
-found_in (Some r) row e = (r, refl, let same : idled r ≡ row = cc in same)
+found_in o row e = grind arith
 
 waits_from : (targets : List Target) (m : ℕ) (row : Row) → slice_get (waiting_rows targets) m ≡ Some row
     → (r : Row) × (slice_get (opening_rows targets) m ≡ Some r) × (idled r ≡ row)
@@ -24,18 +19,15 @@ waits_at : (targets : List Target) (m : ℕ) (row : Row) → slice_get (opening_
 waits_at targets m row is = slice_get-map idled (opening_rows targets) m ∙ ap (option_map idled) is
 
 not_less : (n : ℕ) → nat_lt n 0 ≡ false
-not_less n = grind (arith, nat_tests)
+not_less n = grind arith
 
 -- no row goes before one of group 0
 none_earlier : (line : List Row) (a : Row) → a.group ≡ 0 → list_any (λ above. in_earlier_group above a) line ≡ false
 none_earlier [] a e = refl
-none_earlier (x ∷ line) a e =
-    let here : in_earlier_group x a ≡ false =
-    ap (λ (g : ℕ). option_eq nat_eq x.parent a.parent && nat_lt x.group g) e ∙ ap (λ (b : Bool). option_eq nat_eq x.parent a.parent && b) (not_less x.group) ∙ and-false (option_eq nat_eq x.parent a.parent) in
-    ap (λ (b : Bool). b || list_any (λ above. in_earlier_group above a) line) here ∙ none_earlier line a e
+none_earlier (x ∷ line) a e = grind (arith, common_steps, not_less, and-false, none_earlier line a e)
 
 is_later : (n : ℕ) → (n == 0) ≡ false → 0 < n
-is_later n e = grind (arith, nat_tests)
+is_later n e = grind arith
 
 first_may : (targets : List Target) (m : ℕ) (row : Row) → slice_get (opening_rows targets) m ≡ Some row → row.group ≡ 0
     → may_start (waiting_rows targets) (idled row) ≡ true
@@ -74,30 +66,12 @@ map_back f (row ∷ rows) h =
 
 settled_back : (kind : Kind) (rules : Rules) (targets : List Target) (k : ℕ) (row : Row) → slice_get (opening_rows targets) k ≡ Some row
     → settled_row (waiting_table kind rules targets) (idled row) ≡ row
-settled_back kind rules targets k row is = go (row.group == 0) refl
-  where
-    state_is : (b : Bool) → may_start (waiting_rows targets) (idled row) ≡ b → (row.group == 0) ≡ b
-        → settled_row (waiting_table kind rules targets) (idled row) ≡ row
-    state_is b may group =
-        let now : cond (may_start (waiting_rows targets) (idled row)) Trying Idle ≡ row.state =
-        ap (λ (x : Bool). cond x Trying Idle) (may ∙ sym group) ∙ sym (opening_row targets k row is).state in
-        ap (λ (s : State). let r : Row = record row { state = s } in r) now
-
-    go : (b : Bool) → (row.group == 0) ≡ b → settled_row (waiting_table kind rules targets) (idled row) ≡ row
-    go true e = state_is true (first_may targets k row is (eqb-true row.group 0 e)) e
-    go false e = state_is false (later_waits targets k row is (is_later row.group e)) e
+settled_back kind rules targets k row is = grind (arith, common_steps, opening_row targets k row is, first_may, eqb-true, later_waits, is_later)
 
 -- settling starts the first group, and that is the opening table
 pub opening_settled : (kind : Kind) (rules : Rules) (targets : List Target) → settled (waiting_table kind rules targets) ≡ opening kind rules targets
-opening_settled kind rules targets =
-    let of_rows : List Row → Table = λ (rows : List Row). record { kind = kind; rules = rules; closed = false; rows = rows } in
-    ap of_rows (map_back (settled_row (waiting_table kind rules targets)) (opening_rows targets) (settled_back kind rules targets))
+opening_settled kind rules targets = grind (arith, common_steps, map_back (settled_row (waiting_table kind rules targets)) (opening_rows targets) (settled_back kind rules targets), settled_back)
 
 -- and it is one group
 pub opening_one_group : (targets : List Target) → OneGroup (waiting_rows targets)
-opening_one_group targets i j a b is also f g =
-    let r = waits_from targets i a is in
-    let s = waits_from targets j b also in
-    let none : a.parent ≡ b.parent =
-    sym (ap (λ (x : Row). x.parent) r.2) ∙ (opening_row targets i r.0 r.1).parent ∙ sym (opening_row targets j s.0 s.1).parent ∙ ap (λ (x : Row). x.parent) s.2 in
-    (none, one_group (waiting_rows targets) i j a b is also f g none)
+opening_one_group targets i j a b is also f g = grind (arith, common_steps, waits_from, opening_row, one_group)

@@ -1,8 +1,6 @@
 -- Which rows a reply names, by what the event changed.
-use Rattle.fork_context.proofs.Common.{◌≡◌, ℕ, zero, suc, ◌+◌, ◌<◌, ◌≤◌, Bool, true, false, List, [], ◌∷◌, length, Option, Some, None, refl, ap, arith, ◌∙◌, sym, inl, inr, ◌⊎◌, slice_get, not, ◌&&◌, Row, State}
-use Rattle.fork_context.proofs.Common.{Trying, is_row, has_become, became, tried, numbers_from}
-use Rattle.std.proofs.lemmas.Bool.{true≢false, false_from_ne_true, not-true}
-use Rattle.fork_model.proofs.laws.StepLemmas.{and_left, and_right}
+use Rattle.fork_context.proofs.Common.{◌≡◌, ℕ, zero, suc, ◌+◌, ◌<◌, ◌≤◌, Bool, true, false, List, [], ◌∷◌, length, Option, Some, refl, ap, arith, ◌∙◌, sym, inl, ◌⊎◌, slice_get, Row, State, Trying, is_row, became, tried, numbers_from, true≢false}
+use Rattle.fork_context.proofs.Common.{false_from_ne_true, not-true, and_left, and_right, common_steps}
 use Rattle.fork_context.proofs.Numbers.{filter_none, filter_range}
 
 pub differ : {b : Bool} → b ≡ true → b ≡ false → ⊥
@@ -10,31 +8,20 @@ differ h k = true≢false (sym h ∙ k)
 
 -- the row behind a passed test
 pub row_of_test : (test : State → Bool) (o : Option Row) → is_row test o ≡ true → (row : Row) × (o ≡ Some row) × (test row.state ≡ true)
-row_of_test test None e = absurd cc
-row_of_test test (Some row) e = (row, refl, e)
+row_of_test test o e = grind arith
 
 -- nothing has become what nothing is now that was not before
 pub became_none : (test : State → Bool) (old new : List Row)
     → ((k : ℕ) (row : Row) → slice_get new k ≡ Some row → test row.state ≡ true → is_row test (slice_get old k) ≡ true)
     → became test old new ≡ []
-became_none test old new h = filter_none (has_become test old new) (length new) none
-  where
-    none : (k : ℕ) → k < length new → has_become test old new k ≡ false
-    none k lt = false_from_ne_true _ (λ e.
-        let row = row_of_test test (slice_get new k) (and_left _ _ e) in
-        differ (h k row.0 row.1 row.2) (not-true _ (and_right _ _ e)))
+became_none test old new h = grind (arith, common_steps, filter_none, false_from_ne_true, row_of_test, and_left, differ, not-true, and_right)
 
 -- the rows of a range
 pub became_range : (test : State → Bool) (old new : List Row) (first count : ℕ) → first + count ≤ length new
     → ((k : ℕ) → first ≤ k → k < first + count → (is_row test (slice_get new k) ≡ true) × (is_row test (slice_get old k) ≡ false))
     → ((k : ℕ) (row : Row) → slice_get new k ≡ Some row → test row.state ≡ true → is_row test (slice_get old k) ≡ false → (first ≤ k) × (k < first + count))
     → became test old new ≡ numbers_from first count
-became_range test old new first count fits all only =
-    filter_range (has_become test old new) first count (length new) fits
-    (λ k lo hi. (λ i. (all k lo hi).0 i && not ((all k lo hi).1 i)))
-    (λ k lt e.
-    let row = row_of_test test (slice_get new k) (and_left _ _ e) in
-    only k row.0 row.1 row.2 (not-true _ (and_right _ _ e)))
+became_range test old new first count fits all only = grind (arith, common_steps, filter_range, row_of_test, and_left, not-true, and_right)
 
 -- ---- a group that starts
 
@@ -60,16 +47,7 @@ pub tried_found : (rows : List Row) (first count k : ℕ) (row : Row) → slice_
     → (slice_get rows k ≡ Some row) ⊎ ((first ≤ k) × (k < first + count) × (row.state ≡ Trying))
 tried_found [] first count k row is = inl is
 tried_found (x ∷ rows) zero zero k row is = inl is
-tried_found (x ∷ rows) zero (suc count) zero row is =
-    let same : record x { state = Trying } ≡ row = cc in inr (omega arith, omega arith, sym (ap (λ (r : Row). r.state) same))
-tried_found (x ∷ rows) zero (suc count) (suc k) row is =
-    elim (tried_found rows zero count k row is) [
-      | inl h ↦ inl h
-      | inr h ↦ inr (omega arith, (let less : k < 0 + count = h.1 in omega arith), h.2)
-    ]
+tried_found (x ∷ rows) zero (suc count) zero row is = grind (arith, common_steps)
+tried_found (x ∷ rows) zero (suc count) (suc k) row is = grind (arith, common_steps, tried_found rows zero count k row is)
 tried_found (x ∷ rows) (suc first) count zero row is = inl is
-tried_found (x ∷ rows) (suc first) count (suc k) row is =
-    elim (tried_found rows first count k row is) [
-      | inl h ↦ inl h
-      | inr h ↦ inr ((let le : first ≤ k = h.0 in omega arith), (let less : k < first + count = h.1 in omega arith), h.2)
-    ]
+tried_found (x ∷ rows) (suc first) count (suc k) row is = grind (arith, common_steps, tried_found rows first count k row is)

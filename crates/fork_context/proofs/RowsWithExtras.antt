@@ -1,14 +1,11 @@
 -- What is done to the rows of a tree is done to the rows of its table.
-use Rattle.fork_context.proofs.Common.{◌≡◌, ℕ, zero, suc, List, [], ◌∷◌, ◌++◌, length, map, refl, ap, arith, Bool, Option, Some, slice_get, is_row, Offer, Challenge, Stored, Taken, Silent, Never, Accepted, End, State, Idle, Trying, Rung, Ended, Row, with_state, plain_state}
-use Rattle.fork_context.proofs.Common.{shown, plain_row, RowExtras, end_with_extras, state_with_extras, row_with_extras, with_extras, with_row_extras, tried, never_row, never_state}
+use Rattle.fork_context.proofs.Common.{◌≡◌, ℕ, zero, suc, List, [], ◌∷◌, ◌++◌, length, map, refl, ap, arith, Bool, Option, Some, slice_get, is_row, Offer, Challenge, End, State, Trying, Ended, Row, with_state, plain_state, shown, plain_row}
+use Rattle.fork_context.proofs.Common.{RowExtras, end_with_extras, state_with_extras, row_with_extras, with_extras, with_row_extras, tried, never_row, never_state, common_steps}
 
 -- what is read of a state, where the extras of an end do not change it, they do not change of any state
 pub state_read : {A : Type 0} (f : State → A) → ((end : End) (b : RowExtras) → f (Ended (end_with_extras end b)) ≡ f (Ended end))
     → (state : State) (b : RowExtras) → f (state_with_extras state b) ≡ f state
-state_read f same Idle b = refl
-state_read f same Trying b = refl
-state_read f same (Rung cancelled) b = refl
-state_read f same (Ended end) b = same end b
+state_read f same state b = grind arith
 
 -- what is read of a row, where its extras do not change it
 pub row_read : {A : Type 0} (f : Option Row → A) → ((row : Row) (b : RowExtras) → f (Some (row_with_extras row b)) ≡ f (Some row))
@@ -24,14 +21,7 @@ pub test_with_extras : (test : State → Bool) → ((end : End) (b : RowExtras) 
 test_with_extras test same = row_read (is_row test) (λ row b. state_read test same row.state b)
 
 pub shown_extras : (state : State) (b : RowExtras) → shown (state_with_extras state b) ≡ shown state
-shown_extras = state_read shown by_end
-  where
-    by_end : (end : End) (b : RowExtras) → shown (Ended (end_with_extras end b)) ≡ shown (Ended end)
-    by_end (Stored a) b = refl
-    by_end (Taken at) b = refl
-    by_end (Silent at) b = refl
-    by_end Never b = refl
-    by_end (Accepted at) b = refl
+shown_extras = grind arith
 
 -- the rows of a table without their extras are those of its tree
 pub plain_with_extras : (rows : List Row) (extras : List RowExtras) → map plain_row (with_extras rows extras) ≡ map plain_row rows
@@ -54,8 +44,7 @@ pub with_extras_state : (rows : List Row) (extras : List RowExtras) (n : ℕ) (s
 with_extras_state [] extras n state plain = refl
 with_extras_state (row ∷ rows) [] zero state plain = refl
 with_extras_state (row ∷ rows) [] (suc n) state plain = ap (λ (rest : List Row). row ∷ rest) (with_extras_state rows [] n state plain)
-with_extras_state (row ∷ rows) (b ∷ extras) zero state plain =
-    (λ i. let r : Row = record row { key = b.key; place = b.place; state = plain b i } in r ∷ with_extras rows extras)
+with_extras_state (row ∷ rows) (b ∷ extras) zero state plain = grind arith
 with_extras_state (row ∷ rows) (b ∷ extras) (suc n) state plain = ap (λ (rest : List Row). row_with_extras row b ∷ rest) (with_extras_state rows extras n state plain)
 
 pub with_extras_tried : (rows : List Row) (extras : List RowExtras) (first count : ℕ)
@@ -64,16 +53,12 @@ with_extras_tried [] extras first count = refl
 with_extras_tried (row ∷ rows) [] zero zero = refl
 with_extras_tried (row ∷ rows) (b ∷ extras) zero zero = refl
 with_extras_tried (row ∷ rows) [] zero (suc count) = ap (λ (rest : List Row). let r : Row = record row { state = Trying } in r ∷ rest) (with_extras_tried rows [] zero count)
-with_extras_tried (row ∷ rows) (b ∷ extras) zero (suc count) =
-    ap (λ (rest : List Row). let r : Row = record row { key = b.key; place = b.place; state = Trying } in r ∷ rest) (with_extras_tried rows extras zero count)
+with_extras_tried (row ∷ rows) (b ∷ extras) zero (suc count) = grind (arith, common_steps, with_extras_tried rows extras zero count)
 with_extras_tried (row ∷ rows) [] (suc first) count = ap (λ (rest : List Row). row ∷ rest) (with_extras_tried rows [] first count)
 with_extras_tried (row ∷ rows) (b ∷ extras) (suc first) count = ap (λ (rest : List Row). row_with_extras row b ∷ rest) (with_extras_tried rows extras first count)
 
 never_extras : (state : State) (b : RowExtras) → state_with_extras (never_state state) b ≡ never_state (state_with_extras state b)
-never_extras Idle b = refl
-never_extras Trying b = refl
-never_extras (Rung cancelled) b = refl
-never_extras (Ended end) b = refl
+never_extras state b = grind arith
 
 pub with_extras_never : (rows : List Row) (extras : List RowExtras) → with_extras (map never_row rows) extras ≡ map never_row (with_extras rows extras)
 with_extras_never [] extras = refl
@@ -89,22 +74,13 @@ with_extras_append (row ∷ rows) more [] fresh same = absurd (omega arith)
 with_extras_append (row ∷ rows) more (b ∷ extras) fresh same =
     ap (λ (rest : List Row). row_with_extras row b ∷ rest) (with_extras_append rows more extras fresh (omega arith))
 
-ended_extras : (end : End) (b c : RowExtras) → b.left ≡ c.left → b.challenges ≡ c.challenges → end_with_extras end b ≡ end_with_extras end c
-ended_extras (Stored a) b c l m = (λ i. Stored (record a { left = l i; challenges = m i }))
-ended_extras (Taken at) b c l m = refl
-ended_extras (Silent at) b c l m = refl
-ended_extras Never b c l m = refl
-ended_extras (Accepted at) b c l m = refl
-
 -- a row ends with an answer
 pub with_extras_end : (rows : List Row) (extras : List RowExtras) (n : ℕ) (end : End) (c : RowExtras) → length extras ≡ length rows
     → with_extras (with_state rows n (Ended end)) (with_row_extras extras n c.left c.challenges) ≡ with_state (with_extras rows extras) n (Ended (end_with_extras end c))
 with_extras_end [] [] n end c same = refl
 with_extras_end [] (b ∷ extras) n end c same = absurd (omega arith)
 with_extras_end (row ∷ rows) [] n end c same = absurd (omega arith)
-with_extras_end (row ∷ rows) (b ∷ extras) zero end c same =
-    let d : RowExtras = record b { left = c.left; challenges = c.challenges } in
-    (λ i. let r : Row = record row { key = b.key; place = b.place; state = Ended (ended_extras end d c refl refl i) } in r ∷ with_extras rows extras)
+with_extras_end (row ∷ rows) (b ∷ extras) zero end c same = grind arith
 with_extras_end (row ∷ rows) (b ∷ extras) (suc n) end c same =
     ap (λ (rest : List Row). row_with_extras row b ∷ rest) (with_extras_end rows extras n end c (omega arith))
 
@@ -112,5 +88,4 @@ pub length-with_row_extras : (extras : List RowExtras) (n : ℕ) (left : List Of
     → length (with_row_extras extras n left challenges) ≡ length extras
 length-with_row_extras [] n left challenges = refl
 length-with_row_extras (b ∷ extras) zero left challenges = refl
-length-with_row_extras (b ∷ extras) (suc n) left challenges =
-    let rest : length (with_row_extras extras n left challenges) ≡ length extras = length-with_row_extras extras n left challenges in omega arith
+length-with_row_extras (b ∷ extras) (suc n) left challenges = grind (arith, common_steps, length-with_row_extras extras n left challenges)

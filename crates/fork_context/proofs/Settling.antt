@@ -1,8 +1,7 @@
 -- Settling an open table is the start of the one group that may start.
-use Rattle.fork_context.proofs.Common.{◌≡◌, ℕ, zero, suc, ◌+◌, ◌<◌, ◌≤◌, Bool, true, false, List, [], ◌∷◌, length, map, Some, refl, ap, arith, ◌∙◌, cond, slice_get, get_or, Row, Table, State, Trying, may_start, settled_row, settled}
-use Rattle.fork_context.proofs.Common.{may_start_facts, OneGroup, IsReady, tried}
+use Rattle.fork_context.proofs.Common.{◌≡◌, ℕ, zero, suc, ◌+◌, ◌<◌, ◌≤◌, Bool, true, false, List, [], ◌∷◌, length, map, Some, refl, ap, arith, cond, slice_get, get_or, Row, Table, Trying, may_start, settled_row, settled, may_start_facts, OneGroup}
+use Rattle.fork_context.proofs.Common.{IsReady, tried, common_steps}
 use Rattle.std.proofs.lemmas.Option.{slice_get-get_or}
-use Rattle.fork_model.proofs.laws.SeriesLemmas.{settled_open}
 
 map_same : (f : Row → Row) (rows : List Row) → ((k : ℕ) (row : Row) → slice_get rows k ≡ Some row → f row ≡ row) → map f rows ≡ rows
 map_same f [] h = refl
@@ -32,15 +31,12 @@ map_tried f (row ∷ rows) (suc first) count starts stays =
 
 -- a row of an open table once it is settled
 settled_to : (u : Table) (row : Row) (b : Bool) → u.closed ≡ false → may_start u.rows row ≡ b → settled_row u row ≡ record row { state = cond b Trying row.state }
-settled_to u row b open_yet e =
-    ap (λ (state : State). let r : Row = record row { state = state } in r) (settled_open u row open_yet ∙ ap (λ (b : Bool). cond b Trying row.state) e)
+settled_to u row b open_yet e = grind arith
 
 -- where none may start, settling leaves all as it is
 pub settled_none : (u : Table) → u.closed ≡ false → ((k : ℕ) (row : Row) → slice_get u.rows k ≡ Some row → may_start u.rows row ≡ false)
     → settled u ≡ u
-settled_none u open_yet none =
-    ap (λ (rows : List Row). let t : Table = record u { rows = rows } in t)
-    (map_same (settled_row u) u.rows (λ k row is. settled_to u row false open_yet (none k row is)))
+settled_none u open_yet none = grind (arith, common_steps, map_same, settled_to)
 
 -- where a group may start, its rows are tried and all others stay
 pub settled_group : (u : Table) (first count : ℕ) → u.closed ≡ false → OneGroup u.rows → IsReady u.rows first count

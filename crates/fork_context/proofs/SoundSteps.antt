@@ -1,30 +1,24 @@
 -- A context that takes an event keeps its bounds.
-use Rattle.fork_context.proofs.Common.{◌≡◌, ◌≢◌, ◌≤◌, ℕ, suc, Bool, false, List, [], ◌∷◌, ◌++◌, length, arith, subst, refl, ap, sym, ◌∙◌, AllByRecursion, Table, most_targets, Event, next, Core, is_full, targets_bounded, Kind, Rules}
-use Rattle.fork_context.proofs.Common.{Target, opening, IsTargetInRange, AreRules, IsSound, IsKept}
+use Rattle.fork_context.proofs.Common.{◌≡◌, ◌≢◌, ◌≤◌, ℕ, suc, Bool, false, List, [], ◌∷◌, ◌++◌, length, arith, refl, ap, sym, ◌∙◌, AllByRecursion, Table, most_targets, Event, next, Core, is_full, targets_bounded, Kind, Rules, Target, opening}
+use Rattle.fork_context.proofs.Common.{IsTargetInRange, AreRules, IsSound, IsKept, common_steps}
 use Rattle.std.specs.Prelude.{if◌then◌else◌}
 use Rattle.fork_model.specs.Core.{core_next, core_offered, core_after, opening_core}
 use Rattle.fork_model.specs.Steps.{IsWithin}
 use Rattle.fork_model.proofs.laws.StepLemmas.{positions_bounded, progress_bounded}
-use Rattle.fork_model.proofs.laws.Arrivals.{next_arrivals}
+use Rattle.fork_model.proofs.laws.Arrivals.{next_arrivals, history_of_arrivals}
 use Rattle.fork_model.specs.Range.{IsEventInRange}
 use Rattle.fork_model.proofs.laws.ContactLemmas.{each_target}
-use Rattle.fork_model.proofs.laws.Arrivals.{history_of_arrivals}
 use Rattle.fork_model.proofs.laws.SeriesLemmas.{keeps_series}
 use Rattle.fork_model.proofs.laws.OpeningSeries.{opening_in_series}
 use Rattle.fork_context.specs.Led.{IsLedTo}
 use Rattle.fork_context.proofs.ClosingRows.{keeps_closed}
 
 within_next : (core : Core) (event : Event) → is_full core event ≡ false → IsWithin core → IsWithin (core_next core event)
-within_next core event open_yet within =
-    subst (λ (full : Bool). IsWithin (if full then core else core_next core event)) open_yet (positions_bounded core event within)
+within_next core event open_yet within = grind (arith, common_steps, positions_bounded core event within)
 
 pub sound_next : (core : Core) (event : Event) → is_full core event ≡ false → IsSound core.table core.taken
     → IsSound (next core.table event core.taken) (suc core.taken)
-sound_next core event open_yet sound = record {
-  few = targets_bounded core.table event core.taken sound.few;
-  within = within_next core event open_yet sound.within;
-  apart = next_arrivals core.table event core.taken sound.apart;
-}
+sound_next core event open_yet sound = grind (arith, common_steps, targets_bounded, within_next, next_arrivals)
 
 -- a position is small
 pub taken_small : (table : Table) (taken : ℕ) → IsSound table taken → taken ≤ 5121

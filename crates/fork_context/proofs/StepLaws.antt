@@ -1,16 +1,12 @@
 -- One event at a table, case by case: the table after it, and what the reply names.
-use Rattle.fork_context.proofs.Common.{◌≡◌, ◌≤◌, ◌<◌, ◌+◌, arith, length-append, ℕ, zero, suc, Bool, true, false, List, [], ◌∷◌, ◌++◌, length, map, Option, Some, None, refl, ap, ◌∙◌, sym, subst, cond, inl, inr, slice_get, slice_get_within, not, ◌&&◌, ◌||◌, filter}
-use Rattle.fork_context.proofs.Common.{append-nil, length-state, Kind, Row, Table, State, End, Idle, Trying, Rung, Ended, is_trying, is_cancelled, is_row, is_invite, Event, numbers_below, Effect, with_state, with_effect, change, closed_state, became, has_become}
-use Rattle.fork_context.proofs.Common.{IsInSeries, next_of_stray, Found, found, changed_row, tried, closed_row, IsClosedWhole, is_ringing, gets_cancel, RowRef, tree_row, effect_of, may_take}
-use Rattle.std.proofs.Math.Bool.{or-false}
-use Rattle.std.proofs.lemmas.Bool.{true≢false, not-true}
-use Rattle.fork_model.specs.Table.{Invite, Other}
-use Rattle.fork_model.proofs.laws.StepLemmas.{and_left, and_right, answers_end}
+use Rattle.fork_context.proofs.Common.{◌≡◌, ◌≤◌, ◌<◌, ◌+◌, arith, length-append, ℕ, zero, suc, Bool, true, false, List, [], ◌∷◌, ◌++◌, length, map, Option, Some, None, refl, ap, ◌∙◌, sym, subst, cond, inl, inr, slice_get, slice_get_within, not, ◌&&◌}
+use Rattle.fork_context.proofs.Common.{◌||◌, filter, append-nil, length-state, Kind, Row, Table, State, End, Rung, Ended, is_cancelled, is_row, is_invite, Event, numbers_below, Effect, with_state, with_effect, change, closed_state, became}
+use Rattle.fork_context.proofs.Common.{has_become, IsInSeries, next_of_stray, Found, found, changed_row, tried, closed_row, IsClosedWhole, is_ringing, gets_cancel, RowRef, effect_of, may_take, not-true, and_left, and_right, number_if, cancelled_at}
+use Rattle.fork_context.proofs.Common.{common_steps}
 use Rattle.fork_context.specs.declared.effect.Effect as declared
-use Rattle.fork_context.specs.declared.effect.Effect.TheVariants as effects
 use Rattle.fork_context.specs.inner.Change.{cancels}
 use Rattle.fork_context.specs.inner.Ready.{Starts}
-use Rattle.fork_context.specs.inner.Stepped.{IsStepped, number_if, cancelled_at, IsSettled}
+use Rattle.fork_context.specs.inner.Stepped.{IsStepped, IsSettled}
 use Rattle.fork_context.proofs.Effects.{AllIdle, GoesTo, EffectFacts, effect_facts}
 use Rattle.fork_context.proofs.ClosingRows.{still_closed, cond_rows}
 use Rattle.fork_context.proofs.ForkRows.{row_within}
@@ -29,24 +25,14 @@ same_became test rows = sym (became_none test rows rows (λ k row is e. ap (is_r
 
 pub stray_step : (t : Table) (event : Event) (at : ℕ) (started cancelled : List ℕ) → change t event at ≡ None → (started ≡ []) × (cancelled ≡ [])
     → IsStepped t event at t started cancelled
-stray_step t event at started cancelled none both = record {
-  leads = sym (next_of_stray t event at none);
-  started = both.0 ∙ same_became is_trying t.rows;
-  cancelled = both.1 ∙ same_became is_cancelled t.rows;
-}
+stray_step t event at started cancelled none both = grind (arith, common_steps, next_of_stray, same_became)
 
 -- ---- the table closes
 
 closing_step : (t : Table) (event : Event) (at : ℕ) (u v : Table) (started cancelled : List ℕ) → IsChanged t event at u → u.closed ≡ true → RangBefore t.rows u.rows
     → v ≡ record u { closed = true; rows = map (closed_row u.kind) u.rows } → started ≡ []
     → cancelled ≡ filter (gets_cancel u.kind u.rows) (numbers_below (length u.rows)) → IsStepped t event at v started cancelled
-closing_step t event at u v started cancelled c done rang is none numbers =
-    let with_closed : Bool → Table = λ b. record u { closed = b; rows = map (closed_row u.kind) u.rows } in
-    along t event at (with_closed u.closed) v started cancelled (is ∙ sym (ap with_closed done)) (record {
-      leads = sym (closing_is t event at u c.changes done);
-      started = none ∙ sym (closing_starts t event at u c);
-      cancelled = numbers ∙ sym (closing_cancels t.rows u.rows u.kind rang);
-    })
+closing_step t event at u v started cancelled c done rang is none numbers = grind (arith, common_steps, along, closing_is, closing_starts, closing_cancels)
 
 -- the caller's CANCEL
 pub cancel_step : (t : Table) (event : Event) (at : ℕ) (v : Table) (started cancelled : List ℕ) → IsInSeries t → change t event at ≡ Some (record t { closed = true })
@@ -65,14 +51,10 @@ record HasEffect (t : Table) (event : Event) (at n : ℕ) (row : Row) (e : Effec
 
 -- a row that passes a test now that none passes that has ended was not cancelled before
 not_before : (test : State → Bool) → ((end : End) → test (Ended end) ≡ false) → (was new : State) → GoesTo was new → test new ≡ true → is_cancelled was ≡ false
-not_before test ended was Idle goes now = absurd goes
-not_before test ended was Trying goes now = absurd goes
-not_before test ended was (Rung cancelled) goes now = goes
-not_before test ended was (Ended end) goes now = absurd (true≢false (sym now ∙ ended end))
+not_before test ended was new goes now = grind arith
 
 and_not : (a b : Bool) → (a ≡ true → b ≡ false) → (a && not b) ≡ a
-and_not true b h = ap not (h refl)
-and_not false b h = refl
+and_not a b h = grind arith
 
 -- the number of the row that was cancelled, if it was
 cancels_one : (rows fresh : List Row) (n : ℕ) (row : Row) (state : State) → slice_get rows n ≡ Some row → AllIdle fresh
@@ -98,19 +80,10 @@ cancels_one rows fresh n row state is waits before =
 
 -- in a closed table: the state that the row settles in, and whether it is cancelled on the way there
 late_state : (kind : Kind) (was state : State) → GoesTo was state → cond (is_ringing state && is_invite kind) (Rung true) state ≡ closed_state kind state
-late_state kind was Idle goes = absurd goes
-late_state kind was Trying goes = absurd goes
-late_state kind was (Rung true) goes = refl
-late_state Invite was (Rung false) goes = refl
-late_state Other was (Rung false) goes = refl
-late_state kind was (Ended end) goes = refl
+late_state kind was state goes = grind arith
 
 cancels_now : (kind : Kind) (state : State) → ((is_ringing state && is_invite kind) || is_cancelled state) ≡ is_cancelled (closed_state kind state)
-cancels_now kind Idle = refl
-cancels_now kind Trying = refl
-cancels_now kind (Rung true) = refl
-cancels_now kind (Rung false) = or-false (is_invite kind)
-cancels_now kind (Ended end) = refl
+cancels_now kind state = grind arith
 
 again : (rows : List Row) (n : ℕ) (a b : State) → with_state (with_state rows n a) n b ≡ with_state rows n b
 again [] n a b = refl
@@ -119,8 +92,7 @@ again (x ∷ rows) (suc n) a b = ap (λ (rest : List Row). x ∷ rest) (again ro
 
 late_rows : (rows : List Row) (n : ℕ) (state : State) (b : Bool)
     → cond b (with_state (with_state rows n state) n (Rung true)) (with_state rows n state) ≡ with_state rows n (cond b (Rung true) state)
-late_rows rows n state true = again rows n state (Rung true)
-late_rows rows n state false = refl
+late_rows rows n state b = grind (arith, common_steps, again)
 
 in_closed : (t : Table) (event : Event) (at n : ℕ) (row : Row) (e : Effect) (v : Table) (started cancelled : List ℕ) → HasEffect t event at n row e
     → t.closed ≡ true → v ≡ cancelled_at n (with_effect t n e) → started ≡ []
@@ -150,8 +122,7 @@ in_closed t event at n row e v started cancelled h done is none numbers =
 
 -- the effect closes the table
 or_right : (a b : Bool) → a ≡ false → (a || b) ≡ true → b ≡ true
-or_right true b e h = absurd cc
-or_right false b e h = h
+or_right a b e h = grind arith
 
 -- the table stays open
 in_open : (t : Table) (event : Event) (at n : ℕ) (row : Row) (e : Effect) (v : Table) (started cancelled : List ℕ) → HasEffect t event at n row e
@@ -185,16 +156,11 @@ settled_by t event at n row e v started cancelled h (inr (inl s)) =
 settled_by t event at n row e v started cancelled h (inr (inr s)) = in_open t event at n row e v started cancelled h s.1 s.2 s.3
 
 cancels_is : {A : Type 0} (t : Table) (r : RowRef) (at : ℕ) (f : declared.Effect A) → is_cancelled (effect_of t r at f).state ≡ cancels f
-cancels_is t r at effects.Rings = refl
-cancels_is t r at effects.GetsCancel = refl
-cancels_is t r at effects.GivenUp = refl
-cancels_is t r at (effects.Assumed status) = refl
-cancels_is t r at (effects.Answered answer) = ap is_cancelled (answers_end t r.no (tree_row r) at answer.now).1
+cancels_is t r at f = grind arith
 
 -- the row is among those after it
 pub still_there : (test : State → Bool) (t u : Table) (n : ℕ) (e : Effect) → is_row test (slice_get t.rows n) ≡ true → u ≡ with_effect t n e → n + 1 ≤ length u.rows
-still_there test t u n e there is =
-    omega (arith, row_within test t.rows n there, ap (λ (x : Table). length x.rows) is, length-append (with_state t.rows n e.state) e.fresh, length-state t.rows n e.state)
+still_there test t u n e there is = grind (arith, common_steps, row_within, there, length-append, length-state)
 
 -- the whole step, from what the functions that take it say
 pub row_step : {A : Type 0} (t : Table) (event : Event) (at : ℕ) (r : RowRef) (f : declared.Effect A) (u v : Table) (started cancelled : List ℕ) (was sent : Bool)

@@ -1,7 +1,7 @@
 -- One event at a table: what it changes, what settling then changes, and what the reply names.
-use Rattle.fork_context.proofs.Common.{◌≡◌, ℕ, zero, suc, ◌+◌, ◌<◌, ◌≤◌, Bool, true, false, List, [], ◌∷◌, ◌++◌, length, map, Option, Some, None, refl, ap, arith, ◌∙◌, sym, inl, inr, ◌⊎◌, slice_get, not, ◌&&◌, filter, option_map, slice_get-map}
-use Rattle.fork_context.proofs.Common.{length-map, Kind, Row, Table, State, Idle, Trying, Rung, Ended, is_idle, is_trying, is_cancelled, is_ended, is_row, is_invite, Event, numbers_below, may_start, with_state, change, closed_state, next, has_become, became, IsInSeries}
-use Rattle.fork_context.proofs.Common.{next_of_change, may_start_facts, Found, found, OneGroup, IsReady, tried, numbers_from, closed_row, is_ringing}
+use Rattle.fork_context.proofs.Common.{◌≡◌, ℕ, zero, suc, ◌+◌, ◌<◌, ◌≤◌, Bool, true, false, List, [], ◌∷◌, ◌++◌, length, map, Option, Some, refl, ap, arith, ◌∙◌, sym, inl, inr, ◌⊎◌, slice_get, not, ◌&&◌, filter, option_map, slice_get-map, length-map}
+use Rattle.fork_context.proofs.Common.{Kind, Row, Table, State, Idle, Trying, Rung, Ended, is_idle, is_trying, is_cancelled, is_ended, is_row, is_invite, Event, numbers_below, may_start, with_state, change, closed_state, next, has_become, became}
+use Rattle.fork_context.proofs.Common.{IsInSeries, next_of_change, may_start_facts, Found, found, OneGroup, IsReady, tried, numbers_from, closed_row, is_ringing, common_steps}
 use Rattle.std.proofs.Math.Bool.{and-true}
 use Rattle.fork_model.proofs.laws.StepLemmas.{Onward, change_advances}
 use Rattle.fork_model.proofs.laws.ChangeLemmas.{IsMove, IsClosing, change_is}
@@ -47,8 +47,7 @@ none_started t event at u c = became_none is_trying t.rows u.rows (was_tried t e
 
 pub group_starts : (t : Table) (event : Event) (at : ℕ) (u : Table) (first count : ℕ) → IsChanged t event at u → u.closed ≡ false
     → IsReady u.rows first count → next t event at ≡ record u { rows = tried u.rows first count }
-group_starts t event at u first count c still ready =
-    next_of_change t u event at c.changes ∙ settled_group u first count still (one_group_of t event at u c still) ready
+group_starts t event at u first count c still ready = grind (arith, common_steps, next_of_change, settled_group, one_group_of)
 
 -- a row of a group that starts waited till then
 ready_idle : (rows : List Row) (first count : ℕ) → IsReady rows first count → (k : ℕ) (row : Row) → first ≤ k → k < first + count
@@ -85,10 +84,7 @@ group_started t event at u first count c ready =
         go (inr h) = (h.0, h.1)
 
 pub idle_not_cancelled : (state : State) → is_idle state ≡ true → is_cancelled state ≡ false
-idle_not_cancelled Idle e = refl
-idle_not_cancelled Trying e = refl
-idle_not_cancelled (Rung x) e = absurd cc
-idle_not_cancelled (Ended end) e = refl
+idle_not_cancelled state e = grind arith
 
 -- a group that starts cancels nothing
 pub group_cancels : (old rows : List Row) (first count : ℕ) → IsReady rows first count
@@ -117,21 +113,14 @@ pub closing_is : (t : Table) (event : Event) (at : ℕ) (u : Table) → change t
 closing_is t event at u is done = next_of_change t u event at is ∙ settled_closed u done
 
 closed_trying : (kind : Kind) (state : State) → is_trying (closed_state kind state) ≡ is_trying state
-closed_trying kind Idle = refl
-closed_trying kind Trying = refl
-closed_trying kind (Rung b) = refl
-closed_trying kind (Ended end) = refl
+closed_trying kind state = grind arith
 
 row_before : (kind : Kind) (o : Option Row) (row : Row) → option_map (closed_row kind) o ≡ Some row → (r : Row) × (o ≡ Some r) × (closed_row kind r ≡ row)
-row_before kind None row e = absurd cc
-row_before kind (Some r) row e = (r, refl, let same : closed_row kind r ≡ row = cc in same)
+row_before kind o row e = grind arith
 
 pub closing_starts : (t : Table) (event : Event) (at : ℕ) (u : Table) → IsChanged t event at u
     → became is_trying t.rows (map (closed_row u.kind) u.rows) ≡ []
-closing_starts t event at u c = became_none is_trying t.rows (map (closed_row u.kind) u.rows) (λ k row is now.
-    let was = row_before u.kind (slice_get u.rows k) row (sym (slice_get-map (closed_row u.kind) u.rows k) ∙ is) in
-    was_tried t event at u c k was.0 was.1
-    (sym (closed_trying u.kind was.0.state) ∙ ap (λ (r : Row). is_trying r.state) was.2 ∙ now))
+closing_starts t event at u c = grind (arith, common_steps, became_none, row_before, slice_get-map, was_tried, closed_trying)
 
 -- each row that has rung had rung before, and its CANCEL is the same
 abbrev pub RangBefore : List Row → List Row → Type 0

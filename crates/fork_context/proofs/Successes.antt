@@ -1,29 +1,19 @@
 -- Whether a 2xx came, as rows change.
-use Rattle.fork_context.proofs.Common.{◌≡◌, ℕ, zero, suc, ◌+◌, ◌<◌, ◌≤◌, Bool, true, false, List, [], ◌∷◌, ◌++◌, map, Some, refl, ap, arith, ◌∙◌, sym, slice_get, ◌||◌, Row, State, Stored, Taken, Silent, Never, Accepted, Idle, Trying, Rung}
-use Rattle.fork_context.proofs.Common.{End, Ended, is_idle, is_accepted, is_succeeded, with_state, tried, never_state, never_row, RowExtras, end_with_extras, with_extras}
+use Rattle.fork_context.proofs.Common.{◌≡◌, ℕ, zero, suc, ◌+◌, ◌<◌, ◌≤◌, Bool, true, false, List, [], ◌∷◌, ◌++◌, map, Some, refl, ap, arith, sym, slice_get, ◌||◌, Row, State, End, Ended, is_idle, is_accepted, is_succeeded, with_state, tried}
+use Rattle.fork_context.proofs.Common.{never_state, never_row, RowExtras, end_with_extras, with_extras, is_accepted_end, common_steps}
 use Rattle.std.proofs.Math.Bool.{or_comm, or_assoc}
-use Rattle.std.proofs.lemmas.Bool.{true≢false}
-use Rattle.fork_model.specs.Table.{is_accepted_end}
 use Rattle.fork_context.proofs.RowsWithExtras.{state_read}
 
 -- a row that was not answered with a 2xx goes to another state
 pub succeeded_state : (rows : List Row) (n : ℕ) (row : Row) (state : State) → slice_get rows n ≡ Some row → is_accepted row.state ≡ false
     → is_succeeded (with_state rows n state) ≡ (is_succeeded rows || is_accepted state)
 succeeded_state [] n row state is e = absurd cc
-succeeded_state (x ∷ rows) zero row state is e =
-    let same : x ≡ row = cc in
-    let none : is_accepted x.state ≡ false = ap (λ (r : Row). is_accepted r.state) same ∙ e in
-    or_comm (is_accepted state) (is_succeeded rows) ∙ sym (ap (λ (b : Bool). (b || is_succeeded rows) || is_accepted state) none)
-succeeded_state (x ∷ rows) (suc n) row state is e =
-    ap (λ (b : Bool). is_accepted x.state || b) (succeeded_state rows n row state is e)
-    ∙ sym (or_assoc (is_accepted x.state) (is_succeeded rows) (is_accepted state))
+succeeded_state (x ∷ rows) zero row state is e = grind (arith, common_steps, or_comm)
+succeeded_state (x ∷ rows) (suc n) row state is e = grind (arith, common_steps, or_assoc, succeeded_state rows n row state is e)
 
 -- a row that passes a test that no end passes
 pub not_accepted : (test : State → Bool) → ((end : End) → test (Ended end) ≡ false) → (state : State) → test state ≡ true → is_accepted state ≡ false
-not_accepted test unended Idle e = refl
-not_accepted test unended Trying e = refl
-not_accepted test unended (Rung b) e = refl
-not_accepted test unended (Ended end) e = absurd (true≢false (sym e ∙ unended end))
+not_accepted test unended state e = grind arith
 
 pub none_succeeded : (rows : List Row) → ((k : ℕ) (row : Row) → slice_get rows k ≡ Some row → is_idle row.state ≡ true) → is_succeeded rows ≡ false
 none_succeeded [] h = refl
@@ -52,10 +42,7 @@ succeeded_tried (x ∷ rows) (suc first) count h =
     (succeeded_tried rows first count (λ k r lo hi is. h (suc k) r (let le : first ≤ k = lo in omega arith) (let less : k < first + count = hi in omega arith) is))
 
 never_accepted : (state : State) → is_accepted (never_state state) ≡ is_accepted state
-never_accepted Idle = refl
-never_accepted Trying = refl
-never_accepted (Rung b) = refl
-never_accepted (Ended end) = refl
+never_accepted state = grind arith
 
 -- rows that wait are never tried
 pub succeeded_never : (rows : List Row) → is_succeeded (map never_row rows) ≡ is_succeeded rows
@@ -63,11 +50,7 @@ succeeded_never [] = refl
 succeeded_never (x ∷ rows) = (λ i. never_accepted x.state i || succeeded_never rows i)
 
 accepted_extras : (end : End) (b : RowExtras) → is_accepted_end (end_with_extras end b) ≡ is_accepted_end end
-accepted_extras (Stored a) b = refl
-accepted_extras (Taken at) b = refl
-accepted_extras (Silent at) b = refl
-accepted_extras Never b = refl
-accepted_extras (Accepted at) b = refl
+accepted_extras end b = grind arith
 
 pub succeeded_with_extras : (rows : List Row) (extras : List RowExtras) → is_succeeded (with_extras rows extras) ≡ is_succeeded rows
 succeeded_with_extras [] extras = refl

@@ -1,4 +1,4 @@
-use Rattle.std.proofs.Common.{rules}
+use Rattle.fork_context.proofs.Common.{rules}
 use Rattle.fork_context.proofs.contacts.takes_none.Goals as goal
 
 pub returns-then-closed : goal.returns-then-closed

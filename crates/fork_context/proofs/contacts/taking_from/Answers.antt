@@ -1,4 +1,4 @@
-use Rattle.std.proofs.Common.{rules}
+use Rattle.fork_context.proofs.Common.{rules}
 use Rattle.fork_context.proofs.PlainContacts.{taken_by_keys}
 use Rattle.fork_context.proofs.contacts.taking_from.Goals as goal
 

@@ -1,11 +1,9 @@
-use Rattle.std.proofs.Common.{arith, ◌≡◌, ◌+◌, ◌++◌, ℕ, [], ◌∷◌, length, ap, ◌∙◌, sym, List}
+use Rattle.fork_context.proofs.Common.{arith, ◌+◌, ◌++◌, ℕ, [], ◌∷◌, ap, ◌∙◌, sym, List, common_steps}
 use Rattle.fork_context.proofs.Numbers.{length_numbers_from, numbers_from_more}
 use Rattle.fork_context.proofs.fork.push_numbers.Goals as goal
 
 pub push_reserved-requires : goal.push_reserved-requires
-push_reserved-requires g c =
-    let long : length c.loop-n.numbers.items ≡ c.loop-n.n = ap (λ (ns : List ℕ). length ns) c.loop-n.invariant.0 ∙ length_numbers_from c.args.first c.loop-n.n in
-    omega arith
+push_reserved-requires g c = grind (arith, common_steps, length_numbers_from)
 
 pub loop-n-preserved : goal.loop-n-preserved
 loop-n-preserved g c = (

@@ -1,4 +1,4 @@
-use Rattle.std.proofs.Common.{rules}
+use Rattle.fork_context.proofs.Common.{rules}
 use Rattle.fork_context.proofs.context.Context.count.Goals as goal
 
 pub returns-clause-value : goal.returns-clause-value

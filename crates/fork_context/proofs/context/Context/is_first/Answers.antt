@@ -1,5 +1,5 @@
-use Rattle.fork_context.proofs.Common.{ap, subst, Core, IsChoice, NoneStored, choice_of}
-use Rattle.fork_context.proofs.FirstRows.{first_row, none_first, row_of}
+use Rattle.fork_context.proofs.Common.{ap, choice_of, arith}
+use Rattle.fork_context.proofs.FirstRows.{first_row, row_of}
 use Rattle.fork_context.proofs.context.Context.is_first.Goals as goal
 
 pub returns-in-Stored : goal.returns-in-Stored
@@ -13,9 +13,4 @@ returns-in-Only503 g c =
     (ap (λ x. row_of (choice_of x)) c.in-Only503.is)
 
 pub returns-in-NoAnswer408 : goal.returns-in-NoAnswer408
-returns-in-NoAnswer408 g c =
-    let Chosen : Core → Type 0 = λ core. IsChoice core.table.rules core.table.rows (choice_of c.choice.result.0) in
-    let chosen : Chosen c.args.self.now = subst Chosen c.self.view_is c.choice.ensures.choice in
-    let None : Core → Type 0 = λ core. NoneStored core.table.rows in
-    let none : None c.args.self.now = subst (λ x. IsChoice c.args.self.now.table.rules c.args.self.now.table.rows (choice_of x)) c.in-NoAnswer408.is chosen in
-    none_first c.args.self.now.table c.args.n none
+returns-in-NoAnswer408 g c = grind arith

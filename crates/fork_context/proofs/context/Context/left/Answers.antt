@@ -1,4 +1,4 @@
-use Rattle.std.proofs.Common.{rules}
+use Rattle.fork_context.proofs.Common.{rules}
 use Rattle.fork_context.proofs.context.Context.left.Goals as goal
 
 pub returns : goal.returns

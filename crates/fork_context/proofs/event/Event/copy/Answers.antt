@@ -1,4 +1,4 @@
-use Rattle.std.proofs.Common.{rules}
+use Rattle.fork_context.proofs.Common.{rules}
 use Rattle.fork_context.proofs.event.Event.copy.Goals as goal
 
 pub returns-in_err-copy-in-Answer : goal.returns-in_err-copy-in-Answer

@@ -1,4 +1,4 @@
-use Rattle.fork_context.proofs.Common.{◌≡◌, List, length, arith, ap, subst, sym, ◌∙◌, IsByKey, RowExtras, with_row_extras}
+use Rattle.fork_context.proofs.Common.{◌≡◌, List, length, arith, ap, subst, sym, ◌∙◌, IsByKey, RowExtras, common_steps}
 use Rattle.fork_context.proofs.ByKeySteps.{by_key_stored, set_stored}
 use Rattle.fork_context.proofs.extras_table.ExtrasTable.store.Goals as goal
 
@@ -18,7 +18,4 @@ returns g c =
     let left = c.args.left.items in
     let challenges = c.args.challenges.items in
     let stored : RowExtras → RowExtras = λ (b : RowExtras). record b { left = left; challenges = challenges } in
-    let same : length c.self.inside.all.items ≡ length c.args.self.now = ap (λ (bs : List RowExtras). length bs) c.self.view_is in
-    set_stored c.self.inside.all.items c.args.n c.index_mut.result.now c.store.new.self left challenges (omega (arith, same, c.requires.there))
-    (c.store.ensures ∙ ap stored c.index_mut.ensures.value)
-    ∙ ap (λ (bs : List RowExtras). with_row_extras bs c.args.n left challenges) c.self.view_is
+    grind (arith, common_steps, set_stored)

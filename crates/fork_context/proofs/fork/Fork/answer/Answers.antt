@@ -1,18 +1,12 @@
-use Rattle.fork_context.proofs.Common.{◌∙◌, sym, ap, slice_get, Table, stored_at}
+use Rattle.fork_context.proofs.Common.{◌∙◌, ap, slice_get, Table, stored_at, common_steps, arith}
 use Rattle.fork_context.proofs.ForkReads.{none_there, none_row_extras, there, answer_there}
 use Rattle.fork_context.proofs.fork.Fork.answer.Goals as goal
 
 pub returns-in_err-row : goal.returns-in_err-row
-returns-in_err-row g c =
-    let n = c.args.n in
-    let none = none_there c.self.inside.tree.rows c.self.inside.extras n n c.self.invariant.each c.in_err-row.ensures in
-    c.from_residual.ensures ∙ sym (ap stored_at none) ∙ ap (λ (t : Table). stored_at (slice_get t.rows n)) c.self.view_is
+returns-in_err-row g c = grind (arith, common_steps, none_there)
 
 pub returns-in_err-get : goal.returns-in_err-get
-returns-in_err-get g c =
-    let n = c.args.n in
-    let none = none_row_extras c.self.inside.tree.rows c.self.inside.extras n c.self.invariant.each c.in_err-get.ensures in
-    c.from_residual-in_err-get.ensures ∙ sym (ap stored_at none) ∙ ap (λ (t : Table). stored_at (slice_get t.rows n)) c.self.view_is
+returns-in_err-get g c = grind (arith, common_steps, none_row_extras)
 
 pub returns : goal.returns
 returns g c =

@@ -1,12 +1,9 @@
-use Rattle.fork_context.proofs.Common.{◌≡◌, ◌∙◌, Some, None, ap, subst, option_map, change, event_of, effect_of, may_take, changed, MayChange, IfOk-weaker}
+use Rattle.fork_context.proofs.Common.{◌∙◌, Some, ap, subst, event_of, changed, MayChange, common_steps, arith}
 use Rattle.fork_context.proofs.StepLaws.{stray_step, cancel_step, still_there, row_step}
 use Rattle.fork_context.proofs.fork.Fork.change.Goals as goal
 
 pub returns-in_default-clause-ok : goal.returns-in_default-clause-ok
-returns-in_default-clause-ok g c =
-    let t = c.args.self.now in
-    let none : change t (event_of c.args.event.now) c.args.at ≡ None = c.change_of.ensures.change c.args.at ∙ ap (option_map (changed t c.args.at)) c.in_default.is in
-    IfOk-weaker c.with_room.result _ _ (λ numbers both. stray_step t (event_of c.args.event.now) c.args.at numbers.started.items numbers.cancelled.items none both) c.with_room.ensures.none
+returns-in_default-clause-ok g c = grind (arith, common_steps, stray_step)
 
 pub returns-in_ok-numbers-in-Closes-clause-ok : goal.returns-in_ok-numbers-in-Closes-clause-ok
 returns-in_ok-numbers-in-Closes-clause-ok g c =
@@ -16,10 +13,7 @@ returns-in_ok-numbers-in-Closes-clause-ok g c =
     c.shut.ensures.rows c.in_ok-numbers-in-Closes.ensures.none.0 c.shut.ensures.numbers
 
 pub settle-requires-clause-there : goal.settle-requires-clause-there
-settle-requires-clause-there g c =
-    let t = c.args.self.now in
-    still_there (may_take c.in-Row.effect) t c.apply.new.self c.in-Row.row.no (effect_of t c.in-Row.row c.args.at c.in-Row.effect)
-    (subst (MayChange t) c.in-Row.is c.in-Some.ensures.may) c.in_ok-numbers-in-Row.ensures.ok
+settle-requires-clause-there g c = grind (arith, common_steps, still_there)
 
 pub returns-in_ok-numbers-in-Row-clause-ok : goal.returns-in_ok-numbers-in-Row-clause-ok
 returns-in_ok-numbers-in-Row-clause-ok g c =

@@ -1,12 +1,10 @@
-use Rattle.fork_context.proofs.Common.{◌≡◌, ◌≢◌, ◌∙◌, sym, rules, IsFirst, NoneStored}
+use Rattle.fork_context.proofs.Common.{◌≡◌, ◌≢◌, ◌∙◌, sym, rules, IsFirst, common_steps, arith}
 use Rattle.fork_tree.specs.Tree.{score_of_ref}
 use Rattle.fork_context.proofs.StoredRows.{first_with_extras, none_with_extras, status_of_first}
 use Rattle.fork_context.proofs.fork.Fork.choice.Goals as goal
 
 pub returns-in-None-clause-choice : goal.returns-in-None-clause-choice
-returns-in-None-clause-choice g c =
-    let none : NoneStored c.self.inside.tree.rows = c.in-None.ensures in
-    rw (← c.self.view_is) (none_with_extras c.self.inside.tree.rows c.self.inside.extras none)
+returns-in-None-clause-choice g c = grind (arith, common_steps, none_with_extras)
 
 pub returns-then-code-eq503-clause-choice : goal.returns-then-code-eq503-clause-choice
 returns-then-code-eq503-clause-choice g c =

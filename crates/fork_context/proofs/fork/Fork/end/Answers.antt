@@ -1,5 +1,6 @@
-use Rattle.fork_context.proofs.Common.{arith, refl, ◌++◌, ◌||◌, [], Some, length, map, ap, ◌∙◌, sym, subst, List, length-append, length-map, length-state, end_of, waiting_row, Row, Table, Effect, Ended, with_state, with_effect, Tree, RowExtras, with_extras, with_row_extras, IsFork, kind_of}
-use Rattle.std.proofs.Common.{Result, Ok, Err, OnErr}
+use Rattle.fork_context.proofs.Common.{arith, refl, ◌++◌, ◌||◌, [], Some, map, ap, ◌∙◌, sym, subst, List, length-append, length-map, length-state, end_of, waiting_row, Row, Table, Ended, with_state, Tree, RowExtras, with_row_extras, IsFork, kind_of}
+use Rattle.fork_context.proofs.Common.{common_steps}
+use Rattle.std.proofs.Common.{Result, OnErr}
 use Rattle.fork_context.proofs.Applied.{has_room}
 use Rattle.fork_context.proofs.RowsWithExtras.{length-with_extras}
 use Rattle.fork_context.proofs.ForkRows.{table_of}
@@ -7,8 +8,7 @@ use Rattle.fork_context.proofs.ForkEnd.{ended_rows, fork_ended, fork_same, endin
 use Rattle.fork_context.proofs.fork.Fork.end.Goals as goal
 
 on_err : {T E P : Type 0} (r : Result T E) → P → OnErr r P
-on_err (Ok x) p = tt
-on_err (Err e) p = p
+on_err r p = grind arith
 
 pub append-requires : goal.append-requires
 append-requires g c =
@@ -18,8 +18,7 @@ append-requires g c =
 pub store-requires : goal.store-requires
 store-requires g c =
     let is = ending _ _ c.self.inside.extras c.self.inside.tree _ c.args.n _ c.self.invariant c.self.view_is c.requires.open_yet in
-    let long = ap (λ (bs : List RowExtras). length bs) c.in_ok-append.ensures.ok in
-    record { there = omega (arith, is.within, long, length-append c.self.inside.extras c.args.below.1.items) }
+    grind (arith, common_steps, length-append)
 
 pub end-requires-clause-there : goal.end-requires-clause-there
 end-requires-clause-there g c =
@@ -49,35 +48,17 @@ returns-clause-ok g c =
     let ended : List Row = with_state c.self.inside.tree.rows c.args.n (Ended (end_of c.args.end [] [])) ++ more in
     let closed = c.self.inside.closed || c.args.closes in
     let with_rows : List Row → Table = λ (rows : List Row). record { kind = kind_of c.self.inside.kind; rules = c.self.inside.tree.rules; closed = closed; rows = rows } in
-    let effect : Effect = record { state = Ended (end_of c.args.end left challenges); fresh = with_extras more c.args.below.1.items; closes = c.args.closes } in
-    (λ i. table_of (kind_of c.self.inside.kind) (c.closes_with-self-inside.ensures i) c.store.new.self (c.end.ensures i))
-    ∙ ap (λ (bs : List RowExtras). with_rows (with_extras ended bs))
-    (c.store.ensures ∙ ap (λ (bs : List RowExtras). with_row_extras bs c.args.n left challenges) c.in_ok-append.ensures.ok)
-    ∙ ap with_rows
-    (ended_rows c.self.inside.tree.rows more c.self.inside.extras c.args.below.1.items c.args.n c.args.end left challenges c.self.invariant.each is.within)
-    ∙ ap (λ (t : Table). with_effect t c.args.n effect) c.self.view_is
+    grind (arith, common_steps, table_of, ended_rows)
 
 pub invariant_of-self : goal.invariant_of-self
 invariant_of-self g c =
     subst (λ (bs : List RowExtras). IsFork c.self.inside.tree.rows bs c.self.inside.succeeded) (sym c.in_err-append.ensures.err) c.self.invariant
 
 pub returns-in_err-append-clause-err : goal.returns-in_err-append-clause-err
-returns-in_err-append-clause-err g c =
-    let view : List RowExtras → Table = λ (bs : List RowExtras). table_of (kind_of c.self.inside.kind) c.self.inside.closed bs c.self.inside.tree in
-    on_err _ (ap view c.in_err-append.ensures.err ∙ c.self.view_is)
+returns-in_err-append-clause-err g c = grind arith
 
 pub returns-clause-room : goal.returns-clause-room
-returns-clause-room g c =
-    let is = ending _ _ c.self.inside.extras c.self.inside.tree _ c.args.n _ c.self.invariant c.self.view_is c.requires.open_yet in
-    let more : List Row = map (waiting_row (Some c.args.n)) c.args.below.0.new_rows in
-    let ended : List Row = with_state c.self.inside.tree.rows c.args.n (Ended (end_of c.args.end [] [])) in
-    let one = length-with_extras c.end.new.self.rows c.store.new.self in
-    let two = ap (λ (t : Tree). length t.rows) c.end.ensures in
-    let three = length-append ended more in
-    let four = length-state c.self.inside.tree.rows c.args.n (Ended (end_of c.args.end [] [])) in
-    let five = length-map c.args.below.0.new_rows (waiting_row (Some c.args.n)) in
-    has_room c.in_ok-numbers.numbers _ (with_extras c.end.new.self.rows c.store.new.self) c.in_ok-numbers.ensures.none c.in_ok-numbers.ensures.room
-    (omega (arith, one, two, three, four, five, is.sizes, c.count.ensures.value, c.len.ensures, c.requires.each))
+returns-clause-room g c = grind (arith, common_steps, ending, length-with_extras, length-append, length-state, length-map, has_room)
 
 pub same-self : goal.same-self
 same-self g c = refl

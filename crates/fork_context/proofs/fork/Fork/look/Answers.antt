@@ -1,18 +1,12 @@
-use Rattle.fork_context.proofs.Common.{◌∙◌, sym, ap, ℕ, Some, slice_get, option_map, Table, RowView, row_shown}
+use Rattle.fork_context.proofs.Common.{◌∙◌, ap, ℕ, Some, slice_get, option_map, Table, RowView, row_shown, common_steps, arith}
 use Rattle.fork_context.proofs.ForkReads.{none_there, none_row_extras, there, look_there}
 use Rattle.fork_context.proofs.fork.Fork.look.Goals as goal
 
 pub returns-in_err-row : goal.returns-in_err-row
-returns-in_err-row g c =
-    let n = c.args.n in
-    let none = none_there c.self.inside.tree.rows c.self.inside.extras n n c.self.invariant.each c.in_err-row.ensures in
-    c.from_residual.ensures ∙ sym (ap (option_map (row_shown n)) none) ∙ ap (λ (t : Table). option_map (row_shown n) (slice_get t.rows n)) c.self.view_is
+returns-in_err-row g c = grind (arith, common_steps, none_there)
 
 pub returns-in_err-row_extras : goal.returns-in_err-row_extras
-returns-in_err-row_extras g c =
-    let n = c.args.n in
-    let none = none_row_extras c.self.inside.tree.rows c.self.inside.extras n c.self.invariant.each c.in_err-row_extras.ensures in
-    c.from_residual-in_err-row_extras.ensures ∙ sym (ap (option_map (row_shown n)) none) ∙ ap (λ (t : Table). option_map (row_shown n) (slice_get t.rows n)) c.self.view_is
+returns-in_err-row_extras g c = grind (arith, common_steps, none_row_extras)
 
 pub returns : goal.returns
 returns g c =

@@ -1,4 +1,4 @@
-use Rattle.fork_context.specs.KindView.{kind_of}
+use Rattle.fork_context.proofs.Common.{kind_of}
 use Rattle.fork_context.proofs.OpeningFork.{opened}
 use Rattle.fork_context.proofs.fork.Fork.opening.Goals as goal
 

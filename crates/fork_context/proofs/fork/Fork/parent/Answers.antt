@@ -1,4 +1,4 @@
-use Rattle.std.proofs.Common.{◌∙◌, sym, refl}
+use Rattle.fork_context.proofs.Common.{◌∙◌, sym, refl}
 use Rattle.fork_tree.specs.Below.{parent_of}
 use Rattle.fork_context.proofs.RowsWithExtras.{row_read}
 use Rattle.fork_context.proofs.fork.Fork.parent.Goals as goal

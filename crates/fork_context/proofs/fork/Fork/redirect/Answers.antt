@@ -1,6 +1,5 @@
-use Rattle.fork_context.proofs.Common.{◌≡◌, ℕ, false, List, length, arith, ap, ◌∙◌, Offer, End, Ended, Row, Table, FinalAnswer, ContactLists, taking_at, tree_row, fresh_rows, with_effect, end_of}
+use Rattle.fork_context.proofs.Common.{◌≡◌, ℕ, List, length, arith, ap, ◌∙◌, Offer, FinalAnswer, ContactLists, taking_at, tree_row, common_steps}
 use Rattle.std.proofs.lemmas.Result.{on_ok_weaker}
-use Rattle.fork_model.specs.Step.{redirected}
 use Rattle.fork_context.proofs.Redirected.{are_below, taking_at_few}
 use Rattle.fork_context.proofs.fork.Fork.redirect.Goals as goal
 
@@ -26,9 +25,4 @@ returns-clause-ok g c =
     let offers = c.deref.ensures.value ∙ ap (λ (a : FinalAnswer). a.offers) c.answer.view_is in
     let is : c.in_ok-taken.taken ≡ taking_at now row answer.offers = c.in_ok-taken.ensures.value ∙ ap (taking_at now row) offers in
     let below = are_below n c.count.result c.deref-2.result.now c.in_ok-below.below.0 c.in_ok-below.below.1.items c.in_ok-below.ensures.added c.in_ok-below.ensures.extras in
-    let rows = below.rows ∙ ap (fresh_rows n) (c.deref-2.ensures.value ∙ ap (λ (t : ContactLists). t.fresh) (c.taken.view_is ∙ is)) in
-    let left = ap (λ (t : ContactLists). t.left) c.taken.view_is in
-    let challenges = c.in_ok-challenges.ensures ∙ c.deref-3.ensures.value ∙ ap (λ (a : FinalAnswer). a.challenges) c.answer.view_is in
-    let ends = (λ i. end_of c.redirected-end.result (left i) (challenges i)) ∙ c.redirected-end.ensures ∙ ap (redirected c.args.at answer) is in
-    let of : End → List Row → Table = λ (end : End) (rows : List Row). with_effect now n (record { state = Ended end; fresh = rows; closes = false }) in
-    on_ok_weaker c.end.result (λ e. e ∙ (λ i. of (ends i) (rows i))) c.end.ensures.ok
+    grind (arith, common_steps, on_ok_weaker)

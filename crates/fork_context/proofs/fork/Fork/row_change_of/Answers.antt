@@ -1,10 +1,9 @@
-use Rattle.fork_context.proofs.Common.{◌∙◌, ap, sym, slice_get, option_map, with_effect, event_of, changed}
-use Rattle.fork_context.proofs.RowChanges.{no_row, change_of_row, may_of_row}
+use Rattle.fork_context.proofs.Common.{◌∙◌, ap, sym, slice_get, option_map, with_effect, event_of, arith}
+use Rattle.fork_context.proofs.RowChanges.{change_of_row, may_of_row}
 use Rattle.fork_context.proofs.fork.Fork.row_change_of.Goals as goal
 
 pub returns-in_err-row-clause-change : goal.returns-in_err-row-clause-change
-returns-in_err-row-clause-change g c at =
-    no_row c.args.self.now (event_of c.args.event.now) at c.args.n c.in_err-row.ensures ∙ sym (ap (option_map (changed c.args.self.now at)) c.from_residual.ensures)
+returns-in_err-row-clause-change g c at = grind arith
 
 pub returns-in-Some-clause-change : goal.returns-in-Some-clause-change
 returns-in-Some-clause-change g c at =

@@ -1,5 +1,5 @@
-use Rattle.fork_context.specs.KindView.{kind_of}
-use Rattle.fork_context.proofs.ForkStart.{started_fork, started_none, started_some, started_range}
+use Rattle.fork_context.proofs.Common.{kind_of, arith}
+use Rattle.fork_context.proofs.ForkStart.{started_fork, started_none, started_some}
 use Rattle.fork_context.proofs.fork.Fork.start_ready.Goals as goal
 
 pub invariant_of-self : goal.invariant_of-self
@@ -15,5 +15,4 @@ returns-clause-some g c =
     started_some c.start_ready.result c.self.inside.tree c.start_ready.new.self c.self.inside.extras c.self.inside.succeeded (kind_of c.self.inside.kind) c.self.inside.closed c.args.self.now c.self.invariant c.self.view_is c.start_ready.ensures.some
 
 pub returns-clause-range : goal.returns-clause-range
-returns-clause-range g c =
-    started_range c.start_ready.result c.self.inside.tree c.start_ready.new.self c.self.inside.extras c.self.inside.succeeded c.self.invariant c.start_ready.ensures.some
+returns-clause-range g c = grind arith

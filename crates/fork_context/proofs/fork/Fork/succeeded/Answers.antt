@@ -1,4 +1,4 @@
-use Rattle.std.proofs.Common.{◌∙◌, sym}
+use Rattle.fork_context.proofs.Common.{◌∙◌, sym}
 use Rattle.fork_context.proofs.Successes.{succeeded_with_extras}
 use Rattle.fork_context.proofs.fork.Fork.succeeded.Goals as goal
 

@@ -1,5 +1,4 @@
-use Rattle.fork_context.proofs.Common.{◌≡◌, ◌∙◌, ap, refl, List, ℕ, false, length, map, arith, None, filter_map, length-map, Row, Rules, Table, numbered, Tree, waiting_row, new_rows_of, with_extras}
-use Rattle.fork_context.proofs.Common.{q_of_pair, kind_of, target_extras}
+use Rattle.fork_context.proofs.Common.{◌≡◌, ◌∙◌, ap, refl, List, ℕ, false, length, map, arith, None, filter_map, length-map, numbered, Tree, waiting_row, new_rows_of, q_of_pair, target_extras, common_steps}
 use Rattle.fork_context.proofs.NewRowGroups.{in_order}
 use Rattle.fork_context.proofs.ForkEnd.{fork_same}
 use Rattle.fork_context.proofs.OpeningFork.{target_qs, target_new_rows, opening_with_extras, opening_fork, length_ordered}
@@ -8,10 +7,7 @@ use Rattle.fork_context.proofs.fork.Fork.waiting.Goals as goal
 pub new-requires : goal.new-requires
 new-requires g c =
     let targets = c.args.targets.now in
-    let ordered = in_order (target_qs targets) _ _ _ _ (c.deref.ensures.value ∙ c.in_ok-qs.ensures.value) (c.deref-2.ensures.value ∙ c.in_ok-qs.ensures.value)
-    (c.deref-3.ensures.value ∙ c.in_ok-order.ensures) (c.deref-4.ensures.value ∙ c.in_ok-qs_at.ensures) in
-    let long : length c.deref-4.result.now ≡ length targets = ap (λ (vs : List ℕ). length vs) ordered ∙ length_ordered targets in
-    record { few = omega (arith, long, c.requires.few) }
+    grind (arith, common_steps, target_qs targets, length_ordered targets, in_order)
 
 pub extras_by_key-requires : goal.extras_by_key-requires
 extras_by_key-requires g c =
@@ -36,16 +32,7 @@ of-requires g c =
 pub returns-clause-value : goal.returns-clause-value
 returns-clause-value g c =
     let targets = c.args.targets.now in
-    let ordered = in_order (target_qs targets) _ _ _ _ (c.deref.ensures.value ∙ c.in_ok-qs.ensures.value) (c.deref-2.ensures.value ∙ c.in_ok-qs.ensures.value)
-    (c.deref-3.ensures.value ∙ c.in_ok-order.ensures) (c.deref-4.ensures.value ∙ c.in_ok-qs_at.ensures) in
-    let rows : c.in_ok-tree.tree.rows ≡ map (waiting_row None) (target_new_rows targets) =
-    ap (λ (t : Tree). t.rows) c.in_ok-tree.ensures ∙ ap (λ (vs : List ℕ). map (waiting_row None) (new_rows_of vs)) ordered in
-    let extras : c.in_ok-extras.extras ≡ filter_map (target_extras targets) (numbered (target_qs targets)) =
-    c.in_ok-extras.ensures
-    ∙ ap (filter_map (target_extras targets)) (c.deref-5.ensures.value ∙ c.in_ok-order.ensures ∙ ap numbered (c.deref.ensures.value ∙ c.in_ok-qs.ensures.value)) in
-    let rules : c.in_ok-tree.tree.rules ≡ c.args.rules = ap (λ (t : Tree). t.rules) c.in_ok-tree.ensures in
-    let of_rows : Rules → List Row → Table = λ (rs : Rules) (xs : List Row). record { kind = kind_of c.args.kind; rules = rs; closed = false; rows = xs } in
-    c.of.ensures ∙ (λ i. of_rows (rules i) (with_extras (rows i) (extras i))) ∙ ap (of_rows c.args.rules) (opening_with_extras targets)
+    grind (arith, common_steps, target_qs targets, target_new_rows targets, opening_with_extras targets, in_order)
 
 pub returns-clause-range : goal.returns-clause-range
 returns-clause-range g c = c.in_ok-qs.ensures.range

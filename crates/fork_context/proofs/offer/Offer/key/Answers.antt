@@ -1,4 +1,4 @@
-use Rattle.std.proofs.Common.{rules}
+use Rattle.fork_context.proofs.Common.{rules}
 use Rattle.fork_context.proofs.offer.Offer.key.Goals as goal
 
 pub returns-in-Some : goal.returns-in-Some

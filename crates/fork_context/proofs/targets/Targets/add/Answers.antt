@@ -1,11 +1,9 @@
-use Rattle.fork_context.proofs.Common.{arith}
+use Rattle.fork_context.proofs.Common.{arith, common_steps}
 use Rattle.fork_context.proofs.TakenKeys.{sizes, one_more}
 use Rattle.fork_context.proofs.targets.Targets.add.Goals as goal
 
 pub push-requires : goal.push-requires
-push-requires g c =
-    let all = sizes c.self.inside.fork.now.rows c.self.inside.fresh c.args.self.now c.self.view_is in
-    record { few = omega (arith, all, c.requires.room) }
+push-requires g c = grind (arith, common_steps, sizes)
 
 pub returns : goal.returns
 returns g c =

@@ -1,4 +1,4 @@
-use Rattle.std.proofs.Common.{◌∙◌}
+use Rattle.fork_context.proofs.Common.{◌∙◌}
 use Rattle.fork_context.proofs.TakenKeys.{only_rows}
 use Rattle.fork_context.proofs.targets.Targets.of.Goals as goal
 
