@@ -1,14 +1,13 @@
 -- Exactly the texts of right listings are accepted.
-use Rattle.fork_listing.proofs.Common.{◌≡◌, ℕ, suc, ◌<◌, ◌≤◌, List, map, Some, Result, Ok, Err, refl, sym, ap, subst, ◌∙◌, arith, inl, inr, ◌⊎◌, slice_get, option_and_then, cases_lt, Score}
-use Rattle.fork_listing.proofs.Common.{HasScore, AreArrivals, End, Stored, Target, Verdict, Line, TargetLine, most_arrival, arrival_of, ended_at, IsInPlace, rows_of, score_in, score_at, IsChosen, IsNotChosen, final_of}
-use Rattle.fork_listing.proofs.Common.{Listing, rule_lines, read_listing, IsRight, IsVerdictOf, IsChecked, verdict_of, IsLine, IsEnd, IsListing, IsRightText, same_Some, all_at, looked, option_map, slice_get-map, none_some, slice_get_within}
+use Rattle.fork_listing.proofs.Common.{◌≡◌, ℕ, suc, ◌<◌, ◌≤◌, List, map, Some, Result, Ok, Err, refl, sym, ap, ◌∙◌, arith, inl, inr, ◌⊎◌, slice_get, cases_lt, Score, HasScore, AreArrivals, End, Target, Verdict, TargetLine, most_arrival, arrival_of}
+use Rattle.fork_listing.proofs.Common.{ended_at, IsInPlace, rows_of, score_in, score_at, Listing, rule_lines, read_listing, IsRight, IsVerdictOf, IsChecked, verdict_of, IsLine, IsEnd, IsListing, IsRightText, all_at, looked, option_map, slice_get-map}
+use Rattle.fork_listing.proofs.Common.{slice_get_within, common_steps}
 use Rattle.std.specs.Prelude.{IfOk, IfErr}
 use Rattle.fork_text.proofs.laws.Lines as texts
 use Rattle.fork_model.proofs.laws.OneReplyLemmas.{one_choice}
 use Rattle.fork_listing.specs.declared.refusal.CheckFault.{CheckFault}
 use Rattle.fork_listing.specs.declared.refusal.CheckFault.TheVariants as fault
 use Rattle.fork_listing.specs.Checking.{AreBranches}
-use Rattle.fork_listing.specs.Spelled.{IsFirstMalformed}
 use Rattle.fork_listing.specs.Accepted.{IsOkElseNoMemory, IsLineNamed, AcceptedTextsAreRight, RightTextsAreAccepted}
 use Rattle.fork_listing.proofs.MalformedLines.{refused_by_first}
 use Rattle.fork_listing.proofs.Meanings.{same_score}
@@ -16,18 +15,12 @@ use Rattle.fork_listing.proofs.SpelledListings.{read_exactly}
 
 -- ---- a score and its arrival
 
-score_arrives : (end : End) (score : Score) → score_in end ≡ Some score → arrival_of end ≡ Some score.arrival
-score_arrives (Stored status arrival received) score e = ap (λ (s : Score). Some s.arrival) (same_Some _ _ e)
-score_arrives end score e = absurd (none_some e)
-
 pub scored_at : (targets : List Target) (n : ℕ) (score : Score) → score_at targets n ≡ Some score
     → (target : Target) × (slice_get targets n ≡ Some target) × (score_in target.end ≡ Some score)
 scored_at targets n score e = looked (λ (t : Target). score_in t.end) (slice_get targets n) e
 
 pub score_ends : (targets : List Target) (n : ℕ) (score : Score) → score_at targets n ≡ Some score → ended_at targets n ≡ Some score.arrival
-score_ends targets n score e =
-    let h = scored_at targets n score e in
-    ap (option_and_then (λ (t : Target). arrival_of t.end)) h.1 ∙ score_arrives h.0.end score h.2
+score_ends targets n score e = grind arith
 
 -- branches that stand as they may ended apart
 pub ended_apart : (most_depth : ℕ) (targets : List Target) → ((n : ℕ) (target : Target) → slice_get targets n ≡ Some target → IsInPlace most_depth targets n target)
@@ -50,9 +43,7 @@ target_lines l h n target is =
     all_at IsLine (map TargetLine l.targets) lines n (TargetLine target) (slice_get-map TargetLine l.targets n ∙ ap (option_map TargetLine) is)
 
 score_within : (end : End) (score : Score) → IsEnd end → score_in end ≡ Some score → score.arrival ≤ most_arrival
-score_within (Stored status arrival received) score h e =
-    omega (arith, ap (λ (s : Score). s.arrival) (same_Some _ _ e), h.1)
-score_within end score h e = absurd (none_some e)
+score_within end score h e = grind arith
 
 arrivals : (l : Listing) → IsListing l → AreBranches l → AreArrivals (rows_of l.targets) (suc most_arrival)
 arrivals l h branches = record { past = past; apart = apart }
@@ -79,20 +70,11 @@ no_fault l h right (Err (fault.Line n)) is = absurd is
 no_fault l h right (Err (fault.Tree n)) is = absurd (is.1.2 (right.0 is.0 is.1.0))
 no_fault l h right (Err (fault.Order n)) is = absurd (is.2.2 (right.1 is.1 is.2.0))
 no_fault l h right (Err (fault.Absent n)) is = absurd (is.2.2 (right.2 n is.2.0))
-no_fault l h right (Err fault.FinalLine) is =
-    let chosen : IsChosen l.rules l.targets l.last = right.3 in
-    let other : IsNotChosen l.rules l.targets l.last = is.3 in
-    let one = one_choice l.rules (rows_of l.targets) (suc most_arrival) (arrivals l h right.0) chosen.0 other.0 chosen.1 other.1 in
-    absurd (other.2 (chosen.2 ∙ ap (final_of (rows_of l.targets)) one))
+no_fault l h right (Err fault.FinalLine) is = grind (arith, common_steps, arrivals l h right.0, one_choice)
 no_fault l h right (Err fault.NoMemory) is = tt
 
 pub right_accepted : RightTextsAreAccepted
-right_accepted text verdict result right checked =
-    let l = right.0 in
-    let read : read_listing text ≡ Ok l = (read_exactly text l).1 right.1 in
-    let P : Result Listing ℕ → Type 0 = λ r. IsChecked r result in
-    let Q : Verdict → Type 0 = λ v. IsOkElseNoMemory v result in
-    subst Q (sym right.3) (no_fault l right.1.1 right.2 result (subst P read checked))
+right_accepted text verdict result right checked = grind (arith, read_exactly, no_fault)
 
 pub accepted_right : AcceptedTextsAreRight
 accepted_right text verdict checked = go (read_listing text) refl checked
@@ -103,13 +85,7 @@ accepted_right text verdict checked = go (read_listing text) refl checked
 
 -- the same of what a check has answered
 pub right_of : (text : List ℕ) (result : Result Verdict CheckFault) → IsChecked (read_listing text) result → IfOk result (IsRightText text)
-right_of text (Ok verdict) checked = accepted_right text verdict checked
-right_of text (Err fault) checked = tt
+right_of text result checked = grind (arith, accepted_right)
 
 pub named_of : (text : List ℕ) (result : Result Verdict CheckFault) → IsChecked (read_listing text) result → IfErr result (IsLineNamed text)
-named_of text (Err (fault.Line n)) checked = go (read_listing text) refl checked
-  where
-    go : (r : Result Listing ℕ) → read_listing text ≡ r → IsChecked r (Err (fault.Line n)) → IsFirstMalformed text n
-    go (Ok l) is checked = absurd checked
-    go (Err m) is checked = let P : ℕ → Type 0 = IsFirstMalformed text in subst P (sym checked) (refused_by_first text m is)
-named_of text result checked = tt
+named_of text result checked = grind (arith, refused_by_first)

@@ -1,6 +1,6 @@
 -- The line of the answer that goes up, by the first of those stored.
-use Rattle.fork_listing.proofs.Common.{◌≡◌, ℕ, Bool, true, false, cond, eqb, List, Option, Some, None, refl, sym, ap, ◌∙◌, slice_get, option_map, eqb-true, eq-eqb, false≢true, Rules, Row, Score, Choice, Best, Only503, NoAnswer408}
-use Rattle.fork_listing.proofs.Common.{IsChoice, stored_at, status_at, BestRef, IsBest, Target, Final, rows_of, final_of, IsChosen, IsNotChosen, some_same, none_some}
+use Rattle.fork_listing.proofs.Common.{◌≡◌, ℕ, Bool, true, false, cond, eqb, List, Option, Some, None, refl, sym, ap, ◌∙◌, slice_get, option_map, eqb-true, eq-eqb, false≢true, Rules, Row, Score, Choice, Best, Only503, NoAnswer408, IsChoice}
+use Rattle.fork_listing.proofs.Common.{stored_at, status_at, BestRef, IsBest, Target, Final, rows_of, final_of, IsChosen, IsNotChosen, arith}
 use Rattle.std.specs.Option.{option_map_or}
 use Rattle.fork_model.specs.Table.{StoredAnswer}
 use Rattle.fork_model.specs.Choice as model
@@ -8,8 +8,7 @@ use Rattle.fork_tree.specs.Tree.{score_of_ref}
 use Rattle.fork_listing.specs.inner.Stored.{final_of_best}
 
 pub status_seen : (o : Option StoredAnswer) (score : Score) → option_map model.score_of o ≡ Some score → option_map_or (λ (answer : StoredAnswer). answer.status) o 408 ≡ score.status
-status_seen None score e = absurd (none_some e)
-status_seen (Some answer) score e = ap (λ (s : Score). s.status) (some_same e)
+status_seen o score e = grind arith
 
 -- the choice that the first of those stored makes, and its line
 abbrev Chosen : Rules → List Row → Option BestRef → Type 0

@@ -1,12 +1,11 @@
 -- The first rank line of a fork's listing is that of the answer that goes up.
-use Rattle.fork_listing.proofs.Common.{◌≡◌, List, refl, subst, Row, Choice, Best, Listing, final_of, listing_of, FirstLineIs}
+use Rattle.fork_listing.proofs.Common.{◌≡◌, List, subst, Row, Choice, Listing, final_of, listing_of, FirstLineIs, arith}
 use Rattle.fork_listing.specs.Meaning.{TheChoiceIsFirst, row_chosen}
 use Rattle.fork_listing.proofs.ListedForks.{in_order, all_listed, is_chosen}
 use Rattle.fork_listing.proofs.Meanings.{listed, ranked, first, first_line}
 
 chosen_is : (rows : List Row) (choice : Choice) → (final_of rows choice).number ≡ row_chosen choice
-chosen_is rows (Best n) = refl
-chosen_is rows choice = refl
+chosen_is rows choice = grind arith
 
 pub the_choice_is_first : TheChoiceIsFirst
 the_choice_is_first t at ranks choice arrivals ranking is =

@@ -1,7 +1,7 @@
 -- One branch ends, and others may come to stand under it: the branches still stand as they may.
-use Rattle.fork_listing.proofs.Common.{◌≡◌, ◌≢◌, ℕ, zero, suc, ◌+◌, ◌<◌, ◌≤◌, true, false, List, [], ◌∷◌, ◌++◌, length, Option, Some, None, refl, sym, ap, subst, ◌∙◌, arith, inl, inr, ◌⊎◌, slice_get, option_and_then, End, Stored, Taken}
-use Rattle.fork_listing.proofs.Common.{Never, Target, arrival_of, ended_at, is_redirection, is_redirected, IsParent, IsBefore, Follows, FollowsTarget, line_before, IsEarlier, HasDepth, IsInPlace, IsStatus, IsHow, most_q, some_same, none_some, slice_get_within, there, looked}
-use Rattle.std.proofs.lemmas.Bool.{cases_eq}
+use Rattle.fork_listing.proofs.Common.{◌≡◌, ◌≢◌, ℕ, zero, suc, ◌+◌, ◌<◌, ◌≤◌, true, false, List, [], ◌∷◌, ◌++◌, length, Option, Some, None, refl, sym, ap, subst, ◌∙◌, arith, inl, inr, ◌⊎◌, slice_get, option_and_then, End, Stored, Taken, Never}
+use Rattle.fork_listing.proofs.Common.{Target, arrival_of, ended_at, is_redirection, is_redirected, IsParent, IsBefore, Follows, FollowsTarget, line_before, IsEarlier, HasDepth, IsInPlace, IsStatus, IsHow, most_q, some_same, none_some}
+use Rattle.fork_listing.proofs.Common.{slice_get_within, there, looked, cases_eq}
 
 -- what a stored answer keeps
 abbrev pub IsKept : End → Type 0
@@ -73,11 +73,7 @@ redirection_ends (Taken arrival) e = (arrival, refl)
 redirection_ends end e = absurd cc
 
 pub redirected_ends : (targets : List Target) (p : ℕ) → is_redirected (slice_get targets p) ≡ true → (a : ℕ) × (ended_at targets p ≡ Some a)
-redirected_ends targets p e = go (slice_get targets p) e
-  where
-    go : (o : Option Target) → is_redirected o ≡ true → (a : ℕ) × (option_and_then (λ (target : Target). arrival_of target.end) o ≡ Some a)
-    go None e = absurd cc
-    go (Some target) e = redirection_ends target.end e
+redirected_ends targets p e = grind (arith, redirection_ends)
 
 -- what is known where a branch ends
 pub record Ends (most_depth : ℕ) (old fresh : List Target) (n at : ℕ) (was : Target) (end : End) : Type 0 where
@@ -365,8 +361,4 @@ module _ {most_depth n at : ℕ} {old fresh : List Target} {was : Target} {end :
 
 -- nothing has ended later than before
 pub waits_on : (most_depth : ℕ) (targets : List Target) (at : ℕ) → IsGrown most_depth targets at → IsGrown most_depth targets (suc at)
-waits_on most_depth targets at grown = record {
-  placed = grown.placed;
-  past = λ n a e. omega (arith, grown.past n a e);
-  kept = grown.kept;
-}
+waits_on most_depth targets at grown = grind arith

@@ -1,12 +1,11 @@
 -- The listing of every fork is right.
-use Rattle.fork_listing.proofs.Common.{◌≡◌, ◌≢◌, ℕ, zero, suc, ◌≤◌, true, false, List, [], ◌∷◌, ◌++◌, map, length, Option, Some, None, refl, sym, ap, subst, ◌∙◌, arith, inl, inr, slice_get, option_and_then, option_map}
-use Rattle.fork_listing.proofs.Common.{AllByRecursion, Rules, Row, Table, State, Ended, most_targets, Score, Before, Choice, Best, Only503, NoAnswer408, IsChoice, IsFirst, stored_at, status_at}
-use Rattle.fork_listing.proofs.Common.{Core, opening_core, core_after, End, Target, Ranked, Final, Verdict, Line, TargetLine, RankLine, most_arrival, most_number, arrival_of, ended_at, IsParent}
-use Rattle.fork_listing.proofs.Common.{rows_of, score_of, score_in, score_at, RanksBehind, final_of, IsChosen, IsRanking, Listing, AreInOrder, AreListed, IsRight, verdict_of, targets_of, listing_of, IsListingOf, IsStatus, IsEnd}
-use Rattle.fork_listing.proofs.Common.{IsNumberOrNone, IsTargetLine, IsRankLine, IsFinalLine, IsLine, IsListing, IsRightText, AreArrivals, HasScore, some_same, none_some, slice_get_within, Accepted, false≢true}
+use Rattle.fork_listing.proofs.Common.{◌≡◌, ◌≢◌, ℕ, zero, suc, ◌≤◌, true, false, List, [], ◌∷◌, ◌++◌, map, length, Option, Some, None, refl, sym, ap, subst, ◌∙◌, arith, inl, inr, slice_get, option_and_then, option_map, AllByRecursion, Rules, Row}
+use Rattle.fork_listing.proofs.Common.{Table, State, most_targets, Score, Before, Choice, Best, Only503, NoAnswer408, IsChoice, IsFirst, stored_at, status_at, Core, opening_core, core_after, End, Target, Ranked, Verdict, Line, TargetLine, RankLine}
+use Rattle.fork_listing.proofs.Common.{most_arrival, most_number, arrival_of, ended_at, IsParent, rows_of, score_of, score_in, score_at, RanksBehind, final_of, IsChosen, IsRanking, Listing, AreInOrder, AreListed, IsRight, verdict_of, targets_of}
+use Rattle.fork_listing.proofs.Common.{listing_of, IsListingOf, IsStatus, IsEnd, IsNumberOrNone, IsTargetLine, IsRankLine, IsFinalLine, IsLine, IsListing, IsRightText, AreArrivals, HasScore, some_same, none_some, slice_get_within, false≢true}
+use Rattle.fork_listing.proofs.Common.{get_or_from_slice_get, is_succeeded, common_steps, rules}
 use Rattle.std.proofs.lemmas.List.Folds.{list_any_at}
-use Rattle.std.proofs.lemmas.Option.{get_or_from_slice_get}
-use Rattle.fork_model.specs.Table.{Stored, stored_of, is_accepted, is_succeeded}
+use Rattle.fork_model.specs.Table.{stored_of, is_accepted}
 use Rattle.fork_model.specs.Choice as model
 use Rattle.fork_model.specs.Steps.{most_taken}
 use Rattle.fork_model.proofs.laws.ContactLemmas.{taken_bounded}
@@ -19,7 +18,7 @@ use Rattle.fork_listing.specs.Accepted.{ListingsAreRight, AppendsRight}
 use Rattle.fork_listing.proofs.Finals.{status_seen}
 use Rattle.fork_listing.proofs.Meanings.{same_score}
 use Rattle.fork_listing.proofs.Growing.{IsKept}
-use Rattle.fork_listing.proofs.GrownTables.{seen, line_at, line_get, row_listed, length-targets, IsGrownTable, history_grows}
+use Rattle.fork_listing.proofs.GrownTables.{seen, line_get, row_listed, length-targets, IsGrownTable, history_grows}
 use Rattle.fork_listing.proofs.AcceptedTexts.{scored_at, score_ends}
 
 -- ---- a table whose rows stand as they may
@@ -34,15 +33,10 @@ record IsFit (t : Table) (at : ℕ) : Type 0 where
 
 -- the score of a row is that of its line
 state_score : (state : State) → option_map model.score_of (stored_of state) ≡ score_in (seen state)
-state_score (Ended (Stored answer)) = refl
-state_score state = refl
+state_score state = grind arith
 
 pub row_score : (rows : List Row) (n : ℕ) → option_map model.score_of (stored_at (slice_get rows n)) ≡ score_at (targets_of rows) n
-row_score rows n = go (slice_get rows n) ∙ sym (ap (option_and_then (λ (t : Target). score_in t.end)) (line_get 0 rows n n (omega arith)))
-  where
-    go : (o : Option Row) → option_map model.score_of (stored_at o) ≡ option_and_then (λ (t : Target). score_in t.end) (option_map (line_at n) o)
-    go None = refl
-    go (Some row) = state_score row.state
+row_score rows n = grind (arith, line_get)
 
 -- the rows that the lines tell of have the same scores
 lines_score : (rows : List Row) (n : ℕ) → option_map model.score_of (stored_at (slice_get rows n)) ≡ option_map model.score_of (stored_at (slice_get (rows_of (targets_of rows)) n))
@@ -60,10 +54,7 @@ same_choice rules rows (Only503 n) h = (h.0, same_first rules rows n h.0 h.1, h.
 same_choice rules rows NoAnswer408 h = λ m score is. h m score (lines_score rows m ∙ is)
 
 same_final : (rules : Rules) (rows : List Row) (choice : Choice) → IsChoice rules rows choice → final_of rows choice ≡ final_of (rows_of (targets_of rows)) choice
-same_final rules rows (Best n) h =
-    let line : ℕ → Final = λ s. record { status = s; number = Some n } in
-    let first = same_first rules rows n h.0 h.1 in
-    ap line (status_seen (stored_at (slice_get rows n)) h.0 h.1.stored ∙ sym (status_seen (stored_at (slice_get (rows_of (targets_of rows)) n)) h.0 first.stored))
+same_final rules rows (Best n) h = grind (arith, common_steps, same_first rules rows n h.0 h.1, status_seen)
 same_final rules rows (Only503 n) h = refl
 same_final rules rows NoAnswer408 h = refl
 
@@ -106,15 +97,12 @@ module _ (t : Table) (at : ℕ) (ranks : List Ranked) (choice : Choice) (arrival
 -- ---- its lines
 
 accepted_seen : (state : State) (a : ℕ) → seen state ≡ line_end.Accepted a → is_accepted state ≡ true
-accepted_seen (Ended (Accepted b)) a e = refl
-accepted_seen state a e = absurd cc
+accepted_seen state a e = grind arith
 
 none_accepted : (rows : List Row) → is_succeeded rows ≡ false → (n : ℕ) (target : Target) → slice_get (targets_of rows) n ≡ Some target → (a : ℕ) → target.end ≡ line_end.Accepted a → ⊥
 none_accepted rows failed n target is a e =
     let r = row_listed rows n target is in
-    let here = get_or_from_slice_get rows n r.0 r.0 r.1 in
-    let accepted = accepted_seen r.0.state a (sym (ap (λ (t : Target). t.end) r.2) ∙ e) in
-    false≢true (sym failed ∙ list_any_at (λ (row : Row). is_accepted row.state) rows n r.0 (slice_get_within rows n r.0 r.1) (ap (λ (row : Row). is_accepted row.state) here ∙ accepted))
+    grind (arith, common_steps, get_or_from_slice_get rows n r.0 r.0 r.1, slice_get_within rows n r.0 r.1, accepted_seen, false≢true, list_any_at)
 
 end_line : (end : End) → IsKept end → ((a : ℕ) → arrival_of end ≡ Some a → a ≤ most_arrival) → ((a : ℕ) → end ≡ line_end.Accepted a → ⊥) → IsEnd end
 end_line (line_end.Stored status arrival received) kept arrives none = (kept.0, arrives arrival refl, kept.1)

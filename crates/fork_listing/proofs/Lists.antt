@@ -4,6 +4,7 @@ use Rattle.std.specs.List.{AllByRecursion}
 use Rattle.std.specs.Prelude.{◌↔◌}
 use Rattle.std.specs.Option.{MatchOption, option_map}
 use Rattle.fork_listing.specs.First.{IsFirstToFail}
+use Rattle.std.proofs.lemmas.Grind.{common_steps}
 
 pub some_same : {X : Type 0} {x y : X} → Some x ≡ Some y → x ≡ y
 some_same e = cc
@@ -30,19 +31,15 @@ all_at P (y ∷ xs) all (suc n) x is = all_at P xs all.1 n x is
 
 -- what is read of an option was there
 pub looked : {X Y : Type 0} (f : X → Option Y) (o : Option X) {y : Y} → option_and_then f o ≡ Some y → (x : X) × (o ≡ Some x) × (f x ≡ Some y)
-looked f None e = absurd (none_some e)
-looked f (Some x) e = (x, refl, e)
+looked f o e = grind (arith, common_steps, none_some)
 
 pub mapped : {X Y : Type 0} (f : X → Y) (o : Option X) {y : Y} → option_map f o ≡ Some y → (x : X) × (o ≡ Some x) × (y ≡ f x)
-mapped f None e = absurd (none_some e)
-mapped f (Some x) e = (x, refl, sym (some_same e))
+mapped f o e = grind (arith, common_steps, none_some, some_same)
 
 -- what `find` over the places answers is the first to fail
 pub first_to_fail : (P : ℕ → Type 0) (bound : ℕ) (r : Option ℕ) → MatchOption r ((k : ℕ) → 0 ≤ k → k < bound → P k) (λ i. (0 ≤ i) × (i < bound) × (P i → ⊥) × ((k : ℕ) → 0 ≤ k → k < i → P k))
     → IsFirstToFail P bound r
-first_to_fail P bound None h = λ n lt. h n (omega arith) lt
-first_to_fail P bound (Some i) h = (h.1, (λ n lt. h.3 n (omega arith) lt), h.2)
+first_to_fail P bound r h = grind (arith, common_steps)
 
 pub first_same : (P Q : ℕ → Type 0) → ((n : ℕ) → P n ↔ Q n) → (bound : ℕ) (r : Option ℕ) → IsFirstToFail P bound r → IsFirstToFail Q bound r
-first_same P Q same bound None h = λ n lt. (same n).0 (h n lt)
-first_same P Q same bound (Some i) h = (h.0, (λ n lt. (same n).0 (h.1 n lt)), (λ q. h.2 ((same i).1 q)))
+first_same P Q same bound r h = grind (arith, common_steps)

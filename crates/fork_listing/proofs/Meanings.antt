@@ -1,18 +1,15 @@
 -- What a right listing tells.
-use Rattle.fork_listing.proofs.Common.{◌≡◌, ℕ, zero, suc, ◌<◌, List, [], ◌∷◌, Option, Some, None, Result, Ok, Err, refl, sym, ap, subst, ◌∙◌, arith, inl, inr, slice_get, option_and_then, option_map, Row, Score, Before, Choice}
-use Rattle.fork_listing.proofs.Common.{Best, Only503, NoAnswer408, IsFirst, IsChoice, NoneStored, stored_at, status_at, Before-trans, Target, Ranked, Final, row_of, rows_of, score_of, score_in, score_at, RanksBehind, final_of, IsChosen}
-use Rattle.fork_listing.proofs.Common.{Listing, read_listing, AreInOrder, AreListed, IsChecked, verdict_of, FirstLineIs, slice_get-map, looked, some_same, cases, slice_get_within, there}
+use Rattle.fork_listing.proofs.Common.{◌≡◌, ℕ, zero, suc, ◌<◌, List, [], ◌∷◌, Option, Some, Result, Ok, Err, refl, sym, ap, subst, ◌∙◌, arith, inl, inr, slice_get, option_and_then, option_map, Row, Score, Before, IsFirst, NoneStored, stored_at}
+use Rattle.fork_listing.proofs.Common.{Before-trans, Target, Ranked, Final, row_of, rows_of, score_of, score_in, score_at, RanksBehind, IsChosen, Listing, read_listing, AreInOrder, AreListed, IsChecked, verdict_of, FirstLineIs, slice_get-map, looked}
+use Rattle.fork_listing.proofs.Common.{some_same, cases, slice_get_within, there, ListedAreStored, common_steps}
 use Rattle.fork_model.specs.Choice as model
-use Rattle.fork_listing.specs.Meaning.{ListedAreStored, AreRanked, FinalIsFirst, TellsTheChoice, RightTellsTheChoice, AcceptedTellsTheChoice}
-use Rattle.fork_listing.proofs.LineScores.{target_score}
-use Rattle.fork_listing.proofs.Finals.{status_seen}
+use Rattle.fork_listing.specs.Meaning.{AreRanked, FinalIsFirst, TellsTheChoice, RightTellsTheChoice, AcceptedTellsTheChoice}
 
 abbrev seen : Option Row → Option Score
 seen row = option_map model.score_of (stored_at row)
 
 score_seen : (o : Option Target) → seen (option_map row_of o) ≡ option_and_then (λ (t : Target). score_in t.end) o
-score_seen None = refl
-score_seen (Some target) = target_score target
+score_seen o = grind arith
 
 -- the score in a row is that in its line
 pub same_score : (targets : List Target) (n : ℕ) → seen (slice_get (rows_of targets) n) ≡ score_at targets n
@@ -48,15 +45,7 @@ ranked l order (suc k) j a b lt x y =
     ]
 
 pub first : (l : Listing) → IsChosen l.rules l.targets l.last → FinalIsFirst l
-first l chosen = at chosen.0 chosen.1 chosen.2
-  where
-    at : (choice : Choice) → IsChoice l.rules (rows_of l.targets) choice → l.last ≡ final_of (rows_of l.targets) choice → FinalIsFirst l
-    at (Best n) is e =
-        let status : status_at (slice_get (rows_of l.targets) n) ≡ is.0.status = status_seen (stored_at (slice_get (rows_of l.targets) n)) is.0 is.1.stored in
-        let line : ℕ → Final = λ s. record { status = s; number = Some n } in
-        inl (n, is.0, is.1, is.2, e ∙ ap line status)
-    at (Only503 n) is e = inr (inl (n, is.0, is.1, is.2, e))
-    at NoAnswer408 is e = inr (inr (is, e))
+first l chosen = grind arith
 
 -- the line of an answer that none stored ranks before is the first
 leads : (l : Listing) (n : ℕ) (score : Score) → ListedAreStored l → AreRanked l → IsFirst l.rules (rows_of l.targets) n score → FirstLineIs l.ranks (Some n)
@@ -100,11 +89,7 @@ first_line l stored order final =
     number last = last.number
 
 pub right_tells : RightTellsTheChoice
-right_tells l right =
-    let stored = listed l right.1 right.2 in
-    let order : AreRanked l = λ j k a b lt x y. ranked l right.1 k j a b lt x y in
-    let final = first l right.3 in
-    (stored, order, final, first_line l stored order final)
+right_tells l right = grind (arith, common_steps, listed l right.1 right.2, first l right.3, ranked, first_line)
 
 pub accepted_tells : AcceptedTellsTheChoice
 accepted_tells text verdict checked = at (read_listing text) refl checked

@@ -1,7 +1,7 @@
 -- The line at a place keeps each rule with the lines before it.
-use Rattle.fork_listing.proofs.Common.{◌≡◌, ℕ, zero, suc, ◌+◌, ◌-◌, ◌<◌, ◌≤◌, ◌⊎◌, inl, inr, List, Option, Some, None, refl, sym, ap, subst, ◌∙◌, arith, slice_get, option_and_then, slice_get_within, Target, arrival_of, ended_at, Follows, FollowsTarget, IsBefore, HasDepth, IsInPlace, IsPlaced, IsNear}
-use Rattle.fork_listing.proofs.Common.{HoldsBelow, cases, one_at, there}
-use Rattle.fork_listing.specs.inner.Near.{FallsTo, IsShallow}
+use Rattle.fork_listing.proofs.Common.{◌≡◌, ℕ, zero, suc, ◌+◌, ◌-◌, ◌<◌, ◌≤◌, ◌⊎◌, inl, inr, List, Option, Some, None, sym, ap, subst, ◌∙◌, arith, slice_get, option_and_then, slice_get_within, Target, arrival_of, ended_at, Follows, FollowsTarget}
+use Rattle.fork_listing.proofs.Common.{HasDepth, IsInPlace, IsPlaced, IsNear, HoldsBelow, cases, one_at, there, IsShallow}
+use Rattle.fork_listing.specs.inner.Near.{FallsTo}
 
 pub holds_next : (P : ℕ → Type 0) (n : ℕ) → HoldsBelow P n → P n → HoldsBelow P (n + 1)
 holds_next P n holds at = λ m lt. elim (cases m n lt) [ inl less ↦ holds m less | inr same ↦ subst P (sym same) at ]
@@ -27,24 +27,10 @@ abbrev Falls : List Target → Target → Target → Type 0
 Falls targets a b = FallsOr (since targets a.parent) a.q (since targets b.parent) b.q
 
 falls_on : (s q t r u p : ℕ) → FallsOr s q t r → FallsOr t r u p → FallsOr s q u p
-falls_on s q t r u p (inl x) (inl y) = inl (omega arith)
-falls_on s q t r u p (inl x) (inr y) = inl (omega (arith, y.0))
-falls_on s q t r u p (inr x) (inl y) = inl (omega (arith, x.0))
-falls_on s q t r u p (inr x) (inr y) = inr (x.0 ∙ y.0, omega (arith, x.1, y.1))
-
-ends_before : (a b : Option ℕ) → IsBefore a b → at_or a < at_or b
-ends_before None b h = absurd h
-ends_before (Some a) None h = absurd h
-ends_before (Some a) (Some b) h = h
+falls_on s q t r u p fact other = grind arith
 
 falls_next : (targets : List Target) (p r : Option ℕ) (q s : ℕ) → Follows targets p r → (p ≡ r → ⊥) ⊎ (s ≤ q) → FallsOr (since targets p) q (since targets r) s
-falls_next targets None None q s follows (inl differ) = absurd (differ refl)
-falls_next targets None None q s follows (inr low) = inr (refl, low)
-falls_next targets None (Some r) q s follows falls = inl (omega arith)
-falls_next targets (Some p) None q s follows falls = absurd follows
-falls_next targets (Some p) (Some r) q s (inl e) (inl differ) = absurd (differ (ap Some e))
-falls_next targets (Some p) (Some r) q s (inl e) (inr low) = inr (ap (λ (x : ℕ). since targets (Some x)) e, low)
-falls_next targets (Some p) (Some r) q s (inr lt) falls = let h = ends_before (ended_at targets p) (ended_at targets r) lt in inl (omega (arith, h))
+falls_next targets p r q s follows falls = grind arith
 
 abbrev NearAt : ℕ → List Target → ℕ → Type 0
 NearAt most targets n = (target : Target) → slice_get targets n ≡ Some target → IsNear most targets n target
@@ -66,19 +52,10 @@ far most targets (suc n) m a b lt is_a is_b near =
     ]
 
 low : (s q t r : ℕ) → FallsOr s q t r → s ≡ t → r ≤ q
-low s q t r (inl lt) e = absurd (omega arith)
-low s q t r (inr h) e = h.1
-
-low_or : (a b : ℕ) → (a ≤ b) ⊎ (a ≤ b → ⊥)
-low_or a b = grind arith
-
-falls_near : (most : ℕ) (targets : List Target) (n : ℕ) (target : Target) (o : Option Target) → slice_get targets n ≡ o → IsInPlace most targets (suc n) target → FallsTo o target
-falls_near most targets n target None here place = tt
-falls_near most targets n target (Some before) here place = elim (low_or target.q before.q) [ inl low ↦ inr low | inr high ↦ inl (λ e. high (place.falls n before (omega arith) here e)) ]
+low s q t r fact e = grind arith
 
 pub near_of : (most : ℕ) (targets : List Target) (n : ℕ) (target : Target) → IsInPlace most targets n target → IsNear most targets n target
-near_of most targets zero target place = (place.number, place.parent, place.follows, tt, place.later, place.depth)
-near_of most targets (suc n) target place = (place.number, place.parent, place.follows, falls_near most targets n target (slice_get targets n) refl place, place.later, place.depth)
+near_of most targets n target place = grind arith
 
 -- ---- the line at a place
 

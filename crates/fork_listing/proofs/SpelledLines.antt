@@ -1,8 +1,8 @@
 -- A line is read exactly where it is the spelling of a line.
-use Rattle.fork_listing.proofs.Common.{◌≡◌, ℕ, ◌≤◌, Bool, true, false, eqb, List, ◌∷◌, ◌++◌, Some, None, refl, ap, ◌∙◌, arith, not, bytes_eq, codes, option_and_then, option_map, decimal, eqb-false, bytes_eq-Decides, Lacks}
-use Rattle.fork_listing.proofs.Common.{plain_number_within, most_targets, Version, First, Second, Third, End, Stored, Taken, Silent, Never, Target, Ranked, Final, Line, ForkLine, PreferLine, DepthLine, TargetLine, RankLine, FinalLine}
-use Rattle.fork_listing.proofs.Common.{version_text, number_text, how_text, end_text, line_text, most_arrival, most_listed, most_q, most_number, before, read_status, read_parent, read_version, read_count, read_end, read_line, IsTargetLine}
-use Rattle.fork_listing.proofs.Common.{IsRankLine, IsFinalLine, IsLine, IsEnd, number_read, number_spelled, decimal_lacks, found_map, found_then, found_one, before_read, before_found}
+use Rattle.fork_listing.proofs.Common.{◌≡◌, ℕ, ◌≤◌, Bool, true, eqb, List, ◌∷◌, ◌++◌, Some, refl, ap, ◌∙◌, arith, not, codes, option_and_then, option_map, decimal, eqb-false, bytes_eq-Decides, Lacks, plain_number_within, most_targets, Version, End}
+use Rattle.fork_listing.proofs.Common.{Stored, Taken, Silent, Never, Target, Ranked, Final, Line, ForkLine, PreferLine, DepthLine, TargetLine, RankLine, FinalLine, version_text, number_text, how_text, end_text, line_text, most_arrival, most_listed}
+use Rattle.fork_listing.proofs.Common.{most_q, most_number, before, read_status, read_parent, read_version, read_count, read_end, read_line, IsTargetLine, IsRankLine, IsFinalLine, IsLine, IsEnd, number_read, number_spelled, decimal_lacks, found_map}
+use Rattle.fork_listing.proofs.Common.{found_then, before_read, before_found}
 use Rattle.std.specs.List.{list_all}
 use Rattle.fork_tree.specs.declared.row.End.TheVariants as tree
 use Rattle.sip_lex.proofs.laws.Cuts.{Lacks-append, Lacks-pass}
@@ -17,9 +17,7 @@ use Rattle.fork_listing.proofs.SpelledParts.{status_read, status_found, count_re
 -- ---- what is spelled is read
 
 fork_read : (version : Version) (count : ℕ) → IsLine (ForkLine version count) → read_fork (version_text version ++ 32 ∷ decimal count) ≡ Some (ForkLine version count)
-fork_read First count h = ap (option_map (ForkLine First)) (count_read First count h (omega arith))
-fork_read Second count h = ap (option_map (ForkLine Second)) (count_read Second count h (omega arith))
-fork_read Third count h = ap (option_map (ForkLine Third)) (count_read Third count h (omega arith))
+fork_read version count h = grind (arith, count_read)
 
 target_read : (target : Target) → IsTargetLine target
     → read_target (decimal target.number ++ 32 ∷ (number_text target.parent ++ 32 ∷ (decimal target.q ++ 32 ∷ end_text target.end))) ≡ Some target
@@ -67,15 +65,7 @@ word_text word.Rank = codes "rank"
 word_text word.Final = codes "final"
 
 word_found : (text : List ℕ) (w : Word) → word_of text ≡ Some w → text ≡ word_text w
-word_found text w e =
-    let P : Word → Type 0 = λ v. text ≡ word_text v in
-    found_one (bytes_eq text (codes "fork")) word.Fork w _ P (bytes_eq-Decides text (codes "fork")).0
-    (λ e. found_one (bytes_eq text (codes "prefer")) word.Prefer w _ P (bytes_eq-Decides text (codes "prefer")).0
-    (λ e. found_one (bytes_eq text (codes "depth")) word.Depth w _ P (bytes_eq-Decides text (codes "depth")).0
-    (λ e. found_one (bytes_eq text (codes "target")) word.Target w _ P (bytes_eq-Decides text (codes "target")).0
-    (λ e. found_one (bytes_eq text (codes "rank")) word.Rank w _ P (bytes_eq-Decides text (codes "rank")).0
-    (λ e. found_one (bytes_eq text (codes "final")) word.Final w None P (bytes_eq-Decides text (codes "final")).0
-    (λ e. absurd cc) e) e) e) e) e) e
+word_found text w e = grind (arith, bytes_eq-Decides)
 
 fork_found : (rest : List ℕ) (line : Line) → read_fork rest ≡ Some line → IsSpelledBy (codes "fork" ++ 32 ∷ rest) line
 fork_found rest line e =
@@ -168,9 +158,7 @@ rest_found word.Fork rest line e = fork_found rest line e
 rest_found word.Prefer rest line e =
     found_map PreferLine (read_preferred rest) line (IsSpelledBy (codes "prefer" ++ 32 ∷ rest))
     (λ statuses at. let h = preferred_found rest statuses at in (ap (λ (text : List ℕ). codes "prefer " ++ text) h.0, h.1)) e
-rest_found word.Depth rest line e =
-    found_map DepthLine (plain_number_within most_targets rest) line (IsSpelledBy (codes "depth" ++ 32 ∷ rest))
-    (λ n at. let h = number_spelled most_targets rest n (omega arith) at in (ap (λ (text : List ℕ). codes "depth " ++ text) h.spelled, h.within)) e
+rest_found word.Depth rest line e = grind (arith, number_spelled)
 rest_found word.Target rest line e =
     found_map TargetLine (read_target rest) line (IsSpelledBy (codes "target" ++ 32 ∷ rest)) (λ target at. target_found rest target at) e
 rest_found word.Rank rest line e =
@@ -191,9 +179,7 @@ line_found text line e =
 -- ---- no LF stands in a line
 
 version_lacks : (version : Version) → Lacks 10 (version_text version)
-version_lacks First = (eqb-false 49 10 refl, tt)
-version_lacks Second = (eqb-false 50 10 refl, tt)
-version_lacks Third = (eqb-false 51 10 refl, tt)
+version_lacks version = grind arith
 
 -- a word with its space
 spaced : (front back : List ℕ) → Lacks 10 front → Lacks 10 back → Lacks 10 (front ++ 32 ∷ back)
@@ -207,8 +193,7 @@ worded : (front back : List ℕ) → list_all is_plain front ≡ true → Lacks 
 worded front back plain b = Lacks-append 10 front back (Lacks-pass is_plain 10 front refl plain) b
 
 how_lacks : (received : Bool) → Lacks 10 (how_text received)
-how_lacks true = Lacks-pass is_plain 10 (how_text true) refl refl
-how_lacks false = Lacks-pass is_plain 10 (how_text false) refl refl
+how_lacks received = grind arith
 
 end_lacks : (end : End) → IsEnd end → Lacks 10 (end_text end)
 end_lacks (Stored status arrival received) h =

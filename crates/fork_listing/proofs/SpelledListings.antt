@@ -1,10 +1,10 @@
 -- A listing is read of exactly the text that spells it.
-use Rattle.fork_listing.proofs.Common.{◌≡◌, ℕ, zero, suc, ◌-◌, List, [], ◌∷◌, ◌++◌, map, length, Option, Some, None, Ok, Err, refl, sym, ap, subst, ◌∙◌, arith, append_assoc, append-nil, slice_split, AllByRecursion}
-use Rattle.fork_listing.proofs.Common.{join_with_byte-slice_split, is, Rules, Version, First, Second, Third, Target, Ranked, Final, Phase, Line, ForkLine, PreferLine, DepthLine, TargetLine, RankLine, FinalLine, line_text, read_line}
-use Rattle.fork_listing.proofs.Common.{Listing, rule_lines, lines_text, listing_text, Draft, no_draft, in_phase, drafted_line, listing_in, or_line, read_from, IsLine, IsListing, same_Some}
+use Rattle.fork_listing.proofs.Common.{◌≡◌, ℕ, zero, suc, ◌-◌, List, [], ◌∷◌, ◌++◌, map, length, Option, Some, None, Ok, Err, refl, sym, ap, ◌∙◌, arith, append_assoc, append-nil, slice_split, join_with_byte-slice_split, is, Rules, Version, First}
+use Rattle.fork_listing.proofs.Common.{Second, Third, Target, Ranked, Final, Phase, Line, ForkLine, PreferLine, DepthLine, TargetLine, RankLine, FinalLine, line_text, read_line, Listing, rule_lines, listing_text, Draft, no_draft, in_phase}
+use Rattle.fork_listing.proofs.Common.{drafted_line, listing_in, or_line, read_from, IsLine, IsListing, drafted, finished_draft, rules, common_steps}
 use Rattle.std.proofs.lemmas.Bool.{cond-false, ne_eqb}
 use Rattle.fork_listing.specs.declared.draft.Phase.TheVariants.{AtFork, AtPrefer, AtDepth, AtTargets, AtRanks, AtEnd}
-use Rattle.fork_listing.specs.Text.{lines_of, targets_due, drafted, finished_draft, read_listing}
+use Rattle.fork_listing.specs.Text.{lines_of, targets_due, read_listing}
 use Rattle.fork_text.specs.RuleLines.{usual_rules}
 use Rattle.fork_text.proofs.laws.Lines.{IsReader, read_lines}
 use Rattle.fork_text.proofs.laws.Lines as texts
@@ -12,8 +12,7 @@ use Rattle.fork_listing.specs.Spelled.{IsUsualElse, IsTextOf, ReadExactly, draft
 use Rattle.fork_listing.proofs.SpelledLines.{line_read, line_found, line_lacks}
 
 refused_at : (number m : ℕ) (o : Option Listing) → or_line number o ≡ Err m → number ≡ m
-refused_at number m None e = cc
-refused_at number m (Some l) e = absurd cc
+refused_at number m o e = grind arith
 
 -- a listing is read one line at a time
 pub reader : IsReader IsLine IsLine line_text read_line drafted_line read_from
@@ -40,10 +39,7 @@ targets_drafted draft [] = ap (λ (ts : List Target). Some (in_phase (record dra
 targets_drafted draft (target ∷ targets) =
     let less : suc (length targets) - 1 ≡ length targets = omega arith in
     let d : Draft = record draft { targets = draft.targets ++ target ∷ [] } in
-    ap (λ (p : Phase). drafted_lines (in_phase draft p) (map TargetLine (target ∷ targets))) (due_more (length targets))
-    ∙ ap (λ k. drafted_lines (in_phase d (targets_due k)) (map TargetLine targets)) less
-    ∙ targets_drafted d targets
-    ∙ ap (λ (ts : List Target). Some (in_phase (record draft { targets = ts }) AtRanks)) (append_assoc draft.targets (target ∷ []) targets)
+    grind (arith, common_steps, due_more (length targets), append_assoc draft.targets (target ∷ []) targets, targets_drafted d targets)
 
 ranks_drafted : (draft : Draft) (ranks : List Ranked)
     → drafted_lines (in_phase draft AtRanks) (map RankLine ranks) ≡ Some (in_phase (record draft { ranks = draft.ranks ++ ranks }) AtRanks)
@@ -91,8 +87,7 @@ listing_read l h =
     ∙ read_lines reader 1 no_draft (lines_of l) [] (whole l) h.lines (listing_drafted l h)
 
 listed_end : (number : ℕ) (l : Listing) (o : Option Listing) → or_line number o ≡ Ok l → o ≡ Some l
-listed_end number l None e = absurd cc
-listed_end number l (Some m) e = cc
+listed_end number l o e = grind arith
 
 -- ---- lines that are due from the first to the last are those of a listing
 
@@ -108,26 +103,15 @@ record RanksFound (draft : Draft) (lines : List Line) (l : Listing) : Type 0 whe
 at_end : (draft : Draft) (last : Final) (lines : List Line) (next : Draft) (l : Listing)
     → drafted_lines (in_phase draft (AtEnd last)) lines ≡ Some next → listing_in next next.phase ≡ Some l
     → (lines ≡ []) × (listing_by draft draft.targets draft.ranks last ≡ l)
-at_end draft last [] next l due end =
-    let same : in_phase draft (AtEnd last) ≡ next = same_Some _ _ due in
-    let here : listing_in (in_phase draft (AtEnd last)) (AtEnd last) ≡ Some l = ap (λ (d : Draft). listing_in d d.phase) same ∙ end in
-    (refl, same_Some _ _ here)
+at_end draft last [] next l due end = grind arith
 at_end draft last (line ∷ lines) next l due end = absurd cc
 
 at_ranks : (draft : Draft) (lines : List Line) (next : Draft) (l : Listing)
     → drafted_lines (in_phase draft AtRanks) lines ≡ Some next → listing_in next next.phase ≡ Some l → RanksFound draft lines l
-at_ranks draft [] next l due end =
-    let same : in_phase draft AtRanks ≡ next = same_Some _ _ due in
-    let here : None ≡ Some l = ap (λ (d : Draft). listing_in d d.phase) same ∙ end in
-    absurd cc
+at_ranks draft [] next l due end = grind arith
 at_ranks draft (RankLine ranked ∷ lines) next l due end =
     let more = at_ranks (record draft { ranks = draft.ranks ++ ranked ∷ [] }) lines next l due end in
-    record {
-      ranks = ranked ∷ more.ranks;
-      last = more.last;
-      spelled = ap (λ (ls : List Line). RankLine ranked ∷ ls) more.spelled;
-      same = ap (λ (rs : List Ranked). listing_by draft draft.targets rs more.last) (sym (append_assoc draft.ranks (ranked ∷ []) more.ranks)) ∙ more.same;
-    }
+    grind (arith, common_steps, append_assoc)
 at_ranks draft (FinalLine last ∷ lines) next l due end =
     let more = at_end draft last lines next l due end in
     record {
@@ -150,22 +134,12 @@ at_more : (draft : Draft) (count : ℕ) (lines : List Line) (next : Draft) (l : 
     → drafted_lines (in_phase draft (AtTargets (suc count))) lines ≡ Some next → listing_in next next.phase ≡ Some l
     → ((d : Draft) (others : List Line) → drafted_lines (in_phase d (targets_due count)) others ≡ Some next → TargetsFound d count others l)
     → TargetsFound draft (suc count) lines l
-at_more draft count [] next l due end again =
-    let same : in_phase draft (AtTargets (suc count)) ≡ next = same_Some _ _ due in
-    let here : None ≡ Some l = ap (λ (d : Draft). listing_in d d.phase) same ∙ end in
-    absurd cc
+at_more draft count [] next l due end again = grind arith
 at_more draft count (TargetLine target ∷ lines) next l due end again =
     let less : suc count - 1 ≡ count = omega arith in
     let d : Draft = record draft { targets = draft.targets ++ target ∷ [] } in
     let more = again d lines (ap (λ k. drafted_lines (in_phase d (targets_due k)) lines) (sym less) ∙ due) in
-    record {
-      targets = target ∷ more.targets;
-      ranks = more.ranks;
-      last = more.last;
-      counted = ap suc more.counted;
-      spelled = ap (λ (ls : List Line). TargetLine target ∷ ls) more.spelled;
-      same = ap (λ (ts : List Target). listing_by draft ts (draft.ranks ++ more.ranks) more.last) (sym (append_assoc draft.targets (target ∷ []) more.targets)) ∙ more.same;
-    }
+    grind (arith, common_steps, append_assoc)
 at_more draft count (line ∷ lines) next l due end again = absurd cc
 
 at_targets : (draft : Draft) (count : ℕ) (lines : List Line) (next : Draft) (l : Listing)
@@ -193,19 +167,11 @@ record AreLinesOf (l : Listing) (lines : List Line) : Type 0 where
 behind_rules : (version : Version) (count : ℕ) (rules : Rules) (lines : List Line) (l : Listing) → IsUsualElse version rules
     → TargetsFound (record { phase = AtFork; version = version; count = count; rules = rules; targets = []; ranks = [] }) count lines l
     → AreLinesOf l (ForkLine version count ∷ (rule_lines version rules ++ lines))
-behind_rules version count rules lines l usual found =
-    let P : Listing → Type 0 = λ m. AreLinesOf m (ForkLine version count ∷ (rule_lines version rules ++ lines)) in
-    subst P found.same (record {
-      spelled = ap (λ (ls : List Line). ForkLine version count ∷ (rule_lines version rules ++ ls)) found.spelled;
-      counted = found.counted;
-      usual = usual;
-    })
+behind_rules version count rules lines l usual found = grind arith
 
 -- no listing ends here
 ends_never : (draft next : Draft) (l : Listing) → listing_in draft draft.phase ≡ None → Some draft ≡ Some next → listing_in next next.phase ≡ Some l → ⊥
-ends_never draft next l none due end =
-    let wrong : None ≡ Some l = sym none ∙ ap (λ (d : Draft). listing_in d d.phase) (same_Some _ _ due) ∙ end in
-    cc
+ends_never draft next l none due end = grind arith
 
 abbrev forked : Version → ℕ → Draft
 forked version count = record { phase = AtPrefer version count; version = version; count = count; rules = usual_rules; targets = []; ranks = [] }
@@ -215,8 +181,7 @@ second_lines : (count : ℕ) (lines : List Line) (next : Draft) (l : Listing)
 second_lines count [] next l due end = absurd (ends_never (forked Second count) next l refl due end)
 second_lines count (PreferLine statuses ∷ lines) next l due end =
     let rules : Rules = record usual_rules { preferred = statuses } in
-    behind_rules Second count rules lines l refl
-    (at_targets (record { phase = AtFork; version = Second; count = count; rules = rules; targets = []; ranks = [] }) count lines next l due end)
+    grind (arith, common_steps, behind_rules Second count rules lines l refl, at_targets)
 second_lines count (line ∷ lines) next l due end = absurd cc
 
 abbrev preferring : ℕ → List ℕ → Draft
@@ -240,9 +205,7 @@ third_lines count (line ∷ lines) next l due end = absurd cc
 all_lines : (lines : List Line) (next : Draft) (l : Listing)
     → drafted_lines no_draft lines ≡ Some next → listing_in next next.phase ≡ Some l → AreLinesOf l lines
 all_lines [] next l due end = absurd (ends_never no_draft next l refl due end)
-all_lines (ForkLine First count ∷ lines) next l due end =
-    behind_rules First count usual_rules lines l refl
-    (at_targets (record { phase = AtFork; version = First; count = count; rules = usual_rules; targets = []; ranks = [] }) count lines next l due end)
+all_lines (ForkLine First count ∷ lines) next l due end = grind (arith, common_steps, behind_rules First count usual_rules lines l refl, at_targets)
 all_lines (ForkLine Second count ∷ lines) next l due end = second_lines count lines next l due end
 all_lines (ForkLine Third count ∷ lines) next l due end = third_lines count lines next l due end
 all_lines (line ∷ lines) next l due end = absurd cc
@@ -252,10 +215,7 @@ unfolding read_listing
 listing_found text l e =
     let f = texts.found reader 1 no_draft (slice_split (is 10) text) l e in
     let are = all_lines f.lines f.next l f.due (listed_end f.number l (listing_in f.next f.next.phase) f.end) in
-    let P : List Line → Type 0 = λ ls. AllByRecursion IsLine ls in (
-      sym (join_with_byte-slice_split 10 text) ∙ f.spelled ∙ ap lines_text are.spelled,
-      record { lines = subst P are.spelled f.right; counted = are.counted; usual = are.usual },
-    )
+    grind (arith, common_steps, join_with_byte-slice_split 10 text)
 
 pub read_exactly : ReadExactly
 read_exactly text l = (listing_found text l, λ h. ap read_listing h.0 ∙ listing_read l h.1)

@@ -1,17 +1,15 @@
 -- What is spelled in a line is read, and what is read is spelled so: the parts of a line.
-use Rattle.fork_listing.proofs.Common.{◌≡◌, ℕ, ◌<◌, ◌≤◌, Bool, true, false, cond, eqb, List, [], ◌∷◌, ◌++◌, Option, Some, None, refl, sym, ap, subst, ◌∙◌, arith, inl, inr, append-nil, bytes_eq, codes, option_and_then, ◌&&◌, ◌||◌}
-use Rattle.fork_listing.proofs.Common.{option_map, decimal, eqb-false, eqb-true, bytes_eq-Decides, is, Lacks, plain_number_within, found_map, found_then, found_one, before_read, before_found, Version, First, Second, Third, End, Stored}
-use Rattle.fork_listing.proofs.Common.{Taken, Silent, Never, version_text, number_text, how_text, end_text, most_arrival, most_listed, most_number, before, read_status, read_parent, read_version, read_count, read_end, IsStatus, IsHow}
-use Rattle.fork_listing.proofs.Common.{IsEnd, IsNumberOrNone, number_read, number_spelled, decimal_lacks}
+use Rattle.fork_listing.proofs.Common.{◌≡◌, ℕ, ◌<◌, ◌≤◌, Bool, true, false, cond, eqb, List, ◌∷◌, ◌++◌, Option, Some, None, refl, sym, ap, subst, ◌∙◌, arith, append-nil, bytes_eq, codes, option_and_then, option_map, decimal, bytes_eq-Decides, is}
+use Rattle.fork_listing.proofs.Common.{Lacks, plain_number_within, found_then, before_read, before_found, Version, End, Stored, Taken, Silent, Never, version_text, number_text, how_text, end_text, most_arrival, most_listed, before, read_status}
+use Rattle.fork_listing.proofs.Common.{read_parent, read_version, read_count, read_end, IsStatus, IsHow, IsEnd, IsNumberOrNone, number_read, number_spelled, decimal_lacks, common_steps}
 use Rattle.std.proofs.Common.{◌^◌}
 use Rattle.fork_tree.specs.declared.row.End.TheVariants as tree
 use Rattle.std.specs.Char.{is_ascii_digit}
-use Rattle.std.proofs.lemmas.Bool.{and_parts}
 use Rattle.sip_lex.specs.Cut.{cut, behind}
 use Rattle.sip_lex.proofs.laws.Cuts.{cut_joins}
-use Rattle.fork_text.proofs.laws.Field.{no_dash, number_from_read, number_from_found}
+use Rattle.fork_text.proofs.laws.Field.{number_from_read, number_from_found}
 use Rattle.std.proofs.lemmas.Option.{cond_some}
-use Rattle.fork_listing.specs.Reading.{may_be_assumed, stored_as, read_stored, read_end_cut}
+use Rattle.fork_listing.specs.Reading.{stored_as, read_stored, read_end_cut}
 
 pub status_read : (n : ℕ) → IsStatus n → read_status (decimal n) ≡ Some n
 status_read n h = number_from_read 300 699 n h.0 (omega arith) (omega arith)
@@ -23,59 +21,26 @@ pub count_read : (version : Version) (n : ℕ) → (1 ≤ n) × (n ≤ most_list
 count_read version n h small = number_from_read 1 (most_listed version) n h.0 h.1 small
 
 pub most_listed_small : (version : Version) → most_listed version ≤ 256
-most_listed_small First = omega arith
-most_listed_small Second = omega arith
-most_listed_small Third = omega arith
+most_listed_small version = grind arith
 
 pub count_found : (version : Version) (digits : List ℕ) (n : ℕ) → read_count version digits ≡ Some n → (digits ≡ decimal n) × ((1 ≤ n) × (n ≤ most_listed version))
-count_found version digits n e =
-    let bound : most_listed version ≤ 256 = most_listed_small version in
-    let h = number_from_found 1 (most_listed version) digits n (omega arith) e in (h.0, (h.1, h.2))
+count_found version digits n e = grind (arith, number_from_found)
 
 pub parent_read : (parent : Option ℕ) → IsNumberOrNone parent → read_parent (number_text parent) ≡ Some parent
 parent_read None h = refl
-parent_read (Some n) h =
-    let plain : bytes_eq (decimal n) (codes "-") ≡ false = ap (λ (ds : List ℕ). bytes_eq ds (codes "-")) (sym (append-nil (decimal n))) ∙ no_dash n [] (omega arith) in
-    ap (λ t. cond t (Some None) (option_map Some (plain_number_within most_number (decimal n)))) plain
-    ∙ ap (option_map Some) (number_read most_number n h (omega arith))
+parent_read (Some n) h = grind (arith, number_read)
 
 pub parent_found : (text : List ℕ) (parent : Option ℕ) → read_parent text ≡ Some parent → (text ≡ number_text parent) × IsNumberOrNone parent
-parent_found text parent e =
-    let P : Option ℕ → Type 0 = λ p. (text ≡ number_text p) × IsNumberOrNone p in
-    found_one (bytes_eq text (codes "-")) None parent (option_map Some (plain_number_within most_number text)) P
-    (λ t. ((bytes_eq-Decides text (codes "-")).0 t, tt))
-    (λ r. found_map Some (plain_number_within most_number text) parent P
-    (λ n at. let h = number_spelled most_number text n (omega arith) at in (h.spelled, h.within)) r)
-    e
+parent_found text parent e = grind (arith, common_steps, number_spelled)
 
 pub parent_lacks : (mark : ℕ) (parent : Option ℕ) → eqb 45 mark ≡ false → is_ascii_digit mark ≡ false → IsNumberOrNone parent → Lacks mark (number_text parent)
-parent_lacks mark None dash no_digit h = (eqb-false 45 mark dash, tt)
-parent_lacks mark (Some n) dash no_digit h = decimal_lacks mark n no_digit (omega arith)
+parent_lacks mark parent dash no_digit h = grind (arith, decimal_lacks)
 
 pub version_found : (text : List ℕ) (version : Version) → read_version text ≡ Some version → text ≡ version_text version
-version_found text version e =
-    let P : Version → Type 0 = λ v. text ≡ version_text v in
-    found_one (bytes_eq text (codes "1")) First version _ P (bytes_eq-Decides text (codes "1")).0
-    (λ second. found_one (bytes_eq text (codes "2")) Second version _ P (bytes_eq-Decides text (codes "2")).0
-    (λ third. found_one (bytes_eq text (codes "3")) Third version None P (bytes_eq-Decides text (codes "3")).0 (λ none. absurd cc) third)
-    second) e
-
--- how a branch ended
-assumed_passes : (status : ℕ) → IsHow false status → may_be_assumed status ≡ true
-assumed_passes status (inl e) = ap may_be_assumed e
-assumed_passes status (inr e) = ap may_be_assumed e
-
-assumed_is : (status : ℕ) → may_be_assumed status ≡ true → IsHow false status
-assumed_is status e = by (eqb status 408) (eqb status 503) refl refl e
-  where
-    by : (a b : Bool) → eqb status 408 ≡ a → eqb status 503 ≡ b → (a || b) ≡ true → IsHow false status
-    by true b first second e = inl (eqb-true _ _ first)
-    by false true first second e = inr (eqb-true _ _ second)
-    by false false first second e = absurd cc
+version_found text version e = grind (arith, bytes_eq-Decides)
 
 how_read : (status arrival : ℕ) (received : Bool) → IsHow received status → stored_as status arrival (how_text received) ≡ Some (Stored status arrival received)
-how_read status arrival true h = refl
-how_read status arrival false h = ap (λ t. cond t (Some (Stored status arrival false)) None) (assumed_passes status h)
+how_read status arrival received h = grind arith
 
 -- the end, stored with this status and at this arrival
 record IsStoredAs (status arrival : ℕ) (how : List ℕ) (end : End) : Type 0 where
@@ -85,14 +50,7 @@ record IsStoredAs (status arrival : ℕ) (how : List ℕ) (end : End) : Type 0 w
   right : IsHow received status
 
 how_found : (status arrival : ℕ) (how : List ℕ) (end : End) → stored_as status arrival how ≡ Some end → IsStoredAs status arrival how end
-how_found status arrival how end e =
-    found_one (bytes_eq how (codes "received")) (Stored status arrival true) end _ (IsStoredAs status arrival how)
-    (λ t. record { received = true; same = refl; spelled = (bytes_eq-Decides how (codes "received")).0 t; right = tt })
-    (λ r.
-    let g = cond_some (bytes_eq how (codes "assumed") && may_be_assumed status) (Stored status arrival false) end r in
-    let both = and_parts (bytes_eq how (codes "assumed")) (may_be_assumed status) g.0 in
-    record { received = false; same = sym g.1; spelled = (bytes_eq-Decides how (codes "assumed")).0 both.0; right = assumed_is status both.1 })
-    e
+how_found status arrival how end e = grind (arith, bytes_eq-Decides)
 
 pub end_read : (end : End) → IsEnd end → read_end (end_text end) ≡ Some end
 end_read (Stored status arrival received) h =
@@ -128,19 +86,14 @@ stored_found rest end e =
     e
 
 taken_found : (rest : List ℕ) (end : End) → option_map Taken (plain_number_within most_arrival rest) ≡ Some end → IsEndText (codes "taken" ++ 32 ∷ rest) end
-taken_found rest end e =
-    found_map Taken (plain_number_within most_arrival rest) end (IsEndText (codes "taken" ++ 32 ∷ rest))
-    (λ n at. let h = number_spelled most_arrival rest n (omega arith) at in (ap (λ (t : List ℕ). codes "taken " ++ t) h.spelled, h.within)) e
+taken_found rest end e = grind (arith, number_spelled)
 
 silent_found : (rest : List ℕ) (end : End) → option_map Silent (plain_number_within most_arrival rest) ≡ Some end → IsEndText (codes "silent" ++ 32 ∷ rest) end
-silent_found rest end e =
-    found_map Silent (plain_number_within most_arrival rest) end (IsEndText (codes "silent" ++ 32 ∷ rest))
-    (λ n at. let h = number_spelled most_arrival rest n (omega arith) at in (ap (λ (t : List ℕ). codes "silent " ++ t) h.spelled, h.within)) e
+silent_found rest end e = grind (arith, number_spelled)
 
 -- one of the words, by a test
 choose : (b : Bool) (x y : Option End) (end : End) (P : Type 0) → (b ≡ true → x ≡ Some end → P) → (y ≡ Some end → P) → cond b x y ≡ Some end → P
-choose true x y end P same others e = same refl e
-choose false x y end P same others e = others e
+choose b x y end P same others e = grind arith
 
 pub end_found : (text : List ℕ) (end : End) → read_end text ≡ Some end → IsEndText text end
 end_found text end e = parts (cut (is 32) text) (cut_joins 32 text) e

@@ -1,17 +1,12 @@
 -- The branches of a listing, each rightly placed, are the rows of a tree, and its best answer is theirs.
-use Rattle.fork_listing.proofs.Common.{◌≡◌, ℕ, zero, suc, ◌+◌, ◌<◌, ◌≤◌, ◌⊎◌, inl, inr, Bool, true, false, not, eqb, List, [], ◌∷◌, length, map, Option, Some, None, refl, ap, sym, subst, ◌∙◌, arith}
-use Rattle.fork_listing.proofs.Common.{false≢true, slice_get, option_map, Rules, stored_at, BestRef, RowRef, IsBest, Target, HoldsBelow, rows_of, ended_at, IsParent, IsBefore}
-use Rattle.fork_listing.proofs.Common.{Follows, FollowsTarget, IsInPlace, IsPlaced, most_targets, some_same, slice_get_within}
-use Rattle.std.proofs.Common.{if◌then◌else◌, min, nat_eq}
-use Rattle.std.specs.Option.{option_eq}
-use Rattle.std.specs.Cmp.Lexicographic.{options_equiv}
-use Rattle.std.proofs.lemmas.Cmp.{nat_eq_equiv}
-use Rattle.fork_model.proofs.laws.WaitingLemmas.{option_same}
+use Rattle.fork_listing.proofs.Common.{◌≡◌, ℕ, zero, suc, ◌+◌, ◌<◌, ◌≤◌, Bool, not, List, [], ◌∷◌, length, map, Option, Some, None, refl, ap, sym, subst, ◌∙◌, arith, slice_get, option_map, Rules, stored_at, BestRef, RowRef, IsBest, Target}
+use Rattle.fork_listing.proofs.Common.{HoldsBelow, rows_of, ended_at, IsParent, IsBefore, Follows, FollowsTarget, IsInPlace, IsPlaced, most_targets, some_same, slice_get_within, given_row}
+use Rattle.std.proofs.Common.{if◌then◌else◌, min}
 use Rattle.fork_model.specs.Choice.{score_of}
 use Rattle.fork_tree.specs.States.{has_ended}
-use Rattle.fork_tree.specs.Given.{AreRows, given_row}
+use Rattle.fork_tree.specs.Given.{AreRows}
 use Rattle.fork_tree.proofs.laws.Ordering.{IsNext, ordered_rows}
-use Rattle.fork_listing.specs.inner.TreeRows.{group_beside, group_behind, row_behind, rows_behind, tree_rows}
+use Rattle.fork_listing.specs.inner.TreeRows.{group_behind, row_behind, rows_behind, tree_rows}
 
 -- ---- row by row
 
@@ -21,13 +16,7 @@ group_kept None = 0
 group_kept (Some before) = before.group
 
 group_bound : (before : Option RowRef) (target : Target) → group_behind before target ≤ suc (group_kept before)
-group_bound None target = omega arith
-group_bound (Some b) target = at (option_eq nat_eq b.parent target.parent) (eqb b.q target.q)
-  where
-    at : (s e : Bool) → (if s then (if e then b.group else min (b.group + 1) 65535) else 0) ≤ suc b.group
-    at true true = omega arith
-    at true false = omega arith
-    at false e = omega arith
+group_bound before target = grind arith
 
 -- a group is no further on than the rows
 group_low : (before : Option RowRef) (targets : List Target) (n : ℕ) (row : RowRef) → slice_get (rows_behind before targets) n ≡ Some row → row.group ≤ suc (group_kept before) + n
@@ -49,16 +38,13 @@ record IsRowOf (targets : List Target) (n : ℕ) (row : RowRef) : Type 0 where
 row_found : (before : Option RowRef) (targets : List Target) (n : ℕ) (row : RowRef) → slice_get (rows_behind before targets) n ≡ Some row → IsRowOf targets n row
 row_found before [] n row is = absurd cc
 row_found before (t ∷ ts) zero row is = record { target = t; here = refl; before = before; same = sym (some_same is) }
-row_found before (t ∷ ts) (suc n) row is =
-    let h = row_found (Some (row_behind before t)) ts n row is in
-    record { target = h.target; here = h.here; before = h.before; same = h.same }
+row_found before (t ∷ ts) (suc n) row is = grind (arith, row_found (Some (row_behind before t)) ts n row is)
 
 next_found : (before : Option RowRef) (targets : List Target) (n : ℕ) (a b : RowRef) → slice_get (rows_behind before targets) n ≡ Some a
     → slice_get (rows_behind before targets) (suc n) ≡ Some b → (t : Target) × (slice_get targets (suc n) ≡ Some t) × (b ≡ row_behind (Some a) t)
 next_found before [] n a b ia ib = absurd cc
 next_found before (t ∷ []) n a b ia ib = absurd cc
-next_found before (t ∷ u ∷ ts) zero a b ia ib =
-    (u, refl, sym (some_same ib) ∙ ap (λ (x : RowRef). row_behind (Some x) u) (some_same ia))
+next_found before (t ∷ u ∷ ts) zero a b ia ib = grind arith
 next_found before (t ∷ u ∷ ts) (suc n) a b ia ib = next_found (Some (row_behind before t)) (u ∷ ts) n a b ia ib
 
 first_found : (targets : List Target) (row : RowRef) → slice_get (tree_rows targets) 0 ≡ Some row → row.group ≡ 0
@@ -76,35 +62,13 @@ order targets None = 0
 order targets (Some m) = suc (at_or_0 (ended_at targets m))
 
 rising : (a b : Option ℕ) → IsBefore a b → at_or_0 a < at_or_0 b
-rising None b h = absurd h
-rising (Some a) None h = absurd h
-rising (Some a) (Some b) h = h
-
-follows_order : (targets : List Target) (a b : Option ℕ) → Follows targets a b → (a ≡ b) ⊎ (order targets a < order targets b)
-follows_order targets None None h = inl refl
-follows_order targets None (Some m) h = inr (omega arith)
-follows_order targets (Some k) None h = absurd h
-follows_order targets (Some k) (Some m) h = elim h [
-  | inl same ↦ inl (ap Some same)
-  | inr before ↦ inr (let up = rising (ended_at targets k) (ended_at targets m) before in omega (arith, up))
-]
+rising a b h = grind arith
 
 turned : (b : Bool) (g : ℕ) → g < 65535 → (if b then g else min (g + 1) 65535) ≡ (if not b then suc g else g)
-turned true g low = refl
-turned false g low = omega arith
+turned b g low = grind arith
 
 next_behind : (targets : List Target) (a : RowRef) (t : Target) → a.group < 65535 → Follows targets a.parent t.parent → IsNext (order targets) a (row_behind (Some a) t)
-next_behind targets a t low follows = at (option_eq nat_eq a.parent t.parent) refl
-  where
-    group_if : Bool → ℕ
-    group_if s = if s then group_beside a t.q else 0
-
-    at : (s : Bool) → option_eq nat_eq a.parent t.parent ≡ s → IsNext (order targets) a (row_behind (Some a) t)
-    at true e = inl (option_same a.parent t.parent e, ap group_if e ∙ turned (eqb a.q t.q) a.group low)
-    at false e = elim (follows_order targets a.parent t.parent follows) [
-      | inl same ↦ absurd (false≢true (sym e ∙ ap (option_eq nat_eq a.parent) (sym same) ∙ (options_equiv nat_eq_equiv).refl a.parent))
-      | inr later ↦ inr (later, ap group_if e)
-    ]
+next_behind targets a t low follows = grind arith
 
 -- ---- so they are the rows of a tree
 

@@ -1,9 +1,8 @@
 -- A table whose stored answers arrived apart has one listing.
-use Rattle.fork_listing.proofs.Common.{◌≡◌, ℕ, zero, suc, ◌<◌, List, [], ◌∷◌, Some, refl, sym, subst, ◌∙◌, arith, slice_get, Rules, Table, Before, Before-trans, AreArrivals, NoAnswer408, Ranked, score_of, IsRanking, targets_of, listing_of, listing_text}
-use Rattle.fork_listing.proofs.Common.{some_same, none_some}
+use Rattle.fork_listing.proofs.Common.{◌≡◌, ℕ, zero, suc, ◌<◌, List, [], ◌∷◌, Some, refl, sym, subst, ◌∙◌, arith, slice_get, Rules, Table, Before, Before-trans, AreArrivals, NoAnswer408, Ranked, score_of, IsRanking, targets_of, listing_of, some_same}
+use Rattle.fork_listing.proofs.Common.{none_some, ListedAreStored, common_steps}
 use Rattle.fork_model.proofs.laws.Headline.{one_choice}
 use Rattle.fork_model.proofs.laws.OrderLemmas.{Before-irrefl}
-use Rattle.fork_listing.specs.Meaning.{ListedAreStored}
 use Rattle.fork_listing.specs.One.{OneRanking, OneListing}
 use Rattle.fork_listing.proofs.ListedForks.{in_order, all_listed}
 use Rattle.fork_listing.proofs.Meanings.{listed, ranked}
@@ -63,7 +62,4 @@ one_ranking t at a b arrivals x y =
     (λ r h. (holds t at arrivals b y r).1 ((holds t at arrivals a x r).0 h)) (λ r h. (holds t at arrivals a x r).1 ((holds t at arrivals b y r).0 h))
 
 pub one_listing : OneListing
-one_listing t at a b arrivals x y =
-    let ranks : x.ranks ≡ y.ranks = one_ranking t at x.ranks y.ranks arrivals x.ranking y.ranking in
-    let choice : x.choice ≡ y.choice = one_choice t.rules t.rows at arrivals x.choice y.choice x.chosen y.chosen in
-    x.spelled ∙ (λ i. listing_text (listing_of t (ranks i) (choice i))) ∙ sym y.spelled
+one_listing t at a b arrivals x y = grind (arith, common_steps, one_ranking, one_choice)

@@ -1,5 +1,4 @@
-use Rattle.fork_listing.proofs.Common.{◌∙◌, List, map, subst, RowRef, IsBest}
-use Rattle.fork_tree.specs.Given.{given_row}
+use Rattle.fork_listing.proofs.Common.{◌∙◌, List, map, subst, RowRef, IsBest, given_row}
 use Rattle.fork_tree.specs.Tree.{Tree}
 use Rattle.fork_listing.proofs.TreeRows.{are_rows, best_same}
 use Rattle.fork_listing.proofs.choice.best_stored.Goals as goal

@@ -1,6 +1,4 @@
-use Rattle.fork_listing.proofs.Common.{ℕ, IsOrdered, first_to_fail}
-use Rattle.std.proofs.Common.{rules}
-use Rattle.std.proofs.lemmas.Iterator.{first_from_Range}
+use Rattle.fork_listing.proofs.Common.{ℕ, IsOrdered, first_to_fail, rules, first_from_Range}
 use Rattle.fork_listing.proofs.ranks.first_misordered.Goals as goal
 
 pub returns : goal.returns

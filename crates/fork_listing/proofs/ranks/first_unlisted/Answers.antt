@@ -1,13 +1,9 @@
-use Rattle.fork_listing.proofs.Common.{◌≡◌, ◌∙◌, ℕ, List, Some, map, sym, ap, slice_get, slice_get-map, slice_get_within, option_map, mapped, Ranked, IsListed, first_to_fail, first_same}
-use Rattle.std.proofs.Common.{rules}
-use Rattle.std.specs.Prelude.{IsTrue, ◌↔◌}
-use Rattle.std.specs.BTreeSet.{BTreeSet, IsFromIterResult, contains}
-use Rattle.std.specs.Ordering.{nat_cmp}
-use Rattle.std.proofs.lemmas.Cmp.{nat_cmp_total}
-use Rattle.std.proofs.lemmas.Iterator.{first_from_Range}
+use Rattle.fork_listing.proofs.Common.{◌≡◌, ◌∙◌, ℕ, List, Some, map, sym, ap, slice_get, slice_get-map, slice_get_within, option_map, mapped, Ranked, IsListed, first_to_fail, first_same, rules, ◌↔◌, BTreeSet, contains, nat_cmp, nat_cmp_total}
+use Rattle.fork_listing.proofs.Common.{first_from_Range, slice_get-get_or, get_or_from_slice_get}
+use Rattle.std.specs.Prelude.{IsTrue}
+use Rattle.std.specs.BTreeSet.{IsFromIterResult}
 use Rattle.std.proofs.lemmas.Map.Lookups.{exact_unsigned}
 use Rattle.std.proofs.lemmas.Map.Views.{btree_set_contains_from_list}
-use Rattle.std.proofs.lemmas.Option.{slice_get-get_or, get_or_from_slice_get}
 use Rattle.fork_listing.specs.inner.Stored.{number_in, IsCounted}
 use Rattle.fork_listing.proofs.ranks.first_unlisted.Goals as goal
 

@@ -1,27 +1,19 @@
-use Rattle.fork_listing.proofs.Common.{◌≡◌, ◌∙◌, ◌+◌, ℕ, false, true, List, length, Option, Err, sym, ap, subst, arith, false≢true, Rules, BestRef, IsBest, Target, Ranked, Listing, IsFirstToFail, IsPlaced, IsOrdered, IsListed, IsRight, IsVerdictOf, rows_of}
+use Rattle.fork_listing.proofs.Common.{◌≡◌, ◌∙◌, ◌+◌, ℕ, false, true, List, length, Option, Err, sym, ap, subst, arith, false≢true, Rules, BestRef, IsBest, Target, Ranked, Listing, IsFirstToFail, IsPlaced, IsOrdered, IsListed, IsRight, IsVerdictOf}
+use Rattle.fork_listing.proofs.Common.{rows_of, common_steps}
 use Rattle.fork_listing.specs.declared.refusal.CheckFault.TheVariants.{Tree, Order, Absent, FinalLine}
 use Rattle.fork_listing.proofs.Finals.{is_chosen, not_chosen}
 use Rattle.fork_listing.proofs.refusal.check_listing.Goals as goal
 
 branches : (depth : ℕ) (ts us : List Target) (o p : Option ℕ) → ts ≡ us → o ≡ p → IsFirstToFail (IsPlaced depth ts) (length ts) o → IsFirstToFail (IsPlaced depth us) (length us) p
-branches depth ts us o p t e h =
-    let P : List Target → Type 0 = λ x. IsFirstToFail (IsPlaced depth x) (length x) p in
-    let Q : Option ℕ → Type 0 = λ x. IsFirstToFail (IsPlaced depth ts) (length ts) x in
-    subst P t (subst Q e h)
+branches depth ts us o p t e h = grind arith
 
 order : (r : Rules) (ts us : List Target) (rs qs : List Ranked) (o p : Option ℕ) → ts ≡ us → rs ≡ qs → o ≡ p → IsFirstToFail (IsOrdered r ts rs) (length rs) o → IsFirstToFail (IsOrdered r us qs) (length qs) p
-order r ts us rs qs o p t q e h =
-    let P : List Target → Type 0 = λ x. IsFirstToFail (IsOrdered r x qs) (length qs) p in
-    let Q : List Ranked → Type 0 = λ x. IsFirstToFail (IsOrdered r ts x) (length x) p in
-    let R : Option ℕ → Type 0 = λ x. IsFirstToFail (IsOrdered r ts rs) (length rs) x in
-    subst P t (subst Q q (subst R e h))
+order r ts us rs qs o p t q e h = grind arith
 
 listed : (ts us : List Target) (rs qs : List Ranked) (o p : Option ℕ) → ts ≡ us → rs ≡ qs → o ≡ p → IsFirstToFail (IsListed ts rs) (length ts) o → IsFirstToFail (IsListed us qs) (length us) p
 listed ts us rs qs o p t q e h =
     let P : List Target → Type 0 = λ x. IsFirstToFail (IsListed x qs) (length x) p in
-    let Q : List Ranked → Type 0 = λ x. IsFirstToFail (IsListed ts x) (length ts) p in
-    let R : Option ℕ → Type 0 = λ x. IsFirstToFail (IsListed ts rs) (length ts) x in
-    subst P t (subst Q q (subst R e h))
+    grind (arith, common_steps)
 
 best_of : (r : Rules) (ts us : List Target) (best : Option BestRef) → ts ≡ us → IsBest r (rows_of ts) best → IsBest r (rows_of us) best
 best_of r ts us best t = subst (λ (x : List Target). IsBest r (rows_of x) best) t
@@ -57,7 +49,7 @@ returns-in-Some-2 g c =
 pub returns-then-not-is_final_of : goal.returns-then-not-is_final_of
 returns-then-not-is_final_of g c =
     let P : Listing → Type 0 = λ l. IsVerdictOf l (Err FinalLine) in
-    let no : c.is_final_of.result ≡ false = grind (arith, c.if-not-is_final_of.true) in
+    let no : c.is_final_of.result ≡ false = grind arith in
     subst P c.listing.view_is (
       branches c.listing.inside.rules.depth _ _ _ _ c.as_slice-targets.ensures.value c.in_default.is c.in_ok-n.ensures,
       order c.listing.inside.rules _ _ _ _ _ _ c.as_slice-targets.ensures.value c.as_slice-ranks.ensures.value c.in_default-first_misordered.is c.first_misordered.ensures,
@@ -68,7 +60,7 @@ returns-then-not-is_final_of g c =
 
 pub returns : goal.returns
 returns g c =
-    let yes : c.is_final_of.result ≡ true = grind (arith, c.if-not-is_final_of.false) in
+    let yes : c.is_final_of.result ≡ true = grind arith in
     let P : Listing → Type 0 = λ l. IsRight l in (
       subst P c.listing.view_is (
         branches c.listing.inside.rules.depth _ _ _ _ c.as_slice-targets.ensures.value c.in_default.is c.in_ok-n.ensures,

@@ -1,5 +1,4 @@
-use Rattle.fork_listing.proofs.Common.{◌∙◌, ℕ, Option, sym, subst}
-use Rattle.fork_listing.specs.inner.Near.{IsShallow}
+use Rattle.fork_listing.proofs.Common.{◌∙◌, ℕ, Option, sym, subst, IsShallow}
 use Rattle.fork_listing.proofs.Placing.{below, above}
 use Rattle.fork_listing.proofs.targets.+is_shallow.Goals as goal
 

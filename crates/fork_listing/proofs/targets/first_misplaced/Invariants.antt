@@ -1,5 +1,4 @@
-use Rattle.fork_listing.proofs.Common.{length, ◌-◌, HoldsBelow, IsPlaced}
-use Rattle.fork_listing.specs.inner.Near.{Holds}
+use Rattle.fork_listing.proofs.Common.{length, ◌-◌, HoldsBelow, IsPlaced, Holds}
 use Rattle.fork_listing.proofs.targets.first_misplaced.Given as goal
 
 abbrev pub invariant-loop-n : goal.invariant-loop-n
