@@ -1,12 +1,13 @@
 -- The names that most proofs of this crate cite, passed on from one place. Declares nothing.
 pub use Rattle.std.proofs.Common.{Bool, Err, IfOk, IfSome, IsErrOf, IsTrue, List, None, Ok, OnOk, Option, Result, Some, [], ap, append-nil, append_assoc, arith, codes, cond, count_by, eqb, false, filter, length, map, not, option_and_then, refl}
-pub use Rattle.std.proofs.Common.{slice_get, subst, suc, sym, take, true, ℕ, ◌&&◌, ◌++◌, ◌+◌, ◌<◌, ◌↔◌, ◌∙◌, ◌∷◌, ◌≡◌, ◌≢◌, ◌≤◌}
+pub use Rattle.std.proofs.Common.{slice_get, subst, suc, sym, take, true, ℕ, ◌&&◌, ◌++◌, ◌+◌, ◌<◌, ◌↔◌, ◌∙◌, ◌∷◌, ◌≡◌, ◌≢◌, ◌≤◌, rules}
 pub use Rattle.std.proofs.lemmas.List.{map_push}
 pub use Rattle.std.proofs.lemmas.Option.{same_Some}
 pub use Rattle.std.specs.Fmt.{decimal}
 pub use Rattle.std.specs.Io.KnownBytes.{Consumes}
 pub use Rattle.std.specs.List.{AllByRecursion, flat_map, slice_split}
 pub use Rattle.std.specs.Option.{option_map}
+pub use Rattle.std.proofs.lemmas.Grind.{common_steps}
 pub use Rattle.fork_context.specs.EventView.{event_of}
 pub use Rattle.fork_context.specs.KindView.{kind_of}
 pub use Rattle.fork_listing.specs.Listed.{IsListingOf, targets_of}
@@ -24,6 +25,13 @@ pub use Rattle.fork_model.specs.History.{Target}
 pub use Rattle.fork_model.specs.OneReply.{AreArrivals}
 pub use Rattle.fork_model.specs.StrictOrder.{Irreflexive}
 pub use Rattle.fork_model.specs.Table.{Challenge, Invite, Kind, Offer, Other, Table, is_ended, is_finished, is_row, is_succeeded, is_trying, most_targets}
+pub use Rattle.fork_rank.specs.Preferred.{usual_preferred}
+pub use Rattle.fork_text.proofs.laws.Field.{found_then}
+pub use Rattle.fork_text.proofs.laws.Lines.{all_back}
+pub use Rattle.fork_text.proofs.laws.Preferred.{preferred_found}
+pub use Rattle.fork_text.specs.Field.{most_number, most_q, numbered_text}
+pub use Rattle.fork_text.specs.RuleLines.{ended}
+pub use Rattle.sip_lex.specs.Cut.{cut, is}
 pub use Rattle.fork_program.specs.Answer.{IsAnswer}
 pub use Rattle.fork_program.specs.Faults.{IsForkReplay, most_text}
 pub use Rattle.fork_program.specs.Headline.{IsDone, TellsOneFinal}
@@ -36,10 +44,3 @@ pub use Rattle.fork_program.specs.Spelling.{ChallengeDetail, ContactDetail, Deta
 pub use Rattle.fork_program.specs.Spelling.{offers_said, prefer_lines, preferred_said, script_of, target_line, text_of, told_lines}
 pub use Rattle.fork_program.specs.inner.Line.{IsSpelledBy}
 pub use Rattle.fork_program.specs.inner.Replay.{AddsOutcome, AddsOutcomes}
-pub use Rattle.fork_rank.specs.Preferred.{usual_preferred}
-pub use Rattle.fork_text.proofs.laws.Field.{found_then}
-pub use Rattle.fork_text.proofs.laws.Lines.{all_back}
-pub use Rattle.fork_text.proofs.laws.Preferred.{preferred_found}
-pub use Rattle.fork_text.specs.Field.{most_number, most_q, numbered_text}
-pub use Rattle.fork_text.specs.RuleLines.{ended}
-pub use Rattle.sip_lex.specs.Cut.{cut, is}

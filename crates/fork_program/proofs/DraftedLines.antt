@@ -1,9 +1,8 @@
 -- The lines of a spelled script may come one after another, and lines that may are those of one.
-use Rattle.fork_program.proofs.Common.{◌≡◌, ℕ, true, false, List, [], ◌∷◌, ◌++◌, map, Option, Some, None, refl, sym, ap, subst, ◌∙◌, append_assoc, append-nil, option_and_then, option_map, flat_map, AllByRecursion, same_Some, Kind, Invite}
-use Rattle.fork_program.proofs.Common.{Offer, Challenge, most_targets, FinalAnswer, Event, Ring, Answer, Timeout, Fault, TimerC, GiveUp, Cancel, Target, usual_preferred, found_then, all_back, Line, KindLine, PreferLine, DepthLine}
-use Rattle.fork_program.proofs.Common.{TargetLine, EventLine, ContactLine, OtherLine, ChallengeLine, bare, IsLine, Script, Draft, no_draft, with_contact, with_challenge, last_changed, drafted_line, has_kind, Detail, ContactDetail}
-use Rattle.fork_program.proofs.Common.{OtherDetail, ChallengeDetail, Told, Spelling, prefer_lines, depth_lines, target_line, detail_line, told_lines, lines_of, MayStandBehind, IsSpelling, preferred_said, depth_said, offers_said}
-use Rattle.fork_program.proofs.Common.{challenges_said, event_said, script_of}
+use Rattle.fork_program.proofs.Common.{◌≡◌, ℕ, true, List, [], ◌∷◌, ◌++◌, map, Option, Some, None, refl, sym, ap, subst, ◌∙◌, append_assoc, append-nil, option_and_then, option_map, flat_map, AllByRecursion, same_Some, Kind, Invite, Offer, Challenge}
+use Rattle.fork_program.proofs.Common.{most_targets, FinalAnswer, Event, Answer, Target, usual_preferred, found_then, all_back, Line, KindLine, PreferLine, DepthLine, TargetLine, EventLine, ContactLine, OtherLine, ChallengeLine, IsLine, Script}
+use Rattle.fork_program.proofs.Common.{Draft, no_draft, with_contact, with_challenge, last_changed, drafted_line, has_kind, Detail, ContactDetail, OtherDetail, ChallengeDetail, Told, Spelling, prefer_lines, depth_lines, target_line, detail_line}
+use Rattle.fork_program.proofs.Common.{told_lines, lines_of, MayStandBehind, IsSpelling, preferred_said, depth_said, offers_said, challenges_said, event_said, script_of, common_steps, arith, rules}
 use Rattle.fork_model.specs.Table.{Rules}
 use Rattle.fork_text.specs.LineByLine as texts
 use Rattle.fork_text.specs.RuleLines.{usual_rules}
@@ -40,37 +39,24 @@ answering script events n answer = in_phase AtAnswer (with_events script (events
 -- one more contact, one more challenge
 contact_drafted : (script : Script) (events : List Event) (n : ℕ) (answer : FinalAnswer) (offer : Offer)
     → in_phase AtAnswer (with_events script (last_changed (with_contact offer) (events ++ Answer n answer ∷ []))) ≡ answering script events n (with_contact offer answer)
-contact_drafted script events n answer offer =
-    ap (λ (es : List Event). in_phase AtAnswer (with_events script es)) (last_changed-snoc (with_contact offer) events (Answer n answer))
+contact_drafted script events n answer offer = grind (arith, common_steps, last_changed-snoc)
 
 challenge_drafted : (script : Script) (events : List Event) (n : ℕ) (answer : FinalAnswer) (challenge : Challenge)
     → in_phase AtAnswer (with_events script (last_changed (with_challenge challenge) (events ++ Answer n answer ∷ []))) ≡ answering script events n (with_challenge challenge answer)
-challenge_drafted script events n answer challenge =
-    ap (λ (es : List Event). in_phase AtAnswer (with_events script es)) (last_changed-snoc (with_challenge challenge) events (Answer n answer))
+challenge_drafted script events n answer challenge = grind (arith, common_steps, last_changed-snoc)
 
 details_drafted : (script : Script) (events : List Event) (n : ℕ) (answer : FinalAnswer) (details : List Detail)
     → drafted_lines (answering script events n answer) (map detail_line details) ≡ Some (answering script events n (completed answer details))
-details_drafted script events n answer [] =
-    ap (λ (os : List Offer). Some (answering script events n (record { status = answer.status; offers = os; challenges = answer.challenges }))) (sym (append-nil answer.offers))
-    ∙ ap (λ (cs : List Challenge). Some (answering script events n (record { status = answer.status; offers = answer.offers ++ []; challenges = cs }))) (sym (append-nil answer.challenges))
+details_drafted script events n answer [] = grind (arith, common_steps, append-nil)
 details_drafted script events n answer (ContactDetail q name ∷ details) =
     let offer : Offer = record { text = name; q = q; key = Some name } in
-    ap (λ (d : Draft). drafted_lines d (map detail_line details)) (contact_drafted script events n answer offer)
-    ∙ details_drafted script events n (with_contact offer answer) details
-    ∙ ap (λ (os : List Offer). Some (answering script events n (record { status = answer.status; offers = os; challenges = answer.challenges ++ challenges_said details })))
-    (append_assoc answer.offers (offer ∷ []) (offers_said details))
+    grind (arith, common_steps, contact_drafted script events n answer offer, details_drafted script events n (with_contact offer answer) details, append_assoc)
 details_drafted script events n answer (OtherDetail q text ∷ details) =
     let offer : Offer = record { text = text; q = q; key = None } in
-    ap (λ (d : Draft). drafted_lines d (map detail_line details)) (contact_drafted script events n answer offer)
-    ∙ details_drafted script events n (with_contact offer answer) details
-    ∙ ap (λ (os : List Offer). Some (answering script events n (record { status = answer.status; offers = os; challenges = answer.challenges ++ challenges_said details })))
-    (append_assoc answer.offers (offer ∷ []) (offers_said details))
+    grind (arith, common_steps, contact_drafted script events n answer offer, details_drafted script events n (with_contact offer answer) details, append_assoc)
 details_drafted script events n answer (ChallengeDetail proxy value ∷ details) =
     let challenge : Challenge = record { proxy = proxy; value = value } in
-    ap (λ (d : Draft). drafted_lines d (map detail_line details)) (challenge_drafted script events n answer challenge)
-    ∙ details_drafted script events n (with_challenge challenge answer) details
-    ∙ ap (λ (cs : List Challenge). Some (answering script events n (record { status = answer.status; offers = answer.offers ++ offers_said details; challenges = cs })))
-    (append_assoc answer.challenges (challenge ∷ []) (challenges_said details))
+    grind (arith, common_steps, challenge_drafted script events n answer challenge, details_drafted script events n (with_challenge challenge answer) details, append_assoc)
 
 -- these lines lead to the script
 pub record Reached (draft : Draft) (lines : List Line) (script : Script) : Type 0 where
@@ -81,21 +67,10 @@ pub record Reached (draft : Draft) (lines : List Line) (script : Script) : Type 
 -- an event with what stands behind it
 event_line : (phase : Phase) (script : Script) (event : Event) → has_kind phase ≡ true
     → drafted_line (in_phase phase script) (EventLine event) ≡ Some (in_phase (phase_behind event) (with_events script (script.events ++ event ∷ [])))
-event_line AtKind script event h = absurd cc
-event_line AtPrefer script event h = refl
-event_line AtDepth script event h = refl
-event_line AtTargets script event h = refl
-event_line AtEvents script event h = refl
-event_line AtAnswer script event h = refl
+event_line phase script event h = grind arith
 
 behind_has_kind : (event : Event) → has_kind (phase_behind event) ≡ true
-behind_has_kind (Ring n status) = refl
-behind_has_kind (Answer n answer) = refl
-behind_has_kind (Timeout n) = refl
-behind_has_kind (Fault n) = refl
-behind_has_kind (TimerC n) = refl
-behind_has_kind (GiveUp n) = refl
-behind_has_kind Cancel = refl
+behind_has_kind event = grind arith
 
 abbrev said : Told → Event
 said told = event_said told.event told.details
@@ -104,44 +79,24 @@ said told = event_said told.event told.details
 behind_drafted : (script : Script) (event : Event) (details : List Detail) → IsLine (EventLine event) → MayStandBehind event details
     → drafted_lines (in_phase (phase_behind event) (with_events script (script.events ++ event ∷ []))) (map detail_line details)
     ≡ Some (in_phase (phase_behind event) (with_events script (script.events ++ event_said event details ∷ [])))
-behind_drafted script (Answer n answer) details h may =
-    ap (λ (a : FinalAnswer). drafted_lines (answering script script.events n a) (map detail_line details)) h.3
-    ∙ details_drafted script script.events n (bare answer.status) details
-behind_drafted script (Ring n status) details h may = ap (λ (ds : List Detail). drafted_lines (in_phase AtEvents (with_events script (script.events ++ Ring n status ∷ []))) (map detail_line ds)) may
-behind_drafted script (Timeout n) details h may = ap (λ (ds : List Detail). drafted_lines (in_phase AtEvents (with_events script (script.events ++ Timeout n ∷ []))) (map detail_line ds)) may
-behind_drafted script (Fault n) details h may = ap (λ (ds : List Detail). drafted_lines (in_phase AtEvents (with_events script (script.events ++ Fault n ∷ []))) (map detail_line ds)) may
-behind_drafted script (TimerC n) details h may = ap (λ (ds : List Detail). drafted_lines (in_phase AtEvents (with_events script (script.events ++ TimerC n ∷ []))) (map detail_line ds)) may
-behind_drafted script (GiveUp n) details h may = ap (λ (ds : List Detail). drafted_lines (in_phase AtEvents (with_events script (script.events ++ GiveUp n ∷ []))) (map detail_line ds)) may
-behind_drafted script Cancel details h may = ap (λ (ds : List Detail). drafted_lines (in_phase AtEvents (with_events script (script.events ++ Cancel ∷ []))) (map detail_line ds)) may
+behind_drafted script event details h may = grind (arith, common_steps, details_drafted)
 
 abbrev MayStand : Told → Type 0
 MayStand told = MayStandBehind told.event told.details
 
 told_drafted : (phase : Phase) (script : Script) (told : Told) → has_kind phase ≡ true → IsLine (EventLine told.event) → MayStand told
     → drafted_lines (in_phase phase script) (told_lines told) ≡ Some (in_phase (phase_behind told.event) (with_events script (script.events ++ said told ∷ [])))
-told_drafted phase script told whole h may =
-    ap (option_and_then (λ d. drafted_lines d (map detail_line told.details))) (event_line phase script told.event whole)
-    ∙ behind_drafted script told.event told.details h may
+told_drafted phase script told whole h may = grind (arith, common_steps, option_and_then, event_line, behind_drafted)
 
 history_drafted : (phase : Phase) (script : Script) (history : List Told) → has_kind phase ≡ true
     → AllByRecursion IsLine (flat_map told_lines history) → AllByRecursion MayStand history
     → Reached (in_phase phase script) (flat_map told_lines history) (with_events script (script.events ++ map said history))
-history_drafted phase script [] whole lines may = record {
-  phase = phase;
-  due = ap (λ (es : List Event). Some (in_phase phase (with_events script es))) (sym (append-nil script.events));
-  whole = whole;
-}
+history_drafted phase script [] whole lines may = grind (arith, common_steps, append-nil)
 history_drafted phase script (told ∷ history) whole lines may =
     let one : Script = with_events script (script.events ++ said told ∷ []) in
     let rest : AllByRecursion IsLine (flat_map told_lines history) = all_back IsLine (told_lines told) (flat_map told_lines history) lines in
     let more = history_drafted (phase_behind told.event) one history (behind_has_kind told.event) rest may.1 in
-    record {
-      phase = more.phase;
-      due = drafted_append drafted_line (in_phase phase script) (told_lines told) (flat_map told_lines history) _ (told_drafted phase script told whole lines.0 may.0)
-          ∙ more.due
-          ∙ ap (λ (es : List Event). Some (in_phase more.phase (with_events script es))) (append_assoc script.events (said told ∷ []) (map said history));
-      whole = more.whole;
-    }
+    grind (arith, common_steps, told_drafted phase script told whole lines.0 may.0, drafted_append, append_assoc)
 
 abbrev with_targets : Script → List Target → Script
 with_targets script targets = record script { targets = targets }
@@ -176,13 +131,7 @@ body_drafted phase kind rules (target ∷ targets) history whole takes lines may
     let first : drafted_line (in_phase phase (head kind rules)) (target_line target) ≡ Some (in_phase AtTargets one) =
     ap (option_map (λ p. in_phase p one)) (takes target.q target.key) in
     let more = history_drafted AtTargets (with_targets (head kind rules) (target ∷ targets)) history refl lines may in
-    record {
-      phase = more.phase;
-      due = ap (option_and_then (λ d. drafted_lines d (body_of targets history))) first
-          ∙ drafted_append drafted_line (in_phase AtTargets one) (map target_line targets) (flat_map told_lines history) _ (targets_drafted one targets)
-          ∙ more.due;
-      whole = more.whole;
-    }
+    grind (arith, common_steps, targets_drafted one targets, option_and_then, drafted_append)
 
 -- where the lines of the rules end, whichever are written
 script_drafted_as : (kind : Kind) (prefer : Option (List ℕ)) (depth : Option ℕ) (targets : List Target) (history : List Told)
@@ -203,10 +152,7 @@ script_drafted_as kind (Some statuses) (Some depth) targets history lines may =
 
 -- the lines behind those of the rules, then those behind the targets
 pub history_lines : (s : Spelling) → AllByRecursion IsLine (lines_of s) → AllByRecursion IsLine (flat_map told_lines s.history)
-history_lines s h =
-    all_back IsLine (map target_line s.targets) (flat_map told_lines s.history)
-    (all_back IsLine (depth_lines s.depth) (body_of s.targets s.history)
-    (all_back IsLine (prefer_lines s.prefer) (depth_lines s.depth ++ body_of s.targets s.history) h.1))
+history_lines s h = grind (arith, common_steps, all_back, body_of)
 
 pub script_drafted : (s : Spelling) → IsSpelling s → Reached no_draft (lines_of s) (script_of s)
 script_drafted s h = script_drafted_as s.kind s.prefer s.depth s.targets s.history (history_lines s h.lines) h.behind
@@ -219,21 +165,10 @@ MayOpen AtAnswer details = Unit {0}
 MayOpen _ details = details ≡ []
 
 may_open_none : (phase : Phase) → MayOpen phase []
-may_open_none AtKind = refl
-may_open_none AtPrefer = refl
-may_open_none AtDepth = refl
-may_open_none AtTargets = refl
-may_open_none AtEvents = refl
-may_open_none AtAnswer = tt
+may_open_none phase = grind arith
 
 may_stand : (event : Event) (details : List Detail) → MayOpen (phase_behind event) details → MayStandBehind event details
-may_stand (Answer n answer) details h = tt
-may_stand (Ring n status) details h = h
-may_stand (Timeout n) details h = h
-may_stand (Fault n) details h = h
-may_stand (TimerC n) details h = h
-may_stand (GiveUp n) details h = h
-may_stand Cancel details h = h
+may_stand event details h = grind arith
 
 record HistoryFound (phase : Phase) (lines : List Line) : Type 0 where
   details : List Detail
@@ -249,13 +184,7 @@ IsLate AtAnswer = Unit {0}
 IsLate _ = ⊥
 
 behind_is_late : (event : Event) → IsLate (phase_behind event)
-behind_is_late (Ring n status) = tt
-behind_is_late (Answer n answer) = tt
-behind_is_late (Timeout n) = tt
-behind_is_late (Fault n) = tt
-behind_is_late (TimerC n) = tt
-behind_is_late (GiveUp n) = tt
-behind_is_late Cancel = tt
+behind_is_late event = grind arith
 
 none_found : (phase : Phase) → HistoryFound phase []
 none_found phase = record { details = []; history = []; spelled = refl; open_ = may_open_none phase; behind = tt }
@@ -284,8 +213,7 @@ history_found AtPrefer script lines next late due = absurd late
 history_found AtDepth script lines next late due = absurd late
 history_found AtTargets script lines next late due = absurd late
 history_found AtEvents script [] next late due = none_found AtEvents
-history_found AtEvents script (EventLine event ∷ lines) next late due =
-    event_found AtEvents event lines (history_found (phase_behind event) (with_line script (EventLine event)) lines next (behind_is_late event) due)
+history_found AtEvents script (EventLine event ∷ lines) next late due = grind (arith, common_steps, event_found, behind_is_late, history_found (phase_behind event) (with_line script (EventLine event)) lines next (behind_is_late event) due)
 history_found AtEvents script (KindLine kind ∷ lines) next late due = absurd cc
 history_found AtEvents script (PreferLine statuses ∷ lines) next late due = absurd cc
 history_found AtEvents script (DepthLine depth ∷ lines) next late due = absurd cc
@@ -294,8 +222,7 @@ history_found AtEvents script (ContactLine q name ∷ lines) next late due = abs
 history_found AtEvents script (OtherLine q text ∷ lines) next late due = absurd cc
 history_found AtEvents script (ChallengeLine proxy value ∷ lines) next late due = absurd cc
 history_found AtAnswer script [] next late due = none_found AtAnswer
-history_found AtAnswer script (EventLine event ∷ lines) next late due =
-    event_found AtAnswer event lines (history_found (phase_behind event) (with_line script (EventLine event)) lines next (behind_is_late event) due)
+history_found AtAnswer script (EventLine event ∷ lines) next late due = grind (arith, common_steps, event_found, behind_is_late, history_found (phase_behind event) (with_line script (EventLine event)) lines next (behind_is_late event) due)
 history_found AtAnswer script (ContactLine q name ∷ lines) next late due =
     detail_found (ContactDetail q name) lines (history_found AtAnswer (with_line script (ContactLine q name)) lines next tt due)
 history_found AtAnswer script (OtherLine q text ∷ lines) next late due =
@@ -334,8 +261,7 @@ body_found script (TargetLine q name ∷ lines) next due =
       spelled = ap (λ (ls : List Line). TargetLine q name ∷ ls) more.spelled;
       behind = more.behind;
     }
-body_found script (EventLine event ∷ lines) next due =
-    first_event event lines (history_found (phase_behind event) (with_line script (EventLine event)) lines next (behind_is_late event) due)
+body_found script (EventLine event ∷ lines) next due = grind (arith, common_steps, first_event event lines (history_found (phase_behind event) (with_line script (EventLine event)) lines next (behind_is_late event) due), history_found, behind_is_late)
 body_found script (KindLine kind ∷ lines) next due = absurd cc
 body_found script (PreferLine statuses ∷ lines) next due = absurd cc
 body_found script (DepthLine depth ∷ lines) next due = absurd cc
@@ -359,12 +285,9 @@ close kind prefer depth lines body = record {
 at_depth : (kind : Kind) (statuses : List ℕ) (script : Script) (lines : List Line) (next : Draft)
     → drafted_lines (in_phase AtDepth script) lines ≡ Some next → LinesFound (KindLine kind ∷ PreferLine statuses ∷ lines)
 at_depth kind statuses script [] next due = close kind (Some statuses) None [] no_body
-at_depth kind statuses script (DepthLine depth ∷ lines) next due =
-    close kind (Some statuses) (Some depth) lines (body_found (with_line script (DepthLine depth)) lines next due)
-at_depth kind statuses script (TargetLine q name ∷ lines) next due =
-    close kind (Some statuses) None (TargetLine q name ∷ lines) (body_found script (TargetLine q name ∷ lines) next due)
-at_depth kind statuses script (EventLine event ∷ lines) next due =
-    close kind (Some statuses) None (EventLine event ∷ lines) (body_found script (EventLine event ∷ lines) next due)
+at_depth kind statuses script (DepthLine depth ∷ lines) next due = grind (arith, common_steps, close kind (Some statuses) (Some depth) lines (body_found (with_line script (DepthLine depth)) lines next due), body_found)
+at_depth kind statuses script (TargetLine q name ∷ lines) next due = grind (arith, common_steps, close kind (Some statuses) None (TargetLine q name ∷ lines) (body_found script (TargetLine q name ∷ lines) next due), body_found)
+at_depth kind statuses script (EventLine event ∷ lines) next due = grind (arith, common_steps, close kind (Some statuses) None (EventLine event ∷ lines) (body_found script (EventLine event ∷ lines) next due), body_found)
 at_depth kind statuses script (KindLine again ∷ lines) next due = absurd cc
 at_depth kind statuses script (PreferLine others ∷ lines) next due = absurd cc
 at_depth kind statuses script (ContactLine q name ∷ lines) next due = absurd cc
@@ -375,12 +298,9 @@ at_prefer : (kind : Kind) (script : Script) (lines : List Line) (next : Draft)
     → drafted_lines (in_phase AtPrefer script) lines ≡ Some next → LinesFound (KindLine kind ∷ lines)
 at_prefer kind script [] next due = close kind None None [] no_body
 at_prefer kind script (PreferLine statuses ∷ lines) next due = at_depth kind statuses (with_line script (PreferLine statuses)) lines next due
-at_prefer kind script (DepthLine depth ∷ lines) next due =
-    close kind None (Some depth) lines (body_found (with_line script (DepthLine depth)) lines next due)
-at_prefer kind script (TargetLine q name ∷ lines) next due =
-    close kind None None (TargetLine q name ∷ lines) (body_found script (TargetLine q name ∷ lines) next due)
-at_prefer kind script (EventLine event ∷ lines) next due =
-    close kind None None (EventLine event ∷ lines) (body_found script (EventLine event ∷ lines) next due)
+at_prefer kind script (DepthLine depth ∷ lines) next due = grind (arith, common_steps, close kind None (Some depth) lines (body_found (with_line script (DepthLine depth)) lines next due), body_found)
+at_prefer kind script (TargetLine q name ∷ lines) next due = grind (arith, common_steps, close kind None None (TargetLine q name ∷ lines) (body_found script (TargetLine q name ∷ lines) next due), body_found)
+at_prefer kind script (EventLine event ∷ lines) next due = grind (arith, common_steps, close kind None None (EventLine event ∷ lines) (body_found script (EventLine event ∷ lines) next due), body_found)
 at_prefer kind script (KindLine again ∷ lines) next due = absurd cc
 at_prefer kind script (ContactLine q name ∷ lines) next due = absurd cc
 at_prefer kind script (OtherLine q text ∷ lines) next due = absurd cc
@@ -388,9 +308,7 @@ at_prefer kind script (ChallengeLine proxy value ∷ lines) next due = absurd cc
 
 -- without its first line a script is not whole
 not_whole : (next : Draft) → Some no_draft ≡ Some next → has_kind next.phase ≡ true → ⊥
-not_whole next due whole =
-    let wrong : false ≡ true = ap (λ (d : Draft). has_kind d.phase) (same_Some _ _ due) ∙ whole in
-    absurd cc
+not_whole next due whole = grind arith
 
 all_found : (lines : List Line) (next : Draft) → drafted_lines no_draft lines ≡ Some next → has_kind next.phase ≡ true → LinesFound lines
 all_found [] next due whole = absurd (not_whole next due whole)
@@ -414,14 +332,7 @@ whole_found lines next right due whole =
     let found = all_found lines next due whole in
     let P : List Line → Type 0 = AllByRecursion IsLine in
     let is : IsSpelling found.script = record { lines = subst P (sym found.spelled) right; behind = found.behind } in
-    let reached = script_drafted found.script is in
-    let ends : Some (in_phase reached.phase (script_of found.script)) ≡ Some next = sym reached.due ∙ ap (drafted_lines no_draft) found.spelled ∙ due in
-    record {
-      script = found.script;
-      is = is;
-      spelled = found.spelled;
-      same = ap (λ (d : Draft). d.script) (same_Some _ _ ends);
-    }
+    grind (arith, common_steps, script_drafted found.script is, same_Some)
 
 -- ---- lines that may come are the first of some script
 
@@ -457,9 +368,7 @@ begins lines draft right due =
 
 pub begins_with : (lines : List Line) (line : Line) (draft next : Draft) → AllByRecursion IsLine lines → IsLine line → drafted_lines no_draft lines ≡ Some draft → drafted_line draft line ≡ Some next
     → Begins (lines ++ line ∷ [])
-begins_with lines line draft next right fits due one =
-    begins (lines ++ line ∷ []) next (all_append IsLine lines (line ∷ []) right (fits, tt))
-    (drafted_append drafted_line no_draft lines (line ∷ []) draft due ∙ ap (option_and_then (λ (d : Draft). Some d)) one)
+begins_with lines line draft next right fits due one = grind (arith, common_steps, drafted_append drafted_line no_draft lines (line ∷ []) draft due, begins, all_append, option_and_then)
 
 -- and the first lines of a script may come
 pub record LinesDue (lines : List Line) : Type 0 where
@@ -480,9 +389,7 @@ pub lines_due : (lines : List Line) → Begins lines → LinesDue lines
 lines_due lines b =
     let reached = script_drafted b.script b.is in
     let due : drafted_lines no_draft (lines ++ b.more) ≡ Some (in_phase reached.phase (script_of b.script)) = sym (ap (drafted_lines no_draft) b.whole) ∙ reached.due in
-    let front = front_due no_draft lines b.more _ due in
-    let P : List Line → Type 0 = AllByRecursion IsLine in
-    record { right = all_front IsLine lines b.more (subst P b.whole b.is.lines); next = front.0; due = front.1 }
+    grind (arith, common_steps, front_due, all_front)
 
 -- so a line behind them that no draft takes begins none
 pub record NextDue (draft : Draft) (line : Line) : Type 0 where
@@ -494,7 +401,4 @@ pub next_due : (lines : List Line) (line : Line) (draft : Draft) → drafted_lin
 next_due lines line draft due b =
     let h = lines_due (lines ++ line ∷ []) b in
     let fit : AllByRecursion IsLine (line ∷ []) = all_back IsLine lines (line ∷ []) h.right in
-    let end : drafted_lines draft (line ∷ []) ≡ Some h.next = sym (drafted_append drafted_line no_draft lines (line ∷ []) draft due) ∙ h.due in
-    found_then (λ d. drafted_lines d []) (drafted_line draft line) h.next (NextDue draft line)
-    (λ next at rest. record { fits = fit.0; next = next; due = at })
-    end
+    grind (arith, common_steps, drafted_append drafted_line no_draft lines (line ∷ []) draft due, found_then)

@@ -1,8 +1,8 @@
 -- The replay of a fork that is done tells its one final answer.
-use Rattle.fork_program.proofs.Common.{◌≡◌, ◌≢◌, ℕ, true, false, List, [], ◌∷◌, length, sym, ap, subst, ◌∙◌, Table, is_finished, is_succeeded, Event, IsChoice, AreArrivals, one_choice, targets_of, IsRanking, TheChoiceIsFirst, Script}
-use Rattle.fork_program.proofs.Common.{IsForkReplay, Ending, Succeeded, Unfinished, Listed, IsEnding, opened, closed, replay_text, IsDone, TellsOneFinal}
+use Rattle.fork_program.proofs.Common.{◌≡◌, ◌≢◌, ℕ, true, false, List, [], ◌∷◌, length, ap, subst, ◌∙◌, Table, is_finished, is_succeeded, Event, IsChoice, AreArrivals, one_choice, targets_of, IsRanking, TheChoiceIsFirst, Script, IsForkReplay, Ending}
+use Rattle.fork_program.proofs.Common.{Succeeded, Unfinished, Listed, IsEnding, opened, closed, replay_text, IsDone, TellsOneFinal, common_steps, arith}
 use Rattle.fork_model.specs.Choice.{Choice}
-use Rattle.fork_model.specs.History.{opening, table, OneFinal}
+use Rattle.fork_model.specs.History.{table, OneFinal}
 use Rattle.fork_model.specs.ExactlyOne.{taken_of, replies_of}
 use Rattle.fork_model.proofs.laws.Headline.{history_of_arrivals, stands_by_its_history, one_final_of_context, rows_always_keep_numbers}
 use Rattle.fork_context.specs.declared.context.NewFault.TheVariants as setup
@@ -15,14 +15,10 @@ closed_is : (script : Script) → (closed script).table ≡ table script.kind sc
 closed_is script = stands_by_its_history (opened script) script.events
 
 pub rules_stay : (script : Script) → (closed script).table.rules ≡ script.rules
-rules_stay script =
-    ap (λ (t : Table). t.rules) (closed_is script)
-    ∙ (rows_always_keep_numbers (opening script.kind script.rules script.targets) 0 (taken script)).rules
+rules_stay script = grind (arith, common_steps, closed_is, rows_always_keep_numbers)
 
 pub arrivals : (script : Script) → AreArrivals (closed script).table.rows (length (taken script))
-arrivals script =
-    let P : Table → Type 0 = λ t. AreArrivals t.rows (length (taken script)) in
-    subst P (sym (closed_is script)) (history_of_arrivals script.kind script.rules script.targets (taken script))
+arrivals script = grind (arith, common_steps, closed_is, history_of_arrivals)
 
 pub tells_one_final : TheChoiceIsFirst → (script : Script) (printed : List ℕ) → IsForkReplay script printed → IsDone script → TellsOneFinal script printed
 tells_one_final listed_first script printed replay done = go replay.replayed.ending replay.replayed.last replay.replayed.spelled

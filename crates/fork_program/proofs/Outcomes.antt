@@ -1,6 +1,6 @@
 -- Offering one more event.
-use Rattle.fork_program.proofs.Common.{◌≡◌, ℕ, List, [], ◌∷◌, ◌++◌, refl, sym, ap, subst, ◌∙◌, append_assoc, append-nil, Event, Core, core_offered, Script, opening_text, outcomes_text, ending_lines, IsEnding, opened, EndsWith, AddsOutcome}
-use Rattle.fork_program.proofs.Common.{AddsOutcomes, ended}
+use Rattle.fork_program.proofs.Common.{◌≡◌, ℕ, List, [], ◌∷◌, ◌++◌, refl, sym, ap, subst, ◌∙◌, append_assoc, append-nil, Event, Core, core_offered, Script, opening_text, outcomes_text, opened, EndsWith, AddsOutcome, AddsOutcomes, ended, common_steps}
+use Rattle.fork_program.proofs.Common.{arith}
 use Rattle.fork_model.specs.Core.{Outcome, IsOutcome, AreOutcomes, core_after}
 use Rattle.fork_program.specs.Replay.{outcome_text, IsReplay}
 
@@ -8,8 +8,7 @@ pub AreOutcomes-snoc : (core : Core) (events : List Event) (outcomes : List Outc
 AreOutcomes-snoc core [] [] event outcome are last = (last, tt)
 AreOutcomes-snoc core [] (o ∷ os) event outcome are last = absurd are
 AreOutcomes-snoc core (e ∷ es) [] event outcome are last = absurd are
-AreOutcomes-snoc core (e ∷ es) (o ∷ os) event outcome are last =
-    (are.0, AreOutcomes-snoc (core_offered core e) es os event outcome are.1 last)
+AreOutcomes-snoc core (e ∷ es) (o ∷ os) event outcome are last = grind (arith, common_steps, AreOutcomes-snoc (core_offered core e) es os event outcome are.1 last)
 
 pub core_after-snoc : (core : Core) (events : List Event) (event : Event) → core_after core (events ++ event ∷ []) ≡ core_offered (core_after core events) event
 core_after-snoc core [] event = refl
@@ -21,9 +20,7 @@ outcomes_text-snoc core [] (o ∷ os) event outcome are = absurd are
 outcomes_text-snoc core (e ∷ es) [] event outcome are = absurd are
 outcomes_text-snoc core (e ∷ es) (o ∷ os) event outcome are =
     let next = core_offered core e in
-    let line = ended (outcome_text next.table.rows o) in
-    ap (λ text. line ++ text) (outcomes_text-snoc next es os event outcome are.1)
-    ∙ sym (append_assoc line (outcomes_text next es os) (ended (outcome_text (core_offered (core_after next es) event).table.rows outcome)))
+    grind (arith, common_steps, outcomes_text-snoc next es os event outcome are.1, append_assoc)
 
 pub adds_one : (before mid after : Core) (events : List Event) (event : Event) (old text new : List ℕ) → AddsOutcomes before mid events old text → AddsOutcome mid after event text new → AddsOutcomes before after (events ++ event ∷ []) old new
 adds_one before mid after events event old text new all one =
@@ -42,22 +39,4 @@ adds_one before mid after events event old text new all one =
 
 -- an opening line, a line for each event and a last line are the replay
 pub is_replay : (script : Script) (first last : Core) (empty begun told whole : List ℕ) → first ≡ opened script → empty ≡ [] → begun ≡ empty ++ ended (opening_text first.table) → AddsOutcomes first last script.events begun told → EndsWith last.table told whole → IsReplay script whole
-is_replay script first last empty begun told whole set_up none opening adds ends =
-    let P : Core → Type 0 = λ core. AddsOutcomes core last script.events begun told in
-    let all : P (opened script) = subst P set_up adds in
-    let Q : Core → Type 0 = λ core. IsEnding core.table ends.ending in
-    let front : begun ≡ ended (opening_text (opened script).table) =
-    opening
-    ∙ ap (λ (text : List ℕ). text ++ ended (opening_text first.table)) none
-    ∙ ap (λ (core : Core). ended (opening_text core.table)) set_up
-    in
-    record {
-      outcomes = all.outcomes;
-      ending = ends.ending;
-      right = all.right;
-      last = subst Q all.next ends.right;
-      spelled =
-          ends.spelled
-          ∙ ap (λ (core : Core). told ++ ending_lines core.table ends.ending) all.next
-          ∙ ap (λ (text : List ℕ). text ++ ending_lines (core_after (opened script) script.events).table ends.ending) (all.spelled ∙ ap (λ (text : List ℕ). text ++ outcomes_text (opened script) script.events all.outcomes) front);
-    }
+is_replay script first last empty begun told whole set_up none opening adds ends = grind arith

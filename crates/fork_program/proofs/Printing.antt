@@ -1,6 +1,6 @@
 -- What is appended in steps, where each step may be refused.
-use Rattle.fork_program.proofs.Common.{◌≡◌, ◌&&◌, ℕ, Bool, true, false, not, cond, List, [], ◌++◌, Some, Result, Ok, Err, refl, sym, ap, subst, ◌∙◌, ◌↔◌, OnOk, IsErrOf, IsTrue, Table, is_finished, is_succeeded, Event, challenge_list, Core}
-use Rattle.fork_program.proofs.Common.{core_offered, IsListingOf, Unfinished, Listed, added_lines, ending_lines, EndsWith, AddsOutcome, ended}
+use Rattle.fork_program.proofs.Common.{◌≡◌, ◌&&◌, ℕ, Bool, true, false, not, cond, List, [], ◌++◌, Some, Result, Ok, Err, refl, sym, ap, ◌∙◌, ◌↔◌, OnOk, IsErrOf, IsTrue, Table, is_finished, is_succeeded, Event, challenge_list, Core, core_offered}
+use Rattle.fork_program.proofs.Common.{IsListingOf, Unfinished, Listed, added_lines, ending_lines, EndsWith, AddsOutcome, ended, arith}
 use Rattle.fork_model.specs.Reply.{Reply, IsReply}
 use Rattle.fork_model.specs.Core.{Replied, is_full, core_next}
 use Rattle.fork_model.specs.Choice as spec
@@ -46,12 +46,10 @@ ok_is : {T : Type 0} {made : T} {fault : ListFault} → Ok made ≡ Err fault �
 ok_is e = absurd cc
 
 is_false : (b : Bool) → (b ≡ true → ⊥) → b ≡ false
-is_false true never = absurd (never refl)
-is_false false never = refl
+is_false b never = grind arith
 
 is_true : (b : Bool) → (b ≡ false → ⊥) → b ≡ true
-is_true true never = refl
-is_true false never = absurd (never refl)
+is_true b never = grind arith
 
 -- a fork that is listed has finished without a 2xx
 pub listed_failed : {T : Type 0} (made : T) (succeeded : Bool) → (IsErrOf (Ok made) list.Succeeded ↔ (succeeded ≡ true)) → succeeded ≡ false
@@ -61,7 +59,4 @@ pub listed_finished : {T : Type 0} (made : T) (finished succeeded : Bool) → (I
 listed_finished made finished succeeded due failed = is_true finished (λ e. ok_is (due.1 (e, failed)))
 
 pub listed_alone : (t : Table) (old new shown : List ℕ) → old ≡ [] → Appends t old new → shown ≡ new → IsListingOf t shown
-listed_alone t old new shown none listed seen =
-    let same : shown ≡ listed.text = seen ∙ listed.spelled ∙ ap (λ (front : List ℕ). front ++ listed.text) none in
-    let P : List ℕ → Type 0 = IsListingOf t in
-    subst P (sym same) listed.listing
+listed_alone t old new shown none listed seen = grind arith

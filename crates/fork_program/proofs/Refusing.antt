@@ -1,5 +1,5 @@
 -- Why the targets of a script are refused.
-use Rattle.fork_program.proofs.Common.{◌≡◌, ◌≤◌, List, [], length, Ok, Err, refl, sym, subst, ◌∙◌, ◌↔◌, IsErrOf, most_targets, Target, Script}
+use Rattle.fork_program.proofs.Common.{◌≡◌, ◌≤◌, List, [], length, Ok, Err, ◌↔◌, IsErrOf, most_targets, Target, Script, arith}
 use Rattle.fork_context.specs.declared.context.NewFault.{NewFault}
 use Rattle.fork_context.specs.declared.context.NewFault.TheVariants as setup
 use Rattle.fork_context.specs.Refusals.{HasTwice, IsTooMany}
@@ -11,17 +11,7 @@ ok_is : {T : Type 0} {made : T} {fault : NewFault} → Ok made ≡ Err fault →
 ok_is e = absurd cc
 
 pub fork_refused : {T : Type 0} (script : Script) (targets : List Target) (fault : NewFault) → script.targets ≡ targets → (IsErrOf {T = T} (Err fault) setup.NoTargets ↔ (targets ≡ [])) → (IsErrOf {T = T} (Err fault) setup.TooMany ↔ IsTooMany targets) → (IsErrOf {T = T} (Err fault) setup.Twice ↔ ((length targets ≤ most_targets) × HasTwice targets)) → IsForkRefusal script (fault_set_up fault)
-fork_refused script targets setup.NoTargets same none many twice = same ∙ none.0 refl
-fork_refused script targets setup.TooMany same none many twice = subst IsTooMany (sym same) (many.0 refl)
-fork_refused script targets setup.Twice same none many twice =
-    let P : List Target → Type 0 = λ ts. (length ts ≤ most_targets) × HasTwice ts in
-    subst P (sym same) (twice.0 refl)
-fork_refused script targets setup.NoMemory same none many twice = tt
+fork_refused script targets fault same none many twice = grind arith
 
 pub fork_taken : {T : Type 0} (script : Script) (targets : List Target) (made : T) → script.targets ≡ targets → (IsErrOf {E = NewFault} (Ok made) setup.NoTargets ↔ (targets ≡ [])) → (IsErrOf {E = NewFault} (Ok made) setup.TooMany ↔ IsTooMany targets) → (IsErrOf {E = NewFault} (Ok made) setup.Twice ↔ ((length targets ≤ most_targets) × HasTwice targets)) → (fault : NewFault) → IsSetupFault script.targets fault → ⊥
-fork_taken script targets made same none many twice setup.NoTargets is = ok_is (none.1 (sym same ∙ is))
-fork_taken script targets made same none many twice setup.TooMany is = ok_is (many.1 (subst IsTooMany same is))
-fork_taken script targets made same none many twice setup.Twice is =
-    let P : List Target → Type 0 = λ ts. (length ts ≤ most_targets) × HasTwice ts in
-    ok_is (twice.1 (subst P same is))
-fork_taken script targets made same none many twice setup.NoMemory is = is
+fork_taken script targets made same none many twice fault is = grind arith

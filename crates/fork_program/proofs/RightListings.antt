@@ -1,9 +1,8 @@
 -- The listing that the replay of a script ends in is right, and is answered with yes.
-use Rattle.fork_program.proofs.Common.{◌≡◌, ◌≢◌, ◌≤◌, ℕ, List, [], ◌∷◌, ◌++◌, map, length, Option, Some, None, Result, Ok, Err, refl, sym, ap, subst, ◌∙◌, arith, append_assoc, codes, ◌<◌, flat_map, AllByRecursion, usual_preferred, Table}
-use Rattle.fork_program.proofs.Common.{most_targets, IsChoice, challenge_list, Event, Ring, Answer, Timeout, Fault, TimerC, GiveUp, Cancel, Target, Irreflexive, preferred_found, ended, Verdict, CheckFault, IsListingOf, targets_of}
-use Rattle.fork_program.proofs.Common.{IsRanking, TheChoiceIsFirst, RightTellsTheChoice, Line, EventLine, IsLine, Script, Detail, ContactDetail, OtherDetail, ChallengeDetail, Told, Spelling, prefer_lines, depth_lines, target_line}
-use Rattle.fork_program.proofs.Common.{detail_line, told_lines, IsSpelling, preferred_said, depth_said, offers_said, event_said, script_of, Spells, IsForkReplay, opened, closed, opening_text, outcomes_text, added_lines, IsAnswer, IsDone}
-use Rattle.fork_program.proofs.Common.{TellsOneFinal, all_back}
+use Rattle.fork_program.proofs.Common.{◌≡◌, ◌≢◌, ◌≤◌, ℕ, List, [], ◌∷◌, ◌++◌, map, length, Option, Result, Ok, Err, refl, sym, ap, subst, ◌∙◌, arith, append_assoc, codes, ◌<◌, flat_map, AllByRecursion, usual_preferred, Table, most_targets, IsChoice}
+use Rattle.fork_program.proofs.Common.{challenge_list, Event, Target, Irreflexive, preferred_found, ended, Verdict, CheckFault, IsListingOf, targets_of, IsRanking, TheChoiceIsFirst, RightTellsTheChoice, Line, IsLine, Script, Detail, ContactDetail}
+use Rattle.fork_program.proofs.Common.{OtherDetail, ChallengeDetail, Told, Spelling, prefer_lines, depth_lines, target_line, detail_line, told_lines, IsSpelling, preferred_said, depth_said, offers_said, event_said, script_of, Spells, IsForkReplay}
+use Rattle.fork_program.proofs.Common.{opened, closed, opening_text, outcomes_text, added_lines, IsAnswer, IsDone, TellsOneFinal, all_back, common_steps}
 use Rattle.fork_rank.specs.Preferred.{IsPreferredList}
 use Rattle.fork_model.specs.Range.{IsTargetInRange, IsOfferInRange, IsEventInRange}
 use Rattle.fork_context.specs.declared.context.NewFault.TheVariants as setup
@@ -23,12 +22,10 @@ usual_list : IsPreferredList usual_preferred
 usual_list = (preferred_found (codes "401,407,415,420,484") usual_preferred refl).1
 
 preferred_is : (prefer : Option (List ℕ)) (more : List Line) → AllByRecursion IsLine (prefer_lines prefer ++ more) → IsPreferredList (preferred_said prefer)
-preferred_is None more h = usual_list
-preferred_is (Some statuses) more h = h.0
+preferred_is prefer more h = grind arith
 
 depth_is : (depth : Option ℕ) (more : List Line) → AllByRecursion IsLine (depth_lines depth ++ more) → depth_said depth ≤ most_targets
-depth_is None more h = omega arith
-depth_is (Some depth) more h = h.0
+depth_is depth more h = grind arith
 
 targets_are : (targets : List Target) (more : List Line) → AllByRecursion IsLine (map target_line targets ++ more) → AllByRecursion IsTargetInRange targets
 targets_are [] more h = tt
@@ -44,41 +41,14 @@ abbrev said : Told → Event
 said told = event_said told.event told.details
 
 event_is : (told : Told) (more : List Line) → AllByRecursion IsLine (told_lines told ++ more) → IsEventInRange (said told)
-event_is told more h = go told.event h.0
-  where
-    go : (event : Event) → IsLine (EventLine event) → IsEventInRange (event_said event told.details)
-    go (Ring n status) line = tt
-    go (Answer n answer) line = record { status = line.2; offers = offers_are told.details more h.1 }
-    go (Timeout n) line = tt
-    go (Fault n) line = tt
-    go (TimerC n) line = tt
-    go (GiveUp n) line = tt
-    go Cancel line = tt
+event_is told more h = grind (arith, common_steps, offers_are)
 
 events_are : (history : List Told) → AllByRecursion IsLine (flat_map told_lines history) → AllByRecursion IsEventInRange (map said history)
 events_are [] h = tt
-events_are (told ∷ history) h =
-    (event_is told (flat_map told_lines history) h, events_are history (all_back IsLine (told_lines told) (flat_map told_lines history) h))
+events_are (told ∷ history) h = grind (arith, common_steps, event_is, all_back, events_are history (all_back IsLine (told_lines told) (flat_map told_lines history) h))
 
 spelled_leads : (s : Spelling) → IsSpelling s → s.targets ≢ [] → length s.targets ≤ most_targets → IsLedTo (closed (script_of s))
-spelled_leads s h some few =
-    let behind_prefer : AllByRecursion IsLine (depth_lines s.depth ++ body_of s.targets s.history) = all_back IsLine (prefer_lines s.prefer) (depth_lines s.depth ++ body_of s.targets s.history) h.lines.1 in
-    let behind_depth : AllByRecursion IsLine (body_of s.targets s.history) = all_back IsLine (depth_lines s.depth) (body_of s.targets s.history) behind_prefer in
-    record {
-      kind = s.kind;
-      rules = (script_of s).rules;
-      targets = s.targets;
-      events = (script_of s).events;
-      some = some;
-      few = few;
-      set = record {
-        preferred = preferred_is s.prefer (depth_lines s.depth ++ body_of s.targets s.history) h.lines.1;
-        depth = depth_is s.depth (body_of s.targets s.history) behind_prefer;
-      };
-      targets_in_range = targets_are s.targets (flat_map told_lines s.history) behind_depth;
-      events_in_range = events_are s.history (history_lines s h.lines);
-      led = refl;
-    }
+spelled_leads s h some few = grind (arith, common_steps, body_of, all_back, preferred_is, depth_is, targets_are, events_are, history_lines)
 
 within : (most n : ℕ) → (most < n → ⊥) → n ≤ most
 within most n never = omega (arith, never)
@@ -121,8 +91,7 @@ ends_right tells irreflexive listings_right script printed led done told =
     }
 
 pub replays_end_right : TheChoiceIsFirst → RightTellsTheChoice → Irreflexive → ListingsAreRight → ReplaysEndInRightListings
-replays_end_right listed_first tells irreflexive listings_right text printed script spells replay done =
-    ends_right tells irreflexive listings_right script printed (script_leads text printed script spells replay) done (tells_one_final listed_first script printed replay done)
+replays_end_right listed_first tells irreflexive listings_right text printed script spells replay done = grind (arith, common_steps, script_leads text printed script spells replay, tells_one_final listed_first script printed replay done, ends_right)
 
 -- ---- and is answered with yes
 

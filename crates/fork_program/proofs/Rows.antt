@@ -1,5 +1,5 @@
 -- Counting and listing rows, one row at a time.
-use Rattle.fork_program.proofs.Common.{◌≡◌, ℕ, suc, ◌+◌, ◌<◌, Bool, true, false, cond, List, [], ◌∷◌, ◌++◌, length, take, sym, ap, ◌∙◌, arith, append-nil, slice_get, count_by, filter, is_row, numbers_below}
+use Rattle.fork_program.proofs.Common.{◌≡◌, ℕ, suc, ◌+◌, ◌<◌, Bool, true, false, List, [], ◌∷◌, ◌++◌, length, take, sym, ap, ◌∙◌, arith, append-nil, slice_get, count_by, filter, is_row, numbers_below, common_steps}
 use Rattle.std.proofs.lemmas.Option.{slice_get-get_or}
 use Rattle.std.proofs.lemmas.List.Sums.{count_by_more_yes, count_by_more_no}
 use Rattle.std.proofs.lemmas.List.Elements.{filter-append}
@@ -19,9 +19,7 @@ pub numbers_below-more : (n : ℕ) → numbers_below (n + 1) ≡ numbers_below n
 numbers_below-more n = let e : n + 1 ≡ suc n = omega arith in ap numbers_below e
 
 pub listed_yes : (p : ℕ → Bool) (n : ℕ) → p n ≡ true → filter p (numbers_below (n + 1)) ≡ filter p (numbers_below n) ++ n ∷ []
-listed_yes p n e =
-    ap (filter p) (numbers_below-more n) ∙ filter-append p (numbers_below n) (n ∷ []) ∙ ap (λ t. filter p (numbers_below n) ++ cond t (n ∷ []) []) e
+listed_yes p n e = grind (arith, common_steps, numbers_below-more, filter-append)
 
 pub listed_no : (p : ℕ → Bool) (n : ℕ) → p n ≡ false → filter p (numbers_below (n + 1)) ≡ filter p (numbers_below n)
-listed_no p n e =
-    ap (filter p) (numbers_below-more n) ∙ filter-append p (numbers_below n) (n ∷ []) ∙ ap (λ t. filter p (numbers_below n) ++ cond t (n ∷ []) []) e ∙ append-nil (filter p (numbers_below n))
+listed_no p n e = grind (arith, common_steps, numbers_below-more, filter-append, append-nil)

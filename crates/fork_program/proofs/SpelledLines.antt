@@ -1,7 +1,7 @@
 -- Each spelling of a line is read as that line, and has no LF.
-use Rattle.fork_program.proofs.Common.{◌≡◌, ℕ, ◌≤◌, Bool, true, false, not, cond, eqb, List, [], ◌∷◌, ◌++◌, length, Option, Some, None, refl, sym, ap, ◌∙◌, arith, option_and_then, IfSome, codes, ◌&&◌, option_map, decimal, is, Kind, Invite}
-use Rattle.fork_program.proofs.Common.{Other, most_targets, FinalAnswer, Event, Ring, Answer, Timeout, Fault, TimerC, GiveUp, Cancel, Line, KindLine, PreferLine, DepthLine, TargetLine, EventLine, ContactLine, OtherLine, ChallengeLine}
-use Rattle.fork_program.proofs.Common.{kind_text, asker_text, line_text, is_name, is_text, bare, IsLine, IsSpelledBy, numbered_text, most_q, most_number, ring_of, answer_of, named, texted, read_named, read_texted, read_line}
+use Rattle.fork_program.proofs.Common.{◌≡◌, ℕ, ◌≤◌, Bool, true, not, eqb, List, [], ◌∷◌, ◌++◌, length, Option, Some, None, refl, sym, ap, ◌∙◌, arith, option_and_then, IfSome, codes, ◌&&◌, option_map, decimal, is, Kind, Event, Ring, Answer, Timeout}
+use Rattle.fork_program.proofs.Common.{Fault, TimerC, GiveUp, Cancel, Line, KindLine, PreferLine, DepthLine, TargetLine, EventLine, ContactLine, OtherLine, ChallengeLine, kind_text, asker_text, line_text, is_name, is_text, IsLine, IsSpelledBy}
+use Rattle.fork_program.proofs.Common.{numbered_text, most_q, most_number, read_named, read_texted, read_line, common_steps}
 use Rattle.std.specs.Prelude.{nat_le}
 use Rattle.std.specs.List.{list_all}
 use Rattle.std.proofs.lemmas.Bool.{eqb-false, and_parts}
@@ -14,38 +14,16 @@ use Rattle.sip_lex.proofs.laws.Numbers.{number_read, decimal_lacks}
 use Rattle.fork_program.proofs.LineLaws.{line_found}
 
 named_read : (q : ℕ) (name : List ℕ) → q ≤ most_q → is_name name ≡ true → read_named (numbered_text q name) ≡ Some (q, name)
-named_read q name within is =
-    ap (option_and_then named) (number_before_read most_q q name within (omega arith)) ∙ ap (λ t. cond t (Some (q, name)) None) is
+named_read q name within is = grind (arith, common_steps, option_and_then, number_before_read)
 
 texted_read : (q : ℕ) (text : List ℕ) → q ≤ most_q → is_text text ≡ true → read_texted (numbered_text q text) ≡ Some (q, text)
-texted_read q text within is =
-    ap (option_and_then texted) (number_before_read most_q q text within (omega arith)) ∙ ap (λ t. cond t (Some (q, text)) None) is
+texted_read q text within is = grind (arith, common_steps, option_and_then, number_before_read)
 
 event_read : (event : Event) → IsLine (EventLine event) → read_line (line_text (EventLine event)) ≡ Some (EventLine event)
-event_read (Ring n status) h =
-    ap (option_and_then ring_of) (number_before_read most_number n (decimal status) h.0 (omega arith))
-    ∙ ap (option_map (λ s. EventLine (Ring n s))) (number_from_read 100 199 status h.1 (omega arith) (omega arith))
-event_read (Answer n answer) h =
-    ap (option_and_then answer_of) (number_before_read most_number n (decimal answer.status) h.0 (omega arith))
-    ∙ ap (option_map (λ s. EventLine (Answer n (bare s)))) (number_from_read 200 699 answer.status h.1 (omega arith) (omega arith))
-    ∙ ap (λ (a : FinalAnswer). Some (EventLine (Answer n a))) (sym h.3)
-event_read (Timeout n) h = ap (option_map (λ m. EventLine (Timeout m))) (number_read most_number n h (omega arith))
-event_read (Fault n) h = ap (option_map (λ m. EventLine (Fault m))) (number_read most_number n h (omega arith))
-event_read (TimerC n) h = ap (option_map (λ m. EventLine (TimerC m))) (number_read most_number n h (omega arith))
-event_read (GiveUp n) h = ap (option_map (λ m. EventLine (GiveUp m))) (number_read most_number n h (omega arith))
-event_read Cancel h = refl
+event_read event h = grind (arith, common_steps, option_and_then, number_before_read, number_from_read, number_read)
 
 pub line_read : (line : Line) → IsLine line → read_line (line_text line) ≡ Some line
-line_read (KindLine Invite) h = refl
-line_read (KindLine Other) h = refl
-line_read (PreferLine statuses) h = ap (option_map PreferLine) (preferred_read statuses h)
-line_read (DepthLine depth) h = ap (option_map DepthLine) (number_read most_targets depth h (omega arith))
-line_read (TargetLine q name) h = ap (option_map (λ p. TargetLine p.0 p.1)) (named_read q name h.0 h.1)
-line_read (EventLine event) h = event_read event h
-line_read (ContactLine q name) h = ap (option_map (λ p. ContactLine p.0 p.1)) (named_read q name h.0 h.1)
-line_read (OtherLine q text) h = ap (option_map (λ p. OtherLine p.0 p.1)) (texted_read q text h.0 h.1)
-line_read (ChallengeLine false value) h = ap (λ t. cond t (Some (ChallengeLine false value)) None) h
-line_read (ChallengeLine true value) h = ap (λ t. cond t (Some (ChallengeLine true value)) None) h
+line_read line h = grind (arith, common_steps, preferred_read, number_read, named_read, event_read, texted_read)
 
 -- so what is read of such a text is that line, and a line is read of such texts alone
 module _ {T : Type 0} where
@@ -76,12 +54,10 @@ text_lacks : (text : List ℕ) → is_text text ≡ true → Lacks 10 text
 text_lacks text h = Lacks-pass is_printable 10 text refl (and_parts (nat_le 1 (length text)) (list_all is_printable text) h).1
 
 kind_lacks : (kind : Kind) → Lacks 10 (kind_text kind)
-kind_lacks Invite = worded (codes "INVITE") [] refl tt
-kind_lacks Other = worded (codes "OTHER") [] refl tt
+kind_lacks kind = grind arith
 
 asker_lacks : (proxy : Bool) → Lacks 10 (asker_text proxy)
-asker_lacks false = worded (codes "W") [] refl tt
-asker_lacks true = worded (codes "P") [] refl tt
+asker_lacks proxy = grind arith
 
 event_lacks : (event : Event) → IsLine (EventLine event) → Lacks 10 (event_text event)
 event_lacks (Ring n status) h = worded (codes "ring ") _ refl (numbered_lacks n (decimal status) h.0 (decimal_lacks 10 status refl (omega arith)))
@@ -101,5 +77,4 @@ line_lacks (TargetLine q name) h = worded (codes "target ") _ refl (numbered_lac
 line_lacks (EventLine event) h = event_lacks event h
 line_lacks (ContactLine q name) h = worded (codes "contact ") _ refl (numbered_lacks q name (omega arith) (name_lacks name h.1))
 line_lacks (OtherLine q text) h = worded (codes "other ") _ refl (numbered_lacks q text (omega arith) (text_lacks text h.1))
-line_lacks (ChallengeLine proxy value) h =
-    worded (codes "challenge ") _ refl (Lacks-append 10 (asker_text proxy) (32 ∷ value) (asker_lacks proxy) (eqb-false 32 10 refl, text_lacks value h))
+line_lacks (ChallengeLine proxy value) h = grind (arith, common_steps, worded, asker_lacks, eqb-false, text_lacks)

@@ -1,8 +1,8 @@
 -- A text is spelled in one way, and two are read as one script where their spellings say the same.
-use Rattle.fork_program.proofs.Common.{◌≡◌, ℕ, List, [], ◌∷◌, ◌++◌, map, Option, Some, None, Result, Ok, refl, sym, ap, ◌∙◌, append_assoc, flat_map, AllByRecursion, same_Some, cut, is, ended, Kind, Invite, Offer, Challenge, Event, Ring}
-use Rattle.fork_program.proofs.Common.{Answer, Timeout, Fault, TimerC, GiveUp, Cancel, Target, Line, KindLine, PreferLine, DepthLine, TargetLine, EventLine, ContactLine, OtherLine, ChallengeLine, line_text, bare, IsLine, read_line, Script}
-use Rattle.fork_program.proofs.Common.{Detail, ContactDetail, OtherDetail, ChallengeDetail, Told, Spelling, prefer_lines, depth_lines, target_line, detail_line, told_lines, lines_of, text_of, MayStandBehind, offers_said, challenges_said}
-use Rattle.fork_program.proofs.Common.{event_said, script_of, IsSpelledAs, all_back}
+use Rattle.fork_program.proofs.Common.{◌≡◌, ℕ, List, [], ◌∷◌, ◌++◌, map, Option, Some, None, Result, Ok, refl, sym, ap, ◌∙◌, append_assoc, flat_map, AllByRecursion, same_Some, cut, is, ended, Kind, Invite, Offer, Challenge, Event, Ring, Answer}
+use Rattle.fork_program.proofs.Common.{Timeout, Fault, TimerC, GiveUp, Cancel, Target, Line, KindLine, PreferLine, DepthLine, TargetLine, EventLine, ContactLine, OtherLine, ChallengeLine, line_text, bare, IsLine, read_line, Script, Detail}
+use Rattle.fork_program.proofs.Common.{ContactDetail, OtherDetail, ChallengeDetail, Told, Spelling, prefer_lines, depth_lines, target_line, detail_line, told_lines, lines_of, text_of, MayStandBehind, offers_said, challenges_said, event_said}
+use Rattle.fork_program.proofs.Common.{IsSpelledAs, all_back, common_steps, arith}
 use Rattle.sip_lex.proofs.laws.Cuts.{cut_again}
 use Rattle.fork_program.specs.Script.{read_script}
 use Rattle.fork_program.specs.Grammar.{SpelledOnce, TellTheSame, SayTheSame, ReadAlike}
@@ -17,11 +17,7 @@ front_and_rest : (line : Line) (more : List ℕ) → IsLine line → cut (is 10)
 front_and_rest line more h = ap (cut (is 10)) (append_assoc (line_text line) (10 ∷ []) more) ∙ cut_again 10 (line_text line) (Some more) (line_lacks line h)
 
 ends_in_line : (line : Line) (more : List ℕ) → ended (line_text line) ++ more ≡ [] → ⊥
-ends_in_line line more e = go (line_text line) e
-  where
-    go : (text : List ℕ) → ended text ++ more ≡ [] → ⊥
-    go [] e = absurd cc
-    go (b ∷ bs) e = absurd cc
+ends_in_line line more e = grind arith
 
 lines_once : (lines others : List Line) → AllByRecursion IsLine lines → AllByRecursion IsLine others → text_of lines ≡ text_of others → lines ≡ others
 lines_once [] [] h k e = refl
@@ -94,10 +90,7 @@ past_details (ChallengeDetail proxy value ∷ details) lines = past_details deta
 
 history_found : (history : List Told) → history_in (flat_map told_lines history) ≡ history
 history_found [] = refl
-history_found (told ∷ history) =
-    let details : details_in (map detail_line told.details ++ flat_map told_lines history) ≡ told.details = details_found told.details history in
-    let rest : history_in (map detail_line told.details ++ flat_map told_lines history) ≡ history = past_details told.details (flat_map told_lines history) ∙ history_found history in
-    (λ i. record { event = told.event; details = details i } ∷ rest i)
+history_found (told ∷ history) = grind (arith, common_steps, details_found, past_details, history_found history)
 
 past_targets : (targets : List Target) (lines : List Line) → history_in (map target_line targets ++ lines) ≡ history_in lines
 past_targets [] lines = refl
@@ -109,10 +102,7 @@ targets_found [] (told ∷ history) = refl
 targets_found (target ∷ targets) history = ap (λ (ts : List Target). target ∷ ts) (targets_found targets history)
 
 body_found : (s : Spelling) → body_in s.kind s.prefer s.depth (body_of s.targets s.history) ≡ s
-body_found s =
-    let targets : targets_in (body_of s.targets s.history) ≡ s.targets = targets_found s.targets s.history in
-    let history : history_in (body_of s.targets s.history) ≡ s.history = past_targets s.targets (flat_map told_lines s.history) ∙ history_found s.history in
-    (λ i. record { kind = s.kind; prefer = s.prefer; depth = s.depth; targets = targets i; history = history i })
+body_found s = grind (arith, common_steps, body_of, targets_found, past_targets, history_found)
 
 -- a body begins with no line of the rules
 no_rules : (kind : Kind) (targets : List Target) (history : List Told) → rules_in kind (body_of targets history) ≡ body_in kind None None (body_of targets history)
@@ -166,22 +156,10 @@ event_found (GiveUp n) details h = refl
 event_found Cancel details h = refl
 
 offers_found : (event : Event) (details : List Detail) → MayStandBehind event details → offers_in (event_said event details) ≡ offers_said details
-offers_found (Ring n status) details h = ap offers_said (sym h)
-offers_found (Answer n answer) details h = refl
-offers_found (Timeout n) details h = ap offers_said (sym h)
-offers_found (Fault n) details h = ap offers_said (sym h)
-offers_found (TimerC n) details h = ap offers_said (sym h)
-offers_found (GiveUp n) details h = ap offers_said (sym h)
-offers_found Cancel details h = ap offers_said (sym h)
+offers_found event details h = grind arith
 
 challenges_found : (event : Event) (details : List Detail) → MayStandBehind event details → challenges_in (event_said event details) ≡ challenges_said details
-challenges_found (Ring n status) details h = ap challenges_said (sym h)
-challenges_found (Answer n answer) details h = refl
-challenges_found (Timeout n) details h = ap challenges_said (sym h)
-challenges_found (Fault n) details h = ap challenges_said (sym h)
-challenges_found (TimerC n) details h = ap challenges_said (sym h)
-challenges_found (GiveUp n) details h = ap challenges_said (sym h)
-challenges_found Cancel details h = ap challenges_said (sym h)
+challenges_found event details h = grind arith
 
 abbrev said : Told → Event
 said told = event_said told.event told.details
@@ -212,22 +190,13 @@ said_with (Answer n answer) offers challenges = Answer n (record { status = answ
 said_with event offers challenges = event
 
 said_so : (event : Event) (details : List Detail) → event_said event details ≡ said_with event (offers_said details) (challenges_said details)
-said_so (Ring n status) details = refl
-said_so (Answer n answer) details = refl
-said_so (Timeout n) details = refl
-said_so (Fault n) details = refl
-said_so (TimerC n) details = refl
-said_so (GiveUp n) details = refl
-said_so Cancel details = refl
+said_so event details = grind arith
 
 same_events : (a b : List Told) → TellTheSame a b → map said a ≡ map said b
 same_events [] [] h = refl
 same_events [] (b ∷ bs) h = absurd h
 same_events (a ∷ others) [] h = absurd h
-same_events (a ∷ others) (b ∷ bs) h =
-    let one : said a ≡ said b = said_so a.event a.details ∙ (λ i. said_with (h.0 i) (h.1 i) (h.2 i)) ∙ sym (said_so b.event b.details) in
-    let rest : map said others ≡ map said bs = same_events others bs h.3 in
-    (λ i. one i ∷ rest i)
+same_events (a ∷ others) (b ∷ bs) h = grind (arith, common_steps, said_so, same_events others bs h.3)
 
 abbrev found_as : Script → Result Script ℕ
 found_as s = Ok s
@@ -236,21 +205,10 @@ ok_is : {x y : Script} → found_as x ≡ found_as y → x ≡ y
 ok_is e = cc
 
 alike_say : (text other : List ℕ) (a b : Spelling) → IsSpelledAs text a → IsSpelledAs other b → read_script text ≡ read_script other → SayTheSame a b
-alike_say text other a b h k e =
-    let same : script_of a ≡ script_of b = ok_is (sym (spelled_read text a h) ∙ e ∙ spelled_read other b k) in
-    record {
-      kind = ap (λ (s : Script). s.kind) same;
-      preferred = ap (λ (s : Script). s.rules.preferred) same;
-      depth = ap (λ (s : Script). s.rules.depth) same;
-      targets = ap (λ (s : Script). s.targets) same;
-      history = tell_the_same a.history b.history (history_lines a h.0.lines) (history_lines b k.0.lines) h.0.behind k.0.behind (ap (λ (s : Script). s.events) same);
-    }
+alike_say text other a b h k e = grind (arith, common_steps, spelled_read text a h, spelled_read other b k, ok_is, tell_the_same, history_lines)
 
 say_alike : (text other : List ℕ) (a b : Spelling) → IsSpelledAs text a → IsSpelledAs other b → SayTheSame a b → read_script text ≡ read_script other
-say_alike text other a b h k same =
-    let events : map said a.history ≡ map said b.history = same_events a.history b.history same.history in
-    let scripts : script_of a ≡ script_of b = (λ i. record { kind = same.kind i; rules = record { preferred = same.preferred i; depth = same.depth i }; targets = same.targets i; events = events i }) in
-    spelled_read text a h ∙ ap found_as scripts ∙ sym (spelled_read other b k)
+say_alike text other a b h k same = grind (arith, common_steps, same_events, spelled_read)
 
 pub read_alike : ReadAlike
 read_alike text other a b h k = (alike_say text other a b h k, say_alike text other a b h k)

@@ -1,7 +1,7 @@
 -- A script is read of exactly the texts that spell it, and any other text is refused by exactly its first malformed line.
-use Rattle.fork_program.proofs.Common.{◌≡◌, ℕ, suc, ◌+◌, ◌<◌, Bool, true, false, cond, List, [], ◌∷◌, ◌++◌, length, Option, Some, None, Result, Ok, Err, refl, sym, ap, subst, ◌∙◌, arith, append_assoc, append-nil, option_and_then, IfOk}
-use Rattle.fork_program.proofs.Common.{slice_split, is, ended, Line, line_text, IsLine, IsSpelledBy, read_line, Script, Draft, no_draft, drafted_line, drafted, has_kind, finished_draft, read_from, Spelling, lines_of, text_of, script_of}
-use Rattle.fork_program.proofs.Common.{IsSpelledAs, Spells, GivesScript}
+use Rattle.fork_program.proofs.Common.{◌≡◌, ℕ, suc, ◌+◌, ◌<◌, Bool, true, cond, List, [], ◌∷◌, ◌++◌, length, Option, Some, None, Result, Ok, Err, refl, sym, ap, ◌∙◌, arith, append_assoc, append-nil, option_and_then, IfOk, slice_split, is, ended}
+use Rattle.fork_program.proofs.Common.{Line, line_text, IsLine, IsSpelledBy, read_line, Script, Draft, no_draft, drafted_line, drafted, has_kind, finished_draft, read_from, Spelling, lines_of, text_of, script_of, IsSpelledAs, Spells, GivesScript}
+use Rattle.fork_program.proofs.Common.{common_steps}
 use Rattle.std.specs.Prelude.{IfErr}
 use Rattle.std.specs.List.{join_with_byte}
 use Rattle.std.proofs.lemmas.List.Splits.{join_with_byte-slice_split, length-slice_split}
@@ -9,7 +9,6 @@ use Rattle.sip_lex.proofs.laws.Splits.{pieces_lack}
 use Rattle.fork_text.specs.LineByLine.{with_next}
 use Rattle.fork_text.proofs.laws.Lines.{IsReader, read_lines, malformed, found, next_piece}
 use Rattle.fork_program.specs.declared.script.ReadFault.{ReadFault}
-use Rattle.fork_program.specs.declared.script.ReadFault.TheVariants as read
 use Rattle.fork_program.specs.Script.{read_script}
 use Rattle.fork_program.specs.Malformed.{IsMalformedAt}
 use Rattle.fork_program.specs.Grammar.{ReadExactly, RefusedByFirst}
@@ -31,8 +30,7 @@ ok_err : {s : Script} {n : ℕ} → found_as s ≡ refused_as n → ⊥
 ok_err e = absurd cc
 
 at_end : (number : ℕ) (draft : Draft) (m : ℕ) (b : Bool) → cond b (found_as draft.script) (Err number) ≡ Err m → number ≡ m
-at_end number draft m true e = absurd (ok_err e)
-at_end number draft m false e = err_is e
+at_end number draft m b e = grind arith
 
 -- a script is read one line at a time
 reader : IsReader IsLine IsLine line_text read_line drafted_line read_from
@@ -67,8 +65,7 @@ pub ok_is : {x y : Script} → found_as x ≡ found_as y → x ≡ y
 ok_is e = cc
 
 found_end : (number : ℕ) (draft : Draft) (script : Script) (b : Bool) → has_kind draft.phase ≡ b → cond b (found_as draft.script) (Err number) ≡ Ok script → (has_kind draft.phase ≡ true) × (draft.script ≡ script)
-found_end number draft script true whole e = (whole, ok_is e)
-found_end number draft script false whole e = absurd cc
+found_end number draft script b whole e = grind arith
 
 script_found : (text : List ℕ) (script : Script) → read_script text ≡ Ok script → Spells text script
 unfolding read_script
@@ -76,8 +73,7 @@ script_found text script e =
     let f = found reader 1 no_draft (slice_split (is 10) text) script e in
     let end = found_end f.number f.next script (has_kind f.next.phase) refl f.end in
     let w = whole_found f.lines f.next f.right f.due end.0 in
-    let spelled : text ≡ text_of (lines_of w.script) = sym (join_with_byte-slice_split 10 text) ∙ f.spelled ∙ sym (ap text_of w.spelled) in
-    (w.script, (w.is, spelled), w.same ∙ end.1)
+    grind (arith, common_steps, join_with_byte-slice_split 10 text)
 
 pub read_exactly : ReadExactly
 read_exactly text script = (script_found text script, script_read text script)
@@ -110,11 +106,7 @@ reads_to : (number : ℕ) (draft : Draft) (rest : List ℕ) (pieces : List (List
     → ((script : Script) → read_from number draft pieces ≡ Ok script → ⊥)
     → read_from number draft pieces ≡ Err number
 reads_to number draft rest [] same none never = refl
-reads_to number draft rest ([] ∷ []) same none never = ends (has_kind draft.phase) never
-  where
-    ends : (b : Bool) → ((script : Script) → cond b (found_as draft.script) (Err number) ≡ Ok script → ⊥) → cond b (found_as draft.script) (Err number) ≡ Err number
-    ends true never = absurd (never draft.script refl)
-    ends false never = refl
+reads_to number draft rest ([] ∷ []) same none never = grind arith
 reads_to number draft rest ((b ∷ bs) ∷ []) same none never = refl
 reads_to number draft rest (text ∷ next ∷ pieces) same none never = one (read_line text) refl
   where
@@ -129,8 +121,7 @@ reads_to number draft rest (text ∷ next ∷ pieces) same none never = one (rea
         ap (λ (o : Option Draft). with_next number o (λ d. read_from (suc number) d (next ∷ pieces))) (none line (join_with_byte 10 (next ∷ pieces)) spelled.1 whole)
 
 none_due : (o : Option Draft) → ((next : Draft) → o ≡ Some next → ⊥) → o ≡ None
-none_due None never = refl
-none_due (Some d) never = absurd (never d refl)
+none_due o never = grind arith
 
 malformed_told : (text : List ℕ) (n : ℕ) → IsMalformedAt text n → read_script text ≡ Err n
 unfolding read_script
@@ -143,8 +134,7 @@ malformed_told text n h =
     let told : read_from (1 + length h.lines) front.next (slice_split (is 10) h.rest) ≡ Err (1 + length h.lines) =
     reads_to (1 + length h.lines) front.next h.rest (slice_split (is 10) h.rest) (sym (join_with_byte-slice_split 10 h.rest)) none
     (λ script e. h.partial script (script_found text script (at ∙ e))) in
-    let same : 1 + length h.lines ≡ n = let c : n ≡ suc (length h.lines) = h.number in omega arith in
-    at ∙ told ∙ ap refused_as same
+    grind (arith, common_steps)
 
 pub refused_by_first : RefusedByFirst
 refused_by_first text n = (malformed_found text n, malformed_told text n)
@@ -152,15 +142,10 @@ refused_by_first text n = (malformed_found text n, malformed_told text n)
 -- ---- so what a call gives says which text it was
 
 pub gives_found : (text : List ℕ) (r : Result Script ReadFault) → GivesScript (read_script text) r → IfOk r (Spells text)
-gives_found text (Ok s) h = script_found text s h
-gives_found text (Err f) h = tt
+gives_found text r h = grind (arith, common_steps, script_found)
 
 pub gives_only : (text : List ℕ) (r : Result Script ReadFault) → GivesScript (read_script text) r → (s : Script) → Spells text s → GivesScript (Ok s) r
-gives_only text r h s is =
-    let P : Result Script ℕ → Type 0 = λ read. GivesScript read r in
-    subst P (script_read text s is) h
+gives_only text r h s is = grind (arith, common_steps, script_read text s is)
 
 pub gives_fault : (text : List ℕ) (r : Result Script ReadFault) → GivesScript (read_script text) r → IfErr r (IsFaultOf text)
-gives_fault text (Ok s) h = tt
-gives_fault text (Err (read.Line n)) h = malformed_found text n h
-gives_fault text (Err read.NoMemory) h = tt
+gives_fault text r h = grind (arith, common_steps, malformed_found)

@@ -1,4 +1,4 @@
-use Rattle.std.proofs.Common.{Err, refl, ap}
+use Rattle.fork_program.proofs.Common.{Err, refl, ap}
 use Rattle.fork_listing.specs.declared.refusal.CheckFault.TheVariants.{Line, Tree, Order, Absent}
 use Rattle.fork_program.proofs.Answering.{appends_fault}
 use Rattle.fork_program.proofs.check.append_refusal.Goals as goal

@@ -1,5 +1,4 @@
-use Rattle.fork_program.proofs.Common.{arith, ◌≡◌, ◌≤◌, ◌+◌, length, most_text}
-use Rattle.std.proofs.lemmas.Grind.{common_steps}
+use Rattle.fork_program.proofs.Common.{arith, ◌≡◌, ◌≤◌, ◌+◌, length, most_text, common_steps}
 use Rattle.fork_program.proofs.InputSteps.{consumed_more, whole_at_end, whole_at_most, length_more}
 use Rattle.fork_program.proofs.input.read_input.Goals as goal
 

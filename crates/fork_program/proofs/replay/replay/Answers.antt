@@ -1,4 +1,4 @@
-use Rattle.fork_program.proofs.Common.{◌≡◌, map, ap, sym, subst, refl, event_of, kind_of, Script, IsForkReplay}
+use Rattle.fork_program.proofs.Common.{◌≡◌, map, ap, refl, event_of, kind_of, Script, IsForkReplay, common_steps, arith}
 use Rattle.std.proofs.lemmas.Result.{err_from_is_err_and}
 use Rattle.fork_program.proofs.Headline.{tells_one_final}
 use Rattle.fork_program.proofs.Outcomes.{is_replay}
@@ -23,8 +23,7 @@ returns-clause-ok g c =
       replayed = is_replay shown _ _ _ _ _ _ c.in_ok-context.ensures.opened c.new-text.ensures.items c.in_ok-append_opening.ensures c.in_ok-append_outcomes.ensures c.in_ok-append_ending.ensures;
     }
     in
-    let P : Script → Type 0 = λ s. IsForkReplay s c.append_ending.new.text.items in
-    subst P (sym seen) right
+    grind (arith, common_steps)
 
 pub returns-clause-one_final : goal.returns-clause-one_final
 returns-clause-one_final g c = tells_one_final c.the_choice_is_listed_first.ensures c.args.script c.append_ending.new.text.items (returns-clause-ok g c)

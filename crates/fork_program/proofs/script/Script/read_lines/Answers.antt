@@ -1,4 +1,4 @@
-use Rattle.fork_program.proofs.Common.{◌<◌, ℕ, Result, length, subst, arith, Script, drafted, finished_draft, GivesScript}
+use Rattle.fork_program.proofs.Common.{ℕ, Result, subst, arith, Script, drafted, finished_draft, GivesScript, common_steps}
 use Rattle.fork_text.proofs.laws.Lines.{if_added, if_not_added, at_last_line, at_wrong_line, behind_line}
 use Rattle.fork_program.specs.Script.{read_script}
 use Rattle.fork_program.proofs.script.Script.read_lines.Goals as goal
@@ -12,14 +12,11 @@ returns-in_default g c =
 pub returns-then-not-branch : goal.returns-then-not-branch
 unfolding read_script
 returns-then-not-branch g c =
-    let none = if_not_added c.in_ok-add.field-0 c.add.new.self (drafted c.loop-after.draft c.cut_at.result.0.now) c.in_ok-add.ensures (grind (arith, c.if-not-branch.true)) in
+    let none = if_not_added c.in_ok-add.field-0 c.add.new.self (drafted c.loop-after.draft c.cut_at.result.0.now) c.in_ok-add.ensures (grind arith) in
     at_wrong_line drafted finished_draft c.loop-after.number c.loop-after.draft c.loop-after.rest.now c.cut_at.result.0.now c.cut_at.result.1 c.in-Some.after _ c.in-Some.is c.cut_at.ensures.value none c.loop-after.invariant.0
 
 pub loop-after-preserved : goal.loop-after-preserved
 loop-after-preserved g c =
-    let some = if_added c.in_ok-add.field-0 c.add.new.self (drafted c.loop-after.draft c.cut_at.result.0.now) c.in_ok-add.ensures (grind (arith, c.if-not-branch.false)) in
+    let some = if_added c.in_ok-add.field-0 c.add.new.self (drafted c.loop-after.draft c.cut_at.result.0.now) c.in_ok-add.ensures (grind arith) in
     let next = behind_line drafted finished_draft c.loop-after.number c.loop-after.draft c.add.new.self c.loop-after.rest.now c.cut_at.result.0.now c.cut_at.result.1 c.in-Some.after _ c.in-Some.is c.cut_at.ensures.value some c.loop-after.invariant.0 in
-    let shorter : length c.in-Some.after.now < length c.loop-after.rest.now = next.1 in (
-      next.0,
-      omega arith,
-    )
+    grind (arith, common_steps)
