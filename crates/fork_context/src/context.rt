@@ -256,23 +256,20 @@ impl<A: Allocator + Clone> Context<A> {
         ensures value { IfSome result (λ choice. IsChoice self.now.table.rules self.now.table.rows (choice_of choice)) }
         ensures led { IsLedTo self.now }
     {
-        let fork = &self.fork;
-        if fork.finished() && !fork.succeeded() {
-            Some(fork.choice().0)
-        } else {
-            None
-        }
+        let (choice, _) = self.choice_with_status()?;
+        Some(choice)
     }
 
-    /// Which answer goes up, as `choice` has it, and under which status: a 500 in place of a 503, a 408 where nothing is
-    /// stored.
+    /// The choice of `choice`, and the status under which it goes up: a 500 in place of a 503, a 408 where nothing is
+    /// stored (RFC 3261 section 16.7 step 6).
     pub fn choice_with_status(&self) -> Option<(Choice, u16)>
         ensures due { IsSome result ↔ ((is_finished self.now.table.rows ≡ true) × (is_succeeded self.now.table.rows ≡ false)) }
         ensures value { IfSome result (λ sent. IsChoice self.now.table.rules self.now.table.rows (choice_of sent.0)) }
         ensures status { IfSome result (λ sent. sent.1 ≡ status_sent self.now.table.rows (choice_of sent.0)) }
+        ensures led { IsLedTo self.now }
     {
         let fork = &self.fork;
-        if !fork.succeeded() && fork.finished() {
+        if fork.finished() && !fork.succeeded() {
             Some(fork.choice())
         } else {
             None

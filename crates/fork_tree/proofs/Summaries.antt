@@ -5,8 +5,6 @@ use Rattle.fork_tree.proofs.Common.{common_steps}
 use Rattle.fork_tree.specs.Summary.{IsSummary}
 use Rattle.fork_tree.proofs.BranchChanges.{step_in, find_joined, at_node, with_branch_joined, node_ends}
 
--- ---- ranks
-
 -- ---- lists
 
 pub has_append : (xs ys : List Entry) (o : Kept) → HasKept (xs ++ ys) o → HasKept xs o ⊎ HasKept ys o

@@ -9,8 +9,6 @@ use Rattle.sip_txn.specs.Machine.{goes_to}
 use Rattle.sip_txn.specs.Runs.{ticks, each, TicksBring, RunsOut, RetransmitsAndRunsOut}
 use Rattle.sip_txn.proofs.Moments.{nth, nth_passes, none_before, offset, offsets, started, nth-started, moments-started}
 
--- ---- one tick
-
 -- ---- a machine without timers
 
 abbrev pub over_at : {S : Type 0} → S → Machine S
@@ -28,8 +26,6 @@ answers-end table s over last row repeat end n due = grind arith
 pub machine-end : {S : Type 0} (table : Table S) (s over : S) (last : TxOut) → table s EndDue ≡ goes_to over StopAll last → (repeat : Option Repeat) (end n : ℕ)
     → least (running s repeat end).timers ≡ Some end → machine_after_all table (ticks table (suc n) (running s repeat end)) (running s repeat end) ≡ over_at over
 machine-end table s over last row repeat end n due = grind arith
-
--- ---- the timer that repeats is due
 
 -- ---- the whole way
 

@@ -2,6 +2,7 @@
 use crate::holds::holds;
 use crate::listing::play::{Aim, Step, fork_after, listed, refusal, rules_of};
 use crate::listing::read::{holds_of, is_right};
+use fork_context::{Choice, Context};
 use fork_listing::{ListFault, status_at};
 use fork_rank::{Preferred, Rules};
 use std::process::Abort;
@@ -126,5 +127,25 @@ fn stored_statuses_are_told(rt: HostRuntime) -> Result<(), Fail> {
     holds(&rt, status_at(&fork, 0) == 503, "what is stored is told");
     holds(&rt, status_at(&fork, 1) == 408, "nothing is stored yet");
     holds(&rt, status_at(&fork, 2) == 408, "there is no such branch");
+    Ok(())
+}
+
+/// Whether this choice goes up, under this status.
+fn sends(fork: &Context, choice: Choice, status: u16) -> bool {
+    match fork.choice_with_status() {
+        Some(sent) => sent.0 == choice && sent.1 == status,
+        None => false,
+    }
+}
+
+#[test]
+fn a_500_goes_up_in_place_of_a_503(rt: HostRuntime) -> Result<(), Fail> {
+    let steps = [Step::Answers(0, 503), Step::Answers(1, 503)];
+    let fork = fork_after(rt.alloc(), Rules::usual(), &TWO, &steps)?;
+    holds(
+        &rt,
+        sends(&fork, Choice::Only503(0), 500),
+        "the first 503 is chosen and a 500 goes up",
+    );
     Ok(())
 }
