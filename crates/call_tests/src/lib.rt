@@ -1,5 +1,5 @@
-//! Tests of the public calls of the call layer, a file or a folder for each of its crates. They stand apart from these crates
-//! so that none of them is proved twice.
+//! Tests of the public calls of `fork_parts`, `fork_setup`, `fork_routing` and `fork_call`, in files and folders named for what
+//! is tested. They stand apart from these crates so that none of them is proved twice.
 #![tactic(auto)]
 
 #[cfg(test)]

@@ -1,0 +1,5 @@
+use Rattle.fork_book.proofs.Common.{rules}
+use Rattle.fork_book.proofs.book.Book.context.Goals as goal
+
+pub returns-clause-once : goal.returns-clause-once
+returns-clause-once c = search rules

@@ -1,0 +1,5 @@
+use Rattle.sip_text.proofs.Common.{rules}
+use Rattle.sip_text.proofs.message.Message.into_parts.Goals as goal
+
+pub returns-clause-parts : goal.returns-clause-parts
+returns-clause-parts c = search rules

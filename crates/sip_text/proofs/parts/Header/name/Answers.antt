@@ -1,0 +1,5 @@
+use Rattle.sip_text.proofs.Common.{rules}
+use Rattle.sip_text.proofs.parts.Header.name.Goals as goal
+
+pub returns : goal.returns
+returns c = search rules

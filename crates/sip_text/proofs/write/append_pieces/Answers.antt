@@ -1,0 +1,5 @@
+use Rattle.sip_text.proofs.Common.{rules}
+use Rattle.sip_text.proofs.write.append_pieces.Goals as goal
+
+pub returns-clause-ok : goal.returns-clause-ok
+returns-clause-ok c = search rules

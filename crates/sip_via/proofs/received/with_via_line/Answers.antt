@@ -1,0 +1,5 @@
+use Rattle.sip_via.proofs.Common.{rules}
+use Rattle.sip_via.proofs.received.with_via_line.Goals as goal
+
+pub returns-in-Ok-clause-ok : goal.returns-in-Ok-clause-ok
+returns-in-Ok-clause-ok c = search rules
