@@ -8,4 +8,3 @@ pub mod Led
 pub mod Sound
 pub mod Closing
 pub mod Refusals
-pub mod Chosen

@@ -7,7 +7,7 @@ ghost use Rattle.fork_model.specs.Choice.{IsChoice, status_sent};
 ghost use Rattle.fork_model.specs.Core.{opening_core, core_next, is_full};
 ghost use Rattle.fork_model.specs.Reply.{IsReply};
 ghost use Rattle.fork_model.specs.Step.{next};
-ghost use Rattle.fork_context.specs.Chosen.{HasFirst, IsChosen, challenges_added};
+ghost use Rattle.fork_model.specs.Chosen.{HasFirst, IsChosen, challenges_added};
 ghost use Rattle.fork_context.specs.EventView.{event_of};
 ghost use Rattle.fork_context.specs.KindView.{kind_of};
 ghost use Rattle.fork_context.specs.Led.{IsLedTo};
