@@ -1,5 +1,4 @@
 pub mod inner
-pub mod KindView
 pub mod EventView
 pub mod RowShown
 pub mod ReplyView

@@ -6,7 +6,7 @@ ghost use Rattle.fork_model.specs.Table.{Row};
 ghost use Rattle.sip_text.specs.Name.{first_value};
 ghost use Rattle.sip_route.specs.Hops.{IsHops, hops_name};
 ghost use Rattle.sip_build.specs.Forwarding.{is_request};
-ghost use Rattle.fork_context.specs.KindView as kinds;
+ghost use Rattle.fork_rank.specs.KindView as kinds;
 ghost use Rattle.fork_model.specs.Log.{opening_log, table_of};
 ghost use Rattle.fork_routing.specs.Admission.{target_uri};
 ghost use Rattle.fork_routing.specs.Opening.{Asks, IsBegun, IsOpenable, IsRefused, IsUnreachable, Opens, Reaches, Refuses};
