@@ -3,7 +3,7 @@ use Rattle.std.proofs.Common.{◌≡◌, ◌∙◌, List, Result, Ok, Err, ap, s
 use Rattle.std.specs.Prelude.{IfOk}
 use Rattle.fork_model.specs.History.{Target}
 use Rattle.fork_model.specs.Table.{Kind, Rules}
-use Rattle.fork_book.specs.Log.{Log, opening_log}
+use Rattle.fork_model.specs.Log.{Log, opening_log}
 use Rattle.fork_parts.specs.Begun.{begun}
 use Rattle.fork_parts.specs.Call.{Call}
 use Rattle.fork_parts.specs.Fixed.{Fixed, Way, kind_of}

@@ -7,5 +7,5 @@ pub use Rattle.fork_model.specs.History.{AreReplies, Target, after, opening}
 pub use Rattle.fork_model.specs.Reply.{IsReply, Reply}
 pub use Rattle.fork_model.specs.Step.{next}
 pub use Rattle.fork_model.specs.Table.{Kind, Rules, Table}
-pub use Rattle.fork_book.specs.Log.{Posted, events_of}
+pub use Rattle.fork_model.specs.Log.{Posted, events_of}
 pub use Rattle.fork_book.specs.Opened.{opening_of}

@@ -5,9 +5,9 @@ ghost use Rattle.fork_model.specs.Table.{most_targets};
 ghost use Rattle.fork_model.specs.Core.{is_full};
 ghost use Rattle.fork_model.specs.Reply as spec;
 ghost use Rattle.fork_context.specs.EventView.{event_of};
-ghost use Rattle.fork_context.specs.KindView.{kind_of};
+ghost use Rattle.fork_rank.specs.KindView.{kind_of};
 ghost use Rattle.fork_context.specs.Refusals.{IsTooMany, HasTwice, IsFull, returned};
-ghost use Rattle.fork_book.specs.Log.{IsLog, EndsOnce, IsAddedBySome, added, opening_log, core_of};
+ghost use Rattle.fork_model.specs.Log.{IsLog, EndsOnce, IsAddedBySome, added, opening_log, core_of};
 
 use crate::posted::Posted;
 use fork_context::{Context, Event, Kind, NewFault, PostError, Reply, Target};
@@ -26,7 +26,7 @@ pub struct Book<A: Allocator + Clone = Global> {
 }
 
 impl<A: Allocator + Clone> Model for Book<A> {
-    ghost use Rattle.fork_book.specs.Log as spec;
+    ghost use Rattle.fork_model.specs.Log as spec;
     ghost use Rattle.fork_book.specs.BookInside.{log_of, IsBook};
 
     ghost Value = { spec.Log };

@@ -4,7 +4,7 @@ pub use Rattle.std.proofs.Common.{◌++◌, ◌+◌, ◌<◌, ◌==◌, ◌∙�
 pub use Rattle.std.proofs.lemmas.Bool.{cases_lt, eqb-true, le-leb, leb-false, lt-leb}
 pub use Rattle.std.proofs.lemmas.Option.{slice_get_within}
 pub use Rattle.std.specs.List.{list_any}
-pub use Rattle.fork_book.specs.Log.{Log, Posted, added, table_of}
+pub use Rattle.fork_model.specs.Log.{Log, Posted, added, table_of}
 pub use Rattle.fork_call.specs.Carry.{Carries, CarriesAll, Carrying, IsCutOff, IsRunOut, IsSoFar, Lost, Sends, SendsOne, Sent, Silent}
 pub use Rattle.fork_call.specs.Scheduled.{due_of, if_runs, leg_waits, moments_of, row_due, scheduled}
 pub use Rattle.fork_call.specs.Timing.{IsTimed}

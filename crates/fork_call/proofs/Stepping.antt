@@ -5,7 +5,7 @@ use Rattle.fork_call.proofs.Common.{due_of, scheduled, IsTimed, retimed, row_mom
 use Rattle.std.specs.Prelude.{IfNone, ◌||◌}
 use Rattle.fork_model.specs.History.{AreReplies}
 use Rattle.fork_model.specs.Sources as sources
-use Rattle.fork_book.specs.Log.{IsLog, events_of}
+use Rattle.fork_model.specs.Log.{IsLog, events_of}
 use Rattle.fork_parts.specs.Server as server
 use Rattle.fork_parts.specs.Step as step
 use Rattle.fork_call.proofs.Idle.{idle}

@@ -7,7 +7,7 @@ use Rattle.std.proofs.lemmas.List.{length-replicate}
 use Rattle.fork_model.specs.Core.{core_next, core_offered, is_full}
 use Rattle.fork_model.specs.Sources as sources
 use Rattle.fork_model.specs.Steps.{IsWithin}
-use Rattle.fork_book.specs.Log.{core_of}
+use Rattle.fork_model.specs.Log.{core_of}
 use Rattle.fork_call.specs.inner.Scheduled.{rows_in}
 use Rattle.fork_call.specs.inner.Timing.{row_list, timed_at, touched}
 use Rattle.fork_call.proofs.Retimed.{length_moments, posts_timed, timed_at_once}

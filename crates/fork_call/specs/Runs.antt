@@ -5,7 +5,7 @@ use Rattle.fork_model.specs.Event.{Event}
 use Rattle.fork_model.specs.Reply.{Reply, IsReply}
 use Rattle.sip_text.specs.Text.{MessageText}
 use Rattle.sip_uri.specs.declared.hop.Hop.{Hop}
-use Rattle.fork_book.specs.Log.{Log, added, table_of}
+use Rattle.fork_model.specs.Log.{Log, added, table_of}
 use Rattle.fork_parts.specs.declared.cause.Cause.{Cause}
 use Rattle.fork_parts.specs.Call.{Call}
 use Rattle.fork_parts.specs.Failed.{Fails}

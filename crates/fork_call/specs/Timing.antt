@@ -1,7 +1,7 @@
 -- A step of a call touches few rows: these alone are timed anew.
 use Rattle.std.specs.Prelude.{◌≡◌, ℕ, List, Option}
 use Rattle.fork_model.specs.Steps.{IsWithin}
-use Rattle.fork_book.specs.Log.{core_of}
+use Rattle.fork_model.specs.Log.{core_of}
 use Rattle.fork_parts.specs.Call.{Call}
 use Rattle.fork_parts.specs.Sound.{IsSound}
 use Rattle.fork_call.specs.Scheduled.{scheduled}

@@ -42,7 +42,7 @@ pub use Rattle.fork_tree.specs.declared.new_row.NewRow.{NewRow}
 pub use Rattle.fork_tree.specs.declared.row.RowRef.{RowRef}
 pub use Rattle.fork_context.specs.Closing.{IsClosedWhole, closed_row}
 pub use Rattle.fork_context.specs.EventView.{event_of}
-pub use Rattle.fork_context.specs.KindView.{kind_of}
+pub use Rattle.fork_rank.specs.KindView.{kind_of}
 pub use Rattle.fork_context.specs.Led.{AreRules}
 pub use Rattle.fork_context.specs.Refusals.{HasTwice}
 pub use Rattle.fork_context.specs.ReplyView.{choice_of}

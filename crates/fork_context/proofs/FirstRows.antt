@@ -2,7 +2,7 @@
 use Rattle.fork_context.proofs.Common.{◌≡◌, ◌≢◌, eqb-true, ℕ, true, refl, ap, arith, ◌∙◌, sym, subst, inl, inr, ◌⊎◌, nat_eq, rules, Option, Some, None, Table, Core, Choice, IsChoice, one_choice, IsSound}
 use Rattle.std.proofs.Common.{IsTrue}
 use Rattle.fork_model.specs.Choice.{Best, Only503, NoAnswer408}
-use Rattle.fork_context.specs.Chosen.{HasFirst}
+use Rattle.fork_model.specs.Chosen.{HasFirst}
 
 -- the row whose answer is chosen, a 503 included
 abbrev pub row_of : Choice → Option ℕ

@@ -1,5 +1,4 @@
 pub mod inner
-pub mod KindView
 pub mod EventView
 pub mod RowShown
 pub mod ReplyView
@@ -8,4 +7,3 @@ pub mod Led
 pub mod Sound
 pub mod Closing
 pub mod Refusals
-pub mod Chosen

@@ -7,8 +7,7 @@ ghost use Rattle.fork_context.specs.inner.Stepped.{IsSettled, number_if, cancell
 ghost use Rattle.fork_model.specs.Groups.{numbers_below};
 
 use crate::fork::Fork;
-use crate::kind::Kind;
-use fork_rank::Status;
+use fork_rank::{Kind, Status};
 use fork_tree::State;
 use std::alloc::Allocator;
 

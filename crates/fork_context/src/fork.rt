@@ -14,7 +14,7 @@ ghost use Rattle.fork_tree.specs.NewRows.{waiting_row};
 ghost use Rattle.fork_context.specs.inner.Closing.{never_row};
 ghost use Rattle.fork_context.specs.inner.RowExtras.{with_extras};
 ghost use Rattle.fork_context.specs.inner.ForkInside.{IsFork, accepts_end};
-ghost use Rattle.fork_context.specs.KindView.{kind_of};
+ghost use Rattle.fork_rank.specs.KindView.{kind_of};
 ghost use Rattle.fork_context.specs.LeftView.{left_of};
 ghost use Rattle.fork_tree.specs.Ready.{IsReady, tried};
 ghost use Rattle.fork_context.specs.inner.Ready.{Starts, numbers_from};
@@ -26,12 +26,11 @@ ghost use Rattle.fork_context.specs.inner.RowShown.{ref_shown};
 use crate::challenges::{StoredAnswer, stored_answer};
 use crate::closing::closes_with;
 use crate::extras_table::ExtrasTable;
-use crate::kind::Kind;
 use crate::offer::Offer;
 use crate::reply::{Choice, Numbers};
 use crate::row::RowView;
 use crate::row_extras::RowExtras;
-use fork_rank::{Challenge, Rules};
+use fork_rank::{Challenge, Kind, Rules};
 use fork_tree::{End, ForkTree, NewRows, RowRef, State};
 use std::alloc::{AllocError, Allocator, Global};
 use std::marker::Model;
@@ -50,7 +49,7 @@ impl<A: Allocator + Clone> Model for Fork<A> {
     ghost use Rattle.fork_model.specs.Table as spec;
     ghost use Rattle.fork_context.specs.inner.RowExtras.{with_extras};
     ghost use Rattle.fork_context.specs.inner.ForkInside.{IsFork};
-    ghost use Rattle.fork_context.specs.KindView.{kind_of};
+    ghost use Rattle.fork_rank.specs.KindView.{kind_of};
 
     ghost Value = { spec.Table };
 

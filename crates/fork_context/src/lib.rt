@@ -11,7 +11,6 @@ mod effect;
 mod event;
 mod extras_table;
 mod fork;
-mod kind;
 mod new_rows;
 mod numbering;
 mod offer;
@@ -24,9 +23,8 @@ mod targets;
 
 pub use context::{Context, NewFault, PostError, Refusal};
 pub use event::{Answer, Event, Target};
-pub use fork_rank::Challenge;
+pub use fork_rank::{Challenge, Kind};
 pub use fork_tree::{End, RowRef, State};
-pub use kind::Kind;
 pub use offer::Offer;
 pub use reply::{Choice, Reply, Up};
 pub use row::RowView;

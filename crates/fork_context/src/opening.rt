@@ -6,18 +6,17 @@ ghost use Rattle.std.specs.Cmp.Lexicographic.{pointwise};
 ghost use Rattle.fork_model.specs.Table.{most_targets};
 ghost use Rattle.fork_model.specs.History as history;
 ghost use Rattle.fork_model.specs.Range.{IsTargetInRange};
-ghost use Rattle.fork_context.specs.KindView.{kind_of};
+ghost use Rattle.fork_rank.specs.KindView.{kind_of};
 ghost use Rattle.fork_context.specs.inner.Opening.{extras_of_target, target_extras, waiting_table};
 ghost use Rattle.fork_context.specs.Refusals.{HasTwice};
 
 use crate::event::Target;
 use crate::extras_table::ExtrasTable;
 use crate::fork::Fork;
-use crate::kind::Kind;
 use crate::new_rows::qs_at;
 use crate::numbering::numbered;
 use crate::row_extras::RowExtras;
-use fork_rank::Rules;
+use fork_rank::{Kind, Rules};
 use fork_tree::ForkTree;
 use std::alloc::{AllocError, Allocator};
 

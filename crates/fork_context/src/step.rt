@@ -11,8 +11,8 @@ ghost use Rattle.fork_context.specs.inner.Stepped.{IsStepped, IsUpOf};
 use crate::effect::Change;
 use crate::event::Event;
 use crate::fork::Fork;
-use crate::kind::Kind;
 use crate::reply::{Numbers, Reply, Up};
+use fork_rank::Kind;
 use std::alloc::{AllocError, Allocator};
 
 impl<A: Allocator + Clone> Fork<A> {

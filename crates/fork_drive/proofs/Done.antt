@@ -7,7 +7,7 @@ use Rattle.fork_model.specs.ExactlyOne.{ExactlyOneFinal}
 use Rattle.fork_model.specs.OneReply.{AreArrivals}
 use Rattle.fork_model.proofs.laws.Headline.{history_of_arrivals, rows_always_keep_numbers, one_choice}
 use Rattle.fork_context.specs.declared.context.NewFault.TheVariants as setup
-use Rattle.fork_book.specs.Log.{Log, events_of, table_of}
+use Rattle.fork_model.specs.Log.{Log, events_of, table_of}
 use Rattle.fork_listing.specs.Listed.{targets_of}
 use Rattle.fork_listing.specs.Ranking.{IsRanking}
 use Rattle.fork_listing.specs.Meaning.{TheChoiceIsFirst}

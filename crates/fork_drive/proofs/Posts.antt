@@ -9,7 +9,7 @@ use Rattle.fork_model.specs.Choice.{Choice}
 use Rattle.fork_model.specs.Reply.{Up, Nothing, Provisional, Success, Final, Reply, IsReply}
 use Rattle.fork_model.specs.History.{after, AreReplies}
 use Rattle.fork_model.specs.ExactlyOne.{FinalAtTheEndAlone, RowsStay}
-use Rattle.fork_book.specs.Log.{Posted, events_of}
+use Rattle.fork_model.specs.Log.{Posted, events_of}
 use Rattle.fork_text.specs.RuleLines.{ended}
 use Rattle.fork_text.specs.Preferred.{list_text}
 use Rattle.fork_program.specs.Replay.{final_text, up_text, reply_text}

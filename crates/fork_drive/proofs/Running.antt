@@ -6,7 +6,7 @@ use Rattle.fork_model.specs.Core.{Core}
 use Rattle.fork_model.specs.History.{Target}
 use Rattle.fork_context.specs.declared.context.NewFault.TheVariants as setup
 use Rattle.fork_context.specs.Refusals.{HasTwice, IsTooMany}
-use Rattle.fork_book.specs.Log.{Log, core_of, table_of}
+use Rattle.fork_model.specs.Log.{Log, core_of, table_of}
 use Rattle.fork_engine.specs.declared.fault.DriveFault.{DriveFault}
 use Rattle.fork_engine.specs.declared.fault.DriveFault.TheVariants as run
 use Rattle.fork_engine.specs.Faults.{IsNew, IsTrueFault}

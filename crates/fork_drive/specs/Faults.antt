@@ -3,7 +3,7 @@ use Rattle.std.specs.Prelude.{◌≡◌, ◌<◌, ◌≤◌, ℕ, List, ◌++◌
 use Rattle.fork_model.specs.Core.{most_strays}
 use Rattle.fork_model.specs.History.{Target}
 use Rattle.fork_context.specs.declared.context.NewFault.{NewFault}
-use Rattle.fork_book.specs.Log.{Log}
+use Rattle.fork_model.specs.Log.{Log}
 use Rattle.fork_program.specs.declared.fault.ProgFault.{ProgFault}
 use Rattle.fork_program.specs.declared.fault.ProgFault.TheVariants as prog
 use Rattle.fork_program.specs.Faults.{most_text, IsSetupFault}

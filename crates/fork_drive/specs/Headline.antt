@@ -4,7 +4,7 @@ use Rattle.std.specs.Prelude.{◌≡◌, ℕ, true, false, List, [], ◌∷◌, 
 use Rattle.fork_model.specs.Table.{is_finished, is_succeeded}
 use Rattle.fork_model.specs.Choice.{Choice, IsChoice}
 use Rattle.fork_model.specs.History.{finals}
-use Rattle.fork_book.specs.Log.{Log, table_of}
+use Rattle.fork_model.specs.Log.{Log, table_of}
 use Rattle.fork_listing.specs.declared.line.Ranked.{Ranked}
 use Rattle.fork_listing.specs.Listed.{targets_of}
 use Rattle.fork_listing.specs.Ranking.{IsRanking}

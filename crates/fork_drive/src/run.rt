@@ -1,6 +1,6 @@
 //! Running the workers of a script.
 ghost use Rattle.std.specs.Prelude.{◌≡◌, ◌<◌, ◌↔◌, ◌++◌, length, OnOk, OnErr, IfOk, IfErr, IsErrOf};
-ghost use Rattle.fork_context.specs.KindView.{kind_of};
+ghost use Rattle.fork_rank.specs.KindView.{kind_of};
 ghost use Rattle.fork_model.specs.History.{opening};
 ghost use Rattle.fork_program.specs.Faults.{most_text};
 ghost use Rattle.fork_program.specs.Replay.{opening_text};

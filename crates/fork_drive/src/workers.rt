@@ -27,7 +27,7 @@ pub(crate) struct Workers {
 
 impl Model for Workers {
     ghost use Rattle.std.specs.Prelude.{map};
-    ghost use Rattle.fork_context.specs.KindView.{kind_of};
+    ghost use Rattle.fork_rank.specs.KindView.{kind_of};
     ghost use Rattle.fork_context.specs.EventView.{event_of};
     ghost use Rattle.fork_drive.specs.Workers as spec;
     ghost use Rattle.fork_drive.specs.inner.Workers.{AreFew};

@@ -3,7 +3,7 @@ use Rattle.fork_model.specs.Table.{Kind, Rules, Table, is_finished, is_succeeded
 use Rattle.fork_model.specs.Event.{Event}
 use Rattle.fork_model.specs.Choice.{Choice, IsChoice}
 use Rattle.fork_model.specs.History.{Target, opening, after}
-use Rattle.fork_book.specs.Log.{Log, events_of}
+use Rattle.fork_model.specs.Log.{Log, events_of}
 use Rattle.fork_mixing.specs.Interleaving.{IsInterleaving}
 use Rattle.fork_mixing.specs.Plain.{PlainScriptsEnd, LeastIsChosen, ChoosesLeast, EndsWithLeast, all_of}
 

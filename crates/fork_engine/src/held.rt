@@ -2,7 +2,7 @@
 ghost use Rattle.std.specs.Prelude.{◌≡◌, ◌≤◌, ◌↔◌, [], IsErrOf, IsErrAnd, IsTrue, IfOk, IfErr, length};
 ghost use Rattle.fork_model.specs.Table.{most_targets};
 ghost use Rattle.fork_model.specs.History.{opening};
-ghost use Rattle.fork_context.specs.KindView.{kind_of};
+ghost use Rattle.fork_rank.specs.KindView.{kind_of};
 ghost use Rattle.fork_context.specs.Refusals.{IsTooMany, HasTwice};
 ghost use Rattle.fork_engine.specs.Faults.{IsNew, IsNoTorn};
 

@@ -3,9 +3,9 @@ ghost use Rattle.std.specs.Prelude.{◌≡◌, ◌≤◌, ◌<◌, ◌^◌, ◌�
 ghost use Rattle.fork_model.specs.Table.{most_targets};
 ghost use Rattle.fork_model.specs.History.{opening};
 ghost use Rattle.fork_context.specs.EventView.{event_of};
-ghost use Rattle.fork_context.specs.KindView.{kind_of};
+ghost use Rattle.fork_rank.specs.KindView.{kind_of};
 ghost use Rattle.fork_context.specs.Refusals.{IsTooMany, HasTwice};
-ghost use Rattle.fork_book.specs.Log.{IsLog, EndsOnce};
+ghost use Rattle.fork_model.specs.Log.{IsLog, EndsOnce};
 ghost use Rattle.fork_engine.specs.Faults.{IsNew, IsNoNew, IsTrueFault};
 ghost use Rattle.fork_mixing.specs.Interleaving.{IsInterleaving};
 ghost use Rattle.fork_mixing.specs.Plain.{EndsWithLeast};

@@ -2,7 +2,7 @@
 use Rattle.std.proofs.Common.{◌≡◌, ℕ, ◌+◌, ◌<◌, ◌≤◌, ◌==◌, ◌⊎◌, inl, inr, Bool, true, false, cond, nat_le, All, List, [], ◌∷◌, ◌++◌, length, refl, ap, arith, ◌∙◌, sym, subst}
 use Rattle.std.proofs.lemmas.Bool.Decides.{nat_tests}
 use Rattle.fork_model.specs.Event.{Event}
-use Rattle.fork_book.specs.Log.{Posted, events_of}
+use Rattle.fork_model.specs.Log.{Posted, events_of}
 use Rattle.fork_mixing.specs.Interleaving.{part_of, ArePartsFrom, IsInterleaving}
 use Rattle.fork_mixing.specs.Plain.{all_of, count_of}
 use Rattle.fork_mixing.proofs.Plainly.{all_head, all_tail, all_cons, all_nil}

@@ -11,7 +11,7 @@ use Rattle.fork_model.specs.Rank.{Score, Before, rank_of, class_of, part_of}
 use Rattle.fork_model.specs.Choice.{Best, Only503, NoAnswer408, score_of, stored_at, HasScore, IsFirst}
 use Rattle.fork_model.specs.History.{Target, first_row, opening_rows, opening, table}
 use Rattle.fork_model.specs.Steps.{BranchesAlwaysGoOn, EachTargetHasARow}
-use Rattle.fork_book.specs.Log.{Posted, events_of}
+use Rattle.fork_model.specs.Log.{Posted, events_of}
 use Rattle.fork_mixing.specs.Interleaving.{IsInterleaving}
 use Rattle.fork_mixing.specs.Plain.{all_of, HaveOneQ, IsPlainAnswer, is_answer, count_of, answers_of, IsAnswered, GoesFirst, AreEqual, IsNotBefore, IsLeast, PlainScripts, LeastIsChosen, PlainScriptsEnd}
 use Rattle.fork_mixing.proofs.Plainly.{all_head, all_tail, is_fixed, AreFixed, Stores, IsStoredIn, AreWaited, OnceEach, each_stored}

@@ -1,7 +1,7 @@
 use Rattle.std.proofs.Common.{◌≡◌, ◌↔◌, ℕ, ◌==◌, true, false, List, ◌∷◌, ap, arith}
 use Rattle.std.proofs.lemmas.Bool.Decides.{nat_tests}
 use Rattle.fork_model.specs.Event.{Event}
-use Rattle.fork_book.specs.Log.{Posted}
+use Rattle.fork_model.specs.Log.{Posted}
 use Rattle.fork_mixing.specs.Interleaving.{part_of}
 
 -- an event of the worker that is the script's next one

@@ -7,7 +7,7 @@ use Rattle.fork_model.specs.Event.{Event, Ring, Answer, Timeout, Fault, TimerC, 
 use Rattle.fork_model.specs.Rank.{class_of, part_of}
 use Rattle.fork_model.specs.Choice.{Choice, Best, Only503, NoAnswer408, IsChoice}
 use Rattle.fork_model.specs.History.{Target, table}
-use Rattle.fork_book.specs.Log.{Posted, Log, events_of, table_of}
+use Rattle.fork_model.specs.Log.{Posted, Log, events_of, table_of}
 use Rattle.fork_mixing.specs.Interleaving.{IsInterleaving}
 
 abbrev pub all_of : List (List Event) → List Event

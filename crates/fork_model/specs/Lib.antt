@@ -20,3 +20,5 @@ pub mod Series
 pub mod Sources
 pub mod OpenBranches
 pub mod Range
+pub mod Chosen
+pub mod Log

@@ -11,7 +11,7 @@ use Rattle.fork_model.specs.Event as fork
 use Rattle.fork_model.specs.Sources.{EventsStoreAnswers, IsStoredBy}
 use Rattle.fork_model.specs.Steps.{BranchesGoOn}
 use Rattle.fork_model.specs.Table as table
-use Rattle.fork_book.specs.Log.{Posted}
+use Rattle.fork_model.specs.Log.{Posted}
 use Rattle.sip_txn.specs.declared.event.TxEvent.TheVariants as event
 use Rattle.sip_txn.specs.declared.timers.Input.TheVariants as input
 use Rattle.sip_txn.specs.declared.invite_client.InviteClientState.TheVariants as invite

@@ -7,8 +7,8 @@ pub use Rattle.std.specs.List.{AllByRecursion, cons_option, flat_map, list_all}
 pub use Rattle.std.specs.Option.{option_and_then, option_copied, option_map}
 pub use Rattle.std.specs.Prelude.{unwrap_or}
 pub use Rattle.std.specs.Vec.Iter.{into_iter_items}
-pub use Rattle.fork_book.specs.Log.{IsAdded, Log, added, core_of, event_posted, events_of, table_of}
-pub use Rattle.fork_context.specs.Chosen.{HasFirst, IsChosen}
+pub use Rattle.fork_model.specs.Log.{IsAdded, Log, added, core_of, event_posted, events_of, table_of}
+pub use Rattle.fork_model.specs.Chosen.{HasFirst, IsChosen}
 pub use Rattle.fork_context.specs.EventView.{event_of}
 pub use Rattle.fork_context.specs.LeftView.{left_of}
 pub use Rattle.fork_context.specs.ReplyView.{up_of}

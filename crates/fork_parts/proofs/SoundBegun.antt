@@ -2,7 +2,7 @@
 use Rattle.fork_parts.proofs.Common.{◌≡◌, ℕ, refl, List, [], Some, None, HasStored, StoredAnswersCame, Kind, Rules, StoredAnswer, table_of, kind_of, first_owed, IsSoundOwed, AllByRecursion}
 use Rattle.fork_model.specs.History.{Target}
 use Rattle.fork_model.specs.Table.{Invite, Other}
-use Rattle.fork_book.specs.Log.{opening_log}
+use Rattle.fork_model.specs.Log.{opening_log}
 use Rattle.fork_parts.specs.Sound.{BegunIsSound}
 use Rattle.fork_parts.proofs.KeptBuilt.{at_more}
 use Rattle.fork_model.specs.Table as table

@@ -6,8 +6,8 @@ use Rattle.fork_model.specs.Table.{is_finished, is_succeeded}
 use Rattle.fork_model.specs.History.{after}
 use Rattle.fork_model.specs.Reply.{Nothing, Provisional, Success, Final, IsReply, IsUp, finishes}
 use Rattle.fork_model.specs.Choice.{Choice, IsChoice}
-use Rattle.fork_context.specs.Chosen.{is_due}
-use Rattle.fork_book.specs.Log.{Posted}
+use Rattle.fork_model.specs.Chosen.{is_due}
+use Rattle.fork_model.specs.Log.{Posted}
 use Rattle.fork_parts.specs.Server as server
 
 -- ---- a log with one more event

@@ -1,6 +1,6 @@
 -- The parts of a call before anything was sent or answered (RFC 3261 sections 16.2 and 17.2.1).
 use Rattle.std.specs.Prelude.{List, map}
-use Rattle.fork_book.specs.Log.{Log, table_of}
+use Rattle.fork_model.specs.Log.{Log, table_of}
 use Rattle.fork_parts.specs.Fixed.{Fixed, Way, kind_of}
 use Rattle.fork_parts.specs.Server.{server_start}
 use Rattle.fork_parts.specs.Call.{Call}

@@ -3,8 +3,8 @@ use Rattle.std.specs.Prelude.{◌≡◌, ℕ, true, List, Some, slice_get}
 use Rattle.fork_model.specs.Sources.{HasStored}
 use Rattle.fork_model.specs.Table.{Rules, StoredAnswer}
 use Rattle.fork_model.specs.History.{Target}
-use Rattle.fork_context.specs.Chosen.{HasFirst}
-use Rattle.fork_book.specs.Log.{events_of, opening_log, table_of}
+use Rattle.fork_model.specs.Chosen.{HasFirst}
+use Rattle.fork_model.specs.Log.{events_of, opening_log, table_of}
 use Rattle.sip_text.specs.Text.{MessageText}
 use Rattle.fork_parts.specs.Begun.{begun}
 use Rattle.fork_parts.specs.Built.{answer_in, status_of}

@@ -1,7 +1,7 @@
 -- The state of a call: its log, and a part for each transaction (RFC 3261 section 16).
 use Rattle.std.specs.Prelude.{ℕ, zero, suc, ◌&&◌, Bool, true, false, List, [], ◌∷◌, Option, Some, None, is_none, is_some, slice_get}
 use Rattle.fork_model.specs.Table.{Row, State, Idle, Trying, Rung, Ended, is_row, is_trying, is_cancelled}
-use Rattle.fork_book.specs.Log.{Log, table_of}
+use Rattle.fork_model.specs.Log.{Log, table_of}
 use Rattle.fork_parts.specs.Fixed.{Fixed, Way}
 use Rattle.fork_parts.specs.Leg.{Leg, Cancelling}
 use Rattle.fork_parts.specs.Server.{Server}

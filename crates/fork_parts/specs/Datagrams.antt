@@ -5,7 +5,7 @@ use Rattle.sip_build.specs.declared.responses.OwnStatus.TheVariants as own
 use Rattle.sip_build.specs.Generated.{generated_of}
 use Rattle.fork_parts.specs.declared.cause.Cause.{Cause}
 use Rattle.fork_parts.specs.declared.cause.Cause.TheVariants as cause
-use Rattle.fork_book.specs.Log.{Log}
+use Rattle.fork_model.specs.Log.{Log}
 use Rattle.fork_parts.specs.Fixed.{Fixed, Way}
 use Rattle.fork_parts.specs.Leg.{Leg}
 use Rattle.fork_parts.specs.Server.{Owed, CancelOk}

@@ -1,6 +1,6 @@
 -- What holds of the parts of every call, and what its private calls make.
 use Rattle.std.specs.Prelude.{◌≡◌, List, Option, length}
-use Rattle.fork_book.specs.Log.{Log, table_of}
+use Rattle.fork_model.specs.Log.{Log, table_of}
 use Rattle.fork_parts.specs.Fixed.{Way}
 use Rattle.fork_parts.specs.Leg.{Leg}
 

@@ -9,7 +9,7 @@ use Rattle.fork_model.specs.Core.{is_full}
 use Rattle.fork_model.specs.Reply.{Up, Nothing, Provisional, Success, Final, Reply, IsReply}
 use Rattle.sip_text.specs.Text.{MessageText}
 use Rattle.sip_uri.specs.Contact.{ContactText}
-use Rattle.fork_book.specs.Log.{Log, added, core_of, table_of}
+use Rattle.fork_model.specs.Log.{Log, added, core_of, table_of}
 use Rattle.fork_parts.specs.Fixed.{Fixed, Way, way_to}
 use Rattle.fork_parts.specs.Leg.{Leg}
 use Rattle.fork_parts.specs.Server as server

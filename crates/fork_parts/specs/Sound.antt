@@ -5,8 +5,8 @@ use Rattle.std.specs.List.{AllByRecursion}
 use Rattle.fork_model.specs.Table.{Offer, Rules, Table, is_invite, is_open, is_row}
 use Rattle.fork_model.specs.Sources.{EachPasses}
 use Rattle.fork_model.specs.History.{Target}
-use Rattle.fork_context.specs.Chosen.{IsChosen}
-use Rattle.fork_book.specs.Log.{opening_log, table_of}
+use Rattle.fork_model.specs.Chosen.{IsChosen}
+use Rattle.fork_model.specs.Log.{opening_log, table_of}
 use Rattle.sip_text.specs.Text.{MessageText}
 use Rattle.sip_text.specs.Message.{IsMessage, is_value}
 use Rattle.sip_via.specs.TopVia.{has_second, via_values}

@@ -3,8 +3,8 @@ use Rattle.std.specs.Prelude.{◌≡◌, ◌↔◌, ℕ, ◌&&◌, not, nat_lt, 
 use Rattle.fork_model.specs.Event.{Cancel}
 use Rattle.fork_model.specs.Core.{is_full}
 use Rattle.fork_model.specs.Reply.{Reply}
-use Rattle.fork_context.specs.Chosen.{HasFirst}
-use Rattle.fork_book.specs.Log.{core_of, table_of}
+use Rattle.fork_model.specs.Chosen.{HasFirst}
+use Rattle.fork_model.specs.Log.{core_of, table_of}
 use Rattle.sip_text.specs.Text.{MessageText, spelling}
 use Rattle.sip_uri.specs.declared.hop.Hop.{Hop}
 use Rattle.sip_via.specs.Received.{marked, reply_of}

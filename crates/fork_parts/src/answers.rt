@@ -1,8 +1,8 @@
 //! The first answer that is owed to the caller, as it is sent.
 ghost use Rattle.std.specs.Prelude.{◌≡◌, ◌<◌, [], length, map, None, Some, true, IfOk, OnErr};
 ghost use Rattle.std.specs.List.{list_all};
-ghost use Rattle.fork_book.specs.Log.{table_of};
-ghost use Rattle.fork_context.specs.Chosen.{IsChosen};
+ghost use Rattle.fork_model.specs.Log.{table_of};
+ghost use Rattle.fork_model.specs.Chosen.{IsChosen};
 ghost use Rattle.fork_context.specs.ReplyView.{choice_of};
 ghost use Rattle.fork_model.specs.Choice as choice;
 ghost use Rattle.sip_build.specs.SeenKept.{seen_kept, texts};

@@ -1,6 +1,6 @@
 //! The client transaction of a branch.
 ghost use Rattle.std.specs.Prelude.{◌≡◌, ◌↔◌, IsTrue};
-ghost use Rattle.fork_context.specs.KindView.{kind_of};
+ghost use Rattle.fork_rank.specs.KindView.{kind_of};
 ghost use Rattle.fork_parts.specs.Client.{client_start, client_after, client_out, client_due, is_over};
 
 use fork_context::Kind;

@@ -6,7 +6,7 @@ ghost use Rattle.sip_text.specs.Name.{first_value};
 ghost use Rattle.sip_text.specs.Text.{spelling};
 ghost use Rattle.sip_route.specs.Hops.{IsHops, hops_name};
 ghost use Rattle.sip_build.specs.Forwarding.{is_request};
-ghost use Rattle.fork_context.specs.KindView as kinds;
+ghost use Rattle.fork_rank.specs.KindView as kinds;
 ghost use Rattle.fork_parts.specs.Built.{ack_to, cancel_to, request_to};
 ghost use Rattle.fork_parts.specs.Fixed.{branch_at, is_invite, kind_of, method_of};
 ghost use Rattle.fork_parts.specs.inner.LegInside.{ack_made};

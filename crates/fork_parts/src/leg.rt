@@ -1,7 +1,7 @@
 //! What stands for a branch once its request was sent.
 ghost use Rattle.std.specs.Prelude.{◌≡◌, ◌↔◌, IsTrue, None, Some};
 ghost use Rattle.std.specs.Option.{option_copied, option_map};
-ghost use Rattle.fork_context.specs.KindView.{kind_of};
+ghost use Rattle.fork_rank.specs.KindView.{kind_of};
 ghost use Rattle.sip_txn.specs.Machine.{machine_after, out_of};
 ghost use Rattle.sip_txn.specs.OtherClient.{other_client};
 ghost use Rattle.fork_parts.specs.Call.{owes_ack_on};

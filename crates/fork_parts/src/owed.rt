@@ -1,7 +1,7 @@
 //! The answers that come to be owed to a caller.
 ghost use Rattle.std.specs.Prelude.{◌≡◌, ◌≤◌, length};
 ghost use Rattle.std.specs.Option.{option_to_list};
-ghost use Rattle.fork_context.specs.KindView as kinds;
+ghost use Rattle.fork_rank.specs.KindView as kinds;
 ghost use Rattle.fork_context.specs.ReplyView.{up_of};
 ghost use Rattle.fork_parts.specs.Posting.{owed_by, passed};
 ghost use Rattle.fork_parts.specs.inner.Queue.{messages_in, news_of};

@@ -9,7 +9,7 @@ ghost use Rattle.fork_model.specs.Sources.{offers_of};
 ghost use Rattle.fork_model.specs.Table as table;
 ghost use Rattle.fork_context.specs.EventView.{event_of};
 ghost use Rattle.fork_context.specs.ReplyView.{up_of};
-ghost use Rattle.fork_book.specs.Log.{core_of, table_of};
+ghost use Rattle.fork_model.specs.Log.{core_of, table_of};
 ghost use Rattle.sip_text.specs.Text.{MessageText, spelling};
 ghost use Rattle.sip_uri.specs.Contact.{ContactText};
 ghost use Rattle.fork_parts.specs.Begun.{begun};

@@ -2,7 +2,7 @@
 ghost use Rattle.std.specs.Prelude.{◌≡◌, ◌<◌, ◌≤◌, ◌+◌, ◌++◌, true, length, drop, map, slice_get, is_some, Some, vec_len, vec_capacity};
 ghost use Rattle.std.specs.List.{filter_map};
 ghost use Rattle.std.specs.Option.{option_map};
-ghost use Rattle.fork_book.specs.Log.{table_of};
+ghost use Rattle.fork_model.specs.Log.{table_of};
 ghost use Rattle.fork_parts.specs.inner.NewWays.{HaveWays, way_for, way_in, without};
 ghost use Rattle.fork_parts.specs.Posting.{no_leg};
 

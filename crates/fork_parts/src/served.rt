@@ -1,6 +1,6 @@
 //! The server transaction of a call.
 ghost use Rattle.std.specs.Prelude.{◌≡◌, ◌↔◌, IsTrue};
-ghost use Rattle.fork_context.specs.KindView.{kind_of};
+ghost use Rattle.fork_rank.specs.KindView.{kind_of};
 ghost use Rattle.fork_parts.specs.Server.{is_over, served_start, served_after, served_out, served_due};
 
 use fork_context::Kind;

@@ -4,7 +4,7 @@ use Rattle.fork_program.proofs.Common.{IsListingOf, Unfinished, Listed, added_li
 use Rattle.fork_model.specs.Reply.{Reply, IsReply}
 use Rattle.fork_model.specs.Core.{Replied, is_full, core_next}
 use Rattle.fork_model.specs.Choice as spec
-use Rattle.fork_context.specs.Chosen.{is_due, IsChosen}
+use Rattle.fork_model.specs.Chosen.{is_due, IsChosen}
 use Rattle.fork_listing.specs.declared.lister.ListFault.{ListFault}
 use Rattle.fork_listing.specs.declared.lister.ListFault.TheVariants as list
 use Rattle.fork_listing.specs.Listed.{Appends}

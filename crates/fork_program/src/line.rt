@@ -2,7 +2,7 @@
 ghost use Rattle.std.specs.Prelude.{◌≡◌, IfSome, Some};
 ghost use Rattle.std.specs.Option.{option_map, option_copied};
 ghost use Rattle.std.specs.List.{list_all};
-ghost use Rattle.fork_context.specs.KindView.{kind_of};
+ghost use Rattle.fork_rank.specs.KindView.{kind_of};
 ghost use Rattle.fork_text.specs.Field.{number_from, seen_before};
 ghost use Rattle.fork_program.specs.Line as spec;
 ghost use Rattle.fork_program.specs.Line.{is_visible, is_printable, is_name, is_text};

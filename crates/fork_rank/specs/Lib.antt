@@ -2,3 +2,4 @@ pub mod inner
 pub mod Preferred
 pub mod Padding
 pub mod Grouping
+pub mod KindView

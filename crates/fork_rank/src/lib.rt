@@ -1,8 +1,10 @@
-//! How stored answers rank: statuses, the rules an operator may set, ranks, groups by q, and challenges.
+//! How stored answers rank: statuses, the rules an operator may set, ranks, groups by q, and challenges; and the kinds of
+//! request that are forked.
 #![tactic(auto)]
 
 mod challenge;
 mod grouping;
+mod kind;
 mod preferred;
 mod rank;
 mod ring_status;
@@ -11,6 +13,7 @@ mod status;
 
 pub use challenge::Challenge;
 pub use grouping::groups;
+pub use kind::Kind;
 pub use preferred::{MOST_PREFERRED, Preferred};
 pub use rank::{Rank, before, compare, ranks_before};
 pub use ring_status::RingStatus;

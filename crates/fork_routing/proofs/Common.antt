@@ -3,7 +3,7 @@ pub use Rattle.std.proofs.Common.{Bool, Err, IfOk, List, None, Ok, Option, Resul
 pub use Rattle.std.proofs.lemmas.Option.{same_Some}
 pub use Rattle.std.specs.List.{list_all}
 pub use Rattle.std.specs.Option.{option_map}
-pub use Rattle.fork_book.specs.Log.{table_of}
+pub use Rattle.fork_model.specs.Log.{table_of}
 pub use Rattle.fork_model.specs.Table.{Rules}
 pub use Rattle.fork_parts.specs.Call.{Call, is_sent}
 pub use Rattle.fork_parts.specs.Fixed.{Fixed, method_of}

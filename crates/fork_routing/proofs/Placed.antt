@@ -11,7 +11,7 @@ use Rattle.fork_model.specs.History.{Target, first_row, opening_rows}
 use Rattle.fork_model.specs.Table.{Kind, Row}
 use Rattle.fork_parts.specs.Begun.{begun}
 use Rattle.fork_parts.specs.Fixed.{Way, kind_of}
-use Rattle.fork_book.specs.Log.{Log, opening_log}
+use Rattle.fork_model.specs.Log.{Log, opening_log}
 use Rattle.fork_routing.specs.Targets.{AreWays, way_to}
 
 module _ {X Y : Type 0} (h : X → Option Y) (y : Y) where

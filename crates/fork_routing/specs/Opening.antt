@@ -3,7 +3,7 @@ use Rattle.std.specs.Prelude.{◌≡◌, ◌≢◌, ℕ, true, false, List, [], 
 use Rattle.std.specs.List.{list_all}
 use Rattle.fork_model.specs.History.{opening_rows}
 use Rattle.fork_model.specs.Table.{Rules}
-use Rattle.fork_book.specs.Log.{opening_log}
+use Rattle.fork_model.specs.Log.{opening_log}
 use Rattle.sip_text.specs.Text as texts
 use Rattle.sip_text.specs.Text.{MessageText, StartText}
 use Rattle.sip_uri.specs.declared.hop.Hop.{Hop}

@@ -1,6 +1,6 @@
 -- The line that a line of the program stands for.
 use Rattle.fork_model.specs.Event.{Ring, Answer, Timeout, Fault, TimerC, GiveUp, Cancel}
-use Rattle.fork_context.specs.KindView.{kind_of}
+use Rattle.fork_rank.specs.KindView.{kind_of}
 use Rattle.fork_program.specs.declared.line.Line.{Line}
 use Rattle.fork_program.specs.declared.line.Line.TheVariants as line
 use Rattle.fork_program.specs.Line as spec

@@ -6,7 +6,7 @@ use Rattle.fork_model.specs.Table.{Row}
 use Rattle.fork_model.specs.Core.{Core}
 use Rattle.fork_model.specs.Reply.{Reply}
 use Rattle.fork_model.specs.History.{after}
-use Rattle.fork_book.specs.Log.{Posted, events_of}
+use Rattle.fork_model.specs.Log.{Posted, events_of}
 use Rattle.fork_text.specs.RuleLines.{ended}
 use Rattle.fork_drive.specs.Run.{post_text}
 use Rattle.fork_drive.proofs.Posts.{rows_text, rows_text-more, rows_text-none, posts_are_told}

@@ -1,5 +1,5 @@
 use Rattle.fork_routing.proofs.Common.{table_of, way_of_row}
-use Rattle.fork_context.specs.KindView as kinds
+use Rattle.fork_rank.specs.KindView as kinds
 use Rattle.fork_routing.proofs.Placed.{as_many, begun_so}
 use Rattle.fork_routing.proofs.opening.begin.Goals as goal
 

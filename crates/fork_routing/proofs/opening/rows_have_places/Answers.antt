@@ -1,4 +1,4 @@
-use Rattle.fork_context.specs.KindView as kinds
+use Rattle.fork_rank.specs.KindView as kinds
 use Rattle.fork_routing.proofs.Placed.{places}
 use Rattle.fork_routing.proofs.opening.rows_have_places.Goals as goal
 

@@ -1,4 +1,4 @@
-use Rattle.fork_book.specs.Log.{table_of}
+use Rattle.fork_model.specs.Log.{table_of}
 use Rattle.fork_routing.proofs.Placed.{place_within, ways_more}
 use Rattle.fork_routing.proofs.opening.ways_of.Goals as goal
 

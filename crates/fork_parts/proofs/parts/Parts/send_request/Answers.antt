@@ -1,5 +1,5 @@
 use Rattle.fork_parts.proofs.Common.{◌≡◌, ◌∙◌, ap, List, ◌<◌, sym, subst, arith, length, Some, slice_get, table_of, Way, Call, rows_of}
-use Rattle.fork_context.specs.KindView as kinds
+use Rattle.fork_rank.specs.KindView as kinds
 use Rattle.fork_parts.proofs.Sends.{request_sent}
 use Rattle.fork_parts.proofs.LegLists.{sized_leg}
 use Rattle.fork_parts.proofs.parts.Parts.send_request.Goals as goal
