@@ -75,3 +75,7 @@ request-as method target proxy branch groups body m s h b = grind arith
 -- room for a text, under another name of it
 pub room-under : {E : Type 0} (r : Result Unit E) (room len : ℕ) (t s : List ℕ) → (len + length t ≤ room → IsOk r) → t ≡ s → len + length s ≤ room → IsOk r
 room-under r room len t s h e = subst (λ (x : List ℕ). len + length x ≤ room → IsOk r) e h
+
+-- where the whole has room, what stands last in it has
+pub tail-fits : (room len tail : ℕ) (first via rest whole : List ℕ) → tail ≡ saturated (length rest) → whole ≡ first ++ (via ++ rest) → len + length whole ≤ room → len + tail ≤ room
+tail-fits room len tail first via rest whole t w fits = grind (arith, common_steps)
