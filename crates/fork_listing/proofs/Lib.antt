@@ -11,6 +11,7 @@ mod Rankings
 mod SpelledParts
 mod SpelledLines
 mod SpelledListings
+mod Filtered
 mod Growing
 mod FallingRows
 mod GrownTables

@@ -51,17 +51,25 @@ fn row_behind(before: Option<RowRef>, target: &Target) -> RowRef
     }
 }
 
+/// The row that stands there.
+fn row_at(row: &RowRef) -> RowRef
+    ensures { result ≡ row.now }
+{
+    *row
+}
+
 /// The branches as rows of a tree.
 fn tree_rows<A: Allocator>(alloc: A, targets: &[Target]) -> Result<Vec<RowRef, A>, AllocError>
     ensures { IfOk result (λ rows. rows.items ≡ tree_rows targets.now) }
 {
-    targets
-        .iter()
-        .scan(None, |before, target| {
-            *before = Some(row_behind(*before, target));
-            *before
-        })
-        .collect(alloc)
+    let mut rows = Vec::with_capacity(alloc, targets.len())?;
+    let mut before = None;
+    for target in targets {
+        let row = row_behind(before, target);
+        before = Some(row_at(&row));
+        rows.push(row)?;
+    }
+    Ok(rows)
 }
 
 /// The stored answer that none ranks before, of branches that stand as they may. Their tree is dropped before the
