@@ -49,8 +49,7 @@ pub fn are_digits(bytes: &[u8]) -> bool
 pub fn lowered<A: Allocator>(alloc: A, bytes: &[u8]) -> Result<Vec<u8, A>, AllocError>
     ensures { IfOk result (λ copy. copy.items ≡ str_to_ascii_lowercase bytes.now) }
 {
-    bytes
-        .iter()
-        .map(|byte| byte.to_ascii_lowercase())
-        .collect(alloc)
+    let mut copy = Vec::from_slice(alloc, bytes)?;
+    copy.make_ascii_lowercase();
+    Ok(copy)
 }
