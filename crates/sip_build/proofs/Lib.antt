@@ -22,3 +22,4 @@ pub mod FirstHops
 pub mod Digits
 pub mod Routes
 pub mod PlainCSeq
+mod LinesFit

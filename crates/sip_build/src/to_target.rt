@@ -58,8 +58,8 @@ fn append_parts<A: Allocator + Clone, B: Allocator>(
     append_tail(out, groups, body, tail)
 }
 
-/// Appends the request of these parts to a target, or nothing. The room of what has a known length is asked for
-/// at once; where that is refused, each part asks for its own.
+/// Appends the request of these parts to a target, or nothing. Where `out` has not the room of what has a known length,
+/// it is asked for at once.
 pub(crate) fn append_to_target<A: Allocator + Clone, B: Allocator>(
     out: &mut Vec<u8, B>,
     method: &[u8],
@@ -76,7 +76,7 @@ pub(crate) fn append_to_target<A: Allocator + Clone, B: Allocator>(
         → IsOk result }
 {
     let tail = tail_len(groups, body);
-    ask_for_lines(out, tail);
+    ask_for_lines(out, tail)?;
     let before = out.len();
     let done = append_parts(out, method, target, own, branch, groups, body, tail);
     whole_or_nothing(out, before, done)
