@@ -51,7 +51,7 @@ fn row_behind(before: Option<RowRef>, target: &Target) -> RowRef
     }
 }
 
-/// The row that stands there.
+/// The row once more.
 fn row_at(row: &RowRef) -> RowRef
     ensures { result ≡ row.now }
 {
