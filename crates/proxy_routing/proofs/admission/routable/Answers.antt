@@ -1,0 +1,27 @@
+use Rattle.std.proofs.lemmas.Bool.{false≢true}
+use Rattle.proxy_routing.proofs.Common.{◌∙◌, ap, refl, sym, subst, Hops, MayPass, is_spent}
+use Rattle.proxy_routing.proofs.Admitting.{fault_of_other_scheme, may_pass, other_scheme, unformed}
+use Rattle.proxy_routing.proofs.admission.routable.Goals as goal
+
+pub returns-then-not-is_formed-clause-refused : goal.returns-then-not-is_formed-clause-refused
+returns-then-not-is_formed-clause-refused g c = unformed c.args.message (sym c.if-not-is_formed.ensures)
+
+pub returns-then-is_of_another_scheme-clause-refused : goal.returns-then-is_of_another_scheme-clause-refused
+returns-then-is_of_another_scheme-clause-refused g c = (
+  c.in_ok-marked.ensures.formed,
+  other_scheme c.args.message c.request_uri.result.now c.uri_fault-fault.result c.uri_fault-fault.ensures.exact c.request_uri.ensures (c.if-is_of_another_scheme.ensures.0 refl),
+)
+
+pub returns-clause-well : goal.returns-clause-well
+returns-clause-well g c = record {
+  formed = c.in_ok-marked.ensures.formed;
+  scheme = λ other. false≢true (c.if-is_of_another_scheme.ensures.1 (fault_of_other_scheme c.args.message c.request_uri.result.now c.uri_fault-fault.result c.uri_fault-fault.ensures.exact c.request_uri.ensures other));
+  hops = ap is_spent (sym c.hops_of-hops.ensures.value) ∙ sym c.if-is_spent.ensures;
+}
+
+pub returns-clause-hops : goal.returns-clause-hops
+returns-clause-hops g c =
+    let m = c.args.message in
+    let P : Hops → Type 0 = λ hops. MayPass hops in
+    let goes_on = ap is_spent (sym c.hops_of-hops.ensures.value) ∙ sym c.if-is_spent.ensures in
+    c.hops_of-hops.ensures.passes.0 (subst P (sym c.hops_of-hops.ensures.value) (may_pass m c.in_ok-marked.ensures.formed goes_on))

@@ -1,0 +1,65 @@
+-- Where a request may be sent, and by which hop (RFC 3261 sections 16.5 and 16.6).
+use Rattle.std.specs.Prelude.{ℕ, Bool, ◌||◌, List, [], ◌∷◌, map, Option, Some, None, is_some, if◌then◌else◌}
+use Rattle.std.specs.Str.{bytes_eq, str_to_ascii_lowercase}
+use Rattle.fork_model.specs.History.{Target}
+use Rattle.fork_text.specs.Field.{most_q}
+use Rattle.sip_uri.specs.declared.hop.Hop.{Hop}
+use Rattle.sip_uri.specs.Hop.{hop_of}
+use Rattle.sip_uri.specs.Key.{key_of}
+use Rattle.sip_uri.specs.Uri.{Uri}
+use Rattle.sip_via.specs.Address.{address_text}
+use Rattle.sip_route.specs.declared.route_values.FirstRoute.{FirstRoute}
+use Rattle.sip_route.specs.declared.route_values.FirstRoute.TheVariants.{Absent, NoHop, To}
+use Rattle.fork_setup.specs.Setup.{Location, Setup, locations_of}
+
+-- ---- by which hop (section 16.6 steps 6 and 7)
+
+-- by that of the first Route value, if there is one, else by that of the target's URI
+abbrev pub hop_by : FirstRoute → Uri → Option Hop
+hop_by Absent uri = hop_of uri
+hop_by NoHop uri = None
+hop_by (To hop) uri = Some hop
+
+-- a target, tried at this q, in thousandths, and the hop by which it is reached, if there is one
+pub record Choice : Type 0 where
+  pub q : ℕ
+  pub uri : Uri
+  pub hop : Option Hop
+
+-- ---- which targets there are (section 16.5)
+
+-- the proxy answers for this host: it is that of its domain, in any case, or its own address as it is written
+abbrev pub is_domain : Setup → List ℕ → Bool
+is_domain setup host =
+    bytes_eq (str_to_ascii_lowercase host) (str_to_ascii_lowercase setup.domain)
+    || bytes_eq host (address_text setup.own.addr)
+
+abbrev pub choice_at : FirstRoute → Location → Choice
+choice_at route location = record { q = location.q; uri = location.uri; hop = hop_by route location.uri }
+
+abbrev pub choices_of : FirstRoute → List Location → Option (List ℕ) → List Choice
+choices_of route locations None = []
+choices_of route locations (Some user) = map (choice_at route) (locations_of user locations)
+
+-- where the proxy answers for the host the locations of the user, else the Request-URI alone
+abbrev pub choices_by : (inside : Bool) → Setup → FirstRoute → Uri → List Choice
+choices_by inside setup route uri =
+    if inside then choices_of route setup.locations uri.user
+    else record { q = most_q; uri = uri; hop = hop_by route uri } ∷ []
+
+abbrev pub choices : Setup → FirstRoute → Uri → List Choice
+choices setup route uri = choices_by (is_domain setup uri.host) setup route uri
+
+abbrev pub target_of : Choice → Target
+target_of choice = record { key = key_of choice.uri; q = choice.q }
+
+abbrev pub targets_of : List Choice → List Target
+targets_of cs = map target_of cs
+
+abbrev pub has_hop : Choice → Bool
+has_hop choice = is_some choice.hop
+
+abbrev pub hop_if_any : FirstRoute → Option Hop
+hop_if_any Absent = None
+hop_if_any NoHop = None
+hop_if_any (To hop) = Some hop

@@ -1,0 +1,106 @@
+//! Requests that a proxy may route, as it routes them.
+ghost use Rattle.std.specs.Prelude.{◌≡◌, IfErr, IfOk, IfSome, Ok, true};
+ghost use Rattle.sip_text.specs.Name.{first_value};
+ghost use Rattle.sip_route.specs.Hops.{IsHops, hops_name};
+ghost use Rattle.sip_via.specs.Received.{marked};
+ghost use Rattle.proxy_routing.specs.Admission.{IsAdmitted, IsPrepared, IsRoutable, is_well_formed};
+ghost use Rattle.proxy_routing.specs.Refusing.{IsTurnedAway, IsUnroutable};
+ghost use Rattle.proxy_routing.specs.inner.Admission.{is_formed};
+
+use crate::checks::{is_formed, is_of_another_scheme, is_spent};
+use crate::fault::OpenFault;
+use sip_route::{hops_of, is_loop, request_uri, strip, stripping_keeps_the_rest};
+use sip_text::Message;
+use sip_uri::{Hop, uri_fault};
+use sip_via::{Own, ViaFault, mark, marking_keeps_the_rest, readable_is_marked};
+use std::alloc::Allocator;
+
+/// The request with its source. Marking reads the top Via value, so what cannot be read is refused here.
+fn with_source<A: Allocator + Clone>(
+    alloc: A,
+    message: Message<A>,
+    source: Hop,
+) -> Result<Message<A>, OpenFault>
+    requires formed { is_formed message ≡ true }
+    ensures marked { IfOk result (λ with_source. marked message source ≡ Ok with_source) }
+    ensures formed { IfOk result (λ _. is_well_formed message ≡ true) }
+    ensures refused { IfErr result (IsUnroutable message) }
+{
+    readable_is_marked();
+    match mark(alloc, message, source) {
+        Ok(with_source) => Ok(with_source),
+        Err(unmarked) => match unmarked.fault {
+            ViaFault::BadVia => Err(OpenFault::BadRequest),
+            ViaFault::NoMemory => Err(OpenFault::NoMemory),
+        },
+    }
+}
+
+/// The request with its source, where it can be routed: the first three steps of RFC 3261 section 16.3.
+fn routable<A: Allocator + Clone>(
+    alloc: A,
+    message: Message<A>,
+    source: Hop,
+) -> Result<Message<A>, OpenFault>
+    ensures marked { IfOk result (λ with_source. marked message source ≡ Ok with_source) }
+    ensures well { IfOk result (λ _. IsRoutable message) }
+    ensures hops { IfOk result (λ _. IfSome (first_value hops_name message.headers) IsHops) }
+    ensures refused { IfErr result (IsUnroutable message) }
+{
+    let hops = hops_of(&message);
+    let fault = uri_fault(request_uri(&message));
+    if !is_formed(&message, hops, fault) {
+        return Err(OpenFault::BadRequest);
+    }
+    let marked = with_source(alloc, message, source)?;
+    if is_of_another_scheme(fault) {
+        return Err(OpenFault::Scheme);
+    }
+    if is_spent(hops) {
+        return Err(OpenFault::Hops);
+    }
+    Ok(marked)
+}
+
+/// The request with its source, and without a Route value that names the proxy, where it can be routed.
+fn prepared<A: Allocator + Clone>(
+    alloc: A,
+    own: Own,
+    message: Message<A>,
+    source: Hop,
+) -> Result<Message<A>, OpenFault>
+    ensures routable { IfOk result (λ _. IsRoutable message) }
+    ensures prepared { IfOk result (IsPrepared own message source) }
+    ensures start { IfOk result (λ request. request.start ≡ message.start) }
+    ensures hops { IfOk result (λ request. IfSome (first_value hops_name request.headers) IsHops) }
+    ensures refused { IfErr result (IsUnroutable message) }
+{
+    marking_keeps_the_rest();
+    stripping_keeps_the_rest();
+    let marked = routable(alloc, message, source)?;
+    Ok(strip(marked, own))
+}
+
+/// The request as a proxy with this address routes it that came from `source`: with its source, and without a Route
+/// value that names the proxy (RFC 3261 sections 16.3 steps 1 to 4, 16.4 and 18.2.1). It may be forwarded.
+///
+/// # Errors
+///
+/// The first that holds of: `BadRequest`, `Scheme`, `Hops`, `Loop`; and `NoMemory` wherever the allocator refuses.
+pub fn admit<A: Allocator + Clone>(
+    alloc: A,
+    own: Own,
+    message: Message<A>,
+    source: Hop,
+) -> Result<Message<A>, OpenFault>
+    ensures admitted { IfOk result (IsAdmitted own message source) }
+    ensures start { IfOk result (λ request. request.start ≡ message.start) }
+    ensures hops { IfOk result (λ request. IfSome (first_value hops_name request.headers) IsHops) }
+    ensures refused { IfErr result (IsTurnedAway own message source) }
+{
+    let request = prepared(alloc, own, message, source)?;
+    if is_loop(&request, own) {
+        return Err(OpenFault::Loop);
+    }
+    Ok(request)
+}

@@ -1,0 +1,94 @@
+//! What a proxy asks of a request before it routes it.
+ghost use Rattle.std.specs.Prelude.{◌≡◌, ◌↔◌, is_some, IsTrue, Result, Some};
+ghost use Rattle.std.specs.Option.{option_copied};
+ghost use Rattle.sip_uri.specs.declared.fault.UriFault.TheVariants as uris;
+ghost use Rattle.sip_uri.specs.declared.fault.UriFault.{UriFault};
+ghost use Rattle.sip_uri.specs.Fault.{fault_if_refused};
+ghost use Rattle.sip_uri.specs.Uri.{Uri};
+ghost use Rattle.sip_route.specs.Hops.{hops_of};
+ghost use Rattle.sip_via.specs.BranchText.{cookie};
+ghost use Rattle.sip_via.specs.ViaParts.{or_empty};
+ghost use Rattle.proxy_routing.specs.Admission.{are_hops, asks_extension, begins_with, is_spent, is_uri_or_other, target_uri};
+ghost use Rattle.proxy_routing.specs.inner.Admission.{is_formed, names_cookie};
+
+use sip_route::{Hops, routes_are_readable};
+use sip_text::Message;
+use sip_uri::UriFault;
+use sip_via::top_branch;
+use std::alloc::Allocator;
+
+/// Whether a branch begins with the cookie of RFC 3261 section 8.1.1.7.
+fn begins_with_cookie(branch: Option<&[u8]>) -> bool
+    ensures { result ≡ begins_with cookie (or_empty (option_copied branch.entry)) }
+{
+    match branch {
+        None => false,
+        Some(branch) => branch.starts_with(b"z9hG4bK"),
+    }
+}
+
+/// Whether the branch that the top Via value of a request names begins as RFC 3261 has it.
+fn has_cookie<A: Allocator>(message: &Message<A>) -> bool
+    ensures { result ≡ names_cookie message.now }
+{
+    begins_with_cookie(top_branch(message))
+}
+
+/// Whether Max-Forwards, where it is said, is said well.
+fn are_hops(hops: Hops) -> bool
+    ensures { result ≡ are_hops hops }
+{
+    match hops {
+        Hops::Unsaid | Hops::Said(_) => true,
+        Hops::Wrong => false,
+    }
+}
+
+/// Whether a text with this fault is of another scheme than `sip:`.
+pub(crate) fn is_of_another_scheme(fault: Option<UriFault>) -> bool
+    ensures { IsTrue result ↔ (fault ≡ Some uris.NotSip) }
+{
+    fault == Some(UriFault::NotSip)
+}
+
+/// Whether a text with this fault is a SIP URI, or one of another scheme.
+fn is_uri_or_other(fault: Option<UriFault>) -> bool
+    ensures { (uri : Result Uri UriFault) → fault ≡ fault_if_refused uri → result ≡ is_uri_or_other uri }
+{
+    match fault {
+        None => true,
+        Some(fault) => fault == UriFault::NotSip,
+    }
+}
+
+/// Whether a request whose Request-URI has this fault has all that routing asks for where its top Via value can be read: a
+/// branch in that value, a Max-Forwards value that is a number, URIs in its Route values, and a Request-URI (RFC 3261
+/// section 16.3 step 1).
+pub(crate) fn is_formed<A: Allocator>(
+    message: &Message<A>,
+    hops: Hops,
+    fault: Option<UriFault>,
+) -> bool
+    requires hops { hops ≡ hops_of message.now }
+    requires fault { fault ≡ fault_if_refused (target_uri message.now) }
+    ensures { result ≡ is_formed message.now }
+{
+    has_cookie(message) && are_hops(hops) && routes_are_readable(message) && is_uri_or_other(fault)
+}
+
+/// Whether so many proxies are none.
+pub(crate) fn is_spent(hops: Hops) -> bool
+    ensures { result ≡ is_spent hops }
+{
+    match hops {
+        Hops::Unsaid | Hops::Wrong => false,
+        Hops::Said(n) => n == 0,
+    }
+}
+
+/// Whether the request asks the proxy for an extension (RFC 3261 section 16.3 step 5).
+pub fn asks_extension<A: Allocator>(message: &Message<A>) -> bool
+    ensures { result ≡ asks_extension message.now }
+{
+    message.values(b"proxy-require").next().is_some()
+}

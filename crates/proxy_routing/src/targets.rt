@@ -1,0 +1,241 @@
+//! Where a request may be sent, and by which hop.
+ghost use Rattle.std.specs.Prelude.{◌≡◌, ◌≤◌, ◌++◌, ◌∷◌, [], map, IfOk, OnOk};
+ghost use Rattle.std.specs.List.{list_all};
+ghost use Rattle.std.specs.Option.{option_copied};
+ghost use Rattle.sip_via.specs.Address.{address_text, dotted};
+ghost use Rattle.fork_text.specs.Field.{most_q};
+ghost use Rattle.fork_setup.specs.Setup.{locations_of};
+ghost use Rattle.proxy_routing.specs.Targets.{choice_at, choices_by, choices_of, has_hop, hop_by, hop_if_any, is_domain, target_of, targets_of};
+
+use fork_context::Target;
+use fork_setup::{Location, Setup};
+use sip_lex::append_decimal;
+use sip_route::FirstRoute;
+use sip_uri::{Hop, SipUri};
+use std::alloc::{AllocError, Allocator};
+use std::marker::Model;
+
+/// The q of a target that no location names.
+const MOST_Q: u16 = 1000;
+
+/// A target, tried at this q, and the hop by which it is reached, if there is one.
+#[derive(Drop)]
+pub struct Choice<'a, A: Allocator> {
+    q: u16,
+    uri: &'a SipUri<A>,
+    hop: Option<Hop>,
+}
+
+impl<'a, A: Allocator> Model for Choice<'a, A> {
+    ghost use Rattle.std.specs.Prelude.{◌≤◌};
+    ghost use Rattle.fork_text.specs.Field.{most_q};
+    ghost use Rattle.proxy_routing.specs.Targets as spec;
+
+    ghost Value = { spec.Choice };
+
+    ghost view = { λ c. record { q = c.q; uri = c.uri.now; hop = c.hop } };
+
+    ghost invariant = { λ c. c.q ≤ most_q };
+}
+
+impl<'a, A: Allocator> Choice<'a, A> {
+    /// The URI of the target.
+    pub fn uri(&self) -> &SipUri<A>
+        ensures { result.now ≡ self.now.uri }
+    {
+        self.uri
+    }
+
+    /// The hop by which it is reached, if there is one.
+    pub fn hop(&self) -> Option<Hop>
+        ensures { result ≡ self.now.hop }
+    {
+        self.hop
+    }
+}
+
+impl<'a, A: Allocator + Clone> Choice<'a, A> {
+    /// A target that is tried at this q, where the request has this first Route value.
+    fn new(route: FirstRoute, q: u16, uri: &'a SipUri<A>) -> Choice<'a, A>
+        requires { q ≤ most_q }
+        ensures { result ≡ record { q = q; uri = uri.now; hop = hop_by route uri.now } }
+    {
+        Choice {
+            q,
+            uri,
+            hop: hop_by(route, uri),
+        }
+    }
+
+    /// What tells the target from others, with its q.
+    fn target(&self, alloc: A) -> Result<Target<A>, AllocError>
+        ensures { IfOk result (λ target. target ≡ target_of self.now) }
+    {
+        let key = Vec::from_slice(alloc, self.uri.key())?;
+        Ok(Target::new(key, self.q))
+    }
+}
+
+// ---- which targets there are
+
+/// Adds a number behind a dot.
+fn add_dotted<A: Allocator>(text: &mut Vec<u8, A>, n: u8) -> Result<(), AllocError>
+    ensures { OnOk result (text.new.items ≡ text.old.items ++ dotted n) }
+{
+    text.push(b'.')?;
+    append_decimal(text, u64::from(n))
+}
+
+/// An address as four decimal numbers with dots between them.
+fn host_of<A: Allocator>(alloc: A, addr: [u8; 4]) -> Result<Vec<u8, A>, AllocError>
+    ensures { IfOk result (λ text. text.items ≡ address_text addr) }
+{
+    let mut text = Vec::new(alloc);
+    append_decimal(&mut text, u64::from(addr[0]))?;
+    add_dotted(&mut text, addr[1])?;
+    add_dotted(&mut text, addr[2])?;
+    add_dotted(&mut text, addr[3])?;
+    Ok(text)
+}
+
+/// Whether the proxy answers for this host: it is that of its domain, in any case, or its own address as it is written
+/// (RFC 3261 section 16.5).
+///
+/// # Errors
+///
+/// Only where the allocator refuses.
+pub fn is_domain<A: Allocator + Clone>(
+    alloc: A,
+    setup: &Setup<A>,
+    host: &[u8],
+) -> Result<bool, AllocError>
+    ensures { IfOk result (λ well. well ≡ is_domain setup.now host.now) }
+{
+    if host.eq_ignore_ascii_case(setup.domain()) {
+        return Ok(true);
+    }
+    let own = host_of(alloc, setup.own().addr)?;
+    Ok(host == own.as_slice())
+}
+
+/// Adds a location, where it is the user's.
+fn add_if_of<'a, A: Allocator + Clone>(
+    choices: &mut Vec<Choice<'a, A>, A>,
+    route: FirstRoute,
+    location: &'a Location<A>,
+    user: &[u8],
+) -> Result<(), AllocError>
+    ensures { OnOk result (choices.new.items ≡ choices.old.items ++ map (choice_at route) (locations_of user.now (location.now ∷ []))) }
+{
+    if location.is_of(user) {
+        choices.push(Choice::new(route, location.q(), location.uri()))?;
+    }
+    Ok(())
+}
+
+/// The locations of a user.
+fn located<'a, A: Allocator + Clone>(
+    alloc: A,
+    route: FirstRoute,
+    locations: &'a [Location<A>],
+    user: &[u8],
+) -> Result<Vec<Choice<'a, A>, A>, AllocError>
+    ensures { IfOk result (λ choices. choices.items ≡ map (choice_at route) (locations_of user.now locations.now)) }
+{
+    let mut choices = Vec::new(alloc);
+    for location in locations {
+        add_if_of(&mut choices, route, location, user)?;
+    }
+    Ok(choices)
+}
+
+/// The locations of a user, if there is one.
+fn located_if_any<'a, A: Allocator + Clone>(
+    alloc: A,
+    route: FirstRoute,
+    locations: &'a [Location<A>],
+    user: Option<&[u8]>,
+) -> Result<Vec<Choice<'a, A>, A>, AllocError>
+    ensures { IfOk result (λ choices. choices.items ≡ choices_of route locations.now (option_copied user.entry)) }
+{
+    match user {
+        None => Ok(Vec::new(alloc)),
+        Some(user) => located(alloc, route, locations, user),
+    }
+}
+
+/// The one target of a request to a host that the proxy does not answer for.
+fn alone<'a, A: Allocator + Clone>(
+    alloc: A,
+    route: FirstRoute,
+    uri: &'a SipUri<A>,
+) -> Result<Vec<Choice<'a, A>, A>, AllocError>
+    ensures { IfOk result (λ choices. choices.items ≡ record { q = most_q; uri = uri.now; hop = hop_by route uri.now } ∷ []) }
+{
+    let mut choices = Vec::with_capacity(alloc, 1)?;
+    choices.push(Choice::new(route, MOST_Q, uri))?;
+    Ok(choices)
+}
+
+/// The targets of a request to this URI, inside the domain or not, with this first Route value: in the domain the locations
+/// of its user, else the URI alone (RFC 3261 section 16.5).
+pub fn choices<'a, A: Allocator + Clone>(
+    alloc: A,
+    setup: &'a Setup<A>,
+    inside: bool,
+    route: FirstRoute,
+    uri: &'a SipUri<A>,
+) -> Result<Vec<Choice<'a, A>, A>, AllocError>
+    ensures { IfOk result (λ found. found.items ≡ choices_by inside setup.now route uri.now) }
+{
+    if inside {
+        located_if_any(alloc, route, setup.locations(), uri.user())
+    } else {
+        alone(alloc, route, uri)
+    }
+}
+
+/// The targets as a fork takes them.
+pub fn targets_of<A: Allocator + Clone>(
+    alloc: A,
+    choices: &[Choice<'_, A>],
+) -> Result<Vec<Target<A>, A>, AllocError>
+    ensures { IfOk result (λ targets. targets.items ≡ targets_of choices.now) }
+{
+    let mut targets = Vec::with_capacity(alloc.clone()?, choices.len())?;
+    for choice in choices {
+        targets.push(choice.target(alloc.clone()?)?)?;
+    }
+    Ok(targets)
+}
+
+// ---- by which hop
+
+/// The hop that a request to this URI goes by: that of its first Route value, if there is one, else that of the URI; None
+/// where that leads to no hop (RFC 3261 section 16.6 steps 6 and 7).
+pub fn hop_by<A: Allocator + Clone>(route: FirstRoute, uri: &SipUri<A>) -> Option<Hop>
+    ensures { result ≡ hop_by route uri.now }
+{
+    match route {
+        FirstRoute::Absent => uri.next_hop(),
+        FirstRoute::NoHop => None,
+        FirstRoute::To(hop) => Some(hop),
+    }
+}
+
+/// The hop of the first Route value, if there is one that leads to a hop.
+pub fn hop_if_any(route: FirstRoute) -> Option<Hop>
+    ensures { result ≡ hop_if_any route }
+{
+    match route {
+        FirstRoute::Absent | FirstRoute::NoHop => None,
+        FirstRoute::To(hop) => Some(hop),
+    }
+}
+
+/// Whether each target has a hop.
+pub fn have_hops<A: Allocator>(choices: &[Choice<'_, A>]) -> bool
+    ensures { result ≡ list_all has_hop choices.now }
+{
+    choices.iter().all(|choice| choice.hop.is_some())
+}
