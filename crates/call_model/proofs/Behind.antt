@@ -1,0 +1,464 @@
+-- What each step leaves of the failures that branches keep.
+use Rattle.call_model.proofs.Common.{◌≡◌, ◌∙◌, ◌⊎◌, ℕ, zero, suc, ap, refl, sym, subst, inl, inr, true, false, Bool, List, [], ◌∷◌, ◌++◌, map, length, Option, Some, None, slice_get, ◌↔◌, IsTrue, cond, nat_lt, unwrap_or, option_map}
+use Rattle.call_model.proofs.Common.{and_parts, cond-false, cond-true, Event, FinalAnswer, Reply, HasStored, StoredAnswersCame, RowsKeepTheirNumbers, Effect, answers, change_at, closed_state, effect, next, settled, settled_row, with_effect}
+use Rattle.call_model.proofs.Common.{with_state, Kind, Row, State, StoredAnswer, Table, is_open, is_row, stored_of, may_start, HasFirst, Log, added, event_posted, events_of, table_of, MessageText, ContactText, Hop, TxEvent}
+use Rattle.call_model.proofs.Common.{InviteClientState, OtherClientState, invite_client, other_client, row_out, Cause, answer_in, answer_of, status_of, Call, found, leg_at, row_passes, set_leg, with_leg, Client, InviteClient, OtherClient}
+use Rattle.call_model.proofs.Common.{client_out, Deed, is_due_at, Fails, FaultsBy, FaultsClient, cancel_faulted, faulted_cancel, Way, kind_of, Cancelling, Leg, Posts, call_tag, no_leg, Pumped, Send, Did, Does, Pumps, SendsAnswer, AnswersBy}
+use Rattle.call_model.proofs.Common.{AnswersWith, TicksClientBy, FiresTimerC, challenges_by, contacts_for, event_by, offer_of, Fixed, Owed, Passed, Final, Again, CancelOk, IsSound, awaits, invite_awaits, other_awaits, CancelledBy, Responds, Taken}
+use Rattle.call_model.proofs.Common.{TakesAs, is_passed, leg_after, leg_posted, response_event}
+use Rattle.std.specs.Prelude.{is_none}
+use Rattle.fork_model.specs.Event as fork
+use Rattle.fork_model.specs.Sources.{EventsStoreAnswers, IsStoredBy}
+use Rattle.fork_model.specs.Steps.{BranchesGoOn}
+use Rattle.fork_model.specs.Table as table
+use Rattle.fork_model.specs.Log.{Posted}
+use Rattle.sip_txn.specs.declared.event.TxEvent.TheVariants as event
+use Rattle.sip_txn.specs.declared.timers.Input.TheVariants as input
+use Rattle.sip_txn.specs.declared.invite_client.InviteClientState.TheVariants as invite
+use Rattle.sip_txn.specs.declared.other_client.OtherClientState.TheVariants as other
+use Rattle.call_model.specs.declared.cause.Cause.TheVariants as cause
+use Rattle.call_model.specs.Behind.{BegunKeepsAnswers, KeepsAnswers, KeepsEvent, StepsKeepAnswers}
+use Rattle.call_model.specs.Due as due
+use Rattle.call_model.specs.Pump.{Idle}
+use Rattle.call_model.specs.Server.{Trying}
+use Rattle.call_model.specs.Step as step
+use Rattle.call_model.specs.Take as to
+use Rattle.call_model.proofs.FirstStays.{first_before}
+use Rattle.call_model.proofs.SoundTables.{table_added}
+
+-- ---- parts
+
+-- every branch keeps the same response
+abbrev pub SameAnswers : Call → Call → Type 0
+SameAnswers call new = (k : ℕ) → answer_in (leg_at new k) ≡ answer_in (leg_at call k)
+
+same_with : (legs : List (Option Leg)) (n k : ℕ) (leg : Leg) → answer_in (found (slice_get legs n)) ≡ leg.answer
+    → answer_in (found (slice_get (with_leg legs n leg) k)) ≡ answer_in (found (slice_get legs k))
+same_with [] n k leg e = refl
+same_with (x ∷ legs) zero zero leg e = sym e
+same_with (x ∷ legs) zero (suc k) leg e = refl
+same_with (x ∷ legs) (suc n) zero leg e = refl
+same_with (x ∷ legs) (suc n) (suc k) leg e = same_with legs n k leg e
+
+here_with : (legs : List (Option Leg)) (n : ℕ) (old leg : Leg) → found (slice_get legs n) ≡ Some old → found (slice_get (with_leg legs n leg) n) ≡ Some leg
+here_with [] n old leg e = absurd cc
+here_with (x ∷ legs) zero old leg e = refl
+here_with (x ∷ legs) (suc n) old leg e = here_with legs n old leg e
+
+leg_more : (legs : List (Option Leg)) (rows : List Row) (k : ℕ) → found (slice_get (legs ++ map no_leg rows) k) ≡ found (slice_get legs k)
+leg_more [] [] k = refl
+leg_more [] (row ∷ rows) zero = refl
+leg_more [] (row ∷ rows) (suc k) = leg_more [] rows k
+leg_more (x ∷ legs) rows zero = refl
+leg_more (x ∷ legs) rows (suc k) = leg_more legs rows k
+
+-- the part of a branch with the same answer
+same_leg : (call : Call) (n : ℕ) (old leg : Leg) → leg_at call n ≡ Some old → leg.answer ≡ old.answer → SameAnswers call (set_leg call n leg)
+same_leg call n old leg there e k = same_with call.legs n k leg (ap answer_in there ∙ sym e)
+
+-- ---- the events of a log
+
+more_there : {X : Type 0} (xs ys : List X) (k : ℕ) (x : X) → slice_get xs k ≡ Some x → slice_get (xs ++ ys) k ≡ Some x
+more_there [] ys k x e = absurd cc
+more_there (y ∷ xs) ys zero x e = e
+more_there (y ∷ xs) ys (suc k) x e = more_there xs ys k x e
+
+events_added : (history : List Posted) (p : Posted) → events_of (history ++ p ∷ []) ≡ events_of history ++ event_posted p ∷ []
+events_added [] p = refl
+events_added (q ∷ history) p = ap (λ (es : List Event). event_posted q ∷ es) (events_added history p)
+
+last_event : (history : List Posted) (p : Posted) → slice_get (events_of (history ++ p ∷ [])) (length history) ≡ Some (event_posted p)
+last_event [] p = refl
+last_event (q ∷ history) p = last_event history p
+
+-- ---- without an event
+
+-- what a call was opened with, and its log
+abbrev base_of : Call → Fixed × Log
+base_of call = (call.fixed, call.log)
+
+-- the event that a response of branch n is to a call that was opened so
+abbrev said_by : (n : ℕ) → MessageText → Fixed → Option Event
+said_by n m fixed = Some (event_by fixed.is_responsible n (status_of m) m)
+
+kept_same : (call new : Call) → base_of new ≡ base_of call → SameAnswers call new → KeepsAnswers call → KeepsAnswers new
+kept_same call new b same kept n stored has came first =
+    let f : new.fixed ≡ call.fixed = ap (λ (base : Fixed × Log). base.0) b in
+    let e : new.log ≡ call.log = ap (λ (base : Fixed × Log). base.1) b in
+    let H : Log → Type 0 = λ l. HasStored (table_of l) n stored in
+    let F : Log → Type 0 = λ l. HasFirst (table_of l) n in
+    let old = kept n stored (subst H e has) came (subst F e first) in
+    (old.0, same n ∙ old.1, ap (λ (l : Log). slice_get (events_of l.history) stored.arrival) e ∙ old.2 ∙ ap (said_by n old.0) (sym f))
+
+kept_as : (call new x : Call) → new ≡ x → base_of x ≡ base_of call → SameAnswers call x → KeepsAnswers call → KeepsAnswers new
+kept_as call new x e b same kept =
+    let P : Call → Type 0 = λ c. KeepsAnswers c in
+    subst P (sym e) (kept_same call x b same kept)
+
+-- ---- with an event
+
+module _ (stores : EventsStoreAnswers) (goes_on : BranchesGoOn) (grows : RowsKeepTheirNumbers) where
+  -- an answer that came, is first and that the event may store was stored before, or is kept now
+  abbrev pub StoresAs : Call → Event → Call → Type 0
+  StoresAs call ev new =
+      (n : ℕ) (stored : StoredAnswer) → HasStored (next (table_of call.log) ev (length call.log.history)) n stored → IsStoredBy ev (length call.log.history) n stored
+      → stored.received ≡ true → HasFirst (table_of new.log) n → HasStored (table_of call.log) n stored ⊎ KeepsEvent new n stored.arrival
+
+  posted : (call mid new : Call) (ev : Event) (contacts : List ContactText) (response : Option MessageText) (reply : Reply)
+      → base_of mid ≡ base_of call
+      → ((n : ℕ) (stored : StoredAnswer) → HasStored (table_of call.log) n stored → answer_in (leg_at mid n) ≡ answer_in (leg_at call n))
+      → Posts mid ev contacts response reply new
+      → StoresAs call ev new
+      → KeepsAnswers call → KeepsAnswers new
+  posted call mid new ev contacts response reply b same posts by kept n stored has came leads =
+      let l : mid.log ≡ call.log = ap (λ (base : Fixed × Log). base.1) b in
+      let log : new.log ≡ added call.log call_tag ev reply = ap (λ (x : Call). x.log) posts.follows ∙ ap (λ (x : Log). added x call_tag ev reply) l in
+      let goes : table_of new.log ≡ next (table_of call.log) ev (length call.log.history) = ap table_of log ∙ table_added call.log call_tag ev reply in
+      let T : Table → Type 0 = λ t. HasStored t n stored in
+      let now : HasStored (next (table_of call.log) ev (length call.log.history)) n stored = subst T goes has in
+      by_source now (stores (table_of call.log) ev (length call.log.history) n stored now)
+    where
+      at_last : HasStored (table_of call.log) n stored ⊎ KeepsEvent new n stored.arrival → KeepsEvent new n stored.arrival
+      at_last (inr keeps) = keeps
+      at_last (inl old) =
+          let f : new.fixed ≡ call.fixed = ap (λ (x : Call). x.fixed) posts.follows ∙ ap (λ (base : Fixed × Log). base.0) b in
+          let l : mid.log ≡ call.log = ap (λ (base : Fixed × Log). base.1) b in
+          let log : new.log ≡ added call.log call_tag ev reply = ap (λ (x : Call). x.log) posts.follows ∙ ap (λ (x : Log). added x call_tag ev reply) l in
+          let goes : table_of new.log ≡ next (table_of call.log) ev (length call.log.history) = ap table_of log ∙ table_added call.log call_tag ev reply in
+          let F : Table → Type 0 = λ t. HasFirst t n in
+          let led : HasFirst (table_of call.log) n =
+          first_before (table_of call.log) (next (table_of call.log) ev (length call.log.history)) (goes_on (table_of call.log) ev (length call.log.history))
+          (grows (table_of call.log) ev (length call.log.history)).rules n stored old (subst F goes leads) in
+          let before = kept n stored old came led in
+          let legs : answer_in (leg_at new n) ≡ answer_in (leg_at mid n) = ap (λ (x : Call). answer_in (leg_at x n)) posts.follows ∙ ap answer_in (leg_more mid.legs _ n) in (
+            before.0,
+            legs ∙ same n stored old ∙ before.1,
+            ap (λ (x : Log). slice_get (events_of x.history) stored.arrival) log
+                ∙ ap (λ (es : List Event). slice_get es stored.arrival) (events_added call.log.history (record { tag = call_tag; event = ev }))
+                ∙ more_there (events_of call.log.history) _ stored.arrival _ before.2
+                ∙ ap (said_by n before.0) (sym f),
+          )
+
+      by_source : HasStored (next (table_of call.log) ev (length call.log.history)) n stored → HasStored (table_of call.log) n stored ⊎ IsStoredBy ev (length call.log.history) n stored
+          → KeepsEvent new n stored.arrival
+      by_source now (inl old) = at_last (inl old)
+      by_source now (inr is) = at_last (by n stored now is came leads)
+
+  -- an event that is no response stores nothing that came
+  assumed : (call mid new : Call) (ev : Event) (contacts : List ContactText) (response : Option MessageText) (reply : Reply)
+      → base_of mid ≡ base_of call → SameAnswers call mid
+      → ((at n : ℕ) (stored : StoredAnswer) → IsStoredBy ev at n stored → stored.received ≡ true → ⊥)
+      → Posts mid ev contacts response reply new → KeepsAnswers call → KeepsAnswers new
+  assumed call mid new ev contacts response reply b same never posts kept =
+      posted call mid new ev contacts response reply b (λ n stored has. same n) posts (λ n stored has is came leads. absurd (never _ n stored is came)) kept
+
+  no_timeout : (k at n : ℕ) (stored : StoredAnswer) → IsStoredBy (fork.Timeout k) at n stored → stored.received ≡ true → ⊥
+  no_timeout k at n stored by came = let e : false ≡ true = sym by.1.received ∙ came in absurd cc
+
+  no_fault : (k at n : ℕ) (stored : StoredAnswer) → IsStoredBy (fork.Fault k) at n stored → stored.received ≡ true → ⊥
+  no_fault k at n stored by came = let e : false ≡ true = sym by.1.received ∙ came in absurd cc
+
+  no_timer_c : (k at n : ℕ) (stored : StoredAnswer) → IsStoredBy (fork.TimerC k) at n stored → stored.received ≡ true → ⊥
+  no_timer_c k at n stored by came = let e : false ≡ true = sym by.1.received ∙ came in absurd cc
+
+  -- ---- a deed of the pump
+
+  answered : (call : Call) (now : ℕ) (rest : List Owed) (m : MessageText) (b : Bool) (p : Pumped) (new : Call) → AnswersBy call now rest m b p new → KeepsAnswers call → KeepsAnswers new
+  answered call now rest m true p new (out, e) kept = kept_as call new _ e refl (λ k. refl) kept
+  answered call now rest m false p new (out, e) kept = kept_as call new _ e refl (λ k. refl) kept
+
+  answered_with : (call : Call) (now : ℕ) (rest : List Owed) (o : Option MessageText) (p : Pumped) (new : Call) → AnswersWith call now rest o p new → KeepsAnswers call → KeepsAnswers new
+  answered_with call now rest None p new h kept = absurd h
+  answered_with call now rest (Some m) p new h kept = answered call now rest m _ p new h kept
+
+  paid : (call : Call) (now : ℕ) (owed : List Owed) (p : Pumped) (new : Call) → SendsAnswer call now owed p new → KeepsAnswers call → KeepsAnswers new
+  paid call now [] p new h kept = absurd h
+  paid call now (Again ∷ rest) p new (out, e) kept = kept_as call new _ e refl (λ k. refl) kept
+  paid call now (CancelOk cancel hop ∷ rest) p new (out, e) kept = kept_as call new _ e refl (λ k. refl) kept
+  paid call now (Trying ∷ rest) p new h kept = answered_with call now rest (answer_of call Trying) p new h kept
+  paid call now (Passed m ∷ rest) p new h kept = answered_with call now rest (answer_of call (Passed m)) p new h kept
+  paid call now (Final choice ∷ rest) p new h kept = answered_with call now rest (answer_of call (Final choice)) p new h kept
+
+  ticked : (call : Call) (now n : ℕ) (way : Way) (leg : Leg) (b : Bool) (p : Pumped) (new : Call) → leg_at call n ≡ Some leg → TicksClientBy call now n way leg b p new → KeepsAnswers call → KeepsAnswers new
+  ticked call now n way leg true p new there (out, reply, posts) kept = assumed call _ new _ _ _ reply refl (same_leg call n leg _ there refl) (no_timeout n) posts kept
+  ticked call now n way leg false p new there (out, e) kept = kept_as call new _ e refl (same_leg call n leg _ there refl) kept
+
+  fired : (call : Call) (now n : ℕ) (leg : Leg) (b : Bool) (p : Pumped) (new : Call) → leg_at call n ≡ Some leg → FiresTimerC call now n leg b p new → KeepsAnswers call → KeepsAnswers new
+  fired call now n leg true p new there (out, reply, posts) kept = assumed call _ new _ _ _ reply refl (same_leg call n leg _ there refl) (no_timer_c n) posts kept
+  fired call now n leg false p new there (out, reply, posts) kept = assumed call call new _ _ _ reply refl (λ k. refl) (no_timer_c n) posts kept
+
+  -- a branch that is sent its request keeps nothing before
+  unsent : (o : Option Leg) → is_none o ≡ true → answer_in o ≡ None
+  unsent None e = refl
+  unsent (Some leg) e = absurd cc
+
+  done : (call : Call) (now : ℕ) (deed : Deed) (p : Pumped) (new : Call) → is_due_at call now deed ≡ true → Does call now deed p new → KeepsAnswers call → KeepsAnswers new
+  done call now (due.SendRequest n) p new is (way, goes, (out, e)) kept =
+      kept_as call new _ e refl (λ k. same_with call.legs n k _ (unsent (leg_at call n) (and_parts (row_passes table.is_trying call n) _ is).1)) kept
+  done call now (due.SendCancel n) p new is (way, leg, goes, there, (out, e)) kept = kept_as call new _ e refl (same_leg call n leg _ there refl) kept
+  done call now (due.SendAck n) p new is (way, leg, goes, there, (ack, owed, out, e)) kept = kept_as call new _ e refl (same_leg call n leg _ there refl) kept
+  done call now due.SendAnswer p new is h kept = paid call now call.server.owed p new h kept
+  done call now due.TickServer p new is (out, e) kept = kept_as call new _ e refl (λ k. refl) kept
+  done call now (due.TickClient n) p new is (way, leg, goes, there, h) kept = ticked call now n way leg _ p new there h kept
+  done call now (due.TickCancel n) p new is (way, leg, goes, there, (cancelling, has, out, e)) kept = kept_as call new _ e refl (same_leg call n leg _ there refl) kept
+  done call now (due.FireTimerC n) p new is (leg, there, h) kept = fired call now n leg _ p new there h kept
+  done call now (due.GiveUp n) p new is (leg, there, (out, reply, posts)) kept =
+      assumed call _ new _ _ _ reply refl (same_leg call n leg _ there refl) (λ at k stored by came. by) posts kept
+
+  pumped : (call : Call) (now : ℕ) (p : Pumped) (new : Call) → Pumps call now p new → KeepsAnswers call → KeepsAnswers new
+  pumped call now Idle new (idle, e) kept = kept_as call new call e refl (λ k. refl) kept
+  pumped call now (Send d) new (deed, is, h) kept = done call now deed (Send d) new is h kept
+  pumped call now Did new (deed, is, h) kept = done call now deed Did new is h kept
+
+  -- ---- a response
+
+  -- a transaction that hands up a provisional response or a failure has waited for a final one
+  provisional_awaited : (now : ℕ) (c : Client) → is_passed (client_out event.Provisional now c).pass ≡ true → awaits c ≡ true
+  provisional_awaited now (InviteClient m) e = by m.state e
+    where
+      by : (s : InviteClientState) → is_passed (row_out (invite_client s (input.Event event.Provisional))).pass ≡ true → invite_awaits s ≡ true
+      by invite.Calling e = refl
+      by invite.Proceeding e = refl
+      by invite.Completed e = absurd cc
+      by invite.Accepted e = absurd cc
+      by invite.Terminated e = absurd cc
+  provisional_awaited now (OtherClient m) e = by m.state e
+    where
+      by : (s : OtherClientState) → is_passed (row_out (other_client s (input.Event event.Provisional))).pass ≡ true → other_awaits s ≡ true
+      by other.Trying e = refl
+      by other.Proceeding e = refl
+      by other.Completed e = absurd cc
+      by other.Terminated e = absurd cc
+
+  failure_awaited : (now : ℕ) (c : Client) → is_passed (client_out event.Failure now c).pass ≡ true → awaits c ≡ true
+  failure_awaited now (InviteClient m) e = by m.state e
+    where
+      by : (s : InviteClientState) → is_passed (row_out (invite_client s (input.Event event.Failure))).pass ≡ true → invite_awaits s ≡ true
+      by invite.Calling e = refl
+      by invite.Proceeding e = refl
+      by invite.Completed e = absurd cc
+      by invite.Accepted e = absurd cc
+      by invite.Terminated e = absurd cc
+  failure_awaited now (OtherClient m) e = by m.state e
+    where
+      by : (s : OtherClientState) → is_passed (row_out (other_client s (input.Event event.Failure))).pass ≡ true → other_awaits s ≡ true
+      by other.Trying e = refl
+      by other.Proceeding e = refl
+      by other.Completed e = absurd cc
+      by other.Terminated e = absurd cc
+
+  -- a branch that is open has nothing stored
+  open_stores : (t : Table) (n : ℕ) (stored : StoredAnswer) → is_row is_open (slice_get t.rows n) ≡ true → HasStored t n stored → ⊥
+  open_stores t n stored is (row, there, has) =
+      let O : Option Row → Type 0 = λ o. is_row is_open o ≡ true in
+      by row.state (subst O there is) has
+    where
+      by : (s : State) → is_open s ≡ true → stored_of s ≡ Some stored → ⊥
+      by table.Idle e h = absurd cc
+      by table.Trying e h = absurd cc
+      by (table.Rung cancelled) e h = absurd cc
+      by (table.Ended end) e h = absurd cc
+
+  passed_awaited : (now status : ℕ) (c : Client) → nat_lt status 300 ≡ false → is_passed (client_out (response_event status) now c).pass ≡ true → awaits c ≡ true
+  passed_awaited now status c final passes = by (nat_lt status 200) (subst P (ap (λ (b : Bool). cond {A = TxEvent} (nat_lt status 200) event.Provisional (cond {A = TxEvent} b event.Success event.Failure)) final) passes)
+    where
+      P : TxEvent → Type 0
+      P ev = is_passed (client_out ev now c).pass ≡ true
+
+      by : (b : Bool) → P (cond {A = TxEvent} b event.Provisional event.Failure) → awaits c ≡ true
+      by true h = provisional_awaited now c h
+      by false h = failure_awaited now c h
+
+  -- ---- a 2xx stores nothing
+
+  no_store : (c b : Bool) (k : Kind) (at : ℕ) → stored_of (cond {A = State} c (closed_state k (table.Ended (table.Accepted at))) (cond {A = State} b table.Trying (table.Ended (table.Accepted at)))) ≡ None
+  no_store true b k at = refl
+  no_store false true k at = refl
+  no_store false false k at = refl
+
+  accepted_at : (u : Table) (rows fresh : List Row) (k at : ℕ) (row r : Row) → slice_get rows k ≡ Some row
+      → slice_get (map (settled_row u) (with_state rows k (table.Ended (table.Accepted at)) ++ fresh)) k ≡ Some r → stored_of r.state ≡ None
+  accepted_at u [] fresh k at row r there is = absurd cc
+  accepted_at u (x ∷ rows) fresh zero at row r there is =
+      let same : settled_row u (record x { state = table.Ended (table.Accepted at) }) ≡ r = cc in
+      ap (λ (y : Row). stored_of y.state) (sym same) ∙ no_store u.closed (may_start u.rows (record x { state = table.Ended (table.Accepted at) })) u.kind at
+  accepted_at u (x ∷ rows) fresh (suc k) at row r there is = accepted_at u rows fresh k at row r there is
+
+  accepted : (t : Table) (n at : ℕ) (answer : FinalAnswer) (stored : StoredAnswer) → nat_lt answer.status 300 ≡ true → HasStored (next t (fork.Answer n answer) at) n stored → HasStored t n stored
+  accepted t n at answer stored e has = by (slice_get t.rows n) refl has
+    where
+      with_it : (row : Row) → slice_get t.rows n ≡ Some row → HasStored (settled (with_effect t n (answers t n row at answer))) n stored → ⊥
+      with_it row there h =
+          let u = with_effect t n (record { state = table.Ended (table.Accepted at); fresh = []; closes = true }) in
+          let H : Effect → Type 0 = λ x. HasStored (settled (with_effect t n x)) n stored in
+          let accepts_it : answers t n row at answer ≡ record { state = table.Ended (table.Accepted at); fresh = []; closes = true } = cond-true _ _ _ e in
+          let found_it = subst H accepts_it h in
+          let none = accepted_at u t.rows [] n at row found_it.0 there found_it.1 in
+          absurd (let no : None ≡ Some stored = sym none ∙ found_it.2 in cc)
+
+      by_state : (row : Row) → slice_get t.rows n ≡ Some row → (s : State)
+          → HasStored (unwrap_or (option_map settled (option_map (with_effect t n) (effect t row at (fork.Answer n answer) s))) t) n stored → HasStored t n stored
+      by_state row there table.Idle h = h
+      by_state row there table.Trying h = absurd (with_it row there h)
+      by_state row there (table.Rung cancelled) h = absurd (with_it row there h)
+      by_state row there (table.Ended end) h = h
+
+      by : (o : Option Row) → slice_get t.rows n ≡ o
+          → HasStored (unwrap_or (option_map settled (change_at t at (fork.Answer n answer) n o)) t) n stored → HasStored t n stored
+      by None there h = h
+      by (Some row) there h = by_state row there row.state h
+
+  -- ---- a response that is posted
+
+  at_or : (legs : List (Option Leg)) (n k : ℕ) (leg : Leg) → (k ≡ n) ⊎ (found (slice_get (with_leg legs n leg) k) ≡ found (slice_get legs k))
+  at_or [] n k leg = inr refl
+  at_or (x ∷ legs) zero zero leg = inl refl
+  at_or (x ∷ legs) zero (suc k) leg = inr refl
+  at_or (x ∷ legs) (suc n) zero leg = inr refl
+  at_or (x ∷ legs) (suc n) (suc k) leg = up (at_or legs n k leg)
+    where
+      up : (k ≡ n) ⊎ (found (slice_get (with_leg legs n leg) k) ≡ found (slice_get legs k)) → (suc k ≡ suc n) ⊎ (found (slice_get (with_leg legs n leg) k) ≡ found (slice_get legs k))
+      up (inl e) = inl (ap suc e)
+      up (inr e) = inr e
+
+  module _ (call new : Call) (n : ℕ) (leg : Leg) (way : Way) (now : ℕ) (m : MessageText) (reply : Reply) (first : Bool) (leads : IsTrue first ↔ HasFirst (table_of new.log) n)
+      (sound : IsSound call) (there : leg_at call n ≡ Some leg)
+      (passes : is_passed (client_out (response_event (status_of m)) now leg.client).pass ≡ true) (kept : KeepsAnswers call) where
+    abbrev posted_part : Leg
+    posted_part = leg_posted first (leg_after call n leg way now m) now (status_of m) m
+
+    abbrev posted_mid : Call
+    posted_mid = set_leg call n posted_part
+
+    -- a branch with something stored keeps what it kept
+    same_stored : (k : ℕ) (stored : StoredAnswer) → HasStored (table_of call.log) k stored → answer_in (leg_at posted_mid k) ≡ answer_in (leg_at call k)
+    same_stored k stored has = by (at_or call.legs n k posted_part)
+      where
+        here : (b : Bool) → nat_lt (status_of m) 300 ≡ b → k ≡ n → answer_in (leg_at posted_mid k) ≡ answer_in (leg_at call k)
+        here true e at =
+            let part_is : posted_part.answer ≡ leg.answer = cond-true _ _ _ e in
+            same_with call.legs n k posted_part (ap answer_in there ∙ sym part_is)
+        here false e at =
+            let H : ℕ → Type 0 = λ i. HasStored (table_of call.log) i stored in
+            absurd (open_stores (table_of call.log) n stored ((sound.legs n leg there).open_yet (passed_awaited now (status_of m) leg.client e passes)) (subst H at has))
+
+        by : (k ≡ n) ⊎ (found (slice_get (with_leg call.legs n posted_part) k) ≡ found (slice_get call.legs k)) → answer_in (leg_at posted_mid k) ≡ answer_in (leg_at call k)
+        by (inl at) = here (nat_lt (status_of m) 300) refl at
+        by (inr e) = ap answer_in e
+
+    kept_here : (ev : Event) → Posts posted_mid ev (contacts_for call.fixed.is_responsible (status_of m) m) (to.going_up (status_of m) m) reply new → nat_lt (status_of m) 300 ≡ false
+        → ev ≡ event_by call.fixed.is_responsible n (status_of m) m
+        → (k at : ℕ) → k ≡ n → at ≡ length call.log.history → HasFirst (table_of new.log) k → KeepsEvent new k at
+    kept_here ev posts e is k at k_is at_is led =
+        let log : new.log ≡ added call.log call_tag ev reply = ap (λ (x : Call). x.log) posts.follows in
+        let F : ℕ → Type 0 = λ i. HasFirst (table_of new.log) i in
+        let part_is : posted_part.answer ≡ Some m = cond-false _ _ _ e ∙ cond-true _ _ _ (leads.1 (subst F k_is led)) in
+        let legs : answer_in (leg_at new n) ≡ Some m =
+        ap (λ (x : Call). answer_in (leg_at x n)) posts.follows ∙ ap answer_in (leg_more posted_mid.legs _ n ∙ here_with call.legs n leg posted_part there) ∙ part_is in
+        let f : new.fixed ≡ call.fixed = ap (λ (x : Call). x.fixed) posts.follows in
+        let last : slice_get (events_of new.log.history) (length call.log.history) ≡ Some (event_by call.fixed.is_responsible n (status_of m) m) =
+        ap (λ (l : Log). slice_get (events_of l.history) (length call.log.history)) log ∙ last_event call.log.history (record { tag = call_tag; event = ev }) ∙ ap (λ (x : Event). Some x) is in (
+          m,
+          ap (λ (i : ℕ). answer_in (leg_at new i)) k_is ∙ legs,
+          ap (λ (i : ℕ). slice_get (events_of new.log.history) i) at_is ∙ last ∙ ap (said_by n m) (sym f) ∙ ap (λ (i : ℕ). said_by i m new.fixed) (sym k_is),
+        )
+
+    abbrev answer_by : FinalAnswer
+    answer_by = record { status = status_of m; offers = map offer_of (contacts_for call.fixed.is_responsible (status_of m) m); challenges = challenges_by (status_of m) m }
+
+    keeps_posted : Posts posted_mid (event_by call.fixed.is_responsible n (status_of m) m) (contacts_for call.fixed.is_responsible (status_of m) m) (to.going_up (status_of m) m) reply new → KeepsAnswers new
+    keeps_posted posts = by (nat_lt (status_of m) 200) refl
+      where
+        at_answer : (b : Bool) → nat_lt (status_of m) 300 ≡ b → fork.Answer n answer_by ≡ event_by call.fixed.is_responsible n (status_of m) m
+            → Posts posted_mid (fork.Answer n answer_by) (contacts_for call.fixed.is_responsible (status_of m) m) (to.going_up (status_of m) m) reply new
+            → StoresAs call (fork.Answer n answer_by) new
+        at_answer true e is posts k stored has now came led =
+            let H : ℕ → Type 0 = λ i. HasStored (next (table_of call.log) (fork.Answer n answer_by) (length call.log.history)) i stored in
+            let B : ℕ → Type 0 = λ i. HasStored (table_of call.log) i stored in
+            inl (subst B (sym now.0) (accepted (table_of call.log) n (length call.log.history) answer_by stored e (subst H now.0 has)))
+        at_answer false e is posts k stored has now came led = inr (kept_here (fork.Answer n answer_by) posts e is k stored.arrival now.0 now.1.arrival led)
+
+        by : (b : Bool) → nat_lt (status_of m) 200 ≡ b → KeepsAnswers new
+        by true e =
+            let is : event_by call.fixed.is_responsible n (status_of m) m ≡ fork.Ring n (status_of m) = cond-true _ _ _ e in
+            let P : Event → Type 0 = λ v. Posts posted_mid v (contacts_for call.fixed.is_responsible (status_of m) m) (to.going_up (status_of m) m) reply new in
+            posted call posted_mid new (fork.Ring n (status_of m)) _ _ reply refl same_stored (subst P is posts) (λ k stored has now came led. absurd now) kept
+        by false e =
+            let is : event_by call.fixed.is_responsible n (status_of m) m ≡ fork.Answer n answer_by = cond-false _ _ _ e in
+            let P : Event → Type 0 = λ v. Posts posted_mid v (contacts_for call.fixed.is_responsible (status_of m) m) (to.going_up (status_of m) m) reply new in
+            let posts-2 = subst P is posts in
+            posted call posted_mid new (fork.Answer n answer_by) _ _ reply refl same_stored posts-2 (at_answer (nat_lt (status_of m) 300) refl (sym is) posts-2) kept
+
+  responded : (call : Call) (n : ℕ) (leg : Leg) (way : Way) (now : ℕ) (m : MessageText) (t : Taken) (new : Call) → IsSound call → leg_at call n ≡ Some leg
+      → Responds call n leg way now m t new → KeepsAnswers call → KeepsAnswers new
+  responded call n leg way now m to.Absorbed new sound there (p, e) kept = kept_as call new _ e refl (same_leg call n leg _ there refl) kept
+  responded call n leg way now m (to.Posted at) new sound there (p, reply, placed, first, leads, posts) kept = keeps_posted call new n leg way now m reply first leads sound there p kept posts
+  responded call n leg way now m to.Full new sound there (p, f, e) kept = kept_as call new call e refl (λ k. refl) kept
+
+  -- ---- a message
+
+  cancelled : (call new : Call) (cancel : MessageText) (hop : Hop) (t : Taken) → CancelledBy call cancel hop t new → KeepsAnswers call → KeepsAnswers new
+  cancelled call new cancel hop to.Absorbed (c, e) kept = kept_as call new _ e refl (λ k. refl) kept
+  cancelled call new cancel hop (to.Posted at) (c, reply, placed, posts) kept = assumed call _ new _ _ _ reply refl (λ k. refl) (λ at k stored by came. by) posts kept
+  cancelled call new cancel hop to.Full h kept = absurd h
+
+  took : (call : Call) (now : ℕ) (m : MessageText) (source : Hop) (r : to.Recipient) (t : Taken) (new : Call) → IsSound call → TakesAs call now m source r t new → KeepsAnswers call → KeepsAnswers new
+  took call now m source to.Server to.Absorbed new sound e kept = kept_as call new _ e refl (λ k. refl) kept
+  took call now m source to.Server (to.Posted at) new sound h kept = absurd h
+  took call now m source to.Server to.Full new sound h kept = absurd h
+  took call now m source to.ServerAck to.Absorbed new sound e kept = kept_as call new _ e refl (λ k. refl) kept
+  took call now m source to.ServerAck (to.Posted at) new sound h kept = absurd h
+  took call now m source to.ServerAck to.Full new sound h kept = absurd h
+  took call now m source to.ServerCancel t new sound (cancel, marked, by) kept = cancelled call new cancel _ t by kept
+  took call now m source (to.Client n) t new sound (leg, way, there, goes, h) kept = responded call n leg way now m t new sound there h kept
+  took call now m source (to.CancelClient n) to.Absorbed new sound (leg, cancelling, there, is, e) kept = kept_as call new _ e refl (same_leg call n leg _ there refl) kept
+  took call now m source (to.CancelClient n) (to.Posted at) new sound h kept = absurd h
+  took call now m source (to.CancelClient n) to.Full new sound h kept = absurd h
+
+  -- ---- a datagram that could not be sent
+
+  faults : (call : Call) (now n : ℕ) (leg : Leg) (b : Bool) (new : Call) → leg_at call n ≡ Some leg → FaultsBy call now n leg b new → KeepsAnswers call → KeepsAnswers new
+  faults call now n leg true new there (reply, posts) kept = assumed call _ new _ _ _ reply refl (same_leg call n leg _ there refl) (no_fault n) posts kept
+  faults call now n leg false new there e kept = kept_as call new _ e refl (same_leg call n leg _ there refl) kept
+
+  faults_client : (call : Call) (now n : ℕ) (l : Option Leg) (new : Call) → leg_at call n ≡ l → FaultsClient call now n l new → KeepsAnswers call → KeepsAnswers new
+  faults_client call now n None new there e kept = kept_as call new call e refl (λ k. refl) kept
+  faults_client call now n (Some leg) new there h kept = faults call now n leg _ new there h kept
+
+  faults_cancel : (call : Call) (now n : ℕ) (l : Option Leg) (new : Call) → leg_at call n ≡ l → new ≡ cancel_faulted call now n l → KeepsAnswers call → KeepsAnswers new
+  faults_cancel call now n None new there e kept = kept_as call new call e refl (λ k. refl) kept
+  faults_cancel call now n (Some leg) new there e kept = kept_as call new _ e refl (same_leg call n leg _ there (by leg.cancelling)) kept
+    where
+      by : (c : Option Cancelling) → (faulted_cancel leg now c).answer ≡ leg.answer
+      by None = refl
+      by (Some cancelling) = refl
+
+  failed : (call : Call) (now : ℕ) (c : Cause) (new : Call) → Fails call now c new → KeepsAnswers call → KeepsAnswers new
+  failed call now (cause.Request n) new h kept = faults_client call now n (leg_at call n) new refl h kept
+  failed call now (cause.Ack n) new h kept = faults_client call now n (leg_at call n) new refl h kept
+  failed call now (cause.Cancel n) new e kept = faults_cancel call now n (leg_at call n) new refl e kept
+  failed call now cause.Answer new e kept = kept_as call new _ e refl (λ k. refl) kept
+  failed call now cause.CancelOk new e kept = kept_as call new call e refl (λ k. refl) kept
+
+  -- ---- a step
+
+  stepped : (now : ℕ) (call : Call) (input : step.Input) (new : Call) (output : step.Output) → IsSound call → KeepsAnswers call → step.Step now call input new output → KeepsAnswers new
+  stepped now call (step.Take r m source) new (step.Took t) sound kept h = took call now m source r t new sound h kept
+  stepped now call (step.Take r m source) new (step.Did p) sound kept h = absurd h
+  stepped now call (step.Take r m source) new step.Told sound kept h = absurd h
+  stepped now call step.Pump new (step.Took t) sound kept h = absurd h
+  stepped now call step.Pump new (step.Did p) sound kept h = pumped call now p new h kept
+  stepped now call step.Pump new step.Told sound kept h = absurd h
+  stepped now call (step.Failed c) new (step.Took t) sound kept h = absurd h
+  stepped now call (step.Failed c) new (step.Did p) sound kept h = absurd h
+  stepped now call (step.Failed c) new step.Told sound kept h = failed call now c new h kept
+
+  pub steps_keep_answers : StepsKeepAnswers
+  steps_keep_answers turn call new sound kept h = stepped turn.now call turn.input new turn.output sound kept h
+
+-- ---- before anything was posted
+
+pub begun_keeps : StoredAnswersCame → BegunKeepsAnswers
+begun_keeps came fixed rules targets ways n stored has received first =
+    let event = came (kind_of fixed) rules targets [] n stored has in
+    absurd (let h : None ≡ Some event.0 = event.1 in cc)

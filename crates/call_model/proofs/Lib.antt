@@ -1,0 +1,11 @@
+pub mod Common
+pub mod SoundTables
+pub mod SoundValues
+pub mod SoundSteps
+pub mod SoundBegun
+pub mod KeptBuilt
+pub mod StepsBuilt
+pub mod Repeated
+pub mod Behind
+pub mod FirstStays
+pub mod laws

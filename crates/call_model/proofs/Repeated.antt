@@ -1,0 +1,247 @@
+-- What each step leaves of what a call sends again.
+use Rattle.call_model.proofs.Common.{◌≡◌, ◌∙◌, ℕ, zero, suc, ap, refl, sym, subst, true, false, Bool, List, [], ◌∷◌, Option, Some, None, slice_get, Event, Reply, MessageText, spelling, ContactText, Hop, Cause, Datagram, answer_of}
+use Rattle.call_model.proofs.Common.{cancel_to, request_to, Call, leg_at, IsBuilt, IsRight, Deed, Fails, FaultsBy, FaultsClient, cancel_faulted, Fixed, Way, Leg, Posts, Pumped, Send, Did, Does, Pumps, SendsAnswer, AnswersBy, AnswersWith}
+use Rattle.call_model.proofs.Common.{TicksClientBy, FiresTimerC, sent_if, Owed, Passed, Final, Again, CancelOk, CancelledBy, Responds, Taken, TakesAs}
+use Rattle.call_model.specs.declared.cause.Cause.TheVariants as cause
+use Rattle.call_model.specs.Again.{LastAnswerIsKept, RepeatsAreTheSame, is_repeated, last_after}
+use Rattle.call_model.specs.Due as due
+use Rattle.call_model.specs.Pump.{Idle}
+use Rattle.call_model.specs.Server.{Trying}
+use Rattle.call_model.specs.Step as step
+use Rattle.call_model.specs.Step.{Run, Turn}
+use Rattle.call_model.specs.Take as to
+use Rattle.call_model.proofs.KeptBuilt.{way_more}
+use Rattle.call_model.proofs.laws.RightDatagrams.{datagrams_right}
+use Rattle.call_model.proofs.StepsBuilt.{steps_keep}
+
+-- ---- what stays
+
+-- what the call was opened with, and the way of each row
+pub record Stays (call new : Call) : Type 0 where
+  pub fixed : new.fixed ≡ call.fixed
+  pub ways : (n : ℕ) (way : Way) → slice_get call.ways n ≡ Some way → slice_get new.ways n ≡ Some way
+
+pub record Keeps (call new : Call) (output : step.Output) : Type 0 where
+  pub stays : Stays call new
+  pub last : new.server.last ≡ last_after output call.server.last
+
+-- another call, but for these parts
+same_parts : (call new x : Call) → new ≡ x → x.fixed ≡ call.fixed → x.ways ≡ call.ways → Stays call new
+same_parts call new x e f w = record {
+  fixed = ap (λ (c : Call). c.fixed) e ∙ f;
+  ways = λ n way h. ap (λ (c : Call). slice_get c.ways n) e ∙ ap (λ (ws : List Way). slice_get ws n) w ∙ h;
+}
+
+last_by : (call new x : Call) → new ≡ x → (output : step.Output) → x.server.last ≡ last_after output call.server.last → new.server.last ≡ last_after output call.server.last
+last_by call new x e output l = ap (λ (c : Call). c.server.last) e ∙ l
+
+keeps : (call new x : Call) → new ≡ x → (output : step.Output) → x.fixed ≡ call.fixed → x.ways ≡ call.ways → x.server.last ≡ last_after output call.server.last → Keeps call new output
+keeps call new x e output f w l = record { stays = same_parts call new x e f w; last = last_by call new x e output l }
+
+posted : (call mid new : Call) (event : Event) (contacts : List ContactText) (response : Option MessageText) (reply : Reply) (output : step.Output)
+    → mid.fixed ≡ call.fixed → mid.ways ≡ call.ways → mid.server.last ≡ last_after output call.server.last
+    → Posts mid event contacts response reply new → Keeps call new output
+posted call mid new event contacts response reply output f w l posts = record {
+  stays = record {
+    fixed = ap (λ (c : Call). c.fixed) posts.follows ∙ f;
+    ways = λ n way h. ap (λ (c : Call). slice_get c.ways n) posts.follows ∙ way_more mid.ways _ n way (ap (λ (ws : List Way). slice_get ws n) w ∙ h);
+  };
+  last = ap (λ (c : Call). c.server.last) posts.follows ∙ l;
+}
+
+-- ---- what was sent to the caller last
+
+-- an output that is the same as another
+as_out : (p q : Pumped) (last : List ℕ) → p ≡ q → last ≡ last_after (step.Did q) last → last ≡ last_after (step.Did p) last
+as_out p q last e h = h ∙ ap (λ (x : Pumped). last_after (step.Did x) last) (sym e)
+
+same_answer : (b : Bool) (hop : Hop) (last : List ℕ) → last ≡ last_after (step.Did (sent_if b (record { to = hop; bytes = last; cause = cause.Answer }))) last
+same_answer true hop last = refl
+same_answer false hop last = refl
+
+no_answer : (b : Bool) (d : Datagram) (last : List ℕ) → is_repeated d.cause ≡ true → last ≡ last_after (step.Did (sent_if b d)) last
+no_answer true d last e = by d.cause e
+  where
+    by : (c : Cause) → is_repeated c ≡ true → last ≡ Rattle.call_model.specs.Again.last_of c d.bytes last
+    by (cause.Request n) e = refl
+    by (cause.Cancel n) e = refl
+    by (cause.Ack n) e = absurd cc
+    by cause.Answer e = absurd cc
+    by cause.CancelOk e = absurd cc
+no_answer false d last e = refl
+
+-- ---- a deed of the pump
+
+answered : (call : Call) (now : ℕ) (rest : List Owed) (m : MessageText) (b : Bool) (p : Pumped) (new : Call) → AnswersBy call now rest m b p new → Keeps call new (step.Did p)
+answered call now rest m true p new (out, e) =
+    keeps call new _ e (step.Did p) refl refl (ap (λ (x : Pumped). last_after (step.Did x) call.server.last) (sym out))
+answered call now rest m false p new (out, e) = keeps call new _ e (step.Did p) refl refl (as_out p Did call.server.last out refl)
+
+answered_with : (call : Call) (now : ℕ) (rest : List Owed) (o : Option MessageText) (p : Pumped) (new : Call) → AnswersWith call now rest o p new → Keeps call new (step.Did p)
+answered_with call now rest None p new h = absurd h
+answered_with call now rest (Some m) p new h = answered call now rest m _ p new h
+
+paid : (call : Call) (now : ℕ) (owed : List Owed) (p : Pumped) (new : Call) → SendsAnswer call now owed p new → Keeps call new (step.Did p)
+paid call now [] p new h = absurd h
+paid call now (Again ∷ rest) p new (out, e) = keeps call new _ e (step.Did p) refl refl (as_out p _ call.server.last out refl)
+paid call now (CancelOk cancel hop ∷ rest) p new (out, e) = keeps call new _ e (step.Did p) refl refl (as_out p _ call.server.last out refl)
+paid call now (Trying ∷ rest) p new h = answered_with call now rest (answer_of call Trying) p new h
+paid call now (Passed m ∷ rest) p new h = answered_with call now rest (answer_of call (Passed m)) p new h
+paid call now (Final choice ∷ rest) p new h = answered_with call now rest (answer_of call (Final choice)) p new h
+
+ticked : (call : Call) (now n : ℕ) (way : Way) (leg : Leg) (b : Bool) (p : Pumped) (new : Call) → TicksClientBy call now n way leg b p new → Keeps call new (step.Did p)
+ticked call now n way leg true p new (out, reply, posts) = posted call _ new _ _ _ reply (step.Did p) refl refl (as_out p Did call.server.last out refl) posts
+ticked call now n way leg false p new (out, e) =
+    keeps call new _ e (step.Did p) refl refl (as_out p _ call.server.last out (no_answer _ (record { to = way.hop; bytes = leg.sent; cause = cause.Request n }) call.server.last refl))
+
+fired : (call : Call) (now n : ℕ) (leg : Leg) (b : Bool) (p : Pumped) (new : Call) → FiresTimerC call now n leg b p new → Keeps call new (step.Did p)
+fired call now n leg true p new (out, reply, posts) = posted call _ new _ _ _ reply (step.Did p) refl refl (as_out p Did call.server.last out refl) posts
+fired call now n leg false p new (out, reply, posts) = posted call call new _ _ _ reply (step.Did p) refl refl (as_out p Did call.server.last out refl) posts
+
+done : (call : Call) (now : ℕ) (deed : Deed) (p : Pumped) (new : Call) → Does call now deed p new → Keeps call new (step.Did p)
+done call now (due.SendRequest n) p new (way, goes, (out, e)) = keeps call new _ e (step.Did p) refl refl (as_out p _ call.server.last out refl)
+done call now (due.SendCancel n) p new (way, leg, goes, there, (out, e)) = keeps call new _ e (step.Did p) refl refl (as_out p _ call.server.last out refl)
+done call now (due.SendAck n) p new (way, leg, goes, there, (ack, owed, out, e)) = keeps call new _ e (step.Did p) refl refl (as_out p _ call.server.last out refl)
+done call now due.SendAnswer p new h = paid call now call.server.owed p new h
+done call now due.TickServer p new (out, e) = keeps call new _ e (step.Did p) refl refl (as_out p _ call.server.last out (same_answer _ call.fixed.caller call.server.last))
+done call now (due.TickClient n) p new (way, leg, goes, there, h) = ticked call now n way leg _ p new h
+done call now (due.TickCancel n) p new (way, leg, goes, there, (cancelling, is, out, e)) =
+    keeps call new _ e (step.Did p) refl refl (as_out p _ call.server.last out (no_answer _ (record { to = way.hop; bytes = cancelling.sent; cause = cause.Cancel n }) call.server.last refl))
+done call now (due.FireTimerC n) p new (leg, there, h) = fired call now n leg _ p new h
+done call now (due.GiveUp n) p new (leg, there, (out, reply, posts)) = posted call _ new _ _ _ reply (step.Did p) refl refl (as_out p Did call.server.last out refl) posts
+
+pumped : (call : Call) (now : ℕ) (p : Pumped) (new : Call) → Pumps call now p new → Keeps call new (step.Did p)
+pumped call now Idle new (idle, e) = keeps call new call e (step.Did Idle) refl refl refl
+pumped call now (Send d) new (deed, is, h) = done call now deed (Send d) new h
+pumped call now Did new (deed, is, h) = done call now deed Did new h
+
+-- ---- a message
+
+responded : (call : Call) (n : ℕ) (leg : Leg) (way : Way) (now : ℕ) (m : MessageText) (t : Taken) (new : Call) → Responds call n leg way now m t new → Keeps call new (step.Took t)
+responded call n leg way now m to.Absorbed new (p, e) = keeps call new _ e (step.Took to.Absorbed) refl refl refl
+responded call n leg way now m (to.Posted at) new (p, reply, placed, first, leads, posts) = posted call _ new _ _ _ reply (step.Took (to.Posted at)) refl refl refl posts
+responded call n leg way now m to.Full new (p, f, e) = keeps call new call e (step.Took to.Full) refl refl refl
+
+cancelled : (call new : Call) (cancel : MessageText) (hop : Hop) (t : Taken) → CancelledBy call cancel hop t new → Keeps call new (step.Took t)
+cancelled call new cancel hop to.Absorbed (c, e) = keeps call new _ e (step.Took to.Absorbed) refl refl refl
+cancelled call new cancel hop (to.Posted at) (c, reply, placed, posts) = posted call _ new _ _ _ reply (step.Took (to.Posted at)) refl refl refl posts
+cancelled call new cancel hop to.Full h = absurd h
+
+took : (call : Call) (now : ℕ) (m : MessageText) (source : Hop) (r : to.Recipient) (t : Taken) (new : Call) → TakesAs call now m source r t new → Keeps call new (step.Took t)
+took call now m source to.Server to.Absorbed new e = keeps call new _ e (step.Took to.Absorbed) refl refl refl
+took call now m source to.Server (to.Posted at) new h = absurd h
+took call now m source to.Server to.Full new h = absurd h
+took call now m source to.ServerAck to.Absorbed new e = keeps call new _ e (step.Took to.Absorbed) refl refl refl
+took call now m source to.ServerAck (to.Posted at) new h = absurd h
+took call now m source to.ServerAck to.Full new h = absurd h
+took call now m source to.ServerCancel t new (cancel, marked, by) = cancelled call new cancel _ t by
+took call now m source (to.Client n) t new (leg, way, there, goes, h) = responded call n leg way now m t new h
+took call now m source (to.CancelClient n) to.Absorbed new (leg, cancelling, there, is, e) = keeps call new _ e (step.Took to.Absorbed) refl refl refl
+took call now m source (to.CancelClient n) (to.Posted at) new h = absurd h
+took call now m source (to.CancelClient n) to.Full new h = absurd h
+
+-- ---- a datagram that could not be sent
+
+faults : (call : Call) (now n : ℕ) (leg : Leg) (b : Bool) (new : Call) → FaultsBy call now n leg b new → Keeps call new step.Told
+faults call now n leg true new (reply, posts) = posted call _ new _ _ _ reply step.Told refl refl refl posts
+faults call now n leg false new e = keeps call new _ e step.Told refl refl refl
+
+faults_client : (call : Call) (now n : ℕ) (l : Option Leg) (new : Call) → FaultsClient call now n l new → Keeps call new step.Told
+faults_client call now n None new e = keeps call new call e step.Told refl refl refl
+faults_client call now n (Some leg) new h = faults call now n leg _ new h
+
+faults_cancel : (call : Call) (now n : ℕ) (l : Option Leg) (new : Call) → new ≡ cancel_faulted call now n l → Keeps call new step.Told
+faults_cancel call now n None new e = keeps call new call e step.Told refl refl refl
+faults_cancel call now n (Some leg) new e = keeps call new _ e step.Told refl refl refl
+
+failed : (call : Call) (now : ℕ) (c : Cause) (new : Call) → Fails call now c new → Keeps call new step.Told
+failed call now (cause.Request n) new h = faults_client call now n (leg_at call n) new h
+failed call now (cause.Ack n) new h = faults_client call now n (leg_at call n) new h
+failed call now (cause.Cancel n) new e = faults_cancel call now n (leg_at call n) new e
+failed call now cause.Answer new e = keeps call new _ e step.Told refl refl refl
+failed call now cause.CancelOk new e = keeps call new call e step.Told refl refl refl
+
+-- ---- a step
+
+stepped : (now : ℕ) (call : Call) (input : step.Input) (new : Call) (output : step.Output) → step.Step now call input new output → Keeps call new output
+stepped now call (step.Take r m source) new (step.Took t) h = took call now m source r t new h
+stepped now call (step.Take r m source) new (step.Did p) h = absurd h
+stepped now call (step.Take r m source) new step.Told h = absurd h
+stepped now call step.Pump new (step.Took t) h = absurd h
+stepped now call step.Pump new (step.Did p) h = pumped call now p new h
+stepped now call step.Pump new step.Told h = absurd h
+stepped now call (step.Failed c) new (step.Took t) h = absurd h
+stepped now call (step.Failed c) new (step.Did p) h = absurd h
+stepped now call (step.Failed c) new step.Told h = failed call now c new h
+
+pub last_is_kept : LastAnswerIsKept
+last_is_kept turn call new h = (stepped turn.now call turn.input new turn.output h).last
+
+-- ---- over a run
+
+still_right : (call new : Call) (d : Datagram) → Stays call new → (c : Cause) → is_repeated c ≡ true → IsRight call d c → IsRight new d c
+still_right call new d s (cause.Request n) e (way, there, hop, text) =
+    (way, s.ways n way there, hop, text ∙ ap (λ (f : Fixed). spelling (request_to f way n)) (sym s.fixed))
+still_right call new d s (cause.Cancel n) e (way, there, hop, text) =
+    (way, s.ways n way there, hop, text ∙ ap (λ (f : Fixed). spelling (cancel_to f way n)) (sym s.fixed))
+still_right call new d s (cause.Ack n) e right = absurd cc
+still_right call new d s cause.Answer e right = absurd cc
+still_right call new d s cause.CancelOk e right = absurd cc
+
+over_run : (turns : List Turn) (call new : Call) (d : Datagram) → is_repeated d.cause ≡ true → IsRight call d d.cause → Run call turns new → IsRight new d d.cause
+over_run [] call new d e right same = let P : Call → Type 0 = λ c. IsRight c d d.cause in subst P (sym same) right
+over_run (turn ∷ turns) call new d e right (mid, first, rest) =
+    let kept = stepped turn.now call turn.input mid turn.output first in
+    over_run turns mid new d e (still_right call mid d kept.stays d.cause e right) rest
+
+-- a turn that sends a datagram is a pump
+is_pump : (now : ℕ) (call : Call) (input : step.Input) (new : Call) (d : Datagram) → IsBuilt call → step.Step now call input new (step.Did (Send d)) → IsRight call d d.cause
+is_pump now call (step.Take r m source) new d built h = absurd h
+is_pump now call step.Pump new d built h = datagrams_right now call new d built h
+is_pump now call (step.Failed c) new d built h = absurd h
+
+sent_right : (turns : List Turn) (call new : Call) (d : Datagram) (place : ℕ) (turn : Turn) → is_repeated d.cause ≡ true → IsBuilt call → Run call turns new
+    → slice_get turns place ≡ Some turn → turn.output ≡ step.Did (Send d) → IsRight new d d.cause
+sent_right [] call new d place turn e built run there out = absurd cc
+sent_right (t ∷ turns) call new d zero turn e built (mid, first, rest) there out =
+    let same : t ≡ turn = cc in
+    let sends : t.output ≡ step.Did (Send d) = ap (λ (x : Turn). x.output) same ∙ out in
+    let P : step.Output → Type 0 = λ o. step.Step t.now call t.input mid o in
+    let right = is_pump t.now call t.input mid d built (subst P sends first) in
+    let kept = stepped t.now call t.input mid t.output first in
+    over_run turns mid new d e (still_right call mid d kept.stays d.cause e right) rest
+sent_right (t ∷ turns) call new d (suc place) turn e built (mid, first, rest) there out =
+    sent_right turns mid new d place turn e (steps_keep t call mid built first) rest there out
+
+-- ---- two of one cause
+
+abbrev datagram : Hop → List ℕ → Cause → Datagram
+datagram hop bytes why = record { to = hop; bytes = bytes; cause = why }
+
+same_datagram : (d e : Datagram) → e.to ≡ d.to → e.bytes ≡ d.bytes → e.cause ≡ d.cause → e ≡ d
+same_datagram d e hop bytes why =
+    ap (λ (x : Hop). datagram x e.bytes e.cause) hop
+    ∙ ap (λ (x : List ℕ). datagram d.to x e.cause) bytes
+    ∙ ap (λ (x : Cause). datagram d.to d.bytes x) why
+
+same_way : (call : Call) (n : ℕ) (v w : Way) → slice_get call.ways n ≡ Some v → slice_get call.ways n ≡ Some w → w ≡ v
+same_way call n v w a b = let e : Some w ≡ Some v = sym b ∙ a in cc
+
+same_right : (call : Call) (d e : Datagram) (c : Cause) → is_repeated c ≡ true → e.cause ≡ d.cause → IsRight call d c → IsRight call e c → e ≡ d
+same_right call d e (cause.Request n) r why (v, there, hop, text) (w, also, hop-2, text-2) =
+    let one = same_way call n v w there also in
+    same_datagram d e (hop-2 ∙ ap (λ (x : Way). x.hop) one ∙ sym hop) (text-2 ∙ ap (λ (x : Way). spelling (request_to call.fixed x n)) one ∙ sym text) why
+same_right call d e (cause.Cancel n) r why (v, there, hop, text) (w, also, hop-2, text-2) =
+    let one = same_way call n v w there also in
+    same_datagram d e (hop-2 ∙ ap (λ (x : Way). x.hop) one ∙ sym hop) (text-2 ∙ ap (λ (x : Way). spelling (cancel_to call.fixed x n)) one ∙ sym text) why
+same_right call d e (cause.Ack n) r why a b = absurd cc
+same_right call d e cause.Answer r why a b = absurd cc
+same_right call d e cause.CancelOk r why a b = absurd cc
+
+pub repeats_same : RepeatsAreTheSame
+repeats_same call new turns first again built run (p, t, there, out) (q, u, also, out-2) r why =
+    let P : Cause → Type 0 = λ c. IsRight new again c in
+    let R : Cause → Type 0 = λ c. is_repeated c ≡ true in
+    same_right new first again first.cause r why
+    (sent_right turns call new first p t r built run there out)
+    (subst P why (sent_right turns call new again q u (subst R (sym why) r) built run also out-2))

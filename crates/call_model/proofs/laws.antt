@@ -1,0 +1,3 @@
+pub mod Logs
+pub mod RightDatagrams
+pub mod Waiting

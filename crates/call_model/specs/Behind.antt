@@ -1,0 +1,37 @@
+-- The failure that the first branch keeps is the response behind its stored answer (RFC 3261 section 16.7 steps 4 to 6).
+use Rattle.std.specs.Prelude.{◌≡◌, ℕ, true, List, Some, slice_get}
+use Rattle.fork_model.specs.Sources.{HasStored}
+use Rattle.fork_model.specs.Table.{Rules, StoredAnswer}
+use Rattle.fork_model.specs.History.{Target}
+use Rattle.fork_model.specs.Chosen.{HasFirst}
+use Rattle.fork_model.specs.Log.{events_of, opening_log, table_of}
+use Rattle.sip_text.specs.Text.{MessageText}
+use Rattle.call_model.specs.Begun.{begun}
+use Rattle.call_model.specs.Built.{answer_in, status_of}
+use Rattle.call_model.specs.Call.{Call, leg_at}
+use Rattle.call_model.specs.Fixed.{Fixed, Way, kind_of}
+use Rattle.call_model.specs.Response.{event_by}
+use Rattle.call_model.specs.Sound.{IsSound}
+use Rattle.call_model.specs.Step.{Turn, Step}
+
+-- branch n keeps a response, which was posted as the event at this position
+abbrev pub KeepsEvent : Call → (n at : ℕ) → Type 0
+KeepsEvent call n at =
+    (m : MessageText)
+    × (answer_in (leg_at call n) ≡ Some m)
+    × (slice_get (events_of call.log.history) at ≡ Some (event_by call.fixed.is_responsible n (status_of m) m))
+
+-- a branch with a stored answer that came, and that no stored answer ranks before, keeps the response that it was
+abbrev pub KeepsAnswers : Call → Type 0
+KeepsAnswers call =
+    (n : ℕ) (stored : StoredAnswer) → HasStored (table_of call.log) n stored → stored.received ≡ true
+    → HasFirst (table_of call.log) n → KeepsEvent call n stored.arrival
+
+abbrev pub BegunKeepsAnswers : Type 0
+BegunKeepsAnswers =
+    (fixed : Fixed) (rules : Rules) (targets : List Target) (ways : List Way)
+    → KeepsAnswers (begun fixed (opening_log (kind_of fixed) rules targets) ways)
+
+abbrev pub StepsKeepAnswers : Type 0
+StepsKeepAnswers =
+    (turn : Turn) (call new : Call) → IsSound call → KeepsAnswers call → Step turn.now call turn.input new turn.output → KeepsAnswers new

@@ -1,0 +1,91 @@
+-- What a call sends: each datagram, and the message that it spells (RFC 3261 sections 8.2.6, 9.1, 16.6, 16.7 and
+-- 17.1.1.3).
+use Rattle.std.specs.Prelude.{ℕ, nat_lt, Bool, false, List, [], Option, Some, None, map, slice_get, if◌then◌else◌}
+use Rattle.fork_model.specs.Table.{Offer, StoredAnswer}
+use Rattle.fork_model.specs.Choice.{Choice, Best, Only503, NoAnswer408, stored_at}
+use Rattle.fork_model.specs.Challenges.{challenge_list}
+use Rattle.sip_text.specs.Text.{MessageText, StartText, Request, Response}
+use Rattle.sip_uri.specs.declared.hop.Hop.{Hop}
+use Rattle.sip_build.specs.declared.responses.OwnStatus.{OwnStatus}
+use Rattle.sip_build.specs.declared.responses.OwnStatus.TheVariants as own
+use Rattle.sip_build.specs.Forwarding.{forwarded}
+use Rattle.sip_build.specs.Generated.{generated_of}
+use Rattle.sip_build.specs.Requests.{ack_of, cancel_of}
+use Rattle.sip_build.specs.Upward.{upward_of}
+use Rattle.call_model.specs.declared.cause.Cause.{Cause}
+use Rattle.call_model.specs.Fixed.{Fixed, Way, branch_at}
+use Rattle.call_model.specs.Leg.{Leg}
+use Rattle.call_model.specs.Server.{Owed, Trying, Passed, Final, Again, CancelOk}
+use Rattle.call_model.specs.Call.{Call, rows_of, leg_at}
+
+pub record Datagram : Type 0 where
+  pub to : Hop
+  pub bytes : List ℕ
+  pub cause : Cause
+
+-- ---- to a branch
+
+-- the request as it goes to target n (section 16.6)
+abbrev pub request_to : Fixed → Way → ℕ → MessageText
+request_to fixed way n = forwarded fixed.request way.uri fixed.own (branch_at fixed n)
+
+-- the ACK for a failure of branch n (section 17.1.1.3)
+abbrev pub ack_to : Fixed → Way → ℕ → MessageText → MessageText
+ack_to fixed way n response = ack_of (request_to fixed way n) response
+
+-- the CANCEL of branch n (section 9.1)
+abbrev pub cancel_to : Fixed → Way → ℕ → MessageText
+cancel_to fixed way n = cancel_of (request_to fixed way n)
+
+-- ---- to the caller
+
+abbrev pub generated : Fixed → OwnStatus → MessageText
+generated fixed status = generated_of fixed.request status
+
+abbrev pub text_of : Offer → List ℕ
+text_of offer = offer.text
+
+-- the contacts of a 3xx that the proxy did not try itself stand in it (section 16.7 step 4)
+abbrev pub kept_of : StoredAnswer → Option (List (List ℕ))
+kept_of answer = if nat_lt answer.status 400 then Some (map text_of answer.left) else None
+
+abbrev pub kept_at : Option StoredAnswer → Option (List (List ℕ))
+kept_at None = None
+kept_at (Some answer) = kept_of answer
+
+abbrev pub was_received : Option StoredAnswer → Bool
+was_received None = false
+was_received (Some answer) = answer.received
+
+abbrev pub answer_in : Option Leg → Option MessageText
+answer_in None = None
+answer_in (Some leg) = leg.answer
+
+-- the response of branch n as it goes up; a 408 where the proxy assumed one
+abbrev pub best_of : Call → ℕ → Option MessageText → MessageText
+best_of call n None = generated call.fixed own.RequestTimeout
+best_of call n (Some response) =
+    if was_received (stored_at (slice_get (rows_of call) n))
+    then upward_of response (kept_at (stored_at (slice_get (rows_of call) n))) (challenge_list (rows_of call) (Best n))
+    else generated call.fixed own.RequestTimeout
+
+-- the final answer (section 16.7 steps 6 to 9)
+abbrev pub final_of : Call → Choice → MessageText
+final_of call (Best n) = best_of call n (answer_in (leg_at call n))
+final_of call (Only503 n) = generated call.fixed own.ServerInternalError
+final_of call NoAnswer408 = generated call.fixed own.RequestTimeout
+
+abbrev pub status_of : MessageText → ℕ
+status_of m = of_start m.start
+  where
+    of_start : StartText → ℕ
+    of_start (Request method uri) = 0
+    of_start (Response status reason) = status
+
+-- the answer that an owed one becomes; None for those that are no answer of the server transaction
+abbrev pub answer_of : Call → Owed → Option MessageText
+answer_of call Trying = Some (generated call.fixed own.Trying)
+answer_of call (Passed response) = Some (upward_of response None [])
+answer_of call (Final choice) = Some (final_of call choice)
+answer_of call Again = None
+answer_of call (CancelOk cancel to) = None

@@ -1,0 +1,62 @@
+//! What holds of every call.
+ghost use Rattle.call_model.specs.Again.{LastAnswerIsKept, RepeatsAreTheSame};
+ghost use Rattle.call_model.specs.Behind.{BegunKeepsAnswers, StepsKeepAnswers};
+ghost use Rattle.call_model.specs.Datagrams.{BegunIsBuilt, DatagramsAreRight, StepsKeepBuilt};
+ghost use Rattle.call_model.specs.Sound.{BegunIsSound, StepsKeepSound};
+
+use fork_model::{
+    branches_go_on, finished_stays, others_stay_open, rows_keep_their_numbers, stored_answers_came,
+};
+use sip_text::header_values_are_values;
+
+/// Each datagram of a call is what its cause says (RFC 3261 sections 8.2.6, 9.1, 16.6, 16.7 and 17.1.1.3).
+///
+/// A law over the definitions, with nothing to run. A part of a call keeps what it sends as it was made: so a call
+/// begins, and no step changes it; where it is so, each datagram is that of its cause, to the hop of its branch or to
+/// the caller.
+pub fn datagrams_are_right()
+    ensures begun { BegunIsBuilt }
+    ensures kept { StepsKeepBuilt }
+    ensures right { DatagramsAreRight }
+{}
+
+/// What a call sends again is what it sent first: whatever happens to it, all requests that it sends to a branch are one
+/// datagram, byte for byte and to one hop, and so are all CANCELs; and what it keeps to send to its caller again is the
+/// answer that it sent last (RFC 3261 sections 9.1, 17.1.1.2, 17.1.2.2 and 17.2).
+///
+/// A law over the definitions, with nothing to run.
+pub fn repeats_are_the_same()
+    ensures branches { RepeatsAreTheSame }
+    ensures caller { LastAnswerIsKept }
+{}
+
+/// A call is sound as it begins to its targets, and each step keeps it so, where what a branch is given is a message with
+/// another Via value behind the proxy's own: a branch whose transaction waits has not ended, an INVITE alone has timer C,
+/// and what is kept for the caller can go up (RFC 3261 sections 16.7, 16.8 and 17.1).
+///
+/// A law over the definitions, with nothing to run.
+pub fn calls_stay_sound()
+    ensures begun { BegunIsSound }
+    ensures kept { StepsKeepSound }
+{
+    stored_answers_came();
+    rows_keep_their_numbers();
+    finished_stays();
+    others_stay_open();
+    header_values_are_values();
+}
+
+/// The failure that the first branch keeps, which may go up as the final answer, is the response behind its stored answer:
+/// where no stored answer ranks before that of a branch, and it came, then what the branch keeps was posted as the event
+/// at its arrival. So it is as a call begins, and each step of a sound call keeps it so (RFC 3261 section 16.7 steps 4 to
+/// 6).
+///
+/// A law over the definitions, with nothing to run.
+pub fn branches_keep_their_answers()
+    ensures begun { BegunKeepsAnswers }
+    ensures kept { StepsKeepAnswers }
+{
+    stored_answers_came();
+    branches_go_on();
+    rows_keep_their_numbers();
+}

@@ -1,0 +1,22 @@
+//! What a call is, in definitions: a request that was forked, the log of its fork, the client transaction of each branch
+//! and the server transaction of its caller; which datagrams it sends; what a message, a timer or a send that failed does
+//! to it (RFC 3261 sections 16 and 17).
+//!
+//! Beside the definitions stand the words for what a call does, as a datagram and its cause, and what holds of every call
+//! as laws, with nothing to run: each datagram is the right one, what is sent again is what was sent first, a call stays
+//! sound, and a branch keeps the failure that its stored answer stands for.
+#![tactic(auto)]
+
+mod cause;
+mod datagram;
+mod law;
+mod step;
+mod taken;
+
+pub use cause::Cause;
+pub use datagram::Datagram;
+pub use law::{
+    branches_keep_their_answers, calls_stay_sound, datagrams_are_right, repeats_are_the_same,
+};
+pub use step::Step;
+pub use taken::Taken;

@@ -1,9 +1,0 @@
-use Rattle.fork_parts.proofs.Behind.{begun_keeps, steps_keep_answers}
-use Rattle.fork_parts.proofs.law.branches_keep_their_answers.Goals as goal
-
-pub returns-clause-begun : goal.returns-clause-begun
-returns-clause-begun c fixed rules targets ways n stored has received first = begun_keeps c.stored_answers_came.ensures.always fixed rules targets ways n stored has received first
-
-pub returns-clause-kept : goal.returns-clause-kept
-returns-clause-kept c turn call new sound kept step =
-    steps_keep_answers c.stored_answers_came.ensures.by_event c.branches_go_on.ensures.by_event c.rows_keep_their_numbers.ensures.by_event turn call new sound kept step

@@ -1,2 +1,0 @@
--- What the proofs of the crates above may cite: the table of a log with one more event.
-pub use Rattle.fork_parts.proofs.SoundTables.{table_added}
