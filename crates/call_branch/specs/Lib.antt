@@ -1,0 +1,4 @@
+pub mod FixedInside
+pub mod LegInside
+pub mod AckOwed
+pub mod Views

@@ -1,0 +1,109 @@
+//! What a response is to a transaction and to the fork.
+ghost use Rattle.std.specs.Prelude.{◌≡◌};
+ghost use Rattle.call_model.specs.Failed.{is_fault};
+ghost use Rattle.call_branch.specs.LegInside.{answer_if, kept_if};
+ghost use Rattle.call_model.specs.Pump as pump;
+ghost use Rattle.call_model.specs.Server as server;
+ghost use Rattle.call_model.specs.Take as take;
+
+use sip_text::Message;
+use sip_txn::{TxEvent, TxPass, TxSend};
+use std::alloc::Allocator;
+
+/// The class of a response.
+pub fn response_event(status: u16) -> TxEvent
+    ensures { result ≡ take.response_event status }
+{
+    if status < 200 {
+        TxEvent::Provisional
+    } else if status < 300 {
+        TxEvent::Success
+    } else {
+        TxEvent::Failure
+    }
+}
+
+/// What the server transaction is fed for an answer.
+pub fn answer_event(status: u16) -> TxEvent
+    ensures { result ≡ server.answer_event status }
+{
+    if status < 200 {
+        TxEvent::AnswerProvisional
+    } else if status < 300 {
+        TxEvent::AnswerSuccess
+    } else {
+        TxEvent::AnswerFailure
+    }
+}
+
+/// Whether a transaction sends its response.
+pub fn is_response(send: TxSend) -> bool
+    ensures { result ≡ take.is_response send }
+{
+    match send {
+        TxSend::Response => true,
+        TxSend::Nothing | TxSend::Request | TxSend::Ack => false,
+    }
+}
+
+/// Whether a transaction sends its request.
+pub fn is_request(send: TxSend) -> bool
+    ensures { result ≡ pump.is_request send }
+{
+    match send {
+        TxSend::Request => true,
+        TxSend::Nothing | TxSend::Response | TxSend::Ack => false,
+    }
+}
+
+/// Whether a transaction hands up the response that came.
+pub fn is_passed(pass: TxPass) -> bool
+    ensures { result ≡ take.is_passed pass }
+{
+    match pass {
+        TxPass::Response => true,
+        TxPass::Nothing | TxPass::Timeout | TxPass::Fault | TxPass::Ack => false,
+    }
+}
+
+/// Whether a transaction has timed out.
+pub fn is_timeout(pass: TxPass) -> bool
+    ensures { result ≡ pump.is_timeout pass }
+{
+    match pass {
+        TxPass::Timeout => true,
+        TxPass::Nothing | TxPass::Response | TxPass::Fault | TxPass::Ack => false,
+    }
+}
+
+/// Whether a transaction has failed.
+pub fn is_fault(pass: TxPass) -> bool
+    ensures { result ≡ is_fault pass }
+{
+    match pass {
+        TxPass::Fault => true,
+        TxPass::Nothing | TxPass::Response | TxPass::Timeout | TxPass::Ack => false,
+    }
+}
+
+/// The response as it may go up, or else as it is kept.
+pub fn parted<A: Allocator>(
+    status: u16,
+    message: Message<A>,
+) -> (Option<Message<A>>, Option<Message<A>>)
+    ensures up { result.0 ≡ take.going_up status message }
+    ensures kept { result.1 ≡ answer_if status message }
+{
+    if status < 300 {
+        (Some(message), None)
+    } else {
+        (None, Some(message))
+    }
+}
+
+/// What is kept of a failure: one that a stored answer ranks before never goes up.
+pub fn kept_if<A: Allocator>(first: bool, failure: Option<Message<A>>) -> Option<Message<A>>
+    ensures { result ≡ kept_if first failure }
+{
+    if first { failure } else { None }
+}

@@ -1,0 +1,84 @@
+//! The server transaction of a call.
+ghost use Rattle.std.specs.Prelude.{◌≡◌, ◌↔◌, IsTrue};
+ghost use Rattle.fork_rank.specs.KindView.{kind_of};
+ghost use Rattle.call_model.specs.Server.{is_over, served_start, served_after, served_out, served_due};
+
+use fork_rank::Kind;
+use sip_txn::{InviteServer, InviteServerState, OtherServer, OtherServerState, TxEvent, TxOut};
+use std::marker::Model;
+
+/// The server transaction of an INVITE, or of another request.
+#[derive(Drop)]
+enum ServerMachine {
+    Invite(InviteServer),
+    Other(OtherServer),
+}
+
+/// The server transaction of a call (RFC 3261 section 17.2).
+#[derive(Drop)]
+pub struct Served {
+    machine: ServerMachine,
+}
+
+impl Model for Served {
+    ghost use Rattle.call_model.specs.Server as spec;
+    ghost use Rattle.call_branch.specs.Views.{served_of};
+
+    ghost Value = { spec.Served };
+
+    ghost view = { λ c. served_of c.machine };
+}
+
+impl Served {
+    /// One whose request came at this moment.
+    pub fn start(kind: Kind, now: u64) -> Self
+        ensures { result ≡ served_start (kind_of kind) }
+    {
+        let machine = match kind {
+            Kind::Invite => ServerMachine::Invite(InviteServer::start(now)),
+            Kind::Other => ServerMachine::Other(OtherServer::start(now)),
+        };
+        Served { machine }
+    }
+
+    /// The transaction after an event, and what it sends and passes.
+    pub fn fed(&self, event: TxEvent, now: u64) -> (Served, TxOut)
+        ensures after { result.0 ≡ served_after event now self.now }
+        ensures out { result.1 ≡ served_out event now self.now }
+    {
+        match self.machine {
+            ServerMachine::Invite(server) => {
+                let mut server = server;
+                let out = server.on(event, now);
+                let machine = ServerMachine::Invite(server);
+                (Served { machine }, out)
+            }
+            ServerMachine::Other(server) => {
+                let mut server = server;
+                let out = server.on(event, now);
+                let machine = ServerMachine::Other(server);
+                (Served { machine }, out)
+            }
+        }
+    }
+
+    /// The moment at which a tick is wanted.
+    pub fn due(&self) -> Option<u64>
+        ensures { result ≡ served_due self.now }
+    {
+        match &self.machine {
+            ServerMachine::Invite(server) => server.due(),
+            ServerMachine::Other(server) => server.due(),
+        }
+    }
+
+    /// Whether it has ended.
+    pub fn is_over(&self) -> bool
+        ensures { IsTrue result ↔ is_over self.now }
+    {
+        match &self.machine {
+            ServerMachine::Invite(server) => server.state() == InviteServerState::Terminated,
+            ServerMachine::Other(server) => server.state() == OtherServerState::Terminated,
+        }
+    }
+}
