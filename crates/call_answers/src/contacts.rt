@@ -1,0 +1,198 @@
+//! The contacts of a 3xx, as they are offered to the fork.
+ghost use Rattle.std.specs.Prelude.{◌≡◌, ◌≤◌, ◌++◌, ◌∷◌, [], map, None, IfOk, OnOk, option_copied};
+ghost use Rattle.std.specs.List.{AllByRecursion, flat_map};
+ghost use Rattle.std.specs.Option.{option_and_then, option_map};
+ghost use Rattle.fork_model.specs.Range.{most_q};
+ghost use Rattle.sip_uri.specs.Key.{key_of};
+ghost use Rattle.sip_uri.specs.SeenContact.{view_contact, view_contacts};
+ghost use Rattle.call_model.specs.Fixed.{way_to};
+ghost use Rattle.call_model.specs.Posting.{way_of_contact};
+ghost use Rattle.call_model.specs.Response.{contact_for, contacts_at, contacts_by, contacts_for, contacts_in, is_redirection, offer_of};
+
+use call_branch::{Fixed, Way};
+use fork_context::Offer;
+use sip_text::{Message, Values};
+use sip_uri::{Contact, SipUri, UriFault, read_contacts};
+use std::alloc::{AllocError, Allocator};
+
+/// The q of a contact that cannot be read.
+const FULL_WEIGHT: u16 = 1000;
+
+/// Contacts as the fork is offered them, and for each where its request goes, where it may be tried.
+#[derive(Drop)]
+pub(crate) struct Offered<A: Allocator> {
+    pub(crate) offers: Vec<Offer<A>, A>,
+    pub(crate) ways: Vec<Option<Way<A>>, A>,
+}
+
+// ---- reading
+
+/// A value that cannot be read, as one contact, which cannot be tried.
+fn unread<A: Allocator + Clone>(alloc: &A, value: &[u8]) -> Result<Vec<Contact<A>, A>, AllocError>
+    ensures { IfOk result (λ cs. view_contacts cs.items ≡ record { text = value.now; q = 1000; uri = None } ∷ []) }
+{
+    let mut contacts = Vec::with_capacity(alloc.clone()?, 1)?;
+    contacts.push(Contact {
+        text: Vec::from_slice(alloc.clone()?, value)?,
+        q: FULL_WEIGHT,
+        uri: None,
+    })?;
+    Ok(contacts)
+}
+
+/// The contacts of a Contact value.
+fn contacts_at<A: Allocator + Clone>(
+    alloc: &A,
+    value: &[u8],
+) -> Result<Vec<Contact<A>, A>, AllocError>
+    ensures { IfOk result (λ cs. view_contacts cs.items ≡ contacts_at value.now) }
+{
+    match read_contacts(alloc.clone()?, value) {
+        Ok(contacts) => Ok(contacts),
+        Err(UriFault::NoMemory) => Err(AllocError),
+        Err(UriFault::NotSip | UriFault::BadHost | UriFault::BadPort | UriFault::BadText) => {
+            unread(alloc, value)
+        }
+    }
+}
+
+/// Adds the contacts of one more value.
+fn add_contacts<A: Allocator + Clone>(
+    contacts: &mut Vec<Contact<A>, A>,
+    alloc: &A,
+    value: &[u8],
+) -> Result<(), AllocError>
+    ensures { OnOk result (view_contacts contacts.new.items ≡ view_contacts contacts.old.items ++ contacts_at value.now) }
+{
+    let mut more = contacts_at(alloc, value)?;
+    contacts.append(&mut more)
+}
+
+/// Adds the contacts of the values left.
+fn add_each<A: Allocator + Clone>(
+    contacts: &mut Vec<Contact<A>, A>,
+    alloc: &A,
+    mut values: Values<'_, '_, A>,
+) -> Result<(), AllocError>
+    ensures { OnOk result (view_contacts contacts.new.items ≡ view_contacts contacts.old.items ++ flat_map contacts_at values.entry) }
+{
+    while let Some(value) = values.next() {
+        add_contacts(contacts, alloc, value)?;
+    }
+    Ok(())
+}
+
+/// The contacts of a message, in order.
+fn contacts_in<A: Allocator + Clone>(
+    alloc: &A,
+    message: &Message<A>,
+) -> Result<Vec<Contact<A>, A>, AllocError>
+    ensures { IfOk result (λ cs. view_contacts cs.items ≡ contacts_in message.now) }
+{
+    let mut contacts = Vec::new(alloc.clone()?);
+    add_each(&mut contacts, alloc, message.values(b"contact"))?;
+    Ok(contacts)
+}
+
+/// Whether the contacts of a response with this status count.
+fn is_redirection(status: u16) -> bool
+    ensures { result ≡ is_redirection status }
+{
+    status >= 300 && status < 400
+}
+
+/// The contacts of a response that count.
+fn contacts_by<A: Allocator + Clone>(
+    alloc: &A,
+    status: u16,
+    message: &Message<A>,
+) -> Result<Vec<Contact<A>, A>, AllocError>
+    ensures { IfOk result (λ cs. view_contacts cs.items ≡ contacts_by status message.now) }
+{
+    if is_redirection(status) {
+        contacts_in(alloc, message)
+    } else {
+        Ok(Vec::new(alloc.clone()?))
+    }
+}
+
+// ---- offering
+
+/// Where the request to a URI goes: by the first Route value, if there is one, else by the URI (RFC 3261 section 16.6
+/// steps 6 and 7).
+fn way_of<A: Allocator + Clone>(fixed: &Fixed<A>, uri: Option<SipUri<A>>) -> Option<Way<A>>
+    ensures { result ≡ option_and_then (way_to fixed.now) uri }
+{
+    let uri = uri?;
+    let hop = match fixed.route() {
+        Some(hop) => hop,
+        None => uri.next_hop()?,
+    };
+    Some(Way::new(uri, hop))
+}
+
+/// The key of a contact that may be tried.
+fn key_of<A: Allocator + Clone>(
+    alloc: &A,
+    uri: Option<&SipUri<A>>,
+) -> Result<Option<Vec<u8, A>>, AllocError>
+    ensures { IfOk result (λ key. option_map (λ v. v.items) key ≡ option_map key_of (option_copied uri.entry)) }
+{
+    match uri {
+        Some(uri) => Ok(Some(Vec::from_slice(alloc.clone()?, uri.key())?)),
+        None => Ok(None),
+    }
+}
+
+impl<A: Allocator + Clone> Offered<A> {
+    /// Adds a contact, which may be tried only where the proxy is responsible for the Request-URI of the call (RFC 3261
+    /// section 16.5).
+    fn push(&mut self, alloc: &A, fixed: &Fixed<A>, contact: Contact<A>) -> Result<(), AllocError>
+        requires { contact.q ≤ most_q }
+        ensures offers { OnOk result (self.new.offers.items ≡ self.old.offers.items ++ offer_of (contact_for fixed.now.is_responsible (view_contact contact)) ∷ []) }
+        ensures ways { OnOk result (self.new.ways.items ≡ self.old.ways.items ++ way_of_contact fixed.now (contact_for fixed.now.is_responsible (view_contact contact)) ∷ []) }
+    {
+        let Contact { text, q, uri } = contact;
+        let uri = if fixed.is_responsible() { uri } else { None };
+        let key = key_of(alloc, uri.as_ref())?;
+        self.offers.push(Offer::new(text, q, key))?;
+        self.ways.push(way_of(fixed, uri))?;
+        Ok(())
+    }
+}
+
+/// These contacts, offered to the fork of a call.
+fn offers_of<A: Allocator + Clone>(
+    alloc: &A,
+    fixed: &Fixed<A>,
+    contacts: Vec<Contact<A>, A>,
+) -> Result<Offered<A>, AllocError>
+    requires { AllByRecursion (λ c. c.q ≤ most_q) (view_contacts contacts.items) }
+    ensures offers { IfOk result (λ o. o.offers.items ≡ map offer_of (map (contact_for fixed.now.is_responsible) (view_contacts contacts.items))) }
+    ensures ways { IfOk result (λ o. o.ways.items ≡ map (way_of_contact fixed.now) (map (contact_for fixed.now.is_responsible) (view_contacts contacts.items))) }
+{
+    let mut made = Offered {
+        offers: Vec::with_capacity(alloc.clone()?, contacts.len())?,
+        ways: Vec::with_capacity(alloc.clone()?, contacts.len())?,
+    };
+    for contact in contacts {
+        made.push(alloc, fixed, contact)?;
+    }
+    Ok(made)
+}
+
+/// The contacts of a response that count, offered to the fork of a call: each with the URI and the hop of its request,
+/// where it may be tried, as none may where the proxy is not responsible for the Request-URI of the call (RFC 3261 sections
+/// 16.5 and 16.6).
+pub(crate) fn offered_by<A: Allocator + Clone>(
+    alloc: &A,
+    fixed: &Fixed<A>,
+    status: u16,
+    message: &Message<A>,
+) -> Result<Offered<A>, AllocError>
+    ensures offers { IfOk result (λ o. o.offers.items ≡ map offer_of (contacts_for fixed.now.is_responsible status message.now)) }
+    ensures ways { IfOk result (λ o. o.ways.items ≡ map (way_of_contact fixed.now) (contacts_for fixed.now.is_responsible status message.now)) }
+{
+    let contacts = contacts_by(alloc, status, message)?;
+    offers_of(alloc, fixed, contacts)
+}

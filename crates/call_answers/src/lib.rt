@@ -1,0 +1,15 @@
+//! What a response of a branch says to the fork, as its status, the contacts of a 3xx and the challenges of a 401 or a 407;
+//! which of its contacts become new branches, and where their requests go; and the answers that are owed to the caller, in
+//! the order in which they go out (RFC 3261 sections 16.5 to 16.7).
+#![tactic(auto)]
+
+mod contacts;
+mod owed;
+mod queue;
+mod rows;
+mod said;
+
+pub use owed::{again_if, count_of, first_owed, owed_by};
+pub use queue::{NewAnswer, OwedAnswer, OwedAnswers, Queue};
+pub use rows::{add_rows, place_of};
+pub use said::Said;
