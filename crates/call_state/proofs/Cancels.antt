@@ -1,0 +1,48 @@
+-- The caller's CANCEL is posted.
+use Rattle.call_state.proofs.Common.{◌≡◌, ◌∙◌, ℕ, ap, refl, sym, true, false, Bool, List, [], ◌∷◌, ◌++◌, drop, length, Option, None, append-nil, ◌&&◌, cond, map, not, Cancel, Reply, next, IsAdded, Log, added, core_of, table_of, MessageText}
+use Rattle.call_state.proofs.Common.{Hop, Call, Way, Leg, call_tag, gone_on, no_leg, owed_by, owes, rows_more, ways_of, Owed, CancelOk, IsSound, CancelledBy, Posted, cancels}
+use Rattle.std.proofs.Math.Seq.{drop-length}
+use Rattle.fork_model.specs.Table as table
+use Rattle.fork_model.specs.OpenBranches.{FittingEventsAreTaken}
+use Rattle.call_model.specs.Fixed as fixed
+use Rattle.call_model.specs.Take.{owes_cancel_ok}
+
+-- an INVITE is one by its table, too
+pub kind_is : (call : Call) → IsSound call → table.is_invite (table_of call.log).kind ≡ fixed.is_invite call.fixed
+kind_is call sound = ap table.is_invite sound.kind ∙ by (fixed.is_invite call.fixed)
+  where
+    by : (b : Bool) → table.is_invite (cond {A = table.Kind} b table.Invite table.Other) ≡ b
+    by true = refl
+    by false = refl
+
+pub cancel_posts : FittingEventsAreTaken → (call new : Call) (cancel : MessageText) (to : Hop) (reply : Reply) (log : Log) (at : ℕ)
+    → cancels call ≡ true
+    → IsSound call
+    → IsAdded call.log call_tag Cancel reply log
+    → length (next (table_of call.log) Cancel (length call.log.history)).rows ≡ length (table_of call.log).rows
+    → at ≡ length call.log.history
+    → new ≡ record call { log = log; server = record call.server { owed = (call.server.owed ++ CancelOk cancel to ∷ []) ++ owed_by reply.up None } }
+    → CancelledBy call cancel to (Posted at) new
+cancel_posts taken call new cancel to reply log at closes sound is none at_is new_is =
+    let more = added call.log call_tag Cancel reply in
+    let mid = owes_cancel_ok call cancel to in
+    let same : length (table_of more).rows ≡ length (table_of call.log).rows =
+    ap (λ (l : Log). length (table_of l).rows) (sym is.whole) ∙ ap (λ (t : table.Table). length t.rows) is.goes_on ∙ none in
+    let nothing : rows_more call.log more ≡ [] =
+    ap (λ (n : ℕ). drop n (table_of more).rows) (sym same) ∙ drop-length (table_of more).rows in
+    let ways : call.ways ≡ call.ways ++ ways_of call.fixed [] (rows_more call.log more) =
+    sym (ap (λ (rs : List table.Row). call.ways ++ ways_of call.fixed [] rs) nothing ∙ append-nil call.ways) in
+    let legs : call.legs ≡ call.legs ++ map no_leg (rows_more call.log more) =
+    sym (ap (λ (rs : List table.Row). call.legs ++ map no_leg rs) nothing ∙ append-nil call.legs) in
+    let fits : (table.is_invite (table_of call.log).kind && not (table_of call.log).closed) ≡ true =
+    ap (λ (b : Bool). b && not (table_of call.log).closed) (kind_is call sound) ∙ closes in
+    let follows : new ≡ owes (gone_on mid [] more) (owed_by reply.up None) =
+    new_is
+    ∙ ap (λ (l : Log). record mid { log = l; server = record mid.server { owed = mid.server.owed ++ owed_by reply.up None } }) is.whole
+    ∙ ap (λ (ws : List Way). record mid { log = more; ways = ws; server = record mid.server { owed = mid.server.owed ++ owed_by reply.up None } }) ways
+    ∙ ap (λ (ls : List (Option Leg)). record mid { log = more; ways = call.ways ++ ways_of call.fixed [] (rows_more call.log more); legs = ls; server = record mid.server { owed = mid.server.owed ++ owed_by reply.up None } }) legs in
+    (closes, reply, is.replied.position ∙ sym at_is, record { taken = taken (core_of call.log) Cancel fits; reply_is = is.replied; follows = follows })
+
+pub owed_both : (first second third fourth ups more : List Owed) (okay : Owed) → second ≡ first → third ≡ second ++ okay ∷ [] → fourth ≡ third ++ ups → ups ≡ more → fourth ≡ (first ++ okay ∷ []) ++ more
+owed_both first second third fourth ups more okay a b d e =
+    d ∙ ap (λ (x : List Owed). third ++ x) e ∙ ap (λ (x : List Owed). x ++ more) (b ∙ ap (λ (x : List Owed). x ++ okay ∷ []) a)

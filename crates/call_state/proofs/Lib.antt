@@ -1,0 +1,14 @@
+pub mod Common
+pub mod Sizes
+pub mod Sends
+pub mod Failing
+pub mod Cancels
+pub mod Firing
+pub mod Changing
+pub mod Responding
+pub mod StateRows
+pub mod Paying
+pub mod Deeds
+pub mod Beginning
+pub mod NewRows
+pub mod laws

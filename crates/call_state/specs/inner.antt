@@ -1,0 +1,4 @@
+pub mod AnswersInside
+pub mod PartsInside
+pub mod Plain
+pub mod StatesShown

@@ -1,0 +1,40 @@
+-- What the first answer that is owed becomes, in memory.
+use Rattle.std.specs.Prelude.{◌≡◌, List, [], ◌∷◌, Option, Some, None}
+use Rattle.sip_text.specs.Text.{MessageText, spelling}
+use Rattle.sip_uri.specs.declared.hop.Hop.{Hop}
+use Rattle.sip_build.specs.declared.responses.OwnStatus.TheVariants.{Okay}
+use Rattle.sip_build.specs.Generated.{generated_of}
+use Rattle.call_state.specs.declared.answers.Payment.{Payment}
+use Rattle.call_state.specs.declared.answers.Payment.TheVariants as payment
+use Rattle.call_model.specs.declared.cause.Cause.TheVariants as cause
+use Rattle.call_model.specs.Built.{answer_of, status_of}
+use Rattle.call_model.specs.Call.{Call}
+use Rattle.call_state.specs.inner.PartsInside.{answer_to}
+use Rattle.call_model.specs.SeenDatagram.{seen}
+use Rattle.call_model.specs.Server.{Owed, Again, CancelOk}
+
+-- the answer m, by its status and its text
+abbrev pub IsText : {A : Type 0} → MessageText → Payment A → Type 0
+IsText m (payment.Sent d) = ⊥
+IsText m (payment.Answer status text) = (status ≡ status_of m) × (text.items ≡ spelling m)
+
+-- the last answer again
+abbrev pub IsPaidAgain : {A : Type 0} → Call → Payment A → Type 0
+IsPaidAgain call (payment.Sent d) = seen d ≡ answer_to call.fixed call.server.last
+IsPaidAgain call (payment.Answer status text) = ⊥
+
+-- the 200 to this CANCEL
+abbrev pub IsPaidOk : {A : Type 0} → MessageText → Hop → Payment A → Type 0
+IsPaidOk cancel to (payment.Sent d) = seen d ≡ record { to = to; bytes = spelling (generated_of cancel Okay); cause = cause.CancelOk }
+IsPaidOk cancel to (payment.Answer status text) = ⊥
+
+abbrev pub IsAnswered : {A : Type 0} → Option MessageText → Payment A → Type 0
+IsAnswered None paid = ⊥
+IsAnswered (Some m) paid = IsText m paid
+
+-- by the first of those that are owed
+abbrev pub IsPaid : {A : Type 0} → Call → List Owed → Payment A → Type 0
+IsPaid call [] paid = ⊥
+IsPaid call (Again ∷ rest) paid = IsPaidAgain call paid
+IsPaid call (CancelOk cancel to ∷ rest) paid = IsPaidOk cancel to paid
+IsPaid call (owed ∷ rest) paid = IsAnswered (answer_of call owed) paid

@@ -1,0 +1,198 @@
+//! The first answer that is owed to the caller, as it is sent.
+ghost use Rattle.std.specs.Prelude.{◌≡◌, ◌<◌, [], length, map, None, Some, true, IfOk, OnErr};
+ghost use Rattle.std.specs.List.{list_all};
+ghost use Rattle.fork_model.specs.Log.{table_of};
+ghost use Rattle.fork_model.specs.Chosen.{IsChosen};
+ghost use Rattle.fork_context.specs.ReplyView.{choice_of};
+ghost use Rattle.fork_model.specs.Choice as choice;
+ghost use Rattle.sip_build.specs.SeenKept.{seen_kept, texts};
+ghost use Rattle.sip_build.specs.Upward.{AreKept, is_challenge, upward_of};
+ghost use Rattle.sip_via.specs.TopVia.{has_second, via_values};
+ghost use Rattle.call_state.specs.inner.AnswersInside.{IsPaid, IsPaidOk, IsText};
+ghost use Rattle.call_model.specs.Built.{final_of, generated, status_of, text_of};
+ghost use Rattle.call_model.specs.Due.{SendAnswer};
+ghost use Rattle.call_model.specs.Pump.{Does};
+ghost use Rattle.call_model.specs.SeenStep.{pumped};
+ghost use Rattle.call_model.specs.Sound.{IsSound};
+
+use crate::parts::Parts;
+use crate::states::shows_received;
+use call_answers::OwedAnswer;
+use call_branch::Fixed;
+use call_model::{Cause, Datagram, Step};
+use fork_context::{Challenge, Choice, Offer};
+use sip_build::{OwnStatus, write_generated, write_upward};
+use sip_text::{Message, Start};
+use sip_uri::Hop;
+use std::alloc::{AllocError, Allocator};
+
+/// What the first answer that is owed becomes: a datagram that is fed to no transaction, or an answer with this status
+/// and this text.
+#[derive(Drop)]
+pub(crate) enum Payment<A: Allocator> {
+    Sent(Datagram<A>),
+    Answer(u16, Vec<u8, A>),
+}
+
+/// The status of a response; 0 of a request.
+fn status_of<A: Allocator>(message: &Message<A>) -> u16
+    ensures { result ≡ status_of message.now }
+{
+    match message.start() {
+        Start::Request { .. } => 0,
+        Start::Response { status, .. } => *status,
+    }
+}
+
+/// The proxy's own answer of this status.
+fn own_answer<A: Allocator>(
+    alloc: A,
+    fixed: &Fixed<A>,
+    status: OwnStatus,
+) -> Result<Payment<A>, AllocError>
+    ensures { IfOk result (IsText (generated fixed.now status)) }
+{
+    let mut text = Vec::new(alloc);
+    write_generated(fixed.request(), status, &mut text)?;
+    Ok(Payment::Answer(status.code(), text))
+}
+
+/// A response as it goes up.
+fn upward_answer<'a, A: Allocator>(
+    alloc: A,
+    response: &Message<A>,
+    kept: Option<&'a [&'a [u8]]>,
+    challenges: &[Challenge<A>],
+) -> Result<Payment<A>, AllocError>
+    requires second { has_second (via_values response.now) ≡ true }
+    requires kept { AreKept (seen_kept kept) }
+    requires challenges { list_all is_challenge challenges.now ≡ true }
+    ensures { IfOk result (IsText (upward_of response.now (seen_kept kept.entry) challenges.now)) }
+{
+    let mut text = Vec::new(alloc);
+    match write_upward(response, kept, challenges, &mut text) {
+        Ok(()) => Ok(Payment::Answer(status_of(response), text)),
+        Err(_) => Err(AllocError),
+    }
+}
+
+/// A provisional response or a 2xx as it goes up.
+fn passed_answer<A: Allocator + Clone>(
+    alloc: A,
+    response: &Message<A>,
+) -> Result<Payment<A>, AllocError>
+    requires second { has_second (via_values response.now) ≡ true }
+    ensures { IfOk result (IsText (upward_of response.now None [])) }
+{
+    let none = Vec::new(alloc.clone()?);
+    upward_answer(alloc, response, None, &none)
+}
+
+/// The 200 to a CANCEL.
+fn cancel_ok<A: Allocator>(alloc: A, cancel: &Message<A>, to: Hop) -> Result<Payment<A>, AllocError>
+    ensures { IfOk result (IsPaidOk cancel.now to) }
+{
+    let mut bytes = Vec::new(alloc);
+    write_generated(cancel, OwnStatus::Okay, &mut bytes)?;
+    Ok(Payment::Sent(Datagram {
+        to,
+        bytes,
+        cause: Cause::CancelOk,
+    }))
+}
+
+/// The texts of these contacts.
+fn texts_of<'a, A: Allocator>(
+    alloc: A,
+    offers: &'a [Offer<A>],
+) -> Result<Vec<&'a [u8], A>, AllocError>
+    ensures { IfOk result (λ made. texts made.items ≡ map text_of offers.now) }
+{
+    let mut made = Vec::with_capacity(alloc, offers.len())?;
+    for offer in offers {
+        made.push(offer.text())?;
+    }
+    Ok(made)
+}
+
+impl<A: Allocator + Clone> Parts<A> {
+    /// The response of branch n as it goes up, as the choice of the table.
+    fn best_answer(&self, n: u16) -> Result<Payment<A>, AllocError>
+        requires sound { IsSound self.now }
+        requires chosen { IsChosen (table_of self.now.log) (Some (choice.Best n)) }
+        ensures { IfOk result (IsText (final_of self.now (choice.Best n))) }
+    {
+        let Some(response) = self.kept_answer(n) else {
+            return own_answer(self.allocator()?, self.fixed(), OwnStatus::RequestTimeout);
+        };
+        if !shows_received(self.state(n)) {
+            return own_answer(self.allocator()?, self.fixed(), OwnStatus::RequestTimeout);
+        }
+        let mut challenges = Vec::new(self.allocator()?);
+        self.book().context().challenges(&mut challenges)?;
+        let Some(left) = self.book().context().left(n) else {
+            return upward_answer(self.allocator()?, response, None, &challenges);
+        };
+        let texts = texts_of(self.allocator()?, left)?;
+        upward_answer(self.allocator()?, response, Some(&texts), &challenges)
+    }
+
+    /// The final answer, which is the choice of the table (RFC 3261 section 16.7 steps 6 to 9).
+    fn final_answer(&self, choice: Choice) -> Result<Payment<A>, AllocError>
+        requires sound { IsSound self.now }
+        requires chosen { IsChosen (table_of self.now.log) (Some (choice_of choice)) }
+        ensures { IfOk result (IsText (final_of self.now (choice_of choice))) }
+    {
+        match choice {
+            Choice::Stored(n) => self.best_answer(n),
+            Choice::Only503(_) => own_answer(
+                self.allocator()?,
+                self.fixed(),
+                OwnStatus::ServerInternalError,
+            ),
+            Choice::NoAnswer408 => {
+                own_answer(self.allocator()?, self.fixed(), OwnStatus::RequestTimeout)
+            }
+        }
+    }
+
+    /// What the first answer that is owed becomes.
+    fn payment(&self) -> Result<Payment<A>, AllocError>
+        requires some { 0 < length self.now.server.owed }
+        requires sound { IsSound self.now }
+        ensures { IfOk result (IsPaid self.now self.now.server.owed) }
+    {
+        let Some(first) = self.owed().first() else {
+            unreachable!()
+        };
+        match first {
+            OwedAnswer::Trying => own_answer(self.allocator()?, self.fixed(), OwnStatus::Trying),
+            OwedAnswer::Passed(response) => passed_answer(self.allocator()?, response),
+            OwedAnswer::Final(choice) => self.final_answer(choice),
+            OwedAnswer::Again => Ok(Payment::Sent(self.last_again()?)),
+            OwedAnswer::CancelOk(cancel, to) => cancel_ok(self.allocator()?, cancel, to),
+        }
+    }
+
+    /// Sends the first answer that is owed to the caller. The 100, a response of a branch as it goes up and the final
+    /// answer are made now and given to the server transaction, which sends or drops them; the last answer again and the
+    /// 200 to a CANCEL are sent as they are (RFC 3261 sections 9.2, 16.7 steps 6 to 9 and 17.2).
+    ///
+    /// # Errors
+    ///
+    /// Only where the allocator refuses; then the parts are as they were.
+    pub fn send_owed(&mut self, now: u64) -> Result<Step<A>, AllocError>
+        requires some { 0 < length self.old.server.owed }
+        requires sound { IsSound self.old }
+        ensures ok { IfOk result (λ step. Does self.old now SendAnswer (pumped step) self.new) }
+        ensures err { OnErr result (self.new ≡ self.old) }
+    {
+        match self.payment()? {
+            Payment::Sent(datagram) => {
+                self.pay();
+                Ok(Step::Send(datagram))
+            }
+            Payment::Answer(status, text) => self.send_answer(status, text, now),
+        }
+    }
+}

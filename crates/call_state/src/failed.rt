@@ -1,0 +1,72 @@
+//! A datagram of a call that could not be sent.
+ghost use Rattle.std.specs.Prelude.{◌≡◌, OnErr, OnOk};
+ghost use Rattle.call_model.specs.Call.{leg_at};
+ghost use Rattle.call_model.specs.Failed.{Fails, FaultsClient, cancel_faulted};
+ghost use Rattle.call_model.specs.Sound.{IsSound};
+
+use crate::parts::Parts;
+use call_branch::is_fault;
+use call_model::Cause;
+use fork_context::Event;
+use sip_txn::TxEvent;
+use std::alloc::{AllocError, Allocator};
+
+impl<A: Allocator + Clone> Parts<A> {
+    /// The client transaction of branch n is told that its request, or its ACK, could not be sent.
+    fn fault_client(&mut self, n: u16, now: u64) -> Result<(), AllocError>
+        requires sound { IsSound self.old }
+        ensures ok { OnOk result (FaultsClient self.old now n (leg_at self.old n) self.new) }
+        ensures err { OnErr result (self.new ≡ self.old) }
+    {
+        let Some(leg) = self.leg(n) else {
+            return Ok(());
+        };
+        let (client, out) = leg.fed(TxEvent::TransportError, now);
+        if !is_fault(out.pass) {
+            self.respond_part(n, client, None);
+            return Ok(());
+        }
+        self.end_part(n, client, Event::Fault(n))
+    }
+
+    /// That of its CANCEL is told so.
+    fn fault_cancel(&mut self, n: u16, now: u64)
+        ensures { self.new ≡ cancel_faulted self.old now n (leg_at self.old n) }
+    {
+        let Some(leg) = self.leg(n) else {
+            return;
+        };
+        let Some(cancelling) = leg.cancelling() else {
+            return;
+        };
+        let (client, _out) = cancelling.fed(TxEvent::TransportError, now);
+        self.cancel_on_part(n, client);
+    }
+
+    /// Tells of a datagram that could not be sent: the transaction of its cause hears of it, and the branch of a request
+    /// ends where that transaction waits for a response (RFC 3261 sections 16.9 and 17.1.4). The 200 to a CANCEL has no
+    /// transaction, and nothing changes.
+    ///
+    /// # Errors
+    ///
+    /// Only where the allocator refuses; then the parts are as they were.
+    pub fn failed(&mut self, cause: Cause, now: u64) -> Result<(), AllocError>
+        requires sound { IsSound self.old }
+        ensures ok { OnOk result (Fails self.old now cause self.new) }
+        ensures err { OnErr result (self.new ≡ self.old) }
+    {
+        match cause {
+            Cause::Request(n) => self.fault_client(n, now),
+            Cause::Ack(n) => self.fault_client(n, now),
+            Cause::Cancel(n) => {
+                self.fault_cancel(n, now);
+                Ok(())
+            }
+            Cause::Answer => {
+                self.feed_server(TxEvent::TransportError, now);
+                Ok(())
+            }
+            Cause::CancelOk => Ok(()),
+        }
+    }
+}

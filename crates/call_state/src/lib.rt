@@ -1,0 +1,18 @@
+//! The state of a call: what it was opened with, the log of its fork, a part for each branch whose request was sent, and
+//! the side of its caller (RFC 3261 sections 16 and 17).
+//!
+//! Each public call changes one part: a branch is sent its request, its ACK or its CANCEL, one of its timers fires, a
+//! response comes to it, an answer goes to the caller. Which transaction a message belongs to, and what is to be done at
+//! a moment, is for a layer above: no message is read here, and nothing is looked for.
+#![tactic(auto)]
+
+mod answers;
+mod branch;
+mod failed;
+mod fault;
+mod look;
+mod parts;
+mod states;
+
+pub use fault::PostFault;
+pub use parts::Parts;

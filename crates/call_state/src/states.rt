@@ -1,0 +1,56 @@
+//! Where a branch is.
+ghost use Rattle.std.specs.Prelude.{◌≡◌};
+ghost use Rattle.call_state.specs.inner.StatesShown as shown;
+
+use fork_context::{End, State};
+
+/// It was tried, and no response to it has come.
+pub(crate) fn shows_trying(state: Option<State>) -> bool
+    ensures { result ≡ shown.shows_trying state }
+{
+    match state {
+        Some(State::Trying) => true,
+        Some(State::Idle | State::Rung { .. } | State::Ended(_)) | None => false,
+    }
+}
+
+/// It was tried, and has not ended.
+pub(crate) fn shows_open(state: Option<State>) -> bool
+    ensures { result ≡ shown.shows_open state }
+{
+    match state {
+        Some(State::Trying | State::Rung { .. }) => true,
+        Some(State::Idle | State::Ended(_)) | None => false,
+    }
+}
+
+/// It is cancelled, and has not ended.
+pub(crate) fn shows_cancelled(state: Option<State>) -> bool
+    ensures { result ≡ shown.shows_cancelled state }
+{
+    match state {
+        Some(State::Rung { cancelled }) => cancelled,
+        Some(State::Idle | State::Trying | State::Ended(_)) | None => false,
+    }
+}
+
+/// It was tried, and is neither cancelled nor has it ended.
+pub(crate) fn shows_timer_c(state: Option<State>) -> bool
+    ensures { result ≡ shown.shows_timer_c state }
+{
+    match state {
+        Some(State::Trying) => true,
+        Some(State::Rung { cancelled }) => !cancelled,
+        Some(State::Idle | State::Ended(_)) | None => false,
+    }
+}
+
+/// It ended with an answer that it gave.
+pub(crate) fn shows_received(state: Option<State>) -> bool
+    ensures { result ≡ shown.shows_received state }
+{
+    match state {
+        Some(State::Ended(End::Stored { received, .. })) => received,
+        Some(State::Idle | State::Trying | State::Rung { .. } | State::Ended(_)) | None => false,
+    }
+}

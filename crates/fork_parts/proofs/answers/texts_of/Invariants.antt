@@ -1,5 +1,0 @@
-use Rattle.fork_parts.proofs.Common.{◌≡◌, map, take, texts, text_of}
-use Rattle.fork_parts.proofs.answers.texts_of.Given as goal
-
-abbrev pub invariant-loop-offer : goal.invariant-loop-offer
-invariant-loop-offer g l = texts l.made.items ≡ map text_of (take l.offer-index l.offers)

@@ -1,9 +1,0 @@
-pub mod AnswersInside
-pub mod Datagrams
-pub mod LegInside
-pub mod NewWays
-pub mod PartsInside
-pub mod Plain
-pub mod Queue
-pub mod StatesShown
-pub mod Views
