@@ -4,10 +4,10 @@ use Rattle.std.specs.Prelude.{IfOk}
 use Rattle.fork_model.specs.History.{Target}
 use Rattle.fork_model.specs.Table.{Kind, Rules}
 use Rattle.fork_model.specs.Log.{Log, opening_log}
-use Rattle.fork_parts.specs.Begun.{begun}
-use Rattle.fork_parts.specs.Call.{Call}
-use Rattle.fork_parts.specs.Fixed.{Fixed, Way, kind_of}
-use Rattle.fork_parts.specs.Sound.{BegunIsSound, IsSound}
+use Rattle.call_model.specs.Begun.{begun}
+use Rattle.call_model.specs.Call.{Call}
+use Rattle.call_model.specs.Fixed.{Fixed, Way, kind_of}
+use Rattle.call_model.specs.Sound.{BegunIsSound, IsSound}
 
 pub begins_sound : {E : Type 0} → BegunIsSound → (r : Result Call E) (fixed : Fixed) (rules : Rules) (targets : List Target) (ways : List Way) (log : Log) (kind : Kind)
     → IfOk r (λ call. call ≡ begun fixed log ways) → log ≡ opening_log kind rules targets → kind ≡ kind_of fixed → IfOk r IsSound

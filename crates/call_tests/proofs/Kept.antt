@@ -5,19 +5,19 @@ use Rattle.std.proofs.lemmas.Bool.{and_from}
 use Rattle.fork_model.specs.Table.{is_trying}
 use Rattle.sip_text.specs.Message.{IsMessage}
 use Rattle.sip_text.specs.Text.{MessageText}
-use Rattle.fork_parts.specs.Built.{Datagram, answer_of, status_of}
-use Rattle.fork_parts.specs.Call.{Call, is_sent, leg_at, row_passes}
-use Rattle.fork_parts.specs.Due.{SendAnswer, SendRequest, is_any}
-use Rattle.fork_parts.specs.Fixed.{Way}
-use Rattle.fork_parts.specs.Leg.{Leg}
-use Rattle.fork_parts.specs.Pump as pump
-use Rattle.fork_parts.specs.Pump.{AnswersBy, AnswersWith, Does, Pumped, SendsAnswer, SendsRequest}
-use Rattle.fork_parts.specs.Server as server
-use Rattle.fork_parts.specs.Server.{answer_event, served_out}
-use Rattle.fork_parts.specs.Sound.{IsForward, IsSound, StepsKeepSound}
-use Rattle.fork_parts.specs.Step.{Did, Pump, Take, Took}
-use Rattle.fork_parts.specs.Take as take
-use Rattle.fork_parts.specs.Take.{RespondsOn, is_response}
+use Rattle.call_model.specs.Built.{Datagram, answer_of, status_of}
+use Rattle.call_model.specs.Call.{Call, is_sent, leg_at, row_passes}
+use Rattle.call_model.specs.Due.{SendAnswer, SendRequest, is_any}
+use Rattle.call_model.specs.Fixed.{Way}
+use Rattle.call_model.specs.Leg.{Leg}
+use Rattle.call_model.specs.Pump as pump
+use Rattle.call_model.specs.Pump.{AnswersBy, AnswersWith, Does, Pumped, SendsAnswer, SendsRequest}
+use Rattle.call_model.specs.Server as server
+use Rattle.call_model.specs.Server.{answer_event, served_out}
+use Rattle.call_model.specs.Sound.{IsForward, IsSound, StepsKeepSound}
+use Rattle.call_model.specs.Step.{Did, Pump, Take, Took}
+use Rattle.call_model.specs.Take as take
+use Rattle.call_model.specs.Take.{RespondsOn, is_response}
 
 pub request_keeps : StepsKeepSound → (call new : Call) (now n : ℕ) (d : Datagram) → IsSound call → row_passes is_trying call n ≡ true → is_sent call n ≡ false
     → (way : Way) × (slice_get call.ways n ≡ Some way) × SendsRequest call now n way (pump.Send d) new → IsSound new

@@ -1,5 +1,5 @@
 //! What comes of a branch: its timers, and the responses that bring contacts or challenges.
-ghost use Rattle.fork_parts.specs.Sound.{IsSound};
+ghost use Rattle.call_model.specs.Sound.{IsSound};
 
 use crate::holds::holds;
 use crate::parts::{
@@ -7,7 +7,8 @@ use crate::parts::{
     SECOND_VIA, TO, TO_FIRST, TO_SECOND, TRYING, VIA, begun, is_sent_as, message_of, sends_cancel,
     status_of, step_sends,
 };
-use fork_parts::{Cause, Datagram, Parts, Step, Taken, calls_stay_sound};
+use call_model::{Cause, Datagram, Step, Taken, calls_stay_sound};
+use call_state::Parts;
 use sip_text::Message;
 use sip_uri::Hop;
 use sip_via::has_second_via;

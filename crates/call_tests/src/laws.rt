@@ -1,6 +1,6 @@
 //! The laws of calls can be called: they are the contracts of functions with nothing to run.
+use call_model::{branches_keep_their_answers, datagrams_are_right, repeats_are_the_same};
 use fork_call::calls_are_runs;
-use fork_parts::{branches_keep_their_answers, datagrams_are_right, repeats_are_the_same};
 
 #[test]
 fn laws_can_be_called() {

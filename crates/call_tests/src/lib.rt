@@ -1,4 +1,4 @@
-//! Tests of the public calls of `fork_parts`, `fork_setup`, `fork_routing` and `fork_call`, in files and folders named for what
+//! Tests of the public calls of `call_state`, `fork_setup`, `fork_routing` and `fork_call`, in files and folders named for what
 //! is tested. They stand apart from these crates so that none of them is proved twice.
 #![tactic(auto)]
 

@@ -8,7 +8,8 @@ use crate::parts::{
     CANCEL_FIRST, FIRST, INVITE, SECOND, TO_FIRST, TO_SECOND, TRYING, begun, sends_cancel,
     sends_request, ticks_server,
 };
-use fork_parts::{Cause, Parts, Taken};
+use call_model::{Cause, Taken};
+use call_state::Parts;
 use sip_via::BranchName;
 
 /// What names the second branch of the call.

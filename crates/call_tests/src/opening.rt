@@ -3,9 +3,11 @@ use crate::holds::holds;
 use crate::requests::{
     Change, OWN, SETUP, SOURCE, opened, request_with, sent_to, setup_of, text_of,
 };
+use call_model::{Cause, Datagram};
+use call_state::Parts;
 use fork_context::Kind;
-use fork_parts::{Cause, Datagram, Parts};
-use fork_routing::{OpenFault, admit, is_domain, is_openable};
+use fork_routing::is_openable;
+use proxy_routing::{OpenFault, admit, is_domain};
 use sip_text::Message;
 use sip_uri::Hop;
 use std::alloc::Global;

@@ -2,13 +2,16 @@
 ghost use Rattle.std.specs.Prelude.{◌≡◌, IfOk, IfSome, IsTrue};
 ghost use Rattle.sip_text.specs.Name.{first_value};
 ghost use Rattle.sip_route.specs.Hops.{IsHops, hops_name};
-ghost use Rattle.fork_parts.specs.Built.{status_of};
-ghost use Rattle.fork_parts.specs.Sound.{IsSound};
+ghost use Rattle.call_model.specs.Built.{status_of};
+ghost use Rattle.call_model.specs.Sound.{IsSound};
 
 use crate::holds::holds;
+use call_answers::OwedAnswer;
+use call_branch::{Fixed, Way};
+use call_model::{Cause, Datagram, Step, Taken, calls_stay_sound};
+use call_state::Parts;
 use fork_book::Book;
 use fork_context::{Kind, Target};
-use fork_parts::{Cause, Datagram, Fixed, OwedAnswer, Parts, Step, Taken, Way, calls_stay_sound};
 use fork_rank::Rules;
 use sip_lex::read_number;
 use sip_text::{Message, Start};

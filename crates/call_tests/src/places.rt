@@ -1,8 +1,8 @@
 //! The place of the target or the contact that a row is for, among those that it came with (RFC 3261 section 16.5).
 use crate::holds::holds;
+use call_answers::place_of;
 use fork_book::Book;
 use fork_context::{Answer, Event, Kind, Offer, Target};
-use fork_parts::place_of;
 use fork_rank::{Rules, Status};
 use std::alloc::{AllocError, Global};
 use std::test::Fail;

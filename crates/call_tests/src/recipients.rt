@@ -1,7 +1,7 @@
 //! Which transaction of a call a message is for.
 use crate::holds::holds;
 use crate::requests::{opened, sent_to, setup_of, text_of};
-use fork_parts::Parts;
+use call_state::Parts;
 use fork_routing::{Recipient, recipient};
 use sip_text::Message;
 use std::alloc::Global;

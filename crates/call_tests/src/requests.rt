@@ -1,7 +1,9 @@
 //! A setup, a request of one of its users, and the call that it opens.
-use fork_parts::{Datagram, Parts};
-use fork_routing::{OpenFault, is_openable, open};
+use call_model::Datagram;
+use call_state::Parts;
+use fork_routing::{is_openable, open};
 use fork_setup::Setup;
+use proxy_routing::OpenFault;
 use sip_text::Message;
 use sip_uri::Hop;
 use sip_via::Own;

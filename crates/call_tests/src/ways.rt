@@ -1,7 +1,8 @@
 //! Which URI a request names, and by which hop it goes there (RFC 3261 sections 16.5 and 16.6 steps 6 and 7).
 use crate::holds::holds;
 use crate::requests::request_with;
-use fork_routing::{hop_by, read_target};
+use fork_routing::read_target;
+use proxy_routing::hop_by;
 use sip_route::FirstRoute;
 use sip_text::Message;
 use sip_uri::{Hop, SipUri};

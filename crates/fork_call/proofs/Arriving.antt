@@ -5,11 +5,11 @@ use Rattle.std.proofs.Common.{Result, Ok, Err}
 use Rattle.std.specs.Prelude.{IfOk, OnErr}
 use Rattle.fork_model.specs.Sources as sources
 use Rattle.sip_text.specs.Message.{IsMessage}
-use Rattle.fork_parts.specs.declared.taken.Taken.{Taken}
-use Rattle.fork_parts.specs.SeenTaken.{seen_taken}
-use Rattle.fork_parts.specs.Sound.{IsGivenTo}
-use Rattle.fork_parts.specs.Step as step
-use Rattle.fork_parts.specs.Take as to
+use Rattle.call_model.specs.declared.taken.Taken.{Taken}
+use Rattle.call_model.specs.SeenTaken.{seen_taken}
+use Rattle.call_model.specs.Sound.{IsGivenTo}
+use Rattle.call_model.specs.Step as step
+use Rattle.call_model.specs.Take as to
 use Rattle.fork_routing.specs.Matching.{BelongsTo}
 use Rattle.fork_call.specs.declared.fault.TakeFault.{TakeFault}
 use Rattle.fork_call.specs.declared.fault.TakeFault.TheVariants.{Full}

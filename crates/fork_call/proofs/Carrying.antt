@@ -2,7 +2,7 @@ use Rattle.fork_call.proofs.Common.{◌≡◌, ◌∙◌, ℕ, suc, ◌+◌, ◌
 use Rattle.fork_call.proofs.Common.{Datagram, Call, leg_at, runs_timer_c, Deed, SendRequest, SendCancel, SendAck, SendAnswer, TickServer, TickClient, TickCancel, FireTimerC, GiveUp, IsIdle, IsLeastDue, cancel_at, client_at, give_up_at}
 use Rattle.fork_call.proofs.Common.{is_due_at, timer_c_at, Pumps, Send, served_due, Carrying, Sent, Lost, Silent, Carries, CarriesAll, Sends, SendsOne, IsCutOff, IsRunOut, IsSoFar}
 use Rattle.std.proofs.lemmas.Bool.{leb-true}
-use Rattle.fork_parts.specs.Call.{row_passes}
+use Rattle.call_model.specs.Call.{row_passes}
 use Rattle.fork_call.specs.Carry.{Hands, HandsAll, sent_in, lost_in, most_steps, IsCarriedOut}
 
 carries_more : (now : ℕ) (call mid new : Call) (steps : List Carrying) (step : Carrying) → CarriesAll now call steps mid → Carries now mid step new → CarriesAll now call (steps ++ step ∷ []) new

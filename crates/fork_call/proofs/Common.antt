@@ -19,22 +19,22 @@ pub use Rattle.fork_model.specs.Sources.{BecameIsExact, IsNumberIn}
 pub use Rattle.fork_model.specs.Step.{next}
 pub use Rattle.fork_model.specs.Steps.{PositionsAreBounded}
 pub use Rattle.fork_model.specs.Table.{Row, Table, is_cancelled, is_finished, is_row, is_trying, most_targets}
-pub use Rattle.fork_parts.proofs.laws.Logs.{table_added}
-pub use Rattle.fork_parts.specs.Built.{Datagram, answer_of, status_of}
-pub use Rattle.fork_parts.specs.Call.{Call, found, give_up_of, lacks_cancel, leg_at, owes_ack_on, rows_of, runs_timer_c}
-pub use Rattle.fork_parts.specs.Due.{Deed, FireTimerC, GiveUp, IsIdle, IsLeastDue, IsOver, SendAck, SendAnswer, SendCancel, SendRequest, TickCancel, TickClient, TickServer, cancel_at, cancel_client_due, client_at, give_up_at, is_any, is_due_at}
-pub use Rattle.fork_parts.specs.Due.{timer_c_at}
-pub use Rattle.fork_parts.specs.Failed.{Fails, FaultsBy, FaultsClient, cancel_faulted}
-pub use Rattle.fork_parts.specs.Fixed.{Way}
-pub use Rattle.fork_parts.specs.Leg.{Leg}
-pub use Rattle.fork_parts.specs.Posting.{Posts, call_tag}
-pub use Rattle.fork_parts.specs.Pump.{AnswersBy, AnswersWith, Did, Does, FiresTimerC, Idle, Pumped, Pumps, Send, SendsAnswer, TicksClientBy}
-pub use Rattle.fork_parts.specs.Response.{is_redirection}
-pub use Rattle.fork_parts.specs.SeenStep.{pumped}
-pub use Rattle.fork_parts.specs.Server.{Owed, served_due}
-pub use Rattle.fork_parts.specs.Sound.{IsSound, StepsKeepSound}
-pub use Rattle.fork_parts.specs.Take.{Recipient, TakesAs}
-pub use Rattle.fork_parts.specs.declared.cause.Cause.{Cause}
+pub use Rattle.call_model.proofs.laws.Logs.{table_added}
+pub use Rattle.call_model.specs.Built.{Datagram, answer_of, status_of}
+pub use Rattle.call_model.specs.Call.{Call, found, give_up_of, lacks_cancel, leg_at, owes_ack_on, rows_of, runs_timer_c}
+pub use Rattle.call_model.specs.Due.{Deed, FireTimerC, GiveUp, IsIdle, IsLeastDue, IsOver, SendAck, SendAnswer, SendCancel, SendRequest, TickCancel, TickClient, TickServer, cancel_at, cancel_client_due, client_at, give_up_at, is_any, is_due_at}
+pub use Rattle.call_model.specs.Due.{timer_c_at}
+pub use Rattle.call_model.specs.Failed.{Fails, FaultsBy, FaultsClient, cancel_faulted}
+pub use Rattle.call_model.specs.Fixed.{Way}
+pub use Rattle.call_model.specs.Leg.{Leg}
+pub use Rattle.call_model.specs.Posting.{Posts, call_tag}
+pub use Rattle.call_model.specs.Pump.{AnswersBy, AnswersWith, Did, Does, FiresTimerC, Idle, Pumped, Pumps, Send, SendsAnswer, TicksClientBy}
+pub use Rattle.call_model.specs.Response.{is_redirection}
+pub use Rattle.call_model.specs.SeenStep.{pumped}
+pub use Rattle.call_model.specs.Server.{Owed, served_due}
+pub use Rattle.call_model.specs.Sound.{IsSound, StepsKeepSound}
+pub use Rattle.call_model.specs.Take.{Recipient, TakesAs}
+pub use Rattle.call_model.specs.declared.cause.Cause.{Cause}
 pub use Rattle.fork_routing.specs.Opening.{Opens}
 pub use Rattle.fork_routing.specs.SeenRecipient.{seen_recipient}
 pub use Rattle.sip_text.specs.Text.{MessageText}

@@ -1,7 +1,7 @@
 -- When a call is over.
 use Rattle.fork_call.proofs.Common.{◌≡◌, ℕ, true, false, Option, Some, None, is_finished, Call, rows_of, IsLeastDue, IsOver}
 use Rattle.std.specs.Prelude.{is_some}
-use Rattle.fork_parts.specs.Server as server
+use Rattle.call_model.specs.Server as server
 use Rattle.fork_call.specs.inner.Ending.{AreOver}
 
 -- ---- branches

@@ -3,8 +3,8 @@ use Rattle.fork_call.proofs.Common.{lacks_cancel, owes_ack_on, runs_timer_c, giv
 use Rattle.fork_call.proofs.Common.{give_up_at, cancel_client_due, if_runs, leg_waits, row_due, due_of}
 use Rattle.std.proofs.Math.Dec.{leb-zero}
 use Rattle.std.specs.Prelude.{nat_le}
-use Rattle.fork_parts.specs.Client as client
-use Rattle.fork_parts.specs.Server as server
+use Rattle.call_model.specs.Client as client
+use Rattle.call_model.specs.Server as server
 
 -- ---- the earlier of two moments
 

@@ -2,9 +2,9 @@
 use Rattle.fork_call.proofs.Common.{◌≡◌, ◌∙◌, ◌⊎◌, inl, inr, ℕ, Bool, true, false, List, [], ◌∷◌, Option, Some, None, refl, ap, MessageText, Cause, Way, Leg, Owed, Call, Datagram, answer_of, Deed, SendRequest, SendCancel, SendAck}
 use Rattle.fork_call.proofs.Common.{SendAnswer, TickServer, TickClient, TickCancel, FireTimerC, GiveUp, Pumped, Send, Did, Idle, AnswersBy, AnswersWith, SendsAnswer, TicksClientBy, FiresTimerC, Does, Pumps, FaultsBy, FaultsClient}
 use Rattle.fork_call.proofs.Common.{cancel_faulted, Fails, Carrying, Sent, Lost, Silent, Carries, CarriesAll, Sends, SendsOne, IsCutOff, IsRunOut}
-use Rattle.fork_parts.specs.declared.cause.Cause.TheVariants as cause
-use Rattle.fork_parts.specs.Fixed.{Fixed}
-use Rattle.fork_parts.specs.Server as server
+use Rattle.call_model.specs.declared.cause.Cause.TheVariants as cause
+use Rattle.call_model.specs.Fixed.{Fixed}
+use Rattle.call_model.specs.Server as server
 
 abbrev fixed_of : Call → Fixed
 fixed_of call = call.fixed

@@ -2,8 +2,8 @@
 use Rattle.fork_call.proofs.Common.{◌≡◌, ◌⊎◌, ℕ, zero, suc, ◌<◌, ◌≤◌, inl, inr, ap, refl, sym, subst, arith, true, false, Bool, List, [], ◌∷◌, length, Option, Some, None, slice_get, cases_lt, le-leb, leb-false, lt-leb, ◌&&◌, cond, fold}
 use Rattle.fork_call.proofs.Common.{is_none, min, Row, earlier, is_due, Leg, Call, found, leg_at, rows_of, give_up_of, lacks_cancel, owes_ack_on, Deed, SendAck, SendCancel, SendRequest, GiveUp, FireTimerC, TickClient, TickCancel}
 use Rattle.fork_call.proofs.Common.{TickServer, SendAnswer, IsIdle, IsLeastDue, cancel_at, cancel_client_due, client_at, give_up_at, is_any, is_due_at, timer_c_at, due_of, if_runs, leg_waits, moments_of, row_due, scheduled, least_of}
-use Rattle.fork_parts.specs.Client.{client_due}
-use Rattle.fork_parts.specs.Server as server
+use Rattle.call_model.specs.Client.{client_due}
+use Rattle.call_model.specs.Server as server
 use Rattle.fork_call.proofs.Idle.{both_later, idle}
 
 -- ---- the moments of rows

@@ -1,10 +1,10 @@
 -- A call as it opens.
 use Rattle.fork_call.proofs.Common.{◌≡◌, ℕ, ap, sym, refl, subst, arith, List, Option, MessageText, Hop, Call, Opens, scheduled, IsTimed}
 use Rattle.fork_setup.specs.Setup.{Setup}
-use Rattle.fork_parts.specs.Call.{numbered}
-use Rattle.fork_parts.specs.Sound.{BegunIsSound}
+use Rattle.call_model.specs.Call.{numbered}
+use Rattle.call_model.specs.Sound.{BegunIsSound}
 use Rattle.fork_routing.specs.Opening.{choices_for, fixed_of}
-use Rattle.fork_routing.specs.Targets.{targets_of}
+use Rattle.proxy_routing.specs.Targets.{targets_of}
 
 pub opened_timed : (begun : BegunIsSound) (setup : Setup) (number : ℕ) (m : MessageText) (source : Hop) (call : Call) (moments : List (Option ℕ))
     → Opens setup number m source call → moments ≡ scheduled call → IsTimed call moments

@@ -5,7 +5,7 @@ use Rattle.fork_call.proofs.Common.{row_due, moments_of, scheduled, IsTimedBut, 
 use Rattle.fork_model.specs.Table.{State, Idle, Trying, Rung, Ended}
 use Rattle.fork_model.specs.OpenBranches.{IsLeftAt}
 use Rattle.fork_model.specs.Reply.{became, has_become}
-use Rattle.fork_parts.specs.Posting.{no_leg, rows_more}
+use Rattle.call_model.specs.Posting.{no_leg, rows_more}
 use Rattle.fork_call.proofs.LeastDue as due
 
 -- ---- a branch that an event does not name

@@ -1,9 +1,9 @@
 -- Any list of calls is a run, turn by turn.
 use Rattle.fork_call.proofs.Common.{◌≡◌, ◌∙◌, ℕ, refl, ap, subst, inl, inr, [], ◌∷◌, length, Option, Log, added, table_of, Call, call_tag}
 use Rattle.fork_model.specs.Reply.{IsReply}
-use Rattle.fork_parts.specs.Pump as pump
-use Rattle.fork_parts.specs.Step as step
-use Rattle.fork_parts.specs.Step.{Input, Output, Step, Turn}
+use Rattle.call_model.specs.Pump as pump
+use Rattle.call_model.specs.Step as step
+use Rattle.call_model.specs.Step.{Input, Output, Step, Turn}
 use Rattle.fork_call.specs.Runs.{Answers, CallsAreRuns, Came, IsInput, IsTurn, Logs, Lost, May, Said}
 use Rattle.fork_call.proofs.Touching.{Touches, does_touch, fails_touch, takes_touch}
 

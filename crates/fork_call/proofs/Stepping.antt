@@ -6,8 +6,8 @@ use Rattle.std.specs.Prelude.{IfNone, ◌||◌}
 use Rattle.fork_model.specs.History.{AreReplies}
 use Rattle.fork_model.specs.Sources as sources
 use Rattle.fork_model.specs.Log.{IsLog, events_of}
-use Rattle.fork_parts.specs.Server as server
-use Rattle.fork_parts.specs.Step as step
+use Rattle.call_model.specs.Server as server
+use Rattle.call_model.specs.Step as step
 use Rattle.fork_call.proofs.Idle.{idle}
 use Rattle.fork_call.proofs.LeastDue.{moment_stands}
 use Rattle.fork_call.proofs.Timed.{length_scheduled, no_more_rows, retimed_is, scheduled_is, still_within}

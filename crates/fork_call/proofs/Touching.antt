@@ -6,15 +6,15 @@ use Rattle.std.specs.Prelude.{nat_lt}
 use Rattle.fork_model.specs.Event as fork
 use Rattle.fork_model.specs.Event.{FinalAnswer}
 use Rattle.fork_model.specs.Sources.{offers_of}
-use Rattle.fork_parts.specs.declared.cause.Cause.TheVariants as cause
-use Rattle.fork_parts.specs.Call.{set_leg, with_leg}
-use Rattle.fork_parts.specs.Due as due
-use Rattle.fork_parts.specs.Failed.{faulted, faulted_cancel}
-use Rattle.fork_parts.specs.Pump.{sent_if, stopped, ticked}
-use Rattle.fork_parts.specs.Response.{challenges_by, contact_for, contacts_by, contacts_for, event_by, offer_of}
-use Rattle.fork_parts.specs.Server.{Again, CancelOk, Final, Passed, Server, Trying, answer_event, served_after, served_out}
-use Rattle.fork_parts.specs.Take as to
-use Rattle.fork_parts.specs.Take.{CancelledBy, Responds, Taken, going_up, leg_after, leg_posted, owes_cancel_ok}
+use Rattle.call_model.specs.declared.cause.Cause.TheVariants as cause
+use Rattle.call_model.specs.Call.{set_leg, with_leg}
+use Rattle.call_model.specs.Due as due
+use Rattle.call_model.specs.Failed.{faulted, faulted_cancel}
+use Rattle.call_model.specs.Pump.{sent_if, stopped, ticked}
+use Rattle.call_model.specs.Response.{challenges_by, contact_for, contacts_by, contacts_for, event_by, offer_of}
+use Rattle.call_model.specs.Server.{Again, CancelOk, Final, Passed, Server, Trying, answer_event, served_after, served_out}
+use Rattle.call_model.specs.Take as to
+use Rattle.call_model.specs.Take.{CancelledBy, Responds, Taken, going_up, leg_after, leg_posted, owes_cancel_ok}
 
 -- the log is the same, and the parts of all rows but this one
 pub record IsBeside (call mid : Call) (row : Option ℕ) : Type 0 where

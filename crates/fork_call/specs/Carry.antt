@@ -1,10 +1,10 @@
 -- A call is pumped until nothing is due, and what it sends is handed to a port.
 use Rattle.std.specs.Prelude.{◌≡◌, ◌≤◌, ◌<◌, ◌⊎◌, ◌&&◌, ℕ, suc, List, [], ◌∷◌, length, Bool, true, false, not, nat_lt}
-use Rattle.fork_parts.specs.Call.{Call}
-use Rattle.fork_parts.specs.Built.{Datagram}
-use Rattle.fork_parts.specs.Due.{IsIdle}
-use Rattle.fork_parts.specs.Pump.{Send, Did, Pumps}
-use Rattle.fork_parts.specs.Failed.{Fails}
+use Rattle.call_model.specs.Call.{Call}
+use Rattle.call_model.specs.Built.{Datagram}
+use Rattle.call_model.specs.Due.{IsIdle}
+use Rattle.call_model.specs.Pump.{Send, Did, Pumps}
+use Rattle.call_model.specs.Failed.{Fails}
 
 -- at most so many steps are made at a time
 abbrev pub most_steps : ℕ

@@ -6,12 +6,12 @@ use Rattle.fork_model.specs.Reply.{Reply, IsReply}
 use Rattle.sip_text.specs.Text.{MessageText}
 use Rattle.sip_uri.specs.declared.hop.Hop.{Hop}
 use Rattle.fork_model.specs.Log.{Log, added, table_of}
-use Rattle.fork_parts.specs.declared.cause.Cause.{Cause}
-use Rattle.fork_parts.specs.Call.{Call}
-use Rattle.fork_parts.specs.Failed.{Fails}
-use Rattle.fork_parts.specs.Posting.{call_tag}
-use Rattle.fork_parts.specs.Pump.{Pumps}
-use Rattle.fork_parts.specs.Step.{Input, Take, Pump, Failed, Output, Took, Did, Told, Step, Turn, Run}
+use Rattle.call_model.specs.declared.cause.Cause.{Cause}
+use Rattle.call_model.specs.Call.{Call}
+use Rattle.call_model.specs.Failed.{Fails}
+use Rattle.call_model.specs.Posting.{call_tag}
+use Rattle.call_model.specs.Pump.{Pumps}
+use Rattle.call_model.specs.Step.{Input, Take, Pump, Failed, Output, Took, Did, Told, Step, Turn, Run}
 use Rattle.fork_routing.specs.Matching.{BelongsTo}
 use Rattle.fork_call.specs.Takes.{Takes}
 

@@ -2,10 +2,10 @@
 use Rattle.std.specs.Prelude.{ℕ, ◌&&◌, Bool, true, false, List, [], ◌∷◌, Option, Some, None, is_none, if◌then◌else◌}
 use Rattle.fork_model.specs.Table.{Row, is_row, is_trying, is_cancelled}
 use Rattle.sip_txn.specs.Timers.{earlier}
-use Rattle.fork_parts.specs.Client as client
-use Rattle.fork_parts.specs.Leg.{Leg}
-use Rattle.fork_parts.specs.Call.{Call, rows_of, runs_timer_c, give_up_of, owes_ack_on}
-use Rattle.fork_parts.specs.Due.{cancel_client_due}
+use Rattle.call_model.specs.Client as client
+use Rattle.call_model.specs.Leg.{Leg}
+use Rattle.call_model.specs.Call.{Call, rows_of, runs_timer_c, give_up_of, owes_ack_on}
+use Rattle.call_model.specs.Due.{cancel_client_due}
 
 abbrev pub if_runs : Bool → Option ℕ → Option ℕ
 if_runs true at = at

@@ -3,8 +3,8 @@
 use Rattle.std.specs.Prelude.{ℕ}
 use Rattle.sip_text.specs.Text.{MessageText}
 use Rattle.sip_uri.specs.declared.hop.Hop.{Hop}
-use Rattle.fork_parts.specs.Call.{Call}
-use Rattle.fork_parts.specs.Take.{Recipient, Taken, TakesAs}
+use Rattle.call_model.specs.Call.{Call}
+use Rattle.call_model.specs.Take.{Recipient, Taken, TakesAs}
 use Rattle.fork_routing.specs.Matching.{BelongsTo}
 
 abbrev pub Takes : Call → ℕ → MessageText → Hop → Taken → Call → Type 0

@@ -2,8 +2,8 @@
 use Rattle.std.specs.Prelude.{◌≡◌, ℕ, List, Option}
 use Rattle.fork_model.specs.Steps.{IsWithin}
 use Rattle.fork_model.specs.Log.{core_of}
-use Rattle.fork_parts.specs.Call.{Call}
-use Rattle.fork_parts.specs.Sound.{IsSound}
+use Rattle.call_model.specs.Call.{Call}
+use Rattle.call_model.specs.Sound.{IsSound}
 use Rattle.fork_call.specs.Scheduled.{scheduled}
 
 -- ---- what holds of every call

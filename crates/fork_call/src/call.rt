@@ -1,11 +1,11 @@
 //! Calls.
 ghost use Rattle.std.specs.Prelude.{◌≡◌, ◌↔◌, length, true, IfErr, IfNone, IfOk, IfSome, IsErrOf, IsTrue, OnErr, OnOk};
-ghost use Rattle.fork_parts.specs.Due.{IsIdle, IsLeastDue, IsOver, is_due_at};
-ghost use Rattle.fork_parts.specs.Failed.{Fails};
-ghost use Rattle.fork_parts.specs.Pump.{Pumps};
-ghost use Rattle.fork_parts.specs.SeenStep.{pumped};
-ghost use Rattle.fork_parts.specs.SeenTaken.{seen_taken};
-ghost use Rattle.fork_parts.specs.Take as take;
+ghost use Rattle.call_model.specs.Due.{IsIdle, IsLeastDue, IsOver, is_due_at};
+ghost use Rattle.call_model.specs.Failed.{Fails};
+ghost use Rattle.call_model.specs.Pump.{Pumps};
+ghost use Rattle.call_model.specs.SeenStep.{pumped};
+ghost use Rattle.call_model.specs.SeenTaken.{seen_taken};
+ghost use Rattle.call_model.specs.Take as take;
 ghost use Rattle.fork_routing.specs.Matching.{BelongsToNone};
 ghost use Rattle.fork_routing.specs.Opening.{IsOpenable, Opens, Refuses};
 ghost use Rattle.fork_call.specs.inner.SeenDeed.{seen_deed};
@@ -20,15 +20,17 @@ use crate::prepared::Prepared;
 use crate::schedule::{Schedule, earlier, is_due};
 use crate::taking::{give, room_for, row_of as row_to, status_of};
 use crate::timing::time_step;
+use call_model::{Cause, Step, Taken, calls_stay_sound};
+use call_state::Parts;
 use fork_book::Book;
 use fork_model::{
     events_make_progress, new_rows_are_contacts, others_stay_open, positions_are_bounded,
     replies_list_all_that_became,
 };
-use fork_parts::{Cause, Parts, Step, Taken, calls_stay_sound};
-use fork_routing::{OpenFault, recipient};
+use fork_routing::recipient;
 use fork_setup::Setup;
 use fork_shelf::Numbered;
+use proxy_routing::OpenFault;
 use sip_text::Message;
 use sip_uri::Hop;
 use std::alloc::{AllocError, Allocator, Global};
@@ -66,7 +68,7 @@ pub struct Call<A: Allocator + Clone = Global> {
 }
 
 impl<A: Allocator + Clone> Model for Call<A> {
-    ghost use Rattle.fork_parts.specs.Call as spec;
+    ghost use Rattle.call_model.specs.Call as spec;
     ghost use Rattle.fork_call.specs.Timing.{IsTimed};
 
     ghost Value = { spec.Call };

@@ -1,15 +1,16 @@
 //! What a call has to do next.
 ghost use Rattle.std.specs.Prelude.{◌≡◌, true, IfOk, OnErr};
 ghost use Rattle.sip_txn.specs.Timers.{is_due};
-ghost use Rattle.fork_parts.specs.Due.{is_due_at};
-ghost use Rattle.fork_parts.specs.Pump.{Does};
-ghost use Rattle.fork_parts.specs.SeenStep.{pumped};
-ghost use Rattle.fork_parts.specs.Sound.{IsSound};
+ghost use Rattle.call_model.specs.Due.{is_due_at};
+ghost use Rattle.call_model.specs.Pump.{Does};
+ghost use Rattle.call_model.specs.SeenStep.{pumped};
+ghost use Rattle.call_model.specs.Sound.{IsSound};
 ghost use Rattle.fork_call.specs.inner.SeenDeed.{seen_deed};
 ghost use Rattle.fork_call.specs.inner.Timing.{row_moment, row_of_deed};
 
 use crate::schedule::is_due;
-use fork_parts::{Parts, Step};
+use call_model::Step;
+use call_state::Parts;
 use std::alloc::{AllocError, Allocator};
 
 /// One thing that a call may have to do; the number names a branch.

@@ -13,11 +13,11 @@ mod taking;
 mod timing;
 
 pub use call::Call;
+pub use call_model::{Cause, Datagram, Step, Taken};
 pub use fault::TakeFault;
 pub use fork_book::Book;
-pub use fork_parts::{Cause, Datagram, Step, Taken};
-pub use fork_routing::OpenFault;
 pub use fork_setup::{Setup, SetupFault};
 pub use law::calls_are_runs;
 pub use port::{Carried, Port, carry};
 pub use prepared::Prepared;
+pub use proxy_routing::OpenFault;

@@ -1,12 +1,12 @@
 //! A call and the port that its datagrams go to.
 ghost use Rattle.std.specs.Prelude.{◌≡◌, ◌≤◌, ◌<◌, ◌+◌, ℕ, Bool, true, IfOk, OnErr};
-ghost use Rattle.fork_parts.specs.Built as built;
-ghost use Rattle.fork_parts.specs.SeenDatagram.{seen};
+ghost use Rattle.call_model.specs.Built as built;
+ghost use Rattle.call_model.specs.SeenDatagram.{seen};
 ghost use Rattle.fork_call.specs.Carry.{IsCarriedOut, IsCutOff, IsRunOut, SendsOne};
 
 use crate::call::Call;
 use crate::schedule::is_due;
-use fork_parts::{Datagram, Step};
+use call_model::{Datagram, Step};
 use std::alloc::{AllocError, Allocator};
 
 /// At most so many steps are made at a time.

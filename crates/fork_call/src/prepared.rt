@@ -1,14 +1,15 @@
 //! Calls that have no number yet.
 ghost use Rattle.std.specs.Prelude.{◌≡◌, ℕ, IfErr, IfOk};
-ghost use Rattle.fork_parts.specs.Call.{numbered};
+ghost use Rattle.call_model.specs.Call.{numbered};
 ghost use Rattle.fork_routing.specs.Opening.{IsOpenable, Opens, Refuses};
 
 use crate::call::Call;
 use crate::schedule::Schedule;
 use crate::timing::schedule_of;
-use fork_parts::{Parts, calls_stay_sound};
-use fork_routing::OpenFault;
+use call_model::calls_stay_sound;
+use call_state::Parts;
 use fork_setup::Setup;
+use proxy_routing::OpenFault;
 use sip_text::Message;
 use sip_uri::Hop;
 use std::alloc::{Allocator, Global};
@@ -24,7 +25,7 @@ pub struct Prepared<A: Allocator + Clone = Global> {
 
 impl<A: Allocator + Clone> Model for Prepared<A> {
     ghost use Rattle.std.specs.Prelude.{ℕ};
-    ghost use Rattle.fork_parts.specs.Call as spec;
+    ghost use Rattle.call_model.specs.Call as spec;
     ghost use Rattle.fork_call.specs.Timing.{IsTimed};
 
     ghost Value = { spec.Call };

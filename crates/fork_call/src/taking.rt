@@ -1,18 +1,19 @@
 //! A message comes to a transaction of a call.
 ghost use Rattle.std.specs.Prelude.{◌≡◌, ◌≢◌, ◌≤◌, true, IfErr, IfOk, IsErrOf, OnErr};
 ghost use Rattle.sip_text.specs.Message.{IsMessage};
-ghost use Rattle.fork_parts.specs.Built.{status_of};
-ghost use Rattle.fork_parts.specs.Call.{is_sent};
-ghost use Rattle.fork_parts.specs.SeenTaken.{seen_taken};
-ghost use Rattle.fork_parts.specs.Sound.{IsSound};
-ghost use Rattle.fork_parts.specs.Take as take;
-ghost use Rattle.fork_parts.specs.Take.{RespondsOn, TakesAs, TakesCancel};
+ghost use Rattle.call_model.specs.Built.{status_of};
+ghost use Rattle.call_model.specs.Call.{is_sent};
+ghost use Rattle.call_model.specs.SeenTaken.{seen_taken};
+ghost use Rattle.call_model.specs.Sound.{IsSound};
+ghost use Rattle.call_model.specs.Take as take;
+ghost use Rattle.call_model.specs.Take.{RespondsOn, TakesAs, TakesCancel};
 ghost use Rattle.fork_routing.specs.Matching.{BelongsTo};
 ghost use Rattle.fork_routing.specs.SeenRecipient.{seen_recipient};
 ghost use Rattle.fork_call.specs.inner.Timing.{room_for, row_of_recipient};
 
 use crate::fault::TakeFault;
-use fork_parts::{Parts, PostFault, Taken};
+use call_model::Taken;
+use call_state::{Parts, PostFault};
 use fork_routing::Recipient;
 use sip_text::Message;
 use sip_uri::Hop;

@@ -4,7 +4,7 @@ ghost use Rattle.fork_call.specs.Scheduled.{if_runs, scheduled};
 ghost use Rattle.fork_call.specs.inner.Timing.{row_moment, retimed, timed, timed_at};
 
 use crate::schedule::{Schedule, earlier};
-use fork_parts::Parts;
+use call_state::Parts;
 use std::alloc::{AllocError, Allocator};
 
 /// A moment that counts where this runs.

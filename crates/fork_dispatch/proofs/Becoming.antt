@@ -14,8 +14,8 @@ use Rattle.sip_via.specs.ViaFaults.{refusal}
 use Rattle.sip_build.specs.declared.responses.OwnStatus.{OwnStatus}
 use Rattle.sip_build.specs.Forwarding.{forwarded}
 use Rattle.sip_build.specs.Generated.{code_of}
-use Rattle.fork_parts.specs.Built.{Datagram}
-use Rattle.fork_routing.specs.declared.fault.OpenFault.TheVariants.{BadRequest}
+use Rattle.call_model.specs.Built.{Datagram}
+use Rattle.proxy_routing.specs.declared.fault.OpenFault.TheVariants.{BadRequest}
 use Rattle.fork_dispatch.specs.declared.datagrams.Handled.{Handled}
 use Rattle.fork_dispatch.specs.declared.datagrams.Handled.TheVariants.{Answered}
 use Rattle.fork_dispatch.specs.Becomes.{Becomes, IsAnswered, MessageBecomes}

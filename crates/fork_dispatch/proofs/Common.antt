@@ -6,7 +6,7 @@ pub use Rattle.fork_dispatch.specs.Passing.{Passes}
 pub use Rattle.fork_dispatch.specs.declared.purpose.Purpose.{Purpose}
 pub use Rattle.fork_dispatch.specs.declared.purpose.Purpose.TheVariants.{Ack, Opening}
 pub use Rattle.fork_dispatch.specs.inner.Sent.{seen_sent}
-pub use Rattle.fork_routing.specs.Admission.{IsAdmitted}
+pub use Rattle.proxy_routing.specs.Admission.{IsAdmitted}
 pub use Rattle.fork_setup.specs.Setup.{Setup}
 pub use Rattle.sip_route.specs.RequestKey.{request_key}
 pub use Rattle.sip_text.specs.Text.{MessageText}

@@ -9,7 +9,7 @@ use Rattle.sip_via.specs.BranchText.{cookie}
 use Rattle.sip_route.specs.Hops.{hops_of}
 use Rattle.sip_route.specs.RequestKey.{key_if_read, key_with}
 use Rattle.sip_route.specs.RouteValues.{is_route, route_values}
-use Rattle.fork_routing.specs.Admission.{are_hops, begins_with, has_cookie, is_uri_or_other, is_well_formed, target_uri}
+use Rattle.proxy_routing.specs.Admission.{are_hops, begins_with, has_cookie, is_uri_or_other, is_well_formed, target_uri}
 
 no_cookie : (via : ViaText) (branch : Option (List ℕ)) → key_with via branch ≡ None → begins_with cookie (or_empty branch) ≡ false
 no_cookie via None e = refl

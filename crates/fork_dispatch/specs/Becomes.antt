@@ -15,13 +15,13 @@ use Rattle.sip_build.specs.declared.responses.OwnStatus.{OwnStatus}
 use Rattle.sip_build.specs.declared.responses.OwnStatus.TheVariants as own
 use Rattle.sip_build.specs.Generated.{code_of}
 use Rattle.fork_setup.specs.Setup.{Setup}
-use Rattle.fork_parts.specs.Built.{Datagram}
-use Rattle.fork_parts.specs.Call.{Call}
-use Rattle.fork_parts.specs.SeenTaken.{seen_taken}
-use Rattle.fork_parts.specs.declared.taken.Taken.{Taken}
-use Rattle.fork_routing.specs.declared.fault.OpenFault.{OpenFault}
+use Rattle.call_model.specs.Built.{Datagram}
+use Rattle.call_model.specs.Call.{Call}
+use Rattle.call_model.specs.SeenTaken.{seen_taken}
+use Rattle.call_model.specs.declared.taken.Taken.{Taken}
+use Rattle.proxy_routing.specs.declared.fault.OpenFault.{OpenFault}
 use Rattle.fork_routing.specs.Opening.{Opens, Refuses}
-use Rattle.fork_routing.specs.Refusing.{status_of_fault}
+use Rattle.proxy_routing.specs.Refusing.{status_of_fault}
 use Rattle.fork_call.specs.Takes.{Takes}
 use Rattle.fork_dispatch.specs.declared.datagrams.Handled.{Handled}
 use Rattle.fork_dispatch.specs.declared.datagrams.Handled.TheVariants.{Dropped, Absorbed, Answered, Passed, Opened, Fed}

@@ -9,11 +9,11 @@ use Rattle.sip_uri.specs.Uri.{Uri}
 use Rattle.sip_route.specs.RouteValues.{first_route}
 use Rattle.sip_build.specs.OwnTag.{own_tag}
 use Rattle.fork_setup.specs.Setup.{Setup}
-use Rattle.fork_parts.specs.Built.{Datagram}
-use Rattle.fork_routing.specs.declared.fault.OpenFault.{OpenFault}
-use Rattle.fork_routing.specs.Admission.{IsAdmitted, target_uri}
-use Rattle.fork_routing.specs.Refusing.{IsTurnedAway, status_of_fault}
-use Rattle.fork_routing.specs.Targets.{hop_by, is_domain}
+use Rattle.call_model.specs.Built.{Datagram}
+use Rattle.proxy_routing.specs.declared.fault.OpenFault.{OpenFault}
+use Rattle.proxy_routing.specs.Admission.{IsAdmitted, target_uri}
+use Rattle.proxy_routing.specs.Refusing.{IsTurnedAway, status_of_fault}
+use Rattle.proxy_routing.specs.Targets.{hop_by, is_domain}
 use Rattle.fork_dispatch.specs.Sent.{passed_on}
 
 -- its To has the tag of the proxy's own answers (section 8.2.6.2)

@@ -13,8 +13,8 @@ use Rattle.sip_build.specs.declared.responses.OwnStatus.{OwnStatus}
 use Rattle.sip_build.specs.Forwarding.{forwarded}
 use Rattle.sip_build.specs.Generated.{generated_of}
 use Rattle.fork_setup.specs.Setup.{Setup}
-use Rattle.fork_parts.specs.Built.{Datagram}
-use Rattle.fork_parts.specs.declared.cause.Cause.TheVariants as cause
+use Rattle.call_model.specs.Built.{Datagram}
+use Rattle.call_model.specs.declared.cause.Cause.TheVariants as cause
 use Rattle.fork_call.specs.Carry.{Sends}
 
 -- ---- an answer of the proxy's own

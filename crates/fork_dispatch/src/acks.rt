@@ -3,7 +3,7 @@ ghost use Rattle.std.specs.Prelude.{◌≡◌, ◌↔◌, IfOk, IfSome, IsTrue, 
 ghost use Rattle.sip_text.specs.Name.{first_value};
 ghost use Rattle.sip_route.specs.Hops.{IsHops, hops_name};
 ghost use Rattle.sip_build.specs.Forwarding.{is_request};
-ghost use Rattle.fork_parts.specs.SeenDatagram.{seen};
+ghost use Rattle.call_model.specs.SeenDatagram.{seen};
 ghost use Rattle.fork_dispatch.specs.declared.purpose.Purpose.TheVariants as purposes;
 ghost use Rattle.fork_dispatch.specs.Becomes.{MessageBecomes};
 ghost use Rattle.fork_dispatch.specs.Passing.{GoesOn, HasOwnTag, Passes};
@@ -14,7 +14,8 @@ ghost use Rattle.fork_dispatch.specs.inner.Sent.{seen_sent};
 use crate::datagrams::Handled;
 use crate::outcome::{Outcome, Received};
 use fork_call::{Cause, Datagram, Setup};
-use fork_routing::{admit, hop_by, is_domain, read_target};
+use fork_routing::read_target;
+use proxy_routing::{admit, hop_by, is_domain};
 use sip_build::{own_tag, write_forwarded};
 use sip_route::{first_route, loop_key};
 use sip_text::Message;

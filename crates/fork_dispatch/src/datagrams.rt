@@ -1,7 +1,7 @@
 //! Datagrams that a proxy receives.
 ghost use Rattle.std.specs.Prelude.{◌≡◌, IfOk, Ok, OnErr, Option};
 ghost use Rattle.sip_text.specs.Message.{read_at};
-ghost use Rattle.fork_parts.specs.Built as built;
+ghost use Rattle.call_model.specs.Built as built;
 ghost use Rattle.sip_text.specs.Fault.{fault_seen};
 ghost use Rattle.sip_text.specs.Reading.{Short};
 ghost use Rattle.fork_dispatch.specs.Becomes.{Becomes, FaultBecomes, MessageBecomes};

@@ -3,9 +3,9 @@ ghost use Rattle.std.specs.Prelude.{◌≡◌, ◌≢◌, IfOk, IsErrOf, None, O
 ghost use Rattle.std.specs.Option.{option_map};
 ghost use Rattle.sip_text.specs.Message.{read_at};
 ghost use Rattle.sip_route.specs.RequestKey.{request_key};
-ghost use Rattle.fork_parts.specs.Call as parts;
+ghost use Rattle.call_model.specs.Call as parts;
 ghost use Rattle.fork_shelf.specs.declared.shelf.ShelfFault.TheVariants as shelf_fault;
-ghost use Rattle.fork_routing.specs.declared.fault.OpenFault.{OpenFault};
+ghost use Rattle.proxy_routing.specs.declared.fault.OpenFault.{OpenFault};
 ghost use Rattle.fork_routing.specs.Opening.{Opens, Refuses};
 ghost use Rattle.fork_dispatch.specs.declared.purpose.Purpose.TheVariants as purposes;
 ghost use Rattle.fork_dispatch.specs.Becomes.{MessageBecomes};

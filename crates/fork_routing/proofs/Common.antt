@@ -5,15 +5,14 @@ pub use Rattle.std.specs.List.{list_all}
 pub use Rattle.std.specs.Option.{option_map}
 pub use Rattle.fork_model.specs.Log.{table_of}
 pub use Rattle.fork_model.specs.Table.{Rules}
-pub use Rattle.fork_parts.specs.Call.{Call, is_sent}
-pub use Rattle.fork_parts.specs.Fixed.{Fixed, method_of}
-pub use Rattle.fork_routing.specs.Admission.{IsAdmitted, is_at_its_end, is_spent, is_well_formed, target_uri}
+pub use Rattle.call_model.specs.Call.{Call, is_sent}
+pub use Rattle.call_model.specs.Fixed.{Fixed, method_of}
+pub use Rattle.proxy_routing.specs.Admission.{IsAdmitted, target_uri}
 pub use Rattle.fork_routing.specs.Kinds.{is_to_method}
 pub use Rattle.fork_routing.specs.Opening.{IsBegun}
-pub use Rattle.fork_routing.specs.Refusing.{IsTurnedAway}
-pub use Rattle.fork_routing.specs.Targets.{Choice, has_hop, targets_of, way_of_row}
-pub use Rattle.sip_route.specs.Hops.{MayPass, hops_name}
-pub use Rattle.sip_route.specs.declared.hops.Hops.{Hops}
+pub use Rattle.proxy_routing.specs.Refusing.{IsTurnedAway}
+pub use Rattle.proxy_routing.specs.Targets.{Choice, has_hop, targets_of}
+pub use Rattle.fork_routing.specs.Ways.{way_of_row}
 pub use Rattle.sip_text.specs.Fields.{message_cseq}
 pub use Rattle.sip_text.specs.Text.{MessageText, StartText}
 pub use Rattle.sip_via.specs.TopVia.{top_value}

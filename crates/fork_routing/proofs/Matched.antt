@@ -10,9 +10,9 @@ use Rattle.sip_via.specs.declared.branch.BranchName.{BranchName}
 use Rattle.sip_via.specs.BranchText.{IsBranch}
 use Rattle.sip_via.specs.OwnPass.{IsOwnBranch}
 use Rattle.sip_via.specs.TopVia.{has_second, via_values}
-use Rattle.fork_parts.specs.Call.{is_cancel_sent}
-use Rattle.fork_parts.specs.Fixed.{branch_at}
-use Rattle.fork_parts.specs.Take.{Server, ServerAck, ServerCancel, Client, CancelClient}
+use Rattle.call_model.specs.Call.{is_cancel_sent}
+use Rattle.call_model.specs.Fixed.{branch_at}
+use Rattle.call_model.specs.Take.{Server, ServerAck, ServerCancel, Client, CancelClient}
 use Rattle.sip_text.specs.Text.{Request, Response}
 use Rattle.fork_routing.specs.Kinds.{is_request_of, is_response}
 use Rattle.fork_routing.specs.Matching.{BelongsTo, BelongsToNone, Repeats}

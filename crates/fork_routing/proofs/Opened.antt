@@ -10,11 +10,11 @@ use Rattle.sip_route.specs.declared.route_values.FirstRoute.{FirstRoute}
 use Rattle.sip_route.specs.RouteValues.{first_route}
 use Rattle.sip_build.specs.Forwarding.{is_request}
 use Rattle.fork_setup.specs.Setup.{Setup}
-use Rattle.fork_routing.specs.declared.fault.OpenFault.{OpenFault}
-use Rattle.fork_routing.specs.declared.fault.OpenFault.TheVariants.{BadRequest, Scheme, Hops, Loop, Extension, NoTarget, NoHop, NoMemory}
-use Rattle.fork_routing.specs.Admission.{asks_extension}
+use Rattle.proxy_routing.specs.declared.fault.OpenFault.{OpenFault}
+use Rattle.proxy_routing.specs.declared.fault.OpenFault.TheVariants.{BadRequest, Scheme, Hops, Loop, Extension, NoTarget, NoHop, NoMemory}
+use Rattle.proxy_routing.specs.Admission.{asks_extension}
 use Rattle.fork_routing.specs.Opening.{Asks, IsOpenable, IsRefused, IsUnreachable, Opens, Reaches, Refuses, choices_for, fixed_of}
-use Rattle.fork_routing.specs.Targets.{choices, choices_by, hop_if_any, is_domain}
+use Rattle.proxy_routing.specs.Targets.{choices, choices_by, hop_if_any, is_domain}
 
 pub openable : (start other : StartText) → start ≡ other → IsOpenable other → is_request start ≡ true
 openable start (texts.Request method uri) e h = ap is_request e

@@ -9,10 +9,10 @@ use Rattle.std.proofs.lemmas.Option.{slice_get_within}
 use Rattle.fork_model.specs.Groups.{numbered}
 use Rattle.fork_model.specs.History.{Target, first_row, opening_rows}
 use Rattle.fork_model.specs.Table.{Kind, Row}
-use Rattle.fork_parts.specs.Begun.{begun}
-use Rattle.fork_parts.specs.Fixed.{Way, kind_of}
+use Rattle.call_model.specs.Begun.{begun}
+use Rattle.call_model.specs.Fixed.{Way, kind_of}
 use Rattle.fork_model.specs.Log.{Log, opening_log}
-use Rattle.fork_routing.specs.Targets.{AreWays, way_to}
+use Rattle.fork_routing.specs.Ways.{AreWays, way_to}
 
 module _ {X Y : Type 0} (h : X → Option Y) (y : Y) where
   -- what is found came from somewhere

@@ -5,10 +5,10 @@ use Rattle.sip_text.specs.Text.{MessageText}
 use Rattle.sip_via.specs.OwnPass.{IsOwnBranch}
 use Rattle.sip_via.specs.TopVia.{has_second, top_value, via_values}
 use Rattle.sip_route.specs.RequestKey.{request_key}
-use Rattle.fork_parts.specs.Call.{Call, is_cancel_sent, is_sent}
-use Rattle.fork_parts.specs.Fixed.{Fixed, branch_at, method_of}
+use Rattle.call_model.specs.Call.{Call, is_cancel_sent, is_sent}
+use Rattle.call_model.specs.Fixed.{Fixed, branch_at, method_of}
 use Rattle.fork_routing.specs.Kinds.{is_request_of, is_response, is_to_method}
-use Rattle.fork_parts.specs.Take.{Recipient, Server, ServerAck, ServerCancel, Client, CancelClient}
+use Rattle.call_model.specs.Take.{Recipient, Server, ServerAck, ServerCancel, Client, CancelClient}
 
 -- ---- requests
 

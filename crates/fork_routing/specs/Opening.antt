@@ -13,14 +13,15 @@ use Rattle.sip_via.specs.TopVia.{top_value}
 use Rattle.sip_via.specs.ViaParts.{via_of}
 use Rattle.sip_route.specs.RouteValues.{first_route}
 use Rattle.fork_setup.specs.Setup.{Setup}
-use Rattle.fork_parts.specs.Begun.{begun}
-use Rattle.fork_parts.specs.Call.{Call}
-use Rattle.fork_parts.specs.Fixed.{Fixed, Way, kind_of}
-use Rattle.fork_routing.specs.declared.fault.OpenFault.{OpenFault}
-use Rattle.fork_routing.specs.declared.fault.OpenFault.TheVariants.{BadRequest, Scheme, Hops, Loop, Extension, NoTarget, NoHop, NoMemory}
-use Rattle.fork_routing.specs.Admission.{IsAdmitted, asks_extension, target_uri}
-use Rattle.fork_routing.specs.Refusing.{IsTurnedAway}
-use Rattle.fork_routing.specs.Targets.{AreWays, Choice, choices, has_hop, hop_if_any, is_domain, targets_of}
+use Rattle.call_model.specs.Begun.{begun}
+use Rattle.call_model.specs.Call.{Call}
+use Rattle.call_model.specs.Fixed.{Fixed, Way, kind_of}
+use Rattle.proxy_routing.specs.declared.fault.OpenFault.{OpenFault}
+use Rattle.proxy_routing.specs.declared.fault.OpenFault.TheVariants.{BadRequest, Scheme, Hops, Loop, Extension, NoTarget, NoHop, NoMemory}
+use Rattle.proxy_routing.specs.Admission.{IsAdmitted, asks_extension, target_uri}
+use Rattle.proxy_routing.specs.Refusing.{IsTurnedAway}
+use Rattle.fork_routing.specs.Ways.{AreWays}
+use Rattle.proxy_routing.specs.Targets.{Choice, choices, has_hop, hop_if_any, is_domain, targets_of}
 
 -- a request that opens a call: neither an ACK nor a CANCEL (sections 9.2 and 17.2.1)
 abbrev pub IsOpenable : StartText → Type 0

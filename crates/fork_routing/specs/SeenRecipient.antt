@@ -1,5 +1,5 @@
 -- A recipient in memory.
-use Rattle.fork_parts.specs.Take as take
+use Rattle.call_model.specs.Take as take
 use Rattle.fork_routing.specs.declared.transaction.Recipient.{Recipient}
 use Rattle.fork_routing.specs.declared.transaction.Recipient.TheVariants as recipient
 

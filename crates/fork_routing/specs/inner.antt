@@ -1,2 +1,1 @@
-pub mod Admission
 pub mod Matching

@@ -4,15 +4,15 @@ ghost use Rattle.sip_text.specs.Fields.{message_cseq};
 ghost use Rattle.sip_via.specs.BranchText.{IsBranch};
 ghost use Rattle.sip_via.specs.OwnPass.{IsOwnBranch};
 ghost use Rattle.sip_via.specs.TopVia.{has_second, top_value, via_values};
-ghost use Rattle.fork_parts.specs.Call.{is_cancel_sent, is_sent};
-ghost use Rattle.fork_parts.specs.Fixed.{method_of};
+ghost use Rattle.call_model.specs.Call.{is_cancel_sent, is_sent};
+ghost use Rattle.call_model.specs.Fixed.{method_of};
 ghost use Rattle.fork_routing.specs.Kinds.{is_request_of, is_response, is_to_method};
 ghost use Rattle.fork_routing.specs.Matching.{BelongsTo, BelongsToNone};
 ghost use Rattle.fork_routing.specs.inner.Matching.{BelongsToNoBranch, BelongsToNoServer};
 ghost use Rattle.fork_routing.specs.SeenRecipient.{seen_recipient};
 
 use crate::transaction::Recipient;
-use fork_parts::Parts;
+use call_state::Parts;
 use sip_route::has_same_key;
 use sip_text::{Message, Start};
 use sip_via::{BranchName, Own, has_second_via, own_branch_of, top_via};

@@ -8,19 +8,21 @@ ghost use Rattle.sip_route.specs.Hops.{IsHops, hops_name};
 ghost use Rattle.sip_build.specs.Forwarding.{is_request};
 ghost use Rattle.fork_rank.specs.KindView as kinds;
 ghost use Rattle.fork_model.specs.Log.{opening_log, table_of};
-ghost use Rattle.fork_routing.specs.Admission.{target_uri};
+ghost use Rattle.proxy_routing.specs.Admission.{target_uri};
 ghost use Rattle.fork_routing.specs.Opening.{Asks, IsBegun, IsOpenable, IsRefused, IsUnreachable, Opens, Reaches, Refuses};
-ghost use Rattle.fork_routing.specs.Targets.{AreWays, has_hop, targets_of, way_to};
+ghost use Rattle.fork_routing.specs.Ways.{AreWays, way_to};
+ghost use Rattle.proxy_routing.specs.Targets.{has_hop, targets_of};
 
-use crate::admission::admit;
-use crate::checks::asks_extension;
-use crate::fault::OpenFault;
-use crate::targets::{Choice, choices, have_hops, hop_if_any, is_domain, targets_of};
+use call_answers::place_of;
+use call_branch::{Fixed, Way};
+use call_state::Parts;
 use fork_book::Book;
 use fork_context::Kind;
-use fork_parts::{Fixed, Parts, Way, place_of};
 use fork_rank::Rules;
 use fork_setup::Setup;
+use proxy_routing::{
+    Choice, OpenFault, admit, asks_extension, choices, have_hops, hop_if_any, is_domain, targets_of,
+};
 use sip_route::{first_route, request_uri};
 use sip_text::{Message, Start};
 use sip_uri::{Hop, SipUri};

@@ -4,7 +4,7 @@ use Rattle.std.proofs.Crossing.{crosses}
 use Rattle.std.specs.declared.clone.Clone as clone
 use Rattle.std.specs.contracts.alloc.Global.{the_row as heap_row}
 use Rattle.std.specs.contracts.impls.GlobalAllocator.TheImpl.{ghosts}
-use Rattle.fork_parts.proofs.laws.Crossing.{parts_send}
+use Rattle.call_state.proofs.laws.Crossing.{parts_send}
 use Rattle.fork_call.proofs.schedule.Schedule.TheSendSync as schedule
 use Rattle.fork_call.specs.contracts.call.Call.{the_row as call_row}
 

@@ -1,8 +1,8 @@
 -- The end of the branches of a call.
 use Rattle.std.specs.Prelude.{◌≡◌, ◌<◌, ℕ, Some}
-use Rattle.fork_parts.specs.Call.{Call, leg_at}
-use Rattle.fork_parts.specs.Due.{IsOverLeg}
-use Rattle.fork_parts.specs.Leg.{Leg}
+use Rattle.call_model.specs.Call.{Call, leg_at}
+use Rattle.call_model.specs.Due.{IsOverLeg}
+use Rattle.call_model.specs.Leg.{Leg}
 
 -- the transactions of branch n have ended, or its request was not sent
 abbrev pub IsOverAt : Call → ℕ → Type 0

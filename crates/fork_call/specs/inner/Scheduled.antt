@@ -4,7 +4,7 @@ use Rattle.std.specs.Prelude.{ℕ, Bool, true, false, ◌≡◌, List, [], ◌++
 use Rattle.fork_model.specs.Reply.{Reply}
 use Rattle.fork_model.specs.Sources.{IsNumberIn}
 use Rattle.sip_txn.specs.Timers.{earlier, is_due}
-use Rattle.fork_parts.specs.Call.{Call, found, leg_at, rows_of}
+use Rattle.call_model.specs.Call.{Call, found, leg_at, rows_of}
 use Rattle.fork_call.specs.Scheduled.{due_of}
 
 -- the least of all

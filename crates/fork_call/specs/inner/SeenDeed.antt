@@ -1,5 +1,5 @@
 -- A deed in memory.
-use Rattle.fork_parts.specs.Due as due
+use Rattle.call_model.specs.Due as due
 use Rattle.fork_call.specs.declared.deed.Deed.{Deed}
 use Rattle.fork_call.specs.declared.deed.Deed.TheVariants as deed
 

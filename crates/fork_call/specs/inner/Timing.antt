@@ -1,15 +1,15 @@
 -- A step of a call touches few rows: these alone are timed anew.
 -- Here: what no public contract reaches.
 use Rattle.std.specs.Prelude.{ℕ, ◌++◌, List, [], ◌∷◌, Option, Some, None, fold, length, slice_get, slice_set, take, if◌then◌else◌}
-use Rattle.fork_parts.specs.declared.cause.Cause.{Cause}
-use Rattle.fork_parts.specs.declared.cause.Cause.TheVariants as cause
-use Rattle.fork_parts.specs.Call.{Call, leg_at, rows_of}
-use Rattle.fork_parts.specs.Due as due
-use Rattle.fork_parts.specs.Due.{Deed}
+use Rattle.call_model.specs.declared.cause.Cause.{Cause}
+use Rattle.call_model.specs.declared.cause.Cause.TheVariants as cause
+use Rattle.call_model.specs.Call.{Call, leg_at, rows_of}
+use Rattle.call_model.specs.Due as due
+use Rattle.call_model.specs.Due.{Deed}
 use Rattle.fork_model.specs.Table.{most_targets}
-use Rattle.fork_parts.specs.Response.{is_redirection}
-use Rattle.fork_parts.specs.Take as to
-use Rattle.fork_parts.specs.Take.{Recipient}
+use Rattle.call_model.specs.Response.{is_redirection}
+use Rattle.call_model.specs.Take as to
+use Rattle.call_model.specs.Take.{Recipient}
 use Rattle.fork_call.specs.Scheduled.{due_of}
 use Rattle.fork_call.specs.inner.Scheduled.{rows_in}
 

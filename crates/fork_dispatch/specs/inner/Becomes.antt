@@ -4,7 +4,7 @@
 use Rattle.std.specs.Prelude.{Option, Some, None}
 use Rattle.sip_text.specs.Reading.{Fault}
 use Rattle.sip_uri.specs.declared.hop.Hop.{Hop}
-use Rattle.fork_parts.specs.Built.{Datagram}
+use Rattle.call_model.specs.Built.{Datagram}
 use Rattle.fork_dispatch.specs.declared.datagrams.Handled.{Handled}
 use Rattle.fork_dispatch.specs.Becomes.{FaultBecomes}
 

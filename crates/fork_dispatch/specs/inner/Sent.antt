@@ -1,9 +1,9 @@
 -- What the proxy sends without a call (RFC 3261 sections 8.2.6, 16.11 and 18.2.2).
 -- Here: what no public contract reaches.
 use Rattle.std.specs.Prelude.{Option, Some, None}
-use Rattle.fork_parts.specs.Built.{Datagram}
-use Rattle.fork_parts.specs.declared.datagram.Datagram as memory
-use Rattle.fork_parts.specs.SeenDatagram.{seen}
+use Rattle.call_model.specs.Built.{Datagram}
+use Rattle.call_model.specs.declared.datagram.Datagram as memory
+use Rattle.call_model.specs.SeenDatagram.{seen}
 
 -- ---- in memory
 

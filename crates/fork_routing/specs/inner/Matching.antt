@@ -2,8 +2,8 @@
 -- Here: what no public contract reaches.
 use Rattle.std.specs.Prelude.{ℕ}
 use Rattle.sip_text.specs.Text.{MessageText}
-use Rattle.fork_parts.specs.Call.{Call}
-use Rattle.fork_parts.specs.Take.{Server, ServerAck, ServerCancel, Client, CancelClient}
+use Rattle.call_model.specs.Call.{Call}
+use Rattle.call_model.specs.Take.{Server, ServerAck, ServerCancel, Client, CancelClient}
 use Rattle.fork_routing.specs.Matching.{BelongsTo}
 
 -- no branch takes it

@@ -1,4 +1,4 @@
-use Rattle.fork_parts.specs.SeenStep.{pumped}
+use Rattle.call_model.specs.SeenStep.{pumped}
 use Rattle.call_tests.proofs.Kept.{answer_keeps}
 use Rattle.call_tests.proofs.branches.answered.Goals as goal
 

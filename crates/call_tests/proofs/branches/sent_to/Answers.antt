@@ -1,7 +1,7 @@
 use Rattle.std.proofs.Common.{◌≡◌, true, false}
 use Rattle.fork_model.specs.Table.{is_trying}
-use Rattle.fork_parts.specs.Call.{is_sent, row_passes}
-use Rattle.fork_parts.specs.SeenDatagram.{seen}
+use Rattle.call_model.specs.Call.{is_sent, row_passes}
+use Rattle.call_model.specs.SeenDatagram.{seen}
 use Rattle.call_tests.proofs.Kept.{request_keeps}
 use Rattle.call_tests.proofs.branches.sent_to.Goals as goal
 

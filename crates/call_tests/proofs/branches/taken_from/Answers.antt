@@ -1,5 +1,5 @@
-use Rattle.fork_parts.specs.SeenTaken.{seen_taken}
-use Rattle.fork_parts.specs.Sound.{IsForward}
+use Rattle.call_model.specs.SeenTaken.{seen_taken}
+use Rattle.call_model.specs.Sound.{IsForward}
 use Rattle.call_tests.proofs.Kept.{response_keeps}
 use Rattle.call_tests.proofs.branches.taken_from.Goals as goal
 

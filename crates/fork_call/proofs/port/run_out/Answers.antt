@@ -1,6 +1,6 @@
 use Rattle.fork_call.proofs.Common.{refl, sym, subst, arith, Call, Carries, Sent, Lost, Silent, Pumps, Send, pumped}
-use Rattle.fork_parts.specs.SeenDatagram.{seen}
-use Rattle.fork_parts.specs.declared.step.Step.{Step}
+use Rattle.call_model.specs.SeenDatagram.{seen}
+use Rattle.call_model.specs.declared.step.Step.{Step}
 use Rattle.fork_call.proofs.Arriving.{on_err}
 use Rattle.fork_call.proofs.Carrying.{cut_before, cut_untold, so_far_sent, so_far_lost, so_far_silent}
 use Rattle.fork_call.proofs.port.run_out.Goals.{in-Did, in-Send, then-is_lost+in_ok-failed-in-Send, else-is_lost}

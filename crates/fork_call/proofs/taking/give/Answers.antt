@@ -1,5 +1,5 @@
 use Rattle.fork_call.proofs.Common.{subst, sym, TakesAs, seen_recipient}
-use Rattle.fork_parts.specs.Take.{Absorbed}
+use Rattle.call_model.specs.Take.{Absorbed}
 use Rattle.fork_routing.specs.declared.transaction.Recipient.{Recipient}
 use Rattle.fork_call.proofs.taking.give.Goals as goal
 

@@ -1,5 +1,5 @@
 use Rattle.fork_dispatch.proofs.Common.{inl, subst, sym, ◌∙◌, IfOk-weaker, Own, IsAdmitted, seen_sent}
-use Rattle.fork_routing.specs.Refusing.{IsTurnedAway}
+use Rattle.proxy_routing.specs.Refusing.{IsTurnedAway}
 use Rattle.fork_dispatch.proofs.Becoming.{passes_if}
 use Rattle.fork_dispatch.proofs.acks.passing.Goals as goal
 

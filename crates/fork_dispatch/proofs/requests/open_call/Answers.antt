@@ -1,5 +1,5 @@
 use Rattle.std.proofs.lemmas.Result.{IfOk-weaker}
-use Rattle.fork_parts.specs.Call.{numbered}
+use Rattle.call_model.specs.Call.{numbered}
 use Rattle.fork_dispatch.proofs.requests.open_call.Goals as goal
 
 pub returns-clause-opened : goal.returns-clause-opened

@@ -1,7 +1,7 @@
 use Rattle.fork_routing.proofs.Common.{◌≡◌, ◌∙◌, [], true, List, ap, subst, list_all, Choice, has_hop, IsBegun}
 use Rattle.std.proofs.Common.{rules}
 use Rattle.fork_routing.proofs.Opened.{fixed_so, reaches}
-use Rattle.fork_routing.specs.Targets.{is_domain}
+use Rattle.proxy_routing.specs.Targets.{is_domain}
 use Rattle.fork_routing.proofs.opening.open_to.Goals as goal
 
 pub returns-in-Ok-clause-opened : goal.returns-in-Ok-clause-opened

@@ -1,5 +1,5 @@
 use Rattle.fork_call.proofs.Common.{◌≡◌, ◌∙◌, ap, refl, sym, subst, false, true, [], ◌∷◌, List, Option, Some, length, ℕ, suc, arith, ◌==◌, eqb-true, earlier, Call, IsLeastDue, is_any, least_of}
-use Rattle.fork_parts.specs.Server as server
+use Rattle.call_model.specs.Server as server
 use Rattle.fork_call.proofs.LeastDue.{least_due, owed_due}
 use Rattle.fork_call.proofs.call.Call.due.Goals as goal
 

@@ -1,4 +1,4 @@
-use Rattle.fork_parts.specs.Call.{numbered}
+use Rattle.call_model.specs.Call.{numbered}
 use Rattle.fork_call.proofs.Opened.{opened_timed, opens_numbered}
 use Rattle.fork_call.proofs.prepared.Prepared.new.Goals as goal
 

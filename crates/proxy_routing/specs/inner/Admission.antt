@@ -8,7 +8,7 @@ use Rattle.sip_route.specs.RouteValues.{is_route, route_values}
 use Rattle.sip_via.specs.BranchText.{cookie}
 use Rattle.sip_via.specs.TopVia.{top_value}
 use Rattle.sip_via.specs.ViaParts.{branch_of, or_empty, via_of}
-use Rattle.fork_routing.specs.Admission.{are_hops, begins_with, is_uri_or_other, target_uri}
+use Rattle.proxy_routing.specs.Admission.{are_hops, begins_with, is_uri_or_other, target_uri}
 
 -- the branch that its top value names begins as RFC 3261 has it
 abbrev pub names_cookie : MessageText → Bool

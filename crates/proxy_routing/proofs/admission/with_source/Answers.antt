@@ -1,6 +1,6 @@
-use Rattle.fork_routing.proofs.Common.{◌∙◌, sym}
-use Rattle.fork_routing.proofs.Admitting.{formed_if_read, read_if_marked, unread, unread_if_refused}
-use Rattle.fork_routing.proofs.admission.with_source.Goals as goal
+use Rattle.proxy_routing.proofs.Common.{◌∙◌, sym}
+use Rattle.proxy_routing.proofs.Admitting.{formed_if_read, read_if_marked, unread, unread_if_refused}
+use Rattle.proxy_routing.proofs.admission.with_source.Goals as goal
 
 pub returns-in-Ok-clause-formed : goal.returns-in-Ok-clause-formed
 returns-in-Ok-clause-formed g c =

@@ -1,19 +1,16 @@
 -- Where a request may be sent, and by which hop (RFC 3261 sections 16.5 and 16.6).
-use Rattle.std.specs.Prelude.{◌≡◌, ℕ, Bool, ◌||◌, List, [], ◌∷◌, map, Option, Some, None, is_some, slice_get, if◌then◌else◌}
-use Rattle.std.specs.Option.{option_and_then}
+use Rattle.std.specs.Prelude.{ℕ, Bool, ◌||◌, List, [], ◌∷◌, map, Option, Some, None, is_some, if◌then◌else◌}
 use Rattle.std.specs.Str.{bytes_eq, str_to_ascii_lowercase}
 use Rattle.fork_model.specs.History.{Target}
-use Rattle.fork_model.specs.Table.{Row}
 use Rattle.fork_text.specs.Field.{most_q}
 use Rattle.sip_uri.specs.declared.hop.Hop.{Hop}
 use Rattle.sip_uri.specs.Hop.{hop_of}
 use Rattle.sip_uri.specs.Key.{key_of}
-use Rattle.sip_uri.specs.Uri.{Uri, requested}
+use Rattle.sip_uri.specs.Uri.{Uri}
 use Rattle.sip_via.specs.Address.{address_text}
 use Rattle.sip_route.specs.declared.route_values.FirstRoute.{FirstRoute}
 use Rattle.sip_route.specs.declared.route_values.FirstRoute.TheVariants.{Absent, NoHop, To}
 use Rattle.fork_setup.specs.Setup.{Location, Setup, locations_of}
-use Rattle.fork_parts.specs.Fixed.{Way, way_by}
 
 -- ---- by which hop (section 16.6 steps 6 and 7)
 
@@ -66,14 +63,3 @@ abbrev pub hop_if_any : FirstRoute → Option Hop
 hop_if_any Absent = None
 hop_if_any NoHop = None
 hop_if_any (To hop) = Some hop
-
-abbrev pub way_to : Choice → Option Way
-way_to choice = way_by (requested choice.uri) choice.hop
-
--- the way of the target that a row is for
-abbrev pub way_of_row : List Choice → Row → Option Way
-way_of_row cs row = option_and_then way_to (slice_get cs row.place)
-
--- each row has its way
-abbrev pub AreWays : List Choice → List Row → List Way → Type 0
-AreWays cs rows ways = map Some ways ≡ map (way_of_row cs) rows

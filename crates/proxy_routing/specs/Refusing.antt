@@ -5,9 +5,9 @@ use Rattle.sip_uri.specs.declared.fault.UriFault.TheVariants as uris
 use Rattle.sip_uri.specs.declared.hop.Hop.{Hop}
 use Rattle.sip_via.specs.declared.own.Own.{Own}
 use Rattle.sip_route.specs.LoopTest.{IsLoop}
-use Rattle.fork_routing.specs.declared.fault.OpenFault.{OpenFault}
-use Rattle.fork_routing.specs.declared.fault.OpenFault.TheVariants.{BadRequest, Scheme, Hops, Loop, Extension, NoTarget, NoHop, NoMemory}
-use Rattle.fork_routing.specs.Admission.{IsPrepared, IsRoutable, is_at_its_end, is_well_formed, target_uri}
+use Rattle.proxy_routing.specs.declared.fault.OpenFault.{OpenFault}
+use Rattle.proxy_routing.specs.declared.fault.OpenFault.TheVariants.{BadRequest, Scheme, Hops, Loop, Extension, NoTarget, NoHop, NoMemory}
+use Rattle.proxy_routing.specs.Admission.{IsPrepared, IsRoutable, is_at_its_end, is_well_formed, target_uri}
 
 -- what it answers (section 21)
 abbrev pub status_of_fault : OpenFault → Option ℕ

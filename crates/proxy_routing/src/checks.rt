@@ -8,8 +8,8 @@ ghost use Rattle.sip_uri.specs.Uri.{Uri};
 ghost use Rattle.sip_route.specs.Hops.{hops_of};
 ghost use Rattle.sip_via.specs.BranchText.{cookie};
 ghost use Rattle.sip_via.specs.ViaParts.{or_empty};
-ghost use Rattle.fork_routing.specs.Admission.{are_hops, asks_extension, begins_with, is_spent, is_uri_or_other, target_uri};
-ghost use Rattle.fork_routing.specs.inner.Admission.{is_formed, names_cookie};
+ghost use Rattle.proxy_routing.specs.Admission.{are_hops, asks_extension, begins_with, is_spent, is_uri_or_other, target_uri};
+ghost use Rattle.proxy_routing.specs.inner.Admission.{is_formed, names_cookie};
 
 use sip_route::{Hops, routes_are_readable};
 use sip_text::Message;
@@ -87,7 +87,7 @@ pub(crate) fn is_spent(hops: Hops) -> bool
 }
 
 /// Whether the request asks the proxy for an extension (RFC 3261 section 16.3 step 5).
-pub(crate) fn asks_extension<A: Allocator>(message: &Message<A>) -> bool
+pub fn asks_extension<A: Allocator>(message: &Message<A>) -> bool
     ensures { result ≡ asks_extension message.now }
 {
     message.values(b"proxy-require").next().is_some()

@@ -1,6 +1,6 @@
 -- A request that is well formed can be marked with its source.
-use Rattle.fork_routing.proofs.Common.{◌≡◌, Bool, true, false, List, ℕ, zero, suc, Option, Some, Result, Ok, Err, refl, sym, subst, arith, ap, ◌∙◌, codes, ◌&&◌, list_all, MessageText, Own, top_value, via_of, Hops, MayPass, hops_name}
-use Rattle.fork_routing.proofs.Common.{is_at_its_end, is_spent, is_well_formed, target_uri}
+use Rattle.proxy_routing.proofs.Common.{◌≡◌, Bool, true, false, List, ℕ, zero, suc, Option, Some, Result, Ok, Err, refl, sym, subst, arith, ap, ◌∙◌, codes, ◌&&◌, list_all, MessageText, Own, top_value, via_of, Hops, MayPass, hops_name}
+use Rattle.proxy_routing.proofs.Common.{is_at_its_end, is_spent, is_well_formed, target_uri}
 use Rattle.std.specs.Prelude.{IfSome, IsOk, if◌then◌else◌}
 use Rattle.std.proofs.lemmas.Bool.{and_parts}
 use Rattle.sip_text.specs.Name.{first_of, first_value, full_name, same_name, values_of}
@@ -14,13 +14,13 @@ use Rattle.sip_uri.specs.Reading.{read_uri}
 use Rattle.sip_route.specs.Loop.{request_uri}
 use Rattle.sip_via.specs.Received.{marked}
 use Rattle.sip_via.specs.ViaFaults.{refusal}
-use Rattle.sip_via.specs.ViaParts.{ViaText, is_via}
+use Rattle.sip_via.specs.ViaParts.{is_via}
 use Rattle.sip_route.specs.declared.hops.Hops.TheVariants.{Unsaid, Said, Wrong}
 use Rattle.sip_route.specs.Hops.{IsHops, hops_of}
 use Rattle.sip_route.specs.Routes.{stripped}
 use Rattle.sip_route.specs.RouteValues.{is_route, route_values}
-use Rattle.fork_routing.specs.Admission.{are_hops, has_cookie, has_via, is_uri_or_other}
-use Rattle.fork_routing.specs.inner.Admission.{is_formed}
+use Rattle.proxy_routing.specs.Admission.{are_hops, has_cookie, has_via, is_uri_or_other}
+use Rattle.proxy_routing.specs.inner.Admission.{is_formed}
 
 pub ok_refused : {Y : Type 0} (r : Result Y ViaFault) → IsOk r → refusal r ≡ BadVia → ⊥
 ok_refused (Ok y) ok e = absurd cc

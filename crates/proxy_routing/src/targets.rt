@@ -5,7 +5,7 @@ ghost use Rattle.std.specs.Option.{option_copied};
 ghost use Rattle.sip_via.specs.Address.{address_text, dotted};
 ghost use Rattle.fork_text.specs.Field.{most_q};
 ghost use Rattle.fork_setup.specs.Setup.{locations_of};
-ghost use Rattle.fork_routing.specs.Targets.{choice_at, choices_by, choices_of, has_hop, hop_by, hop_if_any, is_domain, target_of, targets_of};
+ghost use Rattle.proxy_routing.specs.Targets.{choice_at, choices_by, choices_of, has_hop, hop_by, hop_if_any, is_domain, target_of, targets_of};
 
 use fork_context::Target;
 use fork_setup::{Location, Setup};
@@ -20,7 +20,7 @@ const MOST_Q: u16 = 1000;
 
 /// A target, tried at this q, and the hop by which it is reached, if there is one.
 #[derive(Drop)]
-pub(crate) struct Choice<'a, A: Allocator> {
+pub struct Choice<'a, A: Allocator> {
     q: u16,
     uri: &'a SipUri<A>,
     hop: Option<Hop>,
@@ -29,7 +29,7 @@ pub(crate) struct Choice<'a, A: Allocator> {
 impl<'a, A: Allocator> Model for Choice<'a, A> {
     ghost use Rattle.std.specs.Prelude.{◌≤◌};
     ghost use Rattle.fork_text.specs.Field.{most_q};
-    ghost use Rattle.fork_routing.specs.Targets as spec;
+    ghost use Rattle.proxy_routing.specs.Targets as spec;
 
     ghost Value = { spec.Choice };
 
@@ -40,14 +40,14 @@ impl<'a, A: Allocator> Model for Choice<'a, A> {
 
 impl<'a, A: Allocator> Choice<'a, A> {
     /// The URI of the target.
-    pub(crate) fn uri(&self) -> &SipUri<A>
+    pub fn uri(&self) -> &SipUri<A>
         ensures { result.now ≡ self.now.uri }
     {
         self.uri
     }
 
     /// The hop by which it is reached, if there is one.
-    pub(crate) fn hop(&self) -> Option<Hop>
+    pub fn hop(&self) -> Option<Hop>
         ensures { result ≡ self.now.hop }
     {
         self.hop
@@ -179,7 +179,7 @@ fn alone<'a, A: Allocator + Clone>(
 
 /// The targets of a request to this URI, inside the domain or not, with this first Route value: in the domain the locations
 /// of its user, else the URI alone (RFC 3261 section 16.5).
-pub(crate) fn choices<'a, A: Allocator + Clone>(
+pub fn choices<'a, A: Allocator + Clone>(
     alloc: A,
     setup: &'a Setup<A>,
     inside: bool,
@@ -196,7 +196,7 @@ pub(crate) fn choices<'a, A: Allocator + Clone>(
 }
 
 /// The targets as a fork takes them.
-pub(crate) fn targets_of<A: Allocator + Clone>(
+pub fn targets_of<A: Allocator + Clone>(
     alloc: A,
     choices: &[Choice<'_, A>],
 ) -> Result<Vec<Target<A>, A>, AllocError>
@@ -224,7 +224,7 @@ pub fn hop_by<A: Allocator + Clone>(route: FirstRoute, uri: &SipUri<A>) -> Optio
 }
 
 /// The hop of the first Route value, if there is one that leads to a hop.
-pub(crate) fn hop_if_any(route: FirstRoute) -> Option<Hop>
+pub fn hop_if_any(route: FirstRoute) -> Option<Hop>
     ensures { result ≡ hop_if_any route }
 {
     match route {
@@ -234,7 +234,7 @@ pub(crate) fn hop_if_any(route: FirstRoute) -> Option<Hop>
 }
 
 /// Whether each target has a hop.
-pub(crate) fn have_hops<A: Allocator>(choices: &[Choice<'_, A>]) -> bool
+pub fn have_hops<A: Allocator>(choices: &[Choice<'_, A>]) -> bool
     ensures { result ≡ list_all has_hop choices.now }
 {
     choices.iter().all(|choice| choice.hop.is_some())

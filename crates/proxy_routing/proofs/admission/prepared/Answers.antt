@@ -1,6 +1,6 @@
-use Rattle.fork_routing.proofs.Common.{hops_name}
-use Rattle.fork_routing.proofs.Admitting.{not_via, same_start, still_passes}
-use Rattle.fork_routing.proofs.admission.prepared.Goals as goal
+use Rattle.proxy_routing.proofs.Common.{hops_name}
+use Rattle.proxy_routing.proofs.Admitting.{not_via, same_start, still_passes}
+use Rattle.proxy_routing.proofs.admission.prepared.Goals as goal
 
 pub returns-clause-start : goal.returns-clause-start
 returns-clause-start g c =

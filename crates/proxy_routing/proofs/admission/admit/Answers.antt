@@ -1,5 +1,5 @@
 use Rattle.std.proofs.Common.{refl}
-use Rattle.fork_routing.proofs.admission.admit.Goals as goal
+use Rattle.proxy_routing.proofs.admission.admit.Goals as goal
 
 pub returns-then-is_loop-clause-refused : goal.returns-then-is_loop-clause-refused
 returns-then-is_loop-clause-refused g c =

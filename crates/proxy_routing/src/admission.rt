@@ -3,9 +3,9 @@ ghost use Rattle.std.specs.Prelude.{◌≡◌, IfErr, IfOk, IfSome, Ok, true};
 ghost use Rattle.sip_text.specs.Name.{first_value};
 ghost use Rattle.sip_route.specs.Hops.{IsHops, hops_name};
 ghost use Rattle.sip_via.specs.Received.{marked};
-ghost use Rattle.fork_routing.specs.Admission.{IsAdmitted, IsPrepared, IsRoutable, is_well_formed};
-ghost use Rattle.fork_routing.specs.Refusing.{IsTurnedAway, IsUnroutable};
-ghost use Rattle.fork_routing.specs.inner.Admission.{is_formed};
+ghost use Rattle.proxy_routing.specs.Admission.{IsAdmitted, IsPrepared, IsRoutable, is_well_formed};
+ghost use Rattle.proxy_routing.specs.Refusing.{IsTurnedAway, IsUnroutable};
+ghost use Rattle.proxy_routing.specs.inner.Admission.{is_formed};
 
 use crate::checks::{is_formed, is_of_another_scheme, is_spent};
 use crate::fault::OpenFault;

@@ -1,7 +1,7 @@
 use Rattle.std.proofs.lemmas.Bool.{false≢true}
-use Rattle.fork_routing.proofs.Common.{◌∙◌, ap, refl, sym, subst, Hops, MayPass, is_spent}
-use Rattle.fork_routing.proofs.Admitting.{fault_of_other_scheme, may_pass, other_scheme, unformed}
-use Rattle.fork_routing.proofs.admission.routable.Goals as goal
+use Rattle.proxy_routing.proofs.Common.{◌∙◌, ap, refl, sym, subst, Hops, MayPass, is_spent}
+use Rattle.proxy_routing.proofs.Admitting.{fault_of_other_scheme, may_pass, other_scheme, unformed}
+use Rattle.proxy_routing.proofs.admission.routable.Goals as goal
 
 pub returns-then-not-is_formed-clause-refused : goal.returns-then-not-is_formed-clause-refused
 returns-then-not-is_formed-clause-refused g c = unformed c.args.message (sym c.if-not-is_formed.ensures)

@@ -1,6 +1,6 @@
 //! Why a call is not opened.
 ghost use Rattle.std.specs.Prelude.{◌≡◌};
-ghost use Rattle.fork_routing.specs.Refusing.{status_of_fault};
+ghost use Rattle.proxy_routing.specs.Refusing.{status_of_fault};
 
 use std::alloc::AllocError;
 use thiserror::Error;
@@ -53,7 +53,7 @@ impl OpenFault {
 }
 
 impl From<AllocError> for OpenFault {
-    ghost use Rattle.fork_routing.specs.declared.fault.OpenFault.TheVariants as faults;
+    ghost use Rattle.proxy_routing.specs.declared.fault.OpenFault.TheVariants as faults;
 
     ghost from_gives = { λ _ e. e ≡ faults.NoMemory };
 

@@ -1,0 +1,4 @@
+pub mod inner
+pub mod Admission
+pub mod Refusing
+pub mod Targets

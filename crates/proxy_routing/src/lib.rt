@@ -1,0 +1,16 @@
+//! What a proxy asks of a request before it opens a call for it, and where it then sends it: the checks of a request and why
+//! it is turned away, the locations of a user of the domain, and the hop that leads to each (RFC 3261 sections 16.3 to
+//! 16.6).
+//!
+//! Nothing is known of calls here.
+#![tactic(auto)]
+
+mod admission;
+mod checks;
+mod fault;
+mod targets;
+
+pub use admission::admit;
+pub use checks::asks_extension;
+pub use fault::OpenFault;
+pub use targets::{Choice, choices, have_hops, hop_by, hop_if_any, is_domain, targets_of};
