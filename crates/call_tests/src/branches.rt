@@ -4,8 +4,8 @@ ghost use Rattle.fork_parts.specs.Sound.{IsSound};
 use crate::holds::holds;
 use crate::parts::{
     CALL_ID, CALLER, CANCEL_FIRST, CSEQ, FIRST, FIRST_VIA, FROM, INVITE, LENGTH, RINGING, SECOND,
-    SECOND_VIA, TO, TO_FIRST, TO_SECOND, TRYING, VIA, begun, is_sent_as, message_of, sends_cancel,
-    status_of, step_sends,
+    SECOND_VIA, TO, TO_FIRST, TO_SECOND, TRYING, VIA, begun, is_sent_as, is_silent, message_of,
+    sends_cancel, status_of, step_sends,
 };
 use fork_parts::{Cause, Datagram, Parts, Step, Taken, calls_stay_sound};
 use sip_text::Message;
@@ -295,8 +295,8 @@ fn ticks_silently(parts: &mut Parts, now: u64) -> bool
     requires { IsSound parts.old }
 {
     match ticked(parts, now) {
-        Some(Step::Did) => true,
-        _ => false,
+        Some(step) => is_silent(&step),
+        None => false,
     }
 }
 
