@@ -4,8 +4,8 @@ ghost use Rattle.call_model.specs.Sound.{IsSound};
 use crate::holds::holds;
 use crate::parts::{
     CALL_ID, CALLER, CANCEL_FIRST, CSEQ, FIRST, FIRST_VIA, FROM, INVITE, LENGTH, RINGING, SECOND,
-    SECOND_VIA, TO, TO_FIRST, TO_SECOND, TRYING, VIA, begun, is_sent_as, message_of, sends_cancel,
-    status_of, step_sends,
+    SECOND_VIA, TO, TO_FIRST, TO_SECOND, TRYING, VIA, begun, is_sent_as, is_silent, message_of,
+    sends_cancel, status_of, step_sends,
 };
 use call_model::{Cause, Datagram, Step, Taken, calls_stay_sound};
 use call_state::Parts;
@@ -296,8 +296,8 @@ fn ticks_silently(parts: &mut Parts, now: u64) -> bool
     requires { IsSound parts.old }
 {
     match ticked(parts, now) {
-        Some(Step::Did) => true,
-        _ => false,
+        Some(step) => is_silent(&step),
+        None => false,
     }
 }
 

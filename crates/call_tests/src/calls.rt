@@ -4,64 +4,80 @@ use crate::recipients::{
     CALLER, CANCELLING, FIRST, INVITE, INVITING, NO_VIA, OKAY, RINGING, SECOND, SETUP, message_of,
 };
 use crate::requests::{SOURCE, setup_of};
-use fork_call::{Call, Cause, Prepared, Step, TakeFault, Taken};
+use fork_call::{Call, Cause, Datagram, Prepared, Setup, Step, TakeFault, Taken};
 use fork_routing::is_openable;
 use std::alloc::Global;
+use std::process::Abort;
 
-/// The call that the INVITE opens as number 3, to two branches.
-fn opened(alloc: Global) -> Option<Call> {
+/// The call that the INVITE opens as number 3, to the two branches of a setup.
+fn opened_by(alloc: Global, setup: &Setup<Global>) -> Option<Call> {
     let invite = message_of(alloc, INVITE, (CALLER, NO_VIA), INVITING)?;
-    let setup = setup_of(alloc, SETUP)?;
     if !is_openable(&invite) {
         return None;
     }
-    Call::open(alloc, alloc, &setup, 3, invite, SOURCE, 0).ok()
-}
-
-/// The same call, prepared before it has its number.
-fn prepared(alloc: Global) -> Option<Call> {
-    let invite = message_of(alloc, INVITE, (CALLER, NO_VIA), INVITING)?;
-    let setup = setup_of(alloc, SETUP)?;
-    if !is_openable(&invite) {
-        return None;
-    }
-    match Prepared::new(alloc, alloc, &setup, invite, SOURCE, 0) {
-        Ok(prepared) => Some(prepared.numbered(3)),
+    match Call::open(alloc, alloc, setup, 3, invite, SOURCE, 0) {
+        Ok(call) => Some(call),
         Err(_) => None,
     }
 }
 
-/// Whether the next datagrams of two calls are the same, so many of them.
-fn send_alike(one: &mut Call, other: &mut Call, count: u32) -> bool {
-    for _ in 0..count {
-        match (one.pump(0), other.pump(0)) {
-            (Ok(Step::Send(first)), Ok(Step::Send(second))) => {
-                if first.to != second.to || first.bytes != second.bytes {
-                    return false;
-                }
-            }
-            _ => return false,
-        }
-    }
-    true
+/// That of the setup with two locations.
+fn opened(alloc: Global) -> Option<Call> {
+    let setup = setup_of(alloc, SETUP)?;
+    opened_by(alloc, &setup)
 }
 
-/// What the next datagram is sent for, where the next pump sends one.
-fn next_cause(call: &mut Call, now: u64) -> Option<Cause> {
+/// What the INVITE opens, before it has its number.
+fn prepared_by(alloc: Global, setup: &Setup<Global>) -> Option<Prepared> {
+    let invite = message_of(alloc, INVITE, (CALLER, NO_VIA), INVITING)?;
+    if !is_openable(&invite) {
+        return None;
+    }
+    match Prepared::new(alloc, alloc, setup, invite, SOURCE, 0) {
+        Ok(prepared) => Some(prepared),
+        Err(_) => None,
+    }
+}
+
+/// That of the setup with two locations.
+fn prepared(alloc: Global) -> Option<Prepared> {
+    let setup = setup_of(alloc, SETUP)?;
+    prepared_by(alloc, &setup)
+}
+
+/// The same under number 3.
+fn numbered(alloc: Global) -> Option<Call> {
+    match prepared(alloc) {
+        Some(prepared) => Some(prepared.numbered(3)),
+        None => None,
+    }
+}
+
+// ---- what a call sends
+
+/// The datagram that the next pump sends, if it sends one.
+fn next_sent(call: &mut Call, now: u64) -> Option<Datagram> {
     match call.pump(now) {
-        Ok(Step::Send(datagram)) => Some(datagram.cause),
+        Ok(Step::Send(datagram)) => Some(datagram),
         Ok(Step::Did | Step::Idle) | Err(_) => None,
+    }
+}
+
+/// What it is sent for.
+fn next_cause(call: &mut Call, now: u64) -> Option<Cause> {
+    match next_sent(call, now) {
+        Some(datagram) => Some(datagram.cause),
+        None => None,
     }
 }
 
 /// Whether the next pumps send for these causes, one after another.
 fn sends_for(call: &mut Call, now: u64, causes: &[Cause]) -> bool {
+    let mut well = true;
     for cause in causes {
-        if next_cause(call, now) != Some(*cause) {
-            return false;
-        }
+        well = well && next_cause(call, now) == Some(*cause);
     }
-    true
+    well
 }
 
 /// Whether nothing is due.
@@ -72,141 +88,211 @@ fn is_idle(call: &mut Call, now: u64) -> bool {
     }
 }
 
-/// What comes of such a message.
-fn taken(
+// ---- a history
+
+/// What a call does, or what happens to it, and what comes of it.
+#[derive(Clone, Copy)]
+enum Turn {
+    /// It has this number.
+    HasNumber(u64),
+    /// Something is due at this moment, and nothing before.
+    IsDue(u64),
+    /// It sends for these causes, one after another.
+    Sends(&'static [Cause]),
+    /// Nothing is due.
+    Rests,
+    /// A message by its start line, its Via lines and its CSeq line is taken so.
+    Takes(&'static [u8], (&'static [u8], &'static [u8]), &'static [u8], Result<Taken, TakeFault>),
+    /// A datagram of this cause could not be sent.
+    Fails(Cause),
+    /// So many events were posted.
+    HasPosted(usize),
+    /// It is not over.
+    GoesOn,
+}
+
+/// A moment in milliseconds, what happens then, and what that shows.
+type Moment = (u64, Turn, &'static str);
+
+/// Whether such a message is taken so.
+fn takes(
     alloc: Global,
     call: &mut Call,
+    now: u64,
     start: &[u8],
     vias: (&[u8], &[u8]),
     cseq: &[u8],
-) -> Option<Result<Taken, TakeFault>> {
-    let message = message_of(alloc, start, vias, cseq)?;
-    Some(call.take(message, SOURCE, 20))
+    wanted: Result<Taken, TakeFault>,
+) -> bool {
+    match message_of(alloc, start, vias, cseq) {
+        Some(message) => call.take(message, SOURCE, now) == wanted,
+        None => false,
+    }
 }
 
-/// Whether a response to the INVITE on this branch is posted at this position.
-fn posts(alloc: Global, call: &mut Call, start: &[u8], via: &[u8], at: u32) -> bool {
-    taken(alloc, call, start, (via, CALLER), INVITING) == Some(Ok(Taken::Posted(at)))
+/// Whether a turn goes as it is told.
+fn goes(alloc: Global, call: &mut Call, now: u64, turn: Turn) -> bool {
+    match turn {
+        Turn::HasNumber(number) => call.number() == number,
+        Turn::IsDue(at) => call.due() == Some(at),
+        Turn::Sends(causes) => sends_for(call, now, causes),
+        Turn::Rests => is_idle(call, now),
+        Turn::Takes(start, vias, cseq, wanted) => {
+            takes(alloc, call, now, start, vias, cseq, wanted)
+        }
+        Turn::Fails(cause) => call.failed(cause, now).is_ok(),
+        Turn::HasPosted(count) => call.book().history().len() == count,
+        Turn::GoesOn => !call.over(),
+    }
 }
+
+/// Checks that each turn of the call goes as it is told.
+fn check(rt: &impl Abort, alloc: Global, history: &[Moment]) {
+    match opened(alloc) {
+        Some(mut call) => {
+            for (now, turn, what) in history {
+                holds(rt, goes(alloc, &mut call, *now, *turn), *what);
+            }
+        }
+        None => holds(rt, false, "the call opens"),
+    }
+}
+
+/// What a call sends first.
+const FIRST_SENT: &[Cause] = &[Cause::Answer, Cause::Request(0), Cause::Request(1)];
+
+const SENDING: &[Moment] = &[
+    (0, Turn::HasNumber(3), "its number"),
+    (0, Turn::IsDue(0), "the 100 is owed"),
+    (0, Turn::Sends(FIRST_SENT), "the 100 and the requests"),
+    (0, Turn::Rests, "nothing more"),
+    (0, Turn::IsDue(500), "timer A is next"),
+    (
+        500,
+        Turn::Sends(&[Cause::Request(0), Cause::Request(1)]),
+        "both again",
+    ),
+    (500, Turn::GoesOn, "it is not over"),
+];
 
 #[test]
 fn a_call_sends_what_is_due(rt: HostRuntime) {
-    let alloc = rt.alloc();
+    check(&rt, rt.alloc(), SENDING);
+}
+
+const TAKING: &[Moment] = &[
+    (0, Turn::Sends(FIRST_SENT), "the first datagrams"),
+    (
+        20,
+        Turn::Takes(RINGING, (FIRST, CALLER), INVITING, Ok(Taken::Posted(0))),
+        "the first rings",
+    ),
+    (20, Turn::Sends(&[Cause::Answer]), "that goes up"),
+    (
+        20,
+        Turn::Takes(OKAY, (SECOND, CALLER), INVITING, Ok(Taken::Posted(1))),
+        "the second accepts",
+    ),
+    (
+        20,
+        Turn::Sends(&[Cause::Answer, Cause::Cancel(0)]),
+        "the 200 goes up, the first is cancelled",
+    ),
+    (
+        20,
+        Turn::Takes(OKAY, (SECOND, CALLER), INVITING, Ok(Taken::Posted(2))),
+        "the 200 comes again",
+    ),
+    (20, Turn::HasPosted(3), "three events"),
+];
+
+#[test]
+fn a_call_takes_its_messages(rt: HostRuntime) {
+    check(&rt, rt.alloc(), TAKING);
+}
+
+/// The Via line of the first branch of another call.
+const OTHER: &[u8] =
+    b"Via: SIP/2.0/UDP 192.0.2.9:5060;branch=z9hG4bK8c31e71e0ddbf1a0e56f5f0279990857.7.4.0";
+
+const TELLING: &[Moment] = &[
+    (0, Turn::Sends(FIRST_SENT), "the first datagrams"),
+    (
+        20,
+        Turn::Takes(RINGING, (OTHER, CALLER), INVITING, Err(TakeFault::Stray)),
+        "a response to another call",
+    ),
+    (
+        20,
+        Turn::Fails(Cause::Request(0)),
+        "the first request was lost",
+    ),
+    (20, Turn::HasPosted(1), "its branch has ended"),
+    (
+        20,
+        Turn::Takes(
+            b"CANCEL sip:bob@example.com SIP/2.0",
+            (CALLER, NO_VIA),
+            CANCELLING,
+            Ok(Taken::Posted(1)),
+        ),
+        "the caller cancels",
+    ),
+    (20, Turn::Sends(&[Cause::CancelOk]), "the 200 to the CANCEL"),
+];
+
+#[test]
+fn a_call_tells_strays_and_failures(rt: HostRuntime) {
+    check(&rt, rt.alloc(), TELLING);
+}
+
+// ---- a call that is prepared before it has its number
+
+/// Whether the next datagram of a call is this one, its cause apart.
+fn sends_like(call: &mut Call, wanted: &Datagram) -> bool {
+    match next_sent(call, 0) {
+        Some(sent) => sent.to == wanted.to && sent.bytes == wanted.bytes,
+        None => false,
+    }
+}
+
+/// Whether the next datagrams of two calls are the same.
+fn send_alike(one: &mut Call, other: &mut Call) -> bool {
+    match next_sent(one, 0) {
+        Some(sent) => sends_like(other, &sent),
+        None => false,
+    }
+}
+
+/// Whether so many of them are.
+fn always_send_alike(one: &mut Call, other: &mut Call, count: u32) -> bool {
+    let mut well = true;
+    for _ in 0..count {
+        well = well && send_alike(one, other);
+    }
+    well
+}
+
+/// Whether a call begins as that does which opens.
+fn begins_alike(alloc: Global, other: &mut Call) -> bool {
     match opened(alloc) {
-        None => holds(&rt, false, "the call opens"),
-        Some(mut call) => {
-            let first = [Cause::Answer, Cause::Request(0), Cause::Request(1)];
-            holds(&rt, call.number() == 3, "its number");
-            holds(&rt, call.due() == Some(0), "the 100 is owed");
-            holds(
-                &rt,
-                sends_for(&mut call, 0, &first),
-                "the 100 and the requests",
-            );
-            holds(&rt, is_idle(&mut call, 0), "nothing more");
-            holds(&rt, call.due() == Some(500), "timer A is next");
-            holds(
-                &rt,
-                sends_for(&mut call, 500, &[Cause::Request(0), Cause::Request(1)]),
-                "both again",
-            );
-            holds(&rt, !call.over(), "it is not over");
-        }
+        Some(mut call) => always_send_alike(&mut call, other, 3),
+        None => false,
     }
 }
 
 #[test]
 fn a_prepared_call_is_the_one_that_opens(rt: HostRuntime) {
     let alloc = rt.alloc();
-    match (opened(alloc), prepared(alloc)) {
-        (Some(mut call), Some(mut other)) => {
-            holds(&rt, other.number() == 3, "the number that it got");
+    match numbered(alloc) {
+        Some(mut call) => {
+            holds(&rt, call.number() == 3, "the number that it got");
             holds(
                 &rt,
-                send_alike(&mut call, &mut other, 3),
+                begins_alike(alloc, &mut call),
                 "the 100 and the requests",
             );
         }
-        _ => holds(&rt, false, "both open"),
-    }
-}
-
-#[test]
-fn a_call_takes_its_messages(rt: HostRuntime) {
-    let alloc = rt.alloc();
-    match opened(alloc) {
-        None => holds(&rt, false, "the call opens"),
-        Some(mut call) => {
-            let first = [Cause::Answer, Cause::Request(0), Cause::Request(1)];
-            holds(&rt, sends_for(&mut call, 0, &first), "the first datagrams");
-            holds(
-                &rt,
-                posts(alloc, &mut call, RINGING, FIRST, 0),
-                "the first rings",
-            );
-            holds(
-                &rt,
-                sends_for(&mut call, 20, &[Cause::Answer]),
-                "that goes up",
-            );
-            holds(
-                &rt,
-                posts(alloc, &mut call, OKAY, SECOND, 1),
-                "the second accepts",
-            );
-            holds(
-                &rt,
-                sends_for(&mut call, 20, &[Cause::Answer, Cause::Cancel(0)]),
-                "the 200 goes up, the first is cancelled",
-            );
-            holds(
-                &rt,
-                posts(alloc, &mut call, OKAY, SECOND, 2),
-                "the 200 comes again",
-            );
-            holds(&rt, call.book().history().len() == 3, "three events");
-        }
-    }
-}
-
-#[test]
-fn a_call_tells_strays_and_failures(rt: HostRuntime) {
-    let alloc = rt.alloc();
-    match opened(alloc) {
-        None => holds(&rt, false, "the call opens"),
-        Some(mut call) => {
-            let first = [Cause::Answer, Cause::Request(0), Cause::Request(1)];
-            let cancelling: &[u8] = b"CANCEL sip:bob@example.com SIP/2.0";
-            let other: &[u8] =
-                b"Via: SIP/2.0/UDP 192.0.2.9:5060;branch=z9hG4bK8c31e71e0ddbf1a0e56f5f0279990857.7.4.0";
-            holds(&rt, sends_for(&mut call, 0, &first), "the first datagrams");
-            holds(
-                &rt,
-                taken(alloc, &mut call, RINGING, (other, CALLER), INVITING)
-                    == Some(Err(TakeFault::Stray)),
-                "a response to another call",
-            );
-            holds(
-                &rt,
-                call.failed(Cause::Request(0), 20).is_ok(),
-                "the first request was lost",
-            );
-            holds(
-                &rt,
-                call.book().history().len() == 1,
-                "its branch has ended",
-            );
-            holds(
-                &rt,
-                taken(alloc, &mut call, cancelling, (CALLER, NO_VIA), CANCELLING)
-                    == Some(Ok(Taken::Posted(1))),
-                "the caller cancels",
-            );
-            holds(
-                &rt,
-                sends_for(&mut call, 20, &[Cause::CancelOk]),
-                "the 200 to the CANCEL",
-            );
-        }
+        None => holds(&rt, false, "both open"),
     }
 }

@@ -1,9 +1,8 @@
 //! What a call sends through a port, and what becomes of a send that fails (RFC 3261 sections 16.9 and 18).
 use crate::holds::holds;
-use crate::requests::{Change, SETUP, SOURCE, request_with, setup_of, text_of};
-use fork_call::{Call, Carried, Datagram, Port, carry};
+use crate::requests::{Change, SETUP, SOURCE, message_of, request_with, setup_of};
+use fork_call::{Call, Carried, Datagram, Port, Setup, carry};
 use fork_routing::is_openable;
-use sip_text::Message;
 use sip_uri::Hop;
 use std::alloc::{Allocator, Global};
 
@@ -82,14 +81,22 @@ impl Port for Memory {
 
 // ---- calls
 
-/// The call that the request with these changes opens under number 3.
-fn opened(alloc: Global, changes: &[Change]) -> Option<Call<Global>> {
-    let setup = setup_of(alloc, SETUP)?;
+/// The call that the request with these changes opens under number 3, by a setup.
+fn opened_by(alloc: Global, setup: &Setup<Global>, changes: &[Change]) -> Option<Call<Global>> {
     let request = request_with(alloc, changes)?;
     if !is_openable(&request) {
         return None;
     }
-    Call::open(alloc, alloc, &setup, 3, request, SOURCE, 0).ok()
+    match Call::open(alloc, alloc, setup, 3, request, SOURCE, 0) {
+        Ok(call) => Some(call),
+        Err(_) => None,
+    }
+}
+
+/// The same by the setup with one location.
+fn opened(alloc: Global, changes: &[Change]) -> Option<Call<Global>> {
+    let setup = setup_of(alloc, SETUP)?;
+    opened_by(alloc, &setup, changes)
 }
 
 /// Whether the call sends so many datagrams at this moment and so many fail, and whether more is due then.
@@ -176,14 +183,9 @@ fn a_send_that_fails_is_told_to_its_transaction(rt: HostRuntime) {
 
 // ---- more steps than are made at a time
 
-/// The 180.
-fn ringing(alloc: Global) -> Option<Message<Global>> {
-    Message::read(alloc, &text_of(alloc, &RINGING)?).ok()
-}
-
 /// Whether the branch takes a 180.
 fn rings(alloc: Global, call: &mut Call<Global>) -> bool {
-    match ringing(alloc) {
+    match message_of(alloc, &RINGING) {
         Some(response) => call.take(response, TARGET, 20).is_ok(),
         None => false,
     }
@@ -198,31 +200,36 @@ fn rings_often(alloc: Global, call: &mut Call<Global>, times: u32) -> bool {
     well
 }
 
+/// Whether the call sends so many datagrams, none of which fails.
+fn sends(call: &mut Call<Global>, port: &mut Memory, sent: u32, more: bool) -> bool {
+    let wanted = Carried {
+        sent,
+        failed: 0,
+        more,
+    };
+    carries(call, port, 20, wanted)
+}
+
 /// Whether 1,030 answers that are owed go out by 1,024 and by 6.
-fn sends_by_parts(alloc: Global) -> Option<bool> {
-    let mut call = opened(alloc, INVITE)?;
+fn sends_by_parts(alloc: Global, call: &mut Call<Global>) -> bool {
     let mut port = Memory::failing(0);
-    let steps = [(2, false), (1024, true), (6, false), (0, false)];
-    let mut well = true;
-    for (place, (sent, more)) in steps.into_iter().enumerate() {
-        if place == 1 {
-            well = well && rings_often(alloc, &mut call, 1030);
-        }
-        let wanted = Carried {
-            sent,
-            failed: 0,
-            more,
-        };
-        well = well && carries(&mut call, &mut port, 20, wanted);
-    }
-    Some(well && port.start == *b"SIP/2.0 180 ")
+    sends(call, &mut port, 2, false)
+        && rings_often(alloc, call, 1030)
+        && sends(call, &mut port, 1024, true)
+        && sends(call, &mut port, 6, false)
+        && sends(call, &mut port, 0, false)
+        && port.start == *b"SIP/2.0 180 "
 }
 
 #[test]
 fn a_carry_makes_1024_steps_at_most(rt: HostRuntime) {
-    holds(
-        &rt,
-        sends_by_parts(rt.alloc()) == Some(true),
-        "1,030 answers by two carries",
-    );
+    let alloc = rt.alloc();
+    match opened(alloc, INVITE) {
+        Some(mut call) => holds(
+            &rt,
+            sends_by_parts(alloc, &mut call),
+            "1,030 answers by two carries",
+        ),
+        None => holds(&rt, false, "an INVITE opens a call"),
+    }
 }

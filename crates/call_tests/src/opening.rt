@@ -1,7 +1,7 @@
 //! Which requests are admitted and open a call, and how each fault is answered.
 use crate::holds::holds;
 use crate::requests::{
-    Change, OWN, SETUP, SOURCE, opened, request_with, sent_to, setup_of, text_of,
+    Change, OWN, SETUP, SOURCE, opened_by, request_with, sent_to, setup_of, text_of,
 };
 use call_model::{Cause, Datagram};
 use call_state::Parts;
@@ -29,10 +29,18 @@ fn each_fault_has_its_status(rt: HostRuntime) {
     }
 }
 
+/// What a message is admitted as, if it is.
+fn admitted(alloc: Global, message: Message<Global>) -> Option<Message<Global>> {
+    match admit(alloc, OWN, message, SOURCE) {
+        Ok(request) => Some(request),
+        Err(_) => None,
+    }
+}
+
 /// Whether the request is admitted, and begins with its own start line then.
 fn is_admitted(alloc: Global) -> Option<bool> {
     let message = request_with(alloc, &[])?;
-    let request: Message<Global> = admit(alloc, OWN, message, SOURCE).ok()?;
+    let request = admitted(alloc, message)?;
     Some(request.method() == Some(b"OPTIONS".as_slice()))
 }
 
@@ -48,7 +56,10 @@ fn a_request_is_admitted(rt: HostRuntime) {
 /// Whether the proxy answers for a host.
 fn answers_for(alloc: Global, host: &[u8]) -> Option<bool> {
     let setup = setup_of(alloc, SETUP)?;
-    is_domain(alloc, &setup, host).ok()
+    match is_domain(alloc, &setup, host) {
+        Ok(well) => Some(well),
+        Err(_) => None,
+    }
 }
 
 #[test]
@@ -109,14 +120,14 @@ fn an_ack_and_a_cancel_open_no_call(rt: HostRuntime) {
 /// The parts of the call that the request with these changes opens.
 fn opened_with(alloc: Global, changes: &[Change]) -> Option<Result<Parts, OpenFault>> {
     let setup = setup_of(alloc, SETUP)?;
-    opened(alloc, &setup, request_with(alloc, changes)?)
+    opened_by(alloc, &setup, changes)
 }
 
 /// The same, where it opens.
 fn call_with(alloc: Global, changes: &[Change]) -> Option<Parts> {
-    match opened_with(alloc, changes)? {
-        Ok(parts) => Some(parts),
-        Err(_) => None,
+    match opened_with(alloc, changes) {
+        Some(Ok(parts)) => Some(parts),
+        Some(Err(_)) | None => None,
     }
 }
 
@@ -134,16 +145,20 @@ const FORWARDED: [&[u8]; 10] = [
     b"",
 ];
 
-/// Whether a datagram takes the request of the first branch there, as this text.
-fn is_sent_as(sent: &Datagram, to: Hop, text: &[u8]) -> bool {
-    sent.to == to && sent.cause == Cause::Request(0) && sent.bytes.as_slice() == text
+/// Whether a datagram takes the request of the first branch there, as these lines.
+fn is_sent_as(alloc: Global, sent: &Datagram, to: Hop, lines: &[&[u8]]) -> bool {
+    match text_of(alloc, lines) {
+        Some(text) => sent.to == to && sent.cause == Cause::Request(0) && sent.bytes == text,
+        None => false,
+    }
 }
 
 /// Whether the request of the first branch goes there, as these lines.
-fn sends(alloc: Global, parts: &mut Parts, to: Hop, lines: &[&[u8]]) -> Option<bool> {
-    let sent = sent_to(parts, 0)?;
-    let text = text_of(alloc, lines)?;
-    Some(is_sent_as(&sent, to, &text))
+fn sends(alloc: Global, parts: &mut Parts, to: Hop, lines: &[&[u8]]) -> bool {
+    match sent_to(parts, 0) {
+        Some(sent) => is_sent_as(alloc, &sent, to, lines),
+        None => false,
+    }
 }
 
 #[test]
@@ -163,7 +178,7 @@ fn a_request_opens_a_call(rt: HostRuntime) {
     };
     holds(
         &rt,
-        sends(alloc, &mut parts, to, &FORWARDED) == Some(true),
+        sends(alloc, &mut parts, to, &FORWARDED),
         "the request to the location",
     );
 }
@@ -187,10 +202,18 @@ fn an_invite_is_owed_a_100(rt: HostRuntime) {
     );
 }
 
-/// Where the request of the first branch goes in the call that the request with these changes opens.
+/// Where the request of the first branch goes.
+fn hop_of(parts: &mut Parts) -> Option<Hop> {
+    match sent_to(parts, 0) {
+        Some(sent) => Some(sent.to),
+        None => None,
+    }
+}
+
+/// Where it goes in the call that the request with these changes opens.
 fn hop_with(alloc: Global, changes: &[Change]) -> Option<Hop> {
     let mut parts = call_with(alloc, changes)?;
-    Some(sent_to(&mut parts, 0)?.to)
+    hop_of(&mut parts)
 }
 
 /// Changes of the request, and the last number of the address and the port that it goes to.
@@ -256,9 +279,9 @@ fn the_proxy_is_responsible_for_the_domain_alone(rt: HostRuntime) {
 
 /// The fault with which the request with these changes opens no call.
 fn fault_with(alloc: Global, changes: &[Change]) -> Option<OpenFault> {
-    match opened_with(alloc, changes)? {
-        Ok(_) => None,
-        Err(fault) => Some(fault),
+    match opened_with(alloc, changes) {
+        Some(Err(fault)) => Some(fault),
+        Some(Ok(_)) | None => None,
     }
 }
 

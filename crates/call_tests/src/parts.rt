@@ -224,21 +224,7 @@ const CANCEL: [&[u8]; 9] = [
 
 // ---- how the parts begin
 
-/// The text of these lines.
-pub(crate) fn text_of(alloc: Global, lines: &[&[u8]]) -> Option<Vec<u8>> {
-    let mut text = Vec::new(alloc);
-    for line in lines {
-        text.extend_from_slice(line).ok()?;
-        text.extend_from_slice(b"\r\n").ok()?;
-    }
-    Some(text)
-}
-
-/// The message that these lines spell.
-pub(crate) fn message_of(alloc: Global, lines: &[&[u8]]) -> Option<Message<Global>> {
-    let text = text_of(alloc, lines)?;
-    Message::read(alloc, &text).ok()
-}
+pub(crate) use crate::requests::{message_of, text_of};
 
 /// Whether a value is one to three digits of 1 to 255.
 fn are_hops(value: &[u8]) -> bool
@@ -276,28 +262,42 @@ fn fixed_of(alloc: Global, lines: &[&[u8]]) -> Option<Fixed> {
     fixed_by(message_of(alloc, lines)?)
 }
 
+/// Puts a target of this key behind others, and says whether there was memory for it.
+fn add_target(alloc: Global, targets: &mut Vec<Target>, key: &[u8]) -> bool {
+    match Vec::from_slice(alloc, key) {
+        Ok(key) => targets.push(Target::new(key, 1000)).is_ok(),
+        Err(_) => false,
+    }
+}
+
 /// The two targets, which are tried at once.
 fn targets_of(alloc: Global) -> Option<Vec<Target>> {
     let mut targets = Vec::new(alloc);
-    for key in [b"a", b"b"] {
-        targets
-            .push(Target::new(Vec::from_slice(alloc, key).ok()?, 1000))
-            .ok()?;
+    if add_target(alloc, &mut targets, b"a") && add_target(alloc, &mut targets, b"b") {
+        Some(targets)
+    } else {
+        None
     }
-    Some(targets)
 }
 
-fn way_of(alloc: Global, uri: &[u8], hop: Hop) -> Option<Way> {
-    Some(Way::new(SipUri::read(alloc, uri).ok()?, hop))
+/// Puts the way to this URI behind others, and says whether the URI can be read and there was memory for it.
+fn add_way(alloc: Global, ways: &mut Vec<Way>, uri: &[u8], hop: Hop) -> bool {
+    match SipUri::read(alloc, uri) {
+        Ok(uri) => ways.push(Way::new(uri, hop)).is_ok(),
+        Err(_) => false,
+    }
 }
 
 /// Where their requests go.
 fn ways_of(alloc: Global) -> Option<Vec<Way>> {
     let mut ways = Vec::new(alloc);
-    ways.push(way_of(alloc, b"sip:bob@192.0.2.4", FIRST)?).ok()?;
-    ways.push(way_of(alloc, b"sip:bob@192.0.2.5:5062", SECOND)?)
-        .ok()?;
-    Some(ways)
+    if add_way(alloc, &mut ways, b"sip:bob@192.0.2.4", FIRST)
+        && add_way(alloc, &mut ways, b"sip:bob@192.0.2.5:5062", SECOND)
+    {
+        Some(ways)
+    } else {
+        None
+    }
 }
 
 /// The parts of a call that begins to these targets, which are sound.
@@ -439,11 +439,19 @@ fn ticks_cancel(alloc: Global, parts: &mut Parts, now: u64, lines: &[&[u8]]) -> 
     }
 }
 
+/// Whether a step does something that sends nothing.
+pub(crate) fn is_silent(step: &Step) -> bool {
+    match step {
+        Step::Did => true,
+        Step::Send(_) | Step::Idle => false,
+    }
+}
+
 /// Whether a tick of the server transaction sends nothing.
 pub(crate) fn ticks_server(parts: &mut Parts, now: u64) -> bool {
     match parts.tick_server(now) {
-        Ok(Step::Did) => true,
-        _ => false,
+        Ok(step) => is_silent(&step),
+        Err(_) => false,
     }
 }
 
@@ -466,8 +474,14 @@ fn owes_cancel_ok(parts: &Parts) -> bool {
     }
 }
 
+/// The first answer that is owed, if there is one.
+fn first_owed(parts: &Parts) -> Option<OwedAnswer<'_>> {
+    parts.owed().first()
+}
+
+/// Whether the first answer that is owed is the 100 to the INVITE.
 fn owes_trying(parts: &Parts) -> bool {
-    match parts.owed().first() {
+    match first_owed(parts) {
         Some(OwedAnswer::Trying) => true,
         _ => false,
     }

@@ -3,8 +3,10 @@ use crate::holds::holds;
 use crate::requests::{opened, sent_to, setup_of, text_of};
 use call_state::Parts;
 use fork_routing::{Recipient, recipient};
+use fork_setup::Setup;
 use sip_text::Message;
 use std::alloc::Global;
+use std::process::Abort;
 
 /// A setup with two locations of one user.
 pub const SETUP: &[u8] = b"own 192.0.2.9 5060\ninstance 7\ndomain example.com\n\
@@ -48,22 +50,36 @@ pub fn message_of(
         cseq,
         b"",
     ];
-    Message::read(alloc, &text_of(alloc, &lines)?).ok()
+    let text = text_of(alloc, &lines)?;
+    crate::requests::read_message(alloc, &text)
 }
 
 /// A line that is none of Via.
 pub const NO_VIA: &[u8] = b"Subject: x";
 
-/// The call that the INVITE opens, whose request was sent to the first of two branches.
-fn called(alloc: Global) -> Option<Parts> {
+/// The call that the INVITE opens, to the two branches of a setup.
+fn invited_by(alloc: Global, setup: &Setup<Global>) -> Option<Parts> {
     let invite = message_of(alloc, INVITE, (CALLER, NO_VIA), INVITING)?;
+    match opened(alloc, setup, invite) {
+        Some(Ok(parts)) => Some(parts),
+        Some(Err(_)) | None => None,
+    }
+}
+
+/// That of the setup with two locations.
+fn invited(alloc: Global) -> Option<Parts> {
     let setup = setup_of(alloc, SETUP)?;
-    let mut parts = match opened(alloc, &setup, invite)? {
-        Ok(parts) => parts,
-        Err(_) => return None,
-    };
-    let _sent = sent_to(&mut parts, 0)?;
-    Some(parts)
+    invited_by(alloc, &setup)
+}
+
+/// The same call, whose request was sent to the first branch.
+fn called(alloc: Global) -> Option<Parts> {
+    let mut parts = invited(alloc)?;
+    if sent_to(&mut parts, 0).is_some() {
+        Some(parts)
+    } else {
+        None
+    }
 }
 
 /// Whether the CANCEL of the first branch is sent.
@@ -81,78 +97,90 @@ fn cancelled(alloc: Global) -> Option<Parts> {
     }
 }
 
-/// Whether such a message is for this transaction of the call, or for none.
-fn is_for(
-    alloc: Global,
-    parts: &Parts,
-    start: &[u8],
-    vias: (&[u8], &[u8]),
-    cseq: &[u8],
-    to: Option<Recipient>,
-) -> bool {
-    match message_of(alloc, start, vias, cseq) {
+/// Start line, Via lines and CSeq line of a message, and the transaction of the call that it is for, if there is one.
+type Addressed = (
+    &'static [u8],
+    (&'static [u8], &'static [u8]),
+    &'static [u8],
+    Option<Recipient>,
+);
+
+/// Whether a message is for what it is to be for.
+fn is_for(alloc: Global, parts: &Parts, message: &Addressed) -> bool {
+    match message_of(alloc, message.0, message.1, message.2) {
+        Some(read) => recipient(parts, &read) == message.3,
         None => false,
-        Some(message) => recipient(parts, &message) == to,
+    }
+}
+
+/// Checks that each of these messages is.
+fn check(rt: &impl Abort, alloc: Global, parts: &Parts, messages: &[Addressed], what: &str) {
+    for message in messages {
+        holds(rt, is_for(alloc, parts, message), what);
     }
 }
 
 // ---- requests
 
-/// Start line, Via line and CSeq line of a request, and what it is for.
-const REQUESTS: [(&[u8], &[u8], &[u8], Option<Recipient>); 11] = [
-    (INVITE, CALLER, INVITING, Some(Recipient::Server)),
+const REQUESTS: &[Addressed] = &[
+    (INVITE, (CALLER, NO_VIA), INVITING, Some(Recipient::Server)),
     (
         INVITE,
-        b"Via: SIP/2.0/UDP 192.0.2.1;rport;branch=z9hG4bKa",
+        (b"Via: SIP/2.0/UDP 192.0.2.1;rport;branch=z9hG4bKa", NO_VIA),
         INVITING,
         Some(Recipient::Server),
     ),
     (
         b"ACK sip:bob@example.com SIP/2.0",
-        CALLER,
+        (CALLER, NO_VIA),
         b"CSeq: 1 ACK",
         Some(Recipient::ServerAck),
     ),
     (
         b"CANCEL sip:bob@example.com SIP/2.0",
-        CALLER,
+        (CALLER, NO_VIA),
         CANCELLING,
         Some(Recipient::ServerCancel),
     ),
     (
         b"OPTIONS sip:bob@example.com SIP/2.0",
-        CALLER,
+        (CALLER, NO_VIA),
         b"CSeq: 1 OPTIONS",
         None,
     ),
     (
         INVITE,
-        b"v: SIP/2.0/UDP 192.0.2.1:5060;branch=z9hG4bKb",
+        (b"v: SIP/2.0/UDP 192.0.2.1:5060;branch=z9hG4bKb", NO_VIA),
         INVITING,
         None,
     ),
     (
         INVITE,
-        b"v: SIP/2.0/UDP 192.0.2.1:5060;branch=z9hG4bKA",
+        (b"v: SIP/2.0/UDP 192.0.2.1:5060;branch=z9hG4bKA", NO_VIA),
         INVITING,
         None,
     ),
     (
         INVITE,
-        b"v: SIP/2.0/UDP 192.0.2.1:5061;branch=z9hG4bKa",
+        (b"v: SIP/2.0/UDP 192.0.2.1:5061;branch=z9hG4bKa", NO_VIA),
         INVITING,
         None,
     ),
     (
         INVITE,
-        b"v: SIP/2.0/UDP 192.0.2.2:5060;branch=z9hG4bKa",
+        (b"v: SIP/2.0/UDP 192.0.2.2:5060;branch=z9hG4bKa", NO_VIA),
         INVITING,
         None,
     ),
-    (INVITE, b"v: SIP/2.0/UDP 192.0.2.1:5060", INVITING, None),
+    (
+        INVITE,
+        (b"v: SIP/2.0/UDP 192.0.2.1:5060", NO_VIA),
+        INVITING,
+        None,
+    ),
     (
         b"CANCEL sip:bob@example.com SIP/2.0",
-        FIRST,
+        (FIRST, NO_VIA),
         CANCELLING,
         None,
     ),
@@ -161,30 +189,16 @@ const REQUESTS: [(&[u8], &[u8], &[u8], Option<Recipient>); 11] = [
 #[test]
 fn the_caller_is_known_by_its_branch(rt: HostRuntime) {
     let alloc = rt.alloc();
-    let Some(parts) = called(alloc) else {
-        return holds(&rt, false, "an INVITE opens a call");
-    };
-    for (start, via, cseq, to) in REQUESTS {
-        holds(
-            &rt,
-            is_for(alloc, &parts, start, (via, NO_VIA), cseq, to),
-            "what a request is for",
-        );
+    match called(alloc) {
+        Some(parts) => check(&rt, alloc, &parts, REQUESTS, "what a request is for"),
+        None => holds(&rt, false, "an INVITE opens a call"),
     }
 }
 
 // ---- responses
 
-/// Start line, both Via lines and CSeq line of a response, and what it is for.
-type Response = (
-    &'static [u8],
-    (&'static [u8], &'static [u8]),
-    &'static [u8],
-    Option<Recipient>,
-);
-
 /// Responses to a branch that was sent its request and a CANCEL.
-const RESPONSES: [Response; 6] = [
+const RESPONSES: &[Addressed] = &[
     (
         RINGING,
         (FIRST, CALLER),
@@ -219,79 +233,85 @@ const RESPONSES: [Response; 6] = [
 #[test]
 fn a_branch_is_known_by_its_name(rt: HostRuntime) {
     let alloc = rt.alloc();
-    let Some(parts) = cancelled(alloc) else {
-        return holds(&rt, false, "a CANCEL is sent");
-    };
-    for (start, vias, cseq, to) in RESPONSES {
-        holds(
-            &rt,
-            is_for(alloc, &parts, start, vias, cseq, to),
-            "what a response is for",
-        );
+    match cancelled(alloc) {
+        Some(parts) => check(&rt, alloc, &parts, RESPONSES, "what a response is for"),
+        None => holds(&rt, false, "a CANCEL is sent"),
     }
 }
 
-/// Via lines and CSeq line of responses that are for no branch of a call which sent no CANCEL.
-const STRAYS: [((&[u8], &[u8]), &[u8]); 10] = [
-    ((FIRST, NO_VIA), INVITING),
-    ((FIRST, CALLER), b"CSeq: 1 OPTIONS"),
-    ((FIRST, CALLER), CANCELLING),
-    ((SECOND, CALLER), INVITING),
+/// 180s that are for no branch of a call which sent no CANCEL.
+const STRAYS: &[Addressed] = &[
+    (RINGING, (FIRST, NO_VIA), INVITING, None),
+    (RINGING, (FIRST, CALLER), b"CSeq: 1 OPTIONS", None),
+    (RINGING, (FIRST, CALLER), CANCELLING, None),
+    (RINGING, (SECOND, CALLER), INVITING, None),
     (
+        RINGING,
         (
             b"v: SIP/2.0/UDP 192.0.2.9:5060;branch=z9hG4bK8c31e71e0ddbf1a0e56f5f0279990857.7.3.5",
             CALLER,
         ),
         INVITING,
+        None,
     ),
     (
+        RINGING,
         (
             b"v: SIP/2.0/UDP 192.0.2.9:5060;branch=z9hG4bK8c31e71e0ddbf1a0e56f5f0279990857.7.4.0",
             CALLER,
         ),
         INVITING,
+        None,
     ),
     (
+        RINGING,
         (
             b"v: SIP/2.0/UDP 192.0.2.9:5060;branch=z9hG4bK8c31e71e0ddbf1a0e56f5f0279990857.8.3.0",
             CALLER,
         ),
         INVITING,
+        None,
     ),
     (
+        RINGING,
         (
             b"v: SIP/2.0/UDP 192.0.2.9:5060;branch=z9hG4bK8c31e71e0ddbf1a0e56f5f0279990858.7.3.0",
             CALLER,
         ),
         INVITING,
+        None,
     ),
     (
+        RINGING,
         (
             b"v: SIP/2.0/UDP 192.0.2.8:5060;branch=z9hG4bK8c31e71e0ddbf1a0e56f5f0279990857.7.3.0",
             CALLER,
         ),
         INVITING,
+        None,
     ),
     (
+        RINGING,
         (
             b"v: SIP/2.0/UDP 192.0.2.9:5061;branch=z9hG4bK8c31e71e0ddbf1a0e56f5f0279990857.7.3.0",
             CALLER,
         ),
         INVITING,
+        None,
     ),
 ];
 
 #[test]
 fn a_stray_response_is_for_no_branch(rt: HostRuntime) {
     let alloc = rt.alloc();
-    let Some(parts) = called(alloc) else {
-        return holds(&rt, false, "an INVITE opens a call");
-    };
-    for (vias, cseq) in STRAYS {
-        holds(
+    match called(alloc) {
+        Some(parts) => check(
             &rt,
-            is_for(alloc, &parts, RINGING, vias, cseq, None),
+            alloc,
+            &parts,
+            STRAYS,
             "a response that is for no branch",
-        );
+        ),
+        None => holds(&rt, false, "an INVITE opens a call"),
     }
 }

@@ -43,36 +43,66 @@ pub type Change = (usize, &'static [u8]);
 
 /// The setup that a text spells.
 pub fn setup_of(alloc: Global, text: &[u8]) -> Option<Setup<Global>> {
-    Setup::read(alloc, text).ok()
+    match Setup::read(alloc, text) {
+        Ok(setup) => Some(setup),
+        Err(_) => None,
+    }
+}
+
+/// Puts a line behind a text, and says whether there was memory for it.
+fn add_line(text: &mut Vec<u8>, line: &[u8]) -> bool {
+    text.extend_from_slice(line).is_ok() && text.extend_from_slice(b"\r\n").is_ok()
+}
+
+/// The same of these lines.
+fn add_lines(text: &mut Vec<u8>, lines: &[&[u8]]) -> bool {
+    let mut well = true;
+    for line in lines {
+        well = well && add_line(text, line);
+    }
+    well
 }
 
 /// The text of these lines.
 pub fn text_of(alloc: Global, lines: &[&[u8]]) -> Option<Vec<u8>> {
     let mut text = Vec::new(alloc);
-    for line in lines {
-        text.extend_from_slice(line).ok()?;
-        text.extend_from_slice(b"\r\n").ok()?;
+    if add_lines(&mut text, lines) {
+        Some(text)
+    } else {
+        None
     }
-    Some(text)
 }
 
-/// The line of this index with these changes.
-fn line_with(changes: &[Change], index: usize, line: &'static [u8]) -> &'static [u8] {
-    match changes.iter().find(|(place, _)| *place == index) {
-        None => line,
-        Some((_, other)) => *other,
+/// The message that a text spells.
+pub fn read_message(alloc: Global, text: &[u8]) -> Option<Message<Global>> {
+    match Message::read(alloc, text) {
+        Ok(message) => Some(message),
+        Err(_) => None,
     }
+}
+
+/// The message that these lines spell.
+pub fn message_of(alloc: Global, lines: &[&[u8]]) -> Option<Message<Global>> {
+    match text_of(alloc, lines) {
+        Some(text) => read_message(alloc, &text),
+        None => None,
+    }
+}
+
+/// The lines of the request with these changes.
+fn lines_with(changes: &[Change]) -> [&'static [u8]; 9] {
+    let mut lines = REQUEST;
+    for (place, other) in changes {
+        if let Some(line) = lines.get_mut(*place) {
+            *line = *other;
+        }
+    }
+    lines
 }
 
 /// The request with these changes.
 pub fn request_with(alloc: Global, changes: &[Change]) -> Option<Message<Global>> {
-    let mut text = Vec::new(alloc);
-    for (index, line) in REQUEST.iter().enumerate() {
-        text.extend_from_slice(line_with(changes, index, *line))
-            .ok()?;
-        text.extend_from_slice(b"\r\n").ok()?;
-    }
-    Message::read(alloc, &text).ok()
+    message_of(alloc, &lines_with(changes))
 }
 
 /// The parts of the call that a request opens as number 3, or the fault. None where it is no request that may open a call.
@@ -87,10 +117,23 @@ pub fn opened(
     Some(open(alloc, alloc, setup, 3, request, SOURCE, 0))
 }
 
+/// The same for the request with these changes.
+pub fn opened_by(
+    alloc: Global,
+    setup: &Setup<Global>,
+    changes: &[Change],
+) -> Option<Result<Parts, OpenFault>> {
+    let request = request_with(alloc, changes)?;
+    opened(alloc, setup, request)
+}
+
 /// The datagram that the request becomes for target n, if there is one.
 pub fn sent_to(parts: &mut Parts, n: u16) -> Option<Datagram> {
     if n >= parts.book().context().count() {
         return None;
     }
-    parts.send_request(n, 0).ok()
+    match parts.send_request(n, 0) {
+        Ok(sent) => Some(sent),
+        Err(_) => None,
+    }
 }

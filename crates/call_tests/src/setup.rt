@@ -5,7 +5,7 @@ use fork_setup::{Location, Setup, SetupFault, locations_are_targets};
 use sip_lex::append_decimal;
 use sip_uri::Hop;
 use sip_via::Own;
-use std::alloc::{AllocError, Global};
+use std::alloc::Global;
 use std::process::Abort;
 
 /// The lines of one setup.
@@ -19,31 +19,38 @@ const LINES: [&[u8]; 4] = [
 /// What has to stand before any rule or location.
 const HEAD: &[u8] = b"own 192.0.2.9 5060\ninstance 7\ndomain example.com\n";
 
-/// The text of these lines, but this one in the place of that of a number from 1.
-fn lines_with(
-    alloc: Global,
-    lines: &[&[u8]],
-    number: usize,
-    other: &[u8],
-) -> Result<Vec<u8>, AllocError> {
-    let mut text = Vec::new(alloc);
+/// Puts a line behind a text, and says whether there was memory for it.
+fn add_line(text: &mut Vec<u8>, line: &[u8]) -> bool {
+    text.extend_from_slice(line).is_ok() && text.push(b'\n').is_ok()
+}
+
+/// The same of these lines, but with this one in the place of that of a number from 1.
+fn add_lines(text: &mut Vec<u8>, lines: &[&[u8]], number: usize, other: &[u8]) -> bool {
+    let mut well = true;
     for (n, line) in lines.iter().enumerate() {
-        text.extend_from_slice(if n + 1 == number { other } else { *line })?;
-        text.push(b'\n')?;
+        well = well && add_line(text, if n + 1 == number { other } else { *line });
     }
-    Ok(text)
+    well
 }
 
-/// That of the lines of one setup.
-fn text_with(alloc: Global, number: usize, other: &[u8]) -> Result<Vec<u8>, AllocError> {
-    lines_with(alloc, &LINES, number, other)
+/// The text of such lines.
+fn lines_with(alloc: Global, lines: &[&[u8]], number: usize, other: &[u8]) -> Option<Vec<u8>> {
+    let mut text = Vec::new(alloc);
+    if add_lines(&mut text, lines, number, other) {
+        Some(text)
+    } else {
+        None
+    }
 }
 
-/// These lines behind the first three.
-fn text_behind(alloc: Global, rest: &[u8]) -> Result<Vec<u8>, AllocError> {
-    let mut text = Vec::from_slice(alloc, HEAD)?;
-    text.extend_from_slice(rest)?;
-    Ok(text)
+/// A text behind another.
+fn joined(alloc: Global, front: &[u8], rest: &[u8]) -> Option<Vec<u8>> {
+    let mut text = Vec::new(alloc);
+    if text.extend_from_slice(front).is_ok() && text.extend_from_slice(rest).is_ok() {
+        Some(text)
+    } else {
+        None
+    }
 }
 
 /// The fault that a text has, if any.
@@ -54,12 +61,36 @@ fn fault_of(alloc: Global, text: &[u8]) -> Option<SetupFault> {
     }
 }
 
-/// The number of the first malformed line, 0 where there is none.
-fn malformed(alloc: Global, text: &[u8]) -> Result<usize, SetupFault> {
+/// The number of the first malformed line, 0 where there is none; None where there was no memory.
+fn malformed(alloc: Global, text: &[u8]) -> Option<usize> {
     match fault_of(alloc, text) {
-        None => Ok(0),
-        Some(SetupFault::Line(number)) => Ok(number),
-        Some(fault) => Err(fault),
+        None => Some(0),
+        Some(SetupFault::Line(number)) => Some(number),
+        Some(_) => None,
+    }
+}
+
+/// The same for the lines of one setup, but with this one in the place of that of a number from 1.
+fn malformed_with(alloc: Global, number: usize, other: &[u8]) -> Option<usize> {
+    match lines_with(alloc, &LINES, number, other) {
+        Some(text) => malformed(alloc, &text),
+        None => None,
+    }
+}
+
+/// The same for these lines behind the first three.
+fn malformed_behind(alloc: Global, rest: &[u8]) -> Option<usize> {
+    match joined(alloc, HEAD, rest) {
+        Some(text) => malformed(alloc, &text),
+        None => None,
+    }
+}
+
+/// What a text sets up.
+fn setup_of(alloc: Global, text: &[u8]) -> Option<Setup<Global>> {
+    match Setup::read(alloc, text) {
+        Ok(setup) => Some(setup),
+        Err(_) => None,
     }
 }
 
@@ -71,35 +102,43 @@ fn is_location(location: &Location, user: &[u8], q: u16, hop: Hop) -> bool {
         && location.uri().next_hop() == Some(hop)
 }
 
-#[test]
-fn four_lines_set_a_proxy_up(rt: HostRuntime) -> Result<(), SetupFault> {
-    let setup = Setup::read(rt.alloc(), &text_with(rt.alloc(), 0, b"")?)?;
+/// Checks all that the lines of one setup say.
+fn check(rt: &impl Abort, setup: &Setup<Global>) {
     let own = Own {
         addr: [192, 0, 2, 9],
         port: 5060,
     };
-    holds(&rt, setup.own() == own, "the own address");
-    holds(&rt, setup.instance() == 7, "the instance");
+    holds(rt, setup.own() == own, "the own address");
+    holds(rt, setup.instance() == 7, "the instance");
     holds(
-        &rt,
+        rt,
         setup.domain() == b"example.com".as_slice(),
         "the domain",
     );
-    holds(&rt, setup.rules() == Rules::usual(), "the usual rules");
+    holds(rt, setup.rules() == Rules::usual(), "the usual rules");
     let hop = Hop {
         addr: [192, 0, 2, 4],
         port: 5060,
     };
     match setup.locations() {
-        [location] => holds(
-            &rt,
-            is_location(location, b"bob", 1000, hop),
-            "the location",
-        ),
-        _ => holds(&rt, false, "one location"),
+        [location] => holds(rt, is_location(location, b"bob", 1000, hop), "the location"),
+        _ => holds(rt, false, "one location"),
+    }
+}
+
+/// What the lines of one setup set up.
+fn setup_of_lines(alloc: Global) -> Option<Setup<Global>> {
+    let text = lines_with(alloc, &LINES, 0, b"")?;
+    setup_of(alloc, &text)
+}
+
+#[test]
+fn four_lines_set_a_proxy_up(rt: HostRuntime) {
+    match setup_of_lines(rt.alloc()) {
+        Some(setup) => check(&rt, &setup),
+        None => holds(&rt, false, "four lines are a setup"),
     }
     locations_are_targets();
-    Ok(())
 }
 
 /// Texts, and the number of the malformed line of each, 0 where there is none.
@@ -125,7 +164,7 @@ fn each_line_has_its_place(rt: HostRuntime) {
     for (text, number) in TEXTS {
         holds(
             &rt,
-            malformed(rt.alloc(), text) == Ok(number),
+            malformed(rt.alloc(), text) == Some(number),
             "the lines in their order",
         );
     }
@@ -179,24 +218,21 @@ const WRONG: [(usize, &[u8]); 30] = [
 ];
 
 #[test]
-fn each_line_has_its_form(rt: HostRuntime) -> Result<(), AllocError> {
+fn each_line_has_its_form(rt: HostRuntime) {
     for (number, line) in OTHERS {
-        let text = text_with(rt.alloc(), number, line)?;
         holds(
             &rt,
-            malformed(rt.alloc(), &text) == Ok(0),
+            malformed_with(rt.alloc(), number, line) == Some(0),
             "a line that says something else",
         );
     }
     for (number, line) in WRONG {
-        let text = text_with(rt.alloc(), number, line)?;
         holds(
             &rt,
-            malformed(rt.alloc(), &text) == Ok(number),
+            malformed_with(rt.alloc(), number, line) == Some(number),
             "a malformed line",
         );
     }
-    Ok(())
 }
 
 /// One line of each kind, in their order.
@@ -209,18 +245,41 @@ const ALL: [&[u8]; 6] = [
     b"location bob 1000 sip:bob@192.0.2.4;transport=udp",
 ];
 
+/// Puts a NUL byte at this place of a text, and says whether there is such a place.
+fn spoil(text: &mut Vec<u8>, place: usize) -> bool {
+    match text.get_mut(place) {
+        Some(byte) => {
+            *byte = 0;
+            true
+        }
+        None => false,
+    }
+}
+
 /// A line with a NUL byte at this place.
 fn spoilt(alloc: Global, line: &[u8], place: usize) -> Option<Vec<u8>> {
-    let mut other = Vec::from_slice(alloc, line).ok()?;
-    *other.get_mut(place)? = 0;
-    Some(other)
+    let mut other = joined(alloc, line, b"")?;
+    if spoil(&mut other, place) {
+        Some(other)
+    } else {
+        None
+    }
+}
+
+/// The fault of all lines with this one in the place of that of a number from 1.
+fn fault_with(alloc: Global, number: usize, other: &[u8]) -> Option<SetupFault> {
+    match lines_with(alloc, &ALL, number, other) {
+        Some(text) => fault_of(alloc, &text),
+        None => None,
+    }
 }
 
 /// The fault of all lines with such a byte in that of a number from 1.
 fn fault_at(alloc: Global, number: usize, line: &[u8], place: usize) -> Option<SetupFault> {
-    let other = spoilt(alloc, line, place)?;
-    let text = lines_with(alloc, &ALL, number, &other).ok()?;
-    fault_of(alloc, &text)
+    match spoilt(alloc, line, place) {
+        Some(other) => fault_with(alloc, number, &other),
+        None => None,
+    }
 }
 
 /// Whether a NUL byte makes the line of a number malformed, wherever it stands there.
@@ -236,8 +295,8 @@ fn is_told(alloc: Global, number: usize, line: &[u8]) -> bool {
 /// Whether the lines as they are set a proxy up.
 fn is_well(alloc: Global) -> bool {
     match lines_with(alloc, &ALL, 0, b"") {
-        Ok(text) => malformed(alloc, &text) == Ok(0),
-        Err(_) => false,
+        Some(text) => malformed(alloc, &text) == Some(0),
+        None => false,
     }
 }
 
@@ -283,72 +342,113 @@ const BEHIND: [(&[u8], usize); 16] = [
 ];
 
 #[test]
-fn rules_and_locations_stand_behind(rt: HostRuntime) -> Result<(), AllocError> {
+fn rules_and_locations_stand_behind(rt: HostRuntime) {
     for (rest, number) in BEHIND {
-        let text = text_behind(rt.alloc(), rest)?;
         holds(
             &rt,
-            malformed(rt.alloc(), &text) == Ok(number),
+            malformed_behind(rt.alloc(), rest) == Some(number),
             "lines behind the domain",
         );
     }
-    Ok(())
 }
 
-/// How many statuses go first in the rules of a text, and its depth.
-fn rules_behind(alloc: Global, rest: &[u8]) -> Result<(usize, u16), SetupFault> {
-    let text = text_behind(alloc, rest)?;
-    let setup = Setup::read(alloc, &text)?;
-    let rules = setup.rules();
-    Ok((rules.preferred().statuses().len(), rules.depth()))
+/// How many statuses go first in the rules, and their depth.
+fn shown(rules: Rules) -> (usize, u16) {
+    (rules.preferred().statuses().len(), rules.depth())
+}
+
+/// The same of the rules of a text.
+fn rules_of(alloc: Global, text: &[u8]) -> Option<(usize, u16)> {
+    match setup_of(alloc, text) {
+        Some(setup) => Some(shown(setup.rules())),
+        None => None,
+    }
+}
+
+/// The same for these lines behind the first three.
+fn rules_behind(alloc: Global, rest: &[u8]) -> Option<(usize, u16)> {
+    match joined(alloc, HEAD, rest) {
+        Some(text) => rules_of(alloc, &text),
+        None => None,
+    }
 }
 
 #[test]
 fn a_rule_that_is_left_out_is_the_usual_one(rt: HostRuntime) {
     let alloc = rt.alloc();
-    holds(&rt, rules_behind(alloc, b"") == Ok((5, 256)), "no rule");
+    holds(&rt, rules_behind(alloc, b"") == Some((5, 256)), "no rule");
     holds(
         &rt,
-        rules_behind(alloc, b"prefer -\n") == Ok((0, 256)),
+        rules_behind(alloc, b"prefer -\n") == Some((0, 256)),
         "a list",
     );
     holds(
         &rt,
-        rules_behind(alloc, b"depth 3\n") == Ok((5, 3)),
+        rules_behind(alloc, b"depth 3\n") == Some((5, 3)),
         "a depth",
     );
     holds(
         &rt,
-        rules_behind(alloc, b"prefer 401,499\ndepth 0\n") == Ok((2, 0)),
+        rules_behind(alloc, b"prefer 401,499\ndepth 0\n") == Some((2, 0)),
         "both",
     );
 }
 
-/// The first three lines, and this many locations of bob, each at another port; then one of eve.
-fn crowd(alloc: Global, count: u16) -> Result<Vec<u8>, AllocError> {
-    let mut text = Vec::from_slice(alloc, HEAD)?;
+/// Puts a location of bob at this port behind a text, and says whether there was memory for it.
+fn add_location(text: &mut Vec<u8>, port: u16) -> bool {
+    text.extend_from_slice(b"location bob 1000 sip:bob@192.0.2.4:")
+        .is_ok()
+        && append_decimal(text, u64::from(port)).is_ok()
+        && text.push(b'\n').is_ok()
+}
+
+/// The same of so many locations, each at another port, and of one of eve.
+fn add_locations(text: &mut Vec<u8>, count: u16) -> bool {
+    let mut well = true;
     for port in 1..=count {
-        text.extend_from_slice(b"location bob 1000 sip:bob@192.0.2.4:")?;
-        append_decimal(&mut text, u64::from(port))?;
-        text.push(b'\n')?;
+        well = well && add_location(text, port);
     }
-    text.extend_from_slice(b"location eve 1000 sip:bob@192.0.2.4:1\n")?;
-    Ok(text)
+    well && add_line(text, b"location eve 1000 sip:bob@192.0.2.4:1")
+}
+
+/// The first three lines, and this many locations of bob, each at another port; then one of eve.
+fn crowd(alloc: Global, count: u16) -> Option<Vec<u8>> {
+    let mut text = joined(alloc, HEAD, b"")?;
+    if add_locations(&mut text, count) {
+        Some(text)
+    } else {
+        None
+    }
+}
+
+/// How many locations a crowd of this many of bob sets up.
+fn locations_of_crowd(alloc: Global, count: u16) -> Option<usize> {
+    let text = crowd(alloc, count)?;
+    match setup_of(alloc, &text) {
+        Some(setup) => Some(setup.locations().len()),
+        None => None,
+    }
+}
+
+/// The fault of such a crowd.
+fn fault_of_crowd(alloc: Global, count: u16) -> Option<SetupFault> {
+    match crowd(alloc, count) {
+        Some(text) => fault_of(alloc, &text),
+        None => None,
+    }
 }
 
 #[test]
-fn a_user_has_no_more_locations_than_may_be_tried(rt: HostRuntime) -> Result<(), SetupFault> {
-    let setup = Setup::read(rt.alloc(), &crowd(rt.alloc(), 256)?)?;
+fn a_user_has_no_more_locations_than_may_be_tried(rt: HostRuntime) {
+    let alloc = rt.alloc();
     holds(
         &rt,
-        setup.locations().len() == 257,
+        locations_of_crowd(alloc, 256) == Some(257),
         "256 of one, one of another",
     );
-    let one_more = crowd(rt.alloc(), 257)?;
     holds(
         &rt,
-        fault_of(rt.alloc(), &one_more) == Some(SetupFault::Line(260)),
+        fault_of_crowd(alloc, 257) == Some(SetupFault::Line(260)),
         "the 257th of one",
     );
-    Ok(())
 }

@@ -1,10 +1,8 @@
 //! ACKs that no call takes.
 use crate::holds::holds;
 use crate::outbox::Outbox;
-use crate::texts::{CALL_ID, FROM, MARKED, TAGGED, VIA, lines_become, text_of};
-use fork_call::Call;
+use crate::texts::{CALL_ID, FROM, MARKED, TAGGED, VIA, lines_become_alone, text_of};
 use fork_dispatch::Handled;
-use fork_shelf::Shelf;
 use sip_uri::Hop;
 use std::alloc::Global;
 use std::sync::Wait;
@@ -18,14 +16,9 @@ const SEVENTY: &[u8] = b"Max-Forwards: 70";
 
 /// What becomes of an ACK of these lines, where nothing is to be sent.
 fn becomes_silently<R: Wait>(rt: &R, alloc: Global, lines: &[&[u8]]) -> Option<Handled> {
-    let shelf: Shelf<Call<Global>> = Shelf::new(alloc).ok()?;
     let mut outbox = Outbox::new(alloc);
-    let handled = lines_become(rt, alloc, &shelf, lines, &mut outbox)?;
-    if outbox.is_empty() {
-        Some(handled)
-    } else {
-        None
-    }
+    let handled = lines_become_alone(rt, alloc, lines, &mut outbox);
+    if outbox.is_empty() { handled } else { None }
 }
 
 #[test]
@@ -265,20 +258,26 @@ const FURTHER: Hop = Hop {
     port: 5062,
 };
 
+/// Whether that was sent last.
+fn has_gone_on(alloc: Global, outbox: &Outbox) -> bool {
+    match text_of(alloc, &GONE_ON) {
+        Some(text) => outbox.has_sent(FURTHER, &text),
+        None => false,
+    }
+}
+
 /// Whether the ACK goes on so.
-fn goes_on<R: Wait>(rt: &R, alloc: Global) -> Option<bool> {
-    let shelf: Shelf<Call<Global>> = Shelf::new(alloc).ok()?;
+fn goes_on<R: Wait>(rt: &R, alloc: Global) -> bool {
     let mut outbox = Outbox::new(alloc);
-    let handled = lines_become(rt, alloc, &shelf, &ACK, &mut outbox)?;
-    let text = text_of(alloc, &GONE_ON)?;
-    Some(handled == Handled::Passed && outbox.has_sent(FURTHER, &text))
+    let handled = lines_become_alone(rt, alloc, &ACK, &mut outbox);
+    handled == Some(Handled::Passed) && has_gone_on(alloc, &outbox)
 }
 
 #[test]
 fn an_ack_for_the_answer_of_another_goes_on(rt: HostRuntime) {
     holds(
         &rt,
-        goes_on(&rt, rt.alloc()) == Some(true),
+        goes_on(&rt, rt.alloc()),
         "an ACK that leads out of the domain",
     );
 }

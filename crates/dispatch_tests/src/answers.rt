@@ -1,10 +1,10 @@
 //! Which requests are answered without a call, and with which datagram; and which texts are dropped.
 use crate::holds::holds;
 use crate::outbox::Outbox;
-use crate::texts::{CALL_ID, Edit, FROM, MARKED, SOURCE, TAGGED, becomes, lines_become, text_of};
-use fork_call::Call;
+use crate::texts::{
+    CALL_ID, Edit, FROM, MARKED, SOURCE, TAGGED, becomes_alone, lines_become_alone, text_of,
+};
 use fork_dispatch::Handled;
-use fork_shelf::Shelf;
 use sip_uri::Hop;
 use std::alloc::Global;
 use std::sync::Wait;
@@ -30,11 +30,16 @@ const OWN_VIA: &[u8] =
 const OWN_MARKED: &[u8] =
     b"v: SIP/2.0/UDP 192.0.2.9:5060;branch=z9hG4bK8c31e71e0ddbf1a0e56f5f0279990857.7.3.0;received=192.0.2.1";
 
-/// Whether the request is answered so.
-fn is_answered<R: Wait>(rt: &R, alloc: Global, case: &Answered<'_>) -> Option<bool> {
-    let shelf: Shelf<Call<Global>> = Shelf::new(alloc).ok()?;
-    let mut outbox = Outbox::new(alloc);
-    let handled = becomes(rt, alloc, &shelf, case.edits, &mut outbox)?;
+/// Whether these lines were sent last, to that hop.
+fn has_sent(alloc: Global, outbox: &Outbox, to: Hop, lines: &[&[u8]]) -> bool {
+    match text_of(alloc, lines) {
+        Some(answer) => outbox.has_sent(to, &answer),
+        None => false,
+    }
+}
+
+/// Whether the answer was sent last.
+fn has_answered(alloc: Global, outbox: &Outbox, case: &Answered<'_>) -> bool {
     let lines = [
         case.line,
         case.via,
@@ -45,8 +50,14 @@ fn is_answered<R: Wait>(rt: &R, alloc: Global, case: &Answered<'_>) -> Option<bo
         b"Content-Length: 0",
         b"",
     ];
-    let answer = text_of(alloc, &lines)?;
-    Some(handled == Handled::Answered(case.status) && outbox.has_sent(case.to, &answer))
+    has_sent(alloc, outbox, case.to, &lines)
+}
+
+/// Whether the request is answered so.
+fn is_answered<R: Wait>(rt: &R, alloc: Global, case: &Answered<'_>) -> bool {
+    let mut outbox = Outbox::new(alloc);
+    let handled = becomes_alone(rt, alloc, case.edits, &mut outbox);
+    handled == Some(Handled::Answered(case.status)) && has_answered(alloc, &outbox, case)
 }
 
 #[test]
@@ -143,7 +154,7 @@ fn a_request_that_opens_no_call_is_answered(rt: HostRuntime) {
     for case in &cases {
         holds(
             &rt,
-            is_answered(&rt, rt.alloc(), case) == Some(true),
+            is_answered(&rt, rt.alloc(), case),
             "a request that opens no call",
         );
     }
@@ -215,7 +226,7 @@ fn an_answer_goes_back_by_the_top_via_value(rt: HostRuntime) {
     for case in &cases {
         holds(
             &rt,
-            is_answered(&rt, rt.alloc(), case) == Some(true),
+            is_answered(&rt, rt.alloc(), case),
             "an answer by the top Via value",
         );
     }
@@ -237,29 +248,26 @@ const BAD_EXTENSION: [&[u8]; 9] = [
 ];
 
 /// Whether a 420 says what is not supported.
-fn names_the_extension<R: Wait>(rt: &R, alloc: Global) -> Option<bool> {
-    let shelf: Shelf<Call<Global>> = Shelf::new(alloc).ok()?;
+fn names_the_extension<R: Wait>(rt: &R, alloc: Global) -> bool {
     let mut outbox = Outbox::new(alloc);
-    let handled = becomes(rt, alloc, &shelf, &EXTENDED, &mut outbox)?;
-    let answer = text_of(alloc, &BAD_EXTENSION)?;
-    Some(handled == Handled::Answered(420) && outbox.has_sent(SOURCE, &answer))
+    let handled = becomes_alone(rt, alloc, &EXTENDED, &mut outbox);
+    handled == Some(Handled::Answered(420)) && has_sent(alloc, &outbox, SOURCE, &BAD_EXTENSION)
 }
 
 #[test]
 fn a_420_names_the_extension(rt: HostRuntime) {
     holds(
         &rt,
-        names_the_extension(&rt, rt.alloc()) == Some(true),
+        names_the_extension(&rt, rt.alloc()),
         "a request that asks for an extension",
     );
 }
 
 /// Whether a text is dropped, and nothing is sent.
-fn is_dropped<R: Wait>(rt: &R, alloc: Global, lines: &[&[u8]]) -> Option<bool> {
-    let shelf: Shelf<Call<Global>> = Shelf::new(alloc).ok()?;
+fn is_dropped<R: Wait>(rt: &R, alloc: Global, lines: &[&[u8]]) -> bool {
     let mut outbox = Outbox::new(alloc);
-    let handled = lines_become(rt, alloc, &shelf, lines, &mut outbox)?;
-    Some(handled == Handled::Dropped && outbox.is_empty())
+    let handled = lines_become_alone(rt, alloc, lines, &mut outbox);
+    handled == Some(Handled::Dropped) && outbox.is_empty()
 }
 
 #[test]
@@ -347,7 +355,7 @@ fn what_cannot_be_read_is_dropped(rt: HostRuntime) {
     for lines in texts {
         holds(
             &rt,
-            is_dropped(&rt, rt.alloc(), lines) == Some(true),
+            is_dropped(&rt, rt.alloc(), lines),
             "a text that cannot be read",
         );
     }

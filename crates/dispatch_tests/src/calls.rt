@@ -1,32 +1,44 @@
 //! Which datagrams the call of a request takes.
-ghost use Rattle.std.specs.Prelude.{◌≡◌, ◌↔◌, IfSome, IsTrue};
-ghost use Rattle.fork_routing.specs.Opening.{IsOpenable};
+ghost use Rattle.std.specs.Prelude.{◌≡◌, IfSome};
 
 use crate::holds::holds;
 use crate::outbox::Outbox;
 use crate::texts::{
-    CALL_ID, Edit, FROM, MARKED, SOURCE, becomes, lines_become, request_of, setup_of,
+    CALL_ID, Edit, FROM, MARKED, SOURCE, becomes, lines_become, request_of, setup_of, shelf_of,
 };
-use fork_call::{Call, carry};
+use fork_call::{Call, Setup, carry};
 use fork_dispatch::Handled;
+use fork_routing::is_openable;
 use fork_shelf::{Shelf, ShelfFault};
-use sip_text::{Message, Start};
+use sip_text::Message;
 use std::alloc::Global;
 use std::sync::Wait;
 
 /// A step of a history: the request with these edits, and what becomes of it.
 type Step<'a> = (&'a [Edit<'a>], Handled);
 
-/// Whether each step becomes what it is to become, on one shelf, and nothing is sent at once.
-fn plays<R: Wait>(rt: &R, alloc: Global, steps: &[Step<'_>]) -> Option<bool> {
-    let shelf: Shelf<Call<Global>> = Shelf::new(alloc).ok()?;
-    let mut outbox = Outbox::new(alloc);
+/// Whether each step becomes what it is to become, and nothing is sent at once.
+fn go_on<R: Wait>(
+    rt: &R,
+    alloc: Global,
+    shelf: &Shelf<Call<Global>>,
+    steps: &[Step<'_>],
+    outbox: &mut Outbox,
+) -> bool {
     let mut well = true;
     for step in steps {
-        let handled = becomes(rt, alloc, &shelf, step.0, &mut outbox)?;
-        well = well && handled == step.1;
+        well = well && becomes(rt, alloc, shelf, step.0, outbox) == Some(step.1);
     }
-    Some(well && outbox.is_empty())
+    well && outbox.is_empty()
+}
+
+/// The same on one shelf, over one port.
+fn plays<R: Wait>(rt: &R, alloc: Global, steps: &[Step<'_>]) -> bool {
+    let mut outbox = Outbox::new(alloc);
+    match shelf_of(alloc) {
+        Some(shelf) => go_on(rt, alloc, &shelf, steps, &mut outbox),
+        None => false,
+    }
 }
 
 /// A request, what else has its key, and what has another.
@@ -72,35 +84,51 @@ const KEYED: [Step<'static>; 8] = [
 fn a_request_opens_one_call(rt: HostRuntime) {
     holds(
         &rt,
-        plays(&rt, rt.alloc(), &KEYED) == Some(true),
+        plays(&rt, rt.alloc(), &KEYED),
         "requests, known by their keys",
     );
 }
 
-/// Whether a message is a request that may open a call.
-fn is_openable(message: &Message<Global>) -> bool
-    ensures { IsTrue result ↔ IsOpenable message.now.start }
-{
-    match message.start() {
-        Start::Request { method, .. } => {
-            method.as_slice() != b"ACK".as_slice() && method.as_slice() != b"CANCEL".as_slice()
-        }
-        Start::Response { .. } => false,
+/// The request.
+fn request(alloc: Global) -> Option<Message<Global>> {
+    let text = request_of(alloc, &[])?;
+    match Message::read(alloc, &text) {
+        Ok(request) => Some(request),
+        Err(_) => None,
     }
 }
 
-/// The call of the request under that number, whose request was sent.
-fn sent_call(alloc: Global, number: u64, outbox: &mut Outbox) -> Option<Call<Global>>
-    ensures { IfSome result (λ call. call.fixed.number ≡ number) }
-{
-    let setup = setup_of(alloc)?;
-    let text = request_of(alloc, &[])?;
-    let request = Message::read(alloc, &text).ok()?;
+/// The call of the request under that number, by a setup.
+fn opened_by(alloc: Global, setup: &Setup<Global>, number: u64) -> Option<Call<Global>> {
+    let request = request(alloc)?;
     if !is_openable(&request) {
         return None;
     }
-    let mut call = Call::open(alloc, alloc, &setup, number, request, SOURCE, 0).ok()?;
-    carry(&mut call, outbox, 0).ok()?;
+    match Call::open(alloc, alloc, setup, number, request, SOURCE, 0) {
+        Ok(call) => Some(call),
+        Err(_) => None,
+    }
+}
+
+/// The same by the setup.
+fn opened(alloc: Global, number: u64) -> Option<Call<Global>> {
+    let setup = setup_of(alloc)?;
+    opened_by(alloc, &setup, number)
+}
+
+/// Whether the call is carried.
+fn is_carried(call: &mut Call<Global>, outbox: &mut Outbox) -> bool {
+    carry(call, outbox, 0).is_ok()
+}
+
+/// The same call, whose request was sent.
+fn sent_call(alloc: Global, number: u64, outbox: &mut Outbox) -> Option<Call<Global>>
+    ensures { IfSome result (λ call. call.fixed.number ≡ number) }
+{
+    let mut call = opened(alloc, number)?;
+    if !is_carried(&mut call, outbox) {
+        return None;
+    }
     if call.number() == number {
         Some(call)
     } else {
@@ -129,27 +157,56 @@ fn is_put<R: Wait>(
 /// A response by its Via lines, and what becomes of it.
 type Responded<'a> = (&'a [u8], &'a [u8], Handled);
 
-/// Whether each response becomes what it is to become, after the request was sent, and nothing is sent at once.
-fn respond<R: Wait>(rt: &R, alloc: Global, responses: &[Responded<'_>]) -> Option<bool> {
-    let shelf: Shelf<Call<Global>> = Shelf::new(alloc).ok()?;
-    let mut well = is_put(rt, alloc, &shelf, &mut Outbox::new(alloc));
+/// Whether the call is put there, and its request sent.
+fn puts<R: Wait>(rt: &R, alloc: Global, shelf: &Shelf<Call<Global>>) -> bool {
     let mut outbox = Outbox::new(alloc);
+    is_put(rt, alloc, shelf, &mut outbox)
+}
+
+/// What becomes of a response.
+fn response_becomes<R: Wait>(
+    rt: &R,
+    alloc: Global,
+    shelf: &Shelf<Call<Global>>,
+    response: &Responded<'_>,
+    outbox: &mut Outbox,
+) -> Option<Handled> {
+    let lines = [
+        b"SIP/2.0 200 OK".as_slice(),
+        response.0,
+        response.1,
+        FROM,
+        b"t: <sip:bob@example.com>;tag=9",
+        CALL_ID,
+        b"CSeq: 1 OPTIONS",
+        b"l: 0",
+        b"",
+    ];
+    lines_become(rt, alloc, shelf, &lines, outbox)
+}
+
+/// Whether each response becomes what it is to become, and nothing is sent at once.
+fn come<R: Wait>(
+    rt: &R,
+    alloc: Global,
+    shelf: &Shelf<Call<Global>>,
+    responses: &[Responded<'_>],
+) -> bool {
+    let mut outbox = Outbox::new(alloc);
+    let mut well = true;
     for response in responses {
-        let lines = [
-            b"SIP/2.0 200 OK".as_slice(),
-            response.0,
-            response.1,
-            FROM,
-            b"t: <sip:bob@example.com>;tag=9",
-            CALL_ID,
-            b"CSeq: 1 OPTIONS",
-            b"l: 0",
-            b"",
-        ];
-        let handled = lines_become(rt, alloc, &shelf, &lines, &mut outbox)?;
-        well = well && handled == response.2;
+        let handled = response_becomes(rt, alloc, shelf, response, &mut outbox);
+        well = well && handled == Some(response.2);
     }
-    Some(well && outbox.is_empty())
+    well && outbox.is_empty()
+}
+
+/// The same after the request was sent.
+fn respond<R: Wait>(rt: &R, alloc: Global, responses: &[Responded<'_>]) -> bool {
+    match shelf_of(alloc) {
+        Some(shelf) => puts(rt, alloc, &shelf) && come(rt, alloc, &shelf, responses),
+        None => false,
+    }
 }
 
 /// The Via line that the request of the call went out with.
@@ -200,7 +257,7 @@ fn a_response_comes_to_the_call_that_it_names(rt: HostRuntime) {
     ];
     holds(
         &rt,
-        respond(&rt, rt.alloc(), &responses) == Some(true),
+        respond(&rt, rt.alloc(), &responses),
         "responses, by their top Via values",
     );
 }

@@ -1,8 +1,8 @@
 //! What becomes of datagrams where a send fails (RFC 3261 sections 16.9, 17.1.4 and 17.2.4).
 use crate::carrying::{posted, serves_lines};
 use crate::holds::holds;
-use crate::texts::{CALL_ID, FROM, MARKED, TO, VIA, setup_of};
-use fork_call::{Call, Cause, Datagram, Port};
+use crate::texts::{CALL_ID, FROM, MARKED, TO, VIA, setup_of, shelf_of};
+use fork_call::{Call, Cause, Datagram, Port, Setup};
 use fork_dispatch::Handled;
 use fork_shelf::Shelf;
 use std::alloc::{Allocator, Global};
@@ -147,21 +147,35 @@ const TERMINATED: [&[u8]; 8] = [
     b"",
 ];
 
-/// Whether each datagram becomes what it is to become, and its call is carried, over that port.
+/// Whether each datagram becomes what it is to become by a setup, and its call is carried, over that port.
+fn plays_by<R: Abort + Wait>(
+    rt: &R,
+    alloc: Global,
+    shelf: &Shelf<Call<Global>>,
+    setup: &Setup<Global>,
+    steps: &[Step<'_>],
+    port: &mut Lossy,
+) -> bool {
+    let mut well = true;
+    for step in steps {
+        let handled = serves_lines(rt, alloc, shelf, setup, step.1, step.0, port);
+        well = well && handled == Some(step.2);
+    }
+    well
+}
+
+/// The same by the setup.
 fn plays<R: Abort + Wait>(
     rt: &R,
     alloc: Global,
     shelf: &Shelf<Call<Global>>,
     steps: &[Step<'_>],
     port: &mut Lossy,
-) -> Option<bool> {
-    let setup = setup_of(alloc)?;
-    let mut well = true;
-    for step in steps {
-        let handled = serves_lines(rt, alloc, shelf, &setup, step.1, step.0, port);
-        well = well && handled == Some(step.2);
+) -> bool {
+    match setup_of(alloc) {
+        Some(setup) => plays_by(rt, alloc, shelf, &setup, steps, port),
+        None => false,
     }
-    Some(well)
 }
 
 /// Which send of a history fails, what it was for, how many there are, and how many events and faults were posted then.
@@ -173,21 +187,27 @@ struct Losing {
     posted: (usize, usize),
 }
 
-/// Whether a history goes so.
-fn goes_so<R: Abort + Wait>(
+/// Whether a history goes so on this shelf.
+fn goes_so_on<R: Abort + Wait>(
     rt: &R,
     alloc: Global,
+    shelf: &Shelf<Call<Global>>,
     steps: &[Step<'_>],
     losing: Losing,
-) -> Option<bool> {
-    let shelf: Shelf<Call<Global>> = Shelf::new(alloc).ok()?;
+) -> bool {
     let mut port = Lossy::failing(losing.fails, true);
-    let well = plays(rt, alloc, &shelf, steps, &mut port)?;
-    Some(
-        well && port.lost == losing.lost
-            && port.sends == losing.sends
-            && posted(rt, &shelf, 0) == Some(losing.posted),
-    )
+    plays(rt, alloc, shelf, steps, &mut port)
+        && port.lost == losing.lost
+        && port.sends == losing.sends
+        && posted(rt, shelf, 0) == Some(losing.posted)
+}
+
+/// Whether it goes so where no call stands.
+fn goes_so<R: Abort + Wait>(rt: &R, alloc: Global, steps: &[Step<'_>], losing: Losing) -> bool {
+    match shelf_of(alloc) {
+        Some(shelf) => goes_so_on(rt, alloc, &shelf, steps, losing),
+        None => false,
+    }
 }
 
 // the request; its answer, and that again
@@ -224,7 +244,7 @@ fn a_lost_datagram_of_a_request_is_told(rt: HostRuntime) {
     for losing in losings {
         holds(
             &rt,
-            goes_so(&rt, rt.alloc(), &OPTIONS, losing) == Some(true),
+            goes_so(&rt, rt.alloc(), &OPTIONS, losing),
             "a send of an OPTIONS call",
         );
     }
@@ -260,19 +280,32 @@ fn a_lost_datagram_of_an_invite_is_told(rt: HostRuntime) {
         };
         holds(
             &rt,
-            goes_so(&rt, rt.alloc(), &INVITE, losing) == Some(true),
+            goes_so(&rt, rt.alloc(), &INVITE, losing),
             "a send of an INVITE call",
         );
     }
 }
 
-/// Whether nothing is told of a send of this number that the port does not count.
-fn is_not_told<R: Abort + Wait>(rt: &R, alloc: Global, fails: u64) -> Option<bool> {
-    let shelf: Shelf<Call<Global>> = Shelf::new(alloc).ok()?;
+/// Whether nothing is told of a send of this number that the port does not count, on this shelf.
+fn is_not_told_on<R: Abort + Wait>(
+    rt: &R,
+    alloc: Global,
+    shelf: &Shelf<Call<Global>>,
+    fails: u64,
+) -> bool {
     let mut port = Lossy::failing(fails, false);
-    let well = plays(rt, alloc, &shelf, &INVITE, &mut port)?;
-    let lost = port.lost.is_some() == (fails <= 7);
-    Some(well && lost && port.sends == 7 && posted(rt, &shelf, 0) == Some((3, 0)))
+    plays(rt, alloc, shelf, &INVITE, &mut port)
+        && port.lost.is_some() == (fails <= 7)
+        && port.sends == 7
+        && posted(rt, shelf, 0) == Some((3, 0))
+}
+
+/// Whether nothing is told of it where no call stands.
+fn is_not_told<R: Abort + Wait>(rt: &R, alloc: Global, fails: u64) -> bool {
+    match shelf_of(alloc) {
+        Some(shelf) => is_not_told_on(rt, alloc, &shelf, fails),
+        None => false,
+    }
 }
 
 #[test]
@@ -280,7 +313,7 @@ fn what_no_port_counts_is_not_told(rt: HostRuntime) {
     for fails in 1..=8u64 {
         holds(
             &rt,
-            is_not_told(&rt, rt.alloc(), fails) == Some(true),
+            is_not_told(&rt, rt.alloc(), fails),
             "a send that fails without being counted",
         );
     }
@@ -323,17 +356,27 @@ const NOBODY: [&[u8]; 8] = [
     b"",
 ];
 
-/// Whether these lines become that though the one send for them fails, and no call is opened.
-fn is_lost<R: Abort + Wait>(
+/// Whether these lines become that though the one send for them fails, and no call is put on this shelf.
+fn is_lost_on<R: Abort + Wait>(
     rt: &R,
     alloc: Global,
+    shelf: &Shelf<Call<Global>>,
     lines: &[&[u8]],
     wanted: Handled,
-) -> Option<bool> {
-    let shelf: Shelf<Call<Global>> = Shelf::new(alloc).ok()?;
+) -> bool {
     let mut port = Lossy::failing(1, true);
-    let well = plays(rt, alloc, &shelf, &[(0, lines, wanted)], &mut port)?;
-    Some(well && port.sends == 1 && port.failures == 1 && shelf.count(rt) == 0)
+    plays(rt, alloc, shelf, &[(0, lines, wanted)], &mut port)
+        && port.sends == 1
+        && port.failures == 1
+        && shelf.count(rt) == 0
+}
+
+/// The same where no call stands.
+fn is_lost<R: Abort + Wait>(rt: &R, alloc: Global, lines: &[&[u8]], wanted: Handled) -> bool {
+    match shelf_of(alloc) {
+        Some(shelf) => is_lost_on(rt, alloc, &shelf, lines, wanted),
+        None => false,
+    }
 }
 
 /// What is sent without a call, once.
@@ -349,7 +392,7 @@ fn what_is_sent_without_a_call_may_be_lost(rt: HostRuntime) {
     for (lines, handled) in WITHOUT_A_CALL {
         holds(
             &rt,
-            is_lost(&rt, rt.alloc(), lines, handled) == Some(true),
+            is_lost(&rt, rt.alloc(), lines, handled),
             "a send without a call",
         );
     }

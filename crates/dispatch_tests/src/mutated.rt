@@ -1,52 +1,67 @@
 //! Each text that is almost the request: where it is cut short, and where one of its bytes is another.
 use crate::holds::holds;
 use crate::outbox::Outbox;
-use crate::texts::{REQUEST, SOURCE, request_of, setup_of};
+use crate::texts::{REQUEST, request_of, setup_of, shelf_of, text_becomes};
 use fork_call::{Call, Setup};
-use fork_dispatch::{Handled, handle};
+use fork_dispatch::Handled;
 use fork_shelf::Shelf;
 use std::alloc::Global;
 use std::sync::Wait;
 
-/// Whether a text becomes this where no call stands: one stands then exactly where it was opened, and something was sent
-/// exactly where it was answered.
+/// Whether a text becomes this on a shelf without a call: one stands there then exactly where it was opened, and something was
+/// sent exactly where it was answered.
+fn becomes_so<R: Wait>(
+    rt: &R,
+    alloc: Global,
+    shelf: &Shelf<Call<Global>>,
+    setup: &Setup<Global>,
+    text: &[u8],
+    wanted: Handled,
+) -> bool {
+    let mut outbox = Outbox::new(alloc);
+    let handled = text_becomes(rt, alloc, shelf, setup, text, &mut outbox);
+    let calls = if wanted == Handled::Opened(0) { 1 } else { 0 };
+    let is_answered = matches!(wanted, Handled::Answered(_));
+    handled == Some(wanted) && shelf.count(rt) == calls && outbox.is_empty() != is_answered
+}
+
+/// The same where no call stands.
 fn is_wanted<R: Wait>(
     rt: &R,
     alloc: Global,
     setup: &Setup<Global>,
     text: &[u8],
     wanted: Handled,
-) -> Option<bool> {
-    let shelf: Shelf<Call<Global>> = Shelf::new(alloc).ok()?;
-    let mut outbox = Outbox::new(alloc);
-    let handled = handle(
-        rt,
-        alloc,
-        alloc,
-        &shelf,
-        setup,
-        text,
-        SOURCE,
-        0,
-        &mut outbox,
-    )
-    .ok()?;
-    let calls = if wanted == Handled::Opened(0) { 1 } else { 0 };
-    let is_answered = matches!(wanted, Handled::Answered(_));
-    Some(handled == wanted && shelf.count(rt) == calls && outbox.is_empty() != is_answered)
+) -> bool {
+    match shelf_of(alloc) {
+        Some(shelf) => becomes_so(rt, alloc, &shelf, setup, text, wanted),
+        None => false,
+    }
 }
 
-/// How many of the proper prefixes of the request are dropped; None where one is not.
-fn dropped_prefixes<R: Wait>(rt: &R, alloc: Global) -> Option<usize> {
-    let setup = setup_of(alloc)?;
-    let text = request_of(alloc, &[])?;
+/// How many of the proper prefixes of a text are dropped.
+fn dropped_of<R: Wait>(rt: &R, alloc: Global, setup: &Setup<Global>, text: &[u8]) -> usize {
     let mut dropped: usize = 0;
     for len in 0..text.len() {
-        if is_wanted(rt, alloc, &setup, &text[..len], Handled::Dropped) == Some(true) {
+        if is_wanted(rt, alloc, setup, &text[..len], Handled::Dropped) {
             dropped = dropped.saturating_add(1);
         }
     }
-    Some(dropped)
+    dropped
+}
+
+/// How many of those of the request are, by a setup.
+fn dropped_by<R: Wait>(rt: &R, alloc: Global, setup: &Setup<Global>) -> Option<usize> {
+    match request_of(alloc, &[]) {
+        Some(text) => Some(dropped_of(rt, alloc, setup, &text)),
+        None => None,
+    }
+}
+
+/// The same by the setup.
+fn dropped_prefixes<R: Wait>(rt: &R, alloc: Global) -> Option<usize> {
+    let setup = setup_of(alloc)?;
+    dropped_by(rt, alloc, &setup)
 }
 
 #[test]
@@ -338,13 +353,16 @@ fn ruled(line: usize, place: usize, byte: u8) -> Handled {
     handled
 }
 
-/// The request with this byte at this place of the whole text, and whether that is the request.
-fn replaced(alloc: Global, at: usize, byte: u8) -> Option<(Vec<u8>, bool)> {
-    let mut text = request_of(alloc, &[])?;
-    let there = text.get_mut(at)?;
-    let same = *there == byte;
-    *there = byte;
-    Some((text, same))
+/// Puts a byte at this place of a text, and says whether it stood there; None where there is no such place.
+fn replace(text: &mut Vec<u8>, at: usize, byte: u8) -> Option<bool> {
+    match text.get_mut(at) {
+        Some(there) => {
+            let same = *there == byte;
+            *there = byte;
+            Some(same)
+        }
+        None => None,
+    }
 }
 
 /// A place of the request: its line, its place in the line, and where the line begins.
@@ -355,6 +373,32 @@ struct Place {
     begin: usize,
 }
 
+impl Place {
+    /// What becomes of the request with this byte there, which may be the one that stands there.
+    fn wanted(self, byte: u8, same: bool) -> Handled {
+        if same {
+            OPENED
+        } else {
+            ruled(self.line, self.place, byte)
+        }
+    }
+}
+
+/// Whether a text opens a call; None where it does not become this.
+fn opens_by<R: Wait>(
+    rt: &R,
+    alloc: Global,
+    setup: &Setup<Global>,
+    text: &[u8],
+    wanted: Handled,
+) -> Option<bool> {
+    if is_wanted(rt, alloc, setup, text, wanted) {
+        Some(wanted == OPENED)
+    } else {
+        None
+    }
+}
+
 /// Whether the request with this byte there opens a call; None where it does not become what the rules say.
 fn opens<R: Wait>(
     rt: &R,
@@ -363,16 +407,11 @@ fn opens<R: Wait>(
     at: Place,
     byte: u8,
 ) -> Option<bool> {
-    let (text, same) = replaced(alloc, at.begin.checked_add(at.place)?, byte)?;
-    let wanted = if same {
-        OPENED
-    } else {
-        ruled(at.line, at.place, byte)
-    };
-    if is_wanted(rt, alloc, setup, &text, wanted) == Some(true) {
-        Some(wanted == OPENED)
-    } else {
-        None
+    let index = at.begin.checked_add(at.place)?;
+    let mut text = request_of(alloc, &[])?;
+    match replace(&mut text, index, byte) {
+        Some(same) => opens_by(rt, alloc, setup, &text, at.wanted(byte, same)),
+        None => None,
     }
 }
 
@@ -405,18 +444,23 @@ fn opening_in<R: Wait>(
 }
 
 /// How many lines have as many texts that open a call as they are to have, and all else becomes what the rules say.
-fn well_lines<R: Wait>(rt: &R, alloc: Global) -> Option<usize> {
-    let setup = setup_of(alloc)?;
+fn well_by<R: Wait>(rt: &R, alloc: Global, setup: &Setup<Global>) -> Option<usize> {
     let mut begin: usize = 0;
     let mut well: usize = 0;
     for (line, (text, opening)) in REQUEST.iter().zip(OPENING).enumerate() {
         let len = text.len().checked_add(2)?;
-        if opening_in(rt, alloc, &setup, line, begin, len) == Some(opening) {
+        if opening_in(rt, alloc, setup, line, begin, len) == Some(opening) {
             well = well.checked_add(1)?;
         }
         begin = begin.checked_add(len)?;
     }
     Some(well)
+}
+
+/// The same by the setup.
+fn well_lines<R: Wait>(rt: &R, alloc: Global) -> Option<usize> {
+    let setup = setup_of(alloc)?;
+    well_by(rt, alloc, &setup)
 }
 
 #[test]

@@ -19,15 +19,22 @@ struct Proxy {
 }
 
 impl Proxy {
+    /// Without a call, set up so.
+    fn of(alloc: Global, setup: Setup<Global>) -> Option<Proxy> {
+        match Shelf::new(alloc) {
+            Ok(shelf) => Some(Proxy {
+                setup,
+                shelf,
+                outbox: Outbox::new(alloc),
+            }),
+            Err(_) => None,
+        }
+    }
+
     /// Without a call.
     fn new(alloc: Global) -> Option<Proxy> {
         let setup = setup_of(alloc)?;
-        let shelf = Shelf::new(alloc).ok()?;
-        Some(Proxy {
-            setup,
-            shelf,
-            outbox: Outbox::new(alloc),
-        })
+        Proxy::of(alloc, setup)
     }
 
     /// Whether these lines become that; the call that they open or that takes them is carried.
@@ -100,39 +107,61 @@ fn answer_by(alloc: Global, via: &[u8]) -> Option<Vec<u8>> {
     text_of(alloc, &lines)
 }
 
-/// The line with another digit at this place.
-fn with_another_digit(alloc: Global, place: usize) -> Option<Vec<u8>> {
-    let mut via = Vec::from_slice(alloc, OWN_VIA).ok()?;
-    let there = via.get_mut(place)?;
-    *there = if *there == b'0' { b'1' } else { b'0' };
-    Some(via)
-}
-
-/// Whether an answer with such a line is dropped.
-fn is_stray<R: Abort + Wait>(
+/// Whether an answer with this for its top Via line becomes that.
+fn does_answer<R: Abort + Wait>(
     rt: &R,
     alloc: Global,
     proxy: &mut Proxy,
-    place: usize,
-) -> Option<bool> {
-    let via = with_another_digit(alloc, place)?;
-    let text = answer_by(alloc, &via)?;
-    Some(proxy.does_text(rt, alloc, &text, Handled::Dropped))
+    via: &[u8],
+    wanted: Handled,
+) -> bool {
+    match answer_by(alloc, via) {
+        Some(text) => proxy.does_text(rt, alloc, &text, wanted),
+        None => false,
+    }
 }
 
-/// How many places there are where another digit makes a stray of an answer; after all of them the answer itself is taken.
-fn strays<R: Abort + Wait>(rt: &R, alloc: Global) -> Option<usize> {
-    let mut proxy = Proxy::new(alloc)?;
-    let opened = proxy.does(rt, alloc, &REQUEST, Handled::Opened(0));
+/// Puts another digit at this place of a line, and says whether there is such a place.
+fn change_digit(via: &mut Vec<u8>, place: usize) -> bool {
+    match via.get_mut(place) {
+        Some(there) => {
+            *there = if *there == b'0' { b'1' } else { b'0' };
+            true
+        }
+        None => false,
+    }
+}
+
+/// Whether an answer with another digit at this place of its top Via line is dropped.
+fn is_stray<R: Abort + Wait>(rt: &R, alloc: Global, proxy: &mut Proxy, place: usize) -> bool {
+    match Vec::from_slice(alloc, OWN_VIA) {
+        Ok(mut via) => {
+            change_digit(&mut via, place) && does_answer(rt, alloc, proxy, &via, Handled::Dropped)
+        }
+        Err(_) => false,
+    }
+}
+
+/// How many places there are where another digit makes a stray of an answer.
+fn stray_places<R: Abort + Wait>(rt: &R, alloc: Global, proxy: &mut Proxy) -> usize {
     let mut count: usize = 0;
     for place in ADDRESS..OWN_VIA.len() {
-        if is_stray(rt, alloc, &mut proxy, place) == Some(true) {
+        if is_stray(rt, alloc, proxy, place) {
             count = count.saturating_add(1);
         }
     }
+    count
+}
+
+/// The same of a call that the request opens, to which nothing is posted meanwhile; after all of them the answer itself is
+/// taken.
+fn strays<R: Abort + Wait>(rt: &R, alloc: Global) -> Option<usize> {
+    let mut proxy = Proxy::new(alloc)?;
+    let opened = proxy.does(rt, alloc, &REQUEST, Handled::Opened(0));
+    let count = stray_places(rt, alloc, &mut proxy);
     let untouched = proxy.has_posted(rt, 0, 0);
-    let text = answer_by(alloc, OWN_VIA)?;
-    if opened && untouched && proxy.does_text(rt, alloc, &text, Handled::Fed(0)) {
+    let taken = does_answer(rt, alloc, &mut proxy, OWN_VIA, Handled::Fed(0));
+    if opened && untouched && taken {
         Some(count)
     } else {
         None
@@ -166,8 +195,11 @@ fn spelled(alloc: Global, said: Said<'_>) -> Option<Vec<u8>> {
         said.start, said.top.0, said.top.1, FROM, TO, CALL_ID, said.cseq, said.last, b"",
     ];
     let mut text = text_of(alloc, &lines)?;
-    text.extend_from_slice(said.body).ok()?;
-    Some(text)
+    if text.extend_from_slice(said.body).is_ok() {
+        Some(text)
+    } else {
+        None
+    }
 }
 
 /// Whether it becomes that.
@@ -384,24 +416,40 @@ const STRAYS: [Step<'static>; 14] = [
     ),
 ];
 
-/// Whether each datagram becomes what it is to become, and the two calls have those events; no other call is opened.
-fn plays<R: Abort + Wait>(rt: &R, alloc: Global, steps: &[Step<'_>]) -> Option<bool> {
-    let mut proxy = Proxy::new(alloc)?;
+/// Whether a datagram becomes what it is to become, and the two calls have those events then.
+fn does_step<R: Abort + Wait>(rt: &R, alloc: Global, proxy: &mut Proxy, step: &Step<'_>) -> bool {
+    does_said(rt, alloc, proxy, step.0, step.1)
+        && proxy.has_posted(rt, 0, step.2[0])
+        && proxy.has_posted(rt, 1, step.2[1])
+}
+
+/// Whether each does; no other call is opened.
+fn does_steps<R: Abort + Wait>(
+    rt: &R,
+    alloc: Global,
+    proxy: &mut Proxy,
+    steps: &[Step<'_>],
+) -> bool {
     let mut well = true;
-    for (said, handled, events) in steps {
-        well = well
-            && does_said(rt, alloc, &mut proxy, *said, *handled)
-            && proxy.has_posted(rt, 0, events[0])
-            && proxy.has_posted(rt, 1, events[1]);
+    for step in steps {
+        well = well && does_step(rt, alloc, proxy, step);
     }
-    Some(well && proxy.shelf.count(rt) == 2)
+    well && proxy.shelf.count(rt) == 2
+}
+
+/// Whether a proxy without a call does all that.
+fn plays<R: Abort + Wait>(rt: &R, alloc: Global, steps: &[Step<'_>]) -> bool {
+    match Proxy::new(alloc) {
+        Some(mut proxy) => does_steps(rt, alloc, &mut proxy, steps),
+        None => false,
+    }
 }
 
 #[test]
 fn what_is_for_another_call_changes_none(rt: HostRuntime) {
     holds(
         &rt,
-        plays(&rt, rt.alloc(), &STRAYS) == Some(true),
+        plays(&rt, rt.alloc(), &STRAYS),
         "two calls, and what is for neither of them",
     );
 }
@@ -446,21 +494,27 @@ fn fills<R: Abort + Wait>(rt: &R, alloc: Global, proxy: &mut Proxy) -> bool {
 }
 
 /// Whether the next is dropped then, and a final answer is taken.
-fn is_full<R: Abort + Wait>(rt: &R, alloc: Global) -> Option<bool> {
-    let mut proxy = Proxy::new(alloc)?;
-    let filled = fills(rt, alloc, &mut proxy);
-    let dropped = does_said(rt, alloc, &mut proxy, RUNG, Handled::Dropped)
-        && proxy.has_posted(rt, 0, ROOM);
-    let answered = does_said(rt, alloc, &mut proxy, BUSIED, Handled::Fed(0))
-        && proxy.has_posted(rt, 0, ROOM + 1);
-    Some(filled && dropped && answered)
+fn gets_full<R: Abort + Wait>(rt: &R, alloc: Global, proxy: &mut Proxy) -> bool {
+    fills(rt, alloc, proxy)
+        && does_said(rt, alloc, proxy, RUNG, Handled::Dropped)
+        && proxy.has_posted(rt, 0, ROOM)
+        && does_said(rt, alloc, proxy, BUSIED, Handled::Fed(0))
+        && proxy.has_posted(rt, 0, ROOM + 1)
+}
+
+/// Whether a proxy without a call does all that.
+fn is_full<R: Abort + Wait>(rt: &R, alloc: Global) -> bool {
+    match Proxy::new(alloc) {
+        Some(mut proxy) => gets_full(rt, alloc, &mut proxy),
+        None => false,
+    }
 }
 
 #[test]
 fn a_response_without_room_is_dropped(rt: HostRuntime) {
     holds(
         &rt,
-        is_full(&rt, rt.alloc()) == Some(true),
+        is_full(&rt, rt.alloc()),
         "4,096 times 180, and one more",
     );
 }

@@ -51,17 +51,34 @@ pub type Edit<'a> = (usize, &'a [u8]);
 
 /// The setup.
 pub fn setup_of(alloc: Global) -> Option<Setup<Global>> {
-    Setup::read(alloc, SETUP).ok()
+    match Setup::read(alloc, SETUP) {
+        Ok(setup) => Some(setup),
+        Err(_) => None,
+    }
+}
+
+/// Puts a line behind a text, and says whether there was memory for it.
+fn add_line(text: &mut Vec<u8>, line: &[u8]) -> bool {
+    text.extend_from_slice(line).is_ok() && text.extend_from_slice(b"\r\n").is_ok()
+}
+
+/// The same of these lines.
+fn add_lines(text: &mut Vec<u8>, lines: &[&[u8]]) -> bool {
+    let mut well = true;
+    for line in lines {
+        well = well && add_line(text, line);
+    }
+    well
 }
 
 /// The text of these lines.
 pub fn text_of(alloc: Global, lines: &[&[u8]]) -> Option<Vec<u8>> {
     let mut text = Vec::new(alloc);
-    for line in lines {
-        text.extend_from_slice(line).ok()?;
-        text.extend_from_slice(b"\r\n").ok()?;
+    if add_lines(&mut text, lines) {
+        Some(text)
+    } else {
+        None
     }
-    Some(text)
 }
 
 /// The line of the last edit of that place, or the request's own.
@@ -75,14 +92,58 @@ fn line_at<'a>(place: usize, own: &'a [u8], edits: &[Edit<'a>]) -> &'a [u8] {
     line
 }
 
+/// Puts the lines of the request with these edits behind a text, and says whether there was memory for them.
+fn add_request(text: &mut Vec<u8>, edits: &[Edit<'_>]) -> bool {
+    let mut well = true;
+    for (place, own) in REQUEST.iter().enumerate() {
+        well = well && add_line(text, line_at(place, own, edits));
+    }
+    well
+}
+
 /// The request with these edits.
 pub fn request_of(alloc: Global, edits: &[Edit<'_>]) -> Option<Vec<u8>> {
     let mut text = Vec::new(alloc);
-    for (place, own) in REQUEST.iter().enumerate() {
-        text.extend_from_slice(line_at(place, own, edits)).ok()?;
-        text.extend_from_slice(b"\r\n").ok()?;
+    if add_request(&mut text, edits) {
+        Some(text)
+    } else {
+        None
     }
-    Some(text)
+}
+
+/// A shelf without a call.
+pub fn shelf_of(alloc: Global) -> Option<Shelf<Call<Global>>> {
+    match Shelf::new(alloc) {
+        Ok(shelf) => Some(shelf),
+        Err(_) => None,
+    }
+}
+
+/// What becomes of a text by a setup.
+pub fn text_becomes<R: Wait>(
+    rt: &R,
+    alloc: Global,
+    shelf: &Shelf<Call<Global>>,
+    setup: &Setup<Global>,
+    text: &[u8],
+    outbox: &mut Outbox,
+) -> Option<Handled> {
+    match handle(rt, alloc, alloc, shelf, setup, text, SOURCE, 0, outbox) {
+        Ok(handled) => Some(handled),
+        Err(_) => None,
+    }
+}
+
+/// The same by the setup.
+fn becomes_here<R: Wait>(
+    rt: &R,
+    alloc: Global,
+    shelf: &Shelf<Call<Global>>,
+    text: &[u8],
+    outbox: &mut Outbox,
+) -> Option<Handled> {
+    let setup = setup_of(alloc)?;
+    text_becomes(rt, alloc, shelf, &setup, text, outbox)
 }
 
 /// What becomes of the request with these edits.
@@ -93,9 +154,8 @@ pub fn becomes<R: Wait>(
     edits: &[Edit<'_>],
     outbox: &mut Outbox,
 ) -> Option<Handled> {
-    let setup = setup_of(alloc)?;
     let text = request_of(alloc, edits)?;
-    handle(rt, alloc, alloc, shelf, &setup, &text, SOURCE, 0, outbox).ok()
+    becomes_here(rt, alloc, shelf, &text, outbox)
 }
 
 /// What becomes of the text of these lines.
@@ -106,7 +166,28 @@ pub fn lines_become<R: Wait>(
     lines: &[&[u8]],
     outbox: &mut Outbox,
 ) -> Option<Handled> {
-    let setup = setup_of(alloc)?;
     let text = text_of(alloc, lines)?;
-    handle(rt, alloc, alloc, shelf, &setup, &text, SOURCE, 0, outbox).ok()
+    becomes_here(rt, alloc, shelf, &text, outbox)
+}
+
+/// What becomes of the request with these edits where no call stands.
+pub fn becomes_alone<R: Wait>(
+    rt: &R,
+    alloc: Global,
+    edits: &[Edit<'_>],
+    outbox: &mut Outbox,
+) -> Option<Handled> {
+    let shelf = shelf_of(alloc)?;
+    becomes(rt, alloc, &shelf, edits, outbox)
+}
+
+/// What becomes of the text of these lines there.
+pub fn lines_become_alone<R: Wait>(
+    rt: &R,
+    alloc: Global,
+    lines: &[&[u8]],
+    outbox: &mut Outbox,
+) -> Option<Handled> {
+    let shelf = shelf_of(alloc)?;
+    lines_become(rt, alloc, &shelf, lines, outbox)
 }

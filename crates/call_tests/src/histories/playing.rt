@@ -1,9 +1,8 @@
 //! Histories of a call: what comes to it moment by moment, and what it does then.
-use crate::requests::{SOURCE, setup_of};
-use fork_call::{Call, Cause, Datagram, Step, TakeFault, Taken};
+use crate::requests::{SOURCE, read_message, setup_of};
+use fork_call::{Call, Cause, Datagram, Setup, Step, TakeFault, Taken};
 use fork_context::{Event, Reply, Up};
 use fork_routing::is_openable;
-use sip_text::Message;
 use sip_uri::Hop;
 use std::alloc::{AllocError, Allocator, Global};
 
@@ -35,14 +34,27 @@ pub enum Turn {
 /// A moment in milliseconds, and what happens then.
 pub type Moment = (u64, Turn);
 
-/// The call that the request opens under this number at 0.
-pub fn opened(alloc: Global, setup: &[u8], number: u64, request: &[u8]) -> Option<Call<Global>> {
-    let setup = setup_of(alloc, setup)?;
-    let request = Message::read(alloc, request).ok()?;
+/// The call that the request opens under this number at 0, by a setup.
+fn opened_by(
+    alloc: Global,
+    setup: &Setup<Global>,
+    number: u64,
+    request: &[u8],
+) -> Option<Call<Global>> {
+    let request = read_message(alloc, request)?;
     if !is_openable(&request) {
         return None;
     }
-    Call::open(alloc, alloc, &setup, number, request, SOURCE, 0).ok()
+    match Call::open(alloc, alloc, setup, number, request, SOURCE, 0) {
+        Ok(call) => Some(call),
+        Err(_) => None,
+    }
+}
+
+/// The same by the setup of this text.
+pub fn opened(alloc: Global, setup: &[u8], number: u64, request: &[u8]) -> Option<Call<Global>> {
+    let setup = setup_of(alloc, setup)?;
+    opened_by(alloc, &setup, number, request)
 }
 
 // ---- a turn
@@ -55,8 +67,10 @@ pub fn taken(
     from: Hop,
     text: &[u8],
 ) -> Option<Result<Taken, TakeFault>> {
-    let message = Message::read(alloc, text).ok()?;
-    Some(call.take(message, from, now))
+    match read_message(alloc, text) {
+        Some(message) => Some(call.take(message, from, now)),
+        None => None,
+    }
 }
 
 /// Whether a datagram is this one.

@@ -1,26 +1,26 @@
 //! Requests that open no call, and the status with which each is answered (RFC 3261 sections 16.3 to 16.6).
 use crate::holds::holds;
 use crate::requests::{Change, SETUP, SOURCE, request_with, setup_of};
-use fork_call::{Call, OpenFault};
+use fork_call::{Call, OpenFault, Setup};
 use fork_routing::is_openable;
 use std::alloc::Global;
 
-/// What opening a call comes to for the request with this change.
-fn opening(alloc: Global, change: Change) -> Option<Result<Call<Global>, OpenFault>> {
-    let setup = setup_of(alloc, SETUP)?;
+/// The fault with which the request with this change opens no call by a setup.
+fn fault_by(alloc: Global, setup: &Setup<Global>, change: Change) -> Option<OpenFault> {
     let request = request_with(alloc, &[change])?;
     if !is_openable(&request) {
         return None;
     }
-    Some(Call::open(alloc, alloc, &setup, 3, request, SOURCE, 0))
-}
-
-/// The fault with which the request with this change opens no call.
-fn fault_with(alloc: Global, change: Change) -> Option<OpenFault> {
-    match opening(alloc, change)? {
+    match Call::open(alloc, alloc, setup, 3, request, SOURCE, 0) {
         Ok(_) => None,
         Err(fault) => Some(fault),
     }
+}
+
+/// The same by the setup with one location.
+fn fault_with(alloc: Global, change: Change) -> Option<OpenFault> {
+    let setup = setup_of(alloc, SETUP)?;
+    fault_by(alloc, &setup, change)
 }
 
 /// A change of the request, the fault that it makes, and its status.

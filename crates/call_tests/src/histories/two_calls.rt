@@ -8,6 +8,7 @@ use crate::requests::SETUP;
 use fork_call::{Call, Cause, TakeFault, Taken};
 use fork_context::{Choice, Up};
 use std::alloc::Global;
+use std::process::Abort;
 
 /// A 180 and a 404 to the branch of the call of number 4.
 const RINGING_OF_FOUR: &[u8] = b"SIP/2.0 180 Ringing\r\n\
@@ -132,43 +133,45 @@ const FOUR_FAILS: &[Entry] = &[Entry {
     up: Up::Final(Choice::Stored(0)),
 }];
 
-/// The two calls.
-fn both(alloc: Global) -> Option<(Call<Global>, Call<Global>)> {
-    let three = opened(alloc, SETUP, 3, INVITE)?;
-    let four = opened(alloc, SETUP, 4, INVITE)?;
-    Some((three, four))
+/// Checks that each of two calls takes its own messages alone.
+fn go_apart(rt: &impl Abort, alloc: Global, three: &mut Call<Global>, four: &mut Call<Global>) {
+    holds(rt, plays(alloc, three, THREE_BEGINS), "one begins");
+    holds(rt, plays(alloc, four, FOUR_BEGINS), "the other begins");
+    holds(
+        rt,
+        plays(alloc, three, THREE_IS_SENT) && has_entries(three, &[]),
+        "nothing of the other is for the one",
+    );
+    holds(
+        rt,
+        plays(alloc, four, FOUR_IS_SENT) && has_entries(four, &[]),
+        "nothing of the one is for the other",
+    );
+    holds(
+        rt,
+        plays(alloc, three, THREE_GOES_ON) && has_entries(three, THREE_RINGS),
+        "the one takes its own",
+    );
+    holds(
+        rt,
+        plays(alloc, four, FOUR_GOES_ON) && has_entries(four, FOUR_FAILS),
+        "the other takes its own",
+    );
+}
+
+/// Checks that of this call and of that of number 4.
+fn goes_apart(rt: &impl Abort, alloc: Global, three: &mut Call<Global>) {
+    match opened(alloc, SETUP, 4, INVITE) {
+        Some(mut four) => go_apart(rt, alloc, three, &mut four),
+        None => holds(rt, false, "the other opens"),
+    }
 }
 
 #[test]
 fn a_response_belongs_to_one_call(rt: HostRuntime) {
     let alloc = rt.alloc();
-    let Some((mut three, mut four)) = both(alloc) else {
-        return holds(&rt, false, "both open");
-    };
-    holds(&rt, plays(alloc, &mut three, THREE_BEGINS), "one begins");
-    holds(
-        &rt,
-        plays(alloc, &mut four, FOUR_BEGINS),
-        "the other begins",
-    );
-    holds(
-        &rt,
-        plays(alloc, &mut three, THREE_IS_SENT) && has_entries(&three, &[]),
-        "nothing of the other is for the one",
-    );
-    holds(
-        &rt,
-        plays(alloc, &mut four, FOUR_IS_SENT) && has_entries(&four, &[]),
-        "nothing of the one is for the other",
-    );
-    holds(
-        &rt,
-        plays(alloc, &mut three, THREE_GOES_ON) && has_entries(&three, THREE_RINGS),
-        "the one takes its own",
-    );
-    holds(
-        &rt,
-        plays(alloc, &mut four, FOUR_GOES_ON) && has_entries(&four, FOUR_FAILS),
-        "the other takes its own",
-    );
+    match opened(alloc, SETUP, 3, INVITE) {
+        Some(mut three) => goes_apart(&rt, alloc, &mut three),
+        None => holds(&rt, false, "the one opens"),
+    }
 }
