@@ -142,7 +142,11 @@ fn goes_so(alloc: Global, run: &Run, (fails, counts): Failing) -> bool {
 
 /// Whether a call goes so whichever of these sends fails.
 fn always_goes_so(alloc: Global, run: &Run, failing: &[Failing]) -> bool {
-    failing.iter().all(|send| goes_so(alloc, run, *send))
+    let mut well = true;
+    for send in failing {
+        well = well && goes_so(alloc, run, *send);
+    }
+    well
 }
 
 // ---- a failure
