@@ -1,14 +1,11 @@
 pub mod Common
-pub mod LastAnswer
+pub mod laws
 pub mod InputSteps
 pub mod Rows
 pub mod Outcomes
 pub mod Printing
 pub mod Answering
 pub mod Refusing
-pub mod LineLaws
-pub mod SpelledLines
-pub mod DraftedLines
 pub mod SpelledScripts
 pub mod SpelledOnce
 pub mod Headline

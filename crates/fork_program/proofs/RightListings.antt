@@ -11,8 +11,8 @@ use Rattle.fork_listing.specs.declared.refusal.CheckFault.TheVariants as check
 use Rattle.fork_listing.specs.Text.{listing_text}
 use Rattle.fork_listing.specs.Listed.{listing_of}
 use Rattle.fork_listing.specs.Accepted.{ListingsAreRight, RightTextsAreAccepted, IsOkElseNoMemory}
-use Rattle.fork_program.specs.RightListing.{EndsInRightListing, ReplaysEndInRightListings, RightListingsAreAnsweredYes}
-use Rattle.fork_program.proofs.DraftedLines.{body_of, history_lines}
+use Rattle.fork_program.specs.RightListing.{EndsInRightListing, ReplaysEndInRightListings, RightListingsAreShort, RightListingsAreAnsweredYes}
+use Rattle.fork_program.proofs.laws.DraftedLines.{body_of, history_lines}
 use Rattle.fork_program.proofs.Headline.{rules_stay, tells_one_final}
 use Rattle.fork_program.proofs.ShortListings.{right_is_short}
 
@@ -64,7 +64,7 @@ script_leads text printed script spells replay =
 
 -- ---- what it tells ends in a right listing
 
-ends_right : RightTellsTheChoice → Irreflexive → ListingsAreRight → (script : Script) (printed : List ℕ) → IsLedTo (closed script) → IsDone script → TellsOneFinal script printed → EndsInRightListing script printed
+ends_right : RightTellsTheChoice → Irreflexive → ListingsAreRight → (script : Script) (printed : List ℕ) → IsLedTo (closed script) → IsDone script → TellsOneFinal script printed → EndsInRightListing (closed script).table printed
 ends_right tells irreflexive listings_right script printed led done told =
     let t : Table = (closed script).table in
     let listed : List ℕ = listing_text (listing_of t told.ranks told.choice) in
@@ -92,6 +92,9 @@ ends_right tells irreflexive listings_right script printed led done told =
 
 pub replays_end_right : TheChoiceIsFirst → RightTellsTheChoice → Irreflexive → ListingsAreRight → ReplaysEndInRightListings
 replays_end_right listed_first tells irreflexive listings_right text printed script spells replay done = grind (arith, common_steps, script_leads text printed script spells replay, tells_one_final listed_first script printed replay done, ends_right)
+
+pub listings_are_short : RightTellsTheChoice → Irreflexive → RightListingsAreShort
+listings_are_short tells irreflexive listed verdict right = right_is_short tells irreflexive listed verdict right
 
 -- ---- and is answered with yes
 

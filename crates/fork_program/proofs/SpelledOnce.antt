@@ -6,8 +6,8 @@ use Rattle.fork_program.proofs.Common.{IsSpelledAs, all_back, common_steps, arit
 use Rattle.sip_lex.proofs.laws.Cuts.{cut_again}
 use Rattle.fork_program.specs.Script.{read_script}
 use Rattle.fork_program.specs.Grammar.{SpelledOnce, TellTheSame, SayTheSame, ReadAlike}
-use Rattle.fork_program.proofs.SpelledLines.{line_read, line_lacks}
-use Rattle.fork_program.proofs.DraftedLines.{body_of, history_lines}
+use Rattle.fork_program.proofs.laws.SpelledLines.{line_read, line_lacks}
+use Rattle.fork_program.proofs.laws.DraftedLines.{body_of, history_lines}
 use Rattle.fork_program.proofs.SpelledScripts.{spelled_read}
 
 -- ---- the lines of a text

@@ -13,9 +13,9 @@ use Rattle.fork_program.specs.Script.{read_script}
 use Rattle.fork_program.specs.Malformed.{IsMalformedAt}
 use Rattle.fork_program.specs.Grammar.{ReadExactly, RefusedByFirst}
 use Rattle.fork_program.specs.ReadView.{IsFaultOf}
-use Rattle.fork_program.proofs.LineLaws.{line_found}
-use Rattle.fork_program.proofs.SpelledLines.{line_read, line_lacks}
-use Rattle.fork_program.proofs.DraftedLines.{script_drafted, whole_found, begins, begins_with, lines_due, next_due}
+use Rattle.fork_program.proofs.laws.LineLaws.{line_found}
+use Rattle.fork_program.proofs.laws.SpelledLines.{line_read, line_lacks}
+use Rattle.fork_program.proofs.laws.DraftedLines.{script_drafted, whole_found, begins, begins_with, lines_due, next_due}
 
 abbrev found_as : Script → Result Script ℕ
 found_as s = Ok s

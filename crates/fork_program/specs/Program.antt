@@ -7,7 +7,8 @@ use Rattle.fork_program.specs.declared.fault.ProgFault.TheVariants as prog
 use Rattle.fork_program.specs.declared.fault.Fault.{Fault}
 use Rattle.fork_program.specs.declared.fault.Fault.TheVariants as fault
 use Rattle.fork_program.specs.Faults.{AppendsReplay, IsFault}
-use Rattle.fork_program.specs.Headline.{AppendsOneFinal}
+use Rattle.fork_program.specs.Headline.{AppendsOneFinal, AppendsNoFinal}
+use Rattle.fork_program.specs.RightListing.{AppendsRightListing}
 use Rattle.fork_program.specs.Answer.{AppendsAnswer, IsCheckRefusal}
 
 abbrev pub command_named : List ℕ → Option Command
@@ -25,7 +26,12 @@ command_of (name ∷ word ∷ other ∷ words) = None
 
 -- what a command appends of a text, and the status that it ends with
 abbrev pub Appends : Command → List ℕ → List ℕ → List ℕ → ℕ → Type 0
-Appends Replay text old new status = (status ≡ 0) × AppendsReplay text old new × AppendsOneFinal text old new
+Appends Replay text old new status =
+    (status ≡ 0)
+    × AppendsReplay text old new
+    × AppendsOneFinal text old new
+    × AppendsNoFinal text old new
+    × AppendsRightListing text old new
 Appends Check text old new status = AppendsAnswer text old new status
 
 -- why a command refuses a text

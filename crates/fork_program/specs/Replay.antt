@@ -11,9 +11,11 @@ use Rattle.fork_model.specs.Challenges.{challenge_list}
 use Rattle.fork_model.specs.Reply.{Up, Nothing, Provisional, Success, Final, Reply}
 use Rattle.fork_model.specs.Core.{Core, Outcome, Full, Replied, opening_core, core_offered, core_after, AreOutcomes}
 use Rattle.fork_listing.specs.declared.line.Ranked.{Ranked}
+use Rattle.fork_listing.specs.declared.refusal.Verdict.{Verdict}
 use Rattle.fork_listing.specs.Text.{listing_text}
 use Rattle.fork_listing.specs.Ranking.{IsRanking}
 use Rattle.fork_listing.specs.Listed.{targets_of, listing_of}
+use Rattle.fork_listing.specs.Accepted.{IsRightText}
 use Rattle.fork_text.specs.Preferred.{list_text}
 use Rattle.fork_text.specs.RuleLines.{ended}
 use Rattle.fork_text.specs.Field.{numbered_text}
@@ -119,8 +121,15 @@ pub record IsReplay (script : Script) (text : List ℕ) : Type 0 where
   pub last : IsEnding (closed script).table ending
   pub spelled : text ≡ replay_text script outcomes ending
 
+-- where it ends in a listing, that is one which a check accepts
+abbrev pub IsAccepted : Table → Ending → Type 0
+IsAccepted t Succeeded = Unit {0}
+IsAccepted t (Unfinished branches) = Unit {0}
+IsAccepted t (Listed ranks choice) = (verdict : Verdict) × IsRightText (listing_text (listing_of t ranks choice)) verdict
+
 -- the text has grown by the lines that say how the fork stands
 pub record EndsWith (t : Table) (old new : List ℕ) : Type 0 where
   pub ending : Ending
   pub right : IsEnding t ending
+  pub accepted : IsAccepted t ending
   pub spelled : new ≡ old ++ ending_lines t ending

@@ -6,7 +6,7 @@ mod check;
 mod command;
 mod fault;
 mod input;
-mod laws;
+mod law;
 mod line;
 mod print;
 mod replay;
@@ -16,7 +16,7 @@ pub use check::{append_found, check_text};
 pub use command::Command;
 pub use fault::{Fault, ProgFault};
 pub use input::read_input;
-pub use laws::{
+pub use law::{
     a_script_has_one_replay, replays_are_answered_yes, script_is_read_exactly,
     texts_of_one_script_say_the_same,
 };

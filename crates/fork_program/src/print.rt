@@ -1,5 +1,5 @@
 //! The texts that a replay prints.
-ghost use Rattle.std.specs.Prelude.{◌≡◌, ◌++◌, Some, codes, OnOk, slice_get, not, IfOk};
+ghost use Rattle.std.specs.Prelude.{◌≡◌, ◌++◌, Some, codes, OnOk, OnErr, [], slice_get, not, IfOk};
 ghost use Rattle.std.specs.Fmt.{decimal};
 ghost use Rattle.fork_model.specs.Table.{is_ended, is_trying, is_row};
 ghost use Rattle.fork_model.specs.Choice as spec_choice;
@@ -61,26 +61,41 @@ fn append_up<A: Allocator + Clone>(
     }
 }
 
+/// The line of the reply to an event, by the context after it.
+fn reply_line<A: Allocator + Clone>(
+    alloc: A,
+    context: &Context<A>,
+    reply: &Reply<A>,
+) -> Result<Vec<u8, A>, AllocError>
+    ensures { IfOk result (λ line. line.items ≡ ended (reply_text context.now.table.rows reply.now)) }
+{
+    let mut line = Vec::new(alloc);
+    append_decimal(&mut line, u64::from(reply.at()))?;
+    append(&mut line, b" start ")?;
+    append_list(&mut line, reply.started())?;
+    append(&mut line, b" cancel ")?;
+    append_list(&mut line, reply.cancelled())?;
+    append(&mut line, b" up ")?;
+    append_up(&mut line, context, reply.up())?;
+    append(&mut line, b"\n")?;
+    Ok(line)
+}
+
 /// Appends a line that is ended by LF: the reply to an event, by the context after it.
 ///
 /// # Errors
 ///
-/// Want of memory.
+/// Want of memory; then the text is as it was.
 pub fn append_reply<A: Allocator + Clone>(
     text: &mut Vec<u8, A>,
     context: &Context<A>,
     reply: &Reply<A>,
 ) -> Result<(), AllocError>
-    ensures { OnOk result (text.new.items ≡ text.old.items ++ ended (reply_text context.now.table.rows reply.now)) }
+    ensures appended { OnOk result (text.new.items ≡ text.old.items ++ ended (reply_text context.now.table.rows reply.now)) }
+    ensures err { OnErr result (text.new.items ≡ text.old.items) }
 {
-    append_decimal(text, u64::from(reply.at()))?;
-    append(text, b" start ")?;
-    append_list(text, reply.started())?;
-    append(text, b" cancel ")?;
-    append_list(text, reply.cancelled())?;
-    append(text, b" up ")?;
-    append_up(text, context, reply.up())?;
-    append(text, b"\n")
+    let line = reply_line(text.allocator().clone()?, context, reply)?;
+    text.extend_from_slice(&line)
 }
 
 pub fn append_full<A: Allocator>(text: &mut Vec<u8, A>) -> Result<(), AllocError>
@@ -135,21 +150,35 @@ fn branches_left<A: Allocator + Clone>(context: &Context<A>) -> u16
     left
 }
 
+/// The first line: the rows that are tried at once.
+fn opening_line<A: Allocator + Clone>(
+    alloc: A,
+    context: &Context<A>,
+) -> Result<Vec<u8, A>, AllocError>
+    ensures { IfOk result (λ line. line.items ≡ ended (opening_text context.now.table)) }
+{
+    let mut line = Vec::new(alloc.clone()?);
+    append(&mut line, b"opening start ")?;
+    append_list(&mut line, &tried(alloc, context)?)?;
+    append(&mut line, b"\n")?;
+    Ok(line)
+}
+
 /// Appends the first line: the rows that are tried at once.
 ///
 /// # Errors
 ///
-/// Want of memory.
+/// Want of memory; then the text is as it was.
 pub fn append_opening<A: Allocator + Clone>(
     alloc: A,
     text: &mut Vec<u8, A>,
     context: &Context<A>,
 ) -> Result<(), AllocError>
-    ensures { OnOk result (text.new.items ≡ text.old.items ++ ended (opening_text context.now.table)) }
+    ensures appended { OnOk result (text.new.items ≡ text.old.items ++ ended (opening_text context.now.table)) }
+    ensures err { OnErr result (text.new.items ≡ text.old.items) }
 {
-    append(text, b"opening start ")?;
-    append_list(text, &tried(alloc, context)?)?;
-    append(text, b"\n")
+    let line = opening_line(alloc, context)?;
+    text.extend_from_slice(&line)
 }
 
 /// Appends the line of a fork some of whose branches have not ended.
@@ -229,12 +258,8 @@ fn append_listed<A: Allocator + Clone>(
     append(text, listed)
 }
 
-/// Appends the last lines: how the fork stands.
-///
-/// # Errors
-///
-/// Want of memory.
-pub fn append_ending<A: Allocator + Clone>(
+/// Appends how the fork stands.
+fn append_lines<A: Allocator + Clone>(
     alloc: A,
     text: &mut Vec<u8, A>,
     context: &Context<A>,
@@ -248,4 +273,30 @@ pub fn append_ending<A: Allocator + Clone>(
         Err(ListFault::NotFinished) => append_unfinished(text, context),
         Err(ListFault::NoMemory) => Err(AllocError),
     }
+}
+
+/// The last lines: how the fork stands.
+fn ending<A: Allocator + Clone>(alloc: A, context: &Context<A>) -> Result<Vec<u8, A>, AllocError>
+    ensures { IfOk result (λ lines. EndsWith context.now.table [] lines.items) }
+{
+    let mut lines = Vec::new(alloc.clone()?);
+    append_lines(alloc, &mut lines, context)?;
+    Ok(lines)
+}
+
+/// Appends the last lines: how the fork stands. A listing among them is one that a check accepts.
+///
+/// # Errors
+///
+/// Want of memory; then the text is as it was.
+pub fn append_ending<A: Allocator + Clone>(
+    alloc: A,
+    text: &mut Vec<u8, A>,
+    context: &Context<A>,
+) -> Result<(), AllocError>
+    ensures appended { OnOk result (EndsWith context.now.table text.old.items text.new.items) }
+    ensures err { OnErr result (text.new.items ≡ text.old.items) }
+{
+    let lines = ending(alloc, context)?;
+    text.extend_from_slice(&lines)
 }

@@ -5,15 +5,16 @@ ghost use Rattle.fork_program.specs.inner.Replay.{AddsOutcome, AddsOutcomes};
 ghost use Rattle.fork_program.specs.Script.{Script};
 ghost use Rattle.fork_program.specs.Faults.{most_text, IsFault, IsForkReplay, AppendsReplay};
 ghost use Rattle.fork_program.specs.inner.Faults.{IsForkRefusal};
-ghost use Rattle.fork_program.specs.Headline.{IsDone, TellsOneFinal, AppendsOneFinal};
+ghost use Rattle.fork_program.specs.Headline.{IsDone, TellsOneFinal, AppendsOneFinal, IsNotDone, TellsNoFinal, AppendsNoFinal};
 ghost use Rattle.fork_program.specs.RightListing.{AppendsRightListing};
 
 use crate::fault::ProgFault;
-use crate::laws::replays_are_answered_yes;
+use crate::law::replays_are_answered_yes;
 use crate::print::{append_ending, append_full, append_opening, append_reply};
 use crate::script::Script;
 use fork_context::{Context, Event, PostError};
 use fork_listing::the_choice_is_listed_first;
+use fork_model::exactly_one_final_of_context;
 use std::alloc::{AllocError, Allocator};
 use std::collections::VecDeque;
 
@@ -53,9 +54,11 @@ fn append_outcomes<A: Allocator + Clone>(
 fn replay<A: Allocator + Clone>(alloc: A, script: Script<A>) -> Result<Vec<u8, A>, ProgFault>
     ensures ok { IfOk result (λ text. IsForkReplay script text.items) }
     ensures one_final { IfOk result (λ text. IsDone script → TellsOneFinal script text.items) }
+    ensures no_final { IfOk result (λ text. IsNotDone script → TellsNoFinal script text.items) }
     ensures fault { IfErr result (IsForkRefusal script) }
 {
     the_choice_is_listed_first();
+    exactly_one_final_of_context();
     let Script {
         kind,
         rules,
@@ -73,10 +76,11 @@ fn replay<A: Allocator + Clone>(alloc: A, script: Script<A>) -> Result<Vec<u8, A
 /// Replays a script and appends what its replay prints; the exit status is 0. The text is built apart, so that
 /// `out` is as it was where it is refused.
 ///
-/// Where every branch of the fork has ended and no 2xx came, exactly one of the replies printed is final: the stored
-/// answer that none stored ranks before, 408 if there is none, 500 in place of a 503; and the list printed behind the
-/// replies holds all stored answers in order of rank, that one first (RFC 3261 section 16.7 steps 5, 6 and 10). That list is
-/// right: a check of what was appended from its line `fork` on says yes.
+/// Where every branch of the fork has ended and no 2xx came, exactly one of the replies printed is final, that to the event
+/// which ended the last branch: the stored answer that none stored ranks before, 408 if there is none, 500 in place of a 503;
+/// and the list printed behind the replies holds all stored answers in order of rank, that one first (RFC 3261 section 16.7
+/// steps 5, 6 and 10). That list is right: a check of what was appended from its line `fork` on says yes. Where a branch has
+/// not ended, or one has with a 2xx, none of the replies printed is final.
 ///
 /// # Errors
 ///
@@ -90,6 +94,7 @@ pub fn replay_text<A: Allocator + Clone>(
     ensures status { IfOk result (λ status. status ≡ 0) }
     ensures replayed { OnOk result (AppendsReplay text.now out.old.items out.new.items) }
     ensures one_final { OnOk result (AppendsOneFinal text.now out.old.items out.new.items) }
+    ensures no_final { OnOk result (AppendsNoFinal text.now out.old.items out.new.items) }
     ensures right_listing { OnOk result (AppendsRightListing text.now out.old.items out.new.items) }
     ensures fault { IfErr result (IsFault text.now) }
     ensures too_long { IsErrOf result ProgFault.TooLong ↔ (most_text < length text.now) }

@@ -1,5 +1,5 @@
 //! A whole script: what is forked, by which rules and to which targets, and what happens then.
-ghost use Rattle.std.specs.Prelude.{◌≡◌, ◌≤◌, ◌<◌, ◌^◌, ◌++◌, ◌∷◌, [], length, Ok, OnOk, IfOk, IfErr, Some, None, if◌then◌else◌};
+ghost use Rattle.std.specs.Prelude.{◌≡◌, ◌≤◌, ◌<◌, ◌^◌, ◌++◌, ◌∷◌, [], length, false, Ok, OnOk, OnErr, IfOk, IfErr, Some, None, if◌then◌else◌};
 ghost use Rattle.fork_rank.specs.KindView.{kind_of};
 ghost use Rattle.fork_context.specs.EventView.{event_of};
 ghost use Rattle.fork_program.specs.Script.{phase_after, with_contact, with_challenge, answer_changed, last_changed, with_line, no_script, no_draft, drafted, has_kind, finished_draft, read_script};
@@ -118,33 +118,29 @@ impl<A: Allocator> Model for Script<A> {
     } };
 }
 
-/// An event with one more contact, where it is an answer.
-fn event_with<A: Allocator>(event: Event<A>, offer: Offer<A>) -> Result<Event<A>, AllocError>
-    ensures { IfOk result (λ e. event_of e ≡ answer_changed (with_contact offer) (event_of event)) }
+/// Adds a contact to an event, where it is an answer.
+fn offer_to<A: Allocator>(event: &mut Event<A>, offer: Offer<A>) -> Result<(), AllocError>
+    ensures ok { OnOk result (event_of event.new ≡ answer_changed (with_contact offer) (event_of event.old)) }
+    ensures err { OnErr result (event_of event.new ≡ event_of event.old) }
 {
-    match event {
-        Event::Answer(n, mut answer) => {
-            answer.push_offer(offer)?;
-            Ok(Event::Answer(n, answer))
-        }
-        event => Ok(event),
+    if let Event::Answer(_, answer) = event {
+        answer.push_offer(offer)?;
     }
+    Ok(())
 }
 
-/// An event with one more challenge, where it is an answer.
-fn event_asking<A: Allocator>(
-    event: Event<A>,
+/// Adds a challenge to an event, where it is an answer.
+fn challenge_to<A: Allocator>(
+    event: &mut Event<A>,
     challenge: Challenge<A>,
-) -> Result<Event<A>, AllocError>
-    ensures { IfOk result (λ e. event_of e ≡ answer_changed (with_challenge challenge) (event_of event)) }
+) -> Result<(), AllocError>
+    ensures ok { OnOk result (event_of event.new ≡ answer_changed (with_challenge challenge) (event_of event.old)) }
+    ensures err { OnErr result (event_of event.new ≡ event_of event.old) }
 {
-    match event {
-        Event::Answer(n, mut answer) => {
-            answer.push_challenge(challenge)?;
-            Ok(Event::Answer(n, answer))
-        }
-        event => Ok(event),
+    if let Event::Answer(_, answer) = event {
+        answer.push_challenge(challenge)?;
     }
+    Ok(())
 }
 
 impl<A: Allocator + Clone> Script<A> {
@@ -173,14 +169,16 @@ impl<A: Allocator + Clone> Script<A> {
     }
 
     fn add_target(&mut self, target: Target<A>) -> Result<(), AllocError>
-        ensures { OnOk result (self.new ≡ record self.old { targets = self.old.targets ++ target ∷ [] }) }
+        ensures ok { OnOk result (self.new ≡ record self.old { targets = self.old.targets ++ target ∷ [] }) }
+        ensures err { OnErr result (self.new ≡ self.old) }
     {
         self.targets.push(target)?;
         Ok(())
     }
 
     fn add_event(&mut self, event: Event<A>) -> Result<(), AllocError>
-        ensures { OnOk result (self.new ≡ record self.old { events = self.old.events ++ event_of event ∷ [] }) }
+        ensures ok { OnOk result (self.new ≡ record self.old { events = self.old.events ++ event_of event ∷ [] }) }
+        ensures err { OnErr result (self.new ≡ self.old) }
     {
         self.events.push_back(event)?;
         Ok(())
@@ -188,28 +186,39 @@ impl<A: Allocator + Clone> Script<A> {
 
     /// Adds a contact to the last event.
     fn add_contact(&mut self, offer: Offer<A>) -> Result<(), AllocError>
-        ensures { OnOk result (self.new ≡ record self.old { events = last_changed (with_contact offer) self.old.events }) }
+        ensures ok { OnOk result (self.new ≡ record self.old { events = last_changed (with_contact offer) self.old.events }) }
+        ensures err { OnErr result (self.new ≡ self.old) }
     {
-        match self.events.pop_back() {
-            None => Ok(()),
-            Some(event) => self.add_event(event_with(event, offer)?),
-        }
+        // asks for no room: what is taken off leaves its own
+        self.events.reserve(0)?;
+        let Some(mut event) = self.events.pop_back() else {
+            return Ok(());
+        };
+        let added = offer_to(&mut event, offer);
+        self.events.push_back_reserved(event);
+        added
     }
 
     /// Adds a challenge to the last event.
     fn add_challenge(&mut self, challenge: Challenge<A>) -> Result<(), AllocError>
-        ensures { OnOk result (self.new ≡ record self.old { events = last_changed (with_challenge challenge) self.old.events }) }
+        ensures ok { OnOk result (self.new ≡ record self.old { events = last_changed (with_challenge challenge) self.old.events }) }
+        ensures err { OnErr result (self.new ≡ self.old) }
     {
-        match self.events.pop_back() {
-            None => Ok(()),
-            Some(event) => self.add_event(event_asking(event, challenge)?),
-        }
+        // asks for no room: what is taken off leaves its own
+        self.events.reserve(0)?;
+        let Some(mut event) = self.events.pop_back() else {
+            return Ok(());
+        };
+        let added = challenge_to(&mut event, challenge);
+        self.events.push_back_reserved(event);
+        added
     }
 
     /// Adds what a line says.
     fn add(&mut self, alloc: &A, line: Line<'_>) -> Result<(), AllocError>
         requires { IsLine (line_of line) }
-        ensures { OnOk result (self.new ≡ with_line self.old (line_of line.entry)) }
+        ensures ok { OnOk result (self.new ≡ with_line self.old (line_of line.entry)) }
+        ensures err { OnErr result (self.new ≡ self.old) }
     {
         match line {
             Line::Kind(kind) => self.set_kind(kind),
@@ -291,13 +300,15 @@ impl<A: Allocator + Clone> Draft<A> {
         })
     }
 
-    /// Adds a line, and answers whether it is one and may come here.
+    /// Adds a line, and answers whether it is one and may come here; where it is none, or may not, the draft is as it was.
     ///
     /// # Errors
     ///
-    /// Want of memory.
+    /// Want of memory; then the draft is as it was.
     pub fn add(&mut self, alloc: &A, text: &[u8]) -> Result<bool, AllocError>
-        ensures { IfOk result (λ added. (if added then Some self.new else None) ≡ drafted self.old text.now) }
+        ensures added { IfOk result (λ added. (if added then Some self.new else None) ≡ drafted self.old text.now) }
+        ensures left { IfOk result (λ added. added ≡ false → self.new ≡ self.old) }
+        ensures err { OnErr result (self.new ≡ self.old) }
     {
         let Some(line) = read_line(text) else {
             return Ok(false);

@@ -20,7 +20,7 @@ returns-in_ok-append_ending-in-Ok-clause-ok g c =
       fork = is_fork inside.targets.items (λ e. absurd (c.in-Ok.ensures.none.1 e)) (λ e. absurd (c.in-Ok.ensures.many.1 e)) (λ e. absurd (c.in-Ok.ensures.twice.1 e));
       log = c.in-Ok.book;
       run = record { opened = c.in-Ok.ensures.opened; mixed = c.in-Ok.ensures.mixed; answered = c.in-Ok.ensures.log.answered };
-      right = is_printed c.in-Ok.book c.context.result.now _ _ _ _ _ c.context.ensures.stands opens c.new-text.ensures.items c.in_ok-append_first.ensures.appended c.in_ok-append_posts-in-Ok.ensures c.in_ok-append_ending-in-Ok.ensures;
+      right = is_printed c.in-Ok.book c.context.result.now _ _ _ _ _ c.context.ensures.stands opens c.new-text.ensures.items c.in_ok-append_first.ensures.appended c.in_ok-append_posts-in-Ok.ensures c.in_ok-append_ending-in-Ok.ensures.appended;
     }
     in
     let P : Workers → Type 0 = λ w. PrintsRun w c.append_ending.new.text.items in

@@ -1,5 +1,5 @@
 use Rattle.fork_program.specs.inner.LineView.{line_of}
-use Rattle.fork_program.proofs.SpelledLines.{reads_only, reads_found}
+use Rattle.fork_program.proofs.laws.SpelledLines.{reads_only, reads_found}
 use Rattle.fork_program.proofs.line.read_line.Goals as goal
 
 pub returns-clause-found : goal.returns-clause-found

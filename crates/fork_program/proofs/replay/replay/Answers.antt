@@ -1,6 +1,6 @@
 use Rattle.fork_program.proofs.Common.{◌≡◌, map, ap, refl, event_of, kind_of, Script, IsForkReplay, common_steps, arith}
 use Rattle.std.proofs.lemmas.Result.{err_from_is_err_and}
-use Rattle.fork_program.proofs.Headline.{tells_one_final}
+use Rattle.fork_program.proofs.Headline.{tells_one_final, tells_no_final}
 use Rattle.fork_program.proofs.Outcomes.{is_replay}
 use Rattle.fork_program.proofs.Refusing.{fork_refused, fork_taken}
 use Rattle.fork_program.proofs.replay.replay.Goals as goal
@@ -20,10 +20,14 @@ returns-clause-ok g c =
     let right : IsForkReplay shown c.append_ending.new.text.items =
     record {
       set_up = fork_taken shown inside.targets.items c.in_ok-context.context refl c.in_ok-context.ensures.none c.in_ok-context.ensures.many c.in_ok-context.ensures.twice;
-      replayed = is_replay shown _ _ _ _ _ _ c.in_ok-context.ensures.opened c.new-text.ensures.items c.in_ok-append_opening.ensures c.in_ok-append_outcomes.ensures c.in_ok-append_ending.ensures;
+      replayed = is_replay shown _ _ _ _ _ _ c.in_ok-context.ensures.opened c.new-text.ensures.items c.in_ok-append_opening.ensures.appended c.in_ok-append_outcomes.ensures c.in_ok-append_ending.ensures.appended;
     }
     in
     grind (arith, common_steps)
 
 pub returns-clause-one_final : goal.returns-clause-one_final
 returns-clause-one_final g c = tells_one_final c.the_choice_is_listed_first.ensures c.args.script c.append_ending.new.text.items (returns-clause-ok g c)
+
+pub returns-clause-no_final : goal.returns-clause-no_final
+returns-clause-no_final g c =
+    tells_no_final c.exactly_one_final_of_context.ensures.none_before c.exactly_one_final_of_context.ensures.none_beside_success c.args.script c.append_ending.new.text.items (returns-clause-ok g c)

@@ -12,11 +12,11 @@ returns-in_default g c =
 pub returns-then-not-branch : goal.returns-then-not-branch
 unfolding read_script
 returns-then-not-branch g c =
-    let none = if_not_added c.in_ok-add.field-0 c.add.new.self (drafted c.loop-after.draft c.cut_at.result.0.now) c.in_ok-add.ensures (grind arith) in
+    let none = if_not_added c.in_ok-add.field-0 c.add.new.self (drafted c.loop-after.draft c.cut_at.result.0.now) c.in_ok-add.ensures.added (grind arith) in
     at_wrong_line drafted finished_draft c.loop-after.number c.loop-after.draft c.loop-after.rest.now c.cut_at.result.0.now c.cut_at.result.1 c.in-Some.after _ c.in-Some.is c.cut_at.ensures.value none c.loop-after.invariant.0
 
 pub loop-after-preserved : goal.loop-after-preserved
 loop-after-preserved g c =
-    let some = if_added c.in_ok-add.field-0 c.add.new.self (drafted c.loop-after.draft c.cut_at.result.0.now) c.in_ok-add.ensures (grind arith) in
+    let some = if_added c.in_ok-add.field-0 c.add.new.self (drafted c.loop-after.draft c.cut_at.result.0.now) c.in_ok-add.ensures.added (grind arith) in
     let next = behind_line drafted finished_draft c.loop-after.number c.loop-after.draft c.add.new.self c.loop-after.rest.now c.cut_at.result.0.now c.cut_at.result.1 c.in-Some.after _ c.in-Some.is c.cut_at.ensures.value some c.loop-after.invariant.0 in
     grind (arith, common_steps)

@@ -1,7 +1,7 @@
 //! Which texts are scripts, and that what the program prints is determined.
 ghost use Rattle.fork_program.specs.Grammar.{ReadAlike, ReadExactly, RefusedByFirst, SpelledOnce};
 ghost use Rattle.fork_program.specs.One.{OneReplay};
-ghost use Rattle.fork_program.specs.RightListing.{ReplaysEndInRightListings, RightListingsAreAnsweredYes};
+ghost use Rattle.fork_program.specs.RightListing.{ReplaysEndInRightListings, RightListingsAreShort, RightListingsAreAnsweredYes};
 
 use fork_listing::{
     accepted_listing_tells_the_choice, listings_of_forks_are_right, right_texts_are_accepted,
@@ -44,6 +44,7 @@ pub fn a_script_has_one_replay()
 /// A law over the definitions, with nothing to run.
 pub fn replays_are_answered_yes()
     ensures right { ReplaysEndInRightListings }
+    ensures short { RightListingsAreShort }
     ensures answered { RightListingsAreAnsweredYes }
 {
     order_is_strict_and_total();

@@ -1,5 +1,5 @@
 use Rattle.fork_program.proofs.SpelledOnce.{spelled_once, read_alike}
-use Rattle.fork_program.proofs.laws.texts_of_one_script_say_the_same.Goals as goal
+use Rattle.fork_program.proofs.law.texts_of_one_script_say_the_same.Goals as goal
 
 pub returns-clause-alike : goal.returns-clause-alike
 returns-clause-alike c = read_alike

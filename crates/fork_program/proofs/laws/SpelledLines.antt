@@ -11,7 +11,7 @@ use Rattle.fork_text.proofs.laws.Field.{number_before_read, number_from_read}
 use Rattle.fork_text.proofs.laws.Preferred.{preferred_read, list_lacks}
 use Rattle.fork_program.specs.Line.{event_text, is_visible, is_printable}
 use Rattle.sip_lex.proofs.laws.Numbers.{number_read, decimal_lacks}
-use Rattle.fork_program.proofs.LineLaws.{line_found}
+use Rattle.fork_program.proofs.laws.LineLaws.{line_found}
 
 named_read : (q : ℕ) (name : List ℕ) → q ≤ most_q → is_name name ≡ true → read_named (numbered_text q name) ≡ Some (q, name)
 named_read q name within is = grind (arith, common_steps, option_and_then, number_before_read)

@@ -1,5 +1,5 @@
 use Rattle.fork_program.proofs.SpelledScripts.{read_exactly, refused_by_first}
-use Rattle.fork_program.proofs.laws.script_is_read_exactly.Goals as goal
+use Rattle.fork_program.proofs.law.script_is_read_exactly.Goals as goal
 
 pub returns-clause-exactly : goal.returns-clause-exactly
 returns-clause-exactly c = read_exactly

@@ -11,7 +11,7 @@ use Rattle.fork_program.specs.declared.script.Phase.{Phase}
 use Rattle.fork_program.specs.declared.script.Phase.TheVariants.{AtKind, AtPrefer, AtDepth, AtTargets, AtEvents, AtAnswer}
 use Rattle.fork_program.specs.Script.{no_script, phase_behind, phase_after, with_line}
 use Rattle.fork_program.specs.Malformed.{Begins}
-use Rattle.fork_program.proofs.LastAnswer.{last_changed-snoc}
+use Rattle.fork_program.proofs.laws.LastAnswer.{last_changed-snoc}
 
 -- the draft behind these lines, where each may come
 abbrev pub drafted_lines : Draft → List Line → Option Draft
@@ -19,10 +19,10 @@ drafted_lines = texts.drafted_lines drafted_line
 
 -- ---- the lines of a spelled script may come
 
-abbrev in_phase : Phase → Script → Draft
+abbrev pub in_phase : Phase → Script → Draft
 in_phase phase script = record { phase = phase; script = script }
 
-abbrev with_events : Script → List Event → Script
+abbrev pub with_events : Script → List Event → Script
 with_events script events = record script { events = events }
 
 -- an answer with these details behind what it has
@@ -72,7 +72,7 @@ event_line phase script event h = grind arith
 behind_has_kind : (event : Event) → has_kind (phase_behind event) ≡ true
 behind_has_kind event = grind arith
 
-abbrev said : Told → Event
+abbrev pub said : Told → Event
 said told = event_said told.event told.details
 
 -- what is written behind it, where it has been read
@@ -81,14 +81,14 @@ behind_drafted : (script : Script) (event : Event) (details : List Detail) → I
     ≡ Some (in_phase (phase_behind event) (with_events script (script.events ++ event_said event details ∷ [])))
 behind_drafted script event details h may = grind (arith, common_steps, details_drafted)
 
-abbrev MayStand : Told → Type 0
+abbrev pub MayStand : Told → Type 0
 MayStand told = MayStandBehind told.event told.details
 
 told_drafted : (phase : Phase) (script : Script) (told : Told) → has_kind phase ≡ true → IsLine (EventLine told.event) → MayStand told
     → drafted_lines (in_phase phase script) (told_lines told) ≡ Some (in_phase (phase_behind told.event) (with_events script (script.events ++ said told ∷ [])))
 told_drafted phase script told whole h may = grind (arith, common_steps, option_and_then, event_line, behind_drafted)
 
-history_drafted : (phase : Phase) (script : Script) (history : List Told) → has_kind phase ≡ true
+pub history_drafted : (phase : Phase) (script : Script) (history : List Told) → has_kind phase ≡ true
     → AllByRecursion IsLine (flat_map told_lines history) → AllByRecursion MayStand history
     → Reached (in_phase phase script) (flat_map told_lines history) (with_events script (script.events ++ map said history))
 history_drafted phase script [] whole lines may = grind (arith, common_steps, append-nil)
@@ -160,7 +160,7 @@ script_drafted s h = script_drafted_as s.kind s.prefer s.depth s.targets s.histo
 -- ---- lines that may come from the first to the last are those of a spelled script
 
 -- what may stand at the front in this phase
-abbrev MayOpen : Phase → List Detail → Type 0
+abbrev pub MayOpen : Phase → List Detail → Type 0
 MayOpen AtAnswer details = Unit {0}
 MayOpen _ details = details ≡ []
 
@@ -170,15 +170,15 @@ may_open_none phase = grind arith
 may_stand : (event : Event) (details : List Detail) → MayOpen (phase_behind event) details → MayStandBehind event details
 may_stand event details h = grind arith
 
-record HistoryFound (phase : Phase) (lines : List Line) : Type 0 where
-  details : List Detail
-  history : List Told
-  spelled : map detail_line details ++ flat_map told_lines history ≡ lines
-  open_ : MayOpen phase details
-  behind : AllByRecursion MayStand history
+pub record HistoryFound (phase : Phase) (lines : List Line) : Type 0 where
+  pub details : List Detail
+  pub history : List Told
+  pub spelled : map detail_line details ++ flat_map told_lines history ≡ lines
+  pub open_ : MayOpen phase details
+  pub behind : AllByRecursion MayStand history
 
 -- the targets have been read
-abbrev IsLate : Phase → Type 0
+abbrev pub IsLate : Phase → Type 0
 IsLate AtEvents = Unit {0}
 IsLate AtAnswer = Unit {0}
 IsLate _ = ⊥
@@ -207,7 +207,7 @@ detail_found detail lines more = record {
   behind = more.behind;
 }
 
-history_found : (phase : Phase) (script : Script) (lines : List Line) (next : Draft) → IsLate phase → drafted_lines (in_phase phase script) lines ≡ Some next → HistoryFound phase lines
+pub history_found : (phase : Phase) (script : Script) (lines : List Line) (next : Draft) → IsLate phase → drafted_lines (in_phase phase script) lines ≡ Some next → HistoryFound phase lines
 history_found AtKind script lines next late due = absurd late
 history_found AtPrefer script lines next late due = absurd late
 history_found AtDepth script lines next late due = absurd late

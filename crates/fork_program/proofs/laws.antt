@@ -1,0 +1,4 @@
+pub mod LastAnswer
+pub mod LineLaws
+pub mod SpelledLines
+pub mod DraftedLines
