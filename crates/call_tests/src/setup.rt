@@ -172,7 +172,7 @@ fn each_line_has_its_place(rt: HostRuntime) {
 
 /// Lines in the place of that of a number, each of which says something else.
 const OTHERS: [(usize, &[u8]); 9] = [
-    (1, b"own 0.0.0.0 1"),
+    (1, b"own 0.0.0.1 1"),
     (1, b"own 255.255.255.255 65535"),
     (2, b"instance 0"),
     (2, b"instance 4294967295"),
@@ -184,7 +184,8 @@ const OTHERS: [(usize, &[u8]); 9] = [
 ];
 
 /// Lines in the place of that of a number, each of which is malformed.
-const WRONG: [(usize, &[u8]); 30] = [
+const WRONG: [(usize, &[u8]); 31] = [
+    (1, b"own 0.0.0.0 5060"),
     (1, b"own 192.0.2.9 0"),
     (1, b"own 192.0.2.9 65536"),
     (1, b"own 192.0.2.9 05060"),

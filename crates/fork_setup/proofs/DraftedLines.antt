@@ -340,10 +340,10 @@ record Completed (draft : Draft) : Type 0 where
   whole : is_whole next.phase ≡ true
 
 abbrev any_own : Own
-any_own = record { addr = 0 ∷ 0 ∷ 0 ∷ 0 ∷ []; port = 1 }
+any_own = record { addr = 0 ∷ 0 ∷ 0 ∷ 1 ∷ []; port = 1 }
 
 own_is_any : IsOwn any_own
-own_is_any = record { four = refl; bytes = (omega arith, (omega arith, (omega arith, (omega arith, tt)))); port = omega arith; port_within = omega arith }
+own_is_any = record { four = refl; bytes = (omega arith, (omega arith, (omega arith, (omega arith, tt)))); host = refl; port = omega arith; port_within = omega arith }
 
 completed : (phase : Phase) (s : Setup) → Completed (in_phase s phase)
 completed AtOwn s = record {

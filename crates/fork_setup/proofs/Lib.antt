@@ -5,3 +5,4 @@ pub mod SpelledLines
 pub mod DraftedLines
 pub mod Texts
 pub mod Targets
+pub mod UserTargets

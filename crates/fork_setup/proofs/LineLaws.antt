@@ -9,6 +9,8 @@ use Rattle.sip_lex.proofs.laws.Numbers.{number_spelled}
 use Rattle.fork_text.specs.Field.{number_from}
 use Rattle.fork_text.specs.Preferred.{read_preferred}
 use Rattle.fork_text.proofs.laws.Field.{number_before_found, number_from_found}
+use Rattle.std.specs.Prelude.{bytes_eq}
+use Rattle.fork_setup.specs.Line.{no_host}
 use Rattle.fork_setup.specs.declared.line.Word.{Word}
 use Rattle.fork_setup.specs.declared.line.Word.TheVariants as word
 use Rattle.fork_setup.specs.inner.LineReading.{read_host, word_of, read_rest, read_cut}
@@ -74,6 +76,10 @@ octets_found text addr e =
     }) is3) is2) is1)
     e
 
+cond_else : (b : Bool) (r : Option Own) (own : Own) → cond b None r ≡ Some own → (b ≡ false) × (r ≡ Some own)
+cond_else true r own e = absurd cc
+cond_else false r own e = (refl, e)
+
 own_found : (text : List ℕ) (own : Own) → read_own text ≡ Some own → (text ≡ own_text own) × IsOwn own
 own_found text own e = parts (cut (is 32) text) (cut_joins 32 text) e
   where
@@ -82,13 +88,15 @@ own_found text own e = parts (cut (is 32) text) (cut_joins 32 text) e
     parts (front, Some digits) whole e =
         let P : Own → Type 0 = λ o. (text ≡ own_text o) × IsOwn o in
         found_then (own_at digits) (read_octets front) own (P own)
-        (λ addr at is. found_map (λ port. record { addr = addr; port = port }) (number_from 1 most_port digits) own P
+        (λ addr at is.
+        let g = cond_else (bytes_eq addr no_host) (option_map (λ port. record { addr = addr; port = port }) (number_from 1 most_port digits)) own is in
+        found_map (λ port. record { addr = addr; port = port }) (number_from 1 most_port digits) own P
         (λ port of_.
         let a = octets_found front addr at in
         let n = number_from_found 1 most_port digits port (omega arith) of_ in (
           whole ∙ ap (λ (t : List ℕ). t ++ 32 ∷ digits) a.spelled ∙ ap (λ (t : List ℕ). address_text addr ++ 32 ∷ t) n.0,
-          record { four = a.four; bytes = a.bytes; port = n.1; port_within = n.2 },
-        )) is)
+          record { four = a.four; bytes = a.bytes; host = g.0; port = n.1; port_within = n.2 },
+        )) g.1)
         e
 
 -- ---- the others

@@ -7,7 +7,7 @@
 --     depth 256
 --     location bob 1000 sip:bob@192.0.2.4
 --
--- Where `prefer` or `depth` is left out, the usual one holds. There may be any number of locations.
+-- Where `prefer` or `depth` is left out, the usual one holds. There may be any number of locations. The own address is not 0.0.0.0.
 use Rattle.std.specs.Prelude.{◌≡◌, ◌≤◌, ℕ, suc, Bool, true, false, IsTrue, List, [], ◌∷◌, ◌++◌, map, length}
 use Rattle.std.specs.List.{AllByRecursion}
 use Rattle.fork_model.specs.Table.{Rules, most_targets}

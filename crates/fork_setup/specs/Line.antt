@@ -1,5 +1,5 @@
 -- The lines of a configuration. Words are separated by one space, numbers are decimal without leading zeros.
-use Rattle.std.specs.Prelude.{◌≡◌, ◌≤◌, ℕ, ◌&&◌, nat_le, Bool, List, ◌∷◌, ◌++◌, length, codes}
+use Rattle.std.specs.Prelude.{◌≡◌, ◌≤◌, ℕ, ◌&&◌, nat_le, bytes_eq, Bool, false, List, [], ◌∷◌, ◌++◌, length, codes}
 use Rattle.std.specs.List.{list_all, AllByRecursion}
 use Rattle.std.specs.Fmt.{decimal}
 pub use Rattle.fork_text.specs.Field.{is_visible}
@@ -36,10 +36,15 @@ most_port = 65535
 abbrev pub most_instance : ℕ
 most_instance = 4294967295
 
--- four bytes, and a port
+-- the address of no host (RFC 1122 section 3.2.1.3): no answer could come back to it
+abbrev pub no_host : List ℕ
+no_host = 0 ∷ 0 ∷ 0 ∷ 0 ∷ []
+
+-- four bytes that name a host, and a port
 pub record IsOwn (own : Own) : Type 0 where
   pub four : length own.addr ≡ 4
   pub bytes : AllByRecursion (λ byte. byte ≤ 255) own.addr
+  pub host : bytes_eq own.addr no_host ≡ false
   pub port : 1 ≤ own.port
   pub port_within : own.port ≤ most_port
 

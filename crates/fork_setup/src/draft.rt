@@ -5,12 +5,13 @@ ghost use Rattle.sip_uri.specs.Reading.{read_uri};
 ghost use Rattle.fork_text.specs.Field.{most_q};
 ghost use Rattle.fork_setup.specs.inner.Line.{IsLine};
 ghost use Rattle.fork_setup.specs.inner.LineView.{line_of};
-ghost use Rattle.fork_setup.specs.inner.Reading.{IsSound, added, drafted, finished_draft, is_whole, no_draft, no_setup, phase_after, read_setup, uri_if, with_line, with_location};
+ghost use Rattle.fork_setup.specs.inner.Reading.{IsSound, drafted, finished_draft, is_whole, no_draft, no_setup, phase_after, read_setup, uri_if, with_line, with_location};
 ghost use Rattle.fork_setup.specs.ReadView.{GivesSetup};
 
 use crate::fault::SetupFault;
 use crate::line::{Line, read_line};
-use crate::location::{Location, may_follow};
+use crate::listed::Listed;
+use crate::location::Location;
 use crate::setup::Setup;
 use fork_rank::Rules;
 use fork_text::{with_depth, with_preferred};
@@ -81,7 +82,7 @@ struct Parts<A: Allocator> {
     instance: u32,
     domain: Vec<u8, A>,
     rules: Rules,
-    locations: Vec<Location<A>, A>,
+    locations: Listed<A>,
 }
 
 impl<A: Allocator> Model for Parts<A> {
@@ -94,7 +95,7 @@ impl<A: Allocator> Model for Parts<A> {
       instance = p.instance;
       domain = p.domain.items;
       rules = p.rules;
-      locations = p.locations.items;
+      locations = p.locations;
     } };
 }
 
@@ -110,7 +111,7 @@ impl<A: Allocator + Clone> Parts<A> {
             instance: 0,
             domain: Vec::new(alloc.clone()?),
             rules: Rules::usual(),
-            locations: Vec::new(alloc.clone()?),
+            locations: Listed::new(alloc)?,
         })
     }
 
@@ -138,19 +139,6 @@ impl<A: Allocator + Clone> Parts<A> {
         self.rules = rules;
     }
 
-    /// Adds a location, and answers whether it may stand here.
-    fn push_location(&mut self, location: Location<A>) -> Result<bool, AllocError>
-        ensures { IfOk result (λ done.
-            (if done then Some self.new else None)
-            ≡ option_map (λ locations. record self.old { locations = locations }) (added self.old.locations location)) }
-    {
-        if !may_follow(&self.locations, &location) {
-            return Ok(false);
-        }
-        self.locations.push(location)?;
-        Ok(true)
-    }
-
     /// Adds the location that a user, a q and the text of a URI make, and answers whether they make one that may stand here.
     fn add_location(
         &mut self,
@@ -169,7 +157,7 @@ impl<A: Allocator + Clone> Parts<A> {
             return Ok(false);
         };
         let user = user.to_vec(alloc.clone()?)?;
-        self.push_location(Location::new(user, q, uri))
+        self.locations.push(alloc, Location::new(user, q, uri))
     }
 
     /// Adds what a line says, and answers whether that may stand here.
@@ -245,7 +233,7 @@ impl<A: Allocator + Clone> Draft<A> {
             instance: self.parts.instance,
             domain: self.parts.domain,
             rules: self.parts.rules,
-            locations: self.parts.locations,
+            locations: self.parts.locations.into_locations(),
         })
     }
 }

@@ -9,8 +9,10 @@ mod draft;
 mod fault;
 mod law;
 mod line;
+mod listed;
 mod location;
 mod setup;
+mod user_targets;
 
 pub use fault::SetupFault;
 pub use law::locations_are_targets;

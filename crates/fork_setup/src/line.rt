@@ -17,6 +17,9 @@ use sip_via::Own;
 /// A q is in thousandths, and at most one.
 const MOST_Q: u16 = 1000;
 
+/// The address of no host (RFC 1122 section 3.2.1.3): no answer could come back to it.
+const NO_HOST: [u8; 4] = [0; 4];
+
 /// The word that begins a line.
 #[derive(Clone, Copy, Debug, PartialEq, Eq)]
 pub enum Word {
@@ -96,7 +99,7 @@ fn read_port(digits: &[u8]) -> Option<u16>
     }
 }
 
-/// An address and a port.
+/// The address of a host, and a port.
 fn read_own(text: &[u8]) -> Option<Own>
     ensures { result ≡ read_own text.now }
 {
@@ -104,6 +107,9 @@ fn read_own(text: &[u8]) -> Option<Own>
         (_, None) => None,
         (addr, Some(port)) => {
             let addr = read_octets(addr)?;
+            if addr.as_slice() == NO_HOST.as_slice() {
+                return None;
+            }
             let port = read_port(port)?;
             Some(Own { addr, port })
         }

@@ -1,11 +1,8 @@
 //! Where a user may be reached.
-ghost use Rattle.std.specs.Prelude.{◌≡◌, ◌≤◌, length};
-ghost use Rattle.std.specs.List.{list_any};
+ghost use Rattle.std.specs.Prelude.{◌≡◌, ◌≤◌};
 ghost use Rattle.fork_text.specs.Field.{most_q};
-ghost use Rattle.fork_setup.specs.inner.Reading.{may_follow};
-ghost use Rattle.fork_setup.specs.Setup.{is_of_user, is_same, locations_of};
+ghost use Rattle.fork_setup.specs.Setup.{is_of_user};
 
-use fork_rank::MOST_TARGETS;
 use sip_uri::SipUri;
 use std::alloc::{Allocator, Global};
 use std::marker::Model;
@@ -67,42 +64,4 @@ impl<A: Allocator> Location<A> {
     {
         &self.uri
     }
-}
-
-impl<A: Allocator + Clone> Location<A> {
-    /// Whether the other one is of the same user, and the same target.
-    fn is_same(&self, other: &Location<A>) -> bool
-        ensures { result ≡ is_same self.now other.now }
-    {
-        other.is_of(self.user()) && other.uri.same_target(self.uri())
-    }
-}
-
-/// How many of the locations are the user's.
-fn count_of<A: Allocator>(locations: &[Location<A>], user: &[u8]) -> usize
-    ensures { result ≡ length (locations_of user.now locations.now) }
-{
-    locations
-        .iter()
-        .filter(|location| location.is_of(user))
-        .count()
-}
-
-fn has_same<A: Allocator + Clone>(locations: &[Location<A>], location: &Location<A>) -> bool
-    ensures { result ≡ list_any (is_same location.now) locations.now }
-{
-    locations.iter().any(|other| location.is_same(other))
-}
-
-/// Whether a location may stand behind these: a request can be sent there, its user has not got this target yet, nor as many
-/// locations as may be tried.
-pub(crate) fn may_follow<A: Allocator + Clone>(
-    earlier: &[Location<A>],
-    location: &Location<A>,
-) -> bool
-    ensures { result ≡ may_follow earlier.now location.now }
-{
-    location.uri.next_hop().is_some()
-        && !has_same(earlier, location)
-        && count_of(earlier, &location.user) < usize::from(MOST_TARGETS)
 }

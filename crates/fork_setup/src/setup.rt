@@ -85,8 +85,8 @@ impl<A: Allocator> Setup<A> {
 impl<A: Allocator + Clone> Setup<A> {
     /// The setup that a text spells. Its lines, each ended by LF: `own ADDRESS PORT`; `instance NUMBER`; `domain HOST`;
     /// `prefer LIST` and `depth STEPS`, each of which may be left out, and then the usual rule holds; and any number of
-    /// `location USER Q URI`. A location that no request can be sent to is malformed, and so is one whose user has the
-    /// same target already, or as many locations as may be tried.
+    /// `location USER Q URI`. An own address 0.0.0.0 is malformed, for no answer could come back to it. So is a location that
+    /// no request can be sent to, and one whose user has the same target already, or as many locations as may be tried.
     ///
     /// # Errors
     ///

@@ -10,7 +10,7 @@ use Rattle.sip_uri.specs.Host.{is_host}
 use Rattle.sip_via.specs.declared.own.Own.{Own}
 use Rattle.fork_setup.specs.declared.line.Word.{Word}
 use Rattle.fork_setup.specs.declared.line.Word.TheVariants as word
-use Rattle.fork_setup.specs.Line.{Line, OwnLine, InstanceLine, DomainLine, PreferLine, DepthLine, LocationLine, is_user, most_port, most_instance}
+use Rattle.fork_setup.specs.Line.{Line, OwnLine, InstanceLine, DomainLine, PreferLine, DepthLine, LocationLine, is_user, most_port, most_instance, no_host}
 
 -- ---- the own address
 
@@ -35,7 +35,7 @@ abbrev pub read_octets : List ℕ → Option (List ℕ)
 read_octets text = option_and_then second (octet_before text)
 
 abbrev pub own_at : List ℕ → List ℕ → Option Own
-own_at digits addr = option_map (λ port. record { addr = addr; port = port }) (number_from 1 most_port digits)
+own_at digits addr = if bytes_eq addr no_host then None else option_map (λ port. record { addr = addr; port = port }) (number_from 1 most_port digits)
 
 abbrev pub own_cut : List ℕ × Option (List ℕ) → Option Own
 own_cut (addr, None) = None
