@@ -65,11 +65,12 @@ const ANSWERED: &[u8] = b"t: <sip:bob@example.com>;tag=9";
 
 const SEVENTY: &[u8] = b"Max-Forwards: 70";
 
-/// An OPTIONS request and its answer, each twice.
-const OPTIONS: [Step<'static>; 4] = [
+/// An OPTIONS request and its answer, each twice, and the answer of a target that it does not have.
+const OPTIONS: [Step<'static>; 5] = [
     (0, &ASKED, Handled::Opened(0)),
     (20, &NOT_FOUND, Handled::Fed(0)),
     (30, &NOT_FOUND, Handled::Fed(0)),
+    (30, &NOT_FOUND_OF_FIVE, Handled::Dropped),
     (40, &ASKED, Handled::Fed(0)),
 ];
 
@@ -87,6 +88,17 @@ const ASKED: [&[u8]; 8] = [
 const NOT_FOUND: [&[u8]; 8] = [
     b"SIP/2.0 404 Not Found",
     OWN_VIA,
+    MARKED,
+    FROM,
+    ANSWERED,
+    CALL_ID,
+    b"CSeq: 1 OPTIONS",
+    b"",
+];
+
+const NOT_FOUND_OF_FIVE: [&[u8]; 8] = [
+    b"SIP/2.0 404 Not Found",
+    b"Via: SIP/2.0/UDP 192.0.2.9:5060;branch=z9hG4bK8c31e71e0ddbf1a0e56f5f0279990857.7.0.5",
     MARKED,
     FROM,
     ANSWERED,

@@ -12,7 +12,7 @@ use fork_drive::Asked;
 use fork_program::{Fault, ProgFault, read_input};
 use fork_server::{ServeFault, serve, turns_asked};
 use log::Log;
-use std::alloc::Global;
+use std::alloc::{AllocError, Global};
 use std::io::{ErrorKind, Print, Read, Write};
 use std::net::Net;
 use std::process::ExitCode;
@@ -32,12 +32,21 @@ enum Failure {
     Serve(ServeFault),
 }
 
+/// The words as a list. The only error is want of memory.
+fn listed(alloc: Global, words: env::Args) -> Result<Vec<String>, AllocError> {
+    let mut list = Vec::new(alloc);
+    for word in words {
+        list.push(word)?;
+    }
+    Ok(list)
+}
+
 /// The words of the command line, the program's name first.
 fn words(rt: &HostRuntime) -> Result<Vec<String>, Fault>
     ensures { IfErr result IsUsageFault }
 {
     match env::args(rt) {
-        Ok(words) => Ok(words.collect(rt.alloc())?),
+        Ok(words) => Ok(listed(rt.alloc(), words)?),
         Err(error) if error.kind() == ErrorKind::OutOfMemory => Err(Fault::Text(
             ProgFault::NoMemory,
         )),

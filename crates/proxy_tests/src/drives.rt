@@ -13,7 +13,7 @@ use std::test::Fail;
 use std::thread::Threads;
 
 /// The exit status of a run, and what it prints.
-fn driven<R: Threads + Wait + Sync>(
+pub fn driven<R: Threads + Wait + Sync>(
     rt: &R,
     alloc: Global,
     script: &[u8],

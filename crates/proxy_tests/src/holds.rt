@@ -10,3 +10,8 @@ pub fn holds(rt: &impl Abort, well: bool, what: &str) {
 pub fn holds_of(rt: &impl Abort, well: bool, what: &str, row: &str) {
     assert!(rt; well, "{what}, of {row:?}");
 }
+
+/// Ends the test where this does not hold at a place. `what` says which check it is.
+pub fn holds_at(rt: &impl Abort, well: bool, what: &str, at: usize) {
+    assert!(rt; well, "{what}, at {at}");
+}

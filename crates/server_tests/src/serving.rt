@@ -2,6 +2,7 @@
 use crate::holds::holds;
 use crate::printed::Printed;
 use fork_server::{ServeFault, serve_to};
+use std::alloc::{AllocError, Global};
 use std::test::Fail;
 
 /// A configuration with a user at two telephones.
@@ -31,6 +32,26 @@ fn a_malformed_line_is_named(rt: HostRuntime) -> Result<(), Fail> {
         served == Err(ServeFault::Line(2)),
         "line 2 is malformed",
     );
+    holds(&rt, printed.is(b""), "nothing is printed");
+    Ok(())
+}
+
+/// So many bytes that are no configuration.
+fn filled(alloc: Global, count: usize) -> Result<Vec<u8>, AllocError> {
+    vec![in alloc; b'x'; count]
+}
+
+#[test]
+fn a_long_text_is_refused(rt: HostRuntime) -> Result<(), Fail> {
+    let printed = Printed::new(rt, rt.alloc());
+    for (count, fault) in [
+        (1_048_577, ServeFault::TooLong),
+        (1_048_576, ServeFault::Line(1)),
+    ] {
+        let text = filled(rt.alloc(), count)?;
+        let served = serve_to(&rt, &printed, rt.alloc(), &text, 1);
+        holds(&rt, served == Err(fault), "the text is no configuration");
+    }
     holds(&rt, printed.is(b""), "nothing is printed");
     Ok(())
 }

@@ -1,0 +1,297 @@
+//! Datagrams that are handled, and calls that are carried after each, while memory is refused.
+ghost use Rattle.std.specs.Prelude.{◌≡◌};
+
+use crate::calls::{SettingUp, plays};
+use crate::texts::{ACK, CALLER, CANCEL, INVITE, OPTIONS, TARGET};
+use fork_call::{Call, Datagram, Port, Setup, carry};
+use fork_dispatch::{Handled, handle};
+use fork_shelf::Shelf;
+use refusing::{Answer, Heap, Play, Refusing, Repeated};
+use sip_uri::Hop;
+use std::alloc::{Allocator, Global};
+use std::process::Abort;
+use std::sync::Wait;
+
+type Alloc<'a> = &'a Refusing<Global>;
+
+/// The 404 of the target, for call 0.
+const NOT_FOUND: &[u8] = b"SIP/2.0 404 Not Found\r\n\
+Via: SIP/2.0/UDP 192.0.2.9:5060;branch=z9hG4bK8c31e71e0ddbf1a0e56f5f0279990857.7.0.0\r\n\
+v: SIP/2.0/UDP 192.0.2.1:5060;branch=z9hG4bKa;rport=40000;received=192.0.2.1\r\n\
+f: <sip:alice@example.com>;tag=1\r\n\
+t: <sip:bob@example.com>;tag=9\r\n\
+i: c1\r\n\
+CSeq: 1 OPTIONS\r\n\
+l: 0\r\n\
+\r\n";
+
+/// A response, and a request, whose body is too short.
+const SHORT_RESPONSE: &[u8] = b"SIP/2.0 486 Busy Here\r\n\
+Via: SIP/2.0/UDP 192.0.2.9:5060;branch=z9hG4bK8c31e71e0ddbf1a0e56f5f0279990857.7.0.0\r\n\
+v: SIP/2.0/UDP 192.0.2.1:5060;branch=z9hG4bKa;rport=40000;received=192.0.2.1\r\n\
+f: <sip:alice@example.com>;tag=1\r\n\
+t: <sip:bob@example.com>;tag=9\r\n\
+i: c1\r\n\
+CSeq: 1 OPTIONS\r\n\
+l: 5\r\n\
+\r\nabcd";
+
+const SHORT_REQUEST: &[u8] = b"OPTIONS sip:bob@example.com SIP/2.0\r\n\
+v: SIP/2.0/UDP 192.0.2.1:5060;branch=z9hG4bKb;rport\r\n\
+Max-Forwards: 70\r\n\
+f: <sip:alice@example.com>;tag=1\r\n\
+t: <sip:bob@example.com>\r\n\
+i: c1\r\n\
+CSeq: 1 OPTIONS\r\n\
+l: 5\r\n\
+\r\nabcd";
+
+const UNKNOWN: &[u8] = b"OPTIONS sip:eve@example.com SIP/2.0\r\n\
+v: SIP/2.0/UDP 192.0.2.1:5060;branch=z9hG4bKc;rport\r\n\
+Max-Forwards: 70\r\n\
+f: <sip:alice@example.com>;tag=1\r\n\
+t: <sip:eve@example.com>\r\n\
+i: c1\r\n\
+CSeq: 1 OPTIONS\r\n\
+l: 0\r\n\
+\r\n";
+
+const STRAY_ACK: &[u8] = b"ACK sip:x@192.0.2.7 SIP/2.0\r\n\
+v: SIP/2.0/UDP 192.0.2.1:5060;branch=z9hG4bKd;rport\r\n\
+Max-Forwards: 70\r\n\
+f: <sip:alice@example.com>;tag=1\r\n\
+t: <sip:x@192.0.2.7>;tag=5\r\n\
+i: c1\r\n\
+CSeq: 1 ACK\r\n\
+l: 0\r\n\
+\r\n";
+
+/// What comes, from where, what becomes of it, and how many datagrams were sent once its call was carried.
+type Packet = (&'static [u8], Hop, Handled, u64);
+
+/// An OPTIONS request, and datagrams that no call takes.
+const ASKED: &[Packet] = &[
+    (OPTIONS, CALLER, Handled::Opened(0), 1),
+    (OPTIONS, CALLER, Handled::Fed(0), 1),
+    (SHORT_RESPONSE, TARGET, Handled::Dropped, 1),
+    (NOT_FOUND, TARGET, Handled::Fed(0), 2),
+    (SHORT_REQUEST, CALLER, Handled::Answered(400), 3),
+    (UNKNOWN, CALLER, Handled::Answered(480), 4),
+    (STRAY_ACK, CALLER, Handled::Passed, 5),
+];
+
+/// The 180 of the target, its 200 to the CANCEL, and its 487.
+const RINGING: &[u8] = b"SIP/2.0 180 Ringing\r\n\
+Via: SIP/2.0/UDP 192.0.2.9:5060;branch=z9hG4bK8c31e71e0ddbf1a0e56f5f0279990857.7.0.0\r\n\
+v: SIP/2.0/UDP 192.0.2.1:5060;branch=z9hG4bKa;rport=40000;received=192.0.2.1\r\n\
+f: <sip:alice@example.com>;tag=1\r\n\
+t: <sip:bob@example.com>;tag=9\r\n\
+i: c1\r\n\
+CSeq: 1 INVITE\r\n\
+l: 0\r\n\
+\r\n";
+
+const CANCEL_TAKEN: &[u8] = b"SIP/2.0 200 OK\r\n\
+Via: SIP/2.0/UDP 192.0.2.9:5060;branch=z9hG4bK8c31e71e0ddbf1a0e56f5f0279990857.7.0.0\r\n\
+f: <sip:alice@example.com>;tag=1\r\n\
+t: <sip:bob@example.com>;tag=9\r\n\
+i: c1\r\n\
+CSeq: 1 CANCEL\r\n\
+l: 0\r\n\
+\r\n";
+
+const TERMINATED: &[u8] = b"SIP/2.0 487 Request Terminated\r\n\
+Via: SIP/2.0/UDP 192.0.2.9:5060;branch=z9hG4bK8c31e71e0ddbf1a0e56f5f0279990857.7.0.0\r\n\
+v: SIP/2.0/UDP 192.0.2.1:5060;branch=z9hG4bKa;rport=40000;received=192.0.2.1\r\n\
+f: <sip:alice@example.com>;tag=1\r\n\
+t: <sip:bob@example.com>;tag=9\r\n\
+i: c1\r\n\
+CSeq: 1 INVITE\r\n\
+l: 0\r\n\
+\r\n";
+
+/// An ACK of the caller that has the proxy's own tag.
+const OWN_ACK: &[u8] = b"ACK sip:bob@example.com SIP/2.0\r\n\
+v: SIP/2.0/UDP 192.0.2.1:5060;branch=z9hG4bKa;rport\r\n\
+Max-Forwards: 70\r\n\
+f: <sip:alice@example.com>;tag=1\r\n\
+t: <sip:bob@example.com>;tag=fpa54465d48fc852fc\r\n\
+i: c1\r\n\
+CSeq: 1 ACK\r\n\
+l: 0\r\n\
+\r\n";
+
+/// An INVITE that the caller cancels before the target rings.
+const CANCELLED: &[Packet] = &[
+    (INVITE, CALLER, Handled::Opened(0), 2),
+    (CANCEL, CALLER, Handled::Fed(0), 3),
+    (RINGING, TARGET, Handled::Fed(0), 5),
+    (CANCEL_TAKEN, TARGET, Handled::Fed(0), 5),
+    (TERMINATED, TARGET, Handled::Fed(0), 7),
+    (OWN_ACK, CALLER, Handled::Fed(0), 7),
+    (ACK, CALLER, Handled::Fed(0), 7),
+];
+
+/// A port that counts what is sent.
+#[derive(Drop)]
+struct Counting {
+    sends: u64,
+}
+
+impl Port for Counting {
+    ghost count = { λ _. 0 };
+
+    fn send<A: Allocator>(&mut self, _datagram: &Datagram<A>) -> bool {
+        self.sends = self.sends.saturating_add(1);
+        true
+    }
+
+    fn failures(&self) -> u64 {
+        0
+    }
+}
+
+/// A shelf is made.
+#[derive(Drop)]
+struct Shelving<'a> {
+    alloc: Alloc<'a>,
+}
+
+impl<'a> Repeated for Shelving<'a> {
+    type Out = Shelf<Call<Alloc<'a>>, Alloc<'a>>;
+
+    fn attempt(&mut self) -> Answer<Shelf<Call<Alloc<'a>>, Alloc<'a>>> {
+        match Shelf::new(self.alloc) {
+            Ok(shelf) => Answer::Given(shelf),
+            Err(_) => Answer::NoMemory,
+        }
+    }
+}
+
+/// What takes datagrams.
+#[derive(Drop)]
+struct Proxy<'a, R> {
+    rt: &'a R,
+    scarce: Alloc<'a>,
+    global: Global,
+    shelf: Shelf<Call<Alloc<'a>>, Alloc<'a>>,
+    setup: Setup<Alloc<'a>>,
+    port: Counting,
+    packet: &'static [u8],
+    source: Hop,
+    /// Whether call 0 is carried, and no datagram handled.
+    carrying: bool,
+}
+
+/// Carries a call, and says whether that was refused memory.
+fn is_carried(call: &mut Call<Alloc<'_>>, port: &mut Counting) -> bool
+    ensures { call.new.fixed.number ≡ call.old.fixed.number }
+{
+    carry(call, port, 0).is_ok()
+}
+
+impl<R: Wait> Proxy<'_, R> {
+    /// The datagram is handled; where that is refused nothing is sent.
+    fn handles(&mut self) -> Answer<Handled> {
+        let before = self.port.sends;
+        let handled = handle(
+            self.rt,
+            self.scarce,
+            self.global,
+            &self.shelf,
+            &self.setup,
+            self.packet,
+            self.source,
+            0,
+            &mut self.port,
+        );
+        match handled {
+            Ok(handled) => Answer::Given(handled),
+            Err(_) if self.port.sends == before => Answer::NoMemory,
+            Err(_) => Answer::Other,
+        }
+    }
+
+    /// Call 0 is carried.
+    fn carries(&mut self) -> Answer<Handled> {
+        let port = &mut self.port;
+        match self.shelf.with(self.rt, 0, |call| is_carried(call, port)) {
+            Some(true) => Answer::Given(Handled::Fed(0)),
+            Some(false) => Answer::NoMemory,
+            None => Answer::Other,
+        }
+    }
+}
+
+impl<R: Wait> Repeated for Proxy<'_, R> {
+    type Out = Handled;
+
+    fn attempt(&mut self) -> Answer<Handled> {
+        if self.carrying {
+            self.carries()
+        } else {
+            self.handles()
+        }
+    }
+}
+
+/// Datagrams that come one after another; call 0 is carried after each.
+#[derive(Drop)]
+struct Packets<'r, R> {
+    rt: &'r R,
+    global: Global,
+    list: &'static [Packet],
+}
+
+/// Whether each datagram becomes what it is to become, and so many were sent then.
+fn is_handled<'a, R: Wait>(
+    heap: Heap<'a>,
+    rt: &'a R,
+    global: Global,
+    list: &[Packet],
+) -> Option<bool> {
+    let setup = heap.insist(&mut SettingUp { alloc: heap.scarce })?;
+    let shelf = heap.insist(&mut Shelving { alloc: heap.scarce })?;
+    let mut proxy = Proxy {
+        rt,
+        scarce: heap.scarce,
+        global,
+        shelf,
+        setup,
+        port: Counting { sends: 0 },
+        packet: OPTIONS,
+        source: CALLER,
+        carrying: false,
+    };
+    for &(packet, source, wanted, sends) in list {
+        proxy.packet = packet;
+        proxy.source = source;
+        proxy.carrying = false;
+        if heap.insist(&mut proxy)? != wanted {
+            return Some(false);
+        }
+        proxy.carrying = true;
+        heap.insist(&mut proxy)?;
+        if proxy.port.sends != sends {
+            return Some(false);
+        }
+    }
+    Some(true)
+}
+
+impl<R: Wait> Play for Packets<'_, R> {
+    fn play(&self, heap: Heap<'_>) -> bool {
+        is_handled(heap, self.rt, self.global, self.list) == Some(true)
+    }
+}
+
+/// Plays these datagrams.
+fn goes<R: Wait + Abort>(rt: &R, global: Global, list: &'static [Packet], what: &str) {
+    plays(rt, global, &Packets { rt, global, list }, 0, what);
+}
+
+#[test]
+fn datagrams_are_handled(rt: HostRuntime) {
+    goes(&rt, rt.alloc(), ASKED, "an OPTIONS request, and strays");
+    goes(&rt, rt.alloc(), CANCELLED, "an INVITE that is cancelled");
+}

@@ -1,0 +1,190 @@
+//! Messages that are made of others while memory is refused.
+use crate::hops::has_hops;
+use crate::plays::plays;
+use crate::sources::{Alloc, BRANCH, OWN, SOURCE, Sources, given};
+use fork_rank::Challenge;
+use refusing::{Answer, Heap, Play, Repeated};
+use sip_build::{OwnStatus, ack_of, cancel_of, forward, generated, upward};
+use sip_route::strip_route;
+use sip_text::{Message, Start};
+use sip_uri::SipUri;
+use sip_via::{BuildFault, Unmarked, ViaFault, mark, mark_received};
+
+/// How a message is made.
+#[derive(Clone, Copy)]
+enum Making {
+    Marked,
+    Stripped,
+    Forwarded,
+    Upward,
+    Generated,
+    Ack,
+    Cancel,
+}
+
+fn of_via(made: Result<Message<Alloc<'_>>, ViaFault>) -> Answer<Message<Alloc<'_>>> {
+    match made {
+        Ok(message) => Answer::Given(message),
+        Err(ViaFault::NoMemory) => Answer::NoMemory,
+        Err(ViaFault::BadVia) => Answer::Other,
+    }
+}
+
+fn of_build(made: Result<Message<Alloc<'_>>, BuildFault>) -> Answer<Message<Alloc<'_>>> {
+    match made {
+        Ok(message) => Answer::Given(message),
+        Err(BuildFault::NoMemory) => Answer::NoMemory,
+        Err(BuildFault::LastVia) => Answer::Other,
+    }
+}
+
+fn forwarded<'a>(
+    alloc: Alloc<'a>,
+    request: &Message<Alloc<'a>>,
+    to: &SipUri<Alloc<'a>>,
+) -> Answer<Message<Alloc<'a>>> {
+    if !has_hops(request) {
+        return Answer::Other;
+    }
+    match request.start() {
+        Start::Request { .. } => of_build(forward(alloc, request, to, OWN, &BRANCH)),
+        Start::Response { .. } => Answer::Other,
+    }
+}
+
+fn acknowledged<'a>(
+    alloc: Alloc<'a>,
+    request: &Message<Alloc<'a>>,
+    response: &Message<Alloc<'a>>,
+) -> Answer<Message<Alloc<'a>>> {
+    match request.start() {
+        Start::Request { .. } => of_build(ack_of(alloc, request, response)),
+        Start::Response { .. } => Answer::Other,
+    }
+}
+
+fn cancelled<'a>(alloc: Alloc<'a>, request: &Message<Alloc<'a>>) -> Answer<Message<Alloc<'a>>> {
+    match request.start() {
+        Start::Request { .. } => of_build(cancel_of(alloc, request)),
+        Start::Response { .. } => Answer::Other,
+    }
+}
+
+fn moved<'a>(alloc: Alloc<'a>, response: &Message<Alloc<'a>>) -> Answer<Message<Alloc<'a>>> {
+    let kept: [&[u8]; 1] = [b"<sip:d@192.0.2.7>"];
+    let none: [Challenge<Alloc<'a>>; 0] = [];
+    of_build(upward(alloc, response, Some(&kept), &none))
+}
+
+fn made<'a>(alloc: Alloc<'a>, of: &Sources<'a>, making: Making) -> Answer<Message<Alloc<'a>>> {
+    match making {
+        Making::Marked => of_via(mark_received(alloc, &of.request, SOURCE)),
+        Making::Stripped => of_build(strip_route(alloc, &of.routed, OWN)),
+        Making::Forwarded => forwarded(alloc, &of.request, &of.target),
+        Making::Upward => moved(alloc, &of.response),
+        Making::Generated => of_build(generated(alloc, &of.request, OwnStatus::Trying)),
+        Making::Ack => acknowledged(alloc, &of.request, &of.response),
+        Making::Cancel => cancelled(alloc, &of.request),
+    }
+}
+
+/// A message is made.
+#[derive(Drop)]
+struct MadeOf<'a> {
+    alloc: Alloc<'a>,
+    sources: Sources<'a>,
+    making: Making,
+}
+
+impl<'a> Repeated for MadeOf<'a> {
+    type Out = Message<Alloc<'a>>;
+
+    fn attempt(&mut self) -> Answer<Message<Alloc<'a>>> {
+        made(self.alloc, &self.sources, self.making)
+    }
+}
+
+fn text_of<'a>(ample: Alloc<'a>, message: &Message<Alloc<'a>>) -> Option<Vec<u8, Alloc<'a>>> {
+    let mut out = Vec::new(ample);
+    message.write(&mut out).ok()?;
+    Some(out)
+}
+
+/// Whether what is made while memory is refused is what is made without.
+fn is_same(heap: Heap<'_>, making: Making) -> Option<bool> {
+    let mut with = MadeOf {
+        alloc: heap.ample,
+        sources: given(heap.ample)?,
+        making,
+    };
+    let wanted = heap.insist(&mut with)?;
+    with.alloc = heap.scarce;
+    let message = heap.insist(&mut with)?;
+    Some(text_of(heap.ample, &message)?.as_slice() == text_of(heap.ample, &wanted)?.as_slice())
+}
+
+impl Play for Making {
+    fn play(&self, heap: Heap<'_>) -> bool {
+        is_same(heap, *self) == Some(true)
+    }
+}
+
+/// The source is put into a request itself, which comes back where that is refused.
+#[derive(Drop)]
+struct Marking<'a> {
+    alloc: Alloc<'a>,
+    request: Option<Message<Alloc<'a>>>,
+}
+
+impl<'a> Repeated for Marking<'a> {
+    type Out = Message<Alloc<'a>>;
+
+    fn attempt(&mut self) -> Answer<Message<Alloc<'a>>> {
+        let Some(request) = self.request.take() else {
+            return Answer::Other;
+        };
+        match mark(self.alloc, request, SOURCE) {
+            Ok(message) => Answer::Given(message),
+            Err(Unmarked { message, fault }) => {
+                self.request = Some(message);
+                match fault {
+                    ViaFault::NoMemory => Answer::NoMemory,
+                    ViaFault::BadVia => Answer::Other,
+                }
+            }
+        }
+    }
+}
+
+/// Whether the request is marked as `mark_received` marks it.
+fn is_marked(heap: Heap<'_>) -> Option<bool> {
+    let sources = given(heap.ample)?;
+    let Ok(wanted) = mark_received(heap.ample, &sources.request, SOURCE) else {
+        return None;
+    };
+    let message = heap.insist(&mut Marking {
+        alloc: heap.scarce,
+        request: Some(sources.request),
+    })?;
+    Some(text_of(heap.ample, &message)?.as_slice() == text_of(heap.ample, &wanted)?.as_slice())
+}
+
+struct InPlace;
+
+impl Play for InPlace {
+    fn play(&self, heap: Heap<'_>) -> bool {
+        is_marked(heap) == Some(true)
+    }
+}
+
+#[test]
+fn messages_are_made_of_others(rt: HostRuntime) {
+    plays(&rt, &Making::Marked, 0, "mark_received");
+    plays(&rt, &InPlace, 0, "mark");
+    plays(&rt, &Making::Stripped, 0, "strip_route");
+    plays(&rt, &Making::Forwarded, 0, "forward");
+    plays(&rt, &Making::Upward, 0, "upward");
+    plays(&rt, &Making::Generated, 0, "generated");
+    plays(&rt, &Making::Ack, 0, "ack_of");
+    plays(&rt, &Making::Cancel, 0, "cancel_of");
+}
