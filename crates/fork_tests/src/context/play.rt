@@ -58,7 +58,7 @@ pub struct Told {
 }
 
 /// What a reply is to say, of these parts.
-fn told(at: u32, started: (u16, u16), cancelled: Option<u16>, up: Up) -> Told {
+fn told_at(at: u32, started: (u16, u16), cancelled: Option<u16>, up: Up) -> Told {
     Told {
         at,
         started,
@@ -142,11 +142,11 @@ fn event_or_copy(
 /// What happens at the step, and what the reply is to say; nothing where the step only asks.
 fn happens_at(step: Step, at: u32) -> Option<(Happening, Told)> {
     match step {
-        Step::Comes(happening, up) => Some((happening, told(at, (0, 0), None, up))),
+        Step::Comes(happening, up) => Some((happening, told_at(at, (0, 0), None, up))),
         Step::Starts(happening, first, count) => {
-            Some((happening, told(at, (first, count), None, Up::Nothing)))
+            Some((happening, told_at(at, (first, count), None, Up::Nothing)))
         }
-        Step::Cancels(happening, row, up) => Some((happening, told(at, (0, 0), Some(row), up))),
+        Step::Cancels(happening, row, up) => Some((happening, told_at(at, (0, 0), Some(row), up))),
         _ => None,
     }
 }
