@@ -140,8 +140,8 @@ fn event_or_copy(
 }
 
 /// What happens at the step, and what the reply is to say; nothing where the step only asks.
-fn happens_at(step: Step, at: u32) -> Option<(Happening, Told)> {
-    match step {
+fn happens_at(step: &Step, at: u32) -> Option<(Happening, Told)> {
+    match *step {
         Step::Comes(happening, up) => Some((happening, told_at(at, (0, 0), None, up))),
         Step::Starts(happening, first, count) => {
             Some((happening, told_at(at, (first, count), None, Up::Nothing)))
@@ -289,13 +289,11 @@ fn does(
     contacts: &[Contact],
     copied: bool,
 ) -> bool {
-    match happens_at(step, at) {
-        Some((happening, told)) => {
-            let event = event_or_copy(alloc, happening, contacts, copied);
-            comes_if_any(fork, event, told)
-        }
-        None => asks(alloc, fork, step),
-    }
+    let Some((happening, told)) = happens_at(&step, at) else {
+        return asks(alloc, fork, step);
+    };
+    let event = event_or_copy(alloc, happening, contacts, copied);
+    comes_if_any(fork, event, told)
 }
 
 /// How many events the step has: one where something happens.
