@@ -126,6 +126,9 @@ fn goes_so(
         )
 }
 
+/// Contacts that take the place of those of a response.
+const OTHERS: [&[u8]; 2] = [b"<sip:d@192.0.2.7>", b"<sip:e@192.0.2.8>;q=0.1"];
+
 /// Whether it does, with the contacts that it had, with others and with none.
 fn goes_each_way(
     alloc: Global,
@@ -134,11 +137,9 @@ fn goes_each_way(
 ) -> bool
     requires { list_all is_challenge challenges.now ≡ true }
 {
-    let kept: [&[u8]; 2] = [b"<sip:d@192.0.2.7>", b"<sip:e@192.0.2.8>;q=0.1"];
-    let as_they_were = goes_so(alloc, response, None, challenges);
-    let others = goes_so(alloc, response, Some(&kept), challenges);
-    let none = goes_so(alloc, response, Some(&[]), challenges);
-    as_they_were && others && none
+    goes_so(alloc, response, None, challenges)
+        && goes_so(alloc, response, Some(&OTHERS), challenges)
+        && goes_so(alloc, response, Some(&[]), challenges)
 }
 
 fn goes_so_with(alloc: Global, lines: &[&[u8]], challenges: &[Challenge<Global>]) -> bool
