@@ -5,6 +5,8 @@
 #[cfg(test)]
 mod book;
 #[cfg(test)]
+mod bytes;
+#[cfg(test)]
 mod context;
 #[cfg(test)]
 mod holds;

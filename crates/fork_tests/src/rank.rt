@@ -1,11 +1,13 @@
 //! The public functions of `fork_rank`, each on its happy path.
+use crate::bytes::{copy_of, is};
 use crate::holds::holds;
 use fork_rank::{
     Challenge, MOST_PREFERRED, MOST_TARGETS, Preferred, Rank, RingStatus, Rules, Status, before,
     compare, groups, ranks_before,
 };
+use std::alloc::Global;
 use std::cmp::Ordering;
-use std::test::Fail;
+use std::process::Abort;
 
 /// The code of the status that is made of this code; 0 where it is none.
 fn status_code(code: u16) -> u16 {
@@ -172,11 +174,6 @@ fn ranks(rt: HostRuntime) {
     );
 }
 
-/// The places of targets of these q, in groups.
-fn grouped(rt: &HostRuntime, qs: &[u16]) -> Result<Vec<Vec<usize>>, Fail> {
-    Ok(groups(rt.alloc(), qs)?)
-}
-
 /// Whether this group has these places.
 fn is_group(groups: &[Vec<usize>], n: usize, places: &[usize]) -> bool {
     match groups.get(n) {
@@ -185,37 +182,55 @@ fn is_group(groups: &[Vec<usize>], n: usize, places: &[usize]) -> bool {
     }
 }
 
-#[test]
-fn groups_by_q(rt: HostRuntime) -> Result<(), Fail> {
-    let groups = grouped(&rt, &[500, 1000, 500])?;
-    holds(&rt, groups.len() == 2, "two q make two groups");
+/// Checks that these are the groups of three targets of which the second has the greatest q.
+fn are_grouped(rt: &impl Abort, groups: &[Vec<usize>]) {
+    holds(rt, groups.len() == 2, "two q make two groups");
+    holds(rt, is_group(groups, 0, &[1]), "the group of q 1 goes first");
     holds(
-        &rt,
-        is_group(&groups, 0, &[1]),
-        "the group of q 1 goes first",
-    );
-    holds(
-        &rt,
-        is_group(&groups, 1, &[0, 2]),
+        rt,
+        is_group(groups, 1, &[0, 2]),
         "the group of q 0.5 has two places, rising",
     );
-    Ok(())
+}
+
+#[test]
+fn groups_by_q(rt: HostRuntime) {
+    match groups(rt.alloc(), &[500, 1000, 500]) {
+        Ok(groups) => are_grouped(&rt, &groups),
+        Err(_) => holds(&rt, false, "there is memory for the groups"),
+    }
+}
+
+/// The copy of a proxy's challenge.
+fn copied(alloc: Global, challenge: &Challenge) -> Option<Challenge> {
+    match challenge.copy(&alloc) {
+        Ok(copy) => Some(copy),
+        Err(_) => None,
+    }
 }
 
 /// The copy of a proxy's challenge of this value.
-fn copied(rt: &HostRuntime, value: &[u8]) -> Result<Challenge, Fail> {
-    let challenge = Challenge::new(true, value.to_vec(rt.alloc())?);
-    Ok(challenge.copy(&rt.alloc())?)
+fn copied_of(alloc: Global, value: &[u8]) -> Option<Challenge> {
+    match copy_of(alloc, value) {
+        Some(value) => copied(alloc, &Challenge::new(true, value)),
+        None => None,
+    }
+}
+
+/// Checks that this is the copy of a proxy's challenge.
+fn is_the_copy(rt: &impl Abort, copy: &Challenge) {
+    holds(rt, copy.proxy(), "the copy is a proxy's challenge, too");
+    holds(
+        rt,
+        is(copy.value(), b"Digest realm=\"a\""),
+        "the copy has the same value",
+    );
 }
 
 #[test]
-fn challenges(rt: HostRuntime) -> Result<(), Fail> {
-    let copy = copied(&rt, b"Digest realm=\"a\"")?;
-    holds(&rt, copy.proxy(), "the copy is a proxy's challenge, too");
-    holds(
-        &rt,
-        copy.value() == b"Digest realm=\"a\"".as_slice(),
-        "the copy has the same value",
-    );
-    Ok(())
+fn challenges(rt: HostRuntime) {
+    match copied_of(rt.alloc(), b"Digest realm=\"a\"") {
+        Some(copy) => is_the_copy(&rt, &copy),
+        None => holds(&rt, false, "the challenge is copied"),
+    }
 }

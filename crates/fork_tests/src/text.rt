@@ -1,11 +1,12 @@
 //! Fields and the lines of the rules, read and written.
+use crate::bytes::is;
 use crate::holds::holds;
 use fork_rank::Rules;
 use fork_text::{
     append, append_depth, append_list, append_preferred, read_depth, read_number,
     read_number_before, read_preferred, with_depth, with_preferred,
 };
-use std::alloc::{AllocError, Global};
+use std::alloc::Global;
 
 /// The number before a space, where the rest is this.
 fn number_before(text: &str, rest: &str) -> Option<u16> {
@@ -15,12 +16,19 @@ fn number_before(text: &str, rest: &str) -> Option<u16> {
     }
 }
 
+/// How many statuses there are, and the last of them; 0 where there is none.
+fn count_and_last(statuses: &[u16]) -> (usize, u16) {
+    match statuses {
+        [] => (0, 0),
+        [.., last] => (statuses.len(), *last),
+    }
+}
+
 /// How many statuses a list has that is read, and the last of them.
 fn list_read(text: &str) -> Option<(usize, u16)> {
-    let preferred = read_preferred(text.as_bytes())?;
-    match preferred.statuses() {
-        [] => Some((0, 0)),
-        [.., last] => Some((preferred.statuses().len(), *last)),
+    match read_preferred(text.as_bytes()) {
+        Some(preferred) => Some(count_and_last(preferred.statuses())),
+        None => None,
     }
 }
 
@@ -31,27 +39,43 @@ fn depth_read(digits: &str) -> Option<u16> {
     }
 }
 
+/// These rules with the depth that digits spell.
+fn with_depth_read(rules: Rules, digits: &str) -> Option<Rules> {
+    match read_depth(digits.as_bytes()) {
+        Some(depth) => Some(with_depth(rules, depth)),
+        None => None,
+    }
+}
+
 /// The rules that a list and a depth spell, over the usual ones.
 fn rules_of(list: &str, depth: &str) -> Option<Rules> {
-    let preferred = read_preferred(list.as_bytes())?;
-    let depth = read_depth(depth.as_bytes())?;
-    Some(with_depth(with_preferred(Rules::usual(), preferred), depth))
+    match read_preferred(list.as_bytes()) {
+        Some(preferred) => with_depth_read(with_preferred(Rules::usual(), preferred), depth),
+        None => None,
+    }
 }
 
-/// The lines of rules, behind a word.
-fn lines(alloc: Global, rules: &Rules) -> Result<Vec<u8>, AllocError> {
+/// Whether the lines of rules stand behind a word as this text.
+fn has_lines(alloc: Global, rules: &Rules, wanted: &[u8]) -> bool {
     let mut text = Vec::new(alloc);
-    append(&mut text, b"rules\n")?;
-    append_preferred(&mut text, rules)?;
-    append_depth(&mut text, rules)?;
-    Ok(text)
+    append(&mut text, b"rules\n").is_ok()
+        && append_preferred(&mut text, rules).is_ok()
+        && append_depth(&mut text, rules).is_ok()
+        && is(&text, wanted)
 }
 
-/// Numbers with commas between them.
-fn list(alloc: Global, numbers: &[u16]) -> Result<Vec<u8>, AllocError> {
+/// Whether the lines of the rules that a list and a depth spell do.
+fn has_lines_of(alloc: Global, list: &str, depth: &str, wanted: &[u8]) -> bool {
+    match rules_of(list, depth) {
+        Some(rules) => has_lines(alloc, &rules, wanted),
+        None => false,
+    }
+}
+
+/// Whether numbers are written as this text, with commas between them.
+fn is_listed(alloc: Global, numbers: &[u16], wanted: &[u8]) -> bool {
     let mut text = Vec::new(alloc);
-    append_list(&mut text, numbers)?;
-    Ok(text)
+    append_list(&mut text, numbers).is_ok() && is(&text, wanted)
 }
 
 #[test]
@@ -102,31 +126,24 @@ fn rules_are_read(rt: HostRuntime) {
 }
 
 #[test]
-fn rules_are_written(rt: HostRuntime) -> Result<(), AllocError> {
-    let text = lines(
-        rt.alloc(),
-        &rules_of("407,484", "3").unwrap_or(Rules::usual()),
-    )?;
+fn rules_are_written(rt: HostRuntime) {
+    let alloc = rt.alloc();
+    let read = b"rules\nprefer 407,484\ndepth 3\n";
     holds(
         &rt,
-        text.as_slice() == b"rules\nprefer 407,484\ndepth 3\n".as_slice(),
+        has_lines_of(alloc, "407,484", "3", read),
         "the rules that were read, behind what was there",
     );
-    let text = lines(rt.alloc(), &Rules::usual())?;
+    let usual = b"rules\nprefer 401,407,415,420,484\ndepth 256\n";
     holds(
         &rt,
-        text.as_slice() == b"rules\nprefer 401,407,415,420,484\ndepth 256\n".as_slice(),
+        has_lines(alloc, &Rules::usual(), usual),
         "the usual rules",
     );
+    holds(&rt, is_listed(alloc, &[], b"-"), "no numbers");
     holds(
         &rt,
-        list(rt.alloc(), &[])?.as_slice() == b"-".as_slice(),
-        "no numbers",
-    );
-    holds(
-        &rt,
-        list(rt.alloc(), &[0, 65535])?.as_slice() == b"0,65535".as_slice(),
+        is_listed(alloc, &[0, 65535], b"0,65535"),
         "two numbers",
     );
-    Ok(())
 }

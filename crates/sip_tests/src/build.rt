@@ -1,6 +1,6 @@
 //! Tests of the calls that build messages.
-mod forwarding;
-mod requests;
+pub mod forwarding;
+pub mod requests;
 mod responses;
 mod upstream;
 mod written;

@@ -6,7 +6,7 @@ use sip_lex::{
     hex_value, is_closed, is_space, is_token, lowered, read_number, read_plain_number, trim,
     trim_end, trim_start,
 };
-use std::alloc::{AllocError, Global};
+use std::alloc::Global;
 use std::process::Abort;
 
 /// Texts, and whether each is a token.
@@ -33,18 +33,17 @@ fn knows_bytes(rt: HostRuntime) {
 }
 
 /// Whether the first text in lower case is the second.
-fn lowers_to(alloc: Global, text: &[u8], wanted: &[u8]) -> Result<bool, AllocError> {
-    Ok(is(&lowered(alloc, text)?, wanted))
+fn lowers_to(alloc: Global, text: &[u8], wanted: &[u8]) -> bool {
+    match lowered(alloc, text) {
+        Ok(lowered) => is(&lowered, wanted),
+        Err(_) => false,
+    }
 }
 
 #[test]
 fn lowers_letters(rt: HostRuntime) {
     let well = lowers_to(rt.alloc(), b"Example.COM", b"example.com");
-    holds(
-        &rt,
-        well == Ok(true),
-        "letters in lower case, and nothing else",
-    );
+    holds(&rt, well, "letters in lower case, and nothing else");
 }
 
 /// Ends the test where these are not the two parts of the text.

@@ -1,4 +1,10 @@
 //! Messages that are given as their lines, without the ends of these.
+ghost use Rattle.std.specs.Prelude.{IfSome, IsTrue};
+ghost use Rattle.sip_text.specs.Name.{first_value};
+ghost use Rattle.sip_route.specs.Hops.{IsHops, MayPass, hops_name};
+
+use crate::bytes::is;
+use sip_route::{Hops, hops_of};
 use sip_text::Message;
 use sip_uri::Hop;
 use sip_via::Own;
@@ -42,39 +48,104 @@ pub const ROUTED: [&[u8]; 9] = [
     b"",
 ];
 
+/// A copy of a text.
+pub fn copy_of(alloc: Global, text: &[u8]) -> Option<Vec<u8>> {
+    match Vec::from_slice(alloc, text) {
+        Ok(copy) => Some(copy),
+        Err(_) => None,
+    }
+}
+
+/// Adds a line and its end; whether there was memory for them.
+fn adds_line(text: &mut Vec<u8>, line: &[u8]) -> bool {
+    text.extend_from_slice(line).is_ok() && text.extend_from_slice(b"\r\n").is_ok()
+}
+
+/// Adds these lines; whether there was memory for them.
+fn adds_lines(text: &mut Vec<u8>, lines: &[&[u8]]) -> bool {
+    for line in lines {
+        if !adds_line(text, line) {
+            return false;
+        }
+    }
+    true
+}
+
+/// The text of these lines with that body.
+pub fn text_with(alloc: Global, lines: &[&[u8]], body: &[u8]) -> Option<Vec<u8>> {
+    let mut text = Vec::new(alloc);
+    if adds_lines(&mut text, lines) && text.extend_from_slice(body).is_ok() {
+        Some(text)
+    } else {
+        None
+    }
+}
+
 /// The text of these lines.
 pub fn text_of(alloc: Global, lines: &[&[u8]]) -> Option<Vec<u8>> {
-    let mut text = Vec::new(alloc);
-    for line in lines {
-        text.extend_from_slice(line).ok()?;
-        text.extend_from_slice(b"\r\n").ok()?;
+    text_with(alloc, lines, b"")
+}
+
+/// The message that a text spells.
+pub fn read(alloc: Global, text: &[u8]) -> Option<Message<Global>> {
+    match Message::read(alloc, text) {
+        Ok(message) => Some(message),
+        Err(_) => None,
     }
-    Some(text)
+}
+
+/// The message that these lines and that body spell.
+pub fn message_with(alloc: Global, lines: &[&[u8]], body: &[u8]) -> Option<Message<Global>> {
+    match text_with(alloc, lines, body) {
+        Some(text) => read(alloc, &text),
+        None => None,
+    }
 }
 
 /// The message that these lines spell.
 pub fn message_of(alloc: Global, lines: &[&[u8]]) -> Option<Message<Global>> {
-    let text = text_of(alloc, lines)?;
-    Message::read(alloc, &text).ok()
+    message_with(alloc, lines, b"")
 }
 
 /// What a message is written as.
 pub fn written(alloc: Global, message: &Message<Global>) -> Option<Vec<u8>> {
     let mut text = Vec::new(alloc);
-    message.write(&mut text).ok()?;
-    Some(text)
+    match message.write(&mut text) {
+        Ok(()) => Some(text),
+        Err(_) => None,
+    }
+}
+
+/// Whether a message is written as this text.
+pub fn writes(alloc: Global, message: &Message<Global>, text: &[u8]) -> bool {
+    match written(alloc, message) {
+        Some(out) => is(&out, text),
+        None => false,
+    }
+}
+
+/// Whether a message is there, and is written as this text.
+pub fn is_written_so(alloc: Global, message: Option<Message<Global>>, text: &[u8]) -> bool {
+    match message {
+        Some(message) => writes(alloc, &message, text),
+        None => false,
+    }
 }
 
 /// Whether a message is there, and is written as these lines.
 pub fn is_written_as(alloc: Global, message: Option<Message<Global>>, lines: &[&[u8]]) -> bool {
     match message {
+        Some(message) => spells(alloc, &message, lines),
         None => false,
-        Some(message) => spells(alloc, &message, lines).unwrap_or(false),
     }
 }
 
-fn spells(alloc: Global, message: &Message<Global>, lines: &[&[u8]]) -> Option<bool> {
-    Some(*written(alloc, message)? == *text_of(alloc, lines)?)
+/// Whether a message is written as these lines.
+pub fn spells(alloc: Global, message: &Message<Global>, lines: &[&[u8]]) -> bool {
+    match text_of(alloc, lines) {
+        Some(text) => writes(alloc, message, &text),
+        None => false,
+    }
 }
 
 /// Whether the message that these lines spell is written as them.
@@ -85,13 +156,33 @@ pub fn is_written_as_read(alloc: Global, lines: &[&[u8]]) -> bool {
 /// Whether a message is there, and its text is read as a message that is written as this text.
 pub fn is_read_back(alloc: Global, message: Option<Message<Global>>) -> bool {
     match message {
+        Some(message) => reads_back(alloc, &message),
         None => false,
-        Some(message) => reads_back(alloc, &message).unwrap_or(false),
     }
 }
 
-fn reads_back(alloc: Global, message: &Message<Global>) -> Option<bool> {
-    let text = written(alloc, message)?;
-    let again = Message::read(alloc, &text).ok()?;
-    Some(*written(alloc, &again)? == *text)
+fn reads_back(alloc: Global, message: &Message<Global>) -> bool {
+    match written(alloc, message) {
+        Some(text) => is_written_so(alloc, read(alloc, &text), &text),
+        None => false,
+    }
+}
+
+/// Whether a request that says this of hops may be passed on.
+fn lets_pass(hops: Hops) -> bool
+    ensures { IsTrue result → MayPass hops }
+{
+    match hops {
+        Hops::Unsaid => true,
+        Hops::Said(more) => more >= 1,
+        Hops::Wrong => false,
+    }
+}
+
+/// Whether a request may be passed on by what it says of hops.
+pub fn may_pass(request: &Message<Global>) -> bool
+    ensures { IsTrue result → IfSome (first_value hops_name request.now.headers) IsHops }
+{
+    let hops = hops_of(request);
+    lets_pass(hops)
 }

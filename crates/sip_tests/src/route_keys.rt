@@ -1,5 +1,5 @@
 //! Senders of messages, and the keys of requests.
-use crate::bytes::holds_of;
+use crate::bytes::{has, holds_of};
 use crate::holds::holds;
 use crate::messages::{REQUEST, message_of};
 use crate::rows::holds_in_row;
@@ -69,8 +69,11 @@ const BRANCHES: [(&[u8], Option<&'static [u8]>); 5] = [
 ];
 
 /// Whether the top value of the request with that Via line names this branch.
-fn has_branch(alloc: Global, via: &[u8], branch: Option<&[u8]>) -> Option<bool> {
-    Some(top_branch(&request_with(alloc, via)?) == branch)
+fn has_branch(alloc: Global, via: &[u8], branch: Option<&[u8]>) -> bool {
+    match request_with(alloc, via) {
+        Some(request) => top_branch(&request) == branch,
+        None => false,
+    }
 }
 
 #[test]
@@ -78,7 +81,7 @@ fn names_the_branch(rt: HostRuntime) {
     for (via, branch) in BRANCHES {
         holds_of(
             &rt,
-            has_branch(rt.alloc(), via, branch) == Some(true),
+            has_branch(rt.alloc(), via, branch),
             "the branch of a top value",
             via,
         );
@@ -145,20 +148,21 @@ const KEYLESS: [&[u8]; 4] = [
     b"Via: , SIP/2.0/UDP host.example;branch=z9hG4bKa1",
 ];
 
-/// What is appended for a request with that Via line, behind a byte.
-fn key_with(alloc: Global, via: &[u8]) -> Option<(bool, Vec<u8>)> {
+/// Whether a request has this key, and says so of these bytes.
+fn has_its_key(alloc: Global, request: &Message<Global>, key: &[u8]) -> bool {
     let mut out = Vec::new(alloc);
-    out.push(b'>').ok()?;
-    let said = append_request_key(&mut out, &request_with(alloc, via)?).ok()?;
-    Some((said, out))
+    out.push(b'>').is_ok()
+        && append_request_key(&mut out, request) == Ok(true)
+        && has(out.strip_prefix(b">"), key)
+        && has_key(request, key)
 }
 
 /// Whether a request with that Via line has this key, and says so of these bytes.
 fn is_keyed(alloc: Global, via: &[u8], key: &[u8]) -> bool {
-    let (Some((said, out)), Some(request)) = (key_with(alloc, via), request_with(alloc, via)) else {
-        return false;
-    };
-    said && out.strip_prefix(b">") == Some(key) && has_key(&request, key)
+    match request_with(alloc, via) {
+        Some(request) => has_its_key(alloc, &request, key),
+        None => false,
+    }
 }
 
 #[test]
@@ -176,16 +180,23 @@ fn spells_keys(rt: HostRuntime) {
     }
 }
 
+/// Whether nothing is appended for a request, behind a byte.
+fn appends_nothing(alloc: Global, request: &Message<Global>) -> bool {
+    let mut out = Vec::new(alloc);
+    out.push(b'>').is_ok() && append_request_key(&mut out, request) == Ok(false) && out.len() == 1
+}
+
+/// Whether a request has neither that key nor an empty one, nor that of itself.
+fn has_no_key(request: &Message<Global>) -> bool {
+    !has_key(request, KEY) && !has_key(request, b"") && !has_same_key(request, request)
+}
+
 /// Whether nothing is appended for a request with that Via line, which has not that key.
 fn is_keyless(alloc: Global, via: &[u8]) -> bool {
-    let (Some((said, out)), Some(request)) = (key_with(alloc, via), request_with(alloc, via)) else {
-        return false;
-    };
-    !said
-        && out.len() == 1
-        && !has_key(&request, KEY)
-        && !has_key(&request, b"")
-        && !has_same_key(&request, &request)
+    match request_with(alloc, via) {
+        Some(request) => appends_nothing(alloc, &request) && has_no_key(&request),
+        None => false,
+    }
 }
 
 #[test]
@@ -202,7 +213,10 @@ fn finds_no_key(rt: HostRuntime) {
 
 /// Whether requests with these Via lines have one key.
 fn are_same(alloc: Global, via: &[u8], other: &[u8]) -> Option<bool> {
-    Some(has_same_key(&request_with(alloc, via)?, &request_with(alloc, other)?))
+    match (request_with(alloc, via), request_with(alloc, other)) {
+        (Some(request), Some(other)) => Some(has_same_key(&request, &other)),
+        _ => None,
+    }
 }
 
 #[test]
@@ -236,7 +250,10 @@ const NEAR_KEYS: [&[u8]; 6] = [
 ];
 
 fn first_has(alloc: Global, key: &[u8]) -> Option<bool> {
-    Some(has_key(&request_with(alloc, SAME[0])?, key))
+    match request_with(alloc, SAME[0]) {
+        Some(request) => Some(has_key(&request, key)),
+        None => None,
+    }
 }
 
 #[test]

@@ -1,7 +1,7 @@
 //! A message written part by part, questions to it, and tags.
 use crate::bytes::{has, holds_of, is};
 use crate::holds::holds;
-use crate::messages::{REQUEST, message_of, text_of, written};
+use crate::messages::{REQUEST, message_of, spells, text_with};
 use sip_text::{
     Header, Message, append_end, append_header, append_headers, append_pieces, append_request_line,
     append_status_line, header_len, header_values_are_values, headers_len, request_line_len,
@@ -39,14 +39,23 @@ fn request_len(headers: &[Header<Global>]) -> usize {
         .saturating_add(6)
 }
 
-/// Whether the request is written as these lines and that body, in as many bytes as was said.
-fn is_appended(alloc: Global, lines: &[&[u8]]) -> Option<bool> {
-    let message = message_of(alloc, &REQUEST)?;
+/// Whether the request is written as this text, in as many bytes as was said.
+fn is_appended_as(alloc: Global, headers: &[Header<Global>], wanted: &[u8]) -> bool {
     let mut out = Vec::new(alloc);
-    append_request(&mut out, message.headers()).ok()?;
-    let mut wanted = text_of(alloc, lines)?;
-    wanted.extend_from_slice(b"body").ok()?;
-    Some(*out == *wanted && out.len() == request_len(message.headers()))
+    append_request(&mut out, headers).is_ok()
+        && is(&out, wanted)
+        && out.len() == request_len(headers)
+}
+
+/// Whether the request is written as these lines and that body, in as many bytes as was said.
+fn is_appended(alloc: Global, lines: &[&[u8]]) -> bool {
+    match (
+        message_of(alloc, &REQUEST),
+        text_with(alloc, lines, b"body"),
+    ) {
+        (Some(message), Some(wanted)) => is_appended_as(alloc, message.headers(), &wanted),
+        _ => false,
+    }
 }
 
 #[test]
@@ -65,28 +74,18 @@ fn appends_a_request(rt: HostRuntime) {
         b"",
     ];
     let well = is_appended(rt.alloc(), &lines);
-    holds(&rt, well.unwrap_or(false), "the request in parts");
+    holds(&rt, well, "the request in parts");
 }
 
-/// What a status line of that status is with its end, if it has as many bytes as was said.
-fn status_line(alloc: Global, status: u16, reason: &[u8]) -> Option<Vec<u8>> {
+/// Whether a status line of that status is this with its end, in as many bytes as was said.
+fn has_status_line(alloc: Global, status: u16, reason: &[u8], wanted: &[u8]) -> bool {
     if !(status < 1000) {
-        return None;
+        return false;
     }
     let mut out = Vec::new(alloc);
-    append_status_line(&mut out, status, reason).ok()?;
-    if out.len() == status_line_len(reason) {
-        Some(out)
-    } else {
-        None
-    }
-}
-
-fn has_status_line(alloc: Global, status: u16, reason: &[u8], wanted: &[u8]) -> bool {
-    match status_line(alloc, status, reason) {
-        None => false,
-        Some(line) => is(&line, wanted),
-    }
+    append_status_line(&mut out, status, reason).is_ok()
+        && out.len() == status_line_len(reason)
+        && is(&out, wanted)
 }
 
 #[test]
@@ -148,22 +147,38 @@ fn tells_requests_from_responses(rt: HostRuntime) {
     holds(&rt, well, "a response");
 }
 
-/// Whether a message is written as these lines once it is copied, and once it is made of its parts.
-fn is_kept(alloc: Global, lines: &[&[u8]]) -> Option<bool> {
-    let message = message_of(alloc, lines)?;
-    let copy = message.copy(alloc).ok()?;
+/// Whether the copy of a message is written as these lines.
+fn is_copied(alloc: Global, message: &Message<Global>, lines: &[&[u8]]) -> bool {
+    match message.copy(alloc) {
+        Ok(copy) => spells(alloc, &copy, lines),
+        Err(_) => false,
+    }
+}
+
+/// The message of a message's parts.
+fn made_of_parts(message: Message<Global>) -> Message<Global> {
     let (start, headers, body) = message.into_parts();
-    let again = Message::from_parts(start, headers, body);
-    let text = text_of(alloc, lines)?;
-    Some(*written(alloc, &copy)? == *text && *written(alloc, &again)? == *text)
+    Message::from_parts(start, headers, body)
+}
+
+/// Whether a message is written as these lines once it is copied, and once it is made of its parts.
+fn is_kept(alloc: Global, lines: &[&[u8]]) -> bool {
+    match message_of(alloc, lines) {
+        Some(message) => {
+            let copied = is_copied(alloc, &message, lines);
+            let made = made_of_parts(message);
+            copied && spells(alloc, &made, lines)
+        }
+        None => false,
+    }
 }
 
 #[test]
 fn copies_and_takes_apart(rt: HostRuntime) {
     let request = is_kept(rt.alloc(), &REQUEST);
-    holds(&rt, request.unwrap_or(false), "a request");
+    holds(&rt, request, "a request");
     let response = is_kept(rt.alloc(), &RESPONSE);
-    holds(&rt, response.unwrap_or(false), "a response");
+    holds(&rt, response, "a response");
 }
 
 /// From lines, and the tag of each.
@@ -187,21 +202,28 @@ const TAGS: [(&[u8], Option<&[u8]>); 17] = [
     (b"From: <sip:x>", None),
 ];
 
+/// Whether a part is this text, or there is none where none is wanted.
+fn is_if_any(part: Option<&[u8]>, wanted: Option<&[u8]>) -> bool {
+    match wanted {
+        Some(wanted) => has(part, wanted),
+        None => part.is_none(),
+    }
+}
+
 /// Whether the request has that tag with this From line.
-fn has_tag(alloc: Global, line: &[u8], wanted: Option<&[u8]>) -> Option<bool> {
+fn has_tag(alloc: Global, line: &[u8], wanted: Option<&[u8]>) -> bool {
     let mut lines: [&[u8]; 9] = REQUEST;
     lines[3] = line;
-    let message = message_of(alloc, &lines)?;
-    match wanted {
-        None => Some(message.from_tag().is_none()),
-        Some(wanted) => Some(has(message.from_tag(), wanted)),
+    match message_of(alloc, &lines) {
+        Some(message) => is_if_any(message.from_tag(), wanted),
+        None => false,
     }
 }
 
 fn tags_are_found(rt: &impl Abort, alloc: Global) {
     for (line, wanted) in TAGS {
         let well = has_tag(alloc, line, wanted);
-        holds_of(rt, well.unwrap_or(false), "the tag", line);
+        holds_of(rt, well, "the tag", line);
     }
 }
 

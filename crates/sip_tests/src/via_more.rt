@@ -1,7 +1,8 @@
 //! Branches of the proxy's own, requests that are marked in place, where a reply goes, and header lines that are taken or
 //! made.
+use crate::bytes::{has, is};
 use crate::holds::holds;
-use crate::messages::{OWN, REQUEST, SOURCE, is_written_as, message_of};
+use crate::messages::{OWN, REQUEST, SOURCE, copy_of, message_of, spells, writes, written};
 use crate::rows::holds_in_row;
 use sip_text::{Header, Message};
 use sip_uri::Hop;
@@ -101,7 +102,10 @@ const TOP_VALUES: [(&[u8], bool); 4] = [
 ];
 
 fn top_branch(alloc: Global, via: &[u8]) -> Option<BranchName> {
-    own_branch(&request_with(alloc, via)?, OWN)
+    match request_with(alloc, via) {
+        Some(request) => own_branch(&request, OWN),
+        None => None,
+    }
 }
 
 #[test]
@@ -130,12 +134,20 @@ const REPLIES: [(&[u8], u16); 5] = [
     ),
 ];
 
-fn reply_port(alloc: Global, via: &[u8]) -> Option<u16> {
-    let Hop { addr, port } = reply_hop_of(&request_with(alloc, via)?, SOURCE);
-    if addr != SOURCE.addr {
-        return None;
+/// The port of a hop at the source.
+fn port_of(hop: Hop) -> Option<u16> {
+    if hop.addr == SOURCE.addr {
+        Some(hop.port)
+    } else {
+        None
     }
-    Some(port)
+}
+
+fn reply_port(alloc: Global, via: &[u8]) -> Option<u16> {
+    match request_with(alloc, via) {
+        Some(request) => port_of(reply_hop_of(&request, SOURCE)),
+        None => None,
+    }
 }
 
 #[test]
@@ -179,16 +191,50 @@ const MARKED: [(&[u8], &[u8]); 6] = [
     ),
 ];
 
+/// A request once it is marked in place.
+fn marked(alloc: Global, request: Message<Global>) -> Option<Message<Global>> {
+    match mark(alloc, request, SOURCE) {
+        Ok(marked) => Some(marked),
+        Err(_) => None,
+    }
+}
+
+/// The request with this Via line once it is marked in place.
+fn marked_with(alloc: Global, via: &[u8]) -> Option<Message<Global>> {
+    match request_with(alloc, via) {
+        Some(request) => marked(alloc, request),
+        None => None,
+    }
+}
+
+/// What the marked copy of a request is written as.
+fn copy_text(alloc: Global, request: &Message<Global>) -> Option<Vec<u8>> {
+    match mark_received(alloc, request, SOURCE) {
+        Ok(copy) => written(alloc, &copy),
+        Err(_) => None,
+    }
+}
+
+/// What the marked copy of the request with this Via line is written as.
+fn copy_text_with(alloc: Global, via: &[u8]) -> Option<Vec<u8>> {
+    match request_with(alloc, via) {
+        Some(request) => copy_text(alloc, &request),
+        None => None,
+    }
+}
+
+/// Whether a request has that value in its first Via line, and is written as this text.
+fn is_so(alloc: Global, request: &Message<Global>, value: &[u8], text: &[u8]) -> bool {
+    is(first_value(request, b"via"), value) && writes(alloc, request, text)
+}
+
 /// Whether the request with this Via line has that value in the line once it is marked in place, and all else as
 /// `mark_received` gives it.
-fn is_marked_as(alloc: Global, via: &[u8], value: &[u8]) -> Option<bool> {
-    let copy = mark_received(alloc, &request_with(alloc, via)?, SOURCE).ok()?;
-    let request = mark(alloc, request_with(alloc, via)?, SOURCE).ok()?;
-    let mut text = Vec::new(alloc);
-    request.write(&mut text).ok()?;
-    let mut other = Vec::new(alloc);
-    copy.write(&mut other).ok()?;
-    Some(first_value(&request, b"via") == value && *text == *other)
+fn is_marked_as(alloc: Global, via: &[u8], value: &[u8]) -> bool {
+    match (marked_with(alloc, via), copy_text_with(alloc, via)) {
+        (Some(request), Some(text)) => is_so(alloc, &request, value, &text),
+        _ => false,
+    }
 }
 
 #[test]
@@ -197,23 +243,30 @@ fn marks_in_place(rt: HostRuntime) {
     for (row, (via, value)) in MARKED.iter().enumerate() {
         holds_in_row(
             &rt,
-            is_marked_as(alloc, via, value) == Some(true),
+            is_marked_as(alloc, via, value),
             "a Via line is marked in place",
             row,
         );
     }
 }
 
+/// Whether a request comes back as these lines, with a `BadVia`.
+fn comes_back_as(alloc: Global, request: Message<Global>, lines: &[&[u8]]) -> bool {
+    match mark(alloc, request, SOURCE) {
+        Ok(_) => false,
+        Err(unmarked) => {
+            unmarked.fault == ViaFault::BadVia && spells(alloc, &unmarked.message, lines)
+        }
+    }
+}
+
 /// Whether the request comes back as it was, with a `BadVia`.
-fn comes_back(alloc: Global, via: &[u8]) -> Option<bool> {
+fn comes_back(alloc: Global, via: &[u8]) -> bool {
     let mut lines = REQUEST;
     lines[1] = via;
-    match mark(alloc, request_with(alloc, via)?, SOURCE) {
-        Ok(_) => None,
-        Err(unmarked) => Some(
-            unmarked.fault == ViaFault::BadVia
-                && is_written_as(alloc, Some(unmarked.message), &lines),
-        ),
+    match message_of(alloc, &lines) {
+        Some(request) => comes_back_as(alloc, request, &lines),
+        None => false,
     }
 }
 
@@ -222,27 +275,39 @@ fn gives_back_what_it_cannot_mark(rt: HostRuntime) {
     let alloc = rt.alloc();
     holds(
         &rt,
-        comes_back(alloc, b"Via: SIP/2.0/UDP, SIP/2.0/UDP h") == Some(true),
+        comes_back(alloc, b"Via: SIP/2.0/UDP, SIP/2.0/UDP h"),
         "a request whose top value is none",
     );
 }
 
-/// How many Via values the request with this line has once it is marked, and its second one.
-fn second_once_marked(alloc: Global, via: &[u8], value: &[u8]) -> Option<bool> {
+/// Whether a request has two Via values, its top one and this.
+fn has_second(request: &Message<Global>, value: &[u8]) -> bool {
+    let mut values = ViaValues::of(request);
+    let top = has(values.next(), top_via(request));
+    let second = has(values.next(), value);
+    top && second && values.next().is_none()
+}
+
+/// Whether the request with this line has two Via values once it is marked, and this is its second one.
+fn second_once_marked(alloc: Global, via: &[u8], value: &[u8]) -> bool {
+    match marked_with(alloc, via) {
+        Some(request) => has_second(&request, value),
+        None => false,
+    }
+}
+
+/// The laws, called once.
+fn laws() {
     readable_is_marked();
     marking_changes_the_top_value();
     marked_value_is_read();
     marking_keeps_the_sender();
     marking_keeps_the_rest();
-    let request = mark(alloc, request_with(alloc, via)?, SOURCE).ok()?;
-    let mut values = ViaValues::of(&request);
-    let top = values.next()?;
-    let second = values.next()?;
-    Some(top == top_via(&request) && second == value && values.next().is_none())
 }
 
 #[test]
 fn marking_leaves_the_other_values(rt: HostRuntime) {
+    laws();
     let alloc = rt.alloc();
     holds(
         &rt,
@@ -250,7 +315,7 @@ fn marking_leaves_the_other_values(rt: HostRuntime) {
             alloc,
             b"Via: SIP/2.0/UDP h;x=\"a,b\" , SIP/2.0/UDP i",
             b"SIP/2.0/UDP i",
-        ) == Some(true),
+        ),
         "the second value of the line stays",
     );
     holds(
@@ -259,7 +324,7 @@ fn marking_leaves_the_other_values(rt: HostRuntime) {
             alloc,
             b"Via: SIP/2.0/UDP h\r\nv: SIP/2.0/UDP i",
             b"SIP/2.0/UDP i",
-        ) == Some(true),
+        ),
         "the value of the second line stays",
     );
 }
@@ -282,40 +347,72 @@ fn are(lines: &[Header<Global>], rows: &[(&[u8], &[u8])]) -> bool {
 
 const TWO_SUBJECTS: &[u8] = b"Via: SIP/2.0/UDP h\r\nSubject: a\r\nsubject: b";
 
-/// Whether lines are taken from a request, and made, as they should be.
-fn takes_and_makes_lines(alloc: Global) -> Option<bool> {
-    let request = request_with(alloc, TWO_SUBJECTS)?;
-    let mut lines = Vec::new(alloc);
-    add_made(&mut lines, &alloc, b"X", Vec::from_slice(alloc, b"1").ok()?).ok()?;
-    add_line(&mut lines, &alloc, b"Y", b"2").ok()?;
-    add_named(&mut lines, &alloc, &request, b"subject").ok()?;
-    add_first(&mut lines, &alloc, &request, b"subject").ok()?;
-    add_first(&mut lines, &alloc, &request, b"route").ok()?;
-    add_values_as(&mut lines, &alloc, &request, b"SUBJECT", b"Z").ok()?;
-    Some(are(
-        &lines,
-        &[
-            (b"X", b"1"),
-            (b"Y", b"2"),
-            (b"Subject", b"a"),
-            (b"subject", b"b"),
-            (b"Subject", b"a"),
-            (b"Z", b"a"),
-            (b"Z", b"b"),
-        ],
-    ))
+/// Makes two lines; whether there was memory for them.
+fn makes_lines(alloc: Global, lines: &mut Vec<Header<Global>>) -> bool {
+    match copy_of(alloc, b"1") {
+        Some(value) => {
+            add_made(lines, &alloc, b"X", value).is_ok()
+                && add_line(lines, &alloc, b"Y", b"2").is_ok()
+        }
+        None => false,
+    }
 }
 
-/// Whether the first line of a name is found, and none of a name that no line has.
-fn finds_lines(alloc: Global) -> Option<bool> {
-    let request = request_with(alloc, TWO_SUBJECTS)?;
-    let first = first_named(&request, b"subject")?;
-    Some(
-        first.value() == b"a".as_slice()
-            && first_named(&request, b"route").is_none()
-            && first_value(&request, b"call-id") == b"c1".as_slice()
-            && first_value(&request, b"route").is_empty(),
-    )
+/// Takes lines from a request; whether there was memory for them.
+fn takes_lines(alloc: Global, lines: &mut Vec<Header<Global>>, request: &Message<Global>) -> bool {
+    add_named(lines, &alloc, request, b"subject").is_ok()
+        && add_first(lines, &alloc, request, b"subject").is_ok()
+        && add_first(lines, &alloc, request, b"route").is_ok()
+        && add_values_as(lines, &alloc, request, b"SUBJECT", b"Z").is_ok()
+}
+
+/// The lines that are made, and those that are taken of two named Subject behind them.
+const TAKEN: [(&[u8], &[u8]); 7] = [
+    (b"X", b"1"),
+    (b"Y", b"2"),
+    (b"Subject", b"a"),
+    (b"subject", b"b"),
+    (b"Subject", b"a"),
+    (b"Z", b"a"),
+    (b"Z", b"b"),
+];
+
+/// Whether lines are taken from a request, and made, as they should be.
+fn takes_and_makes(alloc: Global, request: &Message<Global>) -> bool {
+    let mut lines = Vec::new(alloc);
+    makes_lines(alloc, &mut lines) && takes_lines(alloc, &mut lines, request) && are(&lines, &TAKEN)
+}
+
+/// Whether they are taken from the request with two named Subject.
+fn takes_and_makes_lines(alloc: Global) -> bool {
+    match request_with(alloc, TWO_SUBJECTS) {
+        Some(request) => takes_and_makes(alloc, &request),
+        None => false,
+    }
+}
+
+/// Whether the first line of a name that some have is found.
+fn finds_the_first(request: &Message<Global>) -> bool {
+    match first_named(request, b"subject") {
+        Some(first) => is(first.value(), b"a"),
+        None => false,
+    }
+}
+
+/// Whether the first lines and values of names are found, and none of a name that no line has.
+fn finds_each(request: &Message<Global>) -> bool {
+    finds_the_first(request)
+        && first_named(request, b"route").is_none()
+        && is(first_value(request, b"call-id"), b"c1")
+        && first_value(request, b"route").is_empty()
+}
+
+/// Whether they are found in the request with two named Subject.
+fn finds_lines(alloc: Global) -> bool {
+    match request_with(alloc, TWO_SUBJECTS) {
+        Some(request) => finds_each(&request),
+        None => false,
+    }
 }
 
 #[test]
@@ -323,12 +420,8 @@ fn lines_are_taken_and_made(rt: HostRuntime) {
     let alloc = rt.alloc();
     holds(
         &rt,
-        takes_and_makes_lines(alloc) == Some(true),
+        takes_and_makes_lines(alloc),
         "lines are added in order",
     );
-    holds(
-        &rt,
-        finds_lines(alloc) == Some(true),
-        "the first line of a name is found",
-    );
+    holds(&rt, finds_lines(alloc), "the first line of a name is found");
 }

@@ -1,15 +1,11 @@
 //! Messages that are written straight to a text, against those that are built and then written.
-ghost use Rattle.std.specs.Prelude.{IfSome, IsTrue};
-ghost use Rattle.sip_text.specs.Name.{first_value};
-ghost use Rattle.sip_route.specs.Hops.{IsHops, hops_name};
-
+use crate::behind::{begins, if_built, is_behind, rest_behind};
+use crate::build::forwarding::forwarded;
+use crate::build::requests::{acknowledged, cancelled};
 use crate::holds::holds;
-use crate::messages::{OWN, REQUEST, ROUTED, message_of, written};
+use crate::messages::{OWN, REQUEST, ROUTED, is_written_so, may_pass, message_of};
 use crate::rows::holds_in_row;
-use sip_build::{
-    ack_of, cancel_of, forward, write_forwarded, write_forwarded_ack, write_forwarded_cancel,
-};
-use sip_lex::read_number;
+use sip_build::{forward, write_forwarded, write_forwarded_ack, write_forwarded_cancel};
 use sip_text::{Message, Start};
 use sip_uri::SipUri;
 use sip_via::BranchName;
@@ -24,102 +20,101 @@ const BRANCH: BranchName = BranchName {
 
 const TARGET: &[u8] = b"sip:bob@192.0.2.4:5062;method=INVITE;transport=udp?Subject=x";
 
-/// Whether a value is one to three digits of 1 to 255.
-fn are_hops(value: &[u8]) -> bool
-    ensures { IsTrue result → IsHops value.now }
-{
-    match read_number(value, 255) {
-        None => false,
-        Some(hops) => hops >= 1 && value.len() <= 3,
-    }
-}
-
-/// Whether the first Max-Forwards, if there is one, is such a value.
-fn has_hops(message: &Message<Global>) -> bool
-    ensures { IsTrue result → IfSome (first_value hops_name message.now.headers) IsHops }
-{
-    match message.values(b"max-forwards").next() {
-        None => true,
-        Some(value) => are_hops(value),
-    }
-}
-
 /// Whether the request is written as what is built of it, behind what stood there.
-fn is_written_so(
-    alloc: Global,
-    request: &Message<Global>,
-    target: &SipUri<Global>,
-) -> Option<bool> {
-    if !has_hops(request) {
-        return None;
+fn goes_so(alloc: Global, request: &Message<Global>, target: &SipUri<Global>) -> bool {
+    if !may_pass(request) {
+        return false;
     }
     let Start::Request { .. } = request.start() else {
-        return None;
+        return false;
     };
-    let built = forward(alloc, request, target, OWN, &BRANCH).ok()?;
-    let mut out = Vec::from_slice(alloc, b"before").ok()?;
-    write_forwarded(request, target, OWN, &BRANCH, &mut out).ok()?;
-    Some(out.strip_prefix(b"before")? == written(alloc, &built)?.as_slice())
+    let mut out = Vec::new(alloc);
+    begins(&mut out)
+        && write_forwarded(request, target, OWN, &BRANCH, &mut out).is_ok()
+        && is_behind(
+            alloc,
+            &out,
+            if_built(forward(alloc, request, target, OWN, &BRANCH)),
+        )
 }
 
-/// The request as it goes to that target.
-fn forwarded(
-    alloc: Global,
-    request: &Message<Global>,
-    target: &SipUri<Global>,
-) -> Option<Message<Global>> {
-    if !has_hops(request) {
-        return None;
+/// Whether the ACK and the CANCEL of what was sent stand in a text, the one behind the other.
+fn are_of(alloc: Global, out: &[u8], sent: &Message<Global>, response: &Message<Global>) -> bool {
+    match rest_behind(alloc, out, acknowledged(alloc, sent, response)) {
+        Some(rest) => is_written_so(alloc, cancelled(alloc, sent), rest),
+        None => false,
     }
-    let Start::Request { .. } = request.start() else {
-        return None;
-    };
-    forward(alloc, request, target, OWN, &BRANCH).ok()
+}
+
+/// Whether those of what was sent, if something was, do.
+fn are_behind(
+    alloc: Global,
+    out: &[u8],
+    sent: Option<Message<Global>>,
+    response: &Message<Global>,
+) -> bool {
+    match sent {
+        Some(sent) => are_of(alloc, out, &sent, response),
+        None => false,
+    }
 }
 
 /// Whether the ACK and the CANCEL of the request that goes to that target are written as what is built of the
 /// request as it goes, the one behind the other.
-fn are_written_along_so(
+fn are_written_along_to(
     alloc: Global,
     request: &Message<Global>,
     target: &SipUri<Global>,
     response: &Message<Global>,
-) -> Option<bool> {
-    let sent = forwarded(alloc, request, target)?;
-    let (Start::Request { .. }, Start::Request { .. }) = (request.start(), sent.start()) else {
-        return None;
+) -> bool {
+    let Start::Request { .. } = request.start() else {
+        return false;
     };
-    let ack = ack_of(alloc, &sent, response).ok()?;
-    let cancel = cancel_of(alloc, &sent).ok()?;
-    let mut out = Vec::from_slice(alloc, b"before").ok()?;
-    write_forwarded_ack(request, target, OWN, &BRANCH, response, &mut out).ok()?;
-    write_forwarded_cancel(request, target, OWN, &BRANCH, &mut out).ok()?;
-    let behind = out
-        .strip_prefix(b"before")?
-        .strip_prefix(written(alloc, &ack)?.as_slice())?;
-    Some(behind == written(alloc, &cancel)?.as_slice())
+    let mut out = Vec::new(alloc);
+    begins(&mut out)
+        && write_forwarded_ack(request, target, OWN, &BRANCH, response, &mut out).is_ok()
+        && write_forwarded_cancel(request, target, OWN, &BRANCH, &mut out).is_ok()
+        && are_behind(
+            alloc,
+            &out,
+            forwarded(alloc, request, target, &BRANCH),
+            response,
+        )
+}
+
+/// Whether they are for the request and a response of these lines.
+fn are_written_along_with(alloc: Global, request: &Message<Global>, answer: &[&[u8]]) -> bool {
+    match (SipUri::read(alloc, TARGET), message_of(alloc, answer)) {
+        (Ok(target), Some(response)) => are_written_along_to(alloc, request, &target, &response),
+        _ => false,
+    }
 }
 
 /// Whether they are for the request of these lines and a 486 with another tag.
-fn are_written_along(alloc: Global, lines: &[&[u8]; 9]) -> Option<bool> {
-    let request = message_of(alloc, lines)?;
+fn are_written_along(alloc: Global, lines: &[&[u8]; 9]) -> bool {
     let mut answer = *lines;
     answer[0] = b"SIP/2.0 486 Busy Here";
     answer[4] = b"t: <sip:bob@example.com>;tag=7";
-    let response = message_of(alloc, &answer)?;
-    let target = SipUri::read(alloc, TARGET).ok()?;
-    are_written_along_so(alloc, &request, &target, &response)
+    match message_of(alloc, lines) {
+        Some(request) => are_written_along_with(alloc, &request, &answer),
+        None => false,
+    }
+}
+
+/// Whether the request is written as what is built of it, on its way to that target.
+fn goes_to_the_target(alloc: Global, request: &Message<Global>) -> bool {
+    match SipUri::read(alloc, TARGET) {
+        Ok(target) => goes_so(alloc, request, &target),
+        Err(_) => false,
+    }
 }
 
 /// Whether the request of these lines is.
 fn are_written_so(alloc: Global, lines: &[&[u8]]) -> bool {
-    let Some(request) = message_of(alloc, lines) else {
-        return false;
-    };
-    let Ok(target) = SipUri::read(alloc, TARGET) else {
-        return false;
-    };
-    is_written_so(alloc, &request, &target).unwrap_or(false)
+    match message_of(alloc, lines) {
+        Some(request) => goes_to_the_target(alloc, &request),
+        None => false,
+    }
 }
 
 #[test]
@@ -152,7 +147,7 @@ fn requests_along_are_written_as_they_are_built(rt: HostRuntime) {
     for (row, lines) in [REQUEST, ROUTED].iter().enumerate() {
         holds_in_row(
             &rt,
-            are_written_along(alloc, lines).unwrap_or(false),
+            are_written_along(alloc, lines),
             "an ACK and a CANCEL",
             row,
         );

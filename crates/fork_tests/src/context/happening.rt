@@ -1,8 +1,8 @@
 //! What happens to a context, as data, and the contexts that it happens to.
+use crate::bytes::copy_of;
 use fork_context::{Answer, Challenge, Context, Event, Kind, Offer, Target};
 use fork_rank::{RingStatus, Rules, Status};
-use std::alloc::{AllocError, Global};
-use std::test::Fail;
+use std::alloc::Global;
 
 /// A contact at q 1: the number that it names, and whether it can be tried.
 pub type Contact = (u16, bool);
@@ -39,51 +39,101 @@ pub fn text_of(number: u16) -> [u8; 8] {
     [b'<', b's', b'i', b'p', b':', high, low, b'>']
 }
 
-/// The contact as an answer has it, with a key where it can be tried.
-pub fn offer(alloc: Global, contact: Contact) -> Result<Offer, AllocError> {
-    let (number, can_be_tried) = contact;
-    let text = text_of(number).to_vec(alloc)?;
-    if can_be_tried {
-        let key = key_of(number).to_vec(alloc)?;
-        return Ok(Offer::new(text, 1000, Some(key)));
+/// A contact of this text at q 1, with the number for its key.
+fn offer_to_try(alloc: Global, text: Vec<u8>, number: u16) -> Option<Offer> {
+    match copy_of(alloc, &key_of(number)) {
+        Some(key) => Some(Offer::new(text, 1000, Some(key))),
+        None => None,
     }
-    Ok(Offer::new(text, 1000, None))
+}
+
+/// The contact as an answer has it, with a key where it can be tried.
+pub fn offer(alloc: Global, contact: Contact) -> Option<Offer> {
+    let (number, can_be_tried) = contact;
+    match copy_of(alloc, &text_of(number)) {
+        Some(text) if can_be_tried => offer_to_try(alloc, text, number),
+        Some(text) => Some(Offer::new(text, 1000, None)),
+        None => None,
+    }
 }
 
 /// A final answer of this status without contacts and challenges.
-pub fn answer(alloc: Global, code: u16) -> Result<Answer, Fail> {
-    let status = Status::of(code).ok_or("no final status")?;
-    Ok(Answer::new(status, Vec::new(alloc), Vec::new(alloc)))
-}
-
-/// Adds these contacts.
-fn push_contacts(alloc: Global, answer: &mut Answer, contacts: &[Contact]) -> Result<(), Fail> {
-    for &contact in contacts {
-        answer.push_offer(offer(alloc, contact)?)?;
+pub fn answer(alloc: Global, code: u16) -> Option<Answer> {
+    match Status::of(code) {
+        Some(status) => Some(Answer::new(status, Vec::new(alloc), Vec::new(alloc))),
+        None => None,
     }
-    Ok(())
 }
 
-fn redirection(alloc: Global, contacts: &[Contact]) -> Result<Answer, Fail> {
-    let mut answer = answer(alloc, 302)?;
-    push_contacts(alloc, &mut answer, contacts)?;
-    Ok(answer)
+/// Adds a contact, if one is there; whether there was memory for it.
+pub fn pushes_offer(answer: &mut Answer, offer: Option<Offer>) -> bool {
+    match offer {
+        Some(offer) => answer.push_offer(offer).is_ok(),
+        None => false,
+    }
 }
 
-/// Adds so many challenges from this digit on, of a proxy where the status is 407.
-fn push_challenges(alloc: Global, answer: &mut Answer, first: u8, count: u8) -> Result<(), Fail> {
+/// Adds these contacts; whether there was memory for them.
+fn pushes_contacts(alloc: Global, answer: &mut Answer, contacts: &[Contact]) -> bool {
+    for &contact in contacts {
+        if !pushes_offer(answer, offer(alloc, contact)) {
+            return false;
+        }
+    }
+    true
+}
+
+/// The answer with these contacts.
+fn with_contacts(alloc: Global, mut answer: Answer, contacts: &[Contact]) -> Option<Answer> {
+    if pushes_contacts(alloc, &mut answer, contacts) {
+        Some(answer)
+    } else {
+        None
+    }
+}
+
+fn redirection(alloc: Global, contacts: &[Contact]) -> Option<Answer> {
+    match answer(alloc, 302) {
+        Some(answer) => with_contacts(alloc, answer, contacts),
+        None => None,
+    }
+}
+
+/// Adds a challenge of this digit; whether there was memory for it.
+fn pushes_challenge(alloc: Global, answer: &mut Answer, of_proxy: bool, digit: u8) -> bool {
+    match copy_of(alloc, &[digit]) {
+        Some(value) => answer
+            .push_challenge(Challenge::new(of_proxy, value))
+            .is_ok(),
+        None => false,
+    }
+}
+
+/// Adds so many challenges from this digit on, of a proxy where the status is 407; whether there was memory for them.
+fn pushes_challenges(alloc: Global, answer: &mut Answer, first: u8, count: u8) -> bool {
     let of_proxy = answer.status().code() == 407;
     for n in 0..count {
-        let value = [first.saturating_add(n)].to_vec(alloc)?;
-        answer.push_challenge(Challenge::new(of_proxy, value))?;
+        if !pushes_challenge(alloc, answer, of_proxy, first.saturating_add(n)) {
+            return false;
+        }
     }
-    Ok(())
+    true
 }
 
-fn demand(alloc: Global, code: u16, first: u8, count: u8) -> Result<Answer, Fail> {
-    let mut answer = answer(alloc, code)?;
-    push_challenges(alloc, &mut answer, first, count)?;
-    Ok(answer)
+/// The answer with these challenges.
+fn with_challenges(alloc: Global, mut answer: Answer, first: u8, count: u8) -> Option<Answer> {
+    if pushes_challenges(alloc, &mut answer, first, count) {
+        Some(answer)
+    } else {
+        None
+    }
+}
+
+fn demand(alloc: Global, code: u16, first: u8, count: u8) -> Option<Answer> {
+    match answer(alloc, code) {
+        Some(answer) => with_challenges(alloc, answer, first, count),
+        None => None,
+    }
 }
 
 /// The event of what happens, where it is no final answer.
@@ -99,28 +149,69 @@ fn plain_event(happening: Happening) -> Option<Event> {
     })
 }
 
-/// The event of what happens; a redirection has these contacts.
-pub fn event(alloc: Global, happening: Happening, contacts: &[Contact]) -> Result<Event, Fail> {
-    match happening {
-        Happening::Answers(n, code) => Ok(Event::Answer(n, answer(alloc, code)?)),
-        Happening::Redirects(n) => Ok(Event::Answer(n, redirection(alloc, contacts)?)),
-        Happening::Asks(n, code, first, count) => {
-            Ok(Event::Answer(n, demand(alloc, code, first, count)?))
-        }
-        happening => Ok(plain_event(happening).ok_or("no provisional status")?),
+/// The event of a final answer, if one is there.
+fn answered(n: u16, answer: Option<Answer>) -> Option<Event> {
+    match answer {
+        Some(answer) => Some(Event::Answer(n, answer)),
+        None => None,
     }
+}
+
+/// The event of what happens; a redirection has these contacts.
+pub fn event(alloc: Global, happening: Happening, contacts: &[Contact]) -> Option<Event> {
+    match happening {
+        Happening::Answers(n, code) => answered(n, answer(alloc, code)),
+        Happening::Redirects(n) => answered(n, redirection(alloc, contacts)),
+        Happening::Asks(n, code, first, count) => answered(n, demand(alloc, code, first, count)),
+        happening => plain_event(happening),
+    }
+}
+
+/// Adds the target of this number; whether there was memory for it.
+fn pushes_target(alloc: Global, targets: &mut Vec<Target>, number: u16, q: u16) -> bool {
+    match copy_of(alloc, &key_of(number)) {
+        Some(key) => targets.push(Target::new(key, q.min(1000))).is_ok(),
+        None => false,
+    }
+}
+
+/// Adds the targets of these numbers; whether there was memory for them.
+fn pushes_targets(alloc: Global, targets: &mut Vec<Target>, list: &[Aim]) -> bool {
+    for &(number, q) in list {
+        if !pushes_target(alloc, targets, number, q) {
+            return false;
+        }
+    }
+    true
 }
 
 /// The targets of these numbers, each tried at its q.
-pub fn targets(alloc: Global, list: &[Aim]) -> Result<Vec<Target>, Fail> {
+pub fn targets(alloc: Global, list: &[Aim]) -> Option<Vec<Target>> {
     let mut targets = Vec::new(alloc);
-    for &(number, q) in list {
-        targets.push(Target::new(key_of(number).to_vec(alloc)?, q.min(1000)))?;
+    if pushes_targets(alloc, &mut targets, list) {
+        Some(targets)
+    } else {
+        None
     }
-    Ok(targets)
+}
+
+/// The context of a request to these targets, under these rules, if it is made.
+fn made(alloc: Global, kind: Kind, rules: Rules, targets: Vec<Target>) -> Option<Context> {
+    match Context::new(alloc, kind, rules, targets) {
+        Ok(context) => Some(context),
+        Err(_) => None,
+    }
+}
+
+/// The context of a request to these targets, under these rules.
+pub fn context_under(alloc: Global, kind: Kind, rules: Rules, list: &[Aim]) -> Option<Context> {
+    match targets(alloc, list) {
+        Some(targets) => made(alloc, kind, rules, targets),
+        None => None,
+    }
 }
 
 /// The context of a request to these targets, under the usual rules.
-pub fn context(alloc: Global, kind: Kind, list: &[Aim]) -> Result<Context, Fail> {
-    Ok(Context::new(alloc, kind, Rules::usual(), targets(alloc, list)?)?)
+pub fn context(alloc: Global, kind: Kind, list: &[Aim]) -> Option<Context> {
+    context_under(alloc, kind, Rules::usual(), list)
 }

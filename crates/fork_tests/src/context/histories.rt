@@ -1,13 +1,12 @@
 //! Worked histories (RFC 3261 sections 16.6, 16.7 and 16.10).
-use crate::context::happening::{Happening, context, targets};
+use crate::context::happening::{Happening, context, context_under};
 use crate::context::play::{NOTHING, Step, play, play_on, play_redirected};
 use fork_context::{Choice, Context, End, Kind, State, Up};
 use fork_rank::Rules;
 use std::alloc::Global;
-use std::test::Fail;
 
 #[test]
-fn a_preferred_4xx_goes_first(rt: HostRuntime) -> Result<(), Fail> {
+fn a_preferred_4xx_goes_first(rt: HostRuntime) {
     let steps = [
         Step::HasChoice(None),
         Step::IsFirst(0, false),
@@ -35,11 +34,11 @@ fn a_preferred_4xx_goes_first(rt: HostRuntime) -> Result<(), Fail> {
         Kind::Invite,
         &[(1, 1000), (2, 1000), (3, 1000), (4, 1000)],
         &steps,
-    )
+    );
 }
 
 #[test]
-fn the_earliest_of_equals_goes_first(rt: HostRuntime) -> Result<(), Fail> {
+fn the_earliest_of_equals_goes_first(rt: HostRuntime) {
     let steps = [
         Step::Comes(Happening::Answers(1, 486), Up::Nothing),
         Step::Comes(Happening::Answers(0, 404), Up::Final(Choice::Stored(1))),
@@ -50,11 +49,11 @@ fn the_earliest_of_equals_goes_first(rt: HostRuntime) -> Result<(), Fail> {
         Kind::Other,
         &[(1, 1000), (2, 1000)],
         &steps,
-    )
+    );
 }
 
 #[test]
-fn a_503_goes_up_as_a_500(rt: HostRuntime) -> Result<(), Fail> {
+fn a_503_goes_up_as_a_500(rt: HostRuntime) {
     let steps = [
         Step::Comes(Happening::Answers(1, 503), Up::Nothing),
         Step::Comes(Happening::Fails(0), Up::Final(Choice::Only503(1))),
@@ -66,11 +65,11 @@ fn a_503_goes_up_as_a_500(rt: HostRuntime) -> Result<(), Fail> {
         Kind::Invite,
         &[(1, 1000), (2, 1000)],
         &steps,
-    )
+    );
 }
 
 #[test]
-fn a_6xx_waits_for_the_others(rt: HostRuntime) -> Result<(), Fail> {
+fn a_6xx_waits_for_the_others(rt: HostRuntime) {
     let steps = [
         Step::Comes(Happening::Rings(0, 100), Up::Nothing),
         Step::Comes(Happening::Rings(0, 183), Up::Provisional(0)),
@@ -85,11 +84,11 @@ fn a_6xx_waits_for_the_others(rt: HostRuntime) -> Result<(), Fail> {
         Kind::Invite,
         &[(1, 1000), (2, 1000), (3, 500)],
         &steps,
-    )
+    );
 }
 
 #[test]
-fn groups_are_tried_in_series(rt: HostRuntime) -> Result<(), Fail> {
+fn groups_are_tried_in_series(rt: HostRuntime) {
     let steps = [
         Step::HasRows(4),
         Step::HasKey(0, Some(2)),
@@ -112,11 +111,11 @@ fn groups_are_tried_in_series(rt: HostRuntime) -> Result<(), Fail> {
         Kind::Other,
         &[(1, 300), (2, 700), (3, 500), (4, 500)],
         &steps,
-    )
+    );
 }
 
 #[test]
-fn contacts_are_taken_or_left(rt: HostRuntime) -> Result<(), Fail> {
+fn contacts_are_taken_or_left(rt: HostRuntime) {
     let steps = [
         Step::Starts(Happening::Redirects(0), 1, 1),
         Step::HasReceived(0, 302, 0),
@@ -132,11 +131,11 @@ fn contacts_are_taken_or_left(rt: HostRuntime) -> Result<(), Fail> {
         &[(1, 1000)],
         &[(2, true), (3, false), (1, true)],
         &steps,
-    )
+    );
 }
 
 #[test]
-fn a_3xx_of_taken_contacts_is_spent(rt: HostRuntime) -> Result<(), Fail> {
+fn a_3xx_of_taken_contacts_is_spent(rt: HostRuntime) {
     let steps = [
         Step::Starts(Happening::Redirects(0), 1, 1),
         Step::IsIn(0, State::Ended(End::Taken { arrival: 0 })),
@@ -149,11 +148,11 @@ fn a_3xx_of_taken_contacts_is_spent(rt: HostRuntime) -> Result<(), Fail> {
         &[(1, 1000)],
         &[(2, true)],
         &steps,
-    )
+    );
 }
 
 #[test]
-fn a_cancel_ends_what_waits(rt: HostRuntime) -> Result<(), Fail> {
+fn a_cancel_ends_what_waits(rt: HostRuntime) {
     let steps = [
         Step::IsOf(Kind::Invite),
         Step::HasDepth(256),
@@ -172,11 +171,11 @@ fn a_cancel_ends_what_waits(rt: HostRuntime) -> Result<(), Fail> {
         Kind::Invite,
         &[(1, 1000), (2, 1000), (3, 500)],
         &steps,
-    )
+    );
 }
 
 #[test]
-fn timer_c_cancels_a_branch_that_rings(rt: HostRuntime) -> Result<(), Fail> {
+fn timer_c_cancels_a_branch_that_rings(rt: HostRuntime) {
     let steps = [
         Step::Comes(Happening::Rings(0, 180), Up::Provisional(0)),
         Step::Cancels(Happening::TimerC(0), 0, Up::Nothing),
@@ -190,36 +189,38 @@ fn timer_c_cancels_a_branch_that_rings(rt: HostRuntime) -> Result<(), Fail> {
         Kind::Invite,
         &[(1, 1000), (2, 1000)],
         &steps,
-    )
+    );
 }
 
 #[test]
-fn copies_do_what_their_events_do(rt: HostRuntime) -> Result<(), Fail> {
+fn copies_do_what_their_events_do(rt: HostRuntime) {
     let steps = [
         Step::Starts(Happening::Redirects(0), 1, 2),
         Step::Comes(Happening::Answers(1, 404), Up::Nothing),
         Step::Comes(Happening::TimesOut(2), Up::Final(Choice::Stored(1))),
     ];
-    let fork = context(rt.alloc(), Kind::Invite, &[(1, 1000)])?;
+    let fork = context(rt.alloc(), Kind::Invite, &[(1, 1000)]);
     let name = "copies do what their events do";
-    play_on(&rt, fork, name, &[(2, true), (3, true)], true, &steps)
+    play_on(&rt, fork, name, &[(2, true), (3, true)], true, &steps);
 }
 
 /// The context of one target, whose contacts are tried to this depth.
-fn of_depth(alloc: Global, depth: u16) -> Result<Context, Fail> {
-    let rules = Rules::of(Rules::usual().preferred(), depth).ok_or("no rules")?;
-    Ok(Context::new(alloc, Kind::Invite, rules, targets(alloc, &[(1, 1000)])?)?)
+fn of_depth(alloc: Global, depth: u16) -> Option<Context> {
+    match Rules::of(Rules::usual().preferred(), depth) {
+        Some(rules) => context_under(alloc, Kind::Invite, rules, &[(1, 1000)]),
+        None => None,
+    }
 }
 
 #[test]
-fn depth_zero_leaves_each_contact(rt: HostRuntime) -> Result<(), Fail> {
+fn depth_zero_leaves_each_contact(rt: HostRuntime) {
     let steps = [
         Step::Comes(Happening::Redirects(0), Up::Final(Choice::Stored(0))),
         Step::Leaves(0, Some(2)),
     ];
-    let fork = of_depth(rt.alloc(), 0)?;
+    let fork = of_depth(rt.alloc(), 0);
     let name = "depth 0 leaves each contact";
-    play_on(&rt, fork, name, &[(2, true)], false, &steps)
+    play_on(&rt, fork, name, &[(2, true)], false, &steps);
 }
 
 /// The numbers 0 to 254, each at q 1.
@@ -232,7 +233,7 @@ fn numbered_targets() -> [(u16, u16); 255] {
 }
 
 #[test]
-fn the_257th_target_is_left(rt: HostRuntime) -> Result<(), Fail> {
+fn the_257th_target_is_left(rt: HostRuntime) {
     let steps = [
         Step::Starts(Happening::Redirects(0), 255, 1),
         Step::HasReceived(0, 302, 0),
@@ -245,11 +246,11 @@ fn the_257th_target_is_left(rt: HostRuntime) -> Result<(), Fail> {
         &numbered_targets(),
         &[(300, true), (301, true)],
         &steps,
-    )
+    );
 }
 
 #[test]
-fn others_challenges_are_added(rt: HostRuntime) -> Result<(), Fail> {
+fn others_challenges_are_added(rt: HostRuntime) {
     // one is busy, a server's challenge is chosen, and a proxy's goes up beside it
     let steps = [
         Step::Adds(NOTHING),
@@ -264,7 +265,7 @@ fn others_challenges_are_added(rt: HostRuntime) -> Result<(), Fail> {
         Step::Adds([(true, b'2'), (false, 0), (false, 0)]),
     ];
     for copied in [false, true] {
-        let fork = context(rt.alloc(), Kind::Invite, &[(1, 1000), (2, 1000), (3, 1000)])?;
+        let fork = context(rt.alloc(), Kind::Invite, &[(1, 1000), (2, 1000), (3, 1000)]);
         play_on(
             &rt,
             fork,
@@ -272,13 +273,12 @@ fn others_challenges_are_added(rt: HostRuntime) -> Result<(), Fail> {
             &[],
             copied,
             &steps,
-        )?;
+        );
     }
-    Ok(())
 }
 
 #[test]
-fn challenges_stand_by_arrival(rt: HostRuntime) -> Result<(), Fail> {
+fn challenges_stand_by_arrival(rt: HostRuntime) {
     let steps = [
         Step::Comes(Happening::Asks(3, 407, b'1', 1), Up::Nothing),
         Step::Comes(Happening::Asks(2, 407, b'2', 2), Up::Nothing),
@@ -295,11 +295,11 @@ fn challenges_stand_by_arrival(rt: HostRuntime) -> Result<(), Fail> {
         Kind::Other,
         &[(1, 1000), (2, 1000), (3, 1000), (4, 1000)],
         &steps,
-    )
+    );
 }
 
 #[test]
-fn another_choice_has_no_challenges(rt: HostRuntime) -> Result<(), Fail> {
+fn another_choice_has_no_challenges(rt: HostRuntime) {
     let steps = [
         Step::Comes(Happening::Asks(0, 401, b'1', 1), Up::Nothing),
         Step::Comes(Happening::Answers(1, 603), Up::Final(Choice::Stored(1))),
@@ -311,5 +311,5 @@ fn another_choice_has_no_challenges(rt: HostRuntime) -> Result<(), Fail> {
         Kind::Invite,
         &[(1, 1000), (2, 1000)],
         &steps,
-    )
+    );
 }

@@ -1,11 +1,10 @@
 //! Histories of a context as tables, and how one is played.
 use crate::context::happening::{Aim, Contact, Happening, context, event, key_of, text_of};
-use crate::holds::holds_at;
+use crate::holds::{holds, holds_at};
 use fork_context::{Challenge, Choice, Context, End, Event, Kind, Offer, Reply, State, Up};
 use fork_rank::Status;
-use std::alloc::{AllocError, Global};
+use std::alloc::Global;
 use std::process::Abort;
-use std::test::Fail;
 
 /// Challenges that are added to a final answer, each a proxy's or a server's, with its digit: a digit 0 ends the list.
 pub type Added = [(bool, u8); 3];
@@ -58,6 +57,16 @@ pub struct Told {
     pub up: Up,
 }
 
+/// What a reply is to say, of these parts.
+fn told_at(at: u32, started: (u16, u16), cancelled: Option<u16>, up: Up) -> Told {
+    Told {
+        at,
+        started,
+        cancelled,
+        up,
+    }
+}
+
 /// Whether the rows are so many from the first on.
 fn is_run(rows: &[u16], first: u16, count: u16) -> bool {
     for i in 0..rows.len() {
@@ -93,35 +102,53 @@ pub fn comes(fork: &mut Context, event: Event, told: Told) -> bool {
     }
 }
 
+/// Takes the event, if one is there; whether the reply is so.
+fn comes_if_any(fork: &mut Context, event: Option<Event>, told: Told) -> bool {
+    match event {
+        Some(event) => comes(fork, event, told),
+        None => false,
+    }
+}
+
+/// The copy of an event, if one is there.
+fn copy_of_any(alloc: Global, event: Option<Event>) -> Option<Event> {
+    match event {
+        Some(event) => copy_of(alloc, &event),
+        None => None,
+    }
+}
+
+fn copy_of(alloc: Global, event: &Event) -> Option<Event> {
+    match event.copy(&alloc) {
+        Ok(copy) => Some(copy),
+        Err(_) => None,
+    }
+}
+
 /// The event of what happens, or a copy of it.
 fn event_or_copy(
     alloc: Global,
     happening: Happening,
     contacts: &[Contact],
     copied: bool,
-) -> Result<Event, Fail> {
-    let event = event(alloc, happening, contacts)?;
+) -> Option<Event> {
     if copied {
-        return Ok(event.copy(&alloc)?);
+        copy_of_any(alloc, event(alloc, happening, contacts))
+    } else {
+        event(alloc, happening, contacts)
     }
-    Ok(event)
 }
 
 /// What happens at the step, and what the reply is to say; nothing where the step only asks.
-fn happens_at(step: Step, at: u32) -> Option<(Happening, Told)> {
-    let (happening, started, cancelled, up) = match step {
-        Step::Comes(happening, up) => (happening, (0, 0), None, up),
-        Step::Starts(happening, first, count) => (happening, (first, count), None, Up::Nothing),
-        Step::Cancels(happening, row, up) => (happening, (0, 0), Some(row), up),
-        _ => return None,
-    };
-    let told = Told {
-        at,
-        started,
-        cancelled,
-        up,
-    };
-    Some((happening, told))
+fn happens_at(step: &Step, at: u32) -> Option<(Happening, Told)> {
+    match *step {
+        Step::Comes(happening, up) => Some((happening, told_at(at, (0, 0), None, up))),
+        Step::Starts(happening, first, count) => {
+            Some((happening, told_at(at, (first, count), None, Up::Nothing)))
+        }
+        Step::Cancels(happening, row, up) => Some((happening, told_at(at, (0, 0), Some(row), up))),
+        _ => None,
+    }
 }
 
 fn has_key(fork: &Context, n: u16, number: Option<u16>) -> bool {
@@ -209,11 +236,11 @@ fn are_behind(challenges: &[Challenge], wanted: Added) -> bool {
 }
 
 /// Whether these challenges are added behind one that stands there before.
-fn adds(alloc: Global, fork: &Context, wanted: Added) -> Result<bool, AllocError> {
+fn adds(alloc: Global, fork: &Context, wanted: Added) -> bool {
     let mut out = Vec::new(alloc);
-    out.push(Challenge::new(true, Vec::new(alloc)))?;
-    fork.challenges(&mut out)?;
-    Ok(are_behind(&out, wanted))
+    out.push(Challenge::new(true, Vec::new(alloc))).is_ok()
+        && fork.challenges(&mut out).is_ok()
+        && are_behind(&out, wanted)
 }
 
 /// Whether what the step asks for holds.
@@ -246,10 +273,10 @@ fn row_is_so(fork: &Context, step: Step) -> bool {
 }
 
 /// Whether what the step asks for holds.
-fn asks(alloc: Global, fork: &Context, step: Step) -> Result<bool, AllocError> {
+fn asks(alloc: Global, fork: &Context, step: Step) -> bool {
     match step {
         Step::Adds(wanted) => adds(alloc, fork, wanted),
-        step => Ok(is_so(fork, step)),
+        step => is_so(fork, step),
     }
 }
 
@@ -261,14 +288,12 @@ fn does(
     at: u32,
     contacts: &[Contact],
     copied: bool,
-) -> Result<bool, Fail> {
-    match happens_at(step, at) {
-        Some((happening, told)) => {
-            let event = event_or_copy(alloc, happening, contacts, copied)?;
-            Ok(comes(fork, event, told))
-        }
-        None => Ok(asks(alloc, fork, step)?),
-    }
+) -> bool {
+    let Some((happening, told)) = happens_at(&step, at) else {
+        return asks(alloc, fork, step);
+    };
+    let event = event_or_copy(alloc, happening, contacts, copied);
+    comes_if_any(fork, event, told)
 }
 
 /// How many events the step has: one where something happens.
@@ -280,21 +305,35 @@ fn events_at(step: Step) -> u32 {
 }
 
 /// Plays the history on this context, which has taken no event.
-pub fn play_on(
+fn play_steps(
     rt: &(impl Abort + AllocGlobal),
-    mut fork: Context,
+    fork: &mut Context,
     name: &str,
     contacts: &[Contact],
     copied: bool,
     steps: &[Step],
-) -> Result<(), Fail> {
+) {
     let mut at = 0u32;
     for number in 0..steps.len() {
-        let well = does(rt.alloc(), &mut fork, steps[number], at, contacts, copied)?;
+        let well = does(rt.alloc(), fork, steps[number], at, contacts, copied);
         holds_at(rt, well, name, number);
         at = at.saturating_add(events_at(steps[number]));
     }
-    Ok(())
+}
+
+/// Plays the history on this context, which was made and has taken no event.
+pub fn play_on(
+    rt: &(impl Abort + AllocGlobal),
+    fork: Option<Context>,
+    name: &str,
+    contacts: &[Contact],
+    copied: bool,
+    steps: &[Step],
+) {
+    match fork {
+        Some(mut fork) => play_steps(rt, &mut fork, name, contacts, copied, steps),
+        None => holds(rt, false, "the context is made"),
+    }
 }
 
 /// Plays the history on the context of such a request to these targets, under the usual rules.
@@ -304,15 +343,9 @@ pub fn play(
     kind: Kind,
     targets: &[Aim],
     steps: &[Step],
-) -> Result<(), Fail> {
-    play_on(
-        rt,
-        context(rt.alloc(), kind, targets)?,
-        name,
-        &[],
-        false,
-        steps,
-    )
+) {
+    let fork = context(rt.alloc(), kind, targets);
+    play_on(rt, fork, name, &[], false, steps);
 }
 
 /// The same of an INVITE, with these contacts in its redirection.
@@ -322,7 +355,7 @@ pub fn play_redirected(
     targets: &[Aim],
     contacts: &[Contact],
     steps: &[Step],
-) -> Result<(), Fail> {
-    let fork = context(rt.alloc(), Kind::Invite, targets)?;
-    play_on(rt, fork, name, contacts, false, steps)
+) {
+    let fork = context(rt.alloc(), Kind::Invite, targets);
+    play_on(rt, fork, name, contacts, false, steps);
 }

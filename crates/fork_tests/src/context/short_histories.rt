@@ -3,7 +3,6 @@ use crate::context::happening::{Aim, Happening, context, event};
 use crate::holds::holds;
 use fork_context::{Context, Event, Kind, Up};
 use std::alloc::Global;
-use std::test::Fail;
 
 /// So many things may happen to each row.
 const EACH: u32 = 9;
@@ -48,24 +47,38 @@ fn is_final_due(fork: &Context) -> bool {
     fork.finished() && !fork.succeeded()
 }
 
-/// Whether a final answer goes up exactly where one comes to be due, and none that was due is due no more; a redirection names
-/// one contact, the same from each row.
-fn goes_on_right(alloc: Global, fork: &mut Context, number: u32) -> Result<bool, Fail> {
-    let event = event(alloc, happening(number), &[(100, true)])?;
+/// Whether a final answer goes up with the event exactly where one comes to be due, and none that was due is due no more.
+fn goes_on_with(fork: &mut Context, event: Event) -> bool {
     let was_due = is_final_due(fork);
     let goes_up = sends_final(fork, event);
     let is_due = is_final_due(fork);
-    Ok(goes_up == Some(is_due && !was_due) && (is_due || !was_due))
+    goes_up == Some(is_due && !was_due) && (is_due || !was_due)
+}
+
+/// Whether it does with what happens; a redirection names one contact, the same from each row.
+fn goes_on_right(alloc: Global, fork: &mut Context, number: u32) -> bool {
+    match event(alloc, happening(number), &[(100, true)]) {
+        Some(event) => goes_on_with(fork, event),
+        None => false,
+    }
 }
 
 /// Whether after each of these four events one final answer has gone up where the fork has finished without a 2xx, and
 /// none else.
-fn goes_right(alloc: Global, mut fork: Context, history: [u32; 4]) -> Result<bool, Fail> {
-    let mut right = !is_final_due(&fork);
+fn goes_right(alloc: Global, fork: &mut Context, history: [u32; 4]) -> bool {
+    let mut right = !is_final_due(fork);
     for number in history {
-        right = goes_on_right(alloc, &mut fork, number)? && right;
+        right = goes_on_right(alloc, fork, number) && right;
     }
-    Ok(right)
+    right
+}
+
+/// Whether that is so of an INVITE to these targets.
+fn history_goes_right(alloc: Global, list: &[Aim], history: [u32; 4]) -> bool {
+    match context(alloc, Kind::Invite, list) {
+        Some(mut fork) => goes_right(alloc, &mut fork, history),
+        None => false,
+    }
 }
 
 /// The numbers of what happens in the history of this number, where so many things may happen.
@@ -78,39 +91,35 @@ fn digits(history: u32, count: u32) -> [u32; 4] {
 
 /// How many histories of four events on so many rows, and with them the shorter ones, go right before one does not, if one
 /// does not.
-fn walk(alloc: Global, list: &[Aim], rows: u32) -> Result<u32, Fail> {
+fn walk(alloc: Global, list: &[Aim], rows: u32) -> u32 {
     let count = rows.saturating_mul(EACH).saturating_add(1);
     let histories = count.saturating_pow(4);
     for history in 0..histories {
-        let fork = context(alloc, Kind::Invite, list)?;
-        if !goes_right(alloc, fork, digits(history, count))? {
-            return Ok(history);
+        if !history_goes_right(alloc, list, digits(history, count)) {
+            return history;
         }
     }
-    Ok(histories)
+    histories
 }
 
 #[test]
-fn one_target_and_a_contact(rt: HostRuntime) -> Result<(), Fail> {
-    let walked = walk(rt.alloc(), &[(1, 1000)], 2)?;
+fn one_target_and_a_contact(rt: HostRuntime) {
+    let walked = walk(rt.alloc(), &[(1, 1000)], 2);
     holds(&rt, walked == 130_321, "one target and a contact");
-    Ok(())
 }
 
 #[test]
-fn two_targets_in_series_and_a_contact(rt: HostRuntime) -> Result<(), Fail> {
-    let walked = walk(rt.alloc(), &[(1, 1000), (2, 500)], 3)?;
+fn two_targets_in_series_and_a_contact(rt: HostRuntime) {
+    let walked = walk(rt.alloc(), &[(1, 1000), (2, 500)], 3);
     holds(
         &rt,
         walked == 614_656,
         "two targets in series and a contact",
     );
-    Ok(())
 }
 
 #[test]
-fn three_targets_of_two_groups(rt: HostRuntime) -> Result<(), Fail> {
-    let walked = walk(rt.alloc(), &[(1, 1000), (2, 1000), (3, 500)], 3)?;
+fn three_targets_of_two_groups(rt: HostRuntime) {
+    let walked = walk(rt.alloc(), &[(1, 1000), (2, 1000), (3, 500)], 3);
     holds(&rt, walked == 614_656, "three targets of two groups");
-    Ok(())
 }

@@ -1,12 +1,13 @@
 //! Listings of random forks in which one byte or one word of a line was replaced: where the other lines tell what
 //! stands there, no other is accepted.
+use crate::bytes::is;
+use crate::holds::holds;
 use crate::listing::play::some_listing;
 use crate::listing::read::{
-    append_line, holds_at, is_right, is_target, is_word, line, lines, next, word, words,
+    adds_line, holds_at, is_right, is_target, is_word, line, lines, next, with_byte, word, words,
 };
-use std::alloc::{AllocError, Global};
+use std::alloc::Global;
 use std::process::Abort;
-use std::test::Fail;
 
 /// How many forks are listed.
 const FORKS: u32 = 30;
@@ -40,62 +41,47 @@ const WORDS: [&str; 22] = [
     "4294967295",
 ];
 
-/// Appends a space before each word but the first, and the word.
-fn append_word(out: &mut Vec<u8>, n: usize, word: &[u8]) -> Result<(), AllocError> {
-    if n > 0 {
-        out.push(b' ')?;
-    }
-    out.extend_from_slice(word)
+/// Appends a space before each word but the first, and the word; whether there was memory for them.
+fn adds_word(out: &mut Vec<u8>, n: usize, word: &[u8]) -> bool {
+    (n == 0 || out.push(b' ').is_ok()) && out.extend_from_slice(word).is_ok()
 }
 
-/// Appends a line with the word of this number replaced.
-fn append_altered(
-    out: &mut Vec<u8>,
-    line: &[u8],
-    place: usize,
-    new: &[u8],
-) -> Result<(), AllocError> {
+/// Appends a line with the word of this number replaced; whether there was memory for it.
+fn adds_altered(out: &mut Vec<u8>, line: &[u8], place: usize, new: &[u8]) -> bool {
     for n in 0..words(line) {
-        append_word(out, n, if n == place { new } else { word(line, n) })?;
-    }
-    out.push(b'\n')?;
-    Ok(())
-}
-
-/// The text with a word of a line replaced.
-fn altered(
-    alloc: Global,
-    text: &[u8],
-    at: usize,
-    place: usize,
-    new: &[u8],
-) -> Result<Vec<u8>, AllocError> {
-    let mut out = Vec::new(alloc);
-    for n in 0..lines(text).saturating_sub(1) {
-        if n == at {
-            append_altered(&mut out, line(text, n), place, new)?;
-        } else {
-            append_line(&mut out, line(text, n))?;
+        let word = if n == place { new } else { word(line, n) };
+        if !adds_word(out, n, word) {
+            return false;
         }
     }
-    Ok(out)
+    out.push(b'\n').is_ok()
+}
+
+/// Appends the text with a word of a line replaced; whether there was memory for it.
+fn adds_all_altered(out: &mut Vec<u8>, text: &[u8], at: usize, place: usize, new: &[u8]) -> bool {
+    for n in 0..lines(text).saturating_sub(1) {
+        let added = if n == at {
+            adds_altered(out, line(text, n), place, new)
+        } else {
+            adds_line(out, line(text, n))
+        };
+        if !added {
+            return false;
+        }
+    }
+    true
 }
 
 /// Whether the check refuses a text in the place of another, unless they are the same.
 fn is_other_refused(alloc: Global, text: &[u8], text_after: &[u8]) -> bool {
-    text_after == text || !is_right(alloc, text_after)
+    is(text_after, text) || !is_right(alloc, text_after)
 }
 
 /// Whether the check refuses the text with a word of a line replaced, unless that changes nothing.
-fn is_refused(
-    alloc: Global,
-    text: &[u8],
-    at: usize,
-    place: usize,
-    new: &[u8],
-) -> Result<bool, AllocError> {
-    let text_after = altered(alloc, text, at, place, new)?;
-    Ok(is_other_refused(alloc, text, &text_after))
+fn is_refused(alloc: Global, text: &[u8], at: usize, place: usize, new: &[u8]) -> bool {
+    let mut text_after = Vec::new(alloc);
+    adds_all_altered(&mut text_after, text, at, place, new)
+        && is_other_refused(alloc, text, &text_after)
 }
 
 /// Where the lines of the ranks begin, or the last line.
@@ -111,15 +97,6 @@ fn ranks_at(text: &[u8]) -> usize {
     start
 }
 
-/// The text with this byte replaced.
-fn with_byte(alloc: Global, text: &[u8], place: usize, byte: u8) -> Result<Vec<u8>, AllocError> {
-    let mut text_after = text.to_vec(alloc)?;
-    if let Some(there) = text_after.get_mut(place) {
-        *there = byte;
-    }
-    Ok(text_after)
-}
-
 /// Some byte that is put in the place of another.
 fn some_byte(seed: &mut u64) -> u8 {
     let drawn = usize::from(next(seed, BYTES.len() as u64));
@@ -133,38 +110,30 @@ fn some_word(seed: &mut u64) -> &'static str {
 }
 
 /// Whether the check refuses the text with this byte replaced by some other.
-fn is_byte_fixed(
-    alloc: Global,
-    text: &[u8],
-    place: usize,
-    seed: &mut u64,
-) -> Result<bool, AllocError> {
-    let text_after = with_byte(alloc, text, place, some_byte(seed))?;
-    Ok(is_other_refused(alloc, text, &text_after))
+fn is_byte_fixed(alloc: Global, text: &[u8], place: usize, seed: &mut u64) -> bool {
+    match with_byte(alloc, text, place, some_byte(seed)) {
+        Some(text_after) => is_other_refused(alloc, text, &text_after),
+        None => false,
+    }
 }
 
-/// Checks each byte from this place on.
-fn hold_bytes(
-    rt: &(impl Abort + AllocGlobal),
-    text: &[u8],
-    start: usize,
-    seed: &mut u64,
-) -> Result<(), AllocError> {
-    for place in start..text.len() {
-        let well = is_byte_fixed(rt.alloc(), text, place, seed)?;
+/// Checks each byte of the ranks and the last line.
+fn hold_bytes(rt: &(impl Abort + AllocGlobal), text: &[u8], seed: &mut u64) {
+    for place in ranks_at(text)..text.len() {
+        let well = is_byte_fixed(rt.alloc(), text, place, seed);
         holds_at(rt, well, "another byte is refused", place, text);
     }
-    Ok(())
 }
 
 #[test]
-fn each_byte_of_the_ranks_and_the_last_line_counts(rt: HostRuntime) -> Result<(), Fail> {
+fn each_byte_of_the_ranks_and_the_last_line_counts(rt: HostRuntime) {
     let mut seed = 11u64;
     for _ in 0..FORKS {
-        let text = some_listing(rt.alloc(), &mut seed)?;
-        hold_bytes(&rt, &text, ranks_at(&text), &mut seed)?;
+        match some_listing(rt.alloc(), &mut seed) {
+            Some(text) => hold_bytes(&rt, &text, &mut seed),
+            None => holds(&rt, false, "a fork is listed"),
+        }
     }
-    Ok(())
 }
 
 /// Whether other lines tell the word of this number: all words, but for the preferred statuses, the depth, parents, q's
@@ -178,43 +147,34 @@ fn is_told(line: &[u8], place: usize) -> bool {
 }
 
 /// Whether the check refuses the text with a word of this line that other lines tell replaced by some other.
-fn is_line_fixed(
-    alloc: Global,
-    text: &[u8],
-    at: usize,
-    seed: &mut u64,
-) -> Result<bool, AllocError> {
+fn is_line_fixed(alloc: Global, text: &[u8], at: usize, seed: &mut u64) -> bool {
     let old = line(text, at);
     for place in 0..words(old) {
         let new = some_word(seed);
-        if is_told(old, place) && !is_refused(alloc, text, at, place, new.as_bytes())? {
-            return Ok(false);
+        if is_told(old, place) && !is_refused(alloc, text, at, place, new.as_bytes()) {
+            return false;
         }
     }
-    Ok(true)
+    true
 }
 
 /// Checks the words of each line.
-fn hold_words(
-    rt: &(impl Abort + AllocGlobal),
-    text: &[u8],
-    seed: &mut u64,
-) -> Result<(), AllocError> {
+fn hold_words(rt: &(impl Abort + AllocGlobal), text: &[u8], seed: &mut u64) {
     for at in 0..lines(text).saturating_sub(1) {
-        let well = is_line_fixed(rt.alloc(), text, at, seed)?;
+        let well = is_line_fixed(rt.alloc(), text, at, seed);
         holds_at(rt, well, "another word in a line is refused", at, text);
     }
-    Ok(())
 }
 
 #[test]
-fn words_that_other_lines_tell_are_checked(rt: HostRuntime) -> Result<(), Fail> {
+fn words_that_other_lines_tell_are_checked(rt: HostRuntime) {
     let mut seed = 12u64;
     for _ in 0..FORKS {
-        let text = some_listing(rt.alloc(), &mut seed)?;
-        hold_words(&rt, &text, &mut seed)?;
+        match some_listing(rt.alloc(), &mut seed) {
+            Some(text) => hold_words(&rt, &text, &mut seed),
+            None => holds(&rt, false, "a fork is listed"),
+        }
     }
-    Ok(())
 }
 
 /// Which word of a target's line is the position of the event that ended it; none where it was never tried.
@@ -229,90 +189,89 @@ fn arrival_place(line: &[u8]) -> Option<usize> {
 }
 
 /// Whether the check refuses the text with this arrival put in the place of that of the line, unless that is the same.
-fn is_arrival_refused(
-    alloc: Global,
-    text: &[u8],
-    at: usize,
-    arrival: &[u8],
-) -> Result<bool, AllocError> {
+fn is_arrival_refused(alloc: Global, text: &[u8], at: usize, arrival: &[u8]) -> bool {
     match arrival_place(line(text, at)) {
         Some(place) => is_refused(alloc, text, at, place, arrival),
-        None => Ok(true),
+        None => true,
     }
+}
+
+/// Whether the check refuses the text with this arrival put in the place of each.
+fn is_refused_of_each(alloc: Global, text: &[u8], arrival: &[u8]) -> bool {
+    for n in 0..lines(text) {
+        if !is_arrival_refused(alloc, text, n, arrival) {
+            return false;
+        }
+    }
+    true
 }
 
 /// Whether the check refuses the text with the arrival of this line put in the place of each other.
-fn is_arrival_once(alloc: Global, text: &[u8], at: usize) -> Result<bool, AllocError> {
+fn is_arrival_once(alloc: Global, text: &[u8], at: usize) -> bool {
     let old = line(text, at);
-    let Some(place) = arrival_place(old) else {
-        return Ok(true);
-    };
-    for n in 0..lines(text) {
-        if !is_arrival_refused(alloc, text, n, word(old, place))? {
-            return Ok(false);
-        }
+    match arrival_place(old) {
+        Some(place) => is_refused_of_each(alloc, text, word(old, place)),
+        None => true,
     }
-    Ok(true)
 }
 
-/// A q above this one: ten times as much and nine, which is of the form of a q where this is below 100.
-fn greater_q(alloc: Global, q: &[u8]) -> Result<Vec<u8>, AllocError> {
-    let mut greater = if q == b"0".as_slice() {
-        Vec::new(alloc)
-    } else {
-        q.to_vec(alloc)?
-    };
-    greater.push(b'9')?;
-    Ok(greater)
+/// Appends a q above this one: ten times as much and nine, which is of the form of a q where this is below 100; whether
+/// there was memory for it.
+fn adds_greater_q(greater: &mut Vec<u8>, q: &[u8]) -> bool {
+    (is(q, b"0") || greater.extend_from_slice(q).is_ok()) && greater.push(b'9').is_ok()
+}
+
+/// Whether the check refuses the text with a q of this line that is above this one.
+fn is_greater_refused(alloc: Global, text: &[u8], at: usize, q: &[u8]) -> bool {
+    let mut greater = Vec::new(alloc);
+    adds_greater_q(&mut greater, q) && is_refused(alloc, text, at, 3, &greater)
 }
 
 /// Whether the check refuses the text with a q of this line that is above that of the line before, where both stand
 /// under the same parent.
-fn is_q_falling(alloc: Global, text: &[u8], at: usize) -> Result<bool, AllocError> {
+fn is_q_falling(alloc: Global, text: &[u8], at: usize) -> bool {
     let before = line(text, at.wrapping_sub(1));
-    if !is_target(before) || word(before, 2) != word(line(text, at), 2) {
-        return Ok(true);
-    }
-    is_refused(alloc, text, at, 3, &greater_q(alloc, word(before, 3))?)
+    !is_target(before)
+        || !is(word(before, 2), word(line(text, at), 2))
+        || is_greater_refused(alloc, text, at, word(before, 3))
 }
 
 /// Whether the check refuses the text with this branch under itself, or under one behind it.
-fn is_parent_earlier(alloc: Global, text: &[u8], at: usize) -> Result<bool, AllocError> {
+fn is_parent_earlier(alloc: Global, text: &[u8], at: usize) -> bool {
     for n in at..lines(text) {
         let other = line(text, n);
-        if is_target(other) && !is_refused(alloc, text, at, 2, word(other, 1))? {
-            return Ok(false);
+        if is_target(other) && !is_refused(alloc, text, at, 2, word(other, 1)) {
+            return false;
         }
     }
-    Ok(true)
+    true
 }
 
 /// Checks the arrival, the q and the parent of the target in this line.
-fn hold_target(rt: &(impl Abort + AllocGlobal), text: &[u8], at: usize) -> Result<(), AllocError> {
-    let well = is_arrival_once(rt.alloc(), text, at)?;
+fn hold_target(rt: &(impl Abort + AllocGlobal), text: &[u8], at: usize) {
+    let well = is_arrival_once(rt.alloc(), text, at);
     holds_at(rt, well, "an arrival stands once", at, text);
-    let well = is_q_falling(rt.alloc(), text, at)?;
+    let well = is_q_falling(rt.alloc(), text, at);
     holds_at(rt, well, "no q is above that before it", at, text);
-    let well = is_parent_earlier(rt.alloc(), text, at)?;
+    let well = is_parent_earlier(rt.alloc(), text, at);
     holds_at(rt, well, "a parent stands before its branches", at, text);
-    Ok(())
 }
 
-fn hold_targets(rt: &(impl Abort + AllocGlobal), text: &[u8]) -> Result<(), AllocError> {
+fn hold_targets(rt: &(impl Abort + AllocGlobal), text: &[u8]) {
     for at in 0..lines(text) {
         if is_target(line(text, at)) {
-            hold_target(rt, text, at)?;
+            hold_target(rt, text, at);
         }
     }
-    Ok(())
 }
 
 #[test]
-fn targets_stay_in_their_order(rt: HostRuntime) -> Result<(), Fail> {
+fn targets_stay_in_their_order(rt: HostRuntime) {
     let mut seed = 13u64;
     for _ in 0..FORKS {
-        let text = some_listing(rt.alloc(), &mut seed)?;
-        hold_targets(&rt, &text)?;
+        match some_listing(rt.alloc(), &mut seed) {
+            Some(text) => hold_targets(&rt, &text),
+            None => holds(&rt, false, "a fork is listed"),
+        }
     }
-    Ok(())
 }

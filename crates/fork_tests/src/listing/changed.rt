@@ -2,11 +2,11 @@
 use crate::holds::holds;
 use crate::listing::play::some_listing;
 use crate::listing::read::{
-    append_line, ended_lines, holds_at, is_right, is_target, is_word, line, lines, next, word,
+    adds_line, ended_lines, holds_at, is_right, is_target, is_word, line, lines, next, with_byte,
+    word,
 };
-use std::alloc::{AllocError, Global};
+use std::alloc::Global;
 use std::process::Abort;
-use std::test::Fail;
 
 /// How many forks are listed.
 const FORKS: u32 = 40;
@@ -14,75 +14,83 @@ const FORKS: u32 = 40;
 const TEXT: &str =
     "fork 1 3\ntarget 0 - 1000 taken 0\ntarget 1 0 900 stored 404 2 received\ntarget 2 0 800 stored 408 3 assumed\nrank 404 1 2\nrank 408 2 3\nfinal 404 1\n";
 
-/// The text with the line of this number left out, and put before the line of another number where that is Some.
-fn moved(
-    alloc: Global,
-    text: &[u8],
-    from: usize,
-    to: Option<usize>,
-) -> Result<Vec<u8>, AllocError> {
-    let mut out = Vec::new(alloc);
-    for k in 0..lines(text) {
-        if to == Some(k) {
-            append_line(&mut out, line(text, from))?;
-        }
-        if k != from && !line(text, k).is_empty() {
-            append_line(&mut out, line(text, k))?;
-        }
-    }
-    Ok(out)
+/// Adds a line of this number, unless it is the one that is moved or empty, with the one that is moved before it where that
+/// goes there; whether there was memory for them.
+fn adds_moved(out: &mut Vec<u8>, text: &[u8], k: usize, from: usize, to: Option<usize>) -> bool {
+    let before = to != Some(k) || adds_line(out, line(text, from));
+    let is_left_out = k == from || line(text, k).is_empty();
+    before && (is_left_out || adds_line(out, line(text, k)))
 }
 
-/// Whether the check refuses the text with a line moved so.
-fn is_refused(
-    alloc: Global,
+/// Adds the text with a line moved so; whether there was memory for it.
+fn adds_all_moved(out: &mut Vec<u8>, text: &[u8], from: usize, to: Option<usize>) -> bool {
+    for k in 0..lines(text) {
+        if !adds_moved(out, text, k, from, to) {
+            return false;
+        }
+    }
+    true
+}
+
+/// Whether the check refuses the text with the line of this number left out, and put before the line of another number where
+/// that is Some.
+fn is_refused(alloc: Global, text: &[u8], from: usize, to: Option<usize>) -> bool {
+    let mut out = Vec::new(alloc);
+    adds_all_moved(&mut out, text, from, to) && !is_right(alloc, &out)
+}
+
+/// Checks that this line cannot be left out, nor put to a drawn place.
+fn line_holds_in_place(
+    rt: &(impl Abort + AllocGlobal),
     text: &[u8],
     from: usize,
-    to: Option<usize>,
-) -> Result<bool, AllocError> {
-    Ok(!is_right(alloc, &moved(alloc, text, from, to)?))
+    count: usize,
+    seed: &mut u64,
+) {
+    let well = is_refused(rt.alloc(), text, from, None);
+    holds_at(rt, well, "a listing without a line is refused", from, text);
+    let to = usize::from(next(seed, 8));
+    if to != from && to != from.wrapping_add(1) && to < count {
+        let well = is_refused(rt.alloc(), text, from, Some(to));
+        holds_at(
+            rt,
+            well,
+            "a listing with a line moved is refused",
+            from,
+            text,
+        );
+    }
 }
 
 /// Checks that no line can be left out, and none put elsewhere.
-fn holds_in_place(
-    rt: &(impl Abort + AllocGlobal),
-    text: &[u8],
-    seed: &mut u64,
-) -> Result<(), AllocError> {
+fn holds_in_place(rt: &(impl Abort + AllocGlobal), text: &[u8], seed: &mut u64) {
     let count = ended_lines(text);
     for from in 0..count {
-        let well = is_refused(rt.alloc(), text, from, None)?;
-        holds_at(rt, well, "a listing without a line is refused", from, text);
-        let to = usize::from(next(seed, 8));
-        if to != from && to != from.wrapping_add(1) && to < count {
-            let well = is_refused(rt.alloc(), text, from, Some(to))?;
-            holds_at(
-                rt,
-                well,
-                "a listing with a line moved is refused",
-                from,
-                text,
-            );
-        }
+        line_holds_in_place(rt, text, from, count, seed);
     }
-    Ok(())
+}
+
+/// Checks that the listing of this number is right, and that no line of it can be elsewhere.
+fn holds_as_it_stands(rt: &(impl Abort + AllocGlobal), text: &[u8], n: u32, seed: &mut u64) {
+    holds_at(
+        rt,
+        is_right(rt.alloc(), text),
+        "the listing of a fork is right",
+        n as usize,
+        text,
+    );
+    holds_in_place(rt, text, seed);
 }
 
 #[test]
-fn changed_listings_are_refused(rt: HostRuntime) -> Result<(), Fail> {
+fn changed_listings_are_refused(rt: HostRuntime) {
     let mut seed = 5u64;
     for n in 0..FORKS {
-        let text = some_listing(rt.alloc(), &mut seed)?;
-        holds_at(
-            &rt,
-            is_right(rt.alloc(), &text),
-            "the listing of a fork is right",
-            n as usize,
-            &text,
-        );
-        holds_in_place(&rt, &text, &mut seed)?;
+        match some_listing(rt.alloc(), &mut seed) {
+            Some(text) => holds_as_it_stands(&rt, &text, n, &mut seed),
+            None => holds(&rt, false, "a fork is listed"),
+        }
     }
-    Ok(())
 }
 
 /// How many lines begin with this word and have that one at this place.
@@ -144,37 +152,41 @@ fn tells_its_answers(text: &[u8]) -> bool {
         && is_last_of(first_of(text, "final"), first_of(text, "rank"))
 }
 
-/// The text with the byte at this place changed.
-fn with_byte(alloc: Global, place: usize, byte: u8) -> Result<Vec<u8>, AllocError> {
-    let mut text = TEXT.as_bytes().to_vec(alloc)?;
-    if let Some(there) = text.get_mut(place) {
-        *there = byte;
-    }
-    Ok(text)
+/// Checks that a text that is right tells its answers; whether it is right.
+fn is_accepted_of(rt: &(impl Abort + AllocGlobal), text: &[u8], place: usize) -> bool {
+    let accepted = is_right(rt.alloc(), text);
+    let well = !accepted || tells_its_answers(text);
+    holds_at(rt, well, "an accepted text tells its answers", place, text);
+    accepted
 }
 
 /// Whether the text with this byte changed is right; where it is, checks that it tells its answers.
-fn is_accepted(
-    rt: &(impl Abort + AllocGlobal),
-    place: usize,
-    byte: u8,
-) -> Result<bool, AllocError> {
-    let text = with_byte(rt.alloc(), place, byte)?;
-    let accepted = is_right(rt.alloc(), &text);
-    let well = !accepted || tells_its_answers(&text);
-    holds_at(rt, well, "an accepted text tells its answers", place, &text);
-    Ok(accepted)
+fn is_accepted(rt: &(impl Abort + AllocGlobal), place: usize, byte: u8) -> bool {
+    match with_byte(rt.alloc(), TEXT.as_bytes(), place, byte) {
+        Some(text) => is_accepted_of(rt, &text, place),
+        None => {
+            holds(rt, false, "there is memory for the text");
+            false
+        }
+    }
+}
+
+/// How many texts are right with another byte at this place.
+fn accepted_at(rt: &(impl Abort + AllocGlobal), place: usize) -> usize {
+    let mut accepted = 0usize;
+    for byte in [b'0', b'1', b'3', b'5', b'9', b'-', b' ', b'\n', b'a', 255u8] {
+        if is_accepted(rt, place, byte) {
+            accepted = accepted.wrapping_add(1);
+        }
+    }
+    accepted
 }
 
 #[test]
-fn one_changed_byte_is_never_believed(rt: HostRuntime) -> Result<(), Fail> {
+fn one_changed_byte_is_never_believed(rt: HostRuntime) {
     let mut accepted = 0usize;
     for place in 0..TEXT.len() {
-        for byte in [b'0', b'1', b'3', b'5', b'9', b'-', b' ', b'\n', b'a', 255u8] {
-            if is_accepted(&rt, place, byte)? {
-                accepted = accepted.wrapping_add(1);
-            }
-        }
+        accepted = accepted.wrapping_add(accepted_at(&rt, place));
     }
     // a q may be another, and so may the moment of a branch that stored nothing
     holds(
@@ -182,5 +194,4 @@ fn one_changed_byte_is_never_believed(rt: HostRuntime) -> Result<(), Fail> {
         accepted > TEXT.len() / 10,
         "some changed texts are accepted",
     );
-    Ok(())
 }

@@ -1,10 +1,10 @@
 //! What happens to a fork, as data, and the listing that it then has.
+use crate::bytes::copy_of;
 use crate::listing::read::next;
 use fork_context::{Answer, Context, Event, Kind, Offer, Target};
 use fork_listing::{ListFault, listing};
 use fork_rank::{Preferred, RingStatus, Rules, Status};
-use std::alloc::{AllocError, Global};
-use std::test::Fail;
+use std::alloc::Global;
 
 /// A target: its key, and its q in thousandths.
 pub type Aim<'a> = (&'a str, u16);
@@ -24,86 +24,155 @@ pub enum Step<'a> {
     Cancel,
 }
 
-fn final_status(code: u16) -> Result<Status, Fail> {
-    Ok(Status::of(code).ok_or("no final status")?)
+/// The event of a provisional answer.
+fn ringing(n: u16) -> Option<Event> {
+    match RingStatus::of(180) {
+        Some(status) => Some(Event::Ring(n, status)),
+        None => None,
+    }
 }
 
-fn ringing(n: u16) -> Result<Event, Fail> {
-    Ok(Event::Ring(n, RingStatus::of(180).ok_or("no provisional status")?))
+/// The event of a final answer of this status with these contacts.
+fn answer(alloc: Global, n: u16, code: u16, offers: Vec<Offer>) -> Option<Event> {
+    match Status::of(code) {
+        Some(status) => Some(Event::Answer(n, Answer::new(status, offers, Vec::new(alloc)))),
+        None => None,
+    }
 }
 
-fn answer(alloc: Global, n: u16, code: u16) -> Result<Event, Fail> {
-    let status = final_status(code)?;
-    Ok(Event::Answer(n, Answer::new(status, Vec::new(alloc), Vec::new(alloc))))
+/// A contact of that text at q 1, with its name for its key.
+fn offer_of(alloc: Global, text: Vec<u8>, name: &str) -> Option<Offer> {
+    match copy_of(alloc, name.as_bytes()) {
+        Some(key) => Some(Offer::new(text, 1000, Some(key))),
+        None => None,
+    }
 }
 
 /// A contact at q 1, with its text for its key.
-fn offer(alloc: Global, name: &str) -> Result<Offer, AllocError> {
-    let text = name.as_bytes().to_vec(alloc)?;
-    let key = name.as_bytes().to_vec(alloc)?;
-    Ok(Offer::new(text, 1000, Some(key)))
-}
-
-fn offers(alloc: Global, names: &[&str]) -> Result<Vec<Offer>, AllocError> {
-    let mut offers = Vec::new(alloc);
-    for name in names {
-        offers.push(offer(alloc, name)?)?;
+fn offer(alloc: Global, name: &str) -> Option<Offer> {
+    match copy_of(alloc, name.as_bytes()) {
+        Some(text) => offer_of(alloc, text, name),
+        None => None,
     }
-    Ok(offers)
 }
 
-fn redirection(alloc: Global, n: u16, names: &[&str]) -> Result<Event, Fail> {
-    let status = final_status(302)?;
-    let offers = offers(alloc, names)?;
-    Ok(Event::Answer(n, Answer::new(status, offers, Vec::new(alloc))))
+/// Adds a contact; whether there was memory for it.
+fn pushes_offer(alloc: Global, offers: &mut Vec<Offer>, name: &str) -> bool {
+    match offer(alloc, name) {
+        Some(offer) => offers.push(offer).is_ok(),
+        None => false,
+    }
 }
 
-fn event(alloc: Global, step: Step<'_>) -> Result<Event, Fail> {
+/// Adds these contacts; whether there was memory for them.
+fn pushes_offers(alloc: Global, offers: &mut Vec<Offer>, names: &[&str]) -> bool {
+    for name in names {
+        if !pushes_offer(alloc, offers, name) {
+            return false;
+        }
+    }
+    true
+}
+
+/// The event of a 302 with these contacts.
+fn redirection(alloc: Global, n: u16, names: &[&str]) -> Option<Event> {
+    let mut offers = Vec::new(alloc);
+    if pushes_offers(alloc, &mut offers, names) {
+        answer(alloc, n, 302, offers)
+    } else {
+        None
+    }
+}
+
+fn event(alloc: Global, step: Step<'_>) -> Option<Event> {
     match step {
         Step::Rings(n) => ringing(n),
-        Step::Answers(n, code) => answer(alloc, n, code),
+        Step::Answers(n, code) => answer(alloc, n, code, Vec::new(alloc)),
         Step::Redirects(n, names) => redirection(alloc, n, names),
-        Step::TimesOut(n) => Ok(Event::Timeout(n)),
-        Step::Fails(n) => Ok(Event::Fault(n)),
-        Step::GivesUp(n) => Ok(Event::GiveUp(n)),
-        Step::Cancel => Ok(Event::Cancel),
+        Step::TimesOut(n) => Some(Event::Timeout(n)),
+        Step::Fails(n) => Some(Event::Fault(n)),
+        Step::GivesUp(n) => Some(Event::GiveUp(n)),
+        Step::Cancel => Some(Event::Cancel),
     }
 }
 
-/// Lets the event happen. A refused one is a fault of the test, since no history of a test is full.
-fn post(fork: &mut Context, event: Event) -> Result<(), Fail> {
-    match fork.post(event) {
-        Ok(_) => Ok(()),
-        Err(_) => Err(Fail::from("the event was refused")),
+/// Lets the event happen; whether it was taken. A refused one is a fault of the test, since no history of a test is full.
+fn takes(fork: &mut Context, event: Option<Event>) -> bool {
+    match event {
+        Some(event) => fork.post(event).is_ok(),
+        None => false,
     }
 }
 
-/// Lets each step happen.
-fn take(alloc: Global, fork: &mut Context, steps: &[Step<'_>]) -> Result<(), Fail> {
+/// Lets each step happen; whether each was taken.
+fn takes_steps(alloc: Global, fork: &mut Context, steps: &[Step<'_>]) -> bool {
     for &step in steps {
-        post(fork, event(alloc, step)?)?;
+        if !takes(fork, event(alloc, step)) {
+            return false;
+        }
     }
-    Ok(())
+    true
 }
 
-fn targets(alloc: Global, aims: &[Aim<'_>]) -> Result<Vec<Target>, AllocError> {
-    let mut targets = Vec::new(alloc);
-    for &(key, q) in aims {
-        targets.push(Target::new(key.as_bytes().to_vec(alloc)?, q.min(1000)))?;
+/// Adds a target; whether there was memory for it.
+fn pushes_target(alloc: Global, targets: &mut Vec<Target>, key: &str, q: u16) -> bool {
+    match copy_of(alloc, key.as_bytes()) {
+        Some(key) => targets.push(Target::new(key, q.min(1000))).is_ok(),
+        None => false,
     }
-    Ok(targets)
+}
+
+/// Adds these targets; whether there was memory for them.
+fn pushes_targets(alloc: Global, targets: &mut Vec<Target>, aims: &[Aim<'_>]) -> bool {
+    for &(key, q) in aims {
+        if !pushes_target(alloc, targets, key, q) {
+            return false;
+        }
+    }
+    true
+}
+
+fn targets(alloc: Global, aims: &[Aim<'_>]) -> Option<Vec<Target>> {
+    let mut targets = Vec::new(alloc);
+    if pushes_targets(alloc, &mut targets, aims) {
+        Some(targets)
+    } else {
+        None
+    }
+}
+
+/// The fork of these targets, if it is made.
+fn fork_of(alloc: Global, rules: Rules, targets: Vec<Target>) -> Option<Context> {
+    match Context::new(alloc, Kind::Invite, rules, targets) {
+        Ok(fork) => Some(fork),
+        Err(_) => None,
+    }
 }
 
 /// The fork of these targets.
-fn fork(alloc: Global, rules: Rules, aims: &[Aim<'_>]) -> Result<Context, Fail> {
-    Ok(Context::new(alloc, Kind::Invite, rules, targets(alloc, aims)?)?)
+fn fork(alloc: Global, rules: Rules, aims: &[Aim<'_>]) -> Option<Context> {
+    match targets(alloc, aims) {
+        Some(targets) => fork_of(alloc, rules, targets),
+        None => None,
+    }
 }
 
-/// The listing of a fork, or why it has none; and whether the text is then as it was.
-fn listing_of(alloc: Global, fork: &Context) -> Result<Vec<u8>, ListFault> {
+/// The listing of a fork; nothing where it has none.
+fn listing_of(alloc: Global, fork: &Context) -> Option<Vec<u8>> {
     let mut out = Vec::new(alloc);
-    listing(fork, &mut out)?;
-    Ok(out)
+    match listing(fork, &mut out) {
+        Ok(()) => Some(out),
+        Err(_) => None,
+    }
+}
+
+/// The fork once these steps happened.
+fn after(alloc: Global, mut fork: Context, steps: &[Step<'_>]) -> Option<Context> {
+    if takes_steps(alloc, &mut fork, steps) {
+        Some(fork)
+    } else {
+        None
+    }
 }
 
 /// The fork of these targets after these steps.
@@ -112,10 +181,11 @@ pub fn fork_after(
     rules: Rules,
     aims: &[Aim<'_>],
     steps: &[Step<'_>],
-) -> Result<Context, Fail> {
-    let mut fork = fork(alloc, rules, aims)?;
-    take(alloc, &mut fork, steps)?;
-    Ok(fork)
+) -> Option<Context> {
+    match fork(alloc, rules, aims) {
+        Some(fork) => after(alloc, fork, steps),
+        None => None,
+    }
 }
 
 /// The listing of the fork of these targets after these steps.
@@ -124,26 +194,28 @@ pub fn listed(
     rules: Rules,
     aims: &[Aim<'_>],
     steps: &[Step<'_>],
-) -> Result<Vec<u8>, Fail> {
-    let fork = fork_after(alloc, rules, aims, steps)?;
-    Ok(listing_of(alloc, &fork)?)
+) -> Option<Vec<u8>> {
+    match fork_after(alloc, rules, aims, steps) {
+        Some(fork) => listing_of(alloc, &fork),
+        None => None,
+    }
 }
 
-/// Why the fork of these targets has no listing after these steps, if it has none, and whether the text is then empty
-/// as it was.
-pub fn refusal(
-    alloc: Global,
-    aims: &[Aim<'_>],
-    steps: &[Step<'_>],
-) -> Result<(Option<ListFault>, bool), Fail> {
-    let fork = fork_after(alloc, Rules::usual(), aims, steps)?;
+/// Why a fork has no listing, if it has none, and whether the text is then empty as it was.
+fn refusal_of(alloc: Global, fork: &Context) -> (Option<ListFault>, bool) {
     let mut out = Vec::new(alloc);
-    let fault = listing(&fork, &mut out).err();
-    Ok((fault, out.is_empty()))
+    match listing(fork, &mut out) {
+        Ok(()) => (None, out.is_empty()),
+        Err(fault) => (Some(fault), out.is_empty()),
+    }
 }
 
-pub fn rules_of(preferred: Preferred, depth: u16) -> Result<Rules, Fail> {
-    Ok(Rules::of(preferred, depth).ok_or("no rules")?)
+/// The same of the fork of these targets after these steps.
+pub fn refusal(alloc: Global, aims: &[Aim<'_>], steps: &[Step<'_>]) -> (Option<ListFault>, bool) {
+    match fork_after(alloc, Rules::usual(), aims, steps) {
+        Some(fork) => refusal_of(alloc, &fork),
+        None => (None, false),
+    }
 }
 
 /// Some step, of a branch that may be there.
@@ -162,31 +234,53 @@ fn some_step(seed: &mut u64) -> Step<'static> {
     }
 }
 
-/// Lets twelve steps happen that are drawn, and ends each branch that is left.
-fn take_some(alloc: Global, fork: &mut Context, seed: &mut u64) -> Result<(), Fail> {
+/// Lets twelve steps happen that are drawn; whether each was taken.
+fn takes_some(alloc: Global, fork: &mut Context, seed: &mut u64) -> bool {
     for _ in 0..12u32 {
-        post(fork, event(alloc, some_step(seed))?)?;
+        if !takes(fork, event(alloc, some_step(seed))) {
+            return false;
+        }
     }
+    true
+}
+
+/// Ends each branch that is left; whether each end was taken.
+fn takes_the_end(fork: &mut Context) -> bool {
     for k in 0..144u16 {
-        post(fork, Event::Timeout(k % 16))?;
+        if !takes(fork, Some(Event::Timeout(k % 16))) {
+            return false;
+        }
     }
-    Ok(())
+    true
 }
 
 /// The fork of three targets at drawn q.
-fn some_fork(alloc: Global, seed: &mut u64) -> Result<Context, Fail> {
-    let rules = rules_of(Preferred::usual(), next(seed, 3))?;
+fn some_fork(alloc: Global, seed: &mut u64) -> Option<Context> {
+    let depth = next(seed, 3);
     let aims = [
         ("a", next(seed, 3)),
         ("b", next(seed, 3)),
         ("c", next(seed, 3)),
     ];
-    fork(alloc, rules, &aims)
+    match Rules::of(Preferred::usual(), depth) {
+        Some(rules) => fork(alloc, rules, &aims),
+        None => None,
+    }
+}
+
+/// The listing of a fork that is finished by drawn steps.
+fn listing_at_last(alloc: Global, fork: &mut Context, seed: &mut u64) -> Option<Vec<u8>> {
+    if takes_some(alloc, fork, seed) && takes_the_end(fork) {
+        listing_of(alloc, fork)
+    } else {
+        None
+    }
 }
 
 /// The listing of some finished fork.
-pub fn some_listing(alloc: Global, seed: &mut u64) -> Result<Vec<u8>, Fail> {
-    let mut fork = some_fork(alloc, seed)?;
-    take_some(alloc, &mut fork, seed)?;
-    Ok(listing_of(alloc, &fork)?)
+pub fn some_listing(alloc: Global, seed: &mut u64) -> Option<Vec<u8>> {
+    match some_fork(alloc, seed) {
+        Some(mut fork) => listing_at_last(alloc, &mut fork, seed),
+        None => None,
+    }
 }

@@ -1,7 +1,8 @@
 //! How a listing is checked, and the lines and words of a text.
+use crate::bytes::{copy_of, is};
 use bumpalo::Bump;
 use fork_listing::{CheckFault, Verdict, check};
-use std::alloc::{AllocError, Global};
+use std::alloc::Global;
 use std::process::Abort;
 
 /// Ends the test where this does not hold of a row of a table. `what` says which check it is, `row` which row.
@@ -30,7 +31,7 @@ pub fn finds(alloc: Global, text: &[u8], wanted: Result<Verdict, CheckFault>) ->
 }
 
 pub fn is_right(alloc: Global, text: &[u8]) -> bool {
-    found(alloc, text).is_ok()
+    matches!(found(alloc, text), Ok(_))
 }
 
 /// How many lines end in the text.
@@ -58,25 +59,45 @@ pub fn word(line: &[u8], n: usize) -> &[u8] {
 }
 
 pub fn is_word(line: &[u8], n: usize, wanted: &str) -> bool {
-    word(line, n) == wanted.as_bytes()
+    is(word(line, n), wanted.as_bytes())
 }
 
 pub fn is_target(line: &[u8]) -> bool {
     is_word(line, 0, "target")
 }
 
-/// Appends a line and its end.
-pub fn append_line(out: &mut Vec<u8>, line: &[u8]) -> Result<(), AllocError> {
-    out.extend_from_slice(line)?;
-    out.push(b'\n')?;
-    Ok(())
+/// Appends a line and its end; whether there was memory for them.
+pub fn adds_line(out: &mut Vec<u8>, line: &[u8]) -> bool {
+    out.extend_from_slice(line).is_ok() && out.push(b'\n').is_ok()
+}
+
+/// The text with this byte changed.
+pub fn with_byte(alloc: Global, text: &[u8], place: usize, byte: u8) -> Option<Vec<u8>> {
+    match copy_of(alloc, text) {
+        Some(mut copy) => {
+            if let Some(there) = copy.get_mut(place) {
+                *there = byte;
+            }
+            Some(copy)
+        }
+        None => None,
+    }
+}
+
+/// What follows a number in a sequence.
+fn followed(seed: u64) -> u64 {
+    seed.wrapping_mul(6_364_136_223_846_793_005)
+        .wrapping_add(1_442_695_040_888_963_407)
+}
+
+/// What is left of a number below a bound; 0 where it has no room.
+fn below(number: u64, bound: u64) -> u16 {
+    u16::try_from(number.checked_rem(bound).unwrap_or(0)).unwrap_or(0)
 }
 
 /// The next number of a sequence, below a bound.
 pub fn next(seed: &mut u64, bound: u64) -> u16 {
-    *seed = seed
-        .wrapping_mul(6_364_136_223_846_793_005)
-        .wrapping_add(1_442_695_040_888_963_407);
-    let drawn = (*seed >> 33).checked_rem(bound).unwrap_or(0);
-    u16::try_from(drawn).unwrap_or(0)
+    let number = followed(*seed);
+    *seed = number;
+    below(number >> 33, bound)
 }

@@ -1,5 +1,5 @@
 //! A tree from its rows.
-ghost use Rattle.std.specs.Prelude.{◌≡◌, IfOk};
+ghost use Rattle.std.specs.Prelude.{◌≡◌, IfSome};
 ghost use Rattle.fork_tree.specs.declared.row.State.TheVariants.{Ended};
 ghost use Rattle.fork_tree.specs.Given.{AreRows};
 
@@ -8,7 +8,7 @@ use crate::tree::play::node_has_best;
 use fork_rank::{Rules, Status};
 use fork_tree::{End, ForkTree, RowRef, State};
 use std::alloc::Global;
-use std::test::Fail;
+use std::process::Abort;
 
 fn row(no: u16, parent: Option<u16>, group: u16, q: u16, end: End) -> RowRef
     ensures { result ≡ record { no = no; parent = parent; group = group; q = q; state = Ended end } }
@@ -22,23 +22,25 @@ fn row(no: u16, parent: Option<u16>, group: u16, q: u16, end: End) -> RowRef
     }
 }
 
-fn stored(code: u16, arrival: u32) -> Result<End, Fail> {
-    let status = Status::of(code).ok_or("a status")?;
-    Ok(End::Stored {
-        status,
-        arrival,
-        received: true,
-    })
+fn stored(code: u16, arrival: u32) -> Option<End> {
+    match Status::of(code) {
+        Some(status) => Some(End::Stored {
+            status,
+            arrival,
+            received: true,
+        }),
+        None => None,
+    }
 }
 
 /// Two targets, the second of which was redirected first.
-fn ended_rows() -> Result<[RowRef; 6], Fail>
-    ensures { IfOk result (λ rows. AreRows rows) }
+fn ended_rows() -> Option<[RowRef; 6]>
+    ensures { IfSome result (λ rows. AreRows rows) }
 {
     let redirection = stored(302, 1)?;
     let missing = stored(404, 2)?;
     let busy = stored(486, 5)?;
-    Ok([
+    Some([
         row(0, None, 0, 1000, End::Taken { arrival: 4 }),
         row(1, None, 0, 1000, redirection),
         row(2, Some(1), 0, 700, missing),
@@ -49,28 +51,36 @@ fn ended_rows() -> Result<[RowRef; 6], Fail>
 }
 
 /// The tree of these rows.
-fn built(alloc: Global) -> Result<ForkTree, Fail> {
+fn built(alloc: Global) -> Option<ForkTree> {
     let rows = ended_rows()?;
-    Ok(ForkTree::build(alloc, Rules::usual(), &rows)?)
+    match ForkTree::build(alloc, Rules::usual(), &rows) {
+        Ok(tree) => Some(tree),
+        Err(_) => None,
+    }
 }
 
 fn has_row(tree: &ForkTree, row: RowRef) -> bool {
     tree.row(row.no) == Some(row)
 }
 
-#[test]
-fn rows_of_a_listing(rt: HostRuntime) -> Result<(), Fail> {
-    let rows = ended_rows()?;
-    let tree = built(rt.alloc())?;
-    holds(&rt, tree.count() == 6, "there are six rows");
-    holds(&rt, tree.open_count() == 0, "each row has ended");
+/// Checks that these are the rows of the tree, and which answer is the best below the first.
+fn has_rows(rt: &impl Abort, tree: &ForkTree, rows: &[RowRef]) {
+    holds(rt, tree.count() == 6, "there are six rows");
+    holds(rt, tree.open_count() == 0, "each row has ended");
     for n in 0..rows.len() {
-        holds_at(&rt, has_row(&tree, rows[n]), "the tree has each row", n);
+        holds_at(rt, has_row(tree, rows[n]), "the tree has each row", n);
     }
     holds(
-        &rt,
-        node_has_best(&tree, 0, Some((4, 486, 5))),
+        rt,
+        node_has_best(tree, 0, Some((4, 486, 5))),
         "the best answer below the first target",
     );
-    Ok(())
+}
+
+#[test]
+fn rows_of_a_listing(rt: HostRuntime) {
+    match (built(rt.alloc()), ended_rows()) {
+        (Some(tree), Some(rows)) => has_rows(&rt, &tree, &rows),
+        _ => holds(&rt, false, "the tree is built"),
+    }
 }

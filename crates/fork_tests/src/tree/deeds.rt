@@ -5,7 +5,7 @@ ghost use Rattle.fork_tree.specs.Tree.{is_uncancelled};
 
 use fork_rank::MOST_TARGETS;
 use fork_tree::{End, ForkTree, NewRows, State};
-use std::alloc::{AllocError, Global};
+use std::alloc::Global;
 
 /// Whether row n waits.
 fn is_waiting(tree: &ForkTree, n: u16) -> bool
@@ -75,21 +75,19 @@ pub fn cancel(tree: &mut ForkTree, n: u16) -> bool {
 }
 
 /// Row n ends so, and rows of these q come below it; whether it went on, and there is room for them.
-pub fn end(
-    alloc: Global,
-    tree: &mut ForkTree,
-    n: u16,
-    end: End,
-    qs: &[u16],
-) -> Result<bool, AllocError> {
+pub fn end(alloc: Global, tree: &mut ForkTree, n: u16, end: End, qs: &[u16]) -> bool {
     let first = tree.count();
     if first > MOST_TARGETS || qs.len() > (MOST_TARGETS - first) as usize {
-        return Ok(false);
+        return false;
     }
     if !goes_on(tree, n) {
-        return Ok(false);
+        return false;
     }
-    let below = NewRows::idle(alloc, first, qs)?;
-    tree.end(n, end, below);
-    Ok(true)
+    match NewRows::idle(alloc, first, qs) {
+        Ok(below) => {
+            tree.end(n, end, below);
+            true
+        }
+        Err(_) => false,
+    }
 }

@@ -1,7 +1,6 @@
 //! Small histories: what a tree keeps after each event.
 use crate::tree::play::{NONE, Step, play};
 use fork_tree::{End, RowRef, State};
-use std::test::Fail;
 
 fn row(no: u16, parent: Option<u16>, group: u16, q: u16, state: State) -> Step {
     Step::HasRow(RowRef {
@@ -14,7 +13,7 @@ fn row(no: u16, parent: Option<u16>, group: u16, q: u16, state: State) -> Step {
 }
 
 #[test]
-fn initial_targets(rt: HostRuntime) -> Result<(), Fail> {
+fn initial_targets(rt: HostRuntime) {
     let steps = [
         Step::HasRows(3),
         Step::HasOpen(3),
@@ -24,32 +23,32 @@ fn initial_targets(rt: HostRuntime) -> Result<(), Fail> {
         row(2, None, 1, 500, State::Idle),
         Step::HasNoRow(3),
     ];
-    play(&rt, "initial targets", &[1000, 1000, 500], &steps)
+    play(&rt, "initial targets", &[1000, 1000, 500], &steps);
 }
 
 #[test]
-fn nodes_of_initial_targets(rt: HostRuntime) -> Result<(), Fail> {
+fn nodes_of_initial_targets(rt: HostRuntime) {
     let steps = [
         Step::NodeHasOpen(1, 1),
         Step::NodeHasBest(1, None),
         Step::HasNoNode(2),
     ];
-    play(&rt, "nodes of initial targets", &[1000, 500], &steps)
+    play(&rt, "nodes of initial targets", &[1000, 500], &steps);
 }
 
 #[test]
-fn closed_tree(rt: HostRuntime) -> Result<(), Fail> {
+fn closed_tree(rt: HostRuntime) {
     let steps = [
         Step::Closes,
         Step::HasOpen(0),
         row(1, None, 1, 500, State::Ended(End::Never)),
         Step::HasBest(None),
     ];
-    play(&rt, "a closed tree", &[1000, 500], &steps)
+    play(&rt, "a closed tree", &[1000, 500], &steps);
 }
 
 #[test]
-fn waiting_rows(rt: HostRuntime) -> Result<(), Fail> {
+fn waiting_rows(rt: HostRuntime) {
     let steps = [
         Step::Starts(Some((0, 1))),
         Step::Redirects(0, 0, [1000, 1000, 500]),
@@ -57,11 +56,11 @@ fn waiting_rows(rt: HostRuntime) -> Result<(), Fail> {
         row(2, Some(0), 0, 1000, State::Idle),
         row(3, Some(0), 1, 500, State::Idle),
     ];
-    play(&rt, "rows that wait", &[1000], &steps)
+    play(&rt, "rows that wait", &[1000], &steps);
 }
 
 #[test]
-fn two_contacts_of_a_302(rt: HostRuntime) -> Result<(), Fail> {
+fn two_contacts_of_a_302(rt: HostRuntime) {
     let steps = [
         Step::Starts(Some((0, 1))),
         Step::Redirects(0, 0, [1000, 1000, 0]),
@@ -78,11 +77,11 @@ fn two_contacts_of_a_302(rt: HostRuntime) -> Result<(), Fail> {
         Step::HasBest(Some((1, 404, 1))),
         Step::HasOpen(0),
     ];
-    play(&rt, "two contacts of a 302", &[1000], &steps)
+    play(&rt, "two contacts of a 302", &[1000], &steps);
 }
 
 #[test]
-fn a_contact_before_the_next_group(rt: HostRuntime) -> Result<(), Fail> {
+fn a_contact_before_the_next_group(rt: HostRuntime) {
     let steps = [
         Step::Starts(Some((0, 1))),
         Step::Redirects(0, 0, [1000, 0, 0]),
@@ -92,11 +91,11 @@ fn a_contact_before_the_next_group(rt: HostRuntime) -> Result<(), Fail> {
         Step::NodeHasOpen(0, 0),
         Step::Starts(Some((1, 1))),
     ];
-    play(&rt, "a contact before the next group", &[1000, 500], &steps)
+    play(&rt, "a contact before the next group", &[1000, 500], &steps);
 }
 
 #[test]
-fn what_waits_ends_with_a_decline(rt: HostRuntime) -> Result<(), Fail> {
+fn what_waits_ends_with_a_decline(rt: HostRuntime) {
     let steps = [
         Step::Starts(Some((0, 1))),
         Step::Answers(0, 603, 0, NONE),
@@ -104,11 +103,11 @@ fn what_waits_ends_with_a_decline(rt: HostRuntime) -> Result<(), Fail> {
         Step::HasOpen(0),
         Step::HasBest(Some((0, 603, 0))),
     ];
-    play(&rt, "what waits ends with a decline", &[1000, 500], &steps)
+    play(&rt, "what waits ends with a decline", &[1000, 500], &steps);
 }
 
 #[test]
-fn decline_goes_first(rt: HostRuntime) -> Result<(), Fail> {
+fn decline_goes_first(rt: HostRuntime) {
     let steps = [
         Step::Starts(Some((0, 3))),
         Step::Rings(2),
@@ -129,11 +128,11 @@ fn decline_goes_first(rt: HostRuntime) -> Result<(), Fail> {
         "a decline goes first",
         &[1000, 1000, 1000, 500],
         &steps,
-    )
+    );
 }
 
 #[test]
-fn contacts_of_a_contact(rt: HostRuntime) -> Result<(), Fail> {
+fn contacts_of_a_contact(rt: HostRuntime) {
     let steps = [
         Step::Tries(0),
         Step::Answers(0, 302, 0, [1000, 500, 0]),
@@ -151,5 +150,5 @@ fn contacts_of_a_contact(rt: HostRuntime) -> Result<(), Fail> {
         Step::FallsSilent(3, 3),
         Step::Starts(Some((1, 1))),
     ];
-    play(&rt, "contacts of a contact", &[1000, 500], &steps)
+    play(&rt, "contacts of a contact", &[1000, 500], &steps);
 }

@@ -3,9 +3,8 @@ use crate::holds::{holds, holds_at};
 use crate::tree::deeds::{cancel, end, ring, start};
 use fork_rank::{MOST_TARGETS, Rules, Status};
 use fork_tree::{BestRef, End, ForkTree, RowRef};
-use std::alloc::{AllocError, Global};
+use std::alloc::Global;
 use std::process::Abort;
-use std::test::Fail;
 
 /// A stored answer: the row's number, the status and the arrival.
 pub type Stored = (u16, u16, u32);
@@ -88,9 +87,9 @@ fn answer(
     code: u16,
     arrival: u32,
     below: Below,
-) -> Result<bool, AllocError> {
+) -> bool {
     let Some(status) = Status::of(code) else {
-        return Ok(false);
+        return false;
     };
     let stored = End::Stored {
         status,
@@ -101,14 +100,14 @@ fn answer(
 }
 
 /// Does the step; whether it could be done, or what it asks for holds.
-fn does(alloc: Global, tree: &mut ForkTree, step: Step) -> Result<bool, AllocError> {
+fn does(alloc: Global, tree: &mut ForkTree, step: Step) -> bool {
     match step {
         Step::Answers(n, code, arrival, below) => answer(alloc, tree, n, code, arrival, below),
         Step::Redirects(n, arrival, below) => {
             end(alloc, tree, n, End::Taken { arrival }, listed(&below))
         },
         Step::FallsSilent(n, arrival) => end(alloc, tree, n, End::Silent { arrival }, &[]),
-        step => Ok(changes(tree, step)),
+        step => changes(tree, step),
     }
 }
 
@@ -143,21 +142,30 @@ fn is_so(tree: &ForkTree, step: Step) -> bool {
     }
 }
 
-/// Plays the history on a tree of targets of these q, under the usual rules.
-pub fn play(
-    rt: &(impl Abort + AllocGlobal),
-    history: &str,
-    qs: &[u16],
-    steps: &[Step],
-) -> Result<(), Fail> {
+/// The tree of targets of these q, under the usual rules; nothing where there are too many.
+fn tree_of(alloc: Global, qs: &[u16]) -> Option<ForkTree> {
     if qs.len() > MOST_TARGETS as usize {
-        return Err(Fail::from("there are too many targets"));
+        return None;
     }
-    let mut tree = ForkTree::new(rt.alloc(), Rules::usual(), qs)?;
+    match ForkTree::new(alloc, Rules::usual(), qs) {
+        Ok(tree) => Some(tree),
+        Err(_) => None,
+    }
+}
+
+/// Plays the history on this tree.
+fn play_steps(rt: &(impl Abort + AllocGlobal), tree: &mut ForkTree, history: &str, steps: &[Step]) {
     holds(rt, tree.rules() == Rules::usual(), "a tree keeps its rules");
     for number in 0..steps.len() {
-        let well = does(rt.alloc(), &mut tree, steps[number])?;
+        let well = does(rt.alloc(), tree, steps[number]);
         holds_at(rt, well, history, number);
     }
-    Ok(())
+}
+
+/// Plays the history on a tree of targets of these q, under the usual rules.
+pub fn play(rt: &(impl Abort + AllocGlobal), history: &str, qs: &[u16], steps: &[Step]) {
+    match tree_of(rt.alloc(), qs) {
+        Some(mut tree) => play_steps(rt, &mut tree, history, steps),
+        None => holds(rt, false, "the tree is made"),
+    }
 }

@@ -1,13 +1,11 @@
 //! Requests that were forwarded, byte for byte.
-ghost use Rattle.std.specs.Prelude.{IfSome, IsTrue};
-ghost use Rattle.sip_text.specs.Name.{first_value};
-ghost use Rattle.sip_route.specs.Hops.{IsHops, hops_name};
-
+use crate::behind::if_built;
 use crate::holds::holds;
-use crate::messages::{OWN, REQUEST, SOURCE, is_written_as, is_written_as_read, message_of};
+use crate::messages::{
+    OWN, REQUEST, SOURCE, is_written_as, is_written_as_read, may_pass, message_of,
+};
 use crate::rows::holds_in_row;
 use sip_build::forward;
-use sip_lex::read_number;
 use sip_route::{is_loop, loop_key};
 use sip_text::{Message, Start};
 use sip_uri::SipUri;
@@ -27,38 +25,18 @@ const TARGET: &[u8] = b"sip:bob@192.0.2.4";
 pub const VIA_LINE: &[u8] =
     b"Via: SIP/2.0/UDP 192.0.2.9:5060;branch=z9hG4bK00000000000000000000000000000000.7.3.0";
 
-/// Whether a value is one to three digits of 1 to 255.
-fn are_hops(value: &[u8]) -> bool
-    ensures { IsTrue result → IsHops value.now }
-{
-    match read_number(value, 255) {
-        None => false,
-        Some(hops) => hops >= 1 && value.len() <= 3,
-    }
-}
-
-/// Whether the first Max-Forwards, if there is one, is such a value.
-fn has_hops(message: &Message<Global>) -> bool
-    ensures { IsTrue result → IfSome (first_value hops_name message.now.headers) IsHops }
-{
-    match message.values(b"max-forwards").next() {
-        None => true,
-        Some(value) => are_hops(value),
-    }
-}
-
 /// A request on its way to a target.
-fn forwarded(
+pub fn forwarded(
     alloc: Global,
     message: &Message<Global>,
     target: &SipUri<Global>,
     branch: &BranchName,
 ) -> Option<Message<Global>> {
-    if !has_hops(message) {
+    if !may_pass(message) {
         return None;
     }
     match message.start() {
-        Start::Request { .. } => forward(alloc, message, target, OWN, branch).ok(),
+        Start::Request { .. } => if_built(forward(alloc, message, target, OWN, branch)),
         Start::Response { .. } => None,
     }
 }
@@ -70,15 +48,30 @@ fn forwarded_to(
     target: &[u8],
     branch: &BranchName,
 ) -> Option<Message<Global>> {
-    let target = SipUri::read(alloc, target).ok()?;
-    forwarded(alloc, message, &target, branch)
+    match SipUri::read(alloc, target) {
+        Ok(target) => forwarded(alloc, message, &target, branch),
+        Err(_) => None,
+    }
+}
+
+/// A request, marked and on its way to a target.
+fn marked_and_sent(
+    alloc: Global,
+    request: &Message<Global>,
+    target: &[u8],
+) -> Option<Message<Global>> {
+    match mark_received(alloc, request, SOURCE) {
+        Ok(marked) => forwarded_to(alloc, &marked, target, &BRANCH),
+        Err(_) => None,
+    }
 }
 
 /// The request of these lines, marked and on its way to a target.
 fn sent(alloc: Global, lines: &[&[u8]], target: &[u8]) -> Option<Message<Global>> {
-    let request = message_of(alloc, lines)?;
-    let marked = mark_received(alloc, &request, SOURCE).ok()?;
-    forwarded_to(alloc, &marked, target, &BRANCH)
+    match message_of(alloc, lines) {
+        Some(request) => marked_and_sent(alloc, &request, target),
+        None => None,
+    }
 }
 
 /// An INVITE, marked and on its way.
@@ -89,11 +82,20 @@ pub fn invite_sent(alloc: Global) -> Option<Message<Global>> {
     sent(alloc, &lines, TARGET)
 }
 
+/// The branch of a Via value.
+fn branch_in(alloc: Global, value: &[u8]) -> Option<BranchName> {
+    match Via::read(alloc, value) {
+        Ok(via) => read_branch(via.branch().unwrap_or(b"")),
+        Err(_) => None,
+    }
+}
+
 /// The branch of the top Via value of the message of these lines.
 fn branch_of(alloc: Global, lines: &[&[u8]]) -> Option<BranchName> {
-    let message = message_of(alloc, lines)?;
-    let top = Via::read(alloc, top_via(&message)).ok()?;
-    read_branch(top.branch()?)
+    match message_of(alloc, lines) {
+        Some(message) => branch_in(alloc, top_via(&message)),
+        None => None,
+    }
 }
 
 #[test]
@@ -138,8 +140,10 @@ fn request_with(alloc: Global, hops: &[u8]) -> Option<Message<Global>> {
 
 /// That request on its way.
 fn sent_with(alloc: Global, hops: &[u8]) -> Option<Message<Global>> {
-    let request = request_with(alloc, hops)?;
-    forwarded_to(alloc, &request, TARGET, &BRANCH)
+    match request_with(alloc, hops) {
+        Some(request) => forwarded_to(alloc, &request, TARGET, &BRANCH),
+        None => None,
+    }
 }
 
 /// Whether the request with `hops` in the place of its Max-Forwards goes on its way with `lowered` there, and with `first` in
@@ -208,8 +212,10 @@ const NOT_SENT: [&[u8]; 4] = [
 
 /// Whether the request with `hops` in the place of its Max-Forwards goes on its way.
 fn is_sent(alloc: Global, hops: &[u8]) -> Option<bool> {
-    let request = request_with(alloc, hops)?;
-    Some(forwarded_to(alloc, &request, TARGET, &BRANCH).is_some())
+    match request_with(alloc, hops) {
+        Some(request) => Some(forwarded_to(alloc, &request, TARGET, &BRANCH).is_some()),
+        None => None,
+    }
 }
 
 #[test]
@@ -225,19 +231,34 @@ fn other_hops_are_not_forwarded(rt: HostRuntime) {
     }
 }
 
+/// Whether a request is a loop; nothing where there is none.
+fn is_any_loop(request: Option<Message<Global>>) -> Option<bool> {
+    match request {
+        Some(request) => Some(is_loop(&request, OWN)),
+        None => None,
+    }
+}
+
 /// Whether the request is a loop before it passed.
 fn is_loop_at_first(alloc: Global) -> Option<bool> {
-    Some(is_loop(&message_of(alloc, &REQUEST)?, OWN))
+    is_any_loop(message_of(alloc, &REQUEST))
+}
+
+/// A request on its way to this target, with its loop key in the branch.
+fn passed_on(alloc: Global, request: &Message<Global>, target: &[u8]) -> Option<Message<Global>> {
+    let branch = BranchName {
+        key: loop_key(request),
+        ..BRANCH
+    };
+    forwarded_to(alloc, request, target, &branch)
 }
 
 /// Whether the request is a loop once it passed on its way to this target.
 fn is_loop_on_the_way(alloc: Global, target: &[u8]) -> Option<bool> {
-    let request = message_of(alloc, &REQUEST)?;
-    let branch = BranchName {
-        key: loop_key(&request),
-        ..BRANCH
-    };
-    Some(is_loop(&forwarded_to(alloc, &request, target, &branch)?, OWN))
+    match message_of(alloc, &REQUEST) {
+        Some(request) => is_any_loop(passed_on(alloc, &request, target)),
+        None => None,
+    }
 }
 
 #[test]

@@ -1,4 +1,5 @@
 //! The CANCEL of a request that was sent, and the ACK for a response to it.
+use crate::behind::if_built;
 use crate::build::forwarding::{VIA_LINE, invite_sent};
 use crate::holds::holds;
 use crate::messages::{REQUEST, is_read_back, is_written_as, is_written_as_read, message_of};
@@ -21,29 +22,31 @@ pub const SENT: [&[u8]; 10] = [
 ];
 
 /// The CANCEL of a request.
-fn cancelled(alloc: Global, sent: &Message<Global>) -> Option<Message<Global>> {
+pub fn cancelled(alloc: Global, sent: &Message<Global>) -> Option<Message<Global>> {
     match sent.start() {
-        Start::Request { .. } => cancel_of(alloc, sent).ok(),
+        Start::Request { .. } => if_built(cancel_of(alloc, sent)),
         Start::Response { .. } => None,
     }
 }
 
 /// The ACK for a response to a request.
-fn acknowledged(
+pub fn acknowledged(
     alloc: Global,
     sent: &Message<Global>,
     response: &Message<Global>,
 ) -> Option<Message<Global>> {
     match sent.start() {
-        Start::Request { .. } => ack_of(alloc, sent, response).ok(),
+        Start::Request { .. } => if_built(ack_of(alloc, sent, response)),
         Start::Response { .. } => None,
     }
 }
 
 /// The CANCEL of the request of these lines.
 fn cancel(alloc: Global, lines: &[&[u8]]) -> Option<Message<Global>> {
-    let sent = message_of(alloc, lines)?;
-    cancelled(alloc, &sent)
+    match message_of(alloc, lines) {
+        Some(sent) => cancelled(alloc, &sent),
+        None => None,
+    }
 }
 
 #[test]
@@ -79,14 +82,24 @@ pub fn routed() -> [&'static [u8]; 10] {
     lines
 }
 
+/// The ACK for the response of these lines to a request, if one is there.
+fn ack_of_any(
+    alloc: Global,
+    sent: Option<Message<Global>>,
+    lines: &[&[u8]],
+) -> Option<Message<Global>> {
+    match (sent, message_of(alloc, lines)) {
+        (Some(sent), Some(response)) => acknowledged(alloc, &sent, &response),
+        _ => None,
+    }
+}
+
 /// The ACK for a 486 to the request with a route.
 fn ack_on_the_route(alloc: Global) -> Option<Message<Global>> {
     let mut lines = routed();
-    let sent = message_of(alloc, &lines)?;
     lines[0] = b"SIP/2.0 486 Busy Here";
     lines[5] = b"t: <sip:bob@example.com>;tag=9";
-    let response = message_of(alloc, &lines)?;
-    acknowledged(alloc, &sent, &response)
+    ack_of_any(alloc, message_of(alloc, &routed()), &lines)
 }
 
 #[test]
@@ -114,19 +127,19 @@ fn acknowledges_with_the_to_of_the_response(rt: HostRuntime) {
 
 /// The CANCEL of the INVITE that was forwarded.
 fn cancel_of_forwarded(alloc: Global) -> Option<Message<Global>> {
-    let sent = invite_sent(alloc)?;
-    cancelled(alloc, &sent)
+    match invite_sent(alloc) {
+        Some(sent) => cancelled(alloc, &sent),
+        None => None,
+    }
 }
 
 /// The ACK for a 486 to the INVITE that was forwarded.
 fn ack_of_forwarded(alloc: Global) -> Option<Message<Global>> {
-    let sent = invite_sent(alloc)?;
     let mut lines = REQUEST;
     lines[0] = b"SIP/2.0 486 Busy Here";
     lines[4] = b"t: <sip:bob@example.com>;tag=9";
     lines[6] = b"CSeq: 1 INVITE";
-    let response = message_of(alloc, &lines)?;
-    acknowledged(alloc, &sent, &response)
+    ack_of_any(alloc, invite_sent(alloc), &lines)
 }
 
 #[test]

@@ -1,7 +1,8 @@
 //! The proxy's own responses, and their tags.
+use crate::behind::if_built;
 use crate::holds::holds;
 use crate::messages::{
-    REQUEST, ROUTED, is_read_back, is_written_as, is_written_as_read, message_of, written,
+    REQUEST, ROUTED, is_read_back, is_written_as, is_written_as_read, message_of, read, written,
 };
 use crate::rows::holds_in_row;
 use sip_build::{OwnStatus, generated, generated_is_message, own_tag};
@@ -10,7 +11,10 @@ use std::alloc::Global;
 
 /// The proxy's own tag for the request of these lines.
 fn tag_of(alloc: Global, lines: &[&[u8]]) -> Option<[u8; 18]> {
-    Some(own_tag(&message_of(alloc, lines)?))
+    match message_of(alloc, lines) {
+        Some(request) => Some(own_tag(&request)),
+        None => None,
+    }
 }
 
 #[test]
@@ -29,10 +33,21 @@ fn tags_of_known_requests(rt: HostRuntime) {
     );
 }
 
+/// The response of this status to a request.
+pub fn answer_to(
+    alloc: Global,
+    request: &Message<Global>,
+    status: OwnStatus,
+) -> Option<Message<Global>> {
+    if_built(generated(alloc, request, status))
+}
+
 /// The response of this status to the request of these lines.
 fn response(alloc: Global, lines: &[&[u8]], status: OwnStatus) -> Option<Message<Global>> {
-    let request = message_of(alloc, lines)?;
-    generated(alloc, &request, status).ok()
+    match message_of(alloc, lines) {
+        Some(request) => answer_to(alloc, &request, status),
+        None => None,
+    }
 }
 
 #[test]
@@ -96,7 +111,10 @@ pub const STATUSES: [(OwnStatus, &[u8]); 11] = [
 
 /// What the response of this status to the request is written as.
 fn response_text(alloc: Global, status: OwnStatus) -> Option<Vec<u8>> {
-    written(alloc, &response(alloc, &REQUEST, status)?)
+    match response(alloc, &REQUEST, status) {
+        Some(response) => written(alloc, &response),
+        None => None,
+    }
 }
 
 fn begins_with(alloc: Global, status: OwnStatus, line: &[u8]) -> bool {
@@ -117,11 +135,20 @@ fn has_reason(status: OwnStatus) -> bool {
     !status.reason().is_empty()
 }
 
+/// Whether a text is read as a message with a To tag; nothing where it is none.
+fn is_read_with_tag(alloc: Global, text: &[u8]) -> Option<bool> {
+    match read(alloc, text) {
+        Some(again) => Some(again.to_tag().is_some()),
+        None => None,
+    }
+}
+
 /// Whether the response of this status to a request without a To tag is read with one.
 fn has_tag(alloc: Global, status: OwnStatus) -> Option<bool> {
-    let text = response_text(alloc, status)?;
-    let again = Message::read(alloc, &text).ok()?;
-    Some(again.to_tag().is_some())
+    match response_text(alloc, status) {
+        Some(text) => is_read_with_tag(alloc, &text),
+        None => None,
+    }
 }
 
 #[test]

@@ -1,4 +1,8 @@
 //! Responses as they go upstream, byte for byte.
+ghost use Rattle.std.specs.Prelude.{◌≡◌, true, IfSome};
+ghost use Rattle.sip_build.specs.Upward.{is_challenge};
+
+use crate::behind::if_built;
 use crate::holds::holds;
 use crate::messages::{is_written_as, message_of};
 use fork_rank::Challenge;
@@ -49,9 +53,11 @@ pub const ALONE: [&[u8]; 8] = [
 
 /// The 302 as it goes upstream with two contacts that were kept.
 fn moved_upward(alloc: Global) -> Option<Message<Global>> {
-    let response = message_of(alloc, &MOVED)?;
     let kept: [&[u8]; 2] = [b"<sip:d@192.0.2.7>", b"<sip:e@192.0.2.8>;q=0.1"];
-    upward(alloc, &response, Some(&kept), &[]).ok()
+    match message_of(alloc, &MOVED) {
+        Some(response) => if_built(upward(alloc, &response, Some(&kept), &[])),
+        None => None,
+    }
 }
 
 #[test]
@@ -76,20 +82,40 @@ fn kept_contacts_replace_the_others(rt: HostRuntime) {
     );
 }
 
+/// A proxy's challenge.
+pub fn of_proxy(alloc: Global) -> Option<Challenge<Global>>
+    ensures { IfSome result (λ challenge. is_challenge challenge ≡ true) }
+{
+    match Vec::from_slice(alloc, b"Digest realm=\"b\"") {
+        Ok(value) => Some(Challenge::new(true, value)),
+        Err(_) => None,
+    }
+}
+
+/// A server's challenge.
+pub fn of_server(alloc: Global) -> Option<Challenge<Global>>
+    ensures { IfSome result (λ challenge. is_challenge challenge ≡ true) }
+{
+    match Vec::from_slice(alloc, b"Digest realm=\"c\"") {
+        Ok(value) => Some(Challenge::new(false, value)),
+        Err(_) => None,
+    }
+}
+
 /// A response as it goes upstream with two challenges more.
-fn upward_with_challenges(
-    alloc: Global,
-    response: &Message<Global>,
-) -> Result<Message<Global>, BuildFault> {
-    let proxy = Challenge::new(true, Vec::from_slice(alloc, b"Digest realm=\"b\"")?);
-    let server = Challenge::new(false, Vec::from_slice(alloc, b"Digest realm=\"c\"")?);
-    upward(alloc, response, None, &[proxy, server])
+fn upward_with_challenges(alloc: Global, response: &Message<Global>) -> Option<Message<Global>> {
+    match (of_proxy(alloc), of_server(alloc)) {
+        (Some(proxy), Some(server)) => { if_built(upward(alloc, response, None, &[proxy, server])) }
+        _ => None,
+    }
 }
 
 /// The 401 as it goes upstream with these challenges.
 fn asked_upward(alloc: Global) -> Option<Message<Global>> {
-    let response = message_of(alloc, &ASKED)?;
-    upward_with_challenges(alloc, &response).ok()
+    match message_of(alloc, &ASKED) {
+        Some(response) => upward_with_challenges(alloc, &response),
+        None => None,
+    }
 }
 
 #[test]

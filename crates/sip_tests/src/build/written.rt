@@ -4,34 +4,38 @@ ghost use Rattle.std.specs.List.{list_all};
 ghost use Rattle.sip_build.specs.SeenKept.{seen_kept};
 ghost use Rattle.sip_build.specs.Upward.{AreKept, is_challenge};
 
-use crate::build::requests::{SENT, routed};
-use crate::build::responses::STATUSES;
-use crate::build::upstream::{ALONE, ASKED, MOVED};
+use crate::behind::{begins, if_built, is_as_it_began, is_behind};
+use crate::build::requests::{SENT, acknowledged, cancelled, routed};
+use crate::build::responses::{STATUSES, answer_to};
+use crate::build::upstream::{ALONE, ASKED, MOVED, of_proxy, of_server};
+use crate::bytes::is;
 use crate::holds::holds;
-use crate::messages::{REQUEST, ROUTED, message_of, written};
+use crate::messages::{REQUEST, ROUTED, message_of};
 use crate::rows::holds_in_row;
 use bumpalo::Bump;
 use fork_rank::Challenge;
 use sip_build::{
-    OwnStatus, ack_of, ack_of_a_forwarded_request, cancel_of, cancel_of_a_forwarded_request,
-    forwarding_puts_the_own_via_first, generated, own_via_is_read, upward,
-    upward_loses_the_top_via, write_ack, write_cancel, write_generated, write_upward,
+    OwnStatus, ack_of_a_forwarded_request, cancel_of_a_forwarded_request,
+    forwarding_puts_the_own_via_first, own_via_is_read, upward, upward_loses_the_top_via,
+    write_ack, write_cancel, write_generated, write_upward,
 };
 use sip_text::{Message, Start};
 use sip_via::BuildFault;
 use std::alloc::Global;
 
-/// Whether this is the text of what was built, behind what stood there.
-fn is_built(alloc: Global, out: &[u8], built: &Message<Global>) -> Option<bool> {
-    Some(out.strip_prefix(b"before")? == written(alloc, built)?.as_slice())
+/// Whether the answer of this status to a request is written as it is built.
+fn is_answered_so(alloc: Global, request: &Message<Global>, status: OwnStatus) -> bool {
+    let mut out = Vec::new(alloc);
+    begins(&mut out)
+        && write_generated(request, status, &mut out).is_ok()
+        && is_behind(alloc, &out, answer_to(alloc, request, status))
 }
 
-fn answers_so(alloc: Global, lines: &[&[u8]], status: OwnStatus) -> Option<bool> {
-    let request = message_of(alloc, lines)?;
-    let mut out = Vec::from_slice(alloc, b"before").ok()?;
-    write_generated(&request, status, &mut out).ok()?;
-    let built = generated(alloc, &request, status).ok()?;
-    is_built(alloc, &out, &built)
+fn answers_so(alloc: Global, lines: &[&[u8]], status: OwnStatus) -> bool {
+    match message_of(alloc, lines) {
+        Some(request) => is_answered_so(alloc, &request, status),
+        None => false,
+    }
 }
 
 #[test]
@@ -40,40 +44,53 @@ fn answers_are_written_as_they_are_built(rt: HostRuntime) {
     for (row, (status, _)) in STATUSES.iter().enumerate() {
         holds_in_row(
             &rt,
-            answers_so(alloc, &REQUEST, *status).unwrap_or(false),
+            answers_so(alloc, &REQUEST, *status),
             "an answer to a request",
             row,
         );
         holds_in_row(
             &rt,
-            answers_so(alloc, &ROUTED, *status).unwrap_or(false),
+            answers_so(alloc, &ROUTED, *status),
             "an answer to a request with fields for proxies",
             row,
         );
     }
 }
 
-fn cancels_so(alloc: Global, lines: &[&[u8]]) -> Option<bool> {
-    let sent = message_of(alloc, lines)?;
+/// Whether the CANCEL of what was sent is written as it is built.
+fn is_cancelled_so(alloc: Global, sent: &Message<Global>) -> bool {
     let Start::Request { .. } = sent.start() else {
-        return None;
+        return false;
     };
-    let mut out = Vec::from_slice(alloc, b"before").ok()?;
-    write_cancel(&sent, &mut out).ok()?;
-    let built = cancel_of(alloc, &sent).ok()?;
-    is_built(alloc, &out, &built)
+    let mut out = Vec::new(alloc);
+    begins(&mut out)
+        && write_cancel(sent, &mut out).is_ok()
+        && is_behind(alloc, &out, cancelled(alloc, sent))
 }
 
-fn acknowledges_so(alloc: Global, lines: &[&[u8]], answer: &[&[u8]]) -> Option<bool> {
-    let sent = message_of(alloc, lines)?;
-    let response = message_of(alloc, answer)?;
+fn cancels_so(alloc: Global, lines: &[&[u8]]) -> bool {
+    match message_of(alloc, lines) {
+        Some(sent) => is_cancelled_so(alloc, &sent),
+        None => false,
+    }
+}
+
+/// Whether the ACK for a response to what was sent is written as it is built.
+fn is_acknowledged_so(alloc: Global, sent: &Message<Global>, response: &Message<Global>) -> bool {
     let Start::Request { .. } = sent.start() else {
-        return None;
+        return false;
     };
-    let mut out = Vec::from_slice(alloc, b"before").ok()?;
-    write_ack(&sent, &response, &mut out).ok()?;
-    let built = ack_of(alloc, &sent, &response).ok()?;
-    is_built(alloc, &out, &built)
+    let mut out = Vec::new(alloc);
+    begins(&mut out)
+        && write_ack(sent, response, &mut out).is_ok()
+        && is_behind(alloc, &out, acknowledged(alloc, sent, response))
+}
+
+fn acknowledges_so(alloc: Global, lines: &[&[u8]], answer: &[&[u8]]) -> bool {
+    match (message_of(alloc, lines), message_of(alloc, answer)) {
+        (Some(sent), Some(response)) => is_acknowledged_so(alloc, &sent, &response),
+        _ => false,
+    }
 }
 
 #[test]
@@ -84,18 +101,8 @@ fn requests_are_written_along_as_they_are_built(rt: HostRuntime) {
     cancel_of_a_forwarded_request();
     let alloc = rt.alloc();
     for (row, lines) in [SENT, routed()].iter().enumerate() {
-        holds_in_row(
-            &rt,
-            cancels_so(alloc, lines).unwrap_or(false),
-            "a CANCEL",
-            row,
-        );
-        holds_in_row(
-            &rt,
-            acknowledges_so(alloc, lines, &MOVED).unwrap_or(false),
-            "an ACK",
-            row,
-        );
+        holds_in_row(&rt, cancels_so(alloc, lines), "a CANCEL", row);
+        holds_in_row(&rt, acknowledges_so(alloc, lines, &MOVED), "an ACK", row);
     }
 }
 
@@ -105,32 +112,50 @@ fn goes_so(
     response: &Message<Global>,
     kept: Option<&[&[u8]]>,
     challenges: &[Challenge<Global>],
-) -> Option<bool>
+) -> bool
     requires kept { AreKept (seen_kept kept) }
     requires challenges { list_all is_challenge challenges.now ≡ true }
 {
-    let mut out = Vec::from_slice(alloc, b"before").ok()?;
-    write_upward(response, kept, challenges, &mut out).ok()?;
-    let built = upward(alloc, response, kept, challenges).ok()?;
-    is_built(alloc, &out, &built)
+    let mut out = Vec::new(alloc);
+    begins(&mut out)
+        && write_upward(response, kept, challenges, &mut out).is_ok()
+        && is_behind(
+            alloc,
+            &out,
+            if_built(upward(alloc, response, kept, challenges)),
+        )
 }
+
+/// Contacts that take the place of those of a response.
+const OTHERS: [&[u8]; 2] = [b"<sip:d@192.0.2.7>", b"<sip:e@192.0.2.8>;q=0.1"];
 
 /// Whether it does, with the contacts that it had, with others and with none.
-fn goes_so_with(alloc: Global, lines: &[&[u8]], challenges: &[Challenge<Global>]) -> Option<bool>
+fn goes_each_way(
+    alloc: Global,
+    response: &Message<Global>,
+    challenges: &[Challenge<Global>],
+) -> bool
     requires { list_all is_challenge challenges.now ≡ true }
 {
-    let response = message_of(alloc, lines)?;
-    let kept: [&[u8]; 2] = [b"<sip:d@192.0.2.7>", b"<sip:e@192.0.2.8>;q=0.1"];
-    let as_they_were = goes_so(alloc, &response, None, challenges)?;
-    let others = goes_so(alloc, &response, Some(&kept), challenges)?;
-    let none = goes_so(alloc, &response, Some(&[]), challenges)?;
-    Some(as_they_were && others && none)
+    goes_so(alloc, response, None, challenges)
+        && goes_so(alloc, response, Some(&OTHERS), challenges)
+        && goes_so(alloc, response, Some(&[]), challenges)
 }
 
-fn goes_so_with_challenges(alloc: Global, lines: &[&[u8]]) -> Option<bool> {
-    let proxy = Challenge::new(true, Vec::from_slice(alloc, b"Digest realm=\"b\"").ok()?);
-    let server = Challenge::new(false, Vec::from_slice(alloc, b"Digest realm=\"c\"").ok()?);
-    goes_so_with(alloc, lines, &[proxy, server])
+fn goes_so_with(alloc: Global, lines: &[&[u8]], challenges: &[Challenge<Global>]) -> bool
+    requires { list_all is_challenge challenges.now ≡ true }
+{
+    match message_of(alloc, lines) {
+        Some(response) => goes_each_way(alloc, &response, challenges),
+        None => false,
+    }
+}
+
+fn goes_so_with_challenges(alloc: Global, lines: &[&[u8]]) -> bool {
+    match (of_proxy(alloc), of_server(alloc)) {
+        (Some(proxy), Some(server)) => goes_so_with(alloc, lines, &[proxy, server]),
+        _ => false,
+    }
 }
 
 #[test]
@@ -141,33 +166,37 @@ fn responses_are_written_as_they_are_built(rt: HostRuntime) {
     sooner[1] = b"m: <sip:a@192.0.2.5>";
     sooner[3] = b"Via: SIP/2.0/UDP 192.0.2.9:5060;branch=z9hG4bK1";
     for (row, lines) in [MOVED, sooner].iter().enumerate() {
+        holds_in_row(&rt, goes_so_with(alloc, lines, &[]), "a 302", row);
         holds_in_row(
             &rt,
-            goes_so_with(alloc, lines, &[]).unwrap_or(false),
-            "a 302",
-            row,
-        );
-        holds_in_row(
-            &rt,
-            goes_so_with_challenges(alloc, lines).unwrap_or(false),
+            goes_so_with_challenges(alloc, lines),
             "a 302 with challenges",
             row,
         );
     }
     holds(
         &rt,
-        goes_so_with_challenges(alloc, &ASKED).unwrap_or(false),
+        goes_so_with_challenges(alloc, &ASKED),
         "a 401 whose Via values stand in one line",
     );
 }
 
+/// Whether a response is refused as one with one Via value alone, and nothing is written.
+fn is_the_last(alloc: Global, response: &Message<Global>) -> bool {
+    let mut out = Vec::new(alloc);
+    begins(&mut out)
+        && matches!(
+            write_upward(response, None, &[], &mut out),
+            Err(BuildFault::LastVia)
+        )
+        && is_as_it_began(&out)
+}
+
 /// Whether a response with one Via value is refused, and nothing is written.
-fn is_refused(alloc: Global) -> Option<bool> {
-    let response = message_of(alloc, &ALONE)?;
-    let mut out = Vec::from_slice(alloc, b"before").ok()?;
-    match write_upward(&response, None, &[], &mut out) {
-        Ok(()) => None,
-        Err(fault) => Some(fault == BuildFault::LastVia && out.as_slice() == b"before".as_slice()),
+fn is_refused(alloc: Global) -> bool {
+    match message_of(alloc, &ALONE) {
+        Some(response) => is_the_last(alloc, &response),
+        None => false,
     }
 }
 
@@ -176,7 +205,7 @@ fn nothing_is_written_of_what_was_for_the_proxy(rt: HostRuntime) {
     let alloc = rt.alloc();
     holds(
         &rt,
-        is_refused(alloc).unwrap_or(false),
+        is_refused(alloc),
         "a response with one Via value is a LastVia",
     );
 }
@@ -184,22 +213,36 @@ fn nothing_is_written_of_what_was_for_the_proxy(rt: HostRuntime) {
 /// What stands in the text, so that its first chunk has no room for more.
 const BEFORE: [u8; 440] = [120; 440];
 
-/// Whether all that is written where no more memory is granted is refused, and `out` is as it was.
-fn stays_as_it_was(alloc: Global) -> Option<bool> {
-    let request = message_of(alloc, &REQUEST)?;
-    let response = message_of(alloc, &MOVED)?;
-    let bump = Bump::new(alloc);
-    let mut out = Vec::from_slice(&bump, &BEFORE).ok()?;
-    bump.set_allocation_limit(Some(bump.allocated_bytes()));
-    let answered = write_generated(&request, OwnStatus::BadExtension, &mut out).is_ok();
-    let upwards = write_upward(&response, None, &[], &mut out).is_ok();
+/// Whether all that is written of them to a text is refused.
+fn are_refused(
+    request: &Message<Global>,
+    response: &Message<Global>,
+    out: &mut Vec<u8, &Bump<Global>>,
+) -> bool {
     let Start::Request { .. } = request.start() else {
-        return None;
+        return false;
     };
-    let acknowledged = write_ack(&request, &response, &mut out).is_ok();
-    let cancelled = write_cancel(&request, &mut out).is_ok();
-    let none = !answered && !upwards && !acknowledged && !cancelled;
-    Some(none && out.as_slice() == BEFORE.as_slice())
+    let answered = write_generated(request, OwnStatus::BadExtension, out).is_ok();
+    let upwards = write_upward(response, None, &[], out).is_ok();
+    let acknowledged = write_ack(request, response, out).is_ok();
+    let cancelled = write_cancel(request, out).is_ok();
+    !answered && !upwards && !acknowledged && !cancelled
+}
+
+/// Whether all that is written of them where no more memory is granted is refused, and the text is as it was.
+fn keeps_its_text(alloc: Global, request: &Message<Global>, response: &Message<Global>) -> bool {
+    let bump = Bump::new(alloc);
+    let mut out = Vec::new(&bump);
+    let begun = out.extend_from_slice(&BEFORE).is_ok();
+    bump.set_allocation_limit(Some(bump.allocated_bytes()));
+    begun && are_refused(request, response, &mut out) && is(&out, &BEFORE)
+}
+
+fn stays_as_it_was(alloc: Global) -> bool {
+    match (message_of(alloc, &REQUEST), message_of(alloc, &MOVED)) {
+        (Some(request), Some(response)) => keeps_its_text(alloc, &request, &response),
+        _ => false,
+    }
 }
 
 #[test]
@@ -207,7 +250,7 @@ fn refused_memory_changes_nothing(rt: HostRuntime) {
     let alloc = rt.alloc();
     holds(
         &rt,
-        stays_as_it_was(alloc).unwrap_or(false),
+        stays_as_it_was(alloc),
         "nothing is written where memory is refused",
     );
 }

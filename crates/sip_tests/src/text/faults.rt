@@ -1,10 +1,11 @@
 //! Texts that are no messages by one change, each with its fault.
 use crate::bytes::holds_of;
-use crate::text::samples::{changed, request};
+use crate::holds::holds;
+use crate::messages::text_of;
+use crate::text::samples::{LINES, changed};
 use sip_text::{Message, Needed, ReadFault};
 use std::alloc::Global;
 use std::process::Abort;
-use std::test::Fail;
 
 /// The name of what a text is read as.
 fn outcome(alloc: Global, text: &[u8]) -> &'static str {
@@ -47,17 +48,18 @@ fn parts_are_cut_short(rt: &impl Abort, alloc: Global, text: &[u8]) {
 }
 
 #[test]
-fn no_part_of_a_request_is_one(rt: HostRuntime) -> Result<(), Fail> {
-    let text = request(rt.alloc())?;
-    parts_are_cut_short(&rt, rt.alloc(), &text);
-    Ok(())
+fn no_part_of_a_request_is_one(rt: HostRuntime) {
+    match text_of(rt.alloc(), &LINES) {
+        Some(text) => parts_are_cut_short(&rt, rt.alloc(), &text),
+        None => holds(&rt, false, "there is memory for the text"),
+    }
 }
 
 /// What the request with another text in the place of one line is read as.
 fn outcome_with(alloc: Global, at: usize, line: &[u8]) -> &'static str {
     match changed(alloc, at, line, b"") {
-        Ok(text) => outcome(alloc, &text),
-        Err(_) => "NoMemory",
+        Some(text) => outcome(alloc, &text),
+        None => "NoMemory",
     }
 }
 

@@ -1,19 +1,11 @@
 //! Messages that are read and written.
 use crate::bytes::{has, holds_of, is};
 use crate::holds::holds;
-use crate::text::samples::{LINES, busy, lines_with, message_with, request, text_of, written};
+use crate::messages::{is_written_so, read, spells, text_of, text_with, written};
+use crate::text::samples::{LINES, busy, lines_with, message_changed};
 use sip_text::{Message, Needed, ReadFault, Start};
-use std::alloc::{AllocError, Global};
+use std::alloc::Global;
 use std::process::Abort;
-use std::test::Fail;
-
-/// Whether a call was not refused, and said yes.
-fn is_yes(answer: Result<bool, ReadFault<Global>>) -> bool {
-    match answer {
-        Ok(yes) => yes,
-        Err(_) => false,
-    }
-}
 
 /// The value at that place among those of the header lines of that name.
 fn value_at<'a>(message: &'a Message<Global>, name: &[u8], place: usize) -> Option<&'a [u8]> {
@@ -55,51 +47,64 @@ fn are_the_fields(rt: &impl Abort, message: &Message<Global>) {
     holds(rt, message.to_tag().is_none(), "no tag of To");
 }
 
-#[test]
-fn reads_a_request(rt: HostRuntime) -> Result<(), Fail> {
-    let message = message_with(rt.alloc(), 0, LINES[0], b"")?;
-    holds(&rt, has_method(&message, b"OPTIONS"), "the method");
+/// Ends the test where this is not the request.
+fn is_the_request(rt: &impl Abort, message: &Message<Global>) {
+    holds(rt, has_method(message, b"OPTIONS"), "the method");
     holds(
-        &rt,
-        has_uri(&message, b"sip:bob@example.com"),
+        rt,
+        has_uri(message, b"sip:bob@example.com"),
         "the request URI",
     );
-    holds(&rt, message.headers().len() == 7, "each header line");
-    holds(&rt, message.body().is_empty(), "no body");
-    are_the_fields(&rt, &message);
-    Ok(())
+    holds(rt, message.headers().len() == 7, "each header line");
+    holds(rt, message.body().is_empty(), "no body");
+    are_the_fields(rt, message);
+}
+
+#[test]
+fn reads_a_request(rt: HostRuntime) {
+    match message_changed(rt.alloc(), 0, LINES[0], b"") {
+        Some(message) => is_the_request(&rt, &message),
+        None => holds(&rt, false, "the request is read"),
+    }
+}
+
+/// Whether a text is the same once it is read and written.
+fn is_the_same(alloc: Global, text: &[u8]) -> bool {
+    is_written_so(alloc, read(alloc, text), text)
 }
 
 /// What the message of a text is written as.
-fn read_and_written(alloc: Global, text: &[u8]) -> Result<Vec<u8>, ReadFault<Global>> {
-    Ok(written(alloc, &Message::read(alloc, text)?)?)
+fn read_and_written(alloc: Global, text: &[u8]) -> Option<Vec<u8>> {
+    match read(alloc, text) {
+        Some(message) => written(alloc, &message),
+        None => None,
+    }
 }
 
-/// Whether the request is the same once it is read and written.
-fn is_the_same(alloc: Global) -> Result<bool, ReadFault<Global>> {
-    let text = request(alloc)?;
-    Ok(is(&read_and_written(alloc, &text)?, &text))
+/// Whether a text is the same once it is read and written, and that again.
+fn is_the_same_twice(alloc: Global, text: &[u8]) -> bool {
+    match read_and_written(alloc, text) {
+        Some(out) => is_written_so(alloc, read(alloc, &out), text),
+        None => false,
+    }
 }
 
-/// Whether the request is the same once it is read and written, and that again.
-fn is_the_same_twice(alloc: Global) -> Result<bool, ReadFault<Global>> {
-    let text = request(alloc)?;
-    let out = read_and_written(alloc, &text)?;
-    Ok(is(&read_and_written(alloc, &out)?, &text))
+/// Ends the test where the text is not the same once it is read and written.
+fn stays_the_same(rt: &impl Abort, alloc: Global, text: &[u8]) {
+    holds(rt, is_the_same(alloc, text), "written as it was read");
+    holds(
+        rt,
+        is_the_same_twice(alloc, text),
+        "written as it was, read again",
+    );
 }
 
 #[test]
 fn writes_and_reads_again(rt: HostRuntime) {
-    holds(
-        &rt,
-        is_yes(is_the_same(rt.alloc())),
-        "written as it was read",
-    );
-    holds(
-        &rt,
-        is_yes(is_the_same_twice(rt.alloc())),
-        "written as it was, read again",
-    );
+    match text_of(rt.alloc(), &LINES) {
+        Some(text) => stays_the_same(&rt, rt.alloc(), &text),
+        None => holds(&rt, false, "there is memory for the text"),
+    }
 }
 
 /// The head that the fault of a short body carries.
@@ -113,27 +118,28 @@ fn head_of(alloc: Global, text: &[u8]) -> Option<Message<Global>> {
     }
 }
 
-/// Whether a text is refused for a short body, with the head that is written as this one.
-fn carries(alloc: Global, text: &[u8], wanted: &[u8]) -> Result<bool, AllocError> {
+/// Whether a text is refused for a short body, with the head that is written as these lines.
+fn carries(alloc: Global, text: &[u8], head_lines: &[&[u8]]) -> bool {
     match head_of(alloc, text) {
-        Some(head) => Ok(is(&written(alloc, &head)?, wanted)),
-        None => Ok(false),
+        Some(head) => spells(alloc, &head, head_lines),
+        None => false,
     }
 }
 
 /// Whether these lines and too short a body are refused with the head that has those lines.
-fn lines_carry(alloc: Global, lines: &[&[u8]], head_lines: &[&[u8]]) -> Result<bool, AllocError> {
-    let text = text_of(alloc, lines, b"body")?;
-    let wanted = text_of(alloc, head_lines, b"")?;
-    carries(alloc, &text, &wanted)
+fn lines_carry(alloc: Global, lines: &[&[u8]], head_lines: &[&[u8]]) -> bool {
+    match text_with(alloc, lines, b"body") {
+        Some(text) => carries(alloc, &text, head_lines),
+        None => false,
+    }
 }
 
 #[test]
 fn a_short_body_carries_the_head(rt: HostRuntime) {
     let found = lines_carry(rt.alloc(), &busy(b"l: 5"), &busy(b"l: 0"));
-    holds(&rt, found == Ok(true), "the head of a response");
+    holds(&rt, found, "the head of a response");
     let found = lines_carry(rt.alloc(), &lines_with(7, b"l: 5"), &LINES);
-    holds(&rt, found == Ok(true), "the head of a request");
+    holds(&rt, found, "the head of a request");
 }
 
 /// Lines of which some continue the ones before them.
@@ -161,10 +167,11 @@ fn are_joined(rt: &impl Abort, message: &Message<Global>) {
 }
 
 #[test]
-fn joins_continued_lines(rt: HostRuntime) -> Result<(), Fail> {
-    let message = message_with(rt.alloc(), 2, CONTINUED, b"")?;
-    are_joined(&rt, &message);
-    Ok(())
+fn joins_continued_lines(rt: HostRuntime) {
+    match message_changed(rt.alloc(), 2, CONTINUED, b"") {
+        Some(message) => are_joined(&rt, &message),
+        None => holds(&rt, false, "the lines are read"),
+    }
 }
 
 #[test]
@@ -177,26 +184,35 @@ fn names_needed_fields(rt: HostRuntime) {
 }
 
 /// Whether the message with that line for its length has this body.
-fn has_body(alloc: Global, line: &[u8], wanted: &[u8]) -> Result<bool, ReadFault<Global>> {
-    Ok(is(message_with(alloc, 7, line, b"abc")?.body(), wanted))
+fn has_body(alloc: Global, line: &[u8], wanted: &[u8]) -> bool {
+    match message_changed(alloc, 7, line, b"abc") {
+        Some(message) => is(message.body(), wanted),
+        None => false,
+    }
 }
 
 #[test]
 fn takes_the_body_that_is_said(rt: HostRuntime) {
     let found = has_body(rt.alloc(), b"l: 2\r\nContent-Length: 02", b"ab");
-    holds(&rt, is_yes(found), "as much as the length says");
+    holds(&rt, found, "as much as the length says");
     let found = has_body(rt.alloc(), b"Subject: no length", b"abc");
-    holds(&rt, is_yes(found), "all that there is without a length");
+    holds(&rt, found, "all that there is without a length");
 }
 
 /// Whether the message with this To has this tag.
-fn has_tag(alloc: Global, to: &[u8], wanted: &[u8]) -> Result<bool, ReadFault<Global>> {
-    Ok(has(message_with(alloc, 4, to, b"")?.to_tag(), wanted))
+fn has_tag(alloc: Global, to: &[u8], wanted: &[u8]) -> bool {
+    match message_changed(alloc, 4, to, b"") {
+        Some(message) => has(message.to_tag(), wanted),
+        None => false,
+    }
 }
 
 /// Whether the message with this To has no tag.
-fn has_no_tag(alloc: Global, to: &[u8]) -> Result<bool, ReadFault<Global>> {
-    Ok(message_with(alloc, 4, to, b"")?.to_tag().is_none())
+fn has_no_tag(alloc: Global, to: &[u8]) -> bool {
+    match message_changed(alloc, 4, to, b"") {
+        Some(message) => message.to_tag().is_none(),
+        None => false,
+    }
 }
 
 /// Fields To, and the tag of each.
@@ -208,8 +224,8 @@ const TAGS: [(&[u8], &[u8]); 2] = [
 #[test]
 fn finds_tags(rt: HostRuntime) {
     for (to, tag) in TAGS {
-        holds_of(&rt, is_yes(has_tag(rt.alloc(), to, tag)), "the tag", to);
+        holds_of(&rt, has_tag(rt.alloc(), to, tag), "the tag", to);
     }
     let found = has_no_tag(rt.alloc(), b"To: sip:b;tag;tag=q");
-    holds(&rt, is_yes(found), "a tag without a value is none");
+    holds(&rt, found, "a tag without a value is none");
 }

@@ -1,6 +1,7 @@
 //! A good request, and texts made of it by one change.
-use sip_text::{Message, ReadFault};
-use std::alloc::{AllocError, Global};
+use crate::messages::{message_with, text_with};
+use sip_text::Message;
+use std::alloc::Global;
 
 /// The lines of a good request, without their ends.
 pub const LINES: [&[u8]; 9] = [
@@ -23,22 +24,6 @@ pub fn busy(length: &[u8]) -> [&[u8]; 8] {
     ]
 }
 
-/// A text of these lines with that body.
-pub fn text_of(alloc: Global, lines: &[&[u8]], body: &[u8]) -> Result<Vec<u8>, AllocError> {
-    let mut text = Vec::new(alloc);
-    for line in lines {
-        text.extend_from_slice(line)?;
-        text.extend_from_slice(b"\r\n")?;
-    }
-    text.extend_from_slice(body)?;
-    Ok(text)
-}
-
-/// The request.
-pub fn request(alloc: Global) -> Result<Vec<u8>, AllocError> {
-    text_of(alloc, &LINES, b"")
-}
-
 /// The lines of the request with another in the place of one.
 pub fn lines_with(at: usize, line: &[u8]) -> [&[u8]; 9] {
     let mut lines: [&[u8]; 9] = LINES;
@@ -49,23 +34,16 @@ pub fn lines_with(at: usize, line: &[u8]) -> [&[u8]; 9] {
 }
 
 /// The request with another text in the place of one line, and that body.
-pub fn changed(alloc: Global, at: usize, line: &[u8], body: &[u8]) -> Result<Vec<u8>, AllocError> {
-    text_of(alloc, &lines_with(at, line), body)
+pub fn changed(alloc: Global, at: usize, line: &[u8], body: &[u8]) -> Option<Vec<u8>> {
+    text_with(alloc, &lines_with(at, line), body)
 }
 
 /// The message of the request with another text in the place of one line, and that body.
-pub fn message_with(
+pub fn message_changed(
     alloc: Global,
     at: usize,
     line: &[u8],
     body: &[u8],
-) -> Result<Message<Global>, ReadFault<Global>> {
-    Message::read(alloc, &changed(alloc, at, line, body)?)
-}
-
-/// What a message is written as.
-pub fn written(alloc: Global, message: &Message<Global>) -> Result<Vec<u8>, AllocError> {
-    let mut out = Vec::new(alloc);
-    message.write(&mut out)?;
-    Ok(out)
+) -> Option<Message<Global>> {
+    message_with(alloc, &lines_with(at, line), body)
 }

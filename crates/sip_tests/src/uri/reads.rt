@@ -1,56 +1,82 @@
 //! URIs that are read: their parts, their keys and where requests to them go.
 use crate::bytes::{has, holds_of, is};
 use crate::holds::holds;
-use sip_uri::{Hop, SipUri, UriFault, cut_host, is_host, read_address, read_port};
+use sip_uri::{Hop, SipUri, cut_host, is_host, read_address, read_port};
 use std::alloc::Global;
 
 /// A URI with each part.
 const WHOLE: &[u8] = b"sip:bob@192.0.2.4:5062;transport=udp;Method=INVITE?Subject=x";
 
-fn has_user(alloc: Global, text: &[u8], user: &[u8]) -> Result<bool, UriFault> {
-    Ok(has(SipUri::read(alloc, text)?.user(), user))
+/// The URI that a text spells.
+fn uri_of(alloc: Global, text: &[u8]) -> Option<SipUri<Global>> {
+    match SipUri::read(alloc, text) {
+        Ok(uri) => Some(uri),
+        Err(_) => None,
+    }
 }
 
-fn has_host(alloc: Global, text: &[u8], host: &[u8]) -> Result<bool, UriFault> {
-    Ok(is(SipUri::read(alloc, text)?.host(), host))
+fn has_user(alloc: Global, text: &[u8], user: &[u8]) -> bool {
+    match uri_of(alloc, text) {
+        Some(uri) => has(uri.user(), user),
+        None => false,
+    }
+}
+
+fn has_host(alloc: Global, text: &[u8], host: &[u8]) -> bool {
+    match uri_of(alloc, text) {
+        Some(uri) => is(uri.host(), host),
+        None => false,
+    }
+}
+
+/// Whether the text of a URI in a request is appended so.
+fn appends_its_text(alloc: Global, uri: &SipUri<Global>, wanted: &[u8]) -> bool {
+    let mut out = Vec::new(alloc);
+    out.extend_from_slice(b"> ").is_ok() && uri.request_uri(&mut out).is_ok() && is(&out, wanted)
 }
 
 /// Whether this is appended as the text in a request.
-fn writes(alloc: Global, text: &[u8], wanted: &[u8]) -> Result<bool, UriFault> {
-    let uri = SipUri::read(alloc, text)?;
-    let mut out = b"> ".to_vec(alloc)?;
-    uri.request_uri(&mut out)?;
-    Ok(is(&out, wanted))
+fn writes(alloc: Global, text: &[u8], wanted: &[u8]) -> bool {
+    match uri_of(alloc, text) {
+        Some(uri) => appends_its_text(alloc, &uri, wanted),
+        None => false,
+    }
+}
+
+/// Whether the key of a URI is appended so.
+fn appends_its_key(alloc: Global, uri: &SipUri<Global>, wanted: &[u8]) -> bool {
+    let mut key = Vec::new(alloc);
+    key.extend_from_slice(b"> ").is_ok() && uri.target_key(&mut key).is_ok() && is(&key, wanted)
 }
 
 /// Whether this is appended as the key.
-fn has_key(alloc: Global, text: &[u8], wanted: &[u8]) -> Result<bool, UriFault> {
-    let uri = SipUri::read(alloc, text)?;
-    let mut key = b"> ".to_vec(alloc)?;
-    uri.target_key(&mut key)?;
-    Ok(is(&key, wanted))
+fn has_key(alloc: Global, text: &[u8], wanted: &[u8]) -> bool {
+    match uri_of(alloc, text) {
+        Some(uri) => appends_its_key(alloc, &uri, wanted),
+        None => false,
+    }
 }
 
-fn hop_of(alloc: Global, text: &[u8]) -> Result<Option<Hop>, UriFault> {
-    Ok(SipUri::read(alloc, text)?.next_hop())
+/// Whether a text is read, and a request to it goes to this hop, or to none.
+fn has_hop(alloc: Global, text: &[u8], hop: Option<Hop>) -> bool {
+    match uri_of(alloc, text) {
+        Some(uri) => uri.next_hop() == hop,
+        None => false,
+    }
 }
 
 #[test]
 fn reads_a_whole_uri(rt: HostRuntime) {
     let alloc = rt.alloc();
-    holds(&rt, has_user(alloc, WHOLE, b"bob") == Ok(true), "the user");
-    holds(
-        &rt,
-        has_host(alloc, WHOLE, b"192.0.2.4") == Ok(true),
-        "the host",
-    );
+    holds(&rt, has_user(alloc, WHOLE, b"bob"), "the user");
+    holds(&rt, has_host(alloc, WHOLE, b"192.0.2.4"), "the host");
     let hop = Hop {
         addr: [192, 0, 2, 4],
         port: 5062,
     };
-    holds(&rt, hop_of(alloc, WHOLE) == Ok(Some(hop)), "the next hop");
+    holds(&rt, has_hop(alloc, WHOLE, Some(hop)), "the next hop");
     let request = writes(alloc, WHOLE, b"> sip:bob@192.0.2.4:5062;transport=udp");
-    holds(&rt, request == Ok(true), "the text in a request");
+    holds(&rt, request, "the text in a request");
 }
 
 /// URIs and the key of each, behind what was there.
@@ -65,19 +91,16 @@ const KEYS: [(&[u8], &[u8]); 5] = [
 #[test]
 fn makes_keys(rt: HostRuntime) {
     for (text, key) in KEYS {
-        holds_of(
-            &rt,
-            has_key(rt.alloc(), text, key) == Ok(true),
-            "the key",
-            text,
-        );
+        holds_of(&rt, has_key(rt.alloc(), text, key), "the key", text);
     }
 }
 
-fn are_same(alloc: Global, a: &[u8], b: &[u8]) -> Result<bool, UriFault> {
-    let a = SipUri::read(alloc, a)?;
-    let b = SipUri::read(alloc, b)?;
-    Ok(a.same_target(&b))
+/// Whether these are the same target; nothing where one is no URI.
+fn are_same(alloc: Global, a: &[u8], b: &[u8]) -> Option<bool> {
+    match (uri_of(alloc, a), uri_of(alloc, b)) {
+        (Some(a), Some(b)) => Some(a.same_target(&b)),
+        _ => None,
+    }
 }
 
 /// Pairs of URIs, and whether they are the same target.
@@ -93,7 +116,8 @@ const PAIRS: [(&[u8], &[u8], bool); 5] = [
 fn tells_targets_apart(rt: HostRuntime) {
     for (a, b, same) in PAIRS {
         let found = are_same(rt.alloc(), a, b);
-        holds_of(&rt, found == Ok(same), "whether it is the same target", b);
+        let well = found == Some(same);
+        holds_of(&rt, well, "whether it is the same target", b);
     }
 }
 
@@ -121,12 +145,7 @@ const HOPS: [(&[u8], Option<Hop>); 11] = [
 #[test]
 fn finds_the_next_hop(rt: HostRuntime) {
     for (text, hop) in HOPS {
-        holds_of(
-            &rt,
-            hop_of(rt.alloc(), text) == Ok(hop),
-            "the next hop",
-            text,
-        );
+        holds_of(&rt, has_hop(rt.alloc(), text, hop), "the next hop", text);
     }
 }
 
@@ -185,6 +204,6 @@ const EDGES: [(&[u8], &[u8]); 7] = [
 fn reads_at_the_edges(rt: HostRuntime) {
     for (text, host) in EDGES {
         let found = has_host(rt.alloc(), text, host);
-        holds_of(&rt, found == Ok(true), "a URI with that host", text);
+        holds_of(&rt, found, "a URI with that host", text);
     }
 }

@@ -1,4 +1,5 @@
 //! Branches that are written and read, and texts that are no branch.
+use crate::bytes::has;
 use crate::holds::holds;
 use crate::rows::holds_in_row;
 use sip_lex::is_token;
@@ -16,26 +17,28 @@ const LARGEST: BranchName = BranchName {
 const LARGEST_TEXT: &[u8] =
     b"z9hG4bK000102030405060708090a7f80a0f0ff.4294967295.18446744073709551615.65535";
 
-/// What stands behind `branch=` once the branch is written there.
-fn text_of(alloc: Global, name: &BranchName) -> Option<Vec<u8>> {
-    let mut text = Vec::from_slice(alloc, b"branch=").ok()?;
-    write_branch(name, &mut text).ok()?;
-    Vec::from_slice(alloc, text.strip_prefix(b"branch=")?).ok()
+/// `branch=`, with the branch behind it; whether there was memory for them.
+fn adds_branch(name: &BranchName, text: &mut Vec<u8>) -> bool {
+    text.extend_from_slice(b"branch=").is_ok() && write_branch(name, text).is_ok()
 }
 
-fn is_written_as(alloc: Global, name: &BranchName, text: &[u8]) -> bool {
-    match text_of(alloc, name) {
+fn is_written_as(alloc: Global, name: &BranchName, branch: &[u8]) -> bool {
+    let mut text = Vec::new(alloc);
+    adds_branch(name, &mut text) && has(text.strip_prefix(b"branch="), branch)
+}
+
+/// Whether a token stands behind `branch=`.
+fn has_token(text: &[u8]) -> bool {
+    match text.strip_prefix(b"branch=") {
+        Some(branch) => is_token(branch),
         None => false,
-        Some(written) => *written == *text,
     }
 }
 
 fn is_written_as_token(alloc: Global, name: &BranchName) -> bool {
     branch_is_token();
-    match text_of(alloc, name) {
-        None => false,
-        Some(written) => is_token(&written),
-    }
+    let mut text = Vec::new(alloc);
+    adds_branch(name, &mut text) && has_token(&text)
 }
 
 fn is_read_as(text: &[u8], name: BranchName) -> bool {

@@ -8,7 +8,10 @@ use std::alloc::Global;
 
 /// The loop key of the request of these lines.
 fn key_of(alloc: Global, lines: &[&[u8]]) -> Option<[u8; 16]> {
-    Some(loop_key(&message_of(alloc, lines)?))
+    match message_of(alloc, lines) {
+        Some(request) => Some(loop_key(&request)),
+        None => None,
+    }
 }
 
 #[test]
@@ -65,7 +68,10 @@ const NOT_PASSED: [&[u8]; 14] = [
 fn loops_with(alloc: Global, via: &[u8], own: Own) -> Option<bool> {
     let mut lines = REQUEST;
     lines[2] = via;
-    Some(is_loop(&message_of(alloc, &lines)?, own))
+    match message_of(alloc, &lines) {
+        Some(request) => Some(is_loop(&request, own)),
+        None => None,
+    }
 }
 
 #[test]

@@ -1,4 +1,5 @@
 //! Requests that are marked with where they came from, and their first Via values.
+use crate::bytes::{has, is};
 use crate::holds::holds;
 use crate::messages::{REQUEST, SOURCE, is_written_as, message_of};
 use crate::rows::holds_in_row;
@@ -13,16 +14,26 @@ fn request_with(alloc: Global, via: &[u8]) -> Option<Message<Global>> {
     message_of(alloc, &lines)
 }
 
+/// The marked copy of a request.
+fn marked_copy(alloc: Global, request: &Message<Global>) -> Option<Message<Global>> {
+    match mark_received(alloc, request, SOURCE) {
+        Ok(marked) => Some(marked),
+        Err(_) => None,
+    }
+}
+
 /// The request with this Via line, marked.
 fn marked(alloc: Global, via: &[u8]) -> Option<Message<Global>> {
-    let request = request_with(alloc, via)?;
-    mark_received(alloc, &request, SOURCE).ok()
+    match request_with(alloc, via) {
+        Some(request) => marked_copy(alloc, &request),
+        None => None,
+    }
 }
 
 fn has_top_value(alloc: Global, via: &[u8], value: &[u8]) -> bool {
     match request_with(alloc, via) {
         None => false,
-        Some(request) => top_via(&request) == value,
+        Some(request) => is(top_via(&request), value),
     }
 }
 
@@ -81,7 +92,7 @@ const MARKED: [(&[u8], &[u8]); 6] = [
 fn is_marked_as(alloc: Global, via: &[u8], value: &[u8]) -> bool {
     match marked(alloc, via) {
         None => false,
-        Some(request) => request.values(b"via").next() == Some(value),
+        Some(request) => has(request.values(b"via").next(), value),
     }
 }
 
@@ -102,10 +113,10 @@ fn marks_each_kind_of_value(rt: HostRuntime) {
 fn is_refused(alloc: Global, via: &[u8]) -> bool {
     match request_with(alloc, via) {
         None => false,
-        Some(request) => match mark_received(alloc, &request, SOURCE) {
-            Ok(_) => false,
-            Err(fault) => fault == ViaFault::BadVia,
-        },
+        Some(request) => matches!(
+            mark_received(alloc, &request, SOURCE),
+            Err(ViaFault::BadVia)
+        ),
     }
 }
 

@@ -5,14 +5,24 @@ use sip_route::strip_route;
 use sip_text::Message;
 use std::alloc::Global;
 
+/// A request, less the proxy's own Route value.
+fn stripped_copy(alloc: Global, request: &Message<Global>) -> Option<Message<Global>> {
+    match strip_route(alloc, request, OWN) {
+        Ok(stripped) => Some(stripped),
+        Err(_) => None,
+    }
+}
+
 /// The request with this Route line, less the proxy's own Route value.
 fn stripped(alloc: Global, route: &[u8]) -> Option<Message<Global>> {
     let lines = [
         REQUEST[0], REQUEST[1], route, REQUEST[2], REQUEST[3], REQUEST[4], REQUEST[5], REQUEST[6],
         REQUEST[7], REQUEST[8],
     ];
-    let request = message_of(alloc, &lines)?;
-    strip_route(alloc, &request, OWN).ok()
+    match message_of(alloc, &lines) {
+        Some(request) => stripped_copy(alloc, &request),
+        None => None,
+    }
 }
 
 /// Whether that is left in the first Route line of the request with this Route line; None: whether no such line is.
@@ -67,8 +77,10 @@ fn strips_its_own_route(rt: HostRuntime) {
 
 /// The request without a Route line, less the proxy's own Route value.
 fn stripped_of_none(alloc: Global) -> Option<Message<Global>> {
-    let request = message_of(alloc, &REQUEST)?;
-    strip_route(alloc, &request, OWN).ok()
+    match message_of(alloc, &REQUEST) {
+        Some(request) => stripped_copy(alloc, &request),
+        None => None,
+    }
 }
 
 #[test]

@@ -1,4 +1,5 @@
 //! Texts that are Via values, texts that are none by one change, and what a value says.
+use crate::bytes::is;
 use crate::holds::holds;
 use crate::messages::SOURCE;
 use crate::rows::holds_in_row;
@@ -113,13 +114,16 @@ fn values(rt: HostRuntime) {
 }
 
 fn value_of(alloc: Global, text: &[u8]) -> Option<Via<Global>> {
-    Via::read(alloc, text).ok()
+    match Via::read(alloc, text) {
+        Ok(via) => Some(via),
+        Err(_) => None,
+    }
 }
 
 fn has_host(alloc: Global, text: &[u8], host: &[u8]) -> bool {
     match value_of(alloc, text) {
         None => false,
-        Some(via) => via.host() == host,
+        Some(via) => is(via.host(), host),
     }
 }
 
