@@ -1,0 +1,349 @@
+-- What a step does to the parts of branches: which failures they keep, and which ACKs they owe.
+use Rattle.std.proofs.Common.{◌≡◌, ◌∙◌, ◌⊎◌, ◌++◌, ◌∷◌, ℕ, zero, suc, Bool, true, false, List, [], map, Option, Some, None, ap, refl, sym, subst, inl, inr, nat_lt, slice_get, append-nil, cond}
+use Rattle.std.proofs.lemmas.Bool.{cond-false, cond-true}
+use Rattle.fork_model.specs.Event.{Event}
+use Rattle.fork_model.specs.Reply.{Reply}
+use Rattle.fork_model.specs.Table.{Row}
+use Rattle.sip_text.specs.Text.{MessageText, spelling}
+use Rattle.sip_uri.specs.declared.hop.Hop.{Hop}
+use Rattle.sip_uri.specs.Contact.{ContactText}
+use Rattle.sip_txn.specs.declared.event.TxEvent.{TxEvent}
+use Rattle.sip_txn.specs.declared.event.TxEvent.TheVariants as event
+use Rattle.sip_txn.specs.declared.event.TxSend.{TxSend}
+use Rattle.sip_txn.specs.declared.event.TxSend.TheVariants as send
+use Rattle.sip_txn.specs.declared.timers.Input.TheVariants as input
+use Rattle.sip_txn.specs.declared.invite_client.InviteClientState.{InviteClientState}
+use Rattle.sip_txn.specs.declared.invite_client.InviteClientState.TheVariants as invite
+use Rattle.sip_txn.specs.declared.other_client.OtherClientState.{OtherClientState}
+use Rattle.sip_txn.specs.declared.other_client.OtherClientState.TheVariants as other
+use Rattle.sip_txn.specs.InviteClient.{invite_client}
+use Rattle.sip_txn.specs.OtherClient.{other_client}
+use Rattle.sip_txn.specs.Machine.{row_out}
+use Rattle.call_model.specs.declared.cause.Cause.{Cause}
+use Rattle.call_model.specs.declared.cause.Cause.TheVariants as cause
+use Rattle.call_model.specs.Built.{ack_to, answer_in, answer_of, status_of}
+use Rattle.call_model.specs.Call.{Call, found, leg_at, set_leg, with_leg}
+use Rattle.call_model.specs.Client.{Client, InviteClient, OtherClient, client_out}
+use Rattle.call_model.specs.Due.{Deed}
+use Rattle.call_model.specs.Due as due
+use Rattle.call_model.specs.Failed.{Fails, FaultsBy, FaultsClient, cancel_faulted, faulted_cancel}
+use Rattle.call_model.specs.Fixed.{Way}
+use Rattle.call_model.specs.Leg.{Leg, Cancelling}
+use Rattle.call_model.specs.Posting.{Posts, call_tag, no_leg, rows_more, ways_of}
+use Rattle.fork_model.specs.Log.{added}
+use Rattle.call_model.specs.Pump as pump
+use Rattle.call_model.specs.Pump.{Pumped, Pumps, Does, AnswersBy, AnswersWith, SendsAnswer, TicksClientBy, FiresTimerC}
+use Rattle.call_model.specs.Server as server
+use Rattle.call_model.specs.Server.{Owed}
+use Rattle.call_model.specs.Step as step
+use Rattle.call_model.specs.Step.{Input, Output, Step}
+use Rattle.call_model.specs.Take as to
+use Rattle.call_model.specs.Take.{CancelledBy, Responds, Taken, TakesAs, ack_by, leg_after, leg_posted, response_event}
+
+-- ---- lists of parts
+
+at_with : (legs : List (Option Leg)) (n m : ℕ) (leg l : Leg) → found (slice_get (with_leg legs n leg) m) ≡ Some l
+    → ((m ≡ n) × (l ≡ leg)) ⊎ (found (slice_get legs m) ≡ Some l)
+at_with [] n m leg l e = inr e
+at_with (x ∷ legs) zero zero leg l e = inl (refl, let h : Some leg ≡ Some l = e in cc)
+at_with (x ∷ legs) zero (suc m) leg l e = inr e
+at_with (x ∷ legs) (suc n) zero leg l e = inr e
+at_with (x ∷ legs) (suc n) (suc m) leg l e = up (at_with legs n m leg l e)
+  where
+    up : ((m ≡ n) × (l ≡ leg)) ⊎ (found (slice_get legs m) ≡ Some l) → ((suc m ≡ suc n) × (l ≡ leg)) ⊎ (found (slice_get legs m) ≡ Some l)
+    up (inl p) = inl (ap suc p.0, p.1)
+    up (inr q) = inr q
+
+at_more : (legs : List (Option Leg)) (rows : List Row) (m : ℕ) (l : Leg) → found (slice_get (legs ++ map no_leg rows) m) ≡ Some l → found (slice_get legs m) ≡ Some l
+at_more [] [] m l e = e
+at_more [] (row ∷ rows) zero l e = absurd cc
+at_more [] (row ∷ rows) (suc m) l e = at_more [] rows m l e
+at_more (x ∷ legs) rows zero l e = e
+at_more (x ∷ legs) rows (suc m) l e = at_more legs rows m l e
+
+abbrev pub ack_in : Option Leg → Option (List ℕ)
+ack_in None = None
+ack_in (Some leg) = leg.ack
+
+-- ---- when an ACK is owed
+
+provisional_quiet : (now : ℕ) (c : Client) → (client_out event.Provisional now c).send ≡ send.Ack → ⊥
+provisional_quiet now (InviteClient m) e = by m.state e
+  where
+    by : (s : InviteClientState) → (row_out (invite_client s (input.Event event.Provisional))).send ≡ send.Ack → ⊥
+    by invite.Calling e = absurd cc
+    by invite.Proceeding e = absurd cc
+    by invite.Completed e = absurd cc
+    by invite.Accepted e = absurd cc
+    by invite.Terminated e = absurd cc
+provisional_quiet now (OtherClient m) e = by m.state e
+  where
+    by : (s : OtherClientState) → (row_out (other_client s (input.Event event.Provisional))).send ≡ send.Ack → ⊥
+    by other.Trying e = absurd cc
+    by other.Proceeding e = absurd cc
+    by other.Completed e = absurd cc
+    by other.Terminated e = absurd cc
+
+success_quiet : (now : ℕ) (c : Client) → (client_out event.Success now c).send ≡ send.Ack → ⊥
+success_quiet now (InviteClient m) e = by m.state e
+  where
+    by : (s : InviteClientState) → (row_out (invite_client s (input.Event event.Success))).send ≡ send.Ack → ⊥
+    by invite.Calling e = absurd cc
+    by invite.Proceeding e = absurd cc
+    by invite.Completed e = absurd cc
+    by invite.Accepted e = absurd cc
+    by invite.Terminated e = absurd cc
+success_quiet now (OtherClient m) e = by m.state e
+  where
+    by : (s : OtherClientState) → (row_out (other_client s (input.Event event.Success))).send ≡ send.Ack → ⊥
+    by other.Trying e = absurd cc
+    by other.Proceeding e = absurd cc
+    by other.Completed e = absurd cc
+    by other.Terminated e = absurd cc
+
+-- a failure alone is acknowledged
+failure_acked : (status now : ℕ) (c : Client) → (client_out (response_event status) now c).send ≡ send.Ack → nat_lt status 300 ≡ false
+failure_acked status now c e = by (nat_lt status 200) (nat_lt status 300) refl refl
+  where
+    by : (a b : Bool) → nat_lt status 200 ≡ a → nat_lt status 300 ≡ b → nat_lt status 300 ≡ false
+    by true b is also = absurd (provisional_quiet now c (let P : TxEvent → Type 0 = λ ev. (client_out ev now c).send ≡ send.Ack in subst P (cond-true _ _ _ is) e))
+    by false true is also =
+        absurd (success_quiet now c (let P : TxEvent → Type 0 = λ ev. (client_out ev now c).send ≡ send.Ack in subst P (cond-false _ _ _ is ∙ cond-true _ _ _ also) e))
+    by false false is also = also
+
+ack_case : (s : TxSend) (ack bytes : List ℕ) (old : Option (List ℕ)) → ack_by s ack old ≡ Some bytes → (old ≡ Some bytes) ⊎ ((s ≡ send.Ack) × (bytes ≡ ack))
+ack_case send.Nothing ack bytes old e = inl e
+ack_case send.Request ack bytes old e = inl e
+ack_case send.Ack ack bytes old e = inr (refl, let same : bytes ≡ ack = cc in same)
+ack_case send.Response ack bytes old e = inl e
+
+-- ---- a step
+
+module _ (now : ℕ) (call : Call) (input : Input) (new : Call) where
+  -- branch n takes this failure now
+  abbrev pub TakesFailure : ℕ → MessageText → Type 0
+  TakesFailure n m = (source : Hop) × (input ≡ step.Take (to.Client n) m source) × (nat_lt (status_of m) 300 ≡ false)
+
+  abbrev pub OwesAckNow : ℕ → List ℕ → Type 0
+  OwesAckNow n bytes = (m : MessageText) × (way : Way) × TakesFailure n m × (slice_get call.ways n ≡ Some way) × (bytes ≡ spelling (ack_to call.fixed way n m))
+
+  -- what a part keeps and owes it did before, or by this step
+  pub record Comes (n : ℕ) (leg : Leg) : Type 0 where
+    pub answer : (m : MessageText) → leg.answer ≡ Some m → (answer_in (leg_at call n) ≡ Some m) ⊎ TakesFailure n m
+    pub ack : (bytes : List ℕ) → leg.ack ≡ Some bytes → (ack_in (leg_at call n) ≡ Some bytes) ⊎ OwesAckNow n bytes
+
+  abbrev pub EachComes : Call → Type 0
+  EachComes x = (n : ℕ) (leg : Leg) → leg_at x n ≡ Some leg → Comes n leg
+
+  pub record Parts : Type 0 where
+    pub each : EachComes new
+    pub fixed : new.fixed ≡ call.fixed
+    pub more : List Way
+    pub ways : new.ways ≡ call.ways ++ more
+
+  old : EachComes call
+  old n leg there = record {
+    answer = λ m is. inl (ap answer_in there ∙ is);
+    ack = λ bytes is. inl (ap ack_in there ∙ is);
+  }
+
+  like : (k : ℕ) (leg l : Leg) → leg_at call k ≡ Some leg → l.answer ≡ leg.answer → l.ack ≡ leg.ack → Comes k l
+  like k leg l there a b = record {
+    answer = λ m is. inl (ap answer_in there ∙ sym a ∙ is);
+    ack = λ bytes is. inl (ap ack_in there ∙ sym b ∙ is);
+  }
+
+  one : (k : ℕ) (l : Leg) → Comes k l → EachComes (set_leg call k l)
+  one k l is n leg there = by (at_with call.legs k n l leg there)
+    where
+      by : ((n ≡ k) × (leg ≡ l)) ⊎ (found (slice_get call.legs n) ≡ Some leg) → Comes n leg
+      by (inl p) =
+          let P : ℕ → Type 0 = λ i. Comes i l in
+          let Q : Leg → Type 0 = λ x. Comes n x in
+          subst Q (sym p.1) (subst P (sym p.0) is)
+      by (inr q) = old n leg q
+
+  -- without an event
+  stays : (x : Call) → new ≡ x → x.fixed ≡ call.fixed → x.ways ≡ call.ways → EachComes x → Parts
+  stays x e f w each = record {
+    each = let P : Call → Type 0 = λ c. EachComes c in subst P (sym e) each;
+    fixed = ap (λ (c : Call). c.fixed) e ∙ f;
+    more = [];
+    ways = ap (λ (c : Call). c.ways) e ∙ w ∙ sym (append-nil call.ways);
+  }
+
+  same : new ≡ call → Parts
+  same e = stays call e refl refl old
+
+  sets : (k : ℕ) (leg l : Leg) → leg_at call k ≡ Some leg → l.answer ≡ leg.answer → l.ack ≡ leg.ack → new ≡ set_leg call k l → Parts
+  sets k leg l there a b e = stays (set_leg call k l) e refl refl (one k l (like k leg l there a b))
+
+  -- with one
+  grown : (mid : Call) (ev : Event) (contacts : List ContactText) (response : Option MessageText) (reply : Reply) → Posts mid ev contacts response reply new
+      → mid.fixed ≡ call.fixed → mid.ways ≡ call.ways → EachComes mid → Parts
+  grown mid ev contacts response reply posts f w each = record {
+    each = λ n leg there.
+        let L : Call → Type 0 = λ c. leg_at c n ≡ Some leg in
+        each n leg (at_more mid.legs _ n leg (subst L posts.follows there));
+    fixed = ap (λ (c : Call). c.fixed) posts.follows ∙ f;
+    more = ways_of mid.fixed contacts (rows_more mid.log (added mid.log call_tag ev reply));
+    ways = ap (λ (c : Call). c.ways) posts.follows
+        ∙ ap (λ (ws : List Way). ws ++ ways_of mid.fixed contacts (rows_more mid.log (added mid.log call_tag ev reply))) w;
+  }
+
+  sets_grown : (k : ℕ) (leg l : Leg) → leg_at call k ≡ Some leg → l.answer ≡ leg.answer → l.ack ≡ leg.ack
+      → (ev : Event) (contacts : List ContactText) (response : Option MessageText) (reply : Reply) → Posts (set_leg call k l) ev contacts response reply new → Parts
+  sets_grown k leg l there a b ev contacts response reply posts =
+      grown (set_leg call k l) ev contacts response reply posts refl refl (one k l (like k leg l there a b))
+
+  -- ---- a deed of the pump
+
+  answered : (rest : List Owed) (m : MessageText) (b : Bool) (p : Pumped) → AnswersBy call now rest m b p new → Parts
+  answered rest m true p (out, e) = stays _ e refl refl old
+  answered rest m false p (out, e) = stays _ e refl refl old
+
+  answered_with : (rest : List Owed) (o : Option MessageText) (p : Pumped) → AnswersWith call now rest o p new → Parts
+  answered_with rest None p h = absurd h
+  answered_with rest (Some m) p h = answered rest m _ p h
+
+  paid : (owed : List Owed) (p : Pumped) → SendsAnswer call now owed p new → Parts
+  paid [] p h = absurd h
+  paid (server.Again ∷ rest) p (out, e) = stays _ e refl refl old
+  paid (server.CancelOk cancel hop ∷ rest) p (out, e) = stays _ e refl refl old
+  paid (server.Trying ∷ rest) p h = answered_with rest (answer_of call server.Trying) p h
+  paid (server.Passed m ∷ rest) p h = answered_with rest (answer_of call (server.Passed m)) p h
+  paid (server.Final choice ∷ rest) p h = answered_with rest (answer_of call (server.Final choice)) p h
+
+  ticked : (n : ℕ) (way : Way) (leg : Leg) (b : Bool) (p : Pumped) → leg_at call n ≡ Some leg → TicksClientBy call now n way leg b p new → Parts
+  ticked n way leg true p there (out, reply, posts) = sets_grown n leg _ there refl refl _ _ _ reply posts
+  ticked n way leg false p there (out, e) = sets n leg _ there refl refl e
+
+  fired : (n : ℕ) (leg : Leg) (b : Bool) (p : Pumped) → leg_at call n ≡ Some leg → FiresTimerC call now n leg b p new → Parts
+  fired n leg true p there (out, reply, posts) = sets_grown n leg _ there refl refl _ _ _ reply posts
+  fired n leg false p there (out, reply, posts) = grown call _ _ _ reply posts refl refl old
+
+  fresh : (k : ℕ) (l : Leg) → l.answer ≡ None → l.ack ≡ None → Comes k l
+  fresh k l a b = record {
+    answer = λ m is. absurd (let none : None ≡ Some m = sym a ∙ is in cc);
+    ack = λ bytes is. absurd (let none : None ≡ Some bytes = sym b ∙ is in cc);
+  }
+
+  without_ack : (k : ℕ) (leg l : Leg) → leg_at call k ≡ Some leg → l.answer ≡ leg.answer → l.ack ≡ None → Comes k l
+  without_ack k leg l there a b = record {
+    answer = λ m is. inl (ap answer_in there ∙ sym a ∙ is);
+    ack = λ bytes is. absurd (let none : None ≡ Some bytes = sym b ∙ is in cc);
+  }
+
+  done : (deed : Deed) (p : Pumped) → Does call now deed p new → Parts
+  done (due.SendRequest n) p (way, goes, (out, e)) = stays _ e refl refl (one n _ (fresh n _ refl refl))
+  done (due.SendCancel n) p (way, leg, goes, there, (out, e)) = sets n leg _ there refl refl e
+  done (due.SendAck n) p (way, leg, goes, there, (ack, owes, out, e)) = stays _ e refl refl (one n _ (without_ack n leg _ there refl refl))
+  done due.SendAnswer p h = paid call.server.owed p h
+  done due.TickServer p (out, e) = stays _ e refl refl old
+  done (due.TickClient n) p (way, leg, goes, there, h) = ticked n way leg _ p there h
+  done (due.TickCancel n) p (way, leg, goes, there, (cancelling, has, out, e)) = sets n leg _ there refl refl e
+  done (due.FireTimerC n) p (leg, there, h) = fired n leg _ p there h
+  done (due.GiveUp n) p (leg, there, (out, reply, posts)) = sets_grown n leg _ there refl refl _ _ _ reply posts
+
+  pumped : (p : Pumped) → Pumps call now p new → Parts
+  pumped pump.Idle (idle, e) = same e
+  pumped (pump.Send d) (deed, is, h) = done deed (pump.Send d) h
+  pumped pump.Did (deed, is, h) = done deed pump.Did h
+
+  -- ---- a message
+
+  acked : (n : ℕ) (leg : Leg) (way : Way) (m : MessageText) (source : Hop) → input ≡ step.Take (to.Client n) m source
+      → leg_at call n ≡ Some leg → slice_get call.ways n ≡ Some way
+      → (bytes : List ℕ) → (leg_after call n leg way now m).ack ≡ Some bytes → (ack_in (leg_at call n) ≡ Some bytes) ⊎ OwesAckNow n bytes
+  acked n leg way m source is there goes bytes e =
+      elim (ack_case (client_out (response_event (status_of m)) now leg.client).send (spelling (ack_to call.fixed way n m)) bytes leg.ack e) [
+        | inl before ↦ inl (ap ack_in there ∙ before)
+        | inr made ↦ inr (m, way, (source, is, failure_acked (status_of m) now leg.client made.0), goes, made.1)
+      ]
+
+  kept_case : (first : Bool) (status : ℕ) (m x : MessageText) (before : Option MessageText) → to.answer_kept first status m before ≡ Some x
+      → (before ≡ Some x) ⊎ ((x ≡ m) × (nat_lt status 300 ≡ false))
+  kept_case first status m x before e = by (nat_lt status 300) refl first e
+    where
+      by : (b : Bool) → nat_lt status 300 ≡ b → (f : Bool) → cond {A = Option MessageText} (nat_lt status 300) before (cond {A = Option MessageText} f (Some m) before) ≡ Some x
+          → (before ≡ Some x) ⊎ ((x ≡ m) × (nat_lt status 300 ≡ false))
+      by true is f e = inl (sym (cond-true _ _ _ is) ∙ e)
+      by false is true e = inr ((let h : Some m ≡ Some x = sym (cond-false _ _ _ is) ∙ e in let s : x ≡ m = cc in s), is)
+      by false is false e = inl (sym (cond-false _ _ _ is) ∙ e)
+
+  responded : (n : ℕ) (leg : Leg) (way : Way) (m : MessageText) (source : Hop) (t : Taken) → input ≡ step.Take (to.Client n) m source
+      → leg_at call n ≡ Some leg → slice_get call.ways n ≡ Some way → Responds call n leg way now m t new → Parts
+  responded n leg way m source to.Absorbed is there goes (p, e) =
+      stays _ e refl refl (one n _ (record {
+        answer = λ x has. inl (ap answer_in there ∙ has);
+        ack = λ bytes has. acked n leg way m source is there goes bytes has;
+      }))
+  responded n leg way m source (to.Posted at) is there goes (p, reply, placed, first, leads, posts) =
+      grown _ _ _ _ reply posts refl refl (one n _ (record {
+        answer = λ x has. elim (kept_case first (status_of m) m x leg.answer has) [
+          | inl before ↦ inl (ap answer_in there ∙ before)
+          | inr now_kept ↦
+              let T : MessageText → Type 0 = λ y. TakesFailure n y in
+              inr (subst T (sym now_kept.0) (source, is, now_kept.1))
+        ];
+        ack = λ bytes has. acked n leg way m source is there goes bytes has;
+      }))
+  responded n leg way m source to.Full is there goes (p, f, e) = same e
+
+  cancelled : (cancel : MessageText) (hop : Hop) (t : Taken) → CancelledBy call cancel hop t new → Parts
+  cancelled cancel hop to.Absorbed (c, e) = stays _ e refl refl old
+  cancelled cancel hop (to.Posted at) (c, reply, placed, posts) = grown _ _ _ _ reply posts refl refl old
+  cancelled cancel hop to.Full h = absurd h
+
+  took : (m : MessageText) (source : Hop) (r : to.Recipient) (t : Taken) → input ≡ step.Take r m source → TakesAs call now m source r t new → Parts
+  took m source to.Server to.Absorbed is e = stays _ e refl refl old
+  took m source to.Server (to.Posted at) is h = absurd h
+  took m source to.Server to.Full is h = absurd h
+  took m source to.ServerAck to.Absorbed is e = stays _ e refl refl old
+  took m source to.ServerAck (to.Posted at) is h = absurd h
+  took m source to.ServerAck to.Full is h = absurd h
+  took m source to.ServerCancel t is (cancel, marked, by) = cancelled cancel _ t by
+  took m source (to.Client n) t is (leg, way, there, goes, h) = responded n leg way m source t is there goes h
+  took m source (to.CancelClient n) to.Absorbed is (leg, cancelling, there, has, e) = sets n leg _ there refl refl e
+  took m source (to.CancelClient n) (to.Posted at) is h = absurd h
+  took m source (to.CancelClient n) to.Full is h = absurd h
+
+  -- ---- a datagram that could not be sent
+
+  faults : (n : ℕ) (leg : Leg) (b : Bool) → leg_at call n ≡ Some leg → FaultsBy call now n leg b new → Parts
+  faults n leg true there (reply, posts) = sets_grown n leg _ there refl refl _ _ _ reply posts
+  faults n leg false there e = sets n leg _ there refl refl e
+
+  faults_client : (n : ℕ) (l : Option Leg) → leg_at call n ≡ l → FaultsClient call now n l new → Parts
+  faults_client n None there e = same e
+  faults_client n (Some leg) there h = faults n leg _ there h
+
+  faults_cancel : (n : ℕ) (l : Option Leg) → leg_at call n ≡ l → new ≡ cancel_faulted call now n l → Parts
+  faults_cancel n None there e = same e
+  faults_cancel n (Some leg) there e = sets n leg _ there (answer_same leg.cancelling) (ack_same leg.cancelling) e
+    where
+      answer_same : (c : Option Cancelling) → (faulted_cancel leg now c).answer ≡ leg.answer
+      answer_same None = refl
+      answer_same (Some cancelling) = refl
+
+      ack_same : (c : Option Cancelling) → (faulted_cancel leg now c).ack ≡ leg.ack
+      ack_same None = refl
+      ack_same (Some cancelling) = refl
+
+  failed : (c : Cause) → Fails call now c new → Parts
+  failed (cause.Request n) h = faults_client n (leg_at call n) refl h
+  failed (cause.Ack n) h = faults_client n (leg_at call n) refl h
+  failed (cause.Cancel n) e = faults_cancel n (leg_at call n) refl e
+  failed cause.Answer e = stays _ e refl refl old
+  failed cause.CancelOk e = same e
+
+pub parts : (now : ℕ) (call : Call) (input : Input) (new : Call) (output : Output) → Step now call input new output → Parts now call input new
+parts now call (step.Take r m source) new (step.Took t) h = took now call (step.Take r m source) new m source r t refl h
+parts now call (step.Take r m source) new (step.Did p) h = absurd h
+parts now call (step.Take r m source) new step.Told h = absurd h
+parts now call step.Pump new (step.Took t) h = absurd h
+parts now call step.Pump new (step.Did p) h = pumped now call step.Pump new p h
+parts now call step.Pump new step.Told h = absurd h
+parts now call (step.Failed c) new (step.Took t) h = absurd h
+parts now call (step.Failed c) new (step.Did p) h = absurd h
+parts now call (step.Failed c) new step.Told h = failed now call (step.Failed c) new c h

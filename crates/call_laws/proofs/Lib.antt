@@ -1,0 +1,13 @@
+pub mod Serving
+pub mod Waits
+pub mod Succeeds
+pub mod Legs
+pub mod Origins
+pub mod Finals
+pub mod Last
+pub mod Paying
+pub mod Standing
+pub mod Sending
+pub mod Logged
+pub mod Content
+pub mod Running

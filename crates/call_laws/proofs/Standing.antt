@@ -1,0 +1,102 @@
+-- How a call stands as it begins, and after each step.
+use Rattle.std.proofs.Common.{◌≡◌, ◌∙◌, ◌++◌, ◌∷◌, ℕ, zero, suc, Bool, true, false, List, [], map, Option, Some, None, ap, refl, sym, subst, inl, slice_get, cond}
+use Rattle.std.specs.List.{AllByRecursion}
+use Rattle.fork_model.specs.Choice.{Choice}
+use Rattle.fork_model.specs.History.{Target}
+use Rattle.fork_model.specs.Log.{opening_log}
+use Rattle.fork_model.specs.Steps.{BranchesGoOn}
+use Rattle.fork_model.specs.Table.{Kind, Row, Rules}
+use Rattle.fork_model.specs.Table as table
+use Rattle.call_model.specs.Begun.{begun}
+use Rattle.call_model.specs.Behind.{BegunKeepsAnswers, StepsKeepAnswers}
+use Rattle.call_model.specs.Call.{Call, found}
+use Rattle.call_model.specs.Datagrams.{BegunIsBuilt, StepsKeepBuilt}
+use Rattle.call_model.specs.Fixed.{Fixed, Way, is_invite, kind_of}
+use Rattle.call_model.specs.Leg.{Leg}
+use Rattle.call_model.specs.Posting.{no_leg}
+use Rattle.call_model.specs.Server.{Owed, Served, first_owed, served_start}
+use Rattle.call_model.specs.Step.{Turn}
+use Rattle.call_laws.specs.Finals.{Awaits, FinalsStand, MayBeOwed, finals_owed, is_for_invite}
+use Rattle.call_laws.specs.Last.{IsUnsent}
+use Rattle.call_laws.specs.Origins.{IsOkayOf}
+use Rattle.call_laws.specs.Right.{BegunStands, StandsAfter, StepsStand}
+use Rattle.call_laws.specs.Stages.{Stage, owed_of, paid_at}
+use Rattle.call_laws.proofs.Finals.{finals_step, owes_step}
+use Rattle.call_laws.proofs.Last.{last_step}
+use Rattle.call_laws.proofs.Legs.{parts}
+use Rattle.call_laws.proofs.Origins.{origins_step}
+use Rattle.call_laws.proofs.Paying.{paid_is}
+use Rattle.call_laws.proofs.Serving.{serves}
+
+-- ---- as it begins
+
+no_part : (rows : List Row) (n : ℕ) (leg : Leg) → found (slice_get (map no_leg rows) n) ≡ Some leg → ⊥
+no_part [] n leg e = absurd cc
+no_part (row ∷ rows) zero leg e = absurd cc
+no_part (row ∷ rows) (suc n) leg e = no_part rows n leg e
+
+first_finals : (kind : Kind) → finals_owed (first_owed kind) ≡ []
+first_finals table.Invite = refl
+first_finals table.Other = refl
+
+first_responses : (call : Call) (kind : Kind) → AllByRecursion (MayBeOwed call) (first_owed kind)
+first_responses call table.Invite = (tt, tt)
+first_responses call table.Other = tt
+
+first_okays : (kind : Kind) → AllByRecursion (IsOkayOf []) (first_owed kind)
+first_okays table.Invite = (tt, tt)
+first_okays table.Other = tt
+
+first_waits : (kind : Kind) → Awaits [] (served_start kind)
+first_waits table.Invite = refl
+first_waits table.Other = inl refl
+
+first_unsent : (kind : Kind) → IsUnsent (served_start kind) (first_owed kind)
+first_unsent table.Invite = (refl, [], refl)
+first_unsent table.Other = (refl, tt)
+
+first_side : (fixed : Fixed) → is_for_invite (served_start (kind_of fixed)) ≡ is_invite fixed
+first_side fixed = by (is_invite fixed)
+  where
+    by : (b : Bool) → is_for_invite (served_start (cond {A = Kind} b table.Invite table.Other)) ≡ b
+    by true = refl
+    by false = refl
+
+pub begun_stands : BegunIsBuilt → BegunKeepsAnswers → BegunStands
+begun_stands built answers fixed rules targets ways =
+    let log = opening_log (kind_of fixed) rules targets in
+    let call = begun fixed log ways in
+    record {
+      built = built fixed log ways;
+      answers = answers fixed rules targets ways;
+      origins = record {
+        acks = λ n leg bytes there is. absurd (no_part _ n leg there);
+        okays = first_okays (kind_of fixed);
+        answers = λ n leg m there is. absurd (no_part _ n leg there);
+      };
+      owed = first_responses call (kind_of fixed);
+      finals = record {
+        side = first_side fixed;
+        all = sym (first_finals (kind_of fixed));
+        waiting = λ none not_yet. first_waits (kind_of fixed);
+        answered = λ some. absurd (some refl);
+      };
+      last = λ none. first_unsent (kind_of fixed);
+    }
+
+-- ---- after a step
+
+pub steps_stand : StepsKeepBuilt → StepsKeepAnswers → BranchesGoOn → StepsStand
+steps_stand built answers goes_on turns handed turn call new sound stands step =
+    let stage : Stage = record { turn = turn; call = new } in
+    let p = parts turn.now call turn.input new turn.output step in
+    let s = serves turn.now call turn.input new turn.output step in
+    let F : List Owed → Type 0 = λ os. FinalsStand (turns ++ turn ∷ []) (handed ++ finals_owed os) new in
+    record {
+      built = built turn call new stands.built step;
+      answers = answers turn call new sound stands.answers step;
+      origins = origins_step turns turn call new step stands.origins;
+      owed = owes_step goes_on turns turn call new p.fixed s stands.owed;
+      finals = subst F (sym (paid_is turns call stage s)) (finals_step goes_on turns turn call new p.fixed handed s stands.owed stands.origins.answers stands.finals);
+      last = last_step turn.now call new turn.input turn.output s stands.last;
+    }

@@ -1,0 +1,73 @@
+-- Where that comes from what a call keeps to be sent: each was made of a message that came (RFC 3261 sections 9.2, 16.7 and
+-- 17.1.1.3).
+use Rattle.std.specs.Prelude.{◌≡◌, ℕ, nat_lt, false, List, Some, Ok, slice_get}
+use Rattle.std.specs.List.{AllByRecursion}
+use Rattle.sip_text.specs.Text.{MessageText, spelling}
+use Rattle.sip_uri.specs.declared.hop.Hop.{Hop}
+use Rattle.sip_via.specs.Received.{marked, reply_of}
+use Rattle.sip_via.specs.TopVia.{top_value}
+use Rattle.sip_via.specs.ViaParts.{via_of}
+use Rattle.call_model.specs.Built.{ack_to, status_of}
+use Rattle.call_model.specs.Call.{Call, leg_at}
+use Rattle.call_model.specs.Fixed.{Way}
+use Rattle.call_model.specs.Leg.{Leg}
+use Rattle.call_model.specs.Server as server
+use Rattle.call_model.specs.Step.{Take, Turn}
+use Rattle.call_model.specs.Take.{Client, ServerCancel}
+
+-- one of these turns
+abbrev pub IsTurnOf : List Turn → Turn → Type 0
+IsTurnOf turns turn = (place : ℕ) × (slice_get turns place ≡ Some turn)
+
+-- by one of these turns this response came to branch n
+abbrev pub Came : List Turn → (n : ℕ) → MessageText → Type 0
+Came turns n m = (turn : Turn) × IsTurnOf turns turn × (source : Hop) × (turn.input ≡ Take (Client n) m source)
+
+-- by one of them a CANCEL came, which was so marked with its source, and this is where it is answered (sections 18.2.1 and
+-- 18.2.2)
+abbrev pub CameCancel : List Turn → (cancel : MessageText) → (to : Hop) → Type 0
+CameCancel turns cancel to =
+    (turn : Turn)
+    × IsTurnOf turns turn
+    × (m : MessageText)
+    × (source : Hop)
+    × (turn.input ≡ Take ServerCancel m source)
+    × (marked m source ≡ Ok cancel)
+    × (to ≡ reply_of (via_of (top_value cancel)) source)
+
+-- ---- what is kept
+
+-- these bytes are the ACK for a failure that came to branch n: it has the To of that response (section 17.1.1.3)
+abbrev pub AnswersFailure : List Turn → Call → (n : ℕ) → List ℕ → Type 0
+AnswersFailure turns call n bytes =
+    (m : MessageText)
+    × Came turns n m
+    × (nat_lt (status_of m) 300 ≡ false)
+    × (way : Way)
+    × (slice_get call.ways n ≡ Some way)
+    × (bytes ≡ spelling (ack_to call.fixed way n m))
+
+abbrev pub OwesAcks : List Turn → Call → Type 0
+OwesAcks turns call = (n : ℕ) (leg : Leg) (bytes : List ℕ) → leg_at call n ≡ Some leg → leg.ack ≡ Some bytes → AnswersFailure turns call n bytes
+
+-- each 200 that is owed to a CANCEL is owed to one that came
+abbrev pub IsOkayOf : List Turn → server.Owed → Type 0
+IsOkayOf turns server.Trying = Unit {0}
+IsOkayOf turns (server.Passed response) = Unit {0}
+IsOkayOf turns (server.Final choice) = Unit {0}
+IsOkayOf turns server.Again = Unit {0}
+IsOkayOf turns (server.CancelOk cancel to) = CameCancel turns cancel to
+
+abbrev pub OwesOkays : List Turn → Call → Type 0
+OwesOkays turns call = AllByRecursion (IsOkayOf turns) call.server.owed
+
+-- each failure that a branch keeps, to go up as the final answer, came to that branch
+abbrev pub KeepsWhatCame : List Turn → Call → Type 0
+KeepsWhatCame turns call =
+    (n : ℕ) (leg : Leg) (m : MessageText) → leg_at call n ≡ Some leg → leg.answer ≡ Some m → Came turns n m × (nat_lt (status_of m) 300 ≡ false)
+
+-- all of them
+pub record ComesFrom (turns : List Turn) (call : Call) : Type 0 where
+  pub acks : OwesAcks turns call
+  pub okays : OwesOkays turns call
+  pub answers : KeepsWhatCame turns call
