@@ -14,7 +14,8 @@ use Rattle.fork_routing.specs.Matching.{BelongsTo}
 use Rattle.fork_call.specs.declared.fault.TakeFault.{TakeFault}
 use Rattle.fork_call.specs.declared.fault.TakeFault.TheVariants.{Full}
 use Rattle.fork_call.specs.Takes.{Takes}
-use Rattle.fork_call.proofs.Stepping.{timed_after}
+use Rattle.call_laws.specs.Right.{SendsRight, StepsStand}
+use Rattle.fork_call.proofs.Stepping.{right_after, timed_after}
 use Rattle.fork_call.proofs.Timed.{no_more_rows}
 use Rattle.fork_call.proofs.Touching.{Touches, beside_same, takes_touch}
 
@@ -25,18 +26,20 @@ given_by call m to.ServerCancel belongs is = _
 given_by call m (to.Client n) belongs is = (is, belongs.1)
 given_by call m (to.CancelClient n) belongs is = _
 
-module _ (kept : StepsKeepSound) (bounded : PositionsAreBounded) (none : sources.AddsNoRow) (left : OthersAreLeft) (exact : BecameIsExact)
+module _ (kept : StepsKeepSound) (stand : StepsStand) (bounded : PositionsAreBounded) (none : sources.AddsNoRow) (left : OthersAreLeft) (exact : BecameIsExact)
     (call new : Call) (moments after : List (Option ℕ)) (timed : IsTimed call moments)
     (sized : length call.legs ≡ length (rows_of call)) (replied : length call.log.replies ≡ length call.log.history)
     (now : ℕ) (m : MessageText) (source : Hop) (r : Recipient) where
   -- it was taken, or the call is as it was
   outcome : (result : Result Taken TakeFault) → IfOk result (λ taken. TakesAs call now m source r (seen_taken taken) new) → OnErr result (new ≡ call) → IsGivenTo r m
-      → Touches call new (row_of_recipient r) (is_redirection (status_of m) ≡ false) × IsSound new
+      → Touches call new (row_of_recipient r) (is_redirection (status_of m) ≡ false) × IsSound new × SendsRight new
   outcome (Ok taken) takes same given = (
     takes_touch call new now m source r (seen_taken taken) takes,
     kept (record { now = now; input = step.Take r m source; output = step.Took (seen_taken taken) }) call new timed.sound given takes,
+    right_after kept stand bounded none left exact call new moments after timed sized replied
+        (record { now = now; input = step.Take r m source; output = step.Took (seen_taken taken) }) takes,
   )
-  outcome (Err fault) takes same given = (inl (beside_same call new (row_of_recipient r) same), subst IsSound (sym same) timed.sound)
+  outcome (Err fault) takes same given = (inl (beside_same call new (row_of_recipient r) same), subst IsSound (sym same) timed.sound, subst SendsRight (sym same) timed.right)
 
   room : (status : ℕ) → length (rows_of new) ≤ most_targets → (is_redirection status ≡ false → length (rows_of new) ≡ length (rows_of call))
       → length (rows_of new) ≤ length (rows_of call) + room_for status
@@ -54,7 +57,7 @@ module _ (kept : StepsKeepSound) (bounded : PositionsAreBounded) (none : sources
   taken_timed result takes same belongs is few times =
       let nothing_due = is_redirection (status_of m) ≡ false in
       let came = outcome result takes same (given_by call m r belongs is) in
-      timed_after kept bounded none left exact call new moments after timed sized replied (row_of_recipient r) nothing_due (room_for (status_of m)) came.0 came.1
+      timed_after kept stand bounded none left exact call new moments after timed sized replied (row_of_recipient r) nothing_due (room_for (status_of m)) came.0 came.1 came.2
       (room (status_of m) few (λ q. no_more_rows none call new (row_of_recipient r) nothing_due came.0 q)) times
 
 -- ---- what is answered

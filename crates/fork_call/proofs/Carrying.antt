@@ -4,6 +4,7 @@ use Rattle.fork_call.proofs.Common.{is_due_at, timer_c_at, Pumps, Send, served_d
 use Rattle.std.proofs.lemmas.Bool.{leb-true}
 use Rattle.call_model.specs.Call.{row_passes}
 use Rattle.fork_call.specs.Carry.{Hands, HandsAll, sent_in, lost_in, most_steps, IsCarriedOut}
+use Rattle.call_laws.specs.Sending as sending
 
 carries_more : (now : ℕ) (call mid new : Call) (steps : List Carrying) (step : Carrying) → CarriesAll now call steps mid → Carries now mid step new → CarriesAll now call (steps ++ step ∷ []) new
 carries_more now call mid new [] step run last =
@@ -66,9 +67,9 @@ module _ {P : Type 0} (sends : Sends P) (count : P → ℕ) (now : ℕ) (call : 
       (far.steps, mid, new_port, omega (arith, le, far.made_is), far.run, far.handed, inl (same, refl))
 
   pub cut_untold : (mid new : Call) (mid_port new_port : P) (made sent failed : ℕ) (d : Datagram) → SoFar mid mid_port made sent failed → made < most_steps
-      → Pumps mid now (Send d) new → SendsOne sends count mid_port d true new_port → IsCutOff sends count now call port new new_port
-  cut_untold mid new mid_port new_port made sent failed d far le pumps lost =
-      (far.steps, mid, mid_port, omega (arith, le, far.made_is), far.run, far.handed, inr (d, pumps, lost))
+      → Pumps mid now (Send d) new → sending.Sends mid (Send d) → SendsOne sends count mid_port d true new_port → IsCutOff sends count now call port new new_port
+  cut_untold mid new mid_port new_port made sent failed d far le pumps right lost =
+      (far.steps, mid, mid_port, omega (arith, le, far.made_is), far.run, far.handed, inr (d, pumps, right, lost))
 
 moment_stays : (at now : ℕ) (moment : Option ℕ) → at ≤ now → is_due at moment ≡ true → is_due now moment ≡ true
 moment_stays at now None le due = absurd cc

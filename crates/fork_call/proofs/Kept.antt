@@ -4,6 +4,7 @@ use Rattle.fork_call.proofs.Common.{SendAnswer, TickServer, TickClient, TickCanc
 use Rattle.fork_call.proofs.Common.{cancel_faulted, Fails, Carrying, Sent, Lost, Silent, Carries, CarriesAll, Sends, SendsOne, IsCutOff, IsRunOut}
 use Rattle.call_model.specs.declared.cause.Cause.TheVariants as cause
 use Rattle.call_model.specs.Fixed.{Fixed}
+use Rattle.call_laws.specs.Sending as sending
 use Rattle.call_model.specs.Server as server
 
 abbrev fixed_of : Call → Fixed
@@ -73,8 +74,8 @@ fails_keep call now cause.Answer new is = ap fixed_of is
 fails_keep call now cause.CancelOk new is = ap fixed_of is
 
 step_keeps : (now : ℕ) (call : Call) (step : Carrying) (new : Call) → Carries now call step new → new.fixed ≡ call.fixed
-step_keeps now call (Sent datagram) new pumps = pumps_keep call now (Send datagram) new pumps
-step_keeps now call (Lost datagram) new (mid, pumps, fails) = fails_keep mid now datagram.cause new fails ∙ pumps_keep call now (Send datagram) mid pumps
+step_keeps now call (Sent datagram) new (pumps, right) = pumps_keep call now (Send datagram) new pumps
+step_keeps now call (Lost datagram) new (mid, pumps, right, fails) = fails_keep mid now datagram.cause new fails ∙ pumps_keep call now (Send datagram) mid pumps
 step_keeps now call Silent new pumps = pumps_keep call now Did new pumps
 
 steps_keep : (now : ℕ) (call : Call) (steps : List Carrying) (new : Call) → CarriesAll now call steps new → new.fixed ≡ call.fixed
@@ -90,7 +91,7 @@ module _ {P : Type 0} (sends : Sends P) (count : P → ℕ) (now : ℕ) (call : 
   run_out_keeps_number sent failed idle run = number_keeps call new (steps_keep now call run.steps new run.run)
 
   last_keeps : (mid : Call) (mid_port : P)
-      → ((new ≡ mid) × (new_port ≡ mid_port)) ⊎ ((d : Datagram) × Pumps mid now (Send d) new × SendsOne sends count mid_port d true new_port)
+      → ((new ≡ mid) × (new_port ≡ mid_port)) ⊎ ((d : Datagram) × Pumps mid now (Send d) new × sending.Sends mid (Send d) × SendsOne sends count mid_port d true new_port)
       → new.fixed ≡ mid.fixed
   last_keeps mid mid_port (inl same) = ap fixed_of same.0
   last_keeps mid mid_port (inr lost) = pumps_keep mid now (Send lost.0) new lost.1

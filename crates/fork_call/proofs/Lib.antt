@@ -13,3 +13,5 @@ pub mod Opened
 pub mod Arriving
 pub mod Ending
 pub mod Running
+pub mod Answering
+pub mod Naming

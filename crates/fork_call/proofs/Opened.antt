@@ -1,14 +1,15 @@
 -- A call as it opens.
-use Rattle.fork_call.proofs.Common.{◌≡◌, ℕ, ap, sym, refl, subst, arith, List, Option, MessageText, Hop, Call, Opens, scheduled, IsTimed}
+use Rattle.fork_call.proofs.Common.{◌≡◌, ℕ, ap, sym, refl, subst, arith, [], List, Option, MessageText, Hop, Call, Opens, scheduled, IsTimed}
 use Rattle.fork_setup.specs.Setup.{Setup}
 use Rattle.call_model.specs.Call.{numbered}
 use Rattle.call_model.specs.Sound.{BegunIsSound}
+use Rattle.call_laws.specs.Right.{BegunStands}
 use Rattle.fork_routing.specs.Opening.{choices_for, fixed_of}
 use Rattle.proxy_routing.specs.Targets.{targets_of}
 
-pub opened_timed : (begun : BegunIsSound) (setup : Setup) (number : ℕ) (m : MessageText) (source : Hop) (call : Call) (moments : List (Option ℕ))
+pub opened_timed : (begun : BegunIsSound) (stand : BegunStands) (setup : Setup) (number : ℕ) (m : MessageText) (source : Hop) (call : Call) (moments : List (Option ℕ))
     → Opens setup number m source call → moments ≡ scheduled call → IsTimed call moments
-opened_timed begun setup number m source call moments opens times =
+opened_timed begun stand setup number m source call moments opens times =
     let request = opens.0 in
     let uri = opens.2.1 in
     let reaches = opens.2.3 in
@@ -18,6 +19,7 @@ opened_timed begun setup number m source call moments opens times =
     let fixed = fixed_of setup number request source uri in
     subst Q (sym times) (subst P (sym begins.2) (record {
       sound = begun fixed setup.rules (targets_of (choices_for setup request uri)) begins.0;
+      right = ([], [], stand fixed setup.rules (targets_of (choices_for setup request uri)) begins.0);
       times = refl;
       within = omega arith;
     }))

@@ -17,7 +17,7 @@ logged call new row nothing_due (inr p) =
     inr (p.event, p.reply, subst R p.beside.log posts.reply_is, log ∙ ap (λ (l : Log). added l call_tag p.event p.reply) p.beside.log)
 
 -- one call is one step
-stepped : (now : ℕ) (call new : Call) (said : Said) (output : Output) → Answers now call said output new
+pub stepped : (now : ℕ) (call new : Call) (said : Said) (output : Output) → Answers now call said output new
     → (input : Input) × IsInput call said input × Step now call input new output × Logs call.log new.log
 stepped now call new (Came m source) (step.Took taken) (r, belongs, takes) =
     (step.Take r m source, (belongs, refl, refl), takes, logged call new _ _ (takes_touch call new now m source r taken takes))

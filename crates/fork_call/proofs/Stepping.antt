@@ -1,9 +1,13 @@
 -- What is next to be done on a call, and how a step leaves it.
-use Rattle.fork_call.proofs.Common.{◌≡◌, ◌∙◌, ℕ, zero, suc, ◌+◌, ◌<◌, ◌≤◌, ap, refl, sym, inl, inr, arith, true, false, Bool, List, [], ◌∷◌, ◌++◌, length, replicate, Option, Some, None, slice_get, ◌==◌, list_any, eqb-true, slice_get_within}
+use Rattle.fork_call.proofs.Common.{◌≡◌, ◌∙◌, ℕ, zero, suc, ◌+◌, ◌<◌, ◌≤◌, ap, refl, sym, subst, inl, inr, arith, true, false, Bool, List, [], ◌∷◌, ◌++◌, length, replicate, Option, Some, None, slice_get, ◌==◌, list_any, eqb-true, slice_get_within}
 use Rattle.fork_call.proofs.Common.{Event, OthersAreLeft, Reply, BecameIsExact, next, PositionsAreBounded, Table, Log, Posted, is_due, Cause, Call, leg_at, rows_of, Deed, IsIdle, is_due_at, Fails, Does, Pumped, IsSound, StepsKeepSound}
 use Rattle.fork_call.proofs.Common.{due_of, scheduled, IsTimed, retimed, row_moment, row_of_cause, row_of_deed}
 use Rattle.std.specs.Prelude.{IfNone, ◌||◌}
 use Rattle.fork_model.specs.History.{AreReplies}
+use Rattle.call_laws.specs.Right.{SendsRight, StepsStand, finals_paid}
+use Rattle.call_laws.specs.Sending.{Sends, WhatIsSentIsRight}
+use Rattle.call_laws.specs.Stages.{paid_at}
+use Rattle.call_model.specs.Pump.{Idle}
 use Rattle.fork_model.specs.Sources as sources
 use Rattle.fork_model.specs.Log.{IsLog, events_of}
 use Rattle.call_model.specs.Server as server
@@ -83,15 +87,25 @@ pub no_padding : (moments : List (Option ℕ)) → moments ++ replicate 0 None �
 no_padding [] = refl
 no_padding (m ∷ moments) = ap (λ (ms : List (Option ℕ)). m ∷ ms) (no_padding moments)
 
-module _ (kept : StepsKeepSound) (bounded : PositionsAreBounded) (none : sources.AddsNoRow) (left : OthersAreLeft) (exact : BecameIsExact)
+module _ (kept : StepsKeepSound) (stand : StepsStand) (bounded : PositionsAreBounded) (none : sources.AddsNoRow) (left : OthersAreLeft) (exact : BecameIsExact)
     (call new : Call) (moments after : List (Option ℕ)) (timed : IsTimed call moments)
     (sized : length call.legs ≡ length (rows_of call)) (replied : length call.log.replies ≡ length call.log.history) where
-  pub timed_after : (row : Option ℕ) (nothing_due : Type 0) (p : ℕ) → Touches call new row nothing_due → IsSound new
+  -- by a step it stands as before
+  pub right_after : (turn : step.Turn) → step.Step turn.now call turn.input new turn.output → SendsRight new
+  right_after turn goes =
+      let before = timed.right in (
+        before.0 ++ turn ∷ [],
+        before.1 ++ finals_paid (paid_at before.0 call (record { turn = turn; call = new })),
+        stand before.0 before.1 turn call new timed.sound before.2 goes,
+      )
+
+  pub timed_after : (row : Option ℕ) (nothing_due : Type 0) (p : ℕ) → Touches call new row nothing_due → IsSound new → SendsRight new
       → length (rows_of new) ≤ length (rows_of call) + p
       → after ≡ retimed new row (length call.log.history) (moments ++ replicate p None)
       → IsTimed new after
-  timed_after row nothing_due p touches sound room is = record {
+  timed_after row nothing_due p touches sound right room is = record {
     sound = sound;
+    right = right;
     times = is
         ∙ ap (λ (ms : List (Option ℕ)). retimed new row (length call.log.history) (ms ++ replicate p None)) timed.times
         ∙ retimed_is left exact call new row nothing_due p sized replied room touches;
@@ -99,10 +113,10 @@ module _ (kept : StepsKeepSound) (bounded : PositionsAreBounded) (none : sources
   }
 
   -- without more rows
-  same_after : (row : Option ℕ) → Touches call new row (Unit {0}) → IsSound new → after ≡ retimed new row (length call.log.history) moments → IsTimed new after
-  same_after row touches sound is =
+  same_after : (row : Option ℕ) → Touches call new row (Unit {0}) → IsSound new → SendsRight new → after ≡ retimed new row (length call.log.history) moments → IsTimed new after
+  same_after row touches sound right is =
       let rows : length (rows_of new) ≡ length (rows_of call) = no_more_rows none call new row (Unit {0}) touches _ in
-      timed_after row (Unit {0}) 0 touches sound (omega (arith, rows))
+      timed_after row (Unit {0}) 0 touches sound right (omega (arith, rows))
       (is ∙ ap (λ (ms : List (Option ℕ)). retimed new row (length call.log.history) ms) (sym (no_padding moments)))
 
   pub pumped_timed : (now : ℕ) (deed : Deed) (pumped : Pumped) → is_due_at call now deed ≡ true → Does call now deed pumped new
@@ -110,11 +124,26 @@ module _ (kept : StepsKeepSound) (bounded : PositionsAreBounded) (none : sources
       → IsTimed new after
   pumped_timed now deed pumped due does is =
       same_after (row_of_deed deed) (does_touch call new now deed pumped does)
-      (kept (record { now = now; input = step.Pump; output = step.Did pumped }) call new timed.sound _ (does_pump call new now deed pumped due does)) is
+      (kept (record { now = now; input = step.Pump; output = step.Did pumped }) call new timed.sound _ (does_pump call new now deed pumped due does))
+      (right_after (record { now = now; input = step.Pump; output = step.Did pumped }) (does_pump call new now deed pumped due does)) is
 
   pub failed_timed : (now : ℕ) (why : Cause) → Fails call now why new
       → after ≡ retimed new (row_of_cause why) (length call.log.history) moments
       → IsTimed new after
   failed_timed now why fails is =
       same_after (row_of_cause why) (fails_touch call new now why fails)
-      (kept (record { now = now; input = step.Failed why; output = step.Told }) call new timed.sound _ fails) is
+      (kept (record { now = now; input = step.Failed why; output = step.Told }) call new timed.sound _ fails)
+      (right_after (record { now = now; input = step.Failed why; output = step.Told }) fails) is
+
+-- what a deed sends is right
+pub done_right : WhatIsSentIsRight → (call new old : Call) → SendsRight call → call ≡ old → (now : ℕ) (deed : Deed) (pumped : Pumped) → is_due_at call now deed ≡ true
+    → Does call now deed pumped new → Sends old pumped
+done_right law call new old right view now deed pumped due does =
+    let P : Call → Type 0 = λ x. Sends x pumped in
+    subst P view (right.0, law right.0 right.1 now call new pumped right.2 (does_pump call new now deed pumped due does))
+
+-- where nothing is due, nothing is sent
+pub idle_right : (call old : Call) → SendsRight call → call ≡ old → Sends old Idle
+idle_right call old right view =
+    let P : Call → Type 0 = λ x. Sends x Idle in
+    subst P view (right.0, tt)

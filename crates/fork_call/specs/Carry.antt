@@ -5,6 +5,7 @@ use Rattle.call_model.specs.Built.{Datagram}
 use Rattle.call_model.specs.Due.{IsIdle}
 use Rattle.call_model.specs.Pump.{Send, Did, Pumps}
 use Rattle.call_model.specs.Failed.{Fails}
+use Rattle.call_laws.specs.Sending as sending
 
 -- at most so many steps are made at a time
 abbrev pub most_steps : ℕ
@@ -16,9 +17,10 @@ pub data Carrying : Type 0 where
   Lost : Datagram → Carrying
   Silent : Carrying
 
+-- each datagram is what its cause says and goes where that says, of the call as it is then
 abbrev pub Carries : ℕ → Call → Carrying → Call → Type 0
-Carries now call (Sent d) new = Pumps call now (Send d) new
-Carries now call (Lost d) new = (mid : Call) × Pumps call now (Send d) mid × Fails mid now d.cause new
+Carries now call (Sent d) new = Pumps call now (Send d) new × sending.Sends call (Send d)
+Carries now call (Lost d) new = (mid : Call) × Pumps call now (Send d) mid × sending.Sends call (Send d) × Fails mid now d.cause new
 Carries now call Silent new = Pumps call now Did new
 
 abbrev pub CarriesAll : ℕ → Call → List Carrying → Call → Type 0
@@ -72,7 +74,7 @@ module _ {P : Type 0} (sends : Sends P) (count : P → ℕ) (now : ℕ) (call : 
       × CarriesAll now call steps mid
       × HandsAll sends count port steps mid_port
       × (((new ≡ mid) × (new_port ≡ mid_port))
-      ⊎ ((d : Datagram) × Pumps mid now (Send d) new × SendsOne sends count mid_port d true new_port))
+      ⊎ ((d : Datagram) × Pumps mid now (Send d) new × sending.Sends mid (Send d) × SendsOne sends count mid_port d true new_port))
 
   -- so many were sent, and so many lost, each handed to the port once, in the order of the steps; nothing is due any more, or
   -- the run is as long as may be

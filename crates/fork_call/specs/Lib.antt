@@ -4,3 +4,5 @@ pub mod Timing
 pub mod Takes
 pub mod Carry
 pub mod Runs
+pub mod Answered
+pub mod Naming

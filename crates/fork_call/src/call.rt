@@ -1,5 +1,6 @@
 //! Calls.
 ghost use Rattle.std.specs.Prelude.{◌≡◌, ◌↔◌, length, true, IfErr, IfNone, IfOk, IfSome, IsErrOf, IsTrue, OnErr, OnOk};
+ghost use Rattle.call_laws.specs.Sending.{Sends};
 ghost use Rattle.call_model.specs.Due.{IsIdle, IsLeastDue, IsOver, is_due_at};
 ghost use Rattle.call_model.specs.Failed.{Fails};
 ghost use Rattle.call_model.specs.Pump.{Pumps};
@@ -20,6 +21,7 @@ use crate::prepared::Prepared;
 use crate::schedule::{Schedule, earlier, is_due};
 use crate::taking::{give, room_for, row_of as row_to, status_of};
 use crate::timing::time_step;
+use call_laws::{calls_send_right, what_is_sent_is_right};
 use call_model::{Cause, Step, Taken, calls_stay_sound};
 use call_state::Parts;
 use fork_book::Book;
@@ -166,6 +168,7 @@ impl<A: Allocator + Clone> Call<A> {
         self.parts.is_sized();
         message.is_message();
         calls_stay_sound();
+        calls_send_right();
         positions_are_bounded();
         new_rows_are_contacts();
         others_stay_open();
@@ -178,21 +181,25 @@ impl<A: Allocator + Clone> Call<A> {
         taken
     }
 
-    /// Does one thing that is due; where nothing is, nothing changes.
+    /// Does one thing that is due; where nothing is, nothing changes. What it sends is what its cause says, and goes where that
+    /// says.
     ///
     /// # Errors
     ///
     /// Only where the allocator refuses; then the call is as it was.
     pub fn pump(&mut self, now: u64) -> Result<Step<A>, AllocError>
         ensures step { IfOk result (λ did. Pumps self.old now (pumped did) self.new) }
+        ensures right { IfOk result (λ did. Sends self.old (pumped did)) }
         ensures err { OnErr result (self.new ≡ self.old) }
     {
+        what_is_sent_is_right();
         let Some(deed) = self.next_deed(now) else {
             return Ok(Step::Idle);
         };
         let at = self.posted();
         self.parts.is_sized();
         calls_stay_sound();
+        calls_send_right();
         positions_are_bounded();
         new_rows_are_contacts();
         others_stay_open();
@@ -214,6 +221,7 @@ impl<A: Allocator + Clone> Call<A> {
         let at = self.posted();
         self.parts.is_sized();
         calls_stay_sound();
+        calls_send_right();
         positions_are_bounded();
         new_rows_are_contacts();
         others_stay_open();

@@ -6,6 +6,7 @@ ghost use Rattle.fork_routing.specs.Opening.{IsOpenable, Opens, Refuses};
 use crate::call::Call;
 use crate::schedule::Schedule;
 use crate::timing::schedule_of;
+use call_laws::calls_send_right;
 use call_model::calls_stay_sound;
 use call_state::Parts;
 use fork_setup::Setup;
@@ -54,6 +55,7 @@ impl<A: Allocator + Clone> Prepared<A> {
         ensures refused { IfErr result (Refuses setup.now request source) }
     {
         calls_stay_sound();
+        calls_send_right();
         let own = alloc.clone()?;
         let rest = alloc.clone()?;
         let parts = match fork_routing::open(alloc, heap, setup, 0, request, source, now) {

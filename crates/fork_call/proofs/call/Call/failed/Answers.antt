@@ -11,6 +11,6 @@ invariant_of-self-2 g c =
     c.time_step.ensures
     ∙ ap (λ (r : Option ℕ). retimed c.failed.new.self r c.posted-at.result c.self.inside.schedule) c.row_of.ensures
     ∙ ap (λ (k : ℕ). retimed c.failed.new.self (row_of_cause c.args.cause) k c.self.inside.schedule) at in
-    failed_timed c.calls_stay_sound.ensures.kept c.positions_are_bounded.ensures.by_event c.new_rows_are_contacts.ensures.none c.others_stay_open.ensures.exact c.replies_list_all_that_became.ensures
+    failed_timed c.calls_stay_sound.ensures.kept c.calls_send_right.ensures.kept c.positions_are_bounded.ensures.by_event c.new_rows_are_contacts.ensures.none c.others_stay_open.ensures.exact c.replies_list_all_that_became.ensures
     call c.failed.new.self c.self.inside.schedule c.time_step.new.schedule c.self.invariant c.is_sized.ensures.each_leg (subst R (sym c.self.view_is) c.posted-at.ensures.replied)
     c.args.now c.args.cause c.in_ok-failed.ensures.ok times

@@ -1,5 +1,7 @@
 use Rattle.fork_call.proofs.Common.{◌≡◌, ◌∙◌, ℕ, ap, length, subst, sym, true, Option, Call, is_due_at, pumped, seen_deed, retimed, row_of_deed}
-use Rattle.fork_call.proofs.Stepping.{pumped_timed}
+use Rattle.fork_call.proofs.Stepping.{done_right, pumped_timed}
+use Rattle.fork_call.proofs.Touching.{does_pump}
+use Rattle.call_model.specs.Pump.{Pumps}
 use Rattle.fork_call.proofs.call.Call.pump.Goals as goal
 
 pub invariant_of-self-2 : goal.invariant_of-self-2
@@ -12,6 +14,20 @@ invariant_of-self-2 g c =
     c.time_step.ensures
     ∙ ap (λ (r : Option ℕ). retimed c.perform.new.parts r c.posted-at.result c.self.inside.schedule) c.row.ensures
     ∙ ap (λ (k : ℕ). retimed c.perform.new.parts (row_of_deed (seen_deed c.in-Some.deed)) k c.self.inside.schedule) at in
-    pumped_timed c.calls_stay_sound.ensures.kept c.positions_are_bounded.ensures.by_event c.new_rows_are_contacts.ensures.none c.others_stay_open.ensures.exact c.replies_list_all_that_became.ensures
+    pumped_timed c.calls_stay_sound.ensures.kept c.calls_send_right.ensures.kept c.positions_are_bounded.ensures.by_event c.new_rows_are_contacts.ensures.none c.others_stay_open.ensures.exact c.replies_list_all_that_became.ensures
     call c.perform.new.parts c.self.inside.schedule c.time_step.new.schedule c.self.invariant c.is_sized.ensures.each_leg (subst R (sym c.self.view_is) c.posted-at.ensures.replied)
     c.args.now (seen_deed c.in-Some.deed) (pumped c.in_ok-step.step) (subst D (sym c.self.view_is) c.in-Some.ensures.some) c.in_ok-step.ensures.step times
+
+pub returns-clause-right : goal.returns-clause-right
+returns-clause-right g c =
+    let D : Call → Type 0 = λ x. is_due_at x c.args.now (seen_deed c.in-Some.deed) ≡ true in
+    done_right c.what_is_sent_is_right.ensures c.self.inside.parts c.perform.new.parts c.args.self.now c.self.invariant.right c.self.view_is
+    c.args.now (seen_deed c.in-Some.deed) (pumped c.in_ok-step.step) (subst D (sym c.self.view_is) c.in-Some.ensures.some) c.in_ok-step.ensures.step
+
+pub returns-clause-step : goal.returns-clause-step
+returns-clause-step g c =
+    let D : Call → Type 0 = λ x. is_due_at x c.args.now (seen_deed c.in-Some.deed) ≡ true in
+    let P : Call → Type 0 = λ x. Pumps x c.args.now (pumped c.in_ok-step.step) c.perform.new.parts in
+    subst P c.self.view_is
+    (does_pump c.self.inside.parts c.perform.new.parts c.args.now (seen_deed c.in-Some.deed) (pumped c.in_ok-step.step)
+    (subst D (sym c.self.view_is) c.in-Some.ensures.some) c.in_ok-step.ensures.step)

@@ -26,7 +26,7 @@ invariant_of-self-2 g c =
     let count = c.count-rows.ensures.value in
     let range = c.count-rows.ensures.range in
     omega (arith, rows, stands, count, range) in
-    taken_timed c.calls_stay_sound.ensures.kept c.positions_are_bounded.ensures.by_event c.new_rows_are_contacts.ensures.none c.others_stay_open.ensures.exact c.replies_list_all_that_became.ensures
+    taken_timed c.calls_stay_sound.ensures.kept c.calls_send_right.ensures.kept c.positions_are_bounded.ensures.by_event c.new_rows_are_contacts.ensures.none c.others_stay_open.ensures.exact c.replies_list_all_that_became.ensures
     call new c.self.inside.schedule c.time_step.new.schedule c.self.invariant c.is_sized.ensures.each_leg (subst R (sym c.self.view_is) c.posted-at.ensures.replied)
     c.args.now c.args.message c.args.source r
     c.give-taken.result c.give-taken.ensures.step c.give-taken.ensures.err c.in-Some.ensures.found c.is_message.ensures few times

@@ -4,7 +4,7 @@ use Rattle.fork_call.proofs.prepared.Prepared.new.Goals as goal
 
 pub invariant_of-result : goal.invariant_of-result
 invariant_of-result g c = λ number.
-    opened_timed c.calls_stay_sound.ensures.begun c.args.setup.now number c.args.request c.args.source (numbered number c.in-Ok.parts) c.in-Ok-schedule_of.schedule
+    opened_timed c.calls_stay_sound.ensures.begun c.calls_send_right.ensures.begun c.args.setup.now number c.args.request c.args.source (numbered number c.in-Ok.parts) c.in-Ok-schedule_of.schedule
     (opens_numbered c.args.setup.now 0 number c.args.request c.args.source c.in-Ok.parts c.in-Ok.ensures.opened) c.in-Ok-schedule_of.ensures
 
 pub returns-clause-opened : goal.returns-clause-opened

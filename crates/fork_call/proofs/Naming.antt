@@ -1,0 +1,51 @@
+-- What the datagrams of a call that opened are made of.
+use Rattle.fork_call.proofs.Common.{◌≡◌, ◌∙◌, ◌++◌, ◌∷◌, ℕ, Bool, true, false, List, [], ap, refl, sym, subst, cond, MessageText, Hop, Call}
+use Rattle.std.specs.Prelude.{filter, not}
+use Rattle.std.proofs.lemmas.Bool.{cond-true}
+use Rattle.sip_lex.specs.Cut.{behind}
+use Rattle.sip_text.specs.Text.{StartText, Request, Response}
+use Rattle.sip_uri.specs.Uri.{Uri, is_method, params_text, request_uri, requested, user_text, without_methods}
+use Rattle.sip_via.specs.declared.own.Own.{Own}
+use Rattle.sip_route.specs.Routes.{stripped}
+use Rattle.sip_build.specs.declared.responses.OwnStatus.{OwnStatus}
+use Rattle.sip_build.specs.Forwarding.{to_target}
+use Rattle.sip_build.specs.Generated.{generated_of}
+use Rattle.call_model.specs.Built.{generated}
+use Rattle.fork_call.specs.Naming.{OwnAnswersAreToTheRequest, RequestsNameTheirTargets}
+
+filter_twice : (f : List ℕ → Bool) (xs : List (List ℕ)) → filter f (filter f xs) ≡ filter f xs
+filter_twice f [] = refl
+filter_twice f (x ∷ xs) = by (f x) refl (filter_twice f xs)
+  where
+    by : (b : Bool) → f x ≡ b → filter f (filter f xs) ≡ filter f xs → filter f (filter f (x ∷ xs)) ≡ filter f (x ∷ xs)
+    by true e rest =
+        let P : Bool → Type 0 = λ c.
+        filter f (cond {A = List (List ℕ)} c (x ∷ filter f xs) (filter f xs)) ≡ cond {A = List (List ℕ)} c (x ∷ filter f xs) (filter f xs) in
+        subst P (sym e) (cond-true _ _ _ e ∙ ap (λ (ys : List (List ℕ)). x ∷ ys) rest)
+    by false e rest =
+        let P : Bool → Type 0 = λ c.
+        filter f (cond {A = List (List ℕ)} c (x ∷ filter f xs) (filter f xs)) ≡ cond {A = List (List ℕ)} c (x ∷ filter f xs) (filter f xs) in
+        subst P (sym e) rest
+
+uri_same : (u : Uri) → request_uri (requested u) ≡ request_uri u
+uri_same u =
+    ap (λ (ps : List (List ℕ)). u.scheme ++ (user_text u.user ++ (u.host ++ (behind 58 u.port ++ params_text ps))))
+    (filter_twice (λ (p : List ℕ). not (is_method p)) u.params)
+
+start_same : (start : StartText) (uri target : Uri) → uri ≡ requested target → to_target start uri ≡ to_target start target
+start_same (Request method was) uri target e = ap (λ (u : Uri). Request method (request_uri u)) e ∙ ap (λ (text : List ℕ). Request method text) (uri_same target)
+start_same (Response status reason) uri target e = refl
+
+pub requests_name : RequestsNameTheirTargets
+requests_name fixed way n target e = start_same fixed.request.start way.uri target e
+
+pub own_answers : ((m : MessageText) (own : Own) (status : OwnStatus) → generated_of (stripped m own) status ≡ generated_of m status) → OwnAnswersAreToTheRequest
+own_answers law setup number m source call status opens =
+    let prepared = opens.1.prepared in
+    let begins = opens.2.3.begins in (
+      prepared.0,
+      prepared.1,
+      ap (λ (x : Call). generated x.fixed status) begins.2
+          ∙ ap (λ (r : MessageText). generated_of r status) prepared.2
+          ∙ law prepared.0 setup.own status,
+    )
