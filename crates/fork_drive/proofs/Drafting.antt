@@ -10,7 +10,9 @@ use Rattle.fork_program.specs.Line.{Line, KindLine, PreferLine, DepthLine, Targe
 use Rattle.fork_program.specs.Reading.{read_line}
 use Rattle.fork_program.specs.Script as plain
 use Rattle.fork_program.specs.Script.{Script, last_changed, with_line, phase_after, has_kind}
-use Rattle.fork_drive.specs.Workers.{Draft, first_worker, next_worker, with_worker, with_last, drafted, worker_line, is_at_work, most_workers}
+use Rattle.fork_drive.specs.Workers.{most_workers}
+use Rattle.fork_drive.specs.Spelling.{worker_text}
+use Rattle.fork_drive.specs.inner.Reading.{Draft, first_worker, next_worker, with_worker, with_last, drafted, is_at_work}
 use Rattle.fork_drive.specs.inner.Workers.{event_count}
 
 -- ---- how many events there are then
@@ -57,7 +59,7 @@ last_adds draft (Some line) = go (phase_after draft.last.phase line)
     go (Some phase) = pick phase _
 
 pub drafted_adds : (draft : Draft) (line : List ℕ) → IfSome (drafted draft line) (AddsOne draft)
-drafted_adds draft line = go (bytes_eq line worker_line)
+drafted_adds draft line = go (bytes_eq line worker_text)
   where
     go : (b : Bool) → IfSome (cond b (with_worker draft) (option_and_then (with_last draft) (plain.drafted draft.last line))) (AddsOne draft)
     go true = worker_adds draft

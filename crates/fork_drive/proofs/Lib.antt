@@ -1,4 +1,6 @@
 mod Posts
 mod Drafting
+mod DraftedWorkers
+mod SpelledWorkers
 mod Running
 mod Done

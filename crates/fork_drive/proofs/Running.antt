@@ -1,7 +1,8 @@
 -- What is printed of a run of workers, in steps, and why there is no run.
-use Rattle.std.proofs.Common.{◌≡◌, ◌≤◌, ℕ, List, [], ◌++◌, length, refl, ap, subst, ◌∙◌}
+use Rattle.std.proofs.Common.{◌≡◌, ◌≤◌, ℕ, true, false, List, [], ◌++◌, length, refl, sym, ap, subst, ◌∙◌, append_assoc}
 use Rattle.std.specs.Prelude.{◌↔◌}
-use Rattle.fork_model.specs.Table.{Table, most_targets}
+use Rattle.fork_model.specs.Table.{Table, most_targets, is_finished, is_succeeded}
+use Rattle.fork_model.specs.Challenges.{challenge_list}
 use Rattle.fork_model.specs.Core.{Core}
 use Rattle.fork_model.specs.History.{Target}
 use Rattle.fork_context.specs.declared.context.NewFault.TheVariants as setup
@@ -11,9 +12,13 @@ use Rattle.fork_engine.specs.declared.fault.DriveFault.{DriveFault}
 use Rattle.fork_engine.specs.declared.fault.DriveFault.TheVariants as run
 use Rattle.fork_engine.specs.Faults.{IsNew, IsTrueFault}
 use Rattle.fork_text.specs.RuleLines.{ended}
-use Rattle.fork_program.specs.Replay.{IsEnding, EndsWith, opening_text, ending_lines}
+use Rattle.fork_listing.specs.Text.{listing_text}
+use Rattle.fork_listing.specs.Listed.{listing_of}
+use Rattle.fork_program.specs.Replay.{Ending, Succeeded, Unfinished, Listed, IsEnding, IsAccepted, EndsWith, opening_text, added_lines, ending_lines}
+use Rattle.fork_program.specs.RightListing.{EndsInRightListing, RightListingsAreShort}
 use Rattle.fork_drive.specs.Workers.{Workers}
 use Rattle.fork_drive.specs.Run.{IsPrinted, posts_text}
+use Rattle.fork_drive.specs.Headline.{IsDone}
 use Rattle.fork_drive.specs.inner.FaultView.{fault_driven}
 use Rattle.fork_drive.specs.Faults.{IsFork, IsRunFault}
 
@@ -57,3 +62,29 @@ is_printed log core first empty begun told whole stands opens none front posts e
           ∙ ap (λ (t : Table). told ++ ending_lines t ends.ending) table
           ∙ ap (λ (text : List ℕ). text ++ ending_lines (table_of log) ends.ending) (posts ∙ ap (λ (text : List ℕ). text ++ posts_text log.opening 0 log.history log.replies) alone);
     }
+
+-- what a fork that is done ends with is its listing
+ends_right : RightListingsAreShort → (t : Table) (told whole : List ℕ) → EndsWith t told whole → is_finished t.rows ≡ true → is_succeeded t.rows ≡ false → EndsInRightListing t whole
+ends_right short t told whole ends finished failed = go ends.ending ends.right ends.accepted ends.spelled
+  where
+    go : (ending : Ending) → IsEnding t ending → IsAccepted t ending → whole ≡ told ++ ending_lines t ending → EndsInRightListing t whole
+    go Succeeded last accepted spelled = absurd (let came : is_succeeded t.rows ≡ true = last in let none : is_succeeded t.rows ≡ false = failed in cc)
+    go (Unfinished branches) last accepted spelled = absurd (let ended : is_finished t.rows ≡ true = finished in let open_ : is_finished t.rows ≡ false = last.1 in cc)
+    go (Listed ranks choice) last accepted spelled =
+        let listed : List ℕ = listing_text (listing_of t ranks choice) in
+        let added : List ℕ = added_lines (challenge_list t.rows choice) in
+        record {
+          front = told ++ added;
+          listed = listed;
+          joined = spelled ∙ sym (append_assoc told added listed);
+          listing = record { finished = finished; failed = failed; ranks = ranks; choice = choice; ranking = last.2; chosen = last.3; spelled = refl };
+          verdict = accepted.0;
+          right = accepted.1;
+          short = short listed accepted.0 accepted.1;
+        }
+
+pub run_ends_right : RightListingsAreShort → (log : Log) (core : Core) (told whole : List ℕ) → core ≡ core_of log → EndsWith core.table told whole → IsDone log → EndsInRightListing (table_of log) whole
+run_ends_right short log core told whole stands ends done =
+    let P : Table → Type 0 = λ t. EndsWith t told whole in
+    let table : core.table ≡ table_of log = ap (λ (c : Core). c.table) stands in
+    ends_right short (table_of log) told whole (subst P table ends) done.0 done.1

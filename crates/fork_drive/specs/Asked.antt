@@ -12,7 +12,7 @@ use Rattle.fork_program.specs.Program.{command_of, Appends, IsCommandFault}
 use Rattle.fork_drive.specs.declared.asked.Asked.{Asked}
 use Rattle.fork_drive.specs.declared.asked.Asked.TheVariants.{Drive, Alone}
 use Rattle.fork_drive.specs.Faults.{AppendsRun, IsDriveFault}
-use Rattle.fork_drive.specs.Headline.{AppendsOneFinal}
+use Rattle.fork_drive.specs.Headline.{AppendsOneFinal, AppendsNoFinal}
 
 -- `drive` has workers run; all else is as without workers
 abbrev pub asked_for : List (List ℕ) → Option Asked
@@ -24,7 +24,8 @@ asked_for (name ∷ word ∷ other ∷ words) = option_map Alone (command_of (na
 
 -- what is appended of a text, and the status that goes with it
 abbrev pub AppendsAsked : Asked → List ℕ → List ℕ → List ℕ → ℕ → Type 0
-AppendsAsked Drive text old new status = (status ≡ 0) × AppendsRun text old new × AppendsOneFinal text old new
+AppendsAsked Drive text old new status =
+    (status ≡ 0) × AppendsRun text old new × AppendsOneFinal text old new × AppendsNoFinal text old new
 AppendsAsked (Alone command) text old new status = Appends command text old new status
 
 -- why what is asked for is refused of a text

@@ -1,14 +1,18 @@
 -- Why workers are not run, or print nothing, in the order in which the causes are looked for.
-use Rattle.std.specs.Prelude.{◌≡◌, ◌<◌, ◌≤◌, ℕ, List, ◌++◌, length, sum_by, Ok, Err}
+use Rattle.std.specs.Prelude.{◌≡◌, ◌<◌, ◌≤◌, ℕ, List, ◌++◌, length, sum_by}
 use Rattle.fork_model.specs.Core.{most_strays}
 use Rattle.fork_model.specs.History.{Target}
 use Rattle.fork_context.specs.declared.context.NewFault.{NewFault}
-use Rattle.fork_model.specs.Log.{Log}
+use Rattle.fork_model.specs.Log.{Log, table_of}
 use Rattle.fork_program.specs.declared.fault.ProgFault.{ProgFault}
 use Rattle.fork_program.specs.declared.fault.ProgFault.TheVariants as prog
 use Rattle.fork_program.specs.Faults.{most_text, IsSetupFault}
-use Rattle.fork_drive.specs.Workers.{Workers, read_workers}
+use Rattle.fork_program.specs.RightListing.{EndsInRightListing}
+use Rattle.fork_drive.specs.Workers.{Workers}
+use Rattle.fork_drive.specs.Spelling.{Spells}
+use Rattle.fork_drive.specs.Malformed.{IsMalformedAt}
 use Rattle.fork_drive.specs.Run.{IsRun, IsPrinted}
+use Rattle.fork_drive.specs.Headline.{IsDone}
 
 -- the targets are a fork
 abbrev pub IsFork : List Target → Type 0
@@ -25,28 +29,30 @@ IsRunFault workers prog.NoMemory = Unit {0}
 
 abbrev pub IsReadAndRunFault : List ℕ → ProgFault → Type 0
 IsReadAndRunFault text fault =
-    (length text ≤ most_text) × (workers : Workers) × (read_workers text ≡ Ok workers) × IsRunFault workers fault
+    (length text ≤ most_text) × (workers : Workers) × Spells text workers × IsRunFault workers fault
 
 abbrev pub IsDriveFault : List ℕ → ProgFault → Type 0
 IsDriveFault text prog.TooLong = most_text < length text
-IsDriveFault text (prog.Line number) = (length text ≤ most_text) × (read_workers text ≡ Err number)
+IsDriveFault text (prog.Line number) = (length text ≤ most_text) × IsMalformedAt text number
 IsDriveFault text (prog.New fault) = IsReadAndRunFault text (prog.New fault)
 IsDriveFault text prog.Stopped = IsReadAndRunFault text prog.Stopped
 IsDriveFault text prog.Torn = IsReadAndRunFault text prog.Torn
 IsDriveFault text prog.NoMemory = Unit {0}
 
--- the workers' targets are a fork, and what is printed is a run of the workers
+-- the workers' targets are a fork, and what is printed is a run of the workers; where its fork is done, that ends in its
+-- listing, which a check accepts
 pub record PrintsRun (workers : Workers) (printed : List ℕ) : Type 0 where
   pub fork : IsFork workers.targets
   pub log : Log
   pub run : IsRun workers log
   pub right : IsPrinted log printed
+  pub listed : IsDone log → EndsInRightListing (table_of log) printed
 
--- the text is a script with workers, and a run of them was appended
+-- the text spells a script with workers, and a run of them was appended
 pub record AppendsRun (text old new : List ℕ) : Type 0 where
   pub short : length text ≤ most_text
   pub workers : Workers
-  pub read : read_workers text ≡ Ok workers
+  pub read : Spells text workers
   pub printed : List ℕ
   pub right : PrintsRun workers printed
   pub spelled : new ≡ old ++ printed

@@ -1,5 +1,7 @@
 pub mod inner
 pub mod Workers
+pub mod Spelling
+pub mod Malformed
 pub mod Run
 pub mod Faults
 pub mod Headline

@@ -1,4 +1,5 @@
 pub mod FaultView
 pub mod Faults
 pub mod ReadView
+pub mod Reading
 pub mod Workers

@@ -8,7 +8,7 @@ ghost use Rattle.fork_text.specs.RuleLines.{ended};
 ghost use Rattle.fork_drive.specs.Workers.{Workers};
 ghost use Rattle.fork_drive.specs.Faults.{IsRunFault, IsDriveFault, PrintsRun, AppendsRun};
 ghost use Rattle.fork_drive.specs.inner.Faults.{IsFirstFault};
-ghost use Rattle.fork_drive.specs.Headline.{AppendsOneFinal};
+ghost use Rattle.fork_drive.specs.Headline.{AppendsOneFinal, AppendsNoFinal};
 ghost use Rattle.fork_drive.specs.inner.FaultView.{fault_driven};
 
 use crate::print::append_posts;
@@ -17,7 +17,7 @@ use fork_context::{Context, Kind, Target};
 use fork_engine::{DriveFault, Gate, drive};
 use fork_listing::the_choice_is_listed_first;
 use fork_model::exactly_one_final;
-use fork_program::{MOST_TEXT, ProgFault, append_ending, append_opening};
+use fork_program::{MOST_TEXT, ProgFault, append_ending, append_opening, replays_are_answered_yes};
 use fork_rank::Rules;
 use std::alloc::{AllocError, Global};
 use std::sync::Wait;
@@ -81,6 +81,7 @@ fn printed<R: Threads + Wait + Sync>(
     ensures ok { IfOk result (λ text. PrintsRun workers text.items) }
     ensures fault { IfErr result (IsRunFault workers) }
 {
+    replays_are_answered_yes();
     let Workers {
         kind,
         rules,
@@ -105,8 +106,10 @@ fn printed<R: Threads + Wait + Sync>(
 /// apart, so that `out` is as it was where the run is refused.
 ///
 /// Whatever the order: where every branch of the fork has ended and no 2xx came, exactly one of the replies printed is
-/// final, the stored answer that none stored ranks before, 408 if there is none, 500 in place of a 503; and the list printed
-/// behind the replies holds all stored answers in order of rank, that one first (RFC 3261 section 16.7 steps 5, 6 and 10).
+/// final, that to the event which ended the last branch: the stored answer that none stored ranks before, 408 if there is
+/// none, 500 in place of a 503; and the list printed behind the replies holds all stored answers in order of rank, that one
+/// first (RFC 3261 section 16.7 steps 5, 6 and 10). That list is right: a check of what was appended from its line `fork` on
+/// says yes. Where a branch has not ended, or one has with a 2xx, none of the replies printed is final.
 ///
 /// # Errors
 ///
@@ -122,6 +125,7 @@ pub fn drive_text<R: Threads + Wait + Sync>(
     ensures status { IfOk result (λ status. status ≡ 0) }
     ensures driven { OnOk result (AppendsRun text.now out.old.items out.new.items) }
     ensures one_final { OnOk result (AppendsOneFinal text.now out.old.items out.new.items) }
+    ensures no_final { OnOk result (AppendsNoFinal text.now out.old.items out.new.items) }
     ensures fault { IfErr result (IsDriveFault text.now) }
     ensures too_long { IsErrOf result ProgFault.TooLong ↔ (most_text < length text.now) }
     ensures err { OnErr result (out.new.items ≡ out.old.items) }

@@ -1,9 +1,11 @@
 //! A script with workers: what is forked, by which rules and to which targets, and what each worker has happen then.
-ghost use Rattle.std.specs.Prelude.{◌≡◌, ◌<◌, ◌^◌, ◌+◌, ◌∷◌, ◌++◌, [], IfOk, map, length};
+ghost use Rattle.std.specs.Prelude.{◌≡◌, ◌<◌, ◌^◌, ◌+◌, ◌∷◌, ◌++◌, [], Ok, IfOk, IfErr, map, length};
 ghost use Rattle.fork_context.specs.EventView.{event_of};
-ghost use Rattle.fork_drive.specs.Workers.{is_at_work, with_worker, drafted, no_draft, finished_draft, read_workers};
+ghost use Rattle.fork_drive.specs.Workers as spec;
+ghost use Rattle.fork_drive.specs.Spelling.{Spells};
+ghost use Rattle.fork_drive.specs.inner.Reading.{is_at_work, with_worker, drafted, no_draft, finished_draft, read_workers};
 ghost use Rattle.fork_drive.specs.inner.Workers.{event_count};
-ghost use Rattle.fork_drive.specs.inner.ReadView.{GivesWorkers};
+ghost use Rattle.fork_drive.specs.inner.ReadView.{GivesWorkers, IsFaultOf};
 
 use fork_context::{Event, Kind, Target};
 use fork_program::{Draft, Phase, ReadFault, Script};
@@ -85,8 +87,8 @@ struct WorkersDraft {
 impl Model for WorkersDraft {
     ghost use Rattle.std.specs.Prelude.{◌<◌, map, length};
     ghost use Rattle.fork_context.specs.EventView.{event_of};
-    ghost use Rattle.fork_drive.specs.Workers as spec;
     ghost use Rattle.fork_drive.specs.Workers.{most_workers};
+    ghost use Rattle.fork_drive.specs.inner.Reading as spec;
 
     ghost Value = { spec.Draft };
 
@@ -189,13 +191,9 @@ impl WorkersDraft {
 }
 
 impl Workers {
-    /// The script with workers that a text spells: each line ends in LF, and nothing stands behind the last.
-    ///
-    /// # Errors
-    ///
-    /// The first malformed line, counted from 1, a missing one by the number that it would have; or want of memory.
-    #[tactic(auto, unfolding(crate::specs::Workers::read_workers))]
-    pub(crate) fn read(alloc: Global, text: &[u8]) -> Result<Self, ReadFault>
+    /// The script with workers that the lines of a text say, one after the other.
+    #[tactic(auto, unfolding(crate::specs::inner::Reading::read_workers))]
+    fn read_lines(alloc: Global, text: &[u8]) -> Result<Self, ReadFault>
         requires { length text.now < 2 ^ 31 }
         ensures { GivesWorkers (read_workers text.now) result }
     {
@@ -214,5 +212,19 @@ impl Workers {
             number += 1;
             rest = after;
         }
+    }
+
+    /// The script with workers that a text spells: each line ends in LF, and nothing stands behind the last.
+    ///
+    /// # Errors
+    ///
+    /// The first malformed line, counted from 1, a missing one by the number that it would have; or want of memory.
+    pub(crate) fn read(alloc: Global, text: &[u8]) -> Result<Self, ReadFault>
+        requires { length text.now < 2 ^ 31 }
+        ensures found { IfOk result (Spells text.now) }
+        ensures only { (workers : spec.Workers) → Spells text.now workers → GivesWorkers (Ok workers) result }
+        ensures fault { IfErr result (IsFaultOf text.now) }
+    {
+        Workers::read_lines(alloc, text)
     }
 }

@@ -3,7 +3,8 @@
 -- Here: what no public contract reaches.
 use Rattle.std.specs.Prelude.{ℕ, ◌+◌, ◌<◌, ◌≤◌, ◌^◌, List, length, sum_by}
 use Rattle.fork_model.specs.Event.{Event}
-use Rattle.fork_drive.specs.Workers.{most_workers, Draft}
+use Rattle.fork_drive.specs.Workers.{most_workers}
+use Rattle.fork_drive.specs.inner.Reading.{Draft}
 
 -- at least one worker, and so many events together that each has a position of 32 bits
 pub record AreFew (scripts : List (List Event)) : Type 0 where

@@ -5,7 +5,7 @@ use Rattle.fork_rank.specs.KindView.{kind_of}
 use Rattle.fork_program.specs.declared.fault.ProgFault.{ProgFault}
 use Rattle.fork_drive.specs.Workers.{Workers}
 use Rattle.fork_drive.specs.Faults.{IsRunFault, PrintsRun}
-use Rattle.fork_drive.proofs.Running.{is_fork, run_refused, is_printed}
+use Rattle.fork_drive.proofs.Running.{is_fork, run_refused, is_printed, run_ends_right}
 use Rattle.fork_drive.proofs.run.printed.Goals as goal
 
 pub returns-in_ok-append_ending-in-Ok-clause-ok : goal.returns-in_ok-append_ending-in-Ok-clause-ok
@@ -21,6 +21,7 @@ returns-in_ok-append_ending-in-Ok-clause-ok g c =
       log = c.in-Ok.book;
       run = record { opened = c.in-Ok.ensures.opened; mixed = c.in-Ok.ensures.mixed; answered = c.in-Ok.ensures.log.answered };
       right = is_printed c.in-Ok.book c.context.result.now _ _ _ _ _ c.context.ensures.stands opens c.new-text.ensures.items c.in_ok-append_first.ensures.appended c.in_ok-append_posts-in-Ok.ensures c.in_ok-append_ending-in-Ok.ensures.appended;
+      listed = run_ends_right c.replays_are_answered_yes.ensures.short c.in-Ok.book c.context.result.now _ _ c.context.ensures.stands c.in_ok-append_ending-in-Ok.ensures.appended;
     }
     in
     let P : Workers → Type 0 = λ w. PrintsRun w c.append_ending.new.text.items in

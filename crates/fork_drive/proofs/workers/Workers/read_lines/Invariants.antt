@@ -1,9 +1,9 @@
 use Rattle.std.proofs.Common.{◌≡◌, ◌≤◌, ◌<◌, ◌+◌, length}
 use Rattle.std.specs.List.{slice_split}
 use Rattle.sip_lex.specs.Cut.{is}
-use Rattle.fork_drive.specs.Workers.{read_from, no_draft}
+use Rattle.fork_drive.specs.inner.Reading.{read_from, no_draft}
 use Rattle.fork_drive.specs.inner.Workers.{event_count}
-use Rattle.fork_drive.proofs.workers.Workers.read.Given as goal
+use Rattle.fork_drive.proofs.workers.Workers.read_lines.Given as goal
 
 -- reading on from here gives what the whole gives, and no line has more than one event
 abbrev pub invariant-loop-after : goal.invariant-loop-after
