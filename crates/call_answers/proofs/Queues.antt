@@ -1,6 +1,6 @@
 -- Entries and their messages, put behind others and taken from the front.
 use Rattle.call_answers.proofs.Common.{◌≡◌, suc, ap, refl, List, [], ◌∷◌, ◌++◌, length, MessageText, HaveMessages, queue_of, Entry}
-use Rattle.fork_context.specs.ReplyView.{choice_of}
+use Rattle.context_values.specs.ReplyView.{choice_of}
 use Rattle.call_model.specs.Server as server
 use Rattle.call_answers.specs.declared.queue.Entry.TheVariants as entry
 

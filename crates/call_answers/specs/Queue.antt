@@ -1,6 +1,6 @@
 -- The answers that are owed to the caller, as they lie in memory.
 use Rattle.std.specs.Prelude.{List, [], ◌∷◌, ◌≤◌, ℕ, Bool, true, false, Option, Some, None}
-use Rattle.fork_context.specs.ReplyView.{choice_of}
+use Rattle.context_values.specs.ReplyView.{choice_of}
 use Rattle.sip_text.specs.Text.{MessageText}
 use Rattle.call_model.specs.Server as server
 use Rattle.call_answers.specs.declared.queue.Entry.{Entry}

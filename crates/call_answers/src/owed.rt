@@ -2,7 +2,7 @@
 ghost use Rattle.std.specs.Prelude.{◌≡◌, ◌≤◌, length};
 ghost use Rattle.std.specs.Option.{option_to_list};
 ghost use Rattle.fork_rank.specs.KindView as kinds;
-ghost use Rattle.fork_context.specs.ReplyView.{up_of};
+ghost use Rattle.context_values.specs.ReplyView.{up_of};
 ghost use Rattle.call_model.specs.Posting.{owed_by, passed};
 ghost use Rattle.call_answers.specs.Queue.{messages_in, news_of};
 ghost use Rattle.call_model.specs.Server as server;

@@ -2,7 +2,7 @@
 ghost use Rattle.std.specs.Prelude.{◌≡◌, ◌≤◌, ◌++◌, map, IfOk, OnOk};
 ghost use Rattle.std.specs.List.{flat_map};
 ghost use Rattle.std.specs.Option.{option_to_list};
-ghost use Rattle.fork_context.specs.EventView.{event_of};
+ghost use Rattle.context_values.specs.EventView.{event_of};
 ghost use Rattle.sip_text.specs.Seen.{view, views};
 ghost use Rattle.call_answers.specs.NewWays.{GivesWays};
 ghost use Rattle.call_model.specs.Posting.{way_of_contact};

@@ -7,9 +7,9 @@ pub use Rattle.std.specs.List.{cons_option, flat_map, list_all}
 pub use Rattle.std.specs.Option.{option_and_then, option_copied, option_map}
 pub use Rattle.fork_model.specs.Log.{IsAdded, Log, added, core_of, table_of}
 pub use Rattle.fork_model.specs.Chosen.{HasFirst, IsChosen}
-pub use Rattle.fork_context.specs.EventView.{event_of}
+pub use Rattle.context_values.specs.EventView.{event_of}
 pub use Rattle.fork_context.specs.LeftView.{left_of}
-pub use Rattle.fork_context.specs.ReplyView.{up_of}
+pub use Rattle.context_values.specs.ReplyView.{up_of}
 pub use Rattle.fork_model.specs.Choice.{Best, stored_at}
 pub use Rattle.fork_model.specs.Core.{Core, is_full}
 pub use Rattle.fork_model.specs.Event.{Cancel, Event, TimerC}

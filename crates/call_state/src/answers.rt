@@ -3,7 +3,7 @@ ghost use Rattle.std.specs.Prelude.{◌≡◌, ◌<◌, [], length, map, None, S
 ghost use Rattle.std.specs.List.{list_all};
 ghost use Rattle.fork_model.specs.Log.{table_of};
 ghost use Rattle.fork_model.specs.Chosen.{IsChosen};
-ghost use Rattle.fork_context.specs.ReplyView.{choice_of};
+ghost use Rattle.context_values.specs.ReplyView.{choice_of};
 ghost use Rattle.fork_model.specs.Choice as choice;
 ghost use Rattle.sip_build.specs.SeenKept.{seen_kept, texts};
 ghost use Rattle.sip_build.specs.Upward.{AreKept, is_challenge, upward_of};

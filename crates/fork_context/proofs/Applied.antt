@@ -1,6 +1,6 @@
 -- Room for the numbers of a reply.
 use Rattle.fork_context.proofs.Common.{◌≡◌, ◌≤◌, ℕ, arith, List, [], length, vec_capacity, Row}
-use Rattle.fork_context.specs.declared.reply.Numbers.{Numbers}
+use Rattle.context_values.specs.declared.reply.Numbers.{Numbers}
 use Rattle.fork_context.specs.inner.Stepped.{HasRoom}
 
 -- there is room for the numbers of so many rows

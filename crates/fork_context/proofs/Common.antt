@@ -41,22 +41,21 @@ pub use Rattle.fork_tree.specs.Tree.{Tree, is_uncancelled, plain_row, row_ref}
 pub use Rattle.fork_tree.specs.declared.new_row.NewRow.{NewRow}
 pub use Rattle.fork_tree.specs.declared.row.RowRef.{RowRef}
 pub use Rattle.fork_context.specs.Closing.{IsClosedWhole, closed_row}
-pub use Rattle.fork_context.specs.EventView.{event_of}
+pub use Rattle.context_values.specs.EventView.{event_of}
 pub use Rattle.fork_rank.specs.KindView.{kind_of}
 pub use Rattle.fork_context.specs.Led.{AreRules}
 pub use Rattle.fork_context.specs.Refusals.{HasTwice}
-pub use Rattle.fork_context.specs.ReplyView.{choice_of}
+pub use Rattle.context_values.specs.ReplyView.{choice_of}
 pub use Rattle.fork_context.specs.RowShown.{row_shown}
 pub use Rattle.fork_context.specs.Sound.{IsKept, IsSound}
 pub use Rattle.fork_context.specs.declared.row.RowView.{RowView}
 pub use Rattle.fork_context.specs.inner.Askers.{gathered}
-pub use Rattle.fork_context.specs.inner.ByKey.{IsByKey, Parted, found_at, is_before, key_at}
 pub use Rattle.fork_context.specs.inner.Closing.{cancel_row, gets_cancel, is_ringing, never_row, never_state}
 pub use Rattle.fork_context.specs.inner.ForkInside.{IsFork, accepts_end}
 pub use Rattle.fork_context.specs.inner.Opening.{extras_of_target, idled, target_extras, waiting_rows, waiting_table}
 pub use Rattle.fork_context.specs.inner.Change.{MayChange, changed, effect_of, may_take}
 pub use Rattle.fork_context.specs.inner.Ready.{numbers_from}
-pub use Rattle.fork_context.specs.inner.RowExtras.{RowExtras, contact_qs, end_with_extras, q_at, q_of_pair, row_extras_at, row_extras_of, row_with_extras, state_with_extras, with_extras, with_row_extras}
+pub use Rattle.context_values.specs.RowExtras.{RowExtras, contact_qs, end_with_extras, q_at, q_of_pair, row_extras_at, row_extras_of, row_with_extras, state_with_extras, with_extras, with_row_extras}
 pub use Rattle.fork_context.specs.inner.RowShown.{ref_shown}
 pub use Rattle.fork_context.specs.inner.StandIn.{tree_row}
 pub use Rattle.fork_context.specs.inner.Stepped.{cancelled_at, number_if}

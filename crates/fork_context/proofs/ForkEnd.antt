@@ -3,7 +3,8 @@ use Rattle.fork_context.proofs.Common.{◌≡◌, ℕ, zero, suc, ◌+◌, ◌<�
 use Rattle.fork_context.proofs.Common.{most_targets, is_open, is_idle, is_row, with_state, length-state, end_of, plain_state, shown, NewRow, waiting_row, plain_row, RowExtras, end_with_extras, with_extras, with_row_extras, Kind, Table, Tree, IsFork}
 use Rattle.fork_context.proofs.Common.{accepts_end, is_accepted_end, map-append, common_steps}
 use Rattle.fork_tree.specs.declared.row.End.{End}
-use Rattle.fork_context.proofs.RowsWithExtras.{with_extras_append, with_extras_end, length-with_row_extras, length-with_extras}
+use Rattle.context_values.proofs.laws.RowExtras.{length-with_row_extras}
+use Rattle.fork_context.proofs.RowsWithExtras.{with_extras_append, with_extras_end, length-with_extras}
 use Rattle.fork_context.proofs.ForkRows.{table_of, tree_row_passes, plain_with, row_within}
 use Rattle.fork_context.proofs.Replies.{row_of_test}
 use Rattle.fork_context.proofs.Successes.{succeeded_state, succeeded_more, not_accepted}

@@ -1,6 +1,5 @@
 pub mod Common
 pub mod KeySteps
-pub mod GroupSteps
 pub mod SoundSteps
 pub mod PlainContacts
 pub mod PlainRows
@@ -29,5 +28,4 @@ pub mod ForkReads
 pub mod RowChanges
 pub mod Applied
 pub mod Redirected
-pub mod ByKeySteps
 pub mod TakenKeys

@@ -1,5 +1,5 @@
 -- What is done to the rows of a tree is done to the rows of its table.
-use Rattle.fork_context.proofs.Common.{◌≡◌, ℕ, zero, suc, List, [], ◌∷◌, ◌++◌, length, map, refl, ap, arith, Bool, Option, Some, slice_get, is_row, Offer, Challenge, End, State, Trying, Ended, Row, with_state, plain_state, shown, plain_row}
+use Rattle.fork_context.proofs.Common.{◌≡◌, ℕ, zero, suc, List, [], ◌∷◌, ◌++◌, length, map, refl, ap, arith, Bool, Option, Some, slice_get, is_row, End, State, Trying, Ended, Row, with_state, plain_state, shown, plain_row}
 use Rattle.fork_context.proofs.Common.{RowExtras, end_with_extras, state_with_extras, row_with_extras, with_extras, with_row_extras, tried, never_row, never_state, common_steps}
 
 -- what is read of a state, where the extras of an end do not change it, they do not change of any state
@@ -83,9 +83,3 @@ with_extras_end (row ∷ rows) [] n end c same = absurd (omega arith)
 with_extras_end (row ∷ rows) (b ∷ extras) zero end c same = grind arith
 with_extras_end (row ∷ rows) (b ∷ extras) (suc n) end c same =
     ap (λ (rest : List Row). row_with_extras row b ∷ rest) (with_extras_end rows extras n end c (omega arith))
-
-pub length-with_row_extras : (extras : List RowExtras) (n : ℕ) (left : List Offer) (challenges : List Challenge)
-    → length (with_row_extras extras n left challenges) ≡ length extras
-length-with_row_extras [] n left challenges = refl
-length-with_row_extras (b ∷ extras) zero left challenges = refl
-length-with_row_extras (b ∷ extras) (suc n) left challenges = grind (arith, common_steps, length-with_row_extras extras n left challenges)

@@ -1,7 +1,5 @@
 pub mod inner
-pub mod EventView
 pub mod RowShown
-pub mod ReplyView
 pub mod LeftView
 pub mod Led
 pub mod Sound

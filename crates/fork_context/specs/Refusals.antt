@@ -2,7 +2,7 @@
 use Rattle.std.specs.Prelude.{◌≡◌, ◌<◌, ℕ, List, length, map, slice_get, Some}
 use Rattle.fork_model.specs.Table.{most_targets}
 use Rattle.fork_model.specs.History.{Target}
-use Rattle.fork_context.specs.declared.event.Event.{Event}
+use Rattle.context_values.specs.declared.event.Event.{Event}
 use Rattle.fork_context.specs.declared.context.PostError.{PostError}
 use Rattle.fork_context.specs.declared.context.PostError.TheVariants.{Full, NoMemory}
 

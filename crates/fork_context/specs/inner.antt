@@ -1,7 +1,5 @@
 pub mod Askers
-pub mod ByKey
 pub mod Closing
-pub mod RowExtras
 pub mod ForkInside
 pub mod Opening
 pub mod Change

@@ -8,11 +8,10 @@ ghost use Rattle.fork_context.specs.inner.ContactOutcome.{outcome_at};
 ghost use Rattle.fork_context.specs.inner.StandIn.{tree_row};
 ghost use Rattle.fork_context.specs.inner.ContactsSoFar.{taken_more};
 
-use crate::copy::copied_offers;
 use crate::fork::Fork;
 use crate::new_rows::row_extras_of;
-use crate::offer::Offer;
 use crate::targets::Targets;
+use context_values::{Offer, copied_offers};
 use fork_tree::RowRef;
 use std::alloc::{AllocError, Allocator};
 use std::marker::Model;
@@ -38,7 +37,7 @@ impl<A: Allocator> Fresh<A> {
     pub(crate) fn q(&self) -> u16
         ensures { result ≡ self.now.1.q }
     {
-        self.offer.q
+        self.offer.q()
     }
 
     /// Its place in the answer.
@@ -52,7 +51,7 @@ impl<A: Allocator> Fresh<A> {
     pub(crate) fn key(&self) -> &[u8]
         ensures { result.now ≡ unwrap_or self.now.1.key [] }
     {
-        match &self.offer.key {
+        match self.offer.key() {
             Some(key) => key,
             None => &[],
         }
@@ -85,7 +84,7 @@ pub(crate) enum ContactOutcome {
 fn outcome_of<A: Allocator + Clone>(targets: &Targets<'_, A>, offer: &Offer<A>) -> ContactOutcome
     ensures { outcome_at result offer.now ≡ outcome_of targets.now offer.now.key }
 {
-    let Some(key) = &offer.key else {
+    let Some(key) = offer.key() else {
         return ContactOutcome::Left;
     };
     if targets.has(key) {

@@ -7,19 +7,16 @@ ghost use Rattle.fork_model.specs.Contacts as contacts;
 ghost use Rattle.fork_model.specs.Step as step;
 ghost use Rattle.fork_model.specs.Step.{with_effect};
 ghost use Rattle.fork_tree.specs.States.{end_of, plain_state};
-ghost use Rattle.fork_context.specs.EventView.{event_of};
+ghost use Rattle.context_values.specs.EventView.{event_of};
 ghost use Rattle.fork_context.specs.inner.Change.{effect_of, cancels, may_take, changed, MayChange};
 ghost use Rattle.fork_context.specs.inner.StandIn.{tree_row};
 ghost use Rattle.fork_context.specs.inner.Stepped.{HasRoom};
 
 use crate::closing::is_global_failure;
 use crate::contacts::{ContactLists, taking_at};
-use crate::copy::copied_challenges;
-use crate::event::{Answer, Event};
 use crate::fork::Fork;
 use crate::new_rows::{no_rows, rows_below};
-use crate::offer::Offer;
-use crate::reply::Numbers;
+use context_values::{Answer, Event, Numbers, Offer, copied_challenges};
 use fork_rank::{Challenge, Status};
 use fork_tree::{End, RowRef, State};
 use std::alloc::{AllocError, Allocator};
@@ -94,11 +91,11 @@ fn effect_on<'a, A: Allocator + Clone>(
 fn redirected<A: Allocator>(answer: &Answer<A>, taken: &ContactLists<A>, at: u32) -> End
     ensures { end_of result taken.now.left answer.now.challenges ≡ step.redirected at answer.now taken.now }
 {
-    if is_nonempty(&answer.offers) && !is_nonempty(&taken.left) {
+    if is_nonempty(answer.offers()) && !is_nonempty(&taken.left) {
         End::Taken { arrival: at }
     } else {
         End::Stored {
-            status: answer.status,
+            status: answer.status(),
             arrival: at,
             received: true,
         }
@@ -207,7 +204,7 @@ impl<A: Allocator + Clone> Fork<A> {
         ensures err { OnErr result (self.new ≡ self.old) }
     {
         let n = row.no;
-        let code = answer.status.code();
+        let code = answer.status().code();
         if code < 300 {
             self.end_alone(alloc, n, End::Accepted { arrival: at }, true)
         } else if code < 400 {
@@ -230,10 +227,10 @@ impl<A: Allocator + Clone> Fork<A> {
         ensures room { IfOk result (λ numbers. HasRoom numbers self.new.rows) }
         ensures err { OnErr result (self.new ≡ self.old) }
     {
-        let taken = taking_at(alloc, self, row, &answer.offers)?;
+        let taken = taking_at(alloc, self, row, answer.offers())?;
         let below = rows_below(alloc, self.count(), &taken.fresh)?;
         let end = redirected(answer, &taken, at);
-        let challenges = copied_challenges(alloc, &answer.challenges)?;
+        let challenges = copied_challenges(alloc, answer.challenges())?;
         self.end(alloc, row.no, end, (taken.left, challenges), below, false)
     }
 
@@ -251,12 +248,12 @@ impl<A: Allocator + Clone> Fork<A> {
         ensures err { OnErr result (self.new ≡ self.old) }
     {
         let end = End::Stored {
-            status: answer.status,
+            status: answer.status(),
             arrival: at,
             received: true,
         };
-        let closes = is_global_failure(answer.status);
-        let challenges = copied_challenges(alloc, &answer.challenges)?;
+        let closes = is_global_failure(answer.status());
+        let challenges = copied_challenges(alloc, answer.challenges())?;
         self.end_with(alloc, n, end, challenges, closes)
     }
 

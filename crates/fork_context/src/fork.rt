@@ -12,24 +12,21 @@ ghost use Rattle.fork_tree.specs.Tree.{is_uncancelled};
 ghost use Rattle.fork_tree.specs.States.{end_of};
 ghost use Rattle.fork_tree.specs.NewRows.{waiting_row};
 ghost use Rattle.fork_context.specs.inner.Closing.{never_row};
-ghost use Rattle.fork_context.specs.inner.RowExtras.{with_extras};
+ghost use Rattle.context_values.specs.RowExtras.{with_extras};
 ghost use Rattle.fork_context.specs.inner.ForkInside.{IsFork, accepts_end};
 ghost use Rattle.fork_rank.specs.KindView.{kind_of};
 ghost use Rattle.fork_context.specs.LeftView.{left_of};
 ghost use Rattle.fork_tree.specs.Ready.{IsReady, tried};
 ghost use Rattle.fork_context.specs.inner.Ready.{Starts, numbers_from};
 ghost use Rattle.fork_context.specs.inner.Stepped.{HasRoom};
-ghost use Rattle.fork_context.specs.ReplyView.{choice_of};
+ghost use Rattle.context_values.specs.ReplyView.{choice_of};
 ghost use Rattle.fork_context.specs.RowShown.{row_shown};
 ghost use Rattle.fork_context.specs.inner.RowShown.{ref_shown};
 
 use crate::challenges::{StoredAnswer, stored_answer};
 use crate::closing::closes_with;
-use crate::extras_table::ExtrasTable;
-use crate::offer::Offer;
-use crate::reply::{Choice, Numbers};
 use crate::row::RowView;
-use crate::row_extras::RowExtras;
+use context_values::{Choice, ExtrasTable, Numbers, Offer, RowExtras};
 use fork_rank::{Challenge, Kind, Rules};
 use fork_tree::{End, ForkTree, NewRows, RowRef, State};
 use std::alloc::{AllocError, Allocator, Global};
@@ -47,7 +44,7 @@ pub(crate) struct Fork<A: Allocator + Clone = Global> {
 
 impl<A: Allocator + Clone> Model for Fork<A> {
     ghost use Rattle.fork_model.specs.Table as spec;
-    ghost use Rattle.fork_context.specs.inner.RowExtras.{with_extras};
+    ghost use Rattle.context_values.specs.RowExtras.{with_extras};
     ghost use Rattle.fork_context.specs.inner.ForkInside.{IsFork};
     ghost use Rattle.fork_rank.specs.KindView.{kind_of};
 

@@ -4,11 +4,10 @@ ghost use Rattle.std.specs.List.{filter_map};
 ghost use Rattle.fork_model.specs.Groups as groups;
 ghost use Rattle.fork_model.specs.Table.{most_targets};
 ghost use Rattle.fork_tree.specs.NewRows.{new_rows_of};
-ghost use Rattle.fork_context.specs.inner.RowExtras.{q_at, q_of_pair, contact_qs, row_extras_of, row_extras_at, with_row_extras_at};
+ghost use Rattle.context_values.specs.RowExtras.{q_at, q_of_pair, contact_qs, row_extras_of, row_extras_at, with_row_extras_at};
 
 use crate::contacts::Fresh;
-use crate::numbering::numbered;
-use crate::row_extras::RowExtras;
+use context_values::{RowExtras, numbered};
 use fork_tree::NewRows;
 use std::alloc::{AllocError, Allocator};
 
@@ -58,12 +57,7 @@ pub(crate) fn row_extras_of<A: Allocator + Clone>(
 ) -> Result<RowExtras<A>, AllocError>
     ensures { IfOk result (λ row_extras. row_extras ≡ row_extras_of contact.now) }
 {
-    Ok(RowExtras {
-        key: contact.key().to_vec(alloc.clone()?)?,
-        place: contact.place(),
-        left: Vec::new(alloc.clone()?),
-        challenges: Vec::new(alloc.clone()?),
-    })
+    RowExtras::new(alloc, contact.key(), contact.place())
 }
 
 /// Adds the extras of the row of the contact at this place, if there is one.

@@ -10,12 +10,9 @@ ghost use Rattle.fork_rank.specs.KindView.{kind_of};
 ghost use Rattle.fork_context.specs.inner.Opening.{extras_of_target, target_extras, waiting_table};
 ghost use Rattle.fork_context.specs.Refusals.{HasTwice};
 
-use crate::event::Target;
-use crate::extras_table::ExtrasTable;
 use crate::fork::Fork;
 use crate::new_rows::qs_at;
-use crate::numbering::numbered;
-use crate::row_extras::RowExtras;
+use context_values::{ExtrasTable, RowExtras, Target, numbered};
 use fork_rank::{Kind, Rules};
 use fork_tree::ForkTree;
 use std::alloc::{AllocError, Allocator};
@@ -57,12 +54,7 @@ fn extras_of_target<A: Allocator + Clone>(
 ) -> Result<RowExtras<A>, AllocError>
     ensures { IfOk result (λ row_extras. row_extras ≡ extras_of_target place target.now) }
 {
-    Ok(RowExtras {
-        key: target.key().to_vec(alloc.clone()?)?,
-        place: place as usize,
-        left: Vec::new(alloc.clone()?),
-        challenges: Vec::new(alloc.clone()?),
-    })
+    RowExtras::new(alloc, target.key(), place as usize)
 }
 
 /// Adds the extras of the row of the target at this place, if there is one.

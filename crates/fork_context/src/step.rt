@@ -4,14 +4,13 @@ ghost use Rattle.fork_model.specs.Step.{next};
 ghost use Rattle.fork_model.specs.Reply.{provisional, success, success_goes_up, IsReply};
 ghost use Rattle.fork_model.specs.Series.{IsInSeries};
 ghost use Rattle.fork_context.specs.Closing.{IsClosedWhole};
-ghost use Rattle.fork_context.specs.EventView.{event_of};
-ghost use Rattle.fork_context.specs.ReplyView.{up_of};
+ghost use Rattle.context_values.specs.EventView.{event_of};
+ghost use Rattle.context_values.specs.ReplyView.{up_of};
 ghost use Rattle.fork_context.specs.inner.Stepped.{IsStepped, IsUpOf};
 
 use crate::effect::Change;
-use crate::event::Event;
 use crate::fork::Fork;
-use crate::reply::{Numbers, Reply, Up};
+use context_values::{Event, Numbers, Reply, Up};
 use fork_rank::Kind;
 use std::alloc::{AllocError, Allocator};
 
@@ -36,13 +35,9 @@ impl<A: Allocator + Clone> Fork<A> {
         let provisional = self.provisional(event);
         let success = self.success(event);
         let was_finished = self.finished();
-        let Numbers { started, cancelled } = self.change(alloc, event, at)?;
-        Ok(Reply {
-            at,
-            started,
-            cancelled,
-            up: self.up(provisional, success, was_finished),
-        })
+        let numbers = self.change(alloc, event, at)?;
+        let up = self.up(provisional, success, was_finished);
+        Ok(Reply::new(at, numbers, up))
     }
 
     /// Changes the table by the event; the rows that are tried and cancelled since.

@@ -3,9 +3,8 @@ ghost use Rattle.std.specs.Prelude.{◌≡◌, ◌<◌, ◌++◌, ◌∷◌, [],
 ghost use Rattle.fork_model.specs.Table.{most_targets};
 ghost use Rattle.fork_model.specs.Contacts.{is_known, keys_of};
 
-use crate::extras_table::ExtrasTable;
 use crate::fork::Fork;
-use crate::row_extras::RowExtras;
+use context_values::{ExtrasTable, RowExtras};
 use fork_rank::MOST_TARGETS;
 use std::alloc::{AllocError, Allocator};
 use std::marker::Model;

@@ -1,6 +1,6 @@
 //! A script with workers: what is forked, by which rules and to which targets, and what each worker has happen then.
 ghost use Rattle.std.specs.Prelude.{◌≡◌, ◌<◌, ◌^◌, ◌+◌, ◌∷◌, ◌++◌, [], Ok, IfOk, IfErr, map, length};
-ghost use Rattle.fork_context.specs.EventView.{event_of};
+ghost use Rattle.context_values.specs.EventView.{event_of};
 ghost use Rattle.fork_drive.specs.Workers as spec;
 ghost use Rattle.fork_drive.specs.Spelling.{Spells};
 ghost use Rattle.fork_drive.specs.inner.Reading.{is_at_work, with_worker, drafted, no_draft, finished_draft, read_workers};
@@ -30,7 +30,7 @@ pub(crate) struct Workers {
 impl Model for Workers {
     ghost use Rattle.std.specs.Prelude.{map};
     ghost use Rattle.fork_rank.specs.KindView.{kind_of};
-    ghost use Rattle.fork_context.specs.EventView.{event_of};
+    ghost use Rattle.context_values.specs.EventView.{event_of};
     ghost use Rattle.fork_drive.specs.Workers as spec;
     ghost use Rattle.fork_drive.specs.inner.Workers.{AreFew};
 
@@ -86,7 +86,7 @@ struct WorkersDraft {
 
 impl Model for WorkersDraft {
     ghost use Rattle.std.specs.Prelude.{◌<◌, map, length};
-    ghost use Rattle.fork_context.specs.EventView.{event_of};
+    ghost use Rattle.context_values.specs.EventView.{event_of};
     ghost use Rattle.fork_drive.specs.Workers.{most_workers};
     ghost use Rattle.fork_drive.specs.inner.Reading as spec;
 

@@ -1,6 +1,6 @@
 //! The comparison of a history with the scripts that were given.
 ghost use Rattle.std.specs.Prelude.{◌≡◌, ◌↔◌, ◌<◌, ◌+◌, ◌^◌, IsTrue, All, map, length, sum_by};
-ghost use Rattle.fork_context.specs.EventView.{event_of};
+ghost use Rattle.context_values.specs.EventView.{event_of};
 ghost use Rattle.fork_mixing.specs.Interleaving.{part_of, ArePartsFrom, IsInterleaving};
 
 use crate::same::is_same_event;

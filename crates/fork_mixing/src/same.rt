@@ -1,6 +1,6 @@
 //! Equality of what events hold. Each is wanted in the crate of its type, beside `copy`.
 ghost use Rattle.std.specs.Prelude.{◌≡◌, ◌↔◌, IsTrue};
-ghost use Rattle.fork_context.specs.EventView.{event_of};
+ghost use Rattle.context_values.specs.EventView.{event_of};
 
 use fork_context::{Answer, Event, Offer, Target};
 use fork_rank::Challenge;

@@ -8,7 +8,7 @@ pub use Rattle.std.specs.Io.KnownBytes.{Consumes}
 pub use Rattle.std.specs.List.{AllByRecursion, flat_map, slice_split}
 pub use Rattle.std.specs.Option.{option_map}
 pub use Rattle.std.proofs.lemmas.Grind.{common_steps}
-pub use Rattle.fork_context.specs.EventView.{event_of}
+pub use Rattle.context_values.specs.EventView.{event_of}
 pub use Rattle.fork_rank.specs.KindView.{kind_of}
 pub use Rattle.fork_listing.specs.Listed.{IsListingOf, targets_of}
 pub use Rattle.fork_listing.specs.Meaning.{RightTellsTheChoice, TheChoiceIsFirst}

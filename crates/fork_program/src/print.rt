@@ -5,7 +5,7 @@ ghost use Rattle.fork_model.specs.Table.{is_ended, is_trying, is_row};
 ghost use Rattle.fork_model.specs.Choice as spec_choice;
 ghost use Rattle.fork_model.specs.Challenges.{challenge_list};
 ghost use Rattle.fork_model.specs.Chosen.{IsChosen};
-ghost use Rattle.fork_context.specs.ReplyView.{choice_of, up_of};
+ghost use Rattle.context_values.specs.ReplyView.{choice_of, up_of};
 ghost use Rattle.fork_program.specs.Replay.{tried, opening_text, final_text, up_text, reply_text, branches_left, field_name, added_text, added_lines, EndsWith};
 ghost use Rattle.fork_text.specs.RuleLines.{ended};
 

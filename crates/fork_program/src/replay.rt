@@ -1,6 +1,6 @@
 //! Replaying a script: the program's text for the replies of a fork.
 ghost use Rattle.std.specs.Prelude.{◌≡◌, ◌<◌, ◌↔◌, length, map, OnOk, OnErr, IfOk, IfErr, IsErrOf};
-ghost use Rattle.fork_context.specs.EventView.{event_of};
+ghost use Rattle.context_values.specs.EventView.{event_of};
 ghost use Rattle.fork_program.specs.inner.Replay.{AddsOutcome, AddsOutcomes};
 ghost use Rattle.fork_program.specs.Script.{Script};
 ghost use Rattle.fork_program.specs.Faults.{most_text, IsFault, IsForkReplay, AppendsReplay};

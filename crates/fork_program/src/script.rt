@@ -1,7 +1,7 @@
 //! A whole script: what is forked, by which rules and to which targets, and what happens then.
 ghost use Rattle.std.specs.Prelude.{◌≡◌, ◌≤◌, ◌<◌, ◌^◌, ◌++◌, ◌∷◌, [], length, false, Ok, OnOk, OnErr, IfOk, IfErr, Some, None, if◌then◌else◌};
 ghost use Rattle.fork_rank.specs.KindView.{kind_of};
-ghost use Rattle.fork_context.specs.EventView.{event_of};
+ghost use Rattle.context_values.specs.EventView.{event_of};
 ghost use Rattle.fork_program.specs.Script.{phase_after, with_contact, with_challenge, answer_changed, last_changed, with_line, no_script, no_draft, drafted, has_kind, finished_draft, read_script};
 ghost use Rattle.fork_text.specs.Field.{most_q};
 ghost use Rattle.fork_program.specs.Line.{bare, IsLine};
@@ -105,7 +105,7 @@ pub struct Script<A: Allocator> {
 impl<A: Allocator> Model for Script<A> {
     ghost use Rattle.std.specs.Prelude.{map};
     ghost use Rattle.fork_rank.specs.KindView.{kind_of};
-    ghost use Rattle.fork_context.specs.EventView.{event_of};
+    ghost use Rattle.context_values.specs.EventView.{event_of};
     ghost use Rattle.fork_program.specs.Script as spec;
 
     ghost Value = { spec.Script };

@@ -4,7 +4,7 @@ use Rattle.fork_model.specs.Table.{Row, most_targets, is_succeeded}
 use Rattle.fork_tree.specs.Tree.{plain_row}
 use Rattle.fork_tree.specs.declared.row.End.{End}
 use Rattle.fork_tree.specs.declared.row.End.TheVariants as end
-use Rattle.fork_context.specs.inner.RowExtras.{RowExtras}
+use Rattle.context_values.specs.RowExtras.{RowExtras}
 
 pub record IsFork (rows : List Row) (extras : List RowExtras) (succeeded : Bool) : Type 0 where
   pub is_plain : map plain_row rows ≡ rows

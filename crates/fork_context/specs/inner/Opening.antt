@@ -3,7 +3,7 @@ use Rattle.std.specs.Prelude.{ℕ, false, List, [], Option, map, slice_get}
 use Rattle.std.specs.Option.{option_map}
 use Rattle.fork_model.specs.Table.{Kind, Rules, Row, Table, Idle}
 use Rattle.fork_model.specs.History.{Target, opening_rows}
-use Rattle.fork_context.specs.inner.RowExtras.{RowExtras}
+use Rattle.context_values.specs.RowExtras.{RowExtras}
 
 abbrev pub idled : Row → Row
 idled row = record row { state = Idle }

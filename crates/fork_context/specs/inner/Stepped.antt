@@ -9,7 +9,7 @@ use Rattle.fork_model.specs.Reply.{Up, Nothing, Provisional, Success, Final, bec
 use Rattle.fork_context.specs.Closing.{closed_row}
 use Rattle.fork_context.specs.inner.Closing.{gets_cancel}
 use Rattle.fork_context.specs.inner.Ready.{Starts}
-use Rattle.fork_context.specs.declared.reply.Numbers.{Numbers}
+use Rattle.context_values.specs.declared.reply.Numbers.{Numbers}
 
 -- the table after the event, the rows tried since, and those cancelled since
 pub record IsStepped (t : Table) (event : Event) (at : ℕ) (after : Table) (begun ended : List ℕ) : Type 0 where

@@ -1,6 +1,6 @@
 use Rattle.std.proofs.Common.{◌≡◌, ◌∙◌, List, map, ap, sym, subst}
 use Rattle.fork_model.specs.History.{Target, opening}
-use Rattle.fork_context.specs.EventView.{event_of}
+use Rattle.context_values.specs.EventView.{event_of}
 use Rattle.fork_rank.specs.KindView.{kind_of}
 use Rattle.fork_program.specs.declared.fault.ProgFault.{ProgFault}
 use Rattle.fork_drive.specs.Workers.{Workers}

@@ -1,7 +1,7 @@
 use Rattle.std.proofs.Common.{◌≡◌, ◌∙◌, subst, map, IfOk, IfErr}
 use Rattle.fork_model.specs.History.{opening}
 use Rattle.fork_rank.specs.KindView.{kind_of}
-use Rattle.fork_context.specs.EventView.{event_of}
+use Rattle.context_values.specs.EventView.{event_of}
 use Rattle.fork_mixing.specs.Interleaving.{IsInterleaving}
 use Rattle.fork_engine.specs.Faults.{IsTrueFault}
 use Rattle.fork_mixing.specs.Plain.{EndsWithLeast}

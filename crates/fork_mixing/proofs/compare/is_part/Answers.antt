@@ -1,5 +1,5 @@
 use Rattle.std.proofs.Common.{◌≡◌, sym, ◌∙◌, map}
-use Rattle.fork_context.specs.EventView.{event_of}
+use Rattle.context_values.specs.EventView.{event_of}
 use Rattle.fork_mixing.proofs.Steps.{part_step, part_other}
 use Rattle.fork_mixing.proofs.compare.is_part.Goals as goal
 

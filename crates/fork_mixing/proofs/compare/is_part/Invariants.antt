@@ -1,5 +1,5 @@
 use Rattle.std.proofs.Common.{◌≡◌, ◌↔◌, map, length}
-use Rattle.fork_context.specs.EventView.{event_of}
+use Rattle.context_values.specs.EventView.{event_of}
 use Rattle.fork_mixing.specs.Interleaving.{part_of}
 use Rattle.fork_mixing.proofs.compare.is_part.Given as goal
 

@@ -1,5 +1,5 @@
 use Rattle.fork_book.proofs.Common.{◌≡◌, ◌∙◌, ap, List, [], ◌∷◌, ◌++◌, core_next, Reply, IsReply, Posted}
-use Rattle.fork_context.specs.EventView.{event_of}
+use Rattle.context_values.specs.EventView.{event_of}
 use Rattle.fork_book.proofs.Books.{book_posted, added_posted}
 use Rattle.fork_book.proofs.book.Book.post.Given as given
 use Rattle.fork_book.proofs.book.Book.post.Goals as goal

@@ -1,0 +1,4 @@
+pub mod Common
+pub mod laws
+pub mod ByKeySteps
+pub mod GroupSteps

@@ -1,0 +1,8 @@
+use Rattle.context_values.proofs.Common.{rules}
+use Rattle.context_values.proofs.event.Event.copy.Goals as goal
+
+pub returns-in_err-copy-in-Answer : goal.returns-in_err-copy-in-Answer
+returns-in_err-copy-in-Answer g c = search rules
+
+pub returns : goal.returns
+returns g c = search rules

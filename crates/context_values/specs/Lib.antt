@@ -1,0 +1,4 @@
+pub mod EventView
+pub mod ReplyView
+pub mod RowExtras
+pub mod inner

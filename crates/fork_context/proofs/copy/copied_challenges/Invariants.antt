@@ -1,5 +1,0 @@
-use Rattle.fork_context.proofs.Common.{◌≡◌, take}
-use Rattle.fork_context.proofs.copy.copied_challenges.Given as goal
-
-abbrev pub invariant-loop-challenge : goal.invariant-loop-challenge
-invariant-loop-challenge g l = l.copies.items ≡ take l.challenge-index l.challenges

@@ -1,5 +1,0 @@
-use Rattle.fork_context.proofs.Common.{◌≡◌, take}
-use Rattle.fork_context.proofs.copy.copied_offers.Given as goal
-
-abbrev pub invariant-loop-offer : goal.invariant-loop-offer
-invariant-loop-offer g l = l.copies.items ≡ take l.offer-index l.offers

@@ -1,8 +1,0 @@
-use Rattle.fork_context.proofs.Common.{rules}
-use Rattle.fork_context.proofs.event.Answer.push_challenge.Goals as goal
-
-pub returns-clause-ok : goal.returns-clause-ok
-returns-clause-ok g c = search rules
-
-pub returns-clause-err : goal.returns-clause-err
-returns-clause-err g c = search rules

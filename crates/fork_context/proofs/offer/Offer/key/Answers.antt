@@ -1,8 +1,0 @@
-use Rattle.fork_context.proofs.Common.{rules}
-use Rattle.fork_context.proofs.offer.Offer.key.Goals as goal
-
-pub returns-in-Some : goal.returns-in-Some
-returns-in-Some g c = search rules
-
-pub returns-in-None : goal.returns-in-None
-returns-in-None g c = search rules
