@@ -1,4 +1,4 @@
--- What each step leaves of the failures that branches keep.
+-- What each step leaves of the failures that branches keep, and where a new one comes from.
 use Rattle.call_model.proofs.Common.{◌≡◌, ◌∙◌, ◌⊎◌, ℕ, zero, suc, ap, refl, sym, subst, inl, inr, true, false, Bool, List, [], ◌∷◌, ◌++◌, map, length, Option, Some, None, slice_get, ◌↔◌, IsTrue, cond, nat_lt, unwrap_or, option_map}
 use Rattle.call_model.proofs.Common.{and_parts, cond-false, cond-true, Event, FinalAnswer, Reply, HasStored, StoredAnswersCame, RowsKeepTheirNumbers, Effect, answers, change_at, closed_state, effect, next, settled, settled_row, with_effect}
 use Rattle.call_model.proofs.Common.{with_state, Kind, Row, State, StoredAnswer, Table, is_open, is_row, stored_of, may_start, HasFirst, Log, added, event_posted, events_of, table_of, MessageText, ContactText, Hop, TxEvent}
@@ -17,11 +17,12 @@ use Rattle.sip_txn.specs.declared.timers.Input.TheVariants as input
 use Rattle.sip_txn.specs.declared.invite_client.InviteClientState.TheVariants as invite
 use Rattle.sip_txn.specs.declared.other_client.OtherClientState.TheVariants as other
 use Rattle.call_model.specs.declared.cause.Cause.TheVariants as cause
-use Rattle.call_model.specs.Behind.{BegunKeepsAnswers, KeepsAnswers, KeepsEvent, StepsKeepAnswers}
+use Rattle.call_model.specs.Behind.{BegunKeepsAnswers, ComesFirst, FirstsStayOrCome, KeepsEvent, StaysFirst, StepsKeepAnswers}
 use Rattle.call_model.specs.Due as due
 use Rattle.call_model.specs.Pump.{Idle}
 use Rattle.call_model.specs.Server.{Trying}
 use Rattle.call_model.specs.Step as step
+use Rattle.call_model.specs.Step.{Turn}
 use Rattle.call_model.specs.Take as to
 use Rattle.call_model.proofs.FirstStays.{first_before}
 use Rattle.call_model.proofs.SoundTables.{table_added}
@@ -81,76 +82,95 @@ base_of call = (call.fixed, call.log)
 abbrev said_by : (n : ℕ) → MessageText → Fixed → Option Event
 said_by n m fixed = Some (event_by fixed.is_responsible n (status_of m) m)
 
-kept_same : (call new : Call) → base_of new ≡ base_of call → SameAnswers call new → KeepsAnswers call → KeepsAnswers new
-kept_same call new b same kept n stored has came first =
-    let f : new.fixed ≡ call.fixed = ap (λ (base : Fixed × Log). base.0) b in
+-- a branch that is first with an answer that came was so before
+abbrev pub FirstsStay : Call → Call → Type 0
+FirstsStay call new =
+    (n : ℕ) (stored : StoredAnswer) → HasStored (table_of new.log) n stored → stored.received ≡ true → HasFirst (table_of new.log) n → StaysFirst call new n stored
+
+kept_same : (call new : Call) → base_of new ≡ base_of call → SameAnswers call new → FirstsStay call new
+kept_same call new b same n stored has came first =
     let e : new.log ≡ call.log = ap (λ (base : Fixed × Log). base.1) b in
     let H : Log → Type 0 = λ l. HasStored (table_of l) n stored in
     let F : Log → Type 0 = λ l. HasFirst (table_of l) n in
-    let old = kept n stored (subst H e has) came (subst F e first) in
-    (old.0, same n ∙ old.1, ap (λ (l : Log). slice_get (events_of l.history) stored.arrival) e ∙ old.2 ∙ ap (said_by n old.0) (sym f))
+    record {
+      has = subst H e has;
+      first = subst F e first;
+      kept = same n;
+      fixed = ap (λ (base : Fixed × Log). base.0) b;
+      events = λ event there. ap (λ (l : Log). slice_get (events_of l.history) stored.arrival) e ∙ there;
+    }
 
-kept_as : (call new x : Call) → new ≡ x → base_of x ≡ base_of call → SameAnswers call x → KeepsAnswers call → KeepsAnswers new
-kept_as call new x e b same kept =
-    let P : Call → Type 0 = λ c. KeepsAnswers c in
-    subst P (sym e) (kept_same call x b same kept)
+kept_as : (call new x : Call) → new ≡ x → base_of x ≡ base_of call → SameAnswers call x → FirstsStay call new
+kept_as call new x e b same =
+    let P : Call → Type 0 = λ c. FirstsStay call c in
+    subst P (sym e) (kept_same call x b same)
 
 -- ---- with an event
 
 module _ (stores : EventsStoreAnswers) (goes_on : BranchesGoOn) (grows : RowsKeepTheirNumbers) where
-  -- an answer that came, is first and that the event may store was stored before, or is kept now
-  abbrev pub StoresAs : Call → Event → Call → Type 0
-  StoresAs call ev new =
+  -- an answer that came, is first and that the event may store was stored before, or comes now
+  abbrev pub StoresAs : (ℕ → StoredAnswer → Type 0) → Call → Event → Call → Type 0
+  StoresAs Comes call ev new =
       (n : ℕ) (stored : StoredAnswer) → HasStored (next (table_of call.log) ev (length call.log.history)) n stored → IsStoredBy ev (length call.log.history) n stored
-      → stored.received ≡ true → HasFirst (table_of new.log) n → HasStored (table_of call.log) n stored ⊎ KeepsEvent new n stored.arrival
+      → stored.received ≡ true → HasFirst (table_of new.log) n → HasStored (table_of call.log) n stored ⊎ Comes n stored
 
-  posted : (call mid new : Call) (ev : Event) (contacts : List ContactText) (response : Option MessageText) (reply : Reply)
+  posted : (Comes : ℕ → StoredAnswer → Type 0) (call mid new : Call) (ev : Event) (contacts : List ContactText) (response : Option MessageText) (reply : Reply)
       → base_of mid ≡ base_of call
       → ((n : ℕ) (stored : StoredAnswer) → HasStored (table_of call.log) n stored → answer_in (leg_at mid n) ≡ answer_in (leg_at call n))
       → Posts mid ev contacts response reply new
-      → StoresAs call ev new
-      → KeepsAnswers call → KeepsAnswers new
-  posted call mid new ev contacts response reply b same posts by kept n stored has came leads =
-      let l : mid.log ≡ call.log = ap (λ (base : Fixed × Log). base.1) b in
-      let log : new.log ≡ added call.log call_tag ev reply = ap (λ (x : Call). x.log) posts.follows ∙ ap (λ (x : Log). added x call_tag ev reply) l in
-      let goes : table_of new.log ≡ next (table_of call.log) ev (length call.log.history) = ap table_of log ∙ table_added call.log call_tag ev reply in
+      → StoresAs Comes call ev new
+      → (n : ℕ) (stored : StoredAnswer) → HasStored (table_of new.log) n stored → stored.received ≡ true → HasFirst (table_of new.log) n
+      → StaysFirst call new n stored ⊎ Comes n stored
+  posted Comes call mid new ev contacts response reply b same posts by n stored has came leads =
       let T : Table → Type 0 = λ t. HasStored t n stored in
       let now : HasStored (next (table_of call.log) ev (length call.log.history)) n stored = subst T goes has in
       by_source now (stores (table_of call.log) ev (length call.log.history) n stored now)
     where
-      at_last : HasStored (table_of call.log) n stored ⊎ KeepsEvent new n stored.arrival → KeepsEvent new n stored.arrival
-      at_last (inr keeps) = keeps
-      at_last (inl old) =
-          let f : new.fixed ≡ call.fixed = ap (λ (x : Call). x.fixed) posts.follows ∙ ap (λ (base : Fixed × Log). base.0) b in
-          let l : mid.log ≡ call.log = ap (λ (base : Fixed × Log). base.1) b in
-          let log : new.log ≡ added call.log call_tag ev reply = ap (λ (x : Call). x.log) posts.follows ∙ ap (λ (x : Log). added x call_tag ev reply) l in
-          let goes : table_of new.log ≡ next (table_of call.log) ev (length call.log.history) = ap table_of log ∙ table_added call.log call_tag ev reply in
+      log : new.log ≡ added call.log call_tag ev reply
+      log = ap (λ (x : Call). x.log) posts.follows ∙ ap (λ (base : Fixed × Log). added base.1 call_tag ev reply) b
+
+      goes : table_of new.log ≡ next (table_of call.log) ev (length call.log.history)
+      goes = ap table_of log ∙ table_added call.log call_tag ev reply
+
+      stays : HasStored (table_of call.log) n stored → StaysFirst call new n stored
+      stays old =
           let F : Table → Type 0 = λ t. HasFirst t n in
-          let led : HasFirst (table_of call.log) n =
-          first_before (table_of call.log) (next (table_of call.log) ev (length call.log.history)) (goes_on (table_of call.log) ev (length call.log.history))
-          (grows (table_of call.log) ev (length call.log.history)).rules n stored old (subst F goes leads) in
-          let before = kept n stored old came led in
-          let legs : answer_in (leg_at new n) ≡ answer_in (leg_at mid n) = ap (λ (x : Call). answer_in (leg_at x n)) posts.follows ∙ ap answer_in (leg_more mid.legs _ n) in (
-            before.0,
-            legs ∙ same n stored old ∙ before.1,
-            ap (λ (x : Log). slice_get (events_of x.history) stored.arrival) log
+          let legs : answer_in (leg_at new n) ≡ answer_in (leg_at mid n) = ap (λ (x : Call). answer_in (leg_at x n)) posts.follows ∙ ap answer_in (leg_more mid.legs _ n) in
+          record {
+            has = old;
+            first = first_before (table_of call.log) (next (table_of call.log) ev (length call.log.history)) (goes_on (table_of call.log) ev (length call.log.history))
+                (grows (table_of call.log) ev (length call.log.history)).rules n stored old (subst F goes leads);
+            kept = legs ∙ same n stored old;
+            fixed = ap (λ (x : Call). x.fixed) posts.follows ∙ ap (λ (base : Fixed × Log). base.0) b;
+            events = λ event there.
+                ap (λ (x : Log). slice_get (events_of x.history) stored.arrival) log
                 ∙ ap (λ (es : List Event). slice_get es stored.arrival) (events_added call.log.history (record { tag = call_tag; event = ev }))
-                ∙ more_there (events_of call.log.history) _ stored.arrival _ before.2
-                ∙ ap (said_by n before.0) (sym f),
-          )
+                ∙ more_there (events_of call.log.history) _ stored.arrival event there;
+          }
+
+      at_last : HasStored (table_of call.log) n stored ⊎ Comes n stored → StaysFirst call new n stored ⊎ Comes n stored
+      at_last (inr comes) = inr comes
+      at_last (inl old) = inl (stays old)
 
       by_source : HasStored (next (table_of call.log) ev (length call.log.history)) n stored → HasStored (table_of call.log) n stored ⊎ IsStoredBy ev (length call.log.history) n stored
-          → KeepsEvent new n stored.arrival
-      by_source now (inl old) = at_last (inl old)
+          → StaysFirst call new n stored ⊎ Comes n stored
+      by_source now (inl old) = inl (stays old)
       by_source now (inr is) = at_last (by n stored now is came leads)
+
+  abbrev Never : ℕ → StoredAnswer → Type 0
+  Never n stored = ⊥
 
   -- an event that is no response stores nothing that came
   assumed : (call mid new : Call) (ev : Event) (contacts : List ContactText) (response : Option MessageText) (reply : Reply)
       → base_of mid ≡ base_of call → SameAnswers call mid
       → ((at n : ℕ) (stored : StoredAnswer) → IsStoredBy ev at n stored → stored.received ≡ true → ⊥)
-      → Posts mid ev contacts response reply new → KeepsAnswers call → KeepsAnswers new
-  assumed call mid new ev contacts response reply b same never posts kept =
-      posted call mid new ev contacts response reply b (λ n stored has. same n) posts (λ n stored has is came leads. absurd (never _ n stored is came)) kept
+      → Posts mid ev contacts response reply new → FirstsStay call new
+  assumed call mid new ev contacts response reply b same never posts n stored has came first =
+      only (posted Never call mid new ev contacts response reply b (λ k s h. same k) posts (λ k s h is received leads. absurd (never _ k s is received)) n stored has came first)
+    where
+      only : StaysFirst call new n stored ⊎ Never n stored → StaysFirst call new n stored
+      only (inl stays) = stays
+      only (inr never_so) = absurd never_so
 
   no_timeout : (k at n : ℕ) (stored : StoredAnswer) → IsStoredBy (fork.Timeout k) at n stored → stored.received ≡ true → ⊥
   no_timeout k at n stored by came = let e : false ≡ true = sym by.1.received ∙ came in absurd cc
@@ -163,52 +183,52 @@ module _ (stores : EventsStoreAnswers) (goes_on : BranchesGoOn) (grows : RowsKee
 
   -- ---- a deed of the pump
 
-  answered : (call : Call) (now : ℕ) (rest : List Owed) (m : MessageText) (b : Bool) (p : Pumped) (new : Call) → AnswersBy call now rest m b p new → KeepsAnswers call → KeepsAnswers new
-  answered call now rest m true p new (out, e) kept = kept_as call new _ e refl (λ k. refl) kept
-  answered call now rest m false p new (out, e) kept = kept_as call new _ e refl (λ k. refl) kept
+  answered : (call : Call) (now : ℕ) (rest : List Owed) (m : MessageText) (b : Bool) (p : Pumped) (new : Call) → AnswersBy call now rest m b p new → FirstsStay call new
+  answered call now rest m true p new (out, e) = kept_as call new _ e refl (λ k. refl)
+  answered call now rest m false p new (out, e) = kept_as call new _ e refl (λ k. refl)
 
-  answered_with : (call : Call) (now : ℕ) (rest : List Owed) (o : Option MessageText) (p : Pumped) (new : Call) → AnswersWith call now rest o p new → KeepsAnswers call → KeepsAnswers new
-  answered_with call now rest None p new h kept = absurd h
-  answered_with call now rest (Some m) p new h kept = answered call now rest m _ p new h kept
+  answered_with : (call : Call) (now : ℕ) (rest : List Owed) (o : Option MessageText) (p : Pumped) (new : Call) → AnswersWith call now rest o p new → FirstsStay call new
+  answered_with call now rest None p new h = absurd h
+  answered_with call now rest (Some m) p new h = answered call now rest m _ p new h
 
-  paid : (call : Call) (now : ℕ) (owed : List Owed) (p : Pumped) (new : Call) → SendsAnswer call now owed p new → KeepsAnswers call → KeepsAnswers new
-  paid call now [] p new h kept = absurd h
-  paid call now (Again ∷ rest) p new (out, e) kept = kept_as call new _ e refl (λ k. refl) kept
-  paid call now (CancelOk cancel hop ∷ rest) p new (out, e) kept = kept_as call new _ e refl (λ k. refl) kept
-  paid call now (Trying ∷ rest) p new h kept = answered_with call now rest (answer_of call Trying) p new h kept
-  paid call now (Passed m ∷ rest) p new h kept = answered_with call now rest (answer_of call (Passed m)) p new h kept
-  paid call now (Final choice ∷ rest) p new h kept = answered_with call now rest (answer_of call (Final choice)) p new h kept
+  paid : (call : Call) (now : ℕ) (owed : List Owed) (p : Pumped) (new : Call) → SendsAnswer call now owed p new → FirstsStay call new
+  paid call now [] p new h = absurd h
+  paid call now (Again ∷ rest) p new (out, e) = kept_as call new _ e refl (λ k. refl)
+  paid call now (CancelOk cancel hop ∷ rest) p new (out, e) = kept_as call new _ e refl (λ k. refl)
+  paid call now (Trying ∷ rest) p new h = answered_with call now rest (answer_of call Trying) p new h
+  paid call now (Passed m ∷ rest) p new h = answered_with call now rest (answer_of call (Passed m)) p new h
+  paid call now (Final choice ∷ rest) p new h = answered_with call now rest (answer_of call (Final choice)) p new h
 
-  ticked : (call : Call) (now n : ℕ) (way : Way) (leg : Leg) (b : Bool) (p : Pumped) (new : Call) → leg_at call n ≡ Some leg → TicksClientBy call now n way leg b p new → KeepsAnswers call → KeepsAnswers new
-  ticked call now n way leg true p new there (out, reply, posts) kept = assumed call _ new _ _ _ reply refl (same_leg call n leg _ there refl) (no_timeout n) posts kept
-  ticked call now n way leg false p new there (out, e) kept = kept_as call new _ e refl (same_leg call n leg _ there refl) kept
+  ticked : (call : Call) (now n : ℕ) (way : Way) (leg : Leg) (b : Bool) (p : Pumped) (new : Call) → leg_at call n ≡ Some leg → TicksClientBy call now n way leg b p new → FirstsStay call new
+  ticked call now n way leg true p new there (out, reply, posts) = assumed call _ new _ _ _ reply refl (same_leg call n leg _ there refl) (no_timeout n) posts
+  ticked call now n way leg false p new there (out, e) = kept_as call new _ e refl (same_leg call n leg _ there refl)
 
-  fired : (call : Call) (now n : ℕ) (leg : Leg) (b : Bool) (p : Pumped) (new : Call) → leg_at call n ≡ Some leg → FiresTimerC call now n leg b p new → KeepsAnswers call → KeepsAnswers new
-  fired call now n leg true p new there (out, reply, posts) kept = assumed call _ new _ _ _ reply refl (same_leg call n leg _ there refl) (no_timer_c n) posts kept
-  fired call now n leg false p new there (out, reply, posts) kept = assumed call call new _ _ _ reply refl (λ k. refl) (no_timer_c n) posts kept
+  fired : (call : Call) (now n : ℕ) (leg : Leg) (b : Bool) (p : Pumped) (new : Call) → leg_at call n ≡ Some leg → FiresTimerC call now n leg b p new → FirstsStay call new
+  fired call now n leg true p new there (out, reply, posts) = assumed call _ new _ _ _ reply refl (same_leg call n leg _ there refl) (no_timer_c n) posts
+  fired call now n leg false p new there (out, reply, posts) = assumed call call new _ _ _ reply refl (λ k. refl) (no_timer_c n) posts
 
   -- a branch that is sent its request keeps nothing before
   unsent : (o : Option Leg) → is_none o ≡ true → answer_in o ≡ None
   unsent None e = refl
   unsent (Some leg) e = absurd cc
 
-  done : (call : Call) (now : ℕ) (deed : Deed) (p : Pumped) (new : Call) → is_due_at call now deed ≡ true → Does call now deed p new → KeepsAnswers call → KeepsAnswers new
-  done call now (due.SendRequest n) p new is (way, goes, (out, e)) kept =
-      kept_as call new _ e refl (λ k. same_with call.legs n k _ (unsent (leg_at call n) (and_parts (row_passes table.is_trying call n) _ is).1)) kept
-  done call now (due.SendCancel n) p new is (way, leg, goes, there, (out, e)) kept = kept_as call new _ e refl (same_leg call n leg _ there refl) kept
-  done call now (due.SendAck n) p new is (way, leg, goes, there, (ack, owed, out, e)) kept = kept_as call new _ e refl (same_leg call n leg _ there refl) kept
-  done call now due.SendAnswer p new is h kept = paid call now call.server.owed p new h kept
-  done call now due.TickServer p new is (out, e) kept = kept_as call new _ e refl (λ k. refl) kept
-  done call now (due.TickClient n) p new is (way, leg, goes, there, h) kept = ticked call now n way leg _ p new there h kept
-  done call now (due.TickCancel n) p new is (way, leg, goes, there, (cancelling, has, out, e)) kept = kept_as call new _ e refl (same_leg call n leg _ there refl) kept
-  done call now (due.FireTimerC n) p new is (leg, there, h) kept = fired call now n leg _ p new there h kept
-  done call now (due.GiveUp n) p new is (leg, there, (out, reply, posts)) kept =
-      assumed call _ new _ _ _ reply refl (same_leg call n leg _ there refl) (λ at k stored by came. by) posts kept
+  done : (call : Call) (now : ℕ) (deed : Deed) (p : Pumped) (new : Call) → is_due_at call now deed ≡ true → Does call now deed p new → FirstsStay call new
+  done call now (due.SendRequest n) p new is (way, goes, (out, e)) =
+      kept_as call new _ e refl (λ k. same_with call.legs n k _ (unsent (leg_at call n) (and_parts (row_passes table.is_trying call n) _ is).1))
+  done call now (due.SendCancel n) p new is (way, leg, goes, there, (out, e)) = kept_as call new _ e refl (same_leg call n leg _ there refl)
+  done call now (due.SendAck n) p new is (way, leg, goes, there, (ack, owed, out, e)) = kept_as call new _ e refl (same_leg call n leg _ there refl)
+  done call now due.SendAnswer p new is h = paid call now call.server.owed p new h
+  done call now due.TickServer p new is (out, e) = kept_as call new _ e refl (λ k. refl)
+  done call now (due.TickClient n) p new is (way, leg, goes, there, h) = ticked call now n way leg _ p new there h
+  done call now (due.TickCancel n) p new is (way, leg, goes, there, (cancelling, has, out, e)) = kept_as call new _ e refl (same_leg call n leg _ there refl)
+  done call now (due.FireTimerC n) p new is (leg, there, h) = fired call now n leg _ p new there h
+  done call now (due.GiveUp n) p new is (leg, there, (out, reply, posts)) =
+      assumed call _ new _ _ _ reply refl (same_leg call n leg _ there refl) (λ at k stored by came. by) posts
 
-  pumped : (call : Call) (now : ℕ) (p : Pumped) (new : Call) → Pumps call now p new → KeepsAnswers call → KeepsAnswers new
-  pumped call now Idle new (idle, e) kept = kept_as call new call e refl (λ k. refl) kept
-  pumped call now (Send d) new (deed, is, h) kept = done call now deed (Send d) new is h kept
-  pumped call now Did new (deed, is, h) kept = done call now deed Did new is h kept
+  pumped : (call : Call) (now : ℕ) (p : Pumped) (new : Call) → Pumps call now p new → FirstsStay call new
+  pumped call now Idle new (idle, e) = kept_as call new call e refl (λ k. refl)
+  pumped call now (Send d) new (deed, is, h) = done call now deed (Send d) new is h
+  pumped call now Did new (deed, is, h) = done call now deed Did new is h
 
   -- ---- a response
 
@@ -323,7 +343,14 @@ module _ (stores : EventsStoreAnswers) (goes_on : BranchesGoOn) (grows : RowsKee
 
   module _ (call new : Call) (n : ℕ) (leg : Leg) (way : Way) (now : ℕ) (m : MessageText) (reply : Reply) (first : Bool) (leads : IsTrue first ↔ HasFirst (table_of new.log) n)
       (sound : IsSound call) (there : leg_at call n ≡ Some leg)
-      (passes : is_passed (client_out (response_event (status_of m)) now leg.client).pass ≡ true) (kept : KeepsAnswers call) where
+      (passes : is_passed (client_out (response_event (status_of m)) now leg.client).pass ≡ true) (source : Hop) (at : ℕ) (placed : reply.at ≡ at) where
+    -- the turn by which it comes
+    abbrev this_turn : Turn
+    this_turn = record { now = now; input = step.Take (to.Client n) m source; output = step.Took (to.Posted at) }
+
+    abbrev Comes : ℕ → StoredAnswer → Type 0
+    Comes k stored = ComesFirst this_turn new k stored
+
     abbrev posted_part : Leg
     posted_part = leg_posted first (leg_after call n leg way now m) now (status_of m) m
 
@@ -348,8 +375,8 @@ module _ (stores : EventsStoreAnswers) (goes_on : BranchesGoOn) (grows : RowsKee
 
     kept_here : (ev : Event) → Posts posted_mid ev (contacts_for call.fixed.is_responsible (status_of m) m) (to.going_up (status_of m) m) reply new → nat_lt (status_of m) 300 ≡ false
         → ev ≡ event_by call.fixed.is_responsible n (status_of m) m
-        → (k at : ℕ) → k ≡ n → at ≡ length call.log.history → HasFirst (table_of new.log) k → KeepsEvent new k at
-    kept_here ev posts e is k at k_is at_is led =
+        → (k : ℕ) (stored : StoredAnswer) → k ≡ n → stored.arrival ≡ length call.log.history → HasFirst (table_of new.log) k → Comes k stored
+    kept_here ev posts e is k stored k_is at_is led =
         let log : new.log ≡ added call.log call_tag ev reply = ap (λ (x : Call). x.log) posts.follows in
         let F : ℕ → Type 0 = λ i. HasFirst (table_of new.log) i in
         let part_is : posted_part.answer ≡ Some m = cond-false _ _ _ e ∙ cond-true _ _ _ (leads.1 (subst F k_is led)) in
@@ -359,6 +386,7 @@ module _ (stores : EventsStoreAnswers) (goes_on : BranchesGoOn) (grows : RowsKee
         let last : slice_get (events_of new.log.history) (length call.log.history) ≡ Some (event_by call.fixed.is_responsible n (status_of m) m) =
         ap (λ (l : Log). slice_get (events_of l.history) (length call.log.history)) log ∙ last_event call.log.history (record { tag = call_tag; event = ev }) ∙ ap (λ (x : Event). Some x) is in (
           m,
+          (source, ap (λ (i : ℕ). step.Take (to.Client i) m source) (sym k_is), ap (λ (i : ℕ). step.Took (to.Posted i)) (sym placed ∙ posts.reply_is.position ∙ sym at_is)),
           ap (λ (i : ℕ). answer_in (leg_at new i)) k_is ∙ legs,
           ap (λ (i : ℕ). slice_get (events_of new.log.history) i) at_is ∙ last ∙ ap (said_by n m) (sym f) ∙ ap (λ (i : ℕ). said_by i m new.fixed) (sym k_is),
         )
@@ -366,95 +394,121 @@ module _ (stores : EventsStoreAnswers) (goes_on : BranchesGoOn) (grows : RowsKee
     abbrev answer_by : FinalAnswer
     answer_by = record { status = status_of m; offers = map offer_of (contacts_for call.fixed.is_responsible (status_of m) m); challenges = challenges_by (status_of m) m }
 
-    keeps_posted : Posts posted_mid (event_by call.fixed.is_responsible n (status_of m) m) (contacts_for call.fixed.is_responsible (status_of m) m) (to.going_up (status_of m) m) reply new → KeepsAnswers new
-    keeps_posted posts = by (nat_lt (status_of m) 200) refl
+    keeps_posted : Posts posted_mid (event_by call.fixed.is_responsible n (status_of m) m) (contacts_for call.fixed.is_responsible (status_of m) m) (to.going_up (status_of m) m) reply new
+        → (k : ℕ) (stored : StoredAnswer) → HasStored (table_of new.log) k stored → stored.received ≡ true → HasFirst (table_of new.log) k
+        → StaysFirst call new k stored ⊎ Comes k stored
+    keeps_posted posts k stored has received leads_now = by (nat_lt (status_of m) 200) refl
       where
         at_answer : (b : Bool) → nat_lt (status_of m) 300 ≡ b → fork.Answer n answer_by ≡ event_by call.fixed.is_responsible n (status_of m) m
             → Posts posted_mid (fork.Answer n answer_by) (contacts_for call.fixed.is_responsible (status_of m) m) (to.going_up (status_of m) m) reply new
-            → StoresAs call (fork.Answer n answer_by) new
-        at_answer true e is posts k stored has now came led =
-            let H : ℕ → Type 0 = λ i. HasStored (next (table_of call.log) (fork.Answer n answer_by) (length call.log.history)) i stored in
-            let B : ℕ → Type 0 = λ i. HasStored (table_of call.log) i stored in
-            inl (subst B (sym now.0) (accepted (table_of call.log) n (length call.log.history) answer_by stored e (subst H now.0 has)))
-        at_answer false e is posts k stored has now came led = inr (kept_here (fork.Answer n answer_by) posts e is k stored.arrival now.0 now.1.arrival led)
+            → StoresAs Comes call (fork.Answer n answer_by) new
+        at_answer true e is posts k s h now came led =
+            let H : ℕ → Type 0 = λ i. HasStored (next (table_of call.log) (fork.Answer n answer_by) (length call.log.history)) i s in
+            let B : ℕ → Type 0 = λ i. HasStored (table_of call.log) i s in
+            inl (subst B (sym now.0) (accepted (table_of call.log) n (length call.log.history) answer_by s e (subst H now.0 h)))
+        at_answer false e is posts k s h now came led = inr (kept_here (fork.Answer n answer_by) posts e is k s now.0 now.1.arrival led)
 
-        by : (b : Bool) → nat_lt (status_of m) 200 ≡ b → KeepsAnswers new
+        by : (b : Bool) → nat_lt (status_of m) 200 ≡ b → StaysFirst call new k stored ⊎ Comes k stored
         by true e =
             let is : event_by call.fixed.is_responsible n (status_of m) m ≡ fork.Ring n (status_of m) = cond-true _ _ _ e in
             let P : Event → Type 0 = λ v. Posts posted_mid v (contacts_for call.fixed.is_responsible (status_of m) m) (to.going_up (status_of m) m) reply new in
-            posted call posted_mid new (fork.Ring n (status_of m)) _ _ reply refl same_stored (subst P is posts) (λ k stored has now came led. absurd now) kept
+            posted Comes call posted_mid new (fork.Ring n (status_of m)) _ _ reply refl same_stored (subst P is posts) (λ i s h now came led. absurd now) k stored has received leads_now
         by false e =
             let is : event_by call.fixed.is_responsible n (status_of m) m ≡ fork.Answer n answer_by = cond-false _ _ _ e in
             let P : Event → Type 0 = λ v. Posts posted_mid v (contacts_for call.fixed.is_responsible (status_of m) m) (to.going_up (status_of m) m) reply new in
             let posts-2 = subst P is posts in
-            posted call posted_mid new (fork.Answer n answer_by) _ _ reply refl same_stored posts-2 (at_answer (nat_lt (status_of m) 300) refl (sym is) posts-2) kept
+            posted Comes call posted_mid new (fork.Answer n answer_by) _ _ reply refl same_stored posts-2 (at_answer (nat_lt (status_of m) 300) refl (sym is) posts-2) k stored has received leads_now
 
-  responded : (call : Call) (n : ℕ) (leg : Leg) (way : Way) (now : ℕ) (m : MessageText) (t : Taken) (new : Call) → IsSound call → leg_at call n ≡ Some leg
-      → Responds call n leg way now m t new → KeepsAnswers call → KeepsAnswers new
-  responded call n leg way now m to.Absorbed new sound there (p, e) kept = kept_as call new _ e refl (same_leg call n leg _ there refl) kept
-  responded call n leg way now m (to.Posted at) new sound there (p, reply, placed, first, leads, posts) kept = keeps_posted call new n leg way now m reply first leads sound there p kept posts
-  responded call n leg way now m to.Full new sound there (p, f, e) kept = kept_as call new call e refl (λ k. refl) kept
+  -- by this turn
+  abbrev pub Goes : ℕ → step.Input → step.Output → Call → Call → Type 0
+  Goes now input output call new =
+      (n : ℕ) (stored : StoredAnswer) → HasStored (table_of new.log) n stored → stored.received ≡ true → HasFirst (table_of new.log) n
+      → StaysFirst call new n stored ⊎ ComesFirst (record { now = now; input = input; output = output }) new n stored
+
+  stay : (now : ℕ) (input : step.Input) (output : step.Output) (call new : Call) → FirstsStay call new → Goes now input output call new
+  stay now input output call new stays n stored has came first = inl (stays n stored has came first)
+
+  responded : (call : Call) (n : ℕ) (leg : Leg) (way : Way) (now : ℕ) (m : MessageText) (source : Hop) (t : Taken) (new : Call) → IsSound call → leg_at call n ≡ Some leg
+      → Responds call n leg way now m t new → Goes now (step.Take (to.Client n) m source) (step.Took t) call new
+  responded call n leg way now m source to.Absorbed new sound there (p, e) =
+      stay now (step.Take (to.Client n) m source) (step.Took to.Absorbed) call new (kept_as call new _ e refl (same_leg call n leg _ there refl))
+  responded call n leg way now m source (to.Posted at) new sound there (p, reply, placed, first, leads, posts) =
+      keeps_posted call new n leg way now m reply first leads sound there p source at placed posts
+  responded call n leg way now m source to.Full new sound there (p, f, e) =
+      stay now (step.Take (to.Client n) m source) (step.Took to.Full) call new (kept_as call new call e refl (λ k. refl))
 
   -- ---- a message
 
-  cancelled : (call new : Call) (cancel : MessageText) (hop : Hop) (t : Taken) → CancelledBy call cancel hop t new → KeepsAnswers call → KeepsAnswers new
-  cancelled call new cancel hop to.Absorbed (c, e) kept = kept_as call new _ e refl (λ k. refl) kept
-  cancelled call new cancel hop (to.Posted at) (c, reply, placed, posts) kept = assumed call _ new _ _ _ reply refl (λ k. refl) (λ at k stored by came. by) posts kept
-  cancelled call new cancel hop to.Full h kept = absurd h
+  cancelled : (call new : Call) (cancel : MessageText) (hop : Hop) (t : Taken) → CancelledBy call cancel hop t new → FirstsStay call new
+  cancelled call new cancel hop to.Absorbed (c, e) = kept_as call new _ e refl (λ k. refl)
+  cancelled call new cancel hop (to.Posted at) (c, reply, placed, posts) = assumed call _ new _ _ _ reply refl (λ k. refl) (λ at k stored by came. by) posts
+  cancelled call new cancel hop to.Full h = absurd h
 
-  took : (call : Call) (now : ℕ) (m : MessageText) (source : Hop) (r : to.Recipient) (t : Taken) (new : Call) → IsSound call → TakesAs call now m source r t new → KeepsAnswers call → KeepsAnswers new
-  took call now m source to.Server to.Absorbed new sound e kept = kept_as call new _ e refl (λ k. refl) kept
-  took call now m source to.Server (to.Posted at) new sound h kept = absurd h
-  took call now m source to.Server to.Full new sound h kept = absurd h
-  took call now m source to.ServerAck to.Absorbed new sound e kept = kept_as call new _ e refl (λ k. refl) kept
-  took call now m source to.ServerAck (to.Posted at) new sound h kept = absurd h
-  took call now m source to.ServerAck to.Full new sound h kept = absurd h
-  took call now m source to.ServerCancel t new sound (cancel, marked, by) kept = cancelled call new cancel _ t by kept
-  took call now m source (to.Client n) t new sound (leg, way, there, goes, h) kept = responded call n leg way now m t new sound there h kept
-  took call now m source (to.CancelClient n) to.Absorbed new sound (leg, cancelling, there, is, e) kept = kept_as call new _ e refl (same_leg call n leg _ there refl) kept
-  took call now m source (to.CancelClient n) (to.Posted at) new sound h kept = absurd h
-  took call now m source (to.CancelClient n) to.Full new sound h kept = absurd h
+  took : (call : Call) (now : ℕ) (m : MessageText) (source : Hop) (r : to.Recipient) (t : Taken) (new : Call) → IsSound call → TakesAs call now m source r t new
+      → Goes now (step.Take r m source) (step.Took t) call new
+  took call now m source to.Server to.Absorbed new sound e = stay now (step.Take to.Server m source) (step.Took to.Absorbed) call new (kept_as call new _ e refl (λ k. refl))
+  took call now m source to.Server (to.Posted at) new sound h = absurd h
+  took call now m source to.Server to.Full new sound h = absurd h
+  took call now m source to.ServerAck to.Absorbed new sound e = stay now (step.Take to.ServerAck m source) (step.Took to.Absorbed) call new (kept_as call new _ e refl (λ k. refl))
+  took call now m source to.ServerAck (to.Posted at) new sound h = absurd h
+  took call now m source to.ServerAck to.Full new sound h = absurd h
+  took call now m source to.ServerCancel t new sound (cancel, marked, by) = stay now (step.Take to.ServerCancel m source) (step.Took t) call new (cancelled call new cancel _ t by)
+  took call now m source (to.Client n) t new sound (leg, way, there, goes, h) = responded call n leg way now m source t new sound there h
+  took call now m source (to.CancelClient n) to.Absorbed new sound (leg, cancelling, there, is, e) =
+      stay now (step.Take (to.CancelClient n) m source) (step.Took to.Absorbed) call new (kept_as call new _ e refl (same_leg call n leg _ there refl))
+  took call now m source (to.CancelClient n) (to.Posted at) new sound h = absurd h
+  took call now m source (to.CancelClient n) to.Full new sound h = absurd h
 
   -- ---- a datagram that could not be sent
 
-  faults : (call : Call) (now n : ℕ) (leg : Leg) (b : Bool) (new : Call) → leg_at call n ≡ Some leg → FaultsBy call now n leg b new → KeepsAnswers call → KeepsAnswers new
-  faults call now n leg true new there (reply, posts) kept = assumed call _ new _ _ _ reply refl (same_leg call n leg _ there refl) (no_fault n) posts kept
-  faults call now n leg false new there e kept = kept_as call new _ e refl (same_leg call n leg _ there refl) kept
+  faults : (call : Call) (now n : ℕ) (leg : Leg) (b : Bool) (new : Call) → leg_at call n ≡ Some leg → FaultsBy call now n leg b new → FirstsStay call new
+  faults call now n leg true new there (reply, posts) = assumed call _ new _ _ _ reply refl (same_leg call n leg _ there refl) (no_fault n) posts
+  faults call now n leg false new there e = kept_as call new _ e refl (same_leg call n leg _ there refl)
 
-  faults_client : (call : Call) (now n : ℕ) (l : Option Leg) (new : Call) → leg_at call n ≡ l → FaultsClient call now n l new → KeepsAnswers call → KeepsAnswers new
-  faults_client call now n None new there e kept = kept_as call new call e refl (λ k. refl) kept
-  faults_client call now n (Some leg) new there h kept = faults call now n leg _ new there h kept
+  faults_client : (call : Call) (now n : ℕ) (l : Option Leg) (new : Call) → leg_at call n ≡ l → FaultsClient call now n l new → FirstsStay call new
+  faults_client call now n None new there e = kept_as call new call e refl (λ k. refl)
+  faults_client call now n (Some leg) new there h = faults call now n leg _ new there h
 
-  faults_cancel : (call : Call) (now n : ℕ) (l : Option Leg) (new : Call) → leg_at call n ≡ l → new ≡ cancel_faulted call now n l → KeepsAnswers call → KeepsAnswers new
-  faults_cancel call now n None new there e kept = kept_as call new call e refl (λ k. refl) kept
-  faults_cancel call now n (Some leg) new there e kept = kept_as call new _ e refl (same_leg call n leg _ there (by leg.cancelling)) kept
+  faults_cancel : (call : Call) (now n : ℕ) (l : Option Leg) (new : Call) → leg_at call n ≡ l → new ≡ cancel_faulted call now n l → FirstsStay call new
+  faults_cancel call now n None new there e = kept_as call new call e refl (λ k. refl)
+  faults_cancel call now n (Some leg) new there e = kept_as call new _ e refl (same_leg call n leg _ there (by leg.cancelling))
     where
       by : (c : Option Cancelling) → (faulted_cancel leg now c).answer ≡ leg.answer
       by None = refl
       by (Some cancelling) = refl
 
-  failed : (call : Call) (now : ℕ) (c : Cause) (new : Call) → Fails call now c new → KeepsAnswers call → KeepsAnswers new
-  failed call now (cause.Request n) new h kept = faults_client call now n (leg_at call n) new refl h kept
-  failed call now (cause.Ack n) new h kept = faults_client call now n (leg_at call n) new refl h kept
-  failed call now (cause.Cancel n) new e kept = faults_cancel call now n (leg_at call n) new refl e kept
-  failed call now cause.Answer new e kept = kept_as call new _ e refl (λ k. refl) kept
-  failed call now cause.CancelOk new e kept = kept_as call new call e refl (λ k. refl) kept
+  failed : (call : Call) (now : ℕ) (c : Cause) (new : Call) → Fails call now c new → FirstsStay call new
+  failed call now (cause.Request n) new h = faults_client call now n (leg_at call n) new refl h
+  failed call now (cause.Ack n) new h = faults_client call now n (leg_at call n) new refl h
+  failed call now (cause.Cancel n) new e = faults_cancel call now n (leg_at call n) new refl e
+  failed call now cause.Answer new e = kept_as call new _ e refl (λ k. refl)
+  failed call now cause.CancelOk new e = kept_as call new call e refl (λ k. refl)
 
   -- ---- a step
 
-  stepped : (now : ℕ) (call : Call) (input : step.Input) (new : Call) (output : step.Output) → IsSound call → KeepsAnswers call → step.Step now call input new output → KeepsAnswers new
-  stepped now call (step.Take r m source) new (step.Took t) sound kept h = took call now m source r t new sound h kept
-  stepped now call (step.Take r m source) new (step.Did p) sound kept h = absurd h
-  stepped now call (step.Take r m source) new step.Told sound kept h = absurd h
-  stepped now call step.Pump new (step.Took t) sound kept h = absurd h
-  stepped now call step.Pump new (step.Did p) sound kept h = pumped call now p new h kept
-  stepped now call step.Pump new step.Told sound kept h = absurd h
-  stepped now call (step.Failed c) new (step.Took t) sound kept h = absurd h
-  stepped now call (step.Failed c) new (step.Did p) sound kept h = absurd h
-  stepped now call (step.Failed c) new step.Told sound kept h = failed call now c new h kept
+  stepped : (now : ℕ) (call : Call) (input : step.Input) (new : Call) (output : step.Output) → IsSound call → step.Step now call input new output
+      → Goes now input output call new
+  stepped now call (step.Take r m source) new (step.Took t) sound h = took call now m source r t new sound h
+  stepped now call (step.Take r m source) new (step.Did p) sound h = absurd h
+  stepped now call (step.Take r m source) new step.Told sound h = absurd h
+  stepped now call step.Pump new (step.Took t) sound h = absurd h
+  stepped now call step.Pump new (step.Did p) sound h = stay now step.Pump (step.Did p) call new (pumped call now p new h)
+  stepped now call step.Pump new step.Told sound h = absurd h
+  stepped now call (step.Failed c) new (step.Took t) sound h = absurd h
+  stepped now call (step.Failed c) new (step.Did p) sound h = absurd h
+  stepped now call (step.Failed c) new step.Told sound h = stay now (step.Failed c) step.Told call new (failed call now c new h)
+
+  pub firsts_stay_or_come : FirstsStayOrCome
+  firsts_stay_or_come turn call new sound h n stored has came first = stepped turn.now call turn.input new turn.output sound h n stored has came first
 
   pub steps_keep_answers : StepsKeepAnswers
-  steps_keep_answers turn call new sound kept h = stepped turn.now call turn.input new turn.output sound kept h
+  steps_keep_answers turn call new sound kept h n stored has came first = by (stepped turn.now call turn.input new turn.output sound h n stored has came first)
+    where
+      by : StaysFirst call new n stored ⊎ ComesFirst turn new n stored → KeepsEvent new n stored.arrival
+      by (inl stays) =
+          let old = kept n stored stays.has came stays.first in
+          (old.0, stays.kept ∙ old.1, stays.events _ old.2 ∙ ap (said_by n old.0) (sym stays.fixed))
+      by (inr comes) = (comes.0, comes.2, comes.3)
 
 -- ---- before anything was posted
 

@@ -20,7 +20,7 @@ pub use Rattle.fork_model.specs.Waiting.{may_start}
 pub use Rattle.call_model.specs.Built.{Datagram, ack_to, answer_in, answer_of, cancel_to, request_to, status_of}
 pub use Rattle.call_model.specs.Call.{Call, found, leg_at, row_passes, set_leg, with_leg}
 pub use Rattle.call_model.specs.Client.{Client, InviteClient, OtherClient, client_after, client_out}
-pub use Rattle.call_model.specs.Datagrams.{IsAck, IsBuilt, IsBuiltLeg, IsRight}
+pub use Rattle.call_model.specs.Datagrams.{IsBuilt, IsBuiltLeg}
 pub use Rattle.call_model.specs.Due.{Deed, FireTimerC, GiveUp, SendAck, SendAnswer, SendCancel, SendRequest, TickCancel, TickClient, TickServer, is_due_at}
 pub use Rattle.call_model.specs.Failed.{Fails, FaultsBy, FaultsClient, cancel_faulted, faulted, faulted_cancel, is_fault}
 pub use Rattle.call_model.specs.Fixed.{Fixed, Way, kind_of}

@@ -1,6 +1,5 @@
-use Rattle.call_model.proofs.Common.{◌≡◌, ◌⊎◌, ℕ, zero, suc, inl, inr, ap, refl, sym, subst, List, [], ◌∷◌, ◌++◌, map, Option, Some, slice_get, IfSome, Event, Reply, Row, added, MessageText, spelling, ContactText, TxSend, Way, Leg, Call}
-use Rattle.call_model.proofs.Common.{found, leg_at, set_leg, with_leg, IsBuilt, IsBuiltLeg, IsAck, Posts, gone_on, owes, owed_by, no_leg, call_tag, ack_to, ack_by}
-use Rattle.sip_txn.specs.declared.event.TxSend.TheVariants as send
+use Rattle.call_model.proofs.Common.{◌≡◌, ◌⊎◌, ℕ, zero, suc, inl, inr, ap, refl, sym, subst, List, [], ◌∷◌, ◌++◌, map, Option, Some, slice_get, IfSome, Event, Reply, Row, added, MessageText, ContactText, Way, Leg, Call}
+use Rattle.call_model.proofs.Common.{found, leg_at, set_leg, with_leg, IsBuilt, IsBuiltLeg, Posts, gone_on, owes, owed_by, no_leg, call_tag}
 
 -- ---- the part at a place
 
@@ -38,8 +37,8 @@ built_leg call n leg built way goes is = record { legs = λ m l e. one m l (at_w
     one m l (inl p) =
         let P : ℕ → Type 0 = λ k. (w : Way) × (slice_get call.ways k ≡ Some w) × IsBuiltLeg (set_leg call n leg) k w l in
         let Q : Leg → Type 0 = λ x. (w : Way) × (slice_get call.ways n ≡ Some w) × IsBuiltLeg (set_leg call n leg) n w x in
-        subst P (sym p.0) (subst Q (sym p.1) (way, goes, record { request = is.request; ack = is.ack; cancel = is.cancel }))
-    one m l (inr e) = let f = built.legs m l e in (f.0, f.1, record { request = f.2.request; ack = f.2.ack; cancel = f.2.cancel })
+        subst P (sym p.0) (subst Q (sym p.1) (way, goes, record { request = is.request; cancel = is.cancel }))
+    one m l (inr e) = let f = built.legs m l e in (f.0, f.1, record { request = f.2.request; cancel = f.2.cancel })
 
 pub built_posts : (call new : Call) (event : Event) (contacts : List ContactText) (response : Option MessageText) (reply : Reply) → IsBuilt call → Posts call event contacts response reply new → IsBuilt new
 built_posts call new event contacts response reply built posts = subst IsBuilt (sym posts.follows) (record { legs = one })
@@ -49,12 +48,4 @@ built_posts call new event contacts response reply built posts = subst IsBuilt (
         × IsBuiltLeg (owes (gone_on call contacts (added call.log call_tag event reply)) (owed_by reply.up response)) m w l
     one m l e =
         let f = built.legs m l (at_more call.legs _ m l e) in
-        (f.0, way_more call.ways _ m f.0 f.1, record { request = f.2.request; ack = f.2.ack; cancel = f.2.cancel })
-
--- the ACK that is owed for a failure
-pub ack_built : (call : Call) (n : ℕ) (way : Way) (m : MessageText) (to : TxSend) (owed : Option (List ℕ)) → IfSome owed (IsAck call n way)
-    → IfSome (ack_by to (spelling (ack_to call.fixed way n m)) owed) (IsAck call n way)
-ack_built call n way m send.Nothing owed h = h
-ack_built call n way m send.Request owed h = h
-ack_built call n way m send.Ack owed h = (m, refl)
-ack_built call n way m send.Response owed h = h
+        (f.0, way_more call.ways _ m f.0 f.1, record { request = f.2.request; cancel = f.2.cancel })

@@ -1,6 +1,6 @@
 -- What each step leaves of what a call sends again.
 use Rattle.call_model.proofs.Common.{◌≡◌, ◌∙◌, ℕ, zero, suc, ap, refl, sym, subst, true, false, Bool, List, [], ◌∷◌, Option, Some, None, slice_get, Event, Reply, MessageText, spelling, ContactText, Hop, Cause, Datagram, answer_of}
-use Rattle.call_model.proofs.Common.{cancel_to, request_to, Call, leg_at, IsBuilt, IsRight, Deed, Fails, FaultsBy, FaultsClient, cancel_faulted, Fixed, Way, Leg, Posts, Pumped, Send, Did, Does, Pumps, SendsAnswer, AnswersBy, AnswersWith}
+use Rattle.call_model.proofs.Common.{cancel_to, request_to, Call, leg_at, IsBuilt, Deed, Fails, FaultsBy, FaultsClient, cancel_faulted, Fixed, Way, Leg, Posts, Pumped, Send, Did, Does, Pumps, SendsAnswer, AnswersBy, AnswersWith}
 use Rattle.call_model.proofs.Common.{TicksClientBy, FiresTimerC, sent_if, Owed, Passed, Final, Again, CancelOk, CancelledBy, Responds, Taken, TakesAs}
 use Rattle.call_model.specs.declared.cause.Cause.TheVariants as cause
 use Rattle.call_model.specs.Again.{LastAnswerIsKept, RepeatsAreTheSame, is_repeated, last_after}
@@ -11,7 +11,7 @@ use Rattle.call_model.specs.Step as step
 use Rattle.call_model.specs.Step.{Run, Turn}
 use Rattle.call_model.specs.Take as to
 use Rattle.call_model.proofs.KeptBuilt.{way_more}
-use Rattle.call_model.proofs.laws.RightDatagrams.{datagrams_right}
+use Rattle.call_model.proofs.laws.RightDatagrams.{IsRight, datagrams_right}
 use Rattle.call_model.proofs.StepsBuilt.{steps_keep}
 
 -- ---- what stays

@@ -1,3 +1,4 @@
+pub mod Fitting
 pub mod Logs
 pub mod RightDatagrams
 pub mod Waiting

@@ -16,6 +16,7 @@ pub mod Datagrams
 pub mod Again
 pub mod Sound
 pub mod Behind
+pub mod Fitting
 pub mod SeenDatagram
 pub mod SeenTaken
 pub mod SeenStep

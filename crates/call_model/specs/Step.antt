@@ -5,7 +5,7 @@ use Rattle.sip_text.specs.Text.{MessageText}
 use Rattle.sip_uri.specs.declared.hop.Hop.{Hop}
 use Rattle.call_model.specs.declared.cause.Cause.{Cause}
 use Rattle.call_model.specs.Call.{Call}
-use Rattle.call_model.specs.Take.{Recipient, Taken, TakesAs}
+use Rattle.call_model.specs.Take.{Client, Posted, Recipient, Taken, TakesAs}
 use Rattle.call_model.specs.Pump.{Pumped, Pumps}
 use Rattle.call_model.specs.Failed.{Fails}
 
@@ -32,6 +32,10 @@ pub record Turn : Type 0 where
   pub now : ℕ
   pub input : Input
   pub output : Output
+
+-- by this turn this response came to branch n, and was posted as the event at this position
+abbrev pub IsPostedBy : Turn → (n at : ℕ) → MessageText → Type 0
+IsPostedBy turn n at m = (source : Hop) × (turn.input ≡ Take (Client n) m source) × (turn.output ≡ Took (Posted at))
 
 -- one step after another
 abbrev pub Run : Call → List Turn → Call → Type 0

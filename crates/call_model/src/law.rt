@@ -1,23 +1,23 @@
 //! What holds of every call.
 ghost use Rattle.call_model.specs.Again.{LastAnswerIsKept, RepeatsAreTheSame};
-ghost use Rattle.call_model.specs.Behind.{BegunKeepsAnswers, StepsKeepAnswers};
-ghost use Rattle.call_model.specs.Datagrams.{BegunIsBuilt, DatagramsAreRight, StepsKeepBuilt};
+ghost use Rattle.call_model.specs.Behind.{BegunKeepsAnswers, FirstsStayOrCome, StepsKeepAnswers};
+ghost use Rattle.call_model.specs.Datagrams.{BegunIsBuilt, StepsKeepBuilt};
+ghost use Rattle.call_model.specs.Fitting.{CancelsAreTaken, FaultsAreTaken, GivingsUpAreTaken, TimeoutsAreTaken, TimerCsAreTaken};
 ghost use Rattle.call_model.specs.Sound.{BegunIsSound, StepsKeepSound};
 
 use fork_model::{
-    branches_go_on, finished_stays, others_stay_open, rows_keep_their_numbers, stored_answers_came,
+    branches_go_on, finished_stays, open_branches_take_events, others_stay_open,
+    rows_keep_their_numbers, stored_answers_came,
 };
 use sip_text::header_values_are_values;
 
-/// Each datagram of a call is what its cause says (RFC 3261 sections 8.2.6, 9.1, 16.6, 16.7 and 17.1.1.3).
+/// The part of a branch keeps what its timers send again, its request and its CANCEL, as they were made: so a call begins,
+/// and no step changes it (RFC 3261 sections 9.1, 16.6 and 17.1.1.2).
 ///
-/// A law over the definitions, with nothing to run. A part of a call keeps what it sends as it was made: so a call
-/// begins, and no step changes it; where it is so, each datagram is that of its cause, to the hop of its branch or to
-/// the caller.
-pub fn datagrams_are_right()
+/// A law over the definitions, with nothing to run.
+pub fn branches_keep_what_they_send()
     ensures begun { BegunIsBuilt }
     ensures kept { StepsKeepBuilt }
-    ensures right { DatagramsAreRight }
 {}
 
 /// What a call sends again is what it sent first: whatever happens to it, all requests that it sends to a branch are one
@@ -48,15 +48,33 @@ pub fn calls_stay_sound()
 
 /// The failure that the first branch keeps, which may go up as the final answer, is the response behind its stored answer:
 /// where no stored answer ranks before that of a branch, and it came, then what the branch keeps was posted as the event
-/// at its arrival. So it is as a call begins, and each step of a sound call keeps it so (RFC 3261 section 16.7 steps 4 to
-/// 6).
+/// at its arrival. So it is as a call begins, and each step of a sound call keeps it so; and where such a branch was not
+/// first before the step, with the same answer stored and the same response kept, then by this step the response that it
+/// keeps came to it and was posted as that event (RFC 3261 section 16.7 steps 4 to 6).
 ///
 /// A law over the definitions, with nothing to run.
 pub fn branches_keep_their_answers()
     ensures begun { BegunKeepsAnswers }
     ensures kept { StepsKeepAnswers }
+    ensures firsts { FirstsStayOrCome }
 {
     stored_answers_came();
     branches_go_on();
     rows_keep_their_numbers();
+}
+
+/// The events that a call posts by itself are always taken: each fits the table as it stands, so that it changes it, and the
+/// book refuses none, however many events it holds. Those are a timeout of a branch's transaction, a datagram that could not
+/// be sent, timer C, the end of the wait for a cancelled branch, and the caller's CANCEL where it is posted. So a timer that
+/// fires is refused for want of memory alone (RFC 3261 sections 9.1, 9.2, 16.8, 16.9 and 17.1).
+///
+/// A law over the definitions, with nothing to run.
+pub fn own_events_are_taken()
+    ensures timeouts { TimeoutsAreTaken }
+    ensures faults { FaultsAreTaken }
+    ensures timer_c { TimerCsAreTaken }
+    ensures give_up { GivingsUpAreTaken }
+    ensures cancel { CancelsAreTaken }
+{
+    open_branches_take_events();
 }

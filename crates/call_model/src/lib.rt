@@ -3,8 +3,8 @@
 //! to it (RFC 3261 sections 16 and 17).
 //!
 //! Beside the definitions stand the words for what a call does, as a datagram and its cause, and what holds of every call
-//! as laws, with nothing to run: each datagram is the right one, what is sent again is what was sent first, a call stays
-//! sound, and a branch keeps the failure that its stored answer stands for.
+//! as laws, with nothing to run: a branch keeps its request and its CANCEL as they were made, what is sent again is what was
+//! sent first, a call stays sound, and a branch keeps the failure that its stored answer stands for.
 #![tactic(auto)]
 
 mod cause;
@@ -16,7 +16,8 @@ mod taken;
 pub use cause::Cause;
 pub use datagram::Datagram;
 pub use law::{
-    branches_keep_their_answers, calls_stay_sound, datagrams_are_right, repeats_are_the_same,
+    branches_keep_their_answers, branches_keep_what_they_send, calls_stay_sound,
+    own_events_are_taken, repeats_are_the_same,
 };
 pub use step::Step;
 pub use taken::Taken;

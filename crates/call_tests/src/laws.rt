@@ -1,10 +1,10 @@
 //! The laws of calls can be called: they are the contracts of functions with nothing to run.
-use call_model::{branches_keep_their_answers, datagrams_are_right, repeats_are_the_same};
+use call_model::{branches_keep_their_answers, branches_keep_what_they_send, repeats_are_the_same};
 use fork_call::calls_are_runs;
 
 #[test]
 fn laws_can_be_called() {
-    datagrams_are_right();
+    branches_keep_what_they_send();
     repeats_are_the_same();
     branches_keep_their_answers();
     calls_are_runs();
