@@ -1,6 +1,6 @@
 //! The keys of a shelf with their numbers, and the number that comes next.
-ghost use Rattle.std.specs.Prelude.{◌≡◌, ◌↔◌, ◌+◌, ◌^◌, ◌<◌, ℕ, Ok, Err, Some, None, IfOk, OnOk, OnErr, IsErrOf};
-ghost use Rattle.fork_shelf.specs.inner.Desk.{digest_of, number_of, IsListed, IsSame};
+ghost use Rattle.std.specs.Prelude.{◌≡◌, ◌≢◌, ◌↔◌, ◌+◌, ◌^◌, ◌<◌, ℕ, Ok, Err, Some, None, IfOk, OnOk, OnErr, IsErrOf};
+ghost use Rattle.fork_shelf.specs.inner.Desk.{digest_of, number_among, number_of, number_where, IsListed, IsSame, IsUnlisted};
 ghost use Rattle.std.specs.BTreeMap.{get};
 ghost use Rattle.std.specs.Ordering.{nat_cmp};
 
@@ -131,5 +131,40 @@ impl<A: Allocator + Clone> Desk<A> {
         } else {
             self.list_first(digest, key)
         }
+    }
+
+    /// Takes a key away from those that are the first of their digest.
+    fn unlist_first(&mut self, key: &[u8])
+        ensures next { self.new.next ≡ self.old.next }
+        ensures others { self.new.others ≡ self.old.others }
+        ensures gone { number_where key.now (get nat_cmp self.new.firsts (digest_of key.now)) ≡ None }
+        ensures kept { (other : _) → other ≢ key.now → number_where other (get nat_cmp self.new.firsts (digest_of other)) ≡ number_where other (get nat_cmp self.old.firsts (digest_of other)) }
+    {
+        let digest = digest_of(key);
+        let is_first = match self.firsts.get(&digest) {
+            Some(first) => first.key.as_slice() == key,
+            None => false,
+        };
+        if is_first {
+            self.firsts.remove(&digest);
+        }
+    }
+
+    /// Takes a key away from the others.
+    fn unlist_other(&mut self, key: &[u8])
+        ensures next { self.new.next ≡ self.old.next }
+        ensures firsts { self.new.firsts ≡ self.old.firsts }
+        ensures gone { number_among self.new.others key.now ≡ None }
+        ensures kept { (other : _) → other ≢ key.now → number_among self.new.others other ≡ number_among self.old.others other }
+    {
+        self.others.remove(key);
+    }
+
+    /// Takes a key away; each other keeps the number that it has, and the same number comes next.
+    pub(crate) fn unlist(&mut self, key: &[u8])
+        ensures { IsUnlisted key.now self.old self.new }
+    {
+        self.unlist_other(key);
+        self.unlist_first(key);
     }
 }

@@ -1,11 +1,14 @@
 //! Values under numbers and keys, each behind a lock of its own.
-ghost use Rattle.std.specs.Prelude.{◌≡◌, ◌+◌, ℕ, Ok, Err, IfErr, IfOk, IfSome, OnOk, OnErr};
+ghost use Rattle.std.specs.Prelude.{◌≡◌, ◌+◌, ℕ, List, Ok, Err, Some, IfErr, IfOk, IfSome, OnOk, OnErr};
+ghost use Rattle.std.specs.Bool.{OnTrue, OnFalse};
 ghost use Rattle.std.specs.Fn.{FnOnceReturnsAtMut};
-ghost use Rattle.fork_shelf.specs.inner.Desk.{IsListed, IsSame};
+ghost use Rattle.fork_shelf.specs.inner.Desk.{number_of, IsListed, IsSame, IsUnlisted};
 ghost use Rattle.fork_shelf.specs.Faults.{IfMade};
 
 use crate::desk::{Desk, Taken};
 use std::alloc::{AllocError, Allocator, Global};
+use std::collections::VecDeque;
+use std::mem;
 use std::sync::{Arc, Mutex, Wait};
 use thiserror::Error;
 
@@ -36,8 +39,62 @@ pub enum ShelfFault<E> {
     NoMemory,
 }
 
-/// The values by number, which is their place.
-type Entries<T, A> = Vec<Arc<Mutex<T>, A>, A>;
+/// A value behind its lock, and the key that it was put under.
+#[derive(Drop)]
+struct Entry<T, A: Allocator> {
+    key: Vec<u8, A>,
+    value: Arc<Mutex<T>, A>,
+}
+
+/// The values by number. Each number below `base` was given, and its value was taken away; the place of a number from there on
+/// is how far it is behind `base`, and is empty where its value was taken away.
+#[derive(Drop)]
+struct Entries<T, A: Allocator> {
+    base: u64,
+    places: VecDeque<Option<Entry<T, A>>, A>,
+    /// How many places have a value.
+    held: u64,
+}
+
+impl<T: Drop, A: Allocator> Entries<T, A> {
+    /// No value, and no number given.
+    fn new(alloc: A) -> Entries<T, A> {
+        Entries {
+            base: 0,
+            places: VecDeque::new(alloc),
+            held: 0,
+        }
+    }
+
+    /// The place of a number that is not below `base`.
+    fn place_of(&self, no: u64) -> Option<usize> {
+        usize::try_from(no.checked_sub(self.base)?).ok()
+    }
+
+    /// The entry of a number, where its value was put and not taken away.
+    fn get(&self, no: u64) -> Option<&Entry<T, A>> {
+        match self.places.get(self.place_of(no)?) {
+            Some(Some(entry)) => Some(entry),
+            _ => None,
+        }
+    }
+
+    /// Takes the entry of a number away. Empty places in front go, too, so that the list is no longer than from the oldest value
+    /// to the newest.
+    fn take(&mut self, no: u64) -> Option<Entry<T, A>> {
+        let at = self.place_of(no)?;
+        let taken = mem::take(self.places.get_mut(at)?)?;
+        self.held = self.held.wrapping_sub(1);
+        for _ in 0..self.places.len() {
+            if !matches!(self.places.front(), Some(None)) {
+                break;
+            }
+            let _ = self.places.pop_front();
+            self.base = self.base.wrapping_add(1);
+        }
+        Some(taken)
+    }
+}
 
 /// Values under numbers and keys. The keys have a lock, the list of entries another, which is held for a moment only, and
 /// each value one of its own: who looks at a value waits neither for one that is being made nor for a look at another.
@@ -57,7 +114,7 @@ impl<T: Numbered + Drop, A: Allocator + Clone> Shelf<T, A> {
         Ok(Shelf {
             alloc,
             desk: Mutex::new(Desk::new(firsts, others)),
-            entries: Mutex::new(Vec::new(entries)),
+            entries: Mutex::new(Entries::new(entries)),
         })
     }
 
@@ -113,11 +170,15 @@ impl<T: Numbered + Drop, A: Allocator + Clone> Shelf<T, A> {
         let Ok(entry) = self.behind_lock(value) else {
             return Err(ShelfFault::NoMemory);
         };
+        let Ok(key) = self.name(key) else {
+            return Err(ShelfFault::NoMemory);
+        };
         let mut entries = self.entries.lock(rt);
-        if entries.reserve(1).is_err() || desk.list(name).is_err() {
+        if entries.places.reserve(1).is_err() || desk.list(name).is_err() {
             return Err(ShelfFault::NoMemory);
         }
-        entries.push_reserved(entry);
+        let _ = entries.places.push_back(Some(Entry { key, value: entry }));
+        entries.held = entries.held.wrapping_add(1);
         Ok(no)
     }
 
@@ -137,7 +198,7 @@ impl<T: Numbered + Drop, A: Allocator + Clone> Shelf<T, A> {
         }
     }
 
-    /// How many values were put: each number below it has one.
+    /// How many values were put: each number below it was given once, and none from it on.
     pub fn count<R: Wait>(&self, rt: &R) -> u64 {
         self.desk.lock(rt).next
     }
@@ -147,11 +208,37 @@ impl<T: Numbered + Drop, A: Allocator + Clone> Shelf<T, A> {
         self.desk.lock(rt).keyed(key)
     }
 
+    /// Takes the value of a number away, with its key, and says whether it was there. The key may be put anew and gets a new
+    /// number then; the number is never given again. Who looks at the value meanwhile goes on looking, and it goes with the last
+    /// look. It takes no memory.
+    pub fn remove<R: Wait>(&self, rt: &R, no: u64) -> bool {
+        self.remove_at(rt, &mut self.desk.lock(rt), no)
+    }
+
+    /// Takes away as `remove` does, with the keys locked.
+    fn remove_at<R: Wait>(&self, rt: &R, desk: &mut Desk<A>, no: u64) -> bool
+        ensures gone { OnTrue result ((key : List ℕ) × (number_of desk.old key ≡ Some no) × IsUnlisted key desk.old desk.new) }
+        ensures same { OnFalse result (desk.new ≡ desk.old) }
+    {
+        let Some(entry) = self.entries.lock(rt).take(no) else {
+            return false;
+        };
+        if desk.keyed(&entry.key) != Some(no) {
+            return false;
+        }
+        desk.unlist(&entry.key);
+        true
+    }
+
+    /// How many values are there: those that were put and not taken away.
+    pub fn held<R: Wait>(&self, rt: &R) -> u64 {
+        self.entries.lock(rt).held
+    }
+
     /// The entry of a number, with no lock held.
     fn entry<R: Wait>(&self, rt: &R, no: u64) -> Option<Arc<Mutex<T>, A>> {
         let entries = self.entries.lock(rt);
-        let at = usize::try_from(no).ok()?;
-        Arc::try_clone(entries.get(at)?).ok()
+        Arc::try_clone(&entries.get(no)?.value).ok()
     }
 
     /// Calls `f` at the value of a number, with that value locked, and answers what it returns. None where there is no such

@@ -34,3 +34,8 @@ module _ {A : Type 0} where
   abbrev pub IsListed : List ℕ → Desk A → Desk A → Type 0
   IsListed key old new = (new.next ≡ old.next + 1) × (number_of new key ≡ Some old.next)
       × ((other : List ℕ) → other ≢ key → number_of new other ≡ number_of old other)
+
+  -- a key has no number, each other has the one that it had, and the same number comes next
+  abbrev pub IsUnlisted : List ℕ → Desk A → Desk A → Type 0
+  IsUnlisted key old new = (new.next ≡ old.next) × (number_of new key ≡ None)
+      × ((other : List ℕ) → other ≢ key → number_of new other ≡ number_of old other)
