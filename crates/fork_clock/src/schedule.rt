@@ -1,0 +1,108 @@
+//! When each call is next due, as all threads know it, and the sleep until the first is.
+ghost use Rattle.std.specs.Prelude.{◌≡◌, ◌*◌, ◌-◌, ◌^◌, min};
+
+use crate::deadlines::DeadlineHeap;
+use std::alloc::{AllocError, Allocator, Global};
+use std::sync::atomic::{AtomicBool, AtomicU64, Ordering};
+use std::sync::{Mutex, Wait};
+use std::thread::Parker;
+use std::time::Duration;
+
+/// What `earliest` holds where no call has a deadline.
+const NEVER: u64 = u64::MAX;
+
+/// How many microseconds a millisecond has.
+const MICROS: u64 = 1_000;
+
+/// No sleep is longer, in microseconds: ten seconds.
+const LONGEST: u64 = 10_000_000;
+
+/// How long to sleep from `now`, in microseconds, until a deadline in milliseconds: not at all where it has come, and ten
+/// seconds at most.
+fn pause(deadline: u64, now: u64) -> u64
+    ensures { result ≡ min (min (deadline * 1000) (2 ^ 64 - 1) - now) 10000000 }
+{
+    deadline
+        .saturating_mul(MICROS)
+        .saturating_sub(now)
+        .min(LONGEST)
+}
+
+/// When each call is next due, by its number, and what the one thread that keeps the time sleeps on. Deadlines are in
+/// milliseconds since the program's epoch. A call that is due later than its deadline says is looked at once too often; none is
+/// forgotten: where memory ran out while one was added, the schedule knows that it missed one.
+///
+/// What lies under the lock is proved of `DeadlineHeap`. What the methods answer while other threads add is shown by tests alone.
+#[derive(Drop)]
+pub struct Schedule<A: Allocator = Global> {
+    earliest: AtomicU64,
+    missed: AtomicBool,
+    deadlines: Mutex<DeadlineHeap<A>>,
+    parker: Parker,
+}
+
+impl<A: Allocator + Clone> Schedule<A> {
+    /// A schedule in which no call has a deadline.
+    ///
+    /// # Errors
+    ///
+    /// Only where the allocator refuses.
+    pub fn new(alloc: A) -> Result<Schedule<A>, AllocError> {
+        let deadlines = alloc.clone()?;
+        Ok(Schedule {
+            earliest: AtomicU64::new(NEVER),
+            missed: AtomicBool::new(false),
+            deadlines: Mutex::new(DeadlineHeap::new(alloc, deadlines)),
+            parker: Parker::new(),
+        })
+    }
+
+    /// Adds the deadline of a call, in milliseconds; of two of one call the earlier stays. Where it is the earliest of all now,
+    /// the thread that sleeps wakes.
+    pub fn add<R: Wait>(&self, rt: &R, number: u64, deadline: u64) {
+        let is_earliest = {
+            let mut deadlines = self.deadlines.lock(rt);
+            let before = deadlines.earliest().unwrap_or(NEVER);
+            if deadlines.add(number, deadline).is_err() {
+                self.missed.store(true, Ordering::SeqCst);
+            }
+            let earliest = deadlines.earliest().unwrap_or(NEVER);
+            self.earliest.store(earliest, Ordering::SeqCst);
+            earliest < before
+        };
+        if is_earliest {
+            self.parker.unpark();
+        }
+    }
+
+    /// Takes the number of a call whose deadline has come at `now`, in milliseconds, the earliest of all. It has none then.
+    /// None where no deadline has come.
+    pub fn take_due<R: Wait>(&self, rt: &R, now: u64) -> Option<u64> {
+        let mut deadlines = self.deadlines.lock(rt);
+        let number = deadlines.take_due(now);
+        self.earliest
+            .store(deadlines.earliest().unwrap_or(NEVER), Ordering::SeqCst);
+        number
+    }
+
+    /// Whether a deadline could not be added since this was last asked. Then each call has to be looked at.
+    pub fn take_missed(&self) -> bool {
+        self.missed.swap(false, Ordering::SeqCst)
+    }
+
+    /// Sleeps until the earliest deadline comes, or this moment in milliseconds, or `wake` is called, or an earlier deadline is
+    /// added, and ten seconds at most; `now` is in microseconds. One thread alone may sleep. What wakes it between its last look
+    /// and the sleep is not lost: then it does not sleep.
+    pub fn sleep_until<R: Wait>(&self, rt: &R, now: u64, until: u64) {
+        let deadline = self.earliest.load(Ordering::SeqCst).min(until);
+        let wait = pause(deadline, now);
+        if wait > 0 {
+            self.parker.park_timeout(rt, Duration::from_micros(wait));
+        }
+    }
+
+    /// Wakes the thread that sleeps, or that will sleep next.
+    pub fn wake(&self) {
+        self.parker.unpark();
+    }
+}
