@@ -1,5 +1,5 @@
 -- The final answer is made of the response behind the choice of the table.
-use Rattle.std.proofs.Common.{◌≡◌, ◌∙◌, ◌⊎◌, ℕ, Bool, true, false, List, Option, Some, None, ap, refl, sym, subst, inl, inr, slice_get}
+use Rattle.std.proofs.Common.{◌≡◌, ◌∙◌, ℕ, Bool, true, false, List, Option, Some, None, ap, refl, sym, subst, inl, inr, slice_get}
 use Rattle.std.proofs.lemmas.Bool.{cond-false, cond-true}
 use Rattle.std.specs.Option.{option_map}
 use Rattle.fork_model.specs.Challenges.{challenge_list}
@@ -15,10 +15,9 @@ use Rattle.sip_build.specs.Upward.{upward_of}
 use Rattle.call_model.specs.Behind.{KeepsAnswers}
 use Rattle.call_model.specs.Built.{answer_in, best_of, final_of, generated, kept_at, kept_of, was_received}
 use Rattle.call_model.specs.Call.{Call, leg_at, rows_of}
-use Rattle.call_model.specs.Leg.{Leg}
 use Rattle.call_model.specs.Step.{Turn}
 use Rattle.call_laws.specs.Answers.{IsBestAnswer, IsFinalAnswer}
-use Rattle.call_laws.specs.Origins.{KeepsWhatCame}
+use Rattle.call_laws.specs.Origins.{CamePosted, KeepsPosted}
 
 -- a score is that of a stored answer
 scored : (t : Table) (n : ℕ) (score : Score) → HasScore t.rows n score
@@ -35,14 +34,7 @@ scored t n score has = at_row (slice_get t.rows n) refl has
     at_row None there e = absurd cc
     at_row (Some row) there e = at_answer row there (stored_of row.state) refl e
 
-part_of : (call : Call) (n : ℕ) (m : MessageText) → answer_in (leg_at call n) ≡ Some m → (leg : Leg) × (leg_at call n ≡ Some leg) × (leg.answer ≡ Some m)
-part_of call n m e = by (leg_at call n) refl e
-  where
-    by : (l : Option Leg) → leg_at call n ≡ l → answer_in l ≡ Some m → (leg : Leg) × (leg_at call n ≡ Some leg) × (leg.answer ≡ Some m)
-    by None there e = absurd cc
-    by (Some leg) there e = (leg, there, e)
-
-module _ (turns : List Turn) (call : Call) (answers : KeepsAnswers call) (keeps : KeepsWhatCame turns call) where
+module _ (turns : List Turn) (call : Call) (answers : KeepsAnswers call) (posted : KeepsPosted turns call) where
   assumed : (n : ℕ) (a : StoredAnswer) → stored_at (slice_get (rows_of call) n) ≡ Some a → a.received ≡ false → (o : Option MessageText)
       → best_of call n o ≡ generated call.fixed own.RequestTimeout
   assumed n a stored none None = refl
@@ -59,8 +51,10 @@ module _ (turns : List Turn) (call : Call) (answers : KeepsAnswers call) (keeps 
   best n a has stored first false is = inr (is, assumed n a stored is (answer_in (leg_at call n)))
   best n a has stored first true is =
       let kept = answers n a has is first in
-      let part = part_of call n kept.0 kept.1 in
-      inl (is, kept.0, (keeps n part.0 kept.0 part.1 part.2).0, kept.2, ap (best_of call n) kept.1 ∙ came n a stored is kept.0)
+      let by = posted n a has is first in
+      let same : by.0 ≡ kept.0 = let e : Some by.0 ≡ Some kept.0 = sym by.1 ∙ kept.1 in cc in
+      let C : MessageText → Type 0 = λ m. CamePosted turns n a.arrival m in
+      inl (is, kept.0, subst C same by.2, kept.2, ap (best_of call n) kept.1 ∙ came n a stored is kept.0)
 
   -- a received answer never goes up as a 408
   pub final_content : (choice : Choice) → IsChosen (table_of call.log) (Some choice) → IsFinalAnswer turns call choice (final_of call choice)

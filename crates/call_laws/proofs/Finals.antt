@@ -1,11 +1,10 @@
 -- What a step leaves of how the final answers stand.
-use Rattle.std.proofs.Common.{◌≡◌, ◌∙◌, ◌⊎◌, ◌++◌, ◌∷◌, ◌≤◌, ℕ, Bool, true, false, List, [], length, Option, Some, None, IfSome, ap, refl, sym, subst, inl, inr, nat_lt, slice_get, arith, append-nil, append_assoc}
-use Rattle.std.proofs.lemmas.Bool.{cond-false, cond-true, cond_both, le-ltb, ltb-false}
+use Rattle.std.proofs.Common.{◌≡◌, ◌∙◌, ◌++◌, ◌∷◌, ◌≤◌, ℕ, Bool, true, false, List, [], length, Option, Some, None, IfSome, ap, refl, sym, subst, inl, inr, nat_lt, slice_get, arith, append-nil, append_assoc}
+use Rattle.std.proofs.lemmas.Bool.{cond-false, cond_both, le-ltb, ltb-false}
 use Rattle.std.specs.List.{AllByRecursion}
 use Rattle.fork_model.specs.Challenges.{challenge_list}
 use Rattle.fork_model.specs.Choice.{Choice, Best, Only503, NoAnswer408, stored_at}
 use Rattle.fork_model.specs.Event.{Event}
-use Rattle.fork_model.specs.Event as fork
 use Rattle.fork_model.specs.History.{finals, with_final}
 use Rattle.fork_model.specs.Log.{Log, added, table_of}
 use Rattle.fork_model.specs.Reply.{Reply, IsReply, IsUp, Up, Nothing, Provisional, Success, Final, provisional}
@@ -20,7 +19,6 @@ use Rattle.call_model.specs.Call.{Call, leg_at, rows_of}
 use Rattle.call_model.specs.Fixed.{is_invite}
 use Rattle.call_model.specs.Leg.{Leg}
 use Rattle.call_model.specs.Posting.{call_tag, owed_by, passed}
-use Rattle.call_model.specs.Response.{event_by}
 use Rattle.call_model.specs.Server as server
 use Rattle.call_model.specs.Server.{Owed, Served, InviteServer, OtherServer, answer_event, served_after}
 use Rattle.sip_txn.specs.declared.event.TxEvent.{TxEvent}
@@ -28,12 +26,12 @@ use Rattle.sip_txn.specs.declared.event.TxEvent.TheVariants as event
 use Rattle.call_model.specs.Step.{Input, Output, Turn}
 use Rattle.call_model.specs.Take.{again_if}
 use Rattle.call_model.proofs.laws.Logs.{table_added}
-use Rattle.call_laws.specs.Finals.{FinalsStand, Awaits, CouldNotSend, MayBeOwed, OwesResponses, finals_owed, is_for_invite, waits}
+use Rattle.call_laws.specs.Finals.{FinalsStand, Awaits, MayBeOwed, OwesResponses, finals_owed, has_failed, is_for_invite, waits}
 use Rattle.call_laws.specs.Origins.{KeepsWhatCame}
-use Rattle.call_laws.proofs.Serving.{GoesUp, Serves, Beside, Posted, Cancelled, CancelledBoth, Acked, Faulted, Ticked, Repeated, Sent, Dropped, Again, Okayed, server_of}
+use Rattle.call_laws.proofs.Serving.{GoesUp, Serves, Beside, Posted, Cancelled, CancelledBoth, Acked, Faulted, Ticked, Repeated, Sent, Dropped, Again, Okayed}
 use Rattle.call_laws.proofs.Succeeds.{succeeded_before, success_succeeds}
 use Rattle.call_laws.proofs.Origins.{Later, one_of, this_one}
-use Rattle.call_laws.proofs.Waits.{Goes, HasGone, ack_goes, ack_gone, answered_waits, error_goes, error_gone, failure_waits, provisional_waits, request_goes, request_gone, same_side, tick_goes, tick_gone}
+use Rattle.call_laws.proofs.Waits.{Goes, HasGone, NoneFails, ack_goes, ack_gone, ack_unfailed, answered_unfailed, answered_waits, error_goes, error_gone, error_unfailed, failure_waits, provisional_waits, request_goes, request_gone, request_unfailed, same_side, tick_goes, tick_gone, tick_unfailed}
 
 -- ---- lists
 
@@ -144,14 +142,16 @@ module _ (goes_on : BranchesGoOn) (turns : List Turn) (turn : Turn) (call new : 
       → is_for_invite new.server.machine ≡ is_for_invite call.server.machine
       → (is_succeeded (rows_of call) ≡ false → Awaits turns call.server.machine → Awaits (Later turns turn) new.server.machine)
       → (waits call.server.machine ≡ false → waits new.server.machine ≡ false)
+      → (has_failed call.server.machine ≡ false → has_failed new.server.machine ≡ false)
       → FinalsStand (Later turns turn) (handed ++ []) new
-  kept handed f stand log owed succ side goes gone =
+  kept handed f stand log owed succ side goes gone none_fails =
       let S : List Choice → Type 0 = λ cs. FinalsStand (Later turns turn) cs new in
       subst S (sym (append-nil handed)) (record {
         side = side ∙ stand.side ∙ ap is_invite (sym fixed);
         all = log ∙ ap (λ (cs : List Choice). cs ++ f) stand.all ∙ append_assoc handed (finals_owed call.server.owed) f ∙ ap (λ (cs : List Choice). handed ++ cs) (sym owed);
         waiting = λ none not_yet. goes (succ not_yet) (stand.waiting none (succ not_yet));
         answered = λ some. gone (stand.answered some);
+        unfailed = λ none. none_fails (stand.unfailed none);
       })
 
   -- without an event
@@ -159,10 +159,11 @@ module _ (goes_on : BranchesGoOn) (turns : List Turn) (turn : Turn) (call new : 
       → is_for_invite new.server.machine ≡ is_for_invite call.server.machine
       → (is_succeeded (rows_of call) ≡ false → Awaits turns call.server.machine → Awaits (Later turns turn) new.server.machine)
       → (waits call.server.machine ≡ false → waits new.server.machine ≡ false)
+      → (has_failed call.server.machine ≡ false → has_failed new.server.machine ≡ false)
       → FinalsStand (Later turns turn) (handed ++ []) new
-  quiet handed stand l owed side goes gone =
+  quiet handed stand l owed side goes gone none_fails =
       kept handed [] stand (ap (λ (x : Log). finals x.replies) l ∙ sym (append-nil (finals call.log.replies))) (owed ∙ sym (append-nil (finals_owed call.server.owed)))
-      (same_succeeded l) side goes gone
+      (same_succeeded l) side goes gone none_fails
 
   awaits_later : (machine : Served) → Awaits turns machine → Awaits (Later turns turn) machine
   awaits_later (InviteServer m) e = e
@@ -179,14 +180,15 @@ module _ (goes_on : BranchesGoOn) (turns : List Turn) (turn : Turn) (call new : 
   -- with the same transaction
   beside : (handed : List Choice) → FinalsStand turns handed call → new.log ≡ call.log → finals_owed new.server.owed ≡ finals_owed call.server.owed
       → new.server.machine ≡ call.server.machine → FinalsStand (Later turns turn) (handed ++ []) new
-  beside handed stand l owed is = quiet handed stand l owed (ap is_for_invite is) (machine_same is) (λ e. ap waits is ∙ e)
+  beside handed stand l owed is = quiet handed stand l owed (ap is_for_invite is) (machine_same is) (λ e. ap waits is ∙ e) (λ e. ap has_failed is ∙ e)
 
   -- with one that was told this
   told : (handed : List Choice) (ev : TxEvent) → FinalsStand turns handed call → new.log ≡ call.log → finals_owed new.server.owed ≡ finals_owed call.server.owed
-      → new.server.machine ≡ served_after ev turn.now call.server.machine → Goes ev → HasGone ev → FinalsStand (Later turns turn) (handed ++ []) new
-  told handed ev stand l owed is goes gone =
+      → new.server.machine ≡ served_after ev turn.now call.server.machine → Goes ev → HasGone ev → NoneFails ev → FinalsStand (Later turns turn) (handed ++ []) new
+  told handed ev stand l owed is goes gone none_fails =
       quiet handed stand l owed (ap is_for_invite is ∙ same_side ev turn.now call.server.machine)
       (λ not_yet e. moved _ is (goes turns turn.now call.server.machine e)) (λ e. ap waits is ∙ gone turn.now call.server.machine e)
+      (λ e. ap has_failed is ∙ none_fails turn.now call.server.machine e)
 
   -- with an event
   more : (handed : List Choice) (ev : Event) (reply : Reply) → FinalsStand turns handed call → new.log ≡ added call.log call_tag ev reply
@@ -194,7 +196,7 @@ module _ (goes_on : BranchesGoOn) (turns : List Turn) (turn : Turn) (call new : 
       → new.server.machine ≡ call.server.machine → FinalsStand (Later turns turn) (handed ++ []) new
   more handed ev reply stand l owed is =
       kept handed (with_final reply.up []) stand (ap (λ (x : Log). finals x.replies) l ∙ finals_more call.log.replies reply) owed (more_succeeded ev reply l)
-      (ap is_for_invite is) (machine_same is) (λ e. ap waits is ∙ e)
+      (ap is_for_invite is) (machine_same is) (λ e. ap waits is ∙ e) (λ e. ap has_failed is ∙ e)
 
   -- an answer is handed to the caller's transaction
   handed_one : (handed : List Choice) (owed : Owed) (rest : List Owed) (m : MessageText) → call.server.owed ≡ owed ∷ rest → answer_of call owed ≡ Some m
@@ -206,12 +208,13 @@ module _ (goes_on : BranchesGoOn) (turns : List Turn) (turn : Turn) (call new : 
       side = ap is_for_invite machine ∙ same_side (answer_event (status_of m)) turn.now call.server.machine
 
       plain : finals_owed call.server.owed ≡ finals_owed rest → (is_succeeded (rows_of call) ≡ false → nat_lt (status_of m) 200 ≡ true)
-          → FinalsStand (Later turns turn) (handed ++ []) new
-      plain same small =
+          → nat_lt (status_of m) 300 ≡ true → FinalsStand (Later turns turn) (handed ++ []) new
+      plain same small no_failure =
           quiet handed stand l (ap finals_owed left ∙ sym same) side
           (λ not_yet e. moved (served_after (answer_event (status_of m)) turn.now call.server.machine) machine
           (provisional_waits turns (status_of m) turn.now call.server.machine (small not_yet) e))
           (λ e. ap waits machine ∙ answered_waits (status_of m) turn.now call.server.machine e)
+          (λ e. ap has_failed machine ∙ answered_unfailed (status_of m) turn.now call.server.machine no_failure e)
 
       final : (choice : Choice) → finals_owed call.server.owed ≡ choice ∷ finals_owed rest → nat_lt (status_of m) 300 ≡ false
           → FinalsStand (Later turns turn) (handed ++ choice ∷ []) new
@@ -221,17 +224,18 @@ module _ (goes_on : BranchesGoOn) (turns : List Turn) (turn : Turn) (call new : 
             ∙ sym (append_assoc handed (choice ∷ []) (finals_owed rest)) ∙ ap (λ (os : List Owed). (handed ++ choice ∷ []) ++ finals_owed os) (sym left);
         waiting = λ none not_yet. absurd (some_final handed choice none);
         answered = λ some. ap waits machine ∙ failure_waits (status_of m) turn.now call.server.machine (below (status_of m) failure) failure;
+        unfailed = λ none. absurd (some_final handed choice none);
       }
 
       by : (o : Owed) → call.server.owed ≡ o ∷ rest → answer_of call o ≡ Some m → FinalsStand (Later turns turn) (handed ++ finals_owed (o ∷ [])) new
       by server.Trying at made =
           let status = ap status_of (some_same _ _ made) in
-          plain (ap finals_owed at) (λ not_yet. ap (λ (k : ℕ). nat_lt k 200) (sym status))
+          plain (ap finals_owed at) (λ not_yet. ap (λ (k : ℕ). nat_lt k 200) (sym status)) (ap (λ (k : ℕ). nat_lt k 300) (sym status))
       by (server.Passed x) at made =
           let status = ap status_of (some_same _ _ made) in
           let A : List Owed → Type 0 = λ os. AllByRecursion (MayBeOwed call) os in
           let head = subst A at owes in
-          plain (ap finals_owed at) (λ not_yet. ap (λ (k : ℕ). nat_lt k 200) (sym status) ∙ head.0.1 not_yet)
+          plain (ap finals_owed at) (λ not_yet. ap (λ (k : ℕ). nat_lt k 200) (sym status) ∙ head.0.1 not_yet) (ap (λ (k : ℕ). nat_lt k 300) (sym status) ∙ head.0.0)
       by (server.Final choice) at made =
           let status = ap status_of (some_same _ _ made) in
           final choice (ap finals_owed at) (ap (λ (k : ℕ). nat_lt k 300) (sym status) ∙ final_failure turns call keeps choice)
@@ -259,18 +263,19 @@ module _ (goes_on : BranchesGoOn) (turns : List Turn) (turn : Turn) (call new : 
       ∙ ap (λ (cs : List Choice). cs ++ finals_owed (owed_by reply.up None)) (owed_more call.server.owed (server.CancelOk cancel hop ∷ []) ∙ append-nil (finals_owed call.server.owed))
       ∙ ap (λ (cs : List Choice). finals_owed call.server.owed ++ cs) (owed_up reply.up None))
       (ap machine_of s)
-  finals_step handed (Acked l s) owes keeps stand = told handed event.Ack stand l (ap owed_of s) (ap machine_of s) ack_goes ack_gone
+  finals_step handed (Acked l s) owes keeps stand = told handed event.Ack stand l (ap owed_of s) (ap machine_of s) ack_goes ack_gone ack_unfailed
   finals_step handed (Faulted why l s) owes keeps stand =
       quiet handed stand l (ap owed_of s) (ap (λ (x : server.Server). is_for_invite x.machine) s ∙ same_side event.TransportError turn.now call.server.machine)
       (λ not_yet e.
       let P : Served → Type 0 = λ x. Awaits (Later turns turn) x in
       subst P (sym (ap machine_of s)) (error_goes (Later turns turn) turn.now call.server.machine (turn, this_one turns turn, why) (awaits_later call.server.machine e)))
       (λ e. ap (λ (x : server.Server). waits x.machine) s ∙ error_gone turn.now call.server.machine e)
-  finals_step handed (Ticked sends out is l s) owes keeps stand = told handed event.Tick stand l (ap owed_of s) (ap machine_of s) tick_goes tick_gone
+      (λ e. ap (λ (x : server.Server). has_failed x.machine) s ∙ error_unfailed turn.now call.server.machine e)
+  finals_step handed (Ticked sends out is l s) owes keeps stand = told handed event.Tick stand l (ap owed_of s) (ap machine_of s) tick_goes tick_gone tick_unfailed
   finals_step handed (Repeated sends is l s) owes keeps stand =
       told handed event.Request stand l
       (ap owed_of s ∙ owed_more call.server.owed (again_if sends) ∙ ap (λ (cs : List Choice). finals_owed call.server.owed ++ cs) (again_none sends)
-      ∙ append-nil (finals_owed call.server.owed)) (ap machine_of s) request_goes request_gone
+      ∙ append-nil (finals_owed call.server.owed)) (ap machine_of s) request_goes request_gone request_unfailed
   finals_step handed (Sent owed rest m is made sends out l s) owes keeps stand =
       handed_one handed owed rest m is made l (ap machine_of s) (ap (λ (x : server.Server). x.owed) s) owes keeps stand
   finals_step handed (Dropped owed rest m is made sends out l s) owes keeps stand =

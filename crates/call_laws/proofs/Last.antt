@@ -26,7 +26,6 @@ use Rattle.call_model.specs.Server.{Owed, Served, InviteServer, OtherServer, ans
 use Rattle.call_model.specs.Step as step
 use Rattle.call_model.specs.Take.{again_if, is_response}
 use Rattle.call_laws.specs.Last.{IsUnsent, KeepsLast, is_again}
-use Rattle.call_laws.proofs.Finals.{some_same}
 use Rattle.call_laws.proofs.Serving.{Serves, Beside, Posted, Cancelled, CancelledBoth, Acked, Faulted, Ticked, Repeated, Sent, Dropped, Again, Okayed}
 use Rattle.call_laws.proofs.Waits.{after, by_tick, state_after}
 

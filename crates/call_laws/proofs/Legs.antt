@@ -1,9 +1,11 @@
--- What a step does to the parts of branches: which failures they keep, and which ACKs they owe.
+-- What a step does to the parts of branches: which failures they keep, which ACKs they owe, and which have accepted a 2xx.
 use Rattle.std.proofs.Common.{◌≡◌, ◌∙◌, ◌⊎◌, ◌++◌, ◌∷◌, ℕ, zero, suc, Bool, true, false, List, [], map, Option, Some, None, ap, refl, sym, subst, inl, inr, nat_lt, slice_get, append-nil, cond}
 use Rattle.std.proofs.lemmas.Bool.{cond-false, cond-true}
-use Rattle.fork_model.specs.Event.{Event}
+use Rattle.fork_model.specs.Event.{Event, FinalAnswer}
+use Rattle.fork_model.specs.Event as fork
 use Rattle.fork_model.specs.Reply.{Reply}
-use Rattle.fork_model.specs.Table.{Row}
+use Rattle.fork_model.specs.Table.{Kind, Row}
+use Rattle.fork_model.specs.Table as table
 use Rattle.sip_text.specs.Text.{MessageText, spelling}
 use Rattle.sip_uri.specs.declared.hop.Hop.{Hop}
 use Rattle.sip_uri.specs.Contact.{ContactText}
@@ -11,6 +13,7 @@ use Rattle.sip_txn.specs.declared.event.TxEvent.{TxEvent}
 use Rattle.sip_txn.specs.declared.event.TxEvent.TheVariants as event
 use Rattle.sip_txn.specs.declared.event.TxSend.{TxSend}
 use Rattle.sip_txn.specs.declared.event.TxSend.TheVariants as send
+use Rattle.sip_txn.specs.declared.timers.Input.{Input as TimerInput}
 use Rattle.sip_txn.specs.declared.timers.Input.TheVariants as input
 use Rattle.sip_txn.specs.declared.invite_client.InviteClientState.{InviteClientState}
 use Rattle.sip_txn.specs.declared.invite_client.InviteClientState.TheVariants as invite
@@ -19,26 +22,30 @@ use Rattle.sip_txn.specs.declared.other_client.OtherClientState.TheVariants as o
 use Rattle.sip_txn.specs.InviteClient.{invite_client}
 use Rattle.sip_txn.specs.OtherClient.{other_client}
 use Rattle.sip_txn.specs.Machine.{row_out}
+use Rattle.sip_txn.specs.Timers.{input_of, is_due, moment_of}
 use Rattle.call_model.specs.declared.cause.Cause.{Cause}
 use Rattle.call_model.specs.declared.cause.Cause.TheVariants as cause
 use Rattle.call_model.specs.Built.{ack_to, answer_in, answer_of, status_of}
 use Rattle.call_model.specs.Call.{Call, found, leg_at, set_leg, with_leg}
-use Rattle.call_model.specs.Client.{Client, InviteClient, OtherClient, client_out}
+use Rattle.call_model.specs.Client.{Client, InviteClient, OtherClient, client_after, client_out, client_start}
 use Rattle.call_model.specs.Due.{Deed}
 use Rattle.call_model.specs.Due as due
 use Rattle.call_model.specs.Failed.{Fails, FaultsBy, FaultsClient, cancel_faulted, faulted_cancel}
-use Rattle.call_model.specs.Fixed.{Way}
+use Rattle.call_model.specs.Fixed.{Way, kind_of}
 use Rattle.call_model.specs.Leg.{Leg, Cancelling}
 use Rattle.call_model.specs.Posting.{Posts, call_tag, no_leg, rows_more, ways_of}
 use Rattle.fork_model.specs.Log.{added}
 use Rattle.call_model.specs.Pump as pump
 use Rattle.call_model.specs.Pump.{Pumped, Pumps, Does, AnswersBy, AnswersWith, SendsAnswer, TicksClientBy, FiresTimerC}
+use Rattle.call_model.specs.Response.{challenges_by, contacts_for, offer_of}
 use Rattle.call_model.specs.Server as server
 use Rattle.call_model.specs.Server.{Owed}
+use Rattle.call_model.specs.Sound.{awaits, invite_awaits, other_awaits}
 use Rattle.call_model.specs.Step as step
 use Rattle.call_model.specs.Step.{Input, Output, Step}
 use Rattle.call_model.specs.Take as to
-use Rattle.call_model.specs.Take.{CancelledBy, Responds, Taken, TakesAs, ack_by, leg_after, leg_posted, response_event}
+use Rattle.call_model.specs.Take.{CancelledBy, Responds, Taken, TakesAs, ack_by, is_passed, leg_after, leg_posted, response_event}
+use Rattle.call_laws.proofs.Waits.{after, by_tick, state_after}
 
 -- ---- lists of parts
 
@@ -117,6 +124,137 @@ ack_case send.Request ack bytes old e = inl e
 ack_case send.Ack ack bytes old e = inr (refl, let same : bytes ≡ ack = cc in same)
 ack_case send.Response ack bytes old e = inl e
 
+-- ---- which client transactions have accepted a 2xx (RFC 6026 section 7.2)
+
+abbrev pub invite_accepted : InviteClientState → Bool
+invite_accepted invite.Calling = false
+invite_accepted invite.Proceeding = false
+invite_accepted invite.Completed = false
+invite_accepted invite.Accepted = true
+invite_accepted invite.Terminated = false
+
+abbrev pub has_accepted : Client → Bool
+has_accepted (InviteClient m) = invite_accepted m.state
+has_accepted (OtherClient m) = false
+
+abbrev pub accepted_in : Option Leg → Bool
+accepted_in None = false
+accepted_in (Some leg) = has_accepted leg.client
+
+-- by an input that is no 2xx none comes to be so
+none_new : (i : TimerInput) → invite_accepted (after (invite_client invite.Calling i) invite.Calling) ≡ false
+    → invite_accepted (after (invite_client invite.Proceeding i) invite.Proceeding) ≡ false
+    → invite_accepted (after (invite_client invite.Completed i) invite.Completed) ≡ false
+    → invite_accepted (after (invite_client invite.Terminated i) invite.Terminated) ≡ false
+    → (s : InviteClientState) → invite_accepted (after (invite_client s i) s) ≡ true → invite_accepted s ≡ true
+none_new i a b c d invite.Calling e = absurd (let h : false ≡ true = sym a ∙ e in cc)
+none_new i a b c d invite.Proceeding e = absurd (let h : false ≡ true = sym b ∙ e in cc)
+none_new i a b c d invite.Completed e = absurd (let h : false ≡ true = sym c ∙ e in cc)
+none_new i a b c d invite.Accepted e = refl
+none_new i a b c d invite.Terminated e = absurd (let h : false ≡ true = sym d ∙ e in cc)
+
+none_ticked : (s : InviteClientState) (end repeat : Bool) → invite_accepted (after (invite_client s (by_tick end repeat)) s) ≡ true → invite_accepted s ≡ true
+none_ticked s true repeat e = none_new input.EndDue refl refl refl refl s e
+none_ticked s false true e = none_new input.RepeatDue refl refl refl refl s e
+none_ticked s false false e = none_new input.NothingDue refl refl refl refl s e
+
+abbrev NoneBy : TxEvent → Type 0
+NoneBy ev = (now : ℕ) (c : Client) → has_accepted (client_after ev now c) ≡ true → has_accepted c ≡ true
+
+by_ticks : NoneBy event.Tick
+by_ticks now (InviteClient m) e =
+    none_ticked m.state (is_due now m.timers.end) (is_due now (moment_of m.timers.repeat))
+    (sym (ap invite_accepted (state_after (invite_client m.state (input_of event.Tick now m.timers)) now m)) ∙ e)
+by_ticks now (OtherClient m) e = absurd cc
+
+by_stops : NoneBy event.Stop
+by_stops now (InviteClient m) e =
+    none_new (input.Event event.Stop) refl refl refl refl m.state
+    (sym (ap invite_accepted (state_after (invite_client m.state (input.Event event.Stop)) now m)) ∙ e)
+by_stops now (OtherClient m) e = absurd cc
+
+by_errors : NoneBy event.TransportError
+by_errors now (InviteClient m) e =
+    none_new (input.Event event.TransportError) refl refl refl refl m.state
+    (sym (ap invite_accepted (state_after (invite_client m.state (input.Event event.TransportError)) now m)) ∙ e)
+by_errors now (OtherClient m) e = absurd cc
+
+by_provisionals : NoneBy event.Provisional
+by_provisionals now (InviteClient m) e =
+    none_new (input.Event event.Provisional) refl refl refl refl m.state
+    (sym (ap invite_accepted (state_after (invite_client m.state (input.Event event.Provisional)) now m)) ∙ e)
+by_provisionals now (OtherClient m) e = absurd cc
+
+by_failures : NoneBy event.Failure
+by_failures now (InviteClient m) e =
+    none_new (input.Event event.Failure) refl refl refl refl m.state
+    (sym (ap invite_accepted (state_after (invite_client m.state (input.Event event.Failure)) now m)) ∙ e)
+by_failures now (OtherClient m) e = absurd cc
+
+none_starts : (kind : Kind) (now : ℕ) → has_accepted (client_start kind now) ≡ false
+none_starts table.Invite now = refl
+none_starts table.Other now = refl
+
+-- a 2xx that is handed up comes to one that waited, or had accepted one
+pub success_passed : (now : ℕ) (c : Client) → is_passed (client_out event.Success now c).pass ≡ true → (awaits c ≡ true) ⊎ (has_accepted c ≡ true)
+success_passed now (InviteClient m) e = by m.state e
+  where
+    by : (s : InviteClientState) → is_passed (row_out (invite_client s (input.Event event.Success))).pass ≡ true → (invite_awaits s ≡ true) ⊎ (invite_accepted s ≡ true)
+    by invite.Calling e = inl refl
+    by invite.Proceeding e = inl refl
+    by invite.Completed e = absurd cc
+    by invite.Accepted e = inr refl
+    by invite.Terminated e = absurd cc
+success_passed now (OtherClient m) e = inl (by m.state e)
+  where
+    by : (s : OtherClientState) → is_passed (row_out (other_client s (input.Event event.Success))).pass ≡ true → other_awaits s ≡ true
+    by other.Trying e = refl
+    by other.Proceeding e = refl
+    by other.Completed e = absurd cc
+    by other.Terminated e = absurd cc
+
+-- one that accepts it now waited, and hands it up
+success_case : (now : ℕ) (c : Client) → has_accepted (client_after event.Success now c) ≡ true
+    → (has_accepted c ≡ true) ⊎ ((awaits c ≡ true) × (is_passed (client_out event.Success now c).pass ≡ true))
+success_case now (InviteClient m) e = by m.state (sym (ap invite_accepted (state_after (invite_client m.state (input.Event event.Success)) now m)) ∙ e)
+  where
+    by : (s : InviteClientState) → invite_accepted (after (invite_client s (input.Event event.Success)) s) ≡ true
+        → (invite_accepted s ≡ true) ⊎ ((invite_awaits s ≡ true) × (is_passed (row_out (invite_client s (input.Event event.Success))).pass ≡ true))
+    by invite.Calling e = inr (refl, refl)
+    by invite.Proceeding e = inr (refl, refl)
+    by invite.Completed e = absurd cc
+    by invite.Accepted e = inl refl
+    by invite.Terminated e = absurd cc
+success_case now (OtherClient m) e = absurd cc
+
+not_both : (b : Bool) → b ≡ false → b ≡ true → ⊥
+not_both true e h = absurd cc
+not_both false e h = absurd cc
+
+-- one that accepts it now waited, and hands up a 2xx
+abbrev pub AcceptsBy : (status now : ℕ) → Client → Type 0
+AcceptsBy status now c =
+    (awaits c ≡ true) × (nat_lt status 200 ≡ false) × (nat_lt status 300 ≡ true) × (is_passed (client_out (response_event status) now c).pass ≡ true)
+
+response_case : (status now : ℕ) (c : Client) → has_accepted (client_after (response_event status) now c) ≡ true → (has_accepted c ≡ true) ⊎ AcceptsBy status now c
+response_case status now c e = by (nat_lt status 200) (nat_lt status 300) refl refl
+  where
+    P : TxEvent → Type 0
+    P ev = has_accepted (client_after ev now c) ≡ true
+
+    Q : TxEvent → Type 0
+    Q ev = is_passed (client_out ev now c).pass ≡ true
+
+    by : (a b : Bool) → nat_lt status 200 ≡ a → nat_lt status 300 ≡ b → (has_accepted c ≡ true) ⊎ AcceptsBy status now c
+    by true b is also = inl (by_provisionals now c (subst P (cond-true _ _ _ is) e))
+    by false true is also =
+        let ev : response_event status ≡ event.Success = cond-false _ _ _ is ∙ cond-true _ _ _ also in
+        elim (success_case now c (subst P ev e)) [
+          | inl before ↦ inl before
+          | inr made ↦ inr (made.0, is, also, subst Q (sym ev) made.1)
+        ]
+    by false false is also = inl (by_failures now c (subst P (cond-false _ _ _ is ∙ cond-false _ _ _ also) e))
+
 -- ---- a step
 
 module _ (now : ℕ) (call : Call) (input : Input) (new : Call) where
@@ -127,10 +265,22 @@ module _ (now : ℕ) (call : Call) (input : Input) (new : Call) where
   abbrev pub OwesAckNow : ℕ → List ℕ → Type 0
   OwesAckNow n bytes = (m : MessageText) × (way : Way) × TakesFailure n m × (slice_get call.ways n ≡ Some way) × (bytes ≡ spelling (ack_to call.fixed way n m))
 
-  -- what a part keeps and owes it did before, or by this step
+  -- branch n, whose transaction waited, accepts a 2xx now, which is posted
+  abbrev pub AcceptsNow : ℕ → Type 0
+  AcceptsNow n =
+      (leg : Leg)
+      × (a : FinalAnswer)
+      × (reply : Reply)
+      × (leg_at call n ≡ Some leg)
+      × (awaits leg.client ≡ true)
+      × (nat_lt a.status 300 ≡ true)
+      × (new.log ≡ added call.log call_tag (fork.Answer n a) reply)
+
+  -- what a part keeps, owes and has accepted it did before, or does by this step
   pub record Comes (n : ℕ) (leg : Leg) : Type 0 where
     pub answer : (m : MessageText) → leg.answer ≡ Some m → (answer_in (leg_at call n) ≡ Some m) ⊎ TakesFailure n m
     pub ack : (bytes : List ℕ) → leg.ack ≡ Some bytes → (ack_in (leg_at call n) ≡ Some bytes) ⊎ OwesAckNow n bytes
+    pub client : has_accepted leg.client ≡ true → (accepted_in (leg_at call n) ≡ true) ⊎ AcceptsNow n
 
   abbrev pub EachComes : Call → Type 0
   EachComes x = (n : ℕ) (leg : Leg) → leg_at x n ≡ Some leg → Comes n leg
@@ -145,12 +295,18 @@ module _ (now : ℕ) (call : Call) (input : Input) (new : Call) where
   old n leg there = record {
     answer = λ m is. inl (ap answer_in there ∙ is);
     ack = λ bytes is. inl (ap ack_in there ∙ is);
+    client = λ is. inl (ap accepted_in there ∙ is);
   }
 
-  like : (k : ℕ) (leg l : Leg) → leg_at call k ≡ Some leg → l.answer ≡ leg.answer → l.ack ≡ leg.ack → Comes k l
-  like k leg l there a b = record {
+  -- it has accepted nothing that the other had not
+  abbrev NoneMore : Leg → Leg → Type 0
+  NoneMore leg l = has_accepted l.client ≡ true → has_accepted leg.client ≡ true
+
+  like : (k : ℕ) (leg l : Leg) → leg_at call k ≡ Some leg → l.answer ≡ leg.answer → l.ack ≡ leg.ack → NoneMore leg l → Comes k l
+  like k leg l there a b c = record {
     answer = λ m is. inl (ap answer_in there ∙ sym a ∙ is);
     ack = λ bytes is. inl (ap ack_in there ∙ sym b ∙ is);
+    client = λ is. inl (ap accepted_in there ∙ c is);
   }
 
   one : (k : ℕ) (l : Leg) → Comes k l → EachComes (set_leg call k l)
@@ -175,8 +331,8 @@ module _ (now : ℕ) (call : Call) (input : Input) (new : Call) where
   same : new ≡ call → Parts
   same e = stays call e refl refl old
 
-  sets : (k : ℕ) (leg l : Leg) → leg_at call k ≡ Some leg → l.answer ≡ leg.answer → l.ack ≡ leg.ack → new ≡ set_leg call k l → Parts
-  sets k leg l there a b e = stays (set_leg call k l) e refl refl (one k l (like k leg l there a b))
+  sets : (k : ℕ) (leg l : Leg) → leg_at call k ≡ Some leg → l.answer ≡ leg.answer → l.ack ≡ leg.ack → NoneMore leg l → new ≡ set_leg call k l → Parts
+  sets k leg l there a b c e = stays (set_leg call k l) e refl refl (one k l (like k leg l there a b c))
 
   -- with one
   grown : (mid : Call) (ev : Event) (contacts : List ContactText) (response : Option MessageText) (reply : Reply) → Posts mid ev contacts response reply new
@@ -191,10 +347,10 @@ module _ (now : ℕ) (call : Call) (input : Input) (new : Call) where
         ∙ ap (λ (ws : List Way). ws ++ ways_of mid.fixed contacts (rows_more mid.log (added mid.log call_tag ev reply))) w;
   }
 
-  sets_grown : (k : ℕ) (leg l : Leg) → leg_at call k ≡ Some leg → l.answer ≡ leg.answer → l.ack ≡ leg.ack
+  sets_grown : (k : ℕ) (leg l : Leg) → leg_at call k ≡ Some leg → l.answer ≡ leg.answer → l.ack ≡ leg.ack → NoneMore leg l
       → (ev : Event) (contacts : List ContactText) (response : Option MessageText) (reply : Reply) → Posts (set_leg call k l) ev contacts response reply new → Parts
-  sets_grown k leg l there a b ev contacts response reply posts =
-      grown (set_leg call k l) ev contacts response reply posts refl refl (one k l (like k leg l there a b))
+  sets_grown k leg l there a b c ev contacts response reply posts =
+      grown (set_leg call k l) ev contacts response reply posts refl refl (one k l (like k leg l there a b c))
 
   -- ---- a deed of the pump
 
@@ -215,35 +371,37 @@ module _ (now : ℕ) (call : Call) (input : Input) (new : Call) where
   paid (server.Final choice ∷ rest) p h = answered_with rest (answer_of call (server.Final choice)) p h
 
   ticked : (n : ℕ) (way : Way) (leg : Leg) (b : Bool) (p : Pumped) → leg_at call n ≡ Some leg → TicksClientBy call now n way leg b p new → Parts
-  ticked n way leg true p there (out, reply, posts) = sets_grown n leg _ there refl refl _ _ _ reply posts
-  ticked n way leg false p there (out, e) = sets n leg _ there refl refl e
+  ticked n way leg true p there (out, reply, posts) = sets_grown n leg _ there refl refl (by_ticks now leg.client) _ _ _ reply posts
+  ticked n way leg false p there (out, e) = sets n leg _ there refl refl (by_ticks now leg.client) e
 
   fired : (n : ℕ) (leg : Leg) (b : Bool) (p : Pumped) → leg_at call n ≡ Some leg → FiresTimerC call now n leg b p new → Parts
-  fired n leg true p there (out, reply, posts) = sets_grown n leg _ there refl refl _ _ _ reply posts
+  fired n leg true p there (out, reply, posts) = sets_grown n leg _ there refl refl (by_stops now leg.client) _ _ _ reply posts
   fired n leg false p there (out, reply, posts) = grown call _ _ _ reply posts refl refl old
 
-  fresh : (k : ℕ) (l : Leg) → l.answer ≡ None → l.ack ≡ None → Comes k l
-  fresh k l a b = record {
+  fresh : (k : ℕ) (l : Leg) → l.answer ≡ None → l.ack ≡ None → has_accepted l.client ≡ false → Comes k l
+  fresh k l a b c = record {
     answer = λ m is. absurd (let none : None ≡ Some m = sym a ∙ is in cc);
     ack = λ bytes is. absurd (let none : None ≡ Some bytes = sym b ∙ is in cc);
+    client = λ is. absurd (let h : false ≡ true = sym c ∙ is in cc);
   }
 
-  without_ack : (k : ℕ) (leg l : Leg) → leg_at call k ≡ Some leg → l.answer ≡ leg.answer → l.ack ≡ None → Comes k l
-  without_ack k leg l there a b = record {
+  without_ack : (k : ℕ) (leg l : Leg) → leg_at call k ≡ Some leg → l.answer ≡ leg.answer → l.ack ≡ None → NoneMore leg l → Comes k l
+  without_ack k leg l there a b c = record {
     answer = λ m is. inl (ap answer_in there ∙ sym a ∙ is);
     ack = λ bytes is. absurd (let none : None ≡ Some bytes = sym b ∙ is in cc);
+    client = λ is. inl (ap accepted_in there ∙ c is);
   }
 
   done : (deed : Deed) (p : Pumped) → Does call now deed p new → Parts
-  done (due.SendRequest n) p (way, goes, (out, e)) = stays _ e refl refl (one n _ (fresh n _ refl refl))
-  done (due.SendCancel n) p (way, leg, goes, there, (out, e)) = sets n leg _ there refl refl e
-  done (due.SendAck n) p (way, leg, goes, there, (ack, owes, out, e)) = stays _ e refl refl (one n _ (without_ack n leg _ there refl refl))
+  done (due.SendRequest n) p (way, goes, (out, e)) = stays _ e refl refl (one n _ (fresh n _ refl refl (none_starts (kind_of call.fixed) now)))
+  done (due.SendCancel n) p (way, leg, goes, there, (out, e)) = sets n leg _ there refl refl (λ is. is) e
+  done (due.SendAck n) p (way, leg, goes, there, (ack, owes, out, e)) = stays _ e refl refl (one n _ (without_ack n leg _ there refl refl (λ is. is)))
   done due.SendAnswer p h = paid call.server.owed p h
   done due.TickServer p (out, e) = stays _ e refl refl old
   done (due.TickClient n) p (way, leg, goes, there, h) = ticked n way leg _ p there h
-  done (due.TickCancel n) p (way, leg, goes, there, (cancelling, has, out, e)) = sets n leg _ there refl refl e
+  done (due.TickCancel n) p (way, leg, goes, there, (cancelling, has, out, e)) = sets n leg _ there refl refl (λ is. is) e
   done (due.FireTimerC n) p (leg, there, h) = fired n leg _ p there h
-  done (due.GiveUp n) p (leg, there, (out, reply, posts)) = sets_grown n leg _ there refl refl _ _ _ reply posts
+  done (due.GiveUp n) p (leg, there, (out, reply, posts)) = sets_grown n leg _ there refl refl (by_stops now leg.client) _ _ _ reply posts
 
   pumped : (p : Pumped) → Pumps call now p new → Parts
   pumped pump.Idle (idle, e) = same e
@@ -277,6 +435,10 @@ module _ (now : ℕ) (call : Call) (input : Input) (new : Call) where
       stays _ e refl refl (one n _ (record {
         answer = λ x has. inl (ap answer_in there ∙ has);
         ack = λ bytes has. acked n leg way m source is there goes bytes has;
+        client = λ has. elim (response_case (status_of m) now leg.client has) [
+          | inl before ↦ inl (ap accepted_in there ∙ before)
+          | inr made ↦ absurd (not_both _ p made.3)
+        ];
       }))
   responded n leg way m source (to.Posted at) is there goes (p, reply, placed, first, leads, posts) =
       grown _ _ _ _ reply posts refl refl (one n _ (record {
@@ -287,6 +449,16 @@ module _ (now : ℕ) (call : Call) (input : Input) (new : Call) where
               inr (subst T (sym now_kept.0) (source, is, now_kept.1))
         ];
         ack = λ bytes has. acked n leg way m source is there goes bytes has;
+        client = λ has. elim (response_case (status_of m) now leg.client has) [
+          | inl before ↦ inl (ap accepted_in there ∙ before)
+          | inr made ↦
+              let a : FinalAnswer = record {
+                status = status_of m;
+                offers = map offer_of (contacts_for call.fixed.is_responsible (status_of m) m);
+                challenges = challenges_by (status_of m) m;
+              } in
+              inr (leg, a, reply, there, made.0, made.2, ap (λ (x : Call). x.log) posts.follows ∙ ap (λ (ev : Event). added call.log call_tag ev reply) (cond-false _ _ _ made.1))
+        ];
       }))
   responded n leg way m source to.Full is there goes (p, f, e) = same e
 
@@ -304,15 +476,15 @@ module _ (now : ℕ) (call : Call) (input : Input) (new : Call) where
   took m source to.ServerAck to.Full is h = absurd h
   took m source to.ServerCancel t is (cancel, marked, by) = cancelled cancel _ t by
   took m source (to.Client n) t is (leg, way, there, goes, h) = responded n leg way m source t is there goes h
-  took m source (to.CancelClient n) to.Absorbed is (leg, cancelling, there, has, e) = sets n leg _ there refl refl e
+  took m source (to.CancelClient n) to.Absorbed is (leg, cancelling, there, has, e) = sets n leg _ there refl refl (λ is. is) e
   took m source (to.CancelClient n) (to.Posted at) is h = absurd h
   took m source (to.CancelClient n) to.Full is h = absurd h
 
   -- ---- a datagram that could not be sent
 
   faults : (n : ℕ) (leg : Leg) (b : Bool) → leg_at call n ≡ Some leg → FaultsBy call now n leg b new → Parts
-  faults n leg true there (reply, posts) = sets_grown n leg _ there refl refl _ _ _ reply posts
-  faults n leg false there e = sets n leg _ there refl refl e
+  faults n leg true there (reply, posts) = sets_grown n leg _ there refl refl (by_errors now leg.client) _ _ _ reply posts
+  faults n leg false there e = sets n leg _ there refl refl (by_errors now leg.client) e
 
   faults_client : (n : ℕ) (l : Option Leg) → leg_at call n ≡ l → FaultsClient call now n l new → Parts
   faults_client n None there e = same e
@@ -320,7 +492,7 @@ module _ (now : ℕ) (call : Call) (input : Input) (new : Call) where
 
   faults_cancel : (n : ℕ) (l : Option Leg) → leg_at call n ≡ l → new ≡ cancel_faulted call now n l → Parts
   faults_cancel n None there e = same e
-  faults_cancel n (Some leg) there e = sets n leg _ there (answer_same leg.cancelling) (ack_same leg.cancelling) e
+  faults_cancel n (Some leg) there e = sets n leg _ there (answer_same leg.cancelling) (ack_same leg.cancelling) (client_same leg.cancelling) e
     where
       answer_same : (c : Option Cancelling) → (faulted_cancel leg now c).answer ≡ leg.answer
       answer_same None = refl
@@ -329,6 +501,10 @@ module _ (now : ℕ) (call : Call) (input : Input) (new : Call) where
       ack_same : (c : Option Cancelling) → (faulted_cancel leg now c).ack ≡ leg.ack
       ack_same None = refl
       ack_same (Some cancelling) = refl
+
+      client_same : (c : Option Cancelling) → NoneMore leg (faulted_cancel leg now c)
+      client_same None = λ is. is
+      client_same (Some cancelling) = λ is. is
 
   failed : (c : Cause) → Fails call now c new → Parts
   failed (cause.Request n) h = faults_client n (leg_at call n) refl h

@@ -11,3 +11,5 @@ pub mod Sending
 pub mod Logged
 pub mod Content
 pub mod Running
+pub mod Accepted
+pub mod Successes

@@ -1,9 +1,9 @@
 -- The log of a call: each reply is that to its event, and one final at most goes up.
-use Rattle.std.proofs.Common.{◌≡◌, ◌≢◌, ◌∙◌, ◌⊎◌, ◌++◌, ◌∷◌, ◌+◌, ℕ, zero, suc, Bool, true, false, List, [], length, ap, refl, sym, subst, inl, inr, arith}
+use Rattle.std.proofs.Common.{◌≡◌, ◌≢◌, ◌∙◌, ◌⊎◌, ◌++◌, ◌∷◌, ◌+◌, ℕ, suc, Bool, true, false, List, [], length, ap, refl, sym, subst, inl, inr, arith}
 use Rattle.fork_model.specs.Choice.{Choice}
 use Rattle.fork_model.specs.Event.{Event}
 use Rattle.fork_model.specs.ExactlyOne.{ExactlyOneFinal, NoFinalBefore, NoFinalBesideSuccess}
-use Rattle.fork_model.specs.History.{AreReplies, OneFinal, Target, after, finals, opening}
+use Rattle.fork_model.specs.History.{AreReplies, OneFinal, Target, after, finals}
 use Rattle.fork_model.specs.Log.{IsLog, IsOpening, Log, Posted, added, event_posted, events_of, opening_log, table_of}
 use Rattle.fork_model.specs.Reply.{IsReply, Reply}
 use Rattle.fork_model.specs.Step.{next}
@@ -67,6 +67,10 @@ module _ (one : ExactlyOneFinal) (before : NoFinalBefore) (beside : NoFinalBesid
   -- once every branch has ended and none with a 2xx
   pub ends_once : (log : Log) → IsLog log → is_finished (table_of log).rows ≡ true → is_succeeded (table_of log).rows ≡ false → OneFinal (table_of log) log.replies
   ends_once log is = ends_so log.opening is.opens (events_of log.history) log.replies is.answered
+
+  -- and none where a branch was answered with a 2xx
+  pub none_of_succeeded : (log : Log) → IsLog log → is_succeeded (table_of log).rows ≡ true → finals log.replies ≡ []
+  none_of_succeeded log is won = none_beside log.opening is.opens (events_of log.history) log.replies is.answered won
 
   pub at_most_one : (log : Log) → IsLog log → AtMostOne (finals log.replies)
   at_most_one log is = by (is_finished (table_of log).rows) (is_succeeded (table_of log).rows) refl refl

@@ -1,9 +1,10 @@
 -- What a step leaves of where that comes from what a call keeps to be sent.
-use Rattle.std.proofs.Common.{◌≡◌, ◌∙◌, ◌⊎◌, ◌++◌, ◌∷◌, ℕ, zero, suc, Bool, true, false, List, [], length, Option, Some, None, ap, refl, sym, subst, inl, inr, nat_lt, slice_get}
+use Rattle.std.proofs.Common.{◌≡◌, ◌∙◌, ◌⊎◌, ◌++◌, ◌∷◌, ℕ, zero, suc, Bool, true, false, List, [], length, Option, Some, None, ap, refl, sym, subst, inl, inr, slice_get}
 use Rattle.std.specs.List.{AllByRecursion}
 use Rattle.sip_text.specs.Text.{MessageText, spelling}
 use Rattle.sip_uri.specs.declared.hop.Hop.{Hop}
-use Rattle.call_model.specs.Built.{ack_to, answer_in, status_of}
+use Rattle.call_model.specs.Behind.{ComesFirst, FirstsStayOrCome, StaysFirst}
+use Rattle.call_model.specs.Built.{ack_to, answer_in}
 use Rattle.call_model.specs.Call.{Call, leg_at}
 use Rattle.call_model.specs.Fixed.{Fixed, Way}
 use Rattle.call_model.specs.Leg.{Leg}
@@ -11,10 +12,11 @@ use Rattle.call_model.specs.Posting.{owed_by, passed}
 use Rattle.fork_model.specs.Reply.{Up, Nothing, Provisional, Success, Final}
 use Rattle.call_model.specs.Server as server
 use Rattle.call_model.specs.Server.{Owed}
-use Rattle.call_model.specs.Step.{Input, Output, Step, Turn}
+use Rattle.call_model.specs.Step.{Step, Turn}
+use Rattle.call_model.specs.Sound.{IsSound}
 use Rattle.call_model.specs.Take.{again_if}
-use Rattle.call_laws.specs.Origins.{AnswersFailure, Came, CameCancel, ComesFrom, IsOkayOf, IsTurnOf, KeepsWhatCame, OwesAcks, OwesOkays}
-use Rattle.call_laws.proofs.Legs.{Comes, OwesAckNow, Parts, TakesFailure, ack_in, parts}
+use Rattle.call_laws.specs.Origins.{Came, CameCancel, CamePosted, ComesFrom, IsOkayOf, IsTurnOf, KeepsPosted, KeepsWhatCame, OwesAcks, OwesOkays}
+use Rattle.call_laws.proofs.Legs.{Parts, TakesFailure, ack_in, parts}
 use Rattle.call_laws.proofs.Serving.{IsMarkedNow, Serves, Beside, Posted, Cancelled, CancelledBoth, Acked, Faulted, Ticked, Repeated, Sent, Dropped, Again, Okayed, serves}
 
 -- ---- the turns so far, and one more
@@ -40,6 +42,9 @@ module _ (turns : List Turn) (turn : Turn) where
 
   came_later : (n : ℕ) (m : MessageText) → Came turns n m → Came Later n m
   came_later n m (t, is, source, came) = (t, one_of t is, source, came)
+
+  posted_later : (n at : ℕ) (m : MessageText) → CamePosted turns n at m → CamePosted Later n at m
+  posted_later n at m (t, is, posted) = (t, one_of t is, posted)
 
   cancel_later : (cancel : MessageText) (to : Hop) → CameCancel turns cancel to → CameCancel Later cancel to
   cancel_later cancel to (t, is, m, source, came, marks, goes) = (t, one_of t is, m, source, came, marks, goes)
@@ -92,6 +97,16 @@ module _ (turns : List Turn) (turn : Turn) where
           (came_later n m k.0, k.1)
       | inr made ↦ (came_now n m made, made.2)
     ]
+
+  -- the branch with the best stored answer keeps what it kept, or takes it now
+  posted_step : (call new : Call) → FirstsStayOrCome → IsSound call → Step turn.now call turn.input new turn.output → KeepsPosted turns call → KeepsPosted Later new
+  posted_step call new firsts sound h keeps n stored has came first = by (firsts turn call new sound h n stored has came first)
+    where
+      by : StaysFirst call new n stored ⊎ ComesFirst turn new n stored → (m : MessageText) × (answer_in (leg_at new n) ≡ Some m) × CamePosted Later n stored.arrival m
+      by (inl stays) =
+          let old = keeps n stored stays.has came stays.first in
+          (old.0, stays.kept ∙ old.1, posted_later n stored.arrival old.0 old.2)
+      by (inr (m, posted, kept, said)) = (m, kept, (turn, this_one, posted))
 
   -- ---- what is owed
 
@@ -156,12 +171,13 @@ module _ (turns : List Turn) (turn : Turn) where
       by (Again rest is out l s) = now_owed rest (ap (λ (x : server.Server). x.owed) s) (less server.Again rest is)
       by (Okayed cancel hop rest is out l s) = now_owed rest (ap (λ (x : server.Server). x.owed) s) (less (server.CancelOk cancel hop) rest is)
 
-  pub origins_step : (call new : Call) → Step turn.now call turn.input new turn.output → ComesFrom turns call → ComesFrom Later new
-  origins_step call new h from =
+  pub origins_step : (call new : Call) → FirstsStayOrCome → IsSound call → Step turn.now call turn.input new turn.output → ComesFrom turns call → ComesFrom Later new
+  origins_step call new firsts sound h from =
       let p = parts turn.now call turn.input new turn.output h in
       let s = serves turn.now call turn.input new turn.output h in
       record {
         acks = acks_step call new p from.acks;
         okays = okays_step call new s from.okays;
         answers = answers_step call new p from.answers;
+        posted = posted_step call new firsts sound h from.posted;
       }

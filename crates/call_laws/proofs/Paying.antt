@@ -1,11 +1,11 @@
 -- What a turn pays of what a call owes to its caller, and what comes to be owed by it.
-use Rattle.std.proofs.Common.{◌≡◌, ◌∙◌, ◌⊎◌, ◌++◌, ◌∷◌, ◌+◌, ◌<◌, ◌≤◌, ℕ, zero, suc, Bool, true, false, List, [], drop, length, map, Option, Some, None, ap, refl, sym, subst, inl, inr, nat_lt, arith, append-nil, length-append}
+use Rattle.std.proofs.Common.{◌≡◌, ◌∙◌, ◌⊎◌, ◌++◌, ◌∷◌, ◌+◌, suc, Bool, true, false, List, [], drop, length, map, None, ap, refl, sym, inl, inr, nat_lt, arith, append-nil, length-append}
 use Rattle.std.proofs.lemmas.Bool.{le-ltb, lt-ltb}
 use Rattle.call_model.specs.Call.{Call}
 use Rattle.call_model.specs.Posting.{owed_by}
 use Rattle.call_model.specs.Server as server
 use Rattle.call_model.specs.Server.{Owed}
-use Rattle.call_model.specs.Step.{Input, Output, Turn}
+use Rattle.call_model.specs.Step.{Output, Turn}
 use Rattle.call_model.specs.Take.{again_if}
 use Rattle.call_laws.specs.Stages.{Payment, Stage, owed_new, owed_of, paid_at, paid_if}
 use Rattle.call_laws.proofs.Finals.{paid}
@@ -37,7 +37,7 @@ module _ (before : List Turn) (call : Call) (stage : Stage) where
       ap (λ (b : Bool). paid_if b before call call.server.owed stage.turn.output)
       (ap (λ (os : List Owed). nat_lt (length os) (length call.server.owed)) e ∙ not_less call.server.owed more)
 
-  grows_new : (more : List Owed) → stage.call.server.owed ≡ call.server.owed ++ more → owed_new call stage ≡ more
+  pub grows_new : (more : List Owed) → stage.call.server.owed ≡ call.server.owed ++ more → owed_new call stage ≡ more
   grows_new more e = ap (λ (os : List Owed). drop (length call.server.owed) os) e ∙ drop_more call.server.owed more
 
   -- less is owed

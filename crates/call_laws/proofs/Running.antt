@@ -1,41 +1,36 @@
 -- What a call answers its caller over a run.
-use Rattle.std.proofs.Common.{◌≡◌, ◌≢◌, ◌∙◌, ◌⊎◌, ◌++◌, ◌∷◌, ◌&&◌, ℕ, zero, suc, Bool, true, false, List, [], filter, length, map, not, Option, Some, None, ap, refl, sym, subst, inl, inr, nat_lt, append-nil, append_assoc, cond}
+use Rattle.std.proofs.Common.{◌≡◌, ◌≢◌, ◌∙◌, ◌++◌, ◌∷◌, ℕ, Bool, true, false, List, [], filter, map, not, Some, ap, refl, sym, subst, inl, inr, nat_lt, append-nil, append_assoc, cond}
 use Rattle.std.proofs.lemmas.Bool.{and_from, and_parts, not_from_false, not-true}
 use Rattle.std.specs.List.{AllByRecursion}
 use Rattle.fork_model.specs.Choice.{Choice}
-use Rattle.fork_model.specs.Chosen.{IsChosen, is_due}
+use Rattle.fork_model.specs.Chosen.{is_due}
 use Rattle.fork_model.specs.ExactlyOne.{ExactlyOneFinal, NoFinalBefore, NoFinalBesideSuccess}
 use Rattle.fork_model.specs.History.{Target, finals}
-use Rattle.fork_model.specs.Log.{IsLog, Log, opening_log, table_of}
-use Rattle.fork_model.specs.Steps.{BranchesGoOn}
+use Rattle.fork_model.specs.Log.{IsLog, table_of}
 use Rattle.fork_model.specs.Table.{Row, Rules, is_finished, is_succeeded}
 use Rattle.sip_text.specs.Text.{MessageText, spelling}
-use Rattle.sip_build.specs.declared.responses.OwnStatus.TheVariants as own
-use Rattle.sip_build.specs.Upward.{upward_of}
-use Rattle.call_model.specs.Begun.{begun}
-use Rattle.call_model.specs.Behind.{BegunKeepsAnswers, StepsKeepAnswers}
-use Rattle.call_model.specs.Built.{answer_of, final_of, generated, status_of}
+use Rattle.call_model.specs.Built.{answer_of, final_of, status_of}
 use Rattle.call_model.specs.Call.{Call, rows_of}
-use Rattle.call_model.specs.Datagrams.{BegunIsBuilt, StepsKeepBuilt}
 use Rattle.call_model.specs.Fixed.{Fixed, Way, is_invite, kind_of}
 use Rattle.call_model.specs.Pump as pump
 use Rattle.call_model.specs.Server as server
-use Rattle.call_model.specs.Server.{Owed, Served, InviteServer, OtherServer, answer_event, served_out}
+use Rattle.call_model.specs.Server.{Owed, Served, InviteServer, OtherServer, answer_event, is_over, served_out}
 use Rattle.call_model.specs.Sound.{BegunIsSound, IsGiven, IsSound, IsSoundOwed, StepsKeepSound}
 use Rattle.call_model.specs.Step as step
 use Rattle.call_model.specs.Step.{Step, Turn}
 use Rattle.call_model.specs.Take.{is_response}
-use Rattle.call_laws.specs.Answers.{AnswersOnce, AreGiven, Begins, CallsPayInOrder, GivesFinal, IsPaidAs, IsPaidRight, OneFinalAnswerGoesUp, PaysInOrder, is_final, is_final_payment}
-use Rattle.call_laws.specs.Finals.{Awaits, CouldNotSend, FinalsStand, finals_owed, invite_waits, is_for_invite, other_waits, takes, waits}
+use Rattle.call_laws.specs.Answers.{AnswersOnce, AreGiven, Begins, GivesFinal, IsPaidAs, IsPaidRight, PaysInOrder, is_final, is_final_payment}
+use Rattle.call_laws.specs.Finals.{Awaits, CouldNotSend, MayBeOwed, finals_owed, is_for_invite, is_success, takes, waits}
 use Rattle.call_laws.specs.Origins.{IsOkayOf}
 use Rattle.call_laws.specs.Right.{StandsAfter, StepsStand, BegunStands, finals_paid}
 use Rattle.call_laws.specs.Stages.{Leads, Payment, Stage, end_of, owed_new, owed_of, owed_since, paid_at, payments}
 use Rattle.call_laws.proofs.Content.{final_content}
 use Rattle.call_laws.proofs.Finals.{below, final_failure, owed_more, some_same}
-use Rattle.call_laws.proofs.Logged.{AtMostOne, at_most_one, ends_once, log_more, opening_logged}
-use Rattle.call_laws.proofs.Paying.{Owing, grows_paid, less_paid, owed_is, owing, payment_at}
+use Rattle.call_laws.proofs.Logged.{AtMostOne, at_most_one, ends_once, log_more, none_of_succeeded, opening_logged}
+use Rattle.call_laws.proofs.Paying.{grows_paid, less_paid, owed_is, owing, payment_at}
 use Rattle.call_laws.proofs.Serving.{Serves, Beside, Posted, Cancelled, CancelledBoth, Acked, Faulted, Ticked, Repeated, Sent, Dropped, Again, Okayed, sent_to, serves}
-use Rattle.call_laws.proofs.Waits.{dropped_takes, failure_sent}
+use Rattle.call_laws.proofs.Waits.{dropped_takes, failure_sent, has_ended}
+use Rattle.call_laws.proofs.Accepted.{success_parts}
 
 -- ---- what holds of each call of a run
 
@@ -122,7 +117,7 @@ module _ (one : ExactlyOneFinal) (before : NoFinalBefore) (beside : NoFinalBesid
   gives_sent choice rest m output is made out =
       let same = some_same _ _ made in (
         final_of call choice,
-        final_content turns call holds.stands.answers holds.stands.origins.answers choice (head_sound (server.Final choice) rest is),
+        final_content turns call holds.stands.answers holds.stands.origins.posted choice (head_sound (server.Final choice) rest is),
         inl (out ∙ ap (λ (x : MessageText). sent_to call (spelling x)) (sym same)),
       )
 
@@ -135,9 +130,32 @@ module _ (one : ExactlyOneFinal) (before : NoFinalBefore) (beside : NoFinalBesid
       ap (λ (x : MessageText). nat_lt (status_of x) 300) (sym same) ∙ final_failure turns call holds.stands.origins.answers choice in
       let told = dropped_so (status_of m) now failure drops (waits_for choice rest is) in (
         final_of call choice,
-        final_content turns call holds.stands.answers holds.stands.origins.answers choice (head_sound (server.Final choice) rest is),
+        final_content turns call holds.stands.answers holds.stands.origins.posted choice (head_sound (server.Final choice) rest is),
         inr (out, told.0, told.1),
       )
+
+  -- a 2xx to an INVITE that the caller's transaction does not take comes to one that has ended
+  ended_so : (x : MessageText) (rest : List Owed) → call.server.owed ≡ server.Passed x ∷ rest → is_invite call.fixed ≡ true → is_success (status_of x) ≡ true
+      → takes call.server.machine (status_of x) ≡ false → is_over call.server.machine
+  ended_so x rest is invited success none =
+      let won = succeeded (is_succeeded (rows_of call)) refl in
+      let empty : handed ++ finals_owed call.server.owed ≡ [] =
+      sym holds.stands.finals.all ∙ none_of_succeeded one before beside call.log holds.log won in
+      has_ended call.server.machine (status_of x) (holds.stands.finals.side ∙ invited) success none
+      (holds.stands.finals.unfailed (join_none handed (finals_owed call.server.owed) empty))
+    where
+      join_none : (xs ys : List Choice) → xs ++ ys ≡ [] → xs ≡ []
+      join_none [] ys e = refl
+      join_none (c ∷ xs) ys e = absurd cc
+
+      -- such a response is owed only where a branch was answered with a 2xx
+      succeeded : (b : Bool) → is_succeeded (rows_of call) ≡ b → is_succeeded (rows_of call) ≡ true
+      succeeded true e = e
+      succeeded false e =
+          let A : List Owed → Type 0 = λ os. AllByRecursion (MayBeOwed call) os in
+          let head = subst A is holds.stands.owed in
+          let h : true ≡ false = sym (head.0.1 e) ∙ (success_parts (status_of x) success).0 in
+          absurd cc
 
   -- ---- each payment
 
@@ -155,7 +173,9 @@ module _ (one : ExactlyOneFinal) (before : NoFinalBefore) (beside : NoFinalBesid
   dropped_right server.Trying rest m now output is made drops out =
       inr (out, ap (λ (x : MessageText). takes call.server.machine (status_of x)) (some_same _ _ made) ∙ dropped_takes (status_of m) now call.server.machine drops)
   dropped_right (server.Passed x) rest m now output is made drops out =
-      inr (out, ap (λ (y : MessageText). takes call.server.machine (status_of y)) (some_same _ _ made) ∙ dropped_takes (status_of m) now call.server.machine drops)
+      let none : takes call.server.machine (status_of x) ≡ false =
+      ap (λ (y : MessageText). takes call.server.machine (status_of y)) (some_same _ _ made) ∙ dropped_takes (status_of m) now call.server.machine drops in
+      inr (out, none, λ invited success. ended_so x rest is invited success none)
   dropped_right (server.Final choice) rest m now output is made drops out = gives_dropped choice rest m now output is made drops out
   dropped_right server.Again rest m now output is made drops out = absurd cc
   dropped_right (server.CancelOk cancel to) rest m now output is made drops out = absurd cc

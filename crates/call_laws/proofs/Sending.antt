@@ -1,11 +1,9 @@
 -- Each datagram of a call is what its cause says.
-use Rattle.std.proofs.Common.{◌≡◌, ◌∙◌, ◌∷◌, ℕ, Bool, true, false, List, [], Option, Some, None, IfSome, ap, refl, sym, subst, inl, inr, slice_get}
+use Rattle.std.proofs.Common.{◌≡◌, ◌∙◌, ◌∷◌, ℕ, Bool, true, false, List, [], Option, Some, None, IfSome, refl, sym, subst, inl, inr, slice_get}
 use Rattle.fork_model.specs.Choice.{Choice}
 use Rattle.std.specs.List.{AllByRecursion}
-use Rattle.sip_text.specs.Text.{MessageText, spelling}
-use Rattle.sip_uri.specs.declared.hop.Hop.{Hop}
+use Rattle.sip_text.specs.Text.{MessageText}
 use Rattle.sip_txn.specs.declared.event.TxEvent.TheVariants as event
-use Rattle.call_model.specs.declared.cause.Cause.TheVariants as cause
 use Rattle.call_model.specs.Built.{Datagram, answer_of}
 use Rattle.call_model.specs.Call.{Call, leg_at}
 use Rattle.call_model.specs.Datagrams.{IsBuilt, IsBuiltLeg}

@@ -1,5 +1,5 @@
 -- What a step does to the log of a call and to its caller's side.
-use Rattle.std.proofs.Common.{◌≡◌, ◌∙◌, ◌⊎◌, ◌++◌, ◌∷◌, ℕ, Bool, true, false, List, [], length, Option, Some, None, IfSome, ap, refl, sym, subst, inl, inr, nat_lt}
+use Rattle.std.proofs.Common.{◌≡◌, ◌∙◌, ◌++◌, ◌∷◌, ℕ, Bool, true, false, List, [], length, Option, Some, None, IfSome, ap, refl, sym, subst, nat_lt}
 use Rattle.std.proofs.lemmas.Bool.{cond-false, cond-true}
 use Rattle.fork_model.specs.Event.{Event}
 use Rattle.fork_model.specs.Reply.{Reply, IsReply}
@@ -17,13 +17,13 @@ use Rattle.sip_via.specs.ViaParts.{via_of}
 use Rattle.std.specs.Prelude.{Ok}
 use Rattle.call_model.specs.declared.cause.Cause.{Cause}
 use Rattle.call_model.specs.declared.cause.Cause.TheVariants as cause
-use Rattle.call_model.specs.Built.{Datagram, answer_of, status_of}
-use Rattle.call_model.specs.Call.{Call, leg_at, set_leg}
+use Rattle.call_model.specs.Built.{answer_of, status_of}
+use Rattle.call_model.specs.Call.{Call, leg_at}
 use Rattle.call_model.specs.Due.{Deed}
 use Rattle.call_model.specs.Due as due
-use Rattle.call_model.specs.Failed.{Fails, FaultsBy, FaultsClient, cancel_faulted, faulted}
+use Rattle.call_model.specs.Failed.{Fails, FaultsBy, FaultsClient, cancel_faulted}
 use Rattle.call_model.specs.Fixed.{Fixed, Way}
-use Rattle.call_model.specs.Leg.{Leg, Cancelling}
+use Rattle.call_model.specs.Leg.{Leg}
 use Rattle.call_model.specs.Posting.{Posts, call_tag, owed_by}
 use Rattle.call_model.specs.Pump as pump
 use Rattle.call_model.specs.Pump.{Pumped, Pumps, Does, AnswersBy, AnswersWith, SendsAnswer, TicksClientBy, FiresTimerC}

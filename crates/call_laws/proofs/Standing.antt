@@ -1,26 +1,27 @@
 -- How a call stands as it begins, and after each step.
-use Rattle.std.proofs.Common.{◌≡◌, ◌∙◌, ◌++◌, ◌∷◌, ℕ, zero, suc, Bool, true, false, List, [], map, Option, Some, None, ap, refl, sym, subst, inl, slice_get, cond}
+use Rattle.std.proofs.Common.{◌≡◌, ◌++◌, ◌∷◌, ℕ, zero, suc, Bool, true, false, List, [], map, Some, refl, sym, subst, inl, slice_get, cond}
 use Rattle.std.specs.List.{AllByRecursion}
-use Rattle.fork_model.specs.Choice.{Choice}
 use Rattle.fork_model.specs.History.{Target}
 use Rattle.fork_model.specs.Log.{opening_log}
 use Rattle.fork_model.specs.Steps.{BranchesGoOn}
 use Rattle.fork_model.specs.Table.{Kind, Row, Rules}
 use Rattle.fork_model.specs.Table as table
 use Rattle.call_model.specs.Begun.{begun}
-use Rattle.call_model.specs.Behind.{BegunKeepsAnswers, StepsKeepAnswers}
+use Rattle.sip_text.specs.Text.{MessageText}
+use Rattle.call_model.specs.Behind.{BegunKeepsAnswers, FirstsStayOrCome, StepsKeepAnswers}
+use Rattle.call_model.specs.Built.{answer_in}
 use Rattle.call_model.specs.Call.{Call, found}
 use Rattle.call_model.specs.Datagrams.{BegunIsBuilt, StepsKeepBuilt}
 use Rattle.call_model.specs.Fixed.{Fixed, Way, is_invite, kind_of}
 use Rattle.call_model.specs.Leg.{Leg}
 use Rattle.call_model.specs.Posting.{no_leg}
-use Rattle.call_model.specs.Server.{Owed, Served, first_owed, served_start}
-use Rattle.call_model.specs.Step.{Turn}
-use Rattle.call_laws.specs.Finals.{Awaits, FinalsStand, MayBeOwed, finals_owed, is_for_invite}
+use Rattle.call_model.specs.Server.{Owed, first_owed, served_start}
+use Rattle.call_laws.specs.Finals.{Awaits, FinalsStand, MayBeOwed, finals_owed, has_failed, is_for_invite}
 use Rattle.call_laws.specs.Last.{IsUnsent}
 use Rattle.call_laws.specs.Origins.{IsOkayOf}
-use Rattle.call_laws.specs.Right.{BegunStands, StandsAfter, StepsStand}
-use Rattle.call_laws.specs.Stages.{Stage, owed_of, paid_at}
+use Rattle.call_laws.specs.Right.{BegunStands, StepsStand}
+use Rattle.call_laws.specs.Stages.{Stage}
+use Rattle.call_laws.proofs.Accepted.{KeepsAccepted}
 use Rattle.call_laws.proofs.Finals.{finals_step, owes_step}
 use Rattle.call_laws.proofs.Last.{last_step}
 use Rattle.call_laws.proofs.Legs.{parts}
@@ -34,6 +35,11 @@ no_part : (rows : List Row) (n : ℕ) (leg : Leg) → found (slice_get (map no_l
 no_part [] n leg e = absurd cc
 no_part (row ∷ rows) zero leg e = absurd cc
 no_part (row ∷ rows) (suc n) leg e = no_part rows n leg e
+
+no_answer : (rows : List Row) (n : ℕ) (m : MessageText) → answer_in (found (slice_get (map no_leg rows) n)) ≡ Some m → ⊥
+no_answer [] n m e = absurd cc
+no_answer (row ∷ rows) zero m e = absurd cc
+no_answer (row ∷ rows) (suc n) m e = no_answer rows n m e
 
 first_finals : (kind : Kind) → finals_owed (first_owed kind) ≡ []
 first_finals table.Invite = refl
@@ -50,6 +56,10 @@ first_okays table.Other = tt
 first_waits : (kind : Kind) → Awaits [] (served_start kind)
 first_waits table.Invite = refl
 first_waits table.Other = inl refl
+
+first_unfailed : (kind : Kind) → has_failed (served_start kind) ≡ false
+first_unfailed table.Invite = refl
+first_unfailed table.Other = refl
 
 first_unsent : (kind : Kind) → IsUnsent (served_start kind) (first_owed kind)
 first_unsent table.Invite = (refl, [], refl)
@@ -73,6 +83,7 @@ begun_stands built answers fixed rules targets ways =
         acks = λ n leg bytes there is. absurd (no_part _ n leg there);
         okays = first_okays (kind_of fixed);
         answers = λ n leg m there is. absurd (no_part _ n leg there);
+        posted = λ n stored has came first. let kept = answers fixed rules targets ways n stored has came first in absurd (no_answer _ n kept.0 kept.1);
       };
       owed = first_responses call (kind_of fixed);
       finals = record {
@@ -80,14 +91,19 @@ begun_stands built answers fixed rules targets ways =
         all = sym (first_finals (kind_of fixed));
         waiting = λ none not_yet. first_waits (kind_of fixed);
         answered = λ some. absurd (some refl);
+        unfailed = λ none. first_unfailed (kind_of fixed);
       };
       last = λ none. first_unsent (kind_of fixed);
     }
 
+-- no branch has accepted a 2xx
+pub none_accepted : (fixed : Fixed) (rules : Rules) (targets : List Target) (ways : List Way) → KeepsAccepted (begun fixed (opening_log (kind_of fixed) rules targets) ways)
+none_accepted fixed rules targets ways n leg there has = absurd (no_part _ n leg there)
+
 -- ---- after a step
 
-pub steps_stand : StepsKeepBuilt → StepsKeepAnswers → BranchesGoOn → StepsStand
-steps_stand built answers goes_on turns handed turn call new sound stands step =
+pub steps_stand : StepsKeepBuilt → StepsKeepAnswers → FirstsStayOrCome → BranchesGoOn → StepsStand
+steps_stand built answers firsts goes_on turns handed turn call new sound stands step =
     let stage : Stage = record { turn = turn; call = new } in
     let p = parts turn.now call turn.input new turn.output step in
     let s = serves turn.now call turn.input new turn.output step in
@@ -95,7 +111,7 @@ steps_stand built answers goes_on turns handed turn call new sound stands step =
     record {
       built = built turn call new stands.built step;
       answers = answers turn call new sound stands.answers step;
-      origins = origins_step turns turn call new step stands.origins;
+      origins = origins_step turns turn call new firsts sound step stands.origins;
       owed = owes_step goes_on turns turn call new p.fixed s stands.owed;
       finals = subst F (sym (paid_is turns call stage s)) (finals_step goes_on turns turn call new p.fixed handed s stands.owed stands.origins.answers stands.finals);
       last = last_step turn.now call new turn.input turn.output s stands.last;

@@ -1,15 +1,15 @@
 -- A fork that has succeeded stays so, and where a 2xx goes up it has.
-use Rattle.std.proofs.Common.{◌≡◌, ◌∙◌, ◌⊎◌, ◌++◌, ◌∷◌, ◌&&◌, ◌||◌, ℕ, zero, suc, Bool, true, false, List, [], map, Option, Some, None, ap, refl, sym, subst, inl, inr, nat_lt, slice_get, cond}
-use Rattle.std.proofs.lemmas.Bool.{and_parts, cond-false, cond-true, or_cases, or_left, or_right}
+use Rattle.std.proofs.Common.{◌≡◌, ◌∙◌, ◌⊎◌, ◌++◌, ◌∷◌, ◌||◌, ℕ, zero, suc, Bool, true, false, List, [], map, Option, Some, None, ap, refl, sym, subst, inl, inr, nat_lt, slice_get, cond}
+use Rattle.std.proofs.lemmas.Bool.{and_parts, cond-true, or_cases, or_left, or_right}
 use Rattle.std.specs.List.{list_any}
 use Rattle.std.specs.Option.{option_map}
 use Rattle.std.specs.Prelude.{unwrap_or}
 use Rattle.fork_model.specs.Event.{Event, FinalAnswer}
 use Rattle.fork_model.specs.Event as fork
 use Rattle.fork_model.specs.Reply.{success, success_goes_up}
-use Rattle.fork_model.specs.Step.{Effect, accepts, answers, change_at, effect, next, settled, settled_row, settled_state, with_effect, with_state}
+use Rattle.fork_model.specs.Step.{Effect, accepts, answers, change_at, effect, next, settled, settled_row, with_effect, with_state}
 use Rattle.fork_model.specs.Steps.{BranchesGoOn, GoesOn}
-use Rattle.fork_model.specs.Table.{Kind, Invite, Other, Row, State, Table, Idle, Trying, Rung, Ended, End, Stored, Taken, Silent, Never, Accepted, is_accepted, is_ended, is_open, is_row, is_succeeded}
+use Rattle.fork_model.specs.Table.{Kind, Invite, Other, Row, State, Table, Idle, Trying, Rung, Ended, Accepted, is_accepted, is_ended, is_open, is_row, is_succeeded}
 
 any_index : (rows : List Row) → list_any (λ row. is_accepted row.state) rows ≡ true
     → (n : ℕ) × (row : Row) × (slice_get rows n ≡ Some row) × (is_accepted row.state ≡ true)
@@ -50,6 +50,10 @@ succeeded_before t u goes e = by (is_succeeded t.rows) refl
     by true is = absurd (let h : true ≡ false = sym (succeeded_later t u goes is) ∙ e in cc)
     by false is = is
 
+pub row_of : (test : State → Bool) (o : Option Row) → is_row test o ≡ true → (row : Row) × (o ≡ Some row) × (test row.state ≡ true)
+row_of test None e = absurd cc
+row_of test (Some row) e = (row, refl, e)
+
 -- ---- where a 2xx goes up
 
 settled_accepted : (u : Table) (at : ℕ) (row : Row) → u.closed ≡ true → is_accepted (settled_row u (record row { state = Ended (Accepted at) })).state ≡ true
@@ -79,13 +83,41 @@ accepts_open t k at a row there is lt =
     by (Rung cancelled) e = made
     by (Ended end) e = absurd cc
 
+-- the row itself is accepted
+this_accepted : (u : Table) (at : ℕ) → u.closed ≡ true → (rows fresh : List Row) (k : ℕ) (row : Row) → slice_get rows k ≡ Some row
+    → is_row is_accepted (slice_get (map (settled_row u) (with_state rows k (Ended (Accepted at)) ++ fresh)) k) ≡ true
+this_accepted u at closed [] fresh k row there = absurd cc
+this_accepted u at closed (x ∷ rows) fresh zero row there = settled_accepted u at x closed
+this_accepted u at closed (x ∷ rows) fresh (suc k) row there = this_accepted u at closed rows fresh k row there
+
+pub accepts_row : (t : Table) (k at : ℕ) (a : FinalAnswer) (row : Row) → slice_get t.rows k ≡ Some row → is_open row.state ≡ true → nat_lt a.status 300 ≡ true
+    → is_row is_accepted (slice_get (next t (fork.Answer k a) at).rows k) ≡ true
+accepts_row t k at a row there is lt =
+    let F : Option Row → Type 0 = λ o. is_row is_accepted (slice_get (unwrap_or (option_map settled (change_at t at (fork.Answer k a) k o)) t).rows k) ≡ true in
+    subst F (sym there) (by row.state is)
+  where
+    made : is_row is_accepted (slice_get (settled (with_effect t k (answers t k row at a))).rows k) ≡ true
+    made =
+        let E : Effect → Type 0 = λ x. is_row is_accepted (slice_get (settled (with_effect t k x)).rows k) ≡ true in
+        subst E (sym (cond-true _ _ _ lt)) (this_accepted (with_effect t k (accepts at)) at (or_right t.closed true refl) t.rows [] k row there)
+
+    by : (s : State) → is_open s ≡ true
+        → is_row is_accepted (slice_get (unwrap_or (option_map settled (option_map (with_effect t k) (effect t row at (fork.Answer k a) s))) t).rows k) ≡ true
+    by Idle e = absurd cc
+    by Trying e = made
+    by (Rung cancelled) e = made
+    by (Ended end) e = absurd cc
+
+-- and stays so
+pub accepted_stays : (t u : Table) → GoesOn t u → (n : ℕ) → is_row is_accepted (slice_get t.rows n) ≡ true → is_row is_accepted (slice_get u.rows n) ≡ true
+accepted_stays t u goes n e =
+    let row = row_of is_accepted (slice_get t.rows n) e in
+    let later = goes n row.0 row.1 in
+    ap (is_row is_accepted) later.1 ∙ ap is_accepted (later.2.ended (accepted_ended row.0.state row.2)) ∙ row.2
+
 goes_up : (t : Table) (kind : Kind) (row : Option Row) → success_goes_up t kind row ≡ true → (is_row is_open row ≡ true) ⊎ (is_row is_accepted row ≡ true)
 goes_up t Invite row e = or_cases _ _ e
 goes_up t Other row e = inl (and_parts _ _ e).0
-
-row_of : (test : State → Bool) (o : Option Row) → is_row test o ≡ true → (row : Row) × (o ≡ Some row) × (test row.state ≡ true)
-row_of test None e = absurd cc
-row_of test (Some row) e = (row, refl, e)
 
 cond_some : (b : Bool) (k n : ℕ) → cond {A = Option ℕ} b (Some k) None ≡ Some n → b ≡ true
 cond_some true k n e = refl

@@ -1,5 +1,5 @@
 -- When the caller's transaction waits for a final answer: until it is handed one, and from then on no more.
-use Rattle.std.proofs.Common.{◌≡◌, ◌∙◌, ◌&&◌, not, ℕ, Bool, true, false, List, Option, Some, None, ap, refl, sym, subst, inl, inr, ◌⊎◌, nat_lt}
+use Rattle.std.proofs.Common.{◌≡◌, ◌∙◌, ◌&&◌, not, ℕ, Bool, true, false, List, Option, Some, None, ap, refl, sym, subst, inl, inr, nat_lt}
 use Rattle.std.specs.Prelude.{if◌then◌else◌}
 use Rattle.std.proofs.lemmas.Bool.{and_right, cond-false, cond-true, false_from_ne_true}
 use Rattle.sip_txn.specs.declared.event.TxEvent.{TxEvent}
@@ -16,10 +16,10 @@ use Rattle.sip_txn.specs.Machine.{row_machine, row_out}
 use Rattle.sip_txn.specs.Timers.{input_of, is_due, moment_of}
 use Rattle.sip_txn.specs.InviteServer.{invite_server}
 use Rattle.sip_txn.specs.OtherServer.{other_server}
-use Rattle.call_model.specs.Server.{Served, InviteServer, OtherServer, answer_event, served_after, served_out}
+use Rattle.call_model.specs.Server.{Served, InviteServer, OtherServer, answer_event, is_over, served_after, served_out}
 use Rattle.call_model.specs.Step.{Turn}
 use Rattle.call_model.specs.Take.{is_response}
-use Rattle.call_laws.specs.Finals.{Awaits, CouldNotSend, invite_takes, invite_waits, is_for_invite, is_success, other_waits, takes, waits}
+use Rattle.call_laws.specs.Finals.{Awaits, CouldNotSend, has_failed, invite_failed, invite_takes, invite_waits, is_for_invite, is_success, other_waits, takes, waits}
 
 -- ---- the state that a row leads to
 
@@ -325,3 +325,82 @@ takes_sent status now machine e = by (nat_lt status 200) (nat_lt status 300) ref
 -- so what is dropped it does not take
 pub dropped_takes : (status now : ℕ) (machine : Served) → is_response (served_out (answer_event status) now machine).send ≡ false → takes machine status ≡ false
 dropped_takes status now machine drops = false_from_ne_true (takes machine status) (λ e. absurd (let h : true ≡ false = sym (takes_sent status now machine e) ∙ drops in cc))
+
+-- ---- no failure was handed to that of an INVITE
+
+invite_unfailed : (i : Input) → invite_failed (after (invite_server invite.Proceeding i) invite.Proceeding) ≡ false
+    → invite_failed (after (invite_server invite.Accepted i) invite.Accepted) ≡ false
+    → invite_failed (after (invite_server invite.Terminated i) invite.Terminated) ≡ false
+    → (s : InviteServerState) → invite_failed s ≡ false → invite_failed (after (invite_server s i) s) ≡ false
+invite_unfailed i a b c invite.Proceeding e = a
+invite_unfailed i a b c invite.Completed e = absurd cc
+invite_unfailed i a b c invite.Confirmed e = absurd cc
+invite_unfailed i a b c invite.Accepted e = b
+invite_unfailed i a b c invite.Terminated e = c
+
+ticked_unfailed : (s : InviteServerState) (end repeat : Bool) → invite_failed s ≡ false → invite_failed (after (invite_server s (by_tick end repeat)) s) ≡ false
+ticked_unfailed s true repeat e = invite_unfailed input.EndDue refl refl refl s e
+ticked_unfailed s false true e = invite_unfailed input.RepeatDue refl refl refl s e
+ticked_unfailed s false false e = invite_unfailed input.NothingDue refl refl refl s e
+
+abbrev pub NoneFails : TxEvent → Type 0
+NoneFails ev = (now : ℕ) (machine : Served) → has_failed machine ≡ false → has_failed (served_after ev now machine) ≡ false
+
+pub request_unfailed : NoneFails event.Request
+request_unfailed now (InviteServer m) e =
+    ap invite_failed (state_after (invite_server m.state (input.Event event.Request)) now m) ∙ invite_unfailed (input.Event event.Request) refl refl refl m.state e
+request_unfailed now (OtherServer m) e = refl
+
+pub ack_unfailed : NoneFails event.Ack
+ack_unfailed now (InviteServer m) e =
+    ap invite_failed (state_after (invite_server m.state (input.Event event.Ack)) now m) ∙ invite_unfailed (input.Event event.Ack) refl refl refl m.state e
+ack_unfailed now (OtherServer m) e = refl
+
+pub error_unfailed : NoneFails event.TransportError
+error_unfailed now (InviteServer m) e =
+    ap invite_failed (state_after (invite_server m.state (input.Event event.TransportError)) now m)
+    ∙ invite_unfailed (input.Event event.TransportError) refl refl refl m.state e
+error_unfailed now (OtherServer m) e = refl
+
+pub tick_unfailed : NoneFails event.Tick
+tick_unfailed now (InviteServer m) e =
+    ap invite_failed (state_after (invite_server m.state (input_of event.Tick now m.timers)) now m)
+    ∙ ticked_unfailed m.state (is_due now m.timers.end) (is_due now (moment_of m.timers.repeat)) e
+tick_unfailed now (OtherServer m) e = refl
+
+provisional_unfailed : NoneFails event.AnswerProvisional
+provisional_unfailed now (InviteServer m) e =
+    ap invite_failed (state_after (invite_server m.state (input.Event event.AnswerProvisional)) now m)
+    ∙ invite_unfailed (input.Event event.AnswerProvisional) refl refl refl m.state e
+provisional_unfailed now (OtherServer m) e = refl
+
+success_unfailed : NoneFails event.AnswerSuccess
+success_unfailed now (InviteServer m) e =
+    ap invite_failed (state_after (invite_server m.state (input.Event event.AnswerSuccess)) now m)
+    ∙ invite_unfailed (input.Event event.AnswerSuccess) refl refl refl m.state e
+success_unfailed now (OtherServer m) e = refl
+
+-- by an answer that is no failure
+pub answered_unfailed : (status now : ℕ) (machine : Served) → nat_lt status 300 ≡ true → has_failed machine ≡ false
+    → has_failed (served_after (answer_event status) now machine) ≡ false
+answered_unfailed status now machine small e = by (nat_lt status 200) refl
+  where
+    P : TxEvent → Type 0
+    P ev = has_failed (served_after ev now machine) ≡ false
+
+    by : (b : Bool) → nat_lt status 200 ≡ b → has_failed (served_after (answer_event status) now machine) ≡ false
+    by true is = subst P (sym (cond-true _ _ _ is)) (provisional_unfailed now machine e)
+    by false is = subst P (sym (cond-false _ _ _ is ∙ cond-true _ _ _ small)) (success_unfailed now machine e)
+
+-- one that had none, and takes no 2xx, has ended
+pub has_ended : (machine : Served) (status : ℕ) → is_for_invite machine ≡ true → is_success status ≡ true → takes machine status ≡ false → has_failed machine ≡ false
+    → is_over machine
+has_ended (InviteServer m) status side success e none = by m.state (sym (ap (invite_takes m.state) success) ∙ e) none
+  where
+    by : (s : InviteServerState) → invite_takes s true ≡ false → invite_failed s ≡ false → s ≡ invite.Terminated
+    by invite.Proceeding e none = absurd cc
+    by invite.Completed e none = absurd cc
+    by invite.Confirmed e none = absurd cc
+    by invite.Accepted e none = absurd cc
+    by invite.Terminated e none = refl
+has_ended (OtherServer m) status side success e none = absurd cc

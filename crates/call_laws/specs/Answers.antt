@@ -22,22 +22,23 @@ use Rattle.call_model.specs.Pump.{Send}
 use Rattle.call_model.specs.Pump as pump
 use Rattle.call_model.specs.Response.{event_by}
 use Rattle.call_model.specs.Server as server
-use Rattle.call_model.specs.Server.{Owed}
+use Rattle.call_model.specs.Server.{Owed, is_over}
 use Rattle.call_model.specs.Sound.{IsGiven}
 use Rattle.call_model.specs.Step.{Did, Turn}
-use Rattle.call_laws.specs.Finals.{CouldNotSend, takes}
-use Rattle.call_laws.specs.Origins.{Came, CameCancel}
+use Rattle.call_laws.specs.Finals.{CouldNotSend, is_success, takes}
+use Rattle.call_laws.specs.Origins.{CameCancel, CamePosted}
 use Rattle.call_laws.specs.Stages.{Leads, Payment, Stage, end_of, owed_of, owed_since, payments}
 
 -- ---- the final answer
 
--- of branch n, which has this stored answer: where that came, the very response that came from the branch, as it goes up, with
--- the contacts left and the challenges that are due; where it was assumed, a generated 408 (section 16.7 steps 4 to 9)
+-- of branch n, which has this stored answer: where that came, the very response that came from the branch and was posted as the
+-- event that stored it, as it goes up, with the contacts left and the challenges that are due; where it was assumed, a generated
+-- 408 (section 16.7 steps 4 to 9)
 abbrev pub IsBestAnswer : List Turn → Call → (n : ℕ) → StoredAnswer → MessageText → Type 0
 IsBestAnswer turns call n stored answer =
     ((stored.received ≡ true)
     × (response : MessageText)
-    × Came turns n response
+    × CamePosted turns n stored.arrival response
     × (slice_get (events_of call.log.history) stored.arrival ≡ Some (event_by call.fixed.is_responsible n (status_of response) response))
     × (answer ≡ upward_of response (kept_of stored) (challenge_list (rows_of call) (Best n))))
     ⊎ ((stored.received ≡ false) × (answer ≡ generated call.fixed own.RequestTimeout))
@@ -63,6 +64,15 @@ Drops payment = payment.output ≡ Did pump.Did
 abbrev pub Gives : Payment → MessageText → Type 0
 Gives payment answer = Sends payment answer ⊎ (Drops payment × (takes payment.call.server.machine (status_of answer) ≡ false))
 
+-- a response of a branch is sent as it came, with its own bytes behind the proxy's Via value, or dropped so; a 2xx to an INVITE is
+-- dropped only once the caller's transaction has ended, which it does by timer L
+abbrev pub GivesPassed : Payment → MessageText → Type 0
+GivesPassed payment response =
+    Sends payment (upward_of response None [])
+    ⊎ (Drops payment
+    × (takes payment.call.server.machine (status_of response) ≡ false)
+    × (is_invite payment.call.fixed ≡ true → is_success (status_of response) ≡ true → is_over payment.call.server.machine))
+
 -- the final answer is sent; that to a request other than INVITE is dropped where an answer before it could not be sent
 abbrev pub GivesFinal : Payment → Choice → Type 0
 GivesFinal payment choice =
@@ -70,12 +80,11 @@ GivesFinal payment choice =
     × IsFinalAnswer payment.before payment.call choice answer
     × (Sends payment answer ⊎ (Drops payment × (is_invite payment.call.fixed ≡ false) × CouldNotSend payment.before))
 
--- what was owed first is paid so: a 100 is the generated one, a response of a branch goes up as it came, with its own bytes
--- behind the proxy's Via value; the last answer again is what was sent last; the 200 to a CANCEL is made of that CANCEL as it
--- was marked, and goes where that is answered
+-- what was owed first is paid so: a 100 is the generated one, a response of a branch goes up as it came; the last answer again is
+-- what was sent last; the 200 to a CANCEL is made of that CANCEL as it was marked, and goes where that is answered
 abbrev pub IsPaidAs : Payment → Owed → Type 0
 IsPaidAs payment server.Trying = Gives payment (generated payment.call.fixed own.Trying)
-IsPaidAs payment (server.Passed response) = Gives payment (upward_of response None [])
+IsPaidAs payment (server.Passed response) = GivesPassed payment response
 IsPaidAs payment (server.Final choice) = GivesFinal payment choice
 IsPaidAs payment server.Again =
     payment.output ≡ Did (Send (record { to = payment.call.fixed.caller; bytes = payment.call.server.last; cause = cause.Answer }))

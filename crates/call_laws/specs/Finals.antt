@@ -1,11 +1,10 @@
 -- How the final answers of a call stand: those of its log were handed to the caller's transaction, or are still owed to it
 -- (RFC 3261 sections 16.7 steps 5 to 9 and 17.2).
-use Rattle.std.specs.Prelude.{◌≡◌, ◌⊎◌, ◌&&◌, ℕ, not, nat_lt, Bool, true, false, List, [], ◌∷◌, ◌++◌, Some}
+use Rattle.std.specs.Prelude.{◌≡◌, ◌⊎◌, ◌&&◌, ℕ, not, nat_lt, Bool, true, false, List, [], ◌∷◌, ◌++◌}
 use Rattle.std.specs.List.{AllByRecursion}
 use Rattle.fork_model.specs.Choice.{Choice}
 use Rattle.fork_model.specs.History.{finals}
 use Rattle.fork_model.specs.Table.{is_succeeded}
-use Rattle.sip_text.specs.Text.{MessageText}
 use Rattle.sip_txn.specs.declared.invite_server.InviteServerState.{InviteServerState}
 use Rattle.sip_txn.specs.declared.invite_server.InviteServerState.TheVariants as invite
 use Rattle.sip_txn.specs.declared.other_server.OtherServerState.{OtherServerState}
@@ -53,6 +52,18 @@ abbrev pub takes : Served → (status : ℕ) → Bool
 takes (InviteServer m) status = invite_takes m.state (is_success status)
 takes (OtherServer m) status = other_waits m.state
 
+-- a failure was handed to it, and it has not ended yet
+abbrev pub invite_failed : InviteServerState → Bool
+invite_failed invite.Proceeding = false
+invite_failed invite.Completed = true
+invite_failed invite.Confirmed = true
+invite_failed invite.Accepted = false
+invite_failed invite.Terminated = false
+
+abbrev pub has_failed : Served → Bool
+has_failed (InviteServer m) = invite_failed m.state
+has_failed (OtherServer m) = false
+
 -- by one of these turns it was told that an answer could not be sent
 abbrev pub CouldNotSend : List Turn → Type 0
 CouldNotSend turns = (turn : Turn) × IsTurnOf turns turn × (turn.input ≡ Failed cause.Answer)
@@ -79,12 +90,13 @@ finals_owed (CancelOk cancel to ∷ rest) = finals_owed rest
 
 -- after these turns, these were handed to the caller's transaction: with those that are owed they are the finals of the log, in
 -- order; until one was handed, and where no branch was answered with a 2xx, the transaction waits for it, and from then on no
--- more
+-- more; that of an INVITE has had no failure before
 pub record FinalsStand (turns : List Turn) (handed : List Choice) (call : Call) : Type 0 where
   pub side : is_for_invite call.server.machine ≡ is_invite call.fixed
   pub all : finals call.log.replies ≡ handed ++ finals_owed call.server.owed
   pub waiting : handed ≡ [] → is_succeeded (rows_of call) ≡ false → Awaits turns call.server.machine
   pub answered : (handed ≡ [] → ⊥) → waits call.server.machine ≡ false
+  pub unfailed : handed ≡ [] → has_failed call.server.machine ≡ false
 
 -- ---- responses that are owed
 

@@ -5,3 +5,4 @@ pub mod Stages
 pub mod Right
 pub mod Sending
 pub mod Answers
+pub mod Successes

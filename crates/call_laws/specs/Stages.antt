@@ -1,5 +1,5 @@
 -- A run of a call with each call in it, and what it paid of what it owed to its caller (RFC 3261 sections 16.7 and 17.2).
-use Rattle.std.specs.Prelude.{ℕ, nat_lt, Bool, true, false, List, [], ◌∷◌, ◌++◌, drop, length}
+use Rattle.std.specs.Prelude.{nat_lt, Bool, true, false, List, [], ◌∷◌, ◌++◌, drop, length}
 use Rattle.call_model.specs.Call.{Call}
 use Rattle.call_model.specs.Server.{Owed}
 use Rattle.call_model.specs.Step.{Output, Step, Turn}

@@ -2,23 +2,24 @@
 ghost use Rattle.call_laws.specs.Answers.{CallsPayInOrder, OneFinalAnswerGoesUp};
 ghost use Rattle.call_laws.specs.Right.{BegunStands, StepsStand};
 ghost use Rattle.call_laws.specs.Sending.{WhatIsSentIsRight};
+ghost use Rattle.call_laws.specs.Successes.{EachSuccessGoesUp};
 
-use call_model::{branches_keep_their_answers, calls_stay_sound, datagrams_are_right};
+use call_model::{branches_keep_their_answers, branches_keep_what_they_send, calls_stay_sound};
 use fork_model::{branches_go_on, exactly_one_final};
 
 /// What a call keeps to be sent is right as it begins to its targets, and each step of a sound call keeps it so: the part of
-/// each branch is as it was made, the branch with the best stored answer keeps the response that it was, each failure that is
-/// kept and each ACK that is owed comes from a response that came to that branch, and each 200 that is owed from a CANCEL that
-/// came. The finals of its log are those that were handed to its caller's transaction and those that are still owed, and until
-/// one was handed, in a call without a 2xx, the transaction waits for it. Where it may send an answer again, one was sent (RFC
-/// 3261 sections 9.1, 16.6, 16.7, 17.1.1.3 and 17.2).
+/// each branch is as it was made, the branch with the best stored answer keeps the response that was posted at its arrival, each
+/// failure that is kept and each ACK that is owed comes from a response that came to that branch, and each 200 that is owed from
+/// a CANCEL that came. The finals of its log are those that were handed to its caller's transaction and those that are still
+/// owed, and until one was handed, in a call without a 2xx, the transaction waits for it. Where it may send an answer again, one
+/// was sent (RFC 3261 sections 9.1, 16.6, 16.7, 17.1.1.3 and 17.2).
 ///
 /// A law over the definitions, with nothing to run.
 pub fn calls_send_right()
     ensures begun { BegunStands }
     ensures kept { StepsStand }
 {
-    datagrams_are_right();
+    branches_keep_what_they_send();
     branches_keep_their_answers();
     branches_go_on();
 }
@@ -36,7 +37,8 @@ pub fn what_is_sent_is_right()
 /// What a call comes to owe to its caller is paid once, in the order in which it came to be owed, or is still owed: a 100 is the
 /// generated one, a provisional response and a 2xx go up as they came, a 200 to a CANCEL goes where that is answered, and the
 /// final answer is sent. Where the server transaction does not send what it is handed, that is dropped: the final answer to an
-/// INVITE never is, that to another request only where an answer could not be sent before (RFC 3261 sections 16.7 and 17.2).
+/// INVITE never is, that to another request only where an answer could not be sent before, and a 2xx to an INVITE only once the
+/// transaction has ended (RFC 3261 sections 16.7 and 17.2).
 ///
 /// A law over the definitions, with nothing to run.
 pub fn calls_pay_in_order()
@@ -49,9 +51,9 @@ pub fn calls_pay_in_order()
 
 /// Once every branch of a call has ended, none with a 2xx, and nothing is owed to its caller any more, one final answer was
 /// handed to the caller's transaction, and no other: the choice of the fork. Where that is a branch whose answer came, it is the
-/// very response that came from this branch as it goes up, with the contacts left and the challenges that are due; where the
-/// answer of the branch was assumed, or none is stored, a generated 408; where all that is stored is 503, a generated 500 (RFC
-/// 3261 section 16.7 steps 4 to 9).
+/// very response that came from this branch, and was posted as the event that stored its answer, as it goes up, with the contacts
+/// left and the challenges that are due; where the answer of the branch was assumed, or none is stored, a generated 408; where
+/// all that is stored is 503, a generated 500 (RFC 3261 section 16.7 steps 4 to 9).
 ///
 /// A law over the definitions, with nothing to run.
 pub fn one_final_answer_goes_up()
@@ -60,4 +62,19 @@ pub fn one_final_answer_goes_up()
     calls_send_right();
     calls_stay_sound();
     exactly_one_final();
+}
+
+/// Each 2xx that a branch of an INVITE answers, and that is posted, comes to be owed to the caller by that turn, whichever
+/// branch it is of and however many came before it. Once nothing is owed any more it was paid, at its place in the order in
+/// which all came to be owed: it was sent with its own bytes behind the proxy's Via value, or it was dropped since the caller's
+/// transaction had ended, which it does by timer L, 64 times T1 after the first 2xx (RFC 3261 sections 13.3.1.4 and 16.7 step 5,
+/// RFC 6026 section 7.1).
+///
+/// A law over the definitions, with nothing to run.
+pub fn each_success_goes_up()
+    ensures { EachSuccessGoesUp }
+{
+    calls_pay_in_order();
+    calls_stay_sound();
+    branches_go_on();
 }

@@ -1,4 +1,5 @@
-//! What holds of every call over whole runs: what it sends is right, and one final answer goes up (RFC 3261 sections 16 and 17).
+//! What holds of every call over whole runs: what it sends is right, one final answer goes up, and so does
+//! each 2xx of an INVITE (RFC 3261 sections 16 and 17).
 //!
 //! Laws over the definitions of calls, with nothing to run.
 #![tactic(auto)]
@@ -6,5 +7,6 @@
 mod law;
 
 pub use law::{
-    calls_pay_in_order, calls_send_right, one_final_answer_goes_up, what_is_sent_is_right,
+    calls_pay_in_order, calls_send_right, each_success_goes_up, one_final_answer_goes_up,
+    what_is_sent_is_right,
 };
