@@ -17,7 +17,8 @@ use Rattle.call_model.specs.Built.{answer_in, best_of, final_of, generated, kept
 use Rattle.call_model.specs.Call.{Call, leg_at, rows_of}
 use Rattle.call_model.specs.Step.{Turn}
 use Rattle.call_laws.specs.Answers.{IsBestAnswer, IsFinalAnswer}
-use Rattle.call_laws.specs.Origins.{CamePosted, KeepsPosted}
+use Rattle.call_laws.specs.Came.{CamePosted}
+use Rattle.call_laws.specs.Origins.{KeepsPosted}
 
 -- a score is that of a stored answer
 scored : (t : Table) (n : ℕ) (score : Score) → HasScore t.rows n score

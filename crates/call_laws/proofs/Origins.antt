@@ -15,7 +15,8 @@ use Rattle.call_model.specs.Server.{Owed}
 use Rattle.call_model.specs.Step.{Step, Turn}
 use Rattle.call_model.specs.Sound.{IsSound}
 use Rattle.call_model.specs.Take.{again_if}
-use Rattle.call_laws.specs.Origins.{Came, CameCancel, CamePosted, ComesFrom, IsOkayOf, IsTurnOf, KeepsPosted, KeepsWhatCame, OwesAcks, OwesOkays}
+use Rattle.call_laws.specs.Came.{Came, CameCancel, CamePosted, IsTurnOf}
+use Rattle.call_laws.specs.Origins.{ComesFrom, IsOkayOf, KeepsPosted, KeepsWhatCame, OwesAcks, OwesOkays}
 use Rattle.call_laws.proofs.Legs.{Parts, TakesFailure, ack_in, parts}
 use Rattle.call_laws.proofs.Serving.{IsMarkedNow, Serves, Beside, Posted, Cancelled, CancelledBoth, Acked, Faulted, Ticked, Repeated, Sent, Dropped, Again, Okayed, serves}
 

@@ -26,7 +26,7 @@ use Rattle.call_model.specs.Server.{Owed, is_over}
 use Rattle.call_model.specs.Sound.{IsGiven}
 use Rattle.call_model.specs.Step.{Did, Turn}
 use Rattle.call_laws.specs.Finals.{CouldNotSend, is_success, takes}
-use Rattle.call_laws.specs.Origins.{CameCancel, CamePosted}
+use Rattle.call_laws.specs.Came.{CameCancel, CamePosted}
 use Rattle.call_laws.specs.Stages.{Leads, Payment, Stage, end_of, owed_of, owed_since, payments}
 
 -- ---- the final answer

@@ -15,7 +15,7 @@ use Rattle.call_model.specs.Call.{Call, rows_of}
 use Rattle.call_model.specs.Fixed.{is_invite}
 use Rattle.call_model.specs.Server.{Owed, Trying, Passed, Final, Again, CancelOk, Served, InviteServer, OtherServer}
 use Rattle.call_model.specs.Step.{Failed, Turn}
-use Rattle.call_laws.specs.Origins.{IsTurnOf}
+use Rattle.call_laws.specs.Came.{IsTurnOf}
 
 -- ---- the caller's transaction
 

@@ -1,3 +1,4 @@
+pub mod Came
 pub mod Origins
 pub mod Finals
 pub mod Last

@@ -15,7 +15,8 @@ use Rattle.call_model.specs.Server.{Owed, CancelOk}
 use Rattle.call_model.specs.Step as step
 use Rattle.call_model.specs.Step.{Step, Turn}
 use Rattle.fork_model.specs.Choice.{Choice}
-use Rattle.call_laws.specs.Origins.{AnswersFailure, CameCancel}
+use Rattle.call_laws.specs.Came.{CameCancel}
+use Rattle.call_laws.specs.Origins.{AnswersFailure}
 use Rattle.call_laws.specs.Right.{StandsAfter}
 
 -- what was sent to the caller last, again; or the first answer that is owed: the generated 100, a response of a branch as it
