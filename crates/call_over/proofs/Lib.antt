@@ -1,0 +1,3 @@
+mod Machines
+mod Calls
+mod Steps
