@@ -4,16 +4,8 @@ use Rattle.call_state.proofs.Common.{Hop, Call, Way, Leg, call_tag, gone_on, no_
 use Rattle.std.proofs.Math.Seq.{drop-length}
 use Rattle.fork_model.specs.Table as table
 use Rattle.fork_model.specs.OpenBranches.{FittingEventsAreTaken}
-use Rattle.call_model.specs.Fixed as fixed
 use Rattle.call_model.specs.Take.{owes_cancel_ok}
-
--- an INVITE is one by its table, too
-pub kind_is : (call : Call) → IsSound call → table.is_invite (table_of call.log).kind ≡ fixed.is_invite call.fixed
-kind_is call sound = ap table.is_invite sound.kind ∙ by (fixed.is_invite call.fixed)
-  where
-    by : (b : Bool) → table.is_invite (cond {A = table.Kind} b table.Invite table.Other) ≡ b
-    by true = refl
-    by false = refl
+use Rattle.call_model.proofs.laws.Fitting.{cancel_fits}
 
 pub cancel_posts : FittingEventsAreTaken → (call new : Call) (cancel : MessageText) (to : Hop) (reply : Reply) (log : Log) (at : ℕ)
     → cancels call ≡ true
@@ -35,7 +27,7 @@ cancel_posts taken call new cancel to reply log at closes sound is none at_is ne
     let legs : call.legs ≡ call.legs ++ map no_leg (rows_more call.log more) =
     sym (ap (λ (rs : List table.Row). call.legs ++ map no_leg rs) nothing ∙ append-nil call.legs) in
     let fits : (table.is_invite (table_of call.log).kind && not (table_of call.log).closed) ≡ true =
-    ap (λ (b : Bool). b && not (table_of call.log).closed) (kind_is call sound) ∙ closes in
+    cancel_fits call sound closes in
     let follows : new ≡ owes (gone_on mid [] more) (owed_by reply.up None) =
     new_is
     ∙ ap (λ (l : Log). record mid { log = l; server = record mid.server { owed = mid.server.owed ++ owed_by reply.up None } }) is.whole

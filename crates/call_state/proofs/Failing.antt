@@ -6,7 +6,7 @@ use Rattle.std.proofs.Common.{option_map}
 use Rattle.sip_txn.specs.declared.event.TxEvent.TheVariants as event
 use Rattle.call_state.proofs.Changing.{changed_part}
 use Rattle.call_branch.proofs.laws.LegLists.{found_is}
-use Rattle.call_model.proofs.laws.Waiting as waiting
+use Rattle.call_model.proofs.laws.Fitting.{fault_fits, timeout_fits}
 
 with_same : (legs : List (Option Leg)) (n : ℕ) (leg : Leg) → slice_get legs n ≡ Some (Some leg) → with_leg legs n leg ≡ legs
 with_same [] n leg is = refl
@@ -39,12 +39,12 @@ module _ (call : Call) (n now : ℕ) (leg : Leg) (there : leg_at call n ≡ Some
   pub fault_is_open : (out : TxOut) → IsSound call → out ≡ client_out event.TransportError now leg.client → is_fault out.pass ≡ true → row_passes is_open call n ≡ true
   fault_is_open out sound out_is fails =
       let e : is_fault (client_out event.TransportError now leg.client).pass ≡ true = ap (λ (o : TxOut). is_fault o.pass) (sym out_is) ∙ fails in
-      (sound.legs n leg there).open_yet (waiting.faulted event.TransportError now leg.client e).0
+      fault_fits call n now leg sound there e
 
   pub timeout_is_open : (out : TxOut) → IsSound call → out ≡ client_out event.Tick now leg.client → is_timeout out.pass ≡ true → row_passes is_open call n ≡ true
   timeout_is_open out sound out_is ends =
       let e : is_timeout (client_out event.Tick now leg.client).pass ≡ true = ap (λ (o : TxOut). is_timeout o.pass) (sym out_is) ∙ ends in
-      (sound.legs n leg there).open_yet (waiting.timed_out event.Tick now leg.client e).0
+      timeout_fits call n now leg sound there e
 
   -- ---- that of its CANCEL
 

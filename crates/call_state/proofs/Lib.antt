@@ -3,7 +3,6 @@ pub mod Sizes
 pub mod Sends
 pub mod Failing
 pub mod Cancels
-pub mod Firing
 pub mod Changing
 pub mod Responding
 pub mod StateRows

@@ -9,6 +9,8 @@ use Rattle.fork_model.specs.Challenges.{added_to, asks_credentials, by_arrival, 
 use Rattle.fork_context.specs.LeftView.{left_of_answer}
 use Rattle.sip_build.specs.declared.responses.OwnStatus.TheVariants as own
 use Rattle.sip_build.specs.Upward.{upward_of}
+use Rattle.fork_model.specs.Chosen.{HasFirst}
+use Rattle.call_model.specs.Behind.{KeepsAnswers}
 use Rattle.call_model.specs.Built.{best_of, final_of, generated, kept_of}
 use Rattle.call_model.specs.Server as server
 use Rattle.call_state.specs.declared.answers.Payment.TheVariants as payment
@@ -22,6 +24,24 @@ forward_of call n m sound e = by (leg_at call n) refl e
     by : (o : Option Leg) → leg_at call n ≡ o → answer_in o ≡ Some m → IsForward m
     by None h k = absurd cc
     by (Some leg) h k = some_as IsForward leg.answer m k (sound.legs n leg h).answer
+
+-- where the answer of the choice came, its branch keeps it
+pub has_kept : (call : Call) (n : ℕ) → KeepsAnswers call → IsChosen (table_of call.log) (Some (Best n)) → was_received (stored_at (slice_get (rows_of call) n)) ≡ true
+    → answer_in (leg_at call n) ≡ None → ⊥
+has_kept call n answers chosen received none = by_row (slice_get (rows_of call) n) refl received
+  where
+    first : HasFirst (table_of call.log) n
+    first = (chosen.1.0, chosen.1.1)
+
+    by_answer : (row : Row) → slice_get (rows_of call) n ≡ Some row → (o : Option StoredAnswer) → stored_of row.state ≡ o → was_received o ≡ true → ⊥
+    by_answer row there None is e = absurd cc
+    by_answer row there (Some a) is e =
+        let kept = answers n a (row, there, is) e first in
+        absurd (let h : None ≡ Some kept.0 = sym none ∙ kept.1 in cc)
+
+    by_row : (o : Option Row) → slice_get (rows_of call) n ≡ o → was_received (stored_at o) ≡ true → ⊥
+    by_row None there e = absurd cc
+    by_row (Some row) there e = by_answer row there (stored_of row.state) refl e
 
 -- ---- challenges
 

@@ -9,6 +9,7 @@ ghost use Rattle.sip_build.specs.SeenKept.{seen_kept, texts};
 ghost use Rattle.sip_build.specs.Upward.{AreKept, is_challenge, upward_of};
 ghost use Rattle.sip_via.specs.TopVia.{has_second, via_values};
 ghost use Rattle.call_state.specs.inner.AnswersInside.{IsPaid, IsPaidOk, IsText};
+ghost use Rattle.call_model.specs.Behind.{KeepsAnswers};
 ghost use Rattle.call_model.specs.Built.{final_of, generated, status_of, text_of};
 ghost use Rattle.call_model.specs.Due.{SendAnswer};
 ghost use Rattle.call_model.specs.Pump.{Does};
@@ -24,6 +25,7 @@ use fork_context::{Challenge, Choice, Offer};
 use sip_build::{OwnStatus, write_generated, write_upward};
 use sip_text::{Message, Start};
 use sip_uri::Hop;
+use sip_via::BuildFault;
 use std::alloc::{AllocError, Allocator};
 
 /// What the first answer that is owed becomes: a datagram that is fed to no transaction, or an answer with this status
@@ -72,7 +74,8 @@ fn upward_answer<'a, A: Allocator>(
     let mut text = Vec::new(alloc);
     match write_upward(response, kept, challenges, &mut text) {
         Ok(()) => Ok(Payment::Answer(status_of(response), text)),
-        Err(_) => Err(AllocError),
+        Err(BuildFault::NoMemory) => Err(AllocError),
+        Err(BuildFault::LastVia) => unreachable!(),
     }
 }
 
@@ -116,18 +119,20 @@ fn texts_of<'a, A: Allocator>(
 }
 
 impl<A: Allocator + Clone> Parts<A> {
-    /// The response of branch n as it goes up, as the choice of the table.
+    /// The response of branch n as it goes up, as the choice of the table: the one that came, which the branch keeps, or a
+    /// generated 408 where none came and one was assumed.
     fn best_answer(&self, n: u16) -> Result<Payment<A>, AllocError>
         requires sound { IsSound self.now }
+        requires answers { KeepsAnswers self.now }
         requires chosen { IsChosen (table_of self.now.log) (Some (choice.Best n)) }
         ensures { IfOk result (IsText (final_of self.now (choice.Best n))) }
     {
-        let Some(response) = self.kept_answer(n) else {
-            return own_answer(self.allocator()?, self.fixed(), OwnStatus::RequestTimeout);
-        };
         if !shows_received(self.state(n)) {
             return own_answer(self.allocator()?, self.fixed(), OwnStatus::RequestTimeout);
         }
+        let Some(response) = self.kept_answer(n) else {
+            unreachable!()
+        };
         let mut challenges = Vec::new(self.allocator()?);
         self.book().context().challenges(&mut challenges)?;
         let Some(left) = self.book().context().left(n) else {
@@ -140,6 +145,7 @@ impl<A: Allocator + Clone> Parts<A> {
     /// The final answer, which is the choice of the table (RFC 3261 section 16.7 steps 6 to 9).
     fn final_answer(&self, choice: Choice) -> Result<Payment<A>, AllocError>
         requires sound { IsSound self.now }
+        requires answers { KeepsAnswers self.now }
         requires chosen { IsChosen (table_of self.now.log) (Some (choice_of choice)) }
         ensures { IfOk result (IsText (final_of self.now (choice_of choice))) }
     {
@@ -160,6 +166,7 @@ impl<A: Allocator + Clone> Parts<A> {
     fn payment(&self) -> Result<Payment<A>, AllocError>
         requires some { 0 < length self.now.server.owed }
         requires sound { IsSound self.now }
+        requires answers { KeepsAnswers self.now }
         ensures { IfOk result (IsPaid self.now self.now.server.owed) }
     {
         let Some(first) = self.owed().first() else {
@@ -184,6 +191,7 @@ impl<A: Allocator + Clone> Parts<A> {
     pub fn send_owed(&mut self, now: u64) -> Result<Step<A>, AllocError>
         requires some { 0 < length self.old.server.owed }
         requires sound { IsSound self.old }
+        requires answers { KeepsAnswers self.old }
         ensures ok { IfOk result (λ step. Does self.old now SendAnswer (pumped step) self.new) }
         ensures err { OnErr result (self.new ≡ self.old) }
     {

@@ -47,7 +47,7 @@ use call_branch::{
 };
 use call_model::{Cause, Datagram, Step, Taken};
 use fork_book::Book;
-use fork_context::{Event, Kind, State, Up};
+use fork_context::{Event, Kind, PostError, State, Up};
 use fork_model::{new_rows_are_contacts, open_branches_take_events, rows_keep_their_numbers};
 use sip_text::Message;
 use sip_txn::{OtherClient, TxEvent, TxSend};
@@ -495,8 +495,10 @@ impl<A: Allocator + Clone> Parts<A> {
         if self.owed.reserve(1, 0).is_err() {
             return Err(AllocError);
         }
-        let Ok(at) = self.book.post(CALL_TAG, event) else {
-            return Err(AllocError);
+        let at = match self.book.post(CALL_TAG, event) {
+            Ok(at) => at,
+            Err(PostError::NoMemory(_)) => return Err(AllocError),
+            Err(PostError::Full(_)) => unreachable!(),
         };
         let up = up_at(&self.book, at);
         self.owed.owe_if(owed_by(up, None));
@@ -581,8 +583,10 @@ impl<A: Allocator + Clone> Parts<A> {
         self.ways.reserve(ways.len())?;
         self.legs.reserve(ways.len())?;
         let first = self.book.context().count();
-        let Ok(at) = self.book.post(CALL_TAG, event) else {
-            return Err(PostFault::NoMemory);
+        let at = match self.book.post(CALL_TAG, event) {
+            Ok(at) => at,
+            Err(PostError::NoMemory(_)) => return Err(PostFault::NoMemory),
+            Err(PostError::Full(_)) => unreachable!(),
         };
         add_rows(&self.book, first, ways, &mut self.ways, &mut self.legs);
         let up = up_at(&self.book, at);
@@ -660,8 +664,10 @@ impl<A: Allocator + Clone> Parts<A> {
             self.owed.owe(okay);
             return Ok(Taken::Absorbed);
         }
-        let Ok(at) = self.book.post(CALL_TAG, Event::Cancel) else {
-            return Err(AllocError);
+        let at = match self.book.post(CALL_TAG, Event::Cancel) {
+            Ok(at) => at,
+            Err(PostError::NoMemory(_)) => return Err(AllocError),
+            Err(PostError::Full(_)) => unreachable!(),
         };
         let up = up_at(&self.book, at);
         self.owed.owe(okay);

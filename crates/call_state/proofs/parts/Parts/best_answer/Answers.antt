@@ -1,9 +1,21 @@
 use Rattle.call_state.proofs.Common.{◌≡◌, ◌∙◌, ℕ, ap, sym, subst, true, List, map, Some, None, slice_get, IfOk, list_all, option_and_then, option_copied, Best, stored_at, Core, Offer, left_of, core_of, table_of, is_value, MessageText}
 use Rattle.call_state.proofs.Common.{texts, is_challenge, IsText, answer_in, kept_at, text_of, was_received, leg_at}
 use Rattle.std.proofs.Common.{option_map}
-use Rattle.call_state.proofs.Paying.{best_made, challenges_all, challenges_pass, forward_of, kept_left, left_pass, texts_pass}
+use Rattle.call_state.proofs.Paying.{best_made, challenges_all, challenges_pass, forward_of, has_kept, kept_left, left_pass, texts_pass}
 use Rattle.call_state.proofs.StateRows.{received_shown}
 use Rattle.call_state.proofs.parts.Parts.best_answer.Goals as goal
+
+pub unreachable-requires : goal.unreachable-requires
+unreachable-requires g c =
+    let t = table_of c.args.self.now.log in
+    let received : was_received (stored_at (slice_get t.rows c.args.n)) ≡ true =
+    let a = c.shows_received.ensures in
+    let b = c.if-not-shows_received.false in
+    let d = c.state.ensures in
+    let e = received_shown (slice_get t.rows c.args.n) in
+    cc in
+    let none : answer_in (leg_at c.args.self.now c.args.n) ≡ None = sym c.kept_answer.ensures ∙ ap option_copied c.in_default.is in
+    has_kept c.args.self.now c.args.n c.requires.answers c.requires.chosen received none
 
 pub upward_answer-requires-clause-second : goal.upward_answer-requires-clause-second
 upward_answer-requires-clause-second g c =

@@ -1,6 +1,6 @@
 use Rattle.call_state.proofs.Common.{◌≡◌, refl, true, false, is_trying, row_passes}
 use Rattle.call_state.proofs.Deeds.{timer_c_cancels, timer_c_ends}
-use Rattle.call_state.proofs.Firing.{fired_fits, fired_is_sent}
+use Rattle.call_model.proofs.laws.Fitting.{fired_fits, fired_is_sent}
 use Rattle.call_state.proofs.parts.Parts.fire_timer_c.Goals as goal
 
 pub part-requires : goal.part-requires
