@@ -2,3 +2,5 @@ pub mod Common
 pub mod Matched
 pub mod Placed
 pub mod Opened
+pub mod Distinct
+pub mod laws

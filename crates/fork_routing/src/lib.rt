@@ -7,5 +7,5 @@ mod opening;
 mod transaction;
 
 pub use matching::recipient;
-pub use opening::{is_openable, open, read_target};
+pub use opening::{admitted_target, is_openable, open, read_target};
 pub use transaction::Recipient;

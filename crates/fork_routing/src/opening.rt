@@ -1,5 +1,5 @@
 //! How a call opens.
-ghost use Rattle.std.specs.Prelude.{◌≡◌, ◌<◌, ◌↔◌, ℕ, length, slice_get, true, IfErr, IfOk, IfSome, IsTrue, Ok, Some};
+ghost use Rattle.std.specs.Prelude.{◌≡◌, ◌≢◌, ◌<◌, ◌↔◌, [], ℕ, length, slice_get, true, IfErr, IfOk, IfSome, IsOk, IsTrue, Ok, Some};
 ghost use Rattle.std.specs.List.{list_all};
 ghost use Rattle.std.specs.Option.{option_and_then};
 ghost use Rattle.fork_model.specs.Table.{Row};
@@ -11,21 +11,23 @@ ghost use Rattle.fork_model.specs.Log.{opening_log, table_of};
 ghost use Rattle.proxy_routing.specs.Admission.{target_uri};
 ghost use Rattle.fork_routing.specs.Opening.{Asks, IsBegun, IsOpenable, IsRefused, IsUnreachable, Opens, Reaches, Refuses};
 ghost use Rattle.fork_routing.specs.Ways.{AreWays, way_to};
+ghost use Rattle.fork_routing.specs.inner.Distinct.{AreDistinct};
+ghost use Rattle.sip_uri.specs.Fault.{Gives, refusal};
 ghost use Rattle.proxy_routing.specs.Targets.{has_hop, targets_of};
 
 use call_answers::place_of;
 use call_branch::{Fixed, Way};
 use call_state::Parts;
 use fork_book::Book;
-use fork_context::Kind;
+use fork_context::{Kind, NewFault};
 use fork_rank::Rules;
-use fork_setup::Setup;
+use fork_setup::{Setup, locations_are_targets};
 use proxy_routing::{
     Choice, OpenFault, admit, asks_extension, choices, have_hops, hop_if_any, is_domain, targets_of,
 };
 use sip_route::{first_route, request_uri};
 use sip_text::{Message, Start};
-use sip_uri::{Hop, SipUri};
+use sip_uri::{Hop, SipUri, UriFault};
 use sip_via::reply_hop_of;
 use std::alloc::{AllocError, Allocator, Global};
 
@@ -57,16 +59,36 @@ fn way_at<A: Allocator + Clone>(
 ///
 /// # Errors
 ///
-/// Where the Request-URI cannot be read, and where the allocator refuses.
+/// The fault of the Request-URI, as [`SipUri::read`] finds it; then `NoMemory`.
 pub fn read_target<A: Allocator + Clone>(
     alloc: A,
     request: &Message<A>,
+) -> Result<SipUri<A>, UriFault>
+    ensures exact { Gives (λ uri. uri) result (target_uri request.now) }
+    ensures refused { IfErr result (λ fault. fault ≡ refusal (target_uri request.now)) }
+{
+    SipUri::read(alloc, request_uri(request))
+}
+
+/// The URI that a request names which was admitted, and so can be read (RFC 3261 sections 16.3 and 16.5).
+///
+/// # Errors
+///
+/// Only where the allocator refuses.
+pub fn admitted_target<A: Allocator + Clone>(
+    alloc: A,
+    request: &Message<A>,
 ) -> Result<SipUri<A>, AllocError>
+    requires readable { IsOk (target_uri request.now) }
     ensures { IfOk result (λ uri. target_uri request.now ≡ Ok uri) }
 {
-    match SipUri::read(alloc, request_uri(request)) {
+    match read_target(alloc, request) {
         Ok(uri) => Ok(uri),
-        Err(_) => Err(AllocError),
+        Err(UriFault::NoMemory) => Err(AllocError),
+        Err(UriFault::NotSip) => unreachable!(),
+        Err(UriFault::BadHost) => unreachable!(),
+        Err(UriFault::BadPort) => unreachable!(),
+        Err(UriFault::BadText) => unreachable!(),
     }
 }
 
@@ -89,19 +111,25 @@ fn ways_of<A: Allocator + Clone>(
     Ok(ways)
 }
 
-/// The book of a fork to these targets.
+/// The book of a fork to these targets, of which there is one at least, no more than may be tried, and none twice: so want of
+/// memory alone keeps it from being made.
 fn book_of<A: Allocator + Clone>(
     alloc: A,
     kind: Kind,
     rules: Rules,
     choices: &[Choice<'_, A>],
 ) -> Result<Book<A>, AllocError>
+    requires some { choices.now ≢ [] }
+    requires distinct { AreDistinct choices.now }
     ensures { IfOk result (λ book. book ≡ opening_log (kinds.kind_of kind) rules (targets_of choices.now)) }
 {
     let targets = targets_of(alloc.clone()?, choices)?;
     match Book::new(alloc, kind, rules, targets) {
         Ok(book) => Ok(book),
-        Err(_) => Err(AllocError),
+        Err(NewFault::NoMemory) => Err(AllocError),
+        Err(NewFault::NoTargets) => unreachable!(),
+        Err(NewFault::TooMany) => unreachable!(),
+        Err(NewFault::Twice) => unreachable!(),
     }
 }
 
@@ -126,6 +154,8 @@ fn begin<A: Allocator + Clone>(
     now: u64,
 ) -> Result<Parts<A>, AllocError>
     requires hops { list_all has_hop choices.now ≡ true }
+    requires some { choices.now ≢ [] }
+    requires distinct { AreDistinct choices.now }
     ensures { IfOk result (IsBegun rules fixed choices.now) }
 {
     let kind = fixed.kind();
@@ -170,6 +200,8 @@ fn open_to<A: Allocator + Clone>(
         hop_if_any(route),
         inside,
     );
+    locations_are_targets();
+    let _locations = setup.locations();
     match begin(alloc, heap, setup.rules(), fixed, &choices, now) {
         Ok(parts) => Ok(parts),
         Err(_) => Err(OpenFault::NoMemory),
@@ -188,13 +220,14 @@ fn open_prepared<A: Allocator + Clone>(
 ) -> Result<Parts<A>, OpenFault>
     requires request { is_request request.start ≡ true }
     requires hops { IfSome (first_value hops_name request.headers) IsHops }
+    requires readable { IsOk (target_uri request) }
     ensures opened { IfOk result (λ call. Asks request (λ uri. Reaches setup.now number request source uri call)) }
     ensures refused { IfErr result (IsRefused setup.now request) }
 {
     if asks_extension(&request) {
         return Err(OpenFault::Extension);
     }
-    let uri = read_target(alloc.clone()?, &request)?;
+    let uri = admitted_target(alloc.clone()?, &request)?;
     open_to(alloc, heap, setup, number, request, &uri, source, now)
 }
 

@@ -1,10 +1,15 @@
 use Rattle.fork_routing.proofs.Common.{subst, Own, IsAdmitted, IsTurnedAway}
 use Rattle.fork_routing.proofs.Opened.{openable, opens_if, refuses_if, turned_away}
+use Rattle.fork_routing.proofs.laws.Readable.{admitted_reads}
 use Rattle.fork_routing.proofs.opening.open.Goals as goal
 
 pub open_prepared-requires-clause-request : goal.open_prepared-requires-clause-request
 open_prepared-requires-clause-request g c =
     openable c.in-Ok.request.start c.args.request.start c.in-Ok.ensures.start c.requires
+
+pub open_prepared-requires-clause-readable : goal.open_prepared-requires-clause-readable
+open_prepared-requires-clause-readable g c =
+    admitted_reads c.own.result c.args.request c.in-Ok.request c.args.source c.in-Ok.ensures.admitted c.in-Ok.ensures.start
 
 pub returns-in-Ok-clause-opened : goal.returns-in-Ok-clause-opened
 returns-in-Ok-clause-opened g c =

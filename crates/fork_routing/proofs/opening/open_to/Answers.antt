@@ -1,8 +1,16 @@
-use Rattle.fork_routing.proofs.Common.{◌≡◌, ◌∙◌, [], true, List, ap, subst, list_all, Choice, has_hop, IsBegun}
+use Rattle.fork_routing.proofs.Common.{◌≡◌, ◌∙◌, [], true, List, ap, subst, sym, list_all, Choice, has_hop, IsBegun}
 use Rattle.std.proofs.Common.{rules}
 use Rattle.fork_routing.proofs.Opened.{fixed_so, reaches}
 use Rattle.proxy_routing.specs.Targets.{is_domain}
+use Rattle.fork_routing.proofs.Distinct.{distinct}
+use Rattle.fork_routing.specs.inner.Distinct.{AreDistinct}
 use Rattle.fork_routing.proofs.opening.open_to.Goals as goal
+
+pub begin-requires-clause-distinct : goal.begin-requires-clause-distinct
+begin-requires-clause-distinct g c =
+    let P : List Choice → Type 0 = λ cs. AreDistinct cs in
+    subst P (sym (c.deref-2.ensures.value ∙ c.in_ok-choices.ensures))
+    (distinct c.locations_are_targets.ensures c.in_ok-inside.inside c.args.setup.now c.first_route-route.result c.args.uri.now c.locations-locations.ensures.rules)
 
 pub returns-in-Ok-clause-opened : goal.returns-in-Ok-clause-opened
 returns-in-Ok-clause-opened g c =
