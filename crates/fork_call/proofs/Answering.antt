@@ -1,6 +1,6 @@
 -- What a call that opened answers its caller.
 use Rattle.std.specs.Prelude.{◌≢◌}
-use Rattle.fork_call.proofs.Common.{◌≡◌, ◌∙◌, ℕ, true, false, List, [], ◌∷◌, refl, ap, sym, subst, MessageText, Hop, Call, rows_of, Opens}
+use Rattle.fork_call.proofs.Common.{◌≡◌, ◌∙◌, ℕ, true, false, List, [], ◌∷◌, ◌++◌, refl, ap, sym, subst, MessageText, Hop, Call, rows_of, Opens}
 use Rattle.fork_model.specs.History.{Target}
 use Rattle.fork_model.specs.Table.{is_finished, is_succeeded}
 use Rattle.sip_text.specs.Message.{IsMessage}
@@ -11,12 +11,15 @@ use Rattle.call_model.specs.Step.{Input, Turn}
 use Rattle.call_model.specs.Take as to
 use Rattle.call_laws.specs.Answers.{AnswersOnce, AreGiven, CallsPayInOrder, PaysInOrder}
 use Rattle.call_laws.specs.Answers as laws
+use Rattle.call_laws.specs.Successes.{GoesUp, PostsSuccess}
+use Rattle.call_laws.specs.Successes as successes
+use Rattle.call_model.specs.Fixed.{is_invite}
 use Rattle.call_laws.specs.Stages.{Leads, Stage, end_of, turn_of}
 use Rattle.fork_setup.specs.Setup.{Setup}
 use Rattle.fork_routing.specs.Matching.{BelongsTo}
 use Rattle.fork_routing.specs.Opening.{choices_for, fixed_of}
 use Rattle.proxy_routing.specs.Targets.{Choice, targets_of}
-use Rattle.fork_call.specs.Answered.{AreSaid, AreStages, CallsHaveStages, IsSaid, OneFinalAnswerGoesUp, OpenedCallsPayInOrder}
+use Rattle.fork_call.specs.Answered.{AreSaid, AreStages, CallsHaveStages, EachSuccessGoesUp, IsSaid, OneFinalAnswerGoesUp, OpenedCallsPayInOrder}
 use Rattle.fork_call.specs.Runs.{Answer, AnswersAll, Came, IsInput, IsTurn, Lost, May, Said}
 use Rattle.fork_call.proofs.Running.{stepped}
 
@@ -85,3 +88,15 @@ opened_answer_once once setup number m source call stages opens given leads =
     Leads x stages → is_finished (rows_of (end_of x stages)) ≡ true → is_succeeded (rows_of (end_of x stages)) ≡ false → (end_of x stages).server.owed ≡ []
     → AnswersOnce x stages in
     subst P (sym begins.2) (once (fixed_of setup number request source uri) setup.rules (targets_of cs) begins.0 stages (some_targets cs reaches.some) given) leads
+
+pub opened_success : successes.EachSuccessGoesUp → EachSuccessGoesUp
+opened_success goes setup number m source call before stage later answer opens invited given leads posts =
+    let request = opens.0 in
+    let uri = opens.2.1 in
+    let reaches = opens.2.3 in
+    let begins = reaches.begins in
+    let cs = choices_for setup request uri in
+    let P : Call → Type 0 = λ x. is_invite x.fixed ≡ true → Leads x (before ++ stage ∷ later) → GoesUp x before stage later answer in
+    subst P (sym begins.2)
+    (λ is l. goes (fixed_of setup number request source uri) setup.rules (targets_of cs) begins.0 before stage later answer (some_targets cs reaches.some) is given l posts)
+    invited leads

@@ -15,3 +15,4 @@ pub mod Ending
 pub mod Running
 pub mod Answering
 pub mod Naming
+pub mod Marking

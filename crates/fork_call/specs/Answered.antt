@@ -1,5 +1,5 @@
 -- What a call that opened answers its caller, over any list of calls on it (RFC 3261 sections 16.7 and 17.2).
-use Rattle.std.specs.Prelude.{◌≡◌, ℕ, true, false, List, [], map}
+use Rattle.std.specs.Prelude.{◌≡◌, ℕ, true, false, List, [], ◌∷◌, ◌++◌, map}
 use Rattle.std.specs.List.{AllByRecursion}
 use Rattle.fork_model.specs.Table.{is_finished, is_succeeded}
 use Rattle.sip_text.specs.Message.{IsMessage}
@@ -7,6 +7,8 @@ use Rattle.sip_text.specs.Text.{MessageText}
 use Rattle.sip_uri.specs.declared.hop.Hop.{Hop}
 use Rattle.call_model.specs.Call.{Call, rows_of}
 use Rattle.call_laws.specs.Answers.{AnswersOnce, AreGiven, PaysInOrder}
+use Rattle.call_model.specs.Fixed.{is_invite}
+use Rattle.call_laws.specs.Successes.{GoesUp, PostsSuccess}
 use Rattle.call_laws.specs.Stages.{Leads, Stage, end_of, turn_of}
 use Rattle.fork_setup.specs.Setup.{Setup}
 use Rattle.fork_routing.specs.Opening.{Opens}
@@ -51,3 +53,12 @@ OneFinalAnswerGoesUp =
     → is_succeeded (rows_of (end_of call stages)) ≡ false
     → (end_of call stages).server.owed ≡ []
     → AnswersOnce call stages
+
+-- and each 2xx that a branch of an INVITE answers, and that is posted, comes to be owed by that turn, and was paid once nothing is
+-- owed any more
+abbrev pub EachSuccessGoesUp : Type 0
+EachSuccessGoesUp =
+    (setup : Setup) (number : ℕ) (m : MessageText) (source : Hop) (call : Call) (before : List Stage) (stage : Stage) (later : List Stage) (answer : MessageText)
+    → Opens setup number m source call → is_invite call.fixed ≡ true
+    → AreGiven (before ++ stage ∷ later) → Leads call (before ++ stage ∷ later) → PostsSuccess stage.turn answer
+    → GoesUp call before stage later answer

@@ -1,6 +1,7 @@
 //! What a call has to do next.
 ghost use Rattle.std.specs.Prelude.{◌≡◌, true, IfOk, OnErr};
 ghost use Rattle.sip_txn.specs.Timers.{is_due};
+ghost use Rattle.call_model.specs.Behind.{KeepsAnswers};
 ghost use Rattle.call_model.specs.Due.{is_due_at};
 ghost use Rattle.call_model.specs.Pump.{Does};
 ghost use Rattle.call_model.specs.SeenStep.{pumped};
@@ -89,6 +90,7 @@ impl Deed {
         now: u64,
     ) -> Result<Step<A>, AllocError>
         requires sound { IsSound parts.old }
+        requires answers { KeepsAnswers parts.old }
         requires due { is_due_at parts.old now (seen_deed self) ≡ true }
         ensures step { IfOk result (λ step. Does parts.old now (seen_deed self) (pumped step) parts.new) }
         ensures err { OnErr result (parts.new ≡ parts.old) }

@@ -1,5 +1,5 @@
 //! What holds of every call.
-ghost use Rattle.fork_call.specs.Answered.{CallsHaveStages, OneFinalAnswerGoesUp, OpenedCallsPayInOrder};
+ghost use Rattle.fork_call.specs.Answered.{CallsHaveStages, EachSuccessGoesUp, OneFinalAnswerGoesUp, OpenedCallsPayInOrder};
 ghost use Rattle.fork_call.specs.Naming.{OwnAnswersAreToTheRequest, RequestsNameTheirTargets};
 ghost use Rattle.fork_call.specs.Runs.{CallsAreRuns};
 
@@ -38,14 +38,26 @@ pub fn opened_calls_pay_in_order()
 
 /// In each run of a call that opened, once every branch has ended, none with a 2xx, and nothing is owed to its caller any more,
 /// one final answer was handed to the caller's transaction, and no other: the choice of the fork, made of the very response that
-/// came from the branch, with the contacts left and the challenges that are due, or a generated 408, or a generated 500 for a
-/// 503 (RFC 3261 section 16.7 steps 4 to 9).
+/// came from the branch and was posted as the event that stored its answer, with the contacts left and the challenges that are
+/// due, or a generated 408, or a generated 500 for a 503 (RFC 3261 section 16.7 steps 4 to 9).
 ///
 /// A law over the definitions, with nothing to run.
 pub fn one_final_answer_goes_up()
     ensures { OneFinalAnswerGoesUp }
 {
     call_laws::one_final_answer_goes_up();
+}
+
+/// In each run of a call that opened for an INVITE, each 2xx that a branch answers, and that is posted, comes to be owed to the
+/// caller by that turn. Once nothing is owed any more it was paid, at its place in the order in which all came to be owed: sent
+/// with its own bytes behind the proxy's Via value, or dropped since the caller's transaction had ended, which it does by timer L
+/// (RFC 3261 sections 13.3.1.4 and 16.7 step 5, RFC 6026 section 7.1).
+///
+/// A law over the definitions, with nothing to run.
+pub fn each_success_goes_up()
+    ensures { EachSuccessGoesUp }
+{
+    call_laws::each_success_goes_up();
 }
 
 /// What a call that opened generates is generated of the request that came, as it was marked with its source; and a request that

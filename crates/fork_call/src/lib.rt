@@ -18,8 +18,8 @@ pub use fault::TakeFault;
 pub use fork_book::Book;
 pub use fork_setup::{Setup, SetupFault};
 pub use law::{
-    calls_are_runs, calls_have_stages, datagrams_go_back_to_the_request, one_final_answer_goes_up,
-    opened_calls_pay_in_order,
+    calls_are_runs, calls_have_stages, datagrams_go_back_to_the_request, each_success_goes_up,
+    one_final_answer_goes_up, opened_calls_pay_in_order,
 };
 pub use port::{Carried, Port, carry};
 pub use prepared::Prepared;

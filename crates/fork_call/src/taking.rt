@@ -1,5 +1,5 @@
 //! A message comes to a transaction of a call.
-ghost use Rattle.std.specs.Prelude.{◌≡◌, ◌≢◌, ◌≤◌, true, IfErr, IfOk, IsErrOf, OnErr};
+ghost use Rattle.std.specs.Prelude.{◌≡◌, ◌≢◌, ◌≤◌, true, None, IfErr, IfOk, IsErrOf, OnErr};
 ghost use Rattle.sip_text.specs.Message.{IsMessage};
 ghost use Rattle.call_model.specs.Built.{status_of};
 ghost use Rattle.call_model.specs.Call.{is_sent};
@@ -9,6 +9,7 @@ ghost use Rattle.call_model.specs.Take as take;
 ghost use Rattle.call_model.specs.Take.{RespondsOn, TakesAs, TakesCancel};
 ghost use Rattle.fork_routing.specs.Matching.{BelongsTo};
 ghost use Rattle.fork_routing.specs.SeenRecipient.{seen_recipient};
+ghost use Rattle.sip_route.specs.RequestKey.{request_key};
 ghost use Rattle.fork_call.specs.inner.Timing.{room_for, row_of_recipient};
 
 use crate::fault::TakeFault;
@@ -17,7 +18,7 @@ use call_state::{Parts, PostFault};
 use fork_routing::Recipient;
 use sip_text::Message;
 use sip_uri::Hop;
-use sip_via::{mark, reply_hop_of};
+use sip_via::{ViaFault, mark, readable_is_marked, reply_hop_of};
 use std::alloc::Allocator;
 
 /// A call has at most so many targets.
@@ -58,7 +59,7 @@ pub(crate) fn row_of(to: Recipient) -> Option<u16>
 }
 
 /// The caller's CANCEL is marked with its source and taken (RFC 3261 sections 9.2, 16.10 and 18.2.1). It has the key of
-/// the call's request, so its top Via value can be read, and only want of memory keeps it from being marked.
+/// the call's request, so its top Via value can be read, and want of memory alone keeps it from being marked.
 fn take_cancel<A: Allocator + Clone>(
     parts: &mut Parts<A>,
     alloc: A,
@@ -66,13 +67,18 @@ fn take_cancel<A: Allocator + Clone>(
     source: Hop,
 ) -> Result<Taken, TakeFault>
     requires sound { IsSound parts.old }
+    requires keyed { request_key message ≢ None }
     ensures step { IfOk result (λ taken. TakesCancel parts.old message source (seen_taken taken) parts.new) }
     ensures refused { IfErr result (λ fault. fault ≡ TakeFault.NoMemory) }
     ensures err { OnErr result (parts.new ≡ parts.old) }
 {
+    readable_is_marked();
     let cancel = match mark(alloc, message, source) {
         Ok(cancel) => cancel,
-        Err(_) => return Err(TakeFault::NoMemory),
+        Err(unmarked) => match unmarked.fault {
+            ViaFault::NoMemory => return Err(TakeFault::NoMemory),
+            ViaFault::BadVia => unreachable!(),
+        },
     };
     let to = reply_hop_of(&cancel, source);
     match parts.take_cancel(cancel, to) {

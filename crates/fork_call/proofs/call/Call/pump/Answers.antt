@@ -31,3 +31,6 @@ returns-clause-step g c =
     subst P c.self.view_is
     (does_pump c.self.inside.parts c.perform.new.parts c.args.now (seen_deed c.in-Some.deed) (pumped c.in_ok-step.step)
     (subst D (sym c.self.view_is) c.in-Some.ensures.some) c.in_ok-step.ensures.step)
+
+pub perform-requires-clause-answers : goal.perform-requires-clause-answers
+perform-requires-clause-answers g c = c.self.invariant.right.2.answers
