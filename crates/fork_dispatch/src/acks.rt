@@ -1,8 +1,9 @@
 //! ACKs that no call takes: those of the proxy's own answers, and those of answers that went up, which go on.
-ghost use Rattle.std.specs.Prelude.{◌≡◌, ◌↔◌, IfOk, IfSome, IsTrue, Some, true};
+ghost use Rattle.std.specs.Prelude.{◌≡◌, ◌↔◌, IfOk, IfSome, IsOk, IsTrue, Some, true};
 ghost use Rattle.sip_text.specs.Name.{first_value};
 ghost use Rattle.sip_route.specs.Hops.{IsHops, hops_name};
 ghost use Rattle.sip_build.specs.Forwarding.{is_request};
+ghost use Rattle.proxy_routing.specs.Admission.{target_uri};
 ghost use Rattle.call_model.specs.SeenDatagram.{seen};
 ghost use Rattle.fork_dispatch.specs.declared.purpose.Purpose.TheVariants as purposes;
 ghost use Rattle.fork_dispatch.specs.Becomes.{MessageBecomes};
@@ -14,7 +15,7 @@ ghost use Rattle.fork_dispatch.specs.inner.Sent.{seen_sent};
 use crate::datagrams::Handled;
 use crate::outcome::{Outcome, Received};
 use fork_call::{Cause, Datagram, Setup};
-use fork_routing::read_target;
+use fork_routing::admitted_target;
 use proxy_routing::{admit, hop_by, is_domain};
 use sip_build::{own_tag, write_forwarded};
 use sip_route::{first_route, loop_key};
@@ -94,9 +95,10 @@ fn going_on<A: Allocator + Clone>(
 ) -> Result<Option<Datagram<A>>, AllocError>
     requires request { is_request request.now.start ≡ true }
     requires hops { IfSome (first_value hops_name request.now.headers) IsHops }
+    requires readable { IsOk (target_uri request.now) }
     ensures { IfOk result (λ sent. GoesOn setup.now request.now (seen_sent sent)) }
 {
-    let uri = read_target(alloc.clone()?, request)?;
+    let uri = admitted_target(alloc.clone()?, request)?;
     if is_domain(alloc.clone()?, setup, uri.host())? {
         return Ok(None);
     }

@@ -1,7 +1,12 @@
 use Rattle.fork_dispatch.proofs.Common.{inl, subst, sym, ◌∙◌, IfOk-weaker, Own, IsAdmitted, seen_sent}
 use Rattle.proxy_routing.specs.Refusing.{IsTurnedAway}
 use Rattle.fork_dispatch.proofs.Becoming.{passes_if}
+use Rattle.fork_routing.proofs.laws.Readable.{admitted_reads}
 use Rattle.fork_dispatch.proofs.acks.passing.Goals as goal
+
+pub going_on-requires-clause-readable : goal.going_on-requires-clause-readable
+going_on-requires-clause-readable g c =
+    admitted_reads c.own.result c.args.ack c.in-Ok.request c.args.source c.in-Ok.ensures.admitted c.in-Ok.ensures.start
 
 pub returns-in-Ok : goal.returns-in-Ok
 returns-in-Ok g c =
