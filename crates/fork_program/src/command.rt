@@ -5,7 +5,7 @@ ghost use Rattle.fork_program.specs.Program.{command_named, command_of, Appends,
 use crate::check::check_text;
 use crate::fault::ProgFault;
 use crate::replay::replay_text;
-use std::alloc::Global;
+use std::alloc::Allocator;
 
 /// What is done with standard input.
 #[derive(Clone, Copy, Debug, PartialEq, Eq)]
@@ -45,7 +45,12 @@ impl Command {
     /// # Errors
     ///
     /// Those of `replay_text` and `check_text`. After each `out` is as it was.
-    pub fn run(self, alloc: Global, text: &[u8], out: &mut Vec<u8>) -> Result<u8, ProgFault>
+    pub fn run<A: Allocator + Clone>(
+        self,
+        alloc: A,
+        text: &[u8],
+        out: &mut Vec<u8, A>,
+    ) -> Result<u8, ProgFault>
         ensures appended { IfOk result (Appends self text.now out.old.items out.new.items) }
         ensures fault { IfErr result (IsCommandFault self text.now) }
         ensures err { OnErr result (out.new.items ≡ out.old.items) }
