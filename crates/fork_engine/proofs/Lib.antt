@@ -1,2 +1,3 @@
 mod Faulty
 mod Ends
+mod Crossing

@@ -1,11 +1,7 @@
 //! The workers that post to one book, each in a thread of its own.
-ghost use denote.Param.Send.{IsSync};
-ghost use Rattle.std.specs.contracts.sync.Mutex.{the_row as mutex_row};
-ghost use Rattle.fork_engine.specs.contracts.held.Held.{the_row as held_row};
-
 use crate::held::Held;
 use fork_context::Event;
-use std::alloc::Global;
+use std::alloc::Allocator;
 use std::sync::atomic::{AtomicU64, Ordering};
 use std::sync::{Mutex, Wait};
 use std::thread;
@@ -65,13 +61,13 @@ impl Met {
 }
 
 /// What workers post to.
-pub(crate) trait Posting {
+pub(crate) trait Posting<A: Allocator> {
     /// Posts a copy of an event under a worker's tag.
-    fn post_copy<R: Wait>(&self, rt: &R, alloc: &Global, worker: u8, event: &Event) -> Ended;
+    fn post_copy<R: Wait>(&self, rt: &R, alloc: &A, worker: u8, event: &Event<A>) -> Ended;
 }
 
-impl Posting for Mutex<Held> {
-    fn post_copy<R: Wait>(&self, rt: &R, alloc: &Global, worker: u8, event: &Event) -> Ended {
+impl<A: Allocator + Clone> Posting<A> for Mutex<Held<A>> {
+    fn post_copy<R: Wait>(&self, rt: &R, alloc: &A, worker: u8, event: &Event<A>) -> Ended {
         let Ok(copy) = event.copy(alloc) else {
             return Ended::NoMemory;
         };
@@ -87,24 +83,24 @@ trait Work {
 
 /// What the workers are given.
 #[derive(Drop)]
-pub(crate) struct Orders<'a, G, R> {
+pub(crate) struct Orders<'a, A: Allocator, G, R> {
     pub(crate) rt: &'a R,
-    pub(crate) alloc: &'a Global,
-    pub(crate) scripts: &'a [Vec<Event>],
+    pub(crate) alloc: &'a A,
+    pub(crate) scripts: &'a [Vec<Event<A>, A>],
     pub(crate) gate: &'a G,
     pub(crate) met: &'a Met,
 }
 
 /// The workers at one book.
 #[derive(Drop)]
-struct Crew<'a, P, G, R> {
+struct Crew<'a, A: Allocator, P, G, R> {
     book: &'a P,
-    orders: &'a Orders<'a, G, R>,
+    orders: &'a Orders<'a, A, G, R>,
 }
 
-impl<'a, P: Posting, G: Gate, R: Wait> Crew<'a, P, G, R> {
+impl<'a, A: Allocator, P: Posting<A>, G: Gate, R: Wait> Crew<'a, A, P, G, R> {
     /// Posts a script, up to the first refusal.
-    fn post_all(&self, worker: u8, script: &[Event]) -> Ended {
+    fn post_all(&self, worker: u8, script: &[Event<A>]) -> Ended {
         let orders = self.orders;
         let mut place = 0u32;
         for event in script {
@@ -120,7 +116,7 @@ impl<'a, P: Posting, G: Gate, R: Wait> Crew<'a, P, G, R> {
     }
 }
 
-impl<'a, P: Posting, G: Gate, R: Wait> Work for Crew<'a, P, G, R> {
+impl<'a, A: Allocator, P: Posting<A>, G: Gate, R: Wait> Work for Crew<'a, A, P, G, R> {
     fn run(&self, worker: u8) {
         if let Some(script) = self.orders.scripts.get(usize::from(worker)) {
             self.orders
@@ -143,32 +139,24 @@ fn run_workers<W: Work + Sync, R: Threads + Wait + Sync>(rt: &R, count: u8, work
 }
 
 /// Posts the scripts to one book, a worker for each.
-fn post_scripts<'a, P: Posting + Sync, G: Gate + Sync, R: Threads + Wait + Sync>(
-    book: &'a P,
-    orders: &'a Orders<'a, G, R>,
-) {
+fn post_scripts<
+    'a,
+    A: Allocator + Sync,
+    P: Posting<A> + Sync,
+    G: Gate + Sync,
+    R: Threads + Wait + Sync,
+>(book: &'a P, orders: &'a Orders<'a, A, G, R>) {
     let count = u8::try_from(orders.scripts.len()).unwrap_or(u8::MAX);
     let crew = Crew { book, orders };
     run_workers(orders.rt, count, &crew);
 }
 
-/// That threads may share this.
-fn is_shared<T: Sync>(_: &T)
-    ensures { IsSync T.row }
-{}
-
-/// That threads may share a lock of a book.
-fn lock_is_shared(book: &Mutex<Held>)
-    ensures { IsSync (mutex_row held_row) }
-{
-    is_shared(book);
-}
-
 /// Posts the scripts to a book under a lock, a worker for each.
-pub(crate) fn post_under_lock<'a, G: Gate + Sync, R: Threads + Wait + Sync>(
-    book: &'a Mutex<Held>,
-    orders: &'a Orders<'a, G, R>,
-) {
-    lock_is_shared(book);
+pub(crate) fn post_under_lock<
+    'a,
+    A: Allocator + Clone + Send + Sync,
+    G: Gate + Sync,
+    R: Threads + Wait + Sync,
+>(book: &'a Mutex<Held<A>>, orders: &'a Orders<'a, A, G, R>) {
     post_scripts(book, orders);
 }

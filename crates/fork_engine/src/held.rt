@@ -12,21 +12,21 @@ use fork_book::Book;
 use fork_context::{Context, Event, Kind, NewFault, PostError, Target};
 use fork_mixing::are_same_targets;
 use fork_rank::Rules;
-use std::alloc::{AllocError, Allocator, Global};
+use std::alloc::{AllocError, Allocator};
 
 /// What stands under the lock: a book, with what it opened with.
 #[derive(Drop)]
-pub(crate) struct Held {
+pub(crate) struct Held<A: Allocator + Clone> {
     kind: Kind,
     rules: Rules,
-    targets: Vec<Target>,
-    pub(crate) book: Book,
+    targets: Vec<Target<A>, A>,
+    pub(crate) book: Book<A>,
     ghost opens: { book.opening ≡ opening (kind_of kind) rules targets.items },
 }
 
-impl Held {
+impl<A: Allocator + Clone> Held<A> {
     /// Posts an event, and says what came of it.
-    pub(crate) fn post(&mut self, tag: u8, event: Event) -> Ended {
+    pub(crate) fn post(&mut self, tag: u8, event: Event<A>) -> Ended {
         match self.book.post(tag, event) {
             Ok(_) => Ended::Done,
             Err(PostError::Full(_)) => Ended::Full,
@@ -61,10 +61,10 @@ fn copied_targets<A: Allocator + Clone>(
 
 /// What a run begins with.
 #[derive(Drop)]
-pub(crate) struct Run {
-    pub(crate) alloc: Global,
-    pub(crate) targets: Vec<Target>,
-    pub(crate) held: Held,
+pub(crate) struct Run<A: Allocator + Clone> {
+    pub(crate) alloc: A,
+    pub(crate) targets: Vec<Target<A>, A>,
+    pub(crate) held: Held<A>,
 }
 
 /// What a book is made with.
@@ -123,7 +123,11 @@ fn refused<A: Allocator + Clone>(
 }
 
 /// The book, with what it opened with.
-fn opened(kind: Kind, rules: Rules, given: Twice<Global>) -> Result<Held, NewFault>
+fn opened<A: Allocator + Clone>(
+    kind: Kind,
+    rules: Rules,
+    given: Twice<A>,
+) -> Result<Held<A>, NewFault>
     requires { given.kept.items ≡ given.targets.items }
     ensures none { IsErrOf result NewFault.NoTargets ↔ (given.targets.items ≡ []) }
     ensures many { IsErrOf result NewFault.TooMany ↔ IsTooMany given.targets.items }
@@ -144,12 +148,12 @@ fn opened(kind: Kind, rules: Rules, given: Twice<Global>) -> Result<Held, NewFau
 }
 
 /// Makes the book.
-pub(crate) fn begun(
-    alloc: Global,
+pub(crate) fn begun<A: Allocator + Clone>(
+    alloc: A,
     kind: Kind,
     rules: Rules,
-    targets: Vec<Target>,
-) -> Result<Run, DriveFault>
+    targets: Vec<Target<A>, A>,
+) -> Result<Run<A>, DriveFault<A>>
     ensures none { IsErrAnd result (IsNew NewFault.NoTargets) ↔ (targets.items ≡ []) }
     ensures many { IsErrAnd result (IsNew NewFault.TooMany) ↔ IsTooMany targets.items }
     ensures twice { IsErrAnd result (IsNew NewFault.Twice) ↔ ((length targets.items ≤ most_targets) × HasTwice targets.items) }
@@ -186,7 +190,12 @@ fn is_same_rules(one: Rules, other: Rules) -> bool
 }
 
 /// Whether the book opened with what was given.
-pub(crate) fn is_ours(held: &Held, kind: Kind, rules: Rules, targets: &[Target]) -> bool
+pub(crate) fn is_ours<A: Allocator + Clone>(
+    held: &Held<A>,
+    kind: Kind,
+    rules: Rules,
+    targets: &[Target<A>],
+) -> bool
     ensures { IsTrue result ↔ ((kind_of held.now.kind ≡ kind_of kind) × (held.now.rules ≡ rules) × (held.now.targets.items ≡ targets.now)) }
 {
     is_same_kind(held.kind, kind)

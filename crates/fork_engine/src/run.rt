@@ -17,7 +17,7 @@ use fork_book::Book;
 use fork_context::{Event, Kind, NewFault, Target};
 use fork_mixing::{have_more_events, is_interleaving, order_does_not_matter};
 use fork_rank::Rules;
-use std::alloc::Global;
+use std::alloc::Allocator;
 use std::sync::{Mutex, Wait};
 use std::thread::Threads;
 
@@ -25,15 +25,15 @@ use std::thread::Threads;
 const MOST_STRAYS: usize = 4096;
 
 /// Compares the book with what was given.
-fn judged(
+fn judged<A: Allocator + Clone>(
     kind: Kind,
     rules: Rules,
-    targets: &[Target],
-    scripts: &[Vec<Event>],
-    held: Held,
+    targets: &[Target<A>],
+    scripts: &[Vec<Event<A>, A>],
+    held: Held<A>,
     full: bool,
     memory: bool,
-) -> Result<Book, DriveFault>
+) -> Result<Book<A>, DriveFault<A>>
     requires { length scripts.now < 2 ^ 32 }
     ensures opened { IfOk result (λ book. book.opening ≡ opening (kind_of kind) rules targets.now) }
     ensures mixed { IfOk result (λ book. IsInterleaving (map (λ s. map event_of s.items) scripts.now) book.history) }
@@ -65,15 +65,15 @@ fn judged(
 /// Where the targets are at fault, as [`Context::new`] says; where the scripts together have more than 4,096 events
 /// and a worker met a full book; where a worker met want of memory; else the book, where it is not one of what was
 /// given.
-pub fn drive<G: Gate + Sync, R: Threads + Wait + Sync>(
+pub fn drive<A: Allocator + Clone + Send + Sync, G: Gate + Sync, R: Threads + Wait + Sync>(
     rt: &R,
-    alloc: Global,
+    alloc: A,
     kind: Kind,
     rules: Rules,
-    targets: Vec<Target>,
-    scripts: Vec<Vec<Event>>,
+    targets: Vec<Target<A>, A>,
+    scripts: Vec<Vec<Event<A>, A>, A>,
     gate: &G,
-) -> Result<Book, DriveFault>
+) -> Result<Book<A>, DriveFault<A>>
     requires some { 0 < vec_len scripts }
     requires few { vec_len scripts ≤ 8 }
     ensures opened { IfOk result (λ book. book.opening ≡ opening (kind_of kind) rules targets.items) }

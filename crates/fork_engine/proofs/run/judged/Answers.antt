@@ -5,10 +5,10 @@ use Rattle.fork_engine.proofs.run.judged.Goals as goal
 use Rattle.fork_engine.proofs.run.judged.Goals.{else-ours-via-then-ours+else-mixed, else-ours-via-else-ours}
 
 pub returns-then-mixed-clause-mixed : goal.returns-then-mixed-clause-mixed
-returns-then-mixed-clause-mixed c = subst (IsInterleaving _) c.history.ensures (c.is_interleaving-mixed.ensures.0 (cc))
+returns-then-mixed-clause-mixed g c = subst (IsInterleaving _) c.history.ensures (c.is_interleaving-mixed.ensures.0 (cc))
 
 pub returns-clause-fault : goal.returns-clause-fault
-returns-clause-fault c = elim c.else-ours.branch [
+returns-clause-fault g c = elim c.else-ours.branch [
   | else-ours-via-then-ours+else-mixed w ↦
       inr (λ m. absurd (let t = c.is_interleaving-mixed.ensures.1 (subst (IsInterleaving _) (sym c.history.ensures) m) in let f = w.if-mixed.false in cc))
   | else-ours-via-else-ours w ↦
