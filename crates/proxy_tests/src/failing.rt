@@ -159,6 +159,50 @@ impl Read for Endless {
     }
 }
 
+/// The exit status of a command whose input has no end, by how many reads, and whether anything was written.
+fn ended<R: Threads + Wait + Sync>(
+    rt: &R,
+    alloc: Global,
+    asked: Asked,
+    interrupted: bool,
+) -> (u8, u32, bool) {
+    let mut input = Endless {
+        reads: 0,
+        interrupted,
+    };
+    let mut output = Output {
+        at: 0,
+        well: true,
+        most: 1000,
+        fails: None,
+    };
+    let status = match asked.answer(rt, alloc, &mut input, &mut output) {
+        Ok(status) => status,
+        Err(fault) => fault.status(),
+    };
+    (status, input.reads, output.at > 0 || !output.well)
+}
+
+#[test]
+fn a_command_gives_up_an_input_without_an_end(rt: HostRuntime) {
+    for asked in [
+        Asked::Alone(Command::Replay),
+        Asked::Alone(Command::Check),
+        Asked::Drive,
+    ] {
+        holds(
+            &rt,
+            ended(&rt, rt.alloc(), asked, false) == (1, 1_048_577, false),
+            "one byte too many is too long",
+        );
+        holds(
+            &rt,
+            ended(&rt, rt.alloc(), asked, true) == (5, 2_097_152, false),
+            "reads that bring no end are a broken input",
+        );
+    }
+}
+
 /// How many bytes are read of an input without an end, if it counts as read, and by how many reads.
 fn read_of(alloc: Global, interrupted: bool) -> (Result<usize, Fault>, u32) {
     let mut input = Endless {
