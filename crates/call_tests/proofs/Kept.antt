@@ -3,7 +3,6 @@ use Rattle.std.proofs.Common.{◌≡◌, ℕ, refl, true, false, Bool, List, [],
 use Rattle.std.specs.Prelude.{is_none, is_some}
 use Rattle.std.proofs.lemmas.Bool.{and_from}
 use Rattle.fork_model.specs.Table.{is_trying}
-use Rattle.sip_text.specs.Message.{IsMessage}
 use Rattle.sip_text.specs.Text.{MessageText}
 use Rattle.call_model.specs.Built.{Datagram, answer_of, status_of}
 use Rattle.call_model.specs.Call.{Call, is_sent, leg_at, row_passes}
@@ -11,27 +10,28 @@ use Rattle.call_model.specs.Due.{SendAnswer, SendRequest, is_any}
 use Rattle.call_model.specs.Fixed.{Way}
 use Rattle.call_model.specs.Leg.{Leg}
 use Rattle.call_model.specs.Pump as pump
-use Rattle.call_model.specs.Pump.{AnswersBy, AnswersWith, Does, Pumped, SendsAnswer, SendsRequest}
+use Rattle.call_model.specs.Pump.{AnswersBy, AnswersWith, Does, Pumped, Pumps, SendsAnswer, SendsRequest}
 use Rattle.call_model.specs.Server as server
 use Rattle.call_model.specs.Server.{answer_event, served_out}
-use Rattle.call_model.specs.Sound.{IsForward, IsSound, StepsKeepSound}
-use Rattle.call_model.specs.Step.{Did, Pump, Take, Took}
+use Rattle.call_model.specs.Step.{Did, Pump, Take, Took, Turn}
 use Rattle.call_model.specs.Take as take
-use Rattle.call_model.specs.Take.{RespondsOn, is_response}
+use Rattle.call_model.specs.Take.{is_response}
 
-pub request_keeps : StepsKeepSound → (call new : Call) (now n : ℕ) (d : Datagram) → IsSound call → row_passes is_trying call n ≡ true → is_sent call n ≡ false
-    → (way : Way) × (slice_get call.ways n ≡ Some way) × SendsRequest call now n way (pump.Send d) new → IsSound new
-request_keeps law call new now n d sound trying unsent sends =
-    law (record { now = now; input = Pump; output = Did (pump.Send d) }) call new sound tt
+pub request_step : (call new : Call) (now n : ℕ) (d : Datagram) → row_passes is_trying call n ≡ true → is_sent call n ≡ false
+    → (way : Way) × (slice_get call.ways n ≡ Some way) × SendsRequest call now n way (pump.Send d) new → Pumps call now (pump.Send d) new
+request_step call new now n d trying unsent sends =
     (SendRequest n, and_from (row_passes is_trying call n) (is_none (leg_at call n)) trying (none (leg_at call n) unsent), sends)
   where
     none : (leg : Option Leg) → is_some leg ≡ false → is_none leg ≡ true
     none None e = refl
     none (Some leg) e = absurd cc
 
-pub response_keeps : StepsKeepSound → (call new : Call) (n now : ℕ) (m : MessageText) (k : take.Taken) → IsSound call → IsMessage m → IsForward m → RespondsOn call n now m k new → IsSound new
-response_keeps law call new n now m k sound message forward responds =
-    law (record { now = now; input = Take (take.Client n) m call.fixed.caller; output = Took k }) call new sound (message, forward) responds
+-- by this turn
+abbrev pub sent_turn : (now : ℕ) → Pumped → Turn
+sent_turn now p = record { now = now; input = Pump; output = Did p }
+
+abbrev pub taken_turn : Call → (n now : ℕ) → MessageText → take.Taken → Turn
+taken_turn call n now m k = record { now = now; input = Take (take.Client n) m call.fixed.caller; output = Took k }
 
 not_idle_by : (call : Call) (now : ℕ) (rest : List server.Owed) (m : MessageText) (b : Bool) (new : Call) → AnswersBy call now rest m b pump.Idle new → ⊥
 not_idle_by call now rest m true new (is, same) = absurd cc
@@ -53,9 +53,7 @@ some_owed : (call : Call) (now : ℕ) (owed : List server.Owed) (p : Pumped) (ne
 some_owed call now [] p new e = absurd e
 some_owed call now (owed ∷ rest) p new e = refl
 
-pub answer_keeps : StepsKeepSound → (call new : Call) (now : ℕ) (p : Pumped) → IsSound call → Does call now SendAnswer p new → IsSound new
-answer_keeps law call new now pump.Idle sound does = absurd (not_idle call now call.server.owed new does)
-answer_keeps law call new now (pump.Send d) sound does =
-    law (record { now = now; input = Pump; output = Did (pump.Send d) }) call new sound tt (SendAnswer, some_owed call now call.server.owed (pump.Send d) new does, does)
-answer_keeps law call new now pump.Did sound does =
-    law (record { now = now; input = Pump; output = Did pump.Did }) call new sound tt (SendAnswer, some_owed call now call.server.owed pump.Did new does, does)
+pub answer_step : (call new : Call) (now : ℕ) (p : Pumped) → Does call now SendAnswer p new → Pumps call now p new
+answer_step call new now pump.Idle does = absurd (not_idle call now call.server.owed new does)
+answer_step call new now (pump.Send d) does = (SendAnswer, some_owed call now call.server.owed (pump.Send d) new does, does)
+answer_step call new now pump.Did does = (SendAnswer, some_owed call now call.server.owed pump.Did new does, does)

@@ -1,4 +1,5 @@
 //! What comes of a branch: its timers, and the responses that bring contacts or challenges.
+ghost use Rattle.call_model.specs.Behind.{KeepsAnswers};
 ghost use Rattle.call_model.specs.Sound.{IsSound};
 
 use crate::holds::holds;
@@ -7,7 +8,7 @@ use crate::parts::{
     SECOND_VIA, TO, TO_FIRST, TO_SECOND, TRYING, VIA, begun, is_sent_as, is_silent, message_of,
     sends_cancel, status_of, step_sends,
 };
-use call_model::{Cause, Datagram, Step, Taken, calls_stay_sound};
+use call_model::{Cause, Datagram, Step, Taken, branches_keep_their_answers, calls_stay_sound};
 use call_state::Parts;
 use sip_text::Message;
 use sip_uri::Hop;
@@ -173,10 +174,13 @@ pub(crate) const UNAUTHORIZED_UP: [&[u8]; 10] = [
 
 /// Sends the request to target n, where that is owed.
 fn sent_to(parts: &mut Parts, n: u16) -> Option<Datagram>
-    requires { IsSound parts.old }
-    ensures { IsSound parts.new }
+    requires sound { IsSound parts.old }
+    requires answers { KeepsAnswers parts.old }
+    ensures sound { IsSound parts.new }
+    ensures answers { KeepsAnswers parts.new }
 {
     calls_stay_sound();
+    branches_keep_their_answers();
     if n >= parts.book().context().count() {
         return None;
     }
@@ -194,8 +198,10 @@ fn sent_to(parts: &mut Parts, n: u16) -> Option<Datagram>
 
 /// Whether the request to target n is sent there, as these lines.
 pub(crate) fn starts(alloc: Global, parts: &mut Parts, n: u16, to: Hop, lines: &[&[u8]]) -> bool
-    requires { IsSound parts.old }
-    ensures { IsSound parts.new }
+    requires sound { IsSound parts.old }
+    requires answers { KeepsAnswers parts.old }
+    ensures sound { IsSound parts.new }
+    ensures answers { KeepsAnswers parts.new }
 {
     match sent_to(parts, n) {
         None => false,
@@ -205,10 +211,13 @@ pub(crate) fn starts(alloc: Global, parts: &mut Parts, n: u16, to: Hop, lines: &
 
 /// What comes of a response to branch n.
 fn taken_from(parts: &mut Parts, n: u16, now: u64, response: Message<Global>) -> Option<Taken>
-    requires { IsSound parts.old }
-    ensures { IsSound parts.new }
+    requires sound { IsSound parts.old }
+    requires answers { KeepsAnswers parts.old }
+    ensures sound { IsSound parts.new }
+    ensures answers { KeepsAnswers parts.new }
 {
     calls_stay_sound();
+    branches_keep_their_answers();
     response.is_message();
     let status = status_of(&response);
     if !parts.is_sent(n) || status < 100 || status > 699 {
@@ -231,8 +240,10 @@ pub(crate) fn taken_by(
     now: u64,
     lines: &[&[u8]],
 ) -> Option<Taken>
-    requires { IsSound parts.old }
-    ensures { IsSound parts.new }
+    requires sound { IsSound parts.old }
+    requires answers { KeepsAnswers parts.old }
+    ensures sound { IsSound parts.new }
+    ensures answers { KeepsAnswers parts.new }
 {
     match message_of(alloc, lines) {
         None => None,
@@ -242,10 +253,13 @@ pub(crate) fn taken_by(
 
 /// The step by which the answer that is owed first is sent.
 fn answered(parts: &mut Parts) -> Option<Step>
-    requires { IsSound parts.old }
-    ensures { IsSound parts.new }
+    requires sound { IsSound parts.old }
+    requires answers { KeepsAnswers parts.old }
+    ensures sound { IsSound parts.new }
+    ensures answers { KeepsAnswers parts.new }
 {
     calls_stay_sound();
+    branches_keep_their_answers();
     if parts.owed().is_empty() {
         return None;
     }
@@ -257,8 +271,10 @@ fn answered(parts: &mut Parts) -> Option<Step>
 
 /// Whether it is sent as these lines.
 pub(crate) fn answers(alloc: Global, parts: &mut Parts, lines: &[&[u8]]) -> bool
-    requires { IsSound parts.old }
-    ensures { IsSound parts.new }
+    requires sound { IsSound parts.old }
+    requires answers { KeepsAnswers parts.old }
+    ensures sound { IsSound parts.new }
+    ensures answers { KeepsAnswers parts.new }
 {
     match answered(parts) {
         None => false,

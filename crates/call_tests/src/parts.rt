@@ -3,12 +3,13 @@ ghost use Rattle.std.specs.Prelude.{◌≡◌, IfOk, IfSome, IsTrue};
 ghost use Rattle.sip_text.specs.Name.{first_value};
 ghost use Rattle.sip_route.specs.Hops.{IsHops, hops_name};
 ghost use Rattle.call_model.specs.Built.{status_of};
+ghost use Rattle.call_model.specs.Behind.{KeepsAnswers};
 ghost use Rattle.call_model.specs.Sound.{IsSound};
 
 use crate::holds::holds;
 use call_answers::OwedAnswer;
 use call_branch::{Fixed, Way};
-use call_model::{Cause, Datagram, Step, Taken, calls_stay_sound};
+use call_model::{Cause, Datagram, Step, Taken, branches_keep_their_answers, calls_stay_sound};
 use call_state::Parts;
 use fork_book::Book;
 use fork_context::{Kind, Target};
@@ -301,16 +302,17 @@ fn ways_of(alloc: Global) -> Option<Vec<Way>> {
 }
 
 /// The parts of a call that begins to these targets, which are sound.
-#[tactic(auto, using(crate::proofs::Begun::begins_sound))]
 fn begun_to(
     alloc: Global,
     fixed: Fixed,
     targets: Vec<Target>,
     ways: Vec<Way>,
 ) -> Result<Parts, AllocError>
-    ensures { IfOk result IsSound }
+    ensures sound { IfOk result IsSound }
+    ensures answers { IfOk result KeepsAnswers }
 {
     calls_stay_sound();
+    branches_keep_their_answers();
     let kind = fixed.kind();
     let Ok(book) = Book::new(alloc, kind, Rules::usual(), targets) else {
         return Err(AllocError);
@@ -323,7 +325,8 @@ fn begun_to(
 
 /// The parts of the call of the request of these lines to the two targets.
 pub(crate) fn begun(alloc: Global, lines: &[&[u8]]) -> Option<Parts>
-    ensures { IfSome result IsSound }
+    ensures sound { IfSome result IsSound }
+    ensures answers { IfSome result KeepsAnswers }
 {
     let fixed = fixed_of(alloc, lines)?;
     let targets = targets_of(alloc)?;
@@ -505,7 +508,8 @@ fn passes(parts: &Parts, status: u16) -> bool {
 
 /// Whether the answer that is owed first is sent as these lines; it is the first of a call that is sound.
 fn sends_owed(alloc: Global, parts: &mut Parts, lines: &[&[u8]]) -> bool
-    requires { IsSound parts.old }
+    requires sound { IsSound parts.old }
+    requires answers { KeepsAnswers parts.old }
 {
     if parts.owed().is_empty() {
         return false;
@@ -518,7 +522,7 @@ fn sends_owed(alloc: Global, parts: &mut Parts, lines: &[&[u8]]) -> bool
 
 /// What comes of the caller's CANCEL.
 fn cancelled_by(alloc: Global, parts: &mut Parts) -> Option<Taken>
-    requires { IsSound parts.old }
+    requires sound { IsSound parts.old }
 {
     let cancel = message_of(alloc, &CANCEL)?;
     parts.take_cancel(cancel, CALLER).ok()

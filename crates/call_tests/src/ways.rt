@@ -1,7 +1,7 @@
 //! Which URI a request names, and by which hop it goes there (RFC 3261 sections 16.5 and 16.6 steps 6 and 7).
 use crate::holds::holds;
 use crate::requests::request_with;
-use fork_routing::read_target;
+use fork_routing::{admitted_target, read_target};
 use proxy_routing::hop_by;
 use sip_route::FirstRoute;
 use sip_text::Message;
@@ -52,7 +52,11 @@ const UNREADABLE: [(&[u8], &[u8]); 5] = [
 /// Whether a message names a URI of this user and this host.
 fn names(alloc: Global, message: &Message<Global>, user: &[u8], host: &[u8]) -> bool {
     match read_target(alloc, message) {
-        Ok(uri) => uri.user().unwrap_or(b"") == user && uri.host() == host,
+        Ok(uri) => {
+            uri.user().unwrap_or(b"") == user
+                && uri.host() == host
+                && admitted_target(alloc, message).is_ok()
+        }
         Err(_) => false,
     }
 }

@@ -1,7 +1,23 @@
+use Rattle.std.proofs.Common.{subst, sym}
+use Rattle.call_model.specs.Behind.{KeepsAnswers}
+use Rattle.call_model.specs.Call.{Call}
 use Rattle.call_model.specs.SeenStep.{pumped}
-use Rattle.call_tests.proofs.Kept.{answer_keeps}
+use Rattle.call_tests.proofs.Kept.{answer_step, sent_turn}
 use Rattle.call_tests.proofs.branches.answered.Goals as goal
 
-pub returns-in-Ok : goal.returns-in-Ok
-returns-in-Ok c =
-    answer_keeps c.calls_stay_sound.ensures.kept c.args.parts.now c.send_owed.new.self 0 (pumped c.in-Ok.step) c.requires c.in-Ok.ensures.ok
+pub returns-in-Ok-clause-sound : goal.returns-in-Ok-clause-sound
+returns-in-Ok-clause-sound c =
+    let p = pumped c.in-Ok.step in
+    c.calls_stay_sound.ensures.kept (sent_turn 0 p) c.args.parts.now c.send_owed.new.self c.requires.sound tt
+    (answer_step c.args.parts.now c.send_owed.new.self 0 p c.in-Ok.ensures.ok)
+
+pub returns-in-Ok-clause-answers : goal.returns-in-Ok-clause-answers
+returns-in-Ok-clause-answers c =
+    let p = pumped c.in-Ok.step in
+    c.branches_keep_their_answers.ensures.kept (sent_turn 0 p) c.args.parts.now c.send_owed.new.self c.requires.sound c.requires.answers
+    (answer_step c.args.parts.now c.send_owed.new.self 0 p c.in-Ok.ensures.ok)
+
+pub returns-in-Err-clause-answers : goal.returns-in-Err-clause-answers
+returns-in-Err-clause-answers c =
+    let P : Call → Type 0 = λ x. KeepsAnswers x in
+    subst P (sym c.in-Err.ensures.err) c.requires.answers
