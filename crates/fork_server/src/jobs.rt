@@ -33,6 +33,8 @@ pub struct Waker {
     parker: Parker,
     /// How many jobs the worker has received.
     received: AtomicU64,
+    /// How many of them it has done.
+    done: AtomicU64,
     /// What the giving end sleeps on.
     giver: Parker,
     /// How many received jobs the giving end waits for.
@@ -45,9 +47,16 @@ impl Waker {
         Waker {
             parker: Parker::new(),
             received: AtomicU64::new(0),
+            done: AtomicU64::new(0),
             giver: Parker::new(),
             awaited: AtomicU64::new(0),
         }
+    }
+
+    /// Notes that all jobs that were received are done.
+    fn note_done(&self) {
+        let received = self.received.load(Ordering::SeqCst);
+        self.done.store(received, Ordering::SeqCst);
     }
 
     /// Counts a received job, and wakes the giving end where it waits for this one.
@@ -97,6 +106,16 @@ impl<'a, A: Allocator> JobSender<'a, A> {
             .wrapping_sub(self.waker.received.load(Ordering::SeqCst))
     }
 
+    /// The number of the job that was given last. The first job has the number 1.
+    pub(crate) fn last(&self) -> u64 {
+        self.given
+    }
+
+    /// Whether the worker has done the job of this number, and all before it.
+    pub(crate) fn has_done(&self, number: u64) -> bool {
+        self.waker.done.load(Ordering::SeqCst) >= number
+    }
+
     /// Where the inbox is full, sleeps until the worker has few jobs left, some hundred milliseconds at most.
     pub fn make_room<R: Wait>(&self, rt: &R) {
         if self.held() < MOST_JOBS as u64 {
@@ -137,8 +156,9 @@ impl<'a, A: Allocator> JobReceiver<'a, A> {
         JobReceiver { inbox, waker }
     }
 
-    /// The next job. The worker sleeps until there is one.
+    /// The next job. The worker sleeps until there is one. Whoever asks for it has done those before.
     pub fn receive<R: Wait>(&mut self, rt: &R) -> Job<A> {
+        self.waker.note_done();
         for _ in rt.forever() {
             if let Some(job) = self.inbox.receive(rt) {
                 self.waker.count_received();

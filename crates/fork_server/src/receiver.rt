@@ -2,6 +2,7 @@
 ghost use Rattle.std.specs.Prelude.{IfErr};
 ghost use Rattle.fork_server.specs.inner.Faults.{IsSystemFault};
 
+use crate::by_call::group_of;
 use crate::fault::ServeFault;
 use crate::job::Job;
 use crate::jobs::JobSender;
@@ -23,6 +24,13 @@ pub(crate) struct Running {
     pub(crate) timer: bool,
 }
 
+/// Which of the two workers that handle datagrams the last one of a group of calls was for, and the number of its job there.
+#[derive(Clone, Copy)]
+struct Last {
+    is_first: bool,
+    number: u64,
+}
+
 /// The ways to the workers.
 #[derive(Drop)]
 pub(crate) struct Senders<'a, A: Allocator> {
@@ -31,28 +39,18 @@ pub(crate) struct Senders<'a, A: Allocator> {
     timer: JobSender<'a, A>,
     /// Whether the last datagram was for the first of the two that handle datagrams.
     is_first: bool,
+    /// The last datagram of each group of calls.
+    last: [Last; 256],
 }
 
-/// Gives a datagram's job to this worker, or to the other one where it has no room. Where neither has, both are tried once more, as
-/// soon as this one has few jobs left or some hundred milliseconds are over, in which datagrams wait in the socket. Says whether
-/// it was taken.
-fn give_to_either<R: Wait, A: Allocator>(
-    rt: &R,
-    worker: &mut JobSender<'_, A>,
-    other: &mut JobSender<'_, A>,
-    job: Job<A>,
-) -> bool {
+/// Gives a datagram's job to this worker. Where it has no room it is tried once more, as soon as it has few jobs left or some
+/// hundred milliseconds are over, in which datagrams wait in the socket. Says whether it was taken.
+fn give_to<R: Wait, A: Allocator>(rt: &R, worker: &mut JobSender<'_, A>, job: Job<A>) -> bool {
     let Err(job) = worker.give(rt, job) else {
-        return true;
-    };
-    let Err(job) = other.give(rt, job) else {
         return true;
     };
     worker.make_room(rt);
-    let Err(job) = worker.give(rt, job) else {
-        return true;
-    };
-    other.give(rt, job).is_ok()
+    worker.give(rt, job).is_ok()
 }
 
 impl<'a, A: Allocator> Senders<'a, A> {
@@ -62,35 +60,62 @@ impl<'a, A: Allocator> Senders<'a, A> {
         second: JobSender<'a, A>,
         timer: JobSender<'a, A>,
     ) -> Senders<'a, A> {
+        let none = Last {
+            is_first: true,
+            number: 0,
+        };
         Senders {
             first,
             second,
             timer,
             is_first: true,
+            last: [none; 256],
         }
     }
 
-    /// Whether the worker that the last datagram was for has enough to do.
-    fn is_busy(&self) -> bool {
-        let last = if self.is_first {
-            &self.first
-        } else {
-            &self.second
+    /// One of the two workers that handle datagrams.
+    fn worker(&self, is_first: bool) -> &JobSender<'a, A> {
+        if is_first { &self.first } else { &self.second }
+    }
+
+    /// Whether the first of the two workers is the one for the next datagram of any call that has none waiting: the one that the
+    /// last was for, or the other where that has enough to do and the other less. So one of them stays awake while there is
+    /// little to do, and the other asleep.
+    fn is_first_free(&self) -> bool {
+        let held = self.worker(self.is_first).held();
+        let has_less = self.worker(!self.is_first).held() < held;
+        self.is_first != (held >= ENOUGH_JOBS && has_less)
+    }
+
+    /// Whether the first of the two workers is the one for a datagram of this group of calls: the last one of the group binds it to its
+    /// worker until it is done.
+    fn is_for_first(&self, group: Option<u8>) -> bool {
+        let Some(group) = group else {
+            return self.is_first_free();
         };
-        last.held() >= ENOUGH_JOBS
+        let last = self.last[usize::from(group)];
+        if self.worker(last.is_first).has_done(last.number) {
+            self.is_first_free()
+        } else {
+            last.is_first
+        }
     }
 
-    /// Gives a datagram's job to one of the two workers, and says whether it was taken: to the one that the last was for, or the
-    /// other one where that has enough to do. So one of them stays awake while there is little to do, and the other asleep.
-    fn give_packet<R: Wait>(&mut self, rt: &R, job: Job<A>) -> bool {
-        if self.is_busy() {
-            self.is_first = !self.is_first;
-        }
-        if self.is_first {
-            give_to_either(rt, &mut self.first, &mut self.second, job)
+    /// Gives a datagram's job to the worker that it is for and to no other, and says whether it was taken. So what comes of one call is
+    /// handled in the order in which it came.
+    fn give_packet<R: Wait>(&mut self, rt: &R, group: Option<u8>, job: Job<A>) -> bool {
+        let is_first = self.is_for_first(group);
+        self.is_first = is_first;
+        let taken = if is_first {
+            give_to(rt, &mut self.first, job)
         } else {
-            give_to_either(rt, &mut self.second, &mut self.first, job)
+            give_to(rt, &mut self.second, job)
+        };
+        if let Some(group) = group {
+            let number = self.worker(is_first).last();
+            self.last[usize::from(group)] = Last { is_first, number };
         }
+        taken
     }
 
     /// Tells the timer's worker the time. It is told again after the next turn if its inbox is full.
@@ -112,7 +137,7 @@ impl<'a, A: Allocator> Senders<'a, A> {
     }
 }
 
-/// Gives a datagram to the next worker. Where that is not possible it is dropped, and counted.
+/// Gives a datagram to a worker. Where that is not possible it is dropped, and counted.
 fn pass_on<R: Wait + Log, A: Allocator + Clone>(
     rt: &R,
     proxy: &Proxy<A>,
@@ -126,7 +151,7 @@ fn pass_on<R: Wait + Log, A: Allocator + Clone>(
     };
     match Job::packet(alloc, bytes, source, now) {
         Ok(job) => {
-            if !senders.give_packet(rt, job) {
+            if !senders.give_packet(rt, group_of(bytes), job) {
                 proxy
                     .crowded_out
                     .note(rt, "datagrams dropped at a full inbox");
@@ -136,7 +161,7 @@ fn pass_on<R: Wait + Log, A: Allocator + Clone>(
     }
 }
 
-/// One turn: a receive of at most 10 ms, and then a tick where something is due. Says whether a datagram came.
+/// One turn: a receive of at most 10 ms, and then a tick where something is due. Says whether nothing came in these 10 ms.
 fn turn<R: Wait + Log, A: Allocator + Clone>(
     rt: &R,
     proxy: &Proxy<A>,
@@ -146,15 +171,14 @@ fn turn<R: Wait + Log, A: Allocator + Clone>(
 ) -> Result<bool, ServeFault>
     ensures { IfErr result IsSystemFault }
 {
-    let came = proxy.socket.receive(buffer)?;
-    let has_come = came.is_some();
-    if let Some((count, source)) = came {
+    let received = proxy.socket.receive(buffer)?;
+    if let Some((count, source)) = received.datagram {
         pass_on(rt, proxy, senders, &buffer[..count], source, now);
     }
     if proxy.schedule.is_due(now) {
         senders.give_tick(rt, now);
     }
-    Ok(has_come)
+    Ok(received.is_quiet)
 }
 
 /// So many turns. The time is 10 ms for each turn before in which nothing came.
@@ -173,8 +197,8 @@ pub(crate) fn receive_all<R: Wait + Log, A: Allocator + Clone>(
 {
     let mut now = 0u64;
     for _ in 0..turns {
-        if !turn(rt, proxy, senders, buffer, now)? {
-            now = now.saturating_add(TURN);
+        if turn(rt, proxy, senders, buffer, now)? {
+            now = now.saturating_add(u64::from(TURN));
         }
     }
     Ok(())

@@ -4,19 +4,16 @@ ghost use Rattle.fork_server.specs.inner.Faults.{IsSystemFault};
 
 use crate::fault::{ServeFault, of_system};
 use fork_call::{Datagram, Port};
-use libc::net;
+use libc::types::pollfd;
+use libc::{EINTR, net};
 use sip_uri::Hop;
 use std::alloc::Allocator;
-use std::io::ErrorKind;
+use std::io::{Error, ErrorKind};
 use std::net::{Ipv4Addr, Net, SocketAddr, SocketAddrV4, UdpSocket};
 use std::os::fd::AsRawFd;
-use std::time::Duration;
 
-/// How long a receive waits at most, in milliseconds.
-pub(crate) const TURN: u64 = 10;
-
-/// How long a send waits at most for room in the socket, in milliseconds.
-const LONGEST_SEND: u64 = 10;
+/// How long a receive waits at most for a datagram, and a send for room in the socket, in milliseconds.
+pub(crate) const TURN: u16 = 10;
 
 /// How many bytes of room are asked of the system for datagrams that wait to be received.
 const ROOM: i32 = 4_194_304;
@@ -30,6 +27,15 @@ enum Sent {
     Lost,
     /// It refused the datagram.
     Refused,
+}
+
+/// What came of a receive.
+#[derive(Clone, Copy)]
+pub(crate) struct Received {
+    /// A datagram's length and source.
+    pub(crate) datagram: Option<(usize, Hop)>,
+    /// Whether nothing came for as long as a receive waits.
+    pub(crate) is_quiet: bool,
 }
 
 /// The UDP socket that all threads of a proxy share.
@@ -61,8 +67,8 @@ fn ask_for_room(udp: &UdpSocket) {
 }
 
 impl Socket {
-    /// A socket that receives at this address, and whose receives and sends wait 10 ms at most: what waits for hosts that
-    /// cannot be found fills the room of all others, and would hold every worker for seconds.
+    /// A socket that receives at this address. No call on it waits by itself: a time limit of the socket would be counted in
+    /// ticks of the system's clock, of which 10 ms may take 24.
     ///
     /// # Errors
     ///
@@ -74,22 +80,42 @@ impl Socket {
             Ok(udp) => udp,
             Err(error) => return Err(of_system(error)),
         };
-        if let Err(error) = udp.set_read_timeout(Some(Duration::from_millis(TURN))) {
-            return Err(of_system(error));
-        }
-        if let Err(error) = udp.set_write_timeout(Some(Duration::from_millis(LONGEST_SEND))) {
+        if let Err(error) = udp.set_nonblocking(true) {
             return Err(of_system(error));
         }
         ask_for_room(&udp);
         Ok(Socket { udp })
     }
 
-    /// A datagram's length and source, or None where none came in time.
+    /// Waits until a receive, or a send, would not have to wait, 10 ms at most. Says whether it is so; a signal ends the wait, too.
+    ///
+    /// # Errors
+    ///
+    /// `Socket` where the system cannot wait.
+    fn is_ready(&self, what: i16) -> Result<bool, ServeFault>
+        ensures { IfErr result IsSystemFault }
+    {
+        let mut asked = [pollfd {
+            fd: self.udp.as_raw_fd(),
+            events: what,
+            revents: 0,
+        }];
+        let count = net::poll(&mut asked, i32::from(TURN));
+        if count >= 0 {
+            return Ok(count > 0);
+        }
+        match os::errno() {
+            EINTR => Ok(false),
+            errno => Err(of_system(Error::from_raw_os_error(errno))),
+        }
+    }
+
+    /// The length and the source of a datagram that waits in the socket, or None where none does.
     ///
     /// # Errors
     ///
     /// `Socket` where the receive failed.
-    pub(crate) fn receive(&self, buffer: &mut [u8]) -> Result<Option<(usize, Hop)>, ServeFault>
+    fn take(&self, buffer: &mut [u8]) -> Result<Option<(usize, Hop)>, ServeFault>
         ensures fits { IfOk result (λ came. IfSome came (λ packet. packet.0 ≤ length buffer.new)) }
         ensures fault { IfErr result IsSystemFault }
     {
@@ -99,21 +125,63 @@ impl Socket {
                 None => Ok(None),
             },
             Err(error) => match error.kind() {
-                ErrorKind::WouldBlock | ErrorKind::TimedOut | ErrorKind::Interrupted => Ok(None),
+                ErrorKind::WouldBlock | ErrorKind::Interrupted => Ok(None),
                 _ => Err(of_system(error)),
             },
         }
     }
 
-    /// Sends a datagram.
-    fn send(&self, bytes: &[u8], to: Hop) -> Sent {
+    /// A datagram that waits in the socket or comes within 10 ms. One that waits costs one call of the system. What comes
+    /// and is none, as with a wrong checksum, ends the wait, and does not make it a quiet one.
+    ///
+    /// # Errors
+    ///
+    /// `Socket` where the receive failed.
+    pub(crate) fn receive(&self, buffer: &mut [u8]) -> Result<Received, ServeFault>
+        ensures fits { IfOk result
+            (λ received. IfSome received.datagram (λ packet. packet.0 ≤ length buffer.new)) }
+        ensures fault { IfErr result IsSystemFault }
+    {
+        let waiting = self.take(buffer)?;
+        if waiting.is_some() {
+            return Ok(Received {
+                datagram: waiting,
+                is_quiet: false,
+            });
+        }
+        if !self.is_ready(net::POLLIN)? {
+            return Ok(Received {
+                datagram: None,
+                is_quiet: true,
+            });
+        }
+        Ok(Received {
+            datagram: self.take(buffer)?,
+            is_quiet: false,
+        })
+    }
+
+    /// Sends a datagram where the socket has room for it.
+    fn put(&self, bytes: &[u8], to: Hop) -> Sent {
         match self.udp.send_to(bytes, address(to)) {
             Ok(count) if count == bytes.len() => Sent::Whole,
             Ok(_) => Sent::Refused,
             Err(error) => match error.kind() {
-                ErrorKind::WouldBlock | ErrorKind::TimedOut | ErrorKind::Interrupted => Sent::Lost,
+                ErrorKind::WouldBlock | ErrorKind::Interrupted => Sent::Lost,
                 _ => Sent::Refused,
             },
+        }
+    }
+
+    /// Sends a datagram. Where the socket has no room it is tried once more as soon as it has, or in 10 ms: what waits for hosts that
+    /// cannot be found fills the room of all others, and would else hold every worker for seconds.
+    fn send(&self, bytes: &[u8], to: Hop) -> Sent {
+        match self.put(bytes, to) {
+            Sent::Lost => {
+                let _ = self.is_ready(net::POLLOUT);
+                self.put(bytes, to)
+            }
+            sent => sent,
         }
     }
 }
