@@ -1,11 +1,10 @@
 //! Whole calls, each of whose steps is made again until it meets no refusal.
-use crate::port::{Comparing, is_sent};
 use crate::texts::{
-    ACK_SENT, CALLER, CANCEL, CANCEL_OK, CANCEL_SENT, FAULT_UP, INVITE, INVITE_SENT, OPTIONS,
+    ACK_SENT, CALLER, CANCEL, CANCEL_OK, CANCEL_SENT, INVITE, INVITE_SENT, OPTIONS,
     OPTIONS_FAULT_UP, OPTIONS_NOT_FOUND, OPTIONS_NOT_FOUND_OF_FIVE, OPTIONS_NOT_FOUND_UP,
     OPTIONS_SENT, RINGING, RINGING_UP, SETUP, Sent, TARGET, TERMINATED, TERMINATED_UP, TRYING,
 };
-use fork_call::{Call, Cause, OpenFault, Setup, SetupFault, Step, TakeFault, Taken, carry};
+use fork_call::{Call, Cause, OpenFault, Setup, SetupFault, Step, TakeFault, Taken};
 use fork_routing::is_openable;
 use refusing::{Answer, Heap, Play, Refusals, Refusing, Repeated, refused_always, refused_once};
 use sip_text::Message;
@@ -96,10 +95,6 @@ pub enum Turn {
     Waits(Option<u64>),
     /// A datagram of this cause could not be sent.
     Fails(Cause),
-    /// The call is carried, and these datagrams are sent.
-    Carries(&'static [&'static Sent]),
-    /// The call is carried and the first of these datagrams cannot be sent, which the call is told, unless that is refused.
-    Loses(&'static [&'static Sent]),
 }
 
 /// A moment in milliseconds, and what happens then.
@@ -110,14 +105,17 @@ pub type Moment = (u64, Turn);
 pub struct Playing<'a> {
     pub heap: Heap<'a>,
     pub call: Call<Alloc<'a>>,
-    pub port: Comparing,
     pub now: u64,
     pub turn: Turn,
 }
 
-fn sends(step: &Step<Alloc<'_>>, wanted: &Sent) -> bool {
+fn is_sent(step: &Step<Alloc<'_>>, wanted: &Sent) -> bool {
     match step {
-        Step::Send(datagram) => is_sent(datagram, wanted),
+        Step::Send(datagram) => {
+            datagram.cause == wanted.cause
+                && datagram.to == wanted.to
+                && datagram.bytes.as_slice() == wanted.text
+        }
         Step::Did | Step::Idle => false,
     }
 }
@@ -137,7 +135,7 @@ impl<'a> Playing<'a> {
     /// Whether a step does what the turn says.
     fn is_right(&self, step: &Step<Alloc<'a>>) -> bool {
         match self.turn {
-            Turn::Sends(wanted) => sends(step, wanted),
+            Turn::Sends(wanted) => is_sent(step, wanted),
             Turn::Does => matches!(step, Step::Did),
             Turn::Waits(due) => {
                 matches!(step, Step::Idle)
@@ -162,29 +160,6 @@ impl<'a> Playing<'a> {
             Err(_) => Answer::NoMemory,
         }
     }
-
-    /// The call is carried: whether what it was to send was sent once each, in order, and nothing is left.
-    fn carries(&mut self) -> Answer<bool> {
-        match carry(&mut self.call, &mut self.port, self.now) {
-            Ok(carried) => Answer::Given(!carried.more && self.port.is_done(carried.failed)),
-            Err(_) => {
-                let told = !self.call.book().history().is_empty();
-                self.port.is_refused(told);
-                Answer::NoMemory
-            }
-        }
-    }
-
-    /// Goes on to what happens at a moment.
-    fn comes_to(&mut self, (now, turn): Moment) {
-        self.now = now;
-        self.turn = turn;
-        match turn {
-            Turn::Carries(wanted) => self.port.wants(wanted, false),
-            Turn::Loses(wanted) => self.port.wants(wanted, true),
-            _ => {}
-        }
-    }
 }
 
 impl Repeated for Playing<'_> {
@@ -194,7 +169,6 @@ impl Repeated for Playing<'_> {
         match self.turn {
             Turn::Takes(from, text, wanted) => self.takes(from, text, wanted),
             Turn::Fails(cause) => self.fails(cause),
-            Turn::Carries(_) | Turn::Loses(_) => self.carries(),
             _ => self.pumps(),
         }
     }
@@ -206,21 +180,6 @@ pub struct History {
     pub global: Global,
     pub request: &'static [u8],
     pub moments: &'static [Moment],
-    /// What happens then where the call could not be told of a datagram that was lost.
-    pub untold: &'static [Moment],
-    /// What happens then where it could.
-    pub told: &'static [Moment],
-}
-
-/// Whether each turn goes as it should.
-fn go(playing: &mut Playing<'_>, moments: &[Moment]) -> bool {
-    for moment in moments {
-        playing.comes_to(*moment);
-        if playing.heap.insist(playing) != Some(true) {
-            return false;
-        }
-    }
-    true
 }
 
 impl Play for History {
@@ -231,18 +190,17 @@ impl Play for History {
         let mut playing = Playing {
             heap,
             call,
-            port: Comparing::new(),
             now: 0,
             turn: Turn::Does,
         };
-        if !go(&mut playing, self.moments) {
-            return false;
+        for (now, turn) in self.moments {
+            playing.now = *now;
+            playing.turn = *turn;
+            if heap.insist(&mut playing) != Some(true) {
+                return false;
+            }
         }
-        if playing.port.is_untold() {
-            go(&mut playing, self.untold)
-        } else {
-            go(&mut playing, self.told)
-        }
+        true
     }
 }
 
@@ -277,8 +235,6 @@ fn goes(
         global: rt.alloc(),
         request,
         moments,
-        untold: &[],
-        told: &[],
     };
     plays(rt, rt.alloc(), &history, 0, what);
 }
@@ -308,51 +264,11 @@ const FAILING: &[Moment] = &[
     (32_020, Turn::Waits(None)),
 ];
 
-/// An OPTIONS request that cannot be sent, of which the call is told twice: the final answer is owed then, and the 404 of
-/// the target changes nothing. Nor can that answer be sent.
+/// An OPTIONS request that cannot be sent.
 const LOST: &[Moment] = &[
     (0, Turn::Sends(&OPTIONS_SENT)),
     (0, Turn::Fails(Cause::Request(0))),
-    (0, Turn::Fails(Cause::Request(0))),
     (0, Turn::Sends(&OPTIONS_FAULT_UP)),
-    (0, Turn::Fails(Cause::Answer)),
-    (0, Turn::Waits(None)),
-    (
-        20,
-        Turn::Takes(TARGET, OPTIONS_NOT_FOUND, Ok(Taken::Absorbed)),
-    ),
-    (20, Turn::Waits(None)),
-];
-
-/// An OPTIONS request whose target answers 404, which is owed when the request, and then the answer, turn out to be lost.
-const ANSWERED: &[Moment] = &[
-    (0, Turn::Sends(&OPTIONS_SENT)),
-    (
-        20,
-        Turn::Takes(TARGET, OPTIONS_NOT_FOUND, Ok(Taken::Posted(0))),
-    ),
-    (20, Turn::Fails(Cause::Request(0))),
-    (20, Turn::Sends(&OPTIONS_NOT_FOUND_UP)),
-    (20, Turn::Fails(Cause::Answer)),
-    (20, Turn::Waits(Some(5020))),
-    (5020, Turn::Does),
-    (5020, Turn::Waits(None)),
-];
-
-/// An INVITE that cannot be sent, nor the 100 before it, and which the caller cancels while the final answer is owed.
-const NEVER_SENT: &[Moment] = &[
-    (0, Turn::Sends(&TRYING)),
-    (0, Turn::Sends(&INVITE_SENT)),
-    (0, Turn::Fails(Cause::Request(0))),
-    (0, Turn::Fails(Cause::Answer)),
-    (10, Turn::Takes(CALLER, CANCEL, Ok(Taken::Posted(1)))),
-    (10, Turn::Fails(Cause::Request(0))),
-    (10, Turn::Sends(&FAULT_UP)),
-    (10, Turn::Sends(&CANCEL_OK)),
-    (10, Turn::Fails(Cause::CancelOk)),
-    (20, Turn::Takes(TARGET, RINGING, Ok(Taken::Absorbed))),
-    (32_010, Turn::Does),
-    (32_010, Turn::Waits(None)),
 ];
 
 /// An INVITE that the caller cancels before the target rings.
@@ -376,29 +292,6 @@ const CANCELLED: &[Moment] = &[
     (32_020, Turn::Waits(Some(32_030))),
 ];
 
-/// The same, where every datagram turns out to be lost: that is no fault of a branch which has answered.
-const ALL_LOST: &[Moment] = &[
-    (0, Turn::Sends(&TRYING)),
-    (0, Turn::Sends(&INVITE_SENT)),
-    (10, Turn::Takes(CALLER, CANCEL, Ok(Taken::Posted(0)))),
-    (10, Turn::Sends(&CANCEL_OK)),
-    (10, Turn::Fails(Cause::CancelOk)),
-    (20, Turn::Takes(TARGET, RINGING, Ok(Taken::Posted(1)))),
-    (20, Turn::Sends(&RINGING_UP)),
-    (20, Turn::Sends(&CANCEL_SENT)),
-    (20, Turn::Fails(Cause::Cancel(0))),
-    (30, Turn::Takes(TARGET, TERMINATED, Ok(Taken::Posted(2)))),
-    (30, Turn::Fails(Cause::Request(0))),
-    (30, Turn::Fails(Cause::Cancel(0))),
-    (30, Turn::Sends(&TERMINATED_UP)),
-    (30, Turn::Sends(&ACK_SENT)),
-    (30, Turn::Fails(Cause::Answer)),
-    (30, Turn::Fails(Cause::Ack(0))),
-    (30, Turn::Waits(Some(530))),
-    (32_030, Turn::Does),
-    (32_030, Turn::Waits(None)),
-];
-
 #[test]
 fn a_failure_goes_up(rt: HostRuntime) {
     goes(
@@ -412,18 +305,6 @@ fn a_failure_goes_up(rt: HostRuntime) {
 #[test]
 fn a_request_is_lost(rt: HostRuntime) {
     goes(&rt, OPTIONS, LOST, "an OPTIONS request that cannot be sent");
-    goes(&rt, INVITE, NEVER_SENT, "an INVITE that cannot be sent");
-}
-
-#[test]
-fn what_is_lost_is_told_while_an_answer_is_owed(rt: HostRuntime) {
-    goes(
-        &rt,
-        OPTIONS,
-        ANSWERED,
-        "an OPTIONS request that is answered",
-    );
-    goes(&rt, INVITE, ALL_LOST, "an INVITE of which all is lost");
 }
 
 #[test]

@@ -8,8 +8,6 @@ mod carrying;
 #[cfg(test)]
 mod handling;
 #[cfg(test)]
-mod port;
-#[cfg(test)]
 mod shelves;
 #[cfg(test)]
 mod texts;
