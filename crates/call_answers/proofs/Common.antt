@@ -12,14 +12,14 @@ pub use Rattle.fork_model.specs.Event.{Answer, Event, FinalAnswer, Ring}
 pub use Rattle.fork_model.specs.Groups.{numbers_below}
 pub use Rattle.fork_model.specs.Step.{Effect, answers, change_at, effect, next, settled, settled_row, with_effect, with_state}
 pub use Rattle.fork_model.specs.Table.{Ended, Idle, Offer, Row, Rung, State, Table, Trying}
-pub use Rattle.call_model.specs.Fixed.{Fixed, Way}
-pub use Rattle.call_model.specs.Leg.{Leg}
-pub use Rattle.call_model.specs.Posting.{no_leg, way_of_contact, ways_of}
+pub use Rattle.call_model.specs.OpenedRequest.{OpenedRequest, Destination}
+pub use Rattle.call_model.specs.Branch.{Branch}
+pub use Rattle.call_model.specs.Posting.{no_branch, destination_of_contact, destinations_of}
 pub use Rattle.call_answers.specs.Queue.{HaveMessages, queue_of}
 pub use Rattle.call_model.specs.Response.{challenge_in, challenges_by, contact_for, contacts_at, contacts_by, contacts_for, contacts_in, contacts_or, event_by, is_redirection, offer_of}
 pub use Rattle.call_model.specs.Server.{Owed}
 pub use Rattle.call_answers.specs.declared.queue.Entry.{Entry}
-pub use Rattle.call_answers.specs.NewWays.{HaveWays, IsNone, count_in, place_of, way_for, without}
+pub use Rattle.call_answers.specs.NewDestinations.{HaveDestinations, IsNone, count_in, place_of, destination_for, without}
 pub use Rattle.sip_lex.specs.Sheltered.{is_closed}
 pub use Rattle.sip_lex.specs.declared.sheltered.Shelter.TheVariants.{QuotesAndAngles}
 pub use Rattle.sip_text.specs.Name.{values_of}

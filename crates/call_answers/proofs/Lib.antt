@@ -1,6 +1,6 @@
 pub mod Common
 pub mod Queues
 pub mod NewPlaces
-pub mod NewWays
+pub mod NewDestinations
 pub mod Weights
 pub mod laws

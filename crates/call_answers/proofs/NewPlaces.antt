@@ -8,7 +8,7 @@ use Rattle.fork_model.specs.Contacts.{ContactOutcome, Known, Fresh, Left, outcom
 use Rattle.fork_model.specs.Waiting.{depth_of}
 use Rattle.fork_model.specs.Step.{accepts, redirects, stores}
 use Rattle.fork_model.proofs.laws.GroupLemmas.{Below, Falls, falls_falling}
-use Rattle.call_answers.specs.NewWays.{Apart}
+use Rattle.call_answers.specs.NewDestinations.{Apart}
 
 -- ---- lists
 

@@ -5,13 +5,13 @@ use Rattle.sip_text.specs.Text.{MessageText}
 use Rattle.call_model.specs.Server as server
 use Rattle.call_answers.specs.declared.queue.Entry.{Entry}
 use Rattle.call_answers.specs.declared.queue.Entry.TheVariants as entry
-use Rattle.call_answers.specs.declared.queue.OwedAnswer.{OwedAnswer}
-use Rattle.call_answers.specs.declared.queue.OwedAnswer.TheVariants as answer
+use Rattle.call_answers.specs.declared.queue.PendingResponse.{PendingResponse}
+use Rattle.call_answers.specs.declared.queue.PendingResponse.TheVariants as answer
 use Rattle.call_answers.specs.declared.queue.NewAnswer.{NewAnswer}
 use Rattle.call_answers.specs.declared.queue.NewAnswer.TheVariants as fresh
 
 -- an answer as it is read
-abbrev pub read_of : {A : Type 0} → OwedAnswer A → server.Owed
+abbrev pub read_of : {A : Type 0} → PendingResponse A → server.Owed
 read_of answer.Trying = server.Trying
 read_of (answer.Passed response) = server.Passed response.now
 read_of (answer.Final choice) = server.Final (choice_of choice)

@@ -5,11 +5,11 @@ ghost use Rattle.std.specs.Option.{option_and_then, option_map};
 ghost use Rattle.fork_model.specs.Range.{most_q};
 ghost use Rattle.sip_uri.specs.Key.{key_of};
 ghost use Rattle.sip_uri.specs.SeenContact.{view_contact, view_contacts};
-ghost use Rattle.call_model.specs.Fixed.{way_to};
-ghost use Rattle.call_model.specs.Posting.{way_of_contact};
+ghost use Rattle.call_model.specs.OpenedRequest.{destination_to};
+ghost use Rattle.call_model.specs.Posting.{destination_of_contact};
 ghost use Rattle.call_model.specs.Response.{contact_for, contacts_at, contacts_by, contacts_for, contacts_in, is_redirection, offer_of};
 
-use call_branch::{Fixed, Way};
+use call_branch::{Destination, OpenedRequest};
 use fork_context::Offer;
 use sip_text::{Message, Values};
 use sip_uri::{Contact, SipUri, UriFault, read_contacts};
@@ -22,7 +22,7 @@ const FULL_WEIGHT: u16 = 1000;
 #[derive(Drop)]
 pub(crate) struct Offered<A: Allocator> {
     pub(crate) offers: Vec<Offer<A>, A>,
-    pub(crate) ways: Vec<Option<Way<A>>, A>,
+    pub(crate) destinations: Vec<Option<Destination<A>>, A>,
 }
 
 // ---- reading
@@ -120,15 +120,18 @@ fn contacts_by<A: Allocator + Clone>(
 
 /// Where the request to a URI goes: by the first Route value, if there is one, else by the URI (RFC 3261 section 16.6
 /// steps 6 and 7).
-fn way_of<A: Allocator + Clone>(fixed: &Fixed<A>, uri: Option<SipUri<A>>) -> Option<Way<A>>
-    ensures { result ≡ option_and_then (way_to fixed.now) uri }
+fn destination_of<A: Allocator + Clone>(
+    opened: &OpenedRequest<A>,
+    uri: Option<SipUri<A>>,
+) -> Option<Destination<A>>
+    ensures { result ≡ option_and_then (destination_to opened.now) uri }
 {
     let uri = uri?;
-    let hop = match fixed.route() {
+    let hop = match opened.route() {
         Some(hop) => hop,
         None => uri.next_hop()?,
     };
-    Some(Way::new(uri, hop))
+    Some(Destination::new(uri, hop))
 }
 
 /// The key of a contact that may be tried.
@@ -147,16 +150,21 @@ fn key_of<A: Allocator + Clone>(
 impl<A: Allocator + Clone> Offered<A> {
     /// Adds a contact, which may be tried only where the proxy is responsible for the Request-URI of the call (RFC 3261
     /// section 16.5).
-    fn push(&mut self, alloc: &A, fixed: &Fixed<A>, contact: Contact<A>) -> Result<(), AllocError>
+    fn push(
+        &mut self,
+        alloc: &A,
+        opened: &OpenedRequest<A>,
+        contact: Contact<A>,
+    ) -> Result<(), AllocError>
         requires { contact.q ≤ most_q }
-        ensures offers { OnOk result (self.new.offers.items ≡ self.old.offers.items ++ offer_of (contact_for fixed.now.is_responsible (view_contact contact)) ∷ []) }
-        ensures ways { OnOk result (self.new.ways.items ≡ self.old.ways.items ++ way_of_contact fixed.now (contact_for fixed.now.is_responsible (view_contact contact)) ∷ []) }
+        ensures offers { OnOk result (self.new.offers.items ≡ self.old.offers.items ++ offer_of (contact_for opened.now.is_responsible (view_contact contact)) ∷ []) }
+        ensures destinations { OnOk result (self.new.destinations.items ≡ self.old.destinations.items ++ destination_of_contact opened.now (contact_for opened.now.is_responsible (view_contact contact)) ∷ []) }
     {
         let Contact { text, q, uri } = contact;
-        let uri = if fixed.is_responsible() { uri } else { None };
+        let uri = if opened.is_responsible() { uri } else { None };
         let key = key_of(alloc, uri.as_ref())?;
         self.offers.push(Offer::new(text, q, key))?;
-        self.ways.push(way_of(fixed, uri))?;
+        self.destinations.push(destination_of(opened, uri))?;
         Ok(())
     }
 }
@@ -164,19 +172,19 @@ impl<A: Allocator + Clone> Offered<A> {
 /// These contacts, offered to the fork of a call.
 fn offers_of<A: Allocator + Clone>(
     alloc: &A,
-    fixed: &Fixed<A>,
+    opened: &OpenedRequest<A>,
     contacts: Vec<Contact<A>, A>,
 ) -> Result<Offered<A>, AllocError>
     requires { AllByRecursion (λ c. c.q ≤ most_q) (view_contacts contacts.items) }
-    ensures offers { IfOk result (λ o. o.offers.items ≡ map offer_of (map (contact_for fixed.now.is_responsible) (view_contacts contacts.items))) }
-    ensures ways { IfOk result (λ o. o.ways.items ≡ map (way_of_contact fixed.now) (map (contact_for fixed.now.is_responsible) (view_contacts contacts.items))) }
+    ensures offers { IfOk result (λ o. o.offers.items ≡ map offer_of (map (contact_for opened.now.is_responsible) (view_contacts contacts.items))) }
+    ensures destinations { IfOk result (λ o. o.destinations.items ≡ map (destination_of_contact opened.now) (map (contact_for opened.now.is_responsible) (view_contacts contacts.items))) }
 {
     let mut made = Offered {
         offers: Vec::with_capacity(alloc.clone()?, contacts.len())?,
-        ways: Vec::with_capacity(alloc.clone()?, contacts.len())?,
+        destinations: Vec::with_capacity(alloc.clone()?, contacts.len())?,
     };
     for contact in contacts {
-        made.push(alloc, fixed, contact)?;
+        made.push(alloc, opened, contact)?;
     }
     Ok(made)
 }
@@ -186,13 +194,13 @@ fn offers_of<A: Allocator + Clone>(
 /// 16.5 and 16.6).
 pub(crate) fn offered_by<A: Allocator + Clone>(
     alloc: &A,
-    fixed: &Fixed<A>,
+    opened: &OpenedRequest<A>,
     status: u16,
     message: &Message<A>,
 ) -> Result<Offered<A>, AllocError>
-    ensures offers { IfOk result (λ o. o.offers.items ≡ map offer_of (contacts_for fixed.now.is_responsible status message.now)) }
-    ensures ways { IfOk result (λ o. o.ways.items ≡ map (way_of_contact fixed.now) (contacts_for fixed.now.is_responsible status message.now)) }
+    ensures offers { IfOk result (λ o. o.offers.items ≡ map offer_of (contacts_for opened.now.is_responsible status message.now)) }
+    ensures destinations { IfOk result (λ o. o.destinations.items ≡ map (destination_of_contact opened.now) (contacts_for opened.now.is_responsible status message.now)) }
 {
     let contacts = contacts_by(alloc, status, message)?;
-    offers_of(alloc, fixed, contacts)
+    offers_of(alloc, opened, contacts)
 }

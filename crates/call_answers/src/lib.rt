@@ -6,10 +6,10 @@
 mod contacts;
 mod owed;
 mod queue;
+mod response_event;
 mod rows;
-mod said;
 
 pub use owed::{again_if, count_of, first_owed, owed_by};
-pub use queue::{NewAnswer, OwedAnswer, OwedAnswers, Queue};
+pub use queue::{NewAnswer, PendingResponse, PendingResponses, Queue};
+pub use response_event::ResponseEvent;
 pub use rows::{add_rows, place_of};
-pub use said::Said;

@@ -48,7 +48,7 @@ pub enum NewAnswer<A: Allocator> {
 
 /// What an answer is made of that is owed to the caller (RFC 3261 sections 9.2, 16.7 and 17.2).
 #[derive(Drop)]
-pub enum OwedAnswer<'a, A: Allocator = Global> {
+pub enum PendingResponse<'a, A: Allocator = Global> {
     /// The 100 to an INVITE.
     Trying,
     /// A provisional response or a 2xx of a branch, as it came.
@@ -63,12 +63,12 @@ pub enum OwedAnswer<'a, A: Allocator = Global> {
 
 /// The answers that are owed to the caller, in the order in which they came to be owed.
 #[derive(Drop)]
-pub struct OwedAnswers<'a, A: Allocator = Global> {
+pub struct PendingResponses<'a, A: Allocator = Global> {
     entries: &'a [Entry],
     messages: &'a [Message<A>],
 }
 
-impl<'a, A: Allocator> Model for OwedAnswers<'a, A> {
+impl<'a, A: Allocator> Model for PendingResponses<'a, A> {
     ghost use Rattle.std.specs.Prelude.{List};
     ghost use Rattle.call_answers.specs.Queue.{HaveMessages, queue_of};
     ghost use Rattle.call_model.specs.Server as server;
@@ -88,7 +88,7 @@ fn first_of<A: Allocator>(messages: &[Message<A>]) -> &Message<A>
     &messages[0]
 }
 
-impl<'a, A: Allocator> OwedAnswers<'a, A> {
+impl<'a, A: Allocator> PendingResponses<'a, A> {
     /// How many there are.
     pub fn len(&self) -> usize
         ensures { result ≡ length self.now }
@@ -104,25 +104,25 @@ impl<'a, A: Allocator> OwedAnswers<'a, A> {
     }
 
     /// The first of them, if there is one.
-    pub fn first(&self) -> Option<OwedAnswer<'a, A>>
+    pub fn first(&self) -> Option<PendingResponse<'a, A>>
         ensures { option_map read_of result ≡ slice_get self.now 0 }
     {
         Some(match self.entries.first()? {
-            Entry::Trying => OwedAnswer::Trying,
-            Entry::Passed => OwedAnswer::Passed(first_of(self.messages)),
-            Entry::Final(choice) => OwedAnswer::Final(*choice),
-            Entry::Again => OwedAnswer::Again,
-            Entry::CancelOk(to) => OwedAnswer::CancelOk(first_of(self.messages), *to),
+            Entry::Trying => PendingResponse::Trying,
+            Entry::Passed => PendingResponse::Passed(first_of(self.messages)),
+            Entry::Final(choice) => PendingResponse::Final(*choice),
+            Entry::Again => PendingResponse::Again,
+            Entry::CancelOk(to) => PendingResponse::CancelOk(first_of(self.messages), *to),
         })
     }
 
     /// Those behind the first.
-    pub fn rest(&self) -> OwedAnswers<'a, A>
+    pub fn rest(&self) -> PendingResponses<'a, A>
         requires { 0 < length self.now }
         ensures { result ≡ drop 1 self.now }
     {
         let from = usize::from(self.entries[0].takes_message());
-        OwedAnswers {
+        PendingResponses {
             entries: &self.entries[1..],
             messages: &self.messages[from..],
         }
@@ -232,10 +232,10 @@ impl<A: Allocator> Queue<A> {
     }
 
     /// The answers.
-    pub fn answers(&self) -> OwedAnswers<'_, A>
+    pub fn answers(&self) -> PendingResponses<'_, A>
         ensures { result ≡ self.now.items }
     {
-        OwedAnswers {
+        PendingResponses {
             entries: self.entries.as_slice(),
             messages: &self.messages,
         }

@@ -1,12 +1,12 @@
-//! The new rows of a table get their ways.
+//! The new rows of a table get their destinations.
 ghost use Rattle.std.specs.Prelude.{◌≡◌, ◌<◌, ◌≤◌, ◌+◌, ◌++◌, true, length, drop, map, slice_get, is_some, Some, vec_len, vec_capacity};
 ghost use Rattle.std.specs.List.{filter_map};
 ghost use Rattle.std.specs.Option.{option_map};
 ghost use Rattle.fork_model.specs.Log.{table_of};
-ghost use Rattle.call_answers.specs.NewWays.{HaveWays, way_for, way_in, without};
-ghost use Rattle.call_model.specs.Posting.{no_leg};
+ghost use Rattle.call_answers.specs.NewDestinations.{HaveDestinations, destination_for, destination_in, without};
+ghost use Rattle.call_model.specs.Posting.{no_branch};
 
-use call_branch::{Leg, Way};
+use call_branch::{Branch, Destination};
 use fork_book::Book;
 use std::alloc::Allocator;
 
@@ -21,36 +21,39 @@ pub fn place_of<A: Allocator + Clone>(book: &Book<A>, n: u16) -> usize
     }
 }
 
-/// The way at this place, which is there no more.
-fn take_way<A: Allocator>(ways: &mut Vec<Option<Way<A>>, A>, place: usize) -> Way<A>
-    requires there { is_some (way_in ways.old.items place) ≡ true }
-    ensures way { way_in ways.old.items place ≡ Some result }
-    ensures left { ways.new.items ≡ without ways.old.items place }
+/// The destination at this place, which is there no more.
+fn take_destination<A: Allocator>(
+    destinations: &mut Vec<Option<Destination<A>>, A>,
+    place: usize,
+) -> Destination<A>
+    requires there { is_some (destination_in destinations.old.items place) ≡ true }
+    ensures destination { destination_in destinations.old.items place ≡ Some result }
+    ensures left { destinations.new.items ≡ without destinations.old.items place }
 {
-    match ways[place].take() {
-        Some(way) => way,
+    match destinations[place].take() {
+        Some(destination) => destination,
         None => unreachable!(),
     }
 }
 
-/// Each row from the first one on gets the way of the contact at its place; its request was not sent.
+/// Each row from the first one on gets the destination of the contact at its place; its request was not sent.
 pub fn add_rows<A: Allocator + Clone>(
     book: &Book<A>,
     first: u16,
-    contacts: Vec<Option<Way<A>>, A>,
-    ways: &mut Vec<Way<A>, A>,
-    legs: &mut Vec<Option<Leg<A>>, A>,
+    contacts: Vec<Option<Destination<A>>, A>,
+    destinations: &mut Vec<Destination<A>, A>,
+    branches: &mut Vec<Option<Branch<A>>, A>,
 )
-    requires there { HaveWays contacts.items (drop first (table_of book.now).rows) }
-    requires ways_room { vec_len ways.old + length contacts.items ≤ vec_capacity ways.old }
-    requires legs_room { vec_len legs.old + length contacts.items ≤ vec_capacity legs.old }
-    ensures ways { ways.new.items ≡ ways.old.items ++ filter_map (way_for contacts.items) (drop first (table_of book.now).rows) }
-    ensures legs { legs.new.items ≡ legs.old.items ++ map no_leg (drop first (table_of book.now).rows) }
+    requires there { HaveDestinations contacts.items (drop first (table_of book.now).rows) }
+    requires destinations_room { vec_len destinations.old + length contacts.items ≤ vec_capacity destinations.old }
+    requires branches_room { vec_len branches.old + length contacts.items ≤ vec_capacity branches.old }
+    ensures destinations { destinations.new.items ≡ destinations.old.items ++ filter_map (destination_for contacts.items) (drop first (table_of book.now).rows) }
+    ensures branches { branches.new.items ≡ branches.old.items ++ map no_branch (drop first (table_of book.now).rows) }
 {
     let mut left = contacts;
     for n in first..book.context().count() {
         let place = place_of(book, n);
-        ways.push_reserved(take_way(&mut left, place));
-        legs.push_reserved(None);
+        destinations.push_reserved(take_destination(&mut left, place));
+        branches.push_reserved(None);
     }
 }

@@ -2,12 +2,12 @@
 pub use Rattle.std.proofs.Common.{List, None, Option, Some, [], ap, arith, length, map, refl, slice_get}
 pub use Rattle.std.proofs.Common.{slice_set, suc, sym, zero, ℕ, ◌++◌, ◌+◌, ◌<◌, ◌∙◌, ◌∷◌, ◌≡◌}
 pub use Rattle.fork_model.specs.Table.{Row}
-pub use Rattle.call_model.specs.Call.{found, with_leg}
-pub use Rattle.call_model.specs.Fixed.{Fixed, branch_at}
-pub use Rattle.call_model.specs.Leg.{Leg}
-pub use Rattle.call_model.specs.Posting.{no_leg}
+pub use Rattle.call_model.specs.Call.{found, with_branch}
+pub use Rattle.call_model.specs.OpenedRequest.{OpenedRequest, branch_at}
+pub use Rattle.call_model.specs.Branch.{Branch}
+pub use Rattle.call_model.specs.Posting.{no_branch}
 pub use Rattle.call_branch.specs.AckOwed.{ack_on}
-pub use Rattle.call_branch.specs.LegInside.{changed_leg, no_legs}
+pub use Rattle.call_branch.specs.BranchInside.{changed_branch, no_branches}
 pub use Rattle.sip_build.specs.Forwarding.{forwarded}
 pub use Rattle.sip_text.specs.Text.{spelling}
 pub use Rattle.sip_uri.specs.Uri.{Uri}

@@ -1,4 +1,4 @@
-pub mod FixedInside
-pub mod LegInside
+pub mod OpenedRequestInside
+pub mod BranchInside
 pub mod AckOwed
 pub mod Views

@@ -6,10 +6,10 @@ use Rattle.call_branch.specs.declared.client.ClientMachine.TheVariants as client
 use Rattle.call_branch.specs.declared.served.ServerMachine.{ServerMachine}
 use Rattle.call_branch.specs.declared.served.ServerMachine.TheVariants as server_machine
 
-abbrev pub served_of : ServerMachine → server.Served
+abbrev pub served_of : ServerMachine → server.ServerTransaction
 served_of (server_machine.Invite m) = server.InviteServer m
 served_of (server_machine.Other m) = server.OtherServer m
 
-abbrev pub client_of : ClientMachine → client.Client
+abbrev pub client_of : ClientMachine → client.ClientTransaction
 client_of (client_machine.Invite m) = client.InviteClient m
 client_of (client_machine.Other m) = client.OtherClient m

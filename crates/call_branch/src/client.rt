@@ -16,20 +16,20 @@ enum ClientMachine {
 
 /// The client transaction of a branch (RFC 3261 section 17.1).
 #[derive(Drop)]
-pub struct Client {
+pub struct ClientTransaction {
     machine: ClientMachine,
 }
 
-impl Model for Client {
+impl Model for ClientTransaction {
     ghost use Rattle.call_model.specs.Client as spec;
     ghost use Rattle.call_branch.specs.Views.{client_of};
 
-    ghost Value = { spec.Client };
+    ghost Value = { spec.ClientTransaction };
 
     ghost view = { λ c. client_of c.machine };
 }
 
-impl Client {
+impl ClientTransaction {
     /// One whose request is sent at this moment.
     pub(crate) fn start(kind: Kind, now: u64) -> Self
         ensures { result ≡ client_start (kind_of kind) now }
@@ -38,11 +38,11 @@ impl Client {
             Kind::Invite => ClientMachine::Invite(InviteClient::start(now)),
             Kind::Other => ClientMachine::Other(OtherClient::start(now)),
         };
-        Client { machine }
+        ClientTransaction { machine }
     }
 
     /// The transaction after an event, and what it sends and passes.
-    pub(crate) fn fed(&self, event: TxEvent, now: u64) -> (Client, TxOut)
+    pub(crate) fn fed(&self, event: TxEvent, now: u64) -> (ClientTransaction, TxOut)
         ensures after { result.0 ≡ client_after event now self.now }
         ensures out { result.1 ≡ client_out event now self.now }
     {
@@ -51,13 +51,13 @@ impl Client {
                 let mut client = client;
                 let out = client.on(event, now);
                 let machine = ClientMachine::Invite(client);
-                (Client { machine }, out)
+                (ClientTransaction { machine }, out)
             }
             ClientMachine::Other(client) => {
                 let mut client = client;
                 let out = client.on(event, now);
                 let machine = ClientMachine::Other(client);
-                (Client { machine }, out)
+                (ClientTransaction { machine }, out)
             }
         }
     }

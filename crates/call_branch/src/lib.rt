@@ -6,23 +6,24 @@
 //! No branch knows another here, and nothing is known of the fork: which answer goes up is for the crates above.
 #![tactic(auto)]
 
+mod branch;
+mod branches;
 mod client;
-mod fixed;
-mod leg;
-mod legs;
+mod destination;
+mod opened;
 mod responses;
 mod served;
-mod way;
 
-pub use client::Client;
-pub use fixed::Fixed;
-pub use leg::{Cancelling, Leg};
-pub use legs::{
-    cancel_leg, cancel_on_leg, keep_leg, leg_in, no_legs, put_leg, respond_leg, take_ack_of, way_at,
+pub use branch::{Branch, CancelTransaction};
+pub use branches::{
+    branch_in, cancel_branch, cancel_on_branch, destination_at, keep_branch, no_branches,
+    put_branch, respond_branch, take_ack_of,
 };
+pub use client::ClientTransaction;
+pub use destination::Destination;
+pub use opened::OpenedRequest;
 pub use responses::{
     answer_event, is_fault, is_passed, is_request, is_response, is_timeout, kept_if, parted,
     response_event,
 };
-pub use served::Served;
-pub use way::Way;
+pub use served::ServerTransaction;

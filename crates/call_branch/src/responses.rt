@@ -1,7 +1,7 @@
 //! What a response is to a transaction and to the fork.
 ghost use Rattle.std.specs.Prelude.{◌≡◌};
 ghost use Rattle.call_model.specs.Failed.{is_fault};
-ghost use Rattle.call_branch.specs.LegInside.{answer_if, kept_if};
+ghost use Rattle.call_branch.specs.BranchInside.{answer_if, kept_if};
 ghost use Rattle.call_model.specs.Pump as pump;
 ghost use Rattle.call_model.specs.Server as server;
 ghost use Rattle.call_model.specs.Take as take;

@@ -16,20 +16,20 @@ enum ServerMachine {
 
 /// The server transaction of a call (RFC 3261 section 17.2).
 #[derive(Drop)]
-pub struct Served {
+pub struct ServerTransaction {
     machine: ServerMachine,
 }
 
-impl Model for Served {
+impl Model for ServerTransaction {
     ghost use Rattle.call_model.specs.Server as spec;
     ghost use Rattle.call_branch.specs.Views.{served_of};
 
-    ghost Value = { spec.Served };
+    ghost Value = { spec.ServerTransaction };
 
     ghost view = { λ c. served_of c.machine };
 }
 
-impl Served {
+impl ServerTransaction {
     /// One whose request came at this moment.
     pub fn start(kind: Kind, now: u64) -> Self
         ensures { result ≡ served_start (kind_of kind) }
@@ -38,11 +38,11 @@ impl Served {
             Kind::Invite => ServerMachine::Invite(InviteServer::start(now)),
             Kind::Other => ServerMachine::Other(OtherServer::start(now)),
         };
-        Served { machine }
+        ServerTransaction { machine }
     }
 
     /// The transaction after an event, and what it sends and passes.
-    pub fn fed(&self, event: TxEvent, now: u64) -> (Served, TxOut)
+    pub fn fed(&self, event: TxEvent, now: u64) -> (ServerTransaction, TxOut)
         ensures after { result.0 ≡ served_after event now self.now }
         ensures out { result.1 ≡ served_out event now self.now }
     {
@@ -51,13 +51,13 @@ impl Served {
                 let mut server = server;
                 let out = server.on(event, now);
                 let machine = ServerMachine::Invite(server);
-                (Served { machine }, out)
+                (ServerTransaction { machine }, out)
             }
             ServerMachine::Other(server) => {
                 let mut server = server;
                 let out = server.on(event, now);
                 let machine = ServerMachine::Other(server);
-                (Served { machine }, out)
+                (ServerTransaction { machine }, out)
             }
         }
     }

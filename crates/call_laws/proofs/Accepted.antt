@@ -15,10 +15,10 @@ use Rattle.sip_txn.specs.declared.event.TxEvent.{TxEvent}
 use Rattle.sip_txn.specs.declared.event.TxEvent.TheVariants as event
 use Rattle.call_model.proofs.laws.Logs.{table_added}
 use Rattle.call_model.specs.Built.{status_of}
-use Rattle.call_model.specs.Call.{Call, leg_at, rows_of}
+use Rattle.call_model.specs.Call.{Call, nth_branch, rows_of}
 use Rattle.call_model.specs.Client.{client_out}
-use Rattle.call_model.specs.Fixed.{is_invite}
-use Rattle.call_model.specs.Leg.{Leg}
+use Rattle.call_model.specs.OpenedRequest.{is_invite}
+use Rattle.call_model.specs.Branch.{Branch}
 use Rattle.call_model.specs.Posting.{call_tag, owed_by}
 use Rattle.call_model.specs.Response.{challenges_by, contacts_for, event_by, offer_of}
 use Rattle.call_model.specs.Server as server
@@ -26,9 +26,9 @@ use Rattle.call_model.specs.Server.{Owed}
 use Rattle.call_model.specs.Sound.{IsSound}
 use Rattle.call_model.specs.Step.{Input, Output, Step}
 use Rattle.call_model.specs.Take as to
-use Rattle.call_model.specs.Take.{TakesAs, going_up, is_passed, leg_after, leg_posted, response_event}
+use Rattle.call_model.specs.Take.{TakesAs, going_up, is_passed, branch_after, branch_posted, response_event}
 use Rattle.call_laws.specs.Finals.{is_success}
-use Rattle.call_laws.proofs.Legs.{AcceptsNow, accepted_in, has_accepted, parts, success_passed}
+use Rattle.call_laws.proofs.Branches.{AcceptsNow, accepted_in, has_accepted, state, success_passed}
 use Rattle.call_laws.proofs.Serving.{Serves, Beside, Posted, Cancelled, CancelledBoth, Acked, Faulted, Ticked, Repeated, Sent, Dropped, Again, Okayed, serves}
 use Rattle.call_laws.proofs.Succeeds.{accepted_stays, accepts_row, row_of}
 
@@ -36,7 +36,7 @@ abbrev pub IsAcceptedAt : Call → ℕ → Type 0
 IsAcceptedAt call n = is_row is_accepted (slice_get (rows_of call) n) ≡ true
 
 abbrev pub KeepsAccepted : Call → Type 0
-KeepsAccepted call = (n : ℕ) (leg : Leg) → leg_at call n ≡ Some leg → has_accepted leg.client ≡ true → IsAcceptedAt call n
+KeepsAccepted call = (n : ℕ) (branch : Branch) → nth_branch call n ≡ Some branch → has_accepted branch.client ≡ true → IsAcceptedAt call n
 
 module _ (goes_on : BranchesGoOn) (now : ℕ) (call new : Call) (input : Input) (output : Output) where
   same_log : new.log ≡ call.log → (n : ℕ) → IsAcceptedAt call n → IsAcceptedAt new n
@@ -61,23 +61,23 @@ module _ (goes_on : BranchesGoOn) (now : ℕ) (call new : Call) (input : Input) 
   rows_stay (Again rest is out l s) = same_log l
   rows_stay (Okayed cancel hop rest is out l s) = same_log l
 
-  old_part : (n : ℕ) → accepted_in (leg_at call n) ≡ true → (leg : Leg) × (leg_at call n ≡ Some leg) × (has_accepted leg.client ≡ true)
-  old_part n e = by (leg_at call n) refl e
+  old_part : (n : ℕ) → accepted_in (nth_branch call n) ≡ true → (branch : Branch) × (nth_branch call n ≡ Some branch) × (has_accepted branch.client ≡ true)
+  old_part n e = by (nth_branch call n) refl e
     where
-      by : (l : Option Leg) → leg_at call n ≡ l → accepted_in l ≡ true → (leg : Leg) × (leg_at call n ≡ Some leg) × (has_accepted leg.client ≡ true)
+      by : (l : Option Branch) → nth_branch call n ≡ l → accepted_in l ≡ true → (branch : Branch) × (nth_branch call n ≡ Some branch) × (has_accepted branch.client ≡ true)
       by None there e = absurd cc
-      by (Some leg) there e = (leg, there, e)
+      by (Some branch) there e = (branch, there, e)
 
   -- by this step its row ends so
   accepts_now : IsSound call → (n : ℕ) → AcceptsNow now call input new n → IsAcceptedAt new n
-  accepts_now sound n (leg, a, reply, there, waits, small, l) =
-      let row = row_of is_open (slice_get (rows_of call) n) ((sound.legs n leg there).open_yet waits) in
+  accepts_now sound n (branch, a, reply, there, waits, small, l) =
+      let row = row_of is_open (slice_get (rows_of call) n) ((sound.branches n branch there).open_yet waits) in
       ap (λ (t : Table). is_row is_accepted (slice_get t.rows n)) (ap table_of l ∙ table_added call.log call_tag (fork.Answer n a) reply)
       ∙ accepts_row (table_of call.log) n (length call.log.history) a row.0 row.1 row.2 small
 
   pub accepted_step : IsSound call → Step now call input new output → KeepsAccepted call → KeepsAccepted new
-  accepted_step sound h keeps n leg there is =
-      elim (((parts now call input new output h).each n leg there).client is) [
+  accepted_step sound h keeps n branch there is =
+      elim (((state now call input new output h).each n branch there).client is) [
         | inl before ↦
             let part = old_part n before in
             rows_stay (serves now call input new output h) n (keeps n part.0 part.1 part.2)
@@ -107,9 +107,9 @@ owed_of_up t u n a m (Final choice) goes is = absurd (let h : None ≡ Some n = 
 owed_of_up t u n a m Nothing goes is = absurd (let h : None ≡ Some n = sym is.1 ∙ goes in cc)
 
 -- a 2xx of an INVITE that is posted comes to be owed
-pub success_owed : (now : ℕ) (call new : Call) (n at : ℕ) (m : MessageText) (source : Hop) → IsSound call → KeepsAccepted call → is_invite call.fixed ≡ true
+pub success_owed : (now : ℕ) (call new : Call) (n at : ℕ) (m : MessageText) (source : Hop) → IsSound call → KeepsAccepted call → is_invite call.opened ≡ true
     → is_success (status_of m) ≡ true → TakesAs call now m source (to.Client n) (to.Posted at) new → new.server.owed ≡ call.server.owed ++ server.Passed m ∷ []
-success_owed now call new n at m source sound keeps invited success_is (leg, way, there, goes, (passes, reply, placed, first, leads, posts)) =
+success_owed now call new n at m source sound keeps invited success_is (branch, destination, there, goes, (passes, reply, placed, first, leads, posts)) =
     ap (λ (c : Call). c.server.owed) posts.follows ∙ ap (λ (os : List Owed). call.server.owed ++ os) owed
   where
     status : (nat_lt (status_of m) 200 ≡ false) × (nat_lt (status_of m) 300 ≡ true)
@@ -118,20 +118,20 @@ success_owed now call new n at m source sound keeps invited success_is (leg, way
     answer : FinalAnswer
     answer = record {
       status = status_of m;
-      offers = map offer_of (contacts_for call.fixed.is_responsible (status_of m) m);
+      offers = map offer_of (contacts_for call.opened.is_responsible (status_of m) m);
       challenges = challenges_by (status_of m) m;
     }
 
-    said : event_by call.fixed.is_responsible n (status_of m) m ≡ fork.Answer n answer
+    said : event_by call.opened.is_responsible n (status_of m) m ≡ fork.Answer n answer
     said = cond-false _ _ _ status.0
 
     stands : (is_row is_open (slice_get (rows_of call) n) ≡ true) ⊎ (is_row is_accepted (slice_get (rows_of call) n) ≡ true)
     stands =
-        let P : TxEvent → Type 0 = λ ev. is_passed (client_out ev now leg.client).pass ≡ true in
+        let P : TxEvent → Type 0 = λ ev. is_passed (client_out ev now branch.client).pass ≡ true in
         let ev : response_event (status_of m) ≡ event.Success = cond-false _ _ _ status.0 ∙ cond-true _ _ _ status.1 in
-        elim (success_passed now leg.client (subst P ev passes)) [
-          | inl waits ↦ inl ((sound.legs n leg there).open_yet waits)
-          | inr has ↦ inr (keeps n leg there has)
+        elim (success_passed now branch.client (subst P ev passes)) [
+          | inl waits ↦ inl ((sound.branches n branch there).open_yet waits)
+          | inr has ↦ inr (keeps n branch there has)
         ]
 
     kind : (table_of call.log).kind ≡ table.Invite

@@ -14,7 +14,7 @@ use Rattle.sip_build.specs.declared.responses.OwnStatus.TheVariants as own
 use Rattle.sip_build.specs.Upward.{upward_of}
 use Rattle.call_model.specs.Behind.{KeepsAnswers}
 use Rattle.call_model.specs.Built.{answer_in, best_of, final_of, generated, kept_at, kept_of, was_received}
-use Rattle.call_model.specs.Call.{Call, leg_at, rows_of}
+use Rattle.call_model.specs.Call.{Call, nth_branch, rows_of}
 use Rattle.call_model.specs.Step.{Turn}
 use Rattle.call_laws.specs.Answers.{IsBestAnswer, IsFinalAnswer}
 use Rattle.call_laws.specs.Came.{CamePosted}
@@ -37,7 +37,7 @@ scored t n score has = at_row (slice_get t.rows n) refl has
 
 module _ (turns : List Turn) (call : Call) (answers : KeepsAnswers call) (posted : KeepsPosted turns call) where
   assumed : (n : ℕ) (a : StoredAnswer) → stored_at (slice_get (rows_of call) n) ≡ Some a → a.received ≡ false → (o : Option MessageText)
-      → best_of call n o ≡ generated call.fixed own.RequestTimeout
+      → best_of call n o ≡ generated call.opened own.RequestTimeout
   assumed n a stored none None = refl
   assumed n a stored none (Some m) = cond-false _ _ _ (ap was_received stored ∙ none)
 
@@ -49,7 +49,7 @@ module _ (turns : List Turn) (call : Call) (answers : KeepsAnswers call) (posted
 
   best : (n : ℕ) (a : StoredAnswer) → HasStored (table_of call.log) n a → stored_at (slice_get (rows_of call) n) ≡ Some a → HasFirst (table_of call.log) n
       → (b : Bool) → a.received ≡ b → IsBestAnswer turns call n a (final_of call (Best n))
-  best n a has stored first false is = inr (is, assumed n a stored is (answer_in (leg_at call n)))
+  best n a has stored first false is = inr (is, assumed n a stored is (answer_in (nth_branch call n)))
   best n a has stored first true is =
       let kept = answers n a has is first in
       let by = posted n a has is first in

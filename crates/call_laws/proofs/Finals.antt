@@ -15,12 +15,12 @@ use Rattle.sip_text.specs.Text.{MessageText}
 use Rattle.sip_build.specs.declared.responses.OwnStatus.TheVariants as own
 use Rattle.sip_build.specs.Upward.{upward_of}
 use Rattle.call_model.specs.Built.{answer_in, answer_of, best_of, final_of, generated, kept_at, status_of, was_received}
-use Rattle.call_model.specs.Call.{Call, leg_at, rows_of}
-use Rattle.call_model.specs.Fixed.{is_invite}
-use Rattle.call_model.specs.Leg.{Leg}
+use Rattle.call_model.specs.Call.{Call, nth_branch, rows_of}
+use Rattle.call_model.specs.OpenedRequest.{is_invite}
+use Rattle.call_model.specs.Branch.{Branch}
 use Rattle.call_model.specs.Posting.{call_tag, owed_by, passed}
 use Rattle.call_model.specs.Server as server
-use Rattle.call_model.specs.Server.{Owed, Served, InviteServer, OtherServer, answer_event, served_after}
+use Rattle.call_model.specs.Server.{Owed, ServerTransaction, InviteServer, OtherServer, answer_event, served_after}
 use Rattle.sip_txn.specs.declared.event.TxEvent.{TxEvent}
 use Rattle.sip_txn.specs.declared.event.TxEvent.TheVariants as event
 use Rattle.call_model.specs.Step.{Input, Output, Turn}
@@ -76,18 +76,18 @@ below status e = let h : 300 ≤ status = ltb-false status 300 e in le-ltb statu
 pub final_failure : (turns : List Turn) (call : Call) → KeepsWhatCame turns call → (choice : Choice) → nat_lt (status_of (final_of call choice)) 300 ≡ false
 final_failure turns call keeps (Only503 n) = refl
 final_failure turns call keeps NoAnswer408 = refl
-final_failure turns call keeps (Best n) = at_leg (leg_at call n) refl
+final_failure turns call keeps (Best n) = at_branch (nth_branch call n) refl
   where
-    at_answer : (leg : Leg) → leg_at call n ≡ Some leg → (o : Option MessageText) → leg.answer ≡ o → nat_lt (status_of (best_of call n o)) 300 ≡ false
-    at_answer leg there None is = refl
-    at_answer leg there (Some m) is =
+    at_answer : (branch : Branch) → nth_branch call n ≡ Some branch → (o : Option MessageText) → branch.answer ≡ o → nat_lt (status_of (best_of call n o)) 300 ≡ false
+    at_answer branch there None is = refl
+    at_answer branch there (Some m) is =
         cond_both (was_received (stored_at (slice_get (rows_of call) n)))
-        (upward_of m (kept_at (stored_at (slice_get (rows_of call) n))) (challenge_list (rows_of call) (Best n))) (generated call.fixed own.RequestTimeout)
-        (λ (x : MessageText). nat_lt (status_of x) 300 ≡ false) (λ received. (keeps n leg m there is).1) (λ assumed. refl)
+        (upward_of m (kept_at (stored_at (slice_get (rows_of call) n))) (challenge_list (rows_of call) (Best n))) (generated call.opened own.RequestTimeout)
+        (λ (x : MessageText). nat_lt (status_of x) 300 ≡ false) (λ received. (keeps n branch m there is).1) (λ assumed. refl)
 
-    at_leg : (l : Option Leg) → leg_at call n ≡ l → nat_lt (status_of (best_of call n (answer_in l))) 300 ≡ false
-    at_leg None there = refl
-    at_leg (Some leg) there = at_answer leg there leg.answer refl
+    at_branch : (l : Option Branch) → nth_branch call n ≡ l → nat_lt (status_of (best_of call n (answer_in l))) 300 ≡ false
+    at_branch None there = refl
+    at_branch (Some branch) there = at_answer branch there branch.answer refl
 
 some_final : (xs : List Choice) (c : Choice) → xs ++ c ∷ [] ≡ [] → ⊥
 some_final [] c e = absurd cc
@@ -119,7 +119,7 @@ paid (Dropped owed rest m is made sends out l s) = owed ∷ []
 paid (Again rest is out l s) = server.Again ∷ []
 paid (Okayed cancel hop rest is out l s) = server.CancelOk cancel hop ∷ []
 
-module _ (goes_on : BranchesGoOn) (turns : List Turn) (turn : Turn) (call new : Call) (fixed : new.fixed ≡ call.fixed) where
+module _ (goes_on : BranchesGoOn) (turns : List Turn) (turn : Turn) (call new : Call) (opened : new.opened ≡ call.opened) where
   -- ---- whether it has succeeded
 
   same_succeeded : new.log ≡ call.log → is_succeeded (rows_of new) ≡ false → is_succeeded (rows_of call) ≡ false
@@ -147,7 +147,7 @@ module _ (goes_on : BranchesGoOn) (turns : List Turn) (turn : Turn) (call new : 
   kept handed f stand log owed succ side goes gone none_fails =
       let S : List Choice → Type 0 = λ cs. FinalsStand (Later turns turn) cs new in
       subst S (sym (append-nil handed)) (record {
-        side = side ∙ stand.side ∙ ap is_invite (sym fixed);
+        side = side ∙ stand.side ∙ ap is_invite (sym opened);
         all = log ∙ ap (λ (cs : List Choice). cs ++ f) stand.all ∙ append_assoc handed (finals_owed call.server.owed) f ∙ ap (λ (cs : List Choice). handed ++ cs) (sym owed);
         waiting = λ none not_yet. goes (succ not_yet) (stand.waiting none (succ not_yet));
         answered = λ some. gone (stand.answered some);
@@ -165,14 +165,14 @@ module _ (goes_on : BranchesGoOn) (turns : List Turn) (turn : Turn) (call new : 
       kept handed [] stand (ap (λ (x : Log). finals x.replies) l ∙ sym (append-nil (finals call.log.replies))) (owed ∙ sym (append-nil (finals_owed call.server.owed)))
       (same_succeeded l) side goes gone none_fails
 
-  awaits_later : (machine : Served) → Awaits turns machine → Awaits (Later turns turn) machine
+  awaits_later : (machine : ServerTransaction) → Awaits turns machine → Awaits (Later turns turn) machine
   awaits_later (InviteServer m) e = e
   awaits_later (OtherServer m) (inl e) = inl e
   awaits_later (OtherServer m) (inr (t, is, failed)) = inr (t, one_of turns turn t is, failed)
 
   -- the transaction went on
-  moved : (machine : Served) → new.server.machine ≡ machine → Awaits turns machine → Awaits (Later turns turn) new.server.machine
-  moved machine is e = let P : Served → Type 0 = λ x. Awaits (Later turns turn) x in subst P (sym is) (awaits_later machine e)
+  moved : (machine : ServerTransaction) → new.server.machine ≡ machine → Awaits turns machine → Awaits (Later turns turn) new.server.machine
+  moved machine is e = let P : ServerTransaction → Type 0 = λ x. Awaits (Later turns turn) x in subst P (sym is) (awaits_later machine e)
 
   machine_same : new.server.machine ≡ call.server.machine → is_succeeded (rows_of call) ≡ false → Awaits turns call.server.machine → Awaits (Later turns turn) new.server.machine
   machine_same is not_yet e = moved call.server.machine is e
@@ -219,7 +219,7 @@ module _ (goes_on : BranchesGoOn) (turns : List Turn) (turn : Turn) (call new : 
       final : (choice : Choice) → finals_owed call.server.owed ≡ choice ∷ finals_owed rest → nat_lt (status_of m) 300 ≡ false
           → FinalsStand (Later turns turn) (handed ++ choice ∷ []) new
       final choice first failure = record {
-        side = side ∙ stand.side ∙ ap is_invite (sym fixed);
+        side = side ∙ stand.side ∙ ap is_invite (sym opened);
         all = ap (λ (x : Log). finals x.replies) l ∙ stand.all ∙ ap (λ (cs : List Choice). handed ++ cs) first
             ∙ sym (append_assoc handed (choice ∷ []) (finals_owed rest)) ∙ ap (λ (os : List Owed). (handed ++ choice ∷ []) ++ finals_owed os) (sym left);
         waiting = λ none not_yet. absurd (some_final handed choice none);
@@ -245,7 +245,7 @@ module _ (goes_on : BranchesGoOn) (turns : List Turn) (turn : Turn) (call new : 
   abbrev owed_of : server.Server → List Choice
   owed_of x = finals_owed x.owed
 
-  abbrev machine_of : server.Server → Served
+  abbrev machine_of : server.Server → ServerTransaction
   machine_of x = x.machine
 
   pub finals_step : (handed : List Choice) (s : Serves turn.now call turn.input turn.output new) → OwesResponses call → KeepsWhatCame turns call
@@ -267,7 +267,7 @@ module _ (goes_on : BranchesGoOn) (turns : List Turn) (turn : Turn) (call new : 
   finals_step handed (Faulted why l s) owes keeps stand =
       quiet handed stand l (ap owed_of s) (ap (λ (x : server.Server). is_for_invite x.machine) s ∙ same_side event.TransportError turn.now call.server.machine)
       (λ not_yet e.
-      let P : Served → Type 0 = λ x. Awaits (Later turns turn) x in
+      let P : ServerTransaction → Type 0 = λ x. Awaits (Later turns turn) x in
       subst P (sym (ap machine_of s)) (error_goes (Later turns turn) turn.now call.server.machine (turn, this_one turns turn, why) (awaits_later call.server.machine e)))
       (λ e. ap (λ (x : server.Server). waits x.machine) s ∙ error_gone turn.now call.server.machine e)
       (λ e. ap (λ (x : server.Server). has_failed x.machine) s ∙ error_unfailed turn.now call.server.machine e)
@@ -312,7 +312,7 @@ module _ (goes_on : BranchesGoOn) (turns : List Turn) (turn : Turn) (call new : 
 
   -- a response that goes up with an event
   up_owed : (ev : Event) (reply : Reply) (response : Option MessageText) → new.log ≡ added call.log call_tag ev reply
-      → IfSome response (GoesUp call.fixed turn.input turn.output ev reply.at) → (up : Up)
+      → IfSome response (GoesUp call.opened turn.input turn.output ev reply.at) → (up : Up)
       → (reply.up ≡ up) → IsReply (table_of call.log) ev (length call.log.history) reply → Owes (owed_by up response)
   up_owed ev reply response l goes Nothing same is = tt
   up_owed ev reply response l goes (Final choice) same is = (tt, tt)

@@ -22,7 +22,7 @@ use Rattle.call_model.specs.Built.{status_of}
 use Rattle.call_model.specs.Call.{Call}
 use Rattle.call_model.specs.Posting.{owed_by, passed}
 use Rattle.call_model.specs.Server as server
-use Rattle.call_model.specs.Server.{Owed, Served, InviteServer, OtherServer, answer_event, served_after, served_out}
+use Rattle.call_model.specs.Server.{Owed, ServerTransaction, InviteServer, OtherServer, answer_event, served_after, served_out}
 use Rattle.call_model.specs.Step as step
 use Rattle.call_model.specs.Take.{again_if, is_response}
 use Rattle.call_laws.specs.Last.{IsUnsent, KeepsLast, is_again}
@@ -62,13 +62,13 @@ up_fresh (Success n) response = passed_fresh response
 up_fresh (Final choice) response = (refl, tt)
 
 -- it owes more
-more_owed : (machine : Served) (owed more : List Owed) → NoneAgain more → IsUnsent machine owed → IsUnsent machine (owed ++ more)
+more_owed : (machine : ServerTransaction) (owed more : List Owed) → NoneAgain more → IsUnsent machine owed → IsUnsent machine (owed ++ more)
 more_owed (InviteServer m) owed more fresh (is, rest, e) = (is, rest ++ more, ap (λ (os : List Owed). os ++ more) e)
 more_owed (OtherServer m) owed more fresh (is, none) = (is, none_joined owed more none fresh)
 
 -- it is told what it does not answer
 abbrev pub Stays : TxEvent → Type 0
-Stays ev = (now : ℕ) (machine : Served) (owed : List Owed) → IsUnsent machine owed → IsUnsent (served_after ev now machine) owed
+Stays ev = (now : ℕ) (machine : ServerTransaction) (owed : List Owed) → IsUnsent machine owed → IsUnsent (served_after ev now machine) owed
 
 ack_stays : Stays event.Ack
 ack_stays now (InviteServer m) owed (is, rest, e) =
@@ -107,7 +107,7 @@ tick_stays now (OtherServer m) owed (is, none) =
     (state_after (other_server m.state i) now m ∙ subst P (sym is) (other_ticks (is_due now m.timers.end) (is_due now (moment_of m.timers.repeat))), none)
 
 -- the request again: that of an INVITE has its 100 owed first, another is not answered yet
-request_stays : (now : ℕ) (machine : Served) (owed : List Owed) (sends : Bool) → sends ≡ is_response (served_out event.Request now machine).send
+request_stays : (now : ℕ) (machine : ServerTransaction) (owed : List Owed) (sends : Bool) → sends ≡ is_response (served_out event.Request now machine).send
     → IsUnsent machine owed → IsUnsent (served_after event.Request now machine) (owed ++ again_if sends)
 request_stays now (InviteServer m) owed sends so (is, rest, e) =
     let P : InviteServerState → Type 0 = λ s. after (invite_server s (input.Event event.Request)) s ≡ invite.Proceeding in
@@ -120,7 +120,7 @@ request_stays now (OtherServer m) owed sends so (is, none) =
     (state_after (other_server m.state (input.Event event.Request)) now m ∙ subst P (sym is) refl, none_joined owed (again_if sends) none (subst N (sym quiet) tt))
 
 -- it sends nothing by a tick
-pub tick_quiet : (now : ℕ) (machine : Served) (owed : List Owed) → IsUnsent machine owed → is_response (served_out event.Tick now machine).send ≡ false
+pub tick_quiet : (now : ℕ) (machine : ServerTransaction) (owed : List Owed) → IsUnsent machine owed → is_response (served_out event.Tick now machine).send ≡ false
 tick_quiet now (InviteServer m) owed (is, rest, e) =
     let i = by_tick (is_due now m.timers.end) (is_due now (moment_of m.timers.repeat)) in
     let P : InviteServerState → Type 0 = λ s. is_response ((row_out (invite_server s i)).send) ≡ false in
@@ -141,10 +141,10 @@ tick_quiet now (OtherServer m) owed (is, none) =
     by false false = refl
 
 -- it sends the first answer that it is handed
-answer_sent : (status now : ℕ) (machine : Served) (owed : List Owed) → IsUnsent machine owed → is_response (served_out (answer_event status) now machine).send ≡ true
+answer_sent : (status now : ℕ) (machine : ServerTransaction) (owed : List Owed) → IsUnsent machine owed → is_response (served_out (answer_event status) now machine).send ≡ true
 answer_sent status now machine owed un = by (nat_lt status 200) (nat_lt status 300) refl refl
   where
-    at : (ev : TxEvent) → (ev ≡ event.AnswerProvisional) ⊎ ((ev ≡ event.AnswerSuccess) ⊎ (ev ≡ event.AnswerFailure)) → (m : Served) → IsUnsent m owed
+    at : (ev : TxEvent) → (ev ≡ event.AnswerProvisional) ⊎ ((ev ≡ event.AnswerSuccess) ⊎ (ev ≡ event.AnswerFailure)) → (m : ServerTransaction) → IsUnsent m owed
         → is_response (served_out ev now m).send ≡ true
     at ev which (InviteServer m) (is, rest, e) = elim which [
       | inl p ↦ let P : InviteServerState → Type 0 = λ s. is_response ((row_out (invite_server s (input.Event event.AnswerProvisional))).send) ≡ true in
@@ -173,7 +173,7 @@ answer_sent status now machine owed un = by (nat_lt status 200) (nat_lt status 3
     by false false x y = at (answer_event status) (inr (inr (cond-false _ _ _ x ∙ cond-false _ _ _ y))) machine un
 
 -- the last answer again is not owed yet
-pub again_never : (machine : Served) (owed rest : List Owed) → owed ≡ server.Again ∷ rest → IsUnsent machine owed → ⊥
+pub again_never : (machine : ServerTransaction) (owed rest : List Owed) → owed ≡ server.Again ∷ rest → IsUnsent machine owed → ⊥
 again_never (InviteServer m) owed rest e (is, more, trying) = absurd (let h : server.Again ∷ rest ≡ server.Trying ∷ more = sym e ∙ trying in cc)
 again_never (OtherServer m) owed rest e (is, none) =
     let N : List Owed → Type 0 = λ os. NoneAgain os in
@@ -181,7 +181,7 @@ again_never (OtherServer m) owed rest e (is, none) =
     absurd cc
 
 -- the 200 to a CANCEL goes out
-okay_stays : (machine : Served) (owed rest : List Owed) (cancel : MessageText) (to : Hop) → owed ≡ server.CancelOk cancel to ∷ rest → IsUnsent machine owed → IsUnsent machine rest
+okay_stays : (machine : ServerTransaction) (owed rest : List Owed) (cancel : MessageText) (to : Hop) → owed ≡ server.CancelOk cancel to ∷ rest → IsUnsent machine owed → IsUnsent machine rest
 okay_stays (InviteServer m) owed rest cancel to e (is, more, trying) = absurd (let h : server.CancelOk cancel to ∷ rest ≡ server.Trying ∷ more = sym e ∙ trying in cc)
 okay_stays (OtherServer m) owed rest cancel to e (is, none) = let N : List Owed → Type 0 = λ os. NoneAgain os in (is, (subst N e none).1)
 

@@ -1,7 +1,7 @@
 pub mod Serving
 pub mod Waits
 pub mod Succeeds
-pub mod Legs
+pub mod Branches
 pub mod Origins
 pub mod Finals
 pub mod Last

@@ -5,9 +5,9 @@ use Rattle.sip_text.specs.Text.{MessageText, spelling}
 use Rattle.sip_uri.specs.declared.hop.Hop.{Hop}
 use Rattle.call_model.specs.Behind.{ComesFirst, FirstsStayOrCome, StaysFirst}
 use Rattle.call_model.specs.Built.{ack_to, answer_in}
-use Rattle.call_model.specs.Call.{Call, leg_at}
-use Rattle.call_model.specs.Fixed.{Fixed, Way}
-use Rattle.call_model.specs.Leg.{Leg}
+use Rattle.call_model.specs.Call.{Call, nth_branch}
+use Rattle.call_model.specs.OpenedRequest.{OpenedRequest, Destination}
+use Rattle.call_model.specs.Branch.{Branch}
 use Rattle.call_model.specs.Posting.{owed_by, passed}
 use Rattle.fork_model.specs.Reply.{Up, Nothing, Provisional, Success, Final}
 use Rattle.call_model.specs.Server as server
@@ -17,7 +17,7 @@ use Rattle.call_model.specs.Sound.{IsSound}
 use Rattle.call_model.specs.Take.{again_if}
 use Rattle.call_laws.specs.Came.{Came, CameCancel, CamePosted, IsTurnOf}
 use Rattle.call_laws.specs.Origins.{ComesFrom, IsOkayOf, KeepsPosted, KeepsWhatCame, OwesAcks, OwesOkays}
-use Rattle.call_laws.proofs.Legs.{Parts, TakesFailure, ack_in, parts}
+use Rattle.call_laws.proofs.Branches.{CallState, TakesFailure, ack_in, state}
 use Rattle.call_laws.proofs.Serving.{IsMarkedNow, Serves, Beside, Posted, Cancelled, CancelledBoth, Acked, Faulted, Ticked, Repeated, Sent, Dropped, Again, Okayed, serves}
 
 -- ---- the turns so far, and one more
@@ -59,39 +59,39 @@ module _ (turns : List Turn) (turn : Turn) where
 
   -- ---- the parts of branches
 
-  module _ (call new : Call) (p : Parts turn.now call turn.input new) where
-    old_part : (n : ℕ) (bytes : List ℕ) → ack_in (leg_at call n) ≡ Some bytes → (leg : Leg) × (leg_at call n ≡ Some leg) × (leg.ack ≡ Some bytes)
-    old_part n bytes e = by (leg_at call n) refl e
+  module _ (call new : Call) (p : CallState turn.now call turn.input new) where
+    old_part : (n : ℕ) (bytes : List ℕ) → ack_in (nth_branch call n) ≡ Some bytes → (branch : Branch) × (nth_branch call n ≡ Some branch) × (branch.ack ≡ Some bytes)
+    old_part n bytes e = by (nth_branch call n) refl e
       where
-        by : (l : Option Leg) → leg_at call n ≡ l → ack_in l ≡ Some bytes → (leg : Leg) × (leg_at call n ≡ Some leg) × (leg.ack ≡ Some bytes)
+        by : (l : Option Branch) → nth_branch call n ≡ l → ack_in l ≡ Some bytes → (branch : Branch) × (nth_branch call n ≡ Some branch) × (branch.ack ≡ Some bytes)
         by None there e = absurd cc
-        by (Some leg) there e = (leg, there, e)
+        by (Some branch) there e = (branch, there, e)
 
-    old_answer : (n : ℕ) (m : MessageText) → answer_in (leg_at call n) ≡ Some m → (leg : Leg) × (leg_at call n ≡ Some leg) × (leg.answer ≡ Some m)
-    old_answer n m e = by (leg_at call n) refl e
+    old_answer : (n : ℕ) (m : MessageText) → answer_in (nth_branch call n) ≡ Some m → (branch : Branch) × (nth_branch call n ≡ Some branch) × (branch.answer ≡ Some m)
+    old_answer n m e = by (nth_branch call n) refl e
       where
-        by : (l : Option Leg) → leg_at call n ≡ l → answer_in l ≡ Some m → (leg : Leg) × (leg_at call n ≡ Some leg) × (leg.answer ≡ Some m)
+        by : (l : Option Branch) → nth_branch call n ≡ l → answer_in l ≡ Some m → (branch : Branch) × (nth_branch call n ≡ Some branch) × (branch.answer ≡ Some m)
         by None there e = absurd cc
-        by (Some leg) there e = (leg, there, e)
+        by (Some branch) there e = (branch, there, e)
 
-    way_there : (n : ℕ) (way : Way) → slice_get call.ways n ≡ Some way → slice_get new.ways n ≡ Some way
-    way_there n way goes = ap (λ (ws : List Way). slice_get ws n) p.ways ∙ more_there call.ways p.more n way goes
+    destination_there : (n : ℕ) (destination : Destination) → slice_get call.destinations n ≡ Some destination → slice_get new.destinations n ≡ Some destination
+    destination_there n destination goes = ap (λ (ws : List Destination). slice_get ws n) p.destinations ∙ more_there call.destinations p.more n destination goes
 
     came_now : (n : ℕ) (m : MessageText) → TakesFailure turn.now call turn.input new n m → Came Later n m
     came_now n m (source, is, failure) = (turn, this_one, source, is)
 
     acks_step : OwesAcks turns call → OwesAcks Later new
-    acks_step acks n leg bytes there is = elim ((p.each n leg there).ack bytes is) [
+    acks_step acks n branch bytes there is = elim ((p.each n branch there).ack bytes is) [
       | inl before ↦
           let part = old_part n bytes before in
           let a = acks n part.0 bytes part.1 part.2 in
-          (a.0, came_later n a.0 a.1, a.2, a.3, way_there n a.3 a.4, a.5 ∙ ap (λ (f : Fixed). spelling (ack_to f a.3 n a.0)) (sym p.fixed))
+          (a.0, came_later n a.0 a.1, a.2, a.3, destination_there n a.3 a.4, a.5 ∙ ap (λ (f : OpenedRequest). spelling (ack_to f a.3 n a.0)) (sym p.opened))
       | inr made ↦
-          (made.0, came_now n made.0 made.2, made.2.2, made.1, way_there n made.1 made.3, made.4 ∙ ap (λ (f : Fixed). spelling (ack_to f made.1 n made.0)) (sym p.fixed))
+          (made.0, came_now n made.0 made.2, made.2.2, made.1, destination_there n made.1 made.3, made.4 ∙ ap (λ (f : OpenedRequest). spelling (ack_to f made.1 n made.0)) (sym p.opened))
     ]
 
     answers_step : KeepsWhatCame turns call → KeepsWhatCame Later new
-    answers_step keeps n leg m there is = elim ((p.each n leg there).answer m is) [
+    answers_step keeps n branch m there is = elim ((p.each n branch there).answer m is) [
       | inl before ↦
           let part = old_answer n m before in
           let k = keeps n part.0 m part.1 part.2 in
@@ -103,7 +103,7 @@ module _ (turns : List Turn) (turn : Turn) where
   posted_step : (call new : Call) → FirstsStayOrCome → IsSound call → Step turn.now call turn.input new turn.output → KeepsPosted turns call → KeepsPosted Later new
   posted_step call new firsts sound h keeps n stored has came first = by (firsts turn call new sound h n stored has came first)
     where
-      by : StaysFirst call new n stored ⊎ ComesFirst turn new n stored → (m : MessageText) × (answer_in (leg_at new n) ≡ Some m) × CamePosted Later n stored.arrival m
+      by : StaysFirst call new n stored ⊎ ComesFirst turn new n stored → (m : MessageText) × (answer_in (nth_branch new n) ≡ Some m) × CamePosted Later n stored.arrival m
       by (inl stays) =
           let old = keeps n stored stays.has came stays.first in
           (old.0, stays.kept ∙ old.1, posted_later n stored.arrival old.0 old.2)
@@ -174,7 +174,7 @@ module _ (turns : List Turn) (turn : Turn) where
 
   pub origins_step : (call new : Call) → FirstsStayOrCome → IsSound call → Step turn.now call turn.input new turn.output → ComesFrom turns call → ComesFrom Later new
   origins_step call new firsts sound h from =
-      let p = parts turn.now call turn.input new turn.output h in
+      let p = state turn.now call turn.input new turn.output h in
       let s = serves turn.now call turn.input new turn.output h in
       record {
         acks = acks_step call new p from.acks;

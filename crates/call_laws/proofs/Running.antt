@@ -11,10 +11,10 @@ use Rattle.fork_model.specs.Table.{Row, Rules, is_finished, is_succeeded}
 use Rattle.sip_text.specs.Text.{MessageText, spelling}
 use Rattle.call_model.specs.Built.{answer_of, final_of, status_of}
 use Rattle.call_model.specs.Call.{Call, rows_of}
-use Rattle.call_model.specs.Fixed.{Fixed, Way, is_invite, kind_of}
+use Rattle.call_model.specs.OpenedRequest.{OpenedRequest, Destination, is_invite, kind_of}
 use Rattle.call_model.specs.Pump as pump
 use Rattle.call_model.specs.Server as server
-use Rattle.call_model.specs.Server.{Owed, Served, InviteServer, OtherServer, answer_event, is_over, served_out}
+use Rattle.call_model.specs.Server.{Owed, ServerTransaction, InviteServer, OtherServer, answer_event, is_over, served_out}
 use Rattle.call_model.specs.Sound.{BegunIsSound, IsGiven, IsSound, IsSoundOwed, StepsKeepSound}
 use Rattle.call_model.specs.Step as step
 use Rattle.call_model.specs.Step.{Step, Turn}
@@ -99,7 +99,7 @@ module _ (one : ExactlyOneFinal) (before : NoFinalBefore) (beside : NoFinalBesid
 
   -- so where it is dropped the transaction was told before that an answer could not be sent
   dropped_so : (status now : ℕ) → nat_lt status 300 ≡ false → is_response (served_out (answer_event status) now call.server.machine).send ≡ false
-      → Awaits turns call.server.machine → (is_invite call.fixed ≡ false) × CouldNotSend turns
+      → Awaits turns call.server.machine → (is_invite call.opened ≡ false) × CouldNotSend turns
   dropped_so status now failure drops awaits = by call.server.machine refl awaits
     where
       never : waits call.server.machine ≡ true → ⊥
@@ -107,7 +107,7 @@ module _ (one : ExactlyOneFinal) (before : NoFinalBefore) (beside : NoFinalBesid
           let h : true ≡ false = sym (failure_sent status now call.server.machine (below status failure) failure w) ∙ drops in
           absurd cc
 
-      by : (machine : Served) → call.server.machine ≡ machine → Awaits turns machine → (is_invite call.fixed ≡ false) × CouldNotSend turns
+      by : (machine : ServerTransaction) → call.server.machine ≡ machine → Awaits turns machine → (is_invite call.opened ≡ false) × CouldNotSend turns
       by (InviteServer m) is w = absurd (never (ap waits is ∙ w))
       by (OtherServer m) is (inl w) = absurd (never (ap waits is ∙ w))
       by (OtherServer m) is (inr failed) = (sym holds.stands.finals.side ∙ ap is_for_invite is, failed)
@@ -135,7 +135,7 @@ module _ (one : ExactlyOneFinal) (before : NoFinalBefore) (beside : NoFinalBesid
       )
 
   -- a 2xx to an INVITE that the caller's transaction does not take comes to one that has ended
-  ended_so : (x : MessageText) (rest : List Owed) → call.server.owed ≡ server.Passed x ∷ rest → is_invite call.fixed ≡ true → is_success (status_of x) ≡ true
+  ended_so : (x : MessageText) (rest : List Owed) → call.server.owed ≡ server.Passed x ∷ rest → is_invite call.opened ≡ true → is_success (status_of x) ≡ true
       → takes call.server.machine (status_of x) ≡ false → is_over call.server.machine
   ended_so x rest is invited success none =
       let won = succeeded (is_succeeded (rows_of call)) refl in
@@ -277,18 +277,18 @@ module _ (one : ExactlyOneFinal) (before : NoFinalBefore) (beside : NoFinalBesid
 
   -- ---- from its beginning
 
-  module _ (begun_sound : BegunIsSound) (begun_stand : BegunStands) (fixed : Fixed) (rules : Rules) (targets : List Target) (ways : List Way) (some : targets ≢ []) where
-    first : Holds [] [] (Begins fixed rules targets ways)
+  module _ (begun_sound : BegunIsSound) (begun_stand : BegunStands) (opened : OpenedRequest) (rules : Rules) (targets : List Target) (destinations : List Destination) (some : targets ≢ []) where
+    first : Holds [] [] (Begins opened rules targets destinations)
     first = record {
-      sound = begun_sound fixed rules targets ways;
-      log = opening_logged (kind_of fixed) rules targets some;
-      stands = begun_stand fixed rules targets ways;
+      sound = begun_sound opened rules targets destinations;
+      log = opening_logged (kind_of opened) rules targets some;
+      stands = begun_stand opened rules targets destinations;
     }
 
-    run : (stages : List Stage) → AreGiven stages → Leads (Begins fixed rules targets ways) stages → Goes [] [] (Begins fixed rules targets ways) stages
-    run stages given leads = goes_so stages [] [] (Begins fixed rules targets ways) first given leads
+    run : (stages : List Stage) → AreGiven stages → Leads (Begins opened rules targets destinations) stages → Goes [] [] (Begins opened rules targets destinations) stages
+    run stages given leads = goes_so stages [] [] (Begins opened rules targets destinations) first given leads
 
-    pub pays_in_order : (stages : List Stage) → AreGiven stages → Leads (Begins fixed rules targets ways) stages → PaysInOrder (Begins fixed rules targets ways) stages
+    pub pays_in_order : (stages : List Stage) → AreGiven stages → Leads (Begins opened rules targets destinations) stages → PaysInOrder (Begins opened rules targets destinations) stages
     pays_in_order stages given leads = let r = run stages given leads in record { order = r.order; each = r.each }
 
     -- one final answer among what was paid
@@ -321,19 +321,19 @@ module _ (one : ExactlyOneFinal) (before : NoFinalBefore) (beside : NoFinalBesid
         by server.Again is e right rest = other (ap is_final is) (rest e)
         by (server.CancelOk cancel to) is e right rest = other (ap is_final is) (rest e)
 
-    pub answers_once : (stages : List Stage) → AreGiven stages → Leads (Begins fixed rules targets ways) stages
-        → is_finished (rows_of (end_of (Begins fixed rules targets ways) stages)) ≡ true
-        → is_succeeded (rows_of (end_of (Begins fixed rules targets ways) stages)) ≡ false
-        → (end_of (Begins fixed rules targets ways) stages).server.owed ≡ []
-        → AnswersOnce (Begins fixed rules targets ways) stages
+    pub answers_once : (stages : List Stage) → AreGiven stages → Leads (Begins opened rules targets destinations) stages
+        → is_finished (rows_of (end_of (Begins opened rules targets destinations) stages)) ≡ true
+        → is_succeeded (rows_of (end_of (Begins opened rules targets destinations) stages)) ≡ false
+        → (end_of (Begins opened rules targets destinations) stages).server.owed ≡ []
+        → AnswersOnce (Begins opened rules targets destinations) stages
     answers_once stages given leads done not_won none =
         let r = run stages given leads in
-        let last = end_of (Begins fixed rules targets ways) stages in
+        let last = end_of (Begins opened rules targets destinations) stages in
         let ends = ends_once one before beside last.log r.ends.log done not_won in
-        let all : finals last.log.replies ≡ finals_paid (payments [] (Begins fixed rules targets ways) stages) =
-        r.ends.stands.finals.all ∙ ap (λ (os : List Owed). finals_paid (payments [] (Begins fixed rules targets ways) stages) ++ finals_owed os) none
-        ∙ append-nil (finals_paid (payments [] (Begins fixed rules targets ways) stages)) in
-        let f = one_final (payments [] (Begins fixed rules targets ways) stages) ends.0 (sym all ∙ ends.1) r.each in
+        let all : finals last.log.replies ≡ finals_paid (payments [] (Begins opened rules targets destinations) stages) =
+        r.ends.stands.finals.all ∙ ap (λ (os : List Owed). finals_paid (payments [] (Begins opened rules targets destinations) stages) ++ finals_owed os) none
+        ∙ append-nil (finals_paid (payments [] (Begins opened rules targets destinations) stages)) in
+        let f = one_final (payments [] (Begins opened rules targets destinations) stages) ends.0 (sym all ∙ ends.1) r.each in
         record {
           payment = f.0;
           choice = ends.0;

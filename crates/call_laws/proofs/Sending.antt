@@ -5,12 +5,12 @@ use Rattle.std.specs.List.{AllByRecursion}
 use Rattle.sip_text.specs.Text.{MessageText}
 use Rattle.sip_txn.specs.declared.event.TxEvent.TheVariants as event
 use Rattle.call_model.specs.Built.{Datagram, answer_of}
-use Rattle.call_model.specs.Call.{Call, leg_at}
-use Rattle.call_model.specs.Datagrams.{IsBuilt, IsBuiltLeg}
-use Rattle.call_model.specs.Due.{Deed}
+use Rattle.call_model.specs.Call.{Call, nth_branch}
+use Rattle.call_model.specs.Datagrams.{IsBuilt, IsBuiltBranch}
+use Rattle.call_model.specs.Due.{Action}
 use Rattle.call_model.specs.Due as due
-use Rattle.call_model.specs.Fixed.{Way}
-use Rattle.call_model.specs.Leg.{Leg}
+use Rattle.call_model.specs.OpenedRequest.{Destination}
+use Rattle.call_model.specs.Branch.{Branch}
 use Rattle.call_model.specs.Pump as pump
 use Rattle.call_model.specs.Pump.{AnswersBy, AnswersWith, Does, FiresTimerC, Pumped, SendsAnswer, TicksClientBy, sent_if}
 use Rattle.call_model.specs.Server as server
@@ -22,12 +22,12 @@ use Rattle.call_laws.specs.Right.{StandsAfter}
 use Rattle.call_laws.specs.Sending.{IsSentFor, IsSentRight, WhatIsSentIsRight}
 use Rattle.call_laws.proofs.Last.{again_never, tick_quiet}
 
--- the part of a branch that was sent to, by its way
-built_by : (call : Call) (n : ℕ) (way : Way) (leg : Leg) → IsBuilt call → slice_get call.ways n ≡ Some way → leg_at call n ≡ Some leg → IsBuiltLeg call n way leg
-built_by call n way leg built goes there =
-    let found = built.legs n leg there in
-    let same : found.0 ≡ way = let e : Some found.0 ≡ Some way = sym found.1 ∙ goes in cc in
-    let P : Way → Type 0 = λ w. IsBuiltLeg call n w leg in
+-- the part of a branch that was sent to, by its destination
+built_by : (call : Call) (n : ℕ) (destination : Destination) (branch : Branch) → IsBuilt call → slice_get call.destinations n ≡ Some destination → nth_branch call n ≡ Some branch → IsBuiltBranch call n destination branch
+built_by call n destination branch built goes there =
+    let found = built.branches n branch there in
+    let same : found.0 ≡ destination = let e : Some found.0 ≡ Some destination = sym found.1 ∙ goes in cc in
+    let P : Destination → Type 0 = λ w. IsBuiltBranch call n w branch in
     subst P same found.2
 
 some_as : {A : Type 0} (P : A → Type 0) (o : Option A) (x : A) → o ≡ Some x → IfSome o P → P x
@@ -74,28 +74,28 @@ module _ (turns : List Turn) (handed : List Choice) (now : ℕ) (call new : Call
   paid (server.Passed m ∷ rest) p is h = answered_with rest (server.Passed m) _ p is refl h
   paid (server.Final choice ∷ rest) p is h = answered_with rest (server.Final choice) _ p is refl h
 
-  ticked : (n : ℕ) (way : Way) (leg : Leg) (b : Bool) (p : Pumped) → IsBuiltLeg call n way leg → slice_get call.ways n ≡ Some way → TicksClientBy call now n way leg b p new
+  ticked : (n : ℕ) (destination : Destination) (branch : Branch) (b : Bool) (p : Pumped) → IsBuiltBranch call n destination branch → slice_get call.destinations n ≡ Some destination → TicksClientBy call now n destination branch b p new
       → Right p
-  ticked n way leg true p built goes (out, reply, posts) = right_as p pump.Did out tt
-  ticked n way leg false p built goes (out, e) = as_if _ p _ out (λ sends. (way, goes, refl, built.request))
+  ticked n destination branch true p built goes (out, reply, posts) = right_as p pump.Did out tt
+  ticked n destination branch false p built goes (out, e) = as_if _ p _ out (λ sends. (destination, goes, refl, built.request))
 
-  fired : (n : ℕ) (leg : Leg) (b : Bool) (p : Pumped) → FiresTimerC call now n leg b p new → Right p
-  fired n leg true p (out, reply, posts) = right_as p pump.Did out tt
-  fired n leg false p (out, reply, posts) = right_as p pump.Did out tt
+  fired : (n : ℕ) (branch : Branch) (b : Bool) (p : Pumped) → FiresTimerC call now n branch b p new → Right p
+  fired n branch true p (out, reply, posts) = right_as p pump.Did out tt
+  fired n branch false p (out, reply, posts) = right_as p pump.Did out tt
 
-  done : (deed : Deed) (p : Pumped) → Does call now deed p new → Right p
-  done (due.SendRequest n) p (way, goes, (out, e)) = right_as p _ out (way, goes, refl, refl)
-  done (due.SendCancel n) p (way, leg, goes, there, (out, e)) = right_as p _ out (way, goes, refl, refl)
-  done (due.SendAck n) p (way, leg, goes, there, (ack, owes, out, e)) = right_as p _ out (way, goes, refl, stands.origins.acks n leg ack there owes)
+  done : (action : Action) (p : Pumped) → Does call now action p new → Right p
+  done (due.SendRequest n) p (destination, goes, (out, e)) = right_as p _ out (destination, goes, refl, refl)
+  done (due.SendCancel n) p (destination, branch, goes, there, (out, e)) = right_as p _ out (destination, goes, refl, refl)
+  done (due.SendAck n) p (destination, branch, goes, there, (ack, owes, out, e)) = right_as p _ out (destination, goes, refl, stands.origins.acks n branch ack there owes)
   done due.SendAnswer p h = paid call.server.owed p refl h
   done due.TickServer p (out, e) = as_if _ p _ out (λ sends. (refl, inl (refl, some_ticked sends)))
-  done (due.TickClient n) p (way, leg, goes, there, h) = ticked n way leg _ p (built_by call n way leg stands.built goes there) goes h
-  done (due.TickCancel n) p (way, leg, goes, there, (cancelling, has, out, e)) =
-      as_if _ p _ out (λ sends. (way, goes, refl, some_as _ leg.cancelling cancelling has (built_by call n way leg stands.built goes there).cancel))
-  done (due.FireTimerC n) p (leg, there, h) = fired n leg _ p h
-  done (due.GiveUp n) p (leg, there, (out, reply, posts)) = right_as p pump.Did out tt
+  done (due.TickClient n) p (destination, branch, goes, there, h) = ticked n destination branch _ p (built_by call n destination branch stands.built goes there) goes h
+  done (due.TickCancel n) p (destination, branch, goes, there, (cancelling, has, out, e)) =
+      as_if _ p _ out (λ sends. (destination, goes, refl, some_as _ branch.cancelling cancelling has (built_by call n destination branch stands.built goes there).cancel))
+  done (due.FireTimerC n) p (branch, there, h) = fired n branch _ p h
+  done (due.GiveUp n) p (branch, there, (out, reply, posts)) = right_as p pump.Did out tt
 
 pub sent_right : WhatIsSentIsRight
 sent_right turns handed now call new pump.Idle stands h = tt
-sent_right turns handed now call new (pump.Send d) stands (deed, is, h) = done turns handed now call new stands deed (pump.Send d) h
-sent_right turns handed now call new pump.Did stands (deed, is, h) = tt
+sent_right turns handed now call new (pump.Send d) stands (action, is, h) = done turns handed now call new stands action (pump.Send d) h
+sent_right turns handed now call new pump.Did stands (action, is, h) = tt

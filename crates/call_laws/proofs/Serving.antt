@@ -18,12 +18,12 @@ use Rattle.std.specs.Prelude.{Ok}
 use Rattle.call_model.specs.declared.cause.Cause.{Cause}
 use Rattle.call_model.specs.declared.cause.Cause.TheVariants as cause
 use Rattle.call_model.specs.Built.{answer_of, status_of}
-use Rattle.call_model.specs.Call.{Call, leg_at}
-use Rattle.call_model.specs.Due.{Deed}
+use Rattle.call_model.specs.Call.{Call, nth_branch}
+use Rattle.call_model.specs.Due.{Action}
 use Rattle.call_model.specs.Due as due
 use Rattle.call_model.specs.Failed.{Fails, FaultsBy, FaultsClient, cancel_faulted}
-use Rattle.call_model.specs.Fixed.{Fixed, Way}
-use Rattle.call_model.specs.Leg.{Leg}
+use Rattle.call_model.specs.OpenedRequest.{OpenedRequest, Destination}
+use Rattle.call_model.specs.Branch.{Branch}
 use Rattle.call_model.specs.Posting.{Posts, call_tag, owed_by}
 use Rattle.call_model.specs.Pump as pump
 use Rattle.call_model.specs.Pump.{Pumped, Pumps, Does, AnswersBy, AnswersWith, SendsAnswer, TicksClientBy, FiresTimerC}
@@ -36,13 +36,13 @@ use Rattle.call_model.specs.Take as to
 use Rattle.call_model.specs.Take.{CancelledBy, Responds, Taken, TakesAs, again_if, is_response}
 
 -- a response of branch n that may go up came just now, and was posted at this position
-abbrev pub GoesUp : Fixed → Input → Output → Event → (at : ℕ) → MessageText → Type 0
-GoesUp fixed input output ev at m =
+abbrev pub GoesUp : OpenedRequest → Input → Output → Event → (at : ℕ) → MessageText → Type 0
+GoesUp opened input output ev at m =
     (n : ℕ)
     × (source : Hop)
     × (input ≡ step.Take (to.Client n) m source)
     × (output ≡ step.Took (to.Posted at))
-    × (ev ≡ event_by fixed.is_responsible n (status_of m) m)
+    × (ev ≡ event_by opened.is_responsible n (status_of m) m)
     × (nat_lt (status_of m) 300 ≡ true)
 
 -- a CANCEL that came just now from this hop, as it was marked, and where it is answered
@@ -55,7 +55,7 @@ IsMarkedNow input cancel hop =
     × (hop ≡ reply_of (via_of (top_value cancel)) source)
 
 abbrev pub sent_to : Call → List ℕ → Output
-sent_to call bytes = step.Did (pump.Send (record { to = call.fixed.caller; bytes = bytes; cause = cause.Answer }))
+sent_to call bytes = step.Did (pump.Send (record { to = call.opened.caller; bytes = bytes; cause = cause.Answer }))
 
 abbrev pub okay_to : MessageText → Hop → Output
 okay_to cancel hop = step.Did (pump.Send (record { to = hop; bytes = spelling (generated_of cancel Okay); cause = cause.CancelOk }))
@@ -72,7 +72,7 @@ pub data Serves (now : ℕ) (call : Call) (input : Input) (output : Output) (new
   Beside : new.log ≡ call.log → new.server ≡ call.server → Serves now call input output new
   -- an event is posted
   Posted : (ev : Event) (response : Option MessageText) (reply : Reply)
-      → IfSome response (GoesUp call.fixed input output ev reply.at)
+      → IfSome response (GoesUp call.opened input output ev reply.at)
       → IsReply (table_of call.log) ev (length call.log.history) reply
       → new.log ≡ added call.log call_tag ev reply
       → new.server ≡ with_owed call.server (call.server.owed ++ owed_by reply.up response)
@@ -91,7 +91,7 @@ pub data Serves (now : ℕ) (call : Call) (input : Input) (output : Output) (new
   Acked : new.log ≡ call.log → new.server ≡ with_machine call.server event.Ack now → Serves now call input output new
   Faulted : input ≡ step.Failed cause.Answer → new.log ≡ call.log → new.server ≡ with_machine call.server event.TransportError now
       → Serves now call input output new
-  Ticked : (sends : Bool) → output ≡ step.Did (pump.sent_if sends (record { to = call.fixed.caller; bytes = call.server.last; cause = cause.Answer }))
+  Ticked : (sends : Bool) → output ≡ step.Did (pump.sent_if sends (record { to = call.opened.caller; bytes = call.server.last; cause = cause.Answer }))
       → sends ≡ is_response (served_out event.Tick now call.server.machine).send
       → new.log ≡ call.log → new.server ≡ with_machine call.server event.Tick now → Serves now call input output new
   -- the request again: the last answer is owed again where the transaction sends it
@@ -129,7 +129,7 @@ server_of call = call.server
 
 -- by a call with the same log and the same caller's side
 posted : (now : ℕ) (call mid new : Call) (input : Input) (output : Output) (ev : Event) (contacts : List ContactText) (response : Option MessageText) (reply : Reply)
-    → mid.log ≡ call.log → mid.server ≡ call.server → IfSome response (GoesUp call.fixed input output ev reply.at)
+    → mid.log ≡ call.log → mid.server ≡ call.server → IfSome response (GoesUp call.opened input output ev reply.at)
     → Posts mid ev contacts response reply new → Serves now call input output new
 posted now call mid new input output ev contacts response reply l s goes posts =
     let R : Log → Type 0 = λ x. IsReply (table_of x) ev (length x.history) reply in
@@ -137,7 +137,7 @@ posted now call mid new input output ev contacts response reply l s goes posts =
     (ap log_of posts.follows ∙ ap (λ (x : Log). added x call_tag ev reply) l)
     (ap server_of posts.follows ∙ ap (λ (x : Server). with_owed x (x.owed ++ owed_by reply.up response)) s)
 
--- ---- a deed of the pump
+-- ---- an action of the pump
 
 answered : (now : ℕ) (call new : Call) (input : Input) (p : Pumped) (owed : Owed) (rest : List Owed) (m : MessageText) (b : Bool)
     → is_response (served_out (answer_event (status_of m)) now call.server.machine).send ≡ b
@@ -159,51 +159,51 @@ paid now call new input p (server.Trying ∷ rest) is h = answered_with now call
 paid now call new input p (server.Passed m ∷ rest) is h = answered_with now call new input p (server.Passed m) rest (answer_of call (server.Passed m)) is refl h
 paid now call new input p (server.Final choice ∷ rest) is h = answered_with now call new input p (server.Final choice) rest (answer_of call (server.Final choice)) is refl h
 
-ticked : (now : ℕ) (call new : Call) (input : Input) (p : Pumped) (n : ℕ) (way : Way) (leg : Leg) (b : Bool) → TicksClientBy call now n way leg b p new
+ticked : (now : ℕ) (call new : Call) (input : Input) (p : Pumped) (n : ℕ) (destination : Destination) (branch : Branch) (b : Bool) → TicksClientBy call now n destination branch b p new
     → Serves now call input (step.Did p) new
-ticked now call new input p n way leg true (out, reply, posts) = posted now call _ new input (step.Did p) _ [] None reply refl refl tt posts
-ticked now call new input p n way leg false (out, e) = Beside (ap log_of e) (ap server_of e)
+ticked now call new input p n destination branch true (out, reply, posts) = posted now call _ new input (step.Did p) _ [] None reply refl refl tt posts
+ticked now call new input p n destination branch false (out, e) = Beside (ap log_of e) (ap server_of e)
 
-fired : (now : ℕ) (call new : Call) (input : Input) (p : Pumped) (n : ℕ) (leg : Leg) (b : Bool) → FiresTimerC call now n leg b p new
+fired : (now : ℕ) (call new : Call) (input : Input) (p : Pumped) (n : ℕ) (branch : Branch) (b : Bool) → FiresTimerC call now n branch b p new
     → Serves now call input (step.Did p) new
-fired now call new input p n leg true (out, reply, posts) = posted now call _ new input (step.Did p) _ [] None reply refl refl tt posts
-fired now call new input p n leg false (out, reply, posts) = posted now call call new input (step.Did p) _ [] None reply refl refl tt posts
+fired now call new input p n branch true (out, reply, posts) = posted now call _ new input (step.Did p) _ [] None reply refl refl tt posts
+fired now call new input p n branch false (out, reply, posts) = posted now call call new input (step.Did p) _ [] None reply refl refl tt posts
 
-done : (now : ℕ) (call new : Call) (input : Input) (deed : Deed) (p : Pumped) → Does call now deed p new → Serves now call input (step.Did p) new
-done now call new input (due.SendRequest n) p (way, goes, (out, e)) = Beside (ap log_of e) (ap server_of e)
-done now call new input (due.SendCancel n) p (way, leg, goes, there, (out, e)) = Beside (ap log_of e) (ap server_of e)
-done now call new input (due.SendAck n) p (way, leg, goes, there, (ack, owes, out, e)) = Beside (ap log_of e) (ap server_of e)
+done : (now : ℕ) (call new : Call) (input : Input) (action : Action) (p : Pumped) → Does call now action p new → Serves now call input (step.Did p) new
+done now call new input (due.SendRequest n) p (destination, goes, (out, e)) = Beside (ap log_of e) (ap server_of e)
+done now call new input (due.SendCancel n) p (destination, branch, goes, there, (out, e)) = Beside (ap log_of e) (ap server_of e)
+done now call new input (due.SendAck n) p (destination, branch, goes, there, (ack, owes, out, e)) = Beside (ap log_of e) (ap server_of e)
 done now call new input due.SendAnswer p h = paid now call new input p call.server.owed refl h
 done now call new input due.TickServer p (out, e) = Ticked _ (ap step.Did out) refl (ap log_of e) (ap server_of e)
-done now call new input (due.TickClient n) p (way, leg, goes, there, h) = ticked now call new input p n way leg _ h
-done now call new input (due.TickCancel n) p (way, leg, goes, there, (cancelling, has, out, e)) = Beside (ap log_of e) (ap server_of e)
-done now call new input (due.FireTimerC n) p (leg, there, h) = fired now call new input p n leg _ h
-done now call new input (due.GiveUp n) p (leg, there, (out, reply, posts)) = posted now call _ new input (step.Did p) _ [] None reply refl refl tt posts
+done now call new input (due.TickClient n) p (destination, branch, goes, there, h) = ticked now call new input p n destination branch _ h
+done now call new input (due.TickCancel n) p (destination, branch, goes, there, (cancelling, has, out, e)) = Beside (ap log_of e) (ap server_of e)
+done now call new input (due.FireTimerC n) p (branch, there, h) = fired now call new input p n branch _ h
+done now call new input (due.GiveUp n) p (branch, there, (out, reply, posts)) = posted now call _ new input (step.Did p) _ [] None reply refl refl tt posts
 
 pumped : (now : ℕ) (call new : Call) (input : Input) (p : Pumped) → Pumps call now p new → Serves now call input (step.Did p) new
 pumped now call new input pump.Idle (idle, e) = Beside (ap log_of e) (ap server_of e)
-pumped now call new input (pump.Send d) (deed, is, h) = done now call new input deed (pump.Send d) h
-pumped now call new input pump.Did (deed, is, h) = done now call new input deed pump.Did h
+pumped now call new input (pump.Send d) (action, is, h) = done now call new input action (pump.Send d) h
+pumped now call new input pump.Did (action, is, h) = done now call new input action pump.Did h
 
 -- ---- a message
 
-responded : (now : ℕ) (call new : Call) (n : ℕ) (leg : Leg) (way : Way) (m : MessageText) (source : Hop) (t : Taken) → Responds call n leg way now m t new
+responded : (now : ℕ) (call new : Call) (n : ℕ) (branch : Branch) (destination : Destination) (m : MessageText) (source : Hop) (t : Taken) → Responds call n branch destination now m t new
     → Serves now call (step.Take (to.Client n) m source) (step.Took t) new
-responded now call new n leg way m source to.Absorbed (p, e) = Beside (ap log_of e) (ap server_of e)
-responded now call new n leg way m source (to.Posted at) (p, reply, placed, first, leads, posts) =
+responded now call new n branch destination m source to.Absorbed (p, e) = Beside (ap log_of e) (ap server_of e)
+responded now call new n branch destination m source (to.Posted at) (p, reply, placed, first, leads, posts) =
     posted now call _ new _ _ _ _ _ reply refl refl (goes (nat_lt (status_of m) 300) refl) posts
   where
     goes : (b : Bool) → nat_lt (status_of m) 300 ≡ b
-        → IfSome (to.going_up (status_of m) m) (GoesUp call.fixed (step.Take (to.Client n) m source) (step.Took (to.Posted at)) (event_by call.fixed.is_responsible n (status_of m) m) reply.at)
+        → IfSome (to.going_up (status_of m) m) (GoesUp call.opened (step.Take (to.Client n) m source) (step.Took (to.Posted at)) (event_by call.opened.is_responsible n (status_of m) m) reply.at)
     goes true e =
         let P : Option MessageText → Type 0 =
-        λ o. IfSome o (GoesUp call.fixed (step.Take (to.Client n) m source) (step.Took (to.Posted at)) (event_by call.fixed.is_responsible n (status_of m) m) reply.at) in
+        λ o. IfSome o (GoesUp call.opened (step.Take (to.Client n) m source) (step.Took (to.Posted at)) (event_by call.opened.is_responsible n (status_of m) m) reply.at) in
         subst P (sym (cond-true _ _ _ e)) (n, source, refl, ap (λ (k : ℕ). step.Took (to.Posted k)) (sym placed), refl, e)
     goes false e =
         let P : Option MessageText → Type 0 =
-        λ o. IfSome o (GoesUp call.fixed (step.Take (to.Client n) m source) (step.Took (to.Posted at)) (event_by call.fixed.is_responsible n (status_of m) m) reply.at) in
+        λ o. IfSome o (GoesUp call.opened (step.Take (to.Client n) m source) (step.Took (to.Posted at)) (event_by call.opened.is_responsible n (status_of m) m) reply.at) in
         subst P (sym (cond-false _ _ _ e)) tt
-responded now call new n leg way m source to.Full (p, f, e) = Beside (ap log_of e) (ap server_of e)
+responded now call new n branch destination m source to.Full (p, f, e) = Beside (ap log_of e) (ap server_of e)
 
 cancelled : (now : ℕ) (call new : Call) (input : Input) (output : Output) (cancel : MessageText) (hop : Hop) (t : Taken) → IsMarkedNow input cancel hop
     → CancelledBy call cancel hop t new → Serves now call input output new
@@ -212,7 +212,7 @@ cancelled now call new input output cancel hop (to.Posted at) is (c, reply, plac
     CancelledBoth cancel hop _ reply is posts.reply_is (ap log_of posts.follows) (ap server_of posts.follows)
 cancelled now call new input output cancel hop to.Full is h = absurd h
 
-took : (now : ℕ) (call new : Call) (m : MessageText) (source : Hop) (r : to.Recipient) (t : Taken) → TakesAs call now m source r t new
+took : (now : ℕ) (call new : Call) (m : MessageText) (source : Hop) (r : to.MatchedTransaction) (t : Taken) → TakesAs call now m source r t new
     → Serves now call (step.Take r m source) (step.Took t) new
 took now call new m source to.Server to.Absorbed e = Repeated _ refl (ap log_of e) (ap server_of e)
 took now call new m source to.Server (to.Posted at) h = absurd h
@@ -221,29 +221,29 @@ took now call new m source to.ServerAck to.Absorbed e = Acked (ap log_of e) (ap 
 took now call new m source to.ServerAck (to.Posted at) h = absurd h
 took now call new m source to.ServerAck to.Full h = absurd h
 took now call new m source to.ServerCancel t (cancel, is, by) = cancelled now call new _ _ cancel _ t (m, source, refl, is, refl) by
-took now call new m source (to.Client n) t (leg, way, there, goes, h) = responded now call new n leg way m source t h
-took now call new m source (to.CancelClient n) to.Absorbed (leg, cancelling, there, is, e) = Beside (ap log_of e) (ap server_of e)
+took now call new m source (to.Client n) t (branch, destination, there, goes, h) = responded now call new n branch destination m source t h
+took now call new m source (to.CancelClient n) to.Absorbed (branch, cancelling, there, is, e) = Beside (ap log_of e) (ap server_of e)
 took now call new m source (to.CancelClient n) (to.Posted at) h = absurd h
 took now call new m source (to.CancelClient n) to.Full h = absurd h
 
 -- ---- a datagram that could not be sent
 
-faults : (now : ℕ) (call new : Call) (input : Input) (n : ℕ) (leg : Leg) (b : Bool) → FaultsBy call now n leg b new → Serves now call input step.Told new
-faults now call new input n leg true (reply, posts) = posted now call _ new input step.Told _ [] None reply refl refl tt posts
-faults now call new input n leg false e = Beside (ap log_of e) (ap server_of e)
+faults : (now : ℕ) (call new : Call) (input : Input) (n : ℕ) (branch : Branch) (b : Bool) → FaultsBy call now n branch b new → Serves now call input step.Told new
+faults now call new input n branch true (reply, posts) = posted now call _ new input step.Told _ [] None reply refl refl tt posts
+faults now call new input n branch false e = Beside (ap log_of e) (ap server_of e)
 
-faults_client : (now : ℕ) (call new : Call) (input : Input) (n : ℕ) (l : Option Leg) → FaultsClient call now n l new → Serves now call input step.Told new
+faults_client : (now : ℕ) (call new : Call) (input : Input) (n : ℕ) (l : Option Branch) → FaultsClient call now n l new → Serves now call input step.Told new
 faults_client now call new input n None e = Beside (ap log_of e) (ap server_of e)
-faults_client now call new input n (Some leg) h = faults now call new input n leg _ h
+faults_client now call new input n (Some branch) h = faults now call new input n branch _ h
 
-faults_cancel : (now : ℕ) (call new : Call) (input : Input) (n : ℕ) (l : Option Leg) → new ≡ cancel_faulted call now n l → Serves now call input step.Told new
+faults_cancel : (now : ℕ) (call new : Call) (input : Input) (n : ℕ) (l : Option Branch) → new ≡ cancel_faulted call now n l → Serves now call input step.Told new
 faults_cancel now call new input n None e = Beside (ap log_of e) (ap server_of e)
-faults_cancel now call new input n (Some leg) e = Beside (ap log_of e) (ap server_of e)
+faults_cancel now call new input n (Some branch) e = Beside (ap log_of e) (ap server_of e)
 
 failed : (now : ℕ) (call new : Call) (c : Cause) → Fails call now c new → Serves now call (step.Failed c) step.Told new
-failed now call new (cause.Request n) h = faults_client now call new _ n (leg_at call n) h
-failed now call new (cause.Ack n) h = faults_client now call new _ n (leg_at call n) h
-failed now call new (cause.Cancel n) e = faults_cancel now call new _ n (leg_at call n) e
+failed now call new (cause.Request n) h = faults_client now call new _ n (nth_branch call n) h
+failed now call new (cause.Ack n) h = faults_client now call new _ n (nth_branch call n) h
+failed now call new (cause.Cancel n) e = faults_cancel now call new _ n (nth_branch call n) e
 failed now call new cause.Answer e = Faulted refl (ap log_of e) (ap server_of e)
 failed now call new cause.CancelOk e = Beside (ap log_of e) (ap server_of e)
 

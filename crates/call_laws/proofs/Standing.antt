@@ -12,9 +12,9 @@ use Rattle.call_model.specs.Behind.{BegunKeepsAnswers, FirstsStayOrCome, StepsKe
 use Rattle.call_model.specs.Built.{answer_in}
 use Rattle.call_model.specs.Call.{Call, found}
 use Rattle.call_model.specs.Datagrams.{BegunIsBuilt, StepsKeepBuilt}
-use Rattle.call_model.specs.Fixed.{Fixed, Way, is_invite, kind_of}
-use Rattle.call_model.specs.Leg.{Leg}
-use Rattle.call_model.specs.Posting.{no_leg}
+use Rattle.call_model.specs.OpenedRequest.{OpenedRequest, Destination, is_invite, kind_of}
+use Rattle.call_model.specs.Branch.{Branch}
+use Rattle.call_model.specs.Posting.{no_branch}
 use Rattle.call_model.specs.Server.{Owed, first_owed, served_start}
 use Rattle.call_laws.specs.Finals.{Awaits, FinalsStand, MayBeOwed, finals_owed, has_failed, is_for_invite}
 use Rattle.call_laws.specs.Last.{IsUnsent}
@@ -24,19 +24,19 @@ use Rattle.call_laws.specs.Stages.{Stage}
 use Rattle.call_laws.proofs.Accepted.{KeepsAccepted}
 use Rattle.call_laws.proofs.Finals.{finals_step, owes_step}
 use Rattle.call_laws.proofs.Last.{last_step}
-use Rattle.call_laws.proofs.Legs.{parts}
+use Rattle.call_laws.proofs.Branches.{state}
 use Rattle.call_laws.proofs.Origins.{origins_step}
 use Rattle.call_laws.proofs.Paying.{paid_is}
 use Rattle.call_laws.proofs.Serving.{serves}
 
 -- ---- as it begins
 
-no_part : (rows : List Row) (n : ℕ) (leg : Leg) → found (slice_get (map no_leg rows) n) ≡ Some leg → ⊥
-no_part [] n leg e = absurd cc
-no_part (row ∷ rows) zero leg e = absurd cc
-no_part (row ∷ rows) (suc n) leg e = no_part rows n leg e
+no_part : (rows : List Row) (n : ℕ) (branch : Branch) → found (slice_get (map no_branch rows) n) ≡ Some branch → ⊥
+no_part [] n branch e = absurd cc
+no_part (row ∷ rows) zero branch e = absurd cc
+no_part (row ∷ rows) (suc n) branch e = no_part rows n branch e
 
-no_answer : (rows : List Row) (n : ℕ) (m : MessageText) → answer_in (found (slice_get (map no_leg rows) n)) ≡ Some m → ⊥
+no_answer : (rows : List Row) (n : ℕ) (m : MessageText) → answer_in (found (slice_get (map no_branch rows) n)) ≡ Some m → ⊥
 no_answer [] n m e = absurd cc
 no_answer (row ∷ rows) zero m e = absurd cc
 no_answer (row ∷ rows) (suc n) m e = no_answer rows n m e
@@ -65,54 +65,54 @@ first_unsent : (kind : Kind) → IsUnsent (served_start kind) (first_owed kind)
 first_unsent table.Invite = (refl, [], refl)
 first_unsent table.Other = (refl, tt)
 
-first_side : (fixed : Fixed) → is_for_invite (served_start (kind_of fixed)) ≡ is_invite fixed
-first_side fixed = by (is_invite fixed)
+first_side : (opened : OpenedRequest) → is_for_invite (served_start (kind_of opened)) ≡ is_invite opened
+first_side opened = by (is_invite opened)
   where
     by : (b : Bool) → is_for_invite (served_start (cond {A = Kind} b table.Invite table.Other)) ≡ b
     by true = refl
     by false = refl
 
 pub begun_stands : BegunIsBuilt → BegunKeepsAnswers → BegunStands
-begun_stands built answers fixed rules targets ways =
-    let log = opening_log (kind_of fixed) rules targets in
-    let call = begun fixed log ways in
+begun_stands built answers opened rules targets destinations =
+    let log = opening_log (kind_of opened) rules targets in
+    let call = begun opened log destinations in
     record {
-      built = built fixed log ways;
-      answers = answers fixed rules targets ways;
+      built = built opened log destinations;
+      answers = answers opened rules targets destinations;
       origins = record {
-        acks = λ n leg bytes there is. absurd (no_part _ n leg there);
-        okays = first_okays (kind_of fixed);
-        answers = λ n leg m there is. absurd (no_part _ n leg there);
-        posted = λ n stored has came first. let kept = answers fixed rules targets ways n stored has came first in absurd (no_answer _ n kept.0 kept.1);
+        acks = λ n branch bytes there is. absurd (no_part _ n branch there);
+        okays = first_okays (kind_of opened);
+        answers = λ n branch m there is. absurd (no_part _ n branch there);
+        posted = λ n stored has came first. let kept = answers opened rules targets destinations n stored has came first in absurd (no_answer _ n kept.0 kept.1);
       };
-      owed = first_responses call (kind_of fixed);
+      owed = first_responses call (kind_of opened);
       finals = record {
-        side = first_side fixed;
-        all = sym (first_finals (kind_of fixed));
-        waiting = λ none not_yet. first_waits (kind_of fixed);
+        side = first_side opened;
+        all = sym (first_finals (kind_of opened));
+        waiting = λ none not_yet. first_waits (kind_of opened);
         answered = λ some. absurd (some refl);
-        unfailed = λ none. first_unfailed (kind_of fixed);
+        unfailed = λ none. first_unfailed (kind_of opened);
       };
-      last = λ none. first_unsent (kind_of fixed);
+      last = λ none. first_unsent (kind_of opened);
     }
 
 -- no branch has accepted a 2xx
-pub none_accepted : (fixed : Fixed) (rules : Rules) (targets : List Target) (ways : List Way) → KeepsAccepted (begun fixed (opening_log (kind_of fixed) rules targets) ways)
-none_accepted fixed rules targets ways n leg there has = absurd (no_part _ n leg there)
+pub none_accepted : (opened : OpenedRequest) (rules : Rules) (targets : List Target) (destinations : List Destination) → KeepsAccepted (begun opened (opening_log (kind_of opened) rules targets) destinations)
+none_accepted opened rules targets destinations n branch there has = absurd (no_part _ n branch there)
 
 -- ---- after a step
 
 pub steps_stand : StepsKeepBuilt → StepsKeepAnswers → FirstsStayOrCome → BranchesGoOn → StepsStand
 steps_stand built answers firsts goes_on turns handed turn call new sound stands step =
     let stage : Stage = record { turn = turn; call = new } in
-    let p = parts turn.now call turn.input new turn.output step in
+    let p = state turn.now call turn.input new turn.output step in
     let s = serves turn.now call turn.input new turn.output step in
     let F : List Owed → Type 0 = λ os. FinalsStand (turns ++ turn ∷ []) (handed ++ finals_owed os) new in
     record {
       built = built turn call new stands.built step;
       answers = answers turn call new sound stands.answers step;
       origins = origins_step turns turn call new firsts sound step stands.origins;
-      owed = owes_step goes_on turns turn call new p.fixed s stands.owed;
-      finals = subst F (sym (paid_is turns call stage s)) (finals_step goes_on turns turn call new p.fixed handed s stands.owed stands.origins.answers stands.finals);
+      owed = owes_step goes_on turns turn call new p.opened s stands.owed;
+      finals = subst F (sym (paid_is turns call stage s)) (finals_step goes_on turns turn call new p.opened handed s stands.owed stands.origins.answers stands.finals);
       last = last_step turn.now call new turn.input turn.output s stands.last;
     }

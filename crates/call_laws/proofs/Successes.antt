@@ -4,7 +4,7 @@ use Rattle.std.specs.List.{AllByRecursion}
 use Rattle.fork_model.specs.Steps.{BranchesGoOn}
 use Rattle.sip_text.specs.Text.{MessageText}
 use Rattle.call_model.specs.Call.{Call}
-use Rattle.call_model.specs.Fixed.{Fixed, is_invite}
+use Rattle.call_model.specs.OpenedRequest.{OpenedRequest, is_invite}
 use Rattle.call_model.specs.Server as server
 use Rattle.call_model.specs.Server.{Owed}
 use Rattle.call_model.specs.Sound.{IsSound, StepsKeepSound}
@@ -15,7 +15,7 @@ use Rattle.call_laws.specs.Answers.{AreGiven, GivesPassed, IsPaidAs, IsPaidRight
 use Rattle.call_laws.specs.Stages.{Leads, Payment, Stage, end_of, owed_new, owed_of, owed_since, paid_at, paid_if, payments}
 use Rattle.call_laws.specs.Successes.{GivesSuccess, GoesUp, PostsSuccess}
 use Rattle.call_laws.proofs.Accepted.{KeepsAccepted, accepted_step, success_owed}
-use Rattle.call_laws.proofs.Legs.{parts}
+use Rattle.call_laws.proofs.Branches.{state}
 use Rattle.call_laws.proofs.Paying.{grows_new}
 
 -- ---- lists
@@ -53,7 +53,7 @@ owed_split (x ∷ before) stage later call =
     ∙ sym (append_assoc (owed_new call x) (owed_since x.call before) (owed_new (end_of x.call before) stage ++ owed_since stage.call later))
 
 -- each payment of a run is made by a call that was opened with the same
-paid_fixed : (b : Bool) (turns : List Turn) (call : Call) (owed : List Owed) (output : Output) → AllByRecursion (λ (p : Payment). p.call.fixed ≡ call.fixed) (paid_if b turns call owed output)
+paid_fixed : (b : Bool) (turns : List Turn) (call : Call) (owed : List Owed) (output : Output) → AllByRecursion (λ (p : Payment). p.call.opened ≡ call.opened) (paid_if b turns call owed output)
 paid_fixed true turns call [] output = tt
 paid_fixed true turns call (o ∷ owed) output = (refl, tt)
 paid_fixed false turns call owed output = tt
@@ -62,20 +62,20 @@ all_both : (P : Payment → Type 0) (xs ys : List Payment) → AllByRecursion P 
 all_both P [] ys h k = k
 all_both P (x ∷ xs) ys h k = (h.0, all_both P xs ys h.1 k)
 
-payments_fixed : (stages : List Stage) (turns : List Turn) (call : Call) → Leads call stages → AllByRecursion (λ (p : Payment). p.call.fixed ≡ call.fixed) (payments turns call stages)
+payments_fixed : (stages : List Stage) (turns : List Turn) (call : Call) → Leads call stages → AllByRecursion (λ (p : Payment). p.call.opened ≡ call.opened) (payments turns call stages)
 payments_fixed [] turns call leads = tt
 payments_fixed (stage ∷ stages) turns call leads =
-    let same = (parts stage.turn.now call stage.turn.input stage.call stage.turn.output leads.0).fixed in
+    let same = (state stage.turn.now call stage.turn.input stage.call stage.turn.output leads.0).opened in
     let later = payments_fixed stages (turns ++ stage.turn ∷ []) stage.call leads.1 in
-    let P : Fixed → Type 0 = λ f. AllByRecursion (λ (p : Payment). p.call.fixed ≡ f) (payments (turns ++ stage.turn ∷ []) stage.call stages) in
-    all_both (λ (p : Payment). p.call.fixed ≡ call.fixed) (paid_at turns call stage) (payments (turns ++ stage.turn ∷ []) stage.call stages)
+    let P : OpenedRequest → Type 0 = λ f. AllByRecursion (λ (p : Payment). p.call.opened ≡ f) (payments (turns ++ stage.turn ∷ []) stage.call stages) in
+    all_both (λ (p : Payment). p.call.opened ≡ call.opened) (paid_at turns call stage) (payments (turns ++ stage.turn ∷ []) stage.call stages)
     (paid_fixed (nat_lt (length stage.call.server.owed) (length call.server.owed)) turns call call.server.owed stage.turn.output) (subst P same later)
 
 -- what holds of each call of a run for an INVITE
 pub record Stands (call : Call) : Type 0 where
   pub sound : IsSound call
   pub accepted : KeepsAccepted call
-  pub invited : is_invite call.fixed ≡ true
+  pub invited : is_invite call.opened ≡ true
 
 module _ (sound_steps : StepsKeepSound) (goes_on : BranchesGoOn) where
   stands_at : (stages : List Stage) (call : Call) → Stands call → AreGiven stages → Leads call stages → Stands (end_of call stages)
@@ -84,7 +84,7 @@ module _ (sound_steps : StepsKeepSound) (goes_on : BranchesGoOn) where
       stands_at stages x.call (record {
         sound = sound_steps x.turn call x.call stands.sound given.0 leads.0;
         accepted = accepted_step goes_on x.turn.now call x.call x.turn.input x.turn.output stands.sound leads.0 stands.accepted;
-        invited = ap is_invite (parts x.turn.now call x.turn.input x.call x.turn.output leads.0).fixed ∙ stands.invited;
+        invited = ap is_invite (state x.turn.now call x.turn.input x.call x.turn.output leads.0).opened ∙ stands.invited;
       }) given.1 leads.1
 
   -- a stage that posts a 2xx
@@ -102,12 +102,12 @@ module _ (sound_steps : StepsKeepSound) (goes_on : BranchesGoOn) where
     paid = λ none.
         let found = map_there paid place (server.Passed m) (ap (λ (os : List Owed). slice_get os place) (sym (all_paid none)) ∙ placed) in
         let right : IsPaidRight found.0 = each_there IsPaidRight paid place found.0 pays.each found.1 in
-        let fixed : found.0.call.fixed ≡ call.fixed = each_there (λ (p : Payment). p.call.fixed ≡ call.fixed) paid place found.0 (payments_fixed (before ++ stage ∷ later) [] call leads) found.1 in
+        let opened : found.0.call.opened ≡ call.opened = each_there (λ (p : Payment). p.call.opened ≡ call.opened) paid place found.0 (payments_fixed (before ++ stage ∷ later) [] call leads) found.1 in
         let P : Owed → Type 0 = λ o. IsPaidAs found.0 o in
-        (found.0, found.1, found.2, given_so found.0 (ap is_invite fixed ∙ stands.invited) (subst P found.2 right));
+        (found.0, found.1, found.2, given_so found.0 (ap is_invite opened ∙ stands.invited) (subst P found.2 right));
   }
     where
-      given_so : (p : Payment) → is_invite p.call.fixed ≡ true → GivesPassed p m → GivesSuccess p m
+      given_so : (p : Payment) → is_invite p.call.opened ≡ true → GivesPassed p m → GivesSuccess p m
       given_so p invited (inl sent) = inl sent
       given_so p invited (inr (dropped, none, ended)) = inr (dropped, ended invited posts.3)
 

@@ -16,7 +16,7 @@ use Rattle.sip_txn.specs.Machine.{row_machine, row_out}
 use Rattle.sip_txn.specs.Timers.{input_of, is_due, moment_of}
 use Rattle.sip_txn.specs.InviteServer.{invite_server}
 use Rattle.sip_txn.specs.OtherServer.{other_server}
-use Rattle.call_model.specs.Server.{Served, InviteServer, OtherServer, answer_event, is_over, served_after, served_out}
+use Rattle.call_model.specs.Server.{ServerTransaction, InviteServer, OtherServer, answer_event, is_over, served_after, served_out}
 use Rattle.call_model.specs.Step.{Turn}
 use Rattle.call_model.specs.Take.{is_response}
 use Rattle.call_laws.specs.Finals.{Awaits, CouldNotSend, has_failed, invite_failed, invite_takes, invite_waits, is_for_invite, is_success, other_waits, takes, waits}
@@ -109,10 +109,10 @@ other_fails other.Terminated = refl
 -- ---- both
 
 abbrev pub Goes : TxEvent → Type 0
-Goes ev = (turns : List Turn) (now : ℕ) (machine : Served) → Awaits turns machine → Awaits turns (served_after ev now machine)
+Goes ev = (turns : List Turn) (now : ℕ) (machine : ServerTransaction) → Awaits turns machine → Awaits turns (served_after ev now machine)
 
 abbrev pub HasGone : TxEvent → Type 0
-HasGone ev = (now : ℕ) (machine : Served) → waits machine ≡ false → waits (served_after ev now machine) ≡ false
+HasGone ev = (now : ℕ) (machine : ServerTransaction) → waits machine ≡ false → waits (served_after ev now machine) ≡ false
 
 pub request_goes : Goes event.Request
 request_goes turns now (InviteServer m) e =
@@ -145,13 +145,13 @@ tick_goes turns now (OtherServer m) (inl e) =
 tick_goes turns now (OtherServer m) (inr failed) = inr failed
 
 -- an answer that could not be sent may end the transaction of a request other than INVITE
-pub error_goes : (turns : List Turn) (now : ℕ) (machine : Served) → CouldNotSend turns → Awaits turns machine → Awaits turns (served_after event.TransportError now machine)
+pub error_goes : (turns : List Turn) (now : ℕ) (machine : ServerTransaction) → CouldNotSend turns → Awaits turns machine → Awaits turns (served_after event.TransportError now machine)
 error_goes turns now (InviteServer m) failed e =
     ap invite_waits (state_after (invite_server m.state (input.Event event.TransportError)) now m) ∙ invite_goes_on (input.Event event.TransportError) refl m.state e
 error_goes turns now (OtherServer m) failed e = inr failed
 
 -- the transaction stays that of an INVITE, or of another request
-pub same_side : (ev : TxEvent) (now : ℕ) (machine : Served) → is_for_invite (served_after ev now machine) ≡ is_for_invite machine
+pub same_side : (ev : TxEvent) (now : ℕ) (machine : ServerTransaction) → is_for_invite (served_after ev now machine) ≡ is_for_invite machine
 same_side ev now (InviteServer m) = refl
 same_side ev now (OtherServer m) = refl
 
@@ -199,26 +199,26 @@ success_gone now (OtherServer m) e =
 -- ---- by the status of an answer
 
 -- a provisional answer leaves it waiting
-pub provisional_waits : (turns : List Turn) (status now : ℕ) (machine : Served) → nat_lt status 200 ≡ true → Awaits turns machine
+pub provisional_waits : (turns : List Turn) (status now : ℕ) (machine : ServerTransaction) → nat_lt status 200 ≡ true → Awaits turns machine
     → Awaits turns (served_after (answer_event status) now machine)
 provisional_waits turns status now machine is e =
     let P : TxEvent → Type 0 = λ ev. Awaits turns (served_after ev now machine) in
     subst P (sym (cond-true _ _ _ is)) (provisional_goes turns now machine e)
 
 -- a failure ends the waiting
-failed_waits : (now : ℕ) (machine : Served) → waits (served_after event.AnswerFailure now machine) ≡ false
+failed_waits : (now : ℕ) (machine : ServerTransaction) → waits (served_after event.AnswerFailure now machine) ≡ false
 failed_waits now (InviteServer m) = ap invite_waits (state_after (invite_server m.state (input.Event event.AnswerFailure)) now m) ∙ invite_fails m.state
 failed_waits now (OtherServer m) = ap other_waits (state_after (other_server m.state (input.Event event.AnswerFailure)) now m) ∙ other_fails m.state
 
 failure_event : (status : ℕ) → nat_lt status 200 ≡ false → nat_lt status 300 ≡ false → answer_event status ≡ event.AnswerFailure
 failure_event status a b = cond-false _ _ _ a ∙ cond-false _ _ _ b
 
-pub failure_waits : (status now : ℕ) (machine : Served) → nat_lt status 200 ≡ false → nat_lt status 300 ≡ false
+pub failure_waits : (status now : ℕ) (machine : ServerTransaction) → nat_lt status 200 ≡ false → nat_lt status 300 ≡ false
     → waits (served_after (answer_event status) now machine) ≡ false
 failure_waits status now machine a b = ap (λ (ev : TxEvent). waits (served_after ev now machine)) (failure_event status a b) ∙ failed_waits now machine
 
 -- no answer makes it wait again
-pub answered_waits : (status now : ℕ) (machine : Served) → waits machine ≡ false → waits (served_after (answer_event status) now machine) ≡ false
+pub answered_waits : (status now : ℕ) (machine : ServerTransaction) → waits machine ≡ false → waits (served_after (answer_event status) now machine) ≡ false
 answered_waits status now machine e = by (nat_lt status 200) (nat_lt status 300) refl refl
   where
     by : (a b : Bool) → nat_lt status 200 ≡ a → nat_lt status 300 ≡ b → waits (served_after (answer_event status) now machine) ≡ false
@@ -227,7 +227,7 @@ answered_waits status now machine e = by (nat_lt status 200) (nat_lt status 300)
     by false false is also = failure_waits status now machine is also
 
 -- one that waits sends a failure
-sends_failure : (now : ℕ) (machine : Served) → waits machine ≡ true → is_response (served_out event.AnswerFailure now machine).send ≡ true
+sends_failure : (now : ℕ) (machine : ServerTransaction) → waits machine ≡ true → is_response (served_out event.AnswerFailure now machine).send ≡ true
 sends_failure now (InviteServer m) e = by m.state e
   where
     by : (s : InviteServerState) → invite_waits s ≡ true → is_response ((row_out (invite_server s (input.Event event.AnswerFailure))).send) ≡ true
@@ -244,14 +244,14 @@ sends_failure now (OtherServer m) e = by m.state e
     by other.Completed e = absurd cc
     by other.Terminated e = absurd cc
 
-pub failure_sent : (status now : ℕ) (machine : Served) → nat_lt status 200 ≡ false → nat_lt status 300 ≡ false → waits machine ≡ true
+pub failure_sent : (status now : ℕ) (machine : ServerTransaction) → nat_lt status 200 ≡ false → nat_lt status 300 ≡ false → waits machine ≡ true
     → is_response (served_out (answer_event status) now machine).send ≡ true
 failure_sent status now machine a b e =
     ap (λ (ev : TxEvent). is_response (served_out ev now machine).send) (failure_event status a b) ∙ sends_failure now machine e
 
 -- ---- what it takes, it sends
 
-takes_provisional : (now : ℕ) (machine : Served) → waits machine ≡ true → is_response (served_out event.AnswerProvisional now machine).send ≡ true
+takes_provisional : (now : ℕ) (machine : ServerTransaction) → waits machine ≡ true → is_response (served_out event.AnswerProvisional now machine).send ≡ true
 takes_provisional now (InviteServer m) e = by m.state e
   where
     by : (s : InviteServerState) → invite_waits s ≡ true → is_response ((row_out (invite_server s (input.Event event.AnswerProvisional))).send) ≡ true
@@ -268,11 +268,11 @@ takes_provisional now (OtherServer m) e = by m.state e
     by other.Completed e = absurd cc
     by other.Terminated e = absurd cc
 
-abbrev pub takes_by : Served → (success : Bool) → Bool
+abbrev pub takes_by : ServerTransaction → (success : Bool) → Bool
 takes_by (InviteServer m) success = invite_takes m.state success
 takes_by (OtherServer m) success = other_waits m.state
 
-takes_success : (now : ℕ) (machine : Served) → takes_by machine true ≡ true → is_response (served_out event.AnswerSuccess now machine).send ≡ true
+takes_success : (now : ℕ) (machine : ServerTransaction) → takes_by machine true ≡ true → is_response (served_out event.AnswerSuccess now machine).send ≡ true
 takes_success now (InviteServer m) e = by m.state e
   where
     by : (s : InviteServerState) → invite_takes s true ≡ true → is_response ((row_out (invite_server s (input.Event event.AnswerSuccess))).send) ≡ true
@@ -289,7 +289,7 @@ takes_success now (OtherServer m) e = by m.state e
     by other.Completed e = absurd cc
     by other.Terminated e = absurd cc
 
-waits_by : (machine : Served) → takes_by machine false ≡ true → waits machine ≡ true
+waits_by : (machine : ServerTransaction) → takes_by machine false ≡ true → waits machine ≡ true
 waits_by (InviteServer m) e = by m.state e
   where
     by : (s : InviteServerState) → invite_takes s false ≡ true → invite_waits s ≡ true
@@ -300,11 +300,11 @@ waits_by (InviteServer m) e = by m.state e
     by invite.Terminated e = absurd cc
 waits_by (OtherServer m) e = e
 
-takes_is : (machine : Served) (status : ℕ) (b : Bool) → is_success status ≡ b → takes machine status ≡ takes_by machine b
+takes_is : (machine : ServerTransaction) (status : ℕ) (b : Bool) → is_success status ≡ b → takes machine status ≡ takes_by machine b
 takes_is (InviteServer m) status b e = ap (invite_takes m.state) e
 takes_is (OtherServer m) status b e = refl
 
-takes_sent : (status now : ℕ) (machine : Served) → takes machine status ≡ true → is_response (served_out (answer_event status) now machine).send ≡ true
+takes_sent : (status now : ℕ) (machine : ServerTransaction) → takes machine status ≡ true → is_response (served_out (answer_event status) now machine).send ≡ true
 takes_sent status now machine e = by (nat_lt status 200) (nat_lt status 300) refl refl
   where
     by : (a b : Bool) → nat_lt status 200 ≡ a → nat_lt status 300 ≡ b → is_response (served_out (answer_event status) now machine).send ≡ true
@@ -323,7 +323,7 @@ takes_sent status now machine e = by (nat_lt status 200) (nat_lt status 300) ref
         failure_sent status now machine is also w
 
 -- so what is dropped it does not take
-pub dropped_takes : (status now : ℕ) (machine : Served) → is_response (served_out (answer_event status) now machine).send ≡ false → takes machine status ≡ false
+pub dropped_takes : (status now : ℕ) (machine : ServerTransaction) → is_response (served_out (answer_event status) now machine).send ≡ false → takes machine status ≡ false
 dropped_takes status now machine drops = false_from_ne_true (takes machine status) (λ e. absurd (let h : true ≡ false = sym (takes_sent status now machine e) ∙ drops in cc))
 
 -- ---- no failure was handed to that of an INVITE
@@ -344,7 +344,7 @@ ticked_unfailed s false true e = invite_unfailed input.RepeatDue refl refl refl 
 ticked_unfailed s false false e = invite_unfailed input.NothingDue refl refl refl s e
 
 abbrev pub NoneFails : TxEvent → Type 0
-NoneFails ev = (now : ℕ) (machine : Served) → has_failed machine ≡ false → has_failed (served_after ev now machine) ≡ false
+NoneFails ev = (now : ℕ) (machine : ServerTransaction) → has_failed machine ≡ false → has_failed (served_after ev now machine) ≡ false
 
 pub request_unfailed : NoneFails event.Request
 request_unfailed now (InviteServer m) e =
@@ -381,7 +381,7 @@ success_unfailed now (InviteServer m) e =
 success_unfailed now (OtherServer m) e = refl
 
 -- by an answer that is no failure
-pub answered_unfailed : (status now : ℕ) (machine : Served) → nat_lt status 300 ≡ true → has_failed machine ≡ false
+pub answered_unfailed : (status now : ℕ) (machine : ServerTransaction) → nat_lt status 300 ≡ true → has_failed machine ≡ false
     → has_failed (served_after (answer_event status) now machine) ≡ false
 answered_unfailed status now machine small e = by (nat_lt status 200) refl
   where
@@ -393,7 +393,7 @@ answered_unfailed status now machine small e = by (nat_lt status 200) refl
     by false is = subst P (sym (cond-false _ _ _ is ∙ cond-true _ _ _ small)) (success_unfailed now machine e)
 
 -- one that had none, and takes no 2xx, has ended
-pub has_ended : (machine : Served) (status : ℕ) → is_for_invite machine ≡ true → is_success status ≡ true → takes machine status ≡ false → has_failed machine ≡ false
+pub has_ended : (machine : ServerTransaction) (status : ℕ) → is_for_invite machine ≡ true → is_success status ≡ true → takes machine status ≡ false → has_failed machine ≡ false
     → is_over machine
 has_ended (InviteServer m) status side success e none = by m.state (sym (ap (invite_takes m.state) success) ∙ e) none
   where

@@ -17,7 +17,7 @@ use Rattle.call_model.specs.declared.cause.Cause.TheVariants as cause
 use Rattle.call_model.specs.Begun.{begun}
 use Rattle.call_model.specs.Built.{generated, kept_of, status_of}
 use Rattle.call_model.specs.Call.{Call, rows_of}
-use Rattle.call_model.specs.Fixed.{Fixed, Way, is_invite, kind_of}
+use Rattle.call_model.specs.OpenedRequest.{OpenedRequest, Destination, is_invite, kind_of}
 use Rattle.call_model.specs.Pump.{Send}
 use Rattle.call_model.specs.Pump as pump
 use Rattle.call_model.specs.Response.{event_by}
@@ -39,21 +39,21 @@ IsBestAnswer turns call n stored answer =
     ((stored.received ≡ true)
     × (response : MessageText)
     × CamePosted turns n stored.arrival response
-    × (slice_get (events_of call.log.history) stored.arrival ≡ Some (event_by call.fixed.is_responsible n (status_of response) response))
+    × (slice_get (events_of call.log.history) stored.arrival ≡ Some (event_by call.opened.is_responsible n (status_of response) response))
     × (answer ≡ upward_of response (kept_of stored) (challenge_list (rows_of call) (Best n))))
-    ⊎ ((stored.received ≡ false) × (answer ≡ generated call.fixed own.RequestTimeout))
+    ⊎ ((stored.received ≡ false) × (answer ≡ generated call.opened own.RequestTimeout))
 
 -- by the choice of the fork
 abbrev pub IsFinalAnswer : List Turn → Call → Choice → MessageText → Type 0
 IsFinalAnswer turns call (Best n) answer = (stored : StoredAnswer) × HasStored (table_of call.log) n stored × IsBestAnswer turns call n stored answer
-IsFinalAnswer turns call (Only503 n) answer = answer ≡ generated call.fixed own.ServerInternalError
-IsFinalAnswer turns call NoAnswer408 answer = answer ≡ generated call.fixed own.RequestTimeout
+IsFinalAnswer turns call (Only503 n) answer = answer ≡ generated call.opened own.ServerInternalError
+IsFinalAnswer turns call NoAnswer408 answer = answer ≡ generated call.opened own.RequestTimeout
 
 -- ---- what is paid
 
 -- the turn sends this answer to the caller
 abbrev pub Sends : Payment → MessageText → Type 0
-Sends payment answer = payment.output ≡ Did (Send (record { to = payment.call.fixed.caller; bytes = spelling answer; cause = cause.Answer }))
+Sends payment answer = payment.output ≡ Did (Send (record { to = payment.call.opened.caller; bytes = spelling answer; cause = cause.Answer }))
 
 -- or nothing is sent
 abbrev pub Drops : Payment → Type 0
@@ -71,23 +71,23 @@ GivesPassed payment response =
     Sends payment (upward_of response None [])
     ⊎ (Drops payment
     × (takes payment.call.server.machine (status_of response) ≡ false)
-    × (is_invite payment.call.fixed ≡ true → is_success (status_of response) ≡ true → is_over payment.call.server.machine))
+    × (is_invite payment.call.opened ≡ true → is_success (status_of response) ≡ true → is_over payment.call.server.machine))
 
 -- the final answer is sent; that to a request other than INVITE is dropped where an answer before it could not be sent
 abbrev pub GivesFinal : Payment → Choice → Type 0
 GivesFinal payment choice =
     (answer : MessageText)
     × IsFinalAnswer payment.before payment.call choice answer
-    × (Sends payment answer ⊎ (Drops payment × (is_invite payment.call.fixed ≡ false) × CouldNotSend payment.before))
+    × (Sends payment answer ⊎ (Drops payment × (is_invite payment.call.opened ≡ false) × CouldNotSend payment.before))
 
 -- what was owed first is paid so: a 100 is the generated one, a response of a branch goes up as it came; the last answer again is
 -- what was sent last; the 200 to a CANCEL is made of that CANCEL as it was marked, and goes where that is answered
 abbrev pub IsPaidAs : Payment → Owed → Type 0
-IsPaidAs payment server.Trying = Gives payment (generated payment.call.fixed own.Trying)
+IsPaidAs payment server.Trying = Gives payment (generated payment.call.opened own.Trying)
 IsPaidAs payment (server.Passed response) = GivesPassed payment response
 IsPaidAs payment (server.Final choice) = GivesFinal payment choice
 IsPaidAs payment server.Again =
-    payment.output ≡ Did (Send (record { to = payment.call.fixed.caller; bytes = payment.call.server.last; cause = cause.Answer }))
+    payment.output ≡ Did (Send (record { to = payment.call.opened.caller; bytes = payment.call.server.last; cause = cause.Answer }))
 IsPaidAs payment (server.CancelOk cancel to) =
     CameCancel payment.before cancel to
     × (payment.output ≡ Did (Send (record { to = to; bytes = spelling (generated_of cancel own.Okay); cause = cause.CancelOk })))
@@ -101,8 +101,8 @@ IsPaidRight payment = IsPaidAs payment payment.owed
 abbrev pub AreGiven : List Stage → Type 0
 AreGiven stages = AllByRecursion (λ (stage : Stage). IsGiven stage.turn.input) stages
 
-abbrev pub Begins : Fixed → Rules → List Target → List Way → Call
-Begins fixed rules targets ways = begun fixed (opening_log (kind_of fixed) rules targets) ways
+abbrev pub Begins : OpenedRequest → Rules → List Target → List Destination → Call
+Begins opened rules targets destinations = begun opened (opening_log (kind_of opened) rules targets) destinations
 
 -- what came to be owed is paid once, in the order in which it came to be owed, or is still owed; and each payment is right
 pub record PaysInOrder (call : Call) (stages : List Stage) : Type 0 where
@@ -111,8 +111,8 @@ pub record PaysInOrder (call : Call) (stages : List Stage) : Type 0 where
 
 abbrev pub CallsPayInOrder : Type 0
 CallsPayInOrder =
-    (fixed : Fixed) (rules : Rules) (targets : List Target) (ways : List Way) (stages : List Stage) → targets ≢ [] → AreGiven stages
-    → Leads (Begins fixed rules targets ways) stages → PaysInOrder (Begins fixed rules targets ways) stages
+    (opened : OpenedRequest) (rules : Rules) (targets : List Target) (destinations : List Destination) (stages : List Stage) → targets ≢ [] → AreGiven stages
+    → Leads (Begins opened rules targets destinations) stages → PaysInOrder (Begins opened rules targets destinations) stages
 
 abbrev pub is_final : Owed → Bool
 is_final server.Trying = false
@@ -136,9 +136,9 @@ pub record AnswersOnce (call : Call) (stages : List Stage) : Type 0 where
 -- once every branch has ended and none with a 2xx, and nothing is owed any more
 abbrev pub OneFinalAnswerGoesUp : Type 0
 OneFinalAnswerGoesUp =
-    (fixed : Fixed) (rules : Rules) (targets : List Target) (ways : List Way) (stages : List Stage) → targets ≢ [] → AreGiven stages
-    → Leads (Begins fixed rules targets ways) stages
-    → is_finished (rows_of (end_of (Begins fixed rules targets ways) stages)) ≡ true
-    → is_succeeded (rows_of (end_of (Begins fixed rules targets ways) stages)) ≡ false
-    → (end_of (Begins fixed rules targets ways) stages).server.owed ≡ []
-    → AnswersOnce (Begins fixed rules targets ways) stages
+    (opened : OpenedRequest) (rules : Rules) (targets : List Target) (destinations : List Destination) (stages : List Stage) → targets ≢ [] → AreGiven stages
+    → Leads (Begins opened rules targets destinations) stages
+    → is_finished (rows_of (end_of (Begins opened rules targets destinations) stages)) ≡ true
+    → is_succeeded (rows_of (end_of (Begins opened rules targets destinations) stages)) ≡ false
+    → (end_of (Begins opened rules targets destinations) stages).server.owed ≡ []
+    → AnswersOnce (Begins opened rules targets destinations) stages

@@ -12,8 +12,8 @@ use Rattle.sip_txn.specs.declared.other_server.OtherServerState.TheVariants as o
 use Rattle.call_model.specs.declared.cause.Cause.TheVariants as cause
 use Rattle.call_model.specs.Built.{status_of}
 use Rattle.call_model.specs.Call.{Call, rows_of}
-use Rattle.call_model.specs.Fixed.{is_invite}
-use Rattle.call_model.specs.Server.{Owed, Trying, Passed, Final, Again, CancelOk, Served, InviteServer, OtherServer}
+use Rattle.call_model.specs.OpenedRequest.{is_invite}
+use Rattle.call_model.specs.Server.{Owed, Trying, Passed, Final, Again, CancelOk, ServerTransaction, InviteServer, OtherServer}
 use Rattle.call_model.specs.Step.{Failed, Turn}
 use Rattle.call_laws.specs.Came.{IsTurnOf}
 
@@ -33,7 +33,7 @@ other_waits other.Proceeding = true
 other_waits other.Completed = false
 other_waits other.Terminated = false
 
-abbrev pub waits : Served → Bool
+abbrev pub waits : ServerTransaction → Bool
 waits (InviteServer m) = invite_waits m.state
 waits (OtherServer m) = other_waits m.state
 
@@ -48,7 +48,7 @@ invite_takes invite.Confirmed success = false
 invite_takes invite.Accepted success = success
 invite_takes invite.Terminated success = false
 
-abbrev pub takes : Served → (status : ℕ) → Bool
+abbrev pub takes : ServerTransaction → (status : ℕ) → Bool
 takes (InviteServer m) status = invite_takes m.state (is_success status)
 takes (OtherServer m) status = other_waits m.state
 
@@ -60,7 +60,7 @@ invite_failed invite.Confirmed = true
 invite_failed invite.Accepted = false
 invite_failed invite.Terminated = false
 
-abbrev pub has_failed : Served → Bool
+abbrev pub has_failed : ServerTransaction → Bool
 has_failed (InviteServer m) = invite_failed m.state
 has_failed (OtherServer m) = false
 
@@ -69,12 +69,12 @@ abbrev pub CouldNotSend : List Turn → Type 0
 CouldNotSend turns = (turn : Turn) × IsTurnOf turns turn × (turn.input ≡ Failed cause.Answer)
 
 -- it waits; that of a request other than INVITE may have ended where a provisional answer could not be sent (section 17.2.4)
-abbrev pub Awaits : List Turn → Served → Type 0
+abbrev pub Awaits : List Turn → ServerTransaction → Type 0
 Awaits turns (InviteServer m) = invite_waits m.state ≡ true
 Awaits turns (OtherServer m) = (other_waits m.state ≡ true) ⊎ CouldNotSend turns
 
 -- whose it is
-abbrev pub is_for_invite : Served → Bool
+abbrev pub is_for_invite : ServerTransaction → Bool
 is_for_invite (InviteServer m) = true
 is_for_invite (OtherServer m) = false
 
@@ -92,7 +92,7 @@ finals_owed (CancelOk cancel to ∷ rest) = finals_owed rest
 -- order; until one was handed, and where no branch was answered with a 2xx, the transaction waits for it, and from then on no
 -- more; that of an INVITE has had no failure before
 pub record FinalsStand (turns : List Turn) (handed : List Choice) (call : Call) : Type 0 where
-  pub side : is_for_invite call.server.machine ≡ is_invite call.fixed
+  pub side : is_for_invite call.server.machine ≡ is_invite call.opened
   pub all : finals call.log.replies ≡ handed ++ finals_owed call.server.owed
   pub waiting : handed ≡ [] → is_succeeded (rows_of call) ≡ false → Awaits turns call.server.machine
   pub answered : (handed ≡ [] → ⊥) → waits call.server.machine ≡ false

@@ -4,7 +4,7 @@ use Rattle.std.specs.List.{AllByRecursion}
 use Rattle.sip_txn.specs.declared.invite_server.InviteServerState.TheVariants as invite
 use Rattle.sip_txn.specs.declared.other_server.OtherServerState.TheVariants as other
 use Rattle.call_model.specs.Call.{Call}
-use Rattle.call_model.specs.Server.{Owed, Trying, Passed, Final, Again, CancelOk, Served, InviteServer, OtherServer}
+use Rattle.call_model.specs.Server.{Owed, Trying, Passed, Final, Again, CancelOk, ServerTransaction, InviteServer, OtherServer}
 
 abbrev pub is_again : Owed → Bool
 is_again Trying = false
@@ -15,7 +15,7 @@ is_again (CancelOk cancel to) = false
 
 -- the transaction and what is owed before anything was sent to the caller: the 100 to an INVITE is owed first; of an answer to
 -- another request nothing is owed again
-abbrev pub IsUnsent : Served → List Owed → Type 0
+abbrev pub IsUnsent : ServerTransaction → List Owed → Type 0
 IsUnsent (InviteServer m) owed = (m.state ≡ invite.Proceeding) × (rest : List Owed) × (owed ≡ Trying ∷ rest)
 IsUnsent (OtherServer m) owed = (m.state ≡ other.Trying) × AllByRecursion (λ (o : Owed). is_again o ≡ false) owed
 

@@ -8,9 +8,9 @@ use Rattle.fork_model.specs.Sources.{HasStored}
 use Rattle.fork_model.specs.Table.{StoredAnswer}
 use Rattle.sip_text.specs.Text.{MessageText, spelling}
 use Rattle.call_model.specs.Built.{ack_to, answer_in, status_of}
-use Rattle.call_model.specs.Call.{Call, leg_at}
-use Rattle.call_model.specs.Fixed.{Way}
-use Rattle.call_model.specs.Leg.{Leg}
+use Rattle.call_model.specs.Call.{Call, nth_branch}
+use Rattle.call_model.specs.OpenedRequest.{Destination}
+use Rattle.call_model.specs.Branch.{Branch}
 use Rattle.call_model.specs.Server as server
 use Rattle.call_model.specs.Step.{Turn}
 use Rattle.call_laws.specs.Came.{Came, CameCancel, CamePosted}
@@ -23,12 +23,12 @@ AnswersFailure turns call n bytes =
     (m : MessageText)
     × Came turns n m
     × (nat_lt (status_of m) 300 ≡ false)
-    × (way : Way)
-    × (slice_get call.ways n ≡ Some way)
-    × (bytes ≡ spelling (ack_to call.fixed way n m))
+    × (destination : Destination)
+    × (slice_get call.destinations n ≡ Some destination)
+    × (bytes ≡ spelling (ack_to call.opened destination n m))
 
 abbrev pub OwesAcks : List Turn → Call → Type 0
-OwesAcks turns call = (n : ℕ) (leg : Leg) (bytes : List ℕ) → leg_at call n ≡ Some leg → leg.ack ≡ Some bytes → AnswersFailure turns call n bytes
+OwesAcks turns call = (n : ℕ) (branch : Branch) (bytes : List ℕ) → nth_branch call n ≡ Some branch → branch.ack ≡ Some bytes → AnswersFailure turns call n bytes
 
 -- each 200 that is owed to a CANCEL is owed to one that came
 abbrev pub IsOkayOf : List Turn → server.Owed → Type 0
@@ -44,13 +44,13 @@ OwesOkays turns call = AllByRecursion (IsOkayOf turns) call.server.owed
 -- each failure that a branch keeps, to go up as the final answer, came to that branch
 abbrev pub KeepsWhatCame : List Turn → Call → Type 0
 KeepsWhatCame turns call =
-    (n : ℕ) (leg : Leg) (m : MessageText) → leg_at call n ≡ Some leg → leg.answer ≡ Some m → Came turns n m × (nat_lt (status_of m) 300 ≡ false)
+    (n : ℕ) (branch : Branch) (m : MessageText) → nth_branch call n ≡ Some branch → branch.answer ≡ Some m → Came turns n m × (nat_lt (status_of m) 300 ≡ false)
 
 -- and that of the branch with the best stored answer, where that came, was posted at the arrival of this answer
 abbrev pub KeepsPosted : List Turn → Call → Type 0
 KeepsPosted turns call =
     (n : ℕ) (stored : StoredAnswer) → HasStored (table_of call.log) n stored → stored.received ≡ true → HasFirst (table_of call.log) n
-    → (m : MessageText) × (answer_in (leg_at call n) ≡ Some m) × CamePosted turns n stored.arrival m
+    → (m : MessageText) × (answer_in (nth_branch call n) ≡ Some m) × CamePosted turns n stored.arrival m
 
 -- all of them
 pub record ComesFrom (turns : List Turn) (call : Call) : Type 0 where

@@ -9,7 +9,7 @@ use Rattle.call_model.specs.Begun.{begun}
 use Rattle.call_model.specs.Behind.{KeepsAnswers}
 use Rattle.call_model.specs.Call.{Call}
 use Rattle.call_model.specs.Datagrams.{IsBuilt}
-use Rattle.call_model.specs.Fixed.{Fixed, Way, kind_of}
+use Rattle.call_model.specs.OpenedRequest.{OpenedRequest, Destination, kind_of}
 use Rattle.call_model.specs.Sound.{IsSound}
 use Rattle.call_model.specs.Step.{Turn, Step}
 use Rattle.call_laws.specs.Finals.{FinalsStand, OwesResponses, finals_owed}
@@ -43,8 +43,8 @@ finals_paid payments = finals_owed (map owed_of payments)
 -- so a call begins to these targets
 abbrev pub BegunStands : Type 0
 BegunStands =
-    (fixed : Fixed) (rules : Rules) (targets : List Target) (ways : List Way)
-    → StandsAfter [] [] (begun fixed (opening_log (kind_of fixed) rules targets) ways)
+    (opened : OpenedRequest) (rules : Rules) (targets : List Target) (destinations : List Destination)
+    → StandsAfter [] [] (begun opened (opening_log (kind_of opened) rules targets) destinations)
 
 -- and each step of a sound call keeps it
 abbrev pub StepsStand : Type 0

@@ -38,10 +38,10 @@ IsOkayTo turns call d =
 -- after these turns, by its cause: the request and the CANCEL of a branch go to its hop, and so does its ACK, which answers a
 -- failure that came from the branch
 abbrev pub IsSentFor : List Turn → Call → Datagram → Cause → Type 0
-IsSentFor turns call d (cause.Request n) = ToBranch call n d (λ way. d.bytes ≡ spelling (request_to call.fixed way n))
-IsSentFor turns call d (cause.Cancel n) = ToBranch call n d (λ way. d.bytes ≡ spelling (cancel_to call.fixed way n))
-IsSentFor turns call d (cause.Ack n) = ToBranch call n d (λ way. AnswersFailure turns call n d.bytes)
-IsSentFor turns call d cause.Answer = (d.to ≡ call.fixed.caller) × IsAnswerOf call d.bytes
+IsSentFor turns call d (cause.Request n) = ToBranch call n d (λ destination. d.bytes ≡ spelling (request_to call.opened destination n))
+IsSentFor turns call d (cause.Cancel n) = ToBranch call n d (λ destination. d.bytes ≡ spelling (cancel_to call.opened destination n))
+IsSentFor turns call d (cause.Ack n) = ToBranch call n d (λ destination. AnswersFailure turns call n d.bytes)
+IsSentFor turns call d cause.Answer = (d.to ≡ call.opened.caller) × IsAnswerOf call d.bytes
 IsSentFor turns call d cause.CancelOk = IsOkayTo turns call d
 
 abbrev pub IsSentRight : List Turn → Call → Pumped → Type 0

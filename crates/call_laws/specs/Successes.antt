@@ -6,7 +6,7 @@ use Rattle.sip_text.specs.Text.{MessageText}
 use Rattle.sip_build.specs.Upward.{upward_of}
 use Rattle.call_model.specs.Built.{status_of}
 use Rattle.call_model.specs.Call.{Call}
-use Rattle.call_model.specs.Fixed.{Fixed, Way, is_invite}
+use Rattle.call_model.specs.OpenedRequest.{OpenedRequest, Destination, is_invite}
 use Rattle.call_model.specs.Server.{Passed, is_over}
 use Rattle.call_model.specs.Step.{IsPostedBy, Turn}
 use Rattle.call_laws.specs.Answers.{AreGiven, Begins, Drops, Sends}
@@ -35,7 +35,7 @@ pub record GoesUp (call : Call) (before : List Stage) (stage : Stage) (later : L
 -- in every run of a call for an INVITE
 abbrev pub EachSuccessGoesUp : Type 0
 EachSuccessGoesUp =
-    (fixed : Fixed) (rules : Rules) (targets : List Target) (ways : List Way) (before : List Stage) (stage : Stage) (later : List Stage) (m : MessageText)
-    → targets ≢ [] → is_invite fixed ≡ true → AreGiven (before ++ stage ∷ later)
-    → Leads (Begins fixed rules targets ways) (before ++ stage ∷ later) → PostsSuccess stage.turn m
-    → GoesUp (Begins fixed rules targets ways) before stage later m
+    (opened : OpenedRequest) (rules : Rules) (targets : List Target) (destinations : List Destination) (before : List Stage) (stage : Stage) (later : List Stage) (m : MessageText)
+    → targets ≢ [] → is_invite opened ≡ true → AreGiven (before ++ stage ∷ later)
+    → Leads (Begins opened rules targets destinations) (before ++ stage ∷ later) → PostsSuccess stage.turn m
+    → GoesUp (Begins opened rules targets destinations) before stage later m

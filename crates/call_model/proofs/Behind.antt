@@ -2,10 +2,10 @@
 use Rattle.call_model.proofs.Common.{◌≡◌, ◌∙◌, ◌⊎◌, ℕ, zero, suc, ap, refl, sym, subst, inl, inr, true, false, Bool, List, [], ◌∷◌, ◌++◌, map, length, Option, Some, None, slice_get, ◌↔◌, IsTrue, cond, nat_lt, unwrap_or, option_map}
 use Rattle.call_model.proofs.Common.{and_parts, cond-false, cond-true, Event, FinalAnswer, Reply, HasStored, StoredAnswersCame, RowsKeepTheirNumbers, Effect, answers, change_at, closed_state, effect, next, settled, settled_row, with_effect}
 use Rattle.call_model.proofs.Common.{with_state, Kind, Row, State, StoredAnswer, Table, is_open, is_row, stored_of, may_start, HasFirst, Log, added, event_posted, events_of, table_of, MessageText, ContactText, Hop, TxEvent}
-use Rattle.call_model.proofs.Common.{InviteClientState, OtherClientState, invite_client, other_client, row_out, Cause, answer_in, answer_of, status_of, Call, found, leg_at, row_passes, set_leg, with_leg, Client, InviteClient, OtherClient}
-use Rattle.call_model.proofs.Common.{client_out, Deed, is_due_at, Fails, FaultsBy, FaultsClient, cancel_faulted, faulted_cancel, Way, kind_of, Cancelling, Leg, Posts, call_tag, no_leg, Pumped, Send, Did, Does, Pumps, SendsAnswer, AnswersBy}
-use Rattle.call_model.proofs.Common.{AnswersWith, TicksClientBy, FiresTimerC, challenges_by, contacts_for, event_by, offer_of, Fixed, Owed, Passed, Final, Again, CancelOk, IsSound, awaits, invite_awaits, other_awaits, CancelledBy, Responds, Taken}
-use Rattle.call_model.proofs.Common.{TakesAs, is_passed, leg_after, leg_posted, response_event}
+use Rattle.call_model.proofs.Common.{InviteClientState, OtherClientState, invite_client, other_client, row_out, Cause, answer_in, answer_of, status_of, Call, found, nth_branch, row_passes, set_branch, with_branch, ClientTransaction, InviteClient, OtherClient}
+use Rattle.call_model.proofs.Common.{client_out, Action, is_due_at, Fails, FaultsBy, FaultsClient, cancel_faulted, faulted_cancel, Destination, kind_of, CancelTransaction, Branch, Posts, call_tag, no_branch, Pumped, Send, Did, Does, Pumps, SendsAnswer, AnswersBy}
+use Rattle.call_model.proofs.Common.{AnswersWith, TicksClientBy, FiresTimerC, challenges_by, contacts_for, event_by, offer_of, OpenedRequest, Owed, Passed, Final, Again, CancelOk, IsSound, awaits, invite_awaits, other_awaits, CancelledBy, Responds, Taken}
+use Rattle.call_model.proofs.Common.{TakesAs, is_passed, branch_after, branch_posted, response_event}
 use Rattle.std.specs.Prelude.{is_none}
 use Rattle.fork_model.specs.Event as fork
 use Rattle.fork_model.specs.Sources.{EventsStoreAnswers, IsStoredBy}
@@ -31,31 +31,31 @@ use Rattle.call_model.proofs.SoundTables.{table_added}
 
 -- every branch keeps the same response
 abbrev pub SameAnswers : Call → Call → Type 0
-SameAnswers call new = (k : ℕ) → answer_in (leg_at new k) ≡ answer_in (leg_at call k)
+SameAnswers call new = (k : ℕ) → answer_in (nth_branch new k) ≡ answer_in (nth_branch call k)
 
-same_with : (legs : List (Option Leg)) (n k : ℕ) (leg : Leg) → answer_in (found (slice_get legs n)) ≡ leg.answer
-    → answer_in (found (slice_get (with_leg legs n leg) k)) ≡ answer_in (found (slice_get legs k))
-same_with [] n k leg e = refl
-same_with (x ∷ legs) zero zero leg e = sym e
-same_with (x ∷ legs) zero (suc k) leg e = refl
-same_with (x ∷ legs) (suc n) zero leg e = refl
-same_with (x ∷ legs) (suc n) (suc k) leg e = same_with legs n k leg e
+same_with : (branches : List (Option Branch)) (n k : ℕ) (branch : Branch) → answer_in (found (slice_get branches n)) ≡ branch.answer
+    → answer_in (found (slice_get (with_branch branches n branch) k)) ≡ answer_in (found (slice_get branches k))
+same_with [] n k branch e = refl
+same_with (x ∷ branches) zero zero branch e = sym e
+same_with (x ∷ branches) zero (suc k) branch e = refl
+same_with (x ∷ branches) (suc n) zero branch e = refl
+same_with (x ∷ branches) (suc n) (suc k) branch e = same_with branches n k branch e
 
-here_with : (legs : List (Option Leg)) (n : ℕ) (old leg : Leg) → found (slice_get legs n) ≡ Some old → found (slice_get (with_leg legs n leg) n) ≡ Some leg
-here_with [] n old leg e = absurd cc
-here_with (x ∷ legs) zero old leg e = refl
-here_with (x ∷ legs) (suc n) old leg e = here_with legs n old leg e
+here_with : (branches : List (Option Branch)) (n : ℕ) (old branch : Branch) → found (slice_get branches n) ≡ Some old → found (slice_get (with_branch branches n branch) n) ≡ Some branch
+here_with [] n old branch e = absurd cc
+here_with (x ∷ branches) zero old branch e = refl
+here_with (x ∷ branches) (suc n) old branch e = here_with branches n old branch e
 
-leg_more : (legs : List (Option Leg)) (rows : List Row) (k : ℕ) → found (slice_get (legs ++ map no_leg rows) k) ≡ found (slice_get legs k)
-leg_more [] [] k = refl
-leg_more [] (row ∷ rows) zero = refl
-leg_more [] (row ∷ rows) (suc k) = leg_more [] rows k
-leg_more (x ∷ legs) rows zero = refl
-leg_more (x ∷ legs) rows (suc k) = leg_more legs rows k
+branch_more : (branches : List (Option Branch)) (rows : List Row) (k : ℕ) → found (slice_get (branches ++ map no_branch rows) k) ≡ found (slice_get branches k)
+branch_more [] [] k = refl
+branch_more [] (row ∷ rows) zero = refl
+branch_more [] (row ∷ rows) (suc k) = branch_more [] rows k
+branch_more (x ∷ branches) rows zero = refl
+branch_more (x ∷ branches) rows (suc k) = branch_more branches rows k
 
 -- the part of a branch with the same answer
-same_leg : (call : Call) (n : ℕ) (old leg : Leg) → leg_at call n ≡ Some old → leg.answer ≡ old.answer → SameAnswers call (set_leg call n leg)
-same_leg call n old leg there e k = same_with call.legs n k leg (ap answer_in there ∙ sym e)
+same_branch : (call : Call) (n : ℕ) (old branch : Branch) → nth_branch call n ≡ Some old → branch.answer ≡ old.answer → SameAnswers call (set_branch call n branch)
+same_branch call n old branch there e k = same_with call.branches n k branch (ap answer_in there ∙ sym e)
 
 -- ---- the events of a log
 
@@ -75,12 +75,12 @@ last_event (q ∷ history) p = last_event history p
 -- ---- without an event
 
 -- what a call was opened with, and its log
-abbrev base_of : Call → Fixed × Log
-base_of call = (call.fixed, call.log)
+abbrev base_of : Call → OpenedRequest × Log
+base_of call = (call.opened, call.log)
 
 -- the event that a response of branch n is to a call that was opened so
-abbrev said_by : (n : ℕ) → MessageText → Fixed → Option Event
-said_by n m fixed = Some (event_by fixed.is_responsible n (status_of m) m)
+abbrev said_by : (n : ℕ) → MessageText → OpenedRequest → Option Event
+said_by n m opened = Some (event_by opened.is_responsible n (status_of m) m)
 
 -- a branch that is first with an answer that came was so before
 abbrev pub FirstsStay : Call → Call → Type 0
@@ -89,14 +89,14 @@ FirstsStay call new =
 
 kept_same : (call new : Call) → base_of new ≡ base_of call → SameAnswers call new → FirstsStay call new
 kept_same call new b same n stored has came first =
-    let e : new.log ≡ call.log = ap (λ (base : Fixed × Log). base.1) b in
+    let e : new.log ≡ call.log = ap (λ (base : OpenedRequest × Log). base.1) b in
     let H : Log → Type 0 = λ l. HasStored (table_of l) n stored in
     let F : Log → Type 0 = λ l. HasFirst (table_of l) n in
     record {
       has = subst H e has;
       first = subst F e first;
       kept = same n;
-      fixed = ap (λ (base : Fixed × Log). base.0) b;
+      opened = ap (λ (base : OpenedRequest × Log). base.0) b;
       events = λ event there. ap (λ (l : Log). slice_get (events_of l.history) stored.arrival) e ∙ there;
     }
 
@@ -116,7 +116,7 @@ module _ (stores : EventsStoreAnswers) (goes_on : BranchesGoOn) (grows : RowsKee
 
   posted : (Comes : ℕ → StoredAnswer → Type 0) (call mid new : Call) (ev : Event) (contacts : List ContactText) (response : Option MessageText) (reply : Reply)
       → base_of mid ≡ base_of call
-      → ((n : ℕ) (stored : StoredAnswer) → HasStored (table_of call.log) n stored → answer_in (leg_at mid n) ≡ answer_in (leg_at call n))
+      → ((n : ℕ) (stored : StoredAnswer) → HasStored (table_of call.log) n stored → answer_in (nth_branch mid n) ≡ answer_in (nth_branch call n))
       → Posts mid ev contacts response reply new
       → StoresAs Comes call ev new
       → (n : ℕ) (stored : StoredAnswer) → HasStored (table_of new.log) n stored → stored.received ≡ true → HasFirst (table_of new.log) n
@@ -127,7 +127,7 @@ module _ (stores : EventsStoreAnswers) (goes_on : BranchesGoOn) (grows : RowsKee
       by_source now (stores (table_of call.log) ev (length call.log.history) n stored now)
     where
       log : new.log ≡ added call.log call_tag ev reply
-      log = ap (λ (x : Call). x.log) posts.follows ∙ ap (λ (base : Fixed × Log). added base.1 call_tag ev reply) b
+      log = ap (λ (x : Call). x.log) posts.follows ∙ ap (λ (base : OpenedRequest × Log). added base.1 call_tag ev reply) b
 
       goes : table_of new.log ≡ next (table_of call.log) ev (length call.log.history)
       goes = ap table_of log ∙ table_added call.log call_tag ev reply
@@ -135,13 +135,13 @@ module _ (stores : EventsStoreAnswers) (goes_on : BranchesGoOn) (grows : RowsKee
       stays : HasStored (table_of call.log) n stored → StaysFirst call new n stored
       stays old =
           let F : Table → Type 0 = λ t. HasFirst t n in
-          let legs : answer_in (leg_at new n) ≡ answer_in (leg_at mid n) = ap (λ (x : Call). answer_in (leg_at x n)) posts.follows ∙ ap answer_in (leg_more mid.legs _ n) in
+          let branches : answer_in (nth_branch new n) ≡ answer_in (nth_branch mid n) = ap (λ (x : Call). answer_in (nth_branch x n)) posts.follows ∙ ap answer_in (branch_more mid.branches _ n) in
           record {
             has = old;
             first = first_before (table_of call.log) (next (table_of call.log) ev (length call.log.history)) (goes_on (table_of call.log) ev (length call.log.history))
                 (grows (table_of call.log) ev (length call.log.history)).rules n stored old (subst F goes leads);
-            kept = legs ∙ same n stored old;
-            fixed = ap (λ (x : Call). x.fixed) posts.follows ∙ ap (λ (base : Fixed × Log). base.0) b;
+            kept = branches ∙ same n stored old;
+            opened = ap (λ (x : Call). x.opened) posts.follows ∙ ap (λ (base : OpenedRequest × Log). base.0) b;
             events = λ event there.
                 ap (λ (x : Log). slice_get (events_of x.history) stored.arrival) log
                 ∙ ap (λ (es : List Event). slice_get es stored.arrival) (events_added call.log.history (record { tag = call_tag; event = ev }))
@@ -181,7 +181,7 @@ module _ (stores : EventsStoreAnswers) (goes_on : BranchesGoOn) (grows : RowsKee
   no_timer_c : (k at n : ℕ) (stored : StoredAnswer) → IsStoredBy (fork.TimerC k) at n stored → stored.received ≡ true → ⊥
   no_timer_c k at n stored by came = let e : false ≡ true = sym by.1.received ∙ came in absurd cc
 
-  -- ---- a deed of the pump
+  -- ---- an action of the pump
 
   answered : (call : Call) (now : ℕ) (rest : List Owed) (m : MessageText) (b : Bool) (p : Pumped) (new : Call) → AnswersBy call now rest m b p new → FirstsStay call new
   answered call now rest m true p new (out, e) = kept_as call new _ e refl (λ k. refl)
@@ -199,41 +199,41 @@ module _ (stores : EventsStoreAnswers) (goes_on : BranchesGoOn) (grows : RowsKee
   paid call now (Passed m ∷ rest) p new h = answered_with call now rest (answer_of call (Passed m)) p new h
   paid call now (Final choice ∷ rest) p new h = answered_with call now rest (answer_of call (Final choice)) p new h
 
-  ticked : (call : Call) (now n : ℕ) (way : Way) (leg : Leg) (b : Bool) (p : Pumped) (new : Call) → leg_at call n ≡ Some leg → TicksClientBy call now n way leg b p new → FirstsStay call new
-  ticked call now n way leg true p new there (out, reply, posts) = assumed call _ new _ _ _ reply refl (same_leg call n leg _ there refl) (no_timeout n) posts
-  ticked call now n way leg false p new there (out, e) = kept_as call new _ e refl (same_leg call n leg _ there refl)
+  ticked : (call : Call) (now n : ℕ) (destination : Destination) (branch : Branch) (b : Bool) (p : Pumped) (new : Call) → nth_branch call n ≡ Some branch → TicksClientBy call now n destination branch b p new → FirstsStay call new
+  ticked call now n destination branch true p new there (out, reply, posts) = assumed call _ new _ _ _ reply refl (same_branch call n branch _ there refl) (no_timeout n) posts
+  ticked call now n destination branch false p new there (out, e) = kept_as call new _ e refl (same_branch call n branch _ there refl)
 
-  fired : (call : Call) (now n : ℕ) (leg : Leg) (b : Bool) (p : Pumped) (new : Call) → leg_at call n ≡ Some leg → FiresTimerC call now n leg b p new → FirstsStay call new
-  fired call now n leg true p new there (out, reply, posts) = assumed call _ new _ _ _ reply refl (same_leg call n leg _ there refl) (no_timer_c n) posts
-  fired call now n leg false p new there (out, reply, posts) = assumed call call new _ _ _ reply refl (λ k. refl) (no_timer_c n) posts
+  fired : (call : Call) (now n : ℕ) (branch : Branch) (b : Bool) (p : Pumped) (new : Call) → nth_branch call n ≡ Some branch → FiresTimerC call now n branch b p new → FirstsStay call new
+  fired call now n branch true p new there (out, reply, posts) = assumed call _ new _ _ _ reply refl (same_branch call n branch _ there refl) (no_timer_c n) posts
+  fired call now n branch false p new there (out, reply, posts) = assumed call call new _ _ _ reply refl (λ k. refl) (no_timer_c n) posts
 
   -- a branch that is sent its request keeps nothing before
-  unsent : (o : Option Leg) → is_none o ≡ true → answer_in o ≡ None
+  unsent : (o : Option Branch) → is_none o ≡ true → answer_in o ≡ None
   unsent None e = refl
-  unsent (Some leg) e = absurd cc
+  unsent (Some branch) e = absurd cc
 
-  done : (call : Call) (now : ℕ) (deed : Deed) (p : Pumped) (new : Call) → is_due_at call now deed ≡ true → Does call now deed p new → FirstsStay call new
-  done call now (due.SendRequest n) p new is (way, goes, (out, e)) =
-      kept_as call new _ e refl (λ k. same_with call.legs n k _ (unsent (leg_at call n) (and_parts (row_passes table.is_trying call n) _ is).1))
-  done call now (due.SendCancel n) p new is (way, leg, goes, there, (out, e)) = kept_as call new _ e refl (same_leg call n leg _ there refl)
-  done call now (due.SendAck n) p new is (way, leg, goes, there, (ack, owed, out, e)) = kept_as call new _ e refl (same_leg call n leg _ there refl)
+  done : (call : Call) (now : ℕ) (action : Action) (p : Pumped) (new : Call) → is_due_at call now action ≡ true → Does call now action p new → FirstsStay call new
+  done call now (due.SendRequest n) p new is (destination, goes, (out, e)) =
+      kept_as call new _ e refl (λ k. same_with call.branches n k _ (unsent (nth_branch call n) (and_parts (row_passes table.is_trying call n) _ is).1))
+  done call now (due.SendCancel n) p new is (destination, branch, goes, there, (out, e)) = kept_as call new _ e refl (same_branch call n branch _ there refl)
+  done call now (due.SendAck n) p new is (destination, branch, goes, there, (ack, owed, out, e)) = kept_as call new _ e refl (same_branch call n branch _ there refl)
   done call now due.SendAnswer p new is h = paid call now call.server.owed p new h
   done call now due.TickServer p new is (out, e) = kept_as call new _ e refl (λ k. refl)
-  done call now (due.TickClient n) p new is (way, leg, goes, there, h) = ticked call now n way leg _ p new there h
-  done call now (due.TickCancel n) p new is (way, leg, goes, there, (cancelling, has, out, e)) = kept_as call new _ e refl (same_leg call n leg _ there refl)
-  done call now (due.FireTimerC n) p new is (leg, there, h) = fired call now n leg _ p new there h
-  done call now (due.GiveUp n) p new is (leg, there, (out, reply, posts)) =
-      assumed call _ new _ _ _ reply refl (same_leg call n leg _ there refl) (λ at k stored by came. by) posts
+  done call now (due.TickClient n) p new is (destination, branch, goes, there, h) = ticked call now n destination branch _ p new there h
+  done call now (due.TickCancel n) p new is (destination, branch, goes, there, (cancelling, has, out, e)) = kept_as call new _ e refl (same_branch call n branch _ there refl)
+  done call now (due.FireTimerC n) p new is (branch, there, h) = fired call now n branch _ p new there h
+  done call now (due.GiveUp n) p new is (branch, there, (out, reply, posts)) =
+      assumed call _ new _ _ _ reply refl (same_branch call n branch _ there refl) (λ at k stored by came. by) posts
 
   pumped : (call : Call) (now : ℕ) (p : Pumped) (new : Call) → Pumps call now p new → FirstsStay call new
   pumped call now Idle new (idle, e) = kept_as call new call e refl (λ k. refl)
-  pumped call now (Send d) new (deed, is, h) = done call now deed (Send d) new is h
-  pumped call now Did new (deed, is, h) = done call now deed Did new is h
+  pumped call now (Send d) new (action, is, h) = done call now action (Send d) new is h
+  pumped call now Did new (action, is, h) = done call now action Did new is h
 
   -- ---- a response
 
   -- a transaction that hands up a provisional response or a failure has waited for a final one
-  provisional_awaited : (now : ℕ) (c : Client) → is_passed (client_out event.Provisional now c).pass ≡ true → awaits c ≡ true
+  provisional_awaited : (now : ℕ) (c : ClientTransaction) → is_passed (client_out event.Provisional now c).pass ≡ true → awaits c ≡ true
   provisional_awaited now (InviteClient m) e = by m.state e
     where
       by : (s : InviteClientState) → is_passed (row_out (invite_client s (input.Event event.Provisional))).pass ≡ true → invite_awaits s ≡ true
@@ -250,7 +250,7 @@ module _ (stores : EventsStoreAnswers) (goes_on : BranchesGoOn) (grows : RowsKee
       by other.Completed e = absurd cc
       by other.Terminated e = absurd cc
 
-  failure_awaited : (now : ℕ) (c : Client) → is_passed (client_out event.Failure now c).pass ≡ true → awaits c ≡ true
+  failure_awaited : (now : ℕ) (c : ClientTransaction) → is_passed (client_out event.Failure now c).pass ≡ true → awaits c ≡ true
   failure_awaited now (InviteClient m) e = by m.state e
     where
       by : (s : InviteClientState) → is_passed (row_out (invite_client s (input.Event event.Failure))).pass ≡ true → invite_awaits s ≡ true
@@ -279,7 +279,7 @@ module _ (stores : EventsStoreAnswers) (goes_on : BranchesGoOn) (grows : RowsKee
       by (table.Rung cancelled) e h = absurd cc
       by (table.Ended end) e h = absurd cc
 
-  passed_awaited : (now status : ℕ) (c : Client) → nat_lt status 300 ≡ false → is_passed (client_out (response_event status) now c).pass ≡ true → awaits c ≡ true
+  passed_awaited : (now status : ℕ) (c : ClientTransaction) → nat_lt status 300 ≡ false → is_passed (client_out (response_event status) now c).pass ≡ true → awaits c ≡ true
   passed_awaited now status c final passes = by (nat_lt status 200) (subst P (ap (λ (b : Bool). cond {A = TxEvent} (nat_lt status 200) event.Provisional (cond {A = TxEvent} b event.Success event.Failure)) final) passes)
     where
       P : TxEvent → Type 0
@@ -330,20 +330,20 @@ module _ (stores : EventsStoreAnswers) (goes_on : BranchesGoOn) (grows : RowsKee
 
   -- ---- a response that is posted
 
-  at_or : (legs : List (Option Leg)) (n k : ℕ) (leg : Leg) → (k ≡ n) ⊎ (found (slice_get (with_leg legs n leg) k) ≡ found (slice_get legs k))
-  at_or [] n k leg = inr refl
-  at_or (x ∷ legs) zero zero leg = inl refl
-  at_or (x ∷ legs) zero (suc k) leg = inr refl
-  at_or (x ∷ legs) (suc n) zero leg = inr refl
-  at_or (x ∷ legs) (suc n) (suc k) leg = up (at_or legs n k leg)
+  at_or : (branches : List (Option Branch)) (n k : ℕ) (branch : Branch) → (k ≡ n) ⊎ (found (slice_get (with_branch branches n branch) k) ≡ found (slice_get branches k))
+  at_or [] n k branch = inr refl
+  at_or (x ∷ branches) zero zero branch = inl refl
+  at_or (x ∷ branches) zero (suc k) branch = inr refl
+  at_or (x ∷ branches) (suc n) zero branch = inr refl
+  at_or (x ∷ branches) (suc n) (suc k) branch = up (at_or branches n k branch)
     where
-      up : (k ≡ n) ⊎ (found (slice_get (with_leg legs n leg) k) ≡ found (slice_get legs k)) → (suc k ≡ suc n) ⊎ (found (slice_get (with_leg legs n leg) k) ≡ found (slice_get legs k))
+      up : (k ≡ n) ⊎ (found (slice_get (with_branch branches n branch) k) ≡ found (slice_get branches k)) → (suc k ≡ suc n) ⊎ (found (slice_get (with_branch branches n branch) k) ≡ found (slice_get branches k))
       up (inl e) = inl (ap suc e)
       up (inr e) = inr e
 
-  module _ (call new : Call) (n : ℕ) (leg : Leg) (way : Way) (now : ℕ) (m : MessageText) (reply : Reply) (first : Bool) (leads : IsTrue first ↔ HasFirst (table_of new.log) n)
-      (sound : IsSound call) (there : leg_at call n ≡ Some leg)
-      (passes : is_passed (client_out (response_event (status_of m)) now leg.client).pass ≡ true) (source : Hop) (at : ℕ) (placed : reply.at ≡ at) where
+  module _ (call new : Call) (n : ℕ) (branch : Branch) (destination : Destination) (now : ℕ) (m : MessageText) (reply : Reply) (first : Bool) (leads : IsTrue first ↔ HasFirst (table_of new.log) n)
+      (sound : IsSound call) (there : nth_branch call n ≡ Some branch)
+      (passes : is_passed (client_out (response_event (status_of m)) now branch.client).pass ≡ true) (source : Hop) (at : ℕ) (placed : reply.at ≡ at) where
     -- the turn by which it comes
     abbrev this_turn : Turn
     this_turn = record { now = now; input = step.Take (to.Client n) m source; output = step.Took (to.Posted at) }
@@ -351,56 +351,56 @@ module _ (stores : EventsStoreAnswers) (goes_on : BranchesGoOn) (grows : RowsKee
     abbrev Comes : ℕ → StoredAnswer → Type 0
     Comes k stored = ComesFirst this_turn new k stored
 
-    abbrev posted_part : Leg
-    posted_part = leg_posted first (leg_after call n leg way now m) now (status_of m) m
+    abbrev posted_part : Branch
+    posted_part = branch_posted first (branch_after call n branch destination now m) now (status_of m) m
 
     abbrev posted_mid : Call
-    posted_mid = set_leg call n posted_part
+    posted_mid = set_branch call n posted_part
 
     -- a branch with something stored keeps what it kept
-    same_stored : (k : ℕ) (stored : StoredAnswer) → HasStored (table_of call.log) k stored → answer_in (leg_at posted_mid k) ≡ answer_in (leg_at call k)
-    same_stored k stored has = by (at_or call.legs n k posted_part)
+    same_stored : (k : ℕ) (stored : StoredAnswer) → HasStored (table_of call.log) k stored → answer_in (nth_branch posted_mid k) ≡ answer_in (nth_branch call k)
+    same_stored k stored has = by (at_or call.branches n k posted_part)
       where
-        here : (b : Bool) → nat_lt (status_of m) 300 ≡ b → k ≡ n → answer_in (leg_at posted_mid k) ≡ answer_in (leg_at call k)
+        here : (b : Bool) → nat_lt (status_of m) 300 ≡ b → k ≡ n → answer_in (nth_branch posted_mid k) ≡ answer_in (nth_branch call k)
         here true e at =
-            let part_is : posted_part.answer ≡ leg.answer = cond-true _ _ _ e in
-            same_with call.legs n k posted_part (ap answer_in there ∙ sym part_is)
+            let part_is : posted_part.answer ≡ branch.answer = cond-true _ _ _ e in
+            same_with call.branches n k posted_part (ap answer_in there ∙ sym part_is)
         here false e at =
             let H : ℕ → Type 0 = λ i. HasStored (table_of call.log) i stored in
-            absurd (open_stores (table_of call.log) n stored ((sound.legs n leg there).open_yet (passed_awaited now (status_of m) leg.client e passes)) (subst H at has))
+            absurd (open_stores (table_of call.log) n stored ((sound.branches n branch there).open_yet (passed_awaited now (status_of m) branch.client e passes)) (subst H at has))
 
-        by : (k ≡ n) ⊎ (found (slice_get (with_leg call.legs n posted_part) k) ≡ found (slice_get call.legs k)) → answer_in (leg_at posted_mid k) ≡ answer_in (leg_at call k)
+        by : (k ≡ n) ⊎ (found (slice_get (with_branch call.branches n posted_part) k) ≡ found (slice_get call.branches k)) → answer_in (nth_branch posted_mid k) ≡ answer_in (nth_branch call k)
         by (inl at) = here (nat_lt (status_of m) 300) refl at
         by (inr e) = ap answer_in e
 
-    kept_here : (ev : Event) → Posts posted_mid ev (contacts_for call.fixed.is_responsible (status_of m) m) (to.going_up (status_of m) m) reply new → nat_lt (status_of m) 300 ≡ false
-        → ev ≡ event_by call.fixed.is_responsible n (status_of m) m
+    kept_here : (ev : Event) → Posts posted_mid ev (contacts_for call.opened.is_responsible (status_of m) m) (to.going_up (status_of m) m) reply new → nat_lt (status_of m) 300 ≡ false
+        → ev ≡ event_by call.opened.is_responsible n (status_of m) m
         → (k : ℕ) (stored : StoredAnswer) → k ≡ n → stored.arrival ≡ length call.log.history → HasFirst (table_of new.log) k → Comes k stored
     kept_here ev posts e is k stored k_is at_is led =
         let log : new.log ≡ added call.log call_tag ev reply = ap (λ (x : Call). x.log) posts.follows in
         let F : ℕ → Type 0 = λ i. HasFirst (table_of new.log) i in
         let part_is : posted_part.answer ≡ Some m = cond-false _ _ _ e ∙ cond-true _ _ _ (leads.1 (subst F k_is led)) in
-        let legs : answer_in (leg_at new n) ≡ Some m =
-        ap (λ (x : Call). answer_in (leg_at x n)) posts.follows ∙ ap answer_in (leg_more posted_mid.legs _ n ∙ here_with call.legs n leg posted_part there) ∙ part_is in
-        let f : new.fixed ≡ call.fixed = ap (λ (x : Call). x.fixed) posts.follows in
-        let last : slice_get (events_of new.log.history) (length call.log.history) ≡ Some (event_by call.fixed.is_responsible n (status_of m) m) =
+        let branches : answer_in (nth_branch new n) ≡ Some m =
+        ap (λ (x : Call). answer_in (nth_branch x n)) posts.follows ∙ ap answer_in (branch_more posted_mid.branches _ n ∙ here_with call.branches n branch posted_part there) ∙ part_is in
+        let f : new.opened ≡ call.opened = ap (λ (x : Call). x.opened) posts.follows in
+        let last : slice_get (events_of new.log.history) (length call.log.history) ≡ Some (event_by call.opened.is_responsible n (status_of m) m) =
         ap (λ (l : Log). slice_get (events_of l.history) (length call.log.history)) log ∙ last_event call.log.history (record { tag = call_tag; event = ev }) ∙ ap (λ (x : Event). Some x) is in (
           m,
           (source, ap (λ (i : ℕ). step.Take (to.Client i) m source) (sym k_is), ap (λ (i : ℕ). step.Took (to.Posted i)) (sym placed ∙ posts.reply_is.position ∙ sym at_is)),
-          ap (λ (i : ℕ). answer_in (leg_at new i)) k_is ∙ legs,
-          ap (λ (i : ℕ). slice_get (events_of new.log.history) i) at_is ∙ last ∙ ap (said_by n m) (sym f) ∙ ap (λ (i : ℕ). said_by i m new.fixed) (sym k_is),
+          ap (λ (i : ℕ). answer_in (nth_branch new i)) k_is ∙ branches,
+          ap (λ (i : ℕ). slice_get (events_of new.log.history) i) at_is ∙ last ∙ ap (said_by n m) (sym f) ∙ ap (λ (i : ℕ). said_by i m new.opened) (sym k_is),
         )
 
     abbrev answer_by : FinalAnswer
-    answer_by = record { status = status_of m; offers = map offer_of (contacts_for call.fixed.is_responsible (status_of m) m); challenges = challenges_by (status_of m) m }
+    answer_by = record { status = status_of m; offers = map offer_of (contacts_for call.opened.is_responsible (status_of m) m); challenges = challenges_by (status_of m) m }
 
-    keeps_posted : Posts posted_mid (event_by call.fixed.is_responsible n (status_of m) m) (contacts_for call.fixed.is_responsible (status_of m) m) (to.going_up (status_of m) m) reply new
+    keeps_posted : Posts posted_mid (event_by call.opened.is_responsible n (status_of m) m) (contacts_for call.opened.is_responsible (status_of m) m) (to.going_up (status_of m) m) reply new
         → (k : ℕ) (stored : StoredAnswer) → HasStored (table_of new.log) k stored → stored.received ≡ true → HasFirst (table_of new.log) k
         → StaysFirst call new k stored ⊎ Comes k stored
     keeps_posted posts k stored has received leads_now = by (nat_lt (status_of m) 200) refl
       where
-        at_answer : (b : Bool) → nat_lt (status_of m) 300 ≡ b → fork.Answer n answer_by ≡ event_by call.fixed.is_responsible n (status_of m) m
-            → Posts posted_mid (fork.Answer n answer_by) (contacts_for call.fixed.is_responsible (status_of m) m) (to.going_up (status_of m) m) reply new
+        at_answer : (b : Bool) → nat_lt (status_of m) 300 ≡ b → fork.Answer n answer_by ≡ event_by call.opened.is_responsible n (status_of m) m
+            → Posts posted_mid (fork.Answer n answer_by) (contacts_for call.opened.is_responsible (status_of m) m) (to.going_up (status_of m) m) reply new
             → StoresAs Comes call (fork.Answer n answer_by) new
         at_answer true e is posts k s h now came led =
             let H : ℕ → Type 0 = λ i. HasStored (next (table_of call.log) (fork.Answer n answer_by) (length call.log.history)) i s in
@@ -410,12 +410,12 @@ module _ (stores : EventsStoreAnswers) (goes_on : BranchesGoOn) (grows : RowsKee
 
         by : (b : Bool) → nat_lt (status_of m) 200 ≡ b → StaysFirst call new k stored ⊎ Comes k stored
         by true e =
-            let is : event_by call.fixed.is_responsible n (status_of m) m ≡ fork.Ring n (status_of m) = cond-true _ _ _ e in
-            let P : Event → Type 0 = λ v. Posts posted_mid v (contacts_for call.fixed.is_responsible (status_of m) m) (to.going_up (status_of m) m) reply new in
+            let is : event_by call.opened.is_responsible n (status_of m) m ≡ fork.Ring n (status_of m) = cond-true _ _ _ e in
+            let P : Event → Type 0 = λ v. Posts posted_mid v (contacts_for call.opened.is_responsible (status_of m) m) (to.going_up (status_of m) m) reply new in
             posted Comes call posted_mid new (fork.Ring n (status_of m)) _ _ reply refl same_stored (subst P is posts) (λ i s h now came led. absurd now) k stored has received leads_now
         by false e =
-            let is : event_by call.fixed.is_responsible n (status_of m) m ≡ fork.Answer n answer_by = cond-false _ _ _ e in
-            let P : Event → Type 0 = λ v. Posts posted_mid v (contacts_for call.fixed.is_responsible (status_of m) m) (to.going_up (status_of m) m) reply new in
+            let is : event_by call.opened.is_responsible n (status_of m) m ≡ fork.Answer n answer_by = cond-false _ _ _ e in
+            let P : Event → Type 0 = λ v. Posts posted_mid v (contacts_for call.opened.is_responsible (status_of m) m) (to.going_up (status_of m) m) reply new in
             let posts-2 = subst P is posts in
             posted Comes call posted_mid new (fork.Answer n answer_by) _ _ reply refl same_stored posts-2 (at_answer (nat_lt (status_of m) 300) refl (sym is) posts-2) k stored has received leads_now
 
@@ -428,13 +428,13 @@ module _ (stores : EventsStoreAnswers) (goes_on : BranchesGoOn) (grows : RowsKee
   stay : (now : ℕ) (input : step.Input) (output : step.Output) (call new : Call) → FirstsStay call new → Goes now input output call new
   stay now input output call new stays n stored has came first = inl (stays n stored has came first)
 
-  responded : (call : Call) (n : ℕ) (leg : Leg) (way : Way) (now : ℕ) (m : MessageText) (source : Hop) (t : Taken) (new : Call) → IsSound call → leg_at call n ≡ Some leg
-      → Responds call n leg way now m t new → Goes now (step.Take (to.Client n) m source) (step.Took t) call new
-  responded call n leg way now m source to.Absorbed new sound there (p, e) =
-      stay now (step.Take (to.Client n) m source) (step.Took to.Absorbed) call new (kept_as call new _ e refl (same_leg call n leg _ there refl))
-  responded call n leg way now m source (to.Posted at) new sound there (p, reply, placed, first, leads, posts) =
-      keeps_posted call new n leg way now m reply first leads sound there p source at placed posts
-  responded call n leg way now m source to.Full new sound there (p, f, e) =
+  responded : (call : Call) (n : ℕ) (branch : Branch) (destination : Destination) (now : ℕ) (m : MessageText) (source : Hop) (t : Taken) (new : Call) → IsSound call → nth_branch call n ≡ Some branch
+      → Responds call n branch destination now m t new → Goes now (step.Take (to.Client n) m source) (step.Took t) call new
+  responded call n branch destination now m source to.Absorbed new sound there (p, e) =
+      stay now (step.Take (to.Client n) m source) (step.Took to.Absorbed) call new (kept_as call new _ e refl (same_branch call n branch _ there refl))
+  responded call n branch destination now m source (to.Posted at) new sound there (p, reply, placed, first, leads, posts) =
+      keeps_posted call new n branch destination now m reply first leads sound there p source at placed posts
+  responded call n branch destination now m source to.Full new sound there (p, f, e) =
       stay now (step.Take (to.Client n) m source) (step.Took to.Full) call new (kept_as call new call e refl (λ k. refl))
 
   -- ---- a message
@@ -444,7 +444,7 @@ module _ (stores : EventsStoreAnswers) (goes_on : BranchesGoOn) (grows : RowsKee
   cancelled call new cancel hop (to.Posted at) (c, reply, placed, posts) = assumed call _ new _ _ _ reply refl (λ k. refl) (λ at k stored by came. by) posts
   cancelled call new cancel hop to.Full h = absurd h
 
-  took : (call : Call) (now : ℕ) (m : MessageText) (source : Hop) (r : to.Recipient) (t : Taken) (new : Call) → IsSound call → TakesAs call now m source r t new
+  took : (call : Call) (now : ℕ) (m : MessageText) (source : Hop) (r : to.MatchedTransaction) (t : Taken) (new : Call) → IsSound call → TakesAs call now m source r t new
       → Goes now (step.Take r m source) (step.Took t) call new
   took call now m source to.Server to.Absorbed new sound e = stay now (step.Take to.Server m source) (step.Took to.Absorbed) call new (kept_as call new _ e refl (λ k. refl))
   took call now m source to.Server (to.Posted at) new sound h = absurd h
@@ -453,34 +453,34 @@ module _ (stores : EventsStoreAnswers) (goes_on : BranchesGoOn) (grows : RowsKee
   took call now m source to.ServerAck (to.Posted at) new sound h = absurd h
   took call now m source to.ServerAck to.Full new sound h = absurd h
   took call now m source to.ServerCancel t new sound (cancel, marked, by) = stay now (step.Take to.ServerCancel m source) (step.Took t) call new (cancelled call new cancel _ t by)
-  took call now m source (to.Client n) t new sound (leg, way, there, goes, h) = responded call n leg way now m source t new sound there h
-  took call now m source (to.CancelClient n) to.Absorbed new sound (leg, cancelling, there, is, e) =
-      stay now (step.Take (to.CancelClient n) m source) (step.Took to.Absorbed) call new (kept_as call new _ e refl (same_leg call n leg _ there refl))
+  took call now m source (to.Client n) t new sound (branch, destination, there, goes, h) = responded call n branch destination now m source t new sound there h
+  took call now m source (to.CancelClient n) to.Absorbed new sound (branch, cancelling, there, is, e) =
+      stay now (step.Take (to.CancelClient n) m source) (step.Took to.Absorbed) call new (kept_as call new _ e refl (same_branch call n branch _ there refl))
   took call now m source (to.CancelClient n) (to.Posted at) new sound h = absurd h
   took call now m source (to.CancelClient n) to.Full new sound h = absurd h
 
   -- ---- a datagram that could not be sent
 
-  faults : (call : Call) (now n : ℕ) (leg : Leg) (b : Bool) (new : Call) → leg_at call n ≡ Some leg → FaultsBy call now n leg b new → FirstsStay call new
-  faults call now n leg true new there (reply, posts) = assumed call _ new _ _ _ reply refl (same_leg call n leg _ there refl) (no_fault n) posts
-  faults call now n leg false new there e = kept_as call new _ e refl (same_leg call n leg _ there refl)
+  faults : (call : Call) (now n : ℕ) (branch : Branch) (b : Bool) (new : Call) → nth_branch call n ≡ Some branch → FaultsBy call now n branch b new → FirstsStay call new
+  faults call now n branch true new there (reply, posts) = assumed call _ new _ _ _ reply refl (same_branch call n branch _ there refl) (no_fault n) posts
+  faults call now n branch false new there e = kept_as call new _ e refl (same_branch call n branch _ there refl)
 
-  faults_client : (call : Call) (now n : ℕ) (l : Option Leg) (new : Call) → leg_at call n ≡ l → FaultsClient call now n l new → FirstsStay call new
+  faults_client : (call : Call) (now n : ℕ) (l : Option Branch) (new : Call) → nth_branch call n ≡ l → FaultsClient call now n l new → FirstsStay call new
   faults_client call now n None new there e = kept_as call new call e refl (λ k. refl)
-  faults_client call now n (Some leg) new there h = faults call now n leg _ new there h
+  faults_client call now n (Some branch) new there h = faults call now n branch _ new there h
 
-  faults_cancel : (call : Call) (now n : ℕ) (l : Option Leg) (new : Call) → leg_at call n ≡ l → new ≡ cancel_faulted call now n l → FirstsStay call new
+  faults_cancel : (call : Call) (now n : ℕ) (l : Option Branch) (new : Call) → nth_branch call n ≡ l → new ≡ cancel_faulted call now n l → FirstsStay call new
   faults_cancel call now n None new there e = kept_as call new call e refl (λ k. refl)
-  faults_cancel call now n (Some leg) new there e = kept_as call new _ e refl (same_leg call n leg _ there (by leg.cancelling))
+  faults_cancel call now n (Some branch) new there e = kept_as call new _ e refl (same_branch call n branch _ there (by branch.cancelling))
     where
-      by : (c : Option Cancelling) → (faulted_cancel leg now c).answer ≡ leg.answer
+      by : (c : Option CancelTransaction) → (faulted_cancel branch now c).answer ≡ branch.answer
       by None = refl
       by (Some cancelling) = refl
 
   failed : (call : Call) (now : ℕ) (c : Cause) (new : Call) → Fails call now c new → FirstsStay call new
-  failed call now (cause.Request n) new h = faults_client call now n (leg_at call n) new refl h
-  failed call now (cause.Ack n) new h = faults_client call now n (leg_at call n) new refl h
-  failed call now (cause.Cancel n) new e = faults_cancel call now n (leg_at call n) new refl e
+  failed call now (cause.Request n) new h = faults_client call now n (nth_branch call n) new refl h
+  failed call now (cause.Ack n) new h = faults_client call now n (nth_branch call n) new refl h
+  failed call now (cause.Cancel n) new e = faults_cancel call now n (nth_branch call n) new refl e
   failed call now cause.Answer new e = kept_as call new _ e refl (λ k. refl)
   failed call now cause.CancelOk new e = kept_as call new call e refl (λ k. refl)
 
@@ -507,12 +507,12 @@ module _ (stores : EventsStoreAnswers) (goes_on : BranchesGoOn) (grows : RowsKee
       by : StaysFirst call new n stored ⊎ ComesFirst turn new n stored → KeepsEvent new n stored.arrival
       by (inl stays) =
           let old = kept n stored stays.has came stays.first in
-          (old.0, stays.kept ∙ old.1, stays.events _ old.2 ∙ ap (said_by n old.0) (sym stays.fixed))
+          (old.0, stays.kept ∙ old.1, stays.events _ old.2 ∙ ap (said_by n old.0) (sym stays.opened))
       by (inr comes) = (comes.0, comes.2, comes.3)
 
 -- ---- before anything was posted
 
 pub begun_keeps : StoredAnswersCame → BegunKeepsAnswers
-begun_keeps came fixed rules targets ways n stored has received first =
-    let event = came (kind_of fixed) rules targets [] n stored has in
+begun_keeps came opened rules targets destinations n stored has received first =
+    let event = came (kind_of opened) rules targets [] n stored has in
     absurd (let h : None ≡ Some event.0 = event.1 in cc)

@@ -18,19 +18,19 @@ pub use Rattle.fork_model.specs.Steps.{RowsKeepTheirNumbers}
 pub use Rattle.fork_model.specs.Table.{Challenge, Ended, Idle, Kind, Row, Rules, Rung, State, StoredAnswer, Table, Trying, is_invite, is_open, is_row, is_trying, stored_of}
 pub use Rattle.fork_model.specs.Waiting.{may_start}
 pub use Rattle.call_model.specs.Built.{Datagram, ack_to, answer_in, answer_of, cancel_to, request_to, status_of}
-pub use Rattle.call_model.specs.Call.{Call, found, leg_at, row_passes, set_leg, with_leg}
-pub use Rattle.call_model.specs.Client.{Client, InviteClient, OtherClient, client_after, client_out}
-pub use Rattle.call_model.specs.Datagrams.{IsBuilt, IsBuiltLeg}
-pub use Rattle.call_model.specs.Due.{Deed, FireTimerC, GiveUp, SendAck, SendAnswer, SendCancel, SendRequest, TickCancel, TickClient, TickServer, is_due_at}
+pub use Rattle.call_model.specs.Call.{Call, found, nth_branch, row_passes, set_branch, with_branch}
+pub use Rattle.call_model.specs.Client.{ClientTransaction, InviteClient, OtherClient, client_after, client_out}
+pub use Rattle.call_model.specs.Datagrams.{IsBuilt, IsBuiltBranch}
+pub use Rattle.call_model.specs.Due.{Action, FireTimerC, GiveUp, SendAck, SendAnswer, SendCancel, SendRequest, TickCancel, TickClient, TickServer, is_due_at}
 pub use Rattle.call_model.specs.Failed.{Fails, FaultsBy, FaultsClient, cancel_faulted, faulted, faulted_cancel, is_fault}
-pub use Rattle.call_model.specs.Fixed.{Fixed, Way, kind_of}
-pub use Rattle.call_model.specs.Leg.{Cancelling, Leg, leg_start}
-pub use Rattle.call_model.specs.Posting.{Posts, call_tag, gone_on, no_leg, owed_by, owes}
+pub use Rattle.call_model.specs.OpenedRequest.{OpenedRequest, Destination, kind_of}
+pub use Rattle.call_model.specs.Branch.{CancelTransaction, Branch, branch_start}
+pub use Rattle.call_model.specs.Posting.{Posts, call_tag, gone_on, no_branch, owed_by, owes}
 pub use Rattle.call_model.specs.Pump.{AnswersBy, AnswersWith, Did, Does, FiresTimerC, Pumped, Pumps, Send, SendsAnswer, TicksClientBy, is_timeout, sent_if, stopped, ticked}
 pub use Rattle.call_model.specs.Response.{challenge_in, challenges_by, contact_for, contacts_at, contacts_by, contacts_for, contacts_in, contacts_or, event_by, is_redirection, offer_of}
 pub use Rattle.call_model.specs.Server.{Again, CancelOk, Final, Owed, Passed, Server, first_owed}
 pub use Rattle.call_model.specs.Sound.{IsForward, IsSound, IsSoundOwed, StoresValues, awaits, invite_awaits, is_text, other_awaits}
-pub use Rattle.call_model.specs.Take.{Absorbed, CancelledBy, Full, Posted, Responds, Taken, TakesAs, ack_by, answer_kept, going_up, is_passed, leg_after, leg_posted, response_event, timer_c_again}
+pub use Rattle.call_model.specs.Take.{Absorbed, CancelledBy, Full, Posted, Responds, Taken, TakesAs, ack_by, answer_kept, going_up, is_passed, branch_after, branch_posted, response_event, timer_c_again}
 pub use Rattle.call_model.specs.declared.cause.Cause.{Cause}
 pub use Rattle.sip_build.specs.Upward.{is_challenge}
 pub use Rattle.sip_lex.specs.Sheltered.{is_closed}

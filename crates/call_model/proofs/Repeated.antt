@@ -1,6 +1,6 @@
 -- What each step leaves of what a call sends again.
 use Rattle.call_model.proofs.Common.{◌≡◌, ◌∙◌, ℕ, zero, suc, ap, refl, sym, subst, true, false, Bool, List, [], ◌∷◌, Option, Some, None, slice_get, Event, Reply, MessageText, spelling, ContactText, Hop, Cause, Datagram, answer_of}
-use Rattle.call_model.proofs.Common.{cancel_to, request_to, Call, leg_at, IsBuilt, Deed, Fails, FaultsBy, FaultsClient, cancel_faulted, Fixed, Way, Leg, Posts, Pumped, Send, Did, Does, Pumps, SendsAnswer, AnswersBy, AnswersWith}
+use Rattle.call_model.proofs.Common.{cancel_to, request_to, Call, nth_branch, IsBuilt, Action, Fails, FaultsBy, FaultsClient, cancel_faulted, OpenedRequest, Destination, Branch, Posts, Pumped, Send, Did, Does, Pumps, SendsAnswer, AnswersBy, AnswersWith}
 use Rattle.call_model.proofs.Common.{TicksClientBy, FiresTimerC, sent_if, Owed, Passed, Final, Again, CancelOk, CancelledBy, Responds, Taken, TakesAs}
 use Rattle.call_model.specs.declared.cause.Cause.TheVariants as cause
 use Rattle.call_model.specs.Again.{LastAnswerIsKept, RepeatsAreTheSame, is_repeated, last_after}
@@ -10,41 +10,41 @@ use Rattle.call_model.specs.Server.{Trying}
 use Rattle.call_model.specs.Step as step
 use Rattle.call_model.specs.Step.{Run, Turn}
 use Rattle.call_model.specs.Take as to
-use Rattle.call_model.proofs.KeptBuilt.{way_more}
+use Rattle.call_model.proofs.KeptBuilt.{destination_more}
 use Rattle.call_model.proofs.laws.RightDatagrams.{IsRight, datagrams_right}
 use Rattle.call_model.proofs.StepsBuilt.{steps_keep}
 
 -- ---- what stays
 
--- what the call was opened with, and the way of each row
+-- what the call was opened with, and the destination of each row
 pub record Stays (call new : Call) : Type 0 where
-  pub fixed : new.fixed ≡ call.fixed
-  pub ways : (n : ℕ) (way : Way) → slice_get call.ways n ≡ Some way → slice_get new.ways n ≡ Some way
+  pub opened : new.opened ≡ call.opened
+  pub destinations : (n : ℕ) (destination : Destination) → slice_get call.destinations n ≡ Some destination → slice_get new.destinations n ≡ Some destination
 
 pub record Keeps (call new : Call) (output : step.Output) : Type 0 where
   pub stays : Stays call new
   pub last : new.server.last ≡ last_after output call.server.last
 
 -- another call, but for these parts
-same_parts : (call new x : Call) → new ≡ x → x.fixed ≡ call.fixed → x.ways ≡ call.ways → Stays call new
+same_parts : (call new x : Call) → new ≡ x → x.opened ≡ call.opened → x.destinations ≡ call.destinations → Stays call new
 same_parts call new x e f w = record {
-  fixed = ap (λ (c : Call). c.fixed) e ∙ f;
-  ways = λ n way h. ap (λ (c : Call). slice_get c.ways n) e ∙ ap (λ (ws : List Way). slice_get ws n) w ∙ h;
+  opened = ap (λ (c : Call). c.opened) e ∙ f;
+  destinations = λ n destination h. ap (λ (c : Call). slice_get c.destinations n) e ∙ ap (λ (ws : List Destination). slice_get ws n) w ∙ h;
 }
 
 last_by : (call new x : Call) → new ≡ x → (output : step.Output) → x.server.last ≡ last_after output call.server.last → new.server.last ≡ last_after output call.server.last
 last_by call new x e output l = ap (λ (c : Call). c.server.last) e ∙ l
 
-keeps : (call new x : Call) → new ≡ x → (output : step.Output) → x.fixed ≡ call.fixed → x.ways ≡ call.ways → x.server.last ≡ last_after output call.server.last → Keeps call new output
+keeps : (call new x : Call) → new ≡ x → (output : step.Output) → x.opened ≡ call.opened → x.destinations ≡ call.destinations → x.server.last ≡ last_after output call.server.last → Keeps call new output
 keeps call new x e output f w l = record { stays = same_parts call new x e f w; last = last_by call new x e output l }
 
 posted : (call mid new : Call) (event : Event) (contacts : List ContactText) (response : Option MessageText) (reply : Reply) (output : step.Output)
-    → mid.fixed ≡ call.fixed → mid.ways ≡ call.ways → mid.server.last ≡ last_after output call.server.last
+    → mid.opened ≡ call.opened → mid.destinations ≡ call.destinations → mid.server.last ≡ last_after output call.server.last
     → Posts mid event contacts response reply new → Keeps call new output
 posted call mid new event contacts response reply output f w l posts = record {
   stays = record {
-    fixed = ap (λ (c : Call). c.fixed) posts.follows ∙ f;
-    ways = λ n way h. ap (λ (c : Call). slice_get c.ways n) posts.follows ∙ way_more mid.ways _ n way (ap (λ (ws : List Way). slice_get ws n) w ∙ h);
+    opened = ap (λ (c : Call). c.opened) posts.follows ∙ f;
+    destinations = λ n destination h. ap (λ (c : Call). slice_get c.destinations n) posts.follows ∙ destination_more mid.destinations _ n destination (ap (λ (ws : List Destination). slice_get ws n) w ∙ h);
   };
   last = ap (λ (c : Call). c.server.last) posts.follows ∙ l;
 }
@@ -70,7 +70,7 @@ no_answer true d last e = by d.cause e
     by cause.CancelOk e = absurd cc
 no_answer false d last e = refl
 
--- ---- a deed of the pump
+-- ---- an action of the pump
 
 answered : (call : Call) (now : ℕ) (rest : List Owed) (m : MessageText) (b : Bool) (p : Pumped) (new : Call) → AnswersBy call now rest m b p new → Keeps call new (step.Did p)
 answered call now rest m true p new (out, e) =
@@ -89,45 +89,45 @@ paid call now (Trying ∷ rest) p new h = answered_with call now rest (answer_of
 paid call now (Passed m ∷ rest) p new h = answered_with call now rest (answer_of call (Passed m)) p new h
 paid call now (Final choice ∷ rest) p new h = answered_with call now rest (answer_of call (Final choice)) p new h
 
-ticked : (call : Call) (now n : ℕ) (way : Way) (leg : Leg) (b : Bool) (p : Pumped) (new : Call) → TicksClientBy call now n way leg b p new → Keeps call new (step.Did p)
-ticked call now n way leg true p new (out, reply, posts) = posted call _ new _ _ _ reply (step.Did p) refl refl (as_out p Did call.server.last out refl) posts
-ticked call now n way leg false p new (out, e) =
-    keeps call new _ e (step.Did p) refl refl (as_out p _ call.server.last out (no_answer _ (record { to = way.hop; bytes = leg.sent; cause = cause.Request n }) call.server.last refl))
+ticked : (call : Call) (now n : ℕ) (destination : Destination) (branch : Branch) (b : Bool) (p : Pumped) (new : Call) → TicksClientBy call now n destination branch b p new → Keeps call new (step.Did p)
+ticked call now n destination branch true p new (out, reply, posts) = posted call _ new _ _ _ reply (step.Did p) refl refl (as_out p Did call.server.last out refl) posts
+ticked call now n destination branch false p new (out, e) =
+    keeps call new _ e (step.Did p) refl refl (as_out p _ call.server.last out (no_answer _ (record { to = destination.hop; bytes = branch.sent; cause = cause.Request n }) call.server.last refl))
 
-fired : (call : Call) (now n : ℕ) (leg : Leg) (b : Bool) (p : Pumped) (new : Call) → FiresTimerC call now n leg b p new → Keeps call new (step.Did p)
-fired call now n leg true p new (out, reply, posts) = posted call _ new _ _ _ reply (step.Did p) refl refl (as_out p Did call.server.last out refl) posts
-fired call now n leg false p new (out, reply, posts) = posted call call new _ _ _ reply (step.Did p) refl refl (as_out p Did call.server.last out refl) posts
+fired : (call : Call) (now n : ℕ) (branch : Branch) (b : Bool) (p : Pumped) (new : Call) → FiresTimerC call now n branch b p new → Keeps call new (step.Did p)
+fired call now n branch true p new (out, reply, posts) = posted call _ new _ _ _ reply (step.Did p) refl refl (as_out p Did call.server.last out refl) posts
+fired call now n branch false p new (out, reply, posts) = posted call call new _ _ _ reply (step.Did p) refl refl (as_out p Did call.server.last out refl) posts
 
-done : (call : Call) (now : ℕ) (deed : Deed) (p : Pumped) (new : Call) → Does call now deed p new → Keeps call new (step.Did p)
-done call now (due.SendRequest n) p new (way, goes, (out, e)) = keeps call new _ e (step.Did p) refl refl (as_out p _ call.server.last out refl)
-done call now (due.SendCancel n) p new (way, leg, goes, there, (out, e)) = keeps call new _ e (step.Did p) refl refl (as_out p _ call.server.last out refl)
-done call now (due.SendAck n) p new (way, leg, goes, there, (ack, owed, out, e)) = keeps call new _ e (step.Did p) refl refl (as_out p _ call.server.last out refl)
+done : (call : Call) (now : ℕ) (action : Action) (p : Pumped) (new : Call) → Does call now action p new → Keeps call new (step.Did p)
+done call now (due.SendRequest n) p new (destination, goes, (out, e)) = keeps call new _ e (step.Did p) refl refl (as_out p _ call.server.last out refl)
+done call now (due.SendCancel n) p new (destination, branch, goes, there, (out, e)) = keeps call new _ e (step.Did p) refl refl (as_out p _ call.server.last out refl)
+done call now (due.SendAck n) p new (destination, branch, goes, there, (ack, owed, out, e)) = keeps call new _ e (step.Did p) refl refl (as_out p _ call.server.last out refl)
 done call now due.SendAnswer p new h = paid call now call.server.owed p new h
-done call now due.TickServer p new (out, e) = keeps call new _ e (step.Did p) refl refl (as_out p _ call.server.last out (same_answer _ call.fixed.caller call.server.last))
-done call now (due.TickClient n) p new (way, leg, goes, there, h) = ticked call now n way leg _ p new h
-done call now (due.TickCancel n) p new (way, leg, goes, there, (cancelling, is, out, e)) =
-    keeps call new _ e (step.Did p) refl refl (as_out p _ call.server.last out (no_answer _ (record { to = way.hop; bytes = cancelling.sent; cause = cause.Cancel n }) call.server.last refl))
-done call now (due.FireTimerC n) p new (leg, there, h) = fired call now n leg _ p new h
-done call now (due.GiveUp n) p new (leg, there, (out, reply, posts)) = posted call _ new _ _ _ reply (step.Did p) refl refl (as_out p Did call.server.last out refl) posts
+done call now due.TickServer p new (out, e) = keeps call new _ e (step.Did p) refl refl (as_out p _ call.server.last out (same_answer _ call.opened.caller call.server.last))
+done call now (due.TickClient n) p new (destination, branch, goes, there, h) = ticked call now n destination branch _ p new h
+done call now (due.TickCancel n) p new (destination, branch, goes, there, (cancelling, is, out, e)) =
+    keeps call new _ e (step.Did p) refl refl (as_out p _ call.server.last out (no_answer _ (record { to = destination.hop; bytes = cancelling.sent; cause = cause.Cancel n }) call.server.last refl))
+done call now (due.FireTimerC n) p new (branch, there, h) = fired call now n branch _ p new h
+done call now (due.GiveUp n) p new (branch, there, (out, reply, posts)) = posted call _ new _ _ _ reply (step.Did p) refl refl (as_out p Did call.server.last out refl) posts
 
 pumped : (call : Call) (now : ℕ) (p : Pumped) (new : Call) → Pumps call now p new → Keeps call new (step.Did p)
 pumped call now Idle new (idle, e) = keeps call new call e (step.Did Idle) refl refl refl
-pumped call now (Send d) new (deed, is, h) = done call now deed (Send d) new h
-pumped call now Did new (deed, is, h) = done call now deed Did new h
+pumped call now (Send d) new (action, is, h) = done call now action (Send d) new h
+pumped call now Did new (action, is, h) = done call now action Did new h
 
 -- ---- a message
 
-responded : (call : Call) (n : ℕ) (leg : Leg) (way : Way) (now : ℕ) (m : MessageText) (t : Taken) (new : Call) → Responds call n leg way now m t new → Keeps call new (step.Took t)
-responded call n leg way now m to.Absorbed new (p, e) = keeps call new _ e (step.Took to.Absorbed) refl refl refl
-responded call n leg way now m (to.Posted at) new (p, reply, placed, first, leads, posts) = posted call _ new _ _ _ reply (step.Took (to.Posted at)) refl refl refl posts
-responded call n leg way now m to.Full new (p, f, e) = keeps call new call e (step.Took to.Full) refl refl refl
+responded : (call : Call) (n : ℕ) (branch : Branch) (destination : Destination) (now : ℕ) (m : MessageText) (t : Taken) (new : Call) → Responds call n branch destination now m t new → Keeps call new (step.Took t)
+responded call n branch destination now m to.Absorbed new (p, e) = keeps call new _ e (step.Took to.Absorbed) refl refl refl
+responded call n branch destination now m (to.Posted at) new (p, reply, placed, first, leads, posts) = posted call _ new _ _ _ reply (step.Took (to.Posted at)) refl refl refl posts
+responded call n branch destination now m to.Full new (p, f, e) = keeps call new call e (step.Took to.Full) refl refl refl
 
 cancelled : (call new : Call) (cancel : MessageText) (hop : Hop) (t : Taken) → CancelledBy call cancel hop t new → Keeps call new (step.Took t)
 cancelled call new cancel hop to.Absorbed (c, e) = keeps call new _ e (step.Took to.Absorbed) refl refl refl
 cancelled call new cancel hop (to.Posted at) (c, reply, placed, posts) = posted call _ new _ _ _ reply (step.Took (to.Posted at)) refl refl refl posts
 cancelled call new cancel hop to.Full h = absurd h
 
-took : (call : Call) (now : ℕ) (m : MessageText) (source : Hop) (r : to.Recipient) (t : Taken) (new : Call) → TakesAs call now m source r t new → Keeps call new (step.Took t)
+took : (call : Call) (now : ℕ) (m : MessageText) (source : Hop) (r : to.MatchedTransaction) (t : Taken) (new : Call) → TakesAs call now m source r t new → Keeps call new (step.Took t)
 took call now m source to.Server to.Absorbed new e = keeps call new _ e (step.Took to.Absorbed) refl refl refl
 took call now m source to.Server (to.Posted at) new h = absurd h
 took call now m source to.Server to.Full new h = absurd h
@@ -135,29 +135,29 @@ took call now m source to.ServerAck to.Absorbed new e = keeps call new _ e (step
 took call now m source to.ServerAck (to.Posted at) new h = absurd h
 took call now m source to.ServerAck to.Full new h = absurd h
 took call now m source to.ServerCancel t new (cancel, marked, by) = cancelled call new cancel _ t by
-took call now m source (to.Client n) t new (leg, way, there, goes, h) = responded call n leg way now m t new h
-took call now m source (to.CancelClient n) to.Absorbed new (leg, cancelling, there, is, e) = keeps call new _ e (step.Took to.Absorbed) refl refl refl
+took call now m source (to.Client n) t new (branch, destination, there, goes, h) = responded call n branch destination now m t new h
+took call now m source (to.CancelClient n) to.Absorbed new (branch, cancelling, there, is, e) = keeps call new _ e (step.Took to.Absorbed) refl refl refl
 took call now m source (to.CancelClient n) (to.Posted at) new h = absurd h
 took call now m source (to.CancelClient n) to.Full new h = absurd h
 
 -- ---- a datagram that could not be sent
 
-faults : (call : Call) (now n : ℕ) (leg : Leg) (b : Bool) (new : Call) → FaultsBy call now n leg b new → Keeps call new step.Told
-faults call now n leg true new (reply, posts) = posted call _ new _ _ _ reply step.Told refl refl refl posts
-faults call now n leg false new e = keeps call new _ e step.Told refl refl refl
+faults : (call : Call) (now n : ℕ) (branch : Branch) (b : Bool) (new : Call) → FaultsBy call now n branch b new → Keeps call new step.Told
+faults call now n branch true new (reply, posts) = posted call _ new _ _ _ reply step.Told refl refl refl posts
+faults call now n branch false new e = keeps call new _ e step.Told refl refl refl
 
-faults_client : (call : Call) (now n : ℕ) (l : Option Leg) (new : Call) → FaultsClient call now n l new → Keeps call new step.Told
+faults_client : (call : Call) (now n : ℕ) (l : Option Branch) (new : Call) → FaultsClient call now n l new → Keeps call new step.Told
 faults_client call now n None new e = keeps call new call e step.Told refl refl refl
-faults_client call now n (Some leg) new h = faults call now n leg _ new h
+faults_client call now n (Some branch) new h = faults call now n branch _ new h
 
-faults_cancel : (call : Call) (now n : ℕ) (l : Option Leg) (new : Call) → new ≡ cancel_faulted call now n l → Keeps call new step.Told
+faults_cancel : (call : Call) (now n : ℕ) (l : Option Branch) (new : Call) → new ≡ cancel_faulted call now n l → Keeps call new step.Told
 faults_cancel call now n None new e = keeps call new call e step.Told refl refl refl
-faults_cancel call now n (Some leg) new e = keeps call new _ e step.Told refl refl refl
+faults_cancel call now n (Some branch) new e = keeps call new _ e step.Told refl refl refl
 
 failed : (call : Call) (now : ℕ) (c : Cause) (new : Call) → Fails call now c new → Keeps call new step.Told
-failed call now (cause.Request n) new h = faults_client call now n (leg_at call n) new h
-failed call now (cause.Ack n) new h = faults_client call now n (leg_at call n) new h
-failed call now (cause.Cancel n) new e = faults_cancel call now n (leg_at call n) new e
+failed call now (cause.Request n) new h = faults_client call now n (nth_branch call n) new h
+failed call now (cause.Ack n) new h = faults_client call now n (nth_branch call n) new h
+failed call now (cause.Cancel n) new e = faults_cancel call now n (nth_branch call n) new e
 failed call now cause.Answer new e = keeps call new _ e step.Told refl refl refl
 failed call now cause.CancelOk new e = keeps call new call e step.Told refl refl refl
 
@@ -180,10 +180,10 @@ last_is_kept turn call new h = (stepped turn.now call turn.input new turn.output
 -- ---- over a run
 
 still_right : (call new : Call) (d : Datagram) → Stays call new → (c : Cause) → is_repeated c ≡ true → IsRight call d c → IsRight new d c
-still_right call new d s (cause.Request n) e (way, there, hop, text) =
-    (way, s.ways n way there, hop, text ∙ ap (λ (f : Fixed). spelling (request_to f way n)) (sym s.fixed))
-still_right call new d s (cause.Cancel n) e (way, there, hop, text) =
-    (way, s.ways n way there, hop, text ∙ ap (λ (f : Fixed). spelling (cancel_to f way n)) (sym s.fixed))
+still_right call new d s (cause.Request n) e (destination, there, hop, text) =
+    (destination, s.destinations n destination there, hop, text ∙ ap (λ (f : OpenedRequest). spelling (request_to f destination n)) (sym s.opened))
+still_right call new d s (cause.Cancel n) e (destination, there, hop, text) =
+    (destination, s.destinations n destination there, hop, text ∙ ap (λ (f : OpenedRequest). spelling (cancel_to f destination n)) (sym s.opened))
 still_right call new d s (cause.Ack n) e right = absurd cc
 still_right call new d s cause.Answer e right = absurd cc
 still_right call new d s cause.CancelOk e right = absurd cc
@@ -224,16 +224,16 @@ same_datagram d e hop bytes why =
     ∙ ap (λ (x : List ℕ). datagram d.to x e.cause) bytes
     ∙ ap (λ (x : Cause). datagram d.to d.bytes x) why
 
-same_way : (call : Call) (n : ℕ) (v w : Way) → slice_get call.ways n ≡ Some v → slice_get call.ways n ≡ Some w → w ≡ v
-same_way call n v w a b = let e : Some w ≡ Some v = sym b ∙ a in cc
+same_destination : (call : Call) (n : ℕ) (v w : Destination) → slice_get call.destinations n ≡ Some v → slice_get call.destinations n ≡ Some w → w ≡ v
+same_destination call n v w a b = let e : Some w ≡ Some v = sym b ∙ a in cc
 
 same_right : (call : Call) (d e : Datagram) (c : Cause) → is_repeated c ≡ true → e.cause ≡ d.cause → IsRight call d c → IsRight call e c → e ≡ d
 same_right call d e (cause.Request n) r why (v, there, hop, text) (w, also, hop-2, text-2) =
-    let one = same_way call n v w there also in
-    same_datagram d e (hop-2 ∙ ap (λ (x : Way). x.hop) one ∙ sym hop) (text-2 ∙ ap (λ (x : Way). spelling (request_to call.fixed x n)) one ∙ sym text) why
+    let one = same_destination call n v w there also in
+    same_datagram d e (hop-2 ∙ ap (λ (x : Destination). x.hop) one ∙ sym hop) (text-2 ∙ ap (λ (x : Destination). spelling (request_to call.opened x n)) one ∙ sym text) why
 same_right call d e (cause.Cancel n) r why (v, there, hop, text) (w, also, hop-2, text-2) =
-    let one = same_way call n v w there also in
-    same_datagram d e (hop-2 ∙ ap (λ (x : Way). x.hop) one ∙ sym hop) (text-2 ∙ ap (λ (x : Way). spelling (cancel_to call.fixed x n)) one ∙ sym text) why
+    let one = same_destination call n v w there also in
+    same_datagram d e (hop-2 ∙ ap (λ (x : Destination). x.hop) one ∙ sym hop) (text-2 ∙ ap (λ (x : Destination). spelling (cancel_to call.opened x n)) one ∙ sym text) why
 same_right call d e (cause.Ack n) r why a b = absurd cc
 same_right call d e cause.Answer r why a b = absurd cc
 same_right call d e cause.CancelOk r why a b = absurd cc

@@ -16,9 +16,9 @@ module _ (came : StoredAnswersCame) where
   first_sound t Other = tt
 
   pub begun_sound : BegunIsSound
-  begun_sound fixed rules targets ways = record {
+  begun_sound opened rules targets destinations = record {
     kind = refl;
-    stored = λ n stored has. absurd (nothing_stored (kind_of fixed) rules targets n stored has);
-    owed = first_sound (table_of (opening_log (kind_of fixed) rules targets)) (kind_of fixed);
-    legs = λ n l e. absurd (let nothing : None ≡ Some l = at_more [] _ n l e in cc);
+    stored = λ n stored has. absurd (nothing_stored (kind_of opened) rules targets n stored has);
+    owed = first_sound (table_of (opening_log (kind_of opened) rules targets)) (kind_of opened);
+    branches = λ n l e. absurd (let nothing : None ≡ Some l = at_more [] _ n l e in cc);
   }

@@ -9,8 +9,8 @@ use Rattle.fork_model.specs.Log.{events_of, opening_log, table_of}
 use Rattle.sip_text.specs.Text.{MessageText}
 use Rattle.call_model.specs.Begun.{begun}
 use Rattle.call_model.specs.Built.{answer_in, status_of}
-use Rattle.call_model.specs.Call.{Call, leg_at}
-use Rattle.call_model.specs.Fixed.{Fixed, Way, kind_of}
+use Rattle.call_model.specs.Call.{Call, nth_branch}
+use Rattle.call_model.specs.OpenedRequest.{OpenedRequest, Destination, kind_of}
 use Rattle.call_model.specs.Response.{event_by}
 use Rattle.call_model.specs.Sound.{IsSound}
 use Rattle.call_model.specs.Step.{IsPostedBy, Turn, Step}
@@ -19,8 +19,8 @@ use Rattle.call_model.specs.Step.{IsPostedBy, Turn, Step}
 abbrev pub KeepsEvent : Call → (n at : ℕ) → Type 0
 KeepsEvent call n at =
     (m : MessageText)
-    × (answer_in (leg_at call n) ≡ Some m)
-    × (slice_get (events_of call.log.history) at ≡ Some (event_by call.fixed.is_responsible n (status_of m) m))
+    × (answer_in (nth_branch call n) ≡ Some m)
+    × (slice_get (events_of call.log.history) at ≡ Some (event_by call.opened.is_responsible n (status_of m) m))
 
 -- a branch with a stored answer that came, and that no stored answer ranks before, keeps the response that it was
 abbrev pub KeepsAnswers : Call → Type 0
@@ -30,8 +30,8 @@ KeepsAnswers call =
 
 abbrev pub BegunKeepsAnswers : Type 0
 BegunKeepsAnswers =
-    (fixed : Fixed) (rules : Rules) (targets : List Target) (ways : List Way)
-    → KeepsAnswers (begun fixed (opening_log (kind_of fixed) rules targets) ways)
+    (opened : OpenedRequest) (rules : Rules) (targets : List Target) (destinations : List Destination)
+    → KeepsAnswers (begun opened (opening_log (kind_of opened) rules targets) destinations)
 
 abbrev pub StepsKeepAnswers : Type 0
 StepsKeepAnswers =
@@ -43,8 +43,8 @@ StepsKeepAnswers =
 pub record StaysFirst (call new : Call) (n : ℕ) (stored : StoredAnswer) : Type 0 where
   pub has : HasStored (table_of call.log) n stored
   pub first : HasFirst (table_of call.log) n
-  pub kept : answer_in (leg_at new n) ≡ answer_in (leg_at call n)
-  pub fixed : new.fixed ≡ call.fixed
+  pub kept : answer_in (nth_branch new n) ≡ answer_in (nth_branch call n)
+  pub opened : new.opened ≡ call.opened
   pub events : (event : Event) → slice_get (events_of call.log.history) stored.arrival ≡ Some event
       → slice_get (events_of new.log.history) stored.arrival ≡ Some event
 
@@ -53,8 +53,8 @@ abbrev pub ComesFirst : Turn → Call → (n : ℕ) → StoredAnswer → Type 0
 ComesFirst turn new n stored =
     (m : MessageText)
     × IsPostedBy turn n stored.arrival m
-    × (answer_in (leg_at new n) ≡ Some m)
-    × (slice_get (events_of new.log.history) stored.arrival ≡ Some (event_by new.fixed.is_responsible n (status_of m) m))
+    × (answer_in (nth_branch new n) ≡ Some m)
+    × (slice_get (events_of new.log.history) stored.arrival ≡ Some (event_by new.opened.is_responsible n (status_of m) m))
 
 abbrev pub FirstsStayOrCome : Type 0
 FirstsStayOrCome =

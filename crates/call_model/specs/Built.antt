@@ -13,10 +13,10 @@ use Rattle.sip_build.specs.Generated.{generated_of}
 use Rattle.sip_build.specs.Requests.{ack_of, cancel_of}
 use Rattle.sip_build.specs.Upward.{upward_of}
 use Rattle.call_model.specs.declared.cause.Cause.{Cause}
-use Rattle.call_model.specs.Fixed.{Fixed, Way, branch_at}
-use Rattle.call_model.specs.Leg.{Leg}
+use Rattle.call_model.specs.OpenedRequest.{OpenedRequest, Destination, branch_at}
+use Rattle.call_model.specs.Branch.{Branch}
 use Rattle.call_model.specs.Server.{Owed, Trying, Passed, Final, Again, CancelOk}
-use Rattle.call_model.specs.Call.{Call, rows_of, leg_at}
+use Rattle.call_model.specs.Call.{Call, rows_of, nth_branch}
 
 pub record Datagram : Type 0 where
   pub to : Hop
@@ -26,21 +26,21 @@ pub record Datagram : Type 0 where
 -- ---- to a branch
 
 -- the request as it goes to target n (section 16.6)
-abbrev pub request_to : Fixed → Way → ℕ → MessageText
-request_to fixed way n = forwarded fixed.request way.uri fixed.own (branch_at fixed n)
+abbrev pub request_to : OpenedRequest → Destination → ℕ → MessageText
+request_to opened destination n = forwarded opened.request destination.uri opened.own (branch_at opened n)
 
 -- the ACK for a failure of branch n (section 17.1.1.3)
-abbrev pub ack_to : Fixed → Way → ℕ → MessageText → MessageText
-ack_to fixed way n response = ack_of (request_to fixed way n) response
+abbrev pub ack_to : OpenedRequest → Destination → ℕ → MessageText → MessageText
+ack_to opened destination n response = ack_of (request_to opened destination n) response
 
 -- the CANCEL of branch n (section 9.1)
-abbrev pub cancel_to : Fixed → Way → ℕ → MessageText
-cancel_to fixed way n = cancel_of (request_to fixed way n)
+abbrev pub cancel_to : OpenedRequest → Destination → ℕ → MessageText
+cancel_to opened destination n = cancel_of (request_to opened destination n)
 
 -- ---- to the caller
 
-abbrev pub generated : Fixed → OwnStatus → MessageText
-generated fixed status = generated_of fixed.request status
+abbrev pub generated : OpenedRequest → OwnStatus → MessageText
+generated opened status = generated_of opened.request status
 
 abbrev pub text_of : Offer → List ℕ
 text_of offer = offer.text
@@ -57,23 +57,23 @@ abbrev pub was_received : Option StoredAnswer → Bool
 was_received None = false
 was_received (Some answer) = answer.received
 
-abbrev pub answer_in : Option Leg → Option MessageText
+abbrev pub answer_in : Option Branch → Option MessageText
 answer_in None = None
-answer_in (Some leg) = leg.answer
+answer_in (Some branch) = branch.answer
 
 -- the response of branch n as it goes up; a 408 where the proxy assumed one
 abbrev pub best_of : Call → ℕ → Option MessageText → MessageText
-best_of call n None = generated call.fixed own.RequestTimeout
+best_of call n None = generated call.opened own.RequestTimeout
 best_of call n (Some response) =
     if was_received (stored_at (slice_get (rows_of call) n))
     then upward_of response (kept_at (stored_at (slice_get (rows_of call) n))) (challenge_list (rows_of call) (Best n))
-    else generated call.fixed own.RequestTimeout
+    else generated call.opened own.RequestTimeout
 
 -- the final answer (section 16.7 steps 6 to 9)
 abbrev pub final_of : Call → Choice → MessageText
-final_of call (Best n) = best_of call n (answer_in (leg_at call n))
-final_of call (Only503 n) = generated call.fixed own.ServerInternalError
-final_of call NoAnswer408 = generated call.fixed own.RequestTimeout
+final_of call (Best n) = best_of call n (answer_in (nth_branch call n))
+final_of call (Only503 n) = generated call.opened own.ServerInternalError
+final_of call NoAnswer408 = generated call.opened own.RequestTimeout
 
 abbrev pub status_of : MessageText → ℕ
 status_of m = of_start m.start
@@ -84,7 +84,7 @@ status_of m = of_start m.start
 
 -- the answer that an owed one becomes; None for those that are no answer of the server transaction
 abbrev pub answer_of : Call → Owed → Option MessageText
-answer_of call Trying = Some (generated call.fixed own.Trying)
+answer_of call Trying = Some (generated call.opened own.Trying)
 answer_of call (Passed response) = Some (upward_of response None [])
 answer_of call (Final choice) = Some (final_of call choice)
 answer_of call Again = None

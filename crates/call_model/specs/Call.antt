@@ -2,22 +2,22 @@
 use Rattle.std.specs.Prelude.{ℕ, zero, suc, ◌&&◌, Bool, true, false, List, [], ◌∷◌, Option, Some, None, is_none, is_some, slice_get}
 use Rattle.fork_model.specs.Table.{Row, State, Idle, Trying, Rung, Ended, is_row, is_trying, is_cancelled}
 use Rattle.fork_model.specs.Log.{Log, table_of}
-use Rattle.call_model.specs.Fixed.{Fixed, Way}
-use Rattle.call_model.specs.Leg.{Leg, Cancelling}
+use Rattle.call_model.specs.OpenedRequest.{OpenedRequest, Destination}
+use Rattle.call_model.specs.Branch.{Branch, CancelTransaction}
 use Rattle.call_model.specs.Server.{Server}
 
 pub record Call : Type 0 where
-  pub fixed : Fixed
+  pub opened : OpenedRequest
   -- the events that were posted, and the table that they lead to
   pub log : Log
   -- for each row of the table, by its number, where its request goes; and its part, once that was sent
-  pub ways : List Way
-  pub legs : List (Option Leg)
+  pub destinations : List Destination
+  pub branches : List (Option Branch)
   pub server : Server
 
 -- the same call under another number
 abbrev pub numbered : ℕ → Call → Call
-numbered number call = record call { fixed = record call.fixed { number = number } }
+numbered number call = record call { opened = record call.opened { number = number } }
 
 abbrev pub rows_of : Call → List Row
 rows_of call = (table_of call.log).rows
@@ -28,45 +28,45 @@ found (Some None) = None
 found (Some (Some x)) = Some x
 
 -- the part of branch n, if its request was sent
-abbrev pub leg_at : Call → ℕ → Option Leg
-leg_at call n = found (slice_get call.legs n)
+abbrev pub nth_branch : Call → ℕ → Option Branch
+nth_branch call n = found (slice_get call.branches n)
 
-abbrev pub with_leg : List (Option Leg) → ℕ → Leg → List (Option Leg)
-with_leg [] n leg = []
-with_leg (l ∷ legs) zero leg = Some leg ∷ legs
-with_leg (l ∷ legs) (suc n) leg = l ∷ with_leg legs n leg
+abbrev pub with_branch : List (Option Branch) → ℕ → Branch → List (Option Branch)
+with_branch [] n branch = []
+with_branch (l ∷ branches) zero branch = Some branch ∷ branches
+with_branch (l ∷ branches) (suc n) branch = l ∷ with_branch branches n branch
 
 -- the call with another part for branch n
-abbrev pub set_leg : Call → ℕ → Leg → Call
-set_leg call n leg = record call { legs = with_leg call.legs n leg }
+abbrev pub set_branch : Call → ℕ → Branch → Call
+set_branch call n branch = record call { branches = with_branch call.branches n branch }
 
 abbrev pub row_passes : (State → Bool) → Call → ℕ → Bool
 row_passes test call n = is_row test (slice_get (rows_of call) n)
 
 -- ---- what is owed to branches, read off the table
 
-abbrev pub lacks_cancel : Option Leg → Bool
+abbrev pub lacks_cancel : Option Branch → Bool
 lacks_cancel None = false
-lacks_cancel (Some leg) = is_none leg.cancelling
+lacks_cancel (Some branch) = is_none branch.cancelling
 
 -- branch n is tried, and its request was not sent
 abbrev pub owes_request : Call → ℕ → Bool
-owes_request call n = row_passes is_trying call n && is_none (leg_at call n)
+owes_request call n = row_passes is_trying call n && is_none (nth_branch call n)
 
 -- branch n is cancelled, and its CANCEL was not sent; one that ended first gets none
 abbrev pub owes_cancel : Call → ℕ → Bool
-owes_cancel call n = row_passes is_cancelled call n && lacks_cancel (leg_at call n)
+owes_cancel call n = row_passes is_cancelled call n && lacks_cancel (nth_branch call n)
 
-abbrev pub owes_ack_on : Option Leg → Bool
+abbrev pub owes_ack_on : Option Branch → Bool
 owes_ack_on None = false
-owes_ack_on (Some leg) = has leg.ack
+owes_ack_on (Some branch) = has branch.ack
   where
     has : Option (List ℕ) → Bool
     has None = false
     has (Some ack) = true
 
 abbrev pub owes_ack : Call → ℕ → Bool
-owes_ack call n = owes_ack_on (leg_at call n)
+owes_ack call n = owes_ack_on (nth_branch call n)
 
 -- ---- which timers of a branch run
 
@@ -81,18 +81,18 @@ runs_timer_c (Rung cancelled) = not_yet cancelled
     not_yet false = true
 runs_timer_c (Ended end) = false
 
-abbrev pub give_up_of : Option Cancelling → Option ℕ
+abbrev pub give_up_of : Option CancelTransaction → Option ℕ
 give_up_of None = None
 give_up_of (Some cancelling) = Some cancelling.give_up_at
 
 -- ---- whether the request of a branch was sent, and its CANCEL
 
 abbrev pub is_sent : Call → ℕ → Bool
-is_sent call n = is_some (leg_at call n)
+is_sent call n = is_some (nth_branch call n)
 
-abbrev pub is_cancel_on : Option Leg → Bool
+abbrev pub is_cancel_on : Option Branch → Bool
 is_cancel_on None = false
-is_cancel_on (Some leg) = is_some leg.cancelling
+is_cancel_on (Some branch) = is_some branch.cancelling
 
 abbrev pub is_cancel_sent : Call → ℕ → Bool
-is_cancel_sent call n = is_cancel_on (leg_at call n)
+is_cancel_sent call n = is_cancel_on (nth_branch call n)

@@ -7,11 +7,11 @@ use Rattle.fork_model.specs.Event.{Event}
 use Rattle.fork_model.specs.Log.{core_of, table_of}
 use Rattle.fork_model.specs.OpenBranches.{fits}
 use Rattle.sip_txn.specs.declared.event.TxEvent.TheVariants as event
-use Rattle.call_model.specs.Call.{Call, leg_at}
+use Rattle.call_model.specs.Call.{Call, nth_branch}
 use Rattle.call_model.specs.Client.{client_out}
 use Rattle.call_model.specs.Due.{FireTimerC, GiveUp, is_due_at}
 use Rattle.call_model.specs.Failed.{is_fault}
-use Rattle.call_model.specs.Leg.{Leg}
+use Rattle.call_model.specs.Branch.{Branch}
 use Rattle.call_model.specs.Pump.{is_timeout}
 use Rattle.call_model.specs.Sound.{IsSound}
 use Rattle.call_model.specs.Take.{cancels}
@@ -24,13 +24,13 @@ pub record IsTaken (call : Call) (ev : Event) : Type 0 where
 -- timers B and F of a branch
 abbrev pub TimeoutsAreTaken : Type 0
 TimeoutsAreTaken =
-    (call : Call) (n now : ℕ) (leg : Leg) → IsSound call → leg_at call n ≡ Some leg → is_timeout (client_out event.Tick now leg.client).pass ≡ true
+    (call : Call) (n now : ℕ) (branch : Branch) → IsSound call → nth_branch call n ≡ Some branch → is_timeout (client_out event.Tick now branch.client).pass ≡ true
     → IsTaken call (fork.Timeout n)
 
 -- a branch whose datagram could not be sent
 abbrev pub FaultsAreTaken : Type 0
 FaultsAreTaken =
-    (call : Call) (n now : ℕ) (leg : Leg) → IsSound call → leg_at call n ≡ Some leg → is_fault (client_out event.TransportError now leg.client).pass ≡ true
+    (call : Call) (n now : ℕ) (branch : Branch) → IsSound call → nth_branch call n ≡ Some branch → is_fault (client_out event.TransportError now branch.client).pass ≡ true
     → IsTaken call (fork.Fault n)
 
 -- timer C

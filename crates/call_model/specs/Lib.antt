@@ -1,6 +1,6 @@
-pub mod Fixed
+pub mod OpenedRequest
 pub mod Client
-pub mod Leg
+pub mod Branch
 pub mod Server
 pub mod Call
 pub mod Built

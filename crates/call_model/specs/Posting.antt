@@ -1,4 +1,4 @@
--- An event that a call posts to its book: the table goes on, its new rows get their ways, and what goes up is owed to
+-- An event that a call posts to its book: the table goes on, its new rows get their destinations, and what goes up is owed to
 -- the caller (RFC 3261 sections 16.5 and 16.7).
 use Rattle.std.specs.Prelude.{◌≡◌, ℕ, false, map, List, [], ◌∷◌, ◌++◌, Option, Some, None, length, drop, slice_get}
 use Rattle.std.specs.List.{filter_map}
@@ -10,8 +10,8 @@ use Rattle.fork_model.specs.Reply.{Up, Nothing, Provisional, Success, Final, Rep
 use Rattle.sip_text.specs.Text.{MessageText}
 use Rattle.sip_uri.specs.Contact.{ContactText}
 use Rattle.fork_model.specs.Log.{Log, added, core_of, table_of}
-use Rattle.call_model.specs.Fixed.{Fixed, Way, way_to}
-use Rattle.call_model.specs.Leg.{Leg}
+use Rattle.call_model.specs.OpenedRequest.{OpenedRequest, Destination, destination_to}
+use Rattle.call_model.specs.Branch.{Branch}
 use Rattle.call_model.specs.Server as server
 use Rattle.call_model.specs.Call.{Call}
 
@@ -21,15 +21,15 @@ call_tag = 0
 
 -- ---- new rows
 
-abbrev pub way_of_contact : Fixed → ContactText → Option Way
-way_of_contact fixed contact = option_and_then (way_to fixed) contact.uri
+abbrev pub destination_of_contact : OpenedRequest → ContactText → Option Destination
+destination_of_contact opened contact = option_and_then (destination_to opened) contact.uri
 
 -- that of the contact at the row's place
-abbrev pub way_of_row : Fixed → List ContactText → Row → Option Way
-way_of_row fixed contacts row = option_and_then (way_of_contact fixed) (slice_get contacts row.place)
+abbrev pub destination_of_row : OpenedRequest → List ContactText → Row → Option Destination
+destination_of_row opened contacts row = option_and_then (destination_of_contact opened) (slice_get contacts row.place)
 
-abbrev pub ways_of : Fixed → List ContactText → List Row → List Way
-ways_of fixed contacts rows = filter_map (way_of_row fixed contacts) rows
+abbrev pub destinations_of : OpenedRequest → List ContactText → List Row → List Destination
+destinations_of opened contacts rows = filter_map (destination_of_row opened contacts) rows
 
 -- ---- what goes up
 
@@ -49,15 +49,15 @@ owed_by (Final choice) response = server.Final choice ∷ []
 abbrev pub rows_more : Log → Log → List Row
 rows_more old new = drop (length (table_of old).rows) (table_of new).rows
 
-abbrev pub no_leg : Row → Option Leg
-no_leg row = None
+abbrev pub no_branch : Row → Option Branch
+no_branch row = None
 
--- the call with a longer log: each new row gets its way, by the contact at its place, and was not sent to yet
+-- the call with a longer log: each new row gets its destination, by the contact at its place, and was not sent to yet
 abbrev pub gone_on : Call → List ContactText → Log → Call
 gone_on call contacts log = record call {
   log = log;
-  ways = call.ways ++ ways_of call.fixed contacts (rows_more call.log log);
-  legs = call.legs ++ map no_leg (rows_more call.log log);
+  destinations = call.destinations ++ destinations_of call.opened contacts (rows_more call.log log);
+  branches = call.branches ++ map no_branch (rows_more call.log log);
 }
 
 abbrev pub owes : Call → List server.Owed → Call

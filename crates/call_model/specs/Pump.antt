@@ -14,17 +14,17 @@ use Rattle.sip_txn.specs.declared.event.TxPass.TheVariants as pass
 use Rattle.sip_txn.specs.Machine.{machine_after, out_of}
 use Rattle.sip_txn.specs.OtherClient.{other_client}
 use Rattle.call_model.specs.declared.cause.Cause.TheVariants as cause
-use Rattle.call_model.specs.Fixed.{Way, kind_of}
+use Rattle.call_model.specs.OpenedRequest.{Destination, kind_of}
 use Rattle.call_model.specs.Client.{client_after, client_out}
-use Rattle.call_model.specs.Leg.{Leg, Cancelling, leg_start, cancel_start}
+use Rattle.call_model.specs.Branch.{Branch, CancelTransaction, branch_start, cancel_start}
 use Rattle.call_model.specs.Server.{Owed, Again, CancelOk, served_after, served_out, answer_event}
-use Rattle.call_model.specs.Call.{Call, leg_at, set_leg, row_passes}
+use Rattle.call_model.specs.Call.{Call, nth_branch, set_branch, row_passes}
 use Rattle.call_model.specs.Built.{Datagram, request_to, cancel_to, answer_of, status_of}
-use Rattle.call_model.specs.Due.{Deed, SendRequest, SendCancel, SendAck, SendAnswer, TickServer, TickClient, TickCancel, FireTimerC, GiveUp, is_due_at, IsIdle}
+use Rattle.call_model.specs.Due.{Action, SendRequest, SendCancel, SendAck, SendAnswer, TickServer, TickClient, TickCancel, FireTimerC, GiveUp, is_due_at, IsIdle}
 use Rattle.call_model.specs.Take.{is_response}
 use Rattle.call_model.specs.Posting.{Posts}
 
--- what comes of a pump: a datagram, or a deed without one, or nothing was to be done
+-- what comes of a pump: a datagram, or an action without one, or nothing was to be done
 pub data Pumped : Type 0 where
   Send : Datagram → Pumped
   Did : Pumped
@@ -33,36 +33,36 @@ pub data Pumped : Type 0 where
 -- ---- to a branch
 
 -- the request goes out, and its client transaction and timer C start
-abbrev pub request_bytes : Call → ℕ → Way → List ℕ
-request_bytes call n way = spelling (request_to call.fixed way n)
+abbrev pub request_bytes : Call → ℕ → Destination → List ℕ
+request_bytes call n destination = spelling (request_to call.opened destination n)
 
-abbrev pub SendsRequest : Call → ℕ → ℕ → Way → Pumped → Call → Type 0
-SendsRequest call now n way pumped new =
-    (pumped ≡ Send (record { to = way.hop; bytes = request_bytes call n way; cause = cause.Request n }))
-    × (new ≡ set_leg call n (leg_start (kind_of call.fixed) now (request_bytes call n way)))
+abbrev pub SendsRequest : Call → ℕ → ℕ → Destination → Pumped → Call → Type 0
+SendsRequest call now n destination pumped new =
+    (pumped ≡ Send (record { to = destination.hop; bytes = request_bytes call n destination; cause = cause.Request n }))
+    × (new ≡ set_branch call n (branch_start (kind_of call.opened) now (request_bytes call n destination)))
 
 -- its CANCEL goes out, with a client transaction of its own
-abbrev pub cancel_bytes : Call → ℕ → Way → List ℕ
-cancel_bytes call n way = spelling (cancel_to call.fixed way n)
+abbrev pub cancel_bytes : Call → ℕ → Destination → List ℕ
+cancel_bytes call n destination = spelling (cancel_to call.opened destination n)
 
-abbrev pub SendsCancel : Call → ℕ → ℕ → Way → Leg → Pumped → Call → Type 0
-SendsCancel call now n way leg pumped new =
-    (pumped ≡ Send (record { to = way.hop; bytes = cancel_bytes call n way; cause = cause.Cancel n }))
-    × (new ≡ set_leg call n (record leg { cancelling = Some (cancel_start now (cancel_bytes call n way)) }))
+abbrev pub SendsCancel : Call → ℕ → ℕ → Destination → Branch → Pumped → Call → Type 0
+SendsCancel call now n destination branch pumped new =
+    (pumped ≡ Send (record { to = destination.hop; bytes = cancel_bytes call n destination; cause = cause.Cancel n }))
+    × (new ≡ set_branch call n (record branch { cancelling = Some (cancel_start now (cancel_bytes call n destination)) }))
 
-abbrev pub SendsAck : Call → ℕ → Way → Leg → Pumped → Call → Type 0
-SendsAck call n way leg pumped new =
+abbrev pub SendsAck : Call → ℕ → Destination → Branch → Pumped → Call → Type 0
+SendsAck call n destination branch pumped new =
     (ack : List ℕ)
-    × (leg.ack ≡ Some ack)
-    × (pumped ≡ Send (record { to = way.hop; bytes = ack; cause = cause.Ack n }))
-    × (new ≡ set_leg call n (record leg { ack = None }))
+    × (branch.ack ≡ Some ack)
+    × (pumped ≡ Send (record { to = destination.hop; bytes = ack; cause = cause.Ack n }))
+    × (new ≡ set_branch call n (record branch { ack = None }))
 
 -- ---- to the caller
 
 -- the server transaction takes the answer, and sends it or drops it
 abbrev pub AnswersBy : Call → ℕ → List Owed → MessageText → Bool → Pumped → Call → Type 0
 AnswersBy call now rest answer true pumped new =
-    (pumped ≡ Send (record { to = call.fixed.caller; bytes = spelling answer; cause = cause.Answer }))
+    (pumped ≡ Send (record { to = call.opened.caller; bytes = spelling answer; cause = cause.Answer }))
     × (new
     ≡ record call {
       server = record {
@@ -90,7 +90,7 @@ abbrev pub SendsAnswer : Call → ℕ → List Owed → Pumped → Call → Type
 SendsAnswer call now [] pumped new = ⊥
 -- a retransmission, and the 200 to a CANCEL, are fed to no transaction
 SendsAnswer call now (Again ∷ rest) pumped new =
-    (pumped ≡ Send (record { to = call.fixed.caller; bytes = call.server.last; cause = cause.Answer }))
+    (pumped ≡ Send (record { to = call.opened.caller; bytes = call.server.last; cause = cause.Answer }))
     × (new ≡ record call { server = record call.server { owed = rest } })
 SendsAnswer call now (CancelOk cancel to ∷ rest) pumped new =
     (pumped ≡ Send (record { to = to; bytes = spelling (generated_of cancel Okay); cause = cause.CancelOk }))
@@ -108,7 +108,7 @@ abbrev pub TicksServer : Call → ℕ → Pumped → Call → Type 0
 TicksServer call now pumped new =
     (pumped
     ≡ sent_if (is_response (served_out event.Tick now call.server.machine).send) (record {
-      to = call.fixed.caller;
+      to = call.opened.caller;
       bytes = call.server.last;
       cause = cause.Answer;
     }))
@@ -118,81 +118,81 @@ abbrev pub is_request : TxSend → Bool
 is_request send.Request = true
 is_request _ = false
 
-abbrev pub ticked : Leg → ℕ → Leg
-ticked leg now = record leg { client = client_after event.Tick now leg.client }
+abbrev pub ticked : Branch → ℕ → Branch
+ticked branch now = record branch { client = client_after event.Tick now branch.client }
 
 abbrev pub is_timeout : TxPass → Bool
 is_timeout pass.Timeout = true
 is_timeout _ = false
 
 -- timers B and F end the branch, timers A and E send its request again, the others end its transaction
-abbrev pub TicksClientBy : Call → ℕ → ℕ → Way → Leg → (timeout : Bool) → Pumped → Call → Type 0
-TicksClientBy call now n way leg true pumped new =
-    (pumped ≡ Did) × (reply : Reply) × Posts (set_leg call n (ticked leg now)) (fork.Timeout n) [] None reply new
-TicksClientBy call now n way leg false pumped new =
+abbrev pub TicksClientBy : Call → ℕ → ℕ → Destination → Branch → (timeout : Bool) → Pumped → Call → Type 0
+TicksClientBy call now n destination branch true pumped new =
+    (pumped ≡ Did) × (reply : Reply) × Posts (set_branch call n (ticked branch now)) (fork.Timeout n) [] None reply new
+TicksClientBy call now n destination branch false pumped new =
     (pumped
-    ≡ sent_if (is_request (client_out event.Tick now leg.client).send) (record { to = way.hop; bytes = leg.sent; cause = cause.Request n }))
-    × (new ≡ set_leg call n (ticked leg now))
+    ≡ sent_if (is_request (client_out event.Tick now branch.client).send) (record { to = destination.hop; bytes = branch.sent; cause = cause.Request n }))
+    × (new ≡ set_branch call n (ticked branch now))
 
-abbrev pub TicksClient : Call → ℕ → ℕ → Way → Leg → Pumped → Call → Type 0
-TicksClient call now n way leg pumped new =
-    TicksClientBy call now n way leg (is_timeout (client_out event.Tick now leg.client).pass) pumped new
+abbrev pub TicksClient : Call → ℕ → ℕ → Destination → Branch → Pumped → Call → Type 0
+TicksClient call now n destination branch pumped new =
+    TicksClientBy call now n destination branch (is_timeout (client_out event.Tick now branch.client).pass) pumped new
 
 -- what the transaction of a CANCEL passes is not posted
-abbrev pub TicksCancel : Call → ℕ → ℕ → Way → Leg → Pumped → Call → Type 0
-TicksCancel call now n way leg pumped new =
-    (cancelling : Cancelling)
-    × (leg.cancelling ≡ Some cancelling)
+abbrev pub TicksCancel : Call → ℕ → ℕ → Destination → Branch → Pumped → Call → Type 0
+TicksCancel call now n destination branch pumped new =
+    (cancelling : CancelTransaction)
+    × (branch.cancelling ≡ Some cancelling)
     × (pumped
     ≡ sent_if (is_request (out_of other_client event.Tick now cancelling.client).send) (record {
-      to = way.hop;
+      to = destination.hop;
       bytes = cancelling.sent;
       cause = cause.Cancel n;
     }))
     × (new
-    ≡ set_leg call n (record leg {
+    ≡ set_branch call n (record branch {
       cancelling = Some (record cancelling { client = machine_after other_client event.Tick now cancelling.client });
     }))
 
 -- ---- the ends of waiting
 
-abbrev pub stopped : Leg → ℕ → Leg
-stopped leg now = record leg { client = client_after event.Stop now leg.client }
+abbrev pub stopped : Branch → ℕ → Branch
+stopped branch now = record branch { client = client_after event.Stop now branch.client }
 
 -- timer C ends a branch that has not rung, and stops its transaction; one that has rung is cancelled (section 16.8)
-abbrev pub FiresTimerC : Call → ℕ → ℕ → Leg → Bool → Pumped → Call → Type 0
-FiresTimerC call now n leg true pumped new =
-    (pumped ≡ Did) × (reply : Reply) × Posts (set_leg call n (stopped leg now)) (fork.TimerC n) [] None reply new
-FiresTimerC call now n leg false pumped new =
+abbrev pub FiresTimerC : Call → ℕ → ℕ → Branch → Bool → Pumped → Call → Type 0
+FiresTimerC call now n branch true pumped new =
+    (pumped ≡ Did) × (reply : Reply) × Posts (set_branch call n (stopped branch now)) (fork.TimerC n) [] None reply new
+FiresTimerC call now n branch false pumped new =
     (pumped ≡ Did) × (reply : Reply) × Posts call (fork.TimerC n) [] None reply new
 
 -- a cancelled branch is given up, and its transaction stopped (section 9.1)
-abbrev pub GivesUp : Call → ℕ → ℕ → Leg → Pumped → Call → Type 0
-GivesUp call now n leg pumped new =
-    (pumped ≡ Did) × (reply : Reply) × Posts (set_leg call n (stopped leg now)) (fork.GiveUp n) [] None reply new
+abbrev pub GivesUp : Call → ℕ → ℕ → Branch → Pumped → Call → Type 0
+GivesUp call now n branch pumped new =
+    (pumped ≡ Did) × (reply : Reply) × Posts (set_branch call n (stopped branch now)) (fork.GiveUp n) [] None reply new
 
--- ---- by deed
+-- ---- by action
 
 -- branch n, with its part
-abbrev pub OnPart : Call → ℕ → (Leg → Type 0) → Type 0
-OnPart call n P = (leg : Leg) × (leg_at call n ≡ Some leg) × P leg
+abbrev pub OnPart : Call → ℕ → (Branch → Type 0) → Type 0
+OnPart call n P = (branch : Branch) × (nth_branch call n ≡ Some branch) × P branch
 
--- branch n, with its way and its part
-abbrev pub OnLeg : Call → ℕ → (Way → Leg → Type 0) → Type 0
-OnLeg call n P = (way : Way) × (leg : Leg) × (slice_get call.ways n ≡ Some way) × (leg_at call n ≡ Some leg) × P way leg
+-- branch n, with its destination and its part
+abbrev pub OnBranch : Call → ℕ → (Destination → Branch → Type 0) → Type 0
+OnBranch call n P = (destination : Destination) × (branch : Branch) × (slice_get call.destinations n ≡ Some destination) × (nth_branch call n ≡ Some branch) × P destination branch
 
-abbrev pub Does : Call → ℕ → Deed → Pumped → Call → Type 0
-Does call now (SendRequest n) pumped new = (way : Way) × (slice_get call.ways n ≡ Some way) × SendsRequest call now n way pumped new
-Does call now (SendCancel n) pumped new = OnLeg call n (λ way leg. SendsCancel call now n way leg pumped new)
-Does call now (SendAck n) pumped new = OnLeg call n (λ way leg. SendsAck call n way leg pumped new)
+abbrev pub Does : Call → ℕ → Action → Pumped → Call → Type 0
+Does call now (SendRequest n) pumped new = (destination : Destination) × (slice_get call.destinations n ≡ Some destination) × SendsRequest call now n destination pumped new
+Does call now (SendCancel n) pumped new = OnBranch call n (λ destination branch. SendsCancel call now n destination branch pumped new)
+Does call now (SendAck n) pumped new = OnBranch call n (λ destination branch. SendsAck call n destination branch pumped new)
 Does call now SendAnswer pumped new = SendsAnswer call now call.server.owed pumped new
 Does call now TickServer pumped new = TicksServer call now pumped new
-Does call now (TickClient n) pumped new = OnLeg call n (λ way leg. TicksClient call now n way leg pumped new)
-Does call now (TickCancel n) pumped new = OnLeg call n (λ way leg. TicksCancel call now n way leg pumped new)
-Does call now (FireTimerC n) pumped new = OnPart call n (λ leg. FiresTimerC call now n leg (row_passes is_trying call n) pumped new)
-Does call now (GiveUp n) pumped new = OnPart call n (λ leg. GivesUp call now n leg pumped new)
+Does call now (TickClient n) pumped new = OnBranch call n (λ destination branch. TicksClient call now n destination branch pumped new)
+Does call now (TickCancel n) pumped new = OnBranch call n (λ destination branch. TicksCancel call now n destination branch pumped new)
+Does call now (FireTimerC n) pumped new = OnPart call n (λ branch. FiresTimerC call now n branch (row_passes is_trying call n) pumped new)
+Does call now (GiveUp n) pumped new = OnPart call n (λ branch. GivesUp call now n branch pumped new)
 
 -- one thing that is due is done, whichever; where nothing is, nothing changes
 abbrev pub Pumps : Call → ℕ → Pumped → Call → Type 0
 Pumps call now Idle new = IsIdle call now × (new ≡ call)
-Pumps call now pumped new = (deed : Deed) × (is_due_at call now deed ≡ true) × Does call now deed pumped new
+Pumps call now pumped new = (action : Action) × (is_due_at call now action ≡ true) × Does call now action pumped new

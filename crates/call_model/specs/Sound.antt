@@ -16,10 +16,10 @@ use Rattle.sip_txn.specs.declared.invite_client.InviteClientState.TheVariants as
 use Rattle.sip_txn.specs.declared.other_client.OtherClientState.{OtherClientState}
 use Rattle.sip_txn.specs.declared.other_client.OtherClientState.TheVariants as other
 use Rattle.call_model.specs.Begun.{begun}
-use Rattle.call_model.specs.Call.{Call, leg_at}
-use Rattle.call_model.specs.Client.{Client, InviteClient, OtherClient}
-use Rattle.call_model.specs.Fixed.{Fixed, Way, kind_of}
-use Rattle.call_model.specs.Leg.{Leg}
+use Rattle.call_model.specs.Call.{Call, nth_branch}
+use Rattle.call_model.specs.Client.{ClientTransaction, InviteClient, OtherClient}
+use Rattle.call_model.specs.OpenedRequest.{OpenedRequest, Destination, kind_of}
+use Rattle.call_model.specs.Branch.{Branch}
 use Rattle.call_model.specs.Server.{Owed, Trying, Passed, Final, Again, CancelOk}
 use Rattle.call_model.specs.Step.{Input, Take, Pump, Failed, Turn, Step}
 use Rattle.call_model.specs.Take as to
@@ -37,7 +37,7 @@ other_awaits other.Proceeding = true
 other_awaits _ = false
 
 -- whether a transaction waits for a final response
-abbrev pub awaits : Client → Bool
+abbrev pub awaits : ClientTransaction → Bool
 awaits (InviteClient m) = invite_awaits m.state
 awaits (OtherClient m) = other_awaits m.state
 
@@ -46,13 +46,13 @@ abbrev pub IsForward : MessageText → Type 0
 IsForward m = has_second (via_values m) ≡ true
 
 -- the part of branch n where the table stands so
-pub record IsSoundLeg (t : Table) (n : ℕ) (leg : Leg) : Type 0 where
+pub record IsSoundBranch (t : Table) (n : ℕ) (branch : Branch) : Type 0 where
   -- its branch has not ended while its transaction waits
-  pub open_yet : awaits leg.client ≡ true → is_row is_open (slice_get t.rows n) ≡ true
+  pub open_yet : awaits branch.client ≡ true → is_row is_open (slice_get t.rows n) ≡ true
   -- an INVITE alone has timer C
-  pub timer_c : is_some leg.timer_c_at ≡ true → is_invite t.kind ≡ true
+  pub timer_c : is_some branch.timer_c_at ≡ true → is_invite t.kind ≡ true
   -- the failure that it keeps may go up
-  pub answer : IfSome leg.answer IsForward
+  pub answer : IfSome branch.answer IsForward
 
 -- ---- the caller's side
 
@@ -74,15 +74,15 @@ abbrev pub StoresValues : Table → Type 0
 StoresValues t = EachPasses is_text is_challenge t
 
 pub record IsSound (call : Call) : Type 0 where
-  pub kind : (table_of call.log).kind ≡ kind_of call.fixed
+  pub kind : (table_of call.log).kind ≡ kind_of call.opened
   pub stored : StoresValues (table_of call.log)
   pub owed : AllByRecursion (IsSoundOwed (table_of call.log)) call.server.owed
-  pub legs : (n : ℕ) (leg : Leg) → leg_at call n ≡ Some leg → IsSoundLeg (table_of call.log) n leg
+  pub branches : (n : ℕ) (branch : Branch) → nth_branch call n ≡ Some branch → IsSoundBranch (table_of call.log) n branch
 
 -- ---- laws
 
 -- what a branch is given is a message, and may go up
-abbrev pub IsGivenTo : to.Recipient → MessageText → Type 0
+abbrev pub IsGivenTo : to.MatchedTransaction → MessageText → Type 0
 IsGivenTo (to.Client n) m = IsMessage m × IsForward m
 IsGivenTo _ m = Unit {0}
 
@@ -94,8 +94,8 @@ IsGiven (Failed cause) = Unit {0}
 -- so a call begins to these targets
 abbrev pub BegunIsSound : Type 0
 BegunIsSound =
-    (fixed : Fixed) (rules : Rules) (targets : List Target) (ways : List Way)
-    → IsSound (begun fixed (opening_log (kind_of fixed) rules targets) ways)
+    (opened : OpenedRequest) (rules : Rules) (targets : List Target) (destinations : List Destination)
+    → IsSound (begun opened (opening_log (kind_of opened) rules targets) destinations)
 
 abbrev pub StepsKeepSound : Type 0
 StepsKeepSound =

@@ -5,13 +5,13 @@ use Rattle.sip_text.specs.Text.{MessageText}
 use Rattle.sip_uri.specs.declared.hop.Hop.{Hop}
 use Rattle.call_model.specs.declared.cause.Cause.{Cause}
 use Rattle.call_model.specs.Call.{Call}
-use Rattle.call_model.specs.Take.{Client, Posted, Recipient, Taken, TakesAs}
+use Rattle.call_model.specs.Take.{Client, Posted, MatchedTransaction, Taken, TakesAs}
 use Rattle.call_model.specs.Pump.{Pumped, Pumps}
 use Rattle.call_model.specs.Failed.{Fails}
 
 -- a message from this hop for this transaction; the leave to do one thing; a datagram that could not be sent
 pub data Input : Type 0 where
-  Take : Recipient → MessageText → Hop → Input
+  Take : MatchedTransaction → MessageText → Hop → Input
   Pump : Input
   Failed : Cause → Input
 

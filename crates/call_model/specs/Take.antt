@@ -19,25 +19,25 @@ use Rattle.sip_txn.specs.declared.event.TxPass.TheVariants as pass
 use Rattle.sip_txn.specs.Timers.{later}
 use Rattle.sip_txn.specs.Machine.{machine_after}
 use Rattle.sip_txn.specs.OtherClient.{other_client}
-use Rattle.call_model.specs.Fixed.{Way, is_invite}
+use Rattle.call_model.specs.OpenedRequest.{Destination, is_invite}
 use Rattle.call_model.specs.Client.{client_after, client_out}
-use Rattle.call_model.specs.Leg.{Leg, Cancelling, timer_c}
+use Rattle.call_model.specs.Branch.{Branch, CancelTransaction, timer_c}
 use Rattle.call_model.specs.Server as server
 use Rattle.call_model.specs.Server.{served_after, served_out}
-use Rattle.call_model.specs.Call.{Call, leg_at, set_leg}
+use Rattle.call_model.specs.Call.{Call, nth_branch, set_branch}
 use Rattle.call_model.specs.Built.{ack_to, status_of}
 use Rattle.call_model.specs.Response.{contacts_for, event_by}
 use Rattle.call_model.specs.Posting.{Posts, owes}
 
 -- the transactions of a call that messages come to
-pub data Recipient : Type 0 where
+pub data MatchedTransaction : Type 0 where
   -- the caller's request again, its ACK, its CANCEL
-  Server : Recipient
-  ServerAck : Recipient
-  ServerCancel : Recipient
+  Server : MatchedTransaction
+  ServerAck : MatchedTransaction
+  ServerCancel : MatchedTransaction
   -- the client transaction of branch n, and that of its CANCEL
-  Client : (n : ℕ) → Recipient
-  CancelClient : (n : ℕ) → Recipient
+  Client : (n : ℕ) → MatchedTransaction
+  CancelClient : (n : ℕ) → MatchedTransaction
 
 -- what comes of a message: a transaction absorbs it, or it is posted as the event at this position, or the book takes
 -- no more events that change nothing
@@ -66,7 +66,7 @@ requested_again call now =
 
 -- a CANCEL is posted where the call is an INVITE whose table is not closed (section 16.10)
 abbrev pub cancels : Call → Bool
-cancels call = is_invite call.fixed && not (table_of call.log).closed
+cancels call = is_invite call.opened && not (table_of call.log).closed
 
 -- a 200 to it is owed, which goes to this hop
 abbrev pub owes_cancel_ok : Call → MessageText → Hop → Call
@@ -102,10 +102,10 @@ abbrev pub ack_by : TxSend → List ℕ → Option (List ℕ) → Option (List �
 ack_by send.Ack ack owed = Some ack
 ack_by _ ack owed = owed
 
-abbrev pub client_on : Leg → ℕ → ℕ → List ℕ → Leg
-client_on leg now status ack = record leg {
-  client = client_after (response_event status) now leg.client;
-  ack = ack_by (client_out (response_event status) now leg.client).send ack leg.ack;
+abbrev pub client_on : Branch → ℕ → ℕ → List ℕ → Branch
+client_on branch now status ack = record branch {
+  client = client_after (response_event status) now branch.client;
+  ack = ack_by (client_out (response_event status) now branch.client).send ack branch.ack;
 }
 
 -- a provisional response sets timer C again, but for a 100 (section 16.7 step 2)
@@ -122,61 +122,61 @@ abbrev pub going_up : ℕ → MessageText → Option MessageText
 going_up status m = if nat_lt status 300 then Some m else None
 
 -- what a response that was posted leaves in the branch's part
-abbrev pub leg_posted : (first : Bool) → Leg → ℕ → ℕ → MessageText → Leg
-leg_posted first leg now status m = record leg {
-  timer_c_at = timer_c_again now status leg.timer_c_at;
-  answer = answer_kept first status m leg.answer;
+abbrev pub branch_posted : (first : Bool) → Branch → ℕ → ℕ → MessageText → Branch
+branch_posted first branch now status m = record branch {
+  timer_c_at = timer_c_again now status branch.timer_c_at;
+  answer = answer_kept first status m branch.answer;
 }
 
--- the response as the client transaction of branch n takes it, with its part and its way
-abbrev pub leg_after : Call → ℕ → Leg → Way → ℕ → MessageText → Leg
-leg_after call n leg way now m = client_on leg now (status_of m) (spelling (ack_to call.fixed way n m))
+-- the response as the client transaction of branch n takes it, with its part and its destination
+abbrev pub branch_after : Call → ℕ → Branch → Destination → ℕ → MessageText → Branch
+branch_after call n branch destination now m = client_on branch now (status_of m) (spelling (ack_to call.opened destination n m))
 
-abbrev pub Responds : Call → ℕ → Leg → Way → ℕ → MessageText → Taken → Call → Type 0
+abbrev pub Responds : Call → ℕ → Branch → Destination → ℕ → MessageText → Taken → Call → Type 0
 -- the transaction keeps it to itself
-Responds call n leg way now m Absorbed new =
-    (is_passed (client_out (response_event (status_of m)) now leg.client).pass ≡ false)
-    × (new ≡ set_leg call n (leg_after call n leg way now m))
+Responds call n branch destination now m Absorbed new =
+    (is_passed (client_out (response_event (status_of m)) now branch.client).pass ≡ false)
+    × (new ≡ set_branch call n (branch_after call n branch destination now m))
 -- it hands it up, and it is posted; the branch may then be the first of those with a stored answer (section 16.7 step 6)
-Responds call n leg way now m (Posted at) new =
-    (is_passed (client_out (response_event (status_of m)) now leg.client).pass ≡ true)
+Responds call n branch destination now m (Posted at) new =
+    (is_passed (client_out (response_event (status_of m)) now branch.client).pass ≡ true)
     × (reply : Reply)
     × (reply.at ≡ at)
     × (first : Bool)
     × (IsTrue first ↔ HasFirst (table_of new.log) n)
     × Posts
-    (set_leg call n (leg_posted first (leg_after call n leg way now m) now (status_of m) m))
-    (event_by call.fixed.is_responsible n (status_of m) m)
-    (contacts_for call.fixed.is_responsible (status_of m) m)
+    (set_branch call n (branch_posted first (branch_after call n branch destination now m) now (status_of m) m))
+    (event_by call.opened.is_responsible n (status_of m) m)
+    (contacts_for call.opened.is_responsible (status_of m) m)
     (going_up (status_of m) m)
     reply
     new
 -- it would hand it up, and the book does not take it
-Responds call n leg way now m Full new =
-    (is_passed (client_out (response_event (status_of m)) now leg.client).pass ≡ true)
-    × (is_full (core_of call.log) (event_by call.fixed.is_responsible n (status_of m) m) ≡ true)
+Responds call n branch destination now m Full new =
+    (is_passed (client_out (response_event (status_of m)) now branch.client).pass ≡ true)
+    × (is_full (core_of call.log) (event_by call.opened.is_responsible n (status_of m) m) ≡ true)
     × (new ≡ call)
 
--- the response comes to branch n, whose part and way there are
+-- the response comes to branch n, whose part and destination there are
 abbrev pub RespondsOn : Call → ℕ → ℕ → MessageText → Taken → Call → Type 0
 RespondsOn call n now m taken new =
-    (leg : Leg) × (way : Way) × (leg_at call n ≡ Some leg) × (slice_get call.ways n ≡ Some way) × Responds call n leg way now m taken new
+    (branch : Branch) × (destination : Destination) × (nth_branch call n ≡ Some branch) × (slice_get call.destinations n ≡ Some destination) × Responds call n branch destination now m taken new
 
 -- ---- by recipient
 
-abbrev pub TakesAs : Call → ℕ → MessageText → Hop → Recipient → Taken → Call → Type 0
+abbrev pub TakesAs : Call → ℕ → MessageText → Hop → MatchedTransaction → Taken → Call → Type 0
 TakesAs call now m source Server Absorbed new = new ≡ requested_again call now
 TakesAs call now m source ServerAck Absorbed new = new ≡ served_on call event.Ack now
 TakesAs call now m source ServerCancel taken new = TakesCancel call m source taken new
 TakesAs call now m source (Client n) taken new = RespondsOn call n now m taken new
 -- what the transaction of a CANCEL passes is not posted
 TakesAs call now m source (CancelClient n) Absorbed new =
-    (leg : Leg)
-    × (cancelling : Cancelling)
-    × (leg_at call n ≡ Some leg)
-    × (leg.cancelling ≡ Some cancelling)
+    (branch : Branch)
+    × (cancelling : CancelTransaction)
+    × (nth_branch call n ≡ Some branch)
+    × (branch.cancelling ≡ Some cancelling)
     × (new
-    ≡ set_leg call n (record leg {
+    ≡ set_branch call n (record branch {
       cancelling = Some (record cancelling { client = machine_after other_client (response_event (status_of m)) now cancelling.client });
     }))
 TakesAs call now m source _ _ new = ⊥

@@ -2,7 +2,7 @@
 use crate::datagram::Datagram;
 use std::alloc::{Allocator, Global};
 
-/// What comes of a deed of a call.
+/// What comes of an action of a call.
 #[derive(Drop)]
 #[derive_where(Debug)]
 pub enum Step<A: Allocator = Global> {

@@ -18,10 +18,10 @@ use Rattle.sip_txn.specs.OtherServer.{other_server}
 use Rattle.sip_txn.specs.Machine.{Table, machine_after, out_of, row_machine, row_out, silent}
 use Rattle.sip_txn.specs.Timers.{input_of}
 use Rattle.call_model.specs.Client as client
-use Rattle.call_model.specs.Client.{Client, InviteClient, OtherClient, client_after, client_out}
+use Rattle.call_model.specs.Client.{ClientTransaction, InviteClient, OtherClient, client_after, client_out}
 use Rattle.call_model.specs.Server as server
 use Rattle.call_model.specs.Take.{response_event}
-use Rattle.call_model.specs.Server.{Served, InviteServer, OtherServer, served_after, served_out}
+use Rattle.call_model.specs.Server.{ServerTransaction, InviteServer, OtherServer, served_after, served_out}
 
 -- a machine whose table has no row for what it is fed
 stays : {S : Type 0} (table : Table S) (over : S) (ev : TxEvent) (now : ℕ) (m : Machine S) → m.state ≡ over → table over (input_of ev now m.timers) ≡ None
@@ -38,11 +38,11 @@ silently {S} table over ev now m is none =
 
 -- ---- the caller's
 
-pub served_stays : (ev : TxEvent) (now : ℕ) (s : Served) → server.is_over s → served_after ev now s ≡ s
+pub served_stays : (ev : TxEvent) (now : ℕ) (s : ServerTransaction) → server.is_over s → served_after ev now s ≡ s
 served_stays ev now (InviteServer m) is = ap InviteServer (stays invite_server invite_server_at.Terminated ev now m is refl)
 served_stays ev now (OtherServer m) is = ap OtherServer (stays other_server other_server_at.Terminated ev now m is refl)
 
-pub served_silent : (ev : TxEvent) (now : ℕ) (s : Served) → server.is_over s → served_out ev now s ≡ silent
+pub served_silent : (ev : TxEvent) (now : ℕ) (s : ServerTransaction) → server.is_over s → served_out ev now s ≡ silent
 served_silent ev now (InviteServer m) is = silently invite_server invite_server_at.Terminated ev now m is refl
 served_silent ev now (OtherServer m) is = silently other_server other_server_at.Terminated ev now m is refl
 
@@ -64,11 +64,11 @@ unheeded_response status = by (nat_lt status 200) (nat_lt status 300)
     by false true now timers = (refl, refl)
     by false false now timers = (refl, refl)
 
-pub client_stays : (ev : TxEvent) → Unheeded ev → (now : ℕ) (c : Client) → client.is_over c → client_after ev now c ≡ c
+pub client_stays : (ev : TxEvent) → Unheeded ev → (now : ℕ) (c : ClientTransaction) → client.is_over c → client_after ev now c ≡ c
 client_stays ev none now (InviteClient m) is = ap InviteClient (stays invite_client invite_client_at.Terminated ev now m is (none now m.timers).0)
 client_stays ev none now (OtherClient m) is = ap OtherClient (stays other_client other_client_at.Terminated ev now m is (none now m.timers).1)
 
-pub client_silent : (ev : TxEvent) → Unheeded ev → (now : ℕ) (c : Client) → client.is_over c → client_out ev now c ≡ silent
+pub client_silent : (ev : TxEvent) → Unheeded ev → (now : ℕ) (c : ClientTransaction) → client.is_over c → client_out ev now c ≡ silent
 client_silent ev none now (InviteClient m) is = silently invite_client invite_client_at.Terminated ev now m is (none now m.timers).0
 client_silent ev none now (OtherClient m) is = silently other_client other_client_at.Terminated ev now m is (none now m.timers).1
 

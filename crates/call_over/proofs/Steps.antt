@@ -20,22 +20,22 @@ use Rattle.call_model.specs.declared.cause.Cause.{Cause}
 use Rattle.call_model.specs.declared.cause.Cause.TheVariants as cause
 use Rattle.call_model.specs.Built.{ack_to, status_of}
 use Rattle.sip_text.specs.Text.{spelling}
-use Rattle.call_model.specs.Call.{Call, found, leg_at, rows_of}
+use Rattle.call_model.specs.Call.{Call, found, nth_branch, rows_of}
 use Rattle.call_model.specs.Client as client
-use Rattle.call_model.specs.Client.{Client, client_after, client_out}
-use Rattle.call_model.specs.Due.{Deed, SendRequest, SendCancel, SendAck, SendAnswer, TickServer, TickClient, TickCancel, FireTimerC, GiveUp, IsOverCancelling, is_any, is_due_at}
+use Rattle.call_model.specs.Client.{ClientTransaction, client_after, client_out}
+use Rattle.call_model.specs.Due.{Action, SendRequest, SendCancel, SendAck, SendAnswer, TickServer, TickClient, TickCancel, FireTimerC, GiveUp, IsOverCancelTransaction, is_any, is_due_at}
 use Rattle.call_model.specs.Failed.{Fails, FaultsBy, FaultsClient, cancel_faulted, faulted, faulted_cancel, is_fault}
-use Rattle.call_model.specs.Fixed.{Way}
-use Rattle.call_model.specs.Leg.{Leg, Cancelling}
-use Rattle.call_model.specs.Posting.{Posts, call_tag, gone_on, no_leg, owed_by, owes, rows_more, ways_of}
+use Rattle.call_model.specs.OpenedRequest.{Destination}
+use Rattle.call_model.specs.Branch.{Branch, CancelTransaction}
+use Rattle.call_model.specs.Posting.{Posts, call_tag, gone_on, no_branch, owed_by, owes, rows_more, destinations_of}
 use Rattle.call_model.specs.Pump as pump
 use Rattle.call_model.specs.Pump.{Pumped, Pumps, Does, SendsAnswer}
 use Rattle.call_model.specs.Server as server
-use Rattle.call_model.specs.Server.{Owed, Served, CancelOk, served_out}
+use Rattle.call_model.specs.Server.{Owed, ServerTransaction, CancelOk, served_out}
 use Rattle.call_model.specs.Step as step
 use Rattle.call_model.specs.Step.{Input, Output, Step}
 use Rattle.call_model.specs.Take as to
-use Rattle.call_model.specs.Take.{Recipient, Taken, TakesAs, CancelledBy, Responds, ack_by, again_if, client_on, is_passed, is_response, leg_after, owes_cancel_ok, requested_again, response_event, served_on}
+use Rattle.call_model.specs.Take.{MatchedTransaction, Taken, TakesAs, CancelledBy, Responds, ack_by, again_if, client_on, is_passed, is_response, branch_after, owes_cancel_ok, requested_again, response_event, served_on}
 use Rattle.call_model.proofs.SoundTables.{table_added}
 use Rattle.call_over.specs.Quiet.{IsCancelOk, IsLeft, IsQuiet, IsQuietly, OverCallsAreQuiet, OverCallsHaveNothingDue, QuietCallsStayQuiet, SendsCancelOk, paid}
 use Rattle.call_over.proofs.Calls.{same_due, set_same}
@@ -46,14 +46,14 @@ no e = absurd cc
 
 -- ---- what stays quiet
 
-quiet_same : (call new : Call) → IsQuiet call → rows_of new ≡ rows_of call → new.legs ≡ call.legs → new.server.machine ≡ call.server.machine
+quiet_same : (call new : Call) → IsQuiet call → rows_of new ≡ rows_of call → new.branches ≡ call.branches → new.server.machine ≡ call.server.machine
     → AllByRecursion IsCancelOk new.server.owed → IsQuiet new
-quiet_same call new q rows legs machine owed = record {
+quiet_same call new q rows branches machine owed = record {
   over = record {
     finished = ap (λ (rs : List Row). is_finished rs) rows ∙ q.over.finished;
-    server = subst (λ (s : Served). server.is_over s) (sym machine) q.over.server;
-    legs = λ n leg at. q.over.legs n leg (ap (λ (ls : List (Option Leg)). found (slice_get ls n)) (sym legs) ∙ at);
-    idle = λ now deed. same_due (paid call) (paid new) rows legs machine refl now deed ∙ q.over.idle now deed;
+    server = subst (λ (s : ServerTransaction). server.is_over s) (sym machine) q.over.server;
+    branches = λ n branch at. q.over.branches n branch (ap (λ (ls : List (Option Branch)). found (slice_get ls n)) (sym branches) ∙ at);
+    idle = λ now action. same_due (paid call) (paid new) rows branches machine refl now action ∙ q.over.idle now action;
   };
   owed = owed;
 }
@@ -61,9 +61,9 @@ quiet_same call new q rows legs machine owed = record {
 left_same : (call new : Call) (input : Input) → IsQuiet call → new ≡ call → IsLeft call new input
 left_same call new input q is = record {
   quiet = subst IsQuiet (sym is) q;
-  fixed = ap (λ (c : Call). c.fixed) is;
-  ways = ap (λ (c : Call). c.ways) is;
-  legs = ap (λ (c : Call). c.legs) is;
+  opened = ap (λ (c : Call). c.opened) is;
+  destinations = ap (λ (c : Call). c.destinations) is;
+  branches = ap (λ (c : Call). c.branches) is;
   rows = ap (λ (c : Call). rows_of c) is;
   machine = ap (λ (c : Call). c.server.machine) is;
   log = λ other. ap (λ (c : Call). c.log) is;
@@ -74,9 +74,9 @@ left_owing : (call : Call) (input : Input) (owed : List Owed) → IsQuiet call �
     → IsLeft call (record call { server = record call.server { owed = owed } }) input
 left_owing call input owed q all = record {
   quiet = quiet_same call (record call { server = record call.server { owed = owed } }) q refl refl refl all;
-  fixed = refl;
-  ways = refl;
-  legs = refl;
+  opened = refl;
+  destinations = refl;
+  branches = refl;
   rows = refl;
   machine = refl;
   log = λ other. refl;
@@ -90,7 +90,7 @@ one_more (o ∷ os) cancel hop all = (all.0, one_more os cancel hop all.1)
 
 served_same : (call : Call) (ev : TxEvent) (now : ℕ) → IsQuiet call → served_on call ev now ≡ call
 served_same call ev now q =
-    ap (λ (s : Served). record call { server = record call.server { machine = s } }) (served_stays ev now call.server.machine q.over.server)
+    ap (λ (s : ServerTransaction). record call { server = record call.server { machine = s } }) (served_stays ev now call.server.machine q.over.server)
 
 again_same : (call : Call) (now : ℕ) → IsQuiet call → requested_again call now ≡ call
 again_same call now q =
@@ -145,8 +145,8 @@ left_cancelled stay call new m cancel source hop reply q posts =
     after : Call
     after = owes (gone_on (owes_cancel_ok call cancel hop) [] log) (owed_by reply.up None)
 
-    legs : after.legs ≡ call.legs
-    legs = ap (λ (rs : List Row). call.legs ++ map no_leg rs) none ∙ append-nil call.legs
+    branches : after.branches ≡ call.branches
+    branches = ap (λ (rs : List Row). call.branches ++ map no_branch rs) none ∙ append-nil call.branches
 
     owed : AllByRecursion IsCancelOk after.server.owed
     owed =
@@ -155,10 +155,10 @@ left_cancelled stay call new m cancel source hop reply q posts =
 
     left : IsLeft call after (step.Take to.ServerCancel m source)
     left = record {
-      quiet = quiet_same call after q rows legs refl owed;
-      fixed = refl;
-      ways = ap (λ (rs : List Row). call.ways ++ ways_of call.fixed [] rs) none ∙ append-nil call.ways;
-      legs = legs;
+      quiet = quiet_same call after q rows branches refl owed;
+      opened = refl;
+      destinations = ap (λ (rs : List Row). call.destinations ++ destinations_of call.opened [] rs) none ∙ append-nil call.destinations;
+      branches = branches;
       rows = rows;
       machine = refl;
       log = λ other. absurd (other tt);
@@ -173,34 +173,34 @@ takes_cancel stay call new m cancel source hop (to.Posted at) q by = (tt, left_c
 takes_cancel stay call new m cancel source hop to.Full q by = absurd by
 
 -- a response to a branch
-leg_same : (leg : Leg) (now status : ℕ) (ack : List ℕ) → client.is_over leg.client → client_on leg now status ack ≡ leg
-leg_same leg now status ack is =
-    let stays : client_after (response_event status) now leg.client ≡ leg.client = client_stays (response_event status) (unheeded_response status) now leg.client is in
-    let quiet : ack_by (client_out (response_event status) now leg.client).send ack leg.ack ≡ leg.ack =
-    ap (λ (o : TxOut). ack_by o.send ack leg.ack) (client_silent (response_event status) (unheeded_response status) now leg.client is) in
-    λ i. record leg { client = stays i; ack = quiet i }
+branch_same : (branch : Branch) (now status : ℕ) (ack : List ℕ) → client.is_over branch.client → client_on branch now status ack ≡ branch
+branch_same branch now status ack is =
+    let stays : client_after (response_event status) now branch.client ≡ branch.client = client_stays (response_event status) (unheeded_response status) now branch.client is in
+    let quiet : ack_by (client_out (response_event status) now branch.client).send ack branch.ack ≡ branch.ack =
+    ap (λ (o : TxOut). ack_by o.send ack branch.ack) (client_silent (response_event status) (unheeded_response status) now branch.client is) in
+    λ i. record branch { client = stays i; ack = quiet i }
 
-no_pass : (status now : ℕ) (c : Client) → client.is_over c → is_passed (client_out (response_event status) now c).pass ≡ true → ⊥
+no_pass : (status now : ℕ) (c : ClientTransaction) → client.is_over c → is_passed (client_out (response_event status) now c).pass ≡ true → ⊥
 no_pass status now c is e =
     no (sym (ap (λ (o : TxOut). is_passed o.pass) (client_silent (response_event status) (unheeded_response status) now c is)) ∙ e)
 
-responds : (call new : Call) (n now : ℕ) (leg : Leg) (way : Way) (m : MessageText) (source : Hop) (taken : Taken) → IsQuiet call → leg_at call n ≡ Some leg
-    → Responds call n leg way now m taken new → IsQuietly (to.Client n) taken × IsLeft call new (step.Take (to.Client n) m source)
-responds call new n now leg way m source to.Absorbed q at r =
-    let same = leg_same leg now (status_of m) (spelling (ack_to call.fixed way n m)) (q.over.legs n leg at).client in
-    (tt, left_same call new _ q (r.1 ∙ set_same call n leg (leg_after call n leg way now m) at same))
-responds call new n now leg way m source (to.Posted at_) q at r = absurd (no_pass (status_of m) now leg.client (q.over.legs n leg at).client r.0)
-responds call new n now leg way m source to.Full q at r = absurd (no_pass (status_of m) now leg.client (q.over.legs n leg at).client r.0)
+responds : (call new : Call) (n now : ℕ) (branch : Branch) (destination : Destination) (m : MessageText) (source : Hop) (taken : Taken) → IsQuiet call → nth_branch call n ≡ Some branch
+    → Responds call n branch destination now m taken new → IsQuietly (to.Client n) taken × IsLeft call new (step.Take (to.Client n) m source)
+responds call new n now branch destination m source to.Absorbed q at r =
+    let same = branch_same branch now (status_of m) (spelling (ack_to call.opened destination n m)) (q.over.branches n branch at).client in
+    (tt, left_same call new _ q (r.1 ∙ set_same call n branch (branch_after call n branch destination now m) at same))
+responds call new n now branch destination m source (to.Posted at_) q at r = absurd (no_pass (status_of m) now branch.client (q.over.branches n branch at).client r.0)
+responds call new n now branch destination m source to.Full q at r = absurd (no_pass (status_of m) now branch.client (q.over.branches n branch at).client r.0)
 
 -- a response to the CANCEL of a branch
-cancelling_same : (leg : Leg) (cancelling : Cancelling) (ev : TxEvent) → Unheeded ev → (now : ℕ) → leg.cancelling ≡ Some cancelling → IsOverCancelling leg.cancelling
-    → record leg { cancelling = Some (record cancelling { client = machine_after other_client ev now cancelling.client }) } ≡ leg
-cancelling_same leg cancelling ev none now is over =
-    let ended : IsOverCancelling (Some cancelling) = subst IsOverCancelling is over in
-    ap (λ (m : Machine OtherClientState). record leg { cancelling = Some (record cancelling { client = m }) }) (cancel_stays ev none now cancelling.client ended)
-    ∙ ap (λ (c : Option Cancelling). record leg { cancelling = c }) (sym is)
+cancelling_same : (branch : Branch) (cancelling : CancelTransaction) (ev : TxEvent) → Unheeded ev → (now : ℕ) → branch.cancelling ≡ Some cancelling → IsOverCancelTransaction branch.cancelling
+    → record branch { cancelling = Some (record cancelling { client = machine_after other_client ev now cancelling.client }) } ≡ branch
+cancelling_same branch cancelling ev none now is over =
+    let ended : IsOverCancelTransaction (Some cancelling) = subst IsOverCancelTransaction is over in
+    ap (λ (m : Machine OtherClientState). record branch { cancelling = Some (record cancelling { client = m }) }) (cancel_stays ev none now cancelling.client ended)
+    ∙ ap (λ (c : Option CancelTransaction). record branch { cancelling = c }) (sym is)
 
-takes : RowsStay → (now : ℕ) (call new : Call) (r : Recipient) (m : MessageText) (source : Hop) (taken : Taken) → IsQuiet call → TakesAs call now m source r taken new
+takes : RowsStay → (now : ℕ) (call new : Call) (r : MatchedTransaction) (m : MessageText) (source : Hop) (taken : Taken) → IsQuiet call → TakesAs call now m source r taken new
     → IsQuietly r taken × IsLeft call new (step.Take r m source)
 takes stay now call new to.Server m source to.Absorbed q t = (tt, left_same call new _ q (t ∙ again_same call now q))
 takes stay now call new to.Server m source (to.Posted at) q t = absurd t
@@ -211,37 +211,37 @@ takes stay now call new to.ServerAck m source to.Full q t = absurd t
 takes stay now call new to.ServerCancel m source taken q t = takes_cancel stay call new m t.0 source _ taken q t.2
 takes stay now call new (to.Client n) m source taken q t = responds call new n now t.0 t.1 m source taken q t.2 t.4
 takes stay now call new (to.CancelClient n) m source to.Absorbed q t =
-    let same = cancelling_same t.0 t.1 (response_event (status_of m)) (unheeded_response (status_of m)) now t.3 (q.over.legs n t.0 t.2).cancelling in
+    let same = cancelling_same t.0 t.1 (response_event (status_of m)) (unheeded_response (status_of m)) now t.3 (q.over.branches n t.0 t.2).cancelling in
     (tt, left_same call new _ q (t.4 ∙ set_same call n t.0 _ t.2 same))
 takes stay now call new (to.CancelClient n) m source (to.Posted at) q t = absurd t
 takes stay now call new (to.CancelClient n) m source to.Full q t = absurd t
 
 -- ---- datagrams that could not be sent
 
-faults : (call new : Call) (now n : ℕ) (o : Option Leg) → IsQuiet call → leg_at call n ≡ o → FaultsClient call now n o new → new ≡ call
+faults : (call new : Call) (now n : ℕ) (o : Option Branch) → IsQuiet call → nth_branch call n ≡ o → FaultsClient call now n o new → new ≡ call
 faults call new now n None q at f = f
-faults call new now n (Some leg) q at f = by _ (ap (λ (o : TxOut). is_fault o.pass) (client_silent event.TransportError unheeded_fault now leg.client over)) f
+faults call new now n (Some branch) q at f = by _ (ap (λ (o : TxOut). is_fault o.pass) (client_silent event.TransportError unheeded_fault now branch.client over)) f
   where
-    over : client.is_over leg.client
-    over = (q.over.legs n leg at).client
+    over : client.is_over branch.client
+    over = (q.over.branches n branch at).client
 
-    by : (b : Bool) → b ≡ false → FaultsBy call now n leg b new → new ≡ call
+    by : (b : Bool) → b ≡ false → FaultsBy call now n branch b new → new ≡ call
     by true h f = absurd (no (sym h))
     by false h f =
-        f ∙ set_same call n leg (faulted leg now) at (ap (λ (c : Client). record leg { client = c }) (client_stays event.TransportError unheeded_fault now leg.client over))
+        f ∙ set_same call n branch (faulted branch now) at (ap (λ (c : ClientTransaction). record branch { client = c }) (client_stays event.TransportError unheeded_fault now branch.client over))
 
-cancel_faults : (call : Call) (now n : ℕ) (o : Option Leg) → IsQuiet call → leg_at call n ≡ o → cancel_faulted call now n o ≡ call
+cancel_faults : (call : Call) (now n : ℕ) (o : Option Branch) → IsQuiet call → nth_branch call n ≡ o → cancel_faulted call now n o ≡ call
 cancel_faults call now n None q at = refl
-cancel_faults call now n (Some leg) q at = set_same call n leg _ at (by leg.cancelling refl (q.over.legs n leg at).cancelling)
+cancel_faults call now n (Some branch) q at = set_same call n branch _ at (by branch.cancelling refl (q.over.branches n branch at).cancelling)
   where
-    by : (c : Option Cancelling) → leg.cancelling ≡ c → IsOverCancelling c → faulted_cancel leg now c ≡ leg
+    by : (c : Option CancelTransaction) → branch.cancelling ≡ c → IsOverCancelTransaction c → faulted_cancel branch now c ≡ branch
     by None is over = refl
-    by (Some cancelling) is over = cancelling_same leg cancelling event.TransportError unheeded_fault now is (subst IsOverCancelling (sym is) over)
+    by (Some cancelling) is over = cancelling_same branch cancelling event.TransportError unheeded_fault now is (subst IsOverCancelTransaction (sym is) over)
 
 fails : (call new : Call) (now : ℕ) (why : Cause) → IsQuiet call → Fails call now why new → new ≡ call
-fails call new now (cause.Request n) q f = faults call new now n (leg_at call n) q refl f
-fails call new now (cause.Ack n) q f = faults call new now n (leg_at call n) q refl f
-fails call new now (cause.Cancel n) q f = f ∙ cancel_faults call now n (leg_at call n) q refl
+fails call new now (cause.Request n) q f = faults call new now n (nth_branch call n) q refl f
+fails call new now (cause.Ack n) q f = faults call new now n (nth_branch call n) q refl f
+fails call new now (cause.Cancel n) q f = f ∙ cancel_faults call now n (nth_branch call n) q refl
 fails call new now cause.Answer q f = f ∙ served_same call event.TransportError now q
 fails call new now cause.CancelOk q f = f
 
@@ -257,7 +257,7 @@ answers call new now (server.Again ∷ rest) pumped q all s = absurd all.0
 answers call new now (CancelOk cancel hop ∷ rest) pumped q all s =
     (subst SendsCancelOk (sym s.0) refl, subst (λ (c : Call). IsLeft call c step.Pump) (sym s.1) (left_owing call step.Pump rest q all.1))
 
-does : (call new : Call) (now : ℕ) (deed : Deed) (pumped : Pumped) → IsQuiet call → is_due_at call now deed ≡ true → Does call now deed pumped new
+does : (call new : Call) (now : ℕ) (action : Action) (pumped : Pumped) → IsQuiet call → is_due_at call now action ≡ true → Does call now action pumped new
     → SendsCancelOk pumped × IsLeft call new step.Pump
 does call new now SendAnswer pumped q due d = answers call new now call.server.owed pumped q q.owed d
 does call new now (SendRequest n) pumped q due d = absurd (no (sym (q.over.idle now (SendRequest n)) ∙ due))
@@ -298,8 +298,8 @@ over_quiet call over =
         over = record {
           finished = over.finished;
           server = over.server;
-          legs = over.legs;
-          idle = λ now deed. same_due call (paid call) refl refl refl (sym none) now deed ∙ over.idle now deed;
+          branches = over.branches;
+          idle = λ now action. same_due call (paid call) refl refl refl (sym none) now action ∙ over.idle now action;
         };
         owed = subst (AllByRecursion IsCancelOk) (sym none) tt;
       };

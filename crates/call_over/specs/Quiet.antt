@@ -8,7 +8,7 @@ use Rattle.call_model.specs.Pump.{Pumped, Send, Did, Idle}
 use Rattle.call_model.specs.Server.{Owed, Trying, Passed, Final, Again, CancelOk}
 use Rattle.call_model.specs.Step as step
 use Rattle.call_model.specs.Step.{Input, Output, Step, Turn, Run}
-use Rattle.call_model.specs.Take.{Recipient, ServerCancel, Taken, Absorbed, Posted}
+use Rattle.call_model.specs.Take.{MatchedTransaction, ServerCancel, Taken, Absorbed, Posted}
 
 -- the call with all that it owes to its caller paid
 abbrev pub paid : Call → Call
@@ -29,7 +29,7 @@ pub record IsQuiet (call : Call) : Type 0 where
 -- ---- what it answers
 
 -- what comes of a message: a CANCEL may be posted, nothing else is
-abbrev pub IsQuietly : Recipient → Taken → Type 0
+abbrev pub IsQuietly : MatchedTransaction → Taken → Type 0
 IsQuietly ServerCancel Absorbed = Unit {0}
 IsQuietly ServerCancel (Posted at) = Unit {0}
 IsQuietly _ Absorbed = Unit {0}
@@ -55,9 +55,9 @@ IsCancel input = ⊥
 -- after the step it is as it was, but for what it owes, and for a CANCEL that stands in its log
 pub record IsLeft (call new : Call) (input : Input) : Type 0 where
   pub quiet : IsQuiet new
-  pub fixed : new.fixed ≡ call.fixed
-  pub ways : new.ways ≡ call.ways
-  pub legs : new.legs ≡ call.legs
+  pub opened : new.opened ≡ call.opened
+  pub destinations : new.destinations ≡ call.destinations
+  pub branches : new.branches ≡ call.branches
   pub rows : rows_of new ≡ rows_of call
   pub machine : new.server.machine ≡ call.server.machine
   pub log : (IsCancel input → ⊥) → new.log ≡ call.log

@@ -4,8 +4,8 @@ use crate::texts::{
     OPTIONS_FAULT_UP, OPTIONS_NOT_FOUND, OPTIONS_NOT_FOUND_OF_FIVE, OPTIONS_NOT_FOUND_UP,
     OPTIONS_SENT, RINGING, RINGING_UP, SETUP, Sent, TARGET, TERMINATED, TERMINATED_UP, TRYING,
 };
-use fork_call::{Call, Cause, OpenFault, Setup, SetupFault, Step, TakeFault, Taken};
-use fork_routing::is_openable;
+use call_routing::is_openable;
+use fork_call::{Call, Cause, RequestRejection, Setup, SetupFault, Step, TakeFault, Taken};
 use refusing::{Answer, Heap, Play, Refusals, Refusing, Repeated, refused_always, refused_once};
 use sip_text::Message;
 use sip_uri::Hop;
@@ -61,7 +61,7 @@ impl<'a> Repeated for Opening<'a> {
             0,
         ) {
             Ok(call) => Answer::Given(call),
-            Err(OpenFault::NoMemory) => Answer::NoMemory,
+            Err(RequestRejection::NoMemory) => Answer::NoMemory,
             Err(_) => Answer::Other,
         }
     }

@@ -3,9 +3,9 @@ ghost use Rattle.std.specs.Prelude.{◌≡◌};
 
 use crate::calls::{SettingUp, plays};
 use crate::texts::{ACK, CALLER, CANCEL, INVITE, OPTIONS, TARGET};
+use call_table::Shelf;
 use fork_call::{Call, Datagram, Port, Setup, carry};
-use fork_dispatch::{Handled, handle};
-use fork_shelf::Shelf;
+use proxy_dispatch::{Handled, handle};
 use refusing::{Answer, Heap, Play, Refusing, Repeated};
 use sip_uri::Hop;
 use std::alloc::{Allocator, Global};
@@ -72,12 +72,12 @@ type Packet = (&'static [u8], Hop, Handled, u64);
 /// An OPTIONS request, and datagrams that no call takes.
 const ASKED: &[Packet] = &[
     (OPTIONS, CALLER, Handled::Opened(0), 1),
-    (OPTIONS, CALLER, Handled::Fed(0), 1),
+    (OPTIONS, CALLER, Handled::Delivered(0), 1),
     (SHORT_RESPONSE, TARGET, Handled::Dropped, 1),
-    (NOT_FOUND, TARGET, Handled::Fed(0), 2),
+    (NOT_FOUND, TARGET, Handled::Delivered(0), 2),
     (SHORT_REQUEST, CALLER, Handled::Answered(400), 3),
     (UNKNOWN, CALLER, Handled::Answered(480), 4),
-    (STRAY_ACK, CALLER, Handled::Passed, 5),
+    (STRAY_ACK, CALLER, Handled::Forwarded, 5),
 ];
 
 /// The 180 of the target, its 200 to the CANCEL, and its 487.
@@ -124,12 +124,12 @@ l: 0\r\n\
 /// An INVITE that the caller cancels before the target rings.
 const CANCELLED: &[Packet] = &[
     (INVITE, CALLER, Handled::Opened(0), 2),
-    (CANCEL, CALLER, Handled::Fed(0), 3),
-    (RINGING, TARGET, Handled::Fed(0), 5),
-    (CANCEL_TAKEN, TARGET, Handled::Fed(0), 5),
-    (TERMINATED, TARGET, Handled::Fed(0), 7),
-    (OWN_ACK, CALLER, Handled::Fed(0), 7),
-    (ACK, CALLER, Handled::Fed(0), 7),
+    (CANCEL, CALLER, Handled::Delivered(0), 3),
+    (RINGING, TARGET, Handled::Delivered(0), 5),
+    (CANCEL_TAKEN, TARGET, Handled::Delivered(0), 5),
+    (TERMINATED, TARGET, Handled::Delivered(0), 7),
+    (OWN_ACK, CALLER, Handled::Delivered(0), 7),
+    (ACK, CALLER, Handled::Delivered(0), 7),
 ];
 
 /// A port that counts what is sent.
@@ -185,7 +185,7 @@ struct Proxy<'a, R> {
 
 /// Carries a call, and says whether that was refused memory.
 fn is_carried(call: &mut Call<Alloc<'_>>, port: &mut Counting) -> bool
-    ensures { call.new.fixed.number ≡ call.old.fixed.number }
+    ensures { call.new.opened.number ≡ call.old.opened.number }
 {
     carry(call, port, 0).is_ok()
 }
@@ -216,7 +216,7 @@ impl<R: Wait> Proxy<'_, R> {
     fn carries(&mut self) -> Answer<Handled> {
         let port = &mut self.port;
         match self.shelf.with(self.rt, 0, |call| is_carried(call, port)) {
-            Some(true) => Answer::Given(Handled::Fed(0)),
+            Some(true) => Answer::Given(Handled::Delivered(0)),
             Some(false) => Answer::NoMemory,
             None => Answer::Other,
         }

@@ -2,7 +2,7 @@
 ghost use Rattle.std.specs.Prelude.{◌≡◌};
 
 use crate::calls::plays;
-use fork_shelf::{Inbox, InboxIn, InboxOut, Numbered, Shelf, ShelfFault};
+use call_table::{Inbox, InboxIn, InboxOut, Numbered, Shelf, ShelfFault};
 use refusing::{Answer, Heap, Play, Refusing, Repeated};
 use std::alloc::Global;
 use std::sync::Wait;

@@ -1,10 +1,10 @@
-use Rattle.call_state.proofs.Common.{◌≡◌, refl, List, [], ℕ, map, Option, Log, table_of, Fixed, Way, kind_of, Leg, no_leg, Owed, Served, first_owed, served_start}
+use Rattle.call_state.proofs.Common.{◌≡◌, refl, List, [], ℕ, map, Option, Log, table_of, OpenedRequest, Destination, kind_of, Branch, no_branch, Owed, ServerTransaction, first_owed, served_start}
 use Rattle.call_model.specs.Begun.{begun}
 
-pub begun_is : (fixed : Fixed) (log : Log) (ways : List Way) (legs : List (Option Leg)) (served : Served) (owed : List Owed) (last : List ℕ)
-    → legs ≡ map no_leg (table_of log).rows
-    → served ≡ served_start (kind_of fixed)
-    → owed ≡ first_owed (kind_of fixed)
+pub begun_is : (opened : OpenedRequest) (log : Log) (destinations : List Destination) (branches : List (Option Branch)) (served : ServerTransaction) (owed : List Owed) (last : List ℕ)
+    → branches ≡ map no_branch (table_of log).rows
+    → served ≡ served_start (kind_of opened)
+    → owed ≡ first_owed (kind_of opened)
     → last ≡ []
-    → record { fixed = fixed; log = log; ways = ways; legs = legs; server = record { machine = served; owed = owed; last = last } } ≡ begun fixed log ways
-begun_is fixed log ways legs served owed last legs_are served_is owed_are last_is = rw (legs_are, served_is, owed_are, last_is) refl
+    → record { opened = opened; log = log; destinations = destinations; branches = branches; server = record { machine = served; owed = owed; last = last } } ≡ begun opened log destinations
+begun_is opened log destinations branches served owed last branches_are served_is owed_are last_is = rw (branches_are, served_is, owed_are, last_is) refl

@@ -1,6 +1,6 @@
 -- The caller's CANCEL is posted.
 use Rattle.call_state.proofs.Common.{◌≡◌, ◌∙◌, ℕ, ap, refl, sym, true, false, Bool, List, [], ◌∷◌, ◌++◌, drop, length, Option, None, append-nil, ◌&&◌, cond, map, not, Cancel, Reply, next, IsAdded, Log, added, core_of, table_of, MessageText}
-use Rattle.call_state.proofs.Common.{Hop, Call, Way, Leg, call_tag, gone_on, no_leg, owed_by, owes, rows_more, ways_of, Owed, CancelOk, IsSound, CancelledBy, Posted, cancels}
+use Rattle.call_state.proofs.Common.{Hop, Call, Destination, Branch, call_tag, gone_on, no_branch, owed_by, owes, rows_more, destinations_of, Owed, CancelOk, IsSound, CancelledBy, Posted, cancels}
 use Rattle.std.proofs.Math.Seq.{drop-length}
 use Rattle.fork_model.specs.Table as table
 use Rattle.fork_model.specs.OpenBranches.{FittingEventsAreTaken}
@@ -22,17 +22,17 @@ cancel_posts taken call new cancel to reply log at closes sound is none at_is ne
     ap (λ (l : Log). length (table_of l).rows) (sym is.whole) ∙ ap (λ (t : table.Table). length t.rows) is.goes_on ∙ none in
     let nothing : rows_more call.log more ≡ [] =
     ap (λ (n : ℕ). drop n (table_of more).rows) (sym same) ∙ drop-length (table_of more).rows in
-    let ways : call.ways ≡ call.ways ++ ways_of call.fixed [] (rows_more call.log more) =
-    sym (ap (λ (rs : List table.Row). call.ways ++ ways_of call.fixed [] rs) nothing ∙ append-nil call.ways) in
-    let legs : call.legs ≡ call.legs ++ map no_leg (rows_more call.log more) =
-    sym (ap (λ (rs : List table.Row). call.legs ++ map no_leg rs) nothing ∙ append-nil call.legs) in
+    let destinations : call.destinations ≡ call.destinations ++ destinations_of call.opened [] (rows_more call.log more) =
+    sym (ap (λ (rs : List table.Row). call.destinations ++ destinations_of call.opened [] rs) nothing ∙ append-nil call.destinations) in
+    let branches : call.branches ≡ call.branches ++ map no_branch (rows_more call.log more) =
+    sym (ap (λ (rs : List table.Row). call.branches ++ map no_branch rs) nothing ∙ append-nil call.branches) in
     let fits : (table.is_invite (table_of call.log).kind && not (table_of call.log).closed) ≡ true =
     cancel_fits call sound closes in
     let follows : new ≡ owes (gone_on mid [] more) (owed_by reply.up None) =
     new_is
     ∙ ap (λ (l : Log). record mid { log = l; server = record mid.server { owed = mid.server.owed ++ owed_by reply.up None } }) is.whole
-    ∙ ap (λ (ws : List Way). record mid { log = more; ways = ws; server = record mid.server { owed = mid.server.owed ++ owed_by reply.up None } }) ways
-    ∙ ap (λ (ls : List (Option Leg)). record mid { log = more; ways = call.ways ++ ways_of call.fixed [] (rows_more call.log more); legs = ls; server = record mid.server { owed = mid.server.owed ++ owed_by reply.up None } }) legs in
+    ∙ ap (λ (ws : List Destination). record mid { log = more; destinations = ws; server = record mid.server { owed = mid.server.owed ++ owed_by reply.up None } }) destinations
+    ∙ ap (λ (ls : List (Option Branch)). record mid { log = more; destinations = call.destinations ++ destinations_of call.opened [] (rows_more call.log more); branches = ls; server = record mid.server { owed = mid.server.owed ++ owed_by reply.up None } }) branches in
     (closes, reply, is.replied.position ∙ sym at_is, record { taken = taken (core_of call.log) Cancel fits; reply_is = is.replied; follows = follows })
 
 pub owed_both : (first second third fourth ups more : List Owed) (okay : Owed) → second ≡ first → third ≡ second ++ okay ∷ [] → fourth ≡ third ++ ups → ups ≡ more → fourth ≡ (first ++ okay ∷ []) ++ more

@@ -18,25 +18,25 @@ pub use Rattle.fork_model.specs.Reply.{Reply, Up}
 pub use Rattle.fork_model.specs.Step.{next}
 pub use Rattle.fork_model.specs.Table.{Challenge, Ended, Idle, Kind, Offer, Row, Rung, State, StoredAnswer, Table, Trying, is_invite, is_open, is_row, is_trying, stored_of}
 pub use Rattle.call_model.specs.Built.{Datagram, ack_to, answer_in, cancel_to, kept_at, request_to, status_of, text_of, was_received}
-pub use Rattle.call_model.specs.Call.{Call, found, leg_at, row_passes, rows_of, set_leg, with_leg}
-pub use Rattle.call_model.specs.Client.{Client, client_after, client_out}
+pub use Rattle.call_model.specs.Call.{Call, found, nth_branch, row_passes, rows_of, set_branch, with_branch}
+pub use Rattle.call_model.specs.Client.{ClientTransaction, client_after, client_out}
 pub use Rattle.call_model.specs.Due.{FireTimerC, is_due_at}
 pub use Rattle.call_model.specs.Failed.{FaultsBy, FaultsClient, cancel_faulted, faulted, faulted_cancel, is_fault}
-pub use Rattle.call_model.specs.Fixed.{Fixed, Way, kind_of}
-pub use Rattle.call_model.specs.Leg.{Cancelling, Leg, leg_start}
-pub use Rattle.call_state.specs.PartsInside.{IsSized}
-pub use Rattle.call_model.specs.Posting.{Posts, call_tag, gone_on, no_leg, owed_by, owes, rows_more, way_of_contact, ways_of}
+pub use Rattle.call_model.specs.OpenedRequest.{OpenedRequest, Destination, kind_of}
+pub use Rattle.call_model.specs.Branch.{CancelTransaction, Branch, branch_start}
+pub use Rattle.call_state.specs.CallStateInside.{IsSized}
+pub use Rattle.call_model.specs.Posting.{Posts, call_tag, gone_on, no_branch, owed_by, owes, rows_more, destination_of_contact, destinations_of}
 pub use Rattle.call_model.specs.Pump.{AnswersBy, AnswersWith, Did, FiresTimerC, OnPart, Pumped, Send, SendsAnswer, TicksClientBy, is_request, is_timeout, sent_if, stopped, ticked}
 pub use Rattle.call_model.specs.Response.{contacts_for, event_by}
 pub use Rattle.call_model.specs.SeenDatagram.{seen}
-pub use Rattle.call_model.specs.Server.{CancelOk, Owed, Served, Server, first_owed, served_start}
+pub use Rattle.call_model.specs.Server.{CancelOk, Owed, ServerTransaction, Server, first_owed, served_start}
 pub use Rattle.call_model.specs.Sound.{IsForward, IsSound, StoresValues, is_text}
-pub use Rattle.call_model.specs.Take.{Absorbed, CancelledBy, Full, Posted, RespondsOn, ack_by, answer_kept, cancels, going_up, is_passed, leg_after, leg_posted, response_event, timer_c_again}
-pub use Rattle.call_state.specs.declared.answers.Payment.{Payment}
+pub use Rattle.call_model.specs.Take.{Absorbed, CancelledBy, Full, Posted, RespondsOn, ack_by, answer_kept, cancels, going_up, is_passed, branch_after, branch_posted, response_event, timer_c_again}
+pub use Rattle.call_state.specs.declared.answers.BuiltResponse.{BuiltResponse}
 pub use Rattle.call_state.specs.inner.AnswersInside.{IsPaid, IsText}
 pub use Rattle.call_branch.specs.AckOwed.{ack_on}
-pub use Rattle.call_branch.specs.LegInside.{ack_made, answer_if, cancel_on, changed_leg, kept, kept_if, no_legs, responded, with_client}
-pub use Rattle.call_answers.specs.NewWays.{HaveWays, PostsSaid, way_for}
+pub use Rattle.call_branch.specs.BranchInside.{ack_made, answer_if, cancel_on, changed_branch, kept, kept_if, no_branches, responded, with_client}
+pub use Rattle.call_answers.specs.NewDestinations.{HaveDestinations, PostsSaid, destination_for}
 pub use Rattle.call_state.specs.inner.Plain.{PostsBare}
 pub use Rattle.sip_build.specs.SeenKept.{texts}
 pub use Rattle.sip_build.specs.Upward.{is_challenge}

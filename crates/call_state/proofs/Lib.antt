@@ -7,7 +7,7 @@ pub mod Changing
 pub mod Responding
 pub mod StateRows
 pub mod Paying
-pub mod Deeds
+pub mod Actions
 pub mod Beginning
 pub mod NewRows
 pub mod laws

@@ -1,8 +1,8 @@
 -- The first answer that is owed, as it is sent.
 use Rattle.call_state.proofs.Common.{◌≡◌, ◌∙◌, ◌++◌, ℕ, ap, refl, sym, subst, true, false, Bool, List, [], ◌∷◌, map, drop, filter, Option, Some, None, slice_get, ◌&&◌, ◌==◌, Result, Ok, Err, IfOk, cond, length, nat_lt, cons_option}
 use Rattle.call_state.proofs.Common.{flat_map, list_all, option_and_then, and_from, and_parts, cond-true, list_all-append, Core, numbers_below, Best, stored_at, Challenge, Offer, Row, StoredAnswer, Table, stored_of, IsChosen, left_of, Log}
-use Rattle.call_state.proofs.Common.{core_of, table_of, is_value, MessageText, is_challenge, IsPaid, IsText, answer_in, kept_at, text_of, was_received, Call, leg_at, rows_of, Leg, AnswersWith, Pumped, SendsAnswer, Owed, IsForward, IsSound}
-use Rattle.call_state.proofs.Common.{StoresValues, is_text, Payment}
+use Rattle.call_state.proofs.Common.{core_of, table_of, is_value, MessageText, is_challenge, IsPaid, IsText, answer_in, kept_at, text_of, was_received, Call, nth_branch, rows_of, Branch, AnswersWith, Pumped, SendsAnswer, Owed, IsForward, IsSound}
+use Rattle.call_state.proofs.Common.{StoresValues, is_text, BuiltResponse}
 use Rattle.std.proofs.Common.{option_map}
 use Rattle.std.specs.List.{filter_map}
 use Rattle.fork_model.specs.Challenges.{added_to, asks_credentials, by_arrival, challenge_list, other_askers, stored_beside, with_arrival}
@@ -13,21 +13,21 @@ use Rattle.fork_model.specs.Chosen.{HasFirst}
 use Rattle.call_model.specs.Behind.{KeepsAnswers}
 use Rattle.call_model.specs.Built.{best_of, final_of, generated, kept_of}
 use Rattle.call_model.specs.Server as server
-use Rattle.call_state.specs.declared.answers.Payment.TheVariants as payment
+use Rattle.call_state.specs.declared.answers.BuiltResponse.TheVariants as built_response
 use Rattle.call_model.proofs.laws.RightDatagrams.{some_as}
 
 -- ---- the response that a branch keeps may go up
 
-pub forward_of : (call : Call) (n : ℕ) (m : MessageText) → IsSound call → answer_in (leg_at call n) ≡ Some m → IsForward m
-forward_of call n m sound e = by (leg_at call n) refl e
+pub forward_of : (call : Call) (n : ℕ) (m : MessageText) → IsSound call → answer_in (nth_branch call n) ≡ Some m → IsForward m
+forward_of call n m sound e = by (nth_branch call n) refl e
   where
-    by : (o : Option Leg) → leg_at call n ≡ o → answer_in o ≡ Some m → IsForward m
+    by : (o : Option Branch) → nth_branch call n ≡ o → answer_in o ≡ Some m → IsForward m
     by None h k = absurd cc
-    by (Some leg) h k = some_as IsForward leg.answer m k (sound.legs n leg h).answer
+    by (Some branch) h k = some_as IsForward branch.answer m k (sound.branches n branch h).answer
 
 -- where the answer of the choice came, its branch keeps it
 pub has_kept : (call : Call) (n : ℕ) → KeepsAnswers call → IsChosen (table_of call.log) (Some (Best n)) → was_received (stored_at (slice_get (rows_of call) n)) ≡ true
-    → answer_in (leg_at call n) ≡ None → ⊥
+    → answer_in (nth_branch call n) ≡ None → ⊥
 has_kept call n answers chosen received none = by_row (slice_get (rows_of call) n) refl received
   where
     first : HasFirst (table_of call.log) n
@@ -167,23 +167,23 @@ left_pass t n left values e = by_row (slice_get t.rows n) refl e
 -- ---- what is sent
 
 module _ {A : Type 0} where
-  abbrev pub IsAnswer : Payment A → Type 0
-  IsAnswer (payment.Sent d) = ⊥
-  IsAnswer (payment.Answer status text) = Unit {0}
+  abbrev pub IsAnswer : BuiltResponse A → Type 0
+  IsAnswer (built_response.Sent d) = ⊥
+  IsAnswer (built_response.Answer status text) = Unit {0}
 
   -- an answer that the server transaction takes
-  pub paid_text : (call new : Call) (now : ℕ) (owed : List Owed) (paid : Payment A) (p : Pumped)
+  pub paid_text : (call new : Call) (now : ℕ) (owed : List Owed) (paid : BuiltResponse A) (p : Pumped)
       → IsAnswer paid
       → IsPaid call owed paid
       → ((m : MessageText) → IsText m paid → AnswersWith call now (drop 1 owed) (Some m) p new)
       → SendsAnswer call now owed p new
-  paid_text call new now owed (payment.Sent d) p is h f = absurd is
-  paid_text call new now [] (payment.Answer status text) p is h f = absurd h
-  paid_text call new now (server.Again ∷ rest) (payment.Answer status text) p is h f = absurd h
-  paid_text call new now (server.CancelOk cancel to ∷ rest) (payment.Answer status text) p is h f = absurd h
-  paid_text call new now (server.Trying ∷ rest) (payment.Answer status text) p is h f = f (generated call.fixed own.Trying) h
-  paid_text call new now (server.Passed m ∷ rest) (payment.Answer status text) p is h f = f (upward_of m None []) h
-  paid_text call new now (server.Final choice ∷ rest) (payment.Answer status text) p is h f = f (final_of call choice) h
+  paid_text call new now owed (built_response.Sent d) p is h f = absurd is
+  paid_text call new now [] (built_response.Answer status text) p is h f = absurd h
+  paid_text call new now (server.Again ∷ rest) (built_response.Answer status text) p is h f = absurd h
+  paid_text call new now (server.CancelOk cancel to ∷ rest) (built_response.Answer status text) p is h f = absurd h
+  paid_text call new now (server.Trying ∷ rest) (built_response.Answer status text) p is h f = f (generated call.opened own.Trying) h
+  paid_text call new now (server.Passed m ∷ rest) (built_response.Answer status text) p is h f = f (upward_of m None []) h
+  paid_text call new now (server.Final choice ∷ rest) (built_response.Answer status text) p is h f = f (final_of call choice) h
 
 pub if_ok : {X E : Type 0} {P Q : X → Type 0} → ((x : X) → P x → Q x) → (r : Result X E) → IfOk r P → IfOk r Q
 if_ok f (Ok x) h = f x h
@@ -192,11 +192,11 @@ if_ok f (Err e) h = tt
 -- ---- the response of a branch as it goes up
 
 pub best_made : (call : Call) (n : ℕ) (response : MessageText) (kept : Option (List (List ℕ))) (challenges : List Challenge)
-    → answer_in (leg_at call n) ≡ Some response
+    → answer_in (nth_branch call n) ≡ Some response
     → was_received (stored_at (slice_get (rows_of call) n)) ≡ true
     → kept_at (stored_at (slice_get (rows_of call) n)) ≡ kept
     → challenge_list (rows_of call) (Best n) ≡ challenges
-    → upward_of response kept challenges ≡ best_of call n (answer_in (leg_at call n))
+    → upward_of response kept challenges ≡ best_of call n (answer_in (nth_branch call n))
 best_made call n response kept challenges there received keeps asks =
     sym (ap (best_of call n) there ∙ cond-true _ _ _ received
     ∙ ap (λ (k : Option (List (List ℕ))). upward_of response k (challenge_list (rows_of call) (Best n))) keeps

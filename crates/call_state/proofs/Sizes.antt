@@ -1,17 +1,17 @@
 -- Another part for a branch leaves the sizes of a call.
-use Rattle.call_state.proofs.Common.{◌≡◌, ◌∙◌, ℕ, ap, length, List, Option, Log, Way, Leg, with_leg, changed_leg, IsSized}
-use Rattle.call_branch.proofs.laws.LegLists.{length_changed, length_with_leg}
+use Rattle.call_state.proofs.Common.{◌≡◌, ◌∙◌, ℕ, ap, length, List, Option, Log, Destination, Branch, with_branch, changed_branch, IsSized}
+use Rattle.call_branch.proofs.laws.BranchLists.{length_changed, length_with_branch}
 
-pub sized_leg : (log : Log) (ways : List Way) (legs new : List (Option Leg)) (n : ℕ) (leg : Leg)
-    → IsSized log ways legs → new ≡ with_leg legs n leg → IsSized log ways new
-sized_leg log ways legs new n leg is e = record {
-  each_way = is.each_way;
-  each_leg = ap length e ∙ length_with_leg legs n leg ∙ is.each_leg;
+pub sized_branch : (log : Log) (destinations : List Destination) (branches new : List (Option Branch)) (n : ℕ) (branch : Branch)
+    → IsSized log destinations branches → new ≡ with_branch branches n branch → IsSized log destinations new
+sized_branch log destinations branches new n branch is e = record {
+  each_destination = is.each_destination;
+  each_branch = ap length e ∙ length_with_branch branches n branch ∙ is.each_branch;
 }
 
-pub sized_changed : (f : Leg → Leg) (log : Log) (ways : List Way) (legs new : List (Option Leg)) (n : ℕ)
-    → IsSized log ways legs → new ≡ changed_leg f legs n → IsSized log ways new
-sized_changed f log ways legs new n is e = record {
-  each_way = is.each_way;
-  each_leg = ap length e ∙ length_changed f legs n ∙ is.each_leg;
+pub sized_changed : (f : Branch → Branch) (log : Log) (destinations : List Destination) (branches new : List (Option Branch)) (n : ℕ)
+    → IsSized log destinations branches → new ≡ changed_branch f branches n → IsSized log destinations new
+sized_changed f log destinations branches new n is e = record {
+  each_destination = is.each_destination;
+  each_branch = ap length e ∙ length_changed f branches n ∙ is.each_branch;
 }

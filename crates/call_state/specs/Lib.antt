@@ -1,2 +1,2 @@
 pub mod inner
-pub mod PartsInside
+pub mod CallStateInside

@@ -1,4 +1,4 @@
 pub mod AnswersInside
-pub mod PartsInside
+pub mod CallStateInside
 pub mod Plain
 pub mod StatesShown

@@ -16,10 +16,10 @@ ghost use Rattle.call_model.specs.Pump.{Does};
 ghost use Rattle.call_model.specs.SeenStep.{pumped};
 ghost use Rattle.call_model.specs.Sound.{IsSound};
 
-use crate::parts::Parts;
+use crate::state::CallState;
 use crate::states::shows_received;
-use call_answers::OwedAnswer;
-use call_branch::Fixed;
+use call_answers::PendingResponse;
+use call_branch::OpenedRequest;
 use call_model::{Cause, Datagram, Step};
 use fork_context::{Challenge, Choice, Offer};
 use sip_build::{OwnStatus, write_generated, write_upward};
@@ -31,7 +31,7 @@ use std::alloc::{AllocError, Allocator};
 /// What the first answer that is owed becomes: a datagram that is fed to no transaction, or an answer with this status
 /// and this text.
 #[derive(Drop)]
-pub(crate) enum Payment<A: Allocator> {
+pub(crate) enum BuiltResponse<A: Allocator> {
     Sent(Datagram<A>),
     Answer(u16, Vec<u8, A>),
 }
@@ -49,14 +49,14 @@ fn status_of<A: Allocator>(message: &Message<A>) -> u16
 /// The proxy's own answer of this status.
 fn own_answer<A: Allocator>(
     alloc: A,
-    fixed: &Fixed<A>,
+    opened: &OpenedRequest<A>,
     status: OwnStatus,
-) -> Result<Payment<A>, AllocError>
-    ensures { IfOk result (IsText (generated fixed.now status)) }
+) -> Result<BuiltResponse<A>, AllocError>
+    ensures { IfOk result (IsText (generated opened.now status)) }
 {
     let mut text = Vec::new(alloc);
-    write_generated(fixed.request(), status, &mut text)?;
-    Ok(Payment::Answer(status.code(), text))
+    write_generated(opened.request(), status, &mut text)?;
+    Ok(BuiltResponse::Answer(status.code(), text))
 }
 
 /// A response as it goes up.
@@ -65,7 +65,7 @@ fn upward_answer<'a, A: Allocator>(
     response: &Message<A>,
     kept: Option<&'a [&'a [u8]]>,
     challenges: &[Challenge<A>],
-) -> Result<Payment<A>, AllocError>
+) -> Result<BuiltResponse<A>, AllocError>
     requires second { has_second (via_values response.now) ≡ true }
     requires kept { AreKept (seen_kept kept) }
     requires challenges { list_all is_challenge challenges.now ≡ true }
@@ -73,7 +73,7 @@ fn upward_answer<'a, A: Allocator>(
 {
     let mut text = Vec::new(alloc);
     match write_upward(response, kept, challenges, &mut text) {
-        Ok(()) => Ok(Payment::Answer(status_of(response), text)),
+        Ok(()) => Ok(BuiltResponse::Answer(status_of(response), text)),
         Err(BuildFault::NoMemory) => Err(AllocError),
         Err(BuildFault::LastVia) => unreachable!(),
     }
@@ -83,7 +83,7 @@ fn upward_answer<'a, A: Allocator>(
 fn passed_answer<A: Allocator + Clone>(
     alloc: A,
     response: &Message<A>,
-) -> Result<Payment<A>, AllocError>
+) -> Result<BuiltResponse<A>, AllocError>
     requires second { has_second (via_values response.now) ≡ true }
     ensures { IfOk result (IsText (upward_of response.now None [])) }
 {
@@ -92,12 +92,16 @@ fn passed_answer<A: Allocator + Clone>(
 }
 
 /// The 200 to a CANCEL.
-fn cancel_ok<A: Allocator>(alloc: A, cancel: &Message<A>, to: Hop) -> Result<Payment<A>, AllocError>
+fn cancel_ok<A: Allocator>(
+    alloc: A,
+    cancel: &Message<A>,
+    to: Hop,
+) -> Result<BuiltResponse<A>, AllocError>
     ensures { IfOk result (IsPaidOk cancel.now to) }
 {
     let mut bytes = Vec::new(alloc);
     write_generated(cancel, OwnStatus::Okay, &mut bytes)?;
-    Ok(Payment::Sent(Datagram {
+    Ok(BuiltResponse::Sent(Datagram {
         to,
         bytes,
         cause: Cause::CancelOk,
@@ -118,17 +122,17 @@ fn texts_of<'a, A: Allocator>(
     Ok(made)
 }
 
-impl<A: Allocator + Clone> Parts<A> {
+impl<A: Allocator + Clone> CallState<A> {
     /// The response of branch n as it goes up, as the choice of the table: the one that came, which the branch keeps, or a
     /// generated 408 where none came and one was assumed.
-    fn best_answer(&self, n: u16) -> Result<Payment<A>, AllocError>
+    fn best_answer(&self, n: u16) -> Result<BuiltResponse<A>, AllocError>
         requires sound { IsSound self.now }
         requires answers { KeepsAnswers self.now }
         requires chosen { IsChosen (table_of self.now.log) (Some (choice.Best n)) }
         ensures { IfOk result (IsText (final_of self.now (choice.Best n))) }
     {
         if !shows_received(self.state(n)) {
-            return own_answer(self.allocator()?, self.fixed(), OwnStatus::RequestTimeout);
+            return own_answer(self.allocator()?, self.opened(), OwnStatus::RequestTimeout);
         }
         let Some(response) = self.kept_answer(n) else {
             unreachable!()
@@ -143,7 +147,7 @@ impl<A: Allocator + Clone> Parts<A> {
     }
 
     /// The final answer, which is the choice of the table (RFC 3261 section 16.7 steps 6 to 9).
-    fn final_answer(&self, choice: Choice) -> Result<Payment<A>, AllocError>
+    fn final_answer(&self, choice: Choice) -> Result<BuiltResponse<A>, AllocError>
         requires sound { IsSound self.now }
         requires answers { KeepsAnswers self.now }
         requires chosen { IsChosen (table_of self.now.log) (Some (choice_of choice)) }
@@ -153,17 +157,17 @@ impl<A: Allocator + Clone> Parts<A> {
             Choice::Stored(n) => self.best_answer(n),
             Choice::Only503(_) => own_answer(
                 self.allocator()?,
-                self.fixed(),
+                self.opened(),
                 OwnStatus::ServerInternalError,
             ),
             Choice::NoAnswer408 => {
-                own_answer(self.allocator()?, self.fixed(), OwnStatus::RequestTimeout)
+                own_answer(self.allocator()?, self.opened(), OwnStatus::RequestTimeout)
             }
         }
     }
 
     /// What the first answer that is owed becomes.
-    fn payment(&self) -> Result<Payment<A>, AllocError>
+    fn built_response(&self) -> Result<BuiltResponse<A>, AllocError>
         requires some { 0 < length self.now.server.owed }
         requires sound { IsSound self.now }
         requires answers { KeepsAnswers self.now }
@@ -173,11 +177,15 @@ impl<A: Allocator + Clone> Parts<A> {
             unreachable!()
         };
         match first {
-            OwedAnswer::Trying => own_answer(self.allocator()?, self.fixed(), OwnStatus::Trying),
-            OwedAnswer::Passed(response) => passed_answer(self.allocator()?, response),
-            OwedAnswer::Final(choice) => self.final_answer(choice),
-            OwedAnswer::Again => Ok(Payment::Sent(self.last_again()?)),
-            OwedAnswer::CancelOk(cancel, to) => cancel_ok(self.allocator()?, cancel, to),
+            PendingResponse::Trying => own_answer(
+                self.allocator()?,
+                self.opened(),
+                OwnStatus::Trying,
+            ),
+            PendingResponse::Passed(response) => passed_answer(self.allocator()?, response),
+            PendingResponse::Final(choice) => self.final_answer(choice),
+            PendingResponse::Again => Ok(BuiltResponse::Sent(self.last_again()?)),
+            PendingResponse::CancelOk(cancel, to) => cancel_ok(self.allocator()?, cancel, to),
         }
     }
 
@@ -195,12 +203,12 @@ impl<A: Allocator + Clone> Parts<A> {
         ensures ok { IfOk result (λ step. Does self.old now SendAnswer (pumped step) self.new) }
         ensures err { OnErr result (self.new ≡ self.old) }
     {
-        match self.payment()? {
-            Payment::Sent(datagram) => {
+        match self.built_response()? {
+            BuiltResponse::Sent(datagram) => {
                 self.pay();
                 Ok(Step::Send(datagram))
             }
-            Payment::Answer(status, text) => self.send_answer(status, text, now),
+            BuiltResponse::Answer(status, text) => self.send_answer(status, text, now),
         }
     }
 }

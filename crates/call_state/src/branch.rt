@@ -7,13 +7,13 @@ ghost use Rattle.call_model.specs.Take as take;
 ghost use Rattle.call_model.specs.Take.{RespondsOn};
 
 use crate::fault::PostFault;
-use crate::parts::Parts;
+use crate::state::CallState;
 use call_branch::{is_passed, kept_if, parted, response_event};
 use call_model::Taken;
 use sip_text::Message;
 use std::alloc::Allocator;
 
-impl<A: Allocator + Clone> Parts<A> {
+impl<A: Allocator + Clone> CallState<A> {
     /// Takes a response to branch n: its client transaction absorbs it, or hands it up, and it is posted (RFC 3261
     /// sections 16.7 and 17.1). A failure is kept where no stored answer ranks before it, for it may go up later, and an
     /// ACK is owed where the transaction says so; a provisional response sets timer C again. Where the proxy is
@@ -39,17 +39,17 @@ impl<A: Allocator + Clone> Parts<A> {
         ensures full { IsErrOf result PostFault.Full → RespondsOn self.old n now message take.Full self.new }
         ensures err { OnErr result (self.new ≡ self.old) }
     {
-        let leg = self.part(n);
-        let (client, out) = leg.fed(response_event(status), now);
-        let timer_c_at = leg.timer_c_again(status, now);
-        let ack = self.ack_if(self.way(n), n, out.send, &message)?;
+        let branch = self.part(n);
+        let (client, out) = branch.fed(response_event(status), now);
+        let timer_c_at = branch.timer_c_again(status, now);
+        let ack = self.ack_if(self.destination(n), n, out.send, &message)?;
         if !is_passed(out.pass) {
             self.respond_part(n, client, ack);
             return Ok(Taken::Absorbed);
         }
-        let said = self.said(n, status, &message)?;
+        let new_event = self.new_event(n, status, &message)?;
         let (up, failure) = parted(status, message);
-        let at = match self.post_said(said, up) {
+        let at = match self.post_response(new_event, up) {
             Ok(at) => at,
             Err(fault) => return Err(fault),
         };

@@ -1,27 +1,27 @@
 //! A datagram of a call that could not be sent.
 ghost use Rattle.std.specs.Prelude.{◌≡◌, OnErr, OnOk};
-ghost use Rattle.call_model.specs.Call.{leg_at};
+ghost use Rattle.call_model.specs.Call.{nth_branch};
 ghost use Rattle.call_model.specs.Failed.{Fails, FaultsClient, cancel_faulted};
 ghost use Rattle.call_model.specs.Sound.{IsSound};
 
-use crate::parts::Parts;
+use crate::state::CallState;
 use call_branch::is_fault;
 use call_model::Cause;
 use fork_context::Event;
 use sip_txn::TxEvent;
 use std::alloc::{AllocError, Allocator};
 
-impl<A: Allocator + Clone> Parts<A> {
+impl<A: Allocator + Clone> CallState<A> {
     /// The client transaction of branch n is told that its request, or its ACK, could not be sent.
     fn fault_client(&mut self, n: u16, now: u64) -> Result<(), AllocError>
         requires sound { IsSound self.old }
-        ensures ok { OnOk result (FaultsClient self.old now n (leg_at self.old n) self.new) }
+        ensures ok { OnOk result (FaultsClient self.old now n (nth_branch self.old n) self.new) }
         ensures err { OnErr result (self.new ≡ self.old) }
     {
-        let Some(leg) = self.leg(n) else {
+        let Some(branch) = self.branch(n) else {
             return Ok(());
         };
-        let (client, out) = leg.fed(TxEvent::TransportError, now);
+        let (client, out) = branch.fed(TxEvent::TransportError, now);
         if !is_fault(out.pass) {
             self.respond_part(n, client, None);
             return Ok(());
@@ -31,12 +31,12 @@ impl<A: Allocator + Clone> Parts<A> {
 
     /// That of its CANCEL is told so.
     fn fault_cancel(&mut self, n: u16, now: u64)
-        ensures { self.new ≡ cancel_faulted self.old now n (leg_at self.old n) }
+        ensures { self.new ≡ cancel_faulted self.old now n (nth_branch self.old n) }
     {
-        let Some(leg) = self.leg(n) else {
+        let Some(branch) = self.branch(n) else {
             return;
         };
-        let Some(cancelling) = leg.cancelling() else {
+        let Some(cancelling) = branch.cancelling() else {
             return;
         };
         let (client, _out) = cancelling.fed(TxEvent::TransportError, now);

@@ -11,8 +11,8 @@ mod branch;
 mod failed;
 mod fault;
 mod look;
-mod parts;
+mod state;
 mod states;
 
 pub use fault::PostFault;
-pub use parts::Parts;
+pub use state::CallState;

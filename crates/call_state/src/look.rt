@@ -1,29 +1,29 @@
 //! What was sent to a branch, what it owes, where it is, and what is waited for.
 ghost use Rattle.std.specs.Prelude.{◌≡◌, ◌↔◌, IsTrue, Some};
 ghost use Rattle.fork_model.specs.Table as table;
-ghost use Rattle.call_model.specs.Call.{is_cancel_sent, is_sent, leg_at, owes_ack, row_passes, runs_timer_c};
-ghost use Rattle.call_model.specs.Due.{IsOverLeg, cancel_at, client_at, give_up_at, timer_c_at};
-ghost use Rattle.call_model.specs.Leg.{Leg};
+ghost use Rattle.call_model.specs.Call.{is_cancel_sent, is_sent, nth_branch, owes_ack, row_passes, runs_timer_c};
+ghost use Rattle.call_model.specs.Due.{IsOverBranch, cancel_at, client_at, give_up_at, timer_c_at};
+ghost use Rattle.call_model.specs.Branch.{Branch};
 ghost use Rattle.call_model.specs.Server as server;
 
-use crate::parts::Parts;
+use crate::state::CallState;
 use crate::states::{shows_cancelled, shows_open, shows_timer_c, shows_trying};
 use std::alloc::Allocator;
 
-impl<A: Allocator + Clone> Parts<A> {
+impl<A: Allocator + Clone> CallState<A> {
     /// Whether the request to target n was sent.
     pub fn is_sent(&self, n: u16) -> bool
         ensures { result ≡ is_sent self.now n }
     {
-        self.leg(n).is_some()
+        self.branch(n).is_some()
     }
 
     /// Whether branch n owes an ACK.
     pub fn owes_ack(&self, n: u16) -> bool
         ensures { result ≡ owes_ack self.now n }
     {
-        match self.leg(n) {
-            Some(leg) => leg.owes_ack(),
+        match self.branch(n) {
+            Some(branch) => branch.owes_ack(),
             None => false,
         }
     }
@@ -32,8 +32,8 @@ impl<A: Allocator + Clone> Parts<A> {
     pub fn is_cancel_sent(&self, n: u16) -> bool
         ensures { result ≡ is_cancel_sent self.now n }
     {
-        match self.leg(n) {
-            Some(leg) => leg.cancelling().is_some(),
+        match self.branch(n) {
+            Some(branch) => branch.cancelling().is_some(),
             None => false,
         }
     }
@@ -76,30 +76,30 @@ impl<A: Allocator + Clone> Parts<A> {
 
     /// The moment at which the client transaction of branch n wants a tick.
     pub fn client_at(&self, n: u16) -> Option<u64>
-        ensures { result ≡ client_at (leg_at self.now n) }
+        ensures { result ≡ client_at (nth_branch self.now n) }
     {
-        self.leg(n)?.due()
+        self.branch(n)?.due()
     }
 
     /// The moment at which that of its CANCEL wants one.
     pub fn cancel_at(&self, n: u16) -> Option<u64>
-        ensures { result ≡ cancel_at (leg_at self.now n) }
+        ensures { result ≡ cancel_at (nth_branch self.now n) }
     {
-        self.leg(n)?.cancelling()?.due()
+        self.branch(n)?.cancelling()?.due()
     }
 
     /// When timer C of branch n fires, where it runs (RFC 3261 section 16.8).
     pub fn timer_c_at(&self, n: u16) -> Option<u64>
-        ensures { result ≡ timer_c_at (leg_at self.now n) }
+        ensures { result ≡ timer_c_at (nth_branch self.now n) }
     {
-        self.leg(n)?.timer_c_at()
+        self.branch(n)?.timer_c_at()
     }
 
     /// From when on branch n is given up, where it is cancelled (RFC 3261 section 9.1).
     pub fn give_up_at(&self, n: u16) -> Option<u64>
-        ensures { result ≡ give_up_at (leg_at self.now n) }
+        ensures { result ≡ give_up_at (nth_branch self.now n) }
     {
-        Some(self.leg(n)?.cancelling()?.give_up_at())
+        Some(self.branch(n)?.cancelling()?.give_up_at())
     }
 
     /// Whether the caller's transaction has ended.
@@ -111,10 +111,10 @@ impl<A: Allocator + Clone> Parts<A> {
 
     /// Whether the transactions of branch n have ended, or its request was not sent.
     pub fn is_branch_over(&self, n: u16) -> bool
-        ensures { IsTrue result ↔ ((leg : Leg) → leg_at self.now n ≡ Some leg → IsOverLeg leg) }
+        ensures { IsTrue result ↔ ((branch : Branch) → nth_branch self.now n ≡ Some branch → IsOverBranch branch) }
     {
-        match self.leg(n) {
-            Some(leg) => leg.is_over(),
+        match self.branch(n) {
+            Some(branch) => branch.is_over(),
             None => true,
         }
     }

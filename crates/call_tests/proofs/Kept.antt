@@ -5,10 +5,10 @@ use Rattle.std.proofs.lemmas.Bool.{and_from}
 use Rattle.fork_model.specs.Table.{is_trying}
 use Rattle.sip_text.specs.Text.{MessageText}
 use Rattle.call_model.specs.Built.{Datagram, answer_of, status_of}
-use Rattle.call_model.specs.Call.{Call, is_sent, leg_at, row_passes}
+use Rattle.call_model.specs.Call.{Call, is_sent, nth_branch, row_passes}
 use Rattle.call_model.specs.Due.{SendAnswer, SendRequest, is_any}
-use Rattle.call_model.specs.Fixed.{Way}
-use Rattle.call_model.specs.Leg.{Leg}
+use Rattle.call_model.specs.OpenedRequest.{Destination}
+use Rattle.call_model.specs.Branch.{Branch}
 use Rattle.call_model.specs.Pump as pump
 use Rattle.call_model.specs.Pump.{AnswersBy, AnswersWith, Does, Pumped, Pumps, SendsAnswer, SendsRequest}
 use Rattle.call_model.specs.Server as server
@@ -18,20 +18,20 @@ use Rattle.call_model.specs.Take as take
 use Rattle.call_model.specs.Take.{is_response}
 
 pub request_step : (call new : Call) (now n : ℕ) (d : Datagram) → row_passes is_trying call n ≡ true → is_sent call n ≡ false
-    → (way : Way) × (slice_get call.ways n ≡ Some way) × SendsRequest call now n way (pump.Send d) new → Pumps call now (pump.Send d) new
+    → (destination : Destination) × (slice_get call.destinations n ≡ Some destination) × SendsRequest call now n destination (pump.Send d) new → Pumps call now (pump.Send d) new
 request_step call new now n d trying unsent sends =
-    (SendRequest n, and_from (row_passes is_trying call n) (is_none (leg_at call n)) trying (none (leg_at call n) unsent), sends)
+    (SendRequest n, and_from (row_passes is_trying call n) (is_none (nth_branch call n)) trying (none (nth_branch call n) unsent), sends)
   where
-    none : (leg : Option Leg) → is_some leg ≡ false → is_none leg ≡ true
+    none : (branch : Option Branch) → is_some branch ≡ false → is_none branch ≡ true
     none None e = refl
-    none (Some leg) e = absurd cc
+    none (Some branch) e = absurd cc
 
 -- by this turn
 abbrev pub sent_turn : (now : ℕ) → Pumped → Turn
 sent_turn now p = record { now = now; input = Pump; output = Did p }
 
 abbrev pub taken_turn : Call → (n now : ℕ) → MessageText → take.Taken → Turn
-taken_turn call n now m k = record { now = now; input = Take (take.Client n) m call.fixed.caller; output = Took k }
+taken_turn call n now m k = record { now = now; input = Take (take.Client n) m call.opened.caller; output = Took k }
 
 not_idle_by : (call : Call) (now : ℕ) (rest : List server.Owed) (m : MessageText) (b : Bool) (new : Call) → AnswersBy call now rest m b pump.Idle new → ⊥
 not_idle_by call now rest m true new (is, same) = absurd cc

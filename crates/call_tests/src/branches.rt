@@ -3,13 +3,13 @@ ghost use Rattle.call_model.specs.Behind.{KeepsAnswers};
 ghost use Rattle.call_model.specs.Sound.{IsSound};
 
 use crate::holds::holds;
-use crate::parts::{
+use crate::state::{
     CALL_ID, CALLER, CANCEL_FIRST, CSEQ, FIRST, FIRST_VIA, FROM, INVITE, LENGTH, RINGING, SECOND,
     SECOND_VIA, TO, TO_FIRST, TO_SECOND, TRYING, VIA, begun, is_sent_as, is_silent, message_of,
     sends_cancel, status_of, step_sends,
 };
 use call_model::{Cause, Datagram, Step, Taken, branches_keep_their_answers, calls_stay_sound};
-use call_state::Parts;
+use call_state::CallState;
 use sip_text::Message;
 use sip_uri::Hop;
 use sip_via::has_second_via;
@@ -173,60 +173,60 @@ pub(crate) const UNAUTHORIZED_UP: [&[u8]; 10] = [
 // ---- what is done with a call that stays sound
 
 /// Sends the request to target n, where that is owed.
-fn sent_to(parts: &mut Parts, n: u16) -> Option<Datagram>
-    requires sound { IsSound parts.old }
-    requires answers { KeepsAnswers parts.old }
-    ensures sound { IsSound parts.new }
-    ensures answers { KeepsAnswers parts.new }
+fn sent_to(state: &mut CallState, n: u16) -> Option<Datagram>
+    requires sound { IsSound state.old }
+    requires answers { KeepsAnswers state.old }
+    ensures sound { IsSound state.new }
+    ensures answers { KeepsAnswers state.new }
 {
     calls_stay_sound();
     branches_keep_their_answers();
-    if n >= parts.book().context().count() {
+    if n >= state.book().context().count() {
         return None;
     }
-    if !parts.is_trying(n) {
+    if !state.is_trying(n) {
         return None;
     }
-    if parts.is_sent(n) {
+    if state.is_sent(n) {
         return None;
     }
-    match parts.send_request(n, 0) {
+    match state.send_request(n, 0) {
         Ok(sent) => Some(sent),
         Err(_) => None,
     }
 }
 
 /// Whether the request to target n is sent there, as these lines.
-pub(crate) fn starts(alloc: Global, parts: &mut Parts, n: u16, to: Hop, lines: &[&[u8]]) -> bool
-    requires sound { IsSound parts.old }
-    requires answers { KeepsAnswers parts.old }
-    ensures sound { IsSound parts.new }
-    ensures answers { KeepsAnswers parts.new }
+pub(crate) fn starts(alloc: Global, state: &mut CallState, n: u16, to: Hop, lines: &[&[u8]]) -> bool
+    requires sound { IsSound state.old }
+    requires answers { KeepsAnswers state.old }
+    ensures sound { IsSound state.new }
+    ensures answers { KeepsAnswers state.new }
 {
-    match sent_to(parts, n) {
+    match sent_to(state, n) {
         None => false,
         Some(sent) => is_sent_as(alloc, &sent, to, Cause::Request(n), lines),
     }
 }
 
 /// What comes of a response to branch n.
-fn taken_from(parts: &mut Parts, n: u16, now: u64, response: Message<Global>) -> Option<Taken>
-    requires sound { IsSound parts.old }
-    requires answers { KeepsAnswers parts.old }
-    ensures sound { IsSound parts.new }
-    ensures answers { KeepsAnswers parts.new }
+fn taken_from(state: &mut CallState, n: u16, now: u64, response: Message<Global>) -> Option<Taken>
+    requires sound { IsSound state.old }
+    requires answers { KeepsAnswers state.old }
+    ensures sound { IsSound state.new }
+    ensures answers { KeepsAnswers state.new }
 {
     calls_stay_sound();
     branches_keep_their_answers();
     response.is_message();
     let status = status_of(&response);
-    if !parts.is_sent(n) || status < 100 || status > 699 {
+    if !state.is_sent(n) || status < 100 || status > 699 {
         return None;
     }
     if !has_second_via(&response) {
         return None;
     }
-    match parts.respond(n, status, response, now) {
+    match state.respond(n, status, response, now) {
         Ok(taken) => Some(taken),
         Err(_) => None,
     }
@@ -235,48 +235,48 @@ fn taken_from(parts: &mut Parts, n: u16, now: u64, response: Message<Global>) ->
 /// What comes of the response of these lines to branch n.
 pub(crate) fn taken_by(
     alloc: Global,
-    parts: &mut Parts,
+    state: &mut CallState,
     n: u16,
     now: u64,
     lines: &[&[u8]],
 ) -> Option<Taken>
-    requires sound { IsSound parts.old }
-    requires answers { KeepsAnswers parts.old }
-    ensures sound { IsSound parts.new }
-    ensures answers { KeepsAnswers parts.new }
+    requires sound { IsSound state.old }
+    requires answers { KeepsAnswers state.old }
+    ensures sound { IsSound state.new }
+    ensures answers { KeepsAnswers state.new }
 {
     match message_of(alloc, lines) {
         None => None,
-        Some(response) => taken_from(parts, n, now, response),
+        Some(response) => taken_from(state, n, now, response),
     }
 }
 
 /// The step by which the answer that is owed first is sent.
-fn answered(parts: &mut Parts) -> Option<Step>
-    requires sound { IsSound parts.old }
-    requires answers { KeepsAnswers parts.old }
-    ensures sound { IsSound parts.new }
-    ensures answers { KeepsAnswers parts.new }
+fn answered(state: &mut CallState) -> Option<Step>
+    requires sound { IsSound state.old }
+    requires answers { KeepsAnswers state.old }
+    ensures sound { IsSound state.new }
+    ensures answers { KeepsAnswers state.new }
 {
     calls_stay_sound();
     branches_keep_their_answers();
-    if parts.owed().is_empty() {
+    if state.owed().is_empty() {
         return None;
     }
-    match parts.send_owed(0) {
+    match state.send_owed(0) {
         Ok(step) => Some(step),
         Err(_) => None,
     }
 }
 
 /// Whether it is sent as these lines.
-pub(crate) fn answers(alloc: Global, parts: &mut Parts, lines: &[&[u8]]) -> bool
-    requires sound { IsSound parts.old }
-    requires answers { KeepsAnswers parts.old }
-    ensures sound { IsSound parts.new }
-    ensures answers { KeepsAnswers parts.new }
+pub(crate) fn answers(alloc: Global, state: &mut CallState, lines: &[&[u8]]) -> bool
+    requires sound { IsSound state.old }
+    requires answers { KeepsAnswers state.old }
+    ensures sound { IsSound state.new }
+    ensures answers { KeepsAnswers state.new }
 {
-    match answered(parts) {
+    match answered(state) {
         None => false,
         Some(step) => step_sends(alloc, &step, CALLER, Cause::Answer, lines),
     }
@@ -285,62 +285,62 @@ pub(crate) fn answers(alloc: Global, parts: &mut Parts, lines: &[&[u8]]) -> bool
 // ---- timers
 
 /// What comes of a tick of the client transaction of the first branch.
-fn ticked(parts: &mut Parts, now: u64) -> Option<Step>
-    requires { IsSound parts.old }
+fn ticked(state: &mut CallState, now: u64) -> Option<Step>
+    requires { IsSound state.old }
 {
-    if !parts.is_sent(0) {
+    if !state.is_sent(0) {
         return None;
     }
-    match parts.tick_client(0, now) {
+    match state.tick_client(0, now) {
         Ok(step) => Some(step),
         Err(_) => None,
     }
 }
 
 /// Whether a tick sends the request of the first branch as these lines.
-fn sends_again(alloc: Global, parts: &mut Parts, now: u64, lines: &[&[u8]]) -> bool
-    requires { IsSound parts.old }
+fn sends_again(alloc: Global, state: &mut CallState, now: u64, lines: &[&[u8]]) -> bool
+    requires { IsSound state.old }
 {
-    match ticked(parts, now) {
+    match ticked(state, now) {
         None => false,
         Some(step) => step_sends(alloc, &step, FIRST, Cause::Request(0), lines),
     }
 }
 
 /// Whether a tick of the first branch sends nothing.
-fn ticks_silently(parts: &mut Parts, now: u64) -> bool
-    requires { IsSound parts.old }
+fn ticks_silently(state: &mut CallState, now: u64) -> bool
+    requires { IsSound state.old }
 {
-    match ticked(parts, now) {
+    match ticked(state, now) {
         Some(step) => is_silent(&step),
         None => false,
     }
 }
 
 /// Whether timer C of the first branch fires at this moment.
-fn fires_timer_c(parts: &mut Parts, now: u64) -> bool
-    requires { IsSound parts.old }
+fn fires_timer_c(state: &mut CallState, now: u64) -> bool
+    requires { IsSound state.old }
 {
-    let Some(at) = parts.timer_c_at(0) else {
+    let Some(at) = state.timer_c_at(0) else {
         return false;
     };
-    if at > now || !parts.runs_timer_c(0) {
+    if at > now || !state.runs_timer_c(0) {
         return false;
     }
-    parts.fire_timer_c(0, now).is_ok()
+    state.fire_timer_c(0, now).is_ok()
 }
 
 /// Whether the first branch is given up.
-fn gives_up(parts: &mut Parts, now: u64) -> bool {
-    if !parts.is_sent(0) || !parts.is_cancelled(0) {
+fn gives_up(state: &mut CallState, now: u64) -> bool {
+    if !state.is_sent(0) || !state.is_cancelled(0) {
         return false;
     }
-    parts.give_up(0, now).is_ok()
+    state.give_up(0, now).is_ok()
 }
 
 /// Whether the first branch has one contact left, which is this text.
-fn leaves(parts: &Parts, text: &[u8]) -> bool {
-    match parts.book().context().left(0) {
+fn leaves(state: &CallState, text: &[u8]) -> bool {
+    match state.book().context().left(0) {
         Some([offer]) => offer.text() == text,
         _ => false,
     }
@@ -351,17 +351,17 @@ fn leaves(parts: &Parts, text: &[u8]) -> bool {
 #[test]
 fn a_request_is_sent_again(rt: HostRuntime) {
     let alloc = rt.alloc();
-    let Some(mut parts) = begun(alloc, &INVITE) else {
+    let Some(mut state) = begun(alloc, &INVITE) else {
         return holds(&rt, false, "an INVITE begins");
     };
     holds(
         &rt,
-        starts(alloc, &mut parts, 0, FIRST, &TO_FIRST),
+        starts(alloc, &mut state, 0, FIRST, &TO_FIRST),
         "the request to the first target",
     );
     holds(
         &rt,
-        sends_again(alloc, &mut parts, 500, &TO_FIRST),
+        sends_again(alloc, &mut state, 500, &TO_FIRST),
         "it is sent again after 500 ms",
     );
 }
@@ -369,153 +369,153 @@ fn a_request_is_sent_again(rt: HostRuntime) {
 #[test]
 fn a_branch_times_out(rt: HostRuntime) {
     let alloc = rt.alloc();
-    let Some(mut parts) = begun(alloc, &INVITE) else {
+    let Some(mut state) = begun(alloc, &INVITE) else {
         return holds(&rt, false, "an INVITE begins");
     };
     holds(
         &rt,
-        starts(alloc, &mut parts, 0, FIRST, &TO_FIRST),
+        starts(alloc, &mut state, 0, FIRST, &TO_FIRST),
         "the request to the first target",
     );
     holds(
         &rt,
-        ticks_silently(&mut parts, 32_000),
+        ticks_silently(&mut state, 32_000),
         "nothing is sent after 32 seconds",
     );
-    holds(&rt, !parts.is_open(0), "the branch has ended");
-    holds(&rt, parts.is_open(1), "the other goes on");
+    holds(&rt, !state.is_open(0), "the branch has ended");
+    holds(&rt, state.is_open(1), "the other goes on");
 }
 
 #[test]
 fn timer_c_ends_a_silent_branch(rt: HostRuntime) {
     let alloc = rt.alloc();
-    let Some(mut parts) = begun(alloc, &INVITE) else {
+    let Some(mut state) = begun(alloc, &INVITE) else {
         return holds(&rt, false, "an INVITE begins");
     };
     holds(
         &rt,
-        starts(alloc, &mut parts, 0, FIRST, &TO_FIRST),
+        starts(alloc, &mut state, 0, FIRST, &TO_FIRST),
         "the request to the first target",
     );
     holds(
         &rt,
-        parts.timer_c_at(0) == Some(181_000),
+        state.timer_c_at(0) == Some(181_000),
         "timer C runs for more than three minutes",
     );
-    holds(&rt, fires_timer_c(&mut parts, 181_000), "timer C fires");
-    holds(&rt, !parts.is_open(0), "the branch has ended");
+    holds(&rt, fires_timer_c(&mut state, 181_000), "timer C fires");
+    holds(&rt, !state.is_open(0), "the branch has ended");
 }
 
 #[test]
 fn a_branch_that_has_rung_is_given_up(rt: HostRuntime) {
     let alloc = rt.alloc();
-    let Some(mut parts) = begun(alloc, &INVITE) else {
+    let Some(mut state) = begun(alloc, &INVITE) else {
         return holds(&rt, false, "an INVITE begins");
     };
     holds(
         &rt,
-        starts(alloc, &mut parts, 0, FIRST, &TO_FIRST),
+        starts(alloc, &mut state, 0, FIRST, &TO_FIRST),
         "the request to the first target",
     );
     holds(
         &rt,
-        taken_by(alloc, &mut parts, 0, 10, &RINGING) == Some(Taken::Posted(0)),
+        taken_by(alloc, &mut state, 0, 10, &RINGING) == Some(Taken::Posted(0)),
         "a 180 is posted",
     );
     holds(
         &rt,
-        parts.timer_c_at(0) == Some(181_010),
+        state.timer_c_at(0) == Some(181_010),
         "timer C is set again",
     );
-    holds(&rt, fires_timer_c(&mut parts, 181_010), "timer C fires");
-    holds(&rt, parts.is_cancelled(0), "the branch is cancelled");
+    holds(&rt, fires_timer_c(&mut state, 181_010), "timer C fires");
+    holds(&rt, state.is_cancelled(0), "the branch is cancelled");
     holds(
         &rt,
-        sends_cancel(alloc, &mut parts, &CANCEL_FIRST),
+        sends_cancel(alloc, &mut state, &CANCEL_FIRST),
         "the CANCEL of the branch",
     );
-    holds(&rt, gives_up(&mut parts, 32_020), "it is given up");
-    holds(&rt, !parts.is_open(0), "the branch has ended");
+    holds(&rt, gives_up(&mut state, 32_020), "it is given up");
+    holds(&rt, !state.is_open(0), "the branch has ended");
 }
 
 #[test]
 fn contacts_become_targets(rt: HostRuntime) {
     let alloc = rt.alloc();
-    let Some(mut parts) = begun(alloc, &INVITE) else {
+    let Some(mut state) = begun(alloc, &INVITE) else {
         return holds(&rt, false, "an INVITE begins");
     };
     holds(
         &rt,
-        starts(alloc, &mut parts, 0, FIRST, &TO_FIRST),
+        starts(alloc, &mut state, 0, FIRST, &TO_FIRST),
         "the request to the first target",
     );
     holds(
         &rt,
-        taken_by(alloc, &mut parts, 0, 10, &MOVED) == Some(Taken::Posted(0)),
+        taken_by(alloc, &mut state, 0, 10, &MOVED) == Some(Taken::Posted(0)),
         "a 302 is posted",
     );
-    holds(&rt, parts.book().context().count() == 4, "two targets more");
+    holds(&rt, state.book().context().count() == 4, "two targets more");
     holds(
         &rt,
-        leaves(&parts, b"<tel:+1>"),
+        leaves(&state, b"<tel:+1>"),
         "the contact that may not be tried is left",
     );
     holds(
         &rt,
-        starts(alloc, &mut parts, 2, THIRD, &TO_THIRD),
+        starts(alloc, &mut state, 2, THIRD, &TO_THIRD),
         "the request to the first contact",
     );
     holds(
         &rt,
-        starts(alloc, &mut parts, 3, FOURTH, &TO_FOURTH),
+        starts(alloc, &mut state, 3, FOURTH, &TO_FOURTH),
         "the request to the second",
     );
 }
 
 #[test]
-fn a_target_has_the_way_of_its_contact(rt: HostRuntime) {
+fn a_target_has_the_destination_of_its_contact(rt: HostRuntime) {
     let alloc = rt.alloc();
-    let Some(mut parts) = begun(alloc, &INVITE) else {
+    let Some(mut state) = begun(alloc, &INVITE) else {
         return holds(&rt, false, "an INVITE begins");
     };
     holds(
         &rt,
-        starts(alloc, &mut parts, 0, FIRST, &TO_FIRST),
+        starts(alloc, &mut state, 0, FIRST, &TO_FIRST),
         "the request to the first target",
     );
     holds(
         &rt,
-        taken_by(alloc, &mut parts, 0, 10, &MOVED_BY_Q) == Some(Taken::Posted(0)),
+        taken_by(alloc, &mut state, 0, 10, &MOVED_BY_Q) == Some(Taken::Posted(0)),
         "a 302 is posted",
     );
     holds(
         &rt,
-        starts(alloc, &mut parts, 2, FOURTH, &TO_FOURTH_FIRST),
+        starts(alloc, &mut state, 2, FOURTH, &TO_FOURTH_FIRST),
         "the request to the contact of the higher q",
     );
-    holds(&rt, !parts.is_trying(3), "the other waits");
+    holds(&rt, !state.is_trying(3), "the other waits");
 }
 
 #[test]
 fn a_contact_that_cannot_be_read_is_left(rt: HostRuntime) {
     let alloc = rt.alloc();
-    let Some(mut parts) = begun(alloc, &INVITE) else {
+    let Some(mut state) = begun(alloc, &INVITE) else {
         return holds(&rt, false, "an INVITE begins");
     };
     holds(
         &rt,
-        starts(alloc, &mut parts, 0, FIRST, &TO_FIRST),
+        starts(alloc, &mut state, 0, FIRST, &TO_FIRST),
         "the request to the first target",
     );
     holds(
         &rt,
-        taken_by(alloc, &mut parts, 0, 10, &MOVED_UNREADABLY) == Some(Taken::Posted(0)),
+        taken_by(alloc, &mut state, 0, 10, &MOVED_UNREADABLY) == Some(Taken::Posted(0)),
         "a 302 is posted",
     );
-    holds(&rt, parts.book().context().count() == 2, "no target more");
+    holds(&rt, state.book().context().count() == 2, "no target more");
     holds(
         &rt,
-        leaves(&parts, b"<sip:bob@192.0.2.6"),
+        leaves(&state, b"<sip:bob@192.0.2.6"),
         "the value is left",
     );
 }
@@ -523,33 +523,33 @@ fn a_contact_that_cannot_be_read_is_left(rt: HostRuntime) {
 #[test]
 fn challenges_go_up_together(rt: HostRuntime) {
     let alloc = rt.alloc();
-    let Some(mut parts) = begun(alloc, &INVITE) else {
+    let Some(mut state) = begun(alloc, &INVITE) else {
         return holds(&rt, false, "an INVITE begins");
     };
-    holds(&rt, answers(alloc, &mut parts, &TRYING), "the 100 is sent");
+    holds(&rt, answers(alloc, &mut state, &TRYING), "the 100 is sent");
     holds(
         &rt,
-        starts(alloc, &mut parts, 0, FIRST, &TO_FIRST),
+        starts(alloc, &mut state, 0, FIRST, &TO_FIRST),
         "the request to the first target",
     );
     holds(
         &rt,
-        starts(alloc, &mut parts, 1, SECOND, &TO_SECOND),
+        starts(alloc, &mut state, 1, SECOND, &TO_SECOND),
         "the request to the second",
     );
     holds(
         &rt,
-        taken_by(alloc, &mut parts, 0, 10, &UNAUTHORIZED) == Some(Taken::Posted(0)),
+        taken_by(alloc, &mut state, 0, 10, &UNAUTHORIZED) == Some(Taken::Posted(0)),
         "a 401 is posted",
     );
     holds(
         &rt,
-        taken_by(alloc, &mut parts, 1, 20, &PROXY_UNAUTHORIZED) == Some(Taken::Posted(1)),
+        taken_by(alloc, &mut state, 1, 20, &PROXY_UNAUTHORIZED) == Some(Taken::Posted(1)),
         "a 407 is posted",
     );
     holds(
         &rt,
-        answers(alloc, &mut parts, &UNAUTHORIZED_UP),
+        answers(alloc, &mut state, &UNAUTHORIZED_UP),
         "the 401 goes up with the challenges of both",
     );
 }

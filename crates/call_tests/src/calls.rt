@@ -4,8 +4,8 @@ use crate::recipients::{
     CALLER, CANCELLING, FIRST, INVITE, INVITING, NO_VIA, OKAY, RINGING, SECOND, SETUP, message_of,
 };
 use crate::requests::{SOURCE, setup_of};
+use call_routing::is_openable;
 use fork_call::{Call, Cause, Datagram, Prepared, Setup, Step, TakeFault, Taken};
-use fork_routing::is_openable;
 use std::alloc::Global;
 use std::process::Abort;
 

@@ -1,4 +1,4 @@
-//! Tests of the public calls of `call_state`, `fork_setup`, `fork_routing` and `fork_call`, in files and folders named for what
+//! Tests of the public calls of `call_state`, `proxy_config`, `call_routing` and `fork_call`, in files and folders named for what
 //! is tested. They stand apart from these crates so that none of them is proved twice.
 #![tactic(auto)]
 
@@ -8,6 +8,8 @@ mod branches;
 mod calls;
 #[cfg(test)]
 mod carrying;
+#[cfg(test)]
+mod destinations;
 #[cfg(test)]
 mod histories;
 #[cfg(test)]
@@ -19,8 +21,6 @@ mod looking;
 #[cfg(test)]
 mod opening;
 #[cfg(test)]
-mod parts;
-#[cfg(test)]
 mod places;
 #[cfg(test)]
 mod recipients;
@@ -29,4 +29,4 @@ mod requests;
 #[cfg(test)]
 mod setup;
 #[cfg(test)]
-mod ways;
+mod state;

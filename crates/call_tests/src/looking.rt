@@ -4,12 +4,12 @@ use crate::branches::{
     PROXY_UNAUTHORIZED, UNAUTHORIZED, UNAUTHORIZED_UP, answers, starts, taken_by,
 };
 use crate::holds::holds;
-use crate::parts::{
+use crate::state::{
     CANCEL_FIRST, FIRST, INVITE, SECOND, TO_FIRST, TO_SECOND, TRYING, begun, sends_cancel,
     sends_request, ticks_server,
 };
 use call_model::{Cause, Taken};
-use call_state::Parts;
+use call_state::CallState;
 use sip_via::BranchName;
 
 /// What names the second branch of the call.
@@ -25,51 +25,51 @@ const SECOND_NAME: BranchName = BranchName {
 
 #[test]
 fn a_branch_has_its_name(rt: HostRuntime) {
-    let Some(parts) = begun(rt.alloc(), &INVITE) else {
+    let Some(state) = begun(rt.alloc(), &INVITE) else {
         return holds(&rt, false, "an INVITE begins");
     };
-    parts.is_sized();
+    state.is_sized();
     holds(
         &rt,
-        parts.fixed().branch(1) == SECOND_NAME,
+        state.opened().branch(1) == SECOND_NAME,
         "the name of the second branch",
     );
 }
 
 /// The moments of the first branch: of its client transaction, of its CANCEL's, and that at which it is given up.
-fn moments(parts: &Parts) -> (Option<u64>, Option<u64>, Option<u64>) {
-    (parts.client_at(0), parts.cancel_at(0), parts.give_up_at(0))
+fn moments(state: &CallState) -> (Option<u64>, Option<u64>, Option<u64>) {
+    (state.client_at(0), state.cancel_at(0), state.give_up_at(0))
 }
 
 #[test]
 fn a_branch_tells_its_moments(rt: HostRuntime) {
     let alloc = rt.alloc();
-    let Some(mut parts) = begun(alloc, &INVITE) else {
+    let Some(mut state) = begun(alloc, &INVITE) else {
         return holds(&rt, false, "an INVITE begins");
     };
     holds(
         &rt,
-        moments(&parts) == (None, None, None) && parts.is_branch_over(0),
+        moments(&state) == (None, None, None) && state.is_branch_over(0),
         "nothing was sent",
     );
     holds(
         &rt,
-        sends_request(alloc, &mut parts, 0, FIRST, &TO_FIRST),
+        sends_request(alloc, &mut state, 0, FIRST, &TO_FIRST),
         "the request",
     );
     holds(
         &rt,
-        moments(&parts) == (Some(500), None, None) && !parts.is_branch_over(0),
+        moments(&state) == (Some(500), None, None) && !state.is_branch_over(0),
         "timer A runs",
     );
     holds(
         &rt,
-        sends_cancel(alloc, &mut parts, &CANCEL_FIRST),
+        sends_cancel(alloc, &mut state, &CANCEL_FIRST),
         "the CANCEL",
     );
     holds(
         &rt,
-        moments(&parts) == (Some(500), Some(520), Some(32_020)),
+        moments(&state) == (Some(500), Some(520), Some(32_020)),
         "timer E runs, and the wait of 64 times T1",
     );
 }
@@ -77,22 +77,22 @@ fn a_branch_tells_its_moments(rt: HostRuntime) {
 #[test]
 fn a_branch_that_was_not_sent_is_over(rt: HostRuntime) {
     let alloc = rt.alloc();
-    let Some(mut parts) = begun(alloc, &INVITE) else {
+    let Some(mut state) = begun(alloc, &INVITE) else {
         return holds(&rt, false, "an INVITE begins");
     };
     holds(
         &rt,
-        starts(alloc, &mut parts, 0, FIRST, &TO_FIRST),
+        starts(alloc, &mut state, 0, FIRST, &TO_FIRST),
         "the request",
     );
     holds(
         &rt,
-        parts.failed(Cause::Request(0), 10).is_ok(),
+        state.failed(Cause::Request(0), 10).is_ok(),
         "it could not be sent",
     );
     holds(
         &rt,
-        moments(&parts) == (None, None, None) && parts.is_branch_over(0),
+        moments(&state) == (None, None, None) && state.is_branch_over(0),
         "its transaction is over",
     );
 }
@@ -100,49 +100,49 @@ fn a_branch_that_was_not_sent_is_over(rt: HostRuntime) {
 #[test]
 fn the_side_of_the_caller_tells_its_moments(rt: HostRuntime) {
     let alloc = rt.alloc();
-    let Some(mut parts) = begun(alloc, &INVITE) else {
+    let Some(mut state) = begun(alloc, &INVITE) else {
         return holds(&rt, false, "an INVITE begins");
     };
-    holds(&rt, answers(alloc, &mut parts, &TRYING), "the 100");
+    holds(&rt, answers(alloc, &mut state, &TRYING), "the 100");
     holds(
         &rt,
-        parts.server_due().is_none() && !parts.is_server_over(),
+        state.server_due().is_none() && !state.is_server_over(),
         "nothing is wanted",
     );
     holds(
         &rt,
-        starts(alloc, &mut parts, 0, FIRST, &TO_FIRST),
+        starts(alloc, &mut state, 0, FIRST, &TO_FIRST),
         "the request to the first target",
     );
     holds(
         &rt,
-        starts(alloc, &mut parts, 1, SECOND, &TO_SECOND),
+        starts(alloc, &mut state, 1, SECOND, &TO_SECOND),
         "the request to the second",
     );
     holds(
         &rt,
-        taken_by(alloc, &mut parts, 0, 10, &UNAUTHORIZED) == Some(Taken::Posted(0)),
+        taken_by(alloc, &mut state, 0, 10, &UNAUTHORIZED) == Some(Taken::Posted(0)),
         "the first fails",
     );
     holds(
         &rt,
-        taken_by(alloc, &mut parts, 1, 20, &PROXY_UNAUTHORIZED) == Some(Taken::Posted(1)),
+        taken_by(alloc, &mut state, 1, 20, &PROXY_UNAUTHORIZED) == Some(Taken::Posted(1)),
         "so does the second",
     );
     holds(
         &rt,
-        answers(alloc, &mut parts, &UNAUTHORIZED_UP),
+        answers(alloc, &mut state, &UNAUTHORIZED_UP),
         "the 401 goes up",
     );
     holds(
         &rt,
-        parts.server_due() == Some(500) && !parts.is_server_over(),
+        state.server_due() == Some(500) && !state.is_server_over(),
         "timer G runs",
     );
-    holds(&rt, ticks_server(&mut parts, 32_000), "timer H fires");
+    holds(&rt, ticks_server(&mut state, 32_000), "timer H fires");
     holds(
         &rt,
-        parts.server_due().is_none() && parts.is_server_over(),
+        state.server_due().is_none() && state.is_server_over(),
         "the transaction is over",
     );
 }

@@ -4,10 +4,10 @@ use crate::requests::{
     Change, OWN, SETUP, SOURCE, opened_by, request_with, sent_to, setup_of, text_of,
 };
 use call_model::{Cause, Datagram};
-use call_state::Parts;
+use call_routing::is_openable;
+use call_state::CallState;
 use fork_context::Kind;
-use fork_routing::is_openable;
-use proxy_routing::{OpenFault, admit, is_domain};
+use proxy_routing::{RequestRejection, is_domain, validate_request};
 use sip_text::Message;
 use sip_uri::Hop;
 use std::alloc::Global;
@@ -15,14 +15,14 @@ use std::alloc::Global;
 #[test]
 fn each_fault_has_its_status(rt: HostRuntime) {
     let given = [
-        (OpenFault::BadRequest, Some(400)),
-        (OpenFault::Scheme, Some(416)),
-        (OpenFault::Hops, Some(483)),
-        (OpenFault::Loop, Some(482)),
-        (OpenFault::Extension, Some(420)),
-        (OpenFault::NoTarget, Some(480)),
-        (OpenFault::NoHop, Some(500)),
-        (OpenFault::NoMemory, None),
+        (RequestRejection::BadRequest, Some(400)),
+        (RequestRejection::Scheme, Some(416)),
+        (RequestRejection::Hops, Some(483)),
+        (RequestRejection::Loop, Some(482)),
+        (RequestRejection::Extension, Some(420)),
+        (RequestRejection::NoTarget, Some(480)),
+        (RequestRejection::NoHop, Some(500)),
+        (RequestRejection::NoMemory, None),
     ];
     for (fault, status) in given {
         holds(&rt, fault.status() == status, "the status of a fault");
@@ -31,7 +31,7 @@ fn each_fault_has_its_status(rt: HostRuntime) {
 
 /// What a message is admitted as, if it is.
 fn admitted(alloc: Global, message: Message<Global>) -> Option<Message<Global>> {
-    match admit(alloc, OWN, message, SOURCE) {
+    match validate_request(alloc, OWN, message, SOURCE) {
         Ok(request) => Some(request),
         Err(_) => None,
     }
@@ -118,15 +118,15 @@ fn an_ack_and_a_cancel_open_no_call(rt: HostRuntime) {
 // ---- a call that opens
 
 /// The parts of the call that the request with these changes opens.
-fn opened_with(alloc: Global, changes: &[Change]) -> Option<Result<Parts, OpenFault>> {
+fn opened_with(alloc: Global, changes: &[Change]) -> Option<Result<CallState, RequestRejection>> {
     let setup = setup_of(alloc, SETUP)?;
     opened_by(alloc, &setup, changes)
 }
 
 /// The same, where it opens.
-fn call_with(alloc: Global, changes: &[Change]) -> Option<Parts> {
+fn call_with(alloc: Global, changes: &[Change]) -> Option<CallState> {
     match opened_with(alloc, changes) {
-        Some(Ok(parts)) => Some(parts),
+        Some(Ok(state)) => Some(state),
         Some(Err(_)) | None => None,
     }
 }
@@ -154,8 +154,8 @@ fn is_sent_as(alloc: Global, sent: &Datagram, to: Hop, lines: &[&[u8]]) -> bool 
 }
 
 /// Whether the request of the first branch goes there, as these lines.
-fn sends(alloc: Global, parts: &mut Parts, to: Hop, lines: &[&[u8]]) -> bool {
-    match sent_to(parts, 0) {
+fn sends(alloc: Global, state: &mut CallState, to: Hop, lines: &[&[u8]]) -> bool {
+    match sent_to(state, 0) {
         Some(sent) => is_sent_as(alloc, &sent, to, lines),
         None => false,
     }
@@ -164,29 +164,29 @@ fn sends(alloc: Global, parts: &mut Parts, to: Hop, lines: &[&[u8]]) -> bool {
 #[test]
 fn a_request_opens_a_call(rt: HostRuntime) {
     let alloc = rt.alloc();
-    let Some(mut parts) = call_with(alloc, &[]) else {
+    let Some(mut state) = call_with(alloc, &[]) else {
         return holds(&rt, false, "a request opens a call");
     };
-    holds(&rt, parts.fixed().number() == 3, "its number");
-    holds(&rt, parts.fixed().own() == OWN, "its address");
-    holds(&rt, parts.fixed().kind() == Kind::Other, "its kind");
-    holds(&rt, parts.book().context().count() == 1, "one branch");
-    holds(&rt, parts.owed().is_empty(), "nothing is owed");
+    holds(&rt, state.opened().number() == 3, "its number");
+    holds(&rt, state.opened().own() == OWN, "its address");
+    holds(&rt, state.opened().kind() == Kind::Other, "its kind");
+    holds(&rt, state.book().context().count() == 1, "one branch");
+    holds(&rt, state.owed().is_empty(), "nothing is owed");
     let to = Hop {
         addr: [192, 0, 2, 4],
         port: 5060,
     };
     holds(
         &rt,
-        sends(alloc, &mut parts, to, &FORWARDED),
+        sends(alloc, &mut state, to, &FORWARDED),
         "the request to the location",
     );
 }
 
 /// How many answers are owed in a call that the request with these changes opens.
 fn owed_with(alloc: Global, changes: &[Change]) -> Option<usize> {
-    let parts = call_with(alloc, changes)?;
-    Some(parts.owed().len())
+    let state = call_with(alloc, changes)?;
+    Some(state.owed().len())
 }
 
 #[test]
@@ -203,8 +203,8 @@ fn an_invite_is_owed_a_100(rt: HostRuntime) {
 }
 
 /// Where the request of the first branch goes.
-fn hop_of(parts: &mut Parts) -> Option<Hop> {
-    match sent_to(parts, 0) {
+fn hop_of(state: &mut CallState) -> Option<Hop> {
+    match sent_to(state, 0) {
         Some(sent) => Some(sent.to),
         None => None,
     }
@@ -212,8 +212,8 @@ fn hop_of(parts: &mut Parts) -> Option<Hop> {
 
 /// Where it goes in the call that the request with these changes opens.
 fn hop_with(alloc: Global, changes: &[Change]) -> Option<Hop> {
-    let mut parts = call_with(alloc, changes)?;
-    hop_of(&mut parts)
+    let mut state = call_with(alloc, changes)?;
+    hop_of(&mut state)
 }
 
 /// Changes of the request, and the last number of the address and the port that it goes to.
@@ -260,8 +260,8 @@ const URIS: [(Change, bool); 6] = [
 
 /// Whether the proxy is responsible for the URI of the call that the request with this change opens.
 fn is_responsible_with(alloc: Global, change: Change) -> Option<bool> {
-    let parts = call_with(alloc, &[change])?;
-    Some(parts.fixed().is_responsible())
+    let state = call_with(alloc, &[change])?;
+    Some(state.opened().is_responsible())
 }
 
 #[test]
@@ -278,7 +278,7 @@ fn the_proxy_is_responsible_for_the_domain_alone(rt: HostRuntime) {
 // ---- why none opens
 
 /// The fault with which the request with these changes opens no call.
-fn fault_with(alloc: Global, changes: &[Change]) -> Option<OpenFault> {
+fn fault_with(alloc: Global, changes: &[Change]) -> Option<RequestRejection> {
     match opened_with(alloc, changes) {
         Some(Err(fault)) => Some(fault),
         Some(Ok(_)) | None => None,
@@ -294,34 +294,43 @@ const PASSED_REQUIRING: &[u8] =
     b"v: SIP/2.0/UDP 192.0.2.9:5060;branch=z9hG4bK7a3f7bd1f95a0cbf8f999f148e0ab728.7.3.0";
 
 /// Changes of the request, and the fault that each makes.
-const FAULTS: [(Change, OpenFault); 15] = [
+const FAULTS: [(Change, RequestRejection); 15] = [
     (
         (1, b"v: SIP/2.0/UDP 192.0.2.1:5060;branch=a;rport"),
-        OpenFault::BadRequest,
+        RequestRejection::BadRequest,
     ),
     (
         (1, b"v: SIP/2.0/UDP 192.0.2.1:5060;rport"),
-        OpenFault::BadRequest,
+        RequestRejection::BadRequest,
     ),
-    ((1, b"v: SIP/2.0/UDP"), OpenFault::BadRequest),
-    ((2, b"Max-Forwards: x"), OpenFault::BadRequest),
-    ((2, b"Max-Forwards: 256"), OpenFault::BadRequest),
-    ((7, b"Route: sip:192.0.2.8"), OpenFault::BadRequest),
-    ((0, b"OPTIONS sip:a@h:0 SIP/2.0"), OpenFault::BadRequest),
-    ((0, b"OPTIONS tel:1 SIP/2.0"), OpenFault::Scheme),
-    ((2, b"Max-Forwards: 0"), OpenFault::Hops),
-    ((7, PASSED), OpenFault::Loop),
-    ((7, b"Proxy-Require: x"), OpenFault::Extension),
+    ((1, b"v: SIP/2.0/UDP"), RequestRejection::BadRequest),
+    ((2, b"Max-Forwards: x"), RequestRejection::BadRequest),
+    ((2, b"Max-Forwards: 256"), RequestRejection::BadRequest),
+    ((7, b"Route: sip:192.0.2.8"), RequestRejection::BadRequest),
+    (
+        (0, b"OPTIONS sip:a@h:0 SIP/2.0"),
+        RequestRejection::BadRequest,
+    ),
+    ((0, b"OPTIONS tel:1 SIP/2.0"), RequestRejection::Scheme),
+    ((2, b"Max-Forwards: 0"), RequestRejection::Hops),
+    ((7, PASSED), RequestRejection::Loop),
+    ((7, b"Proxy-Require: x"), RequestRejection::Extension),
     (
         (0, b"OPTIONS sip:eve@example.com SIP/2.0"),
-        OpenFault::NoTarget,
+        RequestRejection::NoTarget,
     ),
-    ((0, b"OPTIONS sip:example.com SIP/2.0"), OpenFault::NoTarget),
+    (
+        (0, b"OPTIONS sip:example.com SIP/2.0"),
+        RequestRejection::NoTarget,
+    ),
     (
         (0, b"OPTIONS sip:x@other.example SIP/2.0"),
-        OpenFault::NoHop,
+        RequestRejection::NoHop,
     ),
-    ((7, b"Route: <sip:other.example;lr>"), OpenFault::NoHop),
+    (
+        (7, b"Route: <sip:other.example;lr>"),
+        RequestRejection::NoHop,
+    ),
 ];
 
 #[test]
@@ -336,37 +345,37 @@ fn each_fault_is_told(rt: HostRuntime) {
 }
 
 /// Two changes of the request, each of which makes a fault, and that which is told.
-const ORDER: [(Change, Change, OpenFault); 7] = [
+const ORDER: [(Change, Change, RequestRejection); 7] = [
     (
         (0, b"OPTIONS tel:1 SIP/2.0"),
         (2, b"Max-Forwards: x"),
-        OpenFault::BadRequest,
+        RequestRejection::BadRequest,
     ),
     (
         (0, b"OPTIONS tel:1 SIP/2.0"),
         (2, b"Max-Forwards: 0"),
-        OpenFault::Scheme,
+        RequestRejection::Scheme,
     ),
-    ((2, b"Max-Forwards: 0"), (7, PASSED), OpenFault::Hops),
+    ((2, b"Max-Forwards: 0"), (7, PASSED), RequestRejection::Hops),
     (
         (2, b"Proxy-Require: x"),
         (7, PASSED_REQUIRING),
-        OpenFault::Loop,
+        RequestRejection::Loop,
     ),
     (
         (0, b"OPTIONS sip:eve@example.com SIP/2.0"),
         (7, b"Proxy-Require: x"),
-        OpenFault::Extension,
+        RequestRejection::Extension,
     ),
     (
         (0, b"OPTIONS sip:x@other.example SIP/2.0"),
         (7, b"Proxy-Require: x"),
-        OpenFault::Extension,
+        RequestRejection::Extension,
     ),
     (
         (0, b"OPTIONS sip:eve@example.com SIP/2.0"),
         (7, b"Route: <sip:other.example;lr>"),
-        OpenFault::NoTarget,
+        RequestRejection::NoTarget,
     ),
 ];
 

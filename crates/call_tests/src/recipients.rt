@@ -1,9 +1,9 @@
 //! Which transaction of a call a message is for.
 use crate::holds::holds;
 use crate::requests::{opened, sent_to, setup_of, text_of};
-use call_state::Parts;
-use fork_routing::{Recipient, recipient};
-use fork_setup::Setup;
+use call_routing::{MatchedTransaction, match_transaction};
+use call_state::CallState;
+use proxy_config::Setup;
 use sip_text::Message;
 use std::alloc::Global;
 use std::process::Abort;
@@ -58,40 +58,40 @@ pub fn message_of(
 pub const NO_VIA: &[u8] = b"Subject: x";
 
 /// The call that the INVITE opens, to the two branches of a setup.
-fn invited_by(alloc: Global, setup: &Setup<Global>) -> Option<Parts> {
+fn invited_by(alloc: Global, setup: &Setup<Global>) -> Option<CallState> {
     let invite = message_of(alloc, INVITE, (CALLER, NO_VIA), INVITING)?;
     match opened(alloc, setup, invite) {
-        Some(Ok(parts)) => Some(parts),
+        Some(Ok(state)) => Some(state),
         Some(Err(_)) | None => None,
     }
 }
 
 /// That of the setup with two locations.
-fn invited(alloc: Global) -> Option<Parts> {
+fn invited(alloc: Global) -> Option<CallState> {
     let setup = setup_of(alloc, SETUP)?;
     invited_by(alloc, &setup)
 }
 
 /// The same call, whose request was sent to the first branch.
-fn called(alloc: Global) -> Option<Parts> {
-    let mut parts = invited(alloc)?;
-    if sent_to(&mut parts, 0).is_some() {
-        Some(parts)
+fn called(alloc: Global) -> Option<CallState> {
+    let mut state = invited(alloc)?;
+    if sent_to(&mut state, 0).is_some() {
+        Some(state)
     } else {
         None
     }
 }
 
 /// Whether the CANCEL of the first branch is sent.
-fn cancels(parts: &mut Parts) -> bool {
-    parts.is_sent(0) && parts.send_cancel(0, 20).is_ok()
+fn cancels(state: &mut CallState) -> bool {
+    state.is_sent(0) && state.send_cancel(0, 20).is_ok()
 }
 
 /// The same call, whose first branch was sent a CANCEL, too.
-fn cancelled(alloc: Global) -> Option<Parts> {
-    let mut parts = called(alloc)?;
-    if cancels(&mut parts) {
-        Some(parts)
+fn cancelled(alloc: Global) -> Option<CallState> {
+    let mut state = called(alloc)?;
+    if cancels(&mut state) {
+        Some(state)
     } else {
         None
     }
@@ -102,45 +102,50 @@ type Addressed = (
     &'static [u8],
     (&'static [u8], &'static [u8]),
     &'static [u8],
-    Option<Recipient>,
+    Option<MatchedTransaction>,
 );
 
 /// Whether a message is for what it is to be for.
-fn is_for(alloc: Global, parts: &Parts, message: &Addressed) -> bool {
+fn is_for(alloc: Global, state: &CallState, message: &Addressed) -> bool {
     match message_of(alloc, message.0, message.1, message.2) {
-        Some(read) => recipient(parts, &read) == message.3,
+        Some(read) => match_transaction(state, &read) == message.3,
         None => false,
     }
 }
 
 /// Checks that each of these messages is.
-fn check(rt: &impl Abort, alloc: Global, parts: &Parts, messages: &[Addressed], what: &str) {
+fn check(rt: &impl Abort, alloc: Global, state: &CallState, messages: &[Addressed], what: &str) {
     for message in messages {
-        holds(rt, is_for(alloc, parts, message), what);
+        holds(rt, is_for(alloc, state, message), what);
     }
 }
 
 // ---- requests
 
 const REQUESTS: &[Addressed] = &[
-    (INVITE, (CALLER, NO_VIA), INVITING, Some(Recipient::Server)),
+    (
+        INVITE,
+        (CALLER, NO_VIA),
+        INVITING,
+        Some(MatchedTransaction::Server),
+    ),
     (
         INVITE,
         (b"Via: SIP/2.0/UDP 192.0.2.1;rport;branch=z9hG4bKa", NO_VIA),
         INVITING,
-        Some(Recipient::Server),
+        Some(MatchedTransaction::Server),
     ),
     (
         b"ACK sip:bob@example.com SIP/2.0",
         (CALLER, NO_VIA),
         b"CSeq: 1 ACK",
-        Some(Recipient::ServerAck),
+        Some(MatchedTransaction::ServerAck),
     ),
     (
         b"CANCEL sip:bob@example.com SIP/2.0",
         (CALLER, NO_VIA),
         CANCELLING,
-        Some(Recipient::ServerCancel),
+        Some(MatchedTransaction::ServerCancel),
     ),
     (
         b"OPTIONS sip:bob@example.com SIP/2.0",
@@ -190,7 +195,7 @@ const REQUESTS: &[Addressed] = &[
 fn the_caller_is_known_by_its_branch(rt: HostRuntime) {
     let alloc = rt.alloc();
     match called(alloc) {
-        Some(parts) => check(&rt, alloc, &parts, REQUESTS, "what a request is for"),
+        Some(state) => check(&rt, alloc, &state, REQUESTS, "what a request is for"),
         None => holds(&rt, false, "an INVITE opens a call"),
     }
 }
@@ -203,20 +208,25 @@ const RESPONSES: &[Addressed] = &[
         RINGING,
         (FIRST, CALLER),
         INVITING,
-        Some(Recipient::Client(0)),
+        Some(MatchedTransaction::Client(0)),
     ),
-    (OKAY, (FIRST, CALLER), INVITING, Some(Recipient::Client(0))),
+    (
+        OKAY,
+        (FIRST, CALLER),
+        INVITING,
+        Some(MatchedTransaction::Client(0)),
+    ),
     (
         OKAY,
         (FIRST, CALLER),
         CANCELLING,
-        Some(Recipient::CancelClient(0)),
+        Some(MatchedTransaction::CancelClient(0)),
     ),
     (
         OKAY,
         (FIRST, NO_VIA),
         CANCELLING,
-        Some(Recipient::CancelClient(0)),
+        Some(MatchedTransaction::CancelClient(0)),
     ),
     (
         RINGING,
@@ -225,7 +235,7 @@ const RESPONSES: &[Addressed] = &[
             NO_VIA,
         ),
         INVITING,
-        Some(Recipient::Client(0)),
+        Some(MatchedTransaction::Client(0)),
     ),
     (RINGING, (CALLER, FIRST), INVITING, None),
 ];
@@ -234,7 +244,7 @@ const RESPONSES: &[Addressed] = &[
 fn a_branch_is_known_by_its_name(rt: HostRuntime) {
     let alloc = rt.alloc();
     match cancelled(alloc) {
-        Some(parts) => check(&rt, alloc, &parts, RESPONSES, "what a response is for"),
+        Some(state) => check(&rt, alloc, &state, RESPONSES, "what a response is for"),
         None => holds(&rt, false, "a CANCEL is sent"),
     }
 }
@@ -305,10 +315,10 @@ const STRAYS: &[Addressed] = &[
 fn a_stray_response_is_for_no_branch(rt: HostRuntime) {
     let alloc = rt.alloc();
     match called(alloc) {
-        Some(parts) => check(
+        Some(state) => check(
             &rt,
             alloc,
-            &parts,
+            &state,
             STRAYS,
             "a response that is for no branch",
         ),

@@ -1,9 +1,9 @@
 //! A setup, a request of one of its users, and the call that it opens.
 use call_model::Datagram;
-use call_state::Parts;
-use fork_routing::{is_openable, open};
-use fork_setup::Setup;
-use proxy_routing::OpenFault;
+use call_routing::{is_openable, open};
+use call_state::CallState;
+use proxy_config::Setup;
+use proxy_routing::RequestRejection;
 use sip_text::Message;
 use sip_uri::Hop;
 use sip_via::Own;
@@ -110,7 +110,7 @@ pub fn opened(
     alloc: Global,
     setup: &Setup<Global>,
     request: Message<Global>,
-) -> Option<Result<Parts, OpenFault>> {
+) -> Option<Result<CallState, RequestRejection>> {
     if !is_openable(&request) {
         return None;
     }
@@ -122,17 +122,17 @@ pub fn opened_by(
     alloc: Global,
     setup: &Setup<Global>,
     changes: &[Change],
-) -> Option<Result<Parts, OpenFault>> {
+) -> Option<Result<CallState, RequestRejection>> {
     let request = request_with(alloc, changes)?;
     opened(alloc, setup, request)
 }
 
 /// The datagram that the request becomes for target n, if there is one.
-pub fn sent_to(parts: &mut Parts, n: u16) -> Option<Datagram> {
-    if n >= parts.book().context().count() {
+pub fn sent_to(state: &mut CallState, n: u16) -> Option<Datagram> {
+    if n >= state.book().context().count() {
         return None;
     }
-    match parts.send_request(n, 0) {
+    match state.send_request(n, 0) {
         Ok(sent) => Some(sent),
         Err(_) => None,
     }

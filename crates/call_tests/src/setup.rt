@@ -1,7 +1,7 @@
 //! What a text sets a proxy up with, and which of its lines is malformed.
 use crate::holds::holds;
 use fork_rank::Rules;
-use fork_setup::{Location, Setup, SetupFault, locations_are_targets};
+use proxy_config::{Location, Setup, SetupFault, locations_are_targets};
 use sip_lex::append_decimal;
 use sip_uri::Hop;
 use sip_via::Own;

@@ -2,7 +2,7 @@
 use crate::holds::holds;
 use crate::outbox::Outbox;
 use crate::texts::{CALL_ID, FROM, MARKED, TAGGED, VIA, lines_become_alone, text_of};
-use fork_dispatch::Handled;
+use proxy_dispatch::Handled;
 use sip_uri::Hop;
 use std::alloc::Global;
 use std::sync::Wait;
@@ -270,7 +270,7 @@ fn has_gone_on(alloc: Global, outbox: &Outbox) -> bool {
 fn goes_on<R: Wait>(rt: &R, alloc: Global) -> bool {
     let mut outbox = Outbox::new(alloc);
     let handled = lines_become_alone(rt, alloc, &ACK, &mut outbox);
-    handled == Some(Handled::Passed) && has_gone_on(alloc, &outbox)
+    handled == Some(Handled::Forwarded) && has_gone_on(alloc, &outbox)
 }
 
 #[test]

@@ -4,7 +4,7 @@ use crate::outbox::Outbox;
 use crate::texts::{
     CALL_ID, Edit, FROM, MARKED, SOURCE, TAGGED, becomes_alone, lines_become_alone, text_of,
 };
-use fork_dispatch::Handled;
+use proxy_dispatch::Handled;
 use sip_uri::Hop;
 use std::alloc::Global;
 use std::sync::Wait;

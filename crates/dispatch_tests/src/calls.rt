@@ -6,10 +6,10 @@ use crate::outbox::Outbox;
 use crate::texts::{
     CALL_ID, Edit, FROM, MARKED, SOURCE, becomes, lines_become, request_of, setup_of, shelf_of,
 };
+use call_routing::is_openable;
+use call_table::{Shelf, ShelfFault};
 use fork_call::{Call, Setup, carry};
-use fork_dispatch::Handled;
-use fork_routing::is_openable;
-use fork_shelf::{Shelf, ShelfFault};
+use proxy_dispatch::Handled;
 use sip_text::Message;
 use std::alloc::Global;
 use std::sync::Wait;
@@ -44,17 +44,17 @@ fn plays<R: Wait>(rt: &R, alloc: Global, steps: &[Step<'_>]) -> bool {
 /// A request, what else has its key, and what has another.
 const KEYED: [Step<'static>; 8] = [
     (&[], Handled::Opened(0)),
-    (&[], Handled::Fed(0)),
+    (&[], Handled::Delivered(0)),
     (
         &[
             (0, b"CANCEL sip:bob@example.com SIP/2.0"),
             (6, b"CSeq: 1 CANCEL"),
         ],
-        Handled::Fed(0),
+        Handled::Delivered(0),
     ),
     (
         &[(0, b"ACK sip:bob@example.com SIP/2.0"), (6, b"CSeq: 1 ACK")],
-        Handled::Fed(0),
+        Handled::Delivered(0),
     ),
     // another method with its key
     (
@@ -76,7 +76,7 @@ const KEYED: [Step<'static>; 8] = [
     // 5060 is the port where none is named
     (
         &[(1, b"v: SIP/2.0/UDP 192.0.2.2;branch=z9hG4bKa;rport")],
-        Handled::Fed(2),
+        Handled::Delivered(2),
     ),
 ];
 
@@ -123,7 +123,7 @@ fn is_carried(call: &mut Call<Global>, outbox: &mut Outbox) -> bool {
 
 /// The same call, whose request was sent.
 fn sent_call(alloc: Global, number: u64, outbox: &mut Outbox) -> Option<Call<Global>>
-    ensures { IfSome result (λ call. call.fixed.number ≡ number) }
+    ensures { IfSome result (λ call. call.opened.number ≡ number) }
 {
     let mut call = opened(alloc, number)?;
     if !is_carried(&mut call, outbox) {
@@ -252,8 +252,8 @@ fn a_response_comes_to_the_call_that_it_names(rt: HostRuntime) {
         ),
         // meant for the proxy itself
         (OWN_VIA, b"Subject: none", Handled::Dropped),
-        (OWN_VIA, MARKED, Handled::Fed(0)),
-        (OWN_VIA, MARKED, Handled::Fed(0)),
+        (OWN_VIA, MARKED, Handled::Delivered(0)),
+        (OWN_VIA, MARKED, Handled::Delivered(0)),
     ];
     holds(
         &rt,

@@ -2,17 +2,17 @@
 ghost use Rattle.std.specs.Prelude.{◌≡◌};
 
 use crate::texts::{SOURCE, text_of};
+use call_table::Shelf;
 use fork_call::{Call, Port, Setup, carry};
 use fork_context::Event;
-use fork_dispatch::{Handled, handle};
-use fork_shelf::Shelf;
+use proxy_dispatch::{Handled, handle};
 use std::alloc::Global;
 use std::process::Abort;
 use std::sync::Wait;
 
 /// Carries a call, and says whether that was not refused memory.
 fn is_carried<R: Abort, P: Port>(rt: &R, call: &mut Call<Global>, port: &mut P, now: u64) -> bool
-    ensures { call.new.fixed.number ≡ call.old.fixed.number }
+    ensures { call.new.opened.number ≡ call.old.opened.number }
 {
     let number = call.number();
     let carried = carry(call, port, now);
@@ -43,14 +43,14 @@ pub fn serves<R: Abort + Wait, P: Port>(
 ) -> Option<Handled> {
     let handled = handle(rt, alloc, alloc, shelf, setup, text, SOURCE, now, port).ok()?;
     match handled {
-        Handled::Opened(number) | Handled::Fed(number) => {
+        Handled::Opened(number) | Handled::Delivered(number) => {
             if carries(rt, shelf, number, port, now) {
                 Some(handled)
             } else {
                 None
             }
         }
-        Handled::Dropped | Handled::Absorbed | Handled::Answered(_) | Handled::Passed => {
+        Handled::Dropped | Handled::Absorbed | Handled::Answered(_) | Handled::Forwarded => {
             Some(handled)
         }
     }

@@ -2,9 +2,9 @@
 use crate::carrying::{posted, serves_lines};
 use crate::holds::holds;
 use crate::texts::{CALL_ID, FROM, MARKED, TO, VIA, setup_of, shelf_of};
+use call_table::Shelf;
 use fork_call::{Call, Cause, Datagram, Port, Setup};
-use fork_dispatch::Handled;
-use fork_shelf::Shelf;
+use proxy_dispatch::Handled;
 use std::alloc::{Allocator, Global};
 use std::process::Abort;
 use std::sync::Wait;
@@ -68,10 +68,10 @@ const SEVENTY: &[u8] = b"Max-Forwards: 70";
 /// An OPTIONS request and its answer, each twice, and the answer of a target that it does not have.
 const OPTIONS: [Step<'static>; 5] = [
     (0, &ASKED, Handled::Opened(0)),
-    (20, &NOT_FOUND, Handled::Fed(0)),
-    (30, &NOT_FOUND, Handled::Fed(0)),
+    (20, &NOT_FOUND, Handled::Delivered(0)),
+    (30, &NOT_FOUND, Handled::Delivered(0)),
     (30, &NOT_FOUND_OF_FIVE, Handled::Dropped),
-    (40, &ASKED, Handled::Fed(0)),
+    (40, &ASKED, Handled::Delivered(0)),
 ];
 
 const ASKED: [&[u8]; 8] = [
@@ -110,9 +110,9 @@ const NOT_FOUND_OF_FIVE: [&[u8]; 8] = [
 /// An INVITE that is cancelled before it rings.
 const INVITE: [Step<'static>; 4] = [
     (0, &INVITED, Handled::Opened(0)),
-    (10, &CANCELLED, Handled::Fed(0)),
-    (20, &RINGING, Handled::Fed(0)),
-    (30, &TERMINATED, Handled::Fed(0)),
+    (10, &CANCELLED, Handled::Delivered(0)),
+    (20, &RINGING, Handled::Delivered(0)),
+    (30, &TERMINATED, Handled::Delivered(0)),
 ];
 
 const INVITED: [&[u8]; 8] = [
@@ -396,7 +396,7 @@ const WITHOUT_A_CALL: [(&[&[u8]], Handled); 4] = [
     (&CUT_SHORT, Handled::Answered(400)),
     (&CANCELLED, Handled::Answered(481)),
     (&NOBODY, Handled::Answered(480)),
-    (&GOING_ON, Handled::Passed),
+    (&GOING_ON, Handled::Forwarded),
 ];
 
 #[test]

@@ -1,4 +1,4 @@
-//! Tests of `fork_dispatch`: what becomes of each kind of datagram. They stand apart from that crate so that it is not proved
+//! Tests of `proxy_dispatch`: what becomes of each kind of datagram. They stand apart from that crate so that it is not proved
 //! twice.
 #![tactic(auto)]
 

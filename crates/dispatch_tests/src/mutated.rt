@@ -2,9 +2,9 @@
 use crate::holds::holds;
 use crate::outbox::Outbox;
 use crate::texts::{REQUEST, request_of, setup_of, shelf_of, text_becomes};
+use call_table::Shelf;
 use fork_call::{Call, Setup};
-use fork_dispatch::Handled;
-use fork_shelf::Shelf;
+use proxy_dispatch::Handled;
 use std::alloc::Global;
 use std::sync::Wait;
 

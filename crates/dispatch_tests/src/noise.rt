@@ -3,9 +3,9 @@ use crate::carrying::{carries, serves};
 use crate::holds::holds;
 use crate::outbox::Outbox;
 use crate::texts::{FROM, SOURCE, TO, setup_of, text_of};
+use call_table::Shelf;
 use fork_call::{Call, Datagram, Port, Setup};
-use fork_dispatch::Handled;
-use fork_shelf::Shelf;
+use proxy_dispatch::Handled;
 use sip_lex::{append_decimal, first_line};
 use std::alloc::{Allocator, Global};
 use std::process::Abort;
@@ -370,7 +370,7 @@ impl Scene {
             failures: 0,
         };
         let handled = serves(rt, alloc, &self.shelf, &self.setup, text, now, &mut port);
-        handled == Some(Handled::Fed(number)) && port.seen
+        handled == Some(Handled::Delivered(number)) && port.seen
     }
 
     /// Whether it takes the answer with this line to what was sent, which goes up.

@@ -3,9 +3,9 @@ use crate::carrying::{posted, serves, serves_lines};
 use crate::holds::holds;
 use crate::outbox::Outbox;
 use crate::texts::{CALL_ID, FROM, MARKED, REQUEST, TO, VIA, setup_of, text_of};
+use call_table::Shelf;
 use fork_call::{Call, Setup};
-use fork_dispatch::Handled;
-use fork_shelf::Shelf;
+use proxy_dispatch::Handled;
 use std::alloc::Global;
 use std::process::Abort;
 use std::sync::Wait;
@@ -160,7 +160,7 @@ fn strays<R: Abort + Wait>(rt: &R, alloc: Global) -> Option<usize> {
     let opened = proxy.does(rt, alloc, &REQUEST, Handled::Opened(0));
     let count = stray_places(rt, alloc, &mut proxy);
     let untouched = proxy.has_posted(rt, 0, 0);
-    let taken = does_answer(rt, alloc, &mut proxy, OWN_VIA, Handled::Fed(0));
+    let taken = does_answer(rt, alloc, &mut proxy, OWN_VIA, Handled::Delivered(0));
     if opened && untouched && taken {
         Some(count)
     } else {
@@ -330,7 +330,7 @@ const STRAYS: [Step<'static>; 14] = [
             last: b"l: 0",
             body: b"",
         },
-        Handled::Fed(0),
+        Handled::Delivered(0),
         [1, 0],
     ),
     (
@@ -341,7 +341,7 @@ const STRAYS: [Step<'static>; 14] = [
             last: b"l: 0",
             body: b"",
         },
-        Handled::Fed(1),
+        Handled::Delivered(1),
         [1, 1],
     ),
     (
@@ -352,7 +352,7 @@ const STRAYS: [Step<'static>; 14] = [
             last: b"l: 4",
             body: b"1234",
         },
-        Handled::Fed(0),
+        Handled::Delivered(0),
         [2, 1],
     ),
     // that comes again
@@ -364,7 +364,7 @@ const STRAYS: [Step<'static>; 14] = [
             last: b"l: 4",
             body: b"1234",
         },
-        Handled::Fed(0),
+        Handled::Delivered(0),
         [2, 1],
     ),
     // the request comes again, cut short
@@ -411,7 +411,7 @@ const STRAYS: [Step<'static>; 14] = [
             last: b"l: 0",
             body: b"",
         },
-        Handled::Fed(0),
+        Handled::Delivered(0),
         [2, 1],
     ),
 ];
@@ -488,7 +488,7 @@ const BUSIED: Said<'static> = Said {
 fn fills<R: Abort + Wait>(rt: &R, alloc: Global, proxy: &mut Proxy) -> bool {
     let mut well = does_said(rt, alloc, proxy, INVITED, Handled::Opened(0));
     for _ in 0..ROOM {
-        well = well && does_said(rt, alloc, proxy, RUNG, Handled::Fed(0));
+        well = well && does_said(rt, alloc, proxy, RUNG, Handled::Delivered(0));
     }
     well && proxy.has_posted(rt, 0, ROOM)
 }
@@ -498,7 +498,7 @@ fn gets_full<R: Abort + Wait>(rt: &R, alloc: Global, proxy: &mut Proxy) -> bool 
     fills(rt, alloc, proxy)
         && does_said(rt, alloc, proxy, RUNG, Handled::Dropped)
         && proxy.has_posted(rt, 0, ROOM)
-        && does_said(rt, alloc, proxy, BUSIED, Handled::Fed(0))
+        && does_said(rt, alloc, proxy, BUSIED, Handled::Delivered(0))
         && proxy.has_posted(rt, 0, ROOM + 1)
 }
 

@@ -1,8 +1,8 @@
 //! A setup, a request and its parts, as texts.
 use crate::outbox::Outbox;
+use call_table::Shelf;
 use fork_call::{Call, Setup};
-use fork_dispatch::{Handled, handle};
-use fork_shelf::Shelf;
+use proxy_dispatch::{Handled, handle};
 use sip_uri::Hop;
 use std::alloc::Global;
 use std::sync::Wait;

@@ -2,7 +2,7 @@
 ghost use Rattle.std.specs.Prelude.{◌≡◌};
 
 use crate::holds::holds;
-use fork_shelf::{Inbox, InboxIn, InboxOut, MOST_JOBS};
+use call_table::{Inbox, InboxIn, InboxOut, MOST_JOBS};
 use std::alloc::{AllocError, Global};
 use std::sync::Wait;
 use std::test::Fail;

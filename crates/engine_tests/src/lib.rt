@@ -1,4 +1,4 @@
-//! Tests of the public calls of `fork_mixing`, `fork_engine` and `fork_shelf`, a file for each. They stand apart from these
+//! Tests of the public calls of `interleaving`, `fork_engine` and `call_table`, a file for each. They stand apart from these
 //! crates so that none of them is proved twice.
 #![tactic(auto)]
 

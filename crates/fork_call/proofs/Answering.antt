@@ -13,11 +13,11 @@ use Rattle.call_laws.specs.Answers.{AnswersOnce, AreGiven, CallsPayInOrder, Pays
 use Rattle.call_laws.specs.Answers as laws
 use Rattle.call_laws.specs.Successes.{GoesUp, PostsSuccess}
 use Rattle.call_laws.specs.Successes as successes
-use Rattle.call_model.specs.Fixed.{is_invite}
+use Rattle.call_model.specs.OpenedRequest.{is_invite}
 use Rattle.call_laws.specs.Stages.{Leads, Stage, end_of, turn_of}
-use Rattle.fork_setup.specs.Setup.{Setup}
-use Rattle.fork_routing.specs.Matching.{BelongsTo}
-use Rattle.fork_routing.specs.Opening.{choices_for, fixed_of}
+use Rattle.proxy_config.specs.Setup.{Setup}
+use Rattle.call_routing.specs.Matching.{BelongsTo}
+use Rattle.call_routing.specs.Opening.{choices_for, opened_of}
 use Rattle.proxy_routing.specs.Targets.{Choice, targets_of}
 use Rattle.fork_call.specs.Answered.{AreSaid, AreStages, CallsHaveStages, EachSuccessGoesUp, IsSaid, OneFinalAnswerGoesUp, OpenedCallsPayInOrder}
 use Rattle.fork_call.specs.Runs.{Answer, AnswersAll, Came, IsInput, IsTurn, Lost, May, Said}
@@ -25,7 +25,7 @@ use Rattle.fork_call.proofs.Running.{stepped}
 
 -- ---- stages
 
-given_to : (call : Call) (m : MessageText) (r : to.Recipient) → BelongsTo call m r → IsMessage m → IsGivenTo r m
+given_to : (call : Call) (m : MessageText) (r : to.MatchedTransaction) → BelongsTo call m r → IsMessage m → IsGivenTo r m
 given_to call m to.Server belongs is = tt
 given_to call m to.ServerAck belongs is = tt
 given_to call m to.ServerCancel belongs is = tt
@@ -75,7 +75,7 @@ opened_pay pays setup number m source call stages opens given leads =
     let begins = reaches.begins in
     let cs = choices_for setup request uri in
     let P : Call → Type 0 = λ x. Leads x stages → PaysInOrder x stages in
-    subst P (sym begins.2) (pays (fixed_of setup number request source uri) setup.rules (targets_of cs) begins.0 stages (some_targets cs reaches.some) given) leads
+    subst P (sym begins.2) (pays (opened_of setup number request source uri) setup.rules (targets_of cs) begins.0 stages (some_targets cs reaches.some) given) leads
 
 pub opened_answer_once : laws.OneFinalAnswerGoesUp → OneFinalAnswerGoesUp
 opened_answer_once once setup number m source call stages opens given leads =
@@ -87,7 +87,7 @@ opened_answer_once once setup number m source call stages opens given leads =
     let P : Call → Type 0 = λ x.
     Leads x stages → is_finished (rows_of (end_of x stages)) ≡ true → is_succeeded (rows_of (end_of x stages)) ≡ false → (end_of x stages).server.owed ≡ []
     → AnswersOnce x stages in
-    subst P (sym begins.2) (once (fixed_of setup number request source uri) setup.rules (targets_of cs) begins.0 stages (some_targets cs reaches.some) given) leads
+    subst P (sym begins.2) (once (opened_of setup number request source uri) setup.rules (targets_of cs) begins.0 stages (some_targets cs reaches.some) given) leads
 
 pub opened_success : successes.EachSuccessGoesUp → EachSuccessGoesUp
 opened_success goes setup number m source call before stage later answer opens invited given leads posts =
@@ -96,7 +96,7 @@ opened_success goes setup number m source call before stage later answer opens i
     let reaches = opens.2.3 in
     let begins = reaches.begins in
     let cs = choices_for setup request uri in
-    let P : Call → Type 0 = λ x. is_invite x.fixed ≡ true → Leads x (before ++ stage ∷ later) → GoesUp x before stage later answer in
+    let P : Call → Type 0 = λ x. is_invite x.opened ≡ true → Leads x (before ++ stage ∷ later) → GoesUp x before stage later answer in
     subst P (sym begins.2)
-    (λ is l. goes (fixed_of setup number request source uri) setup.rules (targets_of cs) begins.0 before stage later answer (some_targets cs reaches.some) is given l posts)
+    (λ is l. goes (opened_of setup number request source uri) setup.rules (targets_of cs) begins.0 before stage later answer (some_targets cs reaches.some) is given l posts)
     invited leads

@@ -1,6 +1,6 @@
 -- A message that comes to a call, and how it leaves it.
 use Rattle.fork_call.proofs.Common.{◌≡◌, ◌∙◌, ℕ, ◌+◌, ◌≤◌, refl, sym, subst, inl, arith, true, false, Bool, List, ◌++◌, length, replicate, Option, None, cond, OthersAreLeft, BecameIsExact, PositionsAreBounded, most_targets, MessageText}
-use Rattle.fork_call.proofs.Common.{Hop, status_of, Call, rows_of, is_redirection, IsSound, StepsKeepSound, Recipient, TakesAs, IsTimed, retimed, room_for, row_of_recipient}
+use Rattle.fork_call.proofs.Common.{Hop, status_of, Call, rows_of, is_redirection, IsSound, StepsKeepSound, MatchedTransaction, TakesAs, IsTimed, retimed, room_for, row_of_recipient}
 use Rattle.std.proofs.Common.{Result, Ok, Err}
 use Rattle.std.specs.Prelude.{IfOk, OnErr}
 use Rattle.fork_model.specs.Sources as sources
@@ -10,7 +10,7 @@ use Rattle.call_model.specs.SeenTaken.{seen_taken}
 use Rattle.call_model.specs.Sound.{IsGivenTo}
 use Rattle.call_model.specs.Step as step
 use Rattle.call_model.specs.Take as to
-use Rattle.fork_routing.specs.Matching.{BelongsTo}
+use Rattle.call_routing.specs.Matching.{BelongsTo}
 use Rattle.fork_call.specs.declared.fault.TakeFault.{TakeFault}
 use Rattle.fork_call.specs.declared.fault.TakeFault.TheVariants.{Full}
 use Rattle.fork_call.specs.Takes.{Takes}
@@ -19,7 +19,7 @@ use Rattle.fork_call.proofs.Stepping.{right_after, timed_after}
 use Rattle.fork_call.proofs.Timed.{no_more_rows}
 use Rattle.fork_call.proofs.Touching.{Touches, beside_same, takes_touch}
 
-given_by : (call : Call) (m : MessageText) (r : Recipient) → BelongsTo call m r → IsMessage m → IsGivenTo r m
+given_by : (call : Call) (m : MessageText) (r : MatchedTransaction) → BelongsTo call m r → IsMessage m → IsGivenTo r m
 given_by call m to.Server belongs is = _
 given_by call m to.ServerAck belongs is = _
 given_by call m to.ServerCancel belongs is = _
@@ -28,8 +28,8 @@ given_by call m (to.CancelClient n) belongs is = _
 
 module _ (kept : StepsKeepSound) (stand : StepsStand) (bounded : PositionsAreBounded) (none : sources.AddsNoRow) (left : OthersAreLeft) (exact : BecameIsExact)
     (call new : Call) (moments after : List (Option ℕ)) (timed : IsTimed call moments)
-    (sized : length call.legs ≡ length (rows_of call)) (replied : length call.log.replies ≡ length call.log.history)
-    (now : ℕ) (m : MessageText) (source : Hop) (r : Recipient) where
+    (sized : length call.branches ≡ length (rows_of call)) (replied : length call.log.replies ≡ length call.log.history)
+    (now : ℕ) (m : MessageText) (source : Hop) (r : MatchedTransaction) where
   -- it was taken, or the call is as it was
   outcome : (result : Result Taken TakeFault) → IfOk result (λ taken. TakesAs call now m source r (seen_taken taken) new) → OnErr result (new ≡ call) → IsGivenTo r m
       → Touches call new (row_of_recipient r) (is_redirection (status_of m) ≡ false) × IsSound new × SendsRight new
@@ -70,7 +70,7 @@ pub same_on_err : {T E : Type 0} → (r : Result T E) (new call old : Call) → 
 same_on_err (Ok x) new call old e same = _
 same_on_err (Err f) new call old e same = same ∙ e
 
-module _ (call new old : Call) (view : call ≡ old) (now : ℕ) (m : MessageText) (source : Hop) (r : Recipient) (belongs : BelongsTo call m r) where
+module _ (call new old : Call) (view : call ≡ old) (now : ℕ) (m : MessageText) (source : Hop) (r : MatchedTransaction) (belongs : BelongsTo call m r) where
   pub ok_takes : (result : Result Taken TakeFault) → IfOk result (λ taken. TakesAs call now m source r (seen_taken taken) new)
       → IfOk result (λ taken. Takes old now m source (seen_taken taken) new)
   ok_takes (Ok taken) takes = let P : Call → Type 0 = λ x. Takes x now m source (seen_taken taken) new in subst P view (r, belongs, takes)

@@ -1,5 +1,5 @@
 use Rattle.fork_call.proofs.Common.{◌≡◌, ◌∙◌, ℕ, suc, ◌+◌, ◌<◌, ◌≤◌, inl, inr, refl, subst, sym, arith, true, false, Bool, Option, Some, None, List, [], ◌∷◌, ◌++◌, length, length-append, le-leb, leb-false, ◌&&◌, not, is_cancelled, is_due}
-use Rattle.fork_call.proofs.Common.{Datagram, Call, leg_at, runs_timer_c, Deed, SendRequest, SendCancel, SendAck, SendAnswer, TickServer, TickClient, TickCancel, FireTimerC, GiveUp, IsIdle, IsLeastDue, cancel_at, client_at, give_up_at}
+use Rattle.fork_call.proofs.Common.{Datagram, Call, nth_branch, runs_timer_c, Action, SendRequest, SendCancel, SendAck, SendAnswer, TickServer, TickClient, TickCancel, FireTimerC, GiveUp, IsIdle, IsLeastDue, cancel_at, client_at, give_up_at}
 use Rattle.fork_call.proofs.Common.{is_due_at, timer_c_at, Pumps, Send, served_due, Carrying, Sent, Lost, Silent, Carries, CarriesAll, Sends, SendsOne, IsCutOff, IsRunOut, IsSoFar}
 use Rattle.std.proofs.lemmas.Bool.{leb-true}
 use Rattle.call_model.specs.Call.{row_passes}
@@ -80,16 +80,16 @@ both_stay at now true moment le due = moment_stays at now moment le due
 both_stay at now false moment le due = absurd cc
 
 -- what is due at a moment is so at each later one
-due_stays : (call : Call) (at now : ℕ) (deed : Deed) → at ≤ now → is_due_at call at deed ≡ true → is_due_at call now deed ≡ true
+due_stays : (call : Call) (at now : ℕ) (action : Action) → at ≤ now → is_due_at call at action ≡ true → is_due_at call now action ≡ true
 due_stays call at now (SendRequest n) le due = due
 due_stays call at now (SendCancel n) le due = due
 due_stays call at now (SendAck n) le due = due
 due_stays call at now SendAnswer le due = due
 due_stays call at now TickServer le due = moment_stays at now (served_due call.server.machine) le due
-due_stays call at now (TickClient n) le due = moment_stays at now (client_at (leg_at call n)) le due
-due_stays call at now (TickCancel n) le due = moment_stays at now (cancel_at (leg_at call n)) le due
-due_stays call at now (FireTimerC n) le due = both_stay at now (row_passes runs_timer_c call n) (timer_c_at (leg_at call n)) le due
-due_stays call at now (GiveUp n) le due = both_stay at now (row_passes is_cancelled call n) (give_up_at (leg_at call n)) le due
+due_stays call at now (TickClient n) le due = moment_stays at now (client_at (nth_branch call n)) le due
+due_stays call at now (TickCancel n) le due = moment_stays at now (cancel_at (nth_branch call n)) le due
+due_stays call at now (FireTimerC n) le due = both_stay at now (row_passes runs_timer_c call n) (timer_c_at (nth_branch call n)) le due
+due_stays call at now (GiveUp n) le due = both_stay at now (row_passes is_cancelled call n) (give_up_at (nth_branch call n)) le due
 
 idle_by : (b : Bool) → (b ≡ true → ⊥) → b ≡ false
 idle_by true h = absurd (h refl)
@@ -99,7 +99,7 @@ pub idle_before : (call : Call) (now : ℕ) (least : Option ℕ) → IsLeastDue 
 idle_before call now None is nothing_due = is now
 idle_before call now (Some at) is nothing_due =
     let before : now < at = leb-false at now nothing_due in
-    λ deed. idle_by (is_due_at call now deed) (λ h. absurd (let le = is.2 now deed h in omega arith))
+    λ action. idle_by (is_due_at call now action) (λ h. absurd (let le = is.2 now action h in omega arith))
 
 pub busy_from : (call : Call) (now : ℕ) (least : Option ℕ) → IsLeastDue call least → is_due now least ≡ true → IsIdle call now → ⊥
 busy_from call now None is due idle = absurd cc

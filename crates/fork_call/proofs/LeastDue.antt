@@ -1,7 +1,7 @@
 -- The least moment of the caller's transaction and of all rows is the least at which a call has something to do.
 use Rattle.fork_call.proofs.Common.{◌≡◌, ◌⊎◌, ℕ, zero, suc, ◌<◌, ◌≤◌, inl, inr, ap, refl, sym, subst, arith, true, false, Bool, List, [], ◌∷◌, length, Option, Some, None, slice_get, cases_lt, le-leb, leb-false, lt-leb, ◌&&◌, cond, fold}
-use Rattle.fork_call.proofs.Common.{is_none, min, Row, earlier, is_due, Leg, Call, found, leg_at, rows_of, give_up_of, lacks_cancel, owes_ack_on, Deed, SendAck, SendCancel, SendRequest, GiveUp, FireTimerC, TickClient, TickCancel}
-use Rattle.fork_call.proofs.Common.{TickServer, SendAnswer, IsIdle, IsLeastDue, cancel_at, cancel_client_due, client_at, give_up_at, is_any, is_due_at, timer_c_at, due_of, if_runs, leg_waits, moments_of, row_due, scheduled, least_of}
+use Rattle.fork_call.proofs.Common.{is_none, min, Row, earlier, is_due, Branch, Call, found, nth_branch, rows_of, give_up_of, lacks_cancel, owes_ack_on, Action, SendAck, SendCancel, SendRequest, GiveUp, FireTimerC, TickClient, TickCancel}
+use Rattle.fork_call.proofs.Common.{TickServer, SendAnswer, IsIdle, IsLeastDue, cancel_at, cancel_client_due, client_at, give_up_at, is_any, is_due_at, timer_c_at, due_of, if_runs, branch_waits, moments_of, row_due, scheduled, least_of}
 use Rattle.call_model.specs.Client.{client_due}
 use Rattle.call_model.specs.Server as server
 use Rattle.fork_call.proofs.Idle.{both_later, idle}
@@ -9,15 +9,15 @@ use Rattle.fork_call.proofs.Idle.{both_later, idle}
 -- ---- the moments of rows
 
 -- the moment of a row stands at its number; where no row is, there is none
-pub moment_stands : (rows : List Row) (legs : List (Option Leg)) (n : ℕ) → length legs ≡ length rows
-    → (slice_get (moments_of rows legs) n ≡ Some (due_of (slice_get rows n) (found (slice_get legs n))))
-    ⊎ ((slice_get (moments_of rows legs) n ≡ None) × (due_of (slice_get rows n) (found (slice_get legs n)) ≡ None))
+pub moment_stands : (rows : List Row) (branches : List (Option Branch)) (n : ℕ) → length branches ≡ length rows
+    → (slice_get (moments_of rows branches) n ≡ Some (due_of (slice_get rows n) (found (slice_get branches n))))
+    ⊎ ((slice_get (moments_of rows branches) n ≡ None) × (due_of (slice_get rows n) (found (slice_get branches n)) ≡ None))
 moment_stands [] [] n e = inr (refl, refl)
-moment_stands [] (leg ∷ legs) n e = absurd cc
+moment_stands [] (branch ∷ branches) n e = absurd cc
 moment_stands (row ∷ rows) [] n e = absurd cc
-moment_stands (row ∷ rows) (None ∷ legs) zero e = inl refl
-moment_stands (row ∷ rows) (Some leg ∷ legs) zero e = inl refl
-moment_stands (row ∷ rows) (leg ∷ legs) (suc n) e = moment_stands rows legs n (let h : length legs ≡ length rows = cc in h)
+moment_stands (row ∷ rows) (None ∷ branches) zero e = inl refl
+moment_stands (row ∷ rows) (Some branch ∷ branches) zero e = inl refl
+moment_stands (row ∷ rows) (branch ∷ branches) (suc n) e = moment_stands rows branches n (let h : length branches ≡ length rows = cc in h)
 
 -- ---- the earliest
 
@@ -55,7 +55,7 @@ none_came now (moment ∷ moments) first e =
         subst P same here
     each here later (suc n) m h = later n m h
 
--- ---- the deeds on a row
+-- ---- the actions on a row
 
 neither : (now : ℕ) (a b : Option ℕ) → is_due now a ≡ false → is_due now b ≡ false → is_due now (earlier a b) ≡ false
 neither now None b e h = h
@@ -79,26 +79,26 @@ past_tests now false true w e h due = absurd cc
 past_tests now false false w e h due = due
 
 -- where something is due on a row, and none of the others is, it is a tick of its CANCEL's transaction
-last_of : (now : ℕ) (trying cancelled runs_c : Bool) (leg : Option Leg) → is_due now (row_due trying cancelled runs_c leg) ≡ true
-    → owes_ack_on leg ≡ false → (cancelled && lacks_cancel leg) ≡ false → (trying && is_none leg) ≡ false
-    → (cancelled && is_due now (give_up_at leg)) ≡ false → (runs_c && is_due now (timer_c_at leg)) ≡ false → is_due now (client_at leg) ≡ false
-    → is_due now (cancel_at leg) ≡ true
+last_of : (now : ℕ) (trying cancelled runs_c : Bool) (branch : Option Branch) → is_due now (row_due trying cancelled runs_c branch) ≡ true
+    → owes_ack_on branch ≡ false → (cancelled && lacks_cancel branch) ≡ false → (trying && is_none branch) ≡ false
+    → (cancelled && is_due now (give_up_at branch)) ≡ false → (runs_c && is_due now (timer_c_at branch)) ≡ false → is_due now (client_at branch) ≡ false
+    → is_due now (cancel_at branch) ≡ true
 last_of now true cancelled runs_c None due ack cancel request give_up timer_c client = absurd cc
 last_of now false cancelled runs_c None due ack cancel request give_up timer_c client = absurd cc
-last_of now trying cancelled runs_c (Some leg) due ack cancel request give_up timer_c client =
-    let waits : is_due now (leg_waits cancelled runs_c leg) ≡ true = past_tests now (owes_ack_on (Some leg)) (cancelled && is_none leg.cancelling) (leg_waits cancelled runs_c leg) ack cancel due in
-    let ends : is_due now (earlier (if_runs runs_c leg.timer_c_at) (if_runs cancelled (give_up_of leg.cancelling))) ≡ false =
-    neither now (if_runs runs_c leg.timer_c_at) (if_runs cancelled (give_up_of leg.cancelling)) (not_run now runs_c leg.timer_c_at timer_c) (not_run now cancelled (give_up_of leg.cancelling) give_up) in
-    true_by (is_due now (cancel_client_due leg.cancelling)) (λ nothing_due.
-    let none : is_due now (leg_waits cancelled runs_c leg) ≡ false = neither now (client_due leg.client) _ client (neither now (cancel_client_due leg.cancelling) _ nothing_due ends) in
+last_of now trying cancelled runs_c (Some branch) due ack cancel request give_up timer_c client =
+    let waits : is_due now (branch_waits cancelled runs_c branch) ≡ true = past_tests now (owes_ack_on (Some branch)) (cancelled && is_none branch.cancelling) (branch_waits cancelled runs_c branch) ack cancel due in
+    let ends : is_due now (earlier (if_runs runs_c branch.timer_c_at) (if_runs cancelled (give_up_of branch.cancelling))) ≡ false =
+    neither now (if_runs runs_c branch.timer_c_at) (if_runs cancelled (give_up_of branch.cancelling)) (not_run now runs_c branch.timer_c_at timer_c) (not_run now cancelled (give_up_of branch.cancelling) give_up) in
+    true_by (is_due now (cancel_client_due branch.cancelling)) (λ nothing_due.
+    let none : is_due now (branch_waits cancelled runs_c branch) ≡ false = neither now (client_due branch.client) _ client (neither now (cancel_client_due branch.cancelling) _ nothing_due ends) in
     absurd cc)
 
-pub last_due : (call : Call) (n now : ℕ) → is_due now (due_of (slice_get (rows_of call) n) (leg_at call n)) ≡ true
+pub last_due : (call : Call) (n now : ℕ) → is_due now (due_of (slice_get (rows_of call) n) (nth_branch call n)) ≡ true
     → is_due_at call now (SendAck n) ≡ false → is_due_at call now (SendCancel n) ≡ false → is_due_at call now (SendRequest n) ≡ false
     → is_due_at call now (GiveUp n) ≡ false → is_due_at call now (FireTimerC n) ≡ false → is_due_at call now (TickClient n) ≡ false
     → is_due_at call now (TickCancel n) ≡ true
 last_due call n now due ack cancel request give_up timer_c client =
-    last_of now _ _ _ (leg_at call n) due ack cancel request give_up timer_c client
+    last_of now _ _ _ (nth_branch call n) due ack cancel request give_up timer_c client
 
 -- ---- the whole call
 
@@ -106,11 +106,11 @@ false_or_true : (b : Bool) → (b ≡ false) ⊎ (b ≡ true)
 false_or_true true = inr refl
 false_or_true false = inl refl
 
-module _ (call : Call) (none : call.server.owed ≡ []) (sized : length call.legs ≡ length (rows_of call)) where
-  row_nothing_due : (now : ℕ) → is_due now (least_of (scheduled call)) ≡ false → (n : ℕ) → is_due now (due_of (slice_get (rows_of call) n) (leg_at call n)) ≡ false
+module _ (call : Call) (none : call.server.owed ≡ []) (sized : length call.branches ≡ length (rows_of call)) where
+  row_nothing_due : (now : ℕ) → is_due now (least_of (scheduled call)) ≡ false → (n : ℕ) → is_due now (due_of (slice_get (rows_of call) n) (nth_branch call n)) ≡ false
   row_nothing_due now nothing_due n =
       let P : Option ℕ → Type 0 = λ m. is_due now m ≡ false in
-      elim (moment_stands (rows_of call) call.legs n sized) [
+      elim (moment_stands (rows_of call) call.branches n sized) [
         | inl h ↦ (none_came now (scheduled call) None nothing_due).1 n _ h
         | inr h ↦ subst P (sym h.1) refl
       ]
@@ -122,8 +122,8 @@ module _ (call : Call) (none : call.server.owed ≡ []) (sized : length call.leg
       idle call now none both.0 (row_nothing_due now both.1)
 
   -- on this row something is due
-  row_deed : (n at : ℕ) → is_due at (due_of (slice_get (rows_of call) n) (leg_at call n)) ≡ true → (deed : Deed) × (is_due_at call at deed ≡ true)
-  row_deed n at due = elim (false_or_true (is_due_at call at (SendAck n))) [
+  row_action : (n at : ℕ) → is_due at (due_of (slice_get (rows_of call) n) (nth_branch call n)) ≡ true → (action : Action) × (is_due_at call at action ≡ true)
+  row_action n at due = elim (false_or_true (is_due_at call at (SendAck n))) [
     | inr h ↦ (SendAck n, h)
     | inl ack ↦ elim (false_or_true (is_due_at call at (SendCancel n))) [
       | inr h ↦ (SendCancel n, h)
@@ -143,17 +143,17 @@ module _ (call : Call) (none : call.server.owed ≡ []) (sized : length call.leg
     ]
   ]
 
-  moment_deed : (n at : ℕ) → slice_get (scheduled call) n ≡ Some (Some at) → (deed : Deed) × (is_due_at call at deed ≡ true)
-  moment_deed n at there =
+  moment_action : (n at : ℕ) → slice_get (scheduled call) n ≡ Some (Some at) → (action : Action) × (is_due_at call at action ≡ true)
+  moment_action n at there =
       let P : Option ℕ → Type 0 = λ m. is_due at m ≡ true in
-      elim (moment_stands (rows_of call) call.legs n sized) [
+      elim (moment_stands (rows_of call) call.branches n sized) [
         | inl h ↦
-            let same : Some at ≡ due_of (slice_get (rows_of call) n) (leg_at call n) = cc in
-            row_deed n at (subst P same (le-leb at at (omega arith)))
+            let same : Some at ≡ due_of (slice_get (rows_of call) n) (nth_branch call n) = cc in
+            row_action n at (subst P same (le-leb at at (omega arith)))
         | inr h ↦ absurd (let missing = h.0 in cc)
       ]
 
-  not_before : (at : ℕ) → earlier (server.served_due call.server.machine) (least_of (scheduled call)) ≡ Some at → (now : ℕ) (other : Deed) → is_due_at call now other ≡ true → at ≤ now
+  not_before : (at : ℕ) → earlier (server.served_due call.server.machine) (least_of (scheduled call)) ≡ Some at → (now : ℕ) (other : Action) → is_due_at call now other ≡ true → at ≤ now
   not_before at e now other due = elim (cases_lt now at) [
     | inl before ↦
         let P : Option ℕ → Type 0 = λ m. is_due now m ≡ false in
@@ -175,7 +175,7 @@ module _ (call : Call) (none : call.server.owed ≡ []) (sized : length call.leg
         | inr h ↦ elim (least_is (scheduled call) None at h) [
           | inl k ↦ absurd cc
           | inr k ↦
-              let found_one = moment_deed k.0 at k.1 in
+              let found_one = moment_action k.0 at k.1 in
               (found_one.0, found_one.1, not_before at e)
         ]
       ]

@@ -37,15 +37,15 @@ start_same (Request method was) uri target e = ap (λ (u : Uri). Request method 
 start_same (Response status reason) uri target e = refl
 
 pub requests_name : RequestsNameTheirTargets
-requests_name fixed way n target e = start_same fixed.request.start way.uri target e
+requests_name opened destination n target e = start_same opened.request.start destination.uri target e
 
 pub own_answers : ((m : MessageText) (own : Own) (status : OwnStatus) → generated_of (stripped m own) status ≡ generated_of m status) → OwnAnswersAreToTheRequest
 own_answers law setup number m source call status opens =
-    let prepared = opens.1.prepared in
+    let pending_call = opens.1.pending_call in
     let begins = opens.2.3.begins in (
-      prepared.0,
-      prepared.1,
-      ap (λ (x : Call). generated x.fixed status) begins.2
-          ∙ ap (λ (r : MessageText). generated_of r status) prepared.2
-          ∙ law prepared.0 setup.own status,
+      pending_call.0,
+      pending_call.1,
+      ap (λ (x : Call). generated x.opened status) begins.2
+          ∙ ap (λ (r : MessageText). generated_of r status) pending_call.2
+          ∙ law pending_call.0 setup.own status,
     )

@@ -21,8 +21,8 @@ pub stepped : (now : ℕ) (call new : Call) (said : Said) (output : Output) → 
     → (input : Input) × IsInput call said input × Step now call input new output × Logs call.log new.log
 stepped now call new (Came m source) (step.Took taken) (r, belongs, takes) =
     (step.Take r m source, (belongs, refl, refl), takes, logged call new _ _ (takes_touch call new now m source r taken takes))
-stepped now call new May (step.Did (pump.Send d)) (deed, due, does) = (step.Pump, tt, (deed, due, does), logged call new _ _ (does_touch call new now deed (pump.Send d) does))
-stepped now call new May (step.Did pump.Did) (deed, due, does) = (step.Pump, tt, (deed, due, does), logged call new _ _ (does_touch call new now deed pump.Did does))
+stepped now call new May (step.Did (pump.Send d)) (action, due, does) = (step.Pump, tt, (action, due, does), logged call new _ _ (does_touch call new now action (pump.Send d) does))
+stepped now call new May (step.Did pump.Did) (action, due, does) = (step.Pump, tt, (action, due, does), logged call new _ _ (does_touch call new now action pump.Did does))
 stepped now call new May (step.Did pump.Idle) (idle, same) = (step.Pump, tt, (idle, same), inl (ap (λ (x : Call). x.log) same))
 stepped now call new (Lost why) step.Told fails = (step.Failed why, refl, fails, logged call new _ _ (fails_touch call new now why fails))
 stepped now call new (Came m source) (step.Did pumped) h = absurd h

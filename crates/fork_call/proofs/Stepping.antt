@@ -1,7 +1,7 @@
 -- What is next to be done on a call, and how a step leaves it.
 use Rattle.fork_call.proofs.Common.{◌≡◌, ◌∙◌, ℕ, zero, suc, ◌+◌, ◌<◌, ◌≤◌, ap, refl, sym, subst, inl, inr, arith, true, false, Bool, List, [], ◌∷◌, ◌++◌, length, replicate, Option, Some, None, slice_get, ◌==◌, list_any, eqb-true, slice_get_within}
-use Rattle.fork_call.proofs.Common.{Event, OthersAreLeft, Reply, BecameIsExact, next, PositionsAreBounded, Table, Log, Posted, is_due, Cause, Call, leg_at, rows_of, Deed, IsIdle, is_due_at, Fails, Does, Pumped, IsSound, StepsKeepSound}
-use Rattle.fork_call.proofs.Common.{due_of, scheduled, IsTimed, retimed, row_moment, row_of_cause, row_of_deed}
+use Rattle.fork_call.proofs.Common.{Event, OthersAreLeft, Reply, BecameIsExact, next, PositionsAreBounded, Table, Log, Posted, is_due, Cause, Call, nth_branch, rows_of, Action, IsIdle, is_due_at, Fails, Does, Pumped, IsSound, StepsKeepSound}
+use Rattle.fork_call.proofs.Common.{due_of, scheduled, IsTimed, retimed, row_moment, row_of_cause, row_of_action}
 use Rattle.std.specs.Prelude.{IfNone, ◌||◌}
 use Rattle.fork_model.specs.History.{AreReplies}
 use Rattle.call_laws.specs.Right.{SendsRight, StepsStand, finals_paid}
@@ -41,12 +41,12 @@ none_any now (m ∷ moments) none k moment there = by_test (is_due now m) refl n
         ap (is_due now) (sym same) ∙ e
     by_test false e none rest (suc k) there = rest none k there
 
-pub idle_by : (call : Call) (now : ℕ) (moments : List (Option ℕ)) → moments ≡ scheduled call → length call.legs ≡ length (rows_of call)
+pub idle_by : (call : Call) (now : ℕ) (moments : List (Option ℕ)) → moments ≡ scheduled call → length call.branches ≡ length (rows_of call)
     → call.server.owed ≡ [] → is_due now (server.served_due call.server.machine) ≡ false → list_any (is_due now) moments ≡ false
     → IsIdle call now
 idle_by call now moments times sized none served any =
-    idle call now none served (λ n. elim (moment_stands (rows_of call) call.legs n sized) [
-      | inl h ↦ none_any now (scheduled call) (ap (list_any (is_due now)) (sym times) ∙ any) n (due_of (slice_get (rows_of call) n) (leg_at call n)) h
+    idle call now none served (λ n. elim (moment_stands (rows_of call) call.branches n sized) [
+      | inl h ↦ none_any now (scheduled call) (ap (list_any (is_due now)) (sym times) ∙ any) n (due_of (slice_get (rows_of call) n) (nth_branch call n)) h
       | inr h ↦ ap (is_due now) h.1
     ])
 
@@ -89,7 +89,7 @@ no_padding (m ∷ moments) = ap (λ (ms : List (Option ℕ)). m ∷ ms) (no_padd
 
 module _ (kept : StepsKeepSound) (stand : StepsStand) (bounded : PositionsAreBounded) (none : sources.AddsNoRow) (left : OthersAreLeft) (exact : BecameIsExact)
     (call new : Call) (moments after : List (Option ℕ)) (timed : IsTimed call moments)
-    (sized : length call.legs ≡ length (rows_of call)) (replied : length call.log.replies ≡ length call.log.history) where
+    (sized : length call.branches ≡ length (rows_of call)) (replied : length call.log.replies ≡ length call.log.history) where
   -- by a step it stands as before
   pub right_after : (turn : step.Turn) → step.Step turn.now call turn.input new turn.output → SendsRight new
   right_after turn goes =
@@ -119,13 +119,13 @@ module _ (kept : StepsKeepSound) (stand : StepsStand) (bounded : PositionsAreBou
       timed_after row (Unit {0}) 0 touches sound right (omega (arith, rows))
       (is ∙ ap (λ (ms : List (Option ℕ)). retimed new row (length call.log.history) ms) (sym (no_padding moments)))
 
-  pub pumped_timed : (now : ℕ) (deed : Deed) (pumped : Pumped) → is_due_at call now deed ≡ true → Does call now deed pumped new
-      → after ≡ retimed new (row_of_deed deed) (length call.log.history) moments
+  pub pumped_timed : (now : ℕ) (action : Action) (pumped : Pumped) → is_due_at call now action ≡ true → Does call now action pumped new
+      → after ≡ retimed new (row_of_action action) (length call.log.history) moments
       → IsTimed new after
-  pumped_timed now deed pumped due does is =
-      same_after (row_of_deed deed) (does_touch call new now deed pumped does)
-      (kept (record { now = now; input = step.Pump; output = step.Did pumped }) call new timed.sound _ (does_pump call new now deed pumped due does))
-      (right_after (record { now = now; input = step.Pump; output = step.Did pumped }) (does_pump call new now deed pumped due does)) is
+  pumped_timed now action pumped due does is =
+      same_after (row_of_action action) (does_touch call new now action pumped does)
+      (kept (record { now = now; input = step.Pump; output = step.Did pumped }) call new timed.sound _ (does_pump call new now action pumped due does))
+      (right_after (record { now = now; input = step.Pump; output = step.Did pumped }) (does_pump call new now action pumped due does)) is
 
   pub failed_timed : (now : ℕ) (why : Cause) → Fails call now why new
       → after ≡ retimed new (row_of_cause why) (length call.log.history) moments
@@ -135,12 +135,12 @@ module _ (kept : StepsKeepSound) (stand : StepsStand) (bounded : PositionsAreBou
       (kept (record { now = now; input = step.Failed why; output = step.Told }) call new timed.sound _ fails)
       (right_after (record { now = now; input = step.Failed why; output = step.Told }) fails) is
 
--- what a deed sends is right
-pub done_right : WhatIsSentIsRight → (call new old : Call) → SendsRight call → call ≡ old → (now : ℕ) (deed : Deed) (pumped : Pumped) → is_due_at call now deed ≡ true
-    → Does call now deed pumped new → Sends old pumped
-done_right law call new old right view now deed pumped due does =
+-- what an action sends is right
+pub done_right : WhatIsSentIsRight → (call new old : Call) → SendsRight call → call ≡ old → (now : ℕ) (action : Action) (pumped : Pumped) → is_due_at call now action ≡ true
+    → Does call now action pumped new → Sends old pumped
+done_right law call new old right view now action pumped due does =
     let P : Call → Type 0 = λ x. Sends x pumped in
-    subst P view (right.0, law right.0 right.1 now call new pumped right.2 (does_pump call new now deed pumped due does))
+    subst P view (right.0, law right.0 right.1 now call new pumped right.2 (does_pump call new now action pumped due does))
 
 -- where nothing is due, nothing is sent
 pub idle_right : (call old : Call) → SendsRight call → call ≡ old → Sends old Idle

@@ -1,7 +1,7 @@
 -- After a step each row has its moment, where the rows that the step touched are timed anew.
 use Rattle.fork_call.proofs.Common.{◌≡◌, ◌∙◌, ◌⊎◌, ℕ, zero, suc, ◌+◌, ◌<◌, ◌≤◌, ap, refl, sym, subst, inl, inr, arith, List, [], ◌∷◌, ◌++◌, length, length-append, replicate, take, Option, Some, None, slice_get, slice_set, false, cases_lt}
 use Rattle.fork_call.proofs.Common.{slice_get_within, Core, Event, row_named, Reply, OthersAreLeft, BecameIsExact, IsNumberIn, next, PositionsAreBounded, Row, Table, Log, Posted, added, table_of, MessageText, ContactText, Call, found}
-use Rattle.fork_call.proofs.Common.{leg_at, rows_of, Leg, Posts, call_tag, table_added, due_of, moments_of, scheduled, IsTimedBut, row_moment, retimed, timed}
+use Rattle.fork_call.proofs.Common.{nth_branch, rows_of, Branch, Posts, call_tag, table_added, due_of, moments_of, scheduled, IsTimedBut, row_moment, retimed, timed}
 use Rattle.std.proofs.lemmas.Option.{slice_get_past}
 use Rattle.std.proofs.lemmas.List.{length-replicate}
 use Rattle.fork_model.specs.Core.{core_next, core_offered, is_full}
@@ -117,20 +117,20 @@ timed_has call (n ∷ rows) moments k lt had =
 
 -- ---- the moments of a call
 
-moments_have : (rows : List Row) (legs : List (Option Leg)) (k : ℕ) → k < length rows
-    → slice_get (moments_of rows legs) k ≡ Some (due_of (slice_get rows k) (found (slice_get legs k)))
-moments_have [] legs k lt = absurd (omega arith)
+moments_have : (rows : List Row) (branches : List (Option Branch)) (k : ℕ) → k < length rows
+    → slice_get (moments_of rows branches) k ≡ Some (due_of (slice_get rows k) (found (slice_get branches k)))
+moments_have [] branches k lt = absurd (omega arith)
 moments_have (row ∷ rows) [] zero lt = refl
-moments_have (row ∷ rows) (None ∷ legs) zero lt = refl
-moments_have (row ∷ rows) (Some leg ∷ legs) zero lt = refl
+moments_have (row ∷ rows) (None ∷ branches) zero lt = refl
+moments_have (row ∷ rows) (Some branch ∷ branches) zero lt = refl
 moments_have (row ∷ rows) [] (suc k) lt = moments_have rows [] k (omega arith)
-moments_have (row ∷ rows) (leg ∷ legs) (suc k) lt = moments_have rows legs k (omega arith)
+moments_have (row ∷ rows) (branch ∷ branches) (suc k) lt = moments_have rows branches k (omega arith)
 
 pub scheduled_has : (call : Call) (k : ℕ) → k < length (rows_of call) → slice_get (scheduled call) k ≡ Some (row_moment call k)
-scheduled_has call k lt = moments_have (rows_of call) call.legs k lt
+scheduled_has call k lt = moments_have (rows_of call) call.branches k lt
 
 pub length_scheduled : (call : Call) → length (scheduled call) ≡ length (rows_of call)
-length_scheduled call = length_moments (rows_of call) call.legs
+length_scheduled call = length_moments (rows_of call) call.branches
 
 -- a moment that stands in the schedule is that of its row
 pub scheduled_is : (call : Call) (k : ℕ) (moment : Option ℕ) → slice_get (scheduled call) k ≡ Some moment → row_moment call k ≡ moment
@@ -185,7 +185,7 @@ named_in event k e = let P : Option ℕ → Type 0 = λ row. IsNumberIn (row_lis
 
 -- a row that an event neither names nor starts nor cancels keeps its moment, and a new one has none yet
 module _ (left : OthersAreLeft) (exact : BecameIsExact) (call new : Call) (event : Event) (contacts : List ContactText) (response : Option MessageText) (reply : Reply)
-    (sized : length call.legs ≡ length (rows_of call)) (posts : Posts call event contacts response reply new) where
+    (sized : length call.branches ≡ length (rows_of call)) (posts : Posts call event contacts response reply new) where
   event_leaves : (k : ℕ) → (row_named event ≡ Some k → ⊥) → (IsNumberIn reply.started k → ⊥) → (IsNumberIn reply.cancelled k → ⊥)
       → found (slice_get (scheduled call) k) ≡ row_moment new k
   event_leaves k other started cancelled =
@@ -223,7 +223,7 @@ row_other None k none e = absurd cc
 row_other (Some n) k none e = none (zero, e)
 
 module _ (left : OthersAreLeft) (exact : BecameIsExact) (call new : Call) (row : Option ℕ) (nothing_due : Type 0) (p : ℕ)
-    (sized : length call.legs ≡ length (rows_of call)) (replied : length call.log.replies ≡ length call.log.history)
+    (sized : length call.branches ≡ length (rows_of call)) (replied : length call.log.replies ≡ length call.log.history)
     (room : length (rows_of new) ≤ length (rows_of call) + p) where
   abbrev padded : List (Option ℕ)
   padded = scheduled call ++ replicate p None
@@ -257,7 +257,7 @@ module _ (left : OthersAreLeft) (exact : BecameIsExact) (call new : Call) (row :
       let below : k < length (rows_of call) = let e = ap (λ (rs : List Row). length rs) rows in omega (arith, e, lt) in
       let apart = row_other row k (in_either (row_list row) (rows_in (slice_get new.log.replies (length call.log.history))) k other).0 in
       let same : row_moment new k ≡ row_moment call k =
-      ap (λ (rs : List Row). due_of (slice_get rs k) (leg_at new k)) rows ∙ ap (due_of (slice_get (rows_of call) k)) (beside.legs k apart) in
+      ap (λ (rs : List Row). due_of (slice_get rs k) (nth_branch new k)) rows ∙ ap (due_of (slice_get (rows_of call) k)) (beside.branches k apart) in
       cut_old k lt below ∙ ap (λ (m : Option ℕ). Some m) (sym same)
   untouched (inr posted) k lt other =
       let mid = posted.mid in
@@ -269,19 +269,19 @@ module _ (left : OthersAreLeft) (exact : BecameIsExact) (call new : Call) (row :
       ∙ ap (slice_get (call.log.replies ++ posted.reply ∷ [])) (sym replied)
       ∙ get_last call.log.replies posted.reply in
       let N : Option Reply → Type 0 = λ r. IsNumberIn (row_list row ++ rows_in r) k → ⊥ in
-      let parts = in_either (row_list row) (rows_in (Some posted.reply)) k (subst N there other) in
-      let both = in_either posted.reply.started posted.reply.cancelled k parts.1 in
-      let apart = row_other row k parts.0 in
+      let state = in_either (row_list row) (rows_in (Some posted.reply)) k (subst N there other) in
+      let both = in_either posted.reply.started posted.reply.cancelled k state.1 in
+      let apart = row_other row k state.0 in
       let rows : rows_of mid ≡ rows_of call = ap (λ (l : Log). (table_of l).rows) posted.beside.log in
       let sizes : length (rows_of mid) ≡ length (rows_of call) = ap (λ (rs : List Row). length rs) rows in
-      let legs : length mid.legs ≡ length (rows_of mid) = posted.beside.size ∙ sized ∙ sym sizes in
-      let leaves = event_leaves left exact mid new posted.event posted.contacts posted.response posted.reply legs posted.posts k (posted.named k apart) both.0 both.1 in
+      let branches : length mid.branches ≡ length (rows_of mid) = posted.beside.size ∙ sized ∙ sym sizes in
+      let leaves = event_leaves left exact mid new posted.event posted.contacts posted.response posted.reply branches posted.posts k (posted.named k apart) both.0 both.1 in
       elim (cases_lt k (length (rows_of call))) [
         | inl below ↦
             let kept : row_moment mid k ≡ row_moment new k =
             sym (found_some (row_moment mid k)) ∙ sym (ap found (scheduled_has mid k (omega (arith, sizes, below)))) ∙ leaves in
             let same : row_moment mid k ≡ row_moment call k =
-            ap (λ (rs : List Row). due_of (slice_get rs k) (leg_at mid k)) rows ∙ ap (due_of (slice_get (rows_of call) k)) (posted.beside.legs k apart) in
+            ap (λ (rs : List Row). due_of (slice_get rs k) (nth_branch mid k)) rows ∙ ap (due_of (slice_get (rows_of call) k)) (posted.beside.branches k apart) in
             cut_old k lt below ∙ ap (λ (m : Option ℕ). Some m) (sym same ∙ kept)
         | inr above ↦
             let past = length_scheduled mid in

@@ -7,11 +7,11 @@ use Rattle.sip_text.specs.Text.{MessageText}
 use Rattle.sip_uri.specs.declared.hop.Hop.{Hop}
 use Rattle.call_model.specs.Call.{Call, rows_of}
 use Rattle.call_laws.specs.Answers.{AnswersOnce, AreGiven, PaysInOrder}
-use Rattle.call_model.specs.Fixed.{is_invite}
+use Rattle.call_model.specs.OpenedRequest.{is_invite}
 use Rattle.call_laws.specs.Successes.{GoesUp, PostsSuccess}
 use Rattle.call_laws.specs.Stages.{Leads, Stage, end_of, turn_of}
-use Rattle.fork_setup.specs.Setup.{Setup}
-use Rattle.fork_routing.specs.Opening.{Opens}
+use Rattle.proxy_config.specs.Setup.{Setup}
+use Rattle.call_routing.specs.Opening.{Opens}
 use Rattle.fork_call.specs.Runs.{Answer, AnswersAll, AreTurns, Said, Came, May, Lost}
 
 -- what came is a message; each that is read is one
@@ -59,6 +59,6 @@ OneFinalAnswerGoesUp =
 abbrev pub EachSuccessGoesUp : Type 0
 EachSuccessGoesUp =
     (setup : Setup) (number : ℕ) (m : MessageText) (source : Hop) (call : Call) (before : List Stage) (stage : Stage) (later : List Stage) (answer : MessageText)
-    → Opens setup number m source call → is_invite call.fixed ≡ true
+    → Opens setup number m source call → is_invite call.opened ≡ true
     → AreGiven (before ++ stage ∷ later) → Leads call (before ++ stage ∷ later) → PostsSuccess stage.turn answer
     → GoesUp call before stage later answer

@@ -10,19 +10,19 @@ use Rattle.sip_build.specs.Forwarding.{to_target}
 use Rattle.sip_build.specs.Generated.{generated_of}
 use Rattle.call_model.specs.Built.{generated, request_to}
 use Rattle.call_model.specs.Call.{Call}
-use Rattle.call_model.specs.Fixed.{Fixed, Way}
-use Rattle.fork_setup.specs.Setup.{Setup}
-use Rattle.fork_routing.specs.Opening.{Opens}
+use Rattle.call_model.specs.OpenedRequest.{OpenedRequest, Destination}
+use Rattle.proxy_config.specs.Setup.{Setup}
+use Rattle.call_routing.specs.Opening.{Opens}
 
 -- each answer of the proxy's own is that to the request as it was marked with its source, though the call keeps it without a
 -- Route value that names the proxy
 abbrev pub OwnAnswersAreToTheRequest : Type 0
 OwnAnswersAreToTheRequest =
     (setup : Setup) (number : ℕ) (m : MessageText) (source : Hop) (call : Call) (status : OwnStatus) → Opens setup number m source call
-    → (request : MessageText) × (marked m source ≡ Ok request) × (generated call.fixed status ≡ generated_of request status)
+    → (request : MessageText) × (marked m source ≡ Ok request) × (generated call.opened status ≡ generated_of request status)
 
--- a request that goes to a target by its way names the Request-URI of that target as it was given, though the way has it as it
+-- a request that goes to a target by its destination names the Request-URI of that target as it was given, though the destination has it as it
 -- stands in a request
 abbrev pub RequestsNameTheirTargets : Type 0
 RequestsNameTheirTargets =
-    (fixed : Fixed) (way : Way) (n : ℕ) (target : Uri) → way.uri ≡ requested target → (request_to fixed way n).start ≡ to_target fixed.request.start target
+    (opened : OpenedRequest) (destination : Destination) (n : ℕ) (target : Uri) → destination.uri ≡ requested target → (request_to opened destination n).start ≡ to_target opened.request.start target

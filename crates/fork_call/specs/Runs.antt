@@ -12,7 +12,7 @@ use Rattle.call_model.specs.Failed.{Fails}
 use Rattle.call_model.specs.Posting.{call_tag}
 use Rattle.call_model.specs.Pump.{Pumps}
 use Rattle.call_model.specs.Step.{Input, Take, Pump, Failed, Output, Took, Did, Told, Step, Turn, Run}
-use Rattle.fork_routing.specs.Matching.{BelongsTo}
+use Rattle.call_routing.specs.Matching.{BelongsTo}
 use Rattle.fork_call.specs.Takes.{Takes}
 
 -- ---- calls

@@ -4,8 +4,8 @@ use Rattle.std.specs.Prelude.{ℕ}
 use Rattle.sip_text.specs.Text.{MessageText}
 use Rattle.sip_uri.specs.declared.hop.Hop.{Hop}
 use Rattle.call_model.specs.Call.{Call}
-use Rattle.call_model.specs.Take.{Recipient, Taken, TakesAs}
-use Rattle.fork_routing.specs.Matching.{BelongsTo}
+use Rattle.call_model.specs.Take.{MatchedTransaction, Taken, TakesAs}
+use Rattle.call_routing.specs.Matching.{BelongsTo}
 
 abbrev pub Takes : Call → ℕ → MessageText → Hop → Taken → Call → Type 0
-Takes call now m source taken new = (to : Recipient) × BelongsTo call m to × TakesAs call now m source to taken new
+Takes call now m source taken new = (to : MatchedTransaction) × BelongsTo call m to × TakesAs call now m source to taken new

@@ -1,4 +1,4 @@
 pub mod Ending
 pub mod Scheduled
-pub mod SeenDeed
+pub mod SeenAction
 pub mod Timing

@@ -7,32 +7,32 @@ ghost use Rattle.call_model.specs.Pump.{Pumps};
 ghost use Rattle.call_model.specs.SeenStep.{pumped};
 ghost use Rattle.call_model.specs.SeenTaken.{seen_taken};
 ghost use Rattle.call_model.specs.Take as take;
-ghost use Rattle.fork_routing.specs.Matching.{BelongsToNone};
-ghost use Rattle.fork_routing.specs.Opening.{IsOpenable, Opens, Refuses};
-ghost use Rattle.fork_call.specs.inner.SeenDeed.{seen_deed};
+ghost use Rattle.call_routing.specs.Matching.{BelongsToNone};
+ghost use Rattle.call_routing.specs.Opening.{IsOpenable, Opens, Refuses};
+ghost use Rattle.fork_call.specs.inner.SeenAction.{seen_action};
 ghost use Rattle.fork_call.specs.Takes.{Takes};
 ghost use Rattle.fork_call.specs.inner.Ending.{AreOver};
 ghost use Rattle.fork_call.specs.Timing.{IsTimed};
 ghost use Rattle.fork_call.specs.inner.Timing.{row_of_cause};
 
-use crate::deed::Deed;
+use crate::action::Action;
 use crate::fault::TakeFault;
-use crate::prepared::Prepared;
-use crate::schedule::{Schedule, earlier, is_due};
+use crate::pending_call::PendingCall;
+use crate::schedule::{BranchTimers, earlier, is_due};
 use crate::taking::{give, room_for, row_of as row_to, status_of};
 use crate::timing::time_step;
 use call_laws::{calls_send_right, what_is_sent_is_right};
 use call_model::{Cause, Step, Taken, calls_stay_sound};
-use call_state::Parts;
+use call_routing::match_transaction;
+use call_state::CallState;
+use call_table::Numbered;
 use fork_book::Book;
 use fork_model::{
     events_make_progress, new_rows_are_contacts, others_stay_open, positions_are_bounded,
     replies_list_all_that_became,
 };
-use fork_routing::recipient;
-use fork_setup::Setup;
-use fork_shelf::Numbered;
-use proxy_routing::OpenFault;
+use proxy_config::Setup;
+use proxy_routing::RequestRejection;
 use sip_text::Message;
 use sip_uri::Hop;
 use std::alloc::{AllocError, Allocator, Global};
@@ -49,12 +49,12 @@ fn row_of(cause: Cause) -> Option<u16>
 }
 
 /// Whether the transactions of every branch have ended.
-fn branches_are_over<A: Allocator + Clone>(parts: &Parts<A>) -> bool
-    ensures { IsTrue result ↔ AreOver parts.now }
+fn branches_are_over<A: Allocator + Clone>(state: &CallState<A>) -> bool
+    ensures { IsTrue result ↔ AreOver state.now }
 {
-    parts.is_sized();
-    for n in 0..parts.book().context().count() {
-        if !parts.is_branch_over(n) {
+    state.is_sized();
+    for n in 0..state.book().context().count() {
+        if !state.is_branch_over(n) {
             return false;
         }
     }
@@ -64,8 +64,8 @@ fn branches_are_over<A: Allocator + Clone>(parts: &Parts<A>) -> bool
 /// A forked request with its transactions: it takes messages and moments, and gives datagrams (RFC 3261 section 16).
 #[derive(Drop)]
 pub struct Call<A: Allocator + Clone = Global> {
-    parts: Parts<A>,
-    schedule: Schedule<A>,
+    state: CallState<A>,
+    schedule: BranchTimers<A>,
     alloc: A,
 }
 
@@ -75,9 +75,9 @@ impl<A: Allocator + Clone> Model for Call<A> {
 
     ghost Value = { spec.Call };
 
-    ghost view = { λ c. c.parts };
+    ghost view = { λ c. c.state };
 
-    ghost invariant = { λ c. IsTimed c.parts c.schedule };
+    ghost invariant = { λ c. IsTimed c.state c.schedule };
 }
 
 impl<A: Allocator + Clone> Call<A> {
@@ -88,7 +88,7 @@ impl<A: Allocator + Clone> Call<A> {
     ///
     /// # Errors
     ///
-    /// The first of those of [`OpenFault`] that holds; `NoMemory` wherever the allocator refuses.
+    /// The first of those of [`RequestRejection`] that holds; `NoMemory` wherever the allocator refuses.
     pub fn open(
         alloc: A,
         heap: Global,
@@ -97,24 +97,24 @@ impl<A: Allocator + Clone> Call<A> {
         request: Message<A>,
         source: Hop,
         now: u64,
-    ) -> Result<Call<A>, OpenFault>
+    ) -> Result<Call<A>, RequestRejection>
         requires { IsOpenable request.start }
         ensures opened { IfOk result (Opens setup.now number request source) }
         ensures refused { IfErr result (Refuses setup.now request source) }
     {
-        match Prepared::new(alloc, heap, setup, request, source, now) {
-            Ok(prepared) => Ok(prepared.numbered(number)),
+        match PendingCall::new(alloc, heap, setup, request, source, now) {
+            Ok(pending_call) => Ok(pending_call.numbered(number)),
             Err(fault) => Err(fault),
         }
     }
 
     /// The call of these parts, whose rows have these moments.
-    pub(crate) fn of(parts: Parts<A>, schedule: Schedule<A>, alloc: A) -> Call<A>
-        requires { IsTimed parts schedule }
-        ensures { result ≡ parts }
+    pub(crate) fn of(state: CallState<A>, schedule: BranchTimers<A>, alloc: A) -> Call<A>
+        requires { IsTimed state schedule }
+        ensures { result ≡ state }
     {
         Call {
-            parts,
+            state,
             schedule,
             alloc,
         }
@@ -126,26 +126,26 @@ impl<A: Allocator + Clone> Call<A> {
         ensures replied { length self.now.log.replies ≡ length self.now.log.history }
     {
         events_make_progress();
-        let _rows = self.parts.book().context().count();
-        self.parts.book().history().len() as u32
+        let _rows = self.state.book().context().count();
+        self.state.book().history().len() as u32
     }
 
     /// What is to be done next, if something is due: what is owed to the caller first, then the caller's transaction, then
     /// the rows.
-    fn next_deed(&self, now: u64) -> Option<Deed>
-        ensures some { IfSome result (λ deed. is_due_at self.now now (seen_deed deed) ≡ true) }
+    fn next_action(&self, now: u64) -> Option<Action>
+        ensures some { IfSome result (λ action. is_due_at self.now now (seen_action action) ≡ true) }
         ensures none { IfNone result (IsIdle self.now now) }
     {
-        if !self.parts.owed().is_empty() {
-            return Some(Deed::SendAnswer);
+        if !self.state.owed().is_empty() {
+            return Some(Action::SendAnswer);
         }
-        if is_due(self.parts.server_due(), now) {
-            return Some(Deed::TickServer);
+        if is_due(self.state.server_due(), now) {
+            return Some(Action::TickServer);
         }
-        self.parts.is_sized();
-        let _rows = self.parts.book().context().count();
+        self.state.is_sized();
+        let _rows = self.state.book().context().count();
         let n = self.schedule.first_due(now)?;
-        Some(Deed::on_row(&self.parts, n as u16, now))
+        Some(Action::on_row(&self.state, n as u16, now))
     }
 
     /// Takes a message that came from `source`, by the one transaction that it belongs to (RFC 3261 sections 16.7, 17.1.3 and
@@ -161,11 +161,11 @@ impl<A: Allocator + Clone> Call<A> {
         ensures full { IsErrOf result TakeFault.Full → Takes self.old now message source take.Full self.old }
         ensures err { OnErr result (self.new ≡ self.old) }
     {
-        let Some(to) = recipient(&self.parts, &message) else {
+        let Some(to) = match_transaction(&self.state, &message) else {
             return Err(TakeFault::Stray);
         };
         let at = self.posted();
-        self.parts.is_sized();
+        self.state.is_sized();
         message.is_message();
         calls_stay_sound();
         calls_send_right();
@@ -175,9 +175,9 @@ impl<A: Allocator + Clone> Call<A> {
         replies_list_all_that_became();
         let alloc = self.alloc.clone()?;
         self.schedule.pad(room_for(status_of(&message)))?;
-        let taken = give(&mut self.parts, alloc, to, message, source, now);
-        let _rows = self.parts.book().context().count();
-        time_step(&mut self.schedule, &self.parts, row_to(to), at);
+        let taken = give(&mut self.state, alloc, to, message, source, now);
+        let _rows = self.state.book().context().count();
+        time_step(&mut self.schedule, &self.state, row_to(to), at);
         taken
     }
 
@@ -193,19 +193,19 @@ impl<A: Allocator + Clone> Call<A> {
         ensures err { OnErr result (self.new ≡ self.old) }
     {
         what_is_sent_is_right();
-        let Some(deed) = self.next_deed(now) else {
+        let Some(action) = self.next_action(now) else {
             return Ok(Step::Idle);
         };
         let at = self.posted();
-        self.parts.is_sized();
+        self.state.is_sized();
         calls_stay_sound();
         calls_send_right();
         positions_are_bounded();
         new_rows_are_contacts();
         others_stay_open();
         replies_list_all_that_became();
-        let step = deed.perform(&mut self.parts, now)?;
-        time_step(&mut self.schedule, &self.parts, deed.row(), at);
+        let step = action.perform(&mut self.state, now)?;
+        time_step(&mut self.schedule, &self.state, action.row(), at);
         Ok(step)
     }
 
@@ -219,15 +219,15 @@ impl<A: Allocator + Clone> Call<A> {
         ensures err { OnErr result (self.new ≡ self.old) }
     {
         let at = self.posted();
-        self.parts.is_sized();
+        self.state.is_sized();
         calls_stay_sound();
         calls_send_right();
         positions_are_bounded();
         new_rows_are_contacts();
         others_stay_open();
         replies_list_all_that_became();
-        self.parts.failed(cause, now)?;
-        time_step(&mut self.schedule, &self.parts, row_of(cause), at);
+        self.state.failed(cause, now)?;
+        time_step(&mut self.schedule, &self.state, row_of(cause), at);
         Ok(())
     }
 
@@ -235,11 +235,11 @@ impl<A: Allocator + Clone> Call<A> {
     pub fn due(&self) -> Option<u64>
         ensures { IsLeastDue self.now result }
     {
-        if !self.parts.owed().is_empty() {
+        if !self.state.owed().is_empty() {
             return Some(0);
         }
-        self.parts.is_sized();
-        earlier(self.parts.server_due(), self.schedule.least())
+        self.state.is_sized();
+        earlier(self.state.server_due(), self.schedule.least())
     }
 
     /// Whether every branch has ended, every transaction is over, and nothing is owed or will be due.
@@ -249,32 +249,32 @@ impl<A: Allocator + Clone> Call<A> {
         if self.due().is_some() {
             return false;
         }
-        if !self.parts.book().context().finished() {
+        if !self.state.book().context().finished() {
             return false;
         }
-        if !self.parts.is_server_over() {
+        if !self.state.is_server_over() {
             return false;
         }
-        branches_are_over(&self.parts)
+        branches_are_over(&self.state)
     }
 
     /// The events that were posted, and the context that they lead to.
     pub fn book(&self) -> &Book<A>
         ensures { result.now ≡ self.now.log }
     {
-        self.parts.book()
+        self.state.book()
     }
 
     /// The number that it was opened with.
     pub fn number(&self) -> u64
-        ensures { result ≡ self.now.fixed.number }
+        ensures { result ≡ self.now.opened.number }
     {
-        self.parts.fixed().number()
+        self.state.opened().number()
     }
 }
 
 impl<A: Allocator + Clone> Numbered for Call<A> {
-    ghost number_of = { λ call. call.fixed.number };
+    ghost number_of = { λ call. call.opened.number };
 
     /// The number that it was opened with.
     fn number(&self) -> u64 {

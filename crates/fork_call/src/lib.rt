@@ -2,12 +2,12 @@
 //! 17).
 #![tactic(auto)]
 
+mod action;
 mod call;
-mod deed;
 mod fault;
 mod law;
+mod pending_call;
 mod port;
-mod prepared;
 mod schedule;
 mod taking;
 mod timing;
@@ -16,11 +16,11 @@ pub use call::Call;
 pub use call_model::{Cause, Datagram, Step, Taken};
 pub use fault::TakeFault;
 pub use fork_book::Book;
-pub use fork_setup::{Setup, SetupFault};
 pub use law::{
     calls_are_runs, calls_have_stages, datagrams_go_back_to_the_request, each_success_goes_up,
     one_final_answer_goes_up, opened_calls_pay_in_order,
 };
+pub use pending_call::PendingCall;
 pub use port::{Carried, Port, carry};
-pub use prepared::Prepared;
-pub use proxy_routing::OpenFault;
+pub use proxy_config::{Setup, SetupFault};
+pub use proxy_routing::RequestRejection;

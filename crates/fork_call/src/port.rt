@@ -53,7 +53,7 @@ pub fn carry<A: Allocator + Clone, P: Port>(
 ) -> Result<Carried, AllocError>
     ensures cut { OnErr result (IsCutOff P.sends P.count now call.old port.old call.new port.new) }
     ensures done { IfOk result (λ c. IsCarriedOut P.sends P.count now call.old port.old call.new port.new c.sent c.failed c.more) }
-    ensures number { call.new.fixed.number ≡ call.old.fixed.number }
+    ensures number { call.new.opened.number ≡ call.old.opened.number }
     ensures told { IfOk result (λ c. P.count port.old + c.failed ≤ P.count port.new) }
 {
     let run = run_out(call, port, now)?;

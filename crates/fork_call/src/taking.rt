@@ -7,15 +7,15 @@ ghost use Rattle.call_model.specs.SeenTaken.{seen_taken};
 ghost use Rattle.call_model.specs.Sound.{IsSound};
 ghost use Rattle.call_model.specs.Take as take;
 ghost use Rattle.call_model.specs.Take.{RespondsOn, TakesAs, TakesCancel};
-ghost use Rattle.fork_routing.specs.Matching.{BelongsTo};
-ghost use Rattle.fork_routing.specs.SeenRecipient.{seen_recipient};
+ghost use Rattle.call_routing.specs.Matching.{BelongsTo};
+ghost use Rattle.call_routing.specs.SeenMatchedTransaction.{seen_recipient};
 ghost use Rattle.sip_route.specs.RequestKey.{request_key};
 ghost use Rattle.fork_call.specs.inner.Timing.{room_for, row_of_recipient};
 
 use crate::fault::TakeFault;
 use call_model::Taken;
-use call_state::{Parts, PostFault};
-use fork_routing::Recipient;
+use call_routing::MatchedTransaction;
+use call_state::{CallState, PostFault};
 use sip_text::Message;
 use sip_uri::Hop;
 use sip_via::{ViaFault, mark, readable_is_marked, reply_hop_of};
@@ -46,31 +46,31 @@ pub(crate) fn room_for(status: u16) -> u16
 }
 
 /// The row that a message comes to.
-pub(crate) fn row_of(to: Recipient) -> Option<u16>
+pub(crate) fn row_of(to: MatchedTransaction) -> Option<u16>
     ensures { result ≡ row_of_recipient (seen_recipient to) }
 {
     match to {
-        Recipient::Server => None,
-        Recipient::ServerAck => None,
-        Recipient::ServerCancel => None,
-        Recipient::Client(n) => Some(n),
-        Recipient::CancelClient(n) => Some(n),
+        MatchedTransaction::Server => None,
+        MatchedTransaction::ServerAck => None,
+        MatchedTransaction::ServerCancel => None,
+        MatchedTransaction::Client(n) => Some(n),
+        MatchedTransaction::CancelClient(n) => Some(n),
     }
 }
 
 /// The caller's CANCEL is marked with its source and taken (RFC 3261 sections 9.2, 16.10 and 18.2.1). It has the key of
 /// the call's request, so its top Via value can be read, and want of memory alone keeps it from being marked.
 fn take_cancel<A: Allocator + Clone>(
-    parts: &mut Parts<A>,
+    state: &mut CallState<A>,
     alloc: A,
     message: Message<A>,
     source: Hop,
 ) -> Result<Taken, TakeFault>
-    requires sound { IsSound parts.old }
+    requires sound { IsSound state.old }
     requires keyed { request_key message ≢ None }
-    ensures step { IfOk result (λ taken. TakesCancel parts.old message source (seen_taken taken) parts.new) }
+    ensures step { IfOk result (λ taken. TakesCancel state.old message source (seen_taken taken) state.new) }
     ensures refused { IfErr result (λ fault. fault ≡ TakeFault.NoMemory) }
-    ensures err { OnErr result (parts.new ≡ parts.old) }
+    ensures err { OnErr result (state.new ≡ state.old) }
 {
     readable_is_marked();
     let cancel = match mark(alloc, message, source) {
@@ -81,7 +81,7 @@ fn take_cancel<A: Allocator + Clone>(
         },
     };
     let to = reply_hop_of(&cancel, source);
-    match parts.take_cancel(cancel, to) {
+    match state.take_cancel(cancel, to) {
         Ok(taken) => Ok(taken),
         Err(_) => Err(TakeFault::NoMemory),
     }
@@ -89,22 +89,22 @@ fn take_cancel<A: Allocator + Clone>(
 
 /// A response is taken by the client transaction of branch n (RFC 3261 sections 16.7 and 17.1).
 fn respond<A: Allocator + Clone>(
-    parts: &mut Parts<A>,
+    state: &mut CallState<A>,
     n: u16,
     status: u16,
     message: Message<A>,
     now: u64,
 ) -> Result<Taken, TakeFault>
-    requires there { is_sent parts.old n ≡ true }
+    requires there { is_sent state.old n ≡ true }
     requires status { status ≡ status_of message }
     requires least { 100 ≤ status }
     requires most { status ≤ 699 }
-    ensures step { IfOk result (λ taken. RespondsOn parts.old n now message (seen_taken taken) parts.new) }
-    ensures full { IsErrOf result TakeFault.Full → RespondsOn parts.old n now message take.Full parts.new }
+    ensures step { IfOk result (λ taken. RespondsOn state.old n now message (seen_taken taken) state.new) }
+    ensures full { IsErrOf result TakeFault.Full → RespondsOn state.old n now message take.Full state.new }
     ensures refused { IfErr result (λ fault. fault ≢ TakeFault.Stray) }
-    ensures err { OnErr result (parts.new ≡ parts.old) }
+    ensures err { OnErr result (state.new ≡ state.old) }
 {
-    match parts.respond(n, status, message, now) {
+    match state.respond(n, status, message, now) {
         Ok(taken) => Ok(taken),
         Err(PostFault::Full) => Err(TakeFault::Full),
         Err(PostFault::NoMemory) => Err(TakeFault::NoMemory),
@@ -118,35 +118,35 @@ fn respond<A: Allocator + Clone>(
 /// `Full` where the book takes no more events that change nothing; else only where the allocator refuses. The parts are
 /// then as they were.
 pub(crate) fn give<A: Allocator + Clone>(
-    parts: &mut Parts<A>,
+    state: &mut CallState<A>,
     alloc: A,
-    to: Recipient,
+    to: MatchedTransaction,
     message: Message<A>,
     source: Hop,
     now: u64,
 ) -> Result<Taken, TakeFault>
-    requires sound { IsSound parts.old }
+    requires sound { IsSound state.old }
     requires message { IsMessage message }
-    requires belongs { BelongsTo parts.old message (seen_recipient to) }
-    ensures step { IfOk result (λ taken. TakesAs parts.old now message source (seen_recipient to) (seen_taken taken) parts.new) }
-    ensures full { IsErrOf result TakeFault.Full → TakesAs parts.old now message source (seen_recipient to) take.Full parts.new }
+    requires belongs { BelongsTo state.old message (seen_recipient to) }
+    ensures step { IfOk result (λ taken. TakesAs state.old now message source (seen_recipient to) (seen_taken taken) state.new) }
+    ensures full { IsErrOf result TakeFault.Full → TakesAs state.old now message source (seen_recipient to) take.Full state.new }
     ensures refused { IfErr result (λ fault. fault ≢ TakeFault.Stray) }
-    ensures err { OnErr result (parts.new ≡ parts.old) }
+    ensures err { OnErr result (state.new ≡ state.old) }
 {
     let status = status_of(&message);
     match to {
-        Recipient::Server => match parts.take_request(now) {
+        MatchedTransaction::Server => match state.take_request(now) {
             Ok(()) => Ok(Taken::Absorbed),
             Err(_) => Err(TakeFault::NoMemory),
         },
-        Recipient::ServerAck => {
-            parts.take_ack(now);
+        MatchedTransaction::ServerAck => {
+            state.take_ack(now);
             Ok(Taken::Absorbed)
         }
-        Recipient::ServerCancel => take_cancel(parts, alloc, message, source),
-        Recipient::Client(n) => respond(parts, n, status, message, now),
-        Recipient::CancelClient(n) => {
-            parts.take_cancel_response(n, status, now);
+        MatchedTransaction::ServerCancel => take_cancel(state, alloc, message, source),
+        MatchedTransaction::Client(n) => respond(state, n, status, message, now),
+        MatchedTransaction::CancelClient(n) => {
+            state.take_cancel_response(n, status, now);
             Ok(Taken::Absorbed)
         }
     }

@@ -3,8 +3,8 @@ ghost use Rattle.std.specs.Prelude.{◌≡◌, IfOk};
 ghost use Rattle.fork_call.specs.Scheduled.{if_runs, scheduled};
 ghost use Rattle.fork_call.specs.inner.Timing.{row_moment, retimed, timed, timed_at};
 
-use crate::schedule::{Schedule, earlier};
-use call_state::Parts;
+use crate::schedule::{BranchTimers, earlier};
+use call_state::CallState;
 use std::alloc::{AllocError, Allocator};
 
 /// A moment that counts where this runs.
@@ -15,23 +15,23 @@ fn if_runs(runs: bool, at: Option<u64>) -> Option<u64>
 }
 
 /// From when on something is to be done on row n: what is owed is to be done at any moment.
-fn row_moment<A: Allocator + Clone>(parts: &Parts<A>, n: u16) -> Option<u64>
-    ensures { result ≡ row_moment parts.now n }
+fn row_moment<A: Allocator + Clone>(state: &CallState<A>, n: u16) -> Option<u64>
+    ensures { result ≡ row_moment state.now n }
 {
-    if !parts.is_sent(n) {
-        return if_runs(parts.is_trying(n), Some(0));
+    if !state.is_sent(n) {
+        return if_runs(state.is_trying(n), Some(0));
     }
-    if parts.owes_ack(n) {
+    if state.owes_ack(n) {
         return Some(0);
     }
-    let cancelled = parts.is_cancelled(n);
-    if cancelled && !parts.is_cancel_sent(n) {
+    let cancelled = state.is_cancelled(n);
+    if cancelled && !state.is_cancel_sent(n) {
         return Some(0);
     }
-    let timer_c = if_runs(parts.runs_timer_c(n), parts.timer_c_at(n));
-    let give_up = if_runs(cancelled, parts.give_up_at(n));
+    let timer_c = if_runs(state.runs_timer_c(n), state.timer_c_at(n));
+    let give_up = if_runs(cancelled, state.give_up_at(n));
     let ends = earlier(timer_c, give_up);
-    earlier(parts.client_at(n), earlier(parts.cancel_at(n), ends))
+    earlier(state.client_at(n), earlier(state.cancel_at(n), ends))
 }
 
 /// Each row has its moment.
@@ -42,49 +42,53 @@ fn row_moment<A: Allocator + Clone>(parts: &Parts<A>, n: u16) -> Option<u64>
 #[tactic(auto, using(crate::proofs::Timed::take_more, crate::proofs::Timed::take_whole))]
 pub(crate) fn schedule_of<A: Allocator + Clone>(
     alloc: A,
-    parts: &Parts<A>,
-) -> Result<Schedule<A>, AllocError>
-    ensures { IfOk result (λ schedule. schedule ≡ scheduled parts.now) }
+    state: &CallState<A>,
+) -> Result<BranchTimers<A>, AllocError>
+    ensures { IfOk result (λ schedule. schedule ≡ scheduled state.now) }
 {
-    let mut schedule = Schedule::new(alloc);
-    for n in 0..parts.book().context().count() {
-        schedule.push(row_moment(parts, n))?;
+    let mut schedule = BranchTimers::new(alloc);
+    for n in 0..state.book().context().count() {
+        schedule.push(row_moment(state, n))?;
     }
     Ok(schedule)
 }
 
 /// Row n is timed anew.
-fn time_row<A: Allocator + Clone>(schedule: &mut Schedule<A>, parts: &Parts<A>, n: u16)
-    ensures { schedule.new ≡ timed_at parts.now schedule.old n }
+fn time_row<A: Allocator + Clone>(schedule: &mut BranchTimers<A>, state: &CallState<A>, n: u16)
+    ensures { schedule.new ≡ timed_at state.now schedule.old n }
 {
-    schedule.set(n, row_moment(parts, n));
+    schedule.set(n, row_moment(state, n));
 }
 
 /// These rows are timed anew.
-fn time_rows<A: Allocator + Clone>(schedule: &mut Schedule<A>, parts: &Parts<A>, rows: &[u16])
-    ensures { schedule.new ≡ timed parts.now rows.now schedule.old }
+fn time_rows<A: Allocator + Clone>(
+    schedule: &mut BranchTimers<A>,
+    state: &CallState<A>,
+    rows: &[u16],
+)
+    ensures { schedule.new ≡ timed state.now rows.now schedule.old }
 {
     for n in rows {
-        time_row(schedule, parts, *n);
+        time_row(schedule, state, *n);
     }
 }
 
 /// The rows are timed anew that a step touched: its own, and those that the event at this position started or cancelled,
 /// if one was posted there. Each row has its moment then.
 pub(crate) fn time_step<A: Allocator + Clone>(
-    schedule: &mut Schedule<A>,
-    parts: &Parts<A>,
+    schedule: &mut BranchTimers<A>,
+    state: &CallState<A>,
     row: Option<u16>,
     at: u32,
 )
-    ensures { schedule.new ≡ retimed parts.now row at schedule.old }
+    ensures { schedule.new ≡ retimed state.now row at schedule.old }
 {
-    schedule.truncate(parts.book().context().count());
+    schedule.truncate(state.book().context().count());
     if let Some(n) = row {
-        time_row(schedule, parts, n);
+        time_row(schedule, state, n);
     }
-    if let Some(reply) = parts.book().reply(at) {
-        time_rows(schedule, parts, reply.started());
-        time_rows(schedule, parts, reply.cancelled());
+    if let Some(reply) = state.book().reply(at) {
+        time_rows(schedule, state, reply.started());
+        time_rows(schedule, state, reply.cancelled());
     }
 }

@@ -7,7 +7,7 @@ use Rattle.fork_model.specs.Step.{next}
 use Rattle.fork_model.specs.Reply.{Reply}
 use Rattle.fork_model.specs.History.{opening, AreReplies}
 use Rattle.fork_model.specs.Log.{Posted, Log, events_of, table_of}
-use Rattle.fork_mixing.specs.Interleaving.{IsInterleaving}
+use Rattle.interleaving.specs.Interleaving.{IsInterleaving}
 use Rattle.fork_text.specs.RuleLines.{ended}
 use Rattle.fork_program.specs.Replay.{Ending, IsEnding, opening_text, reply_text, ending_lines}
 use Rattle.fork_drive.specs.Workers.{Workers}

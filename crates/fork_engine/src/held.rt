@@ -10,8 +10,8 @@ use crate::crew::Ended;
 use crate::fault::DriveFault;
 use fork_book::Book;
 use fork_context::{Context, Event, Kind, NewFault, PostError, Target};
-use fork_mixing::are_same_targets;
 use fork_rank::Rules;
+use interleaving::are_same_targets;
 use std::alloc::{AllocError, Allocator};
 
 /// What stands under the lock: a book, with what it opened with.

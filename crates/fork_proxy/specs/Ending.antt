@@ -3,8 +3,8 @@ use Rattle.std.specs.Prelude.{◌≡◌, ℕ, List, Option, Result, Ok, Err}
 use Rattle.fork_program.specs.Program.{IsReadFault}
 use Rattle.fork_program.specs.FaultView as answer
 use Rattle.fork_drive.specs.Asked.{IsWhole}
-use Rattle.fork_server.specs.Faults.{Spells, IsFaultOf}
-use Rattle.fork_server.specs.Faults as serve
+use Rattle.proxy_server.specs.Faults.{Spells, IsFaultOf}
+use Rattle.proxy_server.specs.Faults as serve
 use Rattle.fork_proxy.specs.declared.Failure.{Failure}
 use Rattle.fork_proxy.specs.declared.Failure.TheVariants as failure
 

@@ -1,5 +1,5 @@
 //! `forkproxy`: reads standard input, and calls the command that the arguments name: one that answers a text (`fork_drive`,
-//! `fork_program`), whose answer it writes, or the server (`fork_server`), which the text sets up.
+//! `fork_program`), whose answer it writes, or the server (`proxy_server`), which the text sets up.
 #![tactic(auto)]
 
 ghost use Rattle.std.specs.Prelude.{◌≡◌, ◌↔◌, None, IfOk, IfErr, IfSome, IsErrOf, map, string_bytes};
@@ -10,8 +10,8 @@ ghost use Rattle.fork_proxy.specs.Ending.{Serves, IsServeFailure, status_of};
 
 use fork_drive::Asked;
 use fork_program::{Fault, ProgFault, read_input};
-use fork_server::{ServeFault, serve, turns_asked};
 use log::Log;
+use proxy_server::{ServeFault, serve, turns_asked};
 use std::alloc::{AllocError, Global};
 use std::io::{ErrorKind, Print, Read, Write};
 use std::net::Net;

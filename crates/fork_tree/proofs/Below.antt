@@ -1,13 +1,13 @@
 -- What a node keeps is the best, and its count that, of the rows at or below its number.
 use Rattle.fork_tree.proofs.Common.{◌≡◌, ℕ, suc, ◌+◌, ◌<◌, ◌&&◌, inl, inr, Bool, true, false, IsTrue, not, List, [], ◌∷◌, length, Option, Some, None, slice_get, refl, ap, sym, subst, ◌∙◌, arith, if◌then◌else◌, is_some, option_map, Row, Rules}
-use Rattle.fork_tree.proofs.Common.{is_ended, stored_of, Rank, Score, RanksBefore, rank_of, HasScore, score_of, stored_at, Kept, Summary, Place, has_ended, Cell, Entry, find, path_of, row_at, rows_of, IsPlaced, AreOlder, HasKept, IsKept, best_of}
+use Rattle.fork_tree.proofs.Common.{is_ended, stored_of, Rank, Score, RanksBefore, rank_of, HasScore, score_of, stored_at, RankedAnswer, Summary, Place, has_ended, Cell, Entry, find, path_of, row_at, rows_of, IsPlaced, AreOlder, HasKept, IsKept, best_of}
 use Rattle.fork_tree.proofs.Common.{open_of, AreListed, AreRanked, IsTree, Tree, score_of_ref, leads, lies_below, open_where, open_below, stripped, put_under, under, common_steps, rules}
 use Rattle.fork_model.specs.Rank.{Before}
 use Rattle.fork_tree.specs.Below.{IsBestBelow, IsSubtree}
 use Rattle.fork_tree.proofs.Traces.{path_below}
 use Rattle.fork_tree.proofs.Placed.{IsRowAt, row_got, ended_plain}
 use Rattle.fork_tree.proofs.Counts.{one, passing, passing_rows, passing_agree, rows_length}
-use Rattle.fork_tree.proofs.Kept.{ScoreKept, KeptScore, stored_state, state_stored, ranked_at, found_kept, kept_score, before_ranks}
+use Rattle.fork_tree.proofs.RankedAnswer.{ScoreKept, KeptScore, stored_state, state_stored, ranked_at, found_kept, kept_score, before_ranks}
 use Rattle.fork_tree.proofs.Unders.{stripped_here, stripped_is, find_under}
 use Rattle.fork_tree.proofs.Chains.{up_of, lies_same, GoesOn, leads_on, on_leads}
 
@@ -44,11 +44,11 @@ score_below rules all root n m score older ranked below h = go (slice_get (rows_
         cell found.0 (find root (path_of all m)) refl
         (sym (ap (λ (x : Row). option_map score_of (stored_of x.state)) (found.2 ∙ ap (λ k. row_at found.0 (find root (path_of all k))) at)) ∙ h)
 
-record KeptBelow (rules : Rules) (rows : List Row) (n : ℕ) (k : Kept) : Type 0 where
+record KeptBelow (rules : Rules) (rows : List Row) (n : ℕ) (k : RankedAnswer) : Type 0 where
   pub below : IsTrue (lies_below rows n k.best.no)
   pub score : KeptScore rules rows k
 
-kept_below : (rules : Rules) (all : List Place) (root es : List Entry) (n : ℕ) (k : Kept) → AreOlder all → IsPlaced all root → n < length all → AreListed all root es → AreRanked rules es
+kept_below : (rules : Rules) (all : List Place) (root es : List Entry) (n : ℕ) (k : RankedAnswer) → AreOlder all → IsPlaced all root → n < length all → AreListed all root es → AreRanked rules es
     → HasKept (under (path_of all n) es) k → KeptBelow rules (rows_of all root) n k
 kept_below rules all root [] n k older placed lt l r h = absurd h
 kept_below rules all root (e ∷ es) n k older placed lt l r h = go (stripped (path_of all n) e.path) refl h (λ t. kept_below rules all root es n k older placed lt l.1 r.1 t)
@@ -67,7 +67,7 @@ kept_below rules all root (e ∷ es) n k older placed lt l r h = go (stripped (p
     go None f h again = again h
     go (Some q) f h again = elim h [ inl a ↦ own q f a | inr t ↦ again t ]
 
-best_below : (rules : Rules) (all : List Place) (root : List Entry) (n : ℕ) (kept : Option Kept) → AreOlder all → IsPlaced all root → n < length all → AreListed all root root
+best_below : (rules : Rules) (all : List Place) (root : List Entry) (n : ℕ) (kept : Option RankedAnswer) → AreOlder all → IsPlaced all root → n < length all → AreListed all root root
     → AreRanked rules root → IsKept (under (path_of all n) root) kept → IsBestBelow rules (rows_of all root) n (best_of kept)
 best_below rules all root n None older placed lt listed ranked k = grind (arith, common_steps, score_below)
 best_below rules all root n (Some b) older placed lt listed ranked k =

@@ -1,5 +1,5 @@
 -- A change at a path goes into the part that the path names.
-use Rattle.fork_tree.proofs.Common.{◌≡◌, ℕ, zero, suc, ◌+◌, ◌<◌, ◌≤◌, false, IsTrue, List, [], ◌∷◌, ◌++◌, length, map, Option, Some, None, refl, ap, sym, subst, ◌∙◌, arith, get_or, length-append, if◌then◌else◌, set, append-nil, eq-eqb, Standing}
+use Rattle.fork_tree.proofs.Common.{◌≡◌, ℕ, zero, suc, ◌+◌, ◌<◌, ◌≤◌, false, IsTrue, List, [], ◌∷◌, ◌++◌, length, map, Option, Some, None, refl, ap, sym, subst, ◌∙◌, arith, get_or, length-append, if◌then◌else◌, set, append-nil, eq-eqb, BranchState}
 use Rattle.fork_tree.proofs.Common.{has_ended, Cell, Entry, same, find, pushed, joined, is_open_cell, open_at, led, in_standing, with_branch, ne_eqb, nil_from_length, get_or_default, map-id, MayEnd, length_pushed, common_steps}
 
 pub find_pushed : (k : ℕ) (rows : List Entry) (path : List ℕ) → find (map (pushed k) rows) (k ∷ path) ≡ find rows path
@@ -39,26 +39,26 @@ pub map_twice : (k : ℕ) (path : List ℕ) (rows : List Entry) → map (led (k 
 map_twice k path [] = refl
 map_twice k path (e ∷ es) = ap (λ r. led (k ∷ path) e ∷ r) (map_twice k path es)
 
-pub with_branch_append : (xs ys : List Entry) (path : List ℕ) (s : Standing) (b : List Entry) → with_branch (xs ++ ys) path s b ≡ with_branch xs path s b ++ with_branch ys path s b
+pub with_branch_append : (xs ys : List Entry) (path : List ℕ) (s : BranchState) (b : List Entry) → with_branch (xs ++ ys) path s b ≡ with_branch xs path s b ++ with_branch ys path s b
 with_branch_append [] ys path s b = refl
 with_branch_append (x ∷ xs) ys path s b = grind (arith, common_steps, with_branch_append xs ys path s b)
 
-pub with_branch_pushed : (k : ℕ) (rows : List Entry) (path : List ℕ) (s : Standing) (b : List Entry) → with_branch (map (pushed k) rows) (k ∷ path) s b ≡ map (pushed k) (with_branch rows path s b)
+pub with_branch_pushed : (k : ℕ) (rows : List Entry) (path : List ℕ) (s : BranchState) (b : List Entry) → with_branch (map (pushed k) rows) (k ∷ path) s b ≡ map (pushed k) (with_branch rows path s b)
 with_branch_pushed k [] path s b = refl
 with_branch_pushed k (e ∷ es) path s b = grind (arith, common_steps, map_twice, with_branch_pushed k es path s b)
 
-pub with_branch_other : (j k : ℕ) (rows : List Entry) (path : List ℕ) (s : Standing) (b : List Entry) → (j ≡ k → ⊥) → with_branch (map (pushed j) rows) (k ∷ path) s b ≡ map (pushed j) rows
+pub with_branch_other : (j k : ℕ) (rows : List Entry) (path : List ℕ) (s : BranchState) (b : List Entry) → (j ≡ k → ⊥) → with_branch (map (pushed j) rows) (k ∷ path) s b ≡ map (pushed j) rows
 with_branch_other j k [] path s b h = refl
 with_branch_other j k (e ∷ es) path s b h = rw (ne_eqb j k h) (ap (λ r. pushed j e ∷ r) (with_branch_other j k es path s b h))
 
-pub with_branch_later : (j k : ℕ) (parts : List (List Entry)) (path : List ℕ) (s : Standing) (b : List Entry) → k < j → with_branch (joined j parts) (k ∷ path) s b ≡ joined j parts
+pub with_branch_later : (j k : ℕ) (parts : List (List Entry)) (path : List ℕ) (s : BranchState) (b : List Entry) → k < j → with_branch (joined j parts) (k ∷ path) s b ≡ joined j parts
 with_branch_later j k [] path s b h = refl
 with_branch_later j k (x ∷ xs) path s b h =
     with_branch_append (map (pushed j) x) (joined (suc j) xs) (k ∷ path) s b
     ∙ ap (λ r. r ++ with_branch (joined (suc j) xs) (k ∷ path) s b) (with_branch_other j k x path s b (λ e. omega arith))
     ∙ ap (λ r. map (pushed j) x ++ r) (with_branch_later (suc j) k xs path s b (omega arith))
 
-pub with_branch_joined : (j i k : ℕ) (parts : List (List Entry)) (path : List ℕ) (s : Standing) (b : List Entry) → k ≡ j + i → i < length parts
+pub with_branch_joined : (j i k : ℕ) (parts : List (List Entry)) (path : List ℕ) (s : BranchState) (b : List Entry) → k ≡ j + i → i < length parts
     → with_branch (joined j parts) (k ∷ path) s b ≡ joined j (set parts i (with_branch (get_or parts i []) path s b))
 with_branch_joined j i k [] path s b e h = absurd (omega arith)
 with_branch_joined j zero k (x ∷ xs) path s b e h = grind (arith, common_steps, with_branch_append (map (pushed j) x) (joined (suc j) xs) (j ∷ path) s b, with_branch_pushed j x path s b, with_branch_later)
@@ -87,7 +87,7 @@ never_here (x ∷ xs) j = find_past (map (pushed j) x) (joined (suc j) xs) [] (n
     none j (e ∷ es) = none j es
 
 -- a row with nothing below it
-pub node_here : (e : Entry) (s : Standing) (b : List Entry) → e.path ≡ [] → with_branch (e ∷ []) [] s b ≡ record { path = []; cell = in_standing s e.cell } ∷ b
+pub node_here : (e : Entry) (s : BranchState) (b : List Entry) → e.path ≡ [] → with_branch (e ∷ []) [] s b ≡ record { path = []; cell = in_standing s e.cell } ∷ b
 node_here e s b h = rw h (ap (λ r. record { path = []; cell = in_standing s e.cell } ∷ r) (append-nil (map (led []) b) ∙ map-id b))
 
 -- no new row stands at the empty path
@@ -101,7 +101,7 @@ pub at_node : (rows below : List Entry) (c : Cell) (path : List ℕ) → record 
 at_node rows below c path v p h = grind arith
 
 -- a node whose own row changes
-pub node_ends : (rows below : List Entry) (c : Cell) (path : List ℕ) (s : Standing) (b : List Entry) → record { path = []; cell = c } ∷ below ≡ rows → length path ≡ 0
+pub node_ends : (rows below : List Entry) (c : Cell) (path : List ℕ) (s : BranchState) (b : List Entry) → record { path = []; cell = c } ∷ below ≡ rows → length path ≡ 0
     → (has_ended c.standing.state ≡ false → below ≡ []) → IsTrue (open_at rows path) → record { path = []; cell = in_standing s c } ∷ b ≡ with_branch rows path s b
 node_ends rows below c path s b v p none h =
     let own : Entry = record { path = []; cell = c } in
@@ -113,7 +113,7 @@ length_part j zero (x ∷ xs) = omega (arith, length-append (map (pushed j) x) (
 length_part j (suc i) (x ∷ xs) = omega (arith, length-append (map (pushed j) x) (joined (suc j) xs), length_part (suc j) i xs)
 
 -- what the step down asks
-pub step_few : (rows : List Entry) (parts : List (List Entry)) (path rest : List ℕ) (i : ℕ) (part b : List Entry) (s : Standing) (count : ℕ)
+pub step_few : (rows : List Entry) (parts : List (List Entry)) (path rest : List ℕ) (i : ℕ) (part b : List Entry) (s : BranchState) (count : ℕ)
     → joined 0 parts ≡ rows → path ≡ i ∷ rest
     → part ≡ get_or parts i part → MayEnd rows path s b count → MayEnd part rest s b count
 step_few rows parts path rest i part b s count v p is h =

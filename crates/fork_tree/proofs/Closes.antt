@@ -1,5 +1,5 @@
 -- Parts closed one after another are the whole closed.
-use Rattle.fork_tree.proofs.Common.{◌-◌, Option, inl, inr, false, ◌≡◌, ℕ, zero, suc, ◌+◌, ◌<◌, ◌≤◌, List, [], ◌∷◌, ◌++◌, length, map, refl, ap, sym, ◌∙◌, arith, get_or, set, map-append, Kept, State, has_ended, closed_state, Standing, Summary}
+use Rattle.fork_tree.proofs.Common.{◌-◌, Option, inl, inr, false, ◌≡◌, ℕ, zero, suc, ◌+◌, ◌<◌, ◌≤◌, List, [], ◌∷◌, ◌++◌, length, map, refl, ap, sym, ◌∙◌, arith, get_or, set, map-append, RankedAnswer, State, has_ended, closed_state, BranchState, Summary}
 use Rattle.fork_tree.proofs.Common.{HasKept, IsKept, open_state, open_of, IsNode, Entry, pushed, joined, closed_standing, closed_entry, closed_to, get_or_default, common_steps}
 use Rattle.fork_tree.proofs.Summaries.{opens_joined}
 use Rattle.fork_tree.proofs.BranchChanges.{length_part}
@@ -45,15 +45,15 @@ close_done rows parts items i v e h = grind (arith, closed_all, length_closed_to
 
 -- ---- what is kept, and what has not ended
 
-pub has_closed : (rows : List Entry) (o : Kept) → HasKept (map closed_entry rows) o → HasKept rows o
+pub has_closed : (rows : List Entry) (o : RankedAnswer) → HasKept (map closed_entry rows) o → HasKept rows o
 has_closed [] o h = h
 has_closed (e ∷ es) o h = elim h [ inl k ↦ inl k | inr t ↦ inr (has_closed es o t) ]
 
-pub closed_has : (rows : List Entry) (o : Kept) → HasKept rows o → HasKept (map closed_entry rows) o
+pub closed_has : (rows : List Entry) (o : RankedAnswer) → HasKept rows o → HasKept (map closed_entry rows) o
 closed_has [] o h = h
 closed_has (e ∷ es) o h = elim h [ inl k ↦ inl k | inr t ↦ inr (closed_has es o t) ]
 
-pub kept_closed : (rows : List Entry) (kept : Option Kept) → IsKept rows kept → IsKept (map closed_entry rows) kept
+pub kept_closed : (rows : List Entry) (kept : Option RankedAnswer) → IsKept rows kept → IsKept (map closed_entry rows) kept
 kept_closed rows kept h = grind (arith, has_closed, closed_has)
 
 pub closed_open : (s : State) → open_state (closed_state s) ≤ open_state s
@@ -68,7 +68,7 @@ pub count_more : (parts items : List (List Entry)) (i : ℕ) (part new : List En
 count_more parts items i part new before more is lt was now = grind (arith, common_steps, opens_joined)
 
 -- a node closed
-pub node_closed : (n q : ℕ) (s new : Standing) (below rest : List Entry) (t : Summary) (before now more : ℕ) → IsNode n q s below t → new ≡ closed_standing s → rest ≡ map closed_entry below
+pub node_closed : (n q : ℕ) (s new : BranchState) (below rest : List Entry) (t : Summary) (before now more : ℕ) → IsNode n q s below t → new ≡ closed_standing s → rest ≡ map closed_entry below
     → before ≡ open_state s.state → now ≡ open_state new.state → open_of rest + more ≡ open_of below
     → IsNode n q new rest (record { kept = t.kept; open_count = t.open_count - (before - now + more) })
 node_closed n q s new below rest t before now more was e f was_open is_open count = grind (arith, common_steps, closed_open, kept_closed, closed_waits)

@@ -35,8 +35,8 @@ pub use Rattle.fork_tree.specs.declared.row.RowRef.{RowRef}
 pub use Rattle.fork_tree.specs.declared.row.State.{State}
 pub use Rattle.fork_tree.specs.declared.row.State.TheVariants.{Ended, Idle, Rung, Trying}
 pub use Rattle.fork_tree.specs.declared.summary.BestRef.{BestRef}
-pub use Rattle.fork_tree.specs.declared.summary.Kept.{Kept}
-pub use Rattle.fork_tree.specs.declared.summary.Standing.{Standing}
+pub use Rattle.fork_tree.specs.declared.summary.RankedAnswer.{RankedAnswer}
+pub use Rattle.fork_tree.specs.declared.summary.BranchState.{BranchState}
 pub use Rattle.fork_tree.specs.declared.summary.Summary.{Summary}
 pub use Rattle.fork_tree.specs.inner.Below.{put_under, stripped, under}
 pub use Rattle.fork_tree.specs.inner.Changes.{Changes, MayEnd}

@@ -1,6 +1,6 @@
 -- A row ends, and new rows come below it.
 use Rattle.fork_tree.proofs.Common.{◌-◌, ltb-true, ltb-false, ◌≡◌, ℕ, zero, suc, ◌+◌, ◌<◌, ◌≤◌, Bool, true, false, IsTrue, List, [], ◌∷◌, ◌++◌, length, map, Option, Some, None, slice_get, refl, ap, sym, subst, ◌∙◌, arith, length-append}
-use Rattle.fork_tree.proofs.Common.{if◌then◌else◌, nat_lt, eq-eqb, Row, Rules, is_row, is_open, most_targets, with_state, Standing, Summary, NewRow, Place, plain_state, Cell, Entry, same, find, led, in_standing, changed, with_branch, Better, above}
+use Rattle.fork_tree.proofs.Common.{if◌then◌else◌, nat_lt, eq-eqb, Row, Rules, is_row, is_open, most_targets, with_state, BranchState, Summary, NewRow, Place, plain_state, Cell, Entry, same, find, led, in_standing, changed, with_branch, Better, above}
 use Rattle.fork_tree.proofs.Common.{path_at, path_to, path_of, row_at, rows_from, rows_of, number_of, IsPlaced, AreOlder, waiting_row, new_entries, place_in, AreListed, AreRanked, IsTree, kept_of, is_unended, there_at, get_map, get_left, get_right}
 use Rattle.fork_tree.proofs.Common.{length-map, Changes, slice_get_within, common_steps, rules}
 use Rattle.fork_tree.specs.Listed.{IsAt}
@@ -71,7 +71,7 @@ longer [] k q = refl
 longer (x ∷ xs) k q = rw (eq-eqb x x refl) (longer xs k q)
 
 -- below the changed branch stands what was put there
-pub find_below : (root : List Entry) (p : List ℕ) (k : ℕ) (q : List ℕ) (s : Standing) (b : List Entry) (c d : Cell) → find root p ≡ Some c → find root (p ++ k ∷ q) ≡ None
+pub find_below : (root : List Entry) (p : List ℕ) (k : ℕ) (q : List ℕ) (s : BranchState) (b : List Entry) (c d : Cell) → find root p ≡ Some c → find root (p ++ k ∷ q) ≡ None
     → find b (k ∷ q) ≡ Some d → find (with_branch root p s b) (p ++ k ∷ q) ≡ Some d
 find_below [] p k q s b c d there none is = absurd cc
 find_below (e ∷ es) p k q s b c d there none is =
@@ -100,7 +100,7 @@ pub record IsEnding (all : List Place) (root : List Entry) (n : ℕ) (new_rows :
   pub alone : (k : ℕ) (rest : List ℕ) → find root (path_of all n ++ k ∷ rest) ≡ None
   pub rise : AreRising new_rows
 
-abbrev pub ended_root : List Place → List Entry → ℕ → Standing → List NewRow → List Entry
+abbrev pub ended_root : List Place → List Entry → ℕ → BranchState → List NewRow → List Entry
 ended_root all root n s new_rows = with_branch root (path_of all n) s (new_entries (length all) new_rows)
 
 -- the paths of other rows lead to none of the new ones
@@ -144,7 +144,7 @@ new_path all root n new_rows i s is at =
 length_grown : (all : List Place) (n : ℕ) (new_rows : List NewRow) → length (grown all n new_rows) ≡ length all + length new_rows
 length_grown all n new_rows = omega (arith, length-append all (map (place_in (Some n)) new_rows), length-map new_rows (place_in (Some n)))
 
-pub new_found : (all : List Place) (root : List Entry) (n : ℕ) (st : Standing) (new_rows : List NewRow) → IsEnding all root n new_rows
+pub new_found : (all : List Place) (root : List Entry) (n : ℕ) (st : BranchState) (new_rows : List NewRow) → IsEnding all root n new_rows
     → AreFound (grown all n new_rows) (ended_root all root n st new_rows) (path_of all n) (length all) new_rows
 new_found all root n st new_rows is i s at =
     let c = there all root n is.placed is.known in
@@ -160,7 +160,7 @@ new_found all root n st new_rows is i s at =
 
 -- ---- the tree afterwards
 
-pub placed_grown : (all : List Place) (root : List Entry) (n : ℕ) (st : Standing) (new_rows : List NewRow) → IsEnding all root n new_rows → IsPlaced (grown all n new_rows) (ended_root all root n st new_rows)
+pub placed_grown : (all : List Place) (root : List Entry) (n : ℕ) (st : BranchState) (new_rows : List NewRow) → IsEnding all root n new_rows → IsPlaced (grown all n new_rows) (ended_root all root n st new_rows)
 placed_grown all root n st new_rows is m lm = go (nat_lt m (length all)) refl
   where
     old : m < length all → number_of (find (ended_root all root n st new_rows) (path_of (grown all n new_rows) m)) ≡ Some m
@@ -181,7 +181,7 @@ listed_append : (all : List Place) (root xs ys : List Entry) → AreListed all r
 listed_append all root [] ys h k = k
 listed_append all root (x ∷ xs) ys h k = (h.0, listed_append all root xs ys h.1 k)
 
-pub listed_grown : (all : List Place) (root es : List Entry) (n : ℕ) (st : Standing) (new_rows : List NewRow) → IsEnding all root n new_rows → AreListed all root es
+pub listed_grown : (all : List Place) (root es : List Entry) (n : ℕ) (st : BranchState) (new_rows : List NewRow) → IsEnding all root n new_rows → AreListed all root es
     → AreListed (grown all n new_rows) (ended_root all root n st new_rows) (with_branch es (path_of all n) st (new_entries (length all) new_rows))
 listed_grown all root [] n st new_rows is l = tt
 listed_grown all root (e ∷ es) n st new_rows is l =
@@ -234,17 +234,17 @@ ranked_led : (rules : Rules) (p : List ℕ) (xs : List Entry) → AreRanked rule
 ranked_led rules p [] h = h
 ranked_led rules p (x ∷ xs) h = (h.0, ranked_led rules p xs h.1)
 
-pub ranked_grown : (rules : Rules) (all : List Place) (root es : List Entry) (n : ℕ) (st : Standing) (b : List Entry) → IsPlaced all root → n < length all → AreListed all root es → AreRanked rules es
+pub ranked_grown : (rules : Rules) (all : List Place) (root es : List Entry) (n : ℕ) (st : BranchState) (b : List Entry) → IsPlaced all root → n < length all → AreListed all root es → AreRanked rules es
     → AreRanked rules b → st.answer ≡ kept_of rules n st.state → AreRanked rules (with_branch es (path_of all n) st b)
 ranked_grown rules all root [] n st b placed lt l r rb a = tt
 ranked_grown rules all root (e ∷ es) n st b placed lt l r rb a = grind (arith, common_steps, ranked_append rules (changed e st b) (with_branch es (path_of all n) st b), ranked_grown rules all root es n st b placed lt l.1 r.1 rb a, changed, ranked_led, same_true)
 
-ending : (rules : Rules) (all : List Place) (root new b : List Entry) (t : Summary) (n : ℕ) (st : Standing) (new_rows : List NewRow) (count : ℕ)
+ending : (rules : Rules) (all : List Place) (root new b : List Entry) (t : Summary) (n : ℕ) (st : BranchState) (new_rows : List NewRow) (count : ℕ)
     → IsTree rules all root t → n < length all
     → AreRising new_rows → Changes root new (path_of all n) st b count → IsEnding all root n new_rows
 ending rules all root new b t n st new_rows count was lt rise h = record { older = was.older; placed = was.placed; known = lt; alone = h.alone; rise = rise }
 
-pub tree_ended : (rules : Rules) (all : List Place) (root new : List Entry) (t r : Summary) (n : ℕ) (st : Standing) (new_rows : List NewRow) (first count : ℕ)
+pub tree_ended : (rules : Rules) (all : List Place) (root new : List Entry) (t r : Summary) (n : ℕ) (st : BranchState) (new_rows : List NewRow) (first count : ℕ)
     → IsTree rules all root t
     → n < length all → AreRising new_rows → st.answer ≡ kept_of rules n st.state → first ≡ length all → first + length new_rows ≤ most_targets
     → Changes root new (path_of all n) st (new_entries first new_rows) count → Better t.kept st.answer r.kept → r.open_count + 1 ≡ t.open_count + count
@@ -264,7 +264,7 @@ rows_old all root new n new_rows k (p ∷ ps) is le =
     ap (λ x. row_at p (find new x) ∷ rows_from (grown all n new_rows) new (suc k) ps) (old_path all root n new_rows k is (omega (arith, le)))
     ∙ ap (λ r. row_at p (find new (path_of all k)) ∷ r) (rows_old all root new n new_rows (suc k) ps is (omega (arith, le)))
 
-pub rows_ended : (rules : Rules) (all : List Place) (root new : List Entry) (t : Summary) (n : ℕ) (st : Standing) (new_rows : List NewRow) (first count : ℕ)
+pub rows_ended : (rules : Rules) (all : List Place) (root new : List Entry) (t : Summary) (n : ℕ) (st : BranchState) (new_rows : List NewRow) (first count : ℕ)
     → IsTree rules all root t → n < length all
     → AreRising new_rows → first ≡ length all → Changes root new (path_of all n) st (new_entries first new_rows) count
     → rows_of (grown all n new_rows) new ≡ with_state (rows_of all root) n (plain_state st.state) ++ map (waiting_row (Some n)) new_rows

@@ -1,5 +1,5 @@
 -- What the search finds in a group, and in the groups of a level.
-use Rattle.fork_tree.proofs.Common.{◌≡◌, ℕ, suc, ◌+◌, ◌<◌, ◌≤◌, inr, Bool, true, false, IsTrue, List, [], ◌∷◌, length, map, Option, Some, None, refl, ap, sym, subst, ◌∙◌, arith, get_or, ltb, ltb-true, ltb-false, is_some, is_idle, Standing, State}
+use Rattle.fork_tree.proofs.Common.{◌≡◌, ℕ, suc, ◌+◌, ◌<◌, ◌≤◌, inr, Bool, true, false, IsTrue, List, [], ◌∷◌, length, map, Option, Some, None, refl, ap, sym, subst, ◌∙◌, arith, get_or, ltb, ltb-true, ltb-false, is_some, is_idle, BranchState, State}
 use Rattle.fork_tree.proofs.Common.{plain_state, has_ended, Cell, Entry, find, node_rows, pushed, joined, number_of, under, open_of, IsStarted, waits_in, FindsFirst, FindsHere, get_or_past, get_or_default, common_steps}
 use Rattle.fork_tree.specs.inner.Search.{IsWaiting, FindsGroup, FindsBelow}
 use Rattle.fork_tree.proofs.BranchChanges.{find_joined}
@@ -100,6 +100,6 @@ all_over rows groups i v over past = inr (λ j. go j (ltb j i) refl)
 down : (e : Entry) (below : List Entry) (r : Option (ℕ × ℕ)) → e.path ≡ [] → FindsFirst below r → FindsFirst (e ∷ below) r
 down e below r top f = grind (arith, common_steps)
 
-pub found_below : (number q : ℕ) (s : Standing) (below rows : List Entry) (r : Option (ℕ × ℕ)) → (has_ended s.state ≡ false → below ≡ []) → node_rows number q s below ≡ rows
+pub found_below : (number q : ℕ) (s : BranchState) (below rows : List Entry) (r : Option (ℕ × ℕ)) → (has_ended s.state ≡ false → below ≡ []) → node_rows number q s below ≡ rows
     → FindsHere below r → FindsBelow rows r
 found_below number q s below rows r alone v found = grind arith

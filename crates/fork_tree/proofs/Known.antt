@@ -102,11 +102,11 @@ pub record IsStep (rows later fresh : List Row) (n : ℕ) (rn : Row) (s : State)
   pub older : AreOlderRows rows
   pub olds : AreOlderRows later
 
-abbrev pub Kept : List Row → ℕ → State → ℕ → Row → Type 0
-Kept later n s m row = (slice_get later m ≡ Some row) ⊎ ((m ≡ n) × (slice_get later m ≡ Some (record row { state = s })))
+abbrev pub RankedAnswer : List Row → ℕ → State → ℕ → Row → Type 0
+RankedAnswer later n s m row = (slice_get later m ≡ Some row) ⊎ ((m ≡ n) × (slice_get later m ≡ Some (record row { state = s })))
 
-pub kept : (rows later fresh : List Row) (n : ℕ) (rn : Row) (s : State) → IsStep rows later fresh n rn s → (m : ℕ) (row : Row) → slice_get rows m ≡ Some row → Kept later n s m row
-kept rows later fresh n rn s step m row is = let P : List Row → Type 0 = λ x. Kept x n s m row in subst P (sym step.made) (stays rows fresh n s m row is)
+pub kept : (rows later fresh : List Row) (n : ℕ) (rn : Row) (s : State) → IsStep rows later fresh n rn s → (m : ℕ) (row : Row) → slice_get rows m ≡ Some row → RankedAnswer later n s m row
+kept rows later fresh n rn s step m row is = let P : List Row → Type 0 = λ x. RankedAnswer x n s m row in subst P (sym step.made) (stays rows fresh n s m row is)
 
 pub changed : (rows later fresh : List Row) (n : ℕ) (rn : Row) (s : State) → IsStep rows later fresh n rn s → slice_get later n ≡ Some (record rn { state = s })
 changed rows later fresh n rn s step = ap (λ (x : List Row). slice_get x n) step.made ∙ changed_row rows fresh n s rn step.there

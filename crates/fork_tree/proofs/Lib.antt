@@ -8,7 +8,7 @@ pub mod Closes
 pub mod Traces
 pub mod MadeBranches
 pub mod Placed
-pub mod Kept
+pub mod RankedAnswer
 pub mod ClosesAll
 pub mod Opening
 pub mod Counts

@@ -1,5 +1,5 @@
 -- Rows that wait, each at its place, are a tree.
-use Rattle.fork_tree.proofs.Common.{◌≡◌, ℕ, zero, suc, ◌+◌, ◌<◌, ◌≤◌, ◌⊎◌, inl, inr, List, [], ◌∷◌, length, map, Option, Some, None, slice_get, refl, ap, sym, subst, ◌∙◌, arith, Rules, led, Entry, ◌++◌, most_targets, NewRow, Place, Kept, Summary}
+use Rattle.fork_tree.proofs.Common.{◌≡◌, ℕ, zero, suc, ◌+◌, ◌<◌, ◌≤◌, ◌⊎◌, inl, inr, List, [], ◌∷◌, length, map, Option, Some, None, slice_get, refl, ap, sym, subst, ◌∙◌, arith, Rules, led, Entry, ◌++◌, most_targets, NewRow, Place, RankedAnswer, Summary}
 use Rattle.fork_tree.proofs.Common.{Cell, find, HasKept, IsKept, open_of, path_of, rows_from, rows_of, number_of, AreOlder, new_rows_from, idle, new_entries, waiting_row, place_in, AreListed, AreRanked, IsTree, there_at, get_map, length-map, map-id}
 use Rattle.fork_tree.proofs.Common.{slice_get_within, common_steps}
 use Rattle.fork_tree.proofs.Traces.{path_top}
@@ -94,7 +94,7 @@ pub open_new_rows : (n : ℕ) (new_rows : List NewRow) → open_of (new_entries 
 open_new_rows n [] = refl
 open_new_rows n (s ∷ new_rows) = omega (arith, open_new_rows (suc n) new_rows)
 
-pub new_rows_keep_none : (n : ℕ) (new_rows : List NewRow) (k : Kept) → HasKept (new_entries n new_rows) k → ⊥
+pub new_rows_keep_none : (n : ℕ) (new_rows : List NewRow) (k : RankedAnswer) → HasKept (new_entries n new_rows) k → ⊥
 new_rows_keep_none n [] k h = h
 new_rows_keep_none n (s ∷ new_rows) k h = elim h [ inl e ↦ cc | inr t ↦ new_rows_keep_none (suc n) new_rows k t ]
 
@@ -119,7 +119,7 @@ rows_opened new_rows rise = rows_found (map (place_in None) new_rows) (new_entri
 pub tree_opened : (rules : Rules) (new_rows : List NewRow) (t : Summary) → AreRising new_rows → length new_rows ≤ most_targets → t.kept ≡ None → t.open_count ≡ length new_rows
     → IsTree rules (map (place_in None) new_rows) (new_entries 0 new_rows) t
 tree_opened rules new_rows t rise few kept open_count =
-    let P : Option Kept → Type 0 = λ x. IsKept (new_entries 0 new_rows) x in
+    let P : Option RankedAnswer → Type 0 = λ x. IsKept (new_entries 0 new_rows) x in
     record {
       older = older_top new_rows;
       placed = λ n lt.

@@ -1,6 +1,6 @@
 -- A change at a row's path is a change of this row alone.
 use Rattle.fork_tree.proofs.Common.{◌≡◌, ℕ, zero, suc, ◌+◌, ◌<◌, ◌≤◌, ◌&&◌, true, false, IsTrue, List, [], ◌∷◌, ◌++◌, length, map, Option, Some, None, slice_get, refl, ap, sym, ◌∙◌, arith, if◌then◌else◌, eqb, eq-eqb, eqb-true, Row, is_ended, is_row}
-use Rattle.fork_tree.proofs.Common.{with_state, Standing, State, Place, has_ended, plain_state, Cell, Entry, same, find, open_at, led, in_standing, changed, with_branch, path_of, row_at, rows_from, rows_of, IsPlaced, is_unended, slice_get_within}
+use Rattle.fork_tree.proofs.Common.{with_state, BranchState, State, Place, has_ended, plain_state, Cell, Entry, same, find, open_at, led, in_standing, changed, with_branch, path_of, row_at, rows_from, rows_of, IsPlaced, is_unended, slice_get_within}
 use Rattle.fork_tree.proofs.Common.{common_steps}
 use Rattle.fork_tree.proofs.BranchChanges.{find_past}
 
@@ -16,16 +16,16 @@ pub same_refl : (a : List ℕ) → same a a ≡ true
 same_refl [] = refl
 same_refl (x ∷ xs) = rw (eq-eqb x x refl) (same_refl xs)
 
-abbrev pub entered : Standing → Option Cell → Option Cell
+abbrev pub entered : BranchState → Option Cell → Option Cell
 entered s None = None
 entered s (Some c) = Some (in_standing s c)
 
-pub find_at : (root : List Entry) (p : List ℕ) (s : Standing) (b : List Entry) → find (with_branch root p s b) p ≡ entered s (find root p)
+pub find_at : (root : List Entry) (p : List ℕ) (s : BranchState) (b : List Entry) → find (with_branch root p s b) p ≡ entered s (find root p)
 find_at [] p s b = refl
 find_at (e ∷ es) p s b = grind (arith, find_at es p s b)
 
 -- where the path leads to none of the branches put below, it leads where it did
-pub find_else : (root : List Entry) (p q : List ℕ) (s : Standing) (b : List Entry) → (p ≡ q → ⊥) → find (map (led p) b) q ≡ None
+pub find_else : (root : List Entry) (p q : List ℕ) (s : BranchState) (b : List Entry) → (p ≡ q → ⊥) → find (map (led p) b) q ≡ None
     → find (with_branch root p s b) q ≡ find root q
 find_else [] p q s b h none = refl
 find_else (e ∷ es) p q s b h none =
@@ -46,10 +46,10 @@ IsElse all n b = (m : ℕ) → m < length all → (n ≡ m → ⊥) → find (ma
 pub paths_differ : (all : List Place) (root : List Entry) (n m : ℕ) → IsPlaced all root → n < length all → m < length all → (n ≡ m → ⊥) → path_of all n ≡ path_of all m → ⊥
 paths_differ all root n m placed ln lm h e = grind arith
 
-pub still_placed : (all : List Place) (root : List Entry) (n : ℕ) (s : Standing) (b : List Entry) → n < length all → IsPlaced all root → IsElse all n b → IsPlaced all (with_branch root (path_of all n) s b)
+pub still_placed : (all : List Place) (root : List Entry) (n : ℕ) (s : BranchState) (b : List Entry) → n < length all → IsPlaced all root → IsElse all n b → IsPlaced all (with_branch root (path_of all n) s b)
 still_placed all root n s b ln placed others m lm = grind (arith, find_at, find_else)
 
-rows_later : (all : List Place) (root : List Entry) (n k : ℕ) (ps : List Place) (s : Standing) (b : List Entry) → IsPlaced all root → IsElse all n b → n < length all → n < k → k + length ps ≤ length all
+rows_later : (all : List Place) (root : List Entry) (n k : ℕ) (ps : List Place) (s : BranchState) (b : List Entry) → IsPlaced all root → IsElse all n b → n < length all → n < k → k + length ps ≤ length all
     → rows_from all (with_branch root (path_of all n) s b) k ps ≡ rows_from all root k ps
 rows_later all root n k [] s b placed others ln lt le = refl
 rows_later all root n k (p ∷ ps) s b placed others ln lt le =
@@ -58,7 +58,7 @@ rows_later all root n k (p ∷ ps) s b placed others ln lt le =
     let rest : rows_from all (with_branch root (path_of all n) s b) (suc k) ps ≡ rows_from all root (suc k) ps = rows_later all root n (suc k) ps s b placed others ln (omega arith) (omega arith) in
     ap (λ c. row_at p c ∷ rows_from all (with_branch root (path_of all n) s b) (suc k) ps) here ∙ ap (λ r. row_at p (find root (path_of all k)) ∷ r) rest
 
-rows_with : (all : List Place) (root : List Entry) (n k i : ℕ) (ps : List Place) (s : Standing) (b : List Entry) → IsPlaced all root → IsElse all n b → n < length all → n ≡ k + i → k + length ps ≤ length all
+rows_with : (all : List Place) (root : List Entry) (n k i : ℕ) (ps : List Place) (s : BranchState) (b : List Entry) → IsPlaced all root → IsElse all n b → n < length all → n ≡ k + i → k + length ps ≤ length all
     → rows_from all (with_branch root (path_of all n) s b) k ps ≡ with_state (rows_from all root k ps) i (plain_state s.state)
 rows_with all root n k i [] s b placed others ln e le = refl
 rows_with all root n k zero (p ∷ ps) s b placed others ln e le = grind (arith, find_at, rows_later)
@@ -69,7 +69,7 @@ rows_with all root n k (suc i) (p ∷ ps) s b placed others ln e le =
     ap (λ c. row_at p c ∷ rows_from all (with_branch root (path_of all n) s b) (suc k) ps) here ∙ ap (λ r. row_at p (find root (path_of all k)) ∷ r) rest
 
 -- the whole
-pub one_row_changes : (all : List Place) (root : List Entry) (n : ℕ) (s : Standing) (b : List Entry) → IsPlaced all root → IsElse all n b → n < length all
+pub one_row_changes : (all : List Place) (root : List Entry) (n : ℕ) (s : BranchState) (b : List Entry) → IsPlaced all root → IsElse all n b → n < length all
     → rows_of all (with_branch root (path_of all n) s b) ≡ with_state (rows_of all root) n (plain_state s.state)
 one_row_changes all root n s b placed others ln = rows_with all root n 0 n all s b placed others ln (omega arith) (omega arith)
 

@@ -5,7 +5,7 @@ use Rattle.fork_tree.proofs.Closes.{kept_closed}
 use Rattle.fork_tree.proofs.ClosesAll.{closed_placed, closed_listed, closed_ranked}
 use Rattle.fork_tree.proofs.Placed.{one_row_changes}
 use Rattle.fork_tree.proofs.Ends.{tree_ended}
-use Rattle.fork_tree.proofs.Kept.{kept_none}
+use Rattle.fork_tree.proofs.RankedAnswer.{kept_none}
 
 pub tree_set : (rules : Rules) (all : List Place) (root new : List Entry) (t : Summary) (n : ℕ) (s : State) → IsTree rules all root t → n < length all → has_ended s ≡ false
     → Changes root new (path_of all n) (unanswered s) [] 1 → IsTree rules all new t

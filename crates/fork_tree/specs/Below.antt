@@ -3,7 +3,7 @@ use Rattle.std.specs.Prelude.{◌≡◌, ◌<◌, ◌≤◌, ◌+◌, ℕ, zero,
 use Rattle.fork_model.specs.Table.{Row, Rules, is_ended}
 use Rattle.fork_model.specs.Rank.{Score, Before}
 use Rattle.fork_model.specs.Choice.{HasScore}
-use Rattle.fork_tree.specs.declared.summary.Kept.{Kept}
+use Rattle.fork_tree.specs.declared.summary.RankedAnswer.{RankedAnswer}
 use Rattle.fork_tree.specs.declared.summary.BestRef.{BestRef}
 use Rattle.fork_tree.specs.Rows.{Entry}
 use Rattle.fork_tree.specs.Summary.{IsKept, best_of, open_of}
@@ -55,7 +55,7 @@ open_below rows n = open_where (lies_below rows n) 0 rows
 
 -- of these branches the stored answer that none of theirs ranks before
 abbrev pub IsBestOf : List Entry → Option BestRef → Type 0
-IsBestOf node b = (kept : Option Kept) × IsKept node kept × (best_of kept ≡ b)
+IsBestOf node b = (kept : Option RankedAnswer) × IsKept node kept × (best_of kept ≡ b)
 
 -- what a node's best and its count say of the rows
 pub record IsSubtree (t : Tree) (n : ℕ) (node : List Entry) : Type 0 where

@@ -3,7 +3,7 @@ use Rattle.std.specs.Prelude.{◌≡◌, ◌<◌, ◌≤◌, ℕ, List, [], ◌�
 use Rattle.fork_model.specs.Table.{Rules, most_targets}
 use Rattle.fork_model.specs.Rank.{rank_of}
 use Rattle.fork_tree.specs.declared.place.Place.{Place}
-use Rattle.fork_tree.specs.declared.summary.Kept.{Kept}
+use Rattle.fork_tree.specs.declared.summary.RankedAnswer.{RankedAnswer}
 use Rattle.fork_tree.specs.declared.summary.Summary.{Summary}
 use Rattle.fork_tree.specs.declared.row.State.{State}
 use Rattle.fork_tree.specs.declared.row.State.TheVariants.{Idle, Trying, Rung, Ended}
@@ -22,7 +22,7 @@ abbrev pub AreListed : List Place → List Entry → List Entry → Type 0
 AreListed all root [] = Unit {0}
 AreListed all root (e ∷ es) = IsAt all root e × AreListed all root es
 
-abbrev pub kept_end : Rules → ℕ → End → Option Kept
+abbrev pub kept_end : Rules → ℕ → End → Option RankedAnswer
 kept_end rules n (Stored status arrival received) = Some (record {
   best = record { no = n; status = status; arrival = arrival };
   rank = rank_of rules (record { status = status; arrival = arrival });
@@ -33,7 +33,7 @@ kept_end rules n Never = None
 kept_end rules n (Accepted arrival) = None
 
 -- the stored answer of row n in this state, with its rank
-abbrev pub kept_of : Rules → ℕ → State → Option Kept
+abbrev pub kept_of : Rules → ℕ → State → Option RankedAnswer
 kept_of rules n Idle = None
 kept_of rules n Trying = None
 kept_of rules n (Rung cancelled) = None

@@ -2,7 +2,7 @@
 use Rattle.std.specs.Prelude.{◌≡◌, ◌≤◌, ◌+◌, length, ◌==◌, ℕ, suc, Bool, false, not, List, [], ◌∷◌, Option, Some, None, if◌then◌else◌}
 use Rattle.fork_model.specs.Table.{Row, Idle, most_targets}
 use Rattle.fork_tree.specs.declared.new_row.NewRow.{NewRow}
-use Rattle.fork_tree.specs.declared.summary.Standing.{Standing}
+use Rattle.fork_tree.specs.declared.summary.BranchState.{BranchState}
 use Rattle.fork_tree.specs.declared.row.State.TheVariants as state
 use Rattle.fork_tree.specs.Rows.{Entry, unanswered}
 
@@ -35,7 +35,7 @@ abbrev pub waiting_row : Option ℕ → NewRow → Row
 waiting_row parent new_row =
     record { key = []; q = new_row.q; place = 0; parent = parent; group = new_row.group; state = Idle }
 
-abbrev pub idle : Standing
+abbrev pub idle : BranchState
 idle = unanswered state.Idle
 
 -- the same as branches, numbered from here on

@@ -15,7 +15,7 @@ ghost use Rattle.fork_tree.specs.NewRows.{differs, idle, new_entries, new_rows_o
 
 use crate::new_row::NewRow;
 use crate::row::State;
-use crate::summary::{Standing, Summary};
+use crate::summary::{BranchState, Summary};
 use std::alloc::{AllocError, Allocator, Global};
 use std::marker::Model;
 
@@ -25,7 +25,7 @@ use std::marker::Model;
 pub struct Node<A: Allocator = Global> {
     number: u16,
     q: u16,
-    standing: Standing,
+    standing: BranchState,
     below: Level<A>,
     pub(crate) summary: Summary,
 }
@@ -108,7 +108,7 @@ impl<A: Allocator> Node<A> {
         Node {
             number,
             q,
-            standing: Standing {
+            standing: BranchState {
                 state: State::Idle,
                 answer: None,
             },
@@ -169,7 +169,7 @@ impl<A: Allocator> Node<A> {
         ensures { Changes self.old self.new path.now (unanswered state) [] 1 }
     {
         if path.is_empty() {
-            self.standing = Standing {
+            self.standing = BranchState {
                 state,
                 answer: None,
             };
@@ -181,7 +181,7 @@ impl<A: Allocator> Node<A> {
     /// The branch at this path, which has not ended, comes into a standing in which it has, and these are put below
     /// it, of which so many have not ended.
     #[cycle(end)]
-    pub(crate) fn end(&mut self, path: &[u16], standing: Standing, below: Level<A>, opens: u16)
+    pub(crate) fn end(&mut self, path: &[u16], standing: BranchState, below: Level<A>, opens: u16)
         requires { MayEnd self.old path.now standing below opens }
         ensures { Changes self.old self.new path.now standing below opens }
     {
@@ -256,7 +256,7 @@ impl<A: Allocator> Level<A> {
 
     /// The branch at this path ends, as of a node.
     #[cycle(end)]
-    pub(crate) fn end(&mut self, path: &[u16], standing: Standing, below: Level<A>, opens: u16)
+    pub(crate) fn end(&mut self, path: &[u16], standing: BranchState, below: Level<A>, opens: u16)
         requires { MayEnd self.old path.now standing below opens }
         ensures { Changes self.old self.new path.now standing below opens }
     {
@@ -335,7 +335,7 @@ impl<A: Allocator> Group<A> {
 
     /// The branch at this path ends, as of a node.
     #[cycle(end)]
-    pub(crate) fn end(&mut self, path: &[u16], standing: Standing, below: Level<A>, opens: u16)
+    pub(crate) fn end(&mut self, path: &[u16], standing: BranchState, below: Level<A>, opens: u16)
         requires { MayEnd self.old path.now standing below opens }
         ensures { Changes self.old self.new path.now standing below opens }
     {

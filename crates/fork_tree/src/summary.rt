@@ -19,39 +19,39 @@ pub struct BestRef {
 
 /// A stored answer with its rank.
 #[derive(Clone, Copy, PartialEq, Eq, Debug)]
-pub(crate) struct Kept {
+pub(crate) struct RankedAnswer {
     pub(crate) best: BestRef,
     pub(crate) rank: Rank,
 }
 
 /// Where a branch is, and its stored answer.
 #[derive(Clone, Copy, PartialEq, Eq, Debug)]
-pub(crate) struct Standing {
+pub(crate) struct BranchState {
     pub(crate) state: State,
-    pub(crate) answer: Option<Kept>,
+    pub(crate) answer: Option<RankedAnswer>,
 }
 
 /// What is kept of some branches: the stored answer that none ranks before, and how many have not ended.
 #[derive(Clone, Copy, PartialEq, Eq, Debug)]
 pub(crate) struct Summary {
-    pub(crate) kept: Option<Kept>,
+    pub(crate) kept: Option<RankedAnswer>,
     pub(crate) open_count: u16,
 }
 
-impl Standing {
+impl BranchState {
     /// The standing of row n in this state.
-    pub(crate) fn of(n: u16, state: State, rules: &Rules) -> Standing
+    pub(crate) fn of(n: u16, state: State, rules: &Rules) -> BranchState
         ensures { result ≡ record { state = state; answer = kept_of rules.now n state } }
     {
         let answer = answer_in(n, &state, rules);
-        Standing { state, answer }
+        BranchState { state, answer }
     }
 
     /// The standing once nothing that waits is ever tried.
-    pub(crate) fn closed(self) -> Standing
+    pub(crate) fn closed(self) -> BranchState
         ensures { result ≡ closed_standing self }
     {
-        Standing {
+        BranchState {
             state: self.state.closed(),
             answer: self.answer,
         }
@@ -66,7 +66,7 @@ impl Standing {
 }
 
 /// The stored answer of row n in this state.
-fn answer_in(n: u16, state: &State, rules: &Rules) -> Option<Kept>
+fn answer_in(n: u16, state: &State, rules: &Rules) -> Option<RankedAnswer>
     ensures { result ≡ kept_of rules.now n state.now }
 {
     match *state {
@@ -75,7 +75,7 @@ fn answer_in(n: u16, state: &State, rules: &Rules) -> Option<Kept>
     }
 }
 
-fn answer_of_end(n: u16, end: End, rules: &Rules) -> Option<Kept>
+fn answer_of_end(n: u16, end: End, rules: &Rules) -> Option<RankedAnswer>
     ensures { result ≡ kept_end rules.now n end }
 {
     if let End::Stored {
@@ -84,7 +84,7 @@ fn answer_of_end(n: u16, end: End, rules: &Rules) -> Option<Kept>
         received: _,
     } = end
     {
-        Some(Kept {
+        Some(RankedAnswer {
             best: BestRef {
                 no: n,
                 status,
@@ -109,7 +109,7 @@ impl Summary {
     }
 
     /// After one branch that had not ended came into another standing, so many being open then in its place.
-    pub(crate) fn after(self, answer: Option<Kept>, opens: u16) -> Summary
+    pub(crate) fn after(self, answer: Option<RankedAnswer>, opens: u16) -> Summary
         requires some { 0 < self.open_count }
         requires fits { self.open_count + opens < 2 ^ 15 }
         ensures kept { Better self.kept answer result.kept }
@@ -133,7 +133,7 @@ impl Summary {
 }
 
 /// Of the answer kept so far and a newer one the one that goes first.
-fn better(kept: Option<Kept>, stored: Option<Kept>) -> Option<Kept>
+fn better(kept: Option<RankedAnswer>, stored: Option<RankedAnswer>) -> Option<RankedAnswer>
     ensures { Better kept stored result }
 {
     match (kept, stored) {
@@ -149,7 +149,7 @@ fn better(kept: Option<Kept>, stored: Option<Kept>) -> Option<Kept>
     }
 }
 
-fn goes_before(a: &Kept, b: &Kept) -> bool
+fn goes_before(a: &RankedAnswer, b: &RankedAnswer) -> bool
     ensures { IsTrue result ↔ RanksBefore a.now.rank b.now.rank }
 {
     before(&a.rank, &b.rank)

@@ -19,7 +19,7 @@ use crate::node::{Level, branches};
 use crate::place::{Place, Room, make_room, place_of, trace};
 use crate::row::{End, RowRef, State};
 use crate::subtree::node_of;
-use crate::summary::{BestRef, Standing, Summary};
+use crate::summary::{BestRef, BranchState, Summary};
 use fork_rank::Rules;
 use std::alloc::{AllocError, Allocator, Global};
 use std::marker::Model;
@@ -180,7 +180,7 @@ impl<A: Allocator> ForkTree<A> {
           rows = with_state self.old.rows n (plain_state (Ended end)) ++ map (waiting_row (Some n)) below.new_rows;
         } }
     {
-        let standing = Standing::of(n, State::Ended(end), &self.rules);
+        let standing = BranchState::of(n, State::Ended(end), &self.rules);
         let answer = standing.answer;
         let NewRows {
             level,

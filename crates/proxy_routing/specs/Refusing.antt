@@ -5,12 +5,12 @@ use Rattle.sip_uri.specs.declared.fault.UriFault.TheVariants as uris
 use Rattle.sip_uri.specs.declared.hop.Hop.{Hop}
 use Rattle.sip_via.specs.declared.own.Own.{Own}
 use Rattle.sip_route.specs.LoopTest.{IsLoop}
-use Rattle.proxy_routing.specs.declared.fault.OpenFault.{OpenFault}
-use Rattle.proxy_routing.specs.declared.fault.OpenFault.TheVariants.{BadRequest, Scheme, Hops, Loop, Extension, NoTarget, NoHop, NoMemory}
+use Rattle.proxy_routing.specs.declared.fault.RequestRejection.{RequestRejection}
+use Rattle.proxy_routing.specs.declared.fault.RequestRejection.TheVariants.{BadRequest, Scheme, Hops, Loop, Extension, NoTarget, NoHop, NoMemory}
 use Rattle.proxy_routing.specs.Admission.{IsPrepared, IsRoutable, is_at_its_end, is_well_formed, target_uri}
 
 -- what it answers (section 21)
-abbrev pub status_of_fault : OpenFault → Option ℕ
+abbrev pub status_of_fault : RequestRejection → Option ℕ
 status_of_fault BadRequest = Some 400
 status_of_fault Scheme = Some 416
 status_of_fault Hops = Some 483
@@ -21,7 +21,7 @@ status_of_fault NoHop = Some 500
 status_of_fault NoMemory = None
 
 -- the first of the first three steps that it fails
-abbrev pub IsUnroutable : MessageText → OpenFault → Type 0
+abbrev pub IsUnroutable : MessageText → RequestRejection → Type 0
 IsUnroutable m BadRequest = is_well_formed m ≡ false
 IsUnroutable m Scheme = (is_well_formed m ≡ true) × (target_uri m ≡ Err uris.NotSip)
 IsUnroutable m Hops = (is_well_formed m ≡ true) × (target_uri m ≢ Err uris.NotSip) × (is_at_its_end m ≡ true)
@@ -34,7 +34,7 @@ IsUnroutable m NoTarget = ⊥
 IsUnroutable m NoHop = ⊥
 
 -- the first of the first four that it fails
-abbrev pub IsTurnedAway : Own → MessageText → Hop → OpenFault → Type 0
+abbrev pub IsTurnedAway : Own → MessageText → Hop → RequestRejection → Type 0
 IsTurnedAway own m source BadRequest = IsUnroutable m BadRequest
 IsTurnedAway own m source Scheme = IsUnroutable m Scheme
 IsTurnedAway own m source Hops = IsUnroutable m Hops

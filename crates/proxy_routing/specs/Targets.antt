@@ -10,7 +10,7 @@ use Rattle.sip_uri.specs.Uri.{Uri}
 use Rattle.sip_via.specs.Address.{address_text}
 use Rattle.sip_route.specs.declared.route_values.FirstRoute.{FirstRoute}
 use Rattle.sip_route.specs.declared.route_values.FirstRoute.TheVariants.{Absent, NoHop, To}
-use Rattle.fork_setup.specs.Setup.{Location, Setup, locations_of}
+use Rattle.proxy_config.specs.Setup.{Location, Setup, locations_of}
 
 -- ---- by which hop (section 16.6 steps 6 and 7)
 

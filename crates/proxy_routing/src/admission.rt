@@ -8,7 +8,7 @@ ghost use Rattle.proxy_routing.specs.Refusing.{IsTurnedAway, IsUnroutable};
 ghost use Rattle.proxy_routing.specs.inner.Admission.{is_formed};
 
 use crate::checks::{is_formed, is_of_another_scheme, is_spent};
-use crate::fault::OpenFault;
+use crate::fault::RequestRejection;
 use sip_route::{hops_of, is_loop, request_uri, strip, stripping_keeps_the_rest};
 use sip_text::Message;
 use sip_uri::{Hop, uri_fault};
@@ -20,7 +20,7 @@ fn with_source<A: Allocator + Clone>(
     alloc: A,
     message: Message<A>,
     source: Hop,
-) -> Result<Message<A>, OpenFault>
+) -> Result<Message<A>, RequestRejection>
     requires formed { is_formed message ≡ true }
     ensures marked { IfOk result (λ with_source. marked message source ≡ Ok with_source) }
     ensures formed { IfOk result (λ _. is_well_formed message ≡ true) }
@@ -30,8 +30,8 @@ fn with_source<A: Allocator + Clone>(
     match mark(alloc, message, source) {
         Ok(with_source) => Ok(with_source),
         Err(unmarked) => match unmarked.fault {
-            ViaFault::BadVia => Err(OpenFault::BadRequest),
-            ViaFault::NoMemory => Err(OpenFault::NoMemory),
+            ViaFault::BadVia => Err(RequestRejection::BadRequest),
+            ViaFault::NoMemory => Err(RequestRejection::NoMemory),
         },
     }
 }
@@ -41,7 +41,7 @@ fn routable<A: Allocator + Clone>(
     alloc: A,
     message: Message<A>,
     source: Hop,
-) -> Result<Message<A>, OpenFault>
+) -> Result<Message<A>, RequestRejection>
     ensures marked { IfOk result (λ with_source. marked message source ≡ Ok with_source) }
     ensures well { IfOk result (λ _. IsRoutable message) }
     ensures hops { IfOk result (λ _. IfSome (first_value hops_name message.headers) IsHops) }
@@ -50,14 +50,14 @@ fn routable<A: Allocator + Clone>(
     let hops = hops_of(&message);
     let fault = uri_fault(request_uri(&message));
     if !is_formed(&message, hops, fault) {
-        return Err(OpenFault::BadRequest);
+        return Err(RequestRejection::BadRequest);
     }
     let marked = with_source(alloc, message, source)?;
     if is_of_another_scheme(fault) {
-        return Err(OpenFault::Scheme);
+        return Err(RequestRejection::Scheme);
     }
     if is_spent(hops) {
-        return Err(OpenFault::Hops);
+        return Err(RequestRejection::Hops);
     }
     Ok(marked)
 }
@@ -68,7 +68,7 @@ fn prepared<A: Allocator + Clone>(
     own: Own,
     message: Message<A>,
     source: Hop,
-) -> Result<Message<A>, OpenFault>
+) -> Result<Message<A>, RequestRejection>
     ensures routable { IfOk result (λ _. IsRoutable message) }
     ensures prepared { IfOk result (IsPrepared own message source) }
     ensures start { IfOk result (λ request. request.start ≡ message.start) }
@@ -87,12 +87,12 @@ fn prepared<A: Allocator + Clone>(
 /// # Errors
 ///
 /// The first that holds of: `BadRequest`, `Scheme`, `Hops`, `Loop`; and `NoMemory` wherever the allocator refuses.
-pub fn admit<A: Allocator + Clone>(
+pub fn validate_request<A: Allocator + Clone>(
     alloc: A,
     own: Own,
     message: Message<A>,
     source: Hop,
-) -> Result<Message<A>, OpenFault>
+) -> Result<Message<A>, RequestRejection>
     ensures admitted { IfOk result (IsAdmitted own message source) }
     ensures start { IfOk result (λ request. request.start ≡ message.start) }
     ensures hops { IfOk result (λ request. IfSome (first_value hops_name request.headers) IsHops) }
@@ -100,7 +100,7 @@ pub fn admit<A: Allocator + Clone>(
 {
     let request = prepared(alloc, own, message, source)?;
     if is_loop(&request, own) {
-        return Err(OpenFault::Loop);
+        return Err(RequestRejection::Loop);
     }
     Ok(request)
 }

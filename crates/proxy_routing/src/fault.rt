@@ -7,7 +7,7 @@ use thiserror::Error;
 
 /// Why a call is not opened, in the order in which the causes are looked for.
 #[derive(Clone, Copy, PartialEq, Eq, Debug, Error)]
-pub enum OpenFault {
+pub enum RequestRejection {
     /// The request cannot be routed as it stands (RFC 3261 section 16.3 step 1): 400.
     #[error("the request cannot be routed as it stands")]
     BadRequest,
@@ -34,30 +34,30 @@ pub enum OpenFault {
     NoMemory,
 }
 
-impl OpenFault {
+impl RequestRejection {
     /// The status that the request is answered with (RFC 3261 section 21); None for want of memory.
     pub fn status(self) -> Option<u16>
         ensures { result ≡ status_of_fault self }
     {
         match self {
-            OpenFault::BadRequest => Some(400),
-            OpenFault::Scheme => Some(416),
-            OpenFault::Hops => Some(483),
-            OpenFault::Loop => Some(482),
-            OpenFault::Extension => Some(420),
-            OpenFault::NoTarget => Some(480),
-            OpenFault::NoHop => Some(500),
-            OpenFault::NoMemory => None,
+            RequestRejection::BadRequest => Some(400),
+            RequestRejection::Scheme => Some(416),
+            RequestRejection::Hops => Some(483),
+            RequestRejection::Loop => Some(482),
+            RequestRejection::Extension => Some(420),
+            RequestRejection::NoTarget => Some(480),
+            RequestRejection::NoHop => Some(500),
+            RequestRejection::NoMemory => None,
         }
     }
 }
 
-impl From<AllocError> for OpenFault {
-    ghost use Rattle.proxy_routing.specs.declared.fault.OpenFault.TheVariants as faults;
+impl From<AllocError> for RequestRejection {
+    ghost use Rattle.proxy_routing.specs.declared.fault.RequestRejection.TheVariants as faults;
 
     ghost from_gives = { λ _ e. e ≡ faults.NoMemory };
 
-    fn from(_e: AllocError) -> OpenFault {
-        OpenFault::NoMemory
+    fn from(_e: AllocError) -> RequestRejection {
+        RequestRejection::NoMemory
     }
 }

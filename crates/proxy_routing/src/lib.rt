@@ -10,7 +10,7 @@ mod checks;
 mod fault;
 mod targets;
 
-pub use admission::admit;
+pub use admission::validate_request;
 pub use checks::asks_extension;
-pub use fault::OpenFault;
+pub use fault::RequestRejection;
 pub use targets::{Choice, choices, have_hops, hop_by, hop_if_any, is_domain, targets_of};

@@ -4,11 +4,11 @@ ghost use Rattle.std.specs.List.{list_all};
 ghost use Rattle.std.specs.Option.{option_copied};
 ghost use Rattle.sip_via.specs.Address.{address_text, dotted};
 ghost use Rattle.fork_text.specs.Field.{most_q};
-ghost use Rattle.fork_setup.specs.Setup.{locations_of};
+ghost use Rattle.proxy_config.specs.Setup.{locations_of};
 ghost use Rattle.proxy_routing.specs.Targets.{choice_at, choices_by, choices_of, has_hop, hop_by, hop_if_any, is_domain, target_of, targets_of};
 
 use fork_context::Target;
-use fork_setup::{Location, Setup};
+use proxy_config::{Location, Setup};
 use sip_lex::append_decimal;
 use sip_route::FirstRoute;
 use sip_uri::{Hop, SipUri};

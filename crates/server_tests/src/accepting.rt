@@ -2,14 +2,14 @@
 //! each target that still rings gets its CANCEL (RFC 3261 section 16.7 steps 5 and 10). And a request that comes before two threads
 //! at the same time opens one call, which the other thread's request is for (section 17.2.3).
 ghost use denote.Param.Send.{IsSync};
-ghost use Rattle.server_tests.specs.contracts.accepting.Desk.{the_row as desk_row};
+ghost use Rattle.server_tests.specs.contracts.accepting.KeyTable.{the_row as desk_row};
 ghost use Rattle.std.specs.Prelude.{◌≡◌};
 
 use crate::holds::holds;
+use call_table::Shelf;
 use fork_call::{Call, Cause, Datagram, Port, Setup, carry};
 use fork_context::State;
-use fork_dispatch::{Handled, handle};
-use fork_shelf::Shelf;
+use proxy_dispatch::{Handled, handle};
 use sip_uri::Hop;
 use std::alloc::{Allocator, Global};
 use std::process::Abort;
@@ -147,7 +147,7 @@ impl Port for Tally {
 
 /// Carries a call, and says whether that was not refused memory.
 fn is_carried<R: Abort>(rt: &R, call: &mut Call<Global>, tally: &mut Tally) -> bool
-    ensures { call.new.fixed.number ≡ call.old.fixed.number }
+    ensures { call.new.opened.number ≡ call.old.opened.number }
 {
     let number = call.number();
     let carried = carry(call, tally, 0);
@@ -180,13 +180,13 @@ trait Taking {
 
 /// Calls, and what they are set up by.
 #[derive(Drop)]
-struct Desk {
+struct KeyTable {
     alloc: Global,
     calls: Shelf<Call<Global>>,
     setup: Setup<Global>,
 }
 
-impl Taking for Desk {
+impl Taking for KeyTable {
     fn takes<R: Abort + Wait>(&self, rt: &R, text: &[u8], tally: &mut Tally) -> bool {
         match handle(
             rt,
@@ -199,7 +199,7 @@ impl Taking for Desk {
             0,
             tally,
         ) {
-            Ok(Handled::Opened(number) | Handled::Fed(number)) => {
+            Ok(Handled::Opened(number) | Handled::Delivered(number)) => {
                 self.calls
                     .with(rt, number, |call| is_carried(rt, call, tally))
                     == Some(true)
@@ -209,7 +209,7 @@ impl Taking for Desk {
     }
 }
 
-impl Desk {
+impl KeyTable {
     /// Whether each branch of the first call has ended.
     fn has_ended<R: Wait>(&self, rt: &R) -> bool {
         self.calls.with(rt, 0, |call| have_ended(call)) == Some(true)
@@ -229,7 +229,13 @@ fn answer_of(alloc: Global, start: &[u8], n: u16) -> Option<Vec<u8>> {
 }
 
 /// Whether that target's answer is taken.
-fn answers<R: Abort + Wait>(rt: &R, desk: &Desk, start: &[u8], n: u16, tally: &mut Tally) -> bool {
+fn answers<R: Abort + Wait>(
+    rt: &R,
+    desk: &KeyTable,
+    start: &[u8],
+    n: u16,
+    tally: &mut Tally,
+) -> bool {
     match answer_of(desk.alloc, start, n) {
         Some(text) => desk.takes(rt, &text, tally),
         None => false,
@@ -237,8 +243,8 @@ fn answers<R: Abort + Wait>(rt: &R, desk: &Desk, start: &[u8], n: u16, tally: &m
 }
 
 /// A desk with no call.
-fn idle(alloc: Global) -> Option<Desk> {
-    Some(Desk {
+fn idle(alloc: Global) -> Option<KeyTable> {
+    Some(KeyTable {
         alloc,
         calls: Shelf::new(alloc).ok()?,
         setup: Setup::read(alloc, SETUP).ok()?,
@@ -246,7 +252,7 @@ fn idle(alloc: Global) -> Option<Desk> {
 }
 
 /// A desk with one call, whose four targets ring. None of them was cancelled.
-fn ringing<R: Abort + Wait>(rt: &R, alloc: Global) -> Option<Desk> {
+fn ringing<R: Abort + Wait>(rt: &R, alloc: Global) -> Option<KeyTable> {
     let desk = idle(alloc)?;
     let mut tally = Tally::new();
     let mut well = desk.takes(rt, INVITE, &mut tally);
@@ -308,7 +314,7 @@ fn is_shared<T: Sync>(_: &T)
 {}
 
 /// That threads may share a desk.
-fn desk_is_shared(desk: &Desk)
+fn desk_is_shared(desk: &KeyTable)
     ensures { IsSync desk_row }
 {
     is_shared(desk);
@@ -331,7 +337,7 @@ fn is_right(one: &Tally, other: &Tally, pair: (u16, u16)) -> bool {
 }
 
 /// Whether the branches of the other targets end as these answer the CANCEL, and none is left.
-fn end<R: Abort + Wait>(rt: &R, desk: &Desk, pair: (u16, u16)) -> bool {
+fn end<R: Abort + Wait>(rt: &R, desk: &KeyTable, pair: (u16, u16)) -> bool {
     let mut tally = Tally::new();
     let mut well = !desk.has_ended(rt);
     for n in 0..TARGETS {

@@ -1,7 +1,7 @@
 //! Jobs reach a worker that sleeps, in order, and a full inbox hands them back.
 use crate::holds::holds;
-use fork_server::{Job, JobReceiver, JobSender, Waker};
-use fork_shelf::{Inbox, MOST_JOBS};
+use call_table::{Inbox, MOST_JOBS};
+use proxy_server::{Job, JobReceiver, JobSender, Waker};
 use std::alloc::Global;
 use std::sync::Wait;
 use std::test::Fail;

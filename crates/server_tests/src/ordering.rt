@@ -2,8 +2,8 @@
 //! declines at once. One socket of this process is the caller and all targets.
 use crate::holds::holds;
 use crate::printed::Printed;
-use fork_server::{call_id, serve_to};
 use log::Log;
+use proxy_server::{call_id, serve_to};
 use sip_lex::cut_at;
 use std::alloc::{AllocError, Global};
 use std::net::{Ipv4Addr, Net, SocketAddr, SocketAddrV4, UdpSocket};

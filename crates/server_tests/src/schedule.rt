@@ -1,6 +1,6 @@
 //! A schedule gives each number that is due, once.
 use crate::holds::holds;
-use fork_server::Schedule;
+use proxy_server::Schedule;
 use std::alloc::Global;
 use std::sync::Wait;
 use std::test::Fail;

@@ -2,7 +2,7 @@
 ghost use Rattle.std.specs.Prelude.{◌≡◌};
 
 use crate::holds::holds;
-use fork_shelf::{Numbered, Shelf, ShelfFault};
+use call_table::{Numbered, Shelf, ShelfFault};
 use std::sync::Wait;
 use std::test::Fail;
 

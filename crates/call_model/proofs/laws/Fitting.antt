@@ -1,6 +1,6 @@
 -- The events that a call posts by itself fit its table.
-use Rattle.call_model.proofs.Common.{◌≡◌, ◌∙◌, ℕ, ap, refl, true, false, Bool, Option, Some, None, slice_get, is_some, and_from, and_parts, cond, not, ◌&&◌, TimerC, Event, Ended, Idle, Kind, Row, Rung, State, Trying, is_invite, is_row, is_open, table_of, Call, leg_at}
-use Rattle.call_model.proofs.Common.{row_passes, FireTimerC, GiveUp, is_due_at, Leg, IsSound, is_timeout, is_fault, client_out}
+use Rattle.call_model.proofs.Common.{◌≡◌, ◌∙◌, ℕ, ap, refl, true, false, Bool, Option, Some, None, slice_get, is_some, and_from, and_parts, cond, not, ◌&&◌, TimerC, Event, Ended, Idle, Kind, Row, Rung, State, Trying, is_invite, is_row, is_open, table_of, Call, nth_branch}
+use Rattle.call_model.proofs.Common.{row_passes, FireTimerC, GiveUp, is_due_at, Branch, IsSound, is_timeout, is_fault, client_out}
 use Rattle.fork_model.specs.Event as fork
 use Rattle.fork_model.specs.Log.{core_of}
 use Rattle.fork_model.specs.OpenBranches.{FittingEventsAreTaken, fits, is_pending}
@@ -10,7 +10,7 @@ use Rattle.sip_txn.specs.Timers.{is_due}
 use Rattle.call_model.specs.Call.{is_sent, rows_of, runs_timer_c}
 use Rattle.call_model.specs.Due.{give_up_at, timer_c_at}
 use Rattle.call_model.specs.Fitting.{CancelsAreTaken, FaultsAreTaken, GivingsUpAreTaken, IsTaken, TimeoutsAreTaken, TimerCsAreTaken}
-use Rattle.call_model.specs.Fixed as fixed
+use Rattle.call_model.specs.OpenedRequest as opened
 use Rattle.call_model.specs.Take.{cancels}
 use Rattle.call_model.proofs.laws.Waiting as waiting
 
@@ -20,16 +20,16 @@ some_of : (now : ℕ) (at : Option ℕ) → is_due now at ≡ true → is_some a
 some_of now None e = absurd cc
 some_of now (Some at) e = refl
 
-part_of : (call : Call) (n now : ℕ) (o : Option Leg) → leg_at call n ≡ o → is_due now (timer_c_at o) ≡ true
-    → (leg : Leg) × (leg_at call n ≡ Some leg) × (is_some leg.timer_c_at ≡ true)
+part_of : (call : Call) (n now : ℕ) (o : Option Branch) → nth_branch call n ≡ o → is_due now (timer_c_at o) ≡ true
+    → (branch : Branch) × (nth_branch call n ≡ Some branch) × (is_some branch.timer_c_at ≡ true)
 part_of call n now None h e = absurd cc
-part_of call n now (Some leg) h e = (leg, h, some_of now leg.timer_c_at e)
+part_of call n now (Some branch) h e = (branch, h, some_of now branch.timer_c_at e)
 
 fired_of : (call : Call) (n now : ℕ) → is_due_at call now (FireTimerC n) ≡ true
-    → (row_passes runs_timer_c call n ≡ true) × (leg : Leg) × (leg_at call n ≡ Some leg) × (is_some leg.timer_c_at ≡ true)
+    → (row_passes runs_timer_c call n ≡ true) × (branch : Branch) × (nth_branch call n ≡ Some branch) × (is_some branch.timer_c_at ≡ true)
 fired_of call n now e =
-    let both = and_parts (row_passes runs_timer_c call n) (is_due now (timer_c_at (leg_at call n))) e in
-    let part = part_of call n now (leg_at call n) refl both.1 in
+    let both = and_parts (row_passes runs_timer_c call n) (is_due now (timer_c_at (nth_branch call n))) e in
+    let part = part_of call n now (nth_branch call n) refl both.1 in
     (both.0, part.0, part.1, part.2)
 
 pub fired_is_sent : (call : Call) (n now : ℕ) → is_due_at call now (FireTimerC n) ≡ true → is_sent call n ≡ true
@@ -51,23 +51,23 @@ pub fired_fits : (call : Call) (n now : ℕ) → is_due_at call now (FireTimerC 
 fired_fits call n now e sound =
     let f = fired_of call n now e in
     and_from (is_invite (table_of call.log).kind) (is_row is_pending (slice_get (rows_of call) n))
-    ((sound.legs n f.1 f.2).timer_c f.3) (pending_row (slice_get (rows_of call) n) f.0)
+    ((sound.branches n f.1 f.2).timer_c f.3) (pending_row (slice_get (rows_of call) n) f.0)
 
 -- ---- a branch whose transaction ends is open
 
-pub timeout_fits : (call : Call) (n now : ℕ) (leg : Leg) → IsSound call → leg_at call n ≡ Some leg → is_timeout (client_out event.Tick now leg.client).pass ≡ true
+pub timeout_fits : (call : Call) (n now : ℕ) (branch : Branch) → IsSound call → nth_branch call n ≡ Some branch → is_timeout (client_out event.Tick now branch.client).pass ≡ true
     → row_passes is_open call n ≡ true
-timeout_fits call n now leg sound there e = (sound.legs n leg there).open_yet (waiting.timed_out event.Tick now leg.client e).0
+timeout_fits call n now branch sound there e = (sound.branches n branch there).open_yet (waiting.timed_out event.Tick now branch.client e).0
 
-pub fault_fits : (call : Call) (n now : ℕ) (leg : Leg) → IsSound call → leg_at call n ≡ Some leg → is_fault (client_out event.TransportError now leg.client).pass ≡ true
+pub fault_fits : (call : Call) (n now : ℕ) (branch : Branch) → IsSound call → nth_branch call n ≡ Some branch → is_fault (client_out event.TransportError now branch.client).pass ≡ true
     → row_passes is_open call n ≡ true
-fault_fits call n now leg sound there e = (sound.legs n leg there).open_yet (waiting.faulted event.TransportError now leg.client e).0
+fault_fits call n now branch sound there e = (sound.branches n branch there).open_yet (waiting.faulted event.TransportError now branch.client e).0
 
 -- ---- the caller's CANCEL
 
 -- an INVITE is one by its table, too
-pub kind_is : (call : Call) → IsSound call → is_invite (table_of call.log).kind ≡ fixed.is_invite call.fixed
-kind_is call sound = ap is_invite sound.kind ∙ by (fixed.is_invite call.fixed)
+pub kind_is : (call : Call) → IsSound call → is_invite (table_of call.log).kind ≡ opened.is_invite call.opened
+kind_is call sound = ap is_invite sound.kind ∙ by (opened.is_invite call.opened)
   where
     by : (b : Bool) → is_invite (cond {A = Kind} b table.Invite table.Other) ≡ b
     by true = refl
@@ -83,16 +83,16 @@ module _ (taken : FittingEventsAreTaken) where
   is_taken call ev e = record { changes = e; room = taken (core_of call.log) ev e }
 
   pub timeouts : TimeoutsAreTaken
-  timeouts call n now leg sound there e = is_taken call (fork.Timeout n) (timeout_fits call n now leg sound there e)
+  timeouts call n now branch sound there e = is_taken call (fork.Timeout n) (timeout_fits call n now branch sound there e)
 
   pub faults : FaultsAreTaken
-  faults call n now leg sound there e = is_taken call (fork.Fault n) (fault_fits call n now leg sound there e)
+  faults call n now branch sound there e = is_taken call (fork.Fault n) (fault_fits call n now branch sound there e)
 
   pub timer_cs : TimerCsAreTaken
   timer_cs call n now sound e = is_taken call (fork.TimerC n) (fired_fits call n now e sound)
 
   pub givings_up : GivingsUpAreTaken
-  givings_up call n now e = is_taken call (fork.GiveUp n) (and_parts (row_passes table.is_cancelled call n) (is_due now (give_up_at (leg_at call n))) e).0
+  givings_up call n now e = is_taken call (fork.GiveUp n) (and_parts (row_passes table.is_cancelled call n) (is_due now (give_up_at (nth_branch call n))) e).0
 
   pub cancellings : CancelsAreTaken
   cancellings call sound e = is_taken call fork.Cancel (cancel_fits call sound e)

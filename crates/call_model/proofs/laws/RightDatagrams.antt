@@ -1,6 +1,6 @@
 -- Each datagram to a branch is what its cause says.
-use Rattle.call_model.proofs.Common.{◌≡◌, ◌∙◌, ℕ, refl, sym, subst, true, false, Bool, List, [], ◌∷◌, Option, Some, None, slice_get, IfSome, MessageText, spelling, Way, Leg, Owed, Passed, Final, Again, CancelOk, Call, leg_at, Datagram, Cause}
-use Rattle.call_model.proofs.Common.{answer_of, cancel_to, request_to, IsBuilt, IsBuiltLeg, Deed, SendRequest, SendCancel, SendAck, SendAnswer, TickServer, TickClient, TickCancel, FireTimerC, GiveUp, Send, sent_if, Does, SendsAnswer, AnswersBy, Pumps}
+use Rattle.call_model.proofs.Common.{◌≡◌, ◌∙◌, ℕ, refl, sym, subst, true, false, Bool, List, [], ◌∷◌, Option, Some, None, slice_get, IfSome, MessageText, spelling, Destination, Branch, Owed, Passed, Final, Again, CancelOk, Call, nth_branch, Datagram, Cause}
+use Rattle.call_model.proofs.Common.{answer_of, cancel_to, request_to, IsBuilt, IsBuiltBranch, Action, SendRequest, SendCancel, SendAck, SendAnswer, TickServer, TickClient, TickCancel, FireTimerC, GiveUp, Send, sent_if, Does, SendsAnswer, AnswersBy, Pumps}
 use Rattle.call_model.proofs.Common.{AnswersWith, TicksClientBy, FiresTimerC}
 use Rattle.call_model.specs.declared.cause.Cause.TheVariants as cause
 use Rattle.call_model.specs.Server.{Trying}
@@ -8,8 +8,8 @@ use Rattle.call_model.specs.Datagrams.{ToBranch}
 
 -- the request to a branch and its CANCEL are as they are made, and go to the branch's hop; of any other cause nothing is said
 abbrev pub IsRight : Call → Datagram → Cause → Type 0
-IsRight call d (cause.Request n) = ToBranch call n d (λ way. d.bytes ≡ spelling (request_to call.fixed way n))
-IsRight call d (cause.Cancel n) = ToBranch call n d (λ way. d.bytes ≡ spelling (cancel_to call.fixed way n))
+IsRight call d (cause.Request n) = ToBranch call n d (λ destination. d.bytes ≡ spelling (request_to call.opened destination n))
+IsRight call d (cause.Cancel n) = ToBranch call n d (λ destination. d.bytes ≡ spelling (cancel_to call.opened destination n))
 IsRight call d (cause.Ack n) = Unit {0}
 IsRight call d cause.Answer = Unit {0}
 IsRight call d cause.CancelOk = Unit {0}
@@ -25,12 +25,12 @@ sent_same false d e h = absurd cc
 right_as : (call : Call) (d e : Datagram) → d ≡ e → IsRight call e e.cause → IsRight call d d.cause
 right_as call d e same h = let P : Datagram → Type 0 = λ x. IsRight call x x.cause in subst P (sym same) h
 
--- the part of a branch that was sent to, by its way
-pub built_by : (call : Call) (n : ℕ) (way : Way) (leg : Leg) → IsBuilt call → slice_get call.ways n ≡ Some way → leg_at call n ≡ Some leg → IsBuiltLeg call n way leg
-built_by call n way leg built goes there =
-    let found = built.legs n leg there in
-    let same : found.0 ≡ way = let e : Some found.0 ≡ Some way = sym found.1 ∙ goes in cc in
-    let P : Way → Type 0 = λ w. IsBuiltLeg call n w leg in
+-- the part of a branch that was sent to, by its destination
+pub built_by : (call : Call) (n : ℕ) (destination : Destination) (branch : Branch) → IsBuilt call → slice_get call.destinations n ≡ Some destination → nth_branch call n ≡ Some branch → IsBuiltBranch call n destination branch
+built_by call n destination branch built goes there =
+    let found = built.branches n branch there in
+    let same : found.0 ≡ destination = let e : Some found.0 ≡ Some destination = sym found.1 ∙ goes in cc in
+    let P : Destination → Type 0 = λ w. IsBuiltBranch call n w branch in
     subst P same found.2
 
 pub some_as : {A : Type 0} (P : A → Type 0) (o : Option A) (x : A) → o ≡ Some x → IfSome o P → P x
@@ -52,26 +52,26 @@ paid call now d new (Trying ∷ rest) step = answered_with call now d new rest (
 paid call now d new (Passed m ∷ rest) step = answered_with call now d new rest (answer_of call (Passed m)) step
 paid call now d new (Final choice ∷ rest) step = answered_with call now d new rest (answer_of call (Final choice)) step
 
-ticked : (call : Call) (now n : ℕ) (way : Way) (leg : Leg) (b : Bool) (d : Datagram) (new : Call) → IsBuiltLeg call n way leg → slice_get call.ways n ≡ Some way
-    → TicksClientBy call now n way leg b (Send d) new → IsRight call d d.cause
-ticked call now n way leg true d new built goes step = absurd (let e = step.0 in cc)
-ticked call now n way leg false d new built goes step = right_as call d _ (sent_same _ d _ step.0) (way, goes, refl, built.request)
+ticked : (call : Call) (now n : ℕ) (destination : Destination) (branch : Branch) (b : Bool) (d : Datagram) (new : Call) → IsBuiltBranch call n destination branch → slice_get call.destinations n ≡ Some destination
+    → TicksClientBy call now n destination branch b (Send d) new → IsRight call d d.cause
+ticked call now n destination branch true d new built goes step = absurd (let e = step.0 in cc)
+ticked call now n destination branch false d new built goes step = right_as call d _ (sent_same _ d _ step.0) (destination, goes, refl, built.request)
 
-fired : (call : Call) (now n : ℕ) (leg : Leg) (b : Bool) (d : Datagram) (new : Call) → FiresTimerC call now n leg b (Send d) new → IsRight call d d.cause
-fired call now n leg true d new step = absurd (let e = step.0 in cc)
-fired call now n leg false d new step = absurd (let e = step.0 in cc)
+fired : (call : Call) (now n : ℕ) (branch : Branch) (b : Bool) (d : Datagram) (new : Call) → FiresTimerC call now n branch b (Send d) new → IsRight call d d.cause
+fired call now n branch true d new step = absurd (let e = step.0 in cc)
+fired call now n branch false d new step = absurd (let e = step.0 in cc)
 
-done : (call : Call) (now : ℕ) (deed : Deed) (d : Datagram) (new : Call) → IsBuilt call → Does call now deed (Send d) new → IsRight call d d.cause
-done call now (SendRequest n) d new built (way, goes, step) = right_as call d _ (the_same d _ step.0) (way, goes, refl, refl)
-done call now (SendCancel n) d new built (way, leg, goes, there, step) = right_as call d _ (the_same d _ step.0) (way, goes, refl, refl)
-done call now (SendAck n) d new built (way, leg, goes, there, (ack, owed, sent, follows)) = right_as call d _ (the_same d _ sent) tt
+done : (call : Call) (now : ℕ) (action : Action) (d : Datagram) (new : Call) → IsBuilt call → Does call now action (Send d) new → IsRight call d d.cause
+done call now (SendRequest n) d new built (destination, goes, step) = right_as call d _ (the_same d _ step.0) (destination, goes, refl, refl)
+done call now (SendCancel n) d new built (destination, branch, goes, there, step) = right_as call d _ (the_same d _ step.0) (destination, goes, refl, refl)
+done call now (SendAck n) d new built (destination, branch, goes, there, (ack, owed, sent, follows)) = right_as call d _ (the_same d _ sent) tt
 done call now SendAnswer d new built step = paid call now d new call.server.owed step
 done call now TickServer d new built step = right_as call d _ (sent_same _ d _ step.0) tt
-done call now (TickClient n) d new built (way, leg, goes, there, step) = ticked call now n way leg _ d new (built_by call n way leg built goes there) goes step
-done call now (TickCancel n) d new built (way, leg, goes, there, (cancelling, is, sent, follows)) =
-    right_as call d _ (sent_same _ d _ sent) (way, goes, refl, some_as _ leg.cancelling cancelling is (built_by call n way leg built goes there).cancel)
-done call now (FireTimerC n) d new built (leg, there, step) = fired call now n leg _ d new step
-done call now (GiveUp n) d new built (leg, there, step) = absurd (let e = step.0 in cc)
+done call now (TickClient n) d new built (destination, branch, goes, there, step) = ticked call now n destination branch _ d new (built_by call n destination branch built goes there) goes step
+done call now (TickCancel n) d new built (destination, branch, goes, there, (cancelling, is, sent, follows)) =
+    right_as call d _ (sent_same _ d _ sent) (destination, goes, refl, some_as _ branch.cancelling cancelling is (built_by call n destination branch built goes there).cancel)
+done call now (FireTimerC n) d new built (branch, there, step) = fired call now n branch _ d new step
+done call now (GiveUp n) d new built (branch, there, step) = absurd (let e = step.0 in cc)
 
 pub datagrams_right : (now : ℕ) (call new : Call) (d : Datagram) → IsBuilt call → Pumps call now (Send d) new → IsRight call d d.cause
-datagrams_right now call new d built (deed, due, step) = done call now deed d new built step
+datagrams_right now call new d built (action, due, step) = done call now action d new built step

@@ -1,5 +1,5 @@
 -- A transaction that waits for a final response has waited before, and it is such a one that times out or fails.
-use Rattle.call_model.proofs.Common.{◌≡◌, ◌∙◌, ℕ, Bool, true, false, Option, Some, None, refl, ap, sym, subst, ◌&&◌, ◌||◌, not, and_parts, TxEvent, Machine, InviteClientState, OtherClientState, row_out, invite_client, other_client, Client}
+use Rattle.call_model.proofs.Common.{◌≡◌, ◌∙◌, ℕ, Bool, true, false, Option, Some, None, refl, ap, sym, subst, ◌&&◌, ◌||◌, not, and_parts, TxEvent, Machine, InviteClientState, OtherClientState, row_out, invite_client, other_client, ClientTransaction}
 use Rattle.call_model.proofs.Common.{InviteClient, OtherClient, client_after, client_out, is_timeout, is_fault, awaits, invite_awaits, other_awaits}
 use Rattle.sip_txn.specs.declared.event.TxEvent.TheVariants as event
 use Rattle.sip_txn.specs.declared.event.TxPass.{TxPass}
@@ -74,11 +74,11 @@ state_is None now m = refl
 state_is (Some r) now m = refl
 
 -- the input that an event is to a transaction
-abbrev input_to : TxEvent → ℕ → Client → Input
+abbrev input_to : TxEvent → ℕ → ClientTransaction → Input
 input_to ev now (InviteClient m) = input_of ev now m.timers
 input_to ev now (OtherClient m) = input_of ev now m.timers
 
-well : (ev : TxEvent) (now : ℕ) (c : Client) → goes_well (awaits c) (awaits (client_after ev now c)) (client_out ev now c).pass (input_to ev now c) ≡ true
+well : (ev : TxEvent) (now : ℕ) (c : ClientTransaction) → goes_well (awaits c) (awaits (client_after ev now c)) (client_out ev now c).pass (input_to ev now c) ≡ true
 well ev now (InviteClient m) =
     let i = input_of ev now m.timers in
     let P : InviteClientState → Type 0 = λ s. goes_well (invite_awaits m.state) (invite_awaits s) (row_out (invite_client m.state i)).pass i ≡ true in
@@ -98,35 +98,35 @@ false_of : (a : Bool) → not a ≡ true → a ≡ false
 false_of true h = absurd cc
 false_of false h = refl
 
-pub waited : (ev : TxEvent) (now : ℕ) (c : Client) → awaits (client_after ev now c) ≡ true → awaits c ≡ true
+pub waited : (ev : TxEvent) (now : ℕ) (c : ClientTransaction) → awaits (client_after ev now c) ≡ true → awaits c ≡ true
 waited ev now c e = or_true (awaits (client_after ev now c)) (awaits c) (and_parts _ _ (well ev now c)).0 e
 
-handed : (ev : TxEvent) (now : ℕ) (c : Client) → hands_up (client_out ev now c).pass ≡ true → (awaits c ≡ true) × (awaits (client_after ev now c) ≡ false)
+handed : (ev : TxEvent) (now : ℕ) (c : ClientTransaction) → hands_up (client_out ev now c).pass ≡ true → (awaits c ≡ true) × (awaits (client_after ev now c) ≡ false)
 handed ev now c e =
     let both = and_parts _ _ (or_true (hands_up (client_out ev now c).pass) (awaits c && not (awaits (client_after ev now c))) (and_parts _ _ (and_parts _ _ (well ev now c)).1).0 e) in
     (both.0, false_of _ both.1)
 
-pub timed_out : (ev : TxEvent) (now : ℕ) (c : Client) → is_timeout (client_out ev now c).pass ≡ true → (awaits c ≡ true) × (awaits (client_after ev now c) ≡ false)
+pub timed_out : (ev : TxEvent) (now : ℕ) (c : ClientTransaction) → is_timeout (client_out ev now c).pass ≡ true → (awaits c ≡ true) × (awaits (client_after ev now c) ≡ false)
 timed_out ev now c e = handed ev now c (ap (λ (b : Bool). b || is_fault (client_out ev now c).pass) e)
 
-pub faulted : (ev : TxEvent) (now : ℕ) (c : Client) → is_fault (client_out ev now c).pass ≡ true → (awaits c ≡ true) × (awaits (client_after ev now c) ≡ false)
+pub faulted : (ev : TxEvent) (now : ℕ) (c : ClientTransaction) → is_fault (client_out ev now c).pass ≡ true → (awaits c ≡ true) × (awaits (client_after ev now c) ≡ false)
 faulted ev now c e = handed ev now c (ap (λ (b : Bool). is_timeout (client_out ev now c).pass || b) e ∙ or_to_true (is_timeout (client_out ev now c).pass))
   where
     or_to_true : (b : Bool) → (b || true) ≡ true
     or_to_true true = refl
     or_to_true false = refl
 
-ended : (ev : TxEvent) (now : ℕ) (c : Client) → ends (input_to ev now c) ≡ true → awaits (client_after ev now c) ≡ false
+ended : (ev : TxEvent) (now : ℕ) (c : ClientTransaction) → ends (input_to ev now c) ≡ true → awaits (client_after ev now c) ≡ false
 ended ev now c e = false_of _ (or_true (ends (input_to ev now c)) (not (awaits (client_after ev now c))) (and_parts _ _ (and_parts _ _ (well ev now c)).1).1 e)
 
-pub stopped_waits : (now : ℕ) (c : Client) → awaits (client_after event.Stop now c) ≡ false
+pub stopped_waits : (now : ℕ) (c : ClientTransaction) → awaits (client_after event.Stop now c) ≡ false
 stopped_waits now (InviteClient m) = ended event.Stop now (InviteClient m) refl
 stopped_waits now (OtherClient m) = ended event.Stop now (OtherClient m) refl
 
-pub success_waits : (now : ℕ) (c : Client) → awaits (client_after event.Success now c) ≡ false
+pub success_waits : (now : ℕ) (c : ClientTransaction) → awaits (client_after event.Success now c) ≡ false
 success_waits now (InviteClient m) = ended event.Success now (InviteClient m) refl
 success_waits now (OtherClient m) = ended event.Success now (OtherClient m) refl
 
-pub failure_waits : (now : ℕ) (c : Client) → awaits (client_after event.Failure now c) ≡ false
+pub failure_waits : (now : ℕ) (c : ClientTransaction) → awaits (client_after event.Failure now c) ≡ false
 failure_waits now (InviteClient m) = ended event.Failure now (InviteClient m) refl
 failure_waits now (OtherClient m) = ended event.Failure now (OtherClient m) refl

@@ -1,8 +1,8 @@
 //! Histories of a call: what comes to it moment by moment, and what it does then.
 use crate::requests::{SOURCE, read_message, setup_of};
+use call_routing::is_openable;
 use fork_call::{Call, Cause, Datagram, Setup, Step, TakeFault, Taken};
 use fork_context::{Event, Reply, Up};
-use fork_routing::is_openable;
 use sip_uri::Hop;
 use std::alloc::{AllocError, Allocator, Global};
 

@@ -1,12 +1,12 @@
 -- The end of the branches of a call.
 use Rattle.std.specs.Prelude.{◌≡◌, ◌<◌, ℕ, Some}
-use Rattle.call_model.specs.Call.{Call, leg_at}
-use Rattle.call_model.specs.Due.{IsOverLeg}
-use Rattle.call_model.specs.Leg.{Leg}
+use Rattle.call_model.specs.Call.{Call, nth_branch}
+use Rattle.call_model.specs.Due.{IsOverBranch}
+use Rattle.call_model.specs.Branch.{Branch}
 
 -- the transactions of branch n have ended, or its request was not sent
 abbrev pub IsOverAt : Call → ℕ → Type 0
-IsOverAt call n = (leg : Leg) → leg_at call n ≡ Some leg → IsOverLeg leg
+IsOverAt call n = (branch : Branch) → nth_branch call n ≡ Some branch → IsOverBranch branch
 
 -- those of every branch
 abbrev pub AreOver : Call → Type 0

@@ -4,7 +4,7 @@ use Rattle.std.specs.Prelude.{ℕ, Bool, true, false, ◌≡◌, List, [], ◌++
 use Rattle.fork_model.specs.Reply.{Reply}
 use Rattle.fork_model.specs.Sources.{IsNumberIn}
 use Rattle.sip_txn.specs.Timers.{earlier, is_due}
-use Rattle.call_model.specs.Call.{Call, found, leg_at, rows_of}
+use Rattle.call_model.specs.Call.{Call, found, nth_branch, rows_of}
 use Rattle.fork_call.specs.Scheduled.{due_of}
 
 -- the least of all
@@ -19,7 +19,7 @@ moment_at moments n = found (slice_get moments n)
 
 -- every row but these has its moment
 pub record IsTimedBut (call : Call) (rows : List ℕ) (moments : List (Option ℕ)) : Type 0 where
-  pub timed : (n : ℕ) → (IsNumberIn rows n → ⊥) → moment_at moments n ≡ due_of (slice_get (rows_of call) n) (leg_at call n)
+  pub timed : (n : ℕ) → (IsNumberIn rows n → ⊥) → moment_at moments n ≡ due_of (slice_get (rows_of call) n) (nth_branch call n)
 
 -- the rows that a reply starts or cancels
 abbrev pub rows_in : Option Reply → List ℕ

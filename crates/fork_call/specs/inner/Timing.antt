@@ -3,19 +3,19 @@
 use Rattle.std.specs.Prelude.{ℕ, ◌++◌, List, [], ◌∷◌, Option, Some, None, fold, length, slice_get, slice_set, take, if◌then◌else◌}
 use Rattle.call_model.specs.declared.cause.Cause.{Cause}
 use Rattle.call_model.specs.declared.cause.Cause.TheVariants as cause
-use Rattle.call_model.specs.Call.{Call, leg_at, rows_of}
+use Rattle.call_model.specs.Call.{Call, nth_branch, rows_of}
 use Rattle.call_model.specs.Due as due
-use Rattle.call_model.specs.Due.{Deed}
+use Rattle.call_model.specs.Due.{Action}
 use Rattle.fork_model.specs.Table.{most_targets}
 use Rattle.call_model.specs.Response.{is_redirection}
 use Rattle.call_model.specs.Take as to
-use Rattle.call_model.specs.Take.{Recipient}
+use Rattle.call_model.specs.Take.{MatchedTransaction}
 use Rattle.fork_call.specs.Scheduled.{due_of}
 use Rattle.fork_call.specs.inner.Scheduled.{rows_in}
 
 -- from when on something is to be done on row n of a call
 abbrev pub row_moment : Call → ℕ → Option ℕ
-row_moment call n = due_of (slice_get (rows_of call) n) (leg_at call n)
+row_moment call n = due_of (slice_get (rows_of call) n) (nth_branch call n)
 
 -- these rows are timed anew
 abbrev pub timed_at : Call → List (Option ℕ) → ℕ → List (Option ℕ)
@@ -27,19 +27,19 @@ timed call rows moments = fold (timed_at call) moments rows
 -- ---- which rows a step touches
 
 -- the row on which something is done
-abbrev pub row_of_deed : Deed → Option ℕ
-row_of_deed (due.SendRequest n) = Some n
-row_of_deed (due.SendCancel n) = Some n
-row_of_deed (due.SendAck n) = Some n
-row_of_deed due.SendAnswer = None
-row_of_deed due.TickServer = None
-row_of_deed (due.TickClient n) = Some n
-row_of_deed (due.TickCancel n) = Some n
-row_of_deed (due.FireTimerC n) = Some n
-row_of_deed (due.GiveUp n) = Some n
+abbrev pub row_of_action : Action → Option ℕ
+row_of_action (due.SendRequest n) = Some n
+row_of_action (due.SendCancel n) = Some n
+row_of_action (due.SendAck n) = Some n
+row_of_action due.SendAnswer = None
+row_of_action due.TickServer = None
+row_of_action (due.TickClient n) = Some n
+row_of_action (due.TickCancel n) = Some n
+row_of_action (due.FireTimerC n) = Some n
+row_of_action (due.GiveUp n) = Some n
 
 -- the row that a message comes to
-abbrev pub row_of_recipient : Recipient → Option ℕ
+abbrev pub row_of_recipient : MatchedTransaction → Option ℕ
 row_of_recipient to.Server = None
 row_of_recipient to.ServerAck = None
 row_of_recipient to.ServerCancel = None

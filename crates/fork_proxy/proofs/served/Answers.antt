@@ -1,5 +1,5 @@
 use Rattle.std.proofs.Common.{List, ℕ, refl, subst}
-use Rattle.fork_server.specs.Faults.{Spells, IsFaultOf}
+use Rattle.proxy_server.specs.Faults.{Spells, IsFaultOf}
 use Rattle.fork_proxy.proofs.served.Goals as goal
 
 pub returns-in-Ok-serve-clause-served : goal.returns-in-Ok-serve-clause-served

@@ -1,12 +1,12 @@
 -- A tree once its table is closed.
 -- Here: what no public contract reaches.
 use Rattle.std.specs.Prelude.{ℕ, zero, suc, List, [], ◌∷◌, map}
-use Rattle.fork_tree.specs.declared.summary.Standing.{Standing}
+use Rattle.fork_tree.specs.declared.summary.BranchState.{BranchState}
 use Rattle.fork_tree.specs.inner.States.{closed_state}
 use Rattle.fork_tree.specs.Rows.{Entry}
 use Rattle.fork_tree.specs.inner.Rows.{in_standing}
 
-abbrev pub closed_standing : Standing → Standing
+abbrev pub closed_standing : BranchState → BranchState
 closed_standing s = record { state = closed_state s.state; answer = s.answer }
 
 abbrev pub closed_entry : Entry → Entry

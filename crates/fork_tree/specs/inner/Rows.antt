@@ -1,7 +1,7 @@
 -- The branches of a tree in preorder, each with its path from the top: group, place, group, place ..
 -- Here: what no public contract reaches.
 use Rattle.std.specs.Prelude.{ℕ, suc, Bool, false, not, List, [], ◌∷◌, ◌++◌, map, Option, Some, None, if◌then◌else◌}
-use Rattle.fork_tree.specs.declared.summary.Standing.{Standing}
+use Rattle.fork_tree.specs.declared.summary.BranchState.{BranchState}
 use Rattle.fork_tree.specs.declared.row.State.{State}
 use Rattle.fork_tree.specs.declared.row.State.TheVariants.{Idle}
 use Rattle.fork_tree.specs.States.{has_ended}
@@ -27,15 +27,15 @@ open_at rows path = is_open_cell (find rows path)
 abbrev pub led : List ℕ → Entry → Entry
 led path e = record { path = path ++ e.path; cell = e.cell }
 
-abbrev pub in_standing : Standing → Cell → Cell
+abbrev pub in_standing : BranchState → Cell → Cell
 in_standing standing cell = record { number = cell.number; q = cell.q; standing = standing }
 
 -- the branch in this standing, with these below it
-abbrev pub changed : Entry → Standing → List Entry → List Entry
+abbrev pub changed : Entry → BranchState → List Entry → List Entry
 changed e standing below = record { path = e.path; cell = in_standing standing e.cell } ∷ map (led e.path) below
 
 -- the branches, that at this path in this standing and with these below it
-abbrev pub with_branch : List Entry → List ℕ → Standing → List Entry → List Entry
+abbrev pub with_branch : List Entry → List ℕ → BranchState → List Entry → List Entry
 with_branch [] path standing below = []
 with_branch (e ∷ es) path standing below =
     (if same e.path path then changed e standing below else e ∷ []) ++ with_branch es path standing below

@@ -1,4 +1,4 @@
-use Rattle.call_answers.proofs.Common.{◌≡◌, ◌∙◌, ◌∷◌, ◌++◌, [], ap, refl, sym, subst, map, arith, length, List, append-nil, AllByRecursion, into_iter_items, ContactText, view_contacts, way_of_contact, contact_for, offer_of}
+use Rattle.call_answers.proofs.Common.{◌≡◌, ◌∙◌, ◌∷◌, ◌++◌, [], ap, refl, sym, subst, map, arith, length, List, append-nil, AllByRecursion, into_iter_items, ContactText, view_contacts, destination_of_contact, contact_for, offer_of}
 use Rattle.sip_uri.specs.SeenContact.{view_contact}
 use Rattle.call_answers.proofs.Weights.{IsWeighed, weighed_here}
 use Rattle.call_answers.proofs.contacts.offers_of.Goals as goal
@@ -24,6 +24,6 @@ returns g c =
     let at = c.loop-contact in
     let all : at.yielded ≡ c.args.contacts.items = all_yielded c.args.contacts.items at.yielded (into_iter_items at.contact-iterator) at.invariant.rest (sym c.in-None.ensures.steps.0 ∙ at.invariant.len) in
     record {
-      offers = at.invariant.offers ∙ ap (λ l. map offer_of (map (contact_for c.args.fixed.now.is_responsible) (view_contacts l))) all;
-      ways = at.invariant.ways ∙ ap (λ l. map (way_of_contact c.args.fixed.now) (map (contact_for c.args.fixed.now.is_responsible) (view_contacts l))) all;
+      offers = at.invariant.offers ∙ ap (λ l. map offer_of (map (contact_for c.args.opened.now.is_responsible) (view_contacts l))) all;
+      destinations = at.invariant.destinations ∙ ap (λ l. map (destination_of_contact c.args.opened.now) (map (contact_for c.args.opened.now.is_responsible) (view_contacts l))) all;
     }

@@ -2,7 +2,7 @@ use Rattle.call_laws.proofs.Running.{answers_once}
 use Rattle.call_laws.proofs.law.one_final_answer_goes_up.Goals as goal
 
 pub returns : goal.returns
-returns c fixed rules targets ways stages some given leads done not_won none =
+returns c opened rules targets destinations stages some given leads done not_won none =
     answers_once c.exactly_one_final.ensures.exactly_one c.exactly_one_final.ensures.none_before c.exactly_one_final.ensures.none_beside_success
     c.calls_stay_sound.ensures.kept c.calls_send_right.ensures.kept c.calls_stay_sound.ensures.begun c.calls_send_right.ensures.begun
-    fixed rules targets ways some stages given leads done not_won none
+    opened rules targets destinations some stages given leads done not_won none

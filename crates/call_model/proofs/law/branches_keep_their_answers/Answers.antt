@@ -2,7 +2,7 @@ use Rattle.call_model.proofs.Behind.{begun_keeps, firsts_stay_or_come, steps_kee
 use Rattle.call_model.proofs.law.branches_keep_their_answers.Goals as goal
 
 pub returns-clause-begun : goal.returns-clause-begun
-returns-clause-begun c fixed rules targets ways n stored has received first = begun_keeps c.stored_answers_came.ensures.always fixed rules targets ways n stored has received first
+returns-clause-begun c opened rules targets destinations n stored has received first = begun_keeps c.stored_answers_came.ensures.always opened rules targets destinations n stored has received first
 
 pub returns-clause-kept : goal.returns-clause-kept
 returns-clause-kept c turn call new sound kept step =

@@ -3,7 +3,7 @@ use Rattle.call_model.proofs.SoundSteps.{steps_sound}
 use Rattle.call_model.proofs.law.calls_stay_sound.Goals as goal
 
 pub returns-clause-begun : goal.returns-clause-begun
-returns-clause-begun c fixed rules targets ways = begun_sound c.stored_answers_came.ensures.always fixed rules targets ways
+returns-clause-begun c opened rules targets destinations = begun_sound c.stored_answers_came.ensures.always opened rules targets destinations
 
 pub returns-clause-kept : goal.returns-clause-kept
 returns-clause-kept c turn call new sound given step =

@@ -9,12 +9,12 @@ use Rattle.call_tests.proofs.branches.taken_from.Goals as goal
 pub returns-in-Ok-clause-sound : goal.returns-in-Ok-clause-sound
 returns-in-Ok-clause-sound c =
     let forward : IsForward c.args.response = let a = c.has_second_via.ensures in let b = c.if-not-has_second_via.false in cc in
-    c.calls_stay_sound.ensures.kept (taken_turn c.args.parts.now c.args.n c.args.now c.args.response (seen_taken c.in-Ok.taken)) c.args.parts.now c.respond.new.self
+    c.calls_stay_sound.ensures.kept (taken_turn c.args.state.now c.args.n c.args.now c.args.response (seen_taken c.in-Ok.taken)) c.args.state.now c.respond.new.self
     c.requires.sound (c.is_message.ensures, forward) c.in-Ok.ensures.ok
 
 pub returns-in-Ok-clause-answers : goal.returns-in-Ok-clause-answers
 returns-in-Ok-clause-answers c =
-    c.branches_keep_their_answers.ensures.kept (taken_turn c.args.parts.now c.args.n c.args.now c.args.response (seen_taken c.in-Ok.taken)) c.args.parts.now c.respond.new.self
+    c.branches_keep_their_answers.ensures.kept (taken_turn c.args.state.now c.args.n c.args.now c.args.response (seen_taken c.in-Ok.taken)) c.args.state.now c.respond.new.self
     c.requires.sound c.requires.answers c.in-Ok.ensures.ok
 
 pub returns-in-Err-clause-answers : goal.returns-in-Err-clause-answers

@@ -5,4 +5,4 @@ pub returns-clause-answers : goal.returns-clause-answers
 returns-clause-answers c setup number m source call status opens = own_answers c.stripping_keeps_answers.ensures setup number m source call status opens
 
 pub returns-clause-requests : goal.returns-clause-requests
-returns-clause-requests c fixed way n target e = requests_name fixed way n target e
+returns-clause-requests c opened destination n target e = requests_name opened destination n target e

@@ -3,4 +3,4 @@ use Rattle.fork_call.proofs.timing.time_rows.Given as goal
 
 -- the rows before this one are timed anew
 abbrev pub invariant-loop-n : goal.invariant-loop-n
-invariant-loop-n g l = l.schedule ≡ timed l.parts (take l.n-index l.rows) l.fn.schedule
+invariant-loop-n g l = l.schedule ≡ timed l.state (take l.n-index l.rows) l.fn.schedule

@@ -1,6 +1,6 @@
 use Rattle.std.proofs.Common.{sym, subst, inl, inr}
 use Rattle.fork_rank.specs.KindView.{kind_of}
-use Rattle.fork_mixing.specs.Interleaving.{IsInterleaving}
+use Rattle.interleaving.specs.Interleaving.{IsInterleaving}
 use Rattle.fork_engine.proofs.run.judged.Goals as goal
 use Rattle.fork_engine.proofs.run.judged.Goals.{else-ours-via-then-ours+else-mixed, else-ours-via-else-ours}
 

@@ -1,5 +1,5 @@
 use Rattle.std.proofs.Common.{◌≡◌, map, take}
-use Rattle.fork_setup.specs.Setup.{locations_of}
+use Rattle.proxy_config.specs.Setup.{locations_of}
 use Rattle.proxy_routing.specs.Targets.{choice_at}
 use Rattle.proxy_routing.proofs.targets.located.Given as goal
 

@@ -14,18 +14,18 @@ none_owed (o ∷ owed) e = absurd (let h : suc (length owed) ≡ 0 = eqb-true (s
 pub returns-then-not-is_empty : goal.returns-then-not-is_empty
 returns-then-not-is_empty g c =
     let P : Call → Type 0 = λ x. IsLeastDue x (Some 0) in
-    let size : (length c.self.inside.parts.server.owed == 0) ≡ false =
+    let size : (length c.self.inside.state.server.owed == 0) ≡ false =
     ap (λ (owed : List server.Owed). length owed == 0) (sym c.owed.ensures) ∙ sym c.is_empty.ensures ∙ c.if-not-is_empty.true in
-    subst P c.self.view_is (owed_due c.self.inside.parts (some_owed c.self.inside.parts.server.owed size))
+    subst P c.self.view_is (owed_due c.self.inside.state (some_owed c.self.inside.state.server.owed size))
 
 pub returns : goal.returns
 returns g c =
     let P : Call → Type 0 = λ x. IsLeastDue x c.earlier.result in
-    let Q : Option ℕ → Type 0 = λ least. IsLeastDue c.self.inside.parts least in
+    let Q : Option ℕ → Type 0 = λ least. IsLeastDue c.self.inside.state least in
     let size : (length c.owed.result == 0) ≡ true = sym c.is_empty.ensures ∙ c.if-not-is_empty.false in
-    let none : c.self.inside.parts.server.owed ≡ [] = sym c.owed.ensures ∙ none_owed c.owed.result size in
-    let least = least_due c.self.inside.parts none c.is_sized.ensures.each_leg in
+    let none : c.self.inside.state.server.owed ≡ [] = sym c.owed.ensures ∙ none_owed c.owed.result size in
+    let least = least_due c.self.inside.state none c.is_sized.ensures.each_branch in
     let moments = ap (λ (ms : List (Option ℕ)). least_of ms) c.self.invariant.times in
-    let same = ap (λ (x : Option ℕ). earlier (server.served_due c.self.inside.parts.server.machine) x) (sym moments ∙ sym c.least.ensures)
+    let same = ap (λ (x : Option ℕ). earlier (server.served_due c.self.inside.state.server.machine) x) (sym moments ∙ sym c.least.ensures)
     ∙ ap (λ (x : Option ℕ). earlier x c.least.result) (sym c.server_due.ensures) ∙ sym c.earlier.ensures in
     subst P c.self.view_is (subst Q same least)

@@ -5,7 +5,7 @@ use Rattle.fork_call.proofs.call.Call.over.Goals as goal
 
 pub returns : goal.returns
 returns g c =
-    let call = c.self.inside.parts in
+    let call = c.self.inside.state in
     let b = c.branches_are_over.result in
     let P : Call → Type 0 = λ x. (IsTrue b → IsOver x) × (IsOver x → IsTrue b) in
     let L : Call → Type 0 = λ x. IsLeastDue x c.due.result in
@@ -18,5 +18,5 @@ returns g c =
     let least : IsLeastDue call c.due.result = subst L (sym c.self.view_is) c.due.ensures in
     subst P c.self.view_is (
       (λ all. is_over_by call c.due.result least (sym c.is_some.ensures ∙ c.if-is_some.false) finished server (c.branches_are_over.ensures.0 all)),
-      (λ over. c.branches_are_over.ensures.1 over.legs),
+      (λ over. c.branches_are_over.ensures.1 over.branches),
     )

@@ -3,12 +3,12 @@ use Rattle.fork_call.proofs.Arriving.{full_takes, ok_takes, on_err, same_on_err,
 use Rattle.fork_call.proofs.call.Call.take.Goals as goal
 
 pub returns-in_err-pad-clause-err : goal.returns-in_err-pad-clause-err
-returns-in_err-pad-clause-err g c = on_err c.from_residual-in_err-pad.result (c.self.inside.parts ≡ c.args.self.now) c.self.view_is
+returns-in_err-pad-clause-err g c = on_err c.from_residual-in_err-pad.result (c.self.inside.state ≡ c.args.self.now) c.self.view_is
 
 pub invariant_of-self-2 : goal.invariant_of-self-2
 invariant_of-self-2 g c =
-    let call = c.self.inside.parts in
-    let new = c.give-taken.new.parts in
+    let call = c.self.inside.state in
+    let new = c.give-taken.new.state in
     let r = seen_recipient c.in-Some.to in
     let R : Call → Type 0 = λ x. length x.log.replies ≡ length x.log.history in
     let at : c.posted-at.result ≡ length call.log.history = c.posted-at.ensures.at ∙ sym (ap (λ (x : Call). length x.log.history) c.self.view_is) in
@@ -27,19 +27,19 @@ invariant_of-self-2 g c =
     let range = c.count-rows.ensures.range in
     omega (arith, rows, stands, count, range) in
     taken_timed c.calls_stay_sound.ensures.kept c.calls_send_right.ensures.kept c.positions_are_bounded.ensures.by_event c.new_rows_are_contacts.ensures.none c.others_stay_open.ensures.exact c.replies_list_all_that_became.ensures
-    call new c.self.inside.schedule c.time_step.new.schedule c.self.invariant c.is_sized.ensures.each_leg (subst R (sym c.self.view_is) c.posted-at.ensures.replied)
+    call new c.self.inside.schedule c.time_step.new.schedule c.self.invariant c.is_sized.ensures.each_branch (subst R (sym c.self.view_is) c.posted-at.ensures.replied)
     c.args.now c.args.message c.args.source r
     c.give-taken.result c.give-taken.ensures.step c.give-taken.ensures.err c.in-Some.ensures.found c.is_message.ensures few times
 
 pub returns-clause-step : goal.returns-clause-step
 returns-clause-step g c =
-    ok_takes c.self.inside.parts c.give-taken.new.parts c.args.self.now c.self.view_is c.args.now c.args.message c.args.source (seen_recipient c.in-Some.to) c.in-Some.ensures.found
+    ok_takes c.self.inside.state c.give-taken.new.state c.args.self.now c.self.view_is c.args.now c.args.message c.args.source (seen_recipient c.in-Some.to) c.in-Some.ensures.found
     c.give-taken.result c.give-taken.ensures.step
 
 pub returns-clause-full : goal.returns-clause-full
 returns-clause-full g c =
-    full_takes c.self.inside.parts c.give-taken.new.parts c.args.self.now c.self.view_is c.args.now c.args.message c.args.source (seen_recipient c.in-Some.to) c.in-Some.ensures.found
+    full_takes c.self.inside.state c.give-taken.new.state c.args.self.now c.self.view_is c.args.now c.args.message c.args.source (seen_recipient c.in-Some.to) c.in-Some.ensures.found
     c.give-taken.result c.give-taken.ensures.err c.give-taken.ensures.full
 
 pub returns-clause-err : goal.returns-clause-err
-returns-clause-err g c = same_on_err c.give-taken.result c.give-taken.new.parts c.self.inside.parts c.args.self.now c.self.view_is c.give-taken.ensures.err
+returns-clause-err g c = same_on_err c.give-taken.result c.give-taken.new.state c.self.inside.state c.args.self.now c.self.view_is c.give-taken.ensures.err

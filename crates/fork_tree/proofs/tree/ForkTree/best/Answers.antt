@@ -1,5 +1,5 @@
 use Rattle.fork_tree.proofs.Common.{subst, sym, best_of, Tree, IsBest, refl}
-use Rattle.fork_tree.proofs.Kept.{kept_is_best}
+use Rattle.fork_tree.proofs.RankedAnswer.{kept_is_best}
 use Rattle.fork_tree.proofs.tree.ForkTree.best.Goals as goal
 
 pub returns : goal.returns

@@ -1,4 +1,4 @@
-use Rattle.fork_tree.proofs.Common.{◌≡◌, ◌++◌, ◌∷◌, ◌+◌, ℕ, List, Some, None, length, map, arith, ap, sym, subst, ◌∙◌, Row, with_state, Place, Standing, Ended, plain_state, has_ended, Entry, Rules, NewRow, ◌⊎◌, ◌<◌, path_of, rows_of, AreOlder}
+use Rattle.fork_tree.proofs.Common.{◌≡◌, ◌++◌, ◌∷◌, ◌+◌, ℕ, List, Some, None, length, map, arith, ap, sym, subst, ◌∙◌, Row, with_state, Place, BranchState, Ended, plain_state, has_ended, Entry, Rules, NewRow, ◌⊎◌, ◌<◌, path_of, rows_of, AreOlder}
 use Rattle.fork_tree.proofs.Common.{Waiting, waiting_row, place_in, AreTogether, IsTree, kept_of, Tree, ◌≤◌, [], length-append, AreKnown, AreMet, Changes, common_steps}
 use Rattle.fork_tree.proofs.GroupNumbers.{together_more, new_rows_together}
 use Rattle.fork_tree.proofs.Summaries.{open_some}
@@ -79,7 +79,7 @@ invariant_of-self g c =
     ∙ rows_ended c.self.inside.rules c.self.inside.places.items c.self.inside.root c.end.new.self c.self.inside.summary c.args.n c.of-standing.result
     c.below.inside.new_rows.items c.below.inside.first c.len-opens.result c.self.invariant.tree at.0 rise first change in
     let answer : c.of-standing.result.answer ≡ kept_of c.self.inside.rules c.args.n c.of-standing.result.state =
-    ap (λ (s : Standing). s.answer) c.of-standing.ensures ∙ ap (λ (s : Standing). kept_of c.self.inside.rules c.args.n s.state) (sym c.of-standing.ensures) in
+    ap (λ (s : BranchState). s.answer) c.of-standing.ensures ∙ ap (λ (s : BranchState). kept_of c.self.inside.rules c.args.n s.state) (sym c.of-standing.ensures) in
     let tree : IsTree c.self.inside.rules c.add_places.new.places.items c.end.new.self c.after-self-inside.result =
     subst (λ (x : List Place). IsTree c.self.inside.rules x c.end.new.self c.after-self-inside.result) (sym places)
     (tree_ended c.self.inside.rules c.self.inside.places.items c.self.inside.root c.end.new.self c.self.inside.summary c.after-self-inside.result c.args.n
@@ -120,7 +120,7 @@ invariant_of-self g c =
           (tree_met_end c.self.inside.places.items c.add_places.new.places.items c.self.inside.root c.end.new.self c.args.self.now.rows c.below.inside.new_rows.items c.args.n
           c.of-standing.result.state c.self.inside.recent.items c.self.invariant.tree.older tree.older (ap (λ (t : Tree). t.rows) c.self.view_is)
           c.self.invariant.met c.requires.there rows
-          (ap (λ (s : Standing). has_ended s.state) c.of-standing.ensures));
+          (ap (λ (s : BranchState). has_ended s.state) c.of-standing.ensures));
     }
 
 pub returns : goal.returns
@@ -141,5 +141,5 @@ returns g c =
     (ap (λ x. rows_of x c.end.new.self) places
     ∙ rows_ended c.self.inside.rules c.self.inside.places.items c.self.inside.root c.end.new.self c.self.inside.summary c.args.n c.of-standing.result
     c.below.inside.new_rows.items c.below.inside.first c.len-opens.result c.self.invariant.tree at.0 rise first change
-    ∙ ap (λ (s : Standing). with_state (rows_of c.self.inside.places.items c.self.inside.root) c.args.n (plain_state s.state) ++ map (waiting_row (Some c.args.n)) c.below.inside.new_rows.items) c.of-standing.ensures
+    ∙ ap (λ (s : BranchState). with_state (rows_of c.self.inside.places.items c.self.inside.root) c.args.n (plain_state s.state) ++ map (waiting_row (Some c.args.n)) c.below.inside.new_rows.items) c.of-standing.ensures
     ∙ ap (λ (w : Waiting). with_state (rows_of c.self.inside.places.items c.self.inside.root) c.args.n (plain_state (Ended c.args.end)) ++ map (waiting_row (Some c.args.n)) w.new_rows) c.below.view_is)

@@ -1,7 +1,0 @@
-use Rattle.std.proofs.Common.{◌∙◌, ap, slice_set}
-use Rattle.call_answers.proofs.NewWays.{set_without}
-use Rattle.call_answers.proofs.rows.take_way.Goals as goal
-
-pub returns-clause-left : goal.returns-clause-left
-returns-clause-left g c =
-    ap (slice_set c.args.ways.now.items c.args.place) c.take.ensures.after ∙ set_without c.args.ways.now.items c.args.place

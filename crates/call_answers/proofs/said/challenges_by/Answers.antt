@@ -1,5 +1,0 @@
-use Rattle.std.proofs.Common.{rules}
-use Rattle.call_answers.proofs.said.challenges_by.Goals as goal
-
-pub returns-in_ok-clone : goal.returns-in_ok-clone
-returns-in_ok-clone c = search rules

@@ -1,5 +1,0 @@
-use Rattle.std.proofs.Common.{rules}
-use Rattle.call_branch.proofs.leg.Leg.timer_c_again.Goals as goal
-
-pub returns-then-status-lt200 : goal.returns-then-status-lt200
-returns-then-status-lt200 c = search rules

@@ -1,0 +1,45 @@
+//! Where the request to a target goes.
+ghost use Rattle.std.specs.Prelude.{◌≡◌};
+
+use sip_uri::{Hop, SipUri};
+use std::alloc::{Allocator, Global};
+use std::marker::Model;
+
+/// Where the request to a target goes: its URI, and the hop that leads there (RFC 3261 section 16.6).
+#[derive(Drop)]
+pub struct Destination<A: Allocator = Global> {
+    uri: SipUri<A>,
+    hop: Hop,
+}
+
+impl<A: Allocator> Model for Destination<A> {
+    ghost use Rattle.call_model.specs.OpenedRequest as spec;
+
+    ghost Value = { spec.Destination };
+
+    ghost view = { λ w. record { uri = w.uri; hop = w.hop } };
+}
+
+impl<A: Allocator> Destination<A> {
+    /// The destination of a target with this URI by this hop.
+    ///
+    /// The hop is that of the first Route value where the request has one, else that of the URI.
+    pub fn new(uri: SipUri<A>, hop: Hop) -> Self
+        ensures { result ≡ record { uri = uri; hop = hop } }
+    {
+        Destination { uri, hop }
+    }
+
+    pub(crate) fn uri(&self) -> &SipUri<A>
+        ensures { result.now ≡ self.now.uri }
+    {
+        &self.uri
+    }
+
+    /// The hop that leads there.
+    pub fn hop(&self) -> Hop
+        ensures { result ≡ self.now.hop }
+    {
+        self.hop
+    }
+}

@@ -1,0 +1,56 @@
+-- What a call is opened with, and no step changes (RFC 3261 sections 16.2 to 16.6).
+use Rattle.std.specs.Prelude.{ℕ, Bool, List, [], Option, Some, None, codes, if◌then◌else◌}
+use Rattle.std.specs.Str.{bytes_eq}
+use Rattle.fork_model.specs.Table.{Kind, Invite, Other}
+use Rattle.sip_text.specs.Text.{MessageText, StartText, Request, Response}
+use Rattle.sip_uri.specs.declared.hop.Hop.{Hop}
+use Rattle.sip_uri.specs.Hop.{hop_of}
+use Rattle.sip_uri.specs.Uri.{Uri}
+use Rattle.sip_via.specs.declared.branch.BranchName.{BranchName}
+use Rattle.sip_via.specs.declared.own.Own.{Own}
+use Rattle.sip_route.specs.Loop.{loop_key}
+
+pub record OpenedRequest : Type 0 where
+  pub number : ℕ
+  pub own : Own
+  pub instance : ℕ
+  -- marked with its source (section 18.2.1), and without a Route value that names the proxy (section 16.4)
+  pub request : MessageText
+  -- where its answers go (section 18.2.2)
+  pub caller : Hop
+  -- the hop of its first Route value, if it has one
+  pub route : Option Hop
+  -- its Request-URI is one that the proxy is responsible for; for any other the contacts of a 3xx are not tried (section 16.5)
+  pub is_responsible : Bool
+
+abbrev pub method_of : StartText → List ℕ
+method_of (Request method uri) = method
+method_of (Response status reason) = []
+
+abbrev pub is_invite : OpenedRequest → Bool
+is_invite opened = bytes_eq (method_of opened.request.start) (codes "INVITE")
+
+abbrev pub kind_of : OpenedRequest → Kind
+kind_of opened = if is_invite opened then Invite else Other
+
+-- what names the branch to target n: no two branches of the proxy have one name
+abbrev pub branch_at : OpenedRequest → ℕ → BranchName
+branch_at opened n =
+    record { key = loop_key opened.request; instance = opened.instance; context = opened.number; target = n }
+
+-- where the request to a target goes: its URI, and the hop that leads there (section 16.6 steps 2, 6 and 7)
+pub record Destination : Type 0 where
+  pub uri : Uri
+  pub hop : Hop
+
+-- by the first Route value, if there is one, else by the URI
+abbrev pub next_hop : Option Hop → Uri → Option Hop
+next_hop (Some hop) uri = Some hop
+next_hop None uri = hop_of uri
+
+abbrev pub destination_by : Uri → Option Hop → Option Destination
+destination_by uri None = None
+destination_by uri (Some hop) = Some (record { uri = uri; hop = hop })
+
+abbrev pub destination_to : OpenedRequest → Uri → Option Destination
+destination_to opened uri = destination_by uri (next_hop opened.route uri)

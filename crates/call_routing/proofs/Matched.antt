@@ -1,0 +1,121 @@
+-- The branch that a message answers, and who its recipient is.
+use Rattle.call_routing.proofs.Common.{◌≡◌, refl, List, ℕ, ◌<◌, Bool, true, false, Option, Some, None, sym, subst, ap, ◌∙◌, ◌&&◌, codes, same_Some, option_map, Own, top_value, message_cseq, Call, is_sent, OpenedRequest, method_of, MessageText}
+use Rattle.call_routing.proofs.Common.{StartText, is_to_method}
+use Rattle.std.proofs.Common.{◌^◌}
+use Rattle.std.specs.Prelude.{◌==◌}
+use Rattle.std.specs.Str.{bytes_eq}
+use Rattle.std.proofs.lemmas.Bool.{and_from, eq-eqb, false≢true}
+use Rattle.std.proofs.lemmas.Slice.Eq.{bytes_eq-Decides}
+use Rattle.sip_via.specs.declared.branch.BranchName.{BranchName}
+use Rattle.sip_via.specs.BranchText.{IsBranch}
+use Rattle.sip_via.specs.OwnPass.{IsOwnBranch}
+use Rattle.sip_via.specs.TopVia.{has_second, via_values}
+use Rattle.call_model.specs.Call.{is_cancel_sent}
+use Rattle.call_model.specs.OpenedRequest.{branch_at}
+use Rattle.call_model.specs.Take.{Server, ServerAck, ServerCancel, Client, CancelClient}
+use Rattle.sip_text.specs.Text.{Request, Response}
+use Rattle.call_routing.specs.Kinds.{is_request_of, is_response}
+use Rattle.call_routing.specs.Matching.{BelongsTo, BelongsToNone, Repeats}
+use Rattle.call_routing.specs.inner.Matching.{BelongsToNoBranch, BelongsToNoServer}
+
+pub numbered : (call : BranchName) (n : ℕ) → IsBranch call → n < 2 ^ 16 → IsBranch (record call { target = n })
+numbered call n h lt = record { sixteen = h.sixteen; bytes = h.bytes; instance = h.instance; context = h.context; target = lt }
+
+pub same_target : (name call : BranchName) (n : ℕ) → Some name ≡ Some (record call { target = n }) → Some name.target ≡ Some n
+same_target name call n e = ap (option_map (λ (b : BranchName). b.target)) e
+
+same_tests : (a b : BranchName) → a ≡ b
+    → (bytes_eq a.key b.key && ((a.instance == b.instance) && ((a.context == b.context) && (a.target == b.target)))) ≡ true
+same_tests a b e =
+    and_from (bytes_eq a.key b.key) _ ((bytes_eq-Decides a.key b.key).1 (ap (λ (x : BranchName). x.key) e))
+    (and_from (a.instance == b.instance) _ (eq-eqb a.instance b.instance (ap (λ (x : BranchName). x.instance) e))
+    (and_from (a.context == b.context) _ (eq-eqb a.context b.context (ap (λ (x : BranchName). x.context) e)) (eq-eqb a.target b.target (ap (λ (x : BranchName). x.target) e))))
+
+-- a branch of the call is known by its key, its instance and its context
+pub known : (name call : BranchName) (n : ℕ) → Some name ≡ Some (record call { target = n })
+    → (bytes_eq name.key call.key
+    && ((name.instance == call.instance) && ((name.context == call.context) && (name.target == name.target))))
+    ≡ true
+known name call n e =
+    let p : name ≡ record call { target = n } = same_Some _ _ e in
+    let q : record call { target = n } ≡ record call { target = name.target } =
+    ap (λ (t : ℕ). record call { target = t }) (sym (ap (λ (x : BranchName). x.target) p)) in
+    same_tests name (record call { target = name.target }) (p ∙ q)
+
+-- ---- responses
+
+abbrev pub for_client : Call → MessageText → ℕ → Bool
+for_client call m n =
+    is_to_method (method_of call.opened.request.start) (message_cseq m.headers) && has_second (via_values m) && is_sent call n
+
+abbrev pub for_cancel : Call → MessageText → ℕ → Bool
+for_cancel call m n = is_to_method (codes "CANCEL") (message_cseq m.headers) && is_cancel_sent call n
+
+module _ (call : Call) (m : MessageText) where
+  abbrev pub IsHome : ℕ → Type 0
+  IsHome n = IsOwnBranch call.opened.own (top_value m) (branch_at call.opened n)
+
+  pub no_response : is_response m.start ≡ false → BelongsToNoBranch call m
+  no_response e n = (λ b. false≢true (sym e ∙ b.0.response), λ b. false≢true (sym e ∙ b.0.response))
+
+  -- to no branch, and not to the caller
+  pub to_none : BelongsToNoBranch call m → BelongsToNoServer call m → BelongsToNone call m
+  to_none branch server Server b = server.0 b
+  to_none branch server ServerAck b = server.1 b
+  to_none branch server ServerCancel b = server.2 b
+  to_none branch server (Client n) b = (branch n).0 b
+  to_none branch server (CancelClient n) b = (branch n).1 b
+
+  no_home : ((n : ℕ) → n < 2 ^ 16 → IsHome n → ⊥) → BelongsToNoBranch call m
+  no_home h n = (λ b. h n b.0.number b.0.via, λ b. h n b.0.number b.0.via)
+
+  -- the branch is known, and no transaction of it takes the response
+  pub no_transaction : (k : ℕ) → ((n : ℕ) → n < 2 ^ 16 → IsHome n → Some k ≡ Some n) → for_client call m k ≡ false → for_cancel call m k ≡ false
+      → BelongsToNoBranch call m
+  no_transaction k only e f n = (by_client, by_cancel)
+    where
+      by_client : BelongsTo call m (Client n) → ⊥
+      by_client b =
+          let same : k ≡ n = same_Some k n (only n b.0.number b.0.via) in
+          let well : for_client call m n ≡ true =
+          and_from (is_to_method (method_of call.opened.request.start) (message_cseq m.headers) && has_second (via_values m)) (is_sent call n)
+          (and_from (is_to_method (method_of call.opened.request.start) (message_cseq m.headers)) (has_second (via_values m)) b.0.to_method b.1) b.2 in
+          false≢true (sym e ∙ ap (for_client call m) same ∙ well)
+
+      by_cancel : BelongsTo call m (CancelClient n) → ⊥
+      by_cancel b =
+          let same : k ≡ n = same_Some k n (only n b.0.number b.0.via) in
+          let well : for_cancel call m n ≡ true =
+          and_from (is_to_method (codes "CANCEL") (message_cseq m.headers)) (is_cancel_sent call n) b.0.to_method b.1 in
+          false≢true (sym f ∙ ap (for_cancel call m) same ∙ well)
+
+  -- the branch of the call is looked for by its address and by the name of its branches
+  pub at_home : (opened : OpenedRequest) (own : Own) (value : List ℕ) (b : BranchName) (r : Option ℕ) → opened ≡ call.opened → own ≡ opened.own
+      → value ≡ top_value m → b ≡ branch_at opened 0
+      → ((n : ℕ) → n < 2 ^ 16 → IsOwnBranch own value (record b { target = n }) → r ≡ Some n)
+      → (n : ℕ) → n < 2 ^ 16 → IsHome n → r ≡ Some n
+  at_home opened own value b r s p v q only n lt home =
+      let P : BranchName → Type 0 = λ x. IsOwnBranch opened.own (top_value m) (record x { target = n }) in
+      let Q : Own → Type 0 = λ o. IsOwnBranch o (top_value m) (record b { target = n }) in
+      let R : OpenedRequest → Type 0 = λ f. IsOwnBranch f.own (top_value m) (branch_at f n) in
+      let V : List ℕ → Type 0 = λ x. IsOwnBranch own x (record b { target = n }) in
+      only n lt (subst V (sym v) (subst Q (sym p) (subst P (sym q) (subst R (sym s) home))))
+
+  pub none_home : ((n : ℕ) → n < 2 ^ 16 → IsHome n → None ≡ Some n) → BelongsToNoBranch call m
+  none_home only = no_home (λ n lt home. let e = only n lt home in absurd cc)
+
+-- ---- requests
+
+not_method : (opened : OpenedRequest) (method : List ℕ) (m : MessageText) → is_request_of method m.start ≡ false → Repeats opened method m → ⊥
+not_method opened method m e r = false≢true (sym e ∙ r.request)
+
+is_no_request : (method : List ℕ) (start : StartText) → is_response start ≡ true → is_request_of method start ≡ false
+is_no_request method (Request own uri) e = absurd cc
+is_no_request method (Response status reason) e = refl
+
+pub no_request : (call : Call) (m : MessageText) → is_response m.start ≡ true → BelongsToNoServer call m
+no_request call m e = (
+  not_method call.opened (method_of call.opened.request.start) m (is_no_request _ m.start e),
+  not_method call.opened (codes "ACK") m (is_no_request _ m.start e),
+  not_method call.opened (codes "CANCEL") m (is_no_request _ m.start e),
+)

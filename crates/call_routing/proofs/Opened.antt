@@ -1,0 +1,96 @@
+-- What is known where a request was admitted, and where it was not.
+use Rattle.call_routing.proofs.Common.{◌≡◌, ◌∙◌, true, false, Bool, ℕ, List, [], Option, Result, Ok, Err, ap, subst, IfOk, list_all, Rules, MessageText, StartText, Own, top_value, via_of, Call, OpenedRequest, IsAdmitted, target_uri, IsTurnedAway}
+use Rattle.call_routing.proofs.Common.{IsBegun, Choice, has_hop}
+use Rattle.std.specs.Prelude.{IfErr}
+use Rattle.sip_text.specs.Text as texts
+use Rattle.sip_uri.specs.declared.hop.Hop.{Hop}
+use Rattle.sip_uri.specs.Uri.{Uri}
+use Rattle.sip_via.specs.Received.{reply_of}
+use Rattle.sip_route.specs.declared.route_values.FirstRoute.{FirstRoute}
+use Rattle.sip_route.specs.RouteValues.{first_route}
+use Rattle.sip_build.specs.Forwarding.{is_request}
+use Rattle.proxy_config.specs.Setup.{Setup}
+use Rattle.proxy_routing.specs.declared.fault.RequestRejection.{RequestRejection}
+use Rattle.proxy_routing.specs.declared.fault.RequestRejection.TheVariants.{BadRequest, Scheme, Hops, Loop, Extension, NoTarget, NoHop, NoMemory}
+use Rattle.proxy_routing.specs.Admission.{asks_extension}
+use Rattle.call_routing.specs.Opening.{Asks, IsOpenable, IsRefused, IsUnreachable, Opens, Reaches, Refuses, choices_for, opened_of}
+use Rattle.proxy_routing.specs.Targets.{choices, choices_by, hop_if_any, is_domain}
+
+pub openable : (start other : StartText) → start ≡ other → IsOpenable other → is_request start ≡ true
+openable start (texts.Request method uri) e h = ap is_request e
+openable start (texts.Response status reason) e h = absurd h
+
+pub turned_away : (setup : Setup) (m : MessageText) (source : Hop) (fault : RequestRejection) → IsTurnedAway setup.own m source fault → Refuses setup m source fault
+turned_away setup m source BadRequest h = h
+turned_away setup m source Scheme h = h
+turned_away setup m source Hops h = h
+turned_away setup m source Loop h = h
+turned_away setup m source Extension h = absurd h
+turned_away setup m source NoTarget h = absurd h
+turned_away setup m source NoHop h = absurd h
+turned_away setup m source NoMemory h = tt
+
+behind : (setup : Setup) (m : MessageText) (source : Hop) (request : MessageText) → IsAdmitted setup.own m source request
+    → (fault : RequestRejection) → IsRefused setup request fault → Refuses setup m source fault
+behind setup m source request a BadRequest h = absurd h
+behind setup m source request a Scheme h = absurd h
+behind setup m source request a Hops h = absurd h
+behind setup m source request a Loop h = absurd h
+behind setup m source request a Extension h = (request, a, h)
+behind setup m source request a NoTarget h = (request, a, h)
+behind setup m source request a NoHop h = (request, a, h)
+behind setup m source request a NoMemory h = tt
+
+asked : (setup : Setup) (request : MessageText) (uri : Uri) → asks_extension request ≡ false → target_uri request ≡ Ok uri
+    → (fault : RequestRejection) → IsUnreachable setup request uri fault → IsRefused setup request fault
+asked setup request uri a t BadRequest h = absurd h
+asked setup request uri a t Scheme h = absurd h
+asked setup request uri a t Hops h = absurd h
+asked setup request uri a t Loop h = absurd h
+asked setup request uri a t Extension h = absurd h
+asked setup request uri a t NoTarget h = (a, uri, t, h)
+asked setup request uri a t NoHop h = (a, uri, t, h)
+asked setup request uri a t NoMemory h = tt
+
+-- of what is answered for a request that was admitted
+pub opens_if : (setup : Setup) (number : ℕ) (m : MessageText) (source : Hop) (request : MessageText) → IsAdmitted setup.own m source request
+    → (r : Result Call RequestRejection) → IfOk r (λ call. Asks request (λ uri. Reaches setup number request source uri call)) → IfOk r (Opens setup number m source)
+opens_if setup number m source request a (Ok call) h = (request, a, h)
+opens_if setup number m source request a (Err fault) h = tt
+
+pub refuses_if : (setup : Setup) (m : MessageText) (source : Hop) (request : MessageText) → IsAdmitted setup.own m source request
+    → (r : Result Call RequestRejection) → IfErr r (IsRefused setup request) → IfErr r (Refuses setup m source)
+refuses_if setup m source request a (Ok call) h = tt
+refuses_if setup m source request a (Err fault) h = behind setup m source request a fault h
+
+-- and of one that asks for no extension
+pub asks_if : (setup : Setup) (number : ℕ) (source : Hop) (request : MessageText) (uri : Uri) → asks_extension request ≡ false → target_uri request ≡ Ok uri
+    → (r : Result Call RequestRejection) → IfOk r (Reaches setup number request source uri) → IfOk r (λ call. Asks request (λ u. Reaches setup number request source u call))
+asks_if setup number source request uri a t (Ok call) h = (a, uri, t, h)
+asks_if setup number source request uri a t (Err fault) h = tt
+
+pub asked_if : (setup : Setup) (request : MessageText) (uri : Uri) → asks_extension request ≡ false → target_uri request ≡ Ok uri
+    → (r : Result Call RequestRejection) → IfErr r (IsUnreachable setup request uri) → IfErr r (IsRefused setup request)
+asked_if setup request uri a t (Ok call) h = tt
+asked_if setup request uri a t (Err fault) h = asked setup request uri a t fault h
+
+-- ---- the call that opens for a request to a URI
+
+pub fixed_so : (setup : Setup) (number : ℕ) (request : MessageText) (source : Hop) (uri : Uri) (own : Own) (instance : ℕ) (caller : Hop) (route : Option Hop) (inside : Bool) (first : FirstRoute) (opened : OpenedRequest)
+    → opened ≡ record { number = number; own = own; instance = instance; request = request; caller = caller; route = route; is_responsible = inside }
+    → own ≡ setup.own → instance ≡ setup.instance → caller ≡ reply_of (via_of (top_value request)) source
+    → route ≡ hop_if_any first → first ≡ first_route request → inside ≡ is_domain setup uri.host → opened ≡ opened_of setup number request source uri
+fixed_so setup number request source uri own instance caller route inside first opened e p q r s t u =
+    let destination : route ≡ hop_if_any (first_route request) = s ∙ ap hop_if_any t in
+    e ∙ (λ k. record { number = number; own = p k; instance = q k; request = request; caller = r k; route = destination k; is_responsible = u k })
+
+pub reaches : (setup : Setup) (number : ℕ) (request : MessageText) (source : Hop) (uri : Uri) (rules : Rules) (inside : Bool) (route : FirstRoute) (opened : OpenedRequest) (cs : List Choice) (call : Call)
+    → cs ≡ choices_by inside setup route uri → inside ≡ is_domain setup uri.host → (cs ≡ [] → ⊥) → list_all has_hop cs ≡ true → rules ≡ setup.rules → route ≡ first_route request
+    → opened ≡ opened_of setup number request source uri → IsBegun rules opened cs call → Reaches setup number request source uri call
+reaches setup number request source uri rules inside route opened cs call p i n h q r s b =
+    let whole : cs ≡ choices_for setup request uri = p ∙ ap (λ (x : Bool). choices_by x setup route uri) i ∙ ap (λ (x : FirstRoute). choices setup x uri) r in
+    let H : List Choice → Type 0 = λ x. list_all has_hop x ≡ true in
+    let B : List Choice → Type 0 = λ x. IsBegun rules opened x call in
+    let C : Rules → Type 0 = λ x. IsBegun x opened (choices_for setup request uri) call in
+    let E : OpenedRequest → Type 0 = λ x. IsBegun setup.rules x (choices_for setup request uri) call in
+    record { some = λ e. n (whole ∙ e); hops = subst H whole h; begins = subst E s (subst C q (subst B whole b)) }

@@ -1,0 +1,11 @@
+//! How a call opens for a request that a proxy may route, and which of its transactions a message belongs to (RFC 3261
+//! sections 16.4 to 16.7, 17.1.3 and 17.2.3). What a call does then is said by its parts, in `call_state`.
+#![tactic(auto)]
+
+mod matching;
+mod opening;
+mod transaction;
+
+pub use matching::match_transaction;
+pub use opening::{admitted_target, is_openable, open, read_target};
+pub use transaction::MatchedTransaction;

@@ -1,0 +1,177 @@
+//! Which transaction of a call a message belongs to.
+ghost use Rattle.std.specs.Prelude.{◌≡◌, ◌<◌, ◌^◌, ◌&&◌, ℕ, codes, true, IfNone, IfSome, Some};
+ghost use Rattle.sip_text.specs.Fields.{message_cseq};
+ghost use Rattle.sip_via.specs.BranchText.{IsBranch};
+ghost use Rattle.sip_via.specs.OwnPass.{IsOwnBranch};
+ghost use Rattle.sip_via.specs.TopVia.{has_second, top_value, via_values};
+ghost use Rattle.call_model.specs.Call.{is_cancel_sent, is_sent};
+ghost use Rattle.call_model.specs.OpenedRequest.{method_of};
+ghost use Rattle.call_routing.specs.Kinds.{is_request_of, is_response, is_to_method};
+ghost use Rattle.call_routing.specs.Matching.{BelongsTo, BelongsToNone};
+ghost use Rattle.call_routing.specs.inner.Matching.{BelongsToNoBranch, BelongsToNoServer};
+ghost use Rattle.call_routing.specs.SeenMatchedTransaction.{seen_recipient};
+
+use crate::transaction::MatchedTransaction;
+use call_state::CallState;
+use sip_route::has_same_key;
+use sip_text::{Message, Start};
+use sip_via::{BranchName, Own, has_second_via, own_branch_of, top_via};
+use std::alloc::Allocator;
+
+/// Shows that the numbers of a branch are bounded.
+fn is_branch(name: BranchName)
+    ensures { IsBranch name }
+{}
+
+/// The top Via value of a message, and whether another stands behind it.
+fn top_of<A: Allocator>(message: &Message<A>) -> (&[u8], bool)
+    ensures top { result.0.now ≡ top_value message.now }
+    ensures second { result.1 ≡ has_second (via_values message.now) }
+{
+    (top_via(message), has_second_via(message))
+}
+
+/// The target that a Via value names, where it names a branch of the call.
+fn target_of(value: &[u8], own: Own, call: BranchName) -> Option<u16>
+    ensures found { IfSome result (λ n. IsOwnBranch own value.now (record call { target = n })) }
+    ensures bounded { IfSome result (λ n. n < 2 ^ 16) }
+    ensures only { (n : ℕ) → n < 2 ^ 16 → IsOwnBranch own value.now (record call { target = n }) → result ≡ Some n }
+{
+    is_branch(call);
+    let name = own_branch_of(value, own)?;
+    let key = call.key;
+    let ours = BranchName {
+        key,
+        instance: call.instance,
+        context: call.context,
+        target: name.target,
+    };
+    if name == ours {
+        Some(name.target)
+    } else {
+        None
+    }
+}
+
+/// Whether a message is a request of that method.
+fn is_request_of<A: Allocator>(message: &Message<A>, method: &[u8]) -> bool
+    ensures { result ≡ is_request_of method.now message.now.start }
+{
+    match message.start() {
+        Start::Request { method: own, .. } => own.as_slice() == method,
+        Start::Response { .. } => false,
+    }
+}
+
+/// Whether a message is a response.
+fn is_response<A: Allocator>(message: &Message<A>) -> bool
+    ensures { result ≡ is_response message.now.start }
+{
+    match message.start() {
+        Start::Request { .. } => false,
+        Start::Response { .. } => true,
+    }
+}
+
+/// Whether a response answers a request of that method.
+fn is_to_method<A: Allocator>(message: &Message<A>, method: &[u8]) -> bool
+    ensures { result ≡ is_to_method method.now (message_cseq message.now.headers) }
+{
+    message.cseq().method == method
+}
+
+/// The method of the request that the call was opened with.
+fn opening_method<A: Allocator + Clone>(state: &CallState<A>) -> &[u8]
+    ensures { result.now ≡ method_of state.now.opened.request.start }
+{
+    match state.opened().request().start() {
+        Start::Request { method, .. } => method,
+        Start::Response { .. } => b"",
+    }
+}
+
+/// Whether a response on branch n is for the client transaction of its request, which was sent. One with a single Via
+/// value, with no `second`, was meant for the proxy itself (RFC 3261 section 16.7 step 3).
+fn is_for_client<A: Allocator + Clone>(
+    state: &CallState<A>,
+    message: &Message<A>,
+    second: bool,
+    n: u16,
+) -> bool
+    ensures { result ≡ (is_to_method (method_of state.now.opened.request.start) (message_cseq message.now.headers)
+        && second && is_sent state.now n) }
+{
+    is_to_method(message, opening_method(state)) && second && state.is_sent(n)
+}
+
+/// Whether a response on branch n is for the client transaction of its CANCEL, which was sent.
+fn is_for_cancel<A: Allocator + Clone>(state: &CallState<A>, message: &Message<A>, n: u16) -> bool
+    ensures { result ≡ (is_to_method (codes "CANCEL") (message_cseq message.now.headers) && is_cancel_sent state.now n) }
+{
+    is_to_method(message, b"CANCEL") && state.is_cancel_sent(n)
+}
+
+/// The transaction of a branch that a response is for: its top Via value is the one that the proxy put there with the
+/// request or the CANCEL, which was sent (RFC 3261 sections 16.7 step 1 and 17.1.3).
+fn response_recipient<A: Allocator + Clone>(
+    state: &CallState<A>,
+    message: &Message<A>,
+) -> Option<MatchedTransaction>
+    requires { is_response message.now.start ≡ true }
+    ensures found { IfSome result (λ r. BelongsTo state.now message.now (seen_recipient r)) }
+    ensures none { IfNone result (BelongsToNoBranch state.now message.now) }
+{
+    let opened = state.opened();
+    let (top, second) = top_of(message);
+    let n = target_of(top, opened.own(), opened.branch(0))?;
+    if is_for_client(state, message, second, n) {
+        return Some(MatchedTransaction::Client(n));
+    }
+    if is_for_cancel(state, message, n) {
+        return Some(MatchedTransaction::CancelClient(n));
+    }
+    None
+}
+
+/// The part that a request plays in the caller's transaction: it has the key of the call's own request, and is that
+/// request again, its ACK or its CANCEL (RFC 3261 sections 9.2 and 17.2.3).
+fn request_recipient<A: Allocator + Clone>(
+    state: &CallState<A>,
+    message: &Message<A>,
+) -> Option<MatchedTransaction>
+    ensures found { IfSome result (λ r. BelongsTo state.now message.now (seen_recipient r)) }
+    ensures none { IfNone result (BelongsToNoServer state.now message.now) }
+{
+    if !has_same_key(message, state.opened().request()) {
+        return None;
+    }
+    if is_request_of(message, opening_method(state)) {
+        return Some(MatchedTransaction::Server);
+    }
+    if is_request_of(message, b"ACK") {
+        return Some(MatchedTransaction::ServerAck);
+    }
+    if is_request_of(message, b"CANCEL") {
+        return Some(MatchedTransaction::ServerCancel);
+    }
+    None
+}
+
+/// The transaction of a call that a message is for, if there is one. A request is for the caller's where it has the key of
+/// the request that opened the call, and where its method is that request's, ACK or CANCEL. A response is for that of a
+/// branch where its top Via value is the one that the proxy put into what it sent there (RFC 3261 sections 9.2, 16.7 steps
+/// 1 and 3, 17.1.3 and 17.2.3). It takes no memory.
+#[tactic(auto, using(crate::proofs::Matched::to_none, crate::proofs::Matched::no_request, crate::proofs::Matched::no_response))]
+pub fn match_transaction<A: Allocator + Clone>(
+    state: &CallState<A>,
+    message: &Message<A>,
+) -> Option<MatchedTransaction>
+    ensures found { IfSome result (λ r. BelongsTo state.now message.now (seen_recipient r)) }
+    ensures none { IfNone result (BelongsToNone state.now message.now) }
+{
+    if is_response(message) {
+        response_recipient(state, message)
+    } else {
+        request_recipient(state, message)
+    }
+}

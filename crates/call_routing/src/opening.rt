@@ -1,0 +1,276 @@
+//! How a call opens.
+ghost use Rattle.std.specs.Prelude.{◌≡◌, ◌≢◌, ◌<◌, ◌↔◌, [], ℕ, length, slice_get, true, IfErr, IfOk, IfSome, IsOk, IsTrue, Ok, Some};
+ghost use Rattle.std.specs.List.{list_all};
+ghost use Rattle.std.specs.Option.{option_and_then};
+ghost use Rattle.fork_model.specs.Table.{Row};
+ghost use Rattle.sip_text.specs.Name.{first_value};
+ghost use Rattle.sip_route.specs.Hops.{IsHops, hops_name};
+ghost use Rattle.sip_build.specs.Forwarding.{is_request};
+ghost use Rattle.fork_rank.specs.KindView as kinds;
+ghost use Rattle.fork_model.specs.Log.{opening_log, table_of};
+ghost use Rattle.proxy_routing.specs.Admission.{target_uri};
+ghost use Rattle.call_routing.specs.Opening.{Asks, IsBegun, IsOpenable, IsRefused, IsUnreachable, Opens, Reaches, Refuses};
+ghost use Rattle.call_routing.specs.Destinations.{AreDestinations, destination_to};
+ghost use Rattle.call_routing.specs.inner.Distinct.{AreDistinct};
+ghost use Rattle.sip_uri.specs.Fault.{Gives, refusal};
+ghost use Rattle.proxy_routing.specs.Targets.{has_hop, targets_of};
+
+use call_answers::place_of;
+use call_branch::{Destination, OpenedRequest};
+use call_state::CallState;
+use fork_book::Book;
+use fork_context::{Kind, NewFault};
+use fork_rank::Rules;
+use proxy_config::{Setup, locations_are_targets};
+use proxy_routing::{
+    Choice, RequestRejection, asks_extension, choices, have_hops, hop_if_any, is_domain,
+    targets_of, validate_request,
+};
+use sip_route::{first_route, request_uri};
+use sip_text::{Message, Start};
+use sip_uri::{Hop, SipUri, UriFault};
+use sip_via::reply_hop_of;
+use std::alloc::{AllocError, Allocator, Global};
+
+/// Where the request to a target goes, which has a hop.
+fn destination_to<A: Allocator + Clone>(
+    alloc: A,
+    choice: &Choice<'_, A>,
+) -> Result<Destination<A>, AllocError>
+    requires hop { has_hop choice.now ≡ true }
+    ensures { IfOk result (λ destination. destination_to choice.now ≡ Some destination) }
+{
+    let Some(hop) = choice.hop() else {
+        unreachable!()
+    };
+    Ok(Destination::new(choice.uri().requested(alloc)?, hop))
+}
+
+/// The same for the target at that place.
+fn destination_at<A: Allocator + Clone>(
+    alloc: A,
+    choices: &[Choice<'_, A>],
+    place: usize,
+) -> Result<Destination<A>, AllocError>
+    requires there { place < length choices.now }
+    requires hops { list_all has_hop choices.now ≡ true }
+    ensures { IfOk result (λ destination. option_and_then destination_to (slice_get choices.now place) ≡ Some destination) }
+{
+    destination_to(alloc, &choices[place])
+}
+
+/// The URI that a request names, where it can be read (RFC 3261 section 16.5).
+///
+/// # Errors
+///
+/// The fault of the Request-URI, as [`SipUri::read`] finds it; then `NoMemory`.
+pub fn read_target<A: Allocator + Clone>(
+    alloc: A,
+    request: &Message<A>,
+) -> Result<SipUri<A>, UriFault>
+    ensures exact { Gives (λ uri. uri) result (target_uri request.now) }
+    ensures refused { IfErr result (λ fault. fault ≡ refusal (target_uri request.now)) }
+{
+    SipUri::read(alloc, request_uri(request))
+}
+
+/// The URI that a request names which was admitted, and so can be read (RFC 3261 sections 16.3 and 16.5).
+///
+/// # Errors
+///
+/// Only where the allocator refuses.
+pub fn admitted_target<A: Allocator + Clone>(
+    alloc: A,
+    request: &Message<A>,
+) -> Result<SipUri<A>, AllocError>
+    requires readable { IsOk (target_uri request.now) }
+    ensures { IfOk result (λ uri. target_uri request.now ≡ Ok uri) }
+{
+    match read_target(alloc, request) {
+        Ok(uri) => Ok(uri),
+        Err(UriFault::NoMemory) => Err(AllocError),
+        Err(UriFault::NotSip) => unreachable!(),
+        Err(UriFault::BadHost) => unreachable!(),
+        Err(UriFault::BadPort) => unreachable!(),
+        Err(UriFault::BadText) => unreachable!(),
+    }
+}
+
+/// Where the request of each row goes, in the order of the rows.
+fn destinations_of<A: Allocator + Clone>(
+    alloc: &A,
+    choices: &[Choice<'_, A>],
+    book: &Book<A>,
+) -> Result<Vec<Destination<A>, A>, AllocError>
+    requires hops { list_all has_hop choices.now ≡ true }
+    requires places { (n : ℕ) (row : Row) → slice_get (table_of book.now).rows n ≡ Some row → row.place < length choices.now }
+    ensures { IfOk result (λ destinations. AreDestinations choices.now (table_of book.now).rows destinations.items) }
+{
+    let count = book.context().count();
+    let mut destinations = Vec::with_capacity(alloc.clone()?, count as usize)?;
+    for n in 0..book.context().count() {
+        let place = place_of(book, n);
+        destinations.push(destination_at(alloc.clone()?, choices, place)?)?;
+    }
+    Ok(destinations)
+}
+
+/// The book of a fork to these targets, of which there is one at least, no more than may be tried, and none twice: so want of
+/// memory alone keeps it from being made.
+fn book_of<A: Allocator + Clone>(
+    alloc: A,
+    kind: Kind,
+    rules: Rules,
+    choices: &[Choice<'_, A>],
+) -> Result<Book<A>, AllocError>
+    requires some { choices.now ≢ [] }
+    requires distinct { AreDistinct choices.now }
+    ensures { IfOk result (λ book. book ≡ opening_log (kinds.kind_of kind) rules (targets_of choices.now)) }
+{
+    let targets = targets_of(alloc.clone()?, choices)?;
+    match Book::new(alloc, kind, rules, targets) {
+        Ok(book) => Ok(book),
+        Err(NewFault::NoMemory) => Err(AllocError),
+        Err(NewFault::NoTargets) => unreachable!(),
+        Err(NewFault::TooMany) => unreachable!(),
+        Err(NewFault::Twice) => unreachable!(),
+    }
+}
+
+/// Shows that each row of a book that was opened so is for one of the targets.
+fn rows_have_places<A: Allocator + Clone>(
+    book: &Book<A>,
+    choices: &[Choice<'_, A>],
+    kind: Kind,
+    rules: Rules,
+)
+    requires { book.now ≡ opening_log (kinds.kind_of kind) rules (targets_of choices.now) }
+    ensures { (n : ℕ) (row : Row) → slice_get (table_of book.now).rows n ≡ Some row → row.place < length choices.now }
+{}
+
+/// The parts of a call that begins so, each of whose targets has a hop.
+fn begin<A: Allocator + Clone>(
+    alloc: A,
+    heap: Global,
+    rules: Rules,
+    opened: OpenedRequest<A>,
+    choices: &[Choice<'_, A>],
+    now: u64,
+) -> Result<CallState<A>, AllocError>
+    requires hops { list_all has_hop choices.now ≡ true }
+    requires some { choices.now ≢ [] }
+    requires distinct { AreDistinct choices.now }
+    ensures { IfOk result (IsBegun rules opened choices.now) }
+{
+    let kind = opened.kind();
+    let book = book_of(alloc.clone()?, kind, rules, choices)?;
+    rows_have_places(&book, choices, kind, rules);
+    let destinations = destinations_of(&alloc, choices, &book)?;
+    CallState::begin(alloc, heap, opened, book, destinations, now)
+}
+
+/// The parts of the call that opens for a request to this URI, as it was prepared.
+fn open_to<A: Allocator + Clone>(
+    alloc: A,
+    heap: Global,
+    setup: &Setup<A>,
+    number: u64,
+    request: Message<A>,
+    uri: &SipUri<A>,
+    source: Hop,
+    now: u64,
+) -> Result<CallState<A>, RequestRejection>
+    requires request { is_request request.start ≡ true }
+    requires hops { IfSome (first_value hops_name request.headers) IsHops }
+    ensures opened { IfOk result (Reaches setup.now number request source uri.now) }
+    ensures refused { IfErr result (IsUnreachable setup.now request uri.now) }
+{
+    let route = first_route(&request);
+    let inside = is_domain(alloc.clone()?, setup, uri.host())?;
+    let choices = choices(alloc.clone()?, setup, inside, route, uri)?;
+    if choices.is_empty() {
+        return Err(RequestRejection::NoTarget);
+    }
+    if !have_hops(&choices) {
+        return Err(RequestRejection::NoHop);
+    }
+    let caller = reply_hop_of(&request, source);
+    let opened = OpenedRequest::new(
+        number,
+        setup.own(),
+        setup.instance(),
+        request,
+        caller,
+        hop_if_any(route),
+        inside,
+    );
+    locations_are_targets();
+    let _locations = setup.locations();
+    match begin(alloc, heap, setup.rules(), opened, &choices, now) {
+        Ok(state) => Ok(state),
+        Err(_) => Err(RequestRejection::NoMemory),
+    }
+}
+
+/// The parts of the call that opens for a request as it was prepared.
+fn open_prepared<A: Allocator + Clone>(
+    alloc: A,
+    heap: Global,
+    setup: &Setup<A>,
+    number: u64,
+    request: Message<A>,
+    source: Hop,
+    now: u64,
+) -> Result<CallState<A>, RequestRejection>
+    requires request { is_request request.start ≡ true }
+    requires hops { IfSome (first_value hops_name request.headers) IsHops }
+    requires readable { IsOk (target_uri request) }
+    ensures opened { IfOk result (λ call. Asks request (λ uri. Reaches setup.now number request source uri call)) }
+    ensures refused { IfErr result (IsRefused setup.now request) }
+{
+    if asks_extension(&request) {
+        return Err(RequestRejection::Extension);
+    }
+    let uri = admitted_target(alloc.clone()?, &request)?;
+    open_to(alloc, heap, setup, number, request, &uri, source, now)
+}
+
+/// Whether a message is a request that may open a call: neither an ACK nor a CANCEL, which are for a call that was opened
+/// (RFC 3261 sections 9.2 and 17.2.1).
+pub fn is_openable<A: Allocator>(message: &Message<A>) -> bool
+    ensures { IsTrue result ↔ IsOpenable message.now.start }
+{
+    match message.start() {
+        Start::Request { method, .. } => {
+            method.as_slice() != b"ACK".as_slice() && method.as_slice() != b"CANCEL".as_slice()
+        }
+        Start::Response { .. } => false,
+    }
+}
+
+/// The parts of the call that a request from `source` opens under this number; it is neither an ACK nor a CANCEL. The
+/// targets of a request to the domain are the locations of its user, that of any other is its Request-URI, for which the
+/// proxy is not responsible: contacts of a 3xx are tried in the domain alone (RFC 3261 sections 16.3 to 16.6). Nothing was
+/// sent yet; a 100 is owed to an INVITE. The queue of what is owed to the caller lies on `heap`, all else in `alloc`.
+///
+/// # Errors
+///
+/// The first of those of [`RequestRejection`] that holds; `NoMemory` wherever the allocator refuses.
+pub fn open<A: Allocator + Clone>(
+    alloc: A,
+    heap: Global,
+    setup: &Setup<A>,
+    number: u64,
+    request: Message<A>,
+    source: Hop,
+    now: u64,
+) -> Result<CallState<A>, RequestRejection>
+    requires { IsOpenable request.start }
+    ensures opened { IfOk result (Opens setup.now number request source) }
+    ensures refused { IfErr result (Refuses setup.now request source) }
+{
+    match validate_request(alloc.clone()?, setup.own(), request, source) {
+        Ok(request) => open_prepared(alloc, heap, setup, number, request, source, now),
+        Err(fault) => Err(fault),
+    }
+}

@@ -1,5 +1,0 @@
-use Rattle.std.proofs.Common.{rules}
-use Rattle.call_state.proofs.parts.Parts.failed.Goals as goal
-
-pub returns-in-Cancel-clause-ok : goal.returns-in-Cancel-clause-ok
-returns-in-Cancel-clause-ok c = search rules

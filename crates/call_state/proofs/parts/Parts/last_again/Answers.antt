@@ -1,9 +1,0 @@
-use Rattle.call_state.proofs.Common.{◌≡◌, ℕ, List, subst, IfOk, Call, seen}
-use Rattle.call_state.specs.inner.PartsInside.{answer_to}
-use Rattle.call_state.proofs.parts.Parts.last_again.Goals as goal
-
-pub returns : goal.returns
-returns g c =
-    let L : List ℕ → Type 0 = λ l. IfOk c.answer_again.result (λ d. seen d ≡ answer_to c.self.inside.fixed l) in
-    let P : Call → Type 0 = λ x. IfOk c.answer_again.result (λ d. seen d ≡ answer_to x.fixed x.server.last) in
-    subst P c.self.view_is (subst L c.deref.ensures.value c.answer_again.ensures)

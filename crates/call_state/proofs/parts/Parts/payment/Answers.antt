@@ -1,5 +1,0 @@
-use Rattle.std.proofs.Common.{rules}
-use Rattle.call_state.proofs.parts.Parts.payment.Goals as goal
-
-pub returns-in_ok-allocator-in-Trying : goal.returns-in_ok-allocator-in-Trying
-returns-in_ok-allocator-in-Trying c = search rules

@@ -1,7 +1,0 @@
-use Rattle.call_state.proofs.Deeds.{ack_sent}
-use Rattle.call_state.proofs.parts.Parts.send_ack.Goals as goal
-
-pub returns : goal.returns
-returns g c =
-    ack_sent c.args.self.now c.remove_ack.new.self c.args.n 0 c.way.result.now c.part-part.result.now c.part-part.ensures c.way.ensures
-    c.hop-to.result c.in-Some.bytes.items c.hop-to.ensures c.in-Some.ensures.ack c.in-Some.ensures.left

@@ -1,5 +1,0 @@
-use Rattle.std.proofs.Common.{rules}
-use Rattle.call_state.proofs.parts.Parts.tick_server.Goals as goal
-
-pub returns-then-not-is_response-clause-ok : goal.returns-then-not-is_response-clause-ok
-returns-then-not-is_response-clause-ok c = search rules

@@ -1,0 +1,6 @@
+use Rattle.call_branch.specs.BranchInside.{cancel_on}
+use Rattle.call_state.proofs.Sizes.{sized_changed}
+use Rattle.call_state.proofs.state.CallState.cancel_on_part.Goals as goal
+
+pub invariant_of-self : goal.invariant_of-self
+invariant_of-self g c = sized_changed (cancel_on c.args.client) c.self.inside.book c.self.inside.destinations.items c.self.inside.branches.items c.cancel_on_branch.new.branches.items c.args.n c.self.invariant c.cancel_on_branch.ensures

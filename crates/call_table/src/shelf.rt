@@ -1,0 +1,266 @@
+//! Values under numbers and keys, each behind a lock of its own.
+ghost use Rattle.std.specs.Prelude.{◌≡◌, ◌+◌, ℕ, List, Ok, Err, Some, IfErr, IfOk, IfSome, OnOk, OnErr};
+ghost use Rattle.std.specs.Bool.{OnTrue, OnFalse};
+ghost use Rattle.std.specs.Fn.{FnOnceReturnsAtMut};
+ghost use Rattle.call_table.specs.inner.KeyTable.{number_of, IsListed, IsSame, IsUnlisted};
+ghost use Rattle.call_table.specs.Faults.{IfMade};
+
+use crate::key_table::{KeyTable, Taken};
+use std::alloc::{AllocError, Allocator, Global};
+use std::collections::VecDeque;
+use std::mem;
+use std::sync::{Arc, Mutex, Wait};
+use thiserror::Error;
+
+/// A value that knows its number on a shelf.
+pub trait Numbered {
+    ghost number_of: { Self → ℕ };
+
+    /// Its number.
+    fn number(&self) -> u64
+        ensures { result ≡ number_of self.now };
+}
+
+/// Why nothing was put, in the order in which the causes are looked for.
+#[derive(Drop, Error)]
+#[derive_where(Debug)]
+pub enum ShelfFault<E> {
+    /// The key has this number already.
+    #[error("the key has number {0}")]
+    Known(u64),
+    /// No number is left.
+    #[error("no number is left")]
+    Spent,
+    /// What makes the value refused.
+    #[error("the value was not made")]
+    Made(#[derive_where(skip)] E),
+    /// A growth was refused.
+    #[error("out of memory")]
+    NoMemory,
+}
+
+/// A value behind its lock, and the key that it was put under.
+#[derive(Drop)]
+struct Entry<T, A: Allocator> {
+    key: Vec<u8, A>,
+    value: Arc<Mutex<T>, A>,
+}
+
+/// The values by number. Each number below `base` was given, and its value was taken away; the place of a number from there on
+/// is how far it is behind `base`, and is empty where its value was taken away.
+#[derive(Drop)]
+struct Entries<T, A: Allocator> {
+    base: u64,
+    places: VecDeque<Option<Entry<T, A>>, A>,
+    /// How many places have a value.
+    held: u64,
+}
+
+impl<T: Drop, A: Allocator> Entries<T, A> {
+    /// No value, and no number given.
+    fn new(alloc: A) -> Entries<T, A> {
+        Entries {
+            base: 0,
+            places: VecDeque::new(alloc),
+            held: 0,
+        }
+    }
+
+    /// The place of a number that is not below `base`.
+    fn place_of(&self, no: u64) -> Option<usize> {
+        usize::try_from(no.checked_sub(self.base)?).ok()
+    }
+
+    /// The entry of a number, where its value was put and not taken away.
+    fn get(&self, no: u64) -> Option<&Entry<T, A>> {
+        match self.places.get(self.place_of(no)?) {
+            Some(Some(entry)) => Some(entry),
+            _ => None,
+        }
+    }
+
+    /// Takes the entry of a number away. Empty places in front go, too, so that the list is no longer than from the oldest value
+    /// to the newest.
+    fn take(&mut self, no: u64) -> Option<Entry<T, A>> {
+        let at = self.place_of(no)?;
+        let taken = mem::take(self.places.get_mut(at)?)?;
+        self.held = self.held.wrapping_sub(1);
+        for _ in 0..self.places.len() {
+            if !matches!(self.places.front(), Some(None)) {
+                break;
+            }
+            let _ = self.places.pop_front();
+            self.base = self.base.wrapping_add(1);
+        }
+        Some(taken)
+    }
+}
+
+/// Values under numbers and keys. The keys have a lock, the list of entries another, which is held for a moment only, and
+/// each value one of its own: who looks at a value waits neither for one that is being made nor for a look at another.
+#[derive(Drop)]
+pub struct Shelf<T: Numbered, A: Allocator = Global> {
+    alloc: A,
+    key_table: Mutex<KeyTable<A>>,
+    entries: Mutex<Entries<T, A>>,
+}
+
+impl<T: Numbered + Drop, A: Allocator + Clone> Shelf<T, A> {
+    /// A shelf with nothing on it. The only error is want of memory.
+    pub fn new(alloc: A) -> Result<Shelf<T, A>, AllocError> {
+        let firsts = alloc.clone()?;
+        let others = alloc.clone()?;
+        let entries = alloc.clone()?;
+        Ok(Shelf {
+            alloc,
+            key_table: Mutex::new(KeyTable::new(firsts, others)),
+            entries: Mutex::new(Entries::new(entries)),
+        })
+    }
+
+    /// Puts the value that `make` makes for the next number under a key, and answers the number. Numbers rise from 0. The
+    /// keys are locked while `make` runs, so it may look at the shelf's values, but not at its keys.
+    ///
+    /// # Errors
+    ///
+    /// `Known` where the key has a number; else `Spent` where none is left, without a call of `make`; else `Made` with what
+    /// `make` refused with; `NoMemory` only where the allocator refuses. Then the next number stays what it was.
+    pub fn put<R: Wait, E: Drop, F: FnOnce(u64) -> Result<T, E>>(
+        &self,
+        rt: &R,
+        key: &[u8],
+        make: F,
+    ) -> Result<u64, ShelfFault<E>>
+        requires callable { F.IsAlwaysCallable make }
+        requires numbered { (no : ℕ) (value : T) → F.post make no (Ok value) → T.number_of value ≡ no }
+        ensures made { IfOk result (λ no. (value : T) × F.post make no (Ok value)) }
+        ensures refused { IfErr result (IfMade (λ refused. (no : ℕ) × F.post make no (Err refused))) }
+    {
+        self.put_at(rt, &mut self.key_table.lock(rt), key, make)
+    }
+
+    /// Puts as `put` does, with the keys locked.
+    fn put_at<R: Wait, E: Drop, F: FnOnce(u64) -> Result<T, E>>(
+        &self,
+        rt: &R,
+        key_table: &mut KeyTable<A>,
+        key: &[u8],
+        make: F,
+    ) -> Result<u64, ShelfFault<E>>
+        requires callable { F.IsAlwaysCallable make }
+        requires numbered { (no : ℕ) (value : T) → F.post make no (Ok value) → T.number_of value ≡ no }
+        ensures made { IfOk result (λ no. (value : T) × F.post make no (Ok value)) }
+        ensures refused { IfErr result (IfMade (λ refused. (no : ℕ) × F.post make no (Err refused))) }
+        ensures number { IfOk result (λ no. no ≡ key_table.old.next) }
+        ensures ok { OnOk result (IsListed key.now key_table.old key_table.new) }
+        ensures err { OnErr result (IsSame key_table.old key_table.new) }
+    {
+        let no = match key_table.free(key) {
+            Ok(no) => no,
+            Err(Taken::Known(no)) => return Err(ShelfFault::Known(no)),
+            Err(Taken::Spent) => return Err(ShelfFault::Spent),
+        };
+        let value = match make(no) {
+            Ok(value) => value,
+            Err(refused) => return Err(ShelfFault::Made(refused)),
+        };
+        let Ok(name) = self.name(key) else {
+            return Err(ShelfFault::NoMemory);
+        };
+        let Ok(entry) = self.behind_lock(value) else {
+            return Err(ShelfFault::NoMemory);
+        };
+        let Ok(key) = self.name(key) else {
+            return Err(ShelfFault::NoMemory);
+        };
+        let mut entries = self.entries.lock(rt);
+        if entries.places.reserve(1).is_err() || key_table.list(name).is_err() {
+            return Err(ShelfFault::NoMemory);
+        }
+        let _ = entries.places.push_back(Some(Entry { key, value: entry }));
+        entries.held = entries.held.wrapping_add(1);
+        Ok(no)
+    }
+
+    /// A key in memory of the shelf's own.
+    fn name(&self, key: &[u8]) -> Result<Vec<u8, A>, AllocError>
+        ensures { IfOk result (λ name. name.items ≡ key.now) }
+    {
+        Vec::from_slice(self.alloc.clone()?, key)
+    }
+
+    /// A value behind a lock.
+    fn behind_lock(&self, value: T) -> Result<Arc<Mutex<T>, A>, AllocError> {
+        let alloc = self.alloc.clone()?;
+        match Arc::new(alloc, Mutex::new(value)) {
+            Ok(entry) => Ok(entry),
+            Err(_) => Err(AllocError),
+        }
+    }
+
+    /// How many values were put: each number below it was given once, and none from it on.
+    pub fn count<R: Wait>(&self, rt: &R) -> u64 {
+        self.key_table.lock(rt).next
+    }
+
+    /// The number of a key.
+    pub fn keyed<R: Wait>(&self, rt: &R, key: &[u8]) -> Option<u64> {
+        self.key_table.lock(rt).keyed(key)
+    }
+
+    /// Takes the value of a number away, with its key, and says whether it was there. The key may be put anew and gets a new
+    /// number then; the number is never given again. Who looks at the value meanwhile goes on looking, and it goes with the last
+    /// look. It takes no memory.
+    pub fn remove<R: Wait>(&self, rt: &R, no: u64) -> bool {
+        self.remove_at(rt, &mut self.key_table.lock(rt), no)
+    }
+
+    /// Takes away as `remove` does, with the keys locked.
+    fn remove_at<R: Wait>(&self, rt: &R, key_table: &mut KeyTable<A>, no: u64) -> bool
+        ensures gone { OnTrue result ((key : List ℕ) × (number_of key_table.old key ≡ Some no) × IsUnlisted key key_table.old key_table.new) }
+        ensures same { OnFalse result (key_table.new ≡ key_table.old) }
+    {
+        let Some(entry) = self.entries.lock(rt).take(no) else {
+            return false;
+        };
+        if key_table.keyed(&entry.key) != Some(no) {
+            return false;
+        }
+        key_table.unlist(&entry.key);
+        true
+    }
+
+    /// How many values are there: those that were put and not taken away.
+    pub fn held<R: Wait>(&self, rt: &R) -> u64 {
+        self.entries.lock(rt).held
+    }
+
+    /// The entry of a number, with no lock held.
+    fn entry<R: Wait>(&self, rt: &R, no: u64) -> Option<Arc<Mutex<T>, A>> {
+        let entries = self.entries.lock(rt);
+        Arc::try_clone(&entries.get(no)?.value).ok()
+    }
+
+    /// Calls `f` at the value of a number, with that value locked, and answers what it returns. None where there is no such
+    /// number, or no further owner of the entry could be made.
+    pub fn with<R: Wait, U, F: FnOnce(&mut T) -> U>(&self, rt: &R, no: u64, f: F) -> Option<U>
+        requires callable { (x : _) → T.number_of x.now ≡ no → F.pre f x }
+        requires keeps { (old new : T) (r : U) → T.number_of old ≡ no → FnOnceReturnsAtMut F.FnOnce f old r new → T.number_of new ≡ no }
+        ensures { IfSome result (λ r. (old : T) × (new : T) × (T.number_of old ≡ no) × FnOnceReturnsAtMut F.FnOnce f old r new) }
+    {
+        let entry = self.entry(rt, no)?;
+        let mut value = entry.lock(rt);
+        if value.number() != no {
+            return None;
+        }
+        Some(called(f, &mut *value))
+    }
+}
+
+/// What a call of `f` at a value returns.
+fn called<T, U, F: FnOnce(&mut T) -> U>(f: F, x: &mut T) -> U
+    requires { (r : _) → r.now ≡ x.old → F.pre f r }
+    ensures { FnOnceReturnsAtMut F.FnOnce f x.old result x.new }
+{
+    f(x)
+}

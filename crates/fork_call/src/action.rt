@@ -1,0 +1,116 @@
+//! What a call has to do next.
+ghost use Rattle.std.specs.Prelude.{◌≡◌, true, IfOk, OnErr};
+ghost use Rattle.sip_txn.specs.Timers.{is_due};
+ghost use Rattle.call_model.specs.Behind.{KeepsAnswers};
+ghost use Rattle.call_model.specs.Due.{is_due_at};
+ghost use Rattle.call_model.specs.Pump.{Does};
+ghost use Rattle.call_model.specs.SeenStep.{pumped};
+ghost use Rattle.call_model.specs.Sound.{IsSound};
+ghost use Rattle.fork_call.specs.inner.SeenAction.{seen_action};
+ghost use Rattle.fork_call.specs.inner.Timing.{row_moment, row_of_action};
+
+use crate::schedule::is_due;
+use call_model::Step;
+use call_state::CallState;
+use std::alloc::{AllocError, Allocator};
+
+/// One thing that a call may have to do; the number names a branch.
+#[derive(Clone, Copy, PartialEq, Eq, Debug)]
+pub(crate) enum Action {
+    /// The first answer that is owed to the caller.
+    SendAnswer,
+    /// A tick of the caller's transaction.
+    TickServer,
+    SendRequest(u16),
+    SendCancel(u16),
+    SendAck(u16),
+    /// A tick of the client transaction of a branch.
+    TickClient(u16),
+    /// A tick of that of its CANCEL.
+    TickCancel(u16),
+    /// Timer C of a branch (RFC 3261 section 16.8).
+    FireTimerC(u16),
+    /// The end of the wait for a cancelled branch (RFC 3261 section 9.1).
+    GiveUp(u16),
+}
+
+impl Action {
+    /// The row on which something is done.
+    pub(crate) fn row(self) -> Option<u16>
+        ensures { result ≡ row_of_action (seen_action self) }
+    {
+        match self {
+            Action::SendAnswer => None,
+            Action::TickServer => None,
+            Action::SendRequest(n) => Some(n),
+            Action::SendCancel(n) => Some(n),
+            Action::SendAck(n) => Some(n),
+            Action::TickClient(n) => Some(n),
+            Action::TickCancel(n) => Some(n),
+            Action::FireTimerC(n) => Some(n),
+            Action::GiveUp(n) => Some(n),
+        }
+    }
+
+    /// What is to be done on row n, whose moment has come: what is owed before the timers, and the ends of waiting before
+    /// the ticks.
+    pub(crate) fn on_row<A: Allocator + Clone>(state: &CallState<A>, n: u16, now: u64) -> Action
+        requires due { is_due now (row_moment state.now n) ≡ true }
+        ensures { is_due_at state.now now (seen_action result) ≡ true }
+    {
+        if state.owes_ack(n) {
+            return Action::SendAck(n);
+        }
+        if state.is_sent(n) && !state.is_cancel_sent(n) && state.is_cancelled(n) {
+            return Action::SendCancel(n);
+        }
+        if state.is_trying(n) && !state.is_sent(n) {
+            return Action::SendRequest(n);
+        }
+        if state.is_cancelled(n) && is_due(state.give_up_at(n), now) {
+            return Action::GiveUp(n);
+        }
+        if state.runs_timer_c(n) && is_due(state.timer_c_at(n), now) {
+            return Action::FireTimerC(n);
+        }
+        if is_due(state.client_at(n), now) {
+            return Action::TickClient(n);
+        }
+        Action::TickCancel(n)
+    }
+
+    /// Does it, where it is due.
+    ///
+    /// # Errors
+    ///
+    /// Only where the allocator refuses; then the parts are as they were.
+    pub(crate) fn perform<A: Allocator + Clone>(
+        self,
+        state: &mut CallState<A>,
+        now: u64,
+    ) -> Result<Step<A>, AllocError>
+        requires sound { IsSound state.old }
+        requires answers { KeepsAnswers state.old }
+        requires due { is_due_at state.old now (seen_action self) ≡ true }
+        ensures step { IfOk result (λ step. Does state.old now (seen_action self) (pumped step) state.new) }
+        ensures err { OnErr result (state.new ≡ state.old) }
+    {
+        match self {
+            Action::SendAnswer => state.send_owed(now),
+            Action::TickServer => state.tick_server(now),
+            Action::SendRequest(n) => Ok(Step::Send(state.send_request(n, now)?)),
+            Action::SendCancel(n) => Ok(Step::Send(state.send_cancel(n, now)?)),
+            Action::SendAck(n) => Ok(Step::Send(state.send_ack(n))),
+            Action::TickClient(n) => state.tick_client(n, now),
+            Action::TickCancel(n) => state.tick_cancel(n, now),
+            Action::FireTimerC(n) => {
+                state.fire_timer_c(n, now)?;
+                Ok(Step::Did)
+            }
+            Action::GiveUp(n) => {
+                state.give_up(n, now)?;
+                Ok(Step::Did)
+            }
+        }
+    }
+}

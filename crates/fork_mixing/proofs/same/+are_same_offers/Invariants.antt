@@ -1,5 +1,0 @@
-use Rattle.std.proofs.Common.{length}
-use Rattle.fork_mixing.proofs.same.+are_same_offers.Given as goal
-
-abbrev pub decreases-are_same_offers : goal.decreases-are_same_offers
-decreases-are_same_offers g l = length l.ones.now

@@ -1,5 +1,0 @@
-use Rattle.fork_shelf.proofs.InOrder.{sends, nothing_learned}
-use Rattle.fork_shelf.proofs.inbox.InboxIn.give.Goals as goal
-
-pub try_send_as-requires-clause-rule : goal.try_send_as-requires-clause-rule
-try_send_as-requires-clause-rule g c = (sends _ _ _ _ c.self.invariant.1, nothing_learned _ _)

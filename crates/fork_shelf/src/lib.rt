@@ -1,9 +1,0 @@
-//! What several threads share: values under numbers and keys, a lock for each, and queues of jobs.
-#![tactic(auto)]
-
-mod desk;
-pub mod inbox;
-mod shelf;
-
-pub use inbox::{Inbox, InboxIn, InboxOut, MOST_JOBS};
-pub use shelf::{Numbered, Shelf, ShelfFault};

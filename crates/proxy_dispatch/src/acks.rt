@@ -1,0 +1,150 @@
+//! ACKs that no call takes: those of the proxy's own answers, and those of answers that went up, which go on.
+ghost use Rattle.std.specs.Prelude.{◌≡◌, ◌↔◌, IfOk, IfSome, IsOk, IsTrue, Some, true};
+ghost use Rattle.sip_text.specs.Name.{first_value};
+ghost use Rattle.sip_route.specs.Hops.{IsHops, hops_name};
+ghost use Rattle.sip_build.specs.Forwarding.{is_request};
+ghost use Rattle.proxy_routing.specs.Admission.{target_uri};
+ghost use Rattle.call_model.specs.SeenDatagram.{seen};
+ghost use Rattle.proxy_dispatch.specs.declared.purpose.Purpose.TheVariants as purposes;
+ghost use Rattle.proxy_dispatch.specs.Becomes.{MessageBecomes};
+ghost use Rattle.proxy_dispatch.specs.Passing.{GoesOn, HasOwnTag, Passes};
+ghost use Rattle.proxy_dispatch.specs.Purpose.{purpose_of};
+ghost use Rattle.proxy_dispatch.specs.Sent.{passed_on, passed_text, passing_branch};
+ghost use Rattle.proxy_dispatch.specs.inner.Sent.{seen_sent};
+
+use crate::datagrams::Handled;
+use crate::outcome::{Outcome, Received};
+use call_routing::admitted_target;
+use fork_call::{Cause, Datagram, Setup};
+use proxy_routing::{hop_by, is_domain, validate_request};
+use sip_build::{own_tag, write_forwarded};
+use sip_route::{first_route, loop_key};
+use sip_text::Message;
+use sip_uri::{Hop, SipUri};
+use sip_via::BranchName;
+use std::alloc::{AllocError, Allocator};
+
+/// The number of the call in the branch of an ACK that belongs to none.
+const NO_CALL: u64 = 0;
+
+/// The number of the target there: no target of a call has it.
+const NO_TARGET: u16 = 65_535;
+
+/// Whether the To of a request has the tag of the proxy's own answers (RFC 3261 section 8.2.6.2).
+fn has_own_tag<A: Allocator>(request: &Message<A>) -> bool
+    ensures { IsTrue result ↔ HasOwnTag request.now }
+{
+    let own = own_tag(request);
+    request.to_tag() == Some(own.as_slice())
+}
+
+/// The branch of an ACK that goes on.
+fn passing_branch<A: Allocator>(setup: &Setup<A>, request: &Message<A>) -> BranchName
+    ensures { result ≡ passing_branch setup.now request.now }
+{
+    BranchName {
+        key: loop_key(request),
+        instance: setup.instance(),
+        context: NO_CALL,
+        target: NO_TARGET,
+    }
+}
+
+/// The text of a request as it goes on to this URI (RFC 3261 section 16.6).
+fn passed_text<A: Allocator + Clone>(
+    alloc: A,
+    setup: &Setup<A>,
+    request: &Message<A>,
+    uri: &SipUri<A>,
+) -> Result<Vec<u8, A>, AllocError>
+    requires request { is_request request.now.start ≡ true }
+    requires hops { IfSome (first_value hops_name request.now.headers) IsHops }
+    ensures { IfOk result (λ text. text.items ≡ passed_text setup.now request.now uri.now) }
+{
+    let branch = passing_branch(setup, request);
+    let mut text = Vec::new(alloc);
+    write_forwarded(request, uri, setup.own(), &branch, &mut text)?;
+    Ok(text)
+}
+
+/// The request as it goes on to this URI by this hop.
+fn passed_on<A: Allocator + Clone>(
+    alloc: A,
+    setup: &Setup<A>,
+    request: &Message<A>,
+    uri: &SipUri<A>,
+    hop: Hop,
+) -> Result<Datagram<A>, AllocError>
+    requires request { is_request request.now.start ≡ true }
+    requires hops { IfSome (first_value hops_name request.now.headers) IsHops }
+    ensures { IfOk result (λ datagram. seen datagram ≡ passed_on setup.now request.now uri.now hop) }
+{
+    let bytes = passed_text(alloc, setup, request, uri)?;
+    Ok(Datagram {
+        to: hop,
+        bytes,
+        cause: Cause::Request(NO_TARGET),
+    })
+}
+
+/// What goes on of a request that was admitted: nothing where it is for the domain, or no hop leads further.
+fn going_on<A: Allocator + Clone>(
+    alloc: A,
+    setup: &Setup<A>,
+    request: &Message<A>,
+) -> Result<Option<Datagram<A>>, AllocError>
+    requires request { is_request request.now.start ≡ true }
+    requires hops { IfSome (first_value hops_name request.now.headers) IsHops }
+    requires readable { IsOk (target_uri request.now) }
+    ensures { IfOk result (λ sent. GoesOn setup.now request.now (seen_sent sent)) }
+{
+    let uri = admitted_target(alloc.clone()?, request)?;
+    if is_domain(alloc.clone()?, setup, uri.host())? {
+        return Ok(None);
+    }
+    match hop_by(first_route(request), &uri) {
+        None => Ok(None),
+        Some(hop) => Ok(Some(passed_on(alloc, setup, request, &uri, hop)?)),
+    }
+}
+
+/// What goes on of an ACK that came from `source`: nothing where one of the first four steps of RFC 3261 section 16.3
+/// stops it.
+fn passing<A: Allocator + Clone>(
+    alloc: A,
+    setup: &Setup<A>,
+    ack: Message<A>,
+    source: Hop,
+) -> Result<Option<Datagram<A>>, AllocError>
+    requires { is_request ack.start ≡ true }
+    ensures { IfOk result (λ sent. Passes setup.now ack source (seen_sent sent)) }
+{
+    match validate_request(alloc.clone()?, setup.own(), ack, source) {
+        Ok(request) => going_on(alloc, setup, &request),
+        Err(fault) => match fault.status() {
+            Some(_) => Ok(None),
+            None => Err(AllocError),
+        },
+    }
+}
+
+/// An ACK that is for no call: it is absorbed where it acknowledges an answer of the proxy's own, and goes on where it can
+/// (RFC 3261 sections 16.11 and 17.2.1).
+pub(crate) fn acknowledged<A: Allocator + Clone>(
+    alloc: A,
+    setup: &Setup<A>,
+    ack: Message<A>,
+    received: &Received<'_>,
+) -> Result<Outcome<A>, AllocError>
+    requires { purpose_of ack.start ≡ Some purposes.Ack }
+    ensures { IfOk result (λ outcome.
+        MessageBecomes setup.now ack received.now.source received.now.at outcome.handled (seen_sent outcome.datagram)) }
+{
+    if has_own_tag(&ack) {
+        return Ok(Outcome::silent(Handled::Absorbed));
+    }
+    match passing(alloc, setup, ack, received.source)? {
+        None => Ok(Outcome::silent(Handled::Dropped)),
+        Some(datagram) => Ok(Outcome::sends(Handled::Forwarded, datagram)),
+    }
+}

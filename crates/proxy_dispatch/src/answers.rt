@@ -1,0 +1,99 @@
+//! Requests that the proxy answers without a call.
+ghost use Rattle.std.specs.Prelude.{◌≡◌, IfOk, Some};
+ghost use Rattle.std.specs.Option.{option_map};
+ghost use Rattle.sip_text.specs.Text.{spelling};
+ghost use Rattle.sip_build.specs.Generated.{code_of, generated_of};
+ghost use Rattle.call_model.specs.SeenDatagram.{seen};
+ghost use Rattle.proxy_routing.specs.Refusing.{status_of_fault};
+ghost use Rattle.proxy_dispatch.specs.declared.datagrams.Handled.TheVariants as handled;
+ghost use Rattle.proxy_dispatch.specs.Sent.{answer_of, answer_to};
+ghost use Rattle.proxy_dispatch.specs.inner.Sent.{seen_sent};
+
+use crate::datagrams::Handled;
+use crate::outcome::Outcome;
+use fork_call::{Cause, Datagram, RequestRejection};
+use sip_build::{OwnStatus, write_generated};
+use sip_text::Message;
+use sip_uri::Hop;
+use sip_via::{ViaFault, mark, reply_hop_of};
+use std::alloc::{AllocError, Allocator};
+
+/// The text of an answer of the proxy's own to this request (RFC 3261 section 8.2.6).
+fn answer_text<A: Allocator>(
+    alloc: A,
+    request: &Message<A>,
+    status: OwnStatus,
+) -> Result<Vec<u8, A>, AllocError>
+    ensures { IfOk result (λ text. text.items ≡ spelling (generated_of request.now status)) }
+{
+    let mut text = Vec::new(alloc);
+    write_generated(request, status, &mut text)?;
+    Ok(text)
+}
+
+/// An answer of the proxy's own to this request, to that hop.
+fn answer_to<A: Allocator>(
+    alloc: A,
+    request: &Message<A>,
+    status: OwnStatus,
+    to: Hop,
+) -> Result<Datagram<A>, AllocError>
+    ensures { IfOk result (λ datagram. seen datagram ≡ answer_to request.now status to) }
+{
+    let bytes = answer_text(alloc, request, status)?;
+    Ok(Datagram {
+        to,
+        bytes,
+        cause: Cause::Answer,
+    })
+}
+
+/// An answer of the proxy's own to a request that came from `source`: made of the request with its source, it goes where
+/// its top Via value says (RFC 3261 sections 18.2.1 and 18.2.2). Where that cannot be read it is made of the request as it
+/// came, and goes back to where that came from.
+fn answer_of<A: Allocator + Clone>(
+    alloc: A,
+    request: Message<A>,
+    source: Hop,
+    status: OwnStatus,
+) -> Result<Datagram<A>, AllocError>
+    ensures { IfOk result (λ datagram. seen datagram ≡ answer_of request source status) }
+{
+    match mark(alloc.clone()?, request, source) {
+        Ok(marked) => answer_to(alloc, &marked, status, reply_hop_of(&marked, source)),
+        Err(unmarked) => match unmarked.fault {
+            ViaFault::BadVia => answer_to(alloc, &unmarked.message, status, source),
+            ViaFault::NoMemory => Err(AllocError),
+        },
+    }
+}
+
+/// A request that came from `source` is answered so.
+pub(crate) fn answered<A: Allocator + Clone>(
+    alloc: A,
+    request: Message<A>,
+    source: Hop,
+    status: OwnStatus,
+) -> Result<Outcome<A>, AllocError>
+    ensures handled { IfOk result (λ outcome. outcome.handled ≡ handled.Answered (code_of status)) }
+    ensures sent { IfOk result (λ outcome. seen_sent outcome.datagram ≡ Some (answer_of request source status)) }
+{
+    let datagram = answer_of(alloc, request, source, status)?;
+    Ok(Outcome::sends(Handled::Answered(status.code()), datagram))
+}
+
+/// The status that tells why no call was opened (RFC 3261 section 16.3); None for want of memory.
+pub(crate) fn status_of(fault: RequestRejection) -> Option<OwnStatus>
+    ensures { option_map code_of result ≡ status_of_fault fault }
+{
+    match fault {
+        RequestRejection::BadRequest => Some(OwnStatus::BadRequest),
+        RequestRejection::Scheme => Some(OwnStatus::UnsupportedUriScheme),
+        RequestRejection::Hops => Some(OwnStatus::TooManyHops),
+        RequestRejection::Loop => Some(OwnStatus::LoopDetected),
+        RequestRejection::Extension => Some(OwnStatus::BadExtension),
+        RequestRejection::NoTarget => Some(OwnStatus::TemporarilyUnavailable),
+        RequestRejection::NoHop => Some(OwnStatus::ServerInternalError),
+        RequestRejection::NoMemory => None,
+    }
+}

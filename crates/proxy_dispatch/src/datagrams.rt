@@ -1,0 +1,157 @@
+//! Datagrams that a proxy receives.
+ghost use Rattle.std.specs.Prelude.{◌≡◌, IfOk, Ok, OnErr, Option};
+ghost use Rattle.sip_text.specs.Message.{read_at};
+ghost use Rattle.call_model.specs.Built as built;
+ghost use Rattle.sip_text.specs.Fault.{fault_seen};
+ghost use Rattle.sip_text.specs.Reading.{Short};
+ghost use Rattle.proxy_dispatch.specs.Becomes.{Becomes, FaultBecomes, MessageBecomes};
+ghost use Rattle.proxy_dispatch.specs.inner.Becomes.{ToldBecomes};
+ghost use Rattle.proxy_dispatch.specs.Sent.{IsHanded};
+ghost use Rattle.proxy_dispatch.specs.inner.Sent.{seen_sent};
+
+use crate::answers::answered;
+use crate::outcome::{Outcome, Received};
+use crate::purpose::{is_answered, purpose_of};
+use crate::requests::requested;
+use crate::responses::responded;
+use call_table::Shelf;
+use fork_call::{Call, Datagram, Port, Setup};
+use sip_build::OwnStatus;
+use sip_text::{Message, ReadFault, faults_are_of_the_text};
+use sip_uri::Hop;
+use std::alloc::{AllocError, Allocator, Global};
+use std::sync::Wait;
+
+/// What became of a datagram.
+#[derive(Clone, Copy, PartialEq, Eq, Debug)]
+pub enum Handled {
+    /// It cannot be read, or no call takes it.
+    Dropped,
+    /// It is an ACK for an answer of the proxy's own (RFC 3261 section 17.2.1).
+    Absorbed,
+    /// It was answered with this status, and no call was opened.
+    Answered(u16),
+    /// It is an ACK for an answer that went up, and was sent on (RFC 3261 section 16.11).
+    Forwarded,
+    /// It opened the call of this number.
+    Opened(u64),
+    /// The call of this number took it.
+    Delivered(u64),
+}
+
+/// What becomes of a message.
+fn of_message<A: Allocator + Clone, R: Wait>(
+    rt: &R,
+    alloc: A,
+    heap: Global,
+    shelf: &Shelf<Call<A>, A>,
+    setup: &Setup<A>,
+    message: Message<A>,
+    received: &Received<'_>,
+) -> Result<Outcome<A>, AllocError>
+    requires { read_at received.now.bytes.now ≡ Ok message }
+    ensures { IfOk result (λ outcome.
+        MessageBecomes setup.now message received.now.source received.now.at outcome.handled (seen_sent outcome.datagram)) }
+{
+    match purpose_of(&message) {
+        None => responded(rt, shelf, setup, message, received),
+        Some(purpose) => requested(rt, alloc, heap, shelf, setup, message, purpose, received),
+    }
+}
+
+/// What becomes of a message whose body is cut short: a request is answered 400, but for an ACK (RFC 3261 section 18.3).
+fn of_head<A: Allocator + Clone>(
+    alloc: A,
+    head: Message<A>,
+    source: Hop,
+) -> Result<Outcome<A>, AllocError>
+    ensures { IfOk result (λ outcome. FaultBecomes (Short head) source outcome.handled (seen_sent outcome.datagram)) }
+{
+    if is_answered(purpose_of(&head)) {
+        answered(alloc, head, source, OwnStatus::BadRequest)
+    } else {
+        Ok(Outcome::silent(Handled::Dropped))
+    }
+}
+
+/// What becomes of a text that is no message.
+fn of_fault<A: Allocator + Clone>(
+    alloc: A,
+    fault: ReadFault<A>,
+    source: Hop,
+) -> Result<Outcome<A>, AllocError>
+    ensures { IfOk result (λ outcome. ToldBecomes (fault_seen fault) source outcome.handled (seen_sent outcome.datagram)) }
+{
+    match fault {
+        ReadFault::ShortBody(head) => of_head(alloc, head, source),
+        ReadFault::NoMemory => Err(AllocError),
+        ReadFault::StartLine
+        | ReadFault::HeaderLine
+        | ReadFault::Missing(_)
+        | ReadFault::Version
+        | ReadFault::Status
+        | ReadFault::CSeq
+        | ReadFault::Length => Ok(Outcome::silent(Handled::Dropped)),
+    }
+}
+
+/// What becomes of a datagram.
+fn outcome_of<A: Allocator + Clone, R: Wait>(
+    rt: &R,
+    alloc: A,
+    heap: Global,
+    shelf: &Shelf<Call<A>, A>,
+    setup: &Setup<A>,
+    received: &Received<'_>,
+) -> Result<Outcome<A>, AllocError>
+    ensures { IfOk result (λ outcome.
+        Becomes setup.now received.now.bytes.now received.now.source received.now.at outcome.handled (seen_sent outcome.datagram)) }
+{
+    faults_are_of_the_text();
+    match Message::read(alloc.clone()?, received.bytes) {
+        Ok(message) => of_message(rt, alloc, heap, shelf, setup, message, received),
+        Err(fault) => of_fault(alloc, fault, received.source),
+    }
+}
+
+/// Hands what there is to send to the port.
+fn hand<A: Allocator, P: Port>(port: &mut P, sent: &Option<Datagram<A>>)
+    ensures { IsHanded P.sends port.old (seen_sent sent.now) port.new }
+{
+    if let Some(datagram) = sent {
+        port.send(datagram);
+    }
+}
+
+/// Handles a datagram that came from `source` at `now`, in milliseconds (RFC 3261 sections 16.2, 16.7, 16.11, 17.1.3, 17.2.3
+/// and 18): the call that it belongs to takes it, or it opens one, or it is answered, sent on or dropped without one. An answer
+/// or an ACK that cannot be sent is lost, as on the way. Nothing else is handed to the port: what a call then has to send is for
+/// `carry`. A call that is opened has its queue of what is owed to the caller on `heap`, all else in `alloc`.
+///
+/// # Errors
+///
+/// Only where the allocator refuses; no call has changed then, none was opened, and nothing was sent.
+pub fn handle<A: Allocator + Clone, P: Port, R: Wait>(
+    rt: &R,
+    alloc: A,
+    heap: Global,
+    shelf: &Shelf<Call<A>, A>,
+    setup: &Setup<A>,
+    packet: &[u8],
+    source: Hop,
+    now: u64,
+    port: &mut P,
+) -> Result<Handled, AllocError>
+    ensures became { IfOk result (λ handled.
+        (sent : Option built.Datagram) × Becomes setup.now packet.now source now handled sent × IsHanded P.sends port.old sent port.new) }
+    ensures err { OnErr result (port.new ≡ port.old) }
+{
+    let received = Received {
+        bytes: packet,
+        source,
+        at: now,
+    };
+    let outcome = outcome_of(rt, alloc, heap, shelf, setup, &received)?;
+    hand(port, &outcome.datagram);
+    Ok(outcome.handled)
+}

@@ -1,0 +1,64 @@
+//! Messages that a call takes.
+ghost use Rattle.std.specs.Prelude.{◌≡◌, IfOk, true};
+ghost use Rattle.proxy_config.specs.Setup.{Setup};
+ghost use Rattle.proxy_dispatch.specs.Becomes.{IsDropped, IsFor, IsTaken, MessageBecomes};
+ghost use Rattle.proxy_dispatch.specs.Purpose.{purpose_of};
+ghost use Rattle.proxy_dispatch.specs.inner.Sent.{seen_sent};
+
+use crate::datagrams::Handled;
+use crate::outcome::{Outcome, Received};
+use call_table::Shelf;
+use fork_call::{Call, TakeFault};
+use sip_text::Message;
+use std::alloc::{AllocError, Allocator};
+use std::sync::Wait;
+
+/// Gives a message to the call of that number, and says whether it took it. It does not where it is not there, where the
+/// message is for none of its transactions, or where its book takes no more events that change nothing.
+///
+/// # Errors
+///
+/// Only where the allocator refuses; the call is then as it was.
+fn is_taken<A: Allocator + Clone, R: Wait>(
+    rt: &R,
+    shelf: &Shelf<Call<A>, A>,
+    no: u64,
+    message: Message<A>,
+    received: &Received<'_>,
+) -> Result<bool, AllocError>
+    ensures { IfOk result (λ well. well ≡ true → IsTaken no message received.now.source received.now.at) }
+{
+    let source = received.source;
+    let now = received.at;
+    match shelf.with(rt, no, |call| call.take(message, source, now)) {
+        Some(Ok(_)) => Ok(true),
+        Some(Err(TakeFault::NoMemory)) => Err(AllocError),
+        Some(Err(TakeFault::Stray | TakeFault::Full)) | None => Ok(false),
+    }
+}
+
+/// What becomes of a message that is for the call of that number: it is dropped where the call does not take it.
+///
+/// # Errors
+///
+/// Only where the allocator refuses; the call is then as it was.
+pub(crate) fn deliver<A: Allocator + Clone, R: Wait>(
+    rt: &R,
+    shelf: &Shelf<Call<A>, A>,
+    no: u64,
+    message: Message<A>,
+    received: &Received<'_>,
+) -> Result<Outcome<A>, AllocError>
+    ensures { IfOk result (λ outcome. (setup : Setup)
+        → IsFor setup no message (purpose_of message.start)
+        → IsDropped setup message received.now.source (purpose_of message.start)
+        → MessageBecomes setup message received.now.source received.now.at outcome.handled (seen_sent outcome.datagram)) }
+{
+    let taken = is_taken(rt, shelf, no, message, received)?;
+    let handled = if taken {
+        Handled::Delivered(no)
+    } else {
+        Handled::Dropped
+    };
+    Ok(Outcome::silent(handled))
+}

@@ -1,0 +1,50 @@
+//! What a request is for.
+ghost use Rattle.std.specs.Prelude.{◌≡◌};
+ghost use Rattle.proxy_dispatch.specs.Purpose.{is_answered, purpose_of, purpose_of_method};
+
+use sip_text::{Message, Start};
+use std::alloc::Allocator;
+
+/// What a request is for.
+#[derive(Clone, Copy, PartialEq, Eq, Debug)]
+pub(crate) enum Purpose {
+    /// It acknowledges an answer (RFC 3261 section 17.1.1.3).
+    Ack,
+    /// It cancels another request (RFC 3261 section 9).
+    Cancel,
+    /// It opens a call.
+    Opening,
+}
+
+/// What a request of that method is for.
+fn purpose_of_method(method: &[u8]) -> Purpose
+    ensures { result ≡ purpose_of_method method.now }
+{
+    if method == b"ACK".as_slice() {
+        Purpose::Ack
+    } else if method == b"CANCEL".as_slice() {
+        Purpose::Cancel
+    } else {
+        Purpose::Opening
+    }
+}
+
+/// What a request is for; None for a response.
+pub(crate) fn purpose_of<A: Allocator>(message: &Message<A>) -> Option<Purpose>
+    ensures { result ≡ purpose_of message.now.start }
+{
+    match message.start() {
+        Start::Request { method, .. } => Some(purpose_of_method(method)),
+        Start::Response { .. } => None,
+    }
+}
+
+/// Whether the proxy answers it.
+pub(crate) fn is_answered(purpose: Option<Purpose>) -> bool
+    ensures { result ≡ is_answered purpose }
+{
+    match purpose {
+        None | Some(Purpose::Ack) => false,
+        Some(Purpose::Cancel | Purpose::Opening) => true,
+    }
+}

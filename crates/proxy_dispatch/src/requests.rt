@@ -1,0 +1,186 @@
+//! Requests: known by their keys, or new.
+ghost use Rattle.std.specs.Prelude.{◌≡◌, ◌≢◌, IfOk, IsErrOf, None, Ok, Some};
+ghost use Rattle.std.specs.Option.{option_map};
+ghost use Rattle.sip_text.specs.Message.{read_at};
+ghost use Rattle.sip_route.specs.RequestKey.{request_key};
+ghost use Rattle.call_model.specs.Call as parts;
+ghost use Rattle.call_table.specs.declared.shelf.ShelfFault.TheVariants as shelf_fault;
+ghost use Rattle.proxy_routing.specs.declared.fault.RequestRejection.{RequestRejection};
+ghost use Rattle.call_routing.specs.Opening.{Opens, Refuses};
+ghost use Rattle.proxy_dispatch.specs.declared.purpose.Purpose.TheVariants as purposes;
+ghost use Rattle.proxy_dispatch.specs.Becomes.{MessageBecomes};
+ghost use Rattle.proxy_dispatch.specs.Purpose.{purpose_of};
+ghost use Rattle.proxy_dispatch.specs.inner.Sent.{seen_sent};
+
+use crate::acks::acknowledged;
+use crate::answers::{answered, status_of};
+use crate::datagrams::Handled;
+use crate::delivery::deliver;
+use crate::outcome::{Outcome, Received};
+use crate::purpose::Purpose;
+use call_table::{Shelf, ShelfFault};
+use fork_call::{Call, PendingCall, RequestRejection, Setup};
+use sip_build::OwnStatus;
+use sip_route::append_request_key;
+use sip_text::Message;
+use std::alloc::{AllocError, Allocator, Global};
+use std::sync::Wait;
+
+/// The key of a request, by which it is known when it comes again, with its ACK and its CANCEL (RFC 3261 section 17.2.3).
+fn key_of<A: Allocator>(alloc: A, request: &Message<A>) -> Result<Option<Vec<u8, A>>, AllocError>
+    ensures { IfOk result (λ key. option_map (λ text. text.items) key ≡ request_key request.now) }
+{
+    let mut key = Vec::new(alloc);
+    if append_request_key(&mut key, request)? {
+        Ok(Some(key))
+    } else {
+        Ok(None)
+    }
+}
+
+/// Opens a call under that key. It is prepared before the keys are locked, so nobody waits for that.
+fn open_call<A: Allocator + Clone, R: Wait>(
+    rt: &R,
+    alloc: A,
+    heap: Global,
+    shelf: &Shelf<Call<A>, A>,
+    setup: &Setup<A>,
+    key: &[u8],
+    request: Message<A>,
+    received: &Received<'_>,
+) -> Result<u64, ShelfFault<RequestRejection>>
+    requires { purpose_of request.start ≡ Some purposes.Opening }
+    ensures opened { IfOk result (λ no. (call : parts.Call) × Opens setup.now no request received.now.source call) }
+    ensures refused { (fault : RequestRejection) → IsErrOf result (shelf_fault.Made fault) → Refuses setup.now request received.now.source fault }
+{
+    let source = received.source;
+    let now = received.at;
+    let prepared = match PendingCall::new(alloc, heap, setup, request, source, now) {
+        Ok(prepared) => prepared,
+        Err(fault) => return Err(ShelfFault::Made(fault)),
+    };
+    shelf.put(rt, key, |no| Ok(prepared.numbered(no)))
+}
+
+/// The message of a datagram that was read before. A call that is not opened keeps its request, so it is read again for
+/// the answer; one that is opened costs no copy.
+fn read_again<A: Allocator + Clone>(
+    alloc: A,
+    received: &Received<'_>,
+) -> Result<Message<A>, AllocError>
+    ensures { IfOk result (λ message. read_at received.now.bytes.now ≡ Ok message) }
+{
+    match Message::read(alloc, received.bytes) {
+        Ok(message) => Ok(message),
+        Err(_) => Err(AllocError),
+    }
+}
+
+/// A request for which no call was opened is answered with the reason (RFC 3261 section 16.3).
+fn refused<A: Allocator + Clone>(
+    alloc: A,
+    setup: &Setup<A>,
+    request: Message<A>,
+    received: &Received<'_>,
+    fault: RequestRejection,
+) -> Result<Outcome<A>, AllocError>
+    requires opening { purpose_of request.start ≡ Some purposes.Opening }
+    requires refused { Refuses setup.now request received.now.source fault }
+    ensures { IfOk result (λ outcome.
+        MessageBecomes setup.now request received.now.source received.now.at outcome.handled (seen_sent outcome.datagram)) }
+{
+    match status_of(fault) {
+        Some(status) => answered(alloc, request, received.source, status),
+        None => Err(AllocError),
+    }
+}
+
+/// What becomes of a request whose key no call has: it opens a call, or is answered.
+fn opened<A: Allocator + Clone, R: Wait>(
+    rt: &R,
+    alloc: A,
+    heap: Global,
+    shelf: &Shelf<Call<A>, A>,
+    setup: &Setup<A>,
+    key: &[u8],
+    request: Message<A>,
+    received: &Received<'_>,
+) -> Result<Outcome<A>, AllocError>
+    requires opening { purpose_of request.start ≡ Some purposes.Opening }
+    requires key { request_key request ≢ None }
+    requires read { read_at received.now.bytes.now ≡ Ok request }
+    ensures { IfOk result (λ outcome.
+        MessageBecomes setup.now request received.now.source received.now.at outcome.handled (seen_sent outcome.datagram)) }
+{
+    match open_call(
+        rt,
+        alloc.clone()?,
+        heap,
+        shelf,
+        setup,
+        key,
+        request,
+        received,
+    ) {
+        Ok(no) => Ok(Outcome::silent(Handled::Opened(no))),
+        // another worker opened it meanwhile
+        Err(ShelfFault::Known(no)) => deliver(
+            rt,
+            shelf,
+            no,
+            read_again(alloc, received)?,
+            received,
+        ),
+        Err(ShelfFault::Spent) => Ok(Outcome::silent(Handled::Dropped)),
+        Err(ShelfFault::Made(fault)) => {
+            let request = read_again(alloc.clone()?, received)?;
+            refused(alloc, setup, request, received, fault)
+        }
+        Err(ShelfFault::NoMemory) => Err(AllocError),
+    }
+}
+
+/// What becomes of a request: the call that is known by its key takes it; where none is, an ACK is absorbed or goes on, a
+/// CANCEL is answered 481, and any other request opens a call (RFC 3261 sections 9.2, 16.2, 16.11 and 17.2.3). One without a
+/// key is not well formed.
+///
+/// # Errors
+///
+/// Only where the allocator refuses; no call has changed then, and none was opened.
+pub(crate) fn requested<A: Allocator + Clone, R: Wait>(
+    rt: &R,
+    alloc: A,
+    heap: Global,
+    shelf: &Shelf<Call<A>, A>,
+    setup: &Setup<A>,
+    request: Message<A>,
+    purpose: Purpose,
+    received: &Received<'_>,
+) -> Result<Outcome<A>, AllocError>
+    requires purpose { purpose_of request.start ≡ Some purpose }
+    requires read { read_at received.now.bytes.now ≡ Ok request }
+    ensures { IfOk result (λ outcome.
+        MessageBecomes setup.now request received.now.source received.now.at outcome.handled (seen_sent outcome.datagram)) }
+{
+    let key = key_of(alloc.clone()?, &request)?;
+    if let Some(key) = &key {
+        if let Some(no) = shelf.keyed(rt, key) {
+            return deliver(rt, shelf, no, request, received);
+        }
+    }
+    match (purpose, key) {
+        (Purpose::Ack, _) => acknowledged(alloc, setup, request, received),
+        (Purpose::Cancel, _) => answered(
+            alloc,
+            request,
+            received.source,
+            OwnStatus::CallDoesNotExist,
+        ),
+        (Purpose::Opening, None) => {
+            answered(alloc, request, received.source, OwnStatus::BadRequest)
+        }
+        (Purpose::Opening, Some(key)) => {
+            opened(rt, alloc, heap, shelf, setup, &key, request, received)
+        }
+    }
+}
