@@ -1,4 +1,4 @@
--- The branch that a message answers, and who its recipient is.
+-- The branch that a message answers, and which transaction it is for.
 use Rattle.call_routing.proofs.Common.{◌≡◌, refl, List, ℕ, ◌<◌, Bool, true, false, Option, Some, None, sym, subst, ap, ◌∙◌, ◌&&◌, codes, same_Some, option_map, Own, top_value, message_cseq, Call, is_sent, OpenedRequest, method_of, MessageText}
 use Rattle.call_routing.proofs.Common.{StartText, is_to_method}
 use Rattle.std.proofs.Common.{◌^◌}

@@ -1,4 +1,4 @@
--- A recipient in memory.
+-- A matched transaction in memory.
 use Rattle.call_model.specs.Take as take
 use Rattle.call_routing.specs.declared.transaction.MatchedTransaction.{MatchedTransaction}
 use Rattle.call_routing.specs.declared.transaction.MatchedTransaction.TheVariants as match_transaction

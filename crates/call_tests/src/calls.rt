@@ -5,7 +5,7 @@ use crate::recipients::{
 };
 use crate::requests::{SOURCE, setup_of};
 use call_routing::is_openable;
-use fork_call::{Call, Cause, Datagram, Prepared, Setup, Step, TakeFault, Taken};
+use fork_call::{Call, Cause, Datagram, PendingCall, Setup, Step, TakeFault, Taken};
 use std::alloc::Global;
 use std::process::Abort;
 
@@ -28,19 +28,19 @@ fn opened(alloc: Global) -> Option<Call> {
 }
 
 /// What the INVITE opens, before it has its number.
-fn prepared_by(alloc: Global, setup: &Setup<Global>) -> Option<Prepared> {
+fn prepared_by(alloc: Global, setup: &Setup<Global>) -> Option<PendingCall> {
     let invite = message_of(alloc, INVITE, (CALLER, NO_VIA), INVITING)?;
     if !is_openable(&invite) {
         return None;
     }
-    match Prepared::new(alloc, alloc, setup, invite, SOURCE, 0) {
+    match PendingCall::new(alloc, alloc, setup, invite, SOURCE, 0) {
         Ok(prepared) => Some(prepared),
         Err(_) => None,
     }
 }
 
 /// That of the setup with two locations.
-fn prepared(alloc: Global) -> Option<Prepared> {
+fn prepared(alloc: Global) -> Option<PendingCall> {
     let setup = setup_of(alloc, SETUP)?;
     prepared_by(alloc, &setup)
 }

@@ -2,7 +2,7 @@
 //! each target that still rings gets its CANCEL (RFC 3261 section 16.7 steps 5 and 10). And a request that comes before two threads
 //! at the same time opens one call, which the other thread's request is for (section 17.2.3).
 ghost use denote.Param.Send.{IsSync};
-ghost use Rattle.server_tests.specs.contracts.accepting.KeyTable.{the_row as desk_row};
+ghost use Rattle.server_tests.specs.contracts.accepting.Desk.{the_row as desk_row};
 ghost use Rattle.std.specs.Prelude.{◌≡◌};
 
 use crate::holds::holds;
@@ -180,13 +180,13 @@ trait Taking {
 
 /// Calls, and what they are set up by.
 #[derive(Drop)]
-struct KeyTable {
+struct Desk {
     alloc: Global,
     calls: Shelf<Call<Global>>,
     setup: Setup<Global>,
 }
 
-impl Taking for KeyTable {
+impl Taking for Desk {
     fn takes<R: Abort + Wait>(&self, rt: &R, text: &[u8], tally: &mut Tally) -> bool {
         match handle(
             rt,
@@ -209,7 +209,7 @@ impl Taking for KeyTable {
     }
 }
 
-impl KeyTable {
+impl Desk {
     /// Whether each branch of the first call has ended.
     fn has_ended<R: Wait>(&self, rt: &R) -> bool {
         self.calls.with(rt, 0, |call| have_ended(call)) == Some(true)
@@ -229,13 +229,7 @@ fn answer_of(alloc: Global, start: &[u8], n: u16) -> Option<Vec<u8>> {
 }
 
 /// Whether that target's answer is taken.
-fn answers<R: Abort + Wait>(
-    rt: &R,
-    desk: &KeyTable,
-    start: &[u8],
-    n: u16,
-    tally: &mut Tally,
-) -> bool {
+fn answers<R: Abort + Wait>(rt: &R, desk: &Desk, start: &[u8], n: u16, tally: &mut Tally) -> bool {
     match answer_of(desk.alloc, start, n) {
         Some(text) => desk.takes(rt, &text, tally),
         None => false,
@@ -243,8 +237,8 @@ fn answers<R: Abort + Wait>(
 }
 
 /// A desk with no call.
-fn idle(alloc: Global) -> Option<KeyTable> {
-    Some(KeyTable {
+fn idle(alloc: Global) -> Option<Desk> {
+    Some(Desk {
         alloc,
         calls: Shelf::new(alloc).ok()?,
         setup: Setup::read(alloc, SETUP).ok()?,
@@ -252,7 +246,7 @@ fn idle(alloc: Global) -> Option<KeyTable> {
 }
 
 /// A desk with one call, whose four targets ring. None of them was cancelled.
-fn ringing<R: Abort + Wait>(rt: &R, alloc: Global) -> Option<KeyTable> {
+fn ringing<R: Abort + Wait>(rt: &R, alloc: Global) -> Option<Desk> {
     let desk = idle(alloc)?;
     let mut tally = Tally::new();
     let mut well = desk.takes(rt, INVITE, &mut tally);
@@ -314,7 +308,7 @@ fn is_shared<T: Sync>(_: &T)
 {}
 
 /// That threads may share a desk.
-fn desk_is_shared(desk: &KeyTable)
+fn desk_is_shared(desk: &Desk)
     ensures { IsSync desk_row }
 {
     is_shared(desk);
@@ -337,7 +331,7 @@ fn is_right(one: &Tally, other: &Tally, pair: (u16, u16)) -> bool {
 }
 
 /// Whether the branches of the other targets end as these answer the CANCEL, and none is left.
-fn end<R: Abort + Wait>(rt: &R, desk: &KeyTable, pair: (u16, u16)) -> bool {
+fn end<R: Abort + Wait>(rt: &R, desk: &Desk, pair: (u16, u16)) -> bool {
     let mut tally = Tally::new();
     let mut well = !desk.has_ended(rt);
     for n in 0..TARGETS {

@@ -1,6 +1,6 @@
 //! A schedule gives each number that is due, once.
 use crate::holds::holds;
-use proxy_server::Schedule;
+use proxy_server::CallTimers;
 use std::alloc::Global;
 use std::sync::Wait;
 use std::test::Fail;
@@ -11,7 +11,7 @@ const NUMBERS: u64 = 200;
 
 #[test]
 fn what_is_due_comes_first_and_once(rt: HostRuntime) -> Result<(), Fail> {
-    let schedule = Schedule::new(rt.alloc())?;
+    let schedule = CallTimers::new(rt.alloc())?;
     holds(&rt, !schedule.is_due(1_000), "nothing is filed");
     schedule.file(&rt, 3, 500);
     schedule.file(&rt, 1, 200);
@@ -34,7 +34,7 @@ fn what_is_due_comes_first_and_once(rt: HostRuntime) -> Result<(), Fail> {
 
 #[test]
 fn a_number_can_be_filed_again(rt: HostRuntime) -> Result<(), Fail> {
-    let schedule = Schedule::new(rt.alloc())?;
+    let schedule = CallTimers::new(rt.alloc())?;
     schedule.file(&rt, 7, 10);
     let once = schedule.take(&rt, 10);
     holds(&rt, once == Some(7), "it is due");
@@ -46,7 +46,7 @@ fn a_number_can_be_filed_again(rt: HostRuntime) -> Result<(), Fail> {
 }
 
 /// Files every second number from this one on, the later ones earlier.
-fn file_half<R: Wait>(rt: &R, schedule: &Schedule, odd: bool) {
+fn file_half<R: Wait>(rt: &R, schedule: &CallTimers, odd: bool) {
     for number in 0..NUMBERS {
         if (number & 1 == 1) == odd {
             schedule.file(rt, number, NUMBERS - number);
@@ -55,7 +55,7 @@ fn file_half<R: Wait>(rt: &R, schedule: &Schedule, odd: bool) {
 }
 
 /// Whether the numbers come as they are due, the last one first.
-fn come_in_order<R: Wait>(rt: &R, schedule: &Schedule) -> bool {
+fn come_in_order<R: Wait>(rt: &R, schedule: &CallTimers) -> bool {
     let mut is_well = true;
     for gone in 0..NUMBERS {
         let due = NUMBERS - 1 - gone;
@@ -66,7 +66,7 @@ fn come_in_order<R: Wait>(rt: &R, schedule: &Schedule) -> bool {
 
 #[test]
 fn what_two_threads_file_is_all_given(rt: HostRuntime) -> Result<(), Fail> {
-    let schedule = Schedule::new(rt.alloc())?;
+    let schedule = CallTimers::new(rt.alloc())?;
     let _both = join(
         &rt,
         || file_half(&rt, &schedule, false),

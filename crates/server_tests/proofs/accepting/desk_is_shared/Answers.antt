@@ -5,7 +5,7 @@ use Rattle.std.proofs.Crossing.{frees, send, sync}
 use Rattle.call_table.proofs.laws.Crossing.{shelf_sync}
 use Rattle.proxy_config.proofs.laws.Crossing.{setup_sync}
 use Rattle.fork_call.proofs.laws.Crossing.{call_send}
-use Rattle.server_tests.specs.contracts.accepting.KeyTable as desk
+use Rattle.server_tests.specs.contracts.accepting.Desk as desk
 use Rattle.server_tests.proofs.accepting.desk_is_shared.Goals as goal
 
 desk_sync : IsSync desk.the_row
