@@ -1,4 +1,7 @@
-//! What a fork is: the definitions that every contract of the fork core cites, and laws over them.
+//! What a forked request is to the proxy core, in the definitions that every contract of it cites: the response
+//! context, a table with a row for each branch of the target set; what an event does to it, as a response of a branch,
+//! a timeout, a transport error or the caller's CANCEL; and which answer goes up to the caller (RFC 3261 sections 16.5
+//! to 16.10). A fork is short for such a request; laws over the definitions stand beside them.
 //!
 //! The definitions stand in `specs/`. The functions here have nothing to run: the contract of each is a law that
 //! holds of every fork, or a worked history.

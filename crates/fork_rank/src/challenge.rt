@@ -28,7 +28,7 @@ impl<A: Allocator> Challenge<A> {
         Challenge { proxy, value }
     }
 
-    /// Whether it is a proxy's.
+    /// Whether the challenge is a proxy's.
     pub fn proxy(&self) -> bool
         ensures { result ≡ self.now.proxy }
     {

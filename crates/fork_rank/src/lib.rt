@@ -1,5 +1,6 @@
-//! How stored answers rank: statuses, the rules an operator may set, ranks, groups by q, and challenges; and the kinds of
-//! request that are forked.
+//! How the final responses rank that a response context has stored, so that the best one goes up to the caller (RFC
+//! 3261 section 16.7 step 6): statuses, the rules an operator may set, ranks, and challenges. And how a target set is
+//! tried: in groups by q; and the kinds of request that are forked.
 #![tactic(auto)]
 
 mod challenge;

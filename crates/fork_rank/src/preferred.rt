@@ -7,7 +7,7 @@ ghost use Rattle.fork_rank.specs.inner.Padding.{padded};
 use crate::Status;
 use std::marker::Model;
 
-/// A list of preferred statuses has at most so many.
+/// How many statuses a list of preferred ones has at most.
 pub const MOST_PREFERRED: usize = 16;
 
 /// The 4xx statuses that go first among the answers of their class, in rising order (which of them do is the
