@@ -15,7 +15,7 @@ pub fn hex_digit(value: u8) -> u8
     }
 }
 
-/// The value of a digit; `None` where the byte is none, as an upper case letter.
+/// The value of a digit; `None` where the byte is no such digit, as an upper case letter.
 pub fn hex_value(digit: u8) -> Option<u8>
     ensures value { IfSome result (λ value. (value < 16) × (digit ≡ hex_digit value)) }
     ensures none { IfNone result ((value : ℕ) → value < 16 → digit ≢ hex_digit value) }

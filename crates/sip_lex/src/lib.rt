@@ -1,4 +1,5 @@
-//! The lexical base of SIP texts (RFC 3261 section 25.1).
+//! The lexical base of SIP texts (RFC 3261 section 25.1): what the readers of messages, URIs and
+//! header values share. Each datagram of a call is read through it.
 //!
 //! Classes of bytes, cutting a text in two at its first mark, lines, space at the ends of a text,
 //! decimal and hexadecimal numbers, quoted text, and marks that quotes and angle brackets shelter.

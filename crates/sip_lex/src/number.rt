@@ -44,7 +44,8 @@ pub fn read_number(digits: &[u8], limit: u64) -> Option<u64>
     (n <= limit).then_some(n)
 }
 
-/// The same of digits without a leading zero, but for the one digit `0`.
+/// The number that decimal digits without a leading zero spell, where it is at most `limit`. The
+/// one digit `0` spells 0.
 pub fn read_plain_number(digits: &[u8], limit: u64) -> Option<u64>
     ensures { result ≡ plain_number_within limit digits.now }
 {

@@ -44,7 +44,7 @@ impl InviteClient {
     ghost use Rattle.sip_txn.specs.InviteClient.{invite_client, HandsUpOneEnd, RetransmitsUnanswered, RunsOutByTicks, RunsTimersOf};
 
     /// A transaction whose INVITE is sent at this moment, in milliseconds: it is in Calling, with
-    /// timers A and B (RFC 3261 section 17.1.1.2). The caller sends this first INVITE.
+    /// timers A and B (RFC 3261 section 17.1.1.2). Who starts it sends this first INVITE.
     pub fn start(now: u64) -> InviteClient
         ensures value { result ≡ record { state = InviteClientState.Calling; timers = repeats_and_ends now } }
         ensures once { HandsUpOneEnd result }
@@ -58,7 +58,7 @@ impl InviteClient {
         }
     }
 
-    /// The state that it is in.
+    /// The state that the transaction is in.
     pub fn state(&self) -> InviteClientState
         ensures { result ≡ self.now.state }
     {
@@ -76,7 +76,8 @@ impl InviteClient {
         self.machine.timers.due()
     }
 
-    /// Feeds it an event at this moment, in milliseconds, and says what to send and to pass.
+    /// Feeds the transaction an event at this moment, in milliseconds, and says what to send and to
+    /// pass.
     pub fn on(&mut self, event: TxEvent, now: u64) -> TxOut
         ensures next { self.new ≡ machine_after invite_client event now self.old }
         ensures out { result ≡ out_of invite_client event now self.old }

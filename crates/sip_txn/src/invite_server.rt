@@ -43,8 +43,8 @@ impl InviteServer {
     ghost use Rattle.sip_txn.specs.Runs.{IsOver};
     ghost use Rattle.sip_txn.specs.InviteServer.{invite_server, HandsUpOneEnd, RetransmitsFailure, RunsOutByTicks, RunsTimersOf};
 
-    /// A transaction whose INVITE has come: it is in Proceeding, and no timer runs (RFC 3261
-    /// section 17.2.1). The caller sends the 100.
+    /// A transaction whose INVITE has come: it is in Proceeding, and no timer runs (RFC 3261 section
+    /// 17.2.1). Who starts it sends the 100.
     pub fn start(_now: u64) -> InviteServer
         ensures value { result ≡ record { state = InviteServerState.Proceeding; timers = no_timers } }
         ensures once { HandsUpOneEnd result }
@@ -58,7 +58,7 @@ impl InviteServer {
         }
     }
 
-    /// The state that it is in.
+    /// The state that the transaction is in.
     pub fn state(&self) -> InviteServerState
         ensures { result ≡ self.now.state }
     {
@@ -76,7 +76,8 @@ impl InviteServer {
         self.machine.timers.due()
     }
 
-    /// Feeds it an event at this moment, in milliseconds, and says what to send and to pass.
+    /// Feeds the transaction an event at this moment, in milliseconds, and says what to send and to
+    /// pass.
     pub fn on(&mut self, event: TxEvent, now: u64) -> TxOut
         ensures next { self.new ≡ machine_after invite_server event now self.old }
         ensures out { result ≡ out_of invite_server event now self.old }

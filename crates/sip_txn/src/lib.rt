@@ -1,5 +1,7 @@
-//! The four transaction machines of SIP over UDP (RFC 3261 section 17, with RFC 6026): they are fed
-//! events and moments, and say what to send and what to pass up. They hold no message and no clock.
+//! The four transaction machines of SIP over UDP (RFC 3261 section 17, with RFC 6026), client and
+//! server, of an INVITE and of any other request: each is fed events and moments, and says what to
+//! send, as a retransmission or an ACK, and what to pass up to the proxy core. A machine holds no
+//! message and no clock.
 #![tactic(auto)]
 
 mod event;

@@ -43,7 +43,7 @@ impl OtherClient {
     ghost use Rattle.sip_txn.specs.OtherClient.{other_client, HandsUpOneEnd, RetransmitsUnanswered, RunsOutByTicks, RunsTimersOf};
 
     /// A transaction whose request is sent at this moment, in milliseconds: it is in Trying, with
-    /// timers E and F (RFC 3261 section 17.1.2.2). The caller sends this first request.
+    /// timers E and F (RFC 3261 section 17.1.2.2). Who starts it sends this first request.
     pub fn start(now: u64) -> OtherClient
         ensures value { result ≡ record { state = OtherClientState.Trying; timers = repeats_and_ends now } }
         ensures once { HandsUpOneEnd result }
@@ -57,7 +57,7 @@ impl OtherClient {
         }
     }
 
-    /// The state that it is in.
+    /// The state that the transaction is in.
     pub fn state(&self) -> OtherClientState
         ensures { result ≡ self.now.state }
     {
@@ -75,7 +75,8 @@ impl OtherClient {
         self.machine.timers.due()
     }
 
-    /// Feeds it an event at this moment, in milliseconds, and says what to send and to pass.
+    /// Feeds the transaction an event at this moment, in milliseconds, and says what to send and to
+    /// pass.
     pub fn on(&mut self, event: TxEvent, now: u64) -> TxOut
         ensures next { self.new ≡ machine_after other_client event now self.old }
         ensures out { result ≡ out_of other_client event now self.old }

@@ -56,7 +56,7 @@ impl OtherServer {
         }
     }
 
-    /// The state that it is in.
+    /// The state that the transaction is in.
     pub fn state(&self) -> OtherServerState
         ensures { result ≡ self.now.state }
     {
@@ -74,7 +74,8 @@ impl OtherServer {
         self.machine.timers.due()
     }
 
-    /// Feeds it an event at this moment, in milliseconds, and says what to send and to pass.
+    /// Feeds the transaction an event at this moment, in milliseconds, and says what to send and to
+    /// pass.
     pub fn on(&mut self, event: TxEvent, now: u64) -> TxOut
         ensures next { self.new ≡ machine_after other_server event now self.old }
         ensures out { result ≡ out_of other_server event now self.old }

@@ -46,15 +46,15 @@ pub enum Growth {
 /// What a row of a table does to the timers.
 #[derive(Clone, Copy)]
 pub enum Clock {
-    /// They run on.
+    /// The timers run on.
     Keep,
-    /// None runs any more.
+    /// No timer runs any more.
     StopAll,
-    /// One alone runs, and ends the state after this many milliseconds.
+    /// One timer alone runs, and ends the state after this many milliseconds.
     EndIn(u64),
-    /// One starts that repeats, first after T1, and one that ends the state after 64 times T1.
+    /// A timer starts that repeats, first after T1, and one that ends the state after 64 times T1.
     RepeatAndEnd,
-    /// The one that repeats is set again.
+    /// The timer that repeats is set again.
     Again(Growth),
 }
 
@@ -67,7 +67,7 @@ pub enum Input {
     NothingDue,
 }
 
-/// The moment that much after `now`; past the greatest u64 it stays there.
+/// The moment `interval` after `now`, or the greatest u64 where that is past it.
 fn after(now: u64, interval: u64) -> u64
     ensures { result ≡ later now interval }
 {
@@ -134,7 +134,7 @@ impl Timers {
         }
     }
 
-    /// The timers after a row of a table has done this to them.
+    /// The timers after `clock`, what a row of a table does to them.
     pub(crate) fn run(self, clock: Clock, now: u64) -> Timers
         ensures { result ≡ run_clock clock now self }
     {

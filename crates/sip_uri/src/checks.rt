@@ -43,7 +43,7 @@ pub(crate) fn are_uri_bytes(text: &[u8]) -> bool
 /// How much of a parameter was read.
 #[derive(Clone, Copy)]
 enum Progress {
-    /// Nothing.
+    /// Nothing of it.
     Begun,
     /// A name.
     Named,

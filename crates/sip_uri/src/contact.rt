@@ -25,9 +25,9 @@ use std::alloc::{AllocError, Allocator};
 pub struct Contact<A: Allocator> {
     /// The item as written, without the space round it.
     pub text: Vec<u8, A>,
-    /// Its weight in thousandths, 0 to 1000.
+    /// The weight of the contact, its `q`, in thousandths, 0 to 1000.
     pub q: u16,
-    /// Its URI, where that is a SIP URI with a next hop.
+    /// The URI of the contact, where it is a SIP URI with a next hop.
     pub uri: Option<SipUri<A>>,
 }
 

@@ -8,7 +8,7 @@ use std::alloc::{AllocError, AllocFailed};
 /// Why a text is no SIP URI, or no list of contacts.
 #[derive(Clone, Copy, Debug, PartialEq, Eq)]
 pub enum UriFault {
-    /// It does not begin with `sip:`, in any case.
+    /// The text does not begin with `sip:`, in any case.
     NotSip,
     /// The host is no host name, IPv4 address or address in square brackets.
     BadHost,

@@ -98,7 +98,7 @@ impl<A: Allocator + Clone> SipUri<A> {
         let _text = &self.text;
     }
 
-    /// Whether the two are the same target (RFC 3261 section 16.5), as their keys say. This is not
+    /// Whether two URIs name the same target (RFC 3261 section 16.5), as their keys say. This is not
     /// the comparison of section 19.1.4.
     pub fn same_target(&self, other: &SipUri<A>) -> bool
         ensures { IsTrue result ↔ (key_of self.now ≡ key_of other.now) }
@@ -133,7 +133,7 @@ impl<A: Allocator + Clone> SipUri<A> {
     }
 
     /// The URI as it stands in a request: without `method` parameters and headers (RFC 3261 section
-    /// 19.1.1). It names the same target.
+    /// 19.1.1). What is made names the same target.
     ///
     /// # Errors
     ///
@@ -147,22 +147,22 @@ impl<A: Allocator + Clone> SipUri<A> {
         Ok(SipUri { text, key })
     }
 
-    /// The bytes that tell its target from others (RFC 3261 section 16.5): two URIs with the same key
-    /// name one target, and no others do.
+    /// The bytes that tell the target of a URI from others (RFC 3261 section 16.5): two URIs with the
+    /// same key name one target, and no others do.
     pub fn key(&self) -> &[u8]
         ensures { result.now ≡ key_of self.now }
     {
         &self.key
     }
 
-    /// Appends the key.
+    /// Appends the key of the URI.
     ///
     /// # Errors
     ///
     /// Only where `out` lacks room for that and its growth is refused; `out` is then unchanged.
     pub fn target_key<B: Allocator>(&self, out: &mut Vec<u8, B>) -> Result<(), AllocError>
         ensures ok { OnOk result (out.new.items ≡ out.old.items ++ key_of self.now) }
-        // Its parameters ascend, and are those that count: a test that passes at one of these
+        // The parameters of a key ascend, and are those that count: a test that passes at one of these
         // passes at one of those, and the other way round.
         ensures sorted { IsStrictlySortedBy (slice_cmp nat_cmp) (key_params self.now.params) }
         ensures members { (p : List ℕ → Bool)

@@ -94,7 +94,7 @@ fn tail_of(text: &[u8]) -> &[u8]
     &rest[front_len(rest)..]
 }
 
-/// The parameters at the front of such a text.
+/// The parameters at the front of the tail of a URI.
 fn params_in(tail: &[u8]) -> Option<&[u8]>
     ensures { option_copied result ≡ params_in tail.now }
 {
