@@ -31,7 +31,7 @@ impl<A: Allocator + Clone> ForkTree<A> {
         Ok(tree)
     }
 
-    /// Row n, which waits, ends so, and these rows come below it.
+    /// Ends row n, which waits, as `end` says, and puts these rows below it.
     fn finish(&mut self, n: u16, end: End, below: NewRows<A>)
         requires waits { IsTrue (is_row is_idle (slice_get self.old.rows n)) }
         requires next { below.first ≡ length self.old.rows }
@@ -53,7 +53,7 @@ impl<A: Allocator + Clone> ForkTree<A> {
         }
     }
 
-    /// The row comes into its state where it still waits.
+    /// Brings the row into its state where it still waits in the tree.
     fn settle(&mut self, alloc: &A, row: &RowRef) -> Result<(), AllocError>
         requires few { length self.old.rows ≤ most_targets }
         requires half { IsHalf (slice_get self.old.rows row.now.no) row.now.state }
@@ -76,7 +76,7 @@ impl<A: Allocator + Clone> ForkTree<A> {
     }
 }
 
-/// All rows where they stand; those with rows below have ended, the others wait.
+/// The tree of all rows where they stand: those with rows below have ended, the others wait.
 fn standing<A: Allocator + Clone>(
     alloc: &A,
     rules: Rules,
@@ -96,7 +96,7 @@ fn standing<A: Allocator + Clone>(
     Ok(tree)
 }
 
-/// The rows from `first` on that have its parent come below it, which ends.
+/// Ends the parent of row `first`, and puts the rows from `first` on that have this parent below it.
 fn add_below<A: Allocator + Clone>(
     tree: &mut ForkTree<A>,
     alloc: &A,
@@ -142,7 +142,7 @@ fn siblings<A: Allocator + Clone>(
     Ok(qs)
 }
 
-/// Row n of these.
+/// Row n of these rows.
 fn row_at(rows: &[RowRef], n: usize) -> RowRef
     requires { n < length rows.now }
     ensures { slice_get rows.now n ≡ Some result }

@@ -1,5 +1,6 @@
-//! The branches of a fork as a tree, each subtree with its best stored answer and its count of branches that have not
-//! ended: a branch that a 3xx redirected has its contacts below it (RFC 3261 sections 16.5 to 16.7).
+//! The target set of a forked request as a tree of branches: a branch that a 3xx redirected has its contacts below it,
+//! and each subtree has its best stored answer and its count of branches that have not ended. Of a call it says which
+//! branches may start next, and which stored answer would go up (RFC 3261 sections 16.5 to 16.7).
 #![tactic(auto)]
 
 mod build;

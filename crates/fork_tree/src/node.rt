@@ -20,6 +20,10 @@ use std::alloc::{AllocError, Allocator, Global};
 use std::marker::Model;
 
 /// A branch, and those found below it.
+///
+/// A node has a level below it, a level has groups, and a group has nodes: `cycle` says so of the three types. For an
+/// end of what walks through them each counts by its rows: three for a row in a node, one more in a group and two more
+/// in a level, so that each is more than what it holds.
 #[cycle(node)]
 #[derive(Drop)]
 pub struct Node<A: Allocator = Global> {
@@ -117,21 +121,21 @@ impl<A: Allocator> Node<A> {
         }
     }
 
-    /// Its q, in thousandths.
+    /// The q of the branch, in thousandths.
     pub(crate) fn q(&self) -> u16
         ensures { result ≡ q_in (find self.now []) }
     {
         self.q
     }
 
-    /// Its number.
+    /// The number of the branch.
     fn number(&self) -> u16
         ensures { number_of (find self.now []) ≡ Some result }
     {
         self.number
     }
 
-    /// Where it is.
+    /// The state of the branch.
     pub(crate) fn state(&self) -> State
         ensures { result ≡ state_in (find self.now []) }
     {
@@ -146,22 +150,22 @@ impl<A: Allocator> Node<A> {
         self.below.child(group, place)
     }
 
-    /// Whether it waits; none stands below it then.
+    /// Whether the branch waits; no branch stands below it then.
     fn waits(&self) -> bool
         ensures { IsWaiting self.now result }
     {
         !self.standing.state.has_started()
     }
 
-    /// The first branch and the count of the first group right below it in which not all has ended, where that group
-    /// waits. It is None where that group doesn't wait, and where there is none.
+    /// The first branch and the count of the first group right below this branch in which not all has ended, where that
+    /// group waits. None where that group doesn't wait, and where there is no such group.
     pub(crate) fn ready_below(&self) -> Option<(u16, u16)>
         ensures { FindsBelow self.now result }
     {
         self.below.ready()
     }
 
-    /// The branch at this path, which has not ended, comes into another state in which it has not.
+    /// Brings the branch at this path, which has not ended, into another state in which it has not ended.
     #[cycle(set)]
     pub(crate) fn set(&mut self, path: &[u16], state: State)
         requires there { IsTrue (open_at self.old path.now) }
@@ -178,8 +182,8 @@ impl<A: Allocator> Node<A> {
         }
     }
 
-    /// The branch at this path, which has not ended, comes into a standing in which it has, and these are put below
-    /// it, of which so many have not ended.
+    /// Ends the branch at this path, which has not ended: it comes into this standing, in which it has, and the branches of
+    /// `below`, of which `opens` have not ended, are put below it.
     #[cycle(end)]
     pub(crate) fn end(&mut self, path: &[u16], standing: BranchState, below: Level<A>, opens: u16)
         requires { MayEnd self.old path.now standing below opens }
@@ -194,7 +198,7 @@ impl<A: Allocator> Node<A> {
         }
     }
 
-    /// Each branch that waits is never tried; the answer is how many they were.
+    /// Ends each branch that waits: it is never tried. The answer is how many they were.
     #[cycle(close)]
     pub(crate) fn close(&mut self) -> u16
         requires few { length self.old ≤ most_targets }
@@ -211,7 +215,7 @@ impl<A: Allocator> Node<A> {
 }
 
 impl<A: Allocator> Level<A> {
-    /// No branches.
+    /// The level without a branch.
     pub(crate) fn new(alloc: A) -> Level<A>
         ensures { result ≡ [] }
     {
@@ -242,7 +246,7 @@ impl<A: Allocator> Level<A> {
         None
     }
 
-    /// The branch at this path comes into another state, as of a node.
+    /// Brings the branch at this path into another state, as [`Node::set`] does.
     #[cycle(set)]
     pub(crate) fn set(&mut self, path: &[u16], state: State)
         requires there { IsTrue (open_at self.old path.now) }
@@ -254,7 +258,7 @@ impl<A: Allocator> Level<A> {
         }
     }
 
-    /// The branch at this path ends, as of a node.
+    /// Ends the branch at this path, as [`Node::end`] does.
     #[cycle(end)]
     pub(crate) fn end(&mut self, path: &[u16], standing: BranchState, below: Level<A>, opens: u16)
         requires { MayEnd self.old path.now standing below opens }
@@ -265,7 +269,7 @@ impl<A: Allocator> Level<A> {
         }
     }
 
-    /// Each branch that waits is never tried; the answer is how many they were.
+    /// Ends each branch that waits: it is never tried. The answer is how many they were.
     #[cycle(close)]
     pub(crate) fn close(&mut self) -> u16
         requires few { length self.old ≤ most_targets }
@@ -291,7 +295,7 @@ impl<A: Allocator> Group<A> {
         &self.nodes[place as usize]
     }
 
-    /// These branches, which all wait.
+    /// The group of these branches, which all wait.
     fn waiting(nodes: Vec<Node<A>, A>) -> Group<A>
         requires few { length nodes.items ≤ most_targets }
         requires waiting { AreWaiting nodes.items }
@@ -301,14 +305,14 @@ impl<A: Allocator> Group<A> {
         Group { nodes, open_count }
     }
 
-    /// How many of its branches, and of those below them, have not ended.
+    /// How many branches of the group, and of those below them, have not ended.
     fn open_count(&self) -> u16
         ensures { result ≡ open_of self.now }
     {
         self.open_count
     }
 
-    /// The number of its first branch, and how many there are, where they all wait.
+    /// The number of the first branch of the group, and how many branches it has, where they all wait.
     fn ready(&self) -> Option<(u16, u16)>
         requires goes_on { 0 < open_of self.now }
         ensures { FindsGroup self.now result }
@@ -321,7 +325,7 @@ impl<A: Allocator> Group<A> {
         Some((self.nodes[0].number(), self.open_count))
     }
 
-    /// The branch at this path comes into another state, as of a node.
+    /// Brings the branch at this path into another state, as [`Node::set`] does.
     #[cycle(set)]
     pub(crate) fn set(&mut self, path: &[u16], state: State)
         requires there { IsTrue (open_at self.old path.now) }
@@ -333,7 +337,7 @@ impl<A: Allocator> Group<A> {
         }
     }
 
-    /// The branch at this path ends, as of a node.
+    /// Ends the branch at this path, as [`Node::end`] does.
     #[cycle(end)]
     pub(crate) fn end(&mut self, path: &[u16], standing: BranchState, below: Level<A>, opens: u16)
         requires { MayEnd self.old path.now standing below opens }
@@ -345,7 +349,7 @@ impl<A: Allocator> Group<A> {
         }
     }
 
-    /// Each branch that waits is never tried; the answer is how many they were.
+    /// Ends each branch that waits: it is never tried. The answer is how many they were.
     #[cycle(close)]
     pub(crate) fn close(&mut self) -> u16
         requires few { length self.old ≤ most_targets }
@@ -443,7 +447,7 @@ fn in_group<A: Allocator + Clone>(
     }
 }
 
-/// The groups, and last these nodes.
+/// The level of these groups, and last of the group of these nodes, if there are any.
 fn whole<A: Allocator>(
     mut groups: Vec<Group<A>, A>,
     nodes: Vec<Node<A>, A>,

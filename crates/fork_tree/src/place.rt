@@ -25,7 +25,7 @@ pub(crate) struct Room<A: Allocator = Global> {
 }
 
 impl<A: Allocator + Clone> Room<A> {
-    /// Room for so many rows, the top counted as one.
+    /// Room for `rows` rows, the top counted as one.
     pub(crate) fn of(alloc: &A, rows: u16) -> Result<Room<A>, AllocError>
         ensures { IfOk result (λ room. HasRoom room rows) }
     {
@@ -38,7 +38,8 @@ impl<A: Allocator + Clone> Room<A> {
     }
 }
 
-/// These items, with room for so many: in their own list, or else in the other, which is empty.
+/// Makes room for `count` items in all: in their own list, where it has that room, or else in `room`, which is empty
+/// and takes the items over.
 pub(crate) fn make_room<T: Copy, A: Allocator>(
     items: &mut Vec<T, A>,
     mut room: Vec<T, A>,

@@ -9,23 +9,23 @@ use fork_rank::Status;
 /// How a branch ended; an arrival is the position of the event that ended it.
 #[derive(Clone, Copy, PartialEq, Eq, Debug)]
 pub enum End {
-    /// With an answer that is stored: received from the branch, or assumed by the proxy.
+    /// The branch ended with an answer that is stored: received from it, or assumed by the proxy.
     Stored {
         status: Status,
         arrival: u32,
         received: bool,
     },
-    /// With a 3xx all of whose contacts were taken.
+    /// The branch ended with a 3xx all of whose contacts were taken as targets.
     Taken {
         arrival: u32,
     },
-    /// Cancelled, and given up without an answer.
+    /// The branch was cancelled, and given up without an answer.
     Silent {
         arrival: u32,
     },
-    /// It was never tried.
+    /// The branch was never tried.
     Never,
-    /// With a 2xx.
+    /// The branch ended with a 2xx.
     Accepted {
         arrival: u32,
     },
@@ -34,11 +34,11 @@ pub enum End {
 /// Where a branch is.
 #[derive(Clone, Copy, PartialEq, Eq, Debug)]
 pub enum State {
-    /// It waits for its group to start.
+    /// The branch waits for its group to start.
     Idle,
-    /// The request was sent to it, and it has not rung.
+    /// The branch was tried, and has not rung.
     Trying,
-    /// It has rung; its CANCEL was sent or not.
+    /// The branch has rung, and its CANCEL was sent or not.
     Rung { cancelled: bool },
     Ended(End),
 }
@@ -55,7 +55,7 @@ pub struct RowRef {
 }
 
 impl State {
-    /// The state once nothing that waits is ever tried.
+    /// The state once the fork is closed: a branch that waits is never tried.
     pub(crate) fn closed(self) -> State
         ensures { result ≡ closed_state self }
     {

@@ -15,9 +15,9 @@ use crate::tree::ForkTree;
 use std::alloc::Allocator;
 
 impl<A: Allocator> ForkTree<A> {
-    /// Some group that may start is tried: the number of its first row, and how many rows it has, which all wait;
-    /// None where no group may start. A group may start where the row that it stands under has ended, and all rows of
-    /// the earlier groups there and all below those (RFC 3261 section 16.6).
+    /// Starts some group that may start: all its rows are tried. The answer is the number of its first row, and how many
+    /// rows it has, which all waited; None where no group may start. A group may start where the row that it stands under
+    /// has ended, and all rows of the earlier groups there and all below those (RFC 3261 section 16.6).
     pub fn start_ready(&mut self) -> Option<(u16, u16)>
         ensures none { IfNone result ((self.new ≡ self.old) × ((k : ℕ) (row : Row) → slice_get self.old.rows k ≡ Some row
             → may_start self.old.rows row ≡ false)) }
@@ -45,7 +45,7 @@ impl<A: Allocator> ForkTree<A> {
         next_ready(&self.root, &self.places, &mut self.recent)
     }
 
-    /// The rows of this group, which wait, are tried.
+    /// Notes that the rows of this group, which wait, are tried.
     fn start_group(&mut self, first: u16, end: u16)
         requires { IsReady self.old.rows first (end - first) }
         ensures { self.new ≡ record self.old { rows = tried self.old.rows first (end - first) } }

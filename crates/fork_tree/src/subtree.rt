@@ -26,15 +26,15 @@ impl<A: Allocator> ForkTree<A> {
 }
 
 impl<A: Allocator> Node<A> {
-    /// Its own stored answer or one below it that none of them ranks before (RFC 3261 section 16.7 step 6); None where
-    /// nothing is stored there.
+    /// The stored answer, of this branch or of one below it, that none of them ranks before (RFC 3261 section 16.7 step 6);
+    /// None where nothing is stored there.
     pub fn best(&self) -> Option<BestRef>
         ensures { IsBestOf self.now result }
     {
         self.summary.best()
     }
 
-    /// How many of it and those below it have not ended.
+    /// How many of this branch and those below it have not ended.
     pub fn open_count(&self) -> u16
         ensures { result ≡ open_of self.now }
     {

@@ -47,7 +47,7 @@ impl BranchState {
         BranchState { state, answer }
     }
 
-    /// The standing once nothing that waits is ever tried.
+    /// The standing once the fork is closed: a branch that waits is never tried.
     pub(crate) fn closed(self) -> BranchState
         ensures { result ≡ closed_standing self }
     {
@@ -98,7 +98,7 @@ fn answer_of_end(n: u16, end: End, rules: &Rules) -> Option<RankedAnswer>
 }
 
 impl Summary {
-    /// Of so many branches that wait.
+    /// The summary of `count` branches that wait.
     pub(crate) fn waiting(count: u16) -> Summary
         ensures { result ≡ record { kept = None; open_count = count } }
     {
@@ -108,7 +108,8 @@ impl Summary {
         }
     }
 
-    /// After one branch that had not ended came into another standing, so many being open then in its place.
+    /// The summary after one branch that had not ended came into another standing: with `answer`, where it stored one, and
+    /// with `opens` branches that have not ended in its place.
     pub(crate) fn after(self, answer: Option<RankedAnswer>, opens: u16) -> Summary
         requires some { 0 < self.open_count }
         requires fits { self.open_count + opens < 2 ^ 15 }
@@ -121,7 +122,7 @@ impl Summary {
         }
     }
 
-    /// The best answer.
+    /// The stored answer that none ranks before, if one is stored.
     pub(crate) fn best(&self) -> Option<BestRef>
         ensures { result ≡ best_of self.now.kept }
     {
@@ -132,7 +133,7 @@ impl Summary {
     }
 }
 
-/// Of the answer kept so far and a newer one the one that goes first.
+/// The one that ranks before the other, of the answer kept so far and a newer one.
 fn better(kept: Option<RankedAnswer>, stored: Option<RankedAnswer>) -> Option<RankedAnswer>
     ensures { Better kept stored result }
 {

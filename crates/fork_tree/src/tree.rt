@@ -91,7 +91,7 @@ impl<A: Allocator + Clone> ForkTree<A> {
 }
 
 impl<A: Allocator> ForkTree<A> {
-    /// The rules that it was made with.
+    /// The rules that the tree was made with.
     pub fn rules(&self) -> Rules
         ensures { result ≡ self.now.rules }
     {
@@ -123,8 +123,8 @@ impl<A: Allocator> ForkTree<A> {
         })
     }
 
-    /// The number of the row that row n stands under; None where it is an initial target, or there is no row n. It
-    /// takes no longer in a deeper tree.
+    /// The number of the row that row n stands under; None where row n is an initial target, or there is no row n. The
+    /// look-up takes no longer in a deeper tree.
     pub fn parent(&self, n: u16) -> Option<u16>
         ensures { result ≡ parent_of (slice_get self.now.rows n) }
     {
@@ -148,7 +148,7 @@ impl<A: Allocator> ForkTree<A> {
         self.summary.open_count
     }
 
-    /// Row n, which waits, is tried.
+    /// Notes that row n, which waits, is tried.
     pub fn start(&mut self, n: u16)
         requires { IsTrue (is_row is_idle (slice_get self.old.rows n)) }
         ensures { self.new ≡ record self.old { rows = with_state self.old.rows n spec.Trying } }
@@ -156,7 +156,7 @@ impl<A: Allocator> ForkTree<A> {
         self.set(n, State::Trying);
     }
 
-    /// Row n, which was tried, has rung.
+    /// Notes that row n, which was tried, has rung.
     pub fn ring(&mut self, n: u16)
         requires { IsTrue (is_row is_trying (slice_get self.old.rows n)) }
         ensures { self.new ≡ record self.old { rows = with_state self.old.rows n (spec.Rung false) } }
@@ -164,7 +164,7 @@ impl<A: Allocator> ForkTree<A> {
         self.set(n, State::Rung { cancelled: false });
     }
 
-    /// A CANCEL was sent to row n, which has rung (RFC 3261 section 9.1).
+    /// Notes that a CANCEL was sent to row n, which has rung (RFC 3261 section 9.1).
     pub fn mark_cancel(&mut self, n: u16)
         requires { IsTrue (is_row is_uncancelled (slice_get self.old.rows n)) }
         ensures { self.new ≡ record self.old { rows = with_state self.old.rows n (spec.Rung true) } }
@@ -172,7 +172,7 @@ impl<A: Allocator> ForkTree<A> {
         self.set(n, State::Rung { cancelled: true });
     }
 
-    /// Row n, which was tried, ends so, and these rows, which wait, come below it.
+    /// Ends row n, which was tried, as `end` says, and puts these rows, which wait, below it.
     pub fn end(&mut self, n: u16, end: End, below: NewRows<A>)
         requires there { IsTrue (is_row is_open (slice_get self.old.rows n)) }
         requires next { below.first ≡ length self.old.rows }
@@ -201,7 +201,7 @@ impl<A: Allocator> ForkTree<A> {
         self.recent.push_reserved(Some(n));
     }
 
-    /// No row that waits is ever tried.
+    /// Closes the fork: no row that waits is ever tried.
     pub fn close(&mut self)
         ensures { self.new ≡ record self.old { rows = map closed_row self.old.rows } }
     {
@@ -210,7 +210,7 @@ impl<A: Allocator> ForkTree<A> {
         self.recent.clear();
     }
 
-    /// Row n, which has not ended, comes into another state in which it has not, and doesn't wait.
+    /// Brings row n, which has not ended, into another state in which it has not ended, and doesn't wait.
     pub(crate) fn set(&mut self, n: u16, state: State)
         requires there { IsTrue (is_row is_unended (slice_get self.old.rows n)) }
         requires waits { has_ended state ≡ false }
