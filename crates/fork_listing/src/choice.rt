@@ -51,7 +51,7 @@ fn row_behind(before: Option<RowRef>, target: &Target) -> RowRef
     }
 }
 
-/// The row once more.
+/// A copy of the row.
 fn row_at(row: &RowRef) -> RowRef
     ensures { result ≡ row.now }
 {

@@ -14,17 +14,17 @@ use std::marker::Model;
 /// Which line is due.
 #[derive(Clone, Copy, Debug, PartialEq, Eq)]
 pub enum Phase {
-    /// The first.
+    /// The first line.
     AtFork,
-    /// The preferred statuses, of a listing of this version with so many targets.
+    /// The line of the preferred statuses, of a listing of this version with so many targets.
     AtPrefer(Version, u16),
-    /// The depth, with so many targets behind it.
+    /// The line of the depth, with so many lines of targets behind it.
     AtDepth(u16),
-    /// So many targets.
+    /// So many lines of targets.
     AtTargets(u16),
-    /// A stored answer, or the answer that went up.
+    /// The line of a stored answer, or of the answer that went up.
     AtRanks,
-    /// None: this answer went up.
+    /// No line: this answer went up.
     AtEnd(Final),
 }
 
@@ -79,8 +79,8 @@ impl From<AllocError> for ReadFault {
     }
 }
 
-/// A listing: its version, how many targets its first line says that there are, the rules of the fork, its branches, its stored answers in order of rank, and the answer that
-/// went up.
+/// A listing: its version, how many targets its first line says that there are, the rules of the fork, its branches,
+/// its stored answers in order of rank, and the answer that went up.
 #[derive(Drop)]
 pub struct Listing<A: Allocator> {
     pub(crate) version: Version,

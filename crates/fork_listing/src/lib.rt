@@ -1,5 +1,6 @@
-//! The listing of a finished fork: its branches, its stored answers in order of rank, and the answer that went up; and
-//! a check that such a text is right (RFC 3261 section 16.7 step 6).
+//! The listing of a forked request that has failed, as an operator reads it: its branches, its stored answers in order
+//! of rank, and the answer that went up; and a check that such a text is right, which `forkproxy check` runs (RFC 3261
+//! section 16.7 step 6).
 #![tactic(auto)]
 
 mod choice;

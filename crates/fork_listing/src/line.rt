@@ -15,7 +15,7 @@ use sip_lex::{cut_at, read_plain_number};
 /// A q is in thousandths, and at most one.
 const MOST_Q: u16 = 1000;
 
-/// The first two versions of the listing have so many targets at most.
+/// How many targets a listing of the first two versions has at most.
 const MOST_EARLY_TARGETS: u16 = 64;
 
 /// How a listing is written: the second version adds the preferred statuses, the third the depth.

@@ -126,7 +126,7 @@ pub fn stored_in(target: &Target) -> Option<Ranked>
     }
 }
 
-/// Whether the branch has a stored answer, and none of these numbers.
+/// Whether branch n has a stored answer, and its number is none of these.
 fn is_unlisted<A: Allocator>(targets: &[Target], numbers: &BTreeSet<usize, A>, n: usize) -> bool
     ensures { MatchBool result (IsCounted targets.now numbers.now n → ⊥) (IsCounted targets.now numbers.now n) }
 {

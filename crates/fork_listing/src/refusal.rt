@@ -120,7 +120,7 @@ fn check_in<A: Allocator + Clone>(alloc: A, text: &[u8]) -> Result<Verdict, Chec
 pub fn check<A: Allocator>(arena: &Bump<A>, text: &[u8]) -> Result<Verdict, CheckFault>
     ensures checked { IsChecked (read_listing text.now) result }
     ensures right { IfOk result (IsRightText text.now) }
-    // no right text is refused
+    // No right text is refused.
     ensures accepted { (verdict : spec.Verdict) → IsRightText text.now verdict → IsOkElseNoMemory verdict result }
     ensures malformed { IfErr result (IsLineNamed text.now) }
 {

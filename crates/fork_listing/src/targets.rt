@@ -23,7 +23,7 @@ fn arrival_of(end: End) -> Option<u32>
     }
 }
 
-/// Whether it is a 3xx whose contacts may have been tried.
+/// Whether a branch that ended so had a 3xx whose contacts may have been tried.
 fn is_redirection(end: End) -> bool
     ensures { result ≡ is_redirection end }
 {

@@ -1,4 +1,5 @@
-//! Lines of text that several formats share: numbered fields, and the rules of a fork (`prefer` and `depth`).
+//! Lines of text that scripts, listings and configurations share: numbered fields, and the rules of a fork, which are
+//! the 4xx that go first among stored answers (`prefer`) and how deep redirections are followed (`depth`).
 //!
 //! Words are separated by one space, and numbers are decimal without leading zeros. No function but those that append
 //! takes memory.
