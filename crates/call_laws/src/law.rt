@@ -24,9 +24,10 @@ pub fn calls_send_right()
     branches_go_on();
 }
 
-/// Each datagram of a call that stands so is what its cause says, and goes where that says: an ACK answers a failure that came
-/// from the branch, a 200 to a CANCEL is made of a CANCEL that came, and what is sent to the caller again was sent before (RFC
-/// 3261 sections 8.2.6, 9.1, 16.6, 16.7, 17.1.1.3 and 17.2).
+/// Each datagram of a call whose parts are right, as [`calls_send_right`] has it, is what its cause says, and goes
+/// where the cause says: an ACK answers a failure that came from the branch, a 200 to a CANCEL is made of a CANCEL that
+/// came, and what is sent to the caller again was sent before (RFC 3261 sections 8.2.6, 9.1, 16.6, 16.7, 17.1.1.3 and
+/// 17.2).
 ///
 /// A law over the definitions, with nothing to run.
 #[tactic(auto, using(crate::proofs::Sending::sent_right))]
@@ -34,11 +35,11 @@ pub fn what_is_sent_is_right()
     ensures { WhatIsSentIsRight }
 {}
 
-/// What a call comes to owe to its caller is paid once, in the order in which it came to be owed, or is still owed: a 100 is the
-/// generated one, a provisional response and a 2xx go up as they came, a 200 to a CANCEL goes where that is answered, and the
-/// final answer is sent. Where the server transaction does not send what it is handed, that is dropped: the final answer to an
-/// INVITE never is, that to another request only where an answer could not be sent before, and a 2xx to an INVITE only once the
-/// transaction has ended (RFC 3261 sections 16.7 and 17.2).
+/// What a call comes to owe to its caller is paid once, in the order in which it came to be owed, or is still owed: a
+/// 100 is the generated one, a provisional response and a 2xx go up as they came, a 200 to a CANCEL goes where that
+/// CANCEL is answered, and the final answer is sent. An answer that the server transaction is handed and does not send
+/// is dropped: the final answer to an INVITE never is, the final answer to another request only where an answer could
+/// not be sent before, and a 2xx to an INVITE only once the transaction has ended (RFC 3261 sections 16.7 and 17.2).
 ///
 /// A law over the definitions, with nothing to run.
 pub fn calls_pay_in_order()
@@ -49,11 +50,12 @@ pub fn calls_pay_in_order()
     exactly_one_final();
 }
 
-/// Once every branch of a call has ended, none with a 2xx, and nothing is owed to its caller any more, one final answer was
-/// handed to the caller's transaction, and no other: the choice of the fork. Where that is a branch whose answer came, it is the
-/// very response that came from this branch, and was posted as the event that stored its answer, as it goes up, with the contacts
-/// left and the challenges that are due; where the answer of the branch was assumed, or none is stored, a generated 408; where
-/// all that is stored is 503, a generated 500 (RFC 3261 section 16.7 steps 4 to 9).
+/// Once every branch of a call has ended, none with a 2xx, and nothing is owed to its caller any more, one final answer
+/// was handed to the caller's transaction, and no other: the choice of the fork. Where the choice is a branch whose
+/// answer came, the final answer is the very response that came from this branch, and was posted as the event that
+/// stored its answer, as it goes up, with the contacts left and the challenges that are due; where the answer of the
+/// branch was assumed, or none is stored, it is a generated 408; where all that is stored is 503, a generated 500 (RFC
+/// 3261 section 16.7 steps 4 to 9).
 ///
 /// A law over the definitions, with nothing to run.
 pub fn one_final_answer_goes_up()

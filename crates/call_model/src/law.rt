@@ -20,9 +20,9 @@ pub fn branches_keep_what_they_send()
     ensures kept { StepsKeepBuilt }
 {}
 
-/// What a call sends again is what it sent first: whatever happens to it, all requests that it sends to a branch are one
-/// datagram, byte for byte and to one hop, and so are all CANCELs; and what it keeps to send to its caller again is the
-/// answer that it sent last (RFC 3261 sections 9.1, 17.1.1.2, 17.1.2.2 and 17.2).
+/// What a call sends again is what it sent first: whatever happens to the call, all requests that it sends to a branch
+/// are one datagram, byte for byte and to one hop, and so are all CANCELs; and what it keeps to send to its caller
+/// again is the answer that it sent last (RFC 3261 sections 9.1, 17.1.1.2, 17.1.2.2 and 17.2).
 ///
 /// A law over the definitions, with nothing to run.
 pub fn repeats_are_the_same()
@@ -46,11 +46,12 @@ pub fn calls_stay_sound()
     header_values_are_values();
 }
 
-/// The failure that the first branch keeps, which may go up as the final answer, is the response behind its stored answer:
-/// where no stored answer ranks before that of a branch, and it came, then what the branch keeps was posted as the event
-/// at its arrival. So it is as a call begins, and each step of a sound call keeps it so; and where such a branch was not
-/// first before the step, with the same answer stored and the same response kept, then by this step the response that it
-/// keeps came to it and was posted as that event (RFC 3261 section 16.7 steps 4 to 6).
+/// The failure that the first branch keeps, which may go up as the final answer, is the response behind its stored
+/// answer: where no stored answer ranks before that of a branch, and that answer came from it, then the response that
+/// the branch keeps was posted as the event at the arrival of the answer. So it is as a call begins, and each step of a
+/// sound call keeps it so; and where such a branch was not first before the step, with the same answer stored and the
+/// same response kept, then by this step the response that the branch keeps came to it and was posted as that event
+/// (RFC 3261 section 16.7 steps 4 to 6).
 ///
 /// A law over the definitions, with nothing to run.
 pub fn branches_keep_their_answers()

@@ -1,6 +1,6 @@
-//! What a call is, in definitions: a request that was forked, the log of its fork, the client transaction of each branch
-//! and the server transaction of its caller; which datagrams it sends; what a message, a timer or a send that failed does
-//! to it (RFC 3261 sections 16 and 17).
+//! What a call is, in definitions: a request that was forked, its response context with the log of events, the client
+//! transaction of each branch and the server transaction of its caller; which datagrams it sends; what a message, a
+//! timer or a send that failed does to it (RFC 3261 sections 16 and 17).
 //!
 //! Beside the definitions stand the words for what a call does, as a datagram and its cause, and what holds of every call
 //! as laws, with nothing to run: a branch keeps its request and its CANCEL as they were made, what is sent again is what was

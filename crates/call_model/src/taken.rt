@@ -1,10 +1,10 @@
-//! What comes of a message.
+//! What comes of a message that a call takes.
 
 /// What comes of a message that a transaction takes.
 #[derive(Clone, Copy, PartialEq, Eq, Debug)]
 pub enum Taken {
-    /// The transaction keeps it to itself.
+    /// The transaction keeps the message to itself: nothing is posted to the fork.
     Absorbed,
-    /// It was posted as the event at this position.
+    /// The message was posted to the fork, as the event at this position.
     Posted(u32),
 }
