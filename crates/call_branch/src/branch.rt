@@ -1,4 +1,4 @@
-//! What stands for a branch once its request was sent.
+//! A branch once its request was sent.
 ghost use Rattle.std.specs.Prelude.{◌≡◌, ◌↔◌, IsTrue, None, Some};
 ghost use Rattle.std.specs.Option.{option_copied, option_map};
 ghost use Rattle.fork_rank.specs.KindView.{kind_of};
@@ -21,7 +21,7 @@ use std::marker::Model;
 /// How long timer C runs, in milliseconds: more than three minutes (RFC 3261 section 16.6 step 11).
 const TIMER_C: u64 = 181_000;
 
-/// What stands for the CANCEL of a branch once that was sent (RFC 3261 section 9.1).
+/// The CANCEL of a branch once it was sent, with the client transaction of the CANCEL (RFC 3261 section 9.1).
 #[derive(Drop)]
 pub struct CancelTransaction<A: Allocator> {
     client: OtherClient,
@@ -49,7 +49,7 @@ impl<A: Allocator> CancelTransaction<A> {
         }
     }
 
-    /// Its transaction after an event, and what that sends and passes.
+    /// The transaction of the CANCEL after an event, and what it sends and passes.
     pub fn fed(&self, event: TxEvent, now: u64) -> (OtherClient, TxOut)
         ensures after { result.0 ≡ machine_after other_client event now self.now.client }
         ensures out { result.1 ≡ out_of other_client event now self.now.client }
@@ -66,28 +66,28 @@ impl<A: Allocator> CancelTransaction<A> {
         &self.sent
     }
 
-    /// The moment at which its transaction wants a tick.
+    /// The moment at which the transaction of the CANCEL wants a tick.
     pub fn due(&self) -> Option<u64>
         ensures { result ≡ cancel_client_due (Some self.now) }
     {
         self.client.due()
     }
 
-    /// From when on its branch is given up.
+    /// From when on the branch of the CANCEL is given up.
     pub fn give_up_at(&self) -> u64
         ensures { result ≡ self.now.give_up_at }
     {
         self.give_up_at
     }
 
-    /// Whether its transaction has ended.
+    /// Whether the transaction of the CANCEL has ended.
     fn is_over(&self) -> bool
         ensures { IsTrue result ↔ IsOverCancelTransaction (Some self.now) }
     {
         self.client.state() == OtherClientState::Terminated
     }
 
-    /// Its transaction went on.
+    /// Sets the transaction of the CANCEL, which went on.
     fn set_client(&mut self, client: OtherClient)
         ensures { self.new ≡ record self.old { client = client } }
     {
@@ -95,7 +95,8 @@ impl<A: Allocator> CancelTransaction<A> {
     }
 }
 
-/// What stands for a branch once its request was sent.
+/// A branch once its request was sent: its client transaction, the request as it was sent, the ACK that it owes, timer
+/// C, what stands for its CANCEL, and the failure that it keeps.
 #[derive(Drop)]
 pub struct Branch<A: Allocator> {
     client: ClientTransaction,
@@ -115,7 +116,7 @@ impl<A: Allocator> Model for Branch<A> {
     ghost view = { λ l. record { client = l.client; sent = l.sent.items; ack = option_map (λ v. v.items) l.ack; timer_c_at = l.timer_c_at; cancelling = l.cancelling; answer = l.answer } };
 }
 
-/// When timer C fires that starts at this moment, of an INVITE.
+/// When a timer C fires that starts at this moment: the branch of an INVITE has one, any other has none.
 pub(crate) fn timer_c_from(kind: Kind, now: u64) -> Option<u64>
     ensures { result ≡ timer_c_from (kind_of kind) now }
 {
@@ -140,7 +141,7 @@ impl<A: Allocator> Branch<A> {
         }
     }
 
-    /// Whether it owes an ACK.
+    /// Whether the branch owes an ACK.
     pub fn owes_ack(&self) -> bool
         ensures { result ≡ owes_ack_on (Some self.now) }
     {
@@ -154,21 +155,21 @@ impl<A: Allocator> Branch<A> {
         &self.sent
     }
 
-    /// The failure that was posted.
+    /// The failure that the branch keeps, if it keeps one: it was posted.
     pub fn answer(&self) -> Option<&Message<A>>
         ensures { option_copied result ≡ self.now.answer }
     {
         self.answer.as_ref()
     }
 
-    /// What stands for its CANCEL once that was sent.
+    /// The CANCEL of the branch, where it was sent.
     pub fn cancelling(&self) -> Option<&CancelTransaction<A>>
         ensures { option_copied result ≡ self.now.cancelling }
     {
         self.cancelling.as_ref()
     }
 
-    /// Its transaction after an event, and what that sends and passes.
+    /// The client transaction of the branch after an event, and what it sends and passes.
     pub fn fed(&self, event: TxEvent, now: u64) -> (ClientTransaction, TxOut)
         ensures after { result.0 ≡ client_after event now self.now.client }
         ensures out { result.1 ≡ client_out event now self.now.client }
@@ -176,21 +177,21 @@ impl<A: Allocator> Branch<A> {
         self.client.fed(event, now)
     }
 
-    /// The moment at which its transaction wants a tick.
+    /// The moment at which the client transaction of the branch wants a tick.
     pub fn due(&self) -> Option<u64>
         ensures { result ≡ client_due self.now.client }
     {
         self.client.due()
     }
 
-    /// When timer C fires, of an INVITE.
+    /// When timer C of the branch fires, where it has one.
     pub fn timer_c_at(&self) -> Option<u64>
         ensures { result ≡ self.now.timer_c_at }
     {
         self.timer_c_at
     }
 
-    /// Whether its transactions have ended.
+    /// Whether the transactions of the branch have ended.
     pub fn is_over(&self) -> bool
         ensures { IsTrue result ↔ IsOverBranch self.now }
     {
@@ -201,7 +202,8 @@ impl<A: Allocator> Branch<A> {
         self.client.is_over() && cancelling
     }
 
-    /// When timer C fires that a response with this status sets again, but for a 100.
+    /// When timer C of the branch fires once a response with this status has come, where it has one: a provisional response
+    /// sets it again, but for a 100.
     pub fn timer_c_again(&self, status: u16, now: u64) -> Option<u64>
         ensures { result ≡ timer_c_again now status self.now.timer_c_at }
     {
@@ -213,7 +215,7 @@ impl<A: Allocator> Branch<A> {
         }
     }
 
-    /// Its transaction went on, and an ACK is owed where one was made.
+    /// Sets the client transaction of the branch, which went on; where an ACK was made, the branch owes it.
     pub(crate) fn respond(&mut self, client: ClientTransaction, ack: Option<Vec<u8, A>>)
         ensures { self.new ≡ responded client (option_map (λ v. v.items) ack) self.old }
     {
@@ -223,7 +225,8 @@ impl<A: Allocator> Branch<A> {
         }
     }
 
-    /// A response was posted: timer C fires then, and a failure is kept.
+    /// Notes that a response of the branch was posted: when timer C fires from now on, and the failure that is kept, if
+    /// there is one.
     pub(crate) fn keep(&mut self, timer_c_at: Option<u64>, answer: Option<Message<A>>)
         ensures { self.new ≡ kept timer_c_at answer self.old }
     {
@@ -233,14 +236,14 @@ impl<A: Allocator> Branch<A> {
         }
     }
 
-    /// Its CANCEL was sent.
+    /// Notes that the CANCEL of the branch was sent.
     pub(crate) fn cancel(&mut self, cancelling: CancelTransaction<A>)
         ensures { self.new ≡ cancelled cancelling self.old }
     {
         self.cancelling = Some(cancelling);
     }
 
-    /// The transaction of its CANCEL went on.
+    /// Sets the transaction of the branch's CANCEL, which went on.
     pub(crate) fn cancel_on(&mut self, client: OtherClient)
         ensures { self.new ≡ cancel_on client self.old }
     {
@@ -249,7 +252,7 @@ impl<A: Allocator> Branch<A> {
         }
     }
 
-    /// The ACK that is owed, which is owed no more.
+    /// Takes the ACK that the branch owes, which it owes no more.
     pub(crate) fn take_ack(&mut self) -> Option<Vec<u8, A>>
         ensures ack { option_map (λ v. v.items) result ≡ self.old.ack }
         ensures left { self.new ≡ without_ack self.old }

@@ -12,7 +12,7 @@ use sip_text::Message;
 use sip_txn::OtherClient;
 use std::alloc::{AllocError, Allocator};
 
-/// One more branch whose request was not sent.
+/// Adds a branch whose request was not sent.
 fn push_no_branch<A: Allocator>(branches: &mut Vec<Option<Branch<A>>, A>) -> Result<(), AllocError>
     ensures { OnOk result (branches.new.items ≡ branches.old.items ++ None ∷ []) }
 {
@@ -22,7 +22,7 @@ fn push_no_branch<A: Allocator>(branches: &mut Vec<Option<Branch<A>>, A>) -> Res
     }
 }
 
-/// So many branches whose request was not sent.
+/// The parts of `count` branches whose requests were not sent.
 #[tactic(auto, using(crate::proofs::laws::BranchLists::no_branches_more))]
 pub fn no_branches<A: Allocator>(
     alloc: A,
@@ -55,7 +55,7 @@ pub fn branch_in<A: Allocator>(branches: &[Option<Branch<A>>], n: u16) -> Option
     }
 }
 
-/// The part of branch n is this one from now on.
+/// Puts this part in the place of branch n.
 pub fn put_branch<A: Allocator>(branches: &mut Vec<Option<Branch<A>>, A>, n: u16, branch: Branch<A>)
     requires there { n < length branches.old.items }
     ensures { branches.new.items ≡ with_branch branches.old.items n branch }
@@ -63,7 +63,7 @@ pub fn put_branch<A: Allocator>(branches: &mut Vec<Option<Branch<A>>, A>, n: u16
     branches[n as usize] = Some(branch);
 }
 
-/// The transaction of branch n went on, and an ACK is owed where one was made.
+/// Sets the client transaction of branch n, which went on; where an ACK was made, the branch owes it.
 pub fn respond_branch<A: Allocator>(
     branches: &mut Vec<Option<Branch<A>>, A>,
     n: u16,
@@ -78,7 +78,7 @@ pub fn respond_branch<A: Allocator>(
     }
 }
 
-/// A response of branch n was posted.
+/// Notes that a response of branch n was posted, as [`Branch::keep`] does.
 pub fn keep_branch<A: Allocator>(
     branches: &mut Vec<Option<Branch<A>>, A>,
     n: u16,
@@ -93,7 +93,7 @@ pub fn keep_branch<A: Allocator>(
     }
 }
 
-/// The CANCEL of branch n was sent.
+/// Notes that the CANCEL of branch n was sent.
 pub fn cancel_branch<A: Allocator>(
     branches: &mut Vec<Option<Branch<A>>, A>,
     n: u16,
@@ -107,7 +107,7 @@ pub fn cancel_branch<A: Allocator>(
     }
 }
 
-/// The transaction of branch n's CANCEL went on.
+/// Sets the transaction of branch n's CANCEL, which went on.
 pub fn cancel_on_branch<A: Allocator>(
     branches: &mut Vec<Option<Branch<A>>, A>,
     n: u16,
@@ -121,7 +121,7 @@ pub fn cancel_on_branch<A: Allocator>(
     }
 }
 
-/// The ACK that branch n owes, which it owes no more.
+/// Takes the ACK that branch n owes, which it owes no more.
 pub fn take_ack_of<A: Allocator>(
     branches: &mut Vec<Option<Branch<A>>, A>,
     n: u16,

@@ -30,7 +30,7 @@ impl Model for ClientTransaction {
 }
 
 impl ClientTransaction {
-    /// One whose request is sent at this moment.
+    /// A client transaction whose request is sent at this moment.
     pub(crate) fn start(kind: Kind, now: u64) -> Self
         ensures { result ≡ client_start (kind_of kind) now }
     {
@@ -62,7 +62,7 @@ impl ClientTransaction {
         }
     }
 
-    /// The moment at which a tick is wanted.
+    /// The moment at which the transaction wants a tick.
     pub(crate) fn due(&self) -> Option<u64>
         ensures { result ≡ client_due self.now }
     {
@@ -72,7 +72,7 @@ impl ClientTransaction {
         }
     }
 
-    /// Whether it has ended.
+    /// Whether the transaction has ended.
     pub(crate) fn is_over(&self) -> bool
         ensures { IsTrue result ↔ is_over self.now }
     {

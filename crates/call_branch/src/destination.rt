@@ -23,7 +23,7 @@ impl<A: Allocator> Model for Destination<A> {
 impl<A: Allocator> Destination<A> {
     /// The destination of a target with this URI by this hop.
     ///
-    /// The hop is that of the first Route value where the request has one, else that of the URI.
+    /// The hop is that of the first Route value where the request has one, else the hop of the URI.
     pub fn new(uri: SipUri<A>, hop: Hop) -> Self
         ensures { result ≡ record { uri = uri; hop = hop } }
     {
@@ -36,7 +36,7 @@ impl<A: Allocator> Destination<A> {
         &self.uri
     }
 
-    /// The hop that leads there.
+    /// The hop that leads to the target.
     pub fn hop(&self) -> Hop
         ensures { result ≡ self.now.hop }
     {

@@ -90,7 +90,7 @@ impl<A: Allocator> OpenedRequest<A> {
         }
     }
 
-    /// The call goes under this number.
+    /// Gives the call this number.
     pub fn set_number(&mut self, number: u64)
         ensures { self.new ≡ record self.old { number = number } }
     {
@@ -104,7 +104,7 @@ impl<A: Allocator> OpenedRequest<A> {
         self.number
     }
 
-    /// The address of the proxy that it was opened at.
+    /// The address of the proxy that the call was opened at.
     pub fn own(&self) -> Own
         ensures { result ≡ self.now.own }
     {
@@ -118,14 +118,14 @@ impl<A: Allocator> OpenedRequest<A> {
         &self.request
     }
 
-    /// Where its answers go.
+    /// Where the answers to the caller go.
     pub fn caller(&self) -> Hop
         ensures { result ≡ self.now.caller }
     {
         self.caller
     }
 
-    /// The hop of its first Route value, if it has one.
+    /// The hop of the first Route value of the request, if it has one.
     pub fn route(&self) -> Option<Hop>
         ensures { result ≡ self.now.route }
     {
@@ -140,14 +140,14 @@ impl<A: Allocator> OpenedRequest<A> {
         self.is_responsible
     }
 
-    /// Whether it is an INVITE.
+    /// Whether the request is an INVITE.
     pub fn is_invite(&self) -> bool
         ensures { result ≡ is_invite self.now }
     {
         self.invite
     }
 
-    /// Whether it is an INVITE.
+    /// The kind of the request, an INVITE or another one.
     pub fn kind(&self) -> Kind
         ensures { kinds.kind_of result ≡ kind_of self.now }
     {
@@ -158,7 +158,7 @@ impl<A: Allocator> OpenedRequest<A> {
         }
     }
 
-    /// What names the branch to target n (RFC 3261 section 16.6 step 8).
+    /// The name of the branch to target n, which the Via value of its request carries (RFC 3261 section 16.6 step 8).
     pub fn branch(&self, n: u16) -> BranchName
         ensures { result ≡ branch_at self.now n }
     {
@@ -217,7 +217,7 @@ impl<A: Allocator + Clone> OpenedRequest<A> {
         Ok(bytes)
     }
 
-    /// The same where the transaction asks for it.
+    /// The ACK for a failure of branch n, as it is sent, where the client transaction asks for one.
     pub fn ack_if(
         &self,
         alloc: &A,

@@ -10,7 +10,7 @@ use sip_text::Message;
 use sip_txn::{TxEvent, TxPass, TxSend};
 use std::alloc::Allocator;
 
-/// The class of a response.
+/// The class of a response, as a client transaction is fed it: provisional, success or failure.
 pub fn response_event(status: u16) -> TxEvent
     ensures { result ≡ take.response_event status }
 {
@@ -86,7 +86,8 @@ pub fn is_fault(pass: TxPass) -> bool
     }
 }
 
-/// The response as it may go up, or else as it is kept.
+/// A response on one of two sides: first what may go up at once, a provisional response or a 2xx; second what is kept,
+/// a failure.
 pub fn parted<A: Allocator>(
     status: u16,
     message: Message<A>,

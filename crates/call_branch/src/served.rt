@@ -30,7 +30,7 @@ impl Model for ServerTransaction {
 }
 
 impl ServerTransaction {
-    /// One whose request came at this moment.
+    /// A server transaction whose request came at this moment.
     pub fn start(kind: Kind, now: u64) -> Self
         ensures { result ≡ served_start (kind_of kind) }
     {
@@ -62,7 +62,7 @@ impl ServerTransaction {
         }
     }
 
-    /// The moment at which a tick is wanted.
+    /// The moment at which the transaction wants a tick.
     pub fn due(&self) -> Option<u64>
         ensures { result ≡ served_due self.now }
     {
@@ -72,7 +72,7 @@ impl ServerTransaction {
         }
     }
 
-    /// Whether it has ended.
+    /// Whether the transaction has ended.
     pub fn is_over(&self) -> bool
         ensures { IsTrue result ↔ is_over self.now }
     {
