@@ -169,7 +169,7 @@ impl<A: Allocator + Clone> Offered<A> {
     }
 }
 
-/// These contacts, offered to the fork of a call.
+/// Contacts as they are offered to the fork of a call.
 fn offers_of<A: Allocator + Clone>(
     alloc: &A,
     opened: &OpenedRequest<A>,

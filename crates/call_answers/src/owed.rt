@@ -25,7 +25,7 @@ pub fn first_owed<A: Allocator>(alloc: A, heap: Global, kind: Kind) -> Queue<A>
     owed
 }
 
-/// How many messages that is.
+/// How many messages there are in what may be a response: 1 or 0.
 pub fn count_of<A: Allocator>(response: &Option<Message<A>>) -> usize
     ensures { result ≡ length (option_to_list response.now) }
 {
@@ -35,7 +35,8 @@ pub fn count_of<A: Allocator>(response: &Option<Message<A>>) -> usize
     }
 }
 
-/// What is owed by what goes up, where a response goes up that a branch gave.
+/// The answer that comes to be owed to the caller by what goes up; `response` is the response of a branch, where that
+/// goes up.
 pub fn owed_by<A: Allocator>(up: Up, response: Option<Message<A>>) -> Option<NewAnswer<A>>
     ensures answer { news_of result ≡ owed_by (up_of up) response }
     ensures messages { messages_in result ≤ length (option_to_list response) }
@@ -57,7 +58,7 @@ fn passed<A: Allocator>(response: Option<Message<A>>) -> Option<NewAnswer<A>>
     }
 }
 
-/// The last answer again, where the transaction sends it.
+/// The answer that was sent last, to be sent again where the server transaction sends it.
 pub fn again_if<A: Allocator>(sends: bool) -> Option<NewAnswer<A>>
     ensures answer { news_of result ≡ again_if sends }
     ensures messages { messages_in result ≡ 0 }

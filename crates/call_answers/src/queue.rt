@@ -25,7 +25,7 @@ enum Entry {
 }
 
 impl Entry {
-    /// Whether a message belongs to it.
+    /// Whether a message belongs to the entry.
     fn takes_message(&self) -> bool
         ensures { result ≡ takes_message self.now }
     {
@@ -55,7 +55,7 @@ pub enum PendingResponse<'a, A: Allocator = Global> {
     Passed(&'a Message<A>),
     /// The final answer.
     Final(Choice),
-    /// What was sent last, again.
+    /// The answer that was sent last, again.
     Again,
     /// The 200 to this CANCEL, as it was marked with its source, and where it goes.
     CancelOk(&'a Message<A>, Hop),
@@ -89,21 +89,21 @@ fn first_of<A: Allocator>(messages: &[Message<A>]) -> &Message<A>
 }
 
 impl<'a, A: Allocator> PendingResponses<'a, A> {
-    /// How many there are.
+    /// How many answers are owed.
     pub fn len(&self) -> usize
         ensures { result ≡ length self.now }
     {
         self.entries.len()
     }
 
-    /// Whether there is none.
+    /// Whether no answer is owed.
     pub fn is_empty(&self) -> bool
         ensures { result ≡ (length self.now == 0) }
     {
         self.entries.is_empty()
     }
 
-    /// The first of them, if there is one.
+    /// The first answer that is owed, if there is one.
     pub fn first(&self) -> Option<PendingResponse<'a, A>>
         ensures { option_map read_of result ≡ slice_get self.now 0 }
     {
@@ -116,7 +116,7 @@ impl<'a, A: Allocator> PendingResponses<'a, A> {
         })
     }
 
-    /// Those behind the first.
+    /// The answers behind the first.
     pub fn rest(&self) -> PendingResponses<'a, A>
         requires { 0 < length self.now }
         ensures { result ≡ drop 1 self.now }
@@ -129,7 +129,7 @@ impl<'a, A: Allocator> PendingResponses<'a, A> {
     }
 }
 
-/// The message behind the others, if there is one.
+/// Puts the message behind the others, if there is one.
 fn push_if<A: Allocator>(messages: &mut Vec<Message<A>, A>, message: Option<Message<A>>)
     requires room { vec_len messages.old + length (option_to_list message) ≤ vec_capacity messages.old }
     ensures items { messages.new.items ≡ messages.old.items ++ option_to_list message }
@@ -161,7 +161,7 @@ impl<A: Allocator> Model for Queue<A> {
 }
 
 impl<A: Allocator> Queue<A> {
-    /// Nothing is owed yet; `heap` is for the entries, `alloc` for the messages.
+    /// A queue of which nothing is owed yet; `heap` is for the entries, `alloc` for the messages.
     pub(crate) fn new(alloc: A, heap: Global) -> Self
         ensures items { result.items ≡ [] }
         ensures room { HasRoomFor result 1 0 }
@@ -172,7 +172,7 @@ impl<A: Allocator> Queue<A> {
         }
     }
 
-    /// So many more answers fit from here on, and the messages of so many.
+    /// Makes room for `more` further answers, and for `messages` further messages.
     pub fn reserve(&mut self, more: usize, messages: usize) -> Result<(), AllocError>
         ensures items { self.new.items ≡ self.old.items }
         ensures ok { OnOk result (HasRoomFor self.new more messages) }
@@ -181,7 +181,7 @@ impl<A: Allocator> Queue<A> {
         self.messages.reserve(messages)
     }
 
-    /// One more entry, with the message that it takes.
+    /// Puts an entry behind the others, with the message that it takes, if it takes one.
     fn add(&mut self, entry: Entry, message: Option<Message<A>>)
         requires room { HasRoomFor self.old 1 (length (option_to_list message)) }
         requires taken { HaveMessages (entry ∷ []) (option_to_list message) }
@@ -193,7 +193,7 @@ impl<A: Allocator> Queue<A> {
         push_if(&mut self.messages, message);
     }
 
-    /// An answer is owed behind the others.
+    /// Puts an answer behind the others that are owed.
     pub fn owe(&mut self, answer: NewAnswer<A>)
         requires room { HasRoomFor self.old 1 (messages_of answer) }
         ensures items { self.new.items ≡ self.old.items ++ new_of answer ∷ [] }
@@ -209,7 +209,7 @@ impl<A: Allocator> Queue<A> {
         }
     }
 
-    /// The answer, if there is one, is owed behind the others.
+    /// Puts the answer, if there is one, behind the others that are owed.
     pub fn owe_if(&mut self, answer: Option<NewAnswer<A>>)
         requires room { HasRoomFor self.old 1 (messages_in answer) }
         ensures items { self.new.items ≡ self.old.items ++ news_of answer }
@@ -219,7 +219,7 @@ impl<A: Allocator> Queue<A> {
         }
     }
 
-    /// The first answer is owed no more.
+    /// Takes the first answer off, which is owed no more.
     pub fn pay_first(&mut self)
         requires some { 0 < length self.old.items }
         ensures { self.new.items ≡ drop 1 self.old.items }
@@ -231,7 +231,7 @@ impl<A: Allocator> Queue<A> {
         }
     }
 
-    /// The answers.
+    /// The answers that are owed.
     pub fn answers(&self) -> PendingResponses<'_, A>
         ensures { result ≡ self.now.items }
     {

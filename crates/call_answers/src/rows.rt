@@ -1,4 +1,4 @@
-//! The new rows of a table get their destinations.
+//! Where the requests of the new rows of a table go.
 ghost use Rattle.std.specs.Prelude.{◌≡◌, ◌<◌, ◌≤◌, ◌+◌, ◌++◌, true, length, drop, map, slice_get, is_some, Some, vec_len, vec_capacity};
 ghost use Rattle.std.specs.List.{filter_map};
 ghost use Rattle.std.specs.Option.{option_map};
@@ -10,7 +10,8 @@ use call_branch::{Branch, Destination};
 use fork_book::Book;
 use std::alloc::Allocator;
 
-/// The place of the target or the contact that row n is for, among those that it came with (RFC 3261 section 16.5).
+/// The place of the target or the contact that row n is for, among the targets or contacts that it came with (RFC 3261
+/// section 16.5).
 pub fn place_of<A: Allocator + Clone>(book: &Book<A>, n: u16) -> usize
     requires there { n < length (table_of book.now).rows }
     ensures { option_map (λ row. row.place) (slice_get (table_of book.now).rows n) ≡ Some result }
@@ -21,7 +22,7 @@ pub fn place_of<A: Allocator + Clone>(book: &Book<A>, n: u16) -> usize
     }
 }
 
-/// The destination at this place, which is there no more.
+/// Takes the destination at this place, which is there no more.
 fn take_destination<A: Allocator>(
     destinations: &mut Vec<Option<Destination<A>>, A>,
     place: usize,
@@ -36,7 +37,7 @@ fn take_destination<A: Allocator>(
     }
 }
 
-/// Each row from the first one on gets the destination of the contact at its place; its request was not sent.
+/// Gives each row from the first one on the destination of the contact at its place; its request was not sent.
 pub fn add_rows<A: Allocator + Clone>(
     book: &Book<A>,
     first: u16,
