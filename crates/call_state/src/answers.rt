@@ -108,7 +108,7 @@ fn cancel_ok<A: Allocator>(
     }))
 }
 
-/// The texts of these contacts.
+/// The texts of contacts.
 fn texts_of<'a, A: Allocator>(
     alloc: A,
     offers: &'a [Offer<A>],
@@ -123,8 +123,8 @@ fn texts_of<'a, A: Allocator>(
 }
 
 impl<A: Allocator + Clone> CallState<A> {
-    /// The response of branch n as it goes up, as the choice of the table: the one that came, which the branch keeps, or a
-    /// generated 408 where none came and one was assumed.
+    /// The response of branch n as it goes up, as the choice of the table: the response that came, which the branch keeps,
+    /// or a generated 408 where no response came and one was assumed.
     fn best_answer(&self, n: u16) -> Result<BuiltResponse<A>, AllocError>
         requires sound { IsSound self.now }
         requires answers { KeepsAnswers self.now }

@@ -49,6 +49,8 @@ impl<A: Allocator + Clone> CallState<A> {
         }
         let new_event = self.new_event(n, status, &message)?;
         let (up, failure) = parted(status, message);
+        // The event is posted before anything is set, as that alone may be refused; and `is_first` is asked of the table that has
+        // the answer.
         let at = match self.post_response(new_event, up) {
             Ok(at) => at,
             Err(fault) => return Err(fault),

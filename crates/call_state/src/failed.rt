@@ -12,7 +12,7 @@ use sip_txn::TxEvent;
 use std::alloc::{AllocError, Allocator};
 
 impl<A: Allocator + Clone> CallState<A> {
-    /// The client transaction of branch n is told that its request, or its ACK, could not be sent.
+    /// Tells the client transaction of branch n that its request, or its ACK, could not be sent.
     fn fault_client(&mut self, n: u16, now: u64) -> Result<(), AllocError>
         requires sound { IsSound self.old }
         ensures ok { OnOk result (FaultsClient self.old now n (nth_branch self.old n) self.new) }
@@ -29,7 +29,7 @@ impl<A: Allocator + Clone> CallState<A> {
         self.end_part(n, client, Event::Fault(n))
     }
 
-    /// That of its CANCEL is told so.
+    /// Tells the transaction of branch n's CANCEL that the CANCEL could not be sent.
     fn fault_cancel(&mut self, n: u16, now: u64)
         ensures { self.new ≡ cancel_faulted self.old now n (nth_branch self.old n) }
     {
@@ -43,9 +43,9 @@ impl<A: Allocator + Clone> CallState<A> {
         self.cancel_on_part(n, client);
     }
 
-    /// Tells of a datagram that could not be sent: the transaction of its cause hears of it, and the branch of a request
-    /// ends where that transaction waits for a response (RFC 3261 sections 16.9 and 17.1.4). The 200 to a CANCEL has no
-    /// transaction, and nothing changes.
+    /// Tells of a datagram that could not be sent: the transaction of its cause hears of that, and the branch of a request
+    /// ends where its transaction waits for a response (RFC 3261 sections 16.9 and 17.1.4). The 200 to a CANCEL has no
+    /// transaction, so that nothing changes.
     ///
     /// # Errors
     ///

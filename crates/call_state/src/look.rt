@@ -59,7 +59,7 @@ impl<A: Allocator + Clone> CallState<A> {
         shows_cancelled(self.state(n))
     }
 
-    /// Whether timer C of branch n runs: it was tried, and is neither cancelled nor has it ended (RFC 3261 section
+    /// Whether timer C of branch n runs: the branch was tried, and is neither cancelled nor has it ended (RFC 3261 section
     /// 16.8).
     pub fn runs_timer_c(&self, n: u16) -> bool
         ensures { result ≡ row_passes runs_timer_c self.now n }
@@ -81,7 +81,7 @@ impl<A: Allocator + Clone> CallState<A> {
         self.branch(n)?.due()
     }
 
-    /// The moment at which that of its CANCEL wants one.
+    /// The moment at which the transaction of branch n's CANCEL wants a tick.
     pub fn cancel_at(&self, n: u16) -> Option<u64>
         ensures { result ≡ cancel_at (nth_branch self.now n) }
     {

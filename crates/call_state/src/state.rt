@@ -60,8 +60,8 @@ use std::marker::Model;
 /// A call posts its events under this tag.
 const CALL_TAG: u8 = 0;
 
-/// The parts of a call: what it was opened with, its book, for each row of the table where its request goes and what
-/// stands for it once that was sent, and the side of its caller.
+/// The parts of a call: what it was opened with, its book, for each row of the table where its request goes and the
+/// part of the branch once that request was sent, and the side of its caller.
 #[derive(Drop)]
 pub struct CallState<A: Allocator + Clone = Global> {
     opened: OpenedRequest<A>,
@@ -95,7 +95,7 @@ fn up_at<A: Allocator + Clone>(book: &Book<A>, at: u32) -> Up
     }
 }
 
-/// Where branch n is, if there is one.
+/// The state of branch n, if there is one.
 fn state_of<A: Allocator + Clone>(book: &Book<A>, n: u16) -> Option<State>
     ensures { result ≡ option_map state_shown (slice_get (table_of book.now).rows n) }
 {
@@ -103,9 +103,9 @@ fn state_of<A: Allocator + Clone>(book: &Book<A>, n: u16) -> Option<State>
 }
 
 impl<A: Allocator + Clone> CallState<A> {
-    /// The parts of a call that was opened so, with the book of its fork and, for each row of the table, where its
-    /// request goes. Nothing was sent yet; a 100 is owed to an INVITE (RFC 3261 sections 16.2 and 17.2.1). `heap` is for
-    /// the order in which more than four answers are owed at once, `alloc` for all else.
+    /// The parts of a call that was opened with `fixed`, with the book of its fork and, for each row of the table, where
+    /// its request goes. Nothing was sent yet; a 100 is owed to an INVITE (RFC 3261 sections 16.2 and 17.2.1). `heap` is
+    /// for the order in which more than four answers are owed at once, `alloc` for all else.
     ///
     /// # Errors
     ///
@@ -137,7 +137,7 @@ impl<A: Allocator + Clone> CallState<A> {
         })
     }
 
-    /// The call goes under this number. Its branches are named by the number, so it is set before anything is sent.
+    /// Gives the call this number. Its branches are named by the number, so the number is set before anything is sent.
     pub fn set_number(&mut self, number: u64)
         ensures { self.new ≡ numbered number self.old }
     {
@@ -179,7 +179,7 @@ impl<A: Allocator + Clone> CallState<A> {
         let _destinations = &self.destinations;
     }
 
-    /// Where branch n is, if there is one.
+    /// The state of branch n, if there is one.
     pub(crate) fn state(&self, n: u16) -> Option<State>
         ensures { result ≡ option_map state_shown (slice_get (rows_of self.now) n) }
     {
@@ -226,7 +226,7 @@ impl<A: Allocator + Clone> CallState<A> {
 
     // ---- one change of a part
 
-    /// The transaction of branch n went on, and an ACK is owed where one was made.
+    /// Sets the client transaction of branch n, which went on; where an ACK was made, the branch owes it.
     pub(crate) fn respond_part(
         &mut self,
         n: u16,
@@ -239,7 +239,8 @@ impl<A: Allocator + Clone> CallState<A> {
         respond_branch(&mut self.branches, n, client, ack);
     }
 
-    /// A response of branch n was posted.
+    /// Notes that a response of branch n was posted: when timer C fires from now on, and the failure that is kept, if there
+    /// is one.
     pub(crate) fn keep_part(&mut self, n: u16, timer_c_at: Option<u64>, answer: Option<Message<A>>)
         requires there { n < length self.old.branches }
         ensures { self.new ≡ record self.old { branches = changed_branch (kept timer_c_at answer) self.old.branches n } }
@@ -247,7 +248,7 @@ impl<A: Allocator + Clone> CallState<A> {
         keep_branch(&mut self.branches, n, timer_c_at, answer);
     }
 
-    /// The CANCEL of branch n was sent.
+    /// Notes that the CANCEL of branch n was sent.
     fn cancel_part(&mut self, n: u16, cancelling: CancelTransaction<A>)
         requires there { n < length self.old.branches }
         ensures { self.new ≡ record self.old { branches = changed_branch (cancelled cancelling) self.old.branches n } }
@@ -255,7 +256,7 @@ impl<A: Allocator + Clone> CallState<A> {
         cancel_branch(&mut self.branches, n, cancelling);
     }
 
-    /// The transaction of branch n's CANCEL went on.
+    /// Sets the transaction of branch n's CANCEL, which went on.
     pub(crate) fn cancel_on_part(&mut self, n: u16, client: OtherClient)
         requires there { n < length self.old.branches }
         ensures { self.new ≡ record self.old { branches = changed_branch (cancel_on client) self.old.branches n } }
@@ -263,7 +264,7 @@ impl<A: Allocator + Clone> CallState<A> {
         cancel_on_branch(&mut self.branches, n, client);
     }
 
-    /// The ACK that branch n owes, which it owes no more.
+    /// Takes the ACK that branch n owes, which it owes no more.
     fn remove_ack(&mut self, n: u16) -> Option<Vec<u8, A>>
         requires there { n < length self.old.branches }
         ensures ack { option_map (λ v. v.items) result ≡ ack_owed self.old n }
@@ -272,14 +273,14 @@ impl<A: Allocator + Clone> CallState<A> {
         take_ack_of(&mut self.branches, n)
     }
 
-    /// The server transaction went on.
+    /// Sets the server transaction, which went on.
     fn serve(&mut self, served: ServerTransaction)
         ensures { self.new ≡ record self.old { server = record self.old.server { machine = served } } }
     {
         self.served = served;
     }
 
-    /// The server transaction is fed an event; what it sends and passes is let go.
+    /// Feeds the server transaction an event; what it sends and passes is dropped.
     pub(crate) fn feed_server(&mut self, event: TxEvent, now: u64)
         ensures { self.new ≡ served_on self.old event now }
     {
@@ -287,7 +288,7 @@ impl<A: Allocator + Clone> CallState<A> {
         self.serve(served);
     }
 
-    /// The first answer is owed no more.
+    /// Takes the first answer off those that are owed to the caller.
     pub(crate) fn pay(&mut self)
         requires some { 0 < length self.old.server.owed }
         ensures { self.new ≡ record self.old { server = record self.old.server { owed = drop 1 self.old.server.owed } } }
@@ -512,7 +513,8 @@ impl<A: Allocator + Clone> CallState<A> {
         Ok(())
     }
 
-    /// Posts such an event by which branch n ends; its transaction went on.
+    /// Posts an event that adds no row and by which branch n ends, and sets the client transaction of the branch, which
+    /// went on.
     pub(crate) fn end_part(
         &mut self,
         n: u16,
@@ -612,7 +614,7 @@ impl<A: Allocator + Clone> CallState<A> {
     }
 
     /// Takes a response to the CANCEL of branch n, with this status: the CANCEL's client transaction absorbs it, and what
-    /// that passes is not posted (RFC 3261 sections 9.1 and 17.1.2).
+    /// that transaction passes is not posted (RFC 3261 sections 9.1 and 17.1.2).
     pub fn take_cancel_response(&mut self, n: u16, status: u16, now: u64)
         requires there { is_cancel_sent self.old n ≡ true }
         ensures { (m : MessageText) (source : Hop) → status ≡ status_of m
@@ -653,15 +655,15 @@ impl<A: Allocator + Clone> CallState<A> {
         self.feed_server(TxEvent::Ack, now);
     }
 
-    /// Whether the caller's CANCEL is posted.
+    /// Whether a CANCEL of the caller is posted now: the call is an INVITE whose table is not closed.
     fn cancels(&self) -> bool
         ensures { result ≡ cancels self.now }
     {
         self.opened.is_invite() && !self.book.context().closed()
     }
 
-    /// Takes the caller's CANCEL as it was marked with its source, and where that is answered: a 200 to it is owed, and
-    /// it is posted where the call is an INVITE whose table is not closed (RFC 3261 sections 9.2 and 16.10).
+    /// Takes the caller's CANCEL as it was marked with its source, and where it is answered: a 200 to the CANCEL is owed,
+    /// and it is posted where the call is an INVITE whose table is not closed (RFC 3261 sections 9.2 and 16.10).
     ///
     /// # Errors
     ///
@@ -725,15 +727,15 @@ impl<A: Allocator + Clone> CallState<A> {
         }))
     }
 
-    /// What was sent to the caller last, again.
+    /// The answer that was sent to the caller last, again.
     pub(crate) fn last_again(&self) -> Result<Datagram<A>, AllocError>
         ensures { IfOk result (λ d. seen d ≡ answer_to self.now.opened self.now.server.last) }
     {
         answer_again(&self.alloc, &self.opened, &self.last)
     }
 
-    /// A tick of the server transaction: timer G sends the last answer again, the others end it; what it passes is not
-    /// posted (RFC 3261 section 17.2).
+    /// A tick of the server transaction: timer G sends the last answer again, the other timers end the transaction; what it
+    /// passes is not posted (RFC 3261 section 17.2).
     ///
     /// # Errors
     ///
@@ -753,7 +755,7 @@ impl<A: Allocator + Clone> CallState<A> {
     }
 }
 
-/// These bytes to the caller.
+/// The datagram that sends the caller these bytes again.
 fn answer_again<A: Allocator + Clone>(
     alloc: &A,
     opened: &OpenedRequest<A>,

@@ -1,10 +1,10 @@
-//! Where a branch is.
+//! What the state of a branch shows.
 ghost use Rattle.std.specs.Prelude.{◌≡◌};
 ghost use Rattle.call_state.specs.inner.StatesShown as shown;
 
 use fork_context::{End, State};
 
-/// It was tried, and no response to it has come.
+/// Whether the branch was tried, and no response to it has come.
 pub(crate) fn shows_trying(state: Option<State>) -> bool
     ensures { result ≡ shown.shows_trying state }
 {
@@ -14,7 +14,7 @@ pub(crate) fn shows_trying(state: Option<State>) -> bool
     }
 }
 
-/// It was tried, and has not ended.
+/// Whether the branch was tried, and has not ended.
 pub(crate) fn shows_open(state: Option<State>) -> bool
     ensures { result ≡ shown.shows_open state }
 {
@@ -24,7 +24,7 @@ pub(crate) fn shows_open(state: Option<State>) -> bool
     }
 }
 
-/// It is cancelled, and has not ended.
+/// Whether the branch is cancelled, and has not ended.
 pub(crate) fn shows_cancelled(state: Option<State>) -> bool
     ensures { result ≡ shown.shows_cancelled state }
 {
@@ -34,7 +34,7 @@ pub(crate) fn shows_cancelled(state: Option<State>) -> bool
     }
 }
 
-/// It was tried, and is neither cancelled nor has it ended.
+/// Whether the branch was tried, and is neither cancelled nor has it ended.
 pub(crate) fn shows_timer_c(state: Option<State>) -> bool
     ensures { result ≡ shown.shows_timer_c state }
 {
@@ -45,7 +45,7 @@ pub(crate) fn shows_timer_c(state: Option<State>) -> bool
     }
 }
 
-/// It ended with an answer that it gave.
+/// Whether the branch ended with an answer that it gave.
 pub(crate) fn shows_received(state: Option<State>) -> bool
     ensures { result ≡ shown.shows_received state }
 {
