@@ -16,7 +16,7 @@ pub enum ProgFault {
     /// The targets are no fork.
     #[error("setup: {0:?}")]
     New(NewFault),
-    /// It has more bytes than are read.
+    /// The text has more bytes than are read.
     #[error("too long")]
     TooLong,
     /// Workers met a full context: together they have more events than it takes.

@@ -9,13 +9,13 @@ use crate::replay::MOST_TEXT;
 use std::alloc::{AllocError, Allocator};
 use std::io::{ErrorKind, Read};
 
-/// After so many reads without an end the input counts as broken.
+/// How many reads are made at most: an input that has not ended by then counts as broken.
 const MOST_READS: u32 = 2_097_152;
 
 /// How many bytes are asked for at once.
 const CHUNK: usize = 65_536;
 
-/// So many zeros.
+/// A list of `count` zeros.
 fn zeros<A: Allocator>(alloc: A, count: usize) -> Result<Vec<u8, A>, AllocError>
     ensures { IfOk result (λ bytes. vec_len bytes ≡ count) }
 {

@@ -1,5 +1,6 @@
-//! The commands of `forkproxy` as functions over texts: a script is replayed (RFC 3261 section 16), which prints what the
-//! proxy does on each event and the listing of a fork that is done; such a listing is checked.
+//! The commands `replay` and `check` of `forkproxy`, as functions over texts: a script of one forked request is
+//! replayed (RFC 3261 section 16), which prints what the proxy does on each event and the listing of a fork that is
+//! done; such a listing is checked.
 #![tactic(auto)]
 
 mod check;

@@ -162,7 +162,7 @@ fn read_texted(text: &[u8]) -> Option<(u16, &[u8])>
     }
 }
 
-/// Whose challenge it is: a server's (`W`) or, where it is so, a proxy's (`P`).
+/// Whose challenge a line is about: false for a server's (`W`), true for a proxy's (`P`), `None` for any other text.
 fn read_asker(text: &[u8]) -> Option<bool>
     ensures { result ≡ read_asker text.now }
 {
@@ -175,7 +175,7 @@ fn read_asker(text: &[u8]) -> Option<bool>
     }
 }
 
-/// Whose challenge it is, and its value.
+/// The line of a challenge: whose it is, and its value.
 fn read_challenge(text: &[u8]) -> Option<Line<'_>>
     ensures { option_map line_of result ≡ read_challenge text.now }
 {

@@ -236,7 +236,7 @@ fn append_added<A: Allocator + Clone>(
     text: &mut Vec<u8, A>,
     context: &Context<A>,
 ) -> Result<(), AllocError>
-    // by the one choice that is due
+    // The challenges are those of the one choice that is due.
     ensures { (choice : spec_choice.Choice) → IsChosen context.now.table (Some choice) → OnOk result (text.new.items ≡ text.old.items ++ added_lines (challenge_list context.now.table.rows choice)) }
 {
     let mut added = Vec::new(alloc);
@@ -251,7 +251,7 @@ fn append_listed<A: Allocator + Clone>(
     context: &Context<A>,
     listed: &[u8],
 ) -> Result<(), AllocError>
-    // by the one choice that is due
+    // The challenges are those of the one choice that is due.
     ensures { (choice : spec_choice.Choice) → IsChosen context.now.table (Some choice) → OnOk result (text.new.items ≡ text.old.items ++ (added_lines (challenge_list context.now.table.rows choice) ++ listed.now)) }
 {
     append_added(alloc, text, context)?;

@@ -189,7 +189,7 @@ impl<A: Allocator + Clone> Script<A> {
         ensures ok { OnOk result (self.new ≡ record self.old { events = last_changed (with_contact offer) self.old.events }) }
         ensures err { OnErr result (self.new ≡ self.old) }
     {
-        // asks for no room: what is taken off leaves its own
+        // No room is asked for: the event that is taken off leaves its own.
         self.events.reserve(0)?;
         let Some(mut event) = self.events.pop_back() else {
             return Ok(());
@@ -204,7 +204,7 @@ impl<A: Allocator + Clone> Script<A> {
         ensures ok { OnOk result (self.new ≡ record self.old { events = last_changed (with_challenge challenge) self.old.events }) }
         ensures err { OnErr result (self.new ≡ self.old) }
     {
-        // asks for no room: what is taken off leaves its own
+        // No room is asked for: the event that is taken off leaves its own.
         self.events.reserve(0)?;
         let Some(mut event) = self.events.pop_back() else {
             return Ok(());
@@ -262,7 +262,7 @@ fn contact<A: Allocator + Clone>(alloc: &A, q: u16, name: &[u8]) -> Result<Offer
     Ok(Offer::new(name.to_vec(alloc.clone()?)?, q, Some(key)))
 }
 
-/// A contact that it may not.
+/// A contact that the proxy may not try.
 fn other<A: Allocator + Clone>(alloc: &A, q: u16, text: &[u8]) -> Result<Offer<A>, AllocError>
     requires { q ≤ most_q }
     ensures { IfOk result (λ offer. offer ≡ record { text = text.now; q = q; key = None }) }

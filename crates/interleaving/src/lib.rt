@@ -1,5 +1,5 @@
-//! Several workers' events in one history (RFC 3261 section 16.7): whether each worker's part of it is that worker's script,
-//! and what no order of their events changes.
+//! The events that several workers posted to one response context, in one history (RFC 3261 section 16.7): whether each
+//! worker's part of it is that worker's script, and what of the final response no order of their events changes.
 #![tactic(auto)]
 
 mod compare;

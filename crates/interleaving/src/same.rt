@@ -1,4 +1,4 @@
-//! Equality of what events hold. Each is wanted in the crate of its type, beside `copy`.
+//! Equality of what events hold. Each function would stand better in the crate of its type, beside `copy`.
 ghost use Rattle.std.specs.Prelude.{◌≡◌, ◌↔◌, IsTrue};
 ghost use Rattle.context_values.specs.EventView.{event_of};
 
