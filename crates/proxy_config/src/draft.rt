@@ -64,7 +64,7 @@ impl Phase {
     }
 }
 
-/// The URI that a text spells, if it does.
+/// The URI that a text spells, if it spells one.
 fn read_uri<A: Allocator + Clone>(alloc: &A, text: &[u8]) -> Result<Option<SipUri<A>>, AllocError>
     ensures { IfOk result (λ uri. uri ≡ uri_if (read_uri text.now)) }
 {

@@ -43,14 +43,14 @@ impl<A: Allocator> Location<A> {
         &self.user
     }
 
-    /// Whether it is a location of this user.
+    /// Whether the location is one of this user.
     pub fn is_of(&self, user: &[u8]) -> bool
         ensures { result ≡ is_of_user user.now self.now }
     {
         self.user.as_slice() == user
     }
 
-    /// Which of the user's locations are tried first, in thousandths, 0 to 1000: those with the greatest.
+    /// The q of the location, in thousandths, 0 to 1000: those of a user with the greatest are tried first.
     pub fn q(&self) -> u16
         ensures value { result ≡ self.now.q }
         ensures most { result ≤ most_q }

@@ -75,7 +75,7 @@ impl<A: Allocator> Setup<A> {
     /// Where the users of the domain may be reached, in the order of the text.
     pub fn locations(&self) -> &[Location<A>]
         ensures value { result.now ≡ self.now.locations }
-        // A request can be sent to each; no user has one target twice, or more than may be tried.
+        // A request can be sent to each location; no user has one target twice, or more than may be tried.
         ensures rules { KeepsRules self.now.locations }
     {
         &self.locations

@@ -11,8 +11,8 @@ use fork_rank::MOST_TARGETS;
 use std::alloc::{AllocError, Allocator};
 use std::collections::BTreeMap;
 
-/// For each user the keys of the targets that he has (RFC 3261 section 16.5), in their order. A new target is compared with
-/// those of its user alone, so that the time for a text grows little faster than its length.
+/// For each user the keys of the targets that the user has (RFC 3261 section 16.5), in their order. A new target is
+/// compared with those of its user alone, so that the time for a text grows little faster than its length.
 #[derive(Drop)]
 pub(crate) struct UserTargets<A: Allocator> {
     keys: BTreeMap<Vec<u8, A>, Vec<Vec<u8, A>, A>, A>,
@@ -34,7 +34,7 @@ impl<A: Allocator + Clone> UserTargets<A> {
         }
     }
 
-    /// Whether a user may get one more target with this key: he has not got it yet, nor as many as may be tried.
+    /// Whether a user may get one more target with this key: the user has not got it yet, nor as many as may be tried.
     pub(crate) fn may_add(&self, user: &[u8], key: &[u8]) -> bool
         ensures { result
             ≡ (not (list_any (λ other. bytes_eq other key.now) (targets_of self.now user.now))

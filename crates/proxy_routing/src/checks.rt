@@ -34,7 +34,7 @@ fn has_cookie<A: Allocator>(message: &Message<A>) -> bool
     begins_with_cookie(top_branch(message))
 }
 
-/// Whether Max-Forwards, where it is said, is said well.
+/// Whether Max-Forwards, where the request has one, can be read.
 fn are_hops(hops: Hops) -> bool
     ensures { result ≡ are_hops hops }
 {
@@ -76,7 +76,7 @@ pub(crate) fn is_formed<A: Allocator>(
     has_cookie(message) && are_hops(hops) && routes_are_readable(message) && is_uri_or_other(fault)
 }
 
-/// Whether so many proxies are none.
+/// Whether Max-Forwards is 0: no further proxy may pass the request on.
 pub(crate) fn is_spent(hops: Hops) -> bool
     ensures { result ≡ is_spent hops }
 {

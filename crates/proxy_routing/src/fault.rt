@@ -20,13 +20,13 @@ pub enum RequestRejection {
     /// The request passed the proxy before (section 16.3 step 4): 482.
     #[error("the request passed the proxy before")]
     Loop,
-    /// It asks the proxy for an extension (section 16.3 step 5): 420.
+    /// The request asks the proxy for an extension (section 16.3 step 5): 420.
     #[error("the request asks for an extension")]
     Extension,
-    /// The domain has no target for it (section 16.5): 480.
+    /// The domain has no target for the request (section 16.5): 480.
     #[error("the domain has no target for it")]
     NoTarget,
-    /// One of its targets has no hop that the proxy can send to (section 16.6 step 7): 500.
+    /// One of the targets has no hop that the proxy can send to (section 16.6 step 7): 500.
     #[error("a target has no next hop")]
     NoHop,
     /// The allocator refused.

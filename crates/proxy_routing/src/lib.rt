@@ -1,6 +1,6 @@
-//! What a proxy asks of a request before it opens a call for it, and where it then sends it: the checks of a request and why
-//! it is turned away, the locations of a user of the domain, and the hop that leads to each (RFC 3261 sections 16.3 to
-//! 16.6).
+//! What a proxy asks of a request before it opens a call for it, and where it then sends it: the validation of the
+//! request and the status by which it is refused, the target set, which is the locations of a user of the domain or the
+//! Request-URI, and the next hop that leads to each target (RFC 3261 sections 16.3 to 16.6).
 //!
 //! Nothing is known of calls here.
 #![tactic(auto)]

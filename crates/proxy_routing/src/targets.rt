@@ -18,7 +18,7 @@ use std::marker::Model;
 /// The q of a target that no location names.
 const MOST_Q: u16 = 1000;
 
-/// A target, tried at this q, and the hop by which it is reached, if there is one.
+/// A target, the q at which it is tried, and the hop by which it is reached, if there is one.
 #[derive(Drop)]
 pub struct Choice<'a, A: Allocator> {
     q: u16,
@@ -46,7 +46,7 @@ impl<'a, A: Allocator> Choice<'a, A> {
         self.uri
     }
 
-    /// The hop by which it is reached, if there is one.
+    /// The hop by which the target is reached, if there is one.
     pub fn hop(&self) -> Option<Hop>
         ensures { result ≡ self.now.hop }
     {
@@ -98,8 +98,8 @@ fn host_of<A: Allocator>(alloc: A, addr: [u8; 4]) -> Result<Vec<u8, A>, AllocErr
     Ok(text)
 }
 
-/// Whether the proxy answers for this host: it is that of its domain, in any case, or its own address as it is written
-/// (RFC 3261 section 16.5).
+/// Whether the proxy answers for this host: the host is that of the proxy's domain, in upper or lower case, or the
+/// proxy's own address as it is written (RFC 3261 section 16.5).
 ///
 /// # Errors
 ///
