@@ -53,7 +53,7 @@ fn target_of(value: &[u8], own: Own, call: BranchName) -> Option<u16>
     }
 }
 
-/// Whether a message is a request of that method.
+/// Whether a message is a request with this method.
 fn is_request_of<A: Allocator>(message: &Message<A>, method: &[u8]) -> bool
     ensures { result ≡ is_request_of method.now message.now.start }
 {
@@ -73,7 +73,7 @@ fn is_response<A: Allocator>(message: &Message<A>) -> bool
     }
 }
 
-/// Whether a response answers a request of that method.
+/// Whether a response answers a request with this method.
 fn is_to_method<A: Allocator>(message: &Message<A>, method: &[u8]) -> bool
     ensures { result ≡ is_to_method method.now (message_cseq message.now.headers) }
 {
@@ -90,8 +90,8 @@ fn opening_method<A: Allocator + Clone>(state: &CallState<A>) -> &[u8]
     }
 }
 
-/// Whether a response on branch n is for the client transaction of its request, which was sent. One with a single Via
-/// value, with no `second`, was meant for the proxy itself (RFC 3261 section 16.7 step 3).
+/// Whether a response on branch n is for the client transaction of the request, which was sent. A response with a
+/// single Via value, with no `second`, was meant for the proxy itself (RFC 3261 section 16.7 step 3).
 fn is_for_client<A: Allocator + Clone>(
     state: &CallState<A>,
     message: &Message<A>,
@@ -104,7 +104,7 @@ fn is_for_client<A: Allocator + Clone>(
     is_to_method(message, opening_method(state)) && second && state.is_sent(n)
 }
 
-/// Whether a response on branch n is for the client transaction of its CANCEL, which was sent.
+/// Whether a response on branch n is for the client transaction of the CANCEL, which was sent.
 fn is_for_cancel<A: Allocator + Clone>(state: &CallState<A>, message: &Message<A>, n: u16) -> bool
     ensures { result ≡ (is_to_method (codes "CANCEL") (message_cseq message.now.headers) && is_cancel_sent state.now n) }
 {
@@ -157,10 +157,11 @@ fn request_recipient<A: Allocator + Clone>(
     None
 }
 
-/// The transaction of a call that a message is for, if there is one. A request is for the caller's where it has the key of
-/// the request that opened the call, and where its method is that request's, ACK or CANCEL. A response is for that of a
-/// branch where its top Via value is the one that the proxy put into what it sent there (RFC 3261 sections 9.2, 16.7 steps
-/// 1 and 3, 17.1.3 and 17.2.3). It takes no memory.
+/// The transaction of a call that a message is for, if there is one. A request is for the caller's transaction where it
+/// has the key of the request that opened the call, and where its method is that request's, ACK or CANCEL. A response
+/// is for a transaction of a branch where its top Via value is the one that the proxy put into the request or the
+/// CANCEL that it sent there (RFC 3261 sections 9.2, 16.7 steps 1 and 3, 17.1.3 and 17.2.3). The search takes no
+/// memory.
 #[tactic(auto, using(crate::proofs::Matched::to_none, crate::proofs::Matched::no_request, crate::proofs::Matched::no_response))]
 pub fn match_transaction<A: Allocator + Clone>(
     state: &CallState<A>,

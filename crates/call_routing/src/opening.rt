@@ -32,7 +32,7 @@ use sip_uri::{Hop, SipUri, UriFault};
 use sip_via::reply_hop_of;
 use std::alloc::{AllocError, Allocator, Global};
 
-/// Where the request to a target goes, which has a hop.
+/// Where the request to a target that has a hop goes.
 fn destination_to<A: Allocator + Clone>(
     alloc: A,
     choice: &Choice<'_, A>,
@@ -46,7 +46,7 @@ fn destination_to<A: Allocator + Clone>(
     Ok(Destination::new(choice.uri().requested(alloc)?, hop))
 }
 
-/// The same for the target at that place.
+/// Where the request to the target at that place goes.
 fn destination_at<A: Allocator + Clone>(
     alloc: A,
     choices: &[Choice<'_, A>],
@@ -74,7 +74,7 @@ pub fn read_target<A: Allocator + Clone>(
     SipUri::read(alloc, request_uri(request))
 }
 
-/// The URI that a request names which was admitted, and so can be read (RFC 3261 sections 16.3 and 16.5).
+/// The URI that an admitted request names: it can be read (RFC 3261 sections 16.3 and 16.5).
 ///
 /// # Errors
 ///
@@ -137,7 +137,7 @@ fn book_of<A: Allocator + Clone>(
     }
 }
 
-/// Shows that each row of a book that was opened so is for one of the targets.
+/// Shows that each row of a book that was opened to these targets is for one of them.
 fn rows_have_places<A: Allocator + Clone>(
     book: &Book<A>,
     choices: &[Choice<'_, A>],
@@ -148,7 +148,7 @@ fn rows_have_places<A: Allocator + Clone>(
     ensures { (n : ℕ) (row : Row) → slice_get (table_of book.now).rows n ≡ Some row → row.place < length choices.now }
 {}
 
-/// The parts of a call that begins so, each of whose targets has a hop.
+/// The parts of a call that begins to these targets, each of which has a hop.
 fn begin<A: Allocator + Clone>(
     alloc: A,
     heap: Global,
@@ -248,10 +248,11 @@ pub fn is_openable<A: Allocator>(message: &Message<A>) -> bool
     }
 }
 
-/// The parts of the call that a request from `source` opens under this number; it is neither an ACK nor a CANCEL. The
-/// targets of a request to the domain are the locations of its user, that of any other is its Request-URI, for which the
-/// proxy is not responsible: contacts of a 3xx are tried in the domain alone (RFC 3261 sections 16.3 to 16.6). Nothing was
-/// sent yet; a 100 is owed to an INVITE. The queue of what is owed to the caller lies on `heap`, all else in `alloc`.
+/// The parts of the call that a request from `source` opens under this number; the request is neither an ACK nor a
+/// CANCEL. The targets of a request to the domain are the locations of its user; the one target of any other is its
+/// Request-URI, for which the proxy is not responsible: contacts of a 3xx are tried in the domain alone (RFC 3261
+/// sections 16.3 to 16.6). Nothing was sent yet; a 100 is owed to an INVITE. The queue of what is owed to the caller
+/// lies on `heap`, all else in `alloc`.
 ///
 /// # Errors
 ///
