@@ -153,7 +153,7 @@ impl Inbox {
 }
 
 impl<J: Drop, A: Allocator> InboxIn<J, A> {
-    /// Gives a job. It takes no memory.
+    /// Gives a job. The call takes no memory.
     ///
     /// # Errors
     ///
@@ -172,7 +172,7 @@ impl<J: Drop, A: Allocator> InboxIn<J, A> {
 }
 
 impl<J: Drop, A: Allocator> InboxOut<J, A> {
-    /// The job at the front. It waits for none: None where none was held at some moment of the call.
+    /// The job at the front. The call waits for no job: None where none was held at some moment of the call.
     pub fn receive<R: Wait>(&mut self, rt: &R) -> Option<J>
         ensures same { (self.new.queue ≡ self.old.queue) × (self.new.joined ≡ self.old.joined) × (self.new.given ≡ self.old.given) }
         ensures some { IfSome result (λ job. self.new.received ≡ self.old.received ++ job ∷ []) }

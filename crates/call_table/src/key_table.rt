@@ -11,9 +11,9 @@ use std::hash::{FoldHasher, Hasher};
 /// Why a key gets no number.
 #[derive(Clone, Copy, PartialEq, Eq, Debug)]
 pub(crate) enum Taken {
-    /// It has this one.
+    /// The key has this number.
     Known(u64),
-    /// None is left.
+    /// No number is left.
     Spent,
 }
 
@@ -30,7 +30,7 @@ pub(crate) struct Listed<A: Allocator> {
 pub(crate) struct KeyTable<A: Allocator> {
     /// For each digest the first key that has it.
     firsts: BTreeMap<u64, Listed<A>, A>,
-    /// The keys whose digest an earlier one has.
+    /// The keys whose digest an earlier key has.
     others: BTreeMap<Vec<u8, A>, u64, A>,
     pub(crate) next: u64,
 }
@@ -87,7 +87,7 @@ impl<A: Allocator + Clone> KeyTable<A> {
         Ok(self.next)
     }
 
-    /// Gives a key whose digest no key has the next number.
+    /// Gives the next number to a key whose digest no other key has.
     fn list_first(&mut self, digest: u64, key: Vec<u8, A>) -> Result<(), AllocError>
         requires next { self.old.next + 1 < 2 ^ 64 }
         requires new { number_of self.old key.items ≡ None }
@@ -104,7 +104,7 @@ impl<A: Allocator + Clone> KeyTable<A> {
         Ok(())
     }
 
-    /// Gives a key whose digest an earlier one has the next number.
+    /// Gives the next number to a key whose digest an earlier key has.
     fn list_other(&mut self, key: Vec<u8, A>) -> Result<(), AllocError>
         requires next { self.old.next + 1 < 2 ^ 64 }
         ensures ok { OnOk result (IsListed key.items self.old self.new) }
@@ -150,7 +150,7 @@ impl<A: Allocator + Clone> KeyTable<A> {
         }
     }
 
-    /// Takes a key away from the others.
+    /// Takes a key away from those whose digest an earlier key has.
     fn unlist_other(&mut self, key: &[u8])
         ensures next { self.new.next ≡ self.old.next }
         ensures firsts { self.new.firsts ≡ self.old.firsts }

@@ -1,4 +1,5 @@
-//! What several threads share: values under numbers and keys, a lock for each, and queues of jobs.
+//! What the threads of a proxy share: the table of its calls, under numbers and under the keys of their requests, with
+//! a lock for each call, and queues of jobs for its workers. Of a call no more is known here than its number.
 #![tactic(auto)]
 
 pub mod inbox;

@@ -16,7 +16,7 @@ use thiserror::Error;
 pub trait Numbered {
     ghost number_of: { Self → ℕ };
 
-    /// Its number.
+    /// The number of the value.
     fn number(&self) -> u64
         ensures { result ≡ number_of self.now };
 }
@@ -198,7 +198,7 @@ impl<T: Numbered + Drop, A: Allocator + Clone> Shelf<T, A> {
         }
     }
 
-    /// How many values were put: each number below it was given once, and none from it on.
+    /// How many values were put: each number below this count was given once, and none from the count on.
     pub fn count<R: Wait>(&self, rt: &R) -> u64 {
         self.key_table.lock(rt).next
     }
