@@ -17,7 +17,7 @@ use std::alloc::{AllocError, Allocator};
 /// One thing that a call may have to do; the number names a branch.
 #[derive(Clone, Copy, PartialEq, Eq, Debug)]
 pub(crate) enum Action {
-    /// The first answer that is owed to the caller.
+    /// Send the first answer that is owed to the caller.
     SendAnswer,
     /// A tick of the caller's transaction.
     TickServer,
@@ -26,7 +26,7 @@ pub(crate) enum Action {
     SendAck(u16),
     /// A tick of the client transaction of a branch.
     TickClient(u16),
-    /// A tick of that of its CANCEL.
+    /// A tick of the client transaction of a branch's CANCEL.
     TickCancel(u16),
     /// Timer C of a branch (RFC 3261 section 16.8).
     FireTimerC(u16),
@@ -35,7 +35,7 @@ pub(crate) enum Action {
 }
 
 impl Action {
-    /// The row on which something is done.
+    /// The row of the branch on which the thing is done; None where it is done for the caller.
     pub(crate) fn row(self) -> Option<u16>
         ensures { result ≡ row_of_action (seen_action self) }
     {
@@ -79,7 +79,7 @@ impl Action {
         Action::TickCancel(n)
     }
 
-    /// Does it, where it is due.
+    /// Does the thing, where it is due.
     ///
     /// # Errors
     ///

@@ -38,7 +38,7 @@ use sip_uri::Hop;
 use std::alloc::{AllocError, Allocator, Global};
 use std::marker::Model;
 
-/// The row whose datagram could not be sent.
+/// The row of the branch whose datagram has this cause; None where the datagram is for the caller.
 fn row_of(cause: Cause) -> Option<u16>
     ensures { result ≡ row_of_cause cause }
 {
@@ -81,10 +81,10 @@ impl<A: Allocator + Clone> Model for Call<A> {
 }
 
 impl<A: Allocator + Clone> Call<A> {
-    /// The call that a request from `source` opens under this number; it is neither an ACK nor a CANCEL. The targets of a
-    /// request to the domain are the locations of its user, that of any other is its Request-URI (RFC 3261 sections 16.3 to
-    /// 16.6). Nothing was sent yet; a 100 is owed to an INVITE. The queue of what is owed to the caller lies on `heap`, all
-    /// else in `alloc`.
+    /// The call that a request from `source` opens under this number; the request is neither an ACK nor a CANCEL. The
+    /// targets of a request to the domain are the locations of its user; the one target of any other is its Request-URI
+    /// (RFC 3261 sections 16.3 to 16.6). Nothing was sent yet; a 100 is owed to an INVITE. The queue of what is owed to the
+    /// caller lies on `heap`, all else in `alloc`.
     ///
     /// # Errors
     ///
@@ -148,13 +148,13 @@ impl<A: Allocator + Clone> Call<A> {
         Some(Action::on_row(&self.state, n as u16, now))
     }
 
-    /// Takes a message that came from `source`, by the one transaction that it belongs to (RFC 3261 sections 16.7, 17.1.3 and
-    /// 17.2.3).
+    /// Takes a message that came from `source`, by the one transaction that the message belongs to (RFC 3261 sections 16.7,
+    /// 17.1.3 and 17.2.3).
     ///
     /// # Errors
     ///
-    /// `Stray` where it belongs to none, `Full` where the book takes no more events that change nothing; else only where
-    /// the allocator refuses. The call is then as it was.
+    /// `Stray` where the message belongs to none, `Full` where the book takes no more events that change nothing; else only
+    /// where the allocator refuses. The call is then as it was.
     pub fn take(&mut self, message: Message<A>, source: Hop, now: u64) -> Result<Taken, TakeFault>
         ensures step { IfOk result (λ taken. Takes self.old now message source (seen_taken taken) self.new) }
         ensures stray { IsErrOf result TakeFault.Stray → BelongsToNone self.old message }
@@ -165,6 +165,7 @@ impl<A: Allocator + Clone> Call<A> {
             return Err(TakeFault::Stray);
         };
         let at = self.posted();
+        // The next calls run nothing: each shows the prover a fact that holds of every call, message or table.
         self.state.is_sized();
         message.is_message();
         calls_stay_sound();
@@ -181,8 +182,8 @@ impl<A: Allocator + Clone> Call<A> {
         taken
     }
 
-    /// Does one thing that is due; where nothing is, nothing changes. What it sends is what its cause says, and goes where that
-    /// says.
+    /// Does one thing that is due; where nothing is, nothing changes. What the call sends is what the cause of the datagram
+    /// says, and goes where the cause says.
     ///
     /// # Errors
     ///
@@ -197,6 +198,7 @@ impl<A: Allocator + Clone> Call<A> {
             return Ok(Step::Idle);
         };
         let at = self.posted();
+        // The next calls run nothing: each shows the prover a fact that holds of every call, message or table.
         self.state.is_sized();
         calls_stay_sound();
         calls_send_right();
@@ -209,7 +211,7 @@ impl<A: Allocator + Clone> Call<A> {
         Ok(step)
     }
 
-    /// Tells the transaction of a datagram that it could not be sent (RFC 3261 sections 16.9 and 17.1.4).
+    /// Tells the transaction of a datagram that the datagram could not be sent (RFC 3261 sections 16.9 and 17.1.4).
     ///
     /// # Errors
     ///
@@ -219,6 +221,7 @@ impl<A: Allocator + Clone> Call<A> {
         ensures err { OnErr result (self.new ≡ self.old) }
     {
         let at = self.posted();
+        // The next calls run nothing: each shows the prover a fact that holds of every call, message or table.
         self.state.is_sized();
         calls_stay_sound();
         calls_send_right();
@@ -231,7 +234,8 @@ impl<A: Allocator + Clone> Call<A> {
         Ok(())
     }
 
-    /// The earliest moment at which something is to be done; what is owed is to be done at any.
+    /// The earliest moment at which something is to be done: 0 where an answer is owed, as that is to be done at any
+    /// moment.
     pub fn due(&self) -> Option<u64>
         ensures { IsLeastDue self.now result }
     {
@@ -265,7 +269,7 @@ impl<A: Allocator + Clone> Call<A> {
         self.state.book()
     }
 
-    /// The number that it was opened with.
+    /// The number that the call was opened with.
     pub fn number(&self) -> u64
         ensures { result ≡ self.now.opened.number }
     {
@@ -276,7 +280,7 @@ impl<A: Allocator + Clone> Call<A> {
 impl<A: Allocator + Clone> Numbered for Call<A> {
     ghost number_of = { λ call. call.opened.number };
 
-    /// The number that it was opened with.
+    /// The number that the call was opened with.
     fn number(&self) -> u64 {
         Call::number(self)
     }

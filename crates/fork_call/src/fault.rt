@@ -5,7 +5,7 @@ use thiserror::Error;
 /// Why a call does not take a message.
 #[derive(Clone, Copy, PartialEq, Eq, Debug, Error)]
 pub enum TakeFault {
-    /// It belongs to no transaction of the call (RFC 3261 sections 17.1.3 and 17.2.3).
+    /// The message belongs to no transaction of the call (RFC 3261 sections 17.1.3 and 17.2.3).
     #[error("the message belongs to no transaction of the call")]
     Stray,
     /// The book takes no more events that change nothing.

@@ -1,5 +1,7 @@
-//! Calls: a forked request with its transactions takes messages and moments, and gives datagrams (RFC 3261 sections 16 and
-//! 17).
+//! A call: a forked request with its response context, the server transaction of its caller and a client transaction
+//! for each branch. It takes the messages that belong to it and the moments at which a timer fires, and gives the
+//! datagrams that the proxy sends for it, the one final response among them (RFC 3261 sections 16 and 17). Begin with
+//! `Call::take` and `Call::pump`; `carry` sends what a call gives.
 #![tactic(auto)]
 
 mod action;

@@ -16,7 +16,8 @@ use sip_uri::Hop;
 use std::alloc::{Allocator, Global};
 use std::marker::Model;
 
-/// What a request opens, but for its number. So a call takes its number in no time, where others wait for theirs meanwhile.
+/// What a request opens, but for the number of the call. Numbers are given under a lock that all calls share: all that
+/// takes time is done before, so that no call waits for another one to be opened.
 #[derive(Drop)]
 pub struct PendingCall<A: Allocator + Clone = Global> {
     state: CallState<A>,

@@ -9,7 +9,7 @@ use crate::schedule::is_due;
 use call_model::{Datagram, Step};
 use std::alloc::{AllocError, Allocator};
 
-/// At most so many steps are made at a time.
+/// How many steps of a call are made at a time, at most.
 const MOST_STEPS: u32 = 1024;
 
 /// Where datagrams are sent.

@@ -21,7 +21,7 @@ use sip_uri::Hop;
 use sip_via::{ViaFault, mark, readable_is_marked, reply_hop_of};
 use std::alloc::Allocator;
 
-/// A call has at most so many targets.
+/// How many targets a call has at most.
 const MOST_TARGETS: u16 = 256;
 
 /// The status of a response; 0 of a request.
@@ -58,8 +58,8 @@ pub(crate) fn row_of(to: MatchedTransaction) -> Option<u16>
     }
 }
 
-/// The caller's CANCEL is marked with its source and taken (RFC 3261 sections 9.2, 16.10 and 18.2.1). It has the key of
-/// the call's request, so its top Via value can be read, and want of memory alone keeps it from being marked.
+/// Marks the caller's CANCEL with its source and takes it (RFC 3261 sections 9.2, 16.10 and 18.2.1). The CANCEL has the
+/// key of the call's request, so its top Via value can be read, and want of memory alone keeps it from being marked.
 fn take_cancel<A: Allocator + Clone>(
     state: &mut CallState<A>,
     alloc: A,
@@ -87,7 +87,7 @@ fn take_cancel<A: Allocator + Clone>(
     }
 }
 
-/// A response is taken by the client transaction of branch n (RFC 3261 sections 16.7 and 17.1).
+/// Gives a response to the client transaction of branch n (RFC 3261 sections 16.7 and 17.1).
 fn respond<A: Allocator + Clone>(
     state: &mut CallState<A>,
     n: u16,
@@ -111,7 +111,7 @@ fn respond<A: Allocator + Clone>(
     }
 }
 
-/// A message is taken by the transaction that it belongs to.
+/// Gives a message to the transaction that it belongs to.
 ///
 /// # Errors
 ///

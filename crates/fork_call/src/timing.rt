@@ -7,14 +7,15 @@ use crate::schedule::{BranchTimers, earlier};
 use call_state::CallState;
 use std::alloc::{AllocError, Allocator};
 
-/// A moment that counts where this runs.
+/// The moment `at`, where the timer of that moment runs.
 fn if_runs(runs: bool, at: Option<u64>) -> Option<u64>
     ensures { result ≡ if_runs runs at }
 {
     if runs { at } else { None }
 }
 
-/// From when on something is to be done on row n: what is owed is to be done at any moment.
+/// From when on something is to be done on row n: a request, an ACK or a CANCEL that is owed is to be sent at any
+/// moment.
 fn row_moment<A: Allocator + Clone>(state: &CallState<A>, n: u16) -> Option<u64>
     ensures { result ≡ row_moment state.now n }
 {
@@ -34,7 +35,7 @@ fn row_moment<A: Allocator + Clone>(state: &CallState<A>, n: u16) -> Option<u64>
     earlier(state.client_at(n), earlier(state.cancel_at(n), ends))
 }
 
-/// Each row has its moment.
+/// The schedule in which each row has its moment.
 ///
 /// # Errors
 ///
@@ -53,14 +54,14 @@ pub(crate) fn schedule_of<A: Allocator + Clone>(
     Ok(schedule)
 }
 
-/// Row n is timed anew.
+/// Sets the moment of row n anew.
 fn time_row<A: Allocator + Clone>(schedule: &mut BranchTimers<A>, state: &CallState<A>, n: u16)
     ensures { schedule.new ≡ timed_at state.now schedule.old n }
 {
     schedule.set(n, row_moment(state, n));
 }
 
-/// These rows are timed anew.
+/// Sets the moments of these rows anew.
 fn time_rows<A: Allocator + Clone>(
     schedule: &mut BranchTimers<A>,
     state: &CallState<A>,
@@ -73,8 +74,8 @@ fn time_rows<A: Allocator + Clone>(
     }
 }
 
-/// The rows are timed anew that a step touched: its own, and those that the event at this position started or cancelled,
-/// if one was posted there. Each row has its moment then.
+/// Sets the moments anew of the rows that a step touched: the row of the step, and those that the event at this
+/// position started or cancelled, if one was posted there. Each row has its moment then.
 pub(crate) fn time_step<A: Allocator + Clone>(
     schedule: &mut BranchTimers<A>,
     state: &CallState<A>,
