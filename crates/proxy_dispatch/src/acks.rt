@@ -1,4 +1,5 @@
-//! ACKs that no call takes: those of the proxy's own answers, and those of answers that went up, which go on.
+//! ACKs that no call takes: an ACK of an answer of the proxy's own is absorbed, an ACK of an answer that went up goes
+//! on.
 ghost use Rattle.std.specs.Prelude.{◌≡◌, ◌↔◌, IfOk, IfSome, IsOk, IsTrue, Some, true};
 ghost use Rattle.sip_text.specs.Name.{first_value};
 ghost use Rattle.sip_route.specs.Hops.{IsHops, hops_name};
@@ -24,10 +25,10 @@ use sip_uri::{Hop, SipUri};
 use sip_via::BranchName;
 use std::alloc::{AllocError, Allocator};
 
-/// The number of the call in the branch of an ACK that belongs to none.
+/// The number of the call in the branch of an ACK that goes on: the ACK belongs to no call.
 const NO_CALL: u64 = 0;
 
-/// The number of the target there: no target of a call has it.
+/// The number of the target in the branch of an ACK that goes on: no target of a call has this number.
 const NO_TARGET: u16 = 65_535;
 
 /// Whether the To of a request has the tag of the proxy's own answers (RFC 3261 section 8.2.6.2).
@@ -128,8 +129,8 @@ fn passing<A: Allocator + Clone>(
     }
 }
 
-/// An ACK that is for no call: it is absorbed where it acknowledges an answer of the proxy's own, and goes on where it can
-/// (RFC 3261 sections 16.11 and 17.2.1).
+/// What becomes of an ACK that is for no call: it is absorbed where it acknowledges an answer of the proxy's own, and
+/// goes on where it can (RFC 3261 sections 16.11 and 17.2.1).
 pub(crate) fn acknowledged<A: Allocator + Clone>(
     alloc: A,
     setup: &Setup<A>,

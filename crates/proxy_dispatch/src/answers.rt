@@ -48,9 +48,9 @@ fn answer_to<A: Allocator>(
     })
 }
 
-/// An answer of the proxy's own to a request that came from `source`: made of the request with its source, it goes where
-/// its top Via value says (RFC 3261 sections 18.2.1 and 18.2.2). Where that cannot be read it is made of the request as it
-/// came, and goes back to where that came from.
+/// An answer of the proxy's own to a request that came from `source`: the answer is made of the request with its
+/// source, and goes where the top Via value says (RFC 3261 sections 18.2.1 and 18.2.2). Where that value cannot be
+/// read, the answer is made of the request as it came, and goes back to where the request came from.
 fn answer_of<A: Allocator + Clone>(
     alloc: A,
     request: Message<A>,
@@ -68,7 +68,7 @@ fn answer_of<A: Allocator + Clone>(
     }
 }
 
-/// A request that came from `source` is answered so.
+/// What becomes of a request that came from `source` and is answered with this status.
 pub(crate) fn answered<A: Allocator + Clone>(
     alloc: A,
     request: Message<A>,

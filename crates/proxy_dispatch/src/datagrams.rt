@@ -25,17 +25,17 @@ use std::sync::Wait;
 /// What became of a datagram.
 #[derive(Clone, Copy, PartialEq, Eq, Debug)]
 pub enum Handled {
-    /// It cannot be read, or no call takes it.
+    /// The datagram cannot be read, or no call takes it.
     Dropped,
-    /// It is an ACK for an answer of the proxy's own (RFC 3261 section 17.2.1).
+    /// The datagram is an ACK for an answer of the proxy's own (RFC 3261 section 17.2.1).
     Absorbed,
-    /// It was answered with this status, and no call was opened.
+    /// The request was answered with this status, and no call was opened.
     Answered(u16),
-    /// It is an ACK for an answer that went up, and was sent on (RFC 3261 section 16.11).
+    /// The datagram is an ACK for an answer that went up, and was sent on (RFC 3261 section 16.11).
     Forwarded,
-    /// It opened the call of this number.
+    /// The request opened the call of this number.
     Opened(u64),
-    /// The call of this number took it.
+    /// The call of this number took the message.
     Delivered(u64),
 }
 
@@ -114,7 +114,7 @@ fn outcome_of<A: Allocator + Clone, R: Wait>(
     }
 }
 
-/// Hands what there is to send to the port.
+/// Hands the datagram to the port, if there is one to send.
 fn hand<A: Allocator, P: Port>(port: &mut P, sent: &Option<Datagram<A>>)
     ensures { IsHanded P.sends port.old (seen_sent sent.now) port.new }
 {

@@ -13,8 +13,9 @@ use sip_text::Message;
 use std::alloc::{AllocError, Allocator};
 use std::sync::Wait;
 
-/// Gives a message to the call of that number, and says whether it took it. It does not where it is not there, where the
-/// message is for none of its transactions, or where its book takes no more events that change nothing.
+/// Gives a message to the call of that number, and says whether the call took it. No call takes it where there is none
+/// of that number, where the message is for none of the call's transactions, or where the call's book takes no more
+/// events that change nothing.
 ///
 /// # Errors
 ///

@@ -1,5 +1,7 @@
-//! What becomes of a datagram that a proxy receives: which call takes it, whether it opens one, or how it is answered without
-//! one (RFC 3261 sections 16.2, 16.7, 16.10, 16.11, 17.1.3, 17.2.3 and 18).
+//! What becomes of a datagram that a proxy receives (RFC 3261 sections 16.2, 16.7, 16.10, 16.11, 17.1.3, 17.2.3 and
+//! 18): a request goes to the server transaction that it belongs to, opens a call, or is refused with a status of the
+//! proxy's own; a response goes to the client transaction of its branch, or is dropped; an ACK that is for no call is
+//! absorbed or goes on. Begin with `handle`.
 #![tactic(auto)]
 
 mod acks;

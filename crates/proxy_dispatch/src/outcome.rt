@@ -22,7 +22,7 @@ pub(crate) struct Outcome<A: Allocator> {
 }
 
 impl<A: Allocator> Outcome<A> {
-    /// Nothing is sent.
+    /// What becomes of a datagram for which nothing is sent at once.
     pub(crate) fn silent(handled: Handled) -> Outcome<A>
         ensures handled { result.handled ≡ handled }
         ensures silent { result.datagram ≡ None }
@@ -33,7 +33,7 @@ impl<A: Allocator> Outcome<A> {
         }
     }
 
-    /// That is sent.
+    /// What becomes of a datagram for which `datagram` is sent at once.
     pub(crate) fn sends(handled: Handled, datagram: Datagram<A>) -> Outcome<A>
         ensures handled { result.handled ≡ handled }
         ensures sends { result.datagram ≡ Some datagram }

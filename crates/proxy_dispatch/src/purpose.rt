@@ -8,11 +8,11 @@ use std::alloc::Allocator;
 /// What a request is for.
 #[derive(Clone, Copy, PartialEq, Eq, Debug)]
 pub(crate) enum Purpose {
-    /// It acknowledges an answer (RFC 3261 section 17.1.1.3).
+    /// The request acknowledges an answer (RFC 3261 section 17.1.1.3).
     Ack,
-    /// It cancels another request (RFC 3261 section 9).
+    /// The request cancels another one (RFC 3261 section 9).
     Cancel,
-    /// It opens a call.
+    /// The request opens a call.
     Opening,
 }
 
@@ -39,7 +39,7 @@ pub(crate) fn purpose_of<A: Allocator>(message: &Message<A>) -> Option<Purpose>
     }
 }
 
-/// Whether the proxy answers it.
+/// Whether the proxy answers a message of this purpose: a request other than an ACK.
 pub(crate) fn is_answered(purpose: Option<Purpose>) -> bool
     ensures { result ≡ is_answered purpose }
 {

@@ -38,7 +38,7 @@ fn key_of<A: Allocator>(alloc: A, request: &Message<A>) -> Result<Option<Vec<u8,
     }
 }
 
-/// Opens a call under that key. It is prepared before the keys are locked, so nobody waits for that.
+/// Opens a call under that key. The call is prepared before the keys are locked, so no other thread waits for that.
 fn open_call<A: Allocator + Clone, R: Wait>(
     rt: &R,
     alloc: A,
@@ -62,8 +62,8 @@ fn open_call<A: Allocator + Clone, R: Wait>(
     shelf.put(rt, key, |no| Ok(prepared.numbered(no)))
 }
 
-/// The message of a datagram that was read before. A call that is not opened keeps its request, so it is read again for
-/// the answer; one that is opened costs no copy.
+/// The message of a datagram that was read before. A call that could not be opened has used its request up, so the
+/// request is read again for the answer; a call that is opened costs no copy.
 fn read_again<A: Allocator + Clone>(
     alloc: A,
     received: &Received<'_>,
@@ -76,7 +76,8 @@ fn read_again<A: Allocator + Clone>(
     }
 }
 
-/// A request for which no call was opened is answered with the reason (RFC 3261 section 16.3).
+/// What becomes of a request for which no call was opened: it is answered with the status that tells why (RFC 3261
+/// section 16.3).
 fn refused<A: Allocator + Clone>(
     alloc: A,
     setup: &Setup<A>,
@@ -123,7 +124,7 @@ fn opened<A: Allocator + Clone, R: Wait>(
         received,
     ) {
         Ok(no) => Ok(Outcome::silent(Handled::Opened(no))),
-        // another worker opened it meanwhile
+        // Another worker opened the call meanwhile.
         Err(ShelfFault::Known(no)) => deliver(
             rt,
             shelf,
@@ -140,9 +141,9 @@ fn opened<A: Allocator + Clone, R: Wait>(
     }
 }
 
-/// What becomes of a request: the call that is known by its key takes it; where none is, an ACK is absorbed or goes on, a
-/// CANCEL is answered 481, and any other request opens a call (RFC 3261 sections 9.2, 16.2, 16.11 and 17.2.3). One without a
-/// key is not well formed.
+/// What becomes of a request: the call that is known by its key takes it; where no call is, an ACK is absorbed or goes
+/// on, a CANCEL is answered 481, and any other request opens a call (RFC 3261 sections 9.2, 16.2, 16.11 and 17.2.3). A
+/// request without a key is not well formed.
 ///
 /// # Errors
 ///
