@@ -1,4 +1,5 @@
-//! The Call-ID of a datagram, as it is found before anything else of it is read, and the group of calls that its call is of.
+//! The Call-ID of a datagram, as it is found before anything else of the datagram is read, and the group of calls that
+//! its call is of.
 ghost use Rattle.std.specs.Prelude.{◌≡◌, ◌≤◌, length};
 ghost use Rattle.std.specs.Option.{option_copied};
 ghost use Rattle.proxy_server.specs.CallId.{behind_compact_name, behind_long_name, call_id, digest_of, first_word, group_of, is_blank, skip_blanks, skip_word, value_at};
@@ -101,9 +102,10 @@ fn first_word(text: &[u8]) -> &[u8]
     &rest[..rest.len() - behind.len()]
 }
 
-/// The Call-ID of a datagram: the first word behind the name and the colon of the first line that is a Call-ID, in long or
-/// compact form and in any case. The start line is none. It is found by one search of the bytes for the ends of lines, so that a
-/// datagram that is no message has one, too, where such a line stands in it.
+/// The Call-ID of a datagram: the first word behind the name and the colon of the first line that is a Call-ID header
+/// field, with the name in long or compact form and in any case. The start line is no such line. The Call-ID is found
+/// by one search of the bytes for the ends of lines, so that a datagram that is no message has one, too, where such a
+/// line stands in it.
 pub fn call_id(text: &[u8]) -> Option<&[u8]>
     ensures { option_copied result ≡ call_id text.now }
 {
@@ -128,7 +130,8 @@ fn digest_of(text: &[u8]) -> u64
     hasher.finish()
 }
 
-/// Which of 256 groups of calls a datagram's call is of, by its Call-ID. None where it has none.
+/// Which of 256 groups of calls a datagram's call is of, by the Call-ID of the datagram. None where the datagram has no
+/// Call-ID.
 pub fn group_of(text: &[u8]) -> Option<u8>
     ensures { result ≡ group_of text.now }
 {

@@ -9,15 +9,15 @@ pub(crate) struct Dropped {
 }
 
 impl Dropped {
-    /// Nothing was.
+    /// The count before anything was dropped.
     pub(crate) fn new() -> Dropped {
         Dropped {
             count: AtomicU64::new(0),
         }
     }
 
-    /// Counts one more. It is written down where the count is a power of two: a line for each would cost most when there is
-    /// least time.
+    /// Counts one more that was dropped. A line is logged where the count is a power of two: a line for each would cost
+    /// most when there is least time.
     pub(crate) fn note<R: Log>(&self, rt: &R, what: &str) {
         let count = self.count.fetch_add(1, Ordering::SeqCst).wrapping_add(1);
         if count.is_power_of_two() {

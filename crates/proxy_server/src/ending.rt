@@ -10,7 +10,7 @@ use std::alloc::Allocator;
 use std::io::Print;
 use std::sync::Wait;
 
-/// Appends the listing of a call that has finished without success; of any other it is refused.
+/// Appends the listing of a call that has finished without success; the listing of any other call is refused.
 fn append_listing<A: Allocator + Clone>(
     call: &mut Call<A>,
     text: &mut Vec<u8, A>,

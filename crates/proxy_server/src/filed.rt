@@ -12,8 +12,8 @@ use std::marker::Model;
 /// A moment, and the number that it was filed with. In a heap the earliest comes first.
 type Entry = Reverse<(u64, u64)>;
 
-/// For each number the moment that is filed with it, if one is. Each filed moment stands in the heap; so may others, which
-/// were filed once and count no longer.
+/// For each number the moment that is filed with it, if one is. Each filed moment stands in the heap; so may other
+/// moments, which were filed once and count no longer.
 #[derive(Drop)]
 pub(crate) struct Filed<A: Allocator> {
     heap: BinaryHeap<Entry, A>,
@@ -46,7 +46,7 @@ fn extend_to<A: Allocator>(moments: &mut Vec<Option<u64>, A>, at: usize) -> Resu
     moments.resize(count, None)
 }
 
-/// Takes a number's moment away where it is this one, and says whether it was.
+/// Takes a number's moment away where the moment is this one, and says whether it was.
 #[tactic(auto, using(crate::proofs::Filing::set_moment))]
 fn forget<A: Allocator>(moments: &mut Vec<Option<u64>, A>, number: u64, due: u64) -> bool
     ensures was { OnTrue result ((number < length moments.old.items) × (moment_of moments.old.items number ≡ Some due) × (moments.new.items ≡ slice_set moments.old.items number None)) }
@@ -115,7 +115,7 @@ fn list<A: Allocator>(
 }
 
 impl<A: Allocator> Filed<A> {
-    /// Nothing is filed.
+    /// The list in which nothing is filed.
     pub(crate) fn new(heap: A, moments: A) -> Filed<A>
         ensures { (n : ℕ) → moment_of result n ≡ None }
     {
@@ -146,7 +146,7 @@ impl<A: Allocator> Filed<A> {
         list(&mut self.heap, &mut self.moments, at, due)
     }
 
-    /// Takes a number whose moment has come, the first of all. None where no moment has.
+    /// Takes the number whose moment came first of all that have come. None where no moment has come.
     pub(crate) fn take(&mut self, now: u64) -> Option<u64>
         ensures some { IfSome result (λ number. IsDueFirst self.old now number × IsWithout self.old number self.new) }
         ensures none { IfNone result (AreLater now self.old × (self.new ≡ self.old)) }

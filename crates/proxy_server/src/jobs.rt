@@ -18,13 +18,13 @@ use std::sync::atomic::{AtomicU64, Ordering};
 use std::thread::Parker;
 use std::time::Duration;
 
-/// A worker that holds so many jobs has few left: its giving end is woken.
+/// With so many jobs left a worker has few: its giving end is woken.
 const FEW_JOBS: u64 = 32;
 
 /// How often the giving end sleeps at a full inbox.
 const SLEEPS: u32 = 10;
 
-/// How long it sleeps each time at most, in milliseconds.
+/// How long the giving end sleeps each time at most, in milliseconds.
 const LONGEST_SLEEP: u64 = 10;
 
 /// What wakes a worker, and the one that gives it jobs. Each worker has one of its own.
@@ -33,7 +33,7 @@ pub struct Waker {
     parker: Parker,
     /// How many jobs the worker has received.
     received: AtomicU64,
-    /// How many of them it has done.
+    /// How many of the received jobs the worker has done.
     done: AtomicU64,
     /// What the giving end sleeps on.
     giver: Parker,

@@ -1,4 +1,6 @@
-//! A proxy on a socket (RFC 3261 sections 16 and 18): one thread receives, two handle datagrams, one does what is due.
+//! The proxy on a UDP socket, which `forkproxy serve` runs (RFC 3261 sections 16 and 18). One thread receives datagrams
+//! and gives each to one of two workers, which hand it to the call that it belongs to and send what that call then has
+//! to send; a third worker does what is due by the clock, as retransmissions and timeouts. Begin with `serve`.
 #![tactic(auto)]
 
 mod by_call;

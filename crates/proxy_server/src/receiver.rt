@@ -13,7 +13,7 @@ use sip_uri::Hop;
 use std::alloc::Allocator;
 use std::sync::Wait;
 
-/// A worker that holds so many jobs has enough to do: the next datagram is the other one's.
+/// A worker that holds so many jobs has enough to do: the next datagram is for the other worker.
 const ENOUGH_JOBS: u64 = 4;
 
 /// Which workers run: those whose threads could be made.
@@ -24,7 +24,8 @@ pub(crate) struct Running {
     pub(crate) timer: bool,
 }
 
-/// Which of the two workers that handle datagrams the last one of a group of calls was for, and the number of its job there.
+/// Which of the two workers that handle datagrams the last datagram of a group of calls was for, and the number of its
+/// job there.
 #[derive(Clone, Copy)]
 struct Last {
     is_first: bool,
@@ -78,17 +79,17 @@ impl<'a, A: Allocator> Senders<'a, A> {
         if is_first { &self.first } else { &self.second }
     }
 
-    /// Whether the first of the two workers is the one for the next datagram of any call that has none waiting: the one that the
-    /// last was for, or the other where that has enough to do and the other less. So one of them stays awake while there is
-    /// little to do, and the other asleep.
+    /// Whether the first of the two workers is the one for the next datagram of any call that has none waiting: that is the
+    /// worker that the last datagram was for, or the other one where the former has enough to do and the latter less. So
+    /// one worker stays awake while there is little to do, and the other asleep.
     fn is_first_free(&self) -> bool {
         let held = self.worker(self.is_first).held();
         let has_less = self.worker(!self.is_first).held() < held;
         self.is_first != (held >= ENOUGH_JOBS && has_less)
     }
 
-    /// Whether the first of the two workers is the one for a datagram of this group of calls: the last one of the group binds it to its
-    /// worker until it is done.
+    /// Whether the first of the two workers is the one for a datagram of this group of calls: the last datagram of the
+    /// group binds the group to its worker until that datagram is done.
     fn is_for_first(&self, group: Option<u8>) -> bool {
         let Some(group) = group else {
             return self.is_first_free();
@@ -101,8 +102,8 @@ impl<'a, A: Allocator> Senders<'a, A> {
         }
     }
 
-    /// Gives a datagram's job to the worker that it is for and to no other, and says whether it was taken. So what comes of one call is
-    /// handled in the order in which it came.
+    /// Gives a datagram's job to the worker that it is for and to no other, and says whether it was taken. So the datagrams
+    /// of one call are handled in the order in which they came.
     fn give_packet<R: Wait>(&mut self, rt: &R, group: Option<u8>, job: Job<A>) -> bool {
         let is_first = self.is_for_first(group);
         self.is_first = is_first;
@@ -118,7 +119,7 @@ impl<'a, A: Allocator> Senders<'a, A> {
         taken
     }
 
-    /// Tells the timer's worker the time. It is told again after the next turn if its inbox is full.
+    /// Tells the timer's worker the time. Where the inbox of that worker is full, it is told again after the next turn.
     fn give_tick<R: Wait>(&mut self, rt: &R, now: u64) {
         let _ = self.timer.give(rt, Job::Tick(now));
     }
@@ -181,7 +182,7 @@ fn turn<R: Wait + Log, A: Allocator + Clone>(
     Ok(received.is_quiet)
 }
 
-/// So many turns. The time is 10 ms for each turn before in which nothing came.
+/// Makes `turns` turns. The time is 10 ms for each turn before in which nothing came.
 ///
 /// # Errors
 ///

@@ -35,7 +35,7 @@ impl<A: Allocator + Clone> CallTimers<A> {
 }
 
 impl<A: Allocator> CallTimers<A> {
-    /// Whether some call may be due by now. It takes no lock.
+    /// Whether some call may be due by now. The look takes no lock.
     pub fn is_due(&self, now: u64) -> bool {
         self.missed.load(Ordering::SeqCst) || self.first.load(Ordering::SeqCst) <= now
     }

@@ -1,4 +1,5 @@
-//! A proxy serves: it is set up, its workers run for so many turns, and what came of its calls is printed.
+//! A proxy serves: it is set up, its workers run for the turns that it was asked for, and what came of its calls is
+//! printed.
 ghost use denote.Param.Send.{IsSync};
 ghost use Rattle.proxy_server.specs.contracts.serving.Server.{the_row as server_row};
 ghost use Rattle.std.specs.Prelude.{◌↔◌, ◌<◌, length, IfErr, OnOk, IsErrOf};
@@ -41,7 +42,7 @@ trait Crew {
     /// Does the jobs that a worker is given, until the end job.
     fn do_jobs<R: Wait + Log>(&self, rt: &R, jobs: JobReceiver<'_, Global>);
 
-    /// Receives for so many turns.
+    /// Receives for `turns` turns.
     fn receive<R: Wait + Log>(
         &self,
         rt: &R,
@@ -74,7 +75,7 @@ impl Crew for Server {
     }
 }
 
-/// Starts the workers, receives for so many turns, and ends the workers.
+/// Starts the workers, receives for `turns` turns, and ends the workers.
 fn run<C: Crew + Sync, R: Threads + Wait + Log + Sync>(
     rt: &R,
     crew: &C,
@@ -112,19 +113,19 @@ fn run<C: Crew + Sync, R: Threads + Wait + Log + Sync>(
     )
 }
 
-/// That threads may share this.
+/// Shows that threads may share this value.
 fn is_shared<T: Sync>(_: &T)
     ensures { IsSync T.row }
 {}
 
-/// That threads may share a server.
+/// Shows that threads may share a server.
 fn server_is_shared(server: &Server)
     ensures { IsSync server_row }
 {
     is_shared(server);
 }
 
-/// Makes the ways to the workers, tells where the proxy listens, and lets them run for so many turns.
+/// Makes the ways to the workers, tells where the proxy listens, and lets the workers run for `turns` turns.
 fn run_workers<R: Threads + Wait + Log + Sync, P: Print>(
     rt: &R,
     out: &P,
@@ -238,9 +239,10 @@ pub fn serve_to<R: Threads + Wait + Net + Log + Sync, P: Print>(
 /// Sets a proxy up by a configuration (see [`Setup::read`]), binds its address, and serves for so many turns: a turn is one
 /// receive of at most 10 ms. The time that its timers go by is 10 ms for each turn before in which nothing came.
 ///
-/// It prints `listening ADDRESS PORT` as soon as it can receive; after the last turn, or a receive that failed, the listing of each
-/// call that has finished without success, by number; and after the last turn `turns TURNS`. What is dropped is noted on standard error. What its threads do is
-/// proved call by call (`proxy_dispatch::handle`, `fork_call::carry`); no clause says what they do together.
+/// The proxy prints `listening ADDRESS PORT` as soon as it can receive; after the last turn, or a receive that failed,
+/// the listing of each call that has finished without success, by number; and after the last turn `turns TURNS`. What
+/// is dropped is noted on standard error. What the threads of the proxy do is proved call by call
+/// (`proxy_dispatch::handle`, `fork_call::carry`); no clause says what they do together.
 ///
 /// # Errors
 ///

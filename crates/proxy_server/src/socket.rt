@@ -23,9 +23,10 @@ const ROOM: i32 = 4_194_304;
 enum Sent {
     /// The system took the whole datagram.
     Whole,
-    /// It had no room in time, so the datagram is lost, as it may be on its way: a transaction sends its own again.
+    /// The system had no room in time, so the datagram is lost, as it may be on its way: a transaction sends its datagram
+    /// again.
     Lost,
-    /// It refused the datagram.
+    /// The system refused the datagram.
     Refused,
 }
 
@@ -67,8 +68,8 @@ fn ask_for_room(udp: &UdpSocket) {
 }
 
 impl Socket {
-    /// A socket that receives at this address. No call on it waits by itself: a time limit of the socket would be counted in
-    /// ticks of the system's clock, of which 10 ms may take 24.
+    /// A socket that receives at this address. No call on the socket waits by itself: a time limit of the socket would be
+    /// counted in ticks of the system's clock, by which 10 ms may take 24.
     ///
     /// # Errors
     ///
@@ -131,8 +132,8 @@ impl Socket {
         }
     }
 
-    /// A datagram that waits in the socket or comes within 10 ms. One that waits costs one call of the system. What comes
-    /// and is none, as with a wrong checksum, ends the wait, and does not make it a quiet one.
+    /// A datagram that waits in the socket or comes within 10 ms. A datagram that waits costs one call of the system. What
+    /// comes and is no datagram, as with a wrong checksum, ends the wait, and does not make the turn a quiet one.
     ///
     /// # Errors
     ///

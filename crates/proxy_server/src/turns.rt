@@ -4,7 +4,7 @@ ghost use Rattle.proxy_server.specs.Turns.{turns_asked, turns_of};
 
 use sip_lex::read_plain_number;
 
-/// A proxy serves at most so many turns.
+/// How many turns a proxy serves at most.
 const MOST_TURNS: u64 = 1_000_000;
 
 /// The number that digits spell, where it is 1 to 1,000,000.

@@ -20,11 +20,11 @@ const MOST_CARRIED: u32 = 4_096;
 /// How many bytes of memory a worker has the allocator hold ready.
 const READY: usize = 8_388_608;
 
-/// After how many jobs it does so again: they keep less than that.
+/// After how many jobs a worker asks again: so many jobs keep less than the memory that is held ready.
 const JOBS_BETWEEN: u32 = 256;
 
-/// Asks the allocator for memory and gives it back, so that it holds some ready for what a worker keeps. Else the C library gets
-/// each page of a thread's memory by a system call of its own.
+/// Asks the allocator for memory and gives it back, so that the allocator holds some ready for what a worker keeps.
+/// Else the C library gets each page of a thread's memory by a system call of its own.
 fn hold_ready(heap: Global) {
     let asked: Result<Vec<u8, Global>, AllocError> = Vec::with_capacity(heap, READY);
     drop(asked);
@@ -78,7 +78,7 @@ impl<A: Allocator + Clone> Proxy<A> {
         })
     }
 
-    /// Carries the call of this number. When it is due next is filed once its lock is let go.
+    /// Carries the call of this number. The moment at which the call is due next is filed once the call's lock is let go.
     fn carry<R: Wait, P: Port>(&self, rt: &R, port: &mut P, number: u64, now: u64) {
         let due = self.calls.with(rt, number, |call| carried(call, port, now));
         if let Some(Some(due)) = due {
@@ -138,7 +138,7 @@ impl<A: Allocator + Clone> Proxy<A> {
         }
     }
 
-    /// Notes each send that the system refused since so many were noted, and answers how many it has refused.
+    /// Notes each send that the system refused since `noted` refused sends were noted, and answers how many it has refused.
     fn note_unsent<R: Log>(&self, rt: &R, noted: u64, failures: u64) -> u64 {
         for _ in noted..failures {
             self.unsent
