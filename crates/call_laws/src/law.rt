@@ -7,12 +7,12 @@ ghost use Rattle.call_laws.specs.Successes.{EachSuccessGoesUp};
 use call_model::{branches_keep_their_answers, branches_keep_what_they_send, calls_stay_sound};
 use fork_model::{branches_go_on, exactly_one_final};
 
-/// What a call keeps to be sent is right as it begins to its targets, and each step of a sound call keeps it so: the part of
-/// each branch is as it was made, the branch with the best stored answer keeps the response that was posted at its arrival, each
-/// failure that is kept and each ACK that is owed comes from a response that came to that branch, and each 200 that is owed from
-/// a CANCEL that came. The finals of its log are those that were handed to its caller's transaction and those that are still
-/// owed, and until one was handed, in a call without a 2xx, the transaction waits for it. Where it may send an answer again, one
-/// was sent (RFC 3261 sections 9.1, 16.6, 16.7, 17.1.1.3 and 17.2).
+/// What a call keeps to be sent is right as it begins to its targets, and each step of a sound call keeps it so: what
+/// each branch sends again is as it was made, the branch with the best stored answer keeps the response that was posted
+/// at its arrival, each failure that is kept and each ACK that is owed comes from a response that came to that branch,
+/// and each 200 that is owed from a CANCEL that came. The finals of its log are those that were handed to its caller's
+/// transaction and those that are still owed, and until one was handed, in a call without a 2xx, the transaction waits
+/// for it. Where it may send an answer again, one was sent (RFC 3261 sections 9.1, 16.6, 16.7, 17.1.1.3 and 17.2).
 ///
 /// A law over the definitions, with nothing to run.
 pub fn calls_send_right()
@@ -24,7 +24,7 @@ pub fn calls_send_right()
     branches_go_on();
 }
 
-/// Each datagram of a call whose parts are right, as [`calls_send_right`] has it, is what its cause says, and goes
+/// Each datagram of a call that keeps what is right, as [`calls_send_right`] has it, is what its cause says, and goes
 /// where the cause says: an ACK answers a failure that came from the branch, a 200 to a CANCEL is made of a CANCEL that
 /// came, and what is sent to the caller again was sent before (RFC 3261 sections 8.2.6, 9.1, 16.6, 16.7, 17.1.1.3 and
 /// 17.2).

@@ -11,8 +11,8 @@ use fork_model::{
 };
 use sip_text::header_values_are_values;
 
-/// The part of a branch keeps what its timers send again, its request and its CANCEL, as they were made: so a call begins,
-/// and no step changes it (RFC 3261 sections 9.1, 16.6 and 17.1.1.2).
+/// A branch keeps what its timers send again, its request and its CANCEL, as they were made: so a call begins, and no
+/// step changes it (RFC 3261 sections 9.1, 16.6 and 17.1.1.2).
 ///
 /// A law over the definitions, with nothing to run.
 pub fn branches_keep_what_they_send()
