@@ -1,4 +1,4 @@
-//! The parts of the branches of a call, by the numbers of their rows.
+//! The branches of a call, by the numbers of their rows.
 ghost use Rattle.std.specs.Prelude.{◌≡◌, ◌<◌, ◌∷◌, ◌++◌, [], length, slice_get, None, Some, IfOk, OnOk};
 ghost use Rattle.std.specs.Option.{option_copied, option_map};
 ghost use Rattle.call_model.specs.Call.{found, with_branch};
@@ -22,7 +22,7 @@ fn push_no_branch<A: Allocator>(branches: &mut Vec<Option<Branch<A>>, A>) -> Res
     }
 }
 
-/// The parts of `count` branches whose requests were not sent.
+/// The list of `count` branches whose requests were not sent.
 #[tactic(auto, using(crate::proofs::laws::BranchLists::no_branches_more))]
 pub fn no_branches<A: Allocator>(
     alloc: A,
@@ -45,7 +45,7 @@ pub fn destination_at<A: Allocator>(destinations: &[Destination<A>], n: u16) -> 
     &destinations[n as usize]
 }
 
-/// The part of branch n, if its request was sent.
+/// Branch n, if its request was sent.
 pub fn branch_in<A: Allocator>(branches: &[Option<Branch<A>>], n: u16) -> Option<&Branch<A>>
     ensures { option_copied result ≡ found (slice_get branches.now n) }
 {
@@ -55,7 +55,7 @@ pub fn branch_in<A: Allocator>(branches: &[Option<Branch<A>>], n: u16) -> Option
     }
 }
 
-/// Puts this part in the place of branch n.
+/// Puts this branch in the place of branch n.
 pub fn put_branch<A: Allocator>(branches: &mut Vec<Option<Branch<A>>, A>, n: u16, branch: Branch<A>)
     requires there { n < length branches.old.items }
     ensures { branches.new.items ≡ with_branch branches.old.items n branch }
