@@ -195,7 +195,7 @@ impl<A: Allocator + Clone> CallState<A> {
     ///
     /// # Errors
     ///
-    /// Only where the allocator refuses; then the parts are as they were.
+    /// Only where the allocator refuses; then the state is as it was.
     pub fn send_owed(&mut self, now: u64) -> Result<Step<A>, AllocError>
         requires some { 0 < length self.old.server.owed }
         requires sound { IsSound self.old }

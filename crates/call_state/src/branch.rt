@@ -22,8 +22,8 @@ impl<A: Allocator + Clone> CallState<A> {
     ///
     /// # Errors
     ///
-    /// `Full` where the book takes no more events that change nothing; else only where the allocator refuses. The parts
-    /// are then as they were.
+    /// `Full` where the book takes no more events that change nothing; else only where the allocator refuses. The state is
+    /// then as it was.
     pub fn respond(
         &mut self,
         n: u16,

@@ -49,7 +49,7 @@ impl<A: Allocator + Clone> CallState<A> {
     ///
     /// # Errors
     ///
-    /// Only where the allocator refuses; then the parts are as they were.
+    /// Only where the allocator refuses; then the state is as it was.
     pub fn failed(&mut self, cause: Cause, now: u64) -> Result<(), AllocError>
         requires sound { IsSound self.old }
         ensures ok { OnOk result (Fails self.old now cause self.new) }

@@ -1,7 +1,7 @@
 //! Why an event is not posted.
 use thiserror::Error;
 
-/// Why an event is not posted to the book of a call; the parts are then as they were.
+/// Why an event is not posted to the book of a call; the state is then as it was.
 #[derive(Clone, Copy, PartialEq, Eq, Debug, Error)]
 pub enum PostFault {
     /// The book takes no more events that change nothing.

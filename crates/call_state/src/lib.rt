@@ -1,10 +1,10 @@
-//! The state of a call: what it was opened with, its response context with the log of events, a part for each branch
-//! whose request was sent, with its client transactions, and the side of its caller, with the server transaction and
-//! the answers that are owed (RFC 3261 sections 16 and 17).
+//! The state of a call: what it was opened with, its response context with the log of events, each branch whose request
+//! was sent, with its client transactions, and the side of its caller, with the server transaction and the answers that
+//! are owed (RFC 3261 sections 16 and 17).
 //!
-//! Each public call changes one part: a branch is sent its request, its ACK or its CANCEL, one of its timers fires, a
-//! response comes to it, an answer goes to the caller. Which transaction a message belongs to, and what is to be done at
-//! a moment, is for a layer above: no message is read here, and nothing is looked for.
+//! Each public call makes one change: a branch is sent its request, its ACK or its CANCEL, one of its timers fires, a
+//! response comes to it, an answer goes to the caller. Which transaction a message belongs to, and what is to be done
+//! at a moment, is for a layer above: no message is read here, and nothing is looked for.
 #![tactic(auto)]
 
 mod answers;

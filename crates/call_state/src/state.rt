@@ -1,4 +1,4 @@
-//! The parts of a call.
+//! The state of a call.
 ghost use Rattle.std.specs.Prelude.{◌≡◌, ◌<◌, ◌≤◌, [], true, length, drop, map, slice_get, List, None, Some, IfOk, OnOk, OnErr, IsErrOf};
 ghost use Rattle.std.specs.Option.{option_copied, option_map};
 ghost use Rattle.fork_model.specs.Core.{is_full};
@@ -60,8 +60,8 @@ use std::marker::Model;
 /// A call posts its events under this tag.
 const CALL_TAG: u8 = 0;
 
-/// The parts of a call: what it was opened with, its book, for each row of the table where its request goes and the
-/// part of the branch once that request was sent, and the side of its caller.
+/// The state of a call: what it was opened with, its book, for each row of the table where its request goes and the
+/// branch once that request was sent, and the side of its caller.
 #[derive(Drop)]
 pub struct CallState<A: Allocator + Clone = Global> {
     opened: OpenedRequest<A>,
@@ -103,7 +103,7 @@ fn state_of<A: Allocator + Clone>(book: &Book<A>, n: u16) -> Option<State>
 }
 
 impl<A: Allocator + Clone> CallState<A> {
-    /// The parts of a call that was opened with `fixed`, with the book of its fork and, for each row of the table, where
+    /// The state of a call that was opened with `opened`, with the book of its fork and, for each row of the table, where
     /// its request goes. Nothing was sent yet; a 100 is owed to an INVITE (RFC 3261 sections 16.2 and 17.2.1). `heap` is
     /// for the order in which more than four answers are owed at once, `alloc` for all else.
     ///
@@ -172,7 +172,7 @@ impl<A: Allocator + Clone> CallState<A> {
         &self.served
     }
 
-    /// Shows that each row of the table has its destination, and room for its part.
+    /// Shows that each row of the table has its destination, and room for its branch.
     pub fn is_sized(&self)
         ensures { IsSized self.now.log self.now.destinations self.now.branches }
     {
@@ -186,14 +186,14 @@ impl<A: Allocator + Clone> CallState<A> {
         state_of(&self.book, n)
     }
 
-    /// The part of branch n, if its request was sent.
+    /// Branch n, if its request was sent.
     pub(crate) fn branch(&self, n: u16) -> Option<&Branch<A>>
         ensures { option_copied result ≡ nth_branch self.now n }
     {
         branch_in(&self.branches, n)
     }
 
-    /// The part of branch n, whose request was sent.
+    /// Branch n, whose request was sent.
     pub(crate) fn part(&self, n: u16) -> &Branch<A>
         requires { is_sent self.now n ≡ true }
         ensures { nth_branch self.now n ≡ Some result.now }
@@ -204,7 +204,7 @@ impl<A: Allocator + Clone> CallState<A> {
         }
     }
 
-    /// Where the request of branch n goes, whose part is there.
+    /// Where the request of branch n goes, which was sent.
     pub(crate) fn destination(&self, n: u16) -> &Destination<A>
         requires { is_sent self.now n ≡ true }
         ensures { slice_get self.now.destinations n ≡ Some result.now }
@@ -224,7 +224,7 @@ impl<A: Allocator + Clone> CallState<A> {
         self.alloc.clone()
     }
 
-    // ---- one change of a part
+    // ---- one change of a branch
 
     /// Sets the client transaction of branch n, which went on; where an ACK was made, the branch owes it.
     pub(crate) fn respond_part(
@@ -302,7 +302,7 @@ impl<A: Allocator + Clone> CallState<A> {
     ///
     /// # Errors
     ///
-    /// Only where the allocator refuses; then the parts are as they were.
+    /// Only where the allocator refuses; then the state is as it was.
     pub fn send_request(&mut self, n: u16, now: u64) -> Result<Datagram<A>, AllocError>
         requires there { n < length (rows_of self.old) }
         ensures ok { IfOk result (λ d. (destination : opened.Destination) × (slice_get self.old.destinations n ≡ Some destination) × SendsRequest self.old now n destination (pump.Send (seen d)) self.new) }
@@ -332,7 +332,7 @@ impl<A: Allocator + Clone> CallState<A> {
     ///
     /// # Errors
     ///
-    /// Only where the allocator refuses; then the parts are as they were.
+    /// Only where the allocator refuses; then the state is as it was.
     pub fn send_cancel(&mut self, n: u16, now: u64) -> Result<Datagram<A>, AllocError>
         requires there { is_sent self.old n ≡ true }
         ensures ok { IfOk result (λ d. OnBranch self.old n (λ destination branch. SendsCancel self.old now n destination branch (pump.Send (seen d)) self.new)) }
@@ -387,7 +387,7 @@ impl<A: Allocator + Clone> CallState<A> {
     ///
     /// # Errors
     ///
-    /// Only where the allocator refuses; then the parts are as they were.
+    /// Only where the allocator refuses; then the state is as it was.
     pub fn tick_client(&mut self, n: u16, now: u64) -> Result<Step<A>, AllocError>
         requires there { is_sent self.old n ≡ true }
         requires sound { IsSound self.old }
@@ -429,7 +429,7 @@ impl<A: Allocator + Clone> CallState<A> {
     ///
     /// # Errors
     ///
-    /// Only where the allocator refuses; then the parts are as they were.
+    /// Only where the allocator refuses; then the state is as it was.
     pub fn tick_cancel(&mut self, n: u16, now: u64) -> Result<Step<A>, AllocError>
         requires there { is_cancel_sent self.old n ≡ true }
         ensures ok { IfOk result (λ step. OnBranch self.old n (λ destination branch. TicksCancel self.old now n destination branch (pumped step) self.new)) }
@@ -454,7 +454,7 @@ impl<A: Allocator + Clone> CallState<A> {
     ///
     /// # Errors
     ///
-    /// Only where the allocator refuses; then the parts are as they were.
+    /// Only where the allocator refuses; then the state is as it was.
     pub fn fire_timer_c(&mut self, n: u16, now: u64) -> Result<(), AllocError>
         requires due { is_due_at self.old now (FireTimerC n) ≡ true }
         requires sound { IsSound self.old }
@@ -475,7 +475,7 @@ impl<A: Allocator + Clone> CallState<A> {
     ///
     /// # Errors
     ///
-    /// Only where the allocator refuses; then the parts are as they were.
+    /// Only where the allocator refuses; then the state is as it was.
     pub fn give_up(&mut self, n: u16, now: u64) -> Result<(), AllocError>
         requires there { is_sent self.old n ≡ true }
         requires cancelled { row_passes table.is_cancelled self.old n ≡ true }
@@ -570,8 +570,8 @@ impl<A: Allocator + Clone> CallState<A> {
     ///
     /// # Errors
     ///
-    /// `Full` where the book takes no more events that change nothing; else only where the allocator refuses. The parts
-    /// are then as they were.
+    /// `Full` where the book takes no more events that change nothing; else only where the allocator refuses. The state is
+    /// then as it was.
     pub(crate) fn post_response(
         &mut self,
         new_event: ResponseEvent<A>,
@@ -634,7 +634,7 @@ impl<A: Allocator + Clone> CallState<A> {
     ///
     /// # Errors
     ///
-    /// Only where the allocator refuses; then the parts are as they were.
+    /// Only where the allocator refuses; then the state is as it was.
     pub fn take_request(&mut self, now: u64) -> Result<(), AllocError>
         ensures ok { OnOk result (self.new ≡ requested_again self.old now) }
         ensures err { OnErr result (self.new ≡ self.old) }
@@ -667,7 +667,7 @@ impl<A: Allocator + Clone> CallState<A> {
     ///
     /// # Errors
     ///
-    /// Only where the allocator refuses; then the parts are as they were.
+    /// Only where the allocator refuses; then the state is as it was.
     pub fn take_cancel(&mut self, cancel: Message<A>, to: Hop) -> Result<Taken, AllocError>
         requires sound { IsSound self.old }
         ensures ok { IfOk result (λ taken. CancelledBy self.old cancel to (seen_taken taken) self.new) }
@@ -739,7 +739,7 @@ impl<A: Allocator + Clone> CallState<A> {
     ///
     /// # Errors
     ///
-    /// Only where the allocator refuses; then the parts are as they were.
+    /// Only where the allocator refuses; then the state is as it was.
     pub fn tick_server(&mut self, now: u64) -> Result<Step<A>, AllocError>
         ensures ok { IfOk result (λ step. TicksServer self.old now (pumped step) self.new) }
         ensures err { OnErr result (self.new ≡ self.old) }
