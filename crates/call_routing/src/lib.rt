@@ -1,6 +1,6 @@
 //! How a call opens for a request that a proxy may route, with a branch for each member of the target set, and to which
 //! of its transactions a message belongs, the server transaction of the caller or a client transaction of a branch (RFC
-//! 3261 sections 16.4 to 16.7, 17.1.3 and 17.2.3). What a call does then is said by its parts, in `call_state`.
+//! 3261 sections 16.4 to 16.7, 17.1.3 and 17.2.3). What a call does then is said in `call_state`.
 #![tactic(auto)]
 
 mod matching;

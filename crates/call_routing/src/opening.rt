@@ -148,7 +148,7 @@ fn rows_have_places<A: Allocator + Clone>(
     ensures { (n : ℕ) (row : Row) → slice_get (table_of book.now).rows n ≡ Some row → row.place < length choices.now }
 {}
 
-/// The parts of a call that begins to these targets, each of which has a hop.
+/// The state of a call that begins to these targets, each of which has a hop.
 fn begin<A: Allocator + Clone>(
     alloc: A,
     heap: Global,
@@ -169,7 +169,7 @@ fn begin<A: Allocator + Clone>(
     CallState::begin(alloc, heap, opened, book, destinations, now)
 }
 
-/// The parts of the call that opens for a request to this URI, as it was prepared.
+/// The state of the call that opens for a request to this URI, as it was prepared.
 fn open_to<A: Allocator + Clone>(
     alloc: A,
     heap: Global,
@@ -212,7 +212,7 @@ fn open_to<A: Allocator + Clone>(
     }
 }
 
-/// The parts of the call that opens for a request as it was prepared.
+/// The state of the call that opens for a request as it was prepared.
 fn open_prepared<A: Allocator + Clone>(
     alloc: A,
     heap: Global,
@@ -248,7 +248,7 @@ pub fn is_openable<A: Allocator>(message: &Message<A>) -> bool
     }
 }
 
-/// The parts of the call that a request from `source` opens under this number; the request is neither an ACK nor a
+/// The state of the call that a request from `source` opens under this number; the request is neither an ACK nor a
 /// CANCEL. The targets of a request to the domain are the locations of its user; the one target of any other is its
 /// Request-URI, for which the proxy is not responsible: contacts of a 3xx are tried in the domain alone (RFC 3261
 /// sections 16.3 to 16.6). Nothing was sent yet; a 100 is owed to an INVITE. The queue of what is owed to the caller

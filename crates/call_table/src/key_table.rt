@@ -45,7 +45,7 @@ fn digest_of(key: &[u8]) -> u64
 }
 
 impl<A: Allocator + Clone> KeyTable<A> {
-    /// The desk without a key.
+    /// The table without a key.
     pub(crate) fn new(firsts: A, others: A) -> KeyTable<A>
         ensures next { result.next ≡ 0 }
         ensures none { (key : _) → number_of result key ≡ None }

@@ -83,7 +83,7 @@ impl Action {
     ///
     /// # Errors
     ///
-    /// Only where the allocator refuses; then the parts are as they were.
+    /// Only where the allocator refuses; then the state is as it was.
     pub(crate) fn perform<A: Allocator + Clone>(
         self,
         state: &mut CallState<A>,

@@ -108,7 +108,7 @@ impl<A: Allocator + Clone> Call<A> {
         }
     }
 
-    /// The call of these parts, whose rows have these moments.
+    /// The call of this state, whose rows have these moments.
     pub(crate) fn of(state: CallState<A>, schedule: BranchTimers<A>, alloc: A) -> Call<A>
         requires { IsTimed state schedule }
         ensures { result ≡ state }

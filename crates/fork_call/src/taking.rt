@@ -115,8 +115,8 @@ fn respond<A: Allocator + Clone>(
 ///
 /// # Errors
 ///
-/// `Full` where the book takes no more events that change nothing; else only where the allocator refuses. The parts are
-/// then as they were.
+/// `Full` where the book takes no more events that change nothing; else only where the allocator refuses. The state is
+/// then as it was.
 pub(crate) fn give<A: Allocator + Clone>(
     state: &mut CallState<A>,
     alloc: A,
