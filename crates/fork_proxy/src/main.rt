@@ -77,7 +77,7 @@ fn answered<R: Threads + Wait + Sync, I: Read, O: Write>(
     }
 }
 
-/// Serves for so many turns, set up by the input's text. The exit status is 0.
+/// Serves for `turns` turns, set up by the input's text. The exit status is 0.
 ///
 /// # Errors
 ///
