@@ -269,6 +269,13 @@ impl<A: Allocator + Clone> Call<A> {
         self.state.book()
     }
 
+    /// The request that opened the call, marked with its source (RFC 3261 section 18.2.1).
+    pub fn request(&self) -> &Message<A>
+        ensures { result.now ≡ self.now.opened.request }
+    {
+        self.state.opened().request()
+    }
+
     /// The number that the call was opened with.
     pub fn number(&self) -> u64
         ensures { result ≡ self.now.opened.number }
