@@ -96,7 +96,7 @@ impl<A: Allocator> CancelTransaction<A> {
 }
 
 /// A branch once its request was sent: its client transaction, the request as it was sent, the ACK that it owes, timer
-/// C, what stands for its CANCEL, and the failure that it keeps.
+/// C, its CANCEL once that was sent, and the failure that it keeps.
 #[derive(Drop)]
 pub struct Branch<A: Allocator> {
     client: ClientTransaction,
