@@ -4,11 +4,11 @@ use crate::plays::plays;
 use crate::sources::{Alloc, BRANCH, OWN, SOURCE, Sources, given};
 use fork_rank::Challenge;
 use refusing::{Answer, Heap, Play, Repeated};
-use sip_build::{OwnStatus, ack_of, cancel_of, forward, generated, upward};
-use sip_route::strip_route;
+use sip_build::OwnStatus;
+use sip_message::{ack_of, cancel_of, forward, generated, mark_received, strip_route, upward};
 use sip_text::{Message, Start};
 use sip_uri::SipUri;
-use sip_via::{BuildFault, Unmarked, ViaFault, mark, mark_received};
+use sip_via::{BuildFault, Unmarked, ViaFault, mark};
 
 /// How a message is made.
 #[derive(Clone, Copy)]

@@ -119,31 +119,12 @@ impl<'a> Repeated for ReadingMessage<'a> {
     }
 }
 
-/// A message is copied.
-#[derive(Drop)]
-struct Copying<'a> {
-    alloc: Alloc<'a>,
-    message: Message<Alloc<'a>>,
-}
-
-impl<'a> Repeated for Copying<'a> {
-    type Out = Message<Alloc<'a>>;
-
-    fn attempt(&mut self) -> Answer<Message<Alloc<'a>>> {
-        match self.message.copy(self.alloc) {
-            Ok(message) => Answer::Given(message),
-            Err(_) => Answer::NoMemory,
-        }
-    }
-}
-
-/// The text of the copy of the request that is read.
-fn copied<'a>(heap: Heap<'a>) -> Option<Vec<u8, Alloc<'a>>> {
+/// The text of the request that is read.
+fn written<'a>(heap: Heap<'a>) -> Option<Vec<u8, Alloc<'a>>> {
     let alloc = heap.scarce;
     let message = heap.insist(&mut ReadingMessage { alloc })?;
-    let copy = heap.insist(&mut Copying { alloc, message })?;
     let mut text = Vec::new(heap.ample);
-    copy.write(&mut text).ok()?;
+    message.write(&mut text).ok()?;
     Some(text)
 }
 
@@ -151,7 +132,7 @@ struct Request;
 
 impl Play for Request {
     fn play(&self, heap: Heap<'_>) -> bool {
-        match copied(heap) {
+        match written(heap) {
             Some(text) => text.as_slice() == REQUEST,
             None => false,
         }

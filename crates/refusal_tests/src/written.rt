@@ -4,8 +4,8 @@ use crate::plays::plays;
 use crate::sources::{Alloc, BRANCH, OWN, Sources, given};
 use refusing::{Answer, Heap, Play, Repeated};
 use sip_build::{
-    OwnStatus, write_ack, write_cancel, write_forwarded, write_forwarded_ack,
-    write_forwarded_cancel, write_generated, write_upward,
+    OwnStatus, write_forwarded, write_forwarded_ack, write_forwarded_cancel, write_generated,
+    write_upward,
 };
 use sip_route::append_request_key;
 use sip_text::Start;
@@ -25,8 +25,6 @@ enum Written {
     Forwarded,
     ForwardedAck,
     ForwardedCancel,
-    Ack,
-    Cancel,
 }
 
 /// Whether it was appended: where the request is none, it is not.
@@ -54,17 +52,6 @@ fn forwarded<'a>(of: &Sources<'a>, what: Written, out: &mut Vec<u8, Alloc<'a>>) 
     }
 }
 
-/// Appends what goes along with a request.
-fn along<'a>(of: &Sources<'a>, what: Written, out: &mut Vec<u8, Alloc<'a>>) -> Done {
-    match of.request.start() {
-        Start::Request { .. } => whole(match what {
-            Written::Ack => write_ack(&of.request, &of.response, out),
-            _ => write_cancel(&of.request, out),
-        }),
-        Start::Response { .. } => Ok(false),
-    }
-}
-
 fn append<'a>(of: &Sources<'a>, what: Written, out: &mut Vec<u8, Alloc<'a>>) -> Done {
     match what {
         Written::RequestUri => whole(of.target.request_uri(out)),
@@ -77,7 +64,6 @@ fn append<'a>(of: &Sources<'a>, what: Written, out: &mut Vec<u8, Alloc<'a>>) -> 
             Ok(()) => Ok(true),
             Err(_) => Err(AllocError),
         },
-        Written::Ack | Written::Cancel => along(of, what, out),
         _ => forwarded(of, what, out),
     }
 }
@@ -128,7 +114,7 @@ impl Play for Written {
 }
 
 /// Each text, and what it is called.
-const TEXTS: [(Written, &str); 12] = [
+const TEXTS: [(Written, &str); 10] = [
     (Written::RequestUri, "request_uri"),
     (Written::TargetKey, "target_key"),
     (Written::Branch, "write_branch"),
@@ -139,8 +125,6 @@ const TEXTS: [(Written, &str); 12] = [
     (Written::Forwarded, "write_forwarded"),
     (Written::ForwardedAck, "write_forwarded_ack"),
     (Written::ForwardedCancel, "write_forwarded_cancel"),
-    (Written::Ack, "write_ack"),
-    (Written::Cancel, "write_cancel"),
 ];
 
 #[test]

@@ -1,59 +1,52 @@
 -- The names that most proofs of this crate cite, passed on from one place. Declares nothing.
-pub use Rattle.std.proofs.Common.{Bool, IfSome, List, None, OnOk, Option, Some, [], ap, append_assoc, arith, codes, cond, drop, eqb, false, if◌then◌else◌, inl, inr, is_none, length, map, not, option_map, refl, reverse, rules, subst, suc, sym, take}
-pub use Rattle.std.proofs.Common.{true, ℕ, ◌&&◌, ◌*◌, ◌++◌, ◌+◌, ◌-◌, ◌<◌, ◌^◌, ◌∙◌, ◌∷◌, ◌≡◌, ◌≤◌, Err, Ok, OnErr, Result, get_or}
-pub use Rattle.std.proofs.lemmas.Bool.{and_from, and_parts, cases_Bool, cond-false, cond-true, cond_both, false≢true}
-pub use Rattle.std.proofs.lemmas.List.{append-nil, drop-map, length-append, reverse-append, length-set}
+pub use Rattle.std.proofs.Common.{Bool, List, None, OnOk, Option, Some, [], ap, append_assoc, arith, codes, cond, drop, eqb, false, if◌then◌else◌, inl, inr, length, map, not, option_map, refl, rules, subst, suc, sym, take}
+pub use Rattle.std.proofs.Common.{true, ℕ, ◌&&◌, ◌*◌, ◌++◌, ◌+◌, ◌-◌, ◌<◌, ◌^◌, ◌∙◌, ◌∷◌, ◌≡◌, ◌≤◌, OnErr, Result, get_or}
+pub use Rattle.std.proofs.lemmas.Bool.{and_parts, cases_Bool, cond-false, cond-true, cond_both, false≢true}
+pub use Rattle.std.proofs.lemmas.List.{append-nil, drop-map, length-append}
 pub use Rattle.std.proofs.lemmas.List.Folds.{flat_map-map, list_all-append}
 pub use Rattle.std.specs.Borrow.{Bor}
 pub use Rattle.std.specs.Fmt.{decimal}
 pub use Rattle.std.specs.List.{filter, flat_map, list_all, onto_first}
 pub use Rattle.std.specs.Option.{option_copied}
-pub use Rattle.std.specs.Str.{bytes_eq}
 pub use Rattle.std.proofs.lemmas.Fmt.{decimal_digit, decimal_step}
 pub use Rattle.std.proofs.lemmas.Grind.{common_steps, flat_map-append}
-pub use Rattle.md5.specs.Md5.{md5}
-pub use Rattle.sip_lex.proofs.laws.OutsideSplits.{pieces_outside-cut}
 pub use Rattle.sip_lex.proofs.laws.Trims.{trim_end-reverse}
-pub use Rattle.sip_lex.specs.Bytes.{is_space, is_token, trim, trim_end, trim_start}
+pub use Rattle.sip_lex.specs.Bytes.{is_space, trim, trim_end, trim_start}
 pub use Rattle.sip_lex.specs.Cut.{cut}
 pub use Rattle.sip_lex.specs.Line.{ended}
-pub use Rattle.sip_lex.specs.Number.{number, number_within, begins_with_zero}
-pub use Rattle.sip_lex.specs.Outside.{pieces_from, pieces_outside_behind}
-pub use Rattle.sip_lex.specs.Sheltered.{cut_outside, is_plain, place_after}
-pub use Rattle.sip_lex.specs.declared.sheltered.Place.{Place}
+pub use Rattle.sip_lex.specs.Number.{number_within, begins_with_zero}
+pub use Rattle.sip_lex.specs.Outside.{pieces_from}
 pub use Rattle.sip_lex.specs.declared.sheltered.Place.TheVariants.{Plain}
 pub use Rattle.sip_lex.specs.declared.sheltered.Shelter.TheVariants.{Quotes}
-pub use Rattle.sip_route.specs.Hops.{IsHops, hops_name}
-pub use Rattle.sip_route.specs.Loop.{field_lines, number_text}
-pub use Rattle.sip_text.proofs.laws.Good.{and_both, found}
-pub use Rattle.sip_text.specs.Fields.{CSeqText, cseq_in, cseq_of, cseq_of_cut, cseq_with, fits_start, length_name, message_cseq, said_by, value_of}
-pub use Rattle.sip_text.specs.Message.{IsMessage, fits_body, is_header, is_line, is_line_byte, is_start, is_trimmed, is_value}
+pub use Rattle.sip_route.specs.Hops.{hops_name}
+pub use Rattle.sip_route.specs.Loop.{number_text}
+pub use Rattle.sip_text.proofs.laws.Good.{and_both}
+pub use Rattle.sip_text.specs.Fields.{cseq_in, cseq_of_cut, cseq_with, fits_start}
+pub use Rattle.sip_text.specs.Message.{is_value}
 pub use Rattle.sip_text.specs.Name.{first_of, first_value, same_name, values_of}
-pub use Rattle.sip_text.specs.Reading.{begins_with_space, is_uri}
-pub use Rattle.sip_text.specs.Seen.{view, view_start, views}
+pub use Rattle.sip_text.specs.Seen.{view, views}
 pub use Rattle.sip_text.specs.Text.{HeaderText, MessageText, Request, Response, StartText, header_text, pieces_text, saturated, start_line}
-pub use Rattle.sip_text.specs.declared.needed.Needed.TheVariants.{CSeq, CallId, From, To, Via}
 pub use Rattle.sip_uri.specs.Uri.{Uri, request_uri}
 pub use Rattle.sip_via.proofs.laws.Places.{replaced-split}
 pub use Rattle.sip_via.proofs.laws.PlainVia.{is-not}
-pub use Rattle.sip_via.proofs.laws.Replaced.{SameOthers, all-replaced, apart, values-replaced}
-pub use Rattle.sip_via.proofs.laws.Tokens.{all_pass, decimal_high, high_line, high_no_space, is_high, no_space}
+pub use Rattle.sip_via.proofs.laws.Replaced.{SameOthers, apart, values-replaced}
+pub use Rattle.sip_via.proofs.laws.Tokens.{all_pass}
 pub use Rattle.sip_via.specs.Address.{address_text}
 pub use Rattle.sip_via.specs.BranchText.{branch_text}
 pub use Rattle.sip_via.specs.Edits.{line, line_if_any, place_of, replaced, with_headers}
 pub use Rattle.sip_via.specs.HexPair.{hex_text}
-pub use Rattle.sip_via.specs.Lines.{first_line, has_name, lines_among, lines_as, lines_named}
+pub use Rattle.sip_via.specs.Lines.{lines_among}
 pub use Rattle.sip_via.specs.OwnVia.{own_via}
-pub use Rattle.sip_via.specs.TopVia.{first_or_empty, has_second, top_value, values_in, via_values}
+pub use Rattle.sip_via.specs.TopVia.{values_in, via_values}
 pub use Rattle.sip_via.specs.ViaParts.{or_empty}
 pub use Rattle.sip_via.specs.declared.branch.BranchName.{BranchName}
 pub use Rattle.sip_via.specs.declared.own.Own.{Own}
 pub use Rattle.sip_build.specs.Exchanged.{exchanged, is_other}
 pub use Rattle.sip_build.specs.Forwarding.{forwarded, hops_lowered, is_request, to_target}
-pub use Rattle.sip_build.specs.Generated.{code_of, generated_of, gets_tag, reason_of, tagged, to_lines, unsupported_lines, with_tag}
+pub use Rattle.sip_build.specs.Generated.{code_of, generated_of, reason_of, to_lines, unsupported_lines}
 pub use Rattle.sip_build.specs.Requests.{along, along_to, to_value}
 pub use Rattle.sip_build.specs.SeenKept.{seen_kept, texts}
-pub use Rattle.sip_build.specs.Upward.{challenge_line, challenge_name, contact_lines, others_of, upward_headers, upward_of, with_contacts, without_top}
+pub use Rattle.sip_build.specs.Upward.{challenge_line, challenge_name, contact_lines, upward_of}
 pub use Rattle.sip_build.specs.declared.responses.OwnStatus.{OwnStatus}
 pub use Rattle.sip_build.specs.inner.Groups.{lines_of, picked, start_of, tail_text, under}
 pub use Rattle.sip_build.specs.inner.Placed.{Placed}

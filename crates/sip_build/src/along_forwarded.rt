@@ -18,7 +18,7 @@ ghost use Rattle.sip_build.specs.inner.Groups.{all_lines};
 ghost use Rattle.sip_build.specs.Requests.{ack_of, along_to, cancel_of};
 
 use crate::groups::{Group, Pick};
-use crate::laws::{ack_of_a_forwarded_request, cancel_of_a_forwarded_request};
+use crate::law::{ack_of_a_forwarded_request, cancel_of_a_forwarded_request};
 use crate::to_target::append_to_target;
 use itoa::Buffer;
 use sip_lex::cut_at_space;
@@ -132,8 +132,9 @@ fn append_along_to<A: Allocator + Clone, B: Allocator>(
     append_to_target(out, method, target, own, branch, &groups, b"")
 }
 
-/// Appends the ACK for a response of 300 to 699 to a request that went to a target (RFC 3261 section
-/// 17.1.1.3): the text of what `ack_of` builds of what `forward` builds, with no message between.
+/// Appends the ACK for a response of 300 to 699 to a request that went to a target (RFC 3261 section 17.1.1.3): on the way
+/// of the request as it went, with its top Via value alone, its Route values, its From, its Call-ID and the number of its
+/// CSeq, and with the To of the response.
 ///
 /// # Errors
 ///
@@ -160,8 +161,8 @@ pub fn write_forwarded_ack<A: Allocator + Clone, B: Allocator>(
     append_along_to(out, b"ACK", message, target, own, branch, to)
 }
 
-/// Appends the CANCEL of a request that went to a target (RFC 3261 section 9.1): the text of what
-/// `cancel_of` builds of what `forward` builds, with no message between.
+/// Appends the CANCEL of a request that went to a target (RFC 3261 section 9.1): on the way of the request as it went, with
+/// its top Via value alone, its Route values, its From, its To, its Call-ID and the number of its CSeq.
 ///
 /// # Errors
 ///

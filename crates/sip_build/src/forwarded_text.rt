@@ -89,8 +89,9 @@ fn lowered_groups<'a, A: Allocator>(
     [Group::Kept(front), lowered, Group::Kept(after)]
 }
 
-/// Appends the request as it goes to a target (RFC 3261 section 16.6): the text of what `forward`
-/// builds, with no message between.
+/// Appends the request as it goes to a target (RFC 3261 section 16.6): its Request-URI is the target's, the proxy's own
+/// Via stands first, with that branch, and the first Max-Forwards is lowered by one. A request without one gets
+/// `Max-Forwards: 70` behind the Via.
 ///
 /// # Errors
 ///

@@ -95,8 +95,9 @@ fn generated_groups<'a, A: Allocator>(
     ]
 }
 
-/// Appends the proxy's own response of that status to a request (RFC 3261 section 8.2.6): the text of
-/// what `generated` builds, with no message between.
+/// Appends the proxy's own response of that status to a request (RFC 3261 section 8.2.6): the Via lines and the first
+/// From, To, Call-ID and CSeq lines as they stand in the request, with the own tag added to a To without a tag, but for a
+/// 100; for a 420 one Unsupported line for each Proxy-Require line.
 ///
 /// # Errors
 ///

@@ -11,8 +11,8 @@ ghost use Rattle.sip_build.specs.inner.Groups.{lines_of, picked, under};
 ghost use Rattle.sip_build.specs.inner.Texts.{lines_text};
 ghost use Rattle.sip_build.specs.Upward.{challenge_line};
 
+use crate::challenges::challenge_name;
 use crate::groups::{Group, Pick, picked_name};
-use crate::upstream::challenge_name;
 use fork_rank::Challenge;
 use sip_text::Header;
 use std::alloc::Allocator;

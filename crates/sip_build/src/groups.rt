@@ -12,9 +12,9 @@ ghost use Rattle.sip_build.specs.inner.Placed.{Placed};
 ghost use Rattle.sip_build.specs.inner.Texts.{lines_text};
 ghost use Rattle.sip_build.specs.Upward.{challenge_line};
 
+use crate::challenges::challenge_name;
 use crate::group_lens::{groups_len, pieces_len};
 use crate::place::{place, place_line, place_pieces};
-use crate::upstream::challenge_name;
 use fork_rank::Challenge;
 use sip_text::Header;
 use std::alloc::{AllocError, Allocator};

@@ -177,8 +177,9 @@ fn append_upward<A: Allocator, B: Allocator>(
     append_made(out, front, &groups, message.body())
 }
 
-/// Appends the response as it goes upstream (RFC 3261 section 16.7 steps 3, 7 and 9): the text of what
-/// `upward` builds, with no message between.
+/// Appends the response as it goes upstream (RFC 3261 section 16.7 steps 3, 7 and 9): without its top Via value, whose
+/// line goes where the value was alone there. With `kept`, one Contact line for each of these texts stands in the place
+/// of all Contact lines, where the first stood or else at the end. The challenges follow last, a line for each.
 ///
 /// # Errors
 ///

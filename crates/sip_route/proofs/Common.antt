@@ -12,7 +12,6 @@ pub use Rattle.std.specs.Char.{to_ascii_lowercase}
 pub use Rattle.std.specs.Prelude.{codes, ◌==◌}
 pub use Rattle.md5.specs.Md5.{Holds}
 pub use Rattle.sip_lex.specs.Bytes.{is_space, trim, trim_end, trim_start}
-pub use Rattle.sip_lex.specs.Number.{number}
 pub use Rattle.sip_lex.specs.Outside.{pieces_from}
 pub use Rattle.sip_lex.specs.Sheltered.{cut_outside, is_plain, place_after}
 pub use Rattle.sip_lex.specs.declared.sheltered.Place.{Place}
@@ -33,6 +32,5 @@ pub use Rattle.sip_route.specs.RouteValues.{route_values, values_in}
 pub use Rattle.sip_route.specs.Routes.{names_own, route_name, stripped, stripped_at, stripped_headers}
 pub use Rattle.sip_route.specs.inner.Loop.{behind_commas}
 pub use Rattle.sip_route.specs.inner.LoopTest.{IsOwnValue}
-pub use Rattle.sip_route.specs.inner.RequestKey.{is_rest}
 pub use Rattle.sip_route.specs.inner.RouteValues.{values_behind}
 pub use Rattle.sip_route.specs.inner.Stripping.{LineLeaves, part}

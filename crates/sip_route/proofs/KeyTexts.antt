@@ -1,24 +1,10 @@
--- A text against a key, and two keys against one another.
-use Rattle.sip_route.proofs.Common.{◌≡◌, ℕ, Bool, true, false, eqb, ◌+◌, List, [], ◌∷◌, ◌++◌, length, take, drop, Option, Some, None, refl, sym, ap, ◌∙◌, ◌↔◌, ◌&&◌, IsTrue, Bor, option_copied, bytes_eq, str_to_ascii_lowercase, and_parts, eqb-true}
-use Rattle.sip_route.proofs.Common.{MessageText, IsSameSender, via_key, is_rest, ◌==◌, eq-eqb, bytes_eq-Decides, arith}
-use Rattle.std.specs.Prelude.{MatchOption}
+-- Two keys against one another.
+use Rattle.sip_route.proofs.Common.{◌≡◌, ℕ, Bool, true, eqb, List, Option, Some, None, sym, ap, ◌∙◌, ◌↔◌, ◌&&◌, IsTrue, bytes_eq, str_to_ascii_lowercase, and_parts, eqb-true}
+use Rattle.sip_route.proofs.Common.{MessageText, IsSameSender, via_key, ◌==◌, eq-eqb, bytes_eq-Decides, arith}
 use Rattle.sip_via.specs.TopVia.{top_value}
 use Rattle.sip_route.specs.RequestKey.{HaveSameKey}
 use Rattle.sip_route.specs.inner.RequestKey.{IsSentBy}
 use Rattle.sip_route.proofs.KeyLaws.{same_sender}
-
--- ---- a text behind its front
-
--- a text is the front and the rest where its first bytes are the front and the others the rest
-split_at : (front text rest : List ℕ) → bytes_eq text (front ++ rest) ≡ (bytes_eq (take (length front) text) front && bytes_eq (drop (length front) text) rest)
-split_at [] text rest = refl
-split_at (b ∷ bs) [] rest = refl
-split_at (b ∷ bs) (c ∷ cs) rest = grind (arith, split_at bs cs rest)
-
-pub left_behind : (front text : List ℕ) (o : Option (Bor (List ℕ))) → MatchOption o (bytes_eq (take (length front) text) front ≡ false) (λ x. (bytes_eq (take (length front) text) front ≡ true) × (x.now ≡ drop (length front) text) × (length x.now + length front ≡ length text)) → (rest : List ℕ) → is_rest (option_copied o) rest ≡ bytes_eq text (front ++ rest)
-left_behind front text o found rest = grind (arith, split_at)
-
--- ---- two keys
 
 abbrev some_key : List ℕ → Option (List ℕ)
 some_key key = Some key

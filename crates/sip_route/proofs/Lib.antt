@@ -1,4 +1,5 @@
 pub mod Common
+pub mod laws
 pub mod Added
 pub mod Unrouted
 pub mod Commas
@@ -8,6 +9,5 @@ pub mod KeyTexts
 pub mod RouteLaws
 pub mod RoutePieces
 pub mod StripPlaces
-pub mod Stripped
 pub mod TrimmedPieces
 pub mod Walks

@@ -4,7 +4,7 @@
 #![tactic(auto)]
 
 mod hops;
-mod laws;
+mod law;
 mod loop_test;
 mod loops;
 mod request_key;
@@ -13,10 +13,10 @@ mod routes;
 mod stripping;
 
 pub use hops::{Hops, hops_of};
-pub use laws::{keys_tell_senders, stripping_keeps_the_rest};
+pub use law::{keys_tell_senders, stripping_keeps_the_rest};
 pub use loop_test::is_loop;
 pub use loops::{loop_key, request_uri};
-pub use request_key::{append_request_key, has_key, has_same_key};
+pub use request_key::{append_request_key, has_same_key};
 pub use route_values::{FirstRoute, first_route, routes_are_readable};
-pub use routes::strip_route;
+pub use routes::names_own;
 pub use stripping::strip;

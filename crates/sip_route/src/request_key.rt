@@ -1,11 +1,10 @@
 //! The key of a request: what tells its server transaction from others.
 
 ghost use Rattle.std.specs.Prelude.{List, ℕ, ◌≡◌, ◌↔◌, ◌+◌, ◌++◌, ◌≤◌, ◌<◌, ◌&&◌, ◌==◌, IfNone, IfOk, IfSome, IsOk, IsTrue, OnErr, None, OnOk, Some, is_some, length, vec_capacity, vec_len};
-ghost use Rattle.std.specs.Option.{option_copied};
 ghost use Rattle.std.specs.Str.{bytes_eq, str_to_ascii_lowercase};
 ghost use Rattle.sip_via.specs.ViaParts.{or_empty};
 ghost use Rattle.sip_route.specs.RequestKey.{HaveSameKey, key_text, request_key};
-ghost use Rattle.sip_route.specs.inner.RequestKey.{IsSentBy, is_rest};
+ghost use Rattle.sip_route.specs.inner.RequestKey.{IsSentBy};
 
 use itoa::Buffer;
 use sip_text::{Message, append_pieces};
@@ -115,59 +114,4 @@ pub fn has_same_key<A: Allocator, B: Allocator>(a: &Message<A>, b: &Message<B>) 
         return false;
     };
     is_same_key(&key, &other)
-}
-
-/// What stands behind a text in lower case.
-fn behind_lowered<'a>(text: &'a [u8], front: &[u8]) -> Option<&'a [u8]>
-    ensures { (rest : List ℕ)
-        → is_rest (option_copied result) rest
-        ≡ bytes_eq text.now (str_to_ascii_lowercase front.now ++ rest) }
-{
-    let mut rest = text;
-    let mut left = front;
-    while let [wanted, others @ ..] = left {
-        let [byte, behind @ ..] = rest else {
-            return None;
-        };
-        if *byte != wanted.to_ascii_lowercase() {
-            return None;
-        }
-        rest = behind;
-        left = others;
-    }
-    Some(rest)
-}
-
-/// What stands behind a text.
-fn behind<'a>(text: Option<&'a [u8]>, front: &[u8]) -> Option<&'a [u8]>
-    ensures { (rest : List ℕ)
-        → is_rest (option_copied result) rest ≡ is_rest (option_copied text.entry) (front.now ++ rest) }
-{
-    match text {
-        None => None,
-        Some(text) => text.strip_prefix(front),
-    }
-}
-
-/// Whether a text is the key that these make.
-fn is_spelled(text: &[u8], key: &Key<'_>) -> bool
-    ensures { result ≡ bytes_eq text.now (key_text key.now.host.now key.now.port key.now.branch.now) }
-{
-    let mut buffer = Buffer::new();
-    let rest = behind(behind_lowered(text, key.host), b":");
-    let rest = behind(rest, buffer.format(key.port).as_bytes());
-    match behind(rest, b" ") {
-        None => false,
-        Some(rest) => rest == key.branch,
-    }
-}
-
-/// Whether these bytes are the key of a request, as `append_request_key` gives it. It takes no memory.
-pub fn has_key<A: Allocator>(message: &Message<A>, key: &[u8]) -> bool
-    ensures { IsTrue result ↔ (request_key message.now ≡ Some key.now) }
-{
-    match key_of(message) {
-        None => false,
-        Some(own) => is_spelled(key, &own),
-    }
 }

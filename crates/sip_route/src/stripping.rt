@@ -96,8 +96,9 @@ fn strip_lines<A: Allocator>(headers: &mut Vec<Header<A>, A>, own: Own)
     }
 }
 
-/// The request without its first Route value, where the URI of that leads to the proxy itself: what
-/// `strip_route` makes of it (RFC 3261 section 16.4), by changing the message itself. It takes no memory.
+/// The request without its first Route value, where the URI of that leads to the proxy itself (RFC 3261 section 16.4),
+/// by changing the message itself. The line goes with its last value. A Route value counts only with its URI in angle
+/// brackets. It takes no memory.
 pub fn strip<A: Allocator>(message: Message<A>, own: Own) -> Message<A>
     ensures { result ≡ stripped message own }
 {

@@ -3,7 +3,7 @@ use crate::bytes::{has, holds_of};
 use crate::holds::holds;
 use crate::messages::{REQUEST, message_of};
 use crate::rows::holds_in_row;
-use sip_route::{append_request_key, has_key, has_same_key};
+use sip_route::{append_request_key, has_same_key};
 use sip_text::Message;
 use sip_via::{Sender, sender_of, top_branch};
 use std::alloc::Global;
@@ -148,16 +148,15 @@ const KEYLESS: [&[u8]; 4] = [
     b"Via: , SIP/2.0/UDP host.example;branch=z9hG4bKa1",
 ];
 
-/// Whether a request has this key, and says so of these bytes.
+/// Whether a request has this key.
 fn has_its_key(alloc: Global, request: &Message<Global>, key: &[u8]) -> bool {
     let mut out = Vec::new(alloc);
     out.push(b'>').is_ok()
         && append_request_key(&mut out, request) == Ok(true)
         && has(out.strip_prefix(b">"), key)
-        && has_key(request, key)
 }
 
-/// Whether a request with that Via line has this key, and says so of these bytes.
+/// Whether a request with that Via line has this key.
 fn is_keyed(alloc: Global, via: &[u8], key: &[u8]) -> bool {
     match request_with(alloc, via) {
         Some(request) => has_its_key(alloc, &request, key),
@@ -186,15 +185,10 @@ fn appends_nothing(alloc: Global, request: &Message<Global>) -> bool {
     out.push(b'>').is_ok() && append_request_key(&mut out, request) == Ok(false) && out.len() == 1
 }
 
-/// Whether a request has neither that key nor an empty one, nor that of itself.
-fn has_no_key(request: &Message<Global>) -> bool {
-    !has_key(request, KEY) && !has_key(request, b"") && !has_same_key(request, request)
-}
-
-/// Whether nothing is appended for a request with that Via line, which has not that key.
+/// Whether nothing is appended for a request with that Via line, which has no key in common with itself.
 fn is_keyless(alloc: Global, via: &[u8]) -> bool {
     match request_with(alloc, via) {
-        Some(request) => appends_nothing(alloc, &request) && has_no_key(&request),
+        Some(request) => appends_nothing(alloc, &request) && !has_same_key(&request, &request),
         None => false,
     }
 }
@@ -235,40 +229,6 @@ fn compares_keys(rt: HostRuntime) {
             are_same(rt.alloc(), SAME[0], via) == Some(false),
             "two keys",
             via,
-        );
-    }
-}
-
-/// Near misses of the key.
-const NEAR_KEYS: [&[u8]; 6] = [
-    b"",
-    b"Host.example:5060 z9hG4bKa1",
-    b"host.example:05060 z9hG4bKa1",
-    b"host.example:5060  z9hG4bKa1",
-    b"host.example:5060 z9hG4bKa1 ",
-    b"host.example:5060 z9hG4bKA1",
-];
-
-fn first_has(alloc: Global, key: &[u8]) -> Option<bool> {
-    match request_with(alloc, SAME[0]) {
-        Some(request) => Some(has_key(&request, key)),
-        None => None,
-    }
-}
-
-#[test]
-fn knows_its_key(rt: HostRuntime) {
-    holds(
-        &rt,
-        first_has(rt.alloc(), KEY) == Some(true),
-        "the key itself",
-    );
-    for key in NEAR_KEYS {
-        holds_of(
-            &rt,
-            first_has(rt.alloc(), key) == Some(false),
-            "no key of the request",
-            key,
         );
     }
 }

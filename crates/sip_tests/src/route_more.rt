@@ -1,9 +1,10 @@
 //! Questions about how a request is routed, and the proxy's own Route value taken away where it stands.
 use crate::bytes::holds_of;
 use crate::messages::{OWN, REQUEST, message_of, spells};
+use sip_message::strip_route;
 use sip_route::{
     FirstRoute, Hops, first_route, hops_of, keys_tell_senders, routes_are_readable, strip,
-    strip_route, stripping_keeps_the_rest,
+    stripping_keeps_the_rest,
 };
 use sip_text::Message;
 use sip_uri::Hop;

@@ -2,12 +2,10 @@
 use crate::bytes::is;
 use crate::holds::holds;
 use crate::messages::{copy_of, read, writes};
+use sip_message::{add_copies, add_line_if_any, add_replaced, copy_others, with_headers};
 use sip_route::request_uri;
 use sip_text::{Header, Message};
-use sip_via::{
-    BranchName, Own, add_copies, add_line_if_any, add_replaced, begins_named, copy_others,
-    has_second_via, own_via, place_of, with_headers,
-};
+use sip_via::{BranchName, Own, begins_named, has_second_via, own_via, place_of, split_named};
 use std::alloc::Global;
 
 const REQUEST: &[u8] =
@@ -92,6 +90,17 @@ fn any_begin(lines: &[Header<Global>], name: &[u8]) -> Option<bool> {
 fn begins(alloc: Global, name: &[u8]) -> Option<bool> {
     match read(alloc, REQUEST) {
         Some(request) => any_begin(request.headers(), name),
+        None => None,
+    }
+}
+
+/// How many lines of the request stand behind the first of that name.
+fn lines_behind(alloc: Global, name: &[u8]) -> Option<usize> {
+    match read(alloc, REQUEST) {
+        Some(request) => match split_named(request.headers(), name) {
+            Some((_, after)) => Some(after.len()),
+            None => None,
+        },
         None => None,
     }
 }
@@ -190,6 +199,11 @@ fn header_lines_are_changed(rt: HostRuntime) {
         &rt,
         begins(alloc, b"route") == Some(false),
         "Route does not stand first",
+    );
+    holds(
+        &rt,
+        lines_behind(alloc, b"from") == Some(4),
+        "four lines stand behind From",
     );
     holds(&rt, is_same(alloc), "the same lines make the same message");
     holds(

@@ -4,13 +4,15 @@ use crate::bytes::{has, is};
 use crate::holds::holds;
 use crate::messages::{OWN, REQUEST, SOURCE, copy_of, message_of, spells, writes, written};
 use crate::rows::holds_in_row;
+use sip_message::{
+    add_first, add_line, add_made, add_named, add_values_as, mark_received, marked_value_is_read,
+    marking_changes_the_top_value, marking_keeps_the_sender,
+};
 use sip_text::{Header, Message};
 use sip_uri::Hop;
 use sip_via::{
-    BranchName, ViaFault, ViaValues, add_first, add_line, add_made, add_named, add_values_as,
-    first_named, first_value, mark, mark_received, marked_value_is_read,
-    marking_changes_the_top_value, marking_keeps_the_rest, marking_keeps_the_sender, own_branch,
-    own_branch_of, readable_is_marked, reply_hop_of, top_via,
+    BranchName, ViaFault, ViaValues, first_named, first_value, mark, marked_line,
+    marking_keeps_the_rest, own_branch, own_branch_of, readable_is_marked, reply_hop_of, top_via,
 };
 use std::alloc::Global;
 
@@ -248,6 +250,27 @@ fn marks_in_place(rt: HostRuntime) {
             row,
         );
     }
+}
+
+/// Whether a Via line is this one with its first value marked.
+fn line_is_marked_as(alloc: Global, line: &[u8], marked: &[u8]) -> bool {
+    match marked_line(&alloc, line, SOURCE) {
+        Ok(text) => is(&text, marked),
+        Err(_) => false,
+    }
+}
+
+#[test]
+fn marks_a_line(rt: HostRuntime) {
+    holds(
+        &rt,
+        line_is_marked_as(
+            rt.alloc(),
+            b"SIP/2.0/UDP h , SIP/2.0/UDP i",
+            b"SIP/2.0/UDP h;received=192.0.2.1 , SIP/2.0/UDP i",
+        ),
+        "the first value of the line",
+    );
 }
 
 /// Whether a request comes back as these lines, with a `BadVia`.

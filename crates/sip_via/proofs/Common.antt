@@ -1,9 +1,9 @@
 -- The names that most proofs of this crate cite, passed on from one place. Declares nothing.
-pub use Rattle.std.proofs.Common.{Bool, Err, IfSome, List, None, Ok, Option, Result, Some, [], ap, append_assoc, arith, codes, cond, drop, eqb, false, get_or, inl, inr, is_none, length, ltb, map, nat_le, not, option_map, refl, reverse, slice_index}
-pub use Rattle.std.proofs.Common.{slice_set, subst, suc, sym, take, true, vec_len, zero, ℕ, ◌%◌, ◌&&◌, ◌*◌, ◌++◌, ◌+◌, ◌-◌, ◌/◌, ◌<◌, ◌^◌, ◌||◌, ◌∙◌, ◌∷◌, ◌≡◌, ◌≢◌, ◌≤◌, rules}
-pub use Rattle.std.proofs.lemmas.Bool.{agree_below_at, and_from, and_parts, cases_Bool, cond-false, cond-true, cond_both, eqb-true, false_from_ne_true, false≢true, le-leb, leb-true, lt-ltb, or_cases}
-pub use Rattle.std.proofs.lemmas.Fmt.{decimal_nonempty, digits_decimal, length-decimal-le}
-pub use Rattle.std.proofs.lemmas.List.{append-nil, drop_all, drop_at, length-append, length-set, reverse-append, reverse-reverse, take-append-drop, take_all, take_at, take_more_set}
+pub use Rattle.std.proofs.Common.{Bool, Err, IfSome, List, None, Ok, Option, Result, Some, [], ap, append_assoc, arith, codes, cond, drop, eqb, false, get_or, inl, inr, is_none, length, ltb, map, nat_le, not, option_map, refl, reverse}
+pub use Rattle.std.proofs.Common.{slice_set, subst, suc, sym, take, true, zero, ℕ, ◌%◌, ◌&&◌, ◌*◌, ◌++◌, ◌+◌, ◌-◌, ◌/◌, ◌<◌, ◌^◌, ◌||◌, ◌∙◌, ◌∷◌, ◌≡◌, ◌≢◌, ◌≤◌, rules}
+pub use Rattle.std.proofs.lemmas.Bool.{and_from, and_parts, cases_Bool, cond-false, cond-true, cond_both, eqb-true, false_from_ne_true, false≢true, leb-true, or_cases}
+pub use Rattle.std.proofs.lemmas.Fmt.{digits_decimal, length-decimal-le}
+pub use Rattle.std.proofs.lemmas.List.{append-nil, drop_all, drop_at, length-append, length-set, reverse-append, reverse-reverse, take-append-drop, take_all, take_at}
 pub use Rattle.std.proofs.lemmas.List.Folds.{list_all-append}
 pub use Rattle.std.proofs.lemmas.Slice.Eq.{bytes_eq-Decides}
 pub use Rattle.std.specs.Borrow.{Bor}
@@ -39,20 +39,19 @@ pub use Rattle.sip_uri.specs.Host.{IsHost, IsPort, host_len, is_address_byte, is
 pub use Rattle.sip_uri.specs.declared.hop.Hop.{Hop}
 pub use Rattle.sip_via.specs.Address.{IsAddress, address_text, dotted}
 pub use Rattle.sip_via.specs.BranchText.{IsBranch, branch_text, cookie}
-pub use Rattle.sip_via.specs.Edits.{begins_named, line, line_if_any, place_of, replaced, with_headers}
+pub use Rattle.sip_via.specs.Edits.{begins_named, changed_first, line, line_if_any, place_of, replaced, with_headers}
 pub use Rattle.sip_via.specs.HexPair.{hex_pair, hex_text}
 pub use Rattle.sip_via.specs.Lines.{lines_among}
 pub use Rattle.sip_via.specs.OwnVia.{IsOwn, own_via}
 pub use Rattle.sip_via.specs.Received.{IsSource, asks_port, filled, first_via_line, gets_received, marked_line, marked_param, marked_parts, marked_value, received_text, with_via_line}
 pub use Rattle.sip_via.specs.TopVia.{values_in}
 pub use Rattle.sip_via.specs.ViaGrammar.{AreParamGaps, AreViaGaps, IsSpace, IsValue, IsVia, IsViaParam, ParamGaps, ViaGaps, param_spelling, param_text, spaced, spelling, tail_spelling}
-pub use Rattle.sip_via.specs.ViaParts.{Parts, ViaText, are_parts, branch_of, first_named, is_named, is_param, is_value_byte, is_value_if_any, is_via, is_whole, name_of, or_empty, params_of, parts_of, port_and_params, read_via, value_of, via_of}
+pub use Rattle.sip_via.specs.ViaParts.{Parts, ViaText, are_parts, first_named, is_named, is_param, is_value_byte, is_value_if_any, is_via, is_whole, name_of, or_empty, params_of, parts_of, port_and_params, read_via, value_of, via_of}
 pub use Rattle.sip_via.specs.declared.branch.BranchName.{BranchName}
 pub use Rattle.sip_via.specs.declared.own.Own.{Own}
 pub use Rattle.sip_via.specs.declared.own.ViaFault.{ViaFault}
 pub use Rattle.sip_via.specs.declared.own.ViaFault.TheVariants.{BadVia}
 pub use Rattle.sip_via.specs.inner.BranchParts.{BranchParts, branch_parts, with_key}
-pub use Rattle.sip_via.specs.inner.Edits.{changed_first}
-pub use Rattle.sip_via.specs.inner.Fronts.{behind_address, behind_marked, behind_number, is_end, behind_text}
+pub use Rattle.sip_via.specs.inner.Fronts.{behind_address, behind_marked, is_end, behind_text}
 pub use Rattle.sip_via.specs.OwnPass.{IsOwnBranch}
 pub use Rattle.sip_via.specs.SeenVia.{values_behind}

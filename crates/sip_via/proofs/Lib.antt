@@ -4,13 +4,8 @@ pub mod BranchLaws
 pub mod BranchPlaced
 pub mod ViaWalk
 pub mod KeyDigits
-pub mod Marked
-pub mod MarkedMessage
-pub mod MarkedVia
 pub mod FrontLaws
 pub mod TrimmedLen
-pub mod ViaFound
-pub mod ViaOnly
 pub mod ViaReads
 pub mod Walks
 pub mod SentLaws

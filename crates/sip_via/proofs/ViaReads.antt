@@ -2,8 +2,8 @@
 use Rattle.sip_via.proofs.Common.{◌≡◌, ℕ, true, false, List, Result, Ok, Err, subst, and_parts, cases_Bool, cond-false, cond-true, ViaFault, BadVia, IsVia, ViaText, is_via, read_via, via_of, arith, common_steps}
 use Rattle.std.specs.Prelude.{IfOk}
 use Rattle.sip_via.specs.ViaFaults.{Gives}
-use Rattle.sip_via.proofs.ViaFound.{via_found}
-use Rattle.sip_via.proofs.ViaOnly.{via_again}
+use Rattle.sip_via.proofs.laws.ViaFound.{via_found}
+use Rattle.sip_via.proofs.laws.ViaOnly.{via_again}
 
 abbrev ok : ViaText → Result ViaText ViaFault
 ok via = Ok via

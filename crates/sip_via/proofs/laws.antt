@@ -1,7 +1,12 @@
 pub mod HexLaws
+pub mod Marked
+pub mod MarkedMessage
 pub mod OwnVia
 pub mod Places
 pub mod PlainVia
 pub mod Replaced
 pub mod Tokens
 pub mod TrimmedValues
+pub mod ViaFound
+pub mod ViaFronts
+pub mod ViaOnly

@@ -16,6 +16,11 @@ abbrev pub replaced : List ℕ → Option (List ℕ) → List HeaderText → Lis
 replaced name value [] = []
 replaced name value (h ∷ hs) = if same_name name h.name then line_if_any h.name value ++ hs else h ∷ replaced name value hs
 
+-- the first line has another value, or is left out
+abbrev pub changed_first : Option (List ℕ) → List HeaderText → List HeaderText
+changed_first value [] = []
+changed_first value (h ∷ hs) = line_if_any h.name value ++ hs
+
 -- a message with other header lines
 abbrev pub with_headers : MessageText → List HeaderText → MessageText
 with_headers m hs = record { start = m.start; headers = hs; body = m.body }

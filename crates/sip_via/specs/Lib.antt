@@ -9,7 +9,6 @@ pub mod OwnVia
 pub mod Edits
 pub mod Lines
 pub mod ViaFaults
-pub mod SeenMessages
 pub mod Received
 pub mod OwnPass
 pub mod ViaGrammar

@@ -1,7 +1,5 @@
 -- What a call answered against what its definition gives, unless memory ran out.
 use Rattle.std.specs.Prelude.{◌≡◌, Result, Ok, Err}
-use Rattle.sip_via.specs.declared.own.BuildFault.{BuildFault}
-use Rattle.sip_via.specs.declared.own.BuildFault.TheVariants as build
 use Rattle.sip_via.specs.declared.own.ViaFault.{ViaFault}
 use Rattle.sip_via.specs.declared.own.ViaFault.TheVariants as via
 
@@ -18,12 +16,3 @@ Gives view (Err e) read = Fails e read
 abbrev pub refusal : {Y : Type 0} → Result Y ViaFault → ViaFault
 refusal (Ok y) = via.NoMemory
 refusal (Err f) = f
-
-abbrev pub FailsToBuild : {Y : Type 0} → BuildFault → Result Y BuildFault → Type 0
-FailsToBuild build.NoMemory built = Unit {0}
-FailsToBuild f built = built ≡ Err f
-
--- the message, or the fault, is what building gives
-abbrev pub Builds : {X Y : Type 0} → (X → Y) → Result X BuildFault → Result Y BuildFault → Type 0
-Builds view (Ok x) built = built ≡ Ok (view x)
-Builds view (Err e) built = FailsToBuild e built

@@ -19,11 +19,10 @@ ghost use Rattle.sip_via.specs.ViaParts.{is_named, is_via, params_of, parts_of, 
 
 use crate::address::{append_address, append_number, is_address};
 use crate::cut::{Cut, cut_value, cut_via, port_if_any};
-use crate::edits::{add_replaced, place_of, with_headers};
+use crate::edits::place_of;
 use crate::own::ViaFault;
 use crate::params::{Params, has_rport};
 use crate::values::{VIA, top_via};
-use crate::via::Via;
 use sip_lex::{Shelter, cut_at, cut_outside, trim, trim_end};
 use sip_text::{Header, Message};
 use sip_uri::Hop;
@@ -31,21 +30,6 @@ use std::alloc::{AllocError, Allocator};
 
 /// The port of SIP over UDP where a Via value names none (RFC 3261 section 18.2.2).
 pub(crate) const DEFAULT_PORT: u16 = 5060;
-
-/// Where a response to a request with that top value goes, which came from `source` (RFC 3261
-/// section 18.2.2, RFC 3581 section 4): to the source's address; to its port where `rport` now has
-/// it, else to the sender's or 5060.
-pub fn reply_hop<A: Allocator>(via: &Via<A>, source: Hop) -> Hop
-    ensures { result ≡ reply_of via.now source }
-{
-    let port = if via.has_rport(source.port) {
-        source.port
-    } else {
-        via.port().unwrap_or(DEFAULT_PORT)
-    };
-    let addr = source.addr;
-    Hop { addr, port }
-}
 
 /// Where a response goes to a request with a top value of these parts.
 fn reply_hop_of_parts(cut: &Cut<'_>, source: Hop) -> Hop
@@ -61,7 +45,7 @@ fn reply_hop_of_parts(cut: &Cut<'_>, source: Hop) -> Hop
 }
 
 /// Where a response to a request goes, which came from `source`, by the request's top value: as
-/// `reply_hop` says, and without memory. A top value that is none is read as far as its parts can be
+/// that of a `Via` read of it, and without memory. A top value that is none is read as far as its parts can be
 /// told apart; `marked_value_is_read` shows that the top value of a marked request is one.
 pub fn reply_hop_of<A: Allocator>(message: &Message<A>, source: Hop) -> Hop
     ensures { result ≡ reply_of (via_of (top_value message.now)) source }
@@ -223,8 +207,13 @@ fn via_line<A: Allocator>(message: &Message<A>) -> &[u8]
     message.values(VIA).next().unwrap_or(b"")
 }
 
-/// A Via line with its first value marked. The space before its comma stays.
-fn marked_line<A: Allocator + Clone>(
+/// A Via line with its first value marked (RFC 3261 section 18.2.1, RFC 3581 section 4). The space before its comma stays,
+/// and so do the values behind it.
+///
+/// # Errors
+///
+/// `BadVia` where the first value can't be read; then `NoMemory`.
+pub fn marked_line<A: Allocator + Clone>(
     alloc: &A,
     line: &[u8],
     source: Hop,
@@ -246,31 +235,6 @@ fn marked_line<A: Allocator + Clone>(
 fn is_source(source: Hop)
     ensures { IsSource source }
 {}
-
-/// The request with its source in the top Via value (RFC 3261 section 18.2.1, RFC 3581 section 4).
-///
-/// A `received` that is there is dropped; each `rport` without a value gets the source's port; and
-/// `received` is added where such an `rport` was there or the host isn't the source's address. All
-/// else is as it was.
-///
-/// # Errors
-///
-/// `BadVia` where the top value can't be read; then `NoMemory`.
-pub fn mark_received<A: Allocator + Clone>(
-    alloc: A,
-    message: &Message<A>,
-    source: Hop,
-) -> Result<Message<A>, ViaFault>
-    ensures exact { Gives (λ m. m) result (marked message.now source) }
-    ensures refused { IfErr result (λ fault. fault ≡ refusal (marked message.now source)) }
-{
-    message.is_message();
-    is_source(source);
-    let line = marked_line(&alloc, via_line(message), source)?;
-    let mut headers = Vec::new(alloc.clone()?);
-    add_replaced(&mut headers, &alloc, message.headers(), VIA, Some(line))?;
-    Ok(with_headers(alloc, message, headers)?)
-}
 
 /// A message that was not marked, as it was, and why.
 #[derive(Drop)]
@@ -337,8 +301,11 @@ fn with_via_line<A: Allocator>(
     }
 }
 
-/// The request with its source in the top Via value, as `mark_received` gives it, made of the request itself: the
-/// first Via line is allocated anew, and nothing else.
+/// The request with its source in the top Via value (RFC 3261 section 18.2.1, RFC 3581 section 4), made of the request
+/// itself: the first Via line is allocated anew, and nothing else.
+///
+/// A `received` that is there is dropped; each `rport` without a value gets the source's port; and `received` is added
+/// where such an `rport` was there or the host isn't the source's address. All else is as it was.
 ///
 /// # Errors
 ///

@@ -18,10 +18,3 @@ pub record IsSentBy (m : MessageText) (host : List ℕ) (port : ℕ) (branch : L
   pub names_host : via.host ≡ host
   pub names_port : sender_port via ≡ port
   pub names_branch : branch_of via ≡ Some branch
-
--- ---- a key against a text
-
--- what is left of a text is this; nothing is, where a part was missing
-abbrev pub is_rest : Option (List ℕ) → List ℕ → Bool
-is_rest None text = false
-is_rest (Some rest) text = bytes_eq rest text

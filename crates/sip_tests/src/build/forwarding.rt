@@ -5,11 +5,11 @@ use crate::messages::{
     OWN, REQUEST, SOURCE, is_written_as, is_written_as_read, may_pass, message_of,
 };
 use crate::rows::holds_in_row;
-use sip_build::forward;
+use sip_message::{forward, mark_received};
 use sip_route::{is_loop, loop_key};
 use sip_text::{Message, Start};
 use sip_uri::SipUri;
-use sip_via::{BranchName, Via, mark_received, read_branch, top_via};
+use sip_via::{BranchName, Via, read_branch, top_via};
 use std::alloc::Global;
 
 const BRANCH: BranchName = BranchName {

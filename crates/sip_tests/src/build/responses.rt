@@ -5,7 +5,8 @@ use crate::messages::{
     REQUEST, ROUTED, is_read_back, is_written_as, is_written_as_read, message_of, read, written,
 };
 use crate::rows::holds_in_row;
-use sip_build::{OwnStatus, generated, generated_is_message, own_tag};
+use sip_build::{OwnStatus, gets_tag, own_tag};
+use sip_message::{generated, generated_is_message};
 use sip_text::Message;
 use std::alloc::Global;
 
@@ -234,6 +235,29 @@ fn an_extension_is_named(rt: HostRuntime) {
             &expected,
         ),
         "the 420 to a request with extensions",
+    );
+}
+
+/// Whether a response of that status to the request has a tag added.
+fn has_tag_added(alloc: Global, status: OwnStatus) -> Option<bool> {
+    match message_of(alloc, &REQUEST) {
+        Some(request) => Some(gets_tag(status, &request)),
+        None => None,
+    }
+}
+
+#[test]
+fn responses_but_a_100_get_a_tag(rt: HostRuntime) {
+    let alloc = rt.alloc();
+    holds(
+        &rt,
+        has_tag_added(alloc, OwnStatus::Okay) == Some(true),
+        "a 200 gets a tag",
+    );
+    holds(
+        &rt,
+        has_tag_added(alloc, OwnStatus::Trying) == Some(false),
+        "a 100 gets none",
     );
 }
 

@@ -3,10 +3,12 @@ ghost use Rattle.std.specs.Prelude.{◌≡◌, true, IfSome};
 ghost use Rattle.sip_build.specs.Upward.{is_challenge};
 
 use crate::behind::if_built;
+use crate::bytes::is;
 use crate::holds::holds;
 use crate::messages::{is_written_as, message_of};
 use fork_rank::Challenge;
-use sip_build::upward;
+use sip_build::challenge_name;
+use sip_message::upward;
 use sip_text::Message;
 use sip_via::BuildFault;
 use std::alloc::Global;
@@ -159,5 +161,19 @@ fn the_last_via_value_stays(rt: HostRuntime) {
         &rt,
         is_refused(alloc),
         "a response with one Via value is a LastVia",
+    );
+}
+
+#[test]
+fn challenges_are_named(rt: HostRuntime) {
+    holds(
+        &rt,
+        is(challenge_name(true), b"Proxy-Authenticate"),
+        "the challenge of a proxy",
+    );
+    holds(
+        &rt,
+        is(challenge_name(false), b"WWW-Authenticate"),
+        "the challenge of a server",
     );
 }

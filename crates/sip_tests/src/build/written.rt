@@ -1,11 +1,10 @@
-//! Responses, ACK and CANCEL that are written straight to a text, against those that are built and then written.
+//! Responses that are written straight to a text, against those that are built and then written.
 ghost use Rattle.std.specs.Prelude.{◌≡◌, true};
 ghost use Rattle.std.specs.List.{list_all};
 ghost use Rattle.sip_build.specs.SeenKept.{seen_kept};
 ghost use Rattle.sip_build.specs.Upward.{AreKept, is_challenge};
 
 use crate::behind::{begins, if_built, is_as_it_began, is_behind};
-use crate::build::requests::{SENT, acknowledged, cancelled, routed};
 use crate::build::responses::{STATUSES, answer_to};
 use crate::build::upstream::{ALONE, ASKED, MOVED, of_proxy, of_server};
 use crate::bytes::is;
@@ -15,11 +14,13 @@ use crate::rows::holds_in_row;
 use bumpalo::Bump;
 use fork_rank::Challenge;
 use sip_build::{
-    OwnStatus, ack_of_a_forwarded_request, cancel_of_a_forwarded_request,
-    forwarding_puts_the_own_via_first, own_via_is_read, upward, upward_loses_the_top_via,
-    write_ack, write_cancel, write_generated, write_upward,
+    OwnStatus, ack_of_a_forwarded_request, cancel_of_a_forwarded_request, write_generated,
+    write_upward,
 };
-use sip_text::{Message, Start};
+use sip_message::{
+    forwarding_puts_the_own_via_first, own_via_is_read, upward, upward_loses_the_top_via,
+};
+use sip_text::Message;
 use sip_via::BuildFault;
 use std::alloc::Global;
 
@@ -57,53 +58,12 @@ fn answers_are_written_as_they_are_built(rt: HostRuntime) {
     }
 }
 
-/// Whether the CANCEL of what was sent is written as it is built.
-fn is_cancelled_so(alloc: Global, sent: &Message<Global>) -> bool {
-    let Start::Request { .. } = sent.start() else {
-        return false;
-    };
-    let mut out = Vec::new(alloc);
-    begins(&mut out)
-        && write_cancel(sent, &mut out).is_ok()
-        && is_behind(alloc, &out, cancelled(alloc, sent))
-}
-
-fn cancels_so(alloc: Global, lines: &[&[u8]]) -> bool {
-    match message_of(alloc, lines) {
-        Some(sent) => is_cancelled_so(alloc, &sent),
-        None => false,
-    }
-}
-
-/// Whether the ACK for a response to what was sent is written as it is built.
-fn is_acknowledged_so(alloc: Global, sent: &Message<Global>, response: &Message<Global>) -> bool {
-    let Start::Request { .. } = sent.start() else {
-        return false;
-    };
-    let mut out = Vec::new(alloc);
-    begins(&mut out)
-        && write_ack(sent, response, &mut out).is_ok()
-        && is_behind(alloc, &out, acknowledged(alloc, sent, response))
-}
-
-fn acknowledges_so(alloc: Global, lines: &[&[u8]], answer: &[&[u8]]) -> bool {
-    match (message_of(alloc, lines), message_of(alloc, answer)) {
-        (Some(sent), Some(response)) => is_acknowledged_so(alloc, &sent, &response),
-        _ => false,
-    }
-}
-
 #[test]
-fn requests_are_written_along_as_they_are_built(rt: HostRuntime) {
+fn laws_of_forwarded_requests(_rt: HostRuntime) {
     forwarding_puts_the_own_via_first();
     own_via_is_read();
     ack_of_a_forwarded_request();
     cancel_of_a_forwarded_request();
-    let alloc = rt.alloc();
-    for (row, lines) in [SENT, routed()].iter().enumerate() {
-        holds_in_row(&rt, cancels_so(alloc, lines), "a CANCEL", row);
-        holds_in_row(&rt, acknowledges_so(alloc, lines, &MOVED), "an ACK", row);
-    }
 }
 
 /// Whether a response goes upstream with these contacts and challenges as it is built.
@@ -219,14 +179,9 @@ fn are_refused(
     response: &Message<Global>,
     out: &mut Vec<u8, &Bump<Global>>,
 ) -> bool {
-    let Start::Request { .. } = request.start() else {
-        return false;
-    };
     let answered = write_generated(request, OwnStatus::BadExtension, out).is_ok();
     let upwards = write_upward(response, None, &[], out).is_ok();
-    let acknowledged = write_ack(request, response, out).is_ok();
-    let cancelled = write_cancel(request, out).is_ok();
-    !answered && !upwards && !acknowledged && !cancelled
+    !answered && !upwards
 }
 
 /// Whether all that is written of them where no more memory is granted is refused, and the text is as it was.

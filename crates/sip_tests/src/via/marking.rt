@@ -3,8 +3,9 @@ use crate::bytes::{has, is};
 use crate::holds::holds;
 use crate::messages::{REQUEST, SOURCE, is_written_as, message_of};
 use crate::rows::holds_in_row;
+use sip_message::mark_received;
 use sip_text::Message;
-use sip_via::{ViaFault, mark_received, top_via};
+use sip_via::{ViaFault, top_via};
 use std::alloc::Global;
 
 /// The request with this Via line.

@@ -1,7 +1,8 @@
 //! Requests whose first Route value is the proxy's own, and others.
 use crate::holds::holds;
 use crate::messages::{OWN, REQUEST, is_written_as, message_of};
-use sip_route::strip_route;
+use sip_message::strip_route;
+use sip_route::names_own;
 use sip_text::Message;
 use std::alloc::Global;
 
@@ -90,5 +91,19 @@ fn leaves_a_request_without_a_route(rt: HostRuntime) {
         &rt,
         is_written_as(alloc, stripped_of_none(alloc), &REQUEST),
         "a request without a Route line is left as it is",
+    );
+}
+
+#[test]
+fn knows_its_own_route(rt: HostRuntime) {
+    holds(
+        &rt,
+        names_own(OWN, b"<sip:192.0.2.9:5060;lr>"),
+        "a value with the address and port of the proxy",
+    );
+    holds(
+        &rt,
+        !names_own(OWN, b"<sip:192.0.2.9:5070>"),
+        "a value with another port",
     );
 }

@@ -1,7 +1,7 @@
 -- The proxy's own Via value is a header value.
 use Rattle.sip_via.proofs.Common.{◌≡◌, ℕ, ◌<◌, ◌^◌, Bool, true, false, not, eqb, List, [], ◌∷◌, ◌++◌, length, reverse, refl, ap, subst, ◌∙◌, arith, ◌&&◌, decimal, list_all, and_parts, eqb-true, false_from_ne_true, false≢true, digits_decimal}
 use Rattle.sip_via.proofs.Common.{reverse-append, list_all-append, is_space, is_token_byte, token_byte-space, is_line, is_line_byte, is_trimmed, is_value, begins_with_space, and_both, Own, BranchName, branch_text, IsOwn, own_via, own, common_steps}
-use Rattle.sip_via.proofs.Marked.{address-line, decimal-line, line-append}
+use Rattle.sip_via.proofs.laws.Marked.{address-line, decimal-line, line-append}
 
 -- ---- texts without space
 

@@ -1,5 +1,5 @@
 use Rattle.sip_build.proofs.Common.{rules, ◌∙◌, List, ℕ, Some, ap, sym, hops_name}
-use Rattle.sip_build.proofs.Exchanged.{none-left}
+use Rattle.sip_build.proofs.laws.Exchanged.{none-left}
 use Rattle.sip_build.proofs.FirstHops.{first-nowhere, first-there}
 use Rattle.sip_build.proofs.forwarded_text.value_at.Goals as goal
 

@@ -1,5 +1,5 @@
 use Rattle.sip_build.proofs.Common.{◌∙◌, ◌++◌, List, ap, codes, views, HeaderText, texts, contact_lines}
-use Rattle.sip_build.proofs.Exchanged.{exchanged-split}
+use Rattle.sip_build.proofs.laws.Exchanged.{exchanged-split}
 use Rattle.sip_build.proofs.GroupTexts.{other-lines}
 use Rattle.sip_build.proofs.upward_text.exchanged_groups.Goals as goal
 

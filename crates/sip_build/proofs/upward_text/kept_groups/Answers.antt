@@ -1,6 +1,6 @@
 use Rattle.sip_build.proofs.Common.{◌<◌, ◌∙◌, ◌++◌, ◌∷◌, List, ℕ, length, map, sym, ap, arith, None, Some, codes, if◌then◌else◌, flat_map, option_copied, same_name, views, line_if_any, place_of, replaced, exchanged, lines_of, under, texts}
 use Rattle.sip_build.proofs.Common.{challenge_line, contact_lines, common_steps}
-use Rattle.sip_build.proofs.Exchanged.{none-left, parted_at, round-later, round-none, round-sooner, via-is-no-contact}
+use Rattle.sip_build.proofs.laws.Exchanged.{none-left, parted_at, round-later, round-none, round-sooner, via-is-no-contact}
 use Rattle.sip_build.proofs.GroupTexts.{other-lines}
 use Rattle.sip_build.proofs.UpwardTexts.{row-later, row-sooner, row-three}
 use Rattle.sip_build.proofs.upward_text.kept_groups.Goals as goal

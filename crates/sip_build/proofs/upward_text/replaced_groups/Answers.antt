@@ -1,5 +1,5 @@
 use Rattle.sip_build.proofs.Common.{◌∷◌, ◌∙◌, [], ◌++◌, List, ap, map, sym, codes, option_copied, views, HeaderText, line_if_any, replaced, challenge_line, replaced-split}
-use Rattle.sip_build.proofs.Exchanged.{none-left}
+use Rattle.sip_build.proofs.laws.Exchanged.{none-left}
 use Rattle.sip_build.proofs.UpwardTexts.{row-one, row-three}
 use Rattle.sip_build.proofs.upward_text.replaced_groups.Goals as goal
 

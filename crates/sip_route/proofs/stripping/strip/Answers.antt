@@ -1,6 +1,6 @@
 use Rattle.sip_route.proofs.Common.{List, sym, subst, IsMessage, views, HeaderText, MessageText, with_headers}
 use Rattle.sip_text.specs.Seen.{view_start}
-use Rattle.sip_route.proofs.Stripped.{stripped-good}
+use Rattle.sip_route.proofs.laws.Stripped.{stripped-good}
 use Rattle.sip_route.proofs.stripping.strip.Goals as goal
 
 pub from_parts-requires : goal.from_parts-requires

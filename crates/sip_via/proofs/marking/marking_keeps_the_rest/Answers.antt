@@ -1,4 +1,4 @@
-use Rattle.sip_via.proofs.MarkedMessage.{keeps-the-rest}
+use Rattle.sip_via.proofs.laws.MarkedMessage.{keeps-the-rest}
 use Rattle.sip_via.proofs.marking.marking_keeps_the_rest.Goals as goal
 
 pub returns-clause-start : goal.returns-clause-start

@@ -1,4 +1,4 @@
-use Rattle.sip_via.proofs.MarkedMessage.{readable, unreadable}
+use Rattle.sip_via.proofs.laws.MarkedMessage.{readable, unreadable}
 use Rattle.sip_via.proofs.marking.readable_is_marked.Goals as goal
 
 pub returns-clause-marked : goal.returns-clause-marked

@@ -1,5 +1,5 @@
 use Rattle.sip_via.proofs.Common.{◌≡◌, ◌∙◌, ◌≤◌, ◌+◌, ◌-◌, Bor, List, None, Option, Some, ap, arith, behind, is_via, length, option_copied, parts_of, suc, sym, take, true, ℕ, common_steps}
-use Rattle.sip_via.proofs.MarkedVia.{cuts-at-params}
+use Rattle.sip_via.proofs.laws.ViaFronts.{cuts-at-params}
 use Rattle.sip_via.proofs.received.front_len.Goals as goal
 
 -- the `;` and the parameters are within the value

@@ -1,0 +1,4 @@
+pub mod Exchanged
+pub mod ForwardedOthers
+pub mod ViaPieces
+pub mod ViasForwarded

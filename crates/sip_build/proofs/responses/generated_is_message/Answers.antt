@@ -1,5 +1,0 @@
-use Rattle.sip_build.proofs.GeneratedGood.{generated_good}
-use Rattle.sip_build.proofs.responses.generated_is_message.Goals as goal
-
-pub returns : goal.returns
-returns c = generated_good

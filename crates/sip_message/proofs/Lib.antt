@@ -1,0 +1,13 @@
+pub mod Common
+pub mod Added
+pub mod CSeqAgain
+pub mod Forwarded
+pub mod GeneratedGood
+pub mod HeaderValues
+pub mod MarkedValues
+pub mod MarkedVia
+pub mod Named
+pub mod RequestsGood
+pub mod TrimmedVias
+pub mod UpwardGood
+pub mod ViasUpward

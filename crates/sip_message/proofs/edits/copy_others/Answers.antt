@@ -1,0 +1,5 @@
+use Rattle.sip_message.proofs.Common.{rules}
+use Rattle.sip_message.proofs.edits.copy_others.Goals as goal
+
+pub returns-in_ok-from_slice-in-Some : goal.returns-in_ok-from_slice-in-Some
+returns-in_ok-from_slice-in-Some c = search rules

@@ -1,0 +1,5 @@
+use Rattle.sip_message.proofs.Common.{arith, common_steps}
+use Rattle.sip_message.proofs.lines.add_line.Goals as goal
+
+pub returns-clause-ok : goal.returns-clause-ok
+returns-clause-ok c = grind (arith, common_steps)

@@ -1,0 +1,5 @@
+use Rattle.sip_message.proofs.Common.{arith, common_steps}
+use Rattle.sip_message.proofs.lines.append_named.Goals as goal
+
+pub loop-header-preserved : goal.loop-header-preserved
+loop-header-preserved c = grind (arith, common_steps)

@@ -1,0 +1,5 @@
+use Rattle.sip_message.proofs.GeneratedGood.{generated_good}
+use Rattle.sip_message.proofs.responses.generated_is_message.Goals as goal
+
+pub returns : goal.returns
+returns c = generated_good

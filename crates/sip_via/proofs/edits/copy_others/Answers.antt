@@ -1,5 +1,0 @@
-use Rattle.sip_via.proofs.Common.{rules}
-use Rattle.sip_via.proofs.edits.copy_others.Goals as goal
-
-pub returns-in_ok-from_slice-in-Some : goal.returns-in_ok-from_slice-in-Some
-returns-in_ok-from_slice-in-Some c = search rules

@@ -1,5 +1,0 @@
-use Rattle.sip_via.proofs.Common.{arith, common_steps}
-use Rattle.sip_via.proofs.lines.add_line.Goals as goal
-
-pub returns-clause-ok : goal.returns-clause-ok
-returns-clause-ok c = grind (arith, common_steps)

@@ -1,5 +1,0 @@
-use Rattle.sip_via.proofs.Common.{rules}
-use Rattle.sip_via.proofs.lines.add_values_as.Goals as goal
-
-pub returns-clause-ok : goal.returns-clause-ok
-returns-clause-ok c = search rules
