@@ -29,3 +29,4 @@ pub mod RowChanges
 pub mod Applied
 pub mod Redirected
 pub mod TakenKeys
+pub mod AnswersCame

@@ -11,6 +11,7 @@ ghost use Rattle.fork_model.specs.Chosen.{HasFirst, IsChosen, challenges_added};
 ghost use Rattle.context_values.specs.EventView.{event_of};
 ghost use Rattle.fork_rank.specs.KindView.{kind_of};
 ghost use Rattle.fork_context.specs.Led.{IsLedTo};
+ghost use Rattle.fork_context.specs.Came.{taken_events, CameByRedirection, AppendsChallenges};
 ghost use Rattle.fork_context.specs.LeftView.{left_of};
 ghost use Rattle.fork_context.specs.Refusals.{IsTooMany, HasTwice, IsFull, returned};
 ghost use Rattle.context_values.specs.ReplyView.{choice_of};
@@ -21,6 +22,7 @@ use crate::fork::Fork;
 use crate::opening::has_twice;
 use crate::row::RowView;
 use context_values::{Choice, Event, Offer, Reply, Target};
+use fork_model::stored_answers_came;
 use fork_rank::{Challenge, Kind, MOST_TARGETS, Rules};
 use std::alloc::{AllocError, Allocator, Global};
 use std::marker::Model;
@@ -238,10 +240,14 @@ impl<A: Allocator + Clone> Context<A> {
     }
 
     /// The contacts that are left of the 3xx that row n was answered with, for the caller to try itself; None where
-    /// the row has stored no such answer.
+    /// the row has stored no such answer. Whichever history led to the context, that 3xx is one of the events that it took,
+    /// and each contact left is one of its contacts (RFC 3261 section 16.7 step 4).
     pub fn left(&self, n: u16) -> Option<&[Offer<A>]>
-        ensures { option_copied result ≡ option_and_then left_of (slice_get self.now.table.rows n) }
+        ensures value { option_copied result ≡ option_and_then left_of (slice_get self.now.table.rows n) }
+        ensures came { (led : IsLedTo self.now) → IfSome result (λ left. CameByRedirection (taken_events self.now led) n left.now) }
+        ensures led { IsLedTo self.now }
     {
+        stored_answers_came();
         self.fork.left(n)
     }
 
@@ -287,7 +293,8 @@ impl<A: Allocator + Clone> Context<A> {
 
     /// Appends what goes up with a chosen 401 or 407 beside its own challenges: those of all other stored 401 and 407
     /// answers, by arrival, each answer's in the order of its message (RFC 3261 section 16.7 step 7). Nothing where no
-    /// answer or another is chosen.
+    /// answer or another is chosen. Whichever history led to the context, each challenge is one of a 401 or a 407 among the
+    /// events that it took.
     ///
     /// # Errors
     ///
@@ -295,9 +302,12 @@ impl<A: Allocator + Clone> Context<A> {
     pub fn challenges(&self, out: &mut Vec<Challenge<A>, A>) -> Result<(), AllocError>
         // of the one choice that `choice` answers
         ensures added { (chosen : Option spec_choice.Choice) → IsChosen self.now.table chosen → OnOk result (out.new.items ≡ out.old.items ++ challenges_added self.now.table.rows chosen) }
+        ensures came { (led : IsLedTo self.now) → OnOk result (AppendsChallenges (taken_events self.now led) out.old.items out.new.items) }
+        ensures led { IsLedTo self.now }
         ensures unasked { IsErr result → (is_finished self.now.table.rows ≡ true) × (is_succeeded self.now.table.rows ≡ false) }
         ensures err { OnErr result (out.new.items ≡ out.old.items) }
     {
+        stored_answers_came();
         let Some(choice) = self.choice() else {
             return Ok(());
         };

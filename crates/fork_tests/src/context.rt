@@ -1,6 +1,7 @@
-//! Tests of the public calls of `fork_context`.
+//! Tests of the public calls of `fork_context` and `context_values`.
 mod calls;
 mod happening;
 mod histories;
 mod play;
 mod short_histories;
+mod values;

@@ -92,7 +92,8 @@ fn with_contacts(alloc: Global, mut answer: Answer, contacts: &[Contact]) -> Opt
     }
 }
 
-fn redirection(alloc: Global, contacts: &[Contact]) -> Option<Answer> {
+/// A 302 with these contacts.
+pub fn redirection(alloc: Global, contacts: &[Contact]) -> Option<Answer> {
     match answer(alloc, 302) {
         Some(answer) => with_contacts(alloc, answer, contacts),
         None => None,
@@ -129,7 +130,8 @@ fn with_challenges(alloc: Global, mut answer: Answer, first: u8, count: u8) -> O
     }
 }
 
-fn demand(alloc: Global, code: u16, first: u8, count: u8) -> Option<Answer> {
+/// A 401 or a 407 with so many challenges from this digit on.
+pub fn demand(alloc: Global, code: u16, first: u8, count: u8) -> Option<Answer> {
     match answer(alloc, code) {
         Some(answer) => with_challenges(alloc, answer, first, count),
         None => None,
