@@ -1,4 +1,5 @@
-//! What holds of a call that is over: nothing is due, and whatever comes changes nothing that it would send (RFC 3261 section 17).
+//! What holds of a call that is over (RFC 3261 section 17): every branch and every transaction has ended, nothing is due, and
+//! whatever comes changes nothing that the call would send. So a proxy may forget it.
 //!
 //! Laws over the definitions of calls, with nothing to run.
 #![tactic(auto)]

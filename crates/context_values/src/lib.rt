@@ -1,5 +1,6 @@
-//! The values that a response context takes and gives (RFC 3261 sections 16.5 to 16.7): targets, answers with their
-//! contacts and challenges, events, replies; and the part of a row that is kept beside its tree.
+//! The values that a response context takes and gives (RFC 3261 sections 16.5 to 16.7): the targets of a target set,
+//! responses with their contacts and challenges, events, and replies, which say which branches to try or to cancel and what
+//! goes up to the caller; and the part of a row of the table that is kept beside the tree of branches.
 #![tactic(auto)]
 
 mod copy;

@@ -1,5 +1,6 @@
-//! The response context of a forked request: a table of branches, and what each event does to it
-//! (RFC 3261 section 16.7).
+//! The response context of a forked request (RFC 3261 section 16.7): a table with a row for each branch of the target set, and
+//! what each event does to it, as a response of a branch, a timeout or the caller's CANCEL: which branches start or are
+//! cancelled, what is stored, and which response is forwarded upstream.
 #![tactic(auto)]
 
 mod challenges;

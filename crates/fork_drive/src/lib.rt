@@ -1,6 +1,6 @@
-//! Workers that post to one fork (RFC 3261 section 16.7), as a function over texts: a script with workers is run by a thread
-//! for each, which prints what the proxy does on each event in the order in which they came, and the listing of a fork that
-//! is done.
+//! The command `drive` of `forkproxy`, as a function over texts (RFC 3261 section 16.7): a script with workers is run by a
+//! thread for each, all of which post to one forked request; it prints what the proxy does on each event in the order in
+//! which the events came, and the listing of a fork that is done.
 #![tactic(auto)]
 
 mod asked;

@@ -1,4 +1,5 @@
-//! Workers that post to one book (RFC 3261 section 16.7).
+//! Workers, a thread for each, that post the events of their scripts to one response context with its history (RFC 3261
+//! section 16.7). Whatever the threads do, the history that they leave is compared with their scripts.
 #![tactic(auto)]
 
 mod crew;

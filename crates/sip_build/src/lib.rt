@@ -1,8 +1,8 @@
-//! The messages that a proxy builds, straight as text: requests that go on, responses that go upstream, its own responses,
-//! ACK and CANCEL (RFC 3261 sections 8.2.6, 9.1, 16.6, 16.7 and 17.1.1.3).
+//! The messages that a proxy sends for a call: the request to each branch, responses forwarded upstream, its own responses
+//! with their To tag, and the ACK and the CANCEL of a branch (RFC 3261 sections 8.2.6, 9.1, 16.6, 16.7 and 17.1.1.3).
 //!
-//! What is built is a definition in `specs/`: its start line and its header lines, in order, as a
-//! function of the message it is built from.
+//! What is built is a definition in `specs/`: its start line and its header lines, in order, as a function of the message
+//! that it is built from.
 #![tactic(auto)]
 
 mod along_forwarded;

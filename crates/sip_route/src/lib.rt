@@ -1,6 +1,6 @@
-//! How a request is routed: how many more proxies it may pass, where its first Route value leads, the
-//! value that names this proxy taken away, and whether the request passed before (RFC 3261 sections
-//! 16.3, 16.4 and 16.6).
+//! How a request is routed (RFC 3261 sections 16.3, 16.4, 16.6 and 17.2.3): how many more proxies may forward it by
+//! Max-Forwards, where its first Route value leads, the value that names this proxy taken off, whether the request passed
+//! before (loop detection), and the key by which its retransmission, its ACK and its CANCEL find its server transaction.
 #![tactic(auto)]
 
 mod hops;

@@ -1,5 +1,6 @@
-//! Via values: what they say, the branch that the proxy puts there, marking where a request came from,
-//! and the header lines of a message by their names (RFC 3261 sections 16.3, 16.6, 18.2 and 20.42, RFC 3581).
+//! The Via values of a message (RFC 3261 sections 16.3, 16.6, 18.2 and 20.42, RFC 3581): the branch parameter that the proxy
+//! puts on top of each request that it forwards, and by which a response finds its client transaction; where a request came
+//! from, in `received` and `rport`; where its response goes; and the header lines of a message, found by their names.
 #![tactic(auto)]
 
 mod address;

@@ -1,3 +1,4 @@
+-- The prover finds these answers by itself: they stand here so that it need not search twice where an edit strikes the function.
 use Rattle.sip_text.proofs.Common.{arith, common_steps}
 use Rattle.sip_text.proofs.write.append_request_line.Goals as goal
 
