@@ -41,7 +41,7 @@ pub upward_answer-requires-2-clause-kept : goal.upward_answer-requires-2-clause-
 upward_answer-requires-2-clause-kept g c =
     let t = table_of c.args.self.now.log in
     let left : option_copied c.left.result ≡ option_and_then left_of (slice_get t.rows c.args.n) =
-    c.left.ensures ∙ ap (λ (x : Core). option_and_then left_of (slice_get x.table.rows c.args.n)) (c.context-2.ensures.stands ∙ ap core_of c.book-2.ensures) in
+    c.left.ensures.value ∙ ap (λ (x : Core). option_and_then left_of (slice_get x.table.rows c.args.n)) (c.context-2.ensures.stands ∙ ap core_of c.book-2.ensures) in
     let some : option_and_then left_of (slice_get t.rows c.args.n) ≡ Some c.in-Some-left.left.now = sym left ∙ ap option_copied c.in-Some-left.is in
     let same : texts c.deref-2.result.now ≡ map text_of c.in-Some-left.left.now = ap texts c.deref-2.ensures.value ∙ c.in_ok-texts.ensures in
     ap (list_all is_value) same ∙ texts_pass c.in-Some-left.left.now (left_pass t c.args.n c.in-Some-left.left.now c.requires.sound.stored some)
@@ -51,7 +51,7 @@ returns-in_default-left g c =
     let t = table_of c.args.self.now.log in
     let all = challenges_all c.args.self.now.log c.args.n c.context.result.now c.new-challenges.result.items c.challenges.new.out.items (c.context.ensures.stands ∙ ap core_of c.book.ensures) (c.in_ok-challenges.ensures.added (Some (Best c.args.n))) c.requires.chosen c.new-challenges.ensures.items in
     let left : option_copied c.left.result ≡ option_and_then left_of (slice_get t.rows c.args.n) =
-    c.left.ensures ∙ ap (λ (x : Core). option_and_then left_of (slice_get x.table.rows c.args.n)) (c.context-2.ensures.stands ∙ ap core_of c.book-2.ensures) in
+    c.left.ensures.value ∙ ap (λ (x : Core). option_and_then left_of (slice_get x.table.rows c.args.n)) (c.context-2.ensures.stands ∙ ap core_of c.book-2.ensures) in
     let there : answer_in (nth_branch c.args.self.now c.args.n) ≡ Some c.in-Some.response.now = sym c.kept_answer.ensures ∙ ap option_copied c.in-Some.is in
     let received : was_received (stored_at (slice_get t.rows c.args.n)) ≡ true =
     let a = c.shows_received.ensures in
@@ -70,7 +70,7 @@ returns g c =
     let t = table_of c.args.self.now.log in
     let all = challenges_all c.args.self.now.log c.args.n c.context.result.now c.new-challenges.result.items c.challenges.new.out.items (c.context.ensures.stands ∙ ap core_of c.book.ensures) (c.in_ok-challenges.ensures.added (Some (Best c.args.n))) c.requires.chosen c.new-challenges.ensures.items in
     let left : option_copied c.left.result ≡ option_and_then left_of (slice_get t.rows c.args.n) =
-    c.left.ensures ∙ ap (λ (x : Core). option_and_then left_of (slice_get x.table.rows c.args.n)) (c.context-2.ensures.stands ∙ ap core_of c.book-2.ensures) in
+    c.left.ensures.value ∙ ap (λ (x : Core). option_and_then left_of (slice_get x.table.rows c.args.n)) (c.context-2.ensures.stands ∙ ap core_of c.book-2.ensures) in
     let there : answer_in (nth_branch c.args.self.now c.args.n) ≡ Some c.in-Some.response.now = sym c.kept_answer.ensures ∙ ap option_copied c.in-Some.is in
     let received : was_received (stored_at (slice_get t.rows c.args.n)) ≡ true =
     let a = c.shows_received.ensures in
