@@ -1,4 +1,4 @@
-//! Tests of the public calls of `fork_model`, `fork_rank`, `fork_tree`, `fork_context`, `fork_book`, `fork_text` and `fork_listing`, a file or a
+//! Tests of the public calls of `fork_model`, `fork_rank`, `fork_tree`, `context_values`, `fork_context`, `fork_book`, `fork_text` and `fork_listing`, a file or a
 //! folder for each. They stand apart from these crates so that none of them is proved twice.
 #![tactic(auto)]
 
