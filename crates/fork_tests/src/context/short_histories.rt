@@ -3,6 +3,7 @@ use crate::context::happening::{Aim, Happening, context, event};
 use crate::holds::holds;
 use fork_context::{Context, Event, Kind, Up};
 use std::alloc::Global;
+use std::thread::{Threads, join};
 
 /// So many things may happen to each row.
 const EACH: u32 = 9;
@@ -89,28 +90,86 @@ fn digits(history: u32, count: u32) -> [u32; 4] {
     [first, second, rest % count, rest / count]
 }
 
-/// How many histories of four events on so many rows, and with them the shorter ones, go right before one does not, if one
-/// does not.
-fn walk(alloc: Global, list: &[Aim], rows: u32) -> u32 {
-    let count = rows.saturating_mul(EACH).saturating_add(1);
-    let histories = count.saturating_pow(4);
-    for history in 0..histories {
-        if !history_goes_right(alloc, list, digits(history, count)) {
-            return history;
+/// A part of the histories of four events on so many rows.
+#[derive(Clone, Copy)]
+struct Part {
+    rows: u32,
+    from: u32,
+    to: u32,
+}
+
+impl Part {
+    /// So many things may happen.
+    fn count(self) -> u32 {
+        self.rows.saturating_mul(EACH).saturating_add(1)
+    }
+
+    /// All of them.
+    fn of_rows(rows: u32) -> Part {
+        let all = Part {
+            rows,
+            from: 0,
+            to: 0,
+        };
+        Part {
+            to: all.count().saturating_pow(4),
+            ..all
         }
     }
-    histories
+
+    /// Its halves.
+    fn halves(self) -> (Part, Part) {
+        let middle = self.from / 2 + self.to / 2;
+        (
+            Part { to: middle, ..self },
+            Part {
+                from: middle,
+                ..self
+            },
+        )
+    }
+}
+
+/// How many histories of this part, and with them the shorter ones, go right before one does not, if one does not.
+fn walk(alloc: Global, list: &[Aim], part: Part) -> u32 {
+    let count = part.count();
+    let mut right = 0u32;
+    for history in part.from..part.to {
+        if !history_goes_right(alloc, list, digits(history, count)) {
+            return right;
+        }
+        right = right.saturating_add(1);
+    }
+    right
+}
+
+/// The same of a part in two halves, which two threads walk.
+fn walk_halves<R: Threads + Sync>(rt: &R, alloc: Global, list: &[Aim], part: Part) -> u32 {
+    let (one, other) = part.halves();
+    let (here, there) = join(rt, || walk(alloc, list, one), || walk(alloc, list, other));
+    here.saturating_add(there)
+}
+
+/// The same of all, which four threads walk.
+fn walk_all<R: Threads + Sync>(rt: &R, alloc: Global, list: &[Aim], rows: u32) -> u32 {
+    let (one, other) = Part::of_rows(rows).halves();
+    let (here, there) = join(
+        rt,
+        || walk_halves(rt, alloc, list, one),
+        || walk_halves(rt, alloc, list, other),
+    );
+    here.saturating_add(there)
 }
 
 #[test]
 fn one_target_and_a_contact(rt: HostRuntime) {
-    let walked = walk(rt.alloc(), &[(1, 1000)], 2);
+    let walked = walk_all(&rt, rt.alloc(), &[(1, 1000)], 2);
     holds(&rt, walked == 130_321, "one target and a contact");
 }
 
 #[test]
 fn two_targets_in_series_and_a_contact(rt: HostRuntime) {
-    let walked = walk(rt.alloc(), &[(1, 1000), (2, 500)], 3);
+    let walked = walk_all(&rt, rt.alloc(), &[(1, 1000), (2, 500)], 3);
     holds(
         &rt,
         walked == 614_656,
@@ -120,6 +179,6 @@ fn two_targets_in_series_and_a_contact(rt: HostRuntime) {
 
 #[test]
 fn three_targets_of_two_groups(rt: HostRuntime) {
-    let walked = walk(rt.alloc(), &[(1, 1000), (2, 1000), (3, 500)], 3);
+    let walked = walk_all(&rt, rt.alloc(), &[(1, 1000), (2, 1000), (3, 500)], 3);
     holds(&rt, walked == 614_656, "three targets of two groups");
 }
