@@ -2,5 +2,5 @@
 use Rattle.std.proofs.Common.{rules}
 use Rattle.call_state.proofs.state.CallState.is_branch_over.Goals as goal
 
-pub returns-in-Some : goal.returns-in-Some
-returns-in-Some c = search rules
+pub returns-in_Some-branch : goal.returns-in_Some-branch
+returns-in_Some-branch c = search rules
