@@ -75,7 +75,7 @@ fn lists_are_copied_in_their_order(rt: HostRuntime) {
 /// Whether three targets of which the second has the greatest q are numbered group by group.
 fn is_numbered(alloc: Global) -> bool {
     match numbered(&alloc, &[500, 1000, 500]) {
-        Ok(pairs) => matches!(pairs.as_slice(), [(0, 1), (1, 0), (1, 2)]),
+        Ok(pairs) => pairs.as_slice() == [(0, 1), (1, 0), (1, 2)].as_slice(),
         Err(_) => false,
     }
 }
