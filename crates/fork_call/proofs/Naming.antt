@@ -41,7 +41,7 @@ requests_name opened destination n target e = start_same opened.request.start de
 
 pub own_answers : ((m : MessageText) (own : Own) (status : OwnStatus) → generated_of (stripped m own) status ≡ generated_of m status) → OwnAnswersAreToTheRequest
 own_answers law setup number m source call status opens =
-    let pending_call = opens.1.pending_call in
+    let pending_call = opens.1.prepared in
     let begins = opens.2.3.begins in (
       pending_call.0,
       pending_call.1,
