@@ -34,7 +34,7 @@ drafted_line draft WorkerLine = with_worker draft
 abbrev pub drafted_lines : Draft → List Line → Option Draft
 drafted_lines = texts.drafted_lines drafted_line
 
-abbrev draft_of : plain.Draft → List (List Event) → Draft
+abbrev pub draft_of : plain.Draft → List (List Event) → Draft
 draft_of last before = record { last = last; before = before }
 
 -- ---- a worker that has begun goes on
@@ -139,11 +139,20 @@ next_of true true false f n d y e = absurd cc
 next_of true false c f n d y e = absurd cc
 next_of false b c f n d y e = absurd cc
 
+none_due : (a b c : Bool) (f n : Draft) → b ≡ true → c ≡ false → cond (not a) None (cond (not b) (Some f) (cond c (Some n) None)) ≡ None
+none_due true true false f n y z = refl
+none_due true true true f n y z = absurd cc
+none_due true false c f n y z = absurd cc
+none_due false b c f n y z = refl
+
 kind_at_work : (phase : Phase) → is_at_work phase ≡ true → has_kind phase ≡ true
 kind_at_work phase work = grind arith
 
 more_may : (n : ℕ) → suc n < most_workers → nat_lt (suc n) most_workers ≡ true
 more_may n lt = grind (arith, nat_tests)
+
+no_more : (n : ℕ) → most_workers ≤ suc n → nat_lt (suc n) most_workers ≡ false
+no_more n many = grind (arith, nat_tests)
 
 may_more : (n : ℕ) → nat_lt (suc n) most_workers ≡ true → suc n < most_workers
 may_more n e = grind (arith, nat_tests)
@@ -155,6 +164,23 @@ first_begins draft kind quiet =
 next_begins : (draft : Draft) → is_at_work draft.last.phase ≡ true → suc (length draft.before) < most_workers → with_worker draft ≡ Some (next_worker draft)
 next_begins draft work few =
     next_due_so (has_kind draft.last.phase) (is_at_work draft.last.phase) (nat_lt (suc (length draft.before)) most_workers) (first_worker draft) (next_worker draft) (kind_at_work draft.last.phase work) work (more_may (length draft.before) few)
+
+pub none_begins : (draft self : Draft) → draft ≡ self → is_at_work draft.last.phase ≡ true → most_workers ≤ suc (length draft.before) → None ≡ with_worker self
+none_begins draft self seen work many =
+    sym (none_due (has_kind draft.last.phase) (is_at_work draft.last.phase) (nat_lt (suc (length draft.before)) most_workers) (first_worker draft) (next_worker draft) work (no_more (length draft.before) many))
+    ∙ ap with_worker seen
+
+-- the draft of a worker that begins behind these
+abbrev pub begun_behind : Draft → List Event → List (List Event) → Draft
+begun_behind draft events scripts = draft_of (in_phase AtEvents (record draft.last.script { events = events })) scripts
+
+pub one_begins : (draft self : Draft) (events : List Event) (scripts : List (List Event)) → draft ≡ self → is_at_work draft.last.phase ≡ true → suc (length draft.before) < most_workers
+    → events ≡ [] → scripts ≡ draft.before ++ draft.last.script.events ∷ [] → Some (begun_behind draft events scripts) ≡ with_worker self
+one_begins draft self events scripts seen work few none more =
+    ap (λ (es : List Event). Some (begun_behind draft es scripts)) none
+    ∙ ap (λ (ss : List (List Event)). Some (begun_behind draft [] ss)) more
+    ∙ sym (next_begins draft work few)
+    ∙ ap with_worker seen
 
 -- ---- before the first worker there are no events
 

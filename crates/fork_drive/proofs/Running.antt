@@ -1,10 +1,11 @@
 -- What is printed of a run of workers, in steps, and why there is no run.
-use Rattle.std.proofs.Common.{◌≡◌, ◌≤◌, ℕ, true, false, List, [], ◌++◌, length, refl, sym, ap, subst, ◌∙◌, append_assoc}
-use Rattle.std.specs.Prelude.{◌↔◌}
+use Rattle.std.proofs.Common.{◌≡◌, ◌≤◌, ℕ, true, false, List, [], ◌++◌, length, Err, refl, sym, ap, subst, ◌∙◌, append_assoc}
+use Rattle.std.specs.Prelude.{◌↔◌, IsErrOf}
 use Rattle.fork_model.specs.Table.{Table, most_targets, is_finished, is_succeeded}
 use Rattle.fork_model.specs.Challenges.{challenge_list}
 use Rattle.fork_model.specs.Core.{Core}
 use Rattle.fork_model.specs.History.{Target}
+use Rattle.fork_context.specs.declared.context.NewFault.{NewFault}
 use Rattle.fork_context.specs.declared.context.NewFault.TheVariants as setup
 use Rattle.fork_context.specs.Refusals.{HasTwice, IsTooMany}
 use Rattle.fork_model.specs.Log.{Log, core_of, table_of}
@@ -16,10 +17,15 @@ use Rattle.fork_listing.specs.Text.{listing_text}
 use Rattle.fork_listing.specs.Listed.{listing_of}
 use Rattle.fork_program.specs.Replay.{Ending, Succeeded, Unfinished, Listed, IsEnding, IsAccepted, EndsWith, opening_text, added_lines, ending_lines}
 use Rattle.fork_program.specs.RightListing.{EndsInRightListing, RightListingsAreShort}
+use Rattle.fork_program.specs.declared.fault.ProgFault.{ProgFault}
+use Rattle.fork_program.specs.declared.fault.ProgFault.TheVariants as prog
+use Rattle.fork_program.specs.FaultView.{fault_set_up}
+use Rattle.fork_program.specs.Faults.{IsSetupFault}
 use Rattle.fork_drive.specs.Workers.{Workers}
 use Rattle.fork_drive.specs.Run.{IsPrinted, posts_text}
 use Rattle.fork_drive.specs.Headline.{IsDone}
 use Rattle.fork_drive.specs.inner.FaultView.{fault_driven}
+use Rattle.fork_drive.specs.inner.Faults.{IsFirstFault}
 use Rattle.fork_drive.specs.Faults.{IsFork, IsRunFault}
 
 pub is_fork : (targets : List Target) → (targets ≡ [] → ⊥) → (IsTooMany targets → ⊥) → ((length targets ≤ most_targets) × HasTwice targets → ⊥) → IsFork targets
@@ -27,6 +33,26 @@ is_fork targets none many twice setup.NoTargets is = none is
 is_fork targets none many twice setup.TooMany is = many is
 is_fork targets none many twice setup.Twice is = twice is
 is_fork targets none many twice setup.NoMemory is = is
+
+pub first_refused : {T : Type 0} (targets copies : List Target) (fault : NewFault) → copies ≡ targets
+    → (IsErrOf {T = T} (Err fault) setup.NoTargets ↔ (copies ≡ []))
+    → (IsErrOf {T = T} (Err fault) setup.TooMany ↔ IsTooMany copies)
+    → (IsErrOf {T = T} (Err fault) setup.Twice ↔ ((length copies ≤ most_targets) × HasTwice copies))
+    → IsFirstFault targets (fault_set_up fault)
+first_refused targets copies setup.NoTargets same none many twice = sym same ∙ none.0 refl
+first_refused targets copies setup.TooMany same none many twice = subst IsTooMany same (many.0 refl)
+first_refused targets copies setup.Twice same none many twice =
+    let P : List Target → Type 0 = λ ts. (length ts ≤ most_targets) × HasTwice ts in
+    subst P same (twice.0 refl)
+first_refused targets copies setup.NoMemory same none many twice = tt
+
+pub first_run_refused : (workers : Workers) (targets : List Target) (fault : ProgFault) → targets ≡ workers.targets → IsFirstFault targets fault → IsRunFault workers fault
+first_run_refused workers targets prog.TooLong same is = absurd is
+first_run_refused workers targets (prog.Line number) same is = absurd is
+first_run_refused workers targets (prog.New fault) same is = subst (λ (ts : List Target). IsSetupFault ts fault) same is
+first_run_refused workers targets prog.Stopped same is = absurd is
+first_run_refused workers targets prog.Torn same is = absurd is
+first_run_refused workers targets prog.NoMemory same is = tt
 
 module _ {A : Type 0} where
   pub run_refused : (workers : Workers) (fault : DriveFault A)

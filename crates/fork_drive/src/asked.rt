@@ -4,7 +4,7 @@ ghost use Rattle.fork_drive.specs.Asked.{asked_for, AppendsAsked, IsAskedFault, 
 
 use crate::run::drive_text;
 use fork_program::{Command, Fault, ProgFault, read_input};
-use std::alloc::Global;
+use std::alloc::Allocator;
 use std::io::{Read, Write};
 use std::sync::Wait;
 use std::thread::Threads;
@@ -34,12 +34,12 @@ impl Asked {
     /// # Errors
     ///
     /// Those of `drive_text` and of `Command::run`. After each `out` is as it was.
-    pub fn run<R: Threads + Wait + Sync>(
+    pub fn run<A: Allocator + Clone + Send + Sync, R: Threads + Wait + Sync>(
         self,
         rt: &R,
-        alloc: Global,
+        alloc: A,
         text: &[u8],
-        out: &mut Vec<u8>,
+        out: &mut Vec<u8, A>,
     ) -> Result<u8, ProgFault>
         ensures appended { IfOk result (AppendsAsked self text.now out.old.items out.new.items) }
         ensures fault { IfErr result (IsAskedFault self text.now) }
@@ -50,6 +50,7 @@ impl Asked {
             Asked::Alone(command) => command.run(alloc, text, out),
         }
     }
+
     /// Reads a text to its end, and writes what the program prints for it, which is found before anything is written. The
     /// exit status is 0, or 4 where a check says no.
     ///
@@ -57,18 +58,18 @@ impl Asked {
     ///
     /// In this order: `Read`, where the input cannot be read; `Text` with what [`Asked::run`] refuses; `Write`, where the
     /// output takes not all. `Text` with want of memory anywhere before that.
-    pub fn answer<R: Threads + Wait + Sync, I: Read, O: Write>(
+    pub fn answer<A: Allocator + Clone + Send + Sync, R: Threads + Wait + Sync, I: Read, O: Write>(
         self,
         rt: &R,
-        alloc: Global,
+        alloc: A,
         input: &mut I,
         output: &mut O,
     ) -> Result<u8, Fault>
         ensures written { IfOk result (Writes self (I.remaining input.old) (O.contents output.old) (O.contents output.new)) }
         ensures fault { IfErr result (IsAnswerFault self (I.remaining input.old)) }
     {
-        let text = read_input(alloc, input)?;
-        let mut printed = Vec::new(alloc);
+        let text = read_input(alloc.clone()?, input)?;
+        let mut printed = Vec::new(alloc.clone()?);
         let status = self.run(rt, alloc, &text, &mut printed)?;
         match output.write_all(&printed) {
             Ok(()) => Ok(status),

@@ -9,14 +9,14 @@ use fork_model::{final_at_the_end, finished_stays};
 use fork_program::append_reply;
 use fork_text::append;
 use sip_lex::append_decimal;
-use std::alloc::AllocError;
+use std::alloc::{AllocError, Allocator};
 
 /// Appends the line of an event: the number of the worker that posted it, and the reply to it.
-fn append_post(
-    text: &mut Vec<u8>,
-    context: &Context,
+fn append_post<A: Allocator + Clone>(
+    text: &mut Vec<u8, A>,
+    context: &Context<A>,
     worker: u8,
-    reply: &Reply,
+    reply: &Reply<A>,
 ) -> Result<(), AllocError>
     ensures { OnOk result (text.new.items ≡ text.old.items ++ ended (post_text context.now.table.rows worker reply.now)) }
 {
@@ -27,7 +27,10 @@ fn append_post(
 
 /// Appends a line for each event of a history. The rows at its end serve each: only the final answer is told by the rows
 /// after its event, and from then on they stay.
-pub(crate) fn append_posts(text: &mut Vec<u8>, book: &Book) -> Result<(), AllocError>
+pub(crate) fn append_posts<A: Allocator + Clone>(
+    text: &mut Vec<u8, A>,
+    book: &Book<A>,
+) -> Result<(), AllocError>
     requires { length book.now.history < 2 ^ 32 }
     ensures { OnOk result (text.new.items ≡ text.old.items ++ posts_text book.now.opening 0 book.now.history book.now.replies) }
 {

@@ -19,7 +19,7 @@ use fork_listing::the_choice_is_listed_first;
 use fork_model::exactly_one_final;
 use fork_program::{MOST_TEXT, ProgFault, append_ending, append_opening, replays_are_answered_yes};
 use fork_rank::Rules;
-use std::alloc::{AllocError, Global};
+use std::alloc::{AllocError, Allocator};
 use std::sync::Wait;
 use std::thread::Threads;
 
@@ -34,34 +34,38 @@ impl Gate for Open {
 }
 
 /// Equal targets in memory of their own.
-fn copied_targets(alloc: Global, targets: &[Target]) -> Result<Vec<Target>, AllocError>
+fn copied_targets<A: Allocator + Clone>(
+    alloc: &A,
+    targets: &[Target<A>],
+) -> Result<Vec<Target<A>, A>, AllocError>
     ensures { IfOk result (λ copies. copies.items ≡ targets.now) }
 {
-    let mut copies = Vec::new(alloc);
+    let mut copies = Vec::new(alloc.clone()?);
     for target in targets {
-        copies.push(Target::new(target.key().to_vec(alloc)?, target.q()))?;
+        copies.push(Target::new(target.key().to_vec(alloc.clone()?)?, target.q()))?;
     }
     Ok(copies)
 }
 
 /// Appends the first line: which targets are tried at once.
-fn append_first(
-    alloc: Global,
-    text: &mut Vec<u8>,
+fn append_first<A: Allocator + Clone>(
+    alloc: &A,
+    text: &mut Vec<u8, A>,
     kind: Kind,
     rules: Rules,
-    targets: &[Target],
+    targets: &[Target<A>],
 ) -> Result<(), ProgFault>
     ensures appended { OnOk result (text.new.items ≡ text.old.items ++ ended (opening_text (opening (kind_of kind) rules targets.now))) }
     ensures fault { IfErr result (IsFirstFault targets.now) }
 {
-    let context = Context::new(alloc, kind, rules, copied_targets(alloc, targets)?)?;
-    append_opening(alloc, text, &context)?;
+    let copies = copied_targets(alloc, targets)?;
+    let context = Context::new(alloc.clone()?, kind, rules, copies)?;
+    append_opening(alloc.clone()?, text, &context)?;
     Ok(())
 }
 
 /// The program's fault for that of a run.
-fn fault_of(fault: DriveFault) -> ProgFault
+fn fault_of<A: Allocator + Clone>(fault: DriveFault<A>) -> ProgFault
     ensures { result ≡ fault_driven fault }
 {
     match fault {
@@ -73,11 +77,11 @@ fn fault_of(fault: DriveFault) -> ProgFault
 }
 
 /// What a run of the workers prints.
-fn printed<R: Threads + Wait + Sync>(
+fn printed<A: Allocator + Clone + Send + Sync, R: Threads + Wait + Sync>(
     rt: &R,
-    alloc: Global,
-    workers: Workers,
-) -> Result<Vec<u8>, ProgFault>
+    alloc: &A,
+    workers: Workers<A>,
+) -> Result<Vec<u8, A>, ProgFault>
     ensures ok { IfOk result (λ text. PrintsRun workers text.items) }
     ensures fault { IfErr result (IsRunFault workers) }
 {
@@ -88,12 +92,12 @@ fn printed<R: Threads + Wait + Sync>(
         targets,
         scripts,
     } = workers;
-    let mut text = Vec::new(alloc);
+    let mut text = Vec::new(alloc.clone()?);
     append_first(alloc, &mut text, kind, rules, &targets)?;
-    match drive(rt, alloc, kind, rules, targets, scripts, &Open) {
+    match drive(rt, alloc.clone()?, kind, rules, targets, scripts, &Open) {
         Ok(book) => {
             append_posts(&mut text, &book)?;
-            append_ending(alloc, &mut text, book.context())?;
+            append_ending(alloc.clone()?, &mut text, book.context())?;
             Ok(text)
         }
         Err(fault) => Err(fault_of(fault)),
@@ -116,11 +120,11 @@ fn printed<R: Threads + Wait + Sync>(
 /// In this order: `TooLong` over `MOST_TEXT` bytes; `Line` with the first malformed line; `New` where the targets are no
 /// fork; `Stopped` where the workers together have more than 4,096 events and one of them met a full context. `NoMemory` where a growth
 /// was refused; `Torn` where the history is not one of the script.
-pub fn drive_text<R: Threads + Wait + Sync>(
+pub fn drive_text<A: Allocator + Clone + Send + Sync, R: Threads + Wait + Sync>(
     rt: &R,
-    alloc: Global,
+    alloc: A,
     text: &[u8],
-    out: &mut Vec<u8>,
+    out: &mut Vec<u8, A>,
 ) -> Result<u8, ProgFault>
     ensures status { IfOk result (λ status. status ≡ 0) }
     ensures driven { OnOk result (AppendsRun text.now out.old.items out.new.items) }
@@ -135,8 +139,8 @@ pub fn drive_text<R: Threads + Wait + Sync>(
     if text.len() > MOST_TEXT {
         return Err(ProgFault::TooLong);
     }
-    let workers = Workers::read(alloc, text)?;
-    let printed = printed(rt, alloc, workers)?;
+    let workers = Workers::read(&alloc, text)?;
+    let printed = printed(rt, &alloc, workers)?;
     out.extend_from_slice(&printed)?;
     Ok(0)
 }

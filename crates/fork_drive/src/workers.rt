@@ -11,7 +11,7 @@ use fork_context::{Event, Kind, Target};
 use fork_program::{Draft, Phase, ReadFault, Script};
 use fork_rank::Rules;
 use sip_lex::cut_at;
-use std::alloc::{AllocError, Global};
+use std::alloc::{AllocError, Allocator};
 use std::collections::VecDeque;
 use std::marker::Model;
 
@@ -20,14 +20,14 @@ const MOST_WORKERS: usize = 8;
 
 /// A script with workers: the fork's kind, rules and targets, and each worker's events in their order.
 #[derive(Drop)]
-pub(crate) struct Workers {
+pub(crate) struct Workers<A: Allocator> {
     pub(crate) kind: Kind,
     pub(crate) rules: Rules,
-    pub(crate) targets: Vec<Target>,
-    pub(crate) scripts: Vec<Vec<Event>>,
+    pub(crate) targets: Vec<Target<A>, A>,
+    pub(crate) scripts: Vec<Vec<Event<A>, A>, A>,
 }
 
-impl Model for Workers {
+impl<A: Allocator> Model for Workers<A> {
     ghost use Rattle.std.specs.Prelude.{map};
     ghost use Rattle.fork_rank.specs.KindView.{kind_of};
     ghost use Rattle.context_values.specs.EventView.{event_of};
@@ -54,7 +54,10 @@ fn is_at_work(phase: Phase) -> bool
 }
 
 /// The events, in their order.
-fn listed(alloc: Global, mut events: VecDeque<Event>) -> Result<Vec<Event>, AllocError>
+fn listed<A: Allocator>(
+    alloc: A,
+    mut events: VecDeque<Event<A>, A>,
+) -> Result<Vec<Event<A>, A>, AllocError>
     ensures { IfOk result (λ list. list.items ≡ events.items) }
 {
     let mut list = Vec::new(alloc);
@@ -65,11 +68,11 @@ fn listed(alloc: Global, mut events: VecDeque<Event>) -> Result<Vec<Event>, Allo
 }
 
 /// The workers' events, with those of one worker more behind them.
-fn with_events(
-    alloc: Global,
-    mut before: Vec<Vec<Event>>,
-    events: VecDeque<Event>,
-) -> Result<Vec<Vec<Event>>, AllocError>
+fn with_events<A: Allocator>(
+    alloc: A,
+    mut before: Vec<Vec<Event<A>, A>, A>,
+    events: VecDeque<Event<A>, A>,
+) -> Result<Vec<Vec<Event<A>, A>, A>, AllocError>
     ensures events { IfOk result (λ all. map (λ s. map event_of s.items) all.items ≡ map (λ s. map event_of s.items) before.items ++ map event_of events.items ∷ []) }
     ensures count { IfOk result (λ all. length all.items ≡ length before.items + 1) }
 {
@@ -79,12 +82,12 @@ fn with_events(
 
 /// The lines read so far: what is forked with the last worker's events, and the events of the workers before it.
 #[derive(Drop)]
-struct WorkersDraft {
-    last: Draft<Global>,
-    before: Vec<Vec<Event>>,
+struct WorkersDraft<A: Allocator> {
+    last: Draft<A>,
+    before: Vec<Vec<Event<A>, A>, A>,
 }
 
-impl Model for WorkersDraft {
+impl<A: Allocator> Model for WorkersDraft<A> {
     ghost use Rattle.std.specs.Prelude.{◌<◌, map, length};
     ghost use Rattle.context_values.specs.EventView.{event_of};
     ghost use Rattle.fork_drive.specs.Workers.{most_workers};
@@ -97,19 +100,19 @@ impl Model for WorkersDraft {
     ghost invariant = { λ d. length d.before.items < most_workers };
 }
 
-impl WorkersDraft {
+impl<A: Allocator + Clone> WorkersDraft<A> {
     /// No line was read.
-    fn new(alloc: Global) -> Result<Self, AllocError>
+    fn new(alloc: &A) -> Result<Self, AllocError>
         ensures { IfOk result (λ draft. draft ≡ no_draft) }
     {
         Ok(WorkersDraft {
-            last: Draft::new(&alloc)?,
-            before: Vec::new(alloc),
+            last: Draft::new(alloc)?,
+            before: Vec::new(alloc.clone()?),
         })
     }
 
     /// Begins the next worker; `None` where none may begin.
-    fn with_worker(self, alloc: Global) -> Result<Option<Self>, AllocError>
+    fn with_worker(self, alloc: &A) -> Result<Option<Self>, AllocError>
         ensures { IfOk result (λ next. next ≡ with_worker self) }
     {
         let WorkersDraft { last, before } = self;
@@ -133,21 +136,21 @@ impl WorkersDraft {
             targets,
             events,
         } = script;
-        let before = with_events(alloc, before, events)?;
+        let before = with_events(alloc.clone()?, before, events)?;
         let last = Draft {
             phase: Phase::AtEvents,
             script: Script {
                 kind,
                 rules,
                 targets,
-                events: VecDeque::new(alloc),
+                events: VecDeque::new(alloc.clone()?),
             },
         };
         Ok(Some(WorkersDraft { last, before }))
     }
 
     /// With one more line; `None` where it is none, or may not come.
-    fn with_line(self, alloc: Global, line: &[u8]) -> Result<Option<Self>, AllocError>
+    fn with_line(self, alloc: &A, line: &[u8]) -> Result<Option<Self>, AllocError>
         ensures { IfOk result (λ next. next ≡ drafted self line.now) }
     {
         if line == b"worker".as_slice() {
@@ -155,7 +158,7 @@ impl WorkersDraft {
         }
         let WorkersDraft { mut last, before } = self;
         let was_at_work = is_at_work(last.phase);
-        if !last.add(&alloc, line)? {
+        if !last.add(alloc, line)? {
             return Ok(None);
         }
         if is_at_work(last.phase) && !was_at_work {
@@ -165,7 +168,7 @@ impl WorkersDraft {
     }
 
     /// The whole script, where nothing stands behind its last LF and a worker has begun.
-    fn finished(self, alloc: Global, number: u32, rest: &[u8]) -> Result<Workers, ReadFault>
+    fn finished(self, alloc: &A, number: u32, rest: &[u8]) -> Result<Workers<A>, ReadFault>
         requires { event_count self < number }
         ensures { GivesWorkers (finished_draft number self rest.now) result }
     {
@@ -180,7 +183,7 @@ impl WorkersDraft {
             targets,
             events,
         } = script;
-        let scripts = with_events(alloc, before, events)?;
+        let scripts = with_events(alloc.clone()?, before, events)?;
         Ok(Workers {
             kind,
             rules,
@@ -190,10 +193,10 @@ impl WorkersDraft {
     }
 }
 
-impl Workers {
+impl<A: Allocator + Clone> Workers<A> {
     /// The script with workers that the lines of a text say, one after the other.
     #[tactic(auto, unfolding(crate::specs::inner::Reading::read_workers))]
-    fn read_lines(alloc: Global, text: &[u8]) -> Result<Self, ReadFault>
+    fn read_lines(alloc: &A, text: &[u8]) -> Result<Self, ReadFault>
         requires { length text.now < 2 ^ 31 }
         ensures { GivesWorkers (read_workers text.now) result }
     {
@@ -219,7 +222,7 @@ impl Workers {
     /// # Errors
     ///
     /// The first malformed line, counted from 1, a missing one by the number that it would have; or want of memory.
-    pub(crate) fn read(alloc: Global, text: &[u8]) -> Result<Self, ReadFault>
+    pub(crate) fn read(alloc: &A, text: &[u8]) -> Result<Self, ReadFault>
         requires { length text.now < 2 ^ 31 }
         ensures found { IfOk result (Spells text.now) }
         ensures only { (workers : spec.Workers) → Spells text.now workers → GivesWorkers (Ok workers) result }

@@ -14,7 +14,7 @@ use Rattle.fork_drive.proofs.print.append_posts.Goals as goal
 use Rattle.fork_drive.proofs.print.append_posts.Goals.{in-Some+in_ok-append_post, in_default}
 
 pub loop-post-preserved : goal.loop-post-preserved
-loop-post-preserved c =
+loop-post-preserved g c =
     let rows : List Row = c.context-context.result.now.table.rows in
     let history : List Posted = c.args.book.now.history in
     let replies : List Reply = c.args.book.now.replies in
@@ -46,7 +46,7 @@ loop-post-preserved c =
     ]
 
 pub returns : goal.returns
-returns c =
+returns g c =
     let history : List Posted = c.args.book.now.history in
     let replies : List Reply = c.args.book.now.replies in
     let items : c.history-post-items.result.now ≡ history = c.history-post-items.ensures in

@@ -2,4 +2,4 @@ use Rattle.std.proofs.Common.{◌≡◌, take}
 use Rattle.fork_drive.proofs.run.copied_targets.Given as goal
 
 abbrev pub invariant-loop-target : goal.invariant-loop-target
-invariant-loop-target l = l.copies.items ≡ take l.target-index l.targets
+invariant-loop-target g l = l.copies.items ≡ take l.target-index l.targets

@@ -2,7 +2,7 @@ use Rattle.std.proofs.Common.{◌≡◌, ◌++◌, length}
 use Rattle.fork_drive.proofs.workers.listed.Given as goal
 
 abbrev pub invariant-loop-event : goal.invariant-loop-event
-invariant-loop-event l = l.initial.events.items ≡ l.list.items ++ l.events.items
+invariant-loop-event g l = l.initial.events.items ≡ l.list.items ++ l.events.items
 
 abbrev pub decreases-loop-event : goal.decreases-loop-event
-decreases-loop-event l = length l.events.items
+decreases-loop-event g l = length l.events.items

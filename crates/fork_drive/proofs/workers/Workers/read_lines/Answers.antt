@@ -10,18 +10,18 @@ use Rattle.fork_drive.proofs.workers.Workers.read_lines.Goals as goal
 
 pub returns-in_default : goal.returns-in_default
 unfolding read_workers
-returns-in_default c =
+returns-in_default g c =
     let P : Result Workers ℕ → Type 0 = λ read. GivesWorkers read c.finished.result in
     subst P (at_last_line drafted finished_draft c.loop-after.number c.loop-after.draft c.loop-after.rest.now c.cut_at.result.0.now c.cut_at.result.1 _ c.in_default.is c.cut_at.ensures.value c.loop-after.invariant.0) c.finished.ensures
 
 pub returns-in_default-2 : goal.returns-in_default-2
 unfolding read_workers
-returns-in_default-2 c =
+returns-in_default-2 g c =
     let none : drafted c.loop-after.draft c.cut_at.result.0.now ≡ None = sym c.in_ok-next.ensures ∙ c.in_default-2.is in
     at_wrong_line drafted finished_draft c.loop-after.number c.loop-after.draft c.loop-after.rest.now c.cut_at.result.0.now c.cut_at.result.1 c.in-Some.after _ c.in-Some.is c.cut_at.ensures.value none c.loop-after.invariant.0
 
 pub loop-after-preserved : goal.loop-after-preserved
-loop-after-preserved c =
+loop-after-preserved g c =
     let next : Draft = c.in-Some-2.next in
     let some : drafted c.loop-after.draft c.cut_at.result.0.now ≡ Some next = sym c.in_ok-next.ensures ∙ c.in-Some-2.is in
     let Q : Option Draft → Type 0 = λ d. IfSome d (AddsOne c.loop-after.draft) in
