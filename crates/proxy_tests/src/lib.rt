@@ -6,6 +6,8 @@ mod answers;
 #[cfg(test)]
 mod drives;
 #[cfg(test)]
+mod examples;
+#[cfg(test)]
 mod failing;
 #[cfg(test)]
 mod faults;
