@@ -7,7 +7,7 @@ use std::sync::atomic::{AtomicU64, Ordering};
 const MOST: u64 = 100_000;
 
 /// How memory is refused in a play.
-#[derive(Clone, Copy, PartialEq, Eq)]
+#[derive(Clone, Copy)]
 enum Order {
     /// One growth of the play is refused, which was said before.
     Once,
@@ -107,7 +107,7 @@ impl<'a> Heap<'a> {
 }
 
 /// How many growths a play has, and of how many the refusal was told. Where it was not, the call did without.
-#[derive(Clone, Copy, PartialEq, Eq, Debug)]
+#[derive(Clone, Copy)]
 pub struct Refusals {
     pub growths: u64,
     pub told: u64,
@@ -137,6 +137,19 @@ pub fn refused_once<P: Play>(alloc: Global, play: &P) -> Option<Refusals> {
         }
     }
     None
+}
+
+/// Plays once with memory enough: whether each call answered what it should.
+pub fn refused_never<P: Play>(alloc: Global, play: &P) -> bool {
+    let scarce = Refusing::new(alloc);
+    let ample = Refusing::new(alloc);
+    let told = AtomicU64::new(0);
+    play.play(Heap {
+        scarce: &scarce,
+        ample: &ample,
+        told: &told,
+        order: Order::Once,
+    })
 }
 
 /// Plays once, where memory ends at each growth of each call. None where that goes wrong.
