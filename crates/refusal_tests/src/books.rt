@@ -1,5 +1,5 @@
 //! Books that are made and posted to, and events that are copied, while memory is refused.
-use crate::forks::{Told, event, targets};
+use crate::forks::{Aims, EventList, events, targets};
 use crate::plays::plays;
 use crate::sources::Alloc;
 use fork_book::Book;
@@ -7,7 +7,11 @@ use fork_context::{Choice, Event, Kind, NewFault, PostError, Up};
 use fork_rank::Rules;
 use refusing::{Answer, Heap, Play, Repeated};
 
-/// A book of an INVITE to two targets is made.
+/// A 401 with a challenge, and a 302 with a contact, which answers 404.
+const SCRIPT: &[u8] = b"kind INVITE\ntarget 1000 a\ntarget 1000 b\n\
+answer 0 401\nchallenge W Digest realm=\"a\"\nanswer 1 302\ncontact 1000 c\nanswer 2 404\n";
+
+/// A book of an INVITE to the targets of the script is made.
 #[derive(Drop)]
 struct Opening<'a> {
     heap: Heap<'a>,
@@ -17,7 +21,7 @@ impl<'a> Repeated for Opening<'a> {
     type Out = Book<Alloc<'a>>;
 
     fn attempt(&mut self) -> Answer<Book<Alloc<'a>>> {
-        let Some(targets) = targets(self.heap.ample, 2, 2) else {
+        let Some(targets) = targets(self.heap.ample, Aims::Script(SCRIPT)) else {
             return Answer::Other;
         };
         match Book::new(self.heap.scarce, Kind::Invite, Rules::usual(), targets) {
@@ -28,65 +32,88 @@ impl<'a> Repeated for Opening<'a> {
     }
 }
 
-/// An event is copied.
+/// A book, and an event that is copied, and then posted.
 #[derive(Drop)]
-struct Copying<'a> {
-    alloc: Alloc<'a>,
+struct Booked<'a> {
+    heap: Heap<'a>,
+    book: Book<Alloc<'a>>,
     event: Event<Alloc<'a>>,
+    is_copied: bool,
 }
 
-impl<'a> Repeated for Copying<'a> {
-    type Out = Event<Alloc<'a>>;
-
-    fn attempt(&mut self) -> Answer<Event<Alloc<'a>>> {
-        match self.event.copy(&self.alloc) {
-            Ok(event) => Answer::Given(event),
+impl Booked<'_> {
+    /// The copy takes the place of the event.
+    fn copies(&mut self) -> Answer<()> {
+        match self.event.copy(&self.heap.scarce) {
+            Ok(event) => {
+                self.event = event;
+                Answer::Given(())
+            }
             Err(_) => Answer::NoMemory,
         }
     }
-}
 
-/// An event is posted; where it is refused the history is as it was.
-#[derive(Drop)]
-struct Posting<'a> {
-    ample: Alloc<'a>,
-    book: Book<Alloc<'a>>,
-    event: Event<Alloc<'a>>,
-}
-
-impl<'a> Repeated for Posting<'a> {
-    type Out = u32;
-
-    fn attempt(&mut self) -> Answer<u32> {
-        let Ok(event) = self.event.copy(&self.ample) else {
+    /// A copy is posted; where that is refused the history is as it was.
+    fn posts(&mut self) -> Answer<()> {
+        let Ok(event) = self.event.copy(&self.heap.ample) else {
             return Answer::Other;
         };
         let before = self.book.history().len();
         match self.book.post(1, event) {
-            Ok(at) => Answer::Given(at),
+            Ok(_) => Answer::Given(()),
             Err(PostError::NoMemory(_)) if self.book.history().len() == before => Answer::NoMemory,
             Err(_) => Answer::Other,
         }
     }
+
+    /// Copies the event and posts it; whether both were done.
+    fn goes(&mut self) -> bool {
+        let heap = self.heap;
+        self.is_copied = false;
+        self.is_copied = heap.insist(self).is_some();
+        self.is_copied && heap.insist(self).is_some()
+    }
 }
 
-/// The book that a copy of each event was posted to.
-fn posted<'a>(heap: Heap<'a>, list: &[Told]) -> Option<Book<Alloc<'a>>> {
-    let mut book = heap.insist(&mut Opening { heap })?;
-    for &told in list {
-        let event = heap.insist(&mut Copying {
-            alloc: heap.scarce,
-            event: event(heap.ample, told)?,
-        })?;
-        let mut posting = Posting {
-            ample: heap.ample,
-            book,
-            event,
-        };
-        heap.insist(&mut posting)?;
-        book = posting.book;
+impl Repeated for Booked<'_> {
+    type Out = ();
+
+    fn attempt(&mut self) -> Answer<()> {
+        if self.is_copied {
+            self.posts()
+        } else {
+            self.copies()
+        }
     }
-    Some(book)
+}
+
+/// Whether each event is copied and posted.
+fn are_posted(booked: &mut Booked<'_>) -> bool {
+    match events(booked.heap.ample, SCRIPT) {
+        Some(events) => goes_on(booked, events),
+        None => false,
+    }
+}
+
+/// The same of these events.
+fn goes_on<'a>(booked: &mut Booked<'a>, mut events: EventList<'a>) -> bool {
+    let mut well = true;
+    while let Some(event) = events.pop_front() {
+        booked.event = event;
+        well = well && booked.goes();
+    }
+    well
+}
+
+/// Whether the events of the script come to this book as they should.
+fn is_right<'a>(heap: Heap<'a>, book: Book<Alloc<'a>>) -> bool {
+    let mut booked = Booked {
+        heap,
+        book,
+        event: Event::Cancel,
+        is_copied: false,
+    };
+    are_posted(&mut booked) && last_up(&booked.book) == Some(Up::Final(Choice::Stored(0)))
 }
 
 /// What goes up with the last event of the book.
@@ -95,18 +122,12 @@ fn last_up(book: &Book<Alloc<'_>>) -> Option<Up> {
     Some(book.reply(u32::try_from(count.checked_sub(1)?).ok()?)?.up())
 }
 
-/// A 401 with a challenge, and a 302 with a contact, which answers 404.
 struct Answers;
 
 impl Play for Answers {
     fn play(&self, heap: Heap<'_>) -> bool {
-        let list = [
-            Told::Answer(0, 401, &[], &[(false, b"Digest realm=\"a\"")]),
-            Told::Answer(1, 302, &[b"b"], &[]),
-            Told::Answer(2, 404, &[], &[]),
-        ];
-        match posted(heap, &list) {
-            Some(book) => last_up(&book) == Some(Up::Final(Choice::Stored(0))),
+        match heap.insist(&mut Opening { heap }) {
+            Some(book) => is_right(heap, book),
             None => false,
         }
     }

@@ -11,6 +11,8 @@ mod contexts;
 #[cfg(test)]
 mod forks;
 #[cfg(test)]
+mod growths;
+#[cfg(test)]
 mod hops;
 #[cfg(test)]
 mod listings;

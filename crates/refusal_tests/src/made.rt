@@ -1,7 +1,9 @@
 //! Messages that are made of others while memory is refused.
 use crate::hops::has_hops;
 use crate::plays::plays;
-use crate::sources::{Alloc, BRANCH, OWN, SOURCE, Sources, given};
+use crate::sources::{
+    Alloc, BRANCH, OWN, REQUEST, ROUTED, SOURCE, Sources, are_same, given, message, text_of_any,
+};
 use fork_rank::Challenge;
 use refusing::{Answer, Heap, Play, Repeated};
 use sip_build::OwnStatus;
@@ -79,7 +81,7 @@ fn moved<'a>(alloc: Alloc<'a>, response: &Message<Alloc<'a>>) -> Answer<Message<
 fn made<'a>(alloc: Alloc<'a>, of: &Sources<'a>, making: Making) -> Answer<Message<Alloc<'a>>> {
     match making {
         Making::Marked => of_via(mark_received(alloc, &of.request, SOURCE)),
-        Making::Stripped => of_build(strip_route(alloc, &of.routed, OWN)),
+        Making::Stripped => of_build(strip_route(alloc, &of.request, OWN)),
         Making::Forwarded => forwarded(alloc, &of.request, &of.target),
         Making::Upward => moved(alloc, &of.response),
         Making::Generated => of_build(generated(alloc, &of.request, OwnStatus::Trying)),
@@ -104,28 +106,31 @@ impl<'a> Repeated for MadeOf<'a> {
     }
 }
 
-fn text_of<'a>(ample: Alloc<'a>, message: &Message<Alloc<'a>>) -> Option<Vec<u8, Alloc<'a>>> {
-    let mut out = Vec::new(ample);
-    message.write(&mut out).ok()?;
-    Some(out)
+/// The request that it is made of.
+fn request_for(making: Making) -> &'static [u8] {
+    match making {
+        Making::Stripped => ROUTED,
+        _ => REQUEST,
+    }
 }
 
-/// Whether what is made while memory is refused is what is made without.
-fn is_same(heap: Heap<'_>, making: Making) -> Option<bool> {
-    let mut with = MadeOf {
-        alloc: heap.ample,
-        sources: given(heap.ample)?,
+/// The text of what is made in this memory.
+fn text_made<'a>(heap: Heap<'a>, alloc: Alloc<'a>, making: Making) -> Option<Vec<u8, Alloc<'a>>> {
+    let sources = given(heap.ample, request_for(making))?;
+    let made = heap.insist(&mut MadeOf {
+        alloc,
+        sources,
         making,
-    };
-    let wanted = heap.insist(&mut with)?;
-    with.alloc = heap.scarce;
-    let message = heap.insist(&mut with)?;
-    Some(text_of(heap.ample, &message)?.as_slice() == text_of(heap.ample, &wanted)?.as_slice())
+    });
+    text_of_any(heap.ample, made)
 }
 
 impl Play for Making {
     fn play(&self, heap: Heap<'_>) -> bool {
-        is_same(heap, *self) == Some(true)
+        are_same(
+            text_made(heap, heap.ample, *self),
+            text_made(heap, heap.scarce, *self),
+        )
     }
 }
 
@@ -156,24 +161,23 @@ impl<'a> Repeated for Marking<'a> {
     }
 }
 
-/// Whether the request is marked as `mark_received` marks it.
-fn is_marked(heap: Heap<'_>) -> Option<bool> {
-    let sources = given(heap.ample)?;
-    let Ok(wanted) = mark_received(heap.ample, &sources.request, SOURCE) else {
-        return None;
-    };
-    let message = heap.insist(&mut Marking {
+/// The text of the request as `mark` marks it.
+fn text_marked<'a>(heap: Heap<'a>) -> Option<Vec<u8, Alloc<'a>>> {
+    let marked = heap.insist(&mut Marking {
         alloc: heap.scarce,
-        request: Some(sources.request),
-    })?;
-    Some(text_of(heap.ample, &message)?.as_slice() == text_of(heap.ample, &wanted)?.as_slice())
+        request: message(heap.ample, REQUEST),
+    });
+    text_of_any(heap.ample, marked)
 }
 
 struct InPlace;
 
 impl Play for InPlace {
     fn play(&self, heap: Heap<'_>) -> bool {
-        is_marked(heap) == Some(true)
+        are_same(
+            text_made(heap, heap.ample, Making::Marked),
+            text_marked(heap),
+        )
     }
 }
 

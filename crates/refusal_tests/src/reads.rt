@@ -1,6 +1,6 @@
 //! URIs, contacts, messages and Via values that are read while memory is refused.
 use crate::plays::plays;
-use crate::sources::{Alloc, REQUEST, URI};
+use crate::sources::{Alloc, REQUEST, URI, text_of};
 use refusing::{Answer, Heap, Play, Repeated};
 use sip_text::{Message, ReadFault};
 use sip_uri::{Contact, SipUri, UriFault, read_contacts};
@@ -123,9 +123,7 @@ impl<'a> Repeated for ReadingMessage<'a> {
 fn written<'a>(heap: Heap<'a>) -> Option<Vec<u8, Alloc<'a>>> {
     let alloc = heap.scarce;
     let message = heap.insist(&mut ReadingMessage { alloc })?;
-    let mut text = Vec::new(heap.ample);
-    message.write(&mut text).ok()?;
-    Some(text)
+    text_of(heap.ample, &message)
 }
 
 struct Request;

@@ -32,7 +32,7 @@ v: SIP/2.0/UDP 192.0.2.1:5060;branch=z9hG4bKa;rport\r\nMax-Forwards: 70\r\n\
 f: <sip:alice@example.com>;tag=1\r\nt: <sip:bob@example.com>\r\ni: c1\r\nCSeq: 1 OPTIONS\r\nl: 0\r\n\r\n";
 
 /// The request with a Route of the proxy's own.
-const ROUTED: &[u8] = b"OPTIONS sip:bob@example.com SIP/2.0\r\n\
+pub const ROUTED: &[u8] = b"OPTIONS sip:bob@example.com SIP/2.0\r\n\
 v: SIP/2.0/UDP 192.0.2.1:5060;branch=z9hG4bKa;rport\r\nRoute: <sip:192.0.2.9;lr>\r\n\
 f: <sip:alice@example.com>;tag=1\r\nt: <sip:bob@example.com>\r\ni: c1\r\nCSeq: 1 OPTIONS\r\nl: 0\r\n\r\n";
 
@@ -49,23 +49,79 @@ pub const URI: &[u8] = b"sip:bob@192.0.2.4:5062;transport=udp;Method=INVITE?Subj
 #[derive(Drop)]
 pub struct Sources<'a> {
     pub request: Message<Alloc<'a>>,
-    pub routed: Message<Alloc<'a>>,
     pub response: Message<Alloc<'a>>,
     pub target: SipUri<Alloc<'a>>,
 }
 
-fn message<'a>(ample: Alloc<'a>, text: &[u8]) -> Option<Message<Alloc<'a>>> {
+/// The message of this text.
+pub fn message<'a>(ample: Alloc<'a>, text: &[u8]) -> Option<Message<Alloc<'a>>> {
     match Message::read(ample, text) {
         Ok(message) => Some(message),
         Err(_) => None,
     }
 }
 
-pub fn given<'a>(ample: Alloc<'a>) -> Option<Sources<'a>> {
-    Some(Sources {
-        request: message(ample, REQUEST)?,
-        routed: message(ample, ROUTED)?,
-        response: message(ample, MOVED)?,
-        target: SipUri::read(ample, URI).ok()?,
-    })
+fn target<'a>(ample: Alloc<'a>) -> Option<SipUri<Alloc<'a>>> {
+    match SipUri::read(ample, URI) {
+        Ok(target) => Some(target),
+        Err(_) => None,
+    }
+}
+
+/// The text of a message.
+pub fn text_of<'a>(ample: Alloc<'a>, message: &Message<Alloc<'a>>) -> Option<Vec<u8, Alloc<'a>>> {
+    let mut out = Vec::new(ample);
+    match message.write(&mut out) {
+        Ok(()) => Some(out),
+        Err(_) => None,
+    }
+}
+
+/// The text of a message, if there is one.
+pub fn text_of_any<'a>(
+    ample: Alloc<'a>,
+    message: Option<Message<Alloc<'a>>>,
+) -> Option<Vec<u8, Alloc<'a>>> {
+    match message {
+        Some(message) => text_of(ample, &message),
+        None => None,
+    }
+}
+
+/// Whether the texts are both there and the same.
+pub fn are_same(one: Option<Vec<u8, Alloc<'_>>>, other: Option<Vec<u8, Alloc<'_>>>) -> bool {
+    match (one, other) {
+        (Some(one), Some(other)) => one.as_slice() == other.as_slice(),
+        _ => false,
+    }
+}
+
+fn with_messages<'a>(
+    ample: Alloc<'a>,
+    request: Message<Alloc<'a>>,
+    response: Message<Alloc<'a>>,
+) -> Option<Sources<'a>> {
+    match target(ample) {
+        Some(target) => Some(Sources {
+            request,
+            response,
+            target,
+        }),
+        None => None,
+    }
+}
+
+fn with_request<'a>(ample: Alloc<'a>, request: Message<Alloc<'a>>) -> Option<Sources<'a>> {
+    match message(ample, MOVED) {
+        Some(response) => with_messages(ample, request, response),
+        None => None,
+    }
+}
+
+/// All of them; the request is that of this text.
+pub fn given<'a>(ample: Alloc<'a>, request: &[u8]) -> Option<Sources<'a>> {
+    match message(ample, request) {
+        Some(request) => with_request(ample, request),
+        None => None,
+    }
 }

@@ -1,7 +1,7 @@
 //! Texts that are appended while memory is refused.
 use crate::hops::has_hops;
 use crate::plays::plays;
-use crate::sources::{Alloc, BRANCH, OWN, Sources, given};
+use crate::sources::{Alloc, BRANCH, OWN, REQUEST, Sources, given};
 use refusing::{Answer, Heap, Play, Repeated};
 use sip_build::{
     OwnStatus, write_forwarded, write_forwarded_ack, write_forwarded_cancel, write_generated,
@@ -89,27 +89,44 @@ impl Repeated for Appending<'_> {
     }
 }
 
-/// The text to which this is appended twice, while memory is refused or with memory enough.
-fn twice<'a>(heap: Heap<'a>, alloc: Alloc<'a>, what: Written) -> Option<Vec<u8, Alloc<'a>>> {
-    let mut appending = Appending {
-        sources: given(heap.ample)?,
-        what,
-        out: Vec::new(alloc),
-    };
-    heap.insist(&mut appending)?;
-    heap.insist(&mut appending)?;
-    Some(appending.out)
+/// What is appended to an empty text, which takes its memory here.
+fn begun<'a>(heap: Heap<'a>, alloc: Alloc<'a>, what: Written) -> Option<Appending<'a>> {
+    match given(heap.ample, REQUEST) {
+        Some(sources) => Some(Appending {
+            sources,
+            what,
+            out: Vec::new(alloc),
+        }),
+        None => None,
+    }
+}
+
+/// Whether it is appended twice.
+fn goes_twice(heap: Heap<'_>, appending: &mut Appending<'_>) -> bool {
+    heap.insist(appending).is_some() && heap.insist(appending).is_some()
+}
+
+/// Whether both are appended twice, and the texts are the same then.
+fn are_same<'a>(heap: Heap<'a>, mut one: Appending<'a>, mut other: Appending<'a>) -> bool {
+    goes_twice(heap, &mut one)
+        && goes_twice(heap, &mut other)
+        && one.out.as_slice() == other.out.as_slice()
 }
 
 /// Whether the text is the same as with memory enough.
-fn is_same(heap: Heap<'_>, what: Written) -> Option<bool> {
-    let wanted = twice(heap, heap.ample, what)?;
-    Some(twice(heap, heap.scarce, what)?.as_slice() == wanted.as_slice())
+fn is_same<'a>(heap: Heap<'a>, one: Appending<'a>, what: Written) -> bool {
+    match begun(heap, heap.scarce, what) {
+        Some(other) => are_same(heap, one, other),
+        None => false,
+    }
 }
 
 impl Play for Written {
     fn play(&self, heap: Heap<'_>) -> bool {
-        is_same(heap, *self) == Some(true)
+        match begun(heap, heap.ample, *self) {
+            Some(one) => is_same(heap, one, *self),
+            None => false,
+        }
     }
 }
 
