@@ -1,92 +1,159 @@
-//! Calls that are carried while memory is refused: the steps before a refusal stand.
-use crate::calls::{opened, plays};
-use crate::texts::{INVITE, INVITE_SENT, Sent, TRYING};
-use fork_call::{Call, Carried, Datagram, Port, carry};
-use refusing::{Answer, Heap, Play, Refusing, Repeated};
-use std::alloc::{Allocator, Global};
+//! Calls that are carried while memory is refused and sends fail: the steps before a refusal stand, and a carry goes on where
+//! it was refused.
+use crate::calls::{History, Moment, Turn, plays};
+use crate::fork_texts::{
+    FIFTH, FIFTH_NOT_FOUND, FORK_SETUP, FOURTH, FOURTH_RINGS, FOURTH_TERMINATED, SECOND,
+    SECOND_RINGS, SECOND_TERMINATED, THIRD, THIRD_RINGS, THIRD_TERMINATED,
+};
+use crate::texts::{
+    ACK, CALLER, CANCEL, INVITE, NOT_FOUND, OPTIONS, OPTIONS_NOT_FOUND, OPTIONS_NOT_FOUND_OF_FIVE,
+    RINGING, SETUP, TARGET, TERMINATED,
+};
+use crate::wanted;
+use fork_call::{TakeFault, Taken};
+use refusing::{refused_always, refused_never};
+use std::alloc::Global;
+use std::process::Abort;
 
-/// The datagrams of an INVITE at first.
-const WANTED: [Sent; 2] = [TRYING, INVITE_SENT];
+/// An INVITE to five targets: the first and the fifth answer 404, and the first once more; the second and the third ring; the
+/// caller cancels; then the fourth rings, too. Each of the three is cancelled and answers 487, and the first 404 goes up,
+/// once more until the caller acknowledges it.
+const FORK: &[Moment] = &[
+    (0, Turn::Carries(6)),
+    (0, Turn::Carries(0)),
+    (100, Turn::Comes(Some(0), TARGET, NOT_FOUND)),
+    (100, Turn::Carries(1)),
+    (200, Turn::Comes(Some(4), FIFTH, FIFTH_NOT_FOUND)),
+    (200, Turn::Carries(1)),
+    (250, Turn::Takes(TARGET, NOT_FOUND, Ok(Taken::Absorbed))),
+    (250, Turn::Carries(1)),
+    (300, Turn::Comes(Some(1), SECOND, SECOND_RINGS)),
+    (300, Turn::Carries(1)),
+    (500, Turn::Carries(2)),
+    (600, Turn::Comes(Some(2), THIRD, THIRD_RINGS)),
+    (600, Turn::Carries(1)),
+    (700, Turn::Comes(None, CALLER, CANCEL)),
+    (700, Turn::Carries(3)),
+    (800, Turn::Comes(Some(1), SECOND, SECOND_TERMINATED)),
+    (800, Turn::Carries(1)),
+    (1200, Turn::Carries(2)),
+    (1350, Turn::Comes(Some(3), FOURTH, FOURTH_RINGS)),
+    (1350, Turn::Carries(2)),
+    (1450, Turn::Comes(Some(2), THIRD, THIRD_TERMINATED)),
+    (1450, Turn::Comes(Some(3), FOURTH, FOURTH_TERMINATED)),
+    (1450, Turn::Carries(3)),
+    (1850, Turn::Carries(1)),
+    (1950, Turn::Carries(1)),
+    (2000, Turn::Takes(CALLER, ACK, Ok(Taken::Absorbed))),
+    (40_000, Turn::Carries(0)),
+    (40_000, Turn::Waits(None)),
+];
 
-/// A port that compares what it is given with what is wanted.
-#[derive(Drop)]
-struct Comparing {
-    at: usize,
-    well: bool,
-}
+/// An OPTIONS request whose target answers 404, and that again, as does one that the call does not have; then the caller asks
+/// again.
+const FAILING: &[Moment] = &[
+    (0, Turn::Carries(2)),
+    (20, Turn::Comes(Some(0), TARGET, OPTIONS_NOT_FOUND)),
+    (20, Turn::Carries(1)),
+    (
+        30,
+        Turn::Takes(TARGET, OPTIONS_NOT_FOUND, Ok(Taken::Absorbed)),
+    ),
+    (
+        30,
+        Turn::Takes(TARGET, OPTIONS_NOT_FOUND_OF_FIVE, Err(TakeFault::Stray)),
+    ),
+    (30, Turn::Carries(0)),
+    (40, Turn::Takes(CALLER, OPTIONS, Ok(Taken::Absorbed))),
+    (40, Turn::Carries(2)),
+    (40_000, Turn::Carries(0)),
+    (40_000, Turn::Waits(None)),
+];
 
-fn is_wanted<A: Allocator>(datagram: &Datagram<A>, at: usize) -> bool {
-    match WANTED.get(at) {
-        Some(wanted) => {
-            datagram.cause == wanted.cause
-                && datagram.to == wanted.to
-                && datagram.bytes.as_slice() == wanted.text
-        }
-        None => false,
+/// An INVITE to one target that is sent again, and that the caller cancels before the target rings; the target's 487 comes
+/// twice.
+const CANCELLED: &[Moment] = &[
+    (0, Turn::Carries(2)),
+    (500, Turn::Carries(1)),
+    (600, Turn::Comes(None, CALLER, CANCEL)),
+    (600, Turn::Carries(1)),
+    (700, Turn::Comes(Some(0), TARGET, RINGING)),
+    (700, Turn::Carries(2)),
+    (1200, Turn::Carries(1)),
+    (1300, Turn::Comes(Some(0), TARGET, TERMINATED)),
+    (1300, Turn::Carries(2)),
+    (1400, Turn::Takes(TARGET, TERMINATED, Ok(Taken::Absorbed))),
+    (1400, Turn::Carries(1)),
+    (1800, Turn::Carries(1)),
+];
+
+/// An INVITE to five targets whose send of this number fails.
+fn fork(global: Global, fails: u64) -> History {
+    History {
+        global,
+        setup: FORK_SETUP,
+        request: INVITE,
+        moments: FORK,
+        begins: wanted::FORK,
+        fails,
     }
 }
 
-impl Port for Comparing {
-    ghost count = { λ _. 0 };
-
-    fn send<A: Allocator>(&mut self, datagram: &Datagram<A>) -> bool {
-        self.well = self.well && is_wanted(datagram, self.at);
-        self.at = self.at.saturating_add(1);
-        true
-    }
-
-    fn failures(&self) -> u64 {
-        0
-    }
+/// Ends the test where the call goes wrong with memory enough, when it is told of the loss, or where memory ends at each
+/// growth, when it is not told of a request's.
+fn loses(rt: &impl Abort, alloc: Global, history: &History) {
+    let told = match refused_always(alloc, history) {
+        Some(refusals) => refusals.told,
+        None => 0,
+    };
+    assert!(rt;
+        refused_never(alloc, history) && told > 0,
+        "an INVITE to five targets whose send {} fails: {told} told where memory ends",
+        history.fails
+    );
 }
 
-/// A call that is carried.
-#[derive(Drop)]
-struct Carrying<'a> {
-    call: Call<&'a Refusing<Global>>,
-    port: Comparing,
-}
-
-impl Repeated for Carrying<'_> {
-    type Out = Carried;
-
-    fn attempt(&mut self) -> Answer<Carried> {
-        match carry(&mut self.call, &mut self.port, 0) {
-            Ok(carried) => Answer::Given(carried),
-            Err(_) => Answer::NoMemory,
-        }
-    }
-}
-
-/// An INVITE, whose call is carried.
-#[derive(Drop)]
-struct Invite {
-    global: Global,
-}
-
-impl Carrying<'_> {
-    /// Whether the datagrams of the call were sent once each, in order, and nothing is left.
-    fn is_whole(&self, carried: Carried) -> bool {
-        carried.failed == 0 && !carried.more && self.port.well && self.port.at == WANTED.len()
-    }
-}
-
-impl Play for Invite {
-    fn play(&self, heap: Heap<'_>) -> bool {
-        let Some(call) = opened(heap, self.global, INVITE) else {
-            return false;
-        };
-        let port = Comparing { at: 0, well: true };
-        let mut carrying = Carrying { call, port };
-        match heap.insist(&mut carrying) {
-            Some(carried) => carrying.is_whole(carried),
-            None => false,
-        }
-    }
+/// Plays an OPTIONS request whose send of this number fails.
+fn asks(rt: &(impl Abort + AllocGlobal), fails: u64) {
+    let history = History {
+        global: rt.alloc(),
+        setup: SETUP,
+        request: OPTIONS,
+        moments: FAILING,
+        begins: wanted::OPTIONS,
+        fails,
+    };
+    plays(
+        rt,
+        rt.alloc(),
+        &history,
+        0,
+        "an OPTIONS request that is carried",
+    );
 }
 
 #[test]
 fn a_carry_goes_on_where_it_was_refused(rt: HostRuntime) {
-    let invite = Invite { global: rt.alloc() };
-    plays(&rt, rt.alloc(), &invite, 0, "an INVITE that is carried");
+    let forked = fork(rt.alloc(), 0);
+    plays(&rt, rt.alloc(), &forked, 0, "an INVITE to five targets");
+    asks(&rt, 0);
+    let history = History {
+        global: rt.alloc(),
+        setup: SETUP,
+        request: INVITE,
+        moments: CANCELLED,
+        begins: wanted::INVITE,
+        fails: 0,
+    };
+    plays(&rt, rt.alloc(), &history, 0, "an INVITE that is carried");
+}
+
+#[test]
+fn a_send_that_fails_loses_that_datagram_alone(rt: HostRuntime) {
+    for fails in 1..=wanted::FORK_SENDS {
+        loses(&rt, rt.alloc(), &fork(rt.alloc(), fails));
+    }
+    for fails in 1..=wanted::OPTIONS_SENDS {
+        asks(&rt, fails);
+    }
 }

@@ -2,7 +2,7 @@
 ghost use Rattle.std.specs.Prelude.{◌≡◌};
 
 use crate::calls::{SettingUp, plays};
-use crate::texts::{ACK, CALLER, CANCEL, INVITE, OPTIONS, TARGET};
+use crate::texts::{ACK, CALLER, CANCEL, INVITE, OPTIONS, SETUP, TARGET};
 use call_table::Shelf;
 use fork_call::{Call, Datagram, Port, Setup, carry};
 use proxy_dispatch::{Handled, handle};
@@ -190,10 +190,32 @@ fn is_carried(call: &mut Call<Alloc<'_>>, port: &mut Counting) -> bool
     carry(call, port, 0).is_ok()
 }
 
+/// What a call shows of itself: how many events were posted to it, and when something is due.
+#[derive(Clone, Copy, PartialEq, Eq)]
+struct Shown {
+    events: usize,
+    due: Option<u64>,
+}
+
+fn look_at(call: &mut Call<Alloc<'_>>) -> Shown
+    ensures { call.new.opened.number ≡ call.old.opened.number }
+{
+    Shown {
+        events: call.book().history().len(),
+        due: call.due(),
+    }
+}
+
 impl<R: Wait> Proxy<'_, R> {
-    /// The datagram is handled; where that is refused nothing is sent.
+    /// What call 0 shows, if it is open.
+    fn shows(&self) -> Option<Shown> {
+        self.shelf.with(self.rt, 0, |call| look_at(call))
+    }
+
+    /// The datagram is handled; where that is refused nothing is sent, and the call is as it was, or not open.
     fn handles(&mut self) -> Answer<Handled> {
-        let before = self.port.sends;
+        let sends = self.port.sends;
+        let shows = self.shows();
         let handled = handle(
             self.rt,
             self.scarce,
@@ -207,7 +229,7 @@ impl<R: Wait> Proxy<'_, R> {
         );
         match handled {
             Ok(handled) => Answer::Given(handled),
-            Err(_) if self.port.sends == before => Answer::NoMemory,
+            Err(_) if self.port.sends == sends && self.shows() == shows => Answer::NoMemory,
             Err(_) => Answer::Other,
         }
     }
@@ -243,45 +265,54 @@ struct Packets<'r, R> {
     list: &'static [Packet],
 }
 
-/// Whether each datagram becomes what it is to become, and so many were sent then.
-fn is_handled<'a, R: Wait>(
-    heap: Heap<'a>,
-    rt: &'a R,
-    global: Global,
-    list: &[Packet],
-) -> Option<bool> {
-    let setup = heap.insist(&mut SettingUp { alloc: heap.scarce })?;
-    let shelf = heap.insist(&mut Shelving { alloc: heap.scarce })?;
-    let mut proxy = Proxy {
-        rt,
-        scarce: heap.scarce,
-        global,
-        shelf,
-        setup,
-        port: Counting { sends: 0 },
-        packet: OPTIONS,
-        source: CALLER,
-        carrying: false,
-    };
-    for &(packet, source, wanted, sends) in list {
-        proxy.packet = packet;
-        proxy.source = source;
-        proxy.carrying = false;
-        if heap.insist(&mut proxy)? != wanted {
-            return Some(false);
-        }
-        proxy.carrying = true;
-        heap.insist(&mut proxy)?;
-        if proxy.port.sends != sends {
-            return Some(false);
-        }
+/// What takes datagrams, once it is set up.
+fn set_up<'a, R: Wait>(heap: Heap<'a>, rt: &'a R, global: Global) -> Option<Proxy<'a, R>> {
+    let setup = heap.insist(&mut SettingUp {
+        alloc: heap.scarce,
+        text: SETUP,
+    })?;
+    match heap.insist(&mut Shelving { alloc: heap.scarce }) {
+        Some(shelf) => Some(Proxy {
+            rt,
+            scarce: heap.scarce,
+            global,
+            shelf,
+            setup,
+            port: Counting { sends: 0 },
+            packet: OPTIONS,
+            source: CALLER,
+            carrying: false,
+        }),
+        None => None,
     }
-    Some(true)
+}
+
+/// Whether a datagram becomes what it is to become, and so many were sent once its call was carried.
+fn is_handled<R: Wait>(heap: Heap<'_>, proxy: &mut Proxy<'_, R>, packet: Packet) -> bool {
+    let (text, source, wanted, sends) = packet;
+    proxy.packet = text;
+    proxy.source = source;
+    proxy.carrying = false;
+    let is_right = heap.insist(proxy) == Some(wanted);
+    proxy.carrying = true;
+    is_right && heap.insist(proxy).is_some() && proxy.port.sends == sends
+}
+
+/// Whether that is so of each datagram.
+fn are_handled<R: Wait>(heap: Heap<'_>, mut proxy: Proxy<'_, R>, list: &[Packet]) -> bool {
+    let mut well = true;
+    for packet in list {
+        well = well && is_handled(heap, &mut proxy, *packet);
+    }
+    well
 }
 
 impl<R: Wait> Play for Packets<'_, R> {
     fn play(&self, heap: Heap<'_>) -> bool {
-        is_handled(heap, self.rt, self.global, self.list) == Some(true)
+        match set_up(heap, self.rt, self.global) {
+            Some(proxy) => are_handled(heap, proxy, self.list),
+            None => false,
+        }
     }
 }
 

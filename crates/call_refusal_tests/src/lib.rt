@@ -6,8 +6,14 @@ mod calls;
 #[cfg(test)]
 mod carrying;
 #[cfg(test)]
+mod fork_texts;
+#[cfg(test)]
 mod handling;
+#[cfg(test)]
+mod port;
 #[cfg(test)]
 mod shelves;
 #[cfg(test)]
 mod texts;
+#[cfg(test)]
+mod wanted;

@@ -80,28 +80,41 @@ struct Keys<'r, R> {
 
 const NAMES: [&[u8]; 6] = [b"one", b"two", b"three", b"four", b"five", b"six"];
 
-/// Whether the values get rising numbers, and are found under their keys.
-fn are_put<'a, R: Wait>(heap: Heap<'a>, rt: &'a R) -> Option<bool> {
-    let shelf = heap.insist(&mut Making { alloc: heap.scarce })?;
-    let mut putting = Putting {
-        rt,
-        shelf,
-        key: b"",
-    };
+/// Whether the value that is put under this key gets this number, and is found under the key.
+fn is_put<R: Wait>(
+    heap: Heap<'_>,
+    putting: &mut Putting<'_, R>,
+    key: &'static [u8],
+    number: u64,
+) -> bool {
+    putting.key = key;
+    heap.insist(putting) == Some(number) && putting.shelf.keyed(putting.rt, key) == Some(number)
+}
+
+/// Whether the values get rising numbers, and there are no others.
+fn are_put<R: Wait>(heap: Heap<'_>, mut putting: Putting<'_, R>) -> bool {
     let mut next = 0u64;
+    let mut well = true;
     for key in NAMES {
-        putting.key = key;
-        if heap.insist(&mut putting)? != next || putting.shelf.keyed(rt, key) != Some(next) {
-            return Some(false);
-        }
+        well = well && is_put(heap, &mut putting, key, next);
         next = next.saturating_add(1);
     }
-    Some(putting.shelf.count(rt) == next)
+    well && putting.shelf.count(putting.rt) == next
 }
 
 impl<R: Wait> Play for Keys<'_, R> {
     fn play(&self, heap: Heap<'_>) -> bool {
-        are_put(heap, self.rt) == Some(true)
+        match heap.insist(&mut Making { alloc: heap.scarce }) {
+            Some(shelf) => are_put(
+                heap,
+                Putting {
+                    rt: self.rt,
+                    shelf,
+                    key: b"",
+                },
+            ),
+            None => false,
+        }
     }
 }
 
