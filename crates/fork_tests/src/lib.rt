@@ -1,5 +1,5 @@
-//! Tests of the public calls of `fork_model`, `fork_rank`, `fork_tree`, `context_values`, `fork_context`, `fork_book`, `fork_text` and `fork_listing`, a file or a
-//! folder for each. They stand apart from these crates so that none of them is proved twice.
+//! Tests of the public calls of `fork_model`, `fork_rank`, `fork_tree`, `context_values`, `fork_context`, `fork_book`, `fork_text`, `fork_listing` and
+//! `config_form`, a file or a folder for each. They stand apart from these crates so that none of them is proved twice.
 #![tactic(auto)]
 
 #[cfg(test)]
@@ -8,6 +8,8 @@ mod book;
 mod bytes;
 #[cfg(test)]
 mod context;
+#[cfg(test)]
+mod form;
 #[cfg(test)]
 mod holds;
 #[cfg(test)]
