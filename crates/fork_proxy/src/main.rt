@@ -3,11 +3,15 @@
 #![tactic(auto)]
 
 ghost use Rattle.std.specs.Prelude.{◌≡◌, ◌↔◌, None, IfOk, IfErr, IfSome, IsErrOf, map, string_bytes};
-ghost use Rattle.std.specs.Process.{exit_status};
+ghost use Rattle.std.specs.Process as process;
 ghost use Rattle.fork_program.specs.Program.{IsUsageFault};
 ghost use Rattle.fork_drive.specs.Asked.{asked_for, Writes, IsAnswerFault};
-ghost use Rattle.fork_proxy.specs.Ending.{Serves, IsServeFailure, status_of};
+ghost use Rattle.fork_proxy.specs.Ending.{Serves, IsServeFailure, exit_status, status_of, told};
 
+#[cfg(test)]
+mod tests;
+
+use config_form::{Form, form_at};
 use fork_drive::Asked;
 use fork_program::{Fault, ProgFault, read_input};
 use log::Log;
@@ -27,9 +31,25 @@ enum Failure {
     /// The arguments ask for nothing, or the input's text has no answer.
     #[error(transparent)]
     Answer(Fault),
-    /// The input's text is served no longer, or not at all.
+    /// The input's text is served no longer, or not at all, and no line of it is malformed.
     #[error(transparent)]
     Serve(ServeFault),
+    /// The first malformed line of the input's text, counted from 1, and what it should be, on a line of its own.
+    #[error("{}\n{}", ServeFault::Line(*.0), .1)]
+    Malformed(usize, Form),
+}
+
+impl Failure {
+    /// The exit status of a program that ends with it.
+    fn status(self) -> u8
+        ensures { result ≡ exit_status self }
+    {
+        match self {
+            Failure::Answer(fault) => fault.status(),
+            Failure::Serve(fault) => fault.status(),
+            Failure::Malformed(number, _) => ServeFault::Line(number).status(),
+        }
+    }
 }
 
 /// The words as a list. The only error is want of memory.
@@ -77,11 +97,21 @@ fn answered<R: Threads + Wait + Sync, I: Read, O: Write>(
     }
 }
 
+/// Why a text is served no longer, or not at all: a malformed line together with what it should be.
+fn told(text: &[u8], fault: ServeFault) -> Failure
+    ensures { result ≡ told text.now fault }
+{
+    match fault {
+        ServeFault::Line(number) => Failure::Malformed(number, form_at(text, number)),
+        ServeFault::TooLong | ServeFault::NoMemory | ServeFault::Socket => Failure::Serve(fault),
+    }
+}
+
 /// Serves for `turns` turns, set up by the input's text. The exit status is 0.
 ///
 /// # Errors
 ///
-/// `Answer`, where the input cannot be read; `Serve` with what [`serve`] refuses.
+/// `Answer`, where the input cannot be read; `Malformed` where [`serve`] refuses a line, and `Serve` with what else it refuses.
 fn served<R: Threads + Wait + Net + Print + Log + Sync, I: Read>(
     rt: &R,
     alloc: Global,
@@ -94,7 +124,7 @@ fn served<R: Threads + Wait + Net + Print + Log + Sync, I: Read>(
     match read_input(alloc, input) {
         Ok(text) => match serve(rt, alloc, &text, turns) {
             Ok(()) => Ok(0),
-            Err(fault) => Err(Failure::Serve(fault)),
+            Err(fault) => Err(told(&text, fault)),
         },
         Err(fault) => Err(Failure::Answer(fault)),
     }
@@ -102,16 +132,13 @@ fn served<R: Threads + Wait + Net + Print + Log + Sync, I: Read>(
 
 /// How the program ends after a run, whose failure it prints on standard error.
 fn ended(rt: &HostRuntime, ran: Result<u8, Failure>) -> ExitCode
-    ensures { exit_status result ≡ status_of ran }
+    ensures { process.exit_status result ≡ status_of ran }
 {
     match ran {
         Ok(status) => ExitCode::from(status),
         Err(failure) => {
             let _ = rt.eprintln(failure);
-            ExitCode::from(match failure {
-                Failure::Answer(fault) => fault.status(),
-                Failure::Serve(fault) => fault.status(),
-            })
+            ExitCode::from(failure.status())
         }
     }
 }
