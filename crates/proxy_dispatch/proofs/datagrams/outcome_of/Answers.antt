@@ -1,7 +1,7 @@
-use Rattle.fork_dispatch.proofs.Common.{IfOk-weaker, seen_sent}
+use Rattle.proxy_dispatch.proofs.Common.{IfOk-weaker, seen_sent}
 use Rattle.sip_text.specs.Fault.{fault_seen}
-use Rattle.fork_dispatch.proofs.Becoming.{unread_becomes}
-use Rattle.fork_dispatch.proofs.datagrams.outcome_of.Goals as goal
+use Rattle.proxy_dispatch.proofs.Becoming.{unread_becomes}
+use Rattle.proxy_dispatch.proofs.datagrams.outcome_of.Goals as goal
 
 pub returns-in-Err : goal.returns-in-Err
 returns-in-Err g c =
