@@ -208,7 +208,8 @@ impl<'a> Playing<'a> {
 
     /// The call is carried: whether what it was to send was sent, and its book says what was lost.
     fn carries(&mut self) -> Answer<bool> {
-        self.port.begins(self.faulted());
+        let faulted = self.faulted();
+        self.port.begins(faulted);
         match carry(&mut self.call, &mut self.port, self.now) {
             Ok(carried) => Answer::Given(
                 self.port.is_done(carried) && self.faulted() == self.port.lost_branch(),

@@ -1,21 +1,17 @@
-//! Commands that answer an input on an output, as the program does, while memory is refused.
+//! Commands that answer a text, as the program does, while memory is refused.
 use crate::plays::plays;
 use crate::sources::Alloc;
-use fork_drive::Asked;
 use fork_program::{Command, Fault, ProgFault};
 use refusing::{Answer, Heap, Play, Repeated};
 use std::process::Abort;
-use std::sync::Wait;
-use std::thread::Threads;
 
-/// A command, its input, its exit status, and what it prints: one of two texts, since either of two workers may come first.
+/// A command, its text, its exit status, and what it prints.
 #[derive(Clone, Copy)]
 struct Case {
-    asked: Asked,
-    input: &'static [u8],
+    command: Command,
+    text: &'static [u8],
     status: u8,
     printed: &'static [u8],
-    or_printed: &'static [u8],
 }
 
 /// A script of four answers, the best of which is a 407.
@@ -65,46 +61,26 @@ target 0 - 1000 stored 503 0 received\ntarget 1 - 1000 stored 407 1 received\n\
 target 2 - 1000 stored 501 2 received\ntarget 3 - 1000 stored 404 3 received\n\
 rank 407 1 1\nrank 404 3 3\nrank 501 2 2\nrank 503 0 0\nfinal 404 3\n";
 
-/// A script of two workers.
-const WORKERS: &[u8] = b"kind INVITE\ntarget 1000 a\ntarget 1000 b\n\
-worker\nanswer 0 401\nchallenge W Digest realm=\"a\"\nworker\nanswer 1 407\nchallenge P Digest realm=\"b\"\n";
-
-/// What is printed of it where the first worker comes first.
-const FIRST_FIRST: &[u8] = b"opening start 0,1\n0: 0 start - cancel - up -\n\
-1: 1 start - cancel - up final 401 0\nadd Proxy-Authenticate: Digest realm=\"b\"\n\
-fork 3 2\nprefer 401,407,415,420,484\ndepth 256\n\
-target 0 - 1000 stored 401 0 received\ntarget 1 - 1000 stored 407 1 received\n\
-rank 401 0 0\nrank 407 1 1\nfinal 401 0\n";
-
-/// What is printed of it where the second does.
-const SECOND_FIRST: &[u8] = b"opening start 0,1\n1: 0 start - cancel - up -\n\
-0: 1 start - cancel - up final 407 1\nadd WWW-Authenticate: Digest realm=\"a\"\n\
-fork 3 2\nprefer 401,407,415,420,484\ndepth 256\n\
-target 0 - 1000 stored 401 1 received\ntarget 1 - 1000 stored 407 0 received\n\
-rank 407 1 0\nrank 401 0 1\nfinal 407 1\n";
-
 /// A command is answered; where it is refused nothing was written, and the program ends with 3.
 #[derive(Drop)]
-struct Answering<'a, R> {
-    rt: &'a R,
+struct Answering<'a> {
     alloc: Alloc<'a>,
     case: Case,
     output: Vec<u8, Alloc<'a>>,
 }
 
-fn is_refusal(fault: Fault) -> bool {
-    fault == Fault::Text(ProgFault::NoMemory) && fault.status() == 3
+fn is_refusal(fault: ProgFault) -> bool {
+    fault == ProgFault::NoMemory && Fault::Text(fault).status() == 3
 }
 
-impl<R: Threads + Wait + Sync> Repeated for Answering<'_, R> {
+impl Repeated for Answering<'_> {
     type Out = u8;
 
     fn attempt(&mut self) -> Answer<u8> {
-        let mut input = self.case.input;
         match self
             .case
-            .asked
-            .answer(self.rt, self.alloc, &mut input, &mut self.output)
+            .command
+            .run(self.alloc, self.case.text, &mut self.output)
         {
             Ok(status) => Answer::Given(status),
             Err(fault) if is_refusal(fault) && self.output.is_empty() => Answer::NoMemory,
@@ -113,41 +89,30 @@ impl<R: Threads + Wait + Sync> Repeated for Answering<'_, R> {
     }
 }
 
-/// The program is asked.
-#[derive(Drop)]
-struct Program<'r, R> {
-    rt: &'r R,
-    case: Case,
-}
-
-impl<R: Threads + Wait + Sync> Play for Program<'_, R> {
+impl Play for Case {
     fn play(&self, heap: Heap<'_>) -> bool {
         let mut answering = Answering {
-            rt: self.rt,
             alloc: heap.scarce,
-            case: self.case,
+            case: *self,
             output: Vec::new(heap.ample),
         };
         let ended = heap.insist(&mut answering);
-        let printed = answering.output.as_slice();
-        ended == Some(self.case.status)
-            && (printed == self.case.printed || printed == self.case.or_printed)
+        ended == Some(self.status) && answering.output.as_slice() == self.printed
     }
 }
 
 /// Ends the test where the command does otherwise, or where other than so many of its growths are done without.
-fn goes<R: Threads + Wait + Sync + Abort + AllocGlobal>(rt: &R, case: Case, without: u64) {
-    plays(rt, &Program { rt, case }, without, "a command");
+fn goes<R: Abort + AllocGlobal>(rt: &R, case: Case, without: u64) {
+    plays(rt, &case, without, "a command");
 }
 
 /// A replay of a script, and what it prints.
-fn replay(input: &'static [u8], printed: &'static [u8]) -> Case {
+fn replay(text: &'static [u8], printed: &'static [u8]) -> Case {
     Case {
-        asked: Asked::Alone(Command::Replay),
-        input,
+        command: Command::Replay,
+        text,
         status: 0,
         printed,
-        or_printed: printed,
     }
 }
 
@@ -159,13 +124,12 @@ fn replays_end_with_3(rt: HostRuntime) {
 }
 
 /// A check of a listing, its status, and what it prints.
-fn check(input: &'static [u8], status: u8, printed: &'static [u8]) -> Case {
+fn check(text: &'static [u8], status: u8, printed: &'static [u8]) -> Case {
     Case {
-        asked: Asked::Alone(Command::Check),
-        input,
+        command: Command::Check,
+        text,
         status,
         printed,
-        or_printed: printed,
     }
 }
 
@@ -174,16 +138,4 @@ fn checks_end_with_3(rt: HostRuntime) {
     goes(&rt, check(ONE, 0, b"yes\n"), 1);
     goes(&rt, check(FOUR, 0, b"yes\n"), 2);
     goes(&rt, check(WRONG, 4, b"no K5\n"), 2);
-}
-
-#[test]
-fn runs_of_workers_end_with_3(rt: HostRuntime) {
-    let case = Case {
-        asked: Asked::Drive,
-        input: WORKERS,
-        status: 0,
-        printed: FIRST_FIRST,
-        or_printed: SECOND_FIRST,
-    };
-    goes(&rt, case, 0);
 }

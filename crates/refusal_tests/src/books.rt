@@ -98,9 +98,11 @@ fn are_posted(booked: &mut Booked<'_>) -> bool {
 /// The same of these events.
 fn goes_on<'a>(booked: &mut Booked<'a>, mut events: EventList<'a>) -> bool {
     let mut well = true;
-    while let Some(event) = events.pop_front() {
-        booked.event = event;
-        well = well && booked.goes();
+    for _ in 0..events.len() {
+        if let Some(event) = events.pop_front() {
+            booked.event = event;
+            well = well && booked.goes();
+        }
     }
     well
 }
