@@ -1,0 +1,4 @@
+mod Common
+mod Recorded
+mod Texts
+mod Turned

@@ -1,0 +1,4 @@
+pub mod Outside
+pub mod Recording
+pub mod RecordedText
+pub mod Unavailable
