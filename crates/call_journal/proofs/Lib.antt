@@ -1,0 +1,3 @@
+mod HeadLines
+mod Failing
+mod Fronts

@@ -1,0 +1,67 @@
+//! The whole block of a call.
+ghost use Rattle.std.specs.Prelude.{◌≡◌, ◌++◌, IfOk, OnErr, OnOk};
+ghost use Rattle.call_journal.specs.Block.{Ends, IsBlock, Journals};
+
+use crate::head::{Head, append_head};
+use fork_context::Context;
+use fork_listing::listing;
+use fork_text::append;
+use sip_lex::append_decimal;
+use std::alloc::{AllocError, Allocator};
+
+/// Appends how a call ended: it was answered, it is still open, or it failed, with the status that went up and its listing.
+fn append_end<A: Allocator + Clone>(
+    out: &mut Vec<u8, A>,
+    context: &Context<A>,
+) -> Result<(), AllocError>
+    ensures { OnOk result (Ends context.now.table out.old.items out.new.items) }
+{
+    if context.succeeded() {
+        append(out, b" answered\n")?;
+        return Ok(());
+    }
+    let Some((_, status)) = context.choice_with_status() else {
+        append(out, b" open\n")?;
+        return Ok(());
+    };
+    append(out, b" failed ")?;
+    append_decimal(out, u64::from(status))?;
+    append(out, b"\n")?;
+    match listing(context, out) {
+        Ok(()) => Ok(()),
+        Err(_) => Err(AllocError),
+    }
+}
+
+/// The block of a call.
+fn block_of<A: Allocator + Clone>(
+    alloc: A,
+    head: &Head<'_>,
+    context: &Context<A>,
+) -> Result<Vec<u8, A>, AllocError>
+    ensures { IfOk result (λ text. IsBlock head.now context.now.table text.items) }
+{
+    let mut text = Vec::new(alloc);
+    append_head(&mut text, head)?;
+    append_end(&mut text, context)?;
+    Ok(text)
+}
+
+/// Appends the block of a call: the line that says which call it was and how it ended, and the listing of one that failed (see
+/// [`listing`]). One that is cut off by the end of the proxy is said to be open.
+///
+/// # Errors
+///
+/// Only where the allocator refuses; `out` is then as it was.
+pub fn append_call<A: Allocator + Clone>(
+    out: &mut Vec<u8, A>,
+    head: &Head<'_>,
+    context: &Context<A>,
+) -> Result<(), AllocError>
+    ensures ok { OnOk result (Journals head.now context.now.table out.old.items out.new.items) }
+    ensures err { OnErr result (out.new.items ≡ out.old.items) }
+{
+    let alloc = out.allocator().clone()?;
+    let block = block_of(alloc, head, context)?;
+    out.extend_from_slice(&block)
+}

@@ -1,0 +1,24 @@
+//! What a reader of a journal may rely on.
+ghost use Rattle.std.specs.Prelude.{◌≡◌, ◌<◌, ◌^◌, ℕ, List, false, true};
+ghost use Rattle.sip_lex.specs.Cut.{Lacks};
+ghost use Rattle.fork_model.specs.Core.{Core};
+ghost use Rattle.fork_model.specs.Table.{is_finished, is_succeeded};
+ghost use Rattle.fork_context.specs.Led.{IsLedTo};
+ghost use Rattle.call_journal.specs.declared.head.Head.{Head};
+ghost use Rattle.call_journal.specs.Block.{IsBlock, IsFailedBlock};
+ghost use Rattle.call_journal.specs.Head.{head_text};
+
+use fork_listing::listings_of_forks_are_right;
+
+/// No text of a caller's ends a line or makes a word of its own.
+pub fn heads_are_lines()
+    ensures { (h : Head) → h.time < 2 ^ 64 → h.number < 2 ^ 64 → Lacks 10 (head_text h) }
+{}
+
+/// A call that failed is listed so that a check accepts it.
+pub fn failed_calls_are_listed_right()
+    ensures { (h : Head) (core : Core) (text : List ℕ) → IsLedTo core → is_finished core.table.rows ≡ true → is_succeeded core.table.rows ≡ false
+        → IsBlock h core.table text → IsFailedBlock h text }
+{
+    listings_of_forks_are_right();
+}
