@@ -1,0 +1,53 @@
+-- Why a proxy does not serve, or serves no longer.
+use Rattle.std.specs.Prelude.{◌≡◌, ◌<◌, ◌≤◌, ℕ, List, length}
+use Rattle.proxy_config.specs.Configuration.{IsConfiguration, IsMalformedAt}
+use Rattle.proxy_config.specs.Setup.{Setup}
+use Rattle.proxy_config.specs.declared.fault.SetupFault.{SetupFault}
+use Rattle.proxy_config.specs.declared.fault.SetupFault.TheVariants as read
+use Rattle.daemon_parts.specs.declared.fault.DaemonFault.{DaemonFault}
+use Rattle.daemon_parts.specs.declared.fault.DaemonFault.TheVariants as fault
+
+abbrev pub exit_status : DaemonFault → ℕ
+exit_status fault.Unreadable = 1
+exit_status fault.TooLong = 1
+exit_status (fault.Line n) = 1
+exit_status fault.Identity = 1
+exit_status fault.NoMemory = 3
+exit_status fault.Clock = 5
+exit_status fault.Socket = 5
+exit_status fault.Control = 5
+
+abbrev pub fault_read : SetupFault → DaemonFault
+fault_read (read.Line n) = fault.Line n
+fault_read read.NoMemory = fault.NoMemory
+
+-- a configuration has at most so many bytes
+abbrev pub most_text : ℕ
+most_text = 1048576
+
+-- what each fault says of a text that was read: it is too long; it is not, and this is its first malformed line
+abbrev pub IsFaultOf : List ℕ → DaemonFault → Type 0
+IsFaultOf text fault.TooLong = most_text < length text
+IsFaultOf text (fault.Line n) = (length text ≤ most_text) × IsMalformedAt text n
+IsFaultOf text fault.NoMemory = length text ≤ most_text
+IsFaultOf text _ = ⊥
+
+-- why a configuration's file is not taken
+abbrev pub IsConfigurationFault : DaemonFault → Type 0
+IsConfigurationFault fault.Unreadable = Unit {0}
+IsConfigurationFault fault.TooLong = Unit {0}
+IsConfigurationFault (fault.Line n) = Unit {0}
+IsConfigurationFault fault.NoMemory = Unit {0}
+IsConfigurationFault _ = ⊥
+
+-- why the socket cannot be used
+abbrev pub IsSocketFault : DaemonFault → Type 0
+IsSocketFault fault.Socket = Unit {0}
+IsSocketFault fault.NoMemory = Unit {0}
+IsSocketFault _ = ⊥
+
+-- why the control socket cannot be made
+abbrev pub IsControlFault : DaemonFault → Type 0
+IsControlFault fault.Control = Unit {0}
+IsControlFault fault.NoMemory = Unit {0}
+IsControlFault _ = ⊥

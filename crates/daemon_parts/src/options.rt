@@ -1,0 +1,18 @@
+//! How a proxy serves.
+
+/// How a proxy serves, beside its configuration.
+#[derive(Clone, Copy)]
+pub struct Options<'a> {
+    /// The file of its configuration.
+    pub config: &'a str,
+    /// The file of its control socket.
+    pub control: &'a str,
+    /// The file to which each call is written at its end.
+    pub journal: Option<&'a str>,
+    /// How many calls it keeps at most; while it has so many it opens no more.
+    pub most_calls: u64,
+    /// How many threads handle datagrams.
+    pub workers: usize,
+    /// Whether it stays on the path of the dialogs that pass it.
+    pub records: bool,
+}

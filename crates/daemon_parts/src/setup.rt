@@ -1,0 +1,91 @@
+//! The configuration of a proxy, as it is read at its start and anew while it serves.
+ghost use Rattle.std.specs.Prelude.{◌≡◌, ◌<◌, ◌↔◌, length, IfErr, IfOk, IsErrOf, IsTrue};
+ghost use Rattle.proxy_config.specs.Configuration.{IsConfiguration};
+ghost use Rattle.daemon_parts.specs.declared.fault.DaemonFault.TheVariants as faults;
+ghost use Rattle.daemon_parts.specs.Faults.{most_text, IsConfigurationFault, IsFaultOf};
+
+use crate::fault::{DaemonFault, configuration_fault};
+use proxy_config::Setup;
+use sip_via::Own;
+use std::alloc::{Allocator, Global};
+use std::fs;
+use std::fs::Files;
+
+/// How many bytes a configuration has at most.
+const MOST_TEXT: usize = 1_048_576;
+
+/// What answers are known by: a proxy keeps both as long as it runs (RFC 3261 section 16.7 step 1).
+#[derive(Clone, Copy, PartialEq, Eq, Debug)]
+pub struct Identity {
+    pub own: Own,
+    pub instance: u32,
+}
+
+impl Identity {
+    /// That of a setup.
+    pub fn of<A: Allocator + Clone>(setup: &Setup<A>) -> Identity
+        ensures own { result.own ≡ setup.now.own }
+        ensures instance { result.instance ≡ setup.now.instance }
+    {
+        Identity {
+            own: setup.own(),
+            instance: setup.instance(),
+        }
+    }
+}
+
+/// Reads the text of a configuration (see [`Setup::read`]).
+///
+/// # Errors
+///
+/// `TooLong` over 1,048,576 bytes; else `Line` with the first malformed line; `NoMemory` where the allocator refuses.
+pub fn read_text<A: Allocator + Clone>(alloc: A, text: &[u8]) -> Result<Setup<A>, DaemonFault>
+    ensures ok { IfOk result (λ setup. IsConfiguration text.now setup) }
+    ensures too_long { IsErrOf result faults.TooLong ↔ (most_text < length text.now) }
+    ensures fault { IfErr result (IsFaultOf text.now) }
+{
+    if text.len() > MOST_TEXT {
+        return Err(DaemonFault::TooLong);
+    }
+    Ok(Setup::read(alloc, text)?)
+}
+
+/// Reads a configuration's file.
+///
+/// # Errors
+///
+/// `Unreadable` where the system refuses; else those of [`read_text`].
+pub fn read_setup<R: Files>(
+    rt: &R,
+    alloc: Global,
+    config: &str,
+) -> Result<Setup<Global>, DaemonFault>
+    ensures { IfErr result IsConfigurationFault }
+{
+    let text = match fs::read(&(rt, alloc), config) {
+        Ok(text) => text,
+        Err(error) => return Err(configuration_fault(error)),
+    };
+    read_text(alloc, text.as_slice())
+}
+
+/// Reads a configuration's file anew for a proxy that has this identity.
+///
+/// # Errors
+///
+/// Those of [`read_setup`]; else `Identity` where it has another one.
+pub fn read_again<R: Files>(
+    rt: &R,
+    alloc: Global,
+    config: &str,
+    identity: Identity,
+) -> Result<Setup<Global>, DaemonFault>
+    ensures own { IfOk result (λ setup. setup.own ≡ identity.own) }
+    ensures instance { IfOk result (λ setup. setup.instance ≡ identity.instance) }
+{
+    let setup = read_setup(rt, alloc, config)?;
+    if setup.own() != identity.own || setup.instance() != identity.instance {
+        return Err(DaemonFault::Identity);
+    }
+    Ok(setup)
+}

@@ -1,0 +1,174 @@
+//! The socket that a proxy receives and sends by (RFC 3261 section 18).
+ghost use Rattle.std.specs.Prelude.{◌≤◌, IfErr, IfOk, IfSome, length};
+ghost use Rattle.daemon_parts.specs.Faults.{IsSocketFault};
+
+use crate::fault::{DaemonFault, socket_fault};
+use libc::types::pollfd;
+use libc::{EINTR, net};
+use sip_uri::Hop;
+use std::io::{Error, ErrorKind};
+use std::net::{Ipv4Addr, Net, SocketAddr, SocketAddrV4, UdpSocket};
+use std::os::fd::AsRawFd;
+
+/// How long a receive waits at most for a datagram, in milliseconds.
+const LONGEST_RECEIVE: u16 = 1_000;
+
+/// How long a send waits at most for room in the socket, in milliseconds.
+const LONGEST_SEND: u16 = 10;
+
+/// How many bytes of room are asked of the system for datagrams that wait to be received.
+const ROOM: i32 = 4_194_304;
+
+/// What became of a send.
+#[derive(Clone, Copy, Debug, PartialEq, Eq)]
+pub enum Sent {
+    /// The system took the whole datagram.
+    Whole,
+    /// It had no room in time, so the datagram is lost, as it may be on its way: a transaction sends its own again.
+    Lost,
+    /// It refused the datagram.
+    Refused,
+}
+
+/// The UDP socket that all threads of a proxy share.
+#[derive(Drop)]
+pub struct Socket {
+    udp: UdpSocket,
+}
+
+fn address(hop: Hop) -> SocketAddr {
+    let [a, b, c, d] = hop.addr;
+    SocketAddr::V4(SocketAddrV4::new(Ipv4Addr::new(a, b, c, d), hop.port))
+}
+
+fn hop_of(address: SocketAddr) -> Option<Hop> {
+    match address {
+        SocketAddr::V4(v4) => Some(Hop {
+            addr: v4.ip().octets(),
+            port: v4.port(),
+        }),
+        SocketAddr::V6(_) => None,
+    }
+}
+
+/// Asks for room for datagrams that wait. The system may give less; then more of them are lost in a burst.
+fn ask_for_room(udp: &UdpSocket) {
+    let mut value = [0u8; 16];
+    value[..4].copy_from_slice(&ROOM.to_ne_bytes());
+    let _ = unsafe { net::setsockopt(udp.as_raw_fd(), net::SOL_SOCKET, net::SO_RCVBUF, &value, 4) };
+}
+
+impl Socket {
+    /// A socket that receives at this address. No call on it waits by itself: a time limit of the socket would be counted in
+    /// ticks of the system's clock, of which 10 ms may take 24.
+    ///
+    /// # Errors
+    ///
+    /// `Socket` where the system refuses, `NoMemory` where it does so for want of memory.
+    pub fn bind<R: Net>(rt: &R, own: Hop) -> Result<Socket, DaemonFault>
+        ensures { IfErr result IsSocketFault }
+    {
+        let udp = match UdpSocket::bind(rt, address(own)) {
+            Ok(udp) => udp,
+            Err(error) => return Err(socket_fault(error)),
+        };
+        if let Err(error) = udp.set_nonblocking(true) {
+            return Err(socket_fault(error));
+        }
+        ask_for_room(&udp);
+        Ok(Socket { udp })
+    }
+
+    /// Waits until a receive, or a send, would not have to wait, so many milliseconds at most. Says whether it is so; a signal ends
+    /// the wait, too.
+    ///
+    /// # Errors
+    ///
+    /// `Socket` where the system cannot wait.
+    fn is_ready(&self, what: i16, longest: u16) -> Result<bool, DaemonFault>
+        ensures { IfErr result IsSocketFault }
+    {
+        let mut asked = [pollfd {
+            fd: self.udp.as_raw_fd(),
+            events: what,
+            revents: 0,
+        }];
+        let count = net::poll(&mut asked, i32::from(longest));
+        if count >= 0 {
+            return Ok(count > 0);
+        }
+        match os::errno() {
+            EINTR => Ok(false),
+            errno => Err(socket_fault(Error::from_raw_os_error(errno))),
+        }
+    }
+
+    /// The length and the source of a datagram that waits in the socket, or None where none does.
+    ///
+    /// # Errors
+    ///
+    /// `Socket` where the receive failed.
+    fn take(&self, buffer: &mut [u8]) -> Result<Option<(usize, Hop)>, DaemonFault>
+        ensures fits { IfOk result (λ came. IfSome came (λ packet. packet.0 ≤ length buffer.new)) }
+        ensures fault { IfErr result IsSocketFault }
+    {
+        match self.udp.recv_from(buffer) {
+            Ok((count, from)) => match hop_of(from) {
+                Some(source) => Ok(Some((count, source))),
+                None => Ok(None),
+            },
+            Err(error) => match error.kind() {
+                ErrorKind::WouldBlock | ErrorKind::Interrupted => Ok(None),
+                _ => Err(socket_fault(error)),
+            },
+        }
+    }
+
+    /// A datagram that waits in the socket or comes within a second; None where none does. One that waits costs one call of the system.
+    ///
+    /// # Errors
+    ///
+    /// `Socket` where the receive failed.
+    pub fn receive(&self, buffer: &mut [u8]) -> Result<Option<(usize, Hop)>, DaemonFault>
+        ensures fits { IfOk result (λ came. IfSome came (λ packet. packet.0 ≤ length buffer.new)) }
+        ensures fault { IfErr result IsSocketFault }
+    {
+        let waiting = self.take(buffer)?;
+        if waiting.is_some() {
+            return Ok(waiting);
+        }
+        if !self.is_ready(net::POLLIN, LONGEST_RECEIVE)? {
+            return Ok(None);
+        }
+        self.take(buffer)
+    }
+
+    /// Wakes who receives, by an empty datagram to itself.
+    pub fn wake(&self, own: Hop) {
+        let _ = self.udp.send_to(b"", address(own));
+    }
+
+    /// Sends a datagram where the socket has room for it.
+    fn put(&self, bytes: &[u8], to: Hop) -> Sent {
+        match self.udp.send_to(bytes, address(to)) {
+            Ok(count) if count == bytes.len() => Sent::Whole,
+            Ok(_) => Sent::Refused,
+            Err(error) => match error.kind() {
+                ErrorKind::WouldBlock | ErrorKind::Interrupted => Sent::Lost,
+                _ => Sent::Refused,
+            },
+        }
+    }
+
+    /// Sends a datagram. Where the socket has no room it is tried once more as soon as it has, or in 10 ms: what waits for hosts that
+    /// cannot be found fills the room of all others, and would else hold every worker for seconds.
+    pub fn send(&self, bytes: &[u8], to: Hop) -> Sent {
+        match self.put(bytes, to) {
+            Sent::Lost => {
+                let _ = self.is_ready(net::POLLOUT, LONGEST_SEND);
+                self.put(bytes, to)
+            }
+            sent => sent,
+        }
+    }
+}
