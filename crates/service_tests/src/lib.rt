@@ -1,6 +1,8 @@
-//! Tests of the public calls of `fork_clock`, `fork_control` and of what a shelf forgets, a file for each.
+//! Tests of the public calls of the crates of the service and of what a shelf forgets, a file for each.
 #![tactic(auto)]
 
+#[cfg(test)]
+mod by_call;
 #[cfg(test)]
 mod clock;
 #[cfg(test)]
@@ -12,4 +14,18 @@ mod forgetting;
 #[cfg(test)]
 mod holds;
 #[cfg(test)]
+mod jobs;
+#[cfg(test)]
+mod journal;
+#[cfg(test)]
+mod messages;
+#[cfg(test)]
+mod metrics;
+#[cfg(test)]
+mod parts;
+#[cfg(test)]
+mod recording;
+#[cfg(test)]
 mod schedule;
+#[cfg(test)]
+mod turning;
