@@ -69,7 +69,7 @@ impl<A: Allocator> RowExtras<A> {
     }
 
     /// Keeps what is stored with an answer.
-    pub fn store(&mut self, left: Vec<Offer<A>, A>, challenges: Vec<Challenge<A>, A>)
+    pub(crate) fn store(&mut self, left: Vec<Offer<A>, A>, challenges: Vec<Challenge<A>, A>)
         ensures { self.new ≡ record self.old { left = left.items; challenges = challenges.items } }
     {
         self.left = left;
