@@ -5,7 +5,6 @@
 //! it so that reading gives it back.
 #![tactic(auto)]
 
-mod copies;
 mod fault;
 mod fields;
 mod head;
@@ -29,6 +28,5 @@ pub use name::Values;
 pub use needed::Needed;
 pub use parts::{CSeqLine, Header, Start};
 pub use write::{
-    append_end, append_header, append_headers, append_pieces, append_request_line,
-    append_status_line, header_len, headers_len, request_line_len, status_line_len,
+    append_pieces, append_request_line, append_status_line, request_line_len, status_line_len,
 };

@@ -1,6 +1,5 @@
 //! Messages.
 
-use crate::copies::{copied_headers, copied_start};
 use crate::fault::ReadFault;
 use crate::fields::{message_cseq, value_of};
 use crate::name::Values;
@@ -152,20 +151,6 @@ impl<A: Allocator> Message<A> {
         ensures { result.now ≡ self.now.body }
     {
         self.body.as_slice()
-    }
-
-    /// The same message once more, in memory of its own.
-    ///
-    /// # Errors
-    ///
-    /// Only where `alloc` refuses.
-    pub fn copy<B: Allocator + Clone>(&self, alloc: B) -> Result<Message<B>, AllocError>
-        ensures { IfOk result (λ m. m ≡ self.now) }
-    {
-        let start = copied_start(&alloc, &self.start)?;
-        let headers = copied_headers(&alloc, &self.headers)?;
-        let body = Vec::from_slice(alloc, &self.body)?;
-        Ok(Message::from_parts(start, headers, body))
     }
 
     /// Appends the text that spells the message: reading it gives the message back. `out` grows once

@@ -133,7 +133,7 @@ pub fn append_status_line<B: Allocator>(
 /// # Errors
 ///
 /// Only where the growth of `out` is refused; `out` is then unchanged.
-pub fn append_header<B: Allocator>(
+fn append_header<B: Allocator>(
     out: &mut Vec<u8, B>,
     name: &[u8],
     value: &[u8],
@@ -155,7 +155,7 @@ pub fn append_header<B: Allocator>(
 /// # Errors
 ///
 /// Only where the growth of `out` is refused; `out` is then unchanged.
-pub fn append_end<B: Allocator>(out: &mut Vec<u8, B>, body: &[u8]) -> Result<(), AllocError>
+fn append_end<B: Allocator>(out: &mut Vec<u8, B>, body: &[u8]) -> Result<(), AllocError>
     ensures ok { OnOk result (out.new.items ≡ out.old.items ++ (ended [] ++ body.now)) }
     ensures err { OnErr result (out.new.items ≡ out.old.items) }
     ensures room { vec_len out.old + length (ended [] ++ body.now) ≤ vec_capacity out.old → IsOk result }
@@ -205,7 +205,7 @@ fn append_lines<A: Allocator, B: Allocator>(
 /// # Errors
 ///
 /// Only where the growth of `out` is refused; `out` is then unchanged.
-pub fn append_headers<A: Allocator, B: Allocator>(
+fn append_headers<A: Allocator, B: Allocator>(
     out: &mut Vec<u8, B>,
     headers: &[Header<A>],
 ) -> Result<(), AllocError>
@@ -285,14 +285,14 @@ pub fn status_line_len(reason: &[u8]) -> usize
 }
 
 /// How many bytes a header line is with its end.
-pub fn header_len(name: &[u8], value: &[u8]) -> usize
+fn header_len(name: &[u8], value: &[u8]) -> usize
     ensures { result ≡ saturated (length (header_text (record { name = name.now; value = value.now }))) }
 {
     len_of(&[name, b": ", value, b"\r\n"])
 }
 
 /// How many bytes header lines are with their ends.
-pub fn headers_len<A: Allocator>(headers: &[Header<A>]) -> usize
+fn headers_len<A: Allocator>(headers: &[Header<A>]) -> usize
     ensures { result ≡ saturated (length (flat_map header_text (views headers.now))) }
 {
     let mut len = 0usize;
@@ -312,7 +312,7 @@ fn start_len<A: Allocator>(start: &Start<A>) -> usize
 }
 
 /// How many bytes a message of these parts is.
-pub fn message_len<A: Allocator>(start: &Start<A>, headers: &[Header<A>], body: &[u8]) -> usize
+fn message_len<A: Allocator>(start: &Start<A>, headers: &[Header<A>], body: &[u8]) -> usize
     ensures { result
         ≡ saturated (length (spelling (record { start = view_start start.now; headers = views headers.now; body = body.now }))) }
 {
