@@ -2,3 +2,4 @@ pub mod Common
 pub mod laws
 pub mod ByKeySteps
 pub mod GroupSteps
+pub mod NewRowLists

@@ -1,6 +1,7 @@
 -- The rows of a table, of which a tree keeps one part and a list beside it the other.
 use Rattle.std.specs.Prelude.{ℕ, zero, suc, List, [], ◌∷◌, ◌++◌, Option, map, unwrap_or, slice_get}
 use Rattle.std.specs.Option.{option_map, option_to_list}
+use Rattle.fork_model.specs.History.{Target}
 use Rattle.fork_model.specs.Table.{Offer, Challenge, End, Stored, Taken, Silent, Never, Accepted, State, Idle, Trying, Rung, Ended, Row}
 
 -- the extras of a row: what identifies its target, the place that it came in at, and of its stored answer the contacts
@@ -59,3 +60,10 @@ q_at qs place = unwrap_or (slice_get qs place) 0
 
 abbrev pub q_of_pair : List ℕ → ℕ × ℕ → ℕ
 q_of_pair qs p = q_at qs p.1
+
+-- the extras of the row of the target at a place
+abbrev pub extras_of_target : ℕ → Target → RowExtras
+extras_of_target place target = record { key = target.key; place = place; left = []; challenges = [] }
+
+abbrev pub target_extras : List Target → ℕ × ℕ → Option RowExtras
+target_extras targets p = option_map (extras_of_target p.1) (slice_get targets p.1)

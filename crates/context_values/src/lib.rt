@@ -6,15 +6,19 @@
 mod copy;
 mod event;
 mod extras_table;
+mod new_target;
 mod numbering;
 mod offer;
 mod reply;
 mod row_extras;
+mod target_rows;
 
 pub use copy::{copied_challenges, copied_offers};
 pub use event::{Answer, Event, Target};
 pub use extras_table::ExtrasTable;
-pub use numbering::numbered;
+pub use new_target::{NewTarget, contact_qs, extras_at};
+pub use numbering::{numbered, qs_at};
 pub use offer::Offer;
 pub use reply::{Choice, Numbers, Reply, Up};
 pub use row_extras::RowExtras;
+pub use target_rows::{target_extras, target_qs};

@@ -1,7 +1,8 @@
 //! The order in which targets are tried (RFC 3261 section 16.6).
-ghost use Rattle.std.specs.Prelude.{◌≡◌, ◌≤◌, ◌<◌, ◌++◌, All, length, IfOk, OnOk};
+ghost use Rattle.std.specs.Prelude.{◌≡◌, ◌≤◌, ◌<◌, ◌++◌, All, length, map, IfOk, OnOk};
 ghost use Rattle.fork_model.specs.Table.{most_targets};
 ghost use Rattle.fork_model.specs.Groups.{in_group, numbered};
+ghost use Rattle.context_values.specs.RowExtras.{q_at, q_of_pair};
 
 use fork_rank::groups;
 use std::alloc::{AllocError, Allocator};
@@ -36,4 +37,30 @@ fn push_group<A: Allocator>(
         pairs.push((group, place as u16))?;
     }
     Ok(())
+}
+
+/// The q at this place.
+fn q_at(qs: &[u16], place: u16) -> u16
+    ensures { result ≡ q_at qs.now place }
+{
+    match qs.get(place as usize) {
+        Some(q) => *q,
+        None => 0,
+    }
+}
+
+/// The q at these places, each of which stands behind the number of its group, in thousandths; the only error is want of
+/// memory.
+pub fn qs_at<A: Allocator + Clone>(
+    alloc: &A,
+    qs: &[u16],
+    numbered: &[(u16, u16)],
+) -> Result<Vec<u16, A>, AllocError>
+    ensures { IfOk result (λ ordered. ordered.items ≡ map (q_of_pair qs.now) numbered.now) }
+{
+    let mut ordered = Vec::new(alloc.clone()?);
+    for &(_, place) in numbered {
+        ordered.push(q_at(qs, place))?;
+    }
+    Ok(ordered)
 }

@@ -52,10 +52,10 @@ pub use Rattle.fork_context.specs.declared.row.RowView.{RowView}
 pub use Rattle.fork_context.specs.inner.Askers.{gathered}
 pub use Rattle.fork_context.specs.inner.Closing.{cancel_row, gets_cancel, is_ringing, never_row, never_state}
 pub use Rattle.fork_context.specs.inner.ForkInside.{IsFork, accepts_end}
-pub use Rattle.fork_context.specs.inner.Opening.{extras_of_target, idled, target_extras, waiting_rows, waiting_table}
+pub use Rattle.fork_context.specs.inner.Opening.{idled, waiting_rows, waiting_table}
 pub use Rattle.fork_context.specs.inner.Change.{MayChange, changed, effect_of, may_take}
 pub use Rattle.fork_context.specs.inner.Ready.{numbers_from}
-pub use Rattle.context_values.specs.RowExtras.{RowExtras, contact_qs, end_with_extras, q_at, q_of_pair, row_extras_at, row_extras_of, row_with_extras, state_with_extras, with_extras, with_row_extras}
+pub use Rattle.context_values.specs.RowExtras.{RowExtras, contact_qs, end_with_extras, extras_of_target, q_at, q_of_pair, row_extras_at, row_extras_of, row_with_extras, state_with_extras, target_extras, with_extras, with_row_extras}
 pub use Rattle.fork_context.specs.inner.RowShown.{ref_shown}
 pub use Rattle.fork_context.specs.inner.StandIn.{tree_row}
 pub use Rattle.fork_context.specs.inner.Stepped.{cancelled_at, number_if}

@@ -19,7 +19,6 @@ pub mod AddedRows
 pub mod Effects
 pub mod ForkStart
 pub mod OpeningStarts
-pub mod NewRowLists
 pub mod ChallengeSteps
 pub mod FirstRows
 pub mod StepLaws

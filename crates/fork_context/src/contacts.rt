@@ -9,59 +9,16 @@ ghost use Rattle.fork_context.specs.inner.StandIn.{tree_row};
 ghost use Rattle.fork_context.specs.inner.ContactsSoFar.{taken_more};
 
 use crate::fork::Fork;
-use crate::new_rows::row_extras_of;
 use crate::targets::Targets;
-use context_values::{Offer, copied_offers};
+use context_values::{NewTarget, Offer, copied_offers};
 use fork_tree::RowRef;
 use std::alloc::{AllocError, Allocator};
 use std::marker::Model;
 
-/// A contact that becomes a target, with its place in the answer.
-#[derive(Drop)]
-pub(crate) struct Fresh<A: Allocator> {
-    place: usize,
-    offer: Offer<A>,
-}
-
-impl<A: Allocator> Model for Fresh<A> {
-    ghost use Rattle.std.specs.Prelude.{ℕ};
-    ghost use Rattle.fork_model.specs.Table as table;
-
-    ghost Value = { ℕ × table.Offer };
-
-    ghost view = { λ f. (f.place, f.offer) };
-}
-
-impl<A: Allocator> Fresh<A> {
-    /// Its q in thousandths.
-    pub(crate) fn q(&self) -> u16
-        ensures { result ≡ self.now.1.q }
-    {
-        self.offer.q()
-    }
-
-    /// Its place in the answer.
-    pub(crate) fn place(&self) -> usize
-        ensures { result ≡ self.now.0 }
-    {
-        self.place
-    }
-
-    /// The key of its target.
-    pub(crate) fn key(&self) -> &[u8]
-        ensures { result.now ≡ unwrap_or self.now.1.key [] }
-    {
-        match self.offer.key() {
-            Some(key) => key,
-            None => &[],
-        }
-    }
-}
-
 /// The contacts that become targets, and those that are left.
 #[derive(Drop)]
 pub(crate) struct ContactLists<A: Allocator> {
-    pub(crate) fresh: Vec<Fresh<A>, A>,
+    pub(crate) fresh: Vec<NewTarget<A>, A>,
     pub(crate) left: Vec<Offer<A>, A>,
 }
 
@@ -98,7 +55,7 @@ fn outcome_of<A: Allocator + Clone>(targets: &Targets<'_, A>, offer: &Offer<A>) 
 
 impl<A: Allocator> ContactLists<A> {
     /// Takes one more contact.
-    fn take(&mut self, contact: Fresh<A>) -> Result<(), AllocError>
+    fn take(&mut self, contact: NewTarget<A>) -> Result<(), AllocError>
         ensures { OnOk result (self.new ≡ record self.old { fresh = self.old.fresh ++ contact ∷ [] }) }
     {
         self.fresh.push(contact)?;
@@ -127,11 +84,8 @@ fn take_fresh<A: Allocator + Clone>(
     ensures taken { OnOk result (taking.new ≡ record taking.old { fresh = taking.old.fresh ++ (place, offer.now) ∷ [] }) }
     ensures keys { OnOk result (targets.new ≡ targets.old ++ unwrap_or offer.now.key [] ∷ []) }
 {
-    let contact = Fresh {
-        place,
-        offer: offer.copy(alloc)?,
-    };
-    targets.add(row_extras_of(alloc, &contact)?)?;
+    let contact = NewTarget::new(alloc, place, offer)?;
+    targets.add(contact.row_extras(alloc)?)?;
     taking.take(contact)
 }
 

@@ -2,6 +2,7 @@
 mod calls;
 mod happening;
 mod histories;
+mod new_rows;
 mod play;
 mod short_histories;
 mod values;

@@ -1,11 +1,10 @@
 //! A message written part by part, questions to it, and tags.
 use crate::bytes::{has, holds_of, is};
 use crate::holds::holds;
-use crate::messages::{REQUEST, message_of, spells, text_with};
+use crate::messages::{REQUEST, message_of, spells};
 use sip_text::{
-    Header, Message, append_end, append_header, append_headers, append_pieces, append_request_line,
-    append_status_line, header_len, header_values_are_values, headers_len, request_line_len,
-    status_line_len, trimmed_part_is_a_value,
+    Message, append_pieces, append_request_line, append_status_line, header_values_are_values,
+    request_line_len, status_line_len, trimmed_part_is_a_value,
 };
 use std::alloc::{AllocError, Global};
 use std::process::Abort;
@@ -21,60 +20,26 @@ const RESPONSE: [&[u8]; 7] = [
     b"",
 ];
 
-/// A request of the header lines of another, and two more.
-fn append_request(out: &mut Vec<u8>, headers: &[Header<Global>]) -> Result<(), AllocError> {
+/// A request line and a header line.
+const BEGUN: &[u8] = b"OPTIONS sip:bob@example.com SIP/2.0\r\nSubject: x\r\n";
+
+/// Appends these, the header line in pieces.
+fn append_request(out: &mut Vec<u8>) -> Result<(), AllocError> {
     append_request_line(out, b"OPTIONS", b"sip:bob@example.com")?;
-    append_headers(out, headers)?;
-    append_pieces(out, &[b"Subject", b": ", b"x\r\n"])?;
-    append_header(out, b"Priority", b"urgent")?;
-    append_end(out, b"body")
+    append_pieces(out, &[b"Subject", b": ", b"x\r\n"])
 }
 
-/// How many bytes that request is.
-fn request_len(headers: &[Header<Global>]) -> usize {
-    request_line_len(b"OPTIONS", b"sip:bob@example.com")
-        .saturating_add(headers_len(headers))
-        .saturating_add(header_len(b"Subject", b"x"))
-        .saturating_add(header_len(b"Priority", b"urgent"))
-        .saturating_add(6)
-}
-
-/// Whether the request is written as this text, in as many bytes as was said.
-fn is_appended_as(alloc: Global, headers: &[Header<Global>], wanted: &[u8]) -> bool {
+/// Whether they are written so, the request line in as many bytes as was said.
+fn is_appended(alloc: Global) -> bool {
     let mut out = Vec::new(alloc);
-    append_request(&mut out, headers).is_ok()
-        && is(&out, wanted)
-        && out.len() == request_len(headers)
-}
-
-/// Whether the request is written as these lines and that body, in as many bytes as was said.
-fn is_appended(alloc: Global, lines: &[&[u8]]) -> bool {
-    match (
-        message_of(alloc, &REQUEST),
-        text_with(alloc, lines, b"body"),
-    ) {
-        (Some(message), Some(wanted)) => is_appended_as(alloc, message.headers(), &wanted),
-        _ => false,
-    }
+    let line = request_line_len(b"OPTIONS", b"sip:bob@example.com");
+    append_request(&mut out).is_ok() && is(&out, BEGUN) && line.saturating_add(12) == out.len()
 }
 
 #[test]
 fn appends_a_request(rt: HostRuntime) {
-    let lines: [&[u8]; 11] = [
-        REQUEST[0],
-        REQUEST[1],
-        REQUEST[2],
-        REQUEST[3],
-        REQUEST[4],
-        REQUEST[5],
-        REQUEST[6],
-        REQUEST[7],
-        b"Subject: x",
-        b"Priority: urgent",
-        b"",
-    ];
-    let well = is_appended(rt.alloc(), &lines);
-    holds(&rt, well, "the request in parts");
+    let well = is_appended(rt.alloc());
+    holds(&rt, well, "a request line and a header line in pieces");
 }
 
 /// Whether a status line of that status is this with its end, in as many bytes as was said.
@@ -147,27 +112,18 @@ fn tells_requests_from_responses(rt: HostRuntime) {
     holds(&rt, well, "a response");
 }
 
-/// Whether the copy of a message is written as these lines.
-fn is_copied(alloc: Global, message: &Message<Global>, lines: &[&[u8]]) -> bool {
-    match message.copy(alloc) {
-        Ok(copy) => spells(alloc, &copy, lines),
-        Err(_) => false,
-    }
-}
-
 /// The message of a message's parts.
 fn made_of_parts(message: Message<Global>) -> Message<Global> {
     let (start, headers, body) = message.into_parts();
     Message::from_parts(start, headers, body)
 }
 
-/// Whether a message is written as these lines once it is copied, and once it is made of its parts.
+/// Whether a message is written as these lines once it is made of its parts.
 fn is_kept(alloc: Global, lines: &[&[u8]]) -> bool {
     match message_of(alloc, lines) {
         Some(message) => {
-            let copied = is_copied(alloc, &message, lines);
             let made = made_of_parts(message);
-            copied && spells(alloc, &made, lines)
+            spells(alloc, &made, lines)
         }
         None => false,
     }

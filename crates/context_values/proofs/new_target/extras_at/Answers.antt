@@ -1,7 +1,7 @@
-use Rattle.fork_context.proofs.Common.{rules, row_extras_at}
+use Rattle.context_values.proofs.Common.{rules, row_extras_at}
 use Rattle.std.proofs.lemmas.List.{get_or_default}
-use Rattle.fork_context.proofs.NewRowLists.{pushed_more}
-use Rattle.fork_context.proofs.new_rows.extras_at.Goals as goal
+use Rattle.context_values.proofs.NewRowLists.{pushed_more}
+use Rattle.context_values.proofs.new_target.extras_at.Goals as goal
 
 pub loop-pair-preserved : goal.loop-pair-preserved
 loop-pair-preserved g c =

@@ -1,5 +1,5 @@
-use Rattle.fork_context.proofs.Common.{◌≡◌, map, take, q_of_pair}
-use Rattle.fork_context.proofs.new_rows.qs_at.Given as goal
+use Rattle.context_values.proofs.Common.{◌≡◌, map, take, q_of_pair}
+use Rattle.context_values.proofs.numbering.qs_at.Given as goal
 
 abbrev pub invariant-loop-place : goal.invariant-loop-place
 invariant-loop-place g l = l.ordered.items ≡ map (q_of_pair l.qs) (take l.place-index l.numbered)

@@ -1,6 +1,6 @@
-use Rattle.fork_context.proofs.Common.{arith, rules, target_extras}
-use Rattle.fork_context.proofs.NewRowLists.{extras_more}
-use Rattle.fork_context.proofs.opening.extras_of.Goals as goal
+use Rattle.context_values.proofs.Common.{arith, rules, target_extras}
+use Rattle.context_values.proofs.NewRowLists.{extras_more}
+use Rattle.context_values.proofs.target_rows.target_extras.Goals as goal
 
 pub loop-group-preserved : goal.loop-group-preserved
 loop-group-preserved g c =

@@ -1,5 +1,5 @@
 -- A list built of what a function gives of each element, if it gives anything.
-use Rattle.fork_context.proofs.Common.{◌≡◌, ℕ, ◌+◌, ◌<◌, List, [], ◌∷◌, ◌++◌, length, take, get_or, Option, ap, ◌∙◌, take_more, filter_map, filter_map-append, option_to_list, common_steps, arith}
+use Rattle.context_values.proofs.Common.{◌≡◌, ℕ, ◌+◌, ◌<◌, List, [], ◌∷◌, ◌++◌, length, take, get_or, Option, ap, ◌∙◌, take_more, filter_map, filter_map-append, option_to_list, common_steps, arith}
 
 filter_map-push : {X Y : Type 0} (f : X → Option Y) (xs : List X) (x : X) → filter_map f (xs ++ x ∷ []) ≡ filter_map f xs ++ option_to_list (f x)
 filter_map-push f xs x = grind (arith, common_steps, filter_map-append)

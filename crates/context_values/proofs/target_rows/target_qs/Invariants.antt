@@ -1,5 +1,5 @@
-use Rattle.fork_context.proofs.Common.{◌≡◌, map, take, AllByRecursion, Target, IsTargetInRange}
-use Rattle.fork_context.proofs.opening.qs_of.Given as goal
+use Rattle.context_values.proofs.Common.{◌≡◌, map, take, AllByRecursion, Target, IsTargetInRange}
+use Rattle.context_values.proofs.target_rows.target_qs.Given as goal
 
 abbrev pub invariant-loop-target : goal.invariant-loop-target
 invariant-loop-target g l =

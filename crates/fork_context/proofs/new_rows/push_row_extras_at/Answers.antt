@@ -1,5 +1,0 @@
-use Rattle.fork_context.proofs.Common.{append-nil, slice_get_past, common_steps, arith}
-use Rattle.fork_context.proofs.new_rows.push_row_extras_at.Goals as goal
-
-pub returns-in-None : goal.returns-in-None
-returns-in-None g c = grind (arith, common_steps, slice_get_past, append-nil)
