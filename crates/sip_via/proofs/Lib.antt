@@ -10,4 +10,3 @@ pub mod ViaReads
 pub mod Walks
 pub mod SentLaws
 pub mod OwnSent
-pub mod NumberDigits

@@ -4,7 +4,7 @@ ghost use Rattle.std.specs.Prelude.{◌≡◌, IfSome, IfNone, false, true};
 ghost use Rattle.std.specs.Option.{option_copied};
 ghost use Rattle.sip_via.specs.inner.SeenParts.{seen_parts};
 ghost use Rattle.sip_via.specs.inner.SentParts.{sent_parts};
-ghost use Rattle.sip_via.specs.ViaParts.{are_parts, is_port_if_any, is_trimmed, is_via, or_empty, parts_of, port_and_params, port_if_any};
+ghost use Rattle.sip_via.specs.ViaParts.{are_parts, is_port_if_any, is_trimmed, is_via, parts_of, port_and_params, port_if_any};
 
 use crate::params::are_params;
 use sip_lex::{cut_at, cut_at_space, is_token, trim, trim_end, trim_start};
@@ -19,12 +19,6 @@ pub(crate) struct Cut<'a> {
     pub host: &'a [u8],
     pub port: Option<&'a [u8]>,
     pub params: Option<&'a [u8]>,
-}
-
-fn or_empty(text: Option<&[u8]>) -> &[u8]
-    ensures { result.now ≡ or_empty (option_copied text.entry) }
-{
-    text.unwrap_or(b"")
 }
 
 /// The port and the parameters in what stands behind the host.
@@ -70,9 +64,9 @@ fn cut_spelled(text: &[u8]) -> Cut<'_>
     ensures { seen_parts result ≡ parts_of text.now }
 {
     let (protocol, rest) = cut_at(text, b'/');
-    let (version, rest) = cut_at(or_empty(rest), b'/');
-    let (transport, rest) = cut_at_space(trim_start(or_empty(rest)));
-    cut_sent(trim_end(protocol), trim(version), transport, or_empty(rest))
+    let (version, rest) = cut_at(rest.unwrap_or(b""), b'/');
+    let (transport, rest) = cut_at_space(trim_start(rest.unwrap_or(b"")));
+    cut_sent(trim_end(protocol), trim(version), transport, rest.unwrap_or(b""))
 }
 
 /// Cuts any text into the parts that a Via value would have. Most values are spelled in one way up to the transport.

@@ -4,9 +4,10 @@ ghost use Rattle.std.specs.Prelude.{◌≡◌, IfOk, true};
 ghost use Rattle.sip_text.specs.Message.{is_value};
 ghost use Rattle.sip_via.specs.OwnVia.{IsOwn, own_via};
 
-use crate::address::{append_address, append_number};
+use crate::address::append_address;
 use crate::branch::{BranchName, write_branch};
 use crate::own::Own;
+use sip_lex::append_decimal;
 use std::alloc::{AllocError, Allocator};
 
 /// Shows that the numbers of the own address are bounded.
@@ -33,7 +34,7 @@ pub fn own_via<A: Allocator>(
     text.extend_from_slice(b"SIP/2.0/UDP ")?;
     append_address(&mut text, own.addr)?;
     text.push(b':')?;
-    append_number(&mut text, u64::from(own.port))?;
+    append_decimal(&mut text, u64::from(own.port))?;
     text.extend_from_slice(b";branch=")?;
     write_branch(branch, &mut text)?;
     Ok(text)

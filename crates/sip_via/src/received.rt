@@ -17,13 +17,13 @@ ghost use Rattle.sip_via.specs.TopVia.{top_value};
 ghost use Rattle.sip_via.specs.ViaFaults.{Gives, refusal};
 ghost use Rattle.sip_via.specs.ViaParts.{is_named, is_via, params_of, parts_of, via_of, via_of_parts};
 
-use crate::address::{append_address, append_number, is_address};
+use crate::address::{append_address, is_address};
 use crate::cut::{Cut, cut_value, cut_via, port_if_any};
 use crate::edits::place_of;
 use crate::own::ViaFault;
 use crate::params::{Params, has_rport};
 use crate::values::{VIA, top_via};
-use sip_lex::{Shelter, cut_at, cut_outside, trim, trim_end};
+use sip_lex::{Shelter, append_decimal, cut_at, cut_outside, trim, trim_end};
 use sip_text::{Header, Message};
 use sip_uri::Hop;
 use std::alloc::{AllocError, Allocator};
@@ -76,7 +76,7 @@ fn append_filled<A: Allocator>(
     let name = trim_end(param);
     out.extend_from_slice(name)?;
     out.push(b'=')?;
-    append_number(out, u64::from(port))?;
+    append_decimal(out, u64::from(port))?;
     out.extend_from_slice(&param[name.len()..])?;
     Ok(())
 }
