@@ -2,16 +2,15 @@
 ghost use Rattle.std.specs.Prelude.{◌≡◌, ◌≤◌, ◌++◌, ◌∷◌, [], map, IfOk, OnOk};
 ghost use Rattle.std.specs.List.{list_all};
 ghost use Rattle.std.specs.Option.{option_copied};
-ghost use Rattle.sip_via.specs.Address.{address_text, dotted};
 ghost use Rattle.fork_text.specs.Field.{most_q};
 ghost use Rattle.proxy_config.specs.Setup.{locations_of};
 ghost use Rattle.proxy_routing.specs.Targets.{choice_at, choices_by, choices_of, has_hop, hop_by, hop_if_any, is_domain, target_of, targets_of};
 
 use fork_context::Target;
 use proxy_config::{Location, Setup};
-use sip_lex::append_decimal;
 use sip_route::FirstRoute;
 use sip_uri::{Hop, SipUri};
+use sip_via::is_address;
 use std::alloc::{AllocError, Allocator};
 use std::marker::Model;
 
@@ -78,44 +77,12 @@ impl<'a, A: Allocator + Clone> Choice<'a, A> {
 
 // ---- which targets there are
 
-/// Adds a number behind a dot.
-fn add_dotted<A: Allocator>(text: &mut Vec<u8, A>, n: u8) -> Result<(), AllocError>
-    ensures { OnOk result (text.new.items ≡ text.old.items ++ dotted n) }
-{
-    text.push(b'.')?;
-    append_decimal(text, u64::from(n))
-}
-
-/// An address as four decimal numbers with dots between them.
-fn host_of<A: Allocator>(alloc: A, addr: [u8; 4]) -> Result<Vec<u8, A>, AllocError>
-    ensures { IfOk result (λ text. text.items ≡ address_text addr) }
-{
-    let mut text = Vec::new(alloc);
-    append_decimal(&mut text, u64::from(addr[0]))?;
-    add_dotted(&mut text, addr[1])?;
-    add_dotted(&mut text, addr[2])?;
-    add_dotted(&mut text, addr[3])?;
-    Ok(text)
-}
-
 /// Whether the proxy answers for this host: the host is that of the proxy's domain, in upper or lower case, or the
 /// proxy's own address as it is written (RFC 3261 section 16.5).
-///
-/// # Errors
-///
-/// Only where the allocator refuses.
-pub fn is_domain<A: Allocator + Clone>(
-    alloc: A,
-    setup: &Setup<A>,
-    host: &[u8],
-) -> Result<bool, AllocError>
-    ensures { IfOk result (λ well. well ≡ is_domain setup.now host.now) }
+pub fn is_domain<A: Allocator>(setup: &Setup<A>, host: &[u8]) -> bool
+    ensures { result ≡ is_domain setup.now host.now }
 {
-    if host.eq_ignore_ascii_case(setup.domain()) {
-        return Ok(true);
-    }
-    let own = host_of(alloc, setup.own().addr)?;
-    Ok(host == own.as_slice())
+    host.eq_ignore_ascii_case(setup.domain()) || is_address(host, setup.own().addr)
 }
 
 /// Adds a location, where it is the user's.

@@ -6,8 +6,9 @@ ghost use Rattle.sip_text.specs.Text.{saturated, spelling, start_line};
 ghost use Rattle.sip_build.specs.inner.Groups.{IsFront, made_of, start_of, tail_text};
 
 use crate::groups::{Group, append_tail, tail_len};
-use crate::parts::whole_or_nothing;
-use sip_text::{append_request_line, append_status_line, request_line_len, status_line_len};
+use sip_text::{
+    append_request_line, append_status_line, request_line_len, status_line_len, whole_or_nothing,
+};
 use std::alloc::{AllocError, Allocator};
 
 /// The start line of a message that is written.

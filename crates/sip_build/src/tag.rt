@@ -1,49 +1,16 @@
 //! The proxy's own tag.
 
-ghost use Rattle.std.specs.Prelude.{◌≡◌, ◌≤◌, ◌++◌, List, ℕ, length, take, codes};
-ghost use Rattle.std.specs.Fmt.{decimal};
-ghost use Rattle.std.specs.Option.{option_copied};
-ghost use Rattle.md5.specs.Md5.{Holds, md5};
-ghost use Rattle.sip_via.specs.HexPair.{hex_pair, hex_text};
-ghost use Rattle.sip_route.specs.Loop.{field_line, field_lines};
-ghost use Rattle.sip_via.specs.ViaParts.{or_empty};
+ghost use Rattle.std.specs.Prelude.{◌≡◌, ◌≤◌, ◌++◌, length, take, codes};
+ghost use Rattle.md5.specs.Md5.{md5};
+ghost use Rattle.sip_via.specs.HexPair.{hex_text};
+ghost use Rattle.sip_route.specs.Loop.{field_lines};
 ghost use Rattle.sip_build.specs.OwnTag.{own_tag, tag_fields};
 
-use itoa::Buffer;
 use md5::{Digest, Md5};
-use sip_lex::hex_digit;
+use sip_route::{add_field, add_number, add_optional};
 use sip_text::Message;
+use sip_via::hex_pair;
 use std::alloc::Allocator;
-
-/// Adds a field and the LF behind it.
-fn add_field(hasher: &mut Md5, field: &[u8])
-    ensures { (m : List ℕ) → Holds hasher.old m → Holds hasher.new (m ++ field_line field.now) }
-{
-    hasher.update(field);
-    hasher.update(b"\n");
-}
-
-/// Adds a field that may be missing, and is empty then.
-fn add_optional(hasher: &mut Md5, field: Option<&[u8]>)
-    ensures { (m : List ℕ) → Holds hasher.old m
-        → Holds hasher.new (m ++ field_line (or_empty (option_copied field.entry))) }
-{
-    add_field(hasher, field.unwrap_or(b""));
-}
-
-/// Adds a number in decimal.
-fn add_number(hasher: &mut Md5, n: u32)
-    ensures { (m : List ℕ) → Holds hasher.old m → Holds hasher.new (m ++ field_line (decimal n)) }
-{
-    add_field(hasher, Buffer::new().format(n).as_bytes());
-}
-
-/// The two digits of a byte.
-fn hex_pair(byte: u8) -> [u8; 2]
-    ensures { result ≡ hex_pair byte }
-{
-    [hex_digit(byte / 16), hex_digit(byte % 16)]
-}
 
 fn tag_digest<A: Allocator>(message: &Message<A>) -> [u8; 16]
     ensures { result ≡ md5 (field_lines (tag_fields message.now)) }

@@ -10,7 +10,8 @@ ghost use Rattle.sip_build.specs.inner.ToTarget.{request_to};
 
 use crate::groups::{Group, append_tail, tail_len};
 use crate::own_line::append_own_via;
-use crate::parts::{ask_for_lines, whole_or_nothing};
+use crate::parts::ask_for_lines;
+use sip_text::whole_or_nothing;
 use sip_uri::SipUri;
 use sip_via::{BranchName, Own};
 use std::alloc::{AllocError, Allocator};

@@ -9,9 +9,8 @@ ghost use Rattle.sip_via.specs.Edits.{changed_first, line_if_any, replaced, with
 ghost use Rattle.sip_message.specs.SeenMessages.{seen_value};
 
 use crate::lines::add_made;
-use crate::whole::whole_or_nothing;
 use sip_lex::trim;
-use sip_text::{Header, Message, Start};
+use sip_text::{Header, Message, Start, whole_or_nothing};
 use sip_via::place_of;
 use std::alloc::{AllocError, Allocator};
 

@@ -16,7 +16,6 @@ mod requests;
 mod responses;
 mod routes;
 mod upstream;
-mod whole;
 
 pub use edits::{add_copies, add_line_if_any, add_replaced, copy_others, with_headers};
 pub use forwarding::forward;

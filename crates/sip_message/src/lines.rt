@@ -5,8 +5,7 @@ ghost use Rattle.sip_text.specs.Seen.{views};
 ghost use Rattle.sip_via.specs.Edits.{line};
 ghost use Rattle.sip_via.specs.Lines.{first_line, lines_as, lines_named};
 
-use crate::whole::whole_or_nothing;
-use sip_text::{Header, Message, Values};
+use sip_text::{Header, Message, Values, whole_or_nothing};
 use sip_via::{first_named, split_named};
 use std::alloc::{AllocError, Allocator};
 

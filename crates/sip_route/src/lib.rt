@@ -3,6 +3,7 @@
 //! before (loop detection), and the key by which its retransmission, its ACK and its CANCEL find its server transaction.
 #![tactic(auto)]
 
+mod fields;
 mod hops;
 mod law;
 mod loop_test;
@@ -12,6 +13,7 @@ mod route_values;
 mod routes;
 mod stripping;
 
+pub use fields::{add_field, add_number, add_optional};
 pub use hops::{Hops, hops_of};
 pub use law::{keys_tell_senders, stripping_keeps_the_rest};
 pub use loop_test::is_loop;

@@ -1,15 +1,12 @@
 //! The key by which a loop is found.
 
 ghost use Rattle.std.specs.Prelude.{◌≡◌, ◌++◌, List, ℕ};
-ghost use Rattle.std.specs.Fmt.{decimal};
 ghost use Rattle.std.specs.List.{join_with_byte, list_any};
-ghost use Rattle.std.specs.Option.{option_copied};
 ghost use Rattle.md5.specs.Md5.{Holds};
 ghost use Rattle.sip_route.specs.Loop.{all_values, dialog_fields, field_line, field_lines, loop_key, request_uri, routing_fields};
 ghost use Rattle.sip_route.specs.inner.Loop.{behind_commas, may_route};
-ghost use Rattle.sip_via.specs.ViaParts.{or_empty};
 
-use itoa::Buffer;
+use crate::fields::{add_field, add_number, add_optional};
 use md5::{Digest, Md5};
 use sip_text::{Header, Message, Start, Values};
 use std::alloc::Allocator;
@@ -22,29 +19,6 @@ pub fn request_uri<A: Allocator>(message: &Message<A>) -> &[u8]
         Start::Request { uri, .. } => uri,
         Start::Response { .. } => b"",
     }
-}
-
-/// Adds a field and the LF behind it.
-fn add_field(hasher: &mut Md5, field: &[u8])
-    ensures { (m : List ℕ) → Holds hasher.old m → Holds hasher.new (m ++ field_line field.now) }
-{
-    hasher.update(field);
-    hasher.update(b"\n");
-}
-
-/// Adds a field that may be missing, and is empty then.
-fn add_optional(hasher: &mut Md5, field: Option<&[u8]>)
-    ensures { (m : List ℕ) → Holds hasher.old m
-        → Holds hasher.new (m ++ field_line (or_empty (option_copied field.entry))) }
-{
-    add_field(hasher, field.unwrap_or(b""));
-}
-
-/// Adds a number in decimal.
-fn add_number(hasher: &mut Md5, n: u32)
-    ensures { (m : List ℕ) → Holds hasher.old m → Holds hasher.new (m ++ field_line (decimal n)) }
-{
-    add_field(hasher, Buffer::new().format(n).as_bytes());
 }
 
 /// Adds the values left, a comma before each.

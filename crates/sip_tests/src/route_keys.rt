@@ -3,7 +3,8 @@ use crate::bytes::{has, holds_of};
 use crate::holds::holds;
 use crate::messages::{REQUEST, message_of};
 use crate::rows::holds_in_row;
-use sip_route::{append_request_key, has_same_key};
+use md5::{Digest, Md5};
+use sip_route::{add_field, add_number, add_optional, append_request_key, has_same_key};
 use sip_text::Message;
 use sip_via::{Sender, sender_of, top_branch};
 use std::alloc::Global;
@@ -231,4 +232,29 @@ fn compares_keys(rt: HostRuntime) {
             via,
         );
     }
+}
+
+/// The digest of a field, of one that is missing, and of a number.
+fn digest_of_fields() -> [u8; 16] {
+    let mut hasher = Md5::new();
+    add_field(&mut hasher, b"c1");
+    add_optional(&mut hasher, None);
+    add_number(&mut hasher, 70);
+    hasher.finalize()
+}
+
+/// The digest of a text.
+fn digest_of(text: &[u8]) -> [u8; 16] {
+    let mut hasher = Md5::new();
+    hasher.update(text);
+    hasher.finalize()
+}
+
+#[test]
+fn each_field_of_a_digest_ends_its_line(rt: HostRuntime) {
+    holds(
+        &rt,
+        digest_of_fields() == digest_of(b"c1\n\n70\n"),
+        "a field, none, and a number",
+    );
 }

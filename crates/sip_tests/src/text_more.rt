@@ -4,7 +4,7 @@ use crate::holds::holds;
 use crate::messages::{REQUEST, message_of, spells};
 use sip_text::{
     Message, append_pieces, append_request_line, append_status_line, header_values_are_values,
-    request_line_len, status_line_len, trimmed_part_is_a_value,
+    request_line_len, status_line_len, trimmed_part_is_a_value, whole_or_nothing,
 };
 use std::alloc::{AllocError, Global};
 use std::process::Abort;
@@ -192,4 +192,22 @@ fn finds_tags(rt: HostRuntime) {
 fn values_may_be_given_on(_rt: HostRuntime) {
     header_values_are_values();
     trimmed_part_is_a_value();
+}
+
+/// What is left of three bytes, the last two of which were added, where that ended so.
+fn is_left(alloc: Global, done: Result<(), AllocError>, wanted: &[u8]) -> bool {
+    let mut out = Vec::new(alloc);
+    let added = out.extend_from_slice(b"abc").is_ok();
+    let refused = done.is_err();
+    added && whole_or_nothing(&mut out, 1, done).is_err() == refused && is(&out, wanted)
+}
+
+#[test]
+fn a_list_grows_whole_or_not_at_all(rt: HostRuntime) {
+    holds(&rt, is_left(rt.alloc(), Ok(()), b"abc"), "all was added");
+    holds(
+        &rt,
+        is_left(rt.alloc(), Err(AllocError), b"a"),
+        "memory was refused halfway",
+    );
 }

@@ -11,8 +11,9 @@ use sip_message::{
 use sip_text::{Header, Message};
 use sip_uri::Hop;
 use sip_via::{
-    BranchName, ViaFault, ViaValues, first_named, first_value, mark, marked_line,
-    marking_keeps_the_rest, own_branch, own_branch_of, readable_is_marked, reply_hop_of, top_via,
+    BranchName, ViaFault, ViaValues, first_named, first_value, hex_pair, is_address, mark,
+    marked_line, marking_keeps_the_rest, own_branch, own_branch_of, readable_is_marked,
+    reply_hop_of, top_via,
 };
 use std::alloc::Global;
 
@@ -447,4 +448,27 @@ fn lines_are_taken_and_made(rt: HostRuntime) {
         "lines are added in order",
     );
     holds(&rt, finds_lines(alloc), "the first line of a name is found");
+}
+
+/// Texts, and whether each is the address 192.0.2.9.
+const ADDRESSES: [(&[u8], bool); 6] = [
+    (b"192.0.2.9", true),
+    (b"192.0.2.09", false),
+    (b"192.0.2.90", false),
+    (b"192.0.2", false),
+    (b"192.0.2.9:5060", false),
+    (b"", false),
+];
+
+#[test]
+fn an_address_is_told_from_other_texts(rt: HostRuntime) {
+    for (row, (text, well)) in ADDRESSES.iter().enumerate() {
+        holds_in_row(
+            &rt,
+            is_address(text, [192, 0, 2, 9]) == *well,
+            "addresses",
+            row,
+        );
+    }
+    holds(&rt, hex_pair(0xa7) == [b'a', b'7'], "two digits of a byte");
 }

@@ -16,6 +16,7 @@ mod parts;
 mod read;
 mod start;
 mod tag;
+mod whole;
 mod write;
 
 pub use fault::ReadFault;
@@ -27,6 +28,7 @@ pub use message::Message;
 pub use name::Values;
 pub use needed::Needed;
 pub use parts::{CSeqLine, Header, Start};
+pub use whole::whole_or_nothing;
 pub use write::{
     append_pieces, append_request_line, append_status_line, request_line_len, status_line_len,
 };

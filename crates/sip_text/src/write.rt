@@ -8,24 +8,8 @@ ghost use Rattle.sip_text.specs.Text.{Request, Response, header_text, pieces_tex
 ghost use Rattle.sip_text.specs.Seen.{view_start, views};
 
 use crate::parts::{Header, Start};
+use crate::whole::whole_or_nothing;
 use std::alloc::{AllocError, Allocator};
-
-/// Takes back what stands behind the first `before` bytes, unless all was appended.
-fn whole_or_nothing<B: Allocator>(
-    out: &mut Vec<u8, B>,
-    before: usize,
-    done: Result<(), AllocError>,
-) -> Result<(), AllocError>
-    ensures done { result ≡ done }
-    ensures ok { OnOk done (out.new.items ≡ out.old.items) }
-    ensures err { OnErr done (out.new.items ≡ take before out.old.items) }
-    ensures capacity { vec_capacity out.new ≡ vec_capacity out.old }
-{
-    if done.is_err() {
-        out.truncate(before);
-    }
-    done
-}
 
 fn append_each<B: Allocator>(out: &mut Vec<u8, B>, pieces: &[&[u8]]) -> Result<(), AllocError>
     ensures ok { OnOk result (out.new.items ≡ out.old.items ++ pieces_text pieces.now) }

@@ -69,8 +69,8 @@ pub(crate) fn behind_address(text: &[u8], addr: [u8; 4]) -> Option<&[u8]>
     behind_marked(rest, b'.', u16::from(addr[3]))
 }
 
-/// Whether a text is that address in dotted decimal.
-pub(crate) fn is_address(text: &[u8], addr: [u8; 4]) -> bool
+/// Whether a text is that address in dotted decimal, each number without a zero before it.
+pub fn is_address(text: &[u8], addr: [u8; 4]) -> bool
     ensures { result ≡ bytes_eq text.now (address_text addr) }
 {
     is_end(behind_address(text, addr))

@@ -66,7 +66,12 @@ fn cut_spelled(text: &[u8]) -> Cut<'_>
     let (protocol, rest) = cut_at(text, b'/');
     let (version, rest) = cut_at(rest.unwrap_or(b""), b'/');
     let (transport, rest) = cut_at_space(trim_start(rest.unwrap_or(b"")));
-    cut_sent(trim_end(protocol), trim(version), transport, rest.unwrap_or(b""))
+    cut_sent(
+        trim_end(protocol),
+        trim(version),
+        transport,
+        rest.unwrap_or(b""),
+    )
 }
 
 /// Cuts any text into the parts that a Via value would have. Most values are spelled in one way up to the transport.

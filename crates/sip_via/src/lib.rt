@@ -19,8 +19,10 @@ mod sender;
 mod values;
 mod via;
 
+pub use address::is_address;
 pub use branch::{BranchName, branch_is_token, read_branch, write_branch};
 pub use edits::{begins_named, place_of};
+pub use hex_pair::hex_pair;
 pub use lines::{first_named, first_value, split_named};
 pub use marking::{marking_keeps_the_rest, readable_is_marked};
 pub use own::{BuildFault, Own, ViaFault};
