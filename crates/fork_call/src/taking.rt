@@ -18,7 +18,7 @@ use call_routing::MatchedTransaction;
 use call_state::{CallState, PostFault};
 use sip_text::Message;
 use sip_uri::Hop;
-use sip_via::{ViaFault, mark, readable_is_marked, reply_hop_of};
+use sip_via::{ViaFault, add_received, readable_is_marked, reply_hop_of};
 use std::alloc::Allocator;
 
 /// How many targets a call has at most.
@@ -73,7 +73,7 @@ fn take_cancel<A: Allocator + Clone>(
     ensures err { OnErr result (state.new ≡ state.old) }
 {
     readable_is_marked();
-    let cancel = match mark(alloc, message, source) {
+    let cancel = match add_received(alloc, message, source) {
         Ok(cancel) => cancel,
         Err(unmarked) => match unmarked.fault {
             ViaFault::NoMemory => return Err(TakeFault::NoMemory),

@@ -15,7 +15,7 @@ use fork_call::{Cause, Datagram, RequestRejection};
 use sip_build::{OwnStatus, write_generated};
 use sip_text::Message;
 use sip_uri::Hop;
-use sip_via::{ViaFault, mark, reply_hop_of};
+use sip_via::{ViaFault, add_received, reply_hop_of};
 use std::alloc::{AllocError, Allocator};
 
 /// The text of an answer of the proxy's own to this request (RFC 3261 section 8.2.6).
@@ -59,7 +59,7 @@ fn answer_of<A: Allocator + Clone>(
 ) -> Result<Datagram<A>, AllocError>
     ensures { IfOk result (λ datagram. seen datagram ≡ answer_of request source status) }
 {
-    match mark(alloc.clone()?, request, source) {
+    match add_received(alloc.clone()?, request, source) {
         Ok(marked) => answer_to(alloc, &marked, status, reply_hop_of(&marked, source)),
         Err(unmarked) => match unmarked.fault {
             ViaFault::BadVia => answer_to(alloc, &unmarked.message, status, source),

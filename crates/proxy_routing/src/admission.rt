@@ -12,7 +12,7 @@ use crate::fault::RequestRejection;
 use sip_route::{hops_of, is_loop, request_uri, strip, stripping_keeps_the_rest};
 use sip_text::Message;
 use sip_uri::{Hop, uri_fault};
-use sip_via::{Own, ViaFault, mark, marking_keeps_the_rest, readable_is_marked};
+use sip_via::{Own, ViaFault, add_received, marking_keeps_the_rest, readable_is_marked};
 use std::alloc::Allocator;
 
 /// The request with its source. Marking reads the top Via value, so what cannot be read is refused here.
@@ -27,7 +27,7 @@ fn with_source<A: Allocator + Clone>(
     ensures refused { IfErr result (IsUnroutable message) }
 {
     readable_is_marked();
-    match mark(alloc, message, source) {
+    match add_received(alloc, message, source) {
         Ok(with_source) => Ok(with_source),
         Err(unmarked) => match unmarked.fault {
             ViaFault::BadVia => Err(RequestRejection::BadRequest),

@@ -10,7 +10,7 @@ use sip_build::OwnStatus;
 use sip_message::{ack_of, cancel_of, forward, generated, mark_received, strip_route, upward};
 use sip_text::{Message, Start};
 use sip_uri::SipUri;
-use sip_via::{BuildFault, Unmarked, ViaFault, mark};
+use sip_via::{BuildFault, ReceivedFault, ViaFault, add_received};
 
 /// How a message is made.
 #[derive(Clone, Copy)]
@@ -148,9 +148,9 @@ impl<'a> Repeated for Marking<'a> {
         let Some(request) = self.request.take() else {
             return Answer::Other;
         };
-        match mark(self.alloc, request, SOURCE) {
+        match add_received(self.alloc, request, SOURCE) {
             Ok(message) => Answer::Given(message),
-            Err(Unmarked { message, fault }) => {
+            Err(ReceivedFault { message, fault }) => {
                 self.request = Some(message);
                 match fault {
                     ViaFault::NoMemory => Answer::NoMemory,
@@ -184,7 +184,7 @@ impl Play for InPlace {
 #[test]
 fn messages_are_made_of_others(rt: HostRuntime) {
     plays(&rt, &Making::Marked, 0, "mark_received");
-    plays(&rt, &InPlace, 0, "mark");
+    plays(&rt, &InPlace, 0, "add_received");
     plays(&rt, &Making::Stripped, 0, "strip_route");
     plays(&rt, &Making::Forwarded, 0, "forward");
     plays(&rt, &Making::Upward, 0, "upward");

@@ -11,7 +11,7 @@ use sip_lex::append_decimal;
 use sip_message::{add_made, generated};
 use sip_text::{Header, Message, Start};
 use sip_uri::Hop;
-use sip_via::{BuildFault, ViaFault, mark, reply_hop_of};
+use sip_via::{BuildFault, ViaFault, add_received, reply_hop_of};
 use std::alloc::{AllocError, Allocator};
 
 /// An answer, and where it goes.
@@ -115,7 +115,7 @@ pub fn turn_away<A: Allocator + Clone>(
 ) -> Result<Answer<A>, AllocError>
     ensures { IfOk result (λ answer. IsTurnedAway request source seconds answer.to answer.text.items) }
 {
-    match mark(alloc.clone()?, request, source) {
+    match add_received(alloc.clone()?, request, source) {
         Ok(marked) => Ok(Answer {
             to: reply_hop_of(&marked, source),
             text: text_of(alloc, &marked, seconds)?,

@@ -11,7 +11,7 @@ use sip_message::{
 use sip_text::{Header, Message};
 use sip_uri::Hop;
 use sip_via::{
-    BranchName, ViaFault, ViaValues, first_named, first_value, hex_pair, is_address, mark,
+    BranchName, ViaFault, ViaValues, add_received, first_named, first_value, hex_pair, is_address,
     marked_line, marking_keeps_the_rest, own_branch, own_branch_of, readable_is_marked,
     reply_hop_of, top_via,
 };
@@ -196,7 +196,7 @@ const MARKED: [(&[u8], &[u8]); 6] = [
 
 /// A request once it is marked in place.
 fn marked(alloc: Global, request: Message<Global>) -> Option<Message<Global>> {
-    match mark(alloc, request, SOURCE) {
+    match add_received(alloc, request, SOURCE) {
         Ok(marked) => Some(marked),
         Err(_) => None,
     }
@@ -276,7 +276,7 @@ fn marks_a_line(rt: HostRuntime) {
 
 /// Whether a request comes back as these lines, with a `BadVia`.
 fn comes_back_as(alloc: Global, request: Message<Global>, lines: &[&[u8]]) -> bool {
-    match mark(alloc, request, SOURCE) {
+    match add_received(alloc, request, SOURCE) {
         Ok(_) => false,
         Err(unmarked) => {
             unmarked.fault == ViaFault::BadVia && spells(alloc, &unmarked.message, lines)

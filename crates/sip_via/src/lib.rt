@@ -28,7 +28,7 @@ pub use marking::{marking_keeps_the_rest, readable_is_marked};
 pub use own::{BuildFault, Own, ViaFault};
 pub use own_pass::{own_branch, own_branch_of};
 pub use own_value::own_via;
-pub use received::{Unmarked, mark, marked_line, reply_hop_of};
+pub use received::{ReceivedFault, add_received, marked_line, reply_hop_of};
 pub use sender::{Sender, sender_of, top_branch};
 pub use values::{ViaValues, has_second_via, top_via};
 pub use via::Via;

@@ -238,7 +238,7 @@ fn is_source(source: Hop)
 
 /// A message that was not marked, as it was, and why.
 #[derive(Drop)]
-pub struct Unmarked<A: Allocator> {
+pub struct ReceivedFault<A: Allocator> {
     pub message: Message<A>,
     pub fault: ViaFault,
 }
@@ -284,7 +284,7 @@ fn with_via_line<A: Allocator>(
     alloc: A,
     message: Message<A>,
     line: &[u8],
-) -> Result<Message<A>, Unmarked<A>>
+) -> Result<Message<A>, ReceivedFault<A>>
     requires before { IsMessage message }
     requires after { IsMessage (with_via_line message line.now) }
     ensures ok { IfOk result (λ m. m ≡ with_via_line message line.now) }
@@ -294,7 +294,7 @@ fn with_via_line<A: Allocator>(
     let (start, mut headers, body) = message.into_parts();
     match put_first_value(&mut headers, alloc, VIA, line) {
         Ok(()) => Ok(Message::from_parts(start, headers, body)),
-        Err(_) => Err(Unmarked {
+        Err(_) => Err(ReceivedFault {
             message: Message::from_parts(start, headers, body),
             fault: ViaFault::NoMemory,
         }),
@@ -310,11 +310,11 @@ fn with_via_line<A: Allocator>(
 /// # Errors
 ///
 /// The request as it was, with `BadVia` where the top value can't be read; then with `NoMemory`.
-pub fn mark<A: Allocator + Clone>(
+pub fn add_received<A: Allocator + Clone>(
     alloc: A,
     message: Message<A>,
     source: Hop,
-) -> Result<Message<A>, Unmarked<A>>
+) -> Result<Message<A>, ReceivedFault<A>>
     ensures ok { IfOk result (λ m. marked message source ≡ Ok m) }
     ensures err { IfErr result (λ unmarked. unmarked.message ≡ message) }
     ensures refused { IfErr result (λ unmarked. unmarked.fault ≡ refusal (marked message source)) }
@@ -323,7 +323,7 @@ pub fn mark<A: Allocator + Clone>(
     is_source(source);
     let line = match marked_line(&alloc, via_line(&message), source) {
         Ok(line) => line,
-        Err(fault) => return Err(Unmarked { message, fault }),
+        Err(fault) => return Err(ReceivedFault { message, fault }),
     };
     with_via_line(alloc, message, &line)
 }

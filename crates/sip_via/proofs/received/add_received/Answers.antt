@@ -1,6 +1,6 @@
 use Rattle.sip_via.proofs.Common.{List, ℕ, sym, subst, IsMessage, with_via_line}
 use Rattle.sip_via.proofs.laws.Marked.{marked-message}
-use Rattle.sip_via.proofs.received.mark.Goals as goal
+use Rattle.sip_via.proofs.received.add_received.Goals as goal
 
 pub with_via_line-requires-clause-after : goal.with_via_line-requires-clause-after
 with_via_line-requires-clause-after g c =
