@@ -9,6 +9,8 @@ mod build;
 #[cfg(test)]
 mod bytes;
 #[cfg(test)]
+mod fault_words;
+#[cfg(test)]
 mod holds;
 #[cfg(test)]
 mod lex;

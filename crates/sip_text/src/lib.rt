@@ -7,6 +7,7 @@
 
 mod fault;
 mod fields;
+mod growth;
 mod head;
 mod law;
 mod message;
@@ -16,10 +17,10 @@ mod parts;
 mod read;
 mod start;
 mod tag;
-mod whole;
 mod write;
 
 pub use fault::ReadFault;
+pub use growth::whole_or_nothing;
 pub use law::{
     faults_are_of_the_text, header_values_are_values, round_trip, spelling_is_text,
     text_is_message, trimmed_part_is_a_value,
@@ -28,7 +29,6 @@ pub use message::Message;
 pub use name::Values;
 pub use needed::Needed;
 pub use parts::{CSeqLine, Header, Start};
-pub use whole::whole_or_nothing;
 pub use write::{
     append_pieces, append_request_line, append_status_line, request_line_len, status_line_len,
 };

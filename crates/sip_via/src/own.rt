@@ -5,6 +5,7 @@ ghost use Rattle.sip_via.specs.declared.own.BuildFault.TheVariants as build;
 ghost use Rattle.sip_via.specs.declared.own.ViaFault.TheVariants as via;
 
 use std::alloc::{AllocError, AllocFailed};
+use thiserror::Error;
 
 /// The address and port that the proxy itself receives at.
 #[derive(Clone, Copy, Debug, PartialEq, Eq)]
@@ -14,11 +15,13 @@ pub struct Own {
 }
 
 /// Why a text is no Via value, or a message isn't marked.
-#[derive(Clone, Copy, Debug, PartialEq, Eq)]
+#[derive(Clone, Copy, Debug, PartialEq, Eq, Error)]
 pub enum ViaFault {
     /// The value is none of RFC 3261 section 20.42.
+    #[error("the value is no Via value")]
     BadVia,
     /// The allocator refused.
+    #[error("out of memory")]
     NoMemory,
 }
 
@@ -39,11 +42,13 @@ impl<T: Drop> From<AllocFailed<T>> for ViaFault {
 }
 
 /// Why a message isn't built.
-#[derive(Clone, Copy, Debug, PartialEq, Eq)]
+#[derive(Clone, Copy, Debug, PartialEq, Eq, Error)]
 pub enum BuildFault {
     /// No Via value stands behind the top one.
+    #[error("no Via value stands behind the top one")]
     LastVia,
     /// The allocator refused.
+    #[error("out of memory")]
     NoMemory,
 }
 
