@@ -10,7 +10,7 @@ ghost use Rattle.sip_via.specs.declared.branch.BranchName.{BranchName};
 ghost use Rattle.sip_via.specs.BranchText.{IsBranch, branch_text};
 ghost use Rattle.sip_via.specs.HexPair.{hex_text};
 
-use crate::hex_pair::{hex_pair, read_pair};
+use crate::hex::{hex_pair, read_pair};
 use itoa::write_digits;
 use sip_lex::{cut_at, read_plain_number};
 use std::alloc::{AllocError, Allocator};
