@@ -1,3 +1,2 @@
 pub mod Filing
 pub mod Sharing
-mod CallIds

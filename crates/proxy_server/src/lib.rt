@@ -3,13 +3,11 @@
 //! to send; a third worker does what is due by the clock, as retransmissions and timeouts. Begin with `serve`.
 #![tactic(auto)]
 
-mod by_call;
 mod dropped;
 mod ending;
 mod fault;
 mod filed;
 mod job;
-mod jobs;
 mod receiver;
 mod schedule;
 mod serving;
@@ -17,10 +15,8 @@ mod socket;
 mod turns;
 mod worker;
 
-pub use by_call::{call_id, group_of};
 pub use fault::ServeFault;
 pub use job::Job;
-pub use jobs::{JobReceiver, JobSender, Waker};
 pub use schedule::CallTimers;
 pub use serving::{serve, serve_to};
 pub use turns::turns_asked;

@@ -2,16 +2,15 @@
 ghost use Rattle.std.specs.Prelude.{IfErr};
 ghost use Rattle.proxy_server.specs.inner.Faults.{IsSystemFault};
 
-use crate::by_call::group_of;
 use crate::fault::ServeFault;
 use crate::job::Job;
-use crate::jobs::JobSender;
 use crate::socket::TURN;
 use crate::worker::Proxy;
 use log::Log;
 use sip_uri::Hop;
 use std::alloc::Allocator;
 use std::sync::Wait;
+use worker_jobs::{JobSender, group_of};
 
 /// A worker that holds so many jobs has enough to do: the next datagram is for the other worker.
 const ENOUGH_JOBS: u64 = 4;
@@ -35,9 +34,9 @@ struct Last {
 /// The ways to the workers.
 #[derive(Drop)]
 pub(crate) struct Senders<'a, A: Allocator> {
-    first: JobSender<'a, A>,
-    second: JobSender<'a, A>,
-    timer: JobSender<'a, A>,
+    first: JobSender<'a, Job<A>, A>,
+    second: JobSender<'a, Job<A>, A>,
+    timer: JobSender<'a, Job<A>, A>,
     /// Whether the last datagram was for the first of the two that handle datagrams.
     is_first: bool,
     /// The last datagram of each group of calls.
@@ -46,7 +45,11 @@ pub(crate) struct Senders<'a, A: Allocator> {
 
 /// Gives a datagram's job to this worker. Where it has no room it is tried once more, as soon as it has few jobs left or some
 /// hundred milliseconds are over, in which datagrams wait in the socket. Says whether it was taken.
-fn give_to<R: Wait, A: Allocator>(rt: &R, worker: &mut JobSender<'_, A>, job: Job<A>) -> bool {
+fn give_to<R: Wait, A: Allocator>(
+    rt: &R,
+    worker: &mut JobSender<'_, Job<A>, A>,
+    job: Job<A>,
+) -> bool {
     let Err(job) = worker.give(rt, job) else {
         return true;
     };
@@ -57,9 +60,9 @@ fn give_to<R: Wait, A: Allocator>(rt: &R, worker: &mut JobSender<'_, A>, job: Jo
 impl<'a, A: Allocator> Senders<'a, A> {
     /// The ways to two workers that handle datagrams, and to the one that does what is due.
     pub(crate) fn new(
-        first: JobSender<'a, A>,
-        second: JobSender<'a, A>,
-        timer: JobSender<'a, A>,
+        first: JobSender<'a, Job<A>, A>,
+        second: JobSender<'a, Job<A>, A>,
+        timer: JobSender<'a, Job<A>, A>,
     ) -> Senders<'a, A> {
         let none = Last {
             is_first: true,
@@ -75,7 +78,7 @@ impl<'a, A: Allocator> Senders<'a, A> {
     }
 
     /// One of the two workers that handle datagrams.
-    fn worker(&self, is_first: bool) -> &JobSender<'a, A> {
+    fn worker(&self, is_first: bool) -> &JobSender<'a, Job<A>, A> {
         if is_first { &self.first } else { &self.second }
     }
 
@@ -127,13 +130,13 @@ impl<'a, A: Allocator> Senders<'a, A> {
     /// Ends the workers that run.
     pub(crate) fn finish<R: Wait>(&mut self, rt: &R, running: Running) {
         if running.first {
-            self.first.finish(rt);
+            self.first.finish(rt, Job::Finish);
         }
         if running.second {
-            self.second.finish(rt);
+            self.second.finish(rt, Job::Finish);
         }
         if running.timer {
-            self.timer.finish(rt);
+            self.timer.finish(rt, Job::Finish);
         }
     }
 }

@@ -8,7 +8,7 @@ ghost use Rattle.proxy_server.specs.inner.Faults.{IsSystemFault};
 
 use crate::ending::print_listings;
 use crate::fault::{ServeFault, of_system};
-use crate::jobs::{JobReceiver, JobSender, Waker};
+use crate::job::Job;
 use crate::receiver::{Running, Senders, receive_all};
 use crate::socket::Socket;
 use crate::worker::Proxy;
@@ -22,6 +22,7 @@ use std::net::Net;
 use std::sync::Wait;
 use std::thread;
 use std::thread::Threads;
+use worker_jobs::{JobReceiver, JobSender, Waker};
 
 /// How many bytes a configuration has at most.
 const MOST_TEXT: usize = 1_048_576;
@@ -32,15 +33,15 @@ const MOST_BYTES: usize = 65_535;
 /// The receiving ends of the workers.
 #[derive(Drop)]
 struct Receivers<'a> {
-    first: JobReceiver<'a, Global>,
-    second: JobReceiver<'a, Global>,
-    timer: JobReceiver<'a, Global>,
+    first: JobReceiver<'a, Job>,
+    second: JobReceiver<'a, Job>,
+    timer: JobReceiver<'a, Job>,
 }
 
 /// What the threads of a proxy do: the calling one receives, and three work.
 trait Crew {
     /// Does the jobs that a worker is given, until the end job.
-    fn do_jobs<R: Wait + Log>(&self, rt: &R, jobs: JobReceiver<'_, Global>);
+    fn do_jobs<R: Wait + Log>(&self, rt: &R, jobs: JobReceiver<'_, Job>);
 
     /// Receives for `turns` turns.
     fn receive<R: Wait + Log>(
@@ -60,7 +61,7 @@ struct Server {
 }
 
 impl Crew for Server {
-    fn do_jobs<R: Wait + Log>(&self, rt: &R, jobs: JobReceiver<'_, Global>) {
+    fn do_jobs<R: Wait + Log>(&self, rt: &R, jobs: JobReceiver<'_, Job>) {
         self.proxy.work(rt, self.proxy.alloc, jobs);
     }
 

@@ -3,7 +3,6 @@ ghost use Rattle.std.specs.Prelude.{◌≡◌};
 
 use crate::dropped::Dropped;
 use crate::job::Job;
-use crate::jobs::JobReceiver;
 use crate::schedule::CallTimers;
 use crate::socket::{Socket, SocketPort};
 use call_table::Shelf;
@@ -13,6 +12,7 @@ use proxy_dispatch::{Handled, handle};
 use sip_uri::Hop;
 use std::alloc::{AllocError, Allocator, Global};
 use std::sync::Wait;
+use worker_jobs::JobReceiver;
 
 /// How many calls one tick carries at most.
 const MOST_CARRIED: u32 = 4_096;
@@ -148,7 +148,12 @@ impl<A: Allocator + Clone> Proxy<A> {
     }
 
     /// Does the jobs that a worker is given, until the end job. The queues of the calls that it opens lie on `heap`.
-    pub(crate) fn work<R: Wait + Log>(&self, rt: &R, heap: Global, mut jobs: JobReceiver<'_, A>) {
+    pub(crate) fn work<R: Wait + Log>(
+        &self,
+        rt: &R,
+        heap: Global,
+        mut jobs: JobReceiver<'_, Job<A>, A>,
+    ) {
         let mut port = SocketPort::new(&self.socket);
         let mut left = 0u32;
         let mut noted = 0u64;

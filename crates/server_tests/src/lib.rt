@@ -4,13 +4,9 @@
 #[cfg(test)]
 mod accepting;
 #[cfg(test)]
-mod by_call;
-#[cfg(test)]
 mod calling;
 #[cfg(test)]
 mod holds;
-#[cfg(test)]
-mod jobs;
 #[cfg(test)]
 mod ordering;
 #[cfg(test)]

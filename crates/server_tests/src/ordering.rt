@@ -3,7 +3,7 @@
 use crate::holds::holds;
 use crate::printed::Printed;
 use log::Log;
-use proxy_server::{call_id, serve_to};
+use proxy_server::serve_to;
 use sip_lex::cut_at;
 use std::alloc::{AllocError, Global};
 use std::net::{Ipv4Addr, Net, SocketAddr, SocketAddrV4, UdpSocket};
@@ -12,6 +12,7 @@ use std::sync::atomic::{AtomicU64, Ordering};
 use std::test::Fail;
 use std::thread::{Threads, join};
 use std::time::Duration;
+use worker_jobs::call_id;
 
 /// How many calls are begun and cancelled.
 const CALLS: usize = 800;
