@@ -75,6 +75,11 @@ impl<A: Allocator + Clone> Schedule<A> {
         }
     }
 
+    /// Whether some call may be due at `now`, in milliseconds. The look takes no lock.
+    pub fn is_due(&self, now: u64) -> bool {
+        self.missed.load(Ordering::SeqCst) || self.earliest.load(Ordering::SeqCst) <= now
+    }
+
     /// Takes the number of a call whose deadline has come at `now`, in milliseconds, the earliest of all. It has none then.
     /// None where no deadline has come.
     pub fn take_due<R: Wait>(&self, rt: &R, now: u64) -> Option<u64> {

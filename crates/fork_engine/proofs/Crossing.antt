@@ -9,7 +9,7 @@ use Rattle.std.proofs.vec.Vec.TheSendSync.{the_send as vec_send}
 use Rattle.fork_tree.proofs.node.Group.TheLaws.TheKnot as knot
 use Rattle.fork_tree.specs.contracts.tree.ForkTree.{the_row as tree_row}
 use Rattle.fork_book.specs.contracts.book.Book.{the_row as book_row}
-use Rattle.fork_engine.specs.contracts.held.Held.{the_row as held_row}
+use Rattle.fork_engine.specs.contracts.opened_book.OpenedBook.{the_row as held_row}
 
 module _ (A : RattleType) (g : Ghosts A.Denot) (h : clone.Ghosts A.Denot) (s : IsSend A) (f : Frees g g.dealloc_token) where
   vecs : (T : RattleType) → IsSend T → IsSend (vec_row T A g)

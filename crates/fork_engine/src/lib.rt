@@ -2,11 +2,11 @@
 //! section 16.7). Whatever the threads do, the history that they leave is compared with their scripts.
 #![tactic(auto)]
 
-mod crew;
 mod fault;
-mod held;
+mod opened_book;
 mod run;
+mod workers;
 
-pub use crew::Gate;
 pub use fault::DriveFault;
 pub use run::drive;
+pub use workers::Gate;

@@ -10,9 +10,9 @@ ghost use Rattle.fork_engine.specs.Faults.{IsNew, IsNoNew, IsTrueFault};
 ghost use Rattle.interleaving.specs.Interleaving.{IsInterleaving};
 ghost use Rattle.interleaving.specs.Plain.{EndsWithLeast};
 
-use crate::crew::{Gate, Met, Orders, post_under_lock};
 use crate::fault::DriveFault;
-use crate::held::{Held, Run, begun, is_ours};
+use crate::opened_book::{OpenedBook, Run, is_ours, opened_run};
+use crate::workers::{Gate, RefusalFlags, WorkerArguments, post_under_lock};
 use fork_book::Book;
 use fork_context::{Event, Kind, NewFault, Target};
 use fork_rank::Rules;
@@ -25,12 +25,12 @@ use std::thread::Threads;
 const MOST_STRAYS: usize = 4096;
 
 /// Compares the book with what was given.
-fn judged<A: Allocator + Clone>(
+fn compared<A: Allocator + Clone>(
     kind: Kind,
     rules: Rules,
     targets: &[Target<A>],
     scripts: &[Vec<Event<A>, A>],
-    held: Held<A>,
+    held: OpenedBook<A>,
     full: bool,
     memory: bool,
 ) -> Result<Book<A>, DriveFault<A>>
@@ -89,24 +89,24 @@ pub fn drive<A: Allocator + Clone + Send + Sync, G: Gate + Sync, R: Threads + Wa
     ensures fault { IfErr result (IsTrueFault (kind_of kind) rules targets.items (map (λ s. map event_of s.items) scripts.items)) }
 {
     order_does_not_matter();
-    let run = begun(alloc, kind, rules, targets)?;
-    let met = Met::new();
+    let run = opened_run(alloc, kind, rules, targets)?;
+    let refusals = RefusalFlags::new();
     let Run {
         alloc,
         targets,
         held,
     } = run;
     let shared = Mutex::new(held);
-    let orders = Orders {
+    let arguments = WorkerArguments {
         rt,
         alloc: &alloc,
         scripts: scripts.as_slice(),
         gate,
-        met: &met,
+        refusals: &refusals,
     };
-    post_under_lock(&shared, &orders);
-    let (full, memory) = (met.full(), met.memory());
-    judged(
+    post_under_lock(&shared, &arguments);
+    let (full, memory) = (refusals.full(), refusals.memory());
+    compared(
         kind,
         rules,
         &targets,

@@ -1,2 +1,1 @@
-pub mod Filing
 pub mod Sharing

@@ -6,10 +6,8 @@
 mod dropped;
 mod ending;
 mod fault;
-mod filed;
 mod job;
 mod receiver;
-mod schedule;
 mod serving;
 mod socket;
 mod turns;
@@ -17,6 +15,5 @@ mod worker;
 
 pub use fault::ServeFault;
 pub use job::Job;
-pub use schedule::CallTimers;
 pub use serving::{serve, serve_to};
 pub use turns::turns_asked;

@@ -3,10 +3,10 @@ ghost use Rattle.std.specs.Prelude.{◌≡◌};
 
 use crate::dropped::Dropped;
 use crate::job::Job;
-use crate::schedule::CallTimers;
 use crate::socket::{Socket, SocketPort};
 use call_table::Shelf;
 use fork_call::{Call, Port, Setup, carry};
+use fork_clock::Schedule;
 use log::Log;
 use proxy_dispatch::{Handled, handle};
 use sip_uri::Hop;
@@ -37,7 +37,7 @@ pub(crate) struct Proxy<A: Allocator + Clone = Global> {
     pub(crate) setup: Setup<A>,
     pub(crate) socket: Socket,
     pub(crate) calls: Shelf<Call<A>, A>,
-    pub(crate) schedule: CallTimers<A>,
+    pub(crate) schedule: Schedule<A>,
     /// Datagrams that a full inbox refused.
     pub(crate) crowded_out: Dropped,
     /// Datagrams that were left for want of memory.
@@ -65,7 +65,7 @@ impl<A: Allocator + Clone> Proxy<A> {
     /// Only where the allocator refuses.
     pub(crate) fn new(alloc: A, setup: Setup<A>, socket: Socket) -> Result<Proxy<A>, AllocError> {
         let calls = Shelf::new(alloc.clone()?)?;
-        let schedule = CallTimers::new(alloc.clone()?)?;
+        let schedule = Schedule::new(alloc.clone()?)?;
         Ok(Proxy {
             alloc,
             setup,
@@ -78,11 +78,11 @@ impl<A: Allocator + Clone> Proxy<A> {
         })
     }
 
-    /// Carries the call of this number. The moment at which the call is due next is filed once the call's lock is let go.
+    /// Carries the call of this number. The moment at which the call is due next is added to the schedule once the call's lock is let go.
     fn carry<R: Wait, P: Port>(&self, rt: &R, port: &mut P, number: u64, now: u64) {
         let due = self.calls.with(rt, number, |call| carried(call, port, now));
         if let Some(Some(due)) = due {
-            self.schedule.file(rt, number, due);
+            self.schedule.add(rt, number, due);
         }
     }
 
@@ -118,7 +118,7 @@ impl<A: Allocator + Clone> Proxy<A> {
         }
     }
 
-    /// Carries every call: one of them could not be filed.
+    /// Carries every call: the moment of one could not be added to the schedule.
     fn carry_all<R: Wait, P: Port>(&self, rt: &R, port: &mut P, now: u64) {
         for number in 0..self.calls.count(rt) {
             self.carry(rt, port, number, now);
@@ -131,7 +131,7 @@ impl<A: Allocator + Clone> Proxy<A> {
             self.carry_all(rt, port, now);
         }
         for _ in 0..MOST_CARRIED {
-            let Some(number) = self.schedule.take(rt, now) else {
+            let Some(number) = self.schedule.take_due(rt, now) else {
                 return;
             };
             self.carry(rt, port, number, now);

@@ -12,6 +12,4 @@ mod ordering;
 #[cfg(test)]
 mod printed;
 #[cfg(test)]
-mod schedule;
-#[cfg(test)]
 mod serving;

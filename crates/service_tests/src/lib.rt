@@ -10,6 +10,8 @@ mod commands;
 #[cfg(test)]
 mod control;
 #[cfg(test)]
+mod deadlines;
+#[cfg(test)]
 mod forgetting;
 #[cfg(test)]
 mod holds;

@@ -6,8 +6,8 @@ ghost use Rattle.fork_rank.specs.KindView.{kind_of};
 ghost use Rattle.fork_context.specs.Refusals.{IsTooMany, HasTwice};
 ghost use Rattle.fork_engine.specs.Faults.{IsNew, IsNoTorn};
 
-use crate::crew::Ended;
 use crate::fault::DriveFault;
+use crate::workers::Ended;
 use fork_book::Book;
 use fork_context::{Context, Event, Kind, NewFault, PostError, Target};
 use fork_rank::Rules;
@@ -16,7 +16,7 @@ use std::alloc::{AllocError, Allocator};
 
 /// What stands under the lock: a book, with what it opened with.
 #[derive(Drop)]
-pub(crate) struct Held<A: Allocator + Clone> {
+pub(crate) struct OpenedBook<A: Allocator + Clone> {
     kind: Kind,
     rules: Rules,
     targets: Vec<Target<A>, A>,
@@ -24,7 +24,7 @@ pub(crate) struct Held<A: Allocator + Clone> {
     ghost opens: { book.opening ≡ opening (kind_of kind) rules targets.items },
 }
 
-impl<A: Allocator + Clone> Held<A> {
+impl<A: Allocator + Clone> OpenedBook<A> {
     /// Posts an event, and says what came of it.
     pub(crate) fn post(&mut self, tag: u8, event: Event<A>) -> Ended {
         match self.book.post(tag, event) {
@@ -64,7 +64,7 @@ fn copied_targets<A: Allocator + Clone>(
 pub(crate) struct Run<A: Allocator + Clone> {
     pub(crate) alloc: A,
     pub(crate) targets: Vec<Target<A>, A>,
-    pub(crate) held: Held<A>,
+    pub(crate) held: OpenedBook<A>,
 }
 
 /// What a book is made with.
@@ -127,7 +127,7 @@ fn opened<A: Allocator + Clone>(
     kind: Kind,
     rules: Rules,
     given: Twice<A>,
-) -> Result<Held<A>, NewFault>
+) -> Result<OpenedBook<A>, NewFault>
     requires { given.kept.items ≡ given.targets.items }
     ensures none { IsErrOf result NewFault.NoTargets ↔ (given.targets.items ≡ []) }
     ensures many { IsErrOf result NewFault.TooMany ↔ IsTooMany given.targets.items }
@@ -139,7 +139,7 @@ fn opened<A: Allocator + Clone>(
         kept,
     } = given;
     let book = Book::new(alloc, kind, rules, targets)?;
-    Ok(Held {
+    Ok(OpenedBook {
         kind,
         rules,
         targets: kept,
@@ -148,7 +148,7 @@ fn opened<A: Allocator + Clone>(
 }
 
 /// Makes the book.
-pub(crate) fn begun<A: Allocator + Clone>(
+pub(crate) fn opened_run<A: Allocator + Clone>(
     alloc: A,
     kind: Kind,
     rules: Rules,
@@ -191,7 +191,7 @@ fn is_same_rules(one: Rules, other: Rules) -> bool
 
 /// Whether the book opened with what was given.
 pub(crate) fn is_ours<A: Allocator + Clone>(
-    held: &Held<A>,
+    held: &OpenedBook<A>,
     kind: Kind,
     rules: Rules,
     targets: &[Target<A>],

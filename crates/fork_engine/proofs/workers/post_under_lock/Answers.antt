@@ -1,7 +1,7 @@
 use denote.Param.Send.{sendable}
 use Rattle.std.proofs.Crossing.{crosses}
 use Rattle.fork_engine.proofs.Crossing.{held_send}
-use Rattle.fork_engine.proofs.crew.post_under_lock.Goals as goal
+use Rattle.fork_engine.proofs.workers.post_under_lock.Goals as goal
 
 pub post_scripts-requires-sync-P : goal.post_scripts-requires-sync-P
 post_scripts-requires-sync-P g c κs within =

@@ -1,4 +1,4 @@
-use Rattle.fork_engine.proofs.held.opened.Goals as goal
+use Rattle.fork_engine.proofs.opened_book.opened.Goals as goal
 
 pub returns-clause-none : goal.returns-clause-none
 returns-clause-none g c = (λ h. absurd cc, λ e. absurd (let h = c.in_ok-book.ensures.none.1 e in cc))

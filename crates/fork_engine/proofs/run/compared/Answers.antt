@@ -1,8 +1,8 @@
 use Rattle.std.proofs.Common.{sym, subst, inl, inr}
 use Rattle.fork_rank.specs.KindView.{kind_of}
 use Rattle.interleaving.specs.Interleaving.{IsInterleaving}
-use Rattle.fork_engine.proofs.run.judged.Goals as goal
-use Rattle.fork_engine.proofs.run.judged.Goals.{else-ours-via-then-ours+else-mixed, else-ours-via-else-ours}
+use Rattle.fork_engine.proofs.run.compared.Goals as goal
+use Rattle.fork_engine.proofs.run.compared.Goals.{else-ours-via-then-ours+else-mixed, else-ours-via-else-ours}
 
 pub returns-then-mixed-clause-mixed : goal.returns-then-mixed-clause-mixed
 returns-then-mixed-clause-mixed g c = subst (IsInterleaving _) c.history.ensures (c.is_interleaving-mixed.ensures.0 (cc))

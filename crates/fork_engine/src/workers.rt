@@ -1,5 +1,5 @@
 //! The workers that post to one book, each in a thread of its own.
-use crate::held::Held;
+use crate::opened_book::OpenedBook;
 use fork_context::Event;
 use std::alloc::Allocator;
 use std::sync::atomic::{AtomicU64, Ordering};
@@ -26,15 +26,15 @@ pub(crate) enum Ended {
 
 /// Which refusals the workers met.
 #[derive(Drop)]
-pub(crate) struct Met {
+pub(crate) struct RefusalFlags {
     full: AtomicU64,
     memory: AtomicU64,
 }
 
-impl Met {
+impl RefusalFlags {
     /// None yet.
-    pub(crate) fn new() -> Met {
-        Met {
+    pub(crate) fn new() -> RefusalFlags {
+        RefusalFlags {
             full: AtomicU64::new(0),
             memory: AtomicU64::new(0),
         }
@@ -66,7 +66,7 @@ pub(crate) trait Posting<A: Allocator> {
     fn post_copy<R: Wait>(&self, rt: &R, alloc: &A, worker: u8, event: &Event<A>) -> Ended;
 }
 
-impl<A: Allocator + Clone> Posting<A> for Mutex<Held<A>> {
+impl<A: Allocator + Clone> Posting<A> for Mutex<OpenedBook<A>> {
     fn post_copy<R: Wait>(&self, rt: &R, alloc: &A, worker: u8, event: &Event<A>) -> Ended {
         let Ok(copy) = event.copy(alloc) else {
             return Ended::NoMemory;
@@ -83,30 +83,32 @@ trait Work {
 
 /// What the workers are given.
 #[derive(Drop)]
-pub(crate) struct Orders<'a, A: Allocator, G, R> {
+pub(crate) struct WorkerArguments<'a, A: Allocator, G, R> {
     pub(crate) rt: &'a R,
     pub(crate) alloc: &'a A,
     pub(crate) scripts: &'a [Vec<Event<A>, A>],
     pub(crate) gate: &'a G,
-    pub(crate) met: &'a Met,
+    pub(crate) refusals: &'a RefusalFlags,
 }
 
 /// The workers at one book.
 #[derive(Drop)]
-struct Crew<'a, A: Allocator, P, G, R> {
+struct WorkerPool<'a, A: Allocator, P, G, R> {
     book: &'a P,
-    orders: &'a Orders<'a, A, G, R>,
+    arguments: &'a WorkerArguments<'a, A, G, R>,
 }
 
-impl<'a, A: Allocator, P: Posting<A>, G: Gate, R: Wait> Crew<'a, A, P, G, R> {
+impl<'a, A: Allocator, P: Posting<A>, G: Gate, R: Wait> WorkerPool<'a, A, P, G, R> {
     /// Posts a script, up to the first refusal.
     fn post_all(&self, worker: u8, script: &[Event<A>]) -> Ended {
-        let orders = self.orders;
+        let arguments = self.arguments;
         let mut place = 0u32;
         for event in script {
-            orders.gate.before(worker, place);
-            let ended = self.book.post_copy(orders.rt, orders.alloc, worker, event);
-            orders.gate.after(worker, place);
+            arguments.gate.before(worker, place);
+            let ended = self
+                .book
+                .post_copy(arguments.rt, arguments.alloc, worker, event);
+            arguments.gate.after(worker, place);
             if ended != Ended::Done {
                 return ended;
             }
@@ -116,11 +118,11 @@ impl<'a, A: Allocator, P: Posting<A>, G: Gate, R: Wait> Crew<'a, A, P, G, R> {
     }
 }
 
-impl<'a, A: Allocator, P: Posting<A>, G: Gate, R: Wait> Work for Crew<'a, A, P, G, R> {
+impl<'a, A: Allocator, P: Posting<A>, G: Gate, R: Wait> Work for WorkerPool<'a, A, P, G, R> {
     fn run(&self, worker: u8) {
-        if let Some(script) = self.orders.scripts.get(usize::from(worker)) {
-            self.orders
-                .met
+        if let Some(script) = self.arguments.scripts.get(usize::from(worker)) {
+            self.arguments
+                .refusals
                 .note(self.post_all(worker, script.as_slice()));
         }
     }
@@ -145,10 +147,10 @@ fn post_scripts<
     P: Posting<A> + Sync,
     G: Gate + Sync,
     R: Threads + Wait + Sync,
->(book: &'a P, orders: &'a Orders<'a, A, G, R>) {
-    let count = u8::try_from(orders.scripts.len()).unwrap_or(u8::MAX);
-    let crew = Crew { book, orders };
-    run_workers(orders.rt, count, &crew);
+>(book: &'a P, arguments: &'a WorkerArguments<'a, A, G, R>) {
+    let count = u8::try_from(arguments.scripts.len()).unwrap_or(u8::MAX);
+    let workers = WorkerPool { book, arguments };
+    run_workers(arguments.rt, count, &workers);
 }
 
 /// Posts the scripts to a book under a lock, a worker for each.
@@ -157,6 +159,6 @@ pub(crate) fn post_under_lock<
     A: Allocator + Clone + Send + Sync,
     G: Gate + Sync,
     R: Threads + Wait + Sync,
->(book: &'a Mutex<Held<A>>, orders: &'a Orders<'a, A, G, R>) {
-    post_scripts(book, orders);
+>(book: &'a Mutex<OpenedBook<A>>, arguments: &'a WorkerArguments<'a, A, G, R>) {
+    post_scripts(book, arguments);
 }

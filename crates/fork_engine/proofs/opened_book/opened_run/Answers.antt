@@ -2,7 +2,7 @@ use Rattle.std.proofs.Common.{◌≡◌, ◌≤◌, ◌∙◌, sym, subst, ap, L
 use Rattle.fork_model.specs.Table.{most_targets}
 use Rattle.fork_model.specs.History.{Target}
 use Rattle.fork_context.specs.Refusals.{HasTwice}
-use Rattle.fork_engine.proofs.held.begun.Goals as goal
+use Rattle.fork_engine.proofs.opened_book.opened_run.Goals as goal
 
 pub returns-in-Ok-opened-clause-twice : goal.returns-in-Ok-opened-clause-twice
 returns-in-Ok-opened-clause-twice g c =
