@@ -65,7 +65,7 @@ fn come_in_order<R: Wait>(rt: &R, schedule: &Schedule) -> bool {
 }
 
 #[test]
-fn what_two_threads_file_is_all_given(rt: HostRuntime) -> Result<(), Fail> {
+fn what_two_threads_add_is_all_given(rt: HostRuntime) -> Result<(), Fail> {
     let schedule = Schedule::new(rt.alloc())?;
     let _both = join(
         &rt,
