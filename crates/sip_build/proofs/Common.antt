@@ -48,6 +48,6 @@ pub use Rattle.sip_build.specs.Requests.{along, along_to, to_value}
 pub use Rattle.sip_build.specs.SeenKept.{seen_kept, texts}
 pub use Rattle.sip_build.specs.Upward.{challenge_line, challenge_name, contact_lines, upward_of}
 pub use Rattle.sip_build.specs.declared.responses.OwnStatus.{OwnStatus}
-pub use Rattle.sip_build.specs.inner.Groups.{lines_of, picked, start_of, tail_text, under}
+pub use Rattle.sip_build.specs.inner.HeaderRuns.{lines_of, picked, start_of, tail_text, under}
 pub use Rattle.sip_build.specs.inner.Placed.{Placed}
 pub use Rattle.sip_build.specs.inner.Texts.{lines_text}

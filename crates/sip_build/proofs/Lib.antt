@@ -4,7 +4,7 @@ pub mod TagLaws
 pub mod Pieces
 pub mod StrippedSame
 pub mod Grown
-pub mod GroupTexts
+pub mod HeaderRunTexts
 pub mod UpwardTexts
 pub mod Placed
 pub mod FirstHops

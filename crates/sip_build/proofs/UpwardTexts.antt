@@ -1,4 +1,4 @@
--- Header lines of a response that goes upstream, in groups.
+-- Header lines of a response that goes upstream, in runs.
 use Rattle.sip_build.proofs.Common.{◌≡◌, List, [], ◌++◌, sym, ap, ◌∙◌, append-nil, HeaderText, common_steps, arith}
 
 abbrev Lines : Type 0

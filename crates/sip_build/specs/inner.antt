@@ -1,5 +1,5 @@
 pub mod Forwarding
-pub mod Groups
+pub mod HeaderRuns
 pub mod Placed
 pub mod Texts
 pub mod ToTarget

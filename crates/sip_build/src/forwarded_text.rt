@@ -11,10 +11,10 @@ ghost use Rattle.sip_uri.specs.Uri.{Uri, request_uri};
 ghost use Rattle.sip_via.specs.Edits.{place_of};
 ghost use Rattle.sip_build.specs.Forwarding.{forwarded, hops_lowered, is_request, to_target};
 ghost use Rattle.sip_build.specs.inner.Forwarding.{hops_left};
-ghost use Rattle.sip_build.specs.inner.Groups.{all_lines};
+ghost use Rattle.sip_build.specs.inner.HeaderRuns.{all_lines};
 ghost use Rattle.sip_route.specs.Hops.{IsHops, hops_name};
 
-use crate::groups::Group;
+use crate::runs::HeaderRun;
 use crate::to_target::append_to_target;
 use itoa::Buffer;
 use sip_lex::read_number;
@@ -70,11 +70,11 @@ fn hops_left(first: Option<&[u8]>) -> u64
 }
 
 /// The header lines with these hops in the first Max-Forwards line, or in a line before them where there is none.
-fn lowered_groups<'a, A: Allocator>(
+fn lowered_runs<'a, A: Allocator>(
     headers: &'a [Header<A>],
     place: usize,
     hops: &'a [u8],
-) -> [Group<'a, A>; 3]
+) -> [HeaderRun<'a, A>; 3]
     requires place { place ≡ place_of hops_name (views headers.now) }
     requires within { place ≤ length headers.now }
     requires hops { hops.now ≡ decimal (hops_left (first_value hops_name (views headers.now))) }
@@ -82,11 +82,11 @@ fn lowered_groups<'a, A: Allocator>(
 {
     let (front, back) = headers.split_at(place);
     let Some((header, after)) = back.split_first() else {
-        let seventy = Group::Line(b"Max-Forwards", hops);
-        return [seventy, Group::Kept(headers), Group::Kept(&[])];
+        let seventy = HeaderRun::Line(b"Max-Forwards", hops);
+        return [seventy, HeaderRun::Kept(headers), HeaderRun::Kept(&[])];
     };
-    let lowered = Group::Line(header.name(), hops);
-    [Group::Kept(front), lowered, Group::Kept(after)]
+    let lowered = HeaderRun::Line(header.name(), hops);
+    [HeaderRun::Kept(front), lowered, HeaderRun::Kept(after)]
 }
 
 /// Appends the request as it goes to a target (RFC 3261 section 16.6): its Request-URI is the target's, the proxy's own
@@ -117,7 +117,7 @@ pub fn write_forwarded<A: Allocator + Clone, B: Allocator>(
     let hops = buffer
         .format(hops_left(value_at(headers, place)))
         .as_bytes();
-    let groups = lowered_groups(headers, place, hops);
+    let runs = lowered_runs(headers, place, hops);
     let method = method_of(message);
-    append_to_target(out, method, target, own, branch, &groups, message.body())
+    append_to_target(out, method, target, own, branch, &runs, message.body())
 }

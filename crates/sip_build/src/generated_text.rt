@@ -4,34 +4,34 @@ ghost use Rattle.std.specs.Prelude.{◌≡◌, ◌+◌, ◌++◌, ◌≤◌, cod
 ghost use Rattle.sip_text.specs.Text.{spelling};
 ghost use Rattle.sip_via.specs.Lines.{first_line};
 ghost use Rattle.sip_build.specs.Generated.{generated_of, gets_tag, tagged, to_lines, unsupported_lines};
-ghost use Rattle.sip_build.specs.inner.Groups.{all_lines, lines_of};
+ghost use Rattle.sip_build.specs.inner.HeaderRuns.{all_lines, lines_of};
 ghost use Rattle.sip_build.specs.OwnTag.{own_tag};
 
-use crate::groups::{Group, Pick};
 use crate::made_text::{Front, append_made};
 use crate::responses::{OwnStatus, gets_tag};
+use crate::runs::{HeaderRun, Pick};
 use crate::tag::own_tag;
 use sip_text::Message;
 use sip_via::first_named;
 use std::alloc::{AllocError, Allocator};
 
 /// The first header line of that name as it stands.
-fn first_group<'a, A: Allocator>(message: &'a Message<A>, name: &[u8]) -> Group<'a, A>
+fn first_run<'a, A: Allocator>(message: &'a Message<A>, name: &[u8]) -> HeaderRun<'a, A>
     ensures { lines_of result ≡ first_line name.now message.now }
 {
     match first_named(message, name) {
-        None => Group::Kept(&[]),
-        Some(header) => Group::Line(header.name(), header.value()),
+        None => HeaderRun::Kept(&[]),
+        Some(header) => HeaderRun::Line(header.name(), header.value()),
     }
 }
 
 /// The first To line with that tag behind it.
-fn tagged_group<'a, A: Allocator>(message: &'a Message<A>, tag: &'a [u8]) -> Group<'a, A>
+fn tagged_run<'a, A: Allocator>(message: &'a Message<A>, tag: &'a [u8]) -> HeaderRun<'a, A>
     ensures { lines_of result ≡ map (tagged tag.now) (first_line (codes "to") message.now) }
 {
     match first_named(message, b"to") {
-        None => Group::Kept(&[]),
-        Some(header) => Group::Joined(header.name(), header.value(), b";tag=", tag),
+        None => HeaderRun::Kept(&[]),
+        Some(header) => HeaderRun::Joined(header.name(), header.value(), b";tag=", tag),
     }
 }
 
@@ -47,51 +47,51 @@ fn tag_if_added<A: Allocator>(message: &Message<A>, status: OwnStatus) -> [u8; 1
 }
 
 /// The first To line, with the proxy's own tag where the response has it added.
-fn to_group<'a, A: Allocator>(
+fn to_run<'a, A: Allocator>(
     message: &'a Message<A>,
     status: OwnStatus,
     tag: &'a [u8],
-) -> Group<'a, A>
+) -> HeaderRun<'a, A>
     requires { gets_tag status message.now ≡ true → tag.now ≡ own_tag message.now }
     ensures { lines_of result ≡ to_lines status message.now }
 {
     if gets_tag(status, message) {
-        tagged_group(message, tag)
+        tagged_run(message, tag)
     } else {
-        first_group(message, b"to")
+        first_run(message, b"to")
     }
 }
 
 /// What a 420 says that isn't understood.
-fn unsupported_group<A: Allocator>(message: &Message<A>, status: OwnStatus) -> Group<'_, A>
+fn unsupported_run<A: Allocator>(message: &Message<A>, status: OwnStatus) -> HeaderRun<'_, A>
     ensures { lines_of result ≡ unsupported_lines status message.now }
 {
     match status {
-        OwnStatus::BadExtension => Group::Picked(
+        OwnStatus::BadExtension => HeaderRun::Picked(
             message.headers(),
             Pick::Renamed(b"proxy-require", b"Unsupported"),
         ),
-        _ => Group::Kept(&[]),
+        _ => HeaderRun::Kept(&[]),
     }
 }
 
 /// The header lines of a response of the proxy's own.
-fn generated_groups<'a, A: Allocator>(
+fn generated_runs<'a, A: Allocator>(
     message: &'a Message<A>,
     status: OwnStatus,
     tag: &'a [u8],
-) -> [Group<'a, A>; 7]
+) -> [HeaderRun<'a, A>; 7]
     requires { gets_tag status message.now ≡ true → tag.now ≡ own_tag message.now }
     ensures { all_lines result ≡ (generated_of message.now status).headers }
 {
     [
-        Group::Picked(message.headers(), Pick::Named(b"via")),
-        first_group(message, b"from"),
-        to_group(message, status, tag),
-        first_group(message, b"call-id"),
-        first_group(message, b"cseq"),
-        unsupported_group(message, status),
-        Group::Line(b"Content-Length", b"0"),
+        HeaderRun::Picked(message.headers(), Pick::Named(b"via")),
+        first_run(message, b"from"),
+        to_run(message, status, tag),
+        first_run(message, b"call-id"),
+        first_run(message, b"cseq"),
+        unsupported_run(message, status),
+        HeaderRun::Line(b"Content-Length", b"0"),
     ]
 }
 
@@ -115,11 +115,11 @@ pub fn write_generated<A: Allocator, B: Allocator>(
         → IsOk result }
 {
     let tag = tag_if_added(message, status);
-    let groups = generated_groups(message, status, &tag);
+    let runs = generated_runs(message, status, &tag);
     append_made(
         out,
         Front::Response(status.code(), status.reason()),
-        &groups,
+        &runs,
         b"",
     )
 }

@@ -5,26 +5,26 @@
 //! that it is built from.
 #![tactic(auto)]
 
-mod along_forwarded;
 mod challenges;
 mod forwarded_text;
 mod generated_text;
-mod group_lens;
-mod groups;
+mod hop_by_hop;
 mod law;
 mod made_text;
 mod own_line;
 mod parts;
 mod place;
 mod responses;
+mod run_lens;
+mod runs;
 mod tag;
 mod to_target;
 mod upward_text;
 
-pub use along_forwarded::{write_forwarded_ack, write_forwarded_cancel};
 pub use challenges::challenge_name;
 pub use forwarded_text::write_forwarded;
 pub use generated_text::write_generated;
+pub use hop_by_hop::{write_forwarded_ack, write_forwarded_cancel};
 pub use law::{ack_of_a_forwarded_request, cancel_of_a_forwarded_request, stripping_keeps_answers};
 pub use responses::{OwnStatus, gets_tag};
 pub use tag::own_tag;

@@ -3,9 +3,9 @@
 ghost use Rattle.std.specs.Prelude.{◌≡◌, ◌+◌, ◌++◌, ◌≤◌, ◌<◌, length, OnErr, OnOk, take, vec_capacity, vec_len};
 ghost use Rattle.sip_lex.specs.Line.{ended};
 ghost use Rattle.sip_text.specs.Text.{saturated, spelling, start_line};
-ghost use Rattle.sip_build.specs.inner.Groups.{IsFront, made_of, start_of, tail_text};
+ghost use Rattle.sip_build.specs.inner.HeaderRuns.{IsFront, made_of, start_of, tail_text};
 
-use crate::groups::{Group, append_tail, tail_len};
+use crate::runs::{HeaderRun, append_tail, tail_len};
 use sip_text::{
     append_request_line, append_status_line, request_line_len, status_line_len, whole_or_nothing,
 };
@@ -50,39 +50,39 @@ fn front_len(front: Front<'_>) -> usize
 fn append_parts<A: Allocator, B: Allocator>(
     out: &mut Vec<u8, B>,
     front: Front<'_>,
-    groups: &[Group<'_, A>],
+    runs: &[HeaderRun<'_, A>],
     body: &[u8],
     tail: usize,
 ) -> Result<(), AllocError>
     requires front { IsFront front }
-    requires tail { tail ≡ saturated (length (tail_text groups.now body.now)) }
+    requires tail { tail ≡ saturated (length (tail_text runs.now body.now)) }
     ensures ok { OnOk result
-        (out.new.items ≡ out.old.items ++ spelling (made_of front.entry groups.now body.now)) }
+        (out.new.items ≡ out.old.items ++ spelling (made_of front.entry runs.now body.now)) }
     ensures begins { take (vec_len out.old) out.new.items ≡ out.old.items }
     ensures full { OnErr result
-        (vec_capacity out.old < vec_len out.old + length (spelling (made_of front.entry groups.now body.now))) }
+        (vec_capacity out.old < vec_len out.old + length (spelling (made_of front.entry runs.now body.now))) }
 {
     append_front(out, front)?;
-    append_tail(out, groups, body, tail)
+    append_tail(out, runs, body, tail)
 }
 
 /// Appends the message of these parts, or nothing; `out` grows once at most, before anything is written.
 pub(crate) fn append_made<A: Allocator, B: Allocator>(
     out: &mut Vec<u8, B>,
     front: Front<'_>,
-    groups: &[Group<'_, A>],
+    runs: &[HeaderRun<'_, A>],
     body: &[u8],
 ) -> Result<(), AllocError>
     requires { IsFront front }
     ensures ok { OnOk result
-        (out.new.items ≡ out.old.items ++ spelling (made_of front.entry groups.now body.now)) }
+        (out.new.items ≡ out.old.items ++ spelling (made_of front.entry runs.now body.now)) }
     ensures err { OnErr result (out.new.items ≡ out.old.items) }
     ensures full { OnErr result
-        (vec_capacity out.old < vec_len out.old + length (spelling (made_of front.entry groups.now body.now))) }
+        (vec_capacity out.old < vec_len out.old + length (spelling (made_of front.entry runs.now body.now))) }
 {
-    let tail = tail_len(groups, body);
+    let tail = tail_len(runs, body);
     out.reserve(front_len(front).saturating_add(tail))?;
     let before = out.len();
-    let done = append_parts(out, front, groups, body, tail);
+    let done = append_parts(out, front, runs, body, tail);
     whole_or_nothing(out, before, done)
 }

@@ -5,12 +5,12 @@ ghost use Rattle.std.specs.Prelude.{◌≡◌, ◌+◌, ◌++◌, ◌≤◌, len
 ghost use Rattle.sip_lex.specs.Line.{ended};
 ghost use Rattle.sip_text.specs.Text.{Request, saturated, spelling, start_line};
 ghost use Rattle.sip_uri.specs.Uri.{request_uri};
-ghost use Rattle.sip_build.specs.inner.Groups.{tail_text};
+ghost use Rattle.sip_build.specs.inner.HeaderRuns.{tail_text};
 ghost use Rattle.sip_build.specs.inner.ToTarget.{request_to};
 
-use crate::groups::{Group, append_tail, tail_len};
 use crate::own_line::append_own_via;
 use crate::parts::ask_for_lines;
+use crate::runs::{HeaderRun, append_tail, tail_len};
 use sip_text::whole_or_nothing;
 use sip_uri::SipUri;
 use sip_via::{BranchName, Own};
@@ -43,20 +43,20 @@ fn append_parts<A: Allocator + Clone, B: Allocator>(
     target: &SipUri<A>,
     own: Own,
     branch: &BranchName,
-    groups: &[Group<'_, A>],
+    runs: &[HeaderRun<'_, A>],
     body: &[u8],
     tail: usize,
 ) -> Result<(), AllocError>
-    requires { tail ≡ saturated (length (tail_text groups.now body.now)) }
+    requires { tail ≡ saturated (length (tail_text runs.now body.now)) }
     ensures ok { OnOk result
-        (out.new.items ≡ out.old.items ++ spelling (request_to method.now target.now own branch.now groups.now body.now)) }
+        (out.new.items ≡ out.old.items ++ spelling (request_to method.now target.now own branch.now runs.now body.now)) }
     ensures begins { take (vec_len out.old) out.new.items ≡ out.old.items }
-    ensures room { vec_len out.old + length (spelling (request_to method.now target.now own branch.now groups.now body.now)) ≤ vec_capacity out.old
+    ensures room { vec_len out.old + length (spelling (request_to method.now target.now own branch.now runs.now body.now)) ≤ vec_capacity out.old
         → IsOk result }
 {
     append_request_line(out, method, target)?;
     append_own_via(out, own, branch)?;
-    append_tail(out, groups, body, tail)
+    append_tail(out, runs, body, tail)
 }
 
 /// Appends the request of these parts to a target, or nothing. Where `out` has not the room of what has a known length,
@@ -67,18 +67,18 @@ pub(crate) fn append_to_target<A: Allocator + Clone, B: Allocator>(
     target: &SipUri<A>,
     own: Own,
     branch: &BranchName,
-    groups: &[Group<'_, A>],
+    runs: &[HeaderRun<'_, A>],
     body: &[u8],
 ) -> Result<(), AllocError>
     ensures ok { OnOk result
-        (out.new.items ≡ out.old.items ++ spelling (request_to method.now target.now own branch.now groups.now body.now)) }
+        (out.new.items ≡ out.old.items ++ spelling (request_to method.now target.now own branch.now runs.now body.now)) }
     ensures err { OnErr result (out.new.items ≡ out.old.items) }
-    ensures room { vec_len out.old + length (spelling (request_to method.now target.now own branch.now groups.now body.now)) ≤ vec_capacity out.old
+    ensures room { vec_len out.old + length (spelling (request_to method.now target.now own branch.now runs.now body.now)) ≤ vec_capacity out.old
         → IsOk result }
 {
-    let tail = tail_len(groups, body);
+    let tail = tail_len(runs, body);
     ask_for_lines(out, tail)?;
     let before = out.len();
-    let done = append_parts(out, method, target, own, branch, groups, body, tail);
+    let done = append_parts(out, method, target, own, branch, runs, body, tail);
     whole_or_nothing(out, before, done)
 }

@@ -10,12 +10,12 @@ ghost use Rattle.sip_text.specs.Text.{spelling};
 ghost use Rattle.sip_via.specs.Edits.{line_if_any, replaced};
 ghost use Rattle.sip_via.specs.TopVia.{has_second, via_values};
 ghost use Rattle.sip_build.specs.Exchanged.{exchanged};
-ghost use Rattle.sip_build.specs.inner.Groups.{IsFront, all_lines, lines_of, start_of};
+ghost use Rattle.sip_build.specs.inner.HeaderRuns.{IsFront, all_lines, lines_of, start_of};
 ghost use Rattle.sip_build.specs.SeenKept.{seen_kept, texts};
 ghost use Rattle.sip_build.specs.Upward.{AreKept, challenge_line, contact_lines, is_challenge, others_of, refusal, upward, upward_headers, upward_of};
 
-use crate::groups::{Group, Pick};
 use crate::made_text::{Front, append_made};
+use crate::runs::{HeaderRun, Pick};
 use fork_rank::Challenge;
 use sip_lex::{Shelter, cut_outside, trim};
 use sip_text::{Header, Message, Start};
@@ -40,109 +40,109 @@ fn others_of<A: Allocator>(message: &Message<A>) -> Option<&[u8]>
 }
 
 /// A line of that name, if there is a value for it.
-fn group_if_any<'a, A: Allocator>(name: &'a [u8], value: Option<&'a [u8]>) -> Group<'a, A>
+fn run_if_any<'a, A: Allocator>(name: &'a [u8], value: Option<&'a [u8]>) -> HeaderRun<'a, A>
     ensures { lines_of result ≡ line_if_any name.now (option_copied value.entry) }
 {
     match value {
-        None => Group::Kept(&[]),
-        Some(value) => Group::Line(name, value),
+        None => HeaderRun::Kept(&[]),
+        Some(value) => HeaderRun::Line(name, value),
     }
 }
 
 /// The header lines, the first Via line with another value, or left out, and a line for each challenge.
-fn replaced_groups<'a, A: Allocator>(
+fn replaced_runs<'a, A: Allocator>(
     headers: &'a [Header<A>],
     others: Option<&'a [u8]>,
     challenges: &'a [Challenge<A>],
-) -> [Group<'a, A>; 6]
+) -> [HeaderRun<'a, A>; 6]
     ensures { all_lines result
         ≡ replaced (codes "via") (option_copied others.entry) (views headers.now) ++ map challenge_line challenges.now }
 {
     let (front, back) = headers.split_at(place_of(headers, VIA));
-    let front = Group::Kept(front);
-    let last = Group::Challenges(challenges);
+    let front = HeaderRun::Kept(front);
+    let last = HeaderRun::Challenges(challenges);
     let Some((top, after)) = back.split_first() else {
         return [
             front,
             last,
-            Group::Kept(&[]),
-            Group::Kept(&[]),
-            Group::Kept(&[]),
-            Group::Kept(&[]),
+            HeaderRun::Kept(&[]),
+            HeaderRun::Kept(&[]),
+            HeaderRun::Kept(&[]),
+            HeaderRun::Kept(&[]),
         ];
     };
-    let top = group_if_any(top.name(), others);
+    let top = run_if_any(top.name(), others);
     [
         front,
         top,
-        Group::Kept(after),
+        HeaderRun::Kept(after),
         last,
-        Group::Kept(&[]),
-        Group::Kept(&[]),
+        HeaderRun::Kept(&[]),
+        HeaderRun::Kept(&[]),
     ]
 }
 
 /// The header lines, a Contact line for each kept text in the place of all of theirs.
-fn exchanged_groups<'a, A: Allocator>(
+fn exchanged_runs<'a, A: Allocator>(
     headers: &'a [Header<A>],
     kept: &'a [&'a [u8]],
-) -> (Group<'a, A>, Group<'a, A>, Group<'a, A>)
+) -> (HeaderRun<'a, A>, HeaderRun<'a, A>, HeaderRun<'a, A>)
     ensures { lines_of result.0 ++ (lines_of result.1 ++ lines_of result.2)
         ≡ exchanged (codes "contact") (contact_lines (texts kept.now)) (views headers.now) }
 {
     let (front, back) = headers.split_at(place_of(headers, CONTACT));
-    let others = Group::Picked(back, Pick::Others(CONTACT));
-    (Group::Kept(front), Group::Contacts(kept), others)
+    let others = HeaderRun::Picked(back, Pick::Others(CONTACT));
+    (HeaderRun::Kept(front), HeaderRun::Contacts(kept), others)
 }
 
 /// The header lines with the contacts exchanged, and with another value in the first Via line, or
 /// without it, and a line for each challenge.
-fn kept_groups<'a, A: Allocator>(
+fn kept_runs<'a, A: Allocator>(
     headers: &'a [Header<A>],
     others: Option<&'a [u8]>,
     kept: &'a [&'a [u8]],
     challenges: &'a [Challenge<A>],
-) -> [Group<'a, A>; 6]
+) -> [HeaderRun<'a, A>; 6]
     ensures { all_lines result
         ≡ exchanged (codes "contact") (contact_lines (texts kept.now)) (replaced (codes "via") (option_copied others.entry) (views headers.now))
         ++ map challenge_line challenges.now }
 {
     let (front, back) = headers.split_at(place_of(headers, VIA));
-    let last = Group::Challenges(challenges);
+    let last = HeaderRun::Challenges(challenges);
     let Some((top, after)) = back.split_first() else {
-        let (first, contacts, rest) = exchanged_groups(front, kept);
+        let (first, contacts, rest) = exchanged_runs(front, kept);
         return [
             first,
             contacts,
             rest,
             last,
-            Group::Kept(&[]),
-            Group::Kept(&[]),
+            HeaderRun::Kept(&[]),
+            HeaderRun::Kept(&[]),
         ];
     };
-    let top = group_if_any(top.name(), others);
+    let top = run_if_any(top.name(), others);
     if place_of(front, CONTACT) < front.len() {
-        let (first, contacts, rest) = exchanged_groups(front, kept);
-        let after = Group::Picked(after, Pick::Others(CONTACT));
+        let (first, contacts, rest) = exchanged_runs(front, kept);
+        let after = HeaderRun::Picked(after, Pick::Others(CONTACT));
         [first, contacts, rest, top, after, last]
     } else {
-        let (first, contacts, rest) = exchanged_groups(after, kept);
-        [Group::Kept(front), top, first, contacts, rest, last]
+        let (first, contacts, rest) = exchanged_runs(after, kept);
+        [HeaderRun::Kept(front), top, first, contacts, rest, last]
     }
 }
 
 /// The header lines of the response as it goes upstream.
-fn upward_groups<'a, A: Allocator>(
+fn upward_runs<'a, A: Allocator>(
     message: &'a Message<A>,
     kept: Option<&'a [&'a [u8]]>,
     challenges: &'a [Challenge<A>],
-) -> [Group<'a, A>; 6]
+) -> [HeaderRun<'a, A>; 6]
     ensures { all_lines result ≡ upward_headers message.now.headers (seen_kept kept.entry) challenges.now }
 {
     let others = others_of(message);
     match kept {
-        None => replaced_groups(message.headers(), others, challenges),
-        Some(kept) => kept_groups(message.headers(), others, kept, challenges),
+        None => replaced_runs(message.headers(), others, challenges),
+        Some(kept) => kept_runs(message.headers(), others, kept, challenges),
     }
 }
 
@@ -173,8 +173,8 @@ fn append_upward<A: Allocator, B: Allocator>(
 {
     message.is_message();
     let front = front_of(message.start());
-    let groups = upward_groups(message, kept, challenges);
-    append_made(out, front, &groups, message.body())
+    let runs = upward_runs(message, kept, challenges);
+    append_made(out, front, &runs, message.body())
 }
 
 /// Appends the response as it goes upstream (RFC 3261 section 16.7 steps 3, 7 and 9): without its top Via value, whose

@@ -1,6 +1,0 @@
-use Rattle.sip_build.proofs.Common.{arith}
-use Rattle.sip_build.proofs.Routes.{none-named}
-use Rattle.sip_build.proofs.along_forwarded.with_routes.Goals as goal
-
-pub returns-in-None : goal.returns-in-None
-returns-in-None g c = grind (arith, none-named)
