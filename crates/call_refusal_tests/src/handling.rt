@@ -5,7 +5,7 @@ use crate::calls::{SettingUp, plays};
 use crate::texts::{ACK, CALLER, CANCEL, INVITE, OPTIONS, SETUP, TARGET};
 use call_table::Shelf;
 use fork_call::{Call, Datagram, Port, Setup, carry};
-use proxy_dispatch::{Handled, handle};
+use proxy_dispatch::{Handled, Memory, Received, handle};
 use refusing::{Answer, Heap, Play, Refusing, Repeated};
 use sip_uri::Hop;
 use std::alloc::{Allocator, Global};
@@ -216,15 +216,21 @@ impl<R: Wait> Proxy<'_, R> {
     fn handles(&mut self) -> Answer<Handled> {
         let sends = self.port.sends;
         let shows = self.shows();
+        let memory = Memory {
+            alloc: self.scarce,
+            heap: self.global,
+        };
+        let received = Received {
+            bytes: self.packet,
+            source: self.source,
+            now: 0,
+        };
         let handled = handle(
             self.rt,
-            self.scarce,
-            self.global,
+            memory,
             &self.shelf,
             &self.setup,
-            self.packet,
-            self.source,
-            0,
+            received,
             &mut self.port,
         );
         match handled {

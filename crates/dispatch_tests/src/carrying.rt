@@ -1,11 +1,11 @@
 //! Calls on a shelf: what they are fed, what they send, and what was posted to them.
 ghost use Rattle.std.specs.Prelude.{◌≡◌};
 
-use crate::texts::{SOURCE, text_of};
+use crate::texts::{SOURCE, memory_of, text_of};
 use call_table::Shelf;
 use fork_call::{Call, Port, Setup, carry};
 use fork_context::Event;
-use proxy_dispatch::{Handled, handle};
+use proxy_dispatch::{Handled, Received, handle};
 use std::alloc::Global;
 use std::process::Abort;
 use std::sync::Wait;
@@ -41,7 +41,12 @@ pub fn serves<R: Abort + Wait, P: Port>(
     now: u64,
     port: &mut P,
 ) -> Option<Handled> {
-    let handled = handle(rt, alloc, alloc, shelf, setup, text, SOURCE, now, port).ok()?;
+    let received = Received {
+        bytes: text,
+        source: SOURCE,
+        now,
+    };
+    let handled = handle(rt, memory_of(alloc), shelf, setup, received, port).ok()?;
     match handled {
         Handled::Opened(number) | Handled::Delivered(number) => {
             if carries(rt, shelf, number, port, now) {

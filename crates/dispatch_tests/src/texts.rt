@@ -2,7 +2,7 @@
 use crate::outbox::Outbox;
 use call_table::Shelf;
 use fork_call::{Call, Setup};
-use proxy_dispatch::{Handled, handle};
+use proxy_dispatch::{Handled, Memory, Received, handle};
 use sip_uri::Hop;
 use std::alloc::Global;
 use std::sync::Wait;
@@ -119,6 +119,11 @@ pub fn shelf_of(alloc: Global) -> Option<Shelf<Call<Global>>> {
     }
 }
 
+/// The memory of calls that is all in this allocator.
+pub fn memory_of(alloc: Global) -> Memory<Global> {
+    Memory { alloc, heap: alloc }
+}
+
 /// What becomes of a text by a setup.
 pub fn text_becomes<R: Wait>(
     rt: &R,
@@ -128,7 +133,12 @@ pub fn text_becomes<R: Wait>(
     text: &[u8],
     outbox: &mut Outbox,
 ) -> Option<Handled> {
-    match handle(rt, alloc, alloc, shelf, setup, text, SOURCE, 0, outbox) {
+    let received = Received {
+        bytes: text,
+        source: SOURCE,
+        now: 0,
+    };
+    match handle(rt, memory_of(alloc), shelf, setup, received, outbox) {
         Ok(handled) => Some(handled),
         Err(_) => None,
     }

@@ -14,7 +14,8 @@ ghost use Rattle.proxy_dispatch.specs.Sent.{passed_on, passed_text, passing_bran
 ghost use Rattle.proxy_dispatch.specs.inner.Sent.{seen_sent};
 
 use crate::datagrams::Handled;
-use crate::outcome::{Outcome, Received};
+use crate::outcome::Outcome;
+use crate::received::Received;
 use call_routing::admitted_target;
 use fork_call::{Cause, Datagram, Setup};
 use proxy_routing::{hop_by, is_domain, validate_request};
@@ -135,11 +136,11 @@ pub(crate) fn acknowledged<A: Allocator + Clone>(
     alloc: A,
     setup: &Setup<A>,
     ack: Message<A>,
-    received: &Received<'_>,
+    received: Received<'_>,
 ) -> Result<Outcome<A>, AllocError>
     requires { purpose_of ack.start ≡ Some purposes.Ack }
     ensures { IfOk result (λ outcome.
-        MessageBecomes setup.now ack received.now.source received.now.at outcome.handled (seen_sent outcome.datagram)) }
+        MessageBecomes setup.now ack received.source received.now outcome.handled (seen_sent outcome.datagram)) }
 {
     if has_own_tag(&ack) {
         return Ok(Outcome::silent(Handled::Absorbed));

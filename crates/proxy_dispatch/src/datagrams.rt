@@ -10,8 +10,10 @@ ghost use Rattle.proxy_dispatch.specs.Sent.{IsHanded};
 ghost use Rattle.proxy_dispatch.specs.inner.Sent.{seen_sent};
 
 use crate::answers::answered;
-use crate::outcome::{Outcome, Received};
+use crate::memory::Memory;
+use crate::outcome::Outcome;
 use crate::purpose::{is_answered, purpose_of};
+use crate::received::Received;
 use crate::requests::requested;
 use crate::responses::responded;
 use call_table::Shelf;
@@ -19,7 +21,7 @@ use fork_call::{Call, Datagram, Port, Setup};
 use sip_build::OwnStatus;
 use sip_text::{Message, ReadFault, faults_are_of_the_text};
 use sip_uri::Hop;
-use std::alloc::{AllocError, Allocator, Global};
+use std::alloc::{AllocError, Allocator};
 use std::sync::Wait;
 
 /// What became of a datagram.
@@ -42,20 +44,19 @@ pub enum Handled {
 /// What becomes of a message.
 fn of_message<A: Allocator + Clone, R: Wait>(
     rt: &R,
-    alloc: A,
-    heap: Global,
+    memory: Memory<A>,
     shelf: &Shelf<Call<A>, A>,
     setup: &Setup<A>,
     message: Message<A>,
-    received: &Received<'_>,
+    received: Received<'_>,
 ) -> Result<Outcome<A>, AllocError>
-    requires { read_at received.now.bytes.now ≡ Ok message }
+    requires { read_at received.bytes.now ≡ Ok message }
     ensures { IfOk result (λ outcome.
-        MessageBecomes setup.now message received.now.source received.now.at outcome.handled (seen_sent outcome.datagram)) }
+        MessageBecomes setup.now message received.source received.now outcome.handled (seen_sent outcome.datagram)) }
 {
     match purpose_of(&message) {
         None => responded(rt, shelf, setup, message, received),
-        Some(purpose) => requested(rt, alloc, heap, shelf, setup, message, purpose, received),
+        Some(purpose) => requested(rt, memory, shelf, setup, message, purpose, received),
     }
 }
 
@@ -98,19 +99,18 @@ fn of_fault<A: Allocator + Clone>(
 /// What becomes of a datagram.
 fn outcome_of<A: Allocator + Clone, R: Wait>(
     rt: &R,
-    alloc: A,
-    heap: Global,
+    memory: Memory<A>,
     shelf: &Shelf<Call<A>, A>,
     setup: &Setup<A>,
-    received: &Received<'_>,
+    received: Received<'_>,
 ) -> Result<Outcome<A>, AllocError>
     ensures { IfOk result (λ outcome.
-        Becomes setup.now received.now.bytes.now received.now.source received.now.at outcome.handled (seen_sent outcome.datagram)) }
+        Becomes setup.now received.bytes.now received.source received.now outcome.handled (seen_sent outcome.datagram)) }
 {
     faults_are_of_the_text();
-    match Message::read(alloc.clone()?, received.bytes) {
-        Ok(message) => of_message(rt, alloc, heap, shelf, setup, message, received),
-        Err(fault) => of_fault(alloc, fault, received.source),
+    match Message::read(memory.alloc.clone()?, received.bytes) {
+        Ok(message) => of_message(rt, memory, shelf, setup, message, received),
+        Err(fault) => of_fault(memory.alloc, fault, received.source),
     }
 }
 
@@ -123,35 +123,27 @@ fn hand<A: Allocator, P: Port>(port: &mut P, sent: &Option<Datagram<A>>)
     }
 }
 
-/// Handles a datagram that came from `source` at `now`, in milliseconds (RFC 3261 sections 16.2, 16.7, 16.11, 17.1.3, 17.2.3
-/// and 18): the call that it belongs to takes it, or it opens one, or it is answered, sent on or dropped without one. An answer
-/// or an ACK that cannot be sent is lost, as on the way. Nothing else is handed to the port: what a call then has to send is for
-/// `carry`. A call that is opened has its queue of what is owed to the caller on `heap`, all else in `alloc`.
+/// Handles a datagram that was received (RFC 3261 sections 16.2, 16.7, 16.11, 17.1.3, 17.2.3 and 18): the call that it belongs
+/// to takes it, or it opens one, or it is answered, sent on or dropped without one. An answer or an ACK that cannot be sent is
+/// lost, as on the way. Nothing else is handed to the port: what a call then has to send is for `carry`. A call that is opened
+/// has its memory from `memory`.
 ///
 /// # Errors
 ///
 /// Only where the allocator refuses; no call has changed then, none was opened, and nothing was sent.
 pub fn handle<A: Allocator + Clone, P: Port, R: Wait>(
     rt: &R,
-    alloc: A,
-    heap: Global,
+    memory: Memory<A>,
     shelf: &Shelf<Call<A>, A>,
     setup: &Setup<A>,
-    packet: &[u8],
-    source: Hop,
-    now: u64,
+    received: Received<'_>,
     port: &mut P,
 ) -> Result<Handled, AllocError>
     ensures became { IfOk result (λ handled.
-        (sent : Option built.Datagram) × Becomes setup.now packet.now source now handled sent × IsHanded P.sends port.old sent port.new) }
+        (sent : Option built.Datagram) × Becomes setup.now received.bytes.now received.source received.now handled sent × IsHanded P.sends port.old sent port.new) }
     ensures err { OnErr result (port.new ≡ port.old) }
 {
-    let received = Received {
-        bytes: packet,
-        source,
-        at: now,
-    };
-    let outcome = outcome_of(rt, alloc, heap, shelf, setup, &received)?;
+    let outcome = outcome_of(rt, memory, shelf, setup, received)?;
     hand(port, &outcome.datagram);
     Ok(outcome.handled)
 }

@@ -6,7 +6,8 @@ ghost use Rattle.proxy_dispatch.specs.Purpose.{purpose_of};
 ghost use Rattle.proxy_dispatch.specs.inner.Sent.{seen_sent};
 
 use crate::datagrams::Handled;
-use crate::outcome::{Outcome, Received};
+use crate::outcome::Outcome;
+use crate::received::Received;
 use call_table::Shelf;
 use fork_call::{Call, TakeFault};
 use sip_text::Message;
@@ -25,12 +26,12 @@ fn is_taken<A: Allocator + Clone, R: Wait>(
     shelf: &Shelf<Call<A>, A>,
     no: u64,
     message: Message<A>,
-    received: &Received<'_>,
+    received: Received<'_>,
 ) -> Result<bool, AllocError>
-    ensures { IfOk result (λ well. well ≡ true → IsTaken no message received.now.source received.now.at) }
+    ensures { IfOk result (λ well. well ≡ true → IsTaken no message received.source received.now) }
 {
     let source = received.source;
-    let now = received.at;
+    let now = received.now;
     match shelf.with(rt, no, |call| call.take(message, source, now)) {
         Some(Ok(_)) => Ok(true),
         Some(Err(TakeFault::NoMemory)) => Err(AllocError),
@@ -48,12 +49,12 @@ pub(crate) fn deliver<A: Allocator + Clone, R: Wait>(
     shelf: &Shelf<Call<A>, A>,
     no: u64,
     message: Message<A>,
-    received: &Received<'_>,
+    received: Received<'_>,
 ) -> Result<Outcome<A>, AllocError>
     ensures { IfOk result (λ outcome. (setup : Setup)
         → IsFor setup no message (purpose_of message.start)
-        → IsDropped setup message received.now.source (purpose_of message.start)
-        → MessageBecomes setup message received.now.source received.now.at outcome.handled (seen_sent outcome.datagram)) }
+        → IsDropped setup message received.source (purpose_of message.start)
+        → MessageBecomes setup message received.source received.now outcome.handled (seen_sent outcome.datagram)) }
 {
     let taken = is_taken(rt, shelf, no, message, received)?;
     let handled = if taken {

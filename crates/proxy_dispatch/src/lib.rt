@@ -8,9 +8,13 @@ mod acks;
 mod answers;
 mod datagrams;
 mod delivery;
+mod memory;
 mod outcome;
 mod purpose;
+mod received;
 mod requests;
 mod responses;
 
 pub use datagrams::{Handled, handle};
+pub use memory::Memory;
+pub use received::Received;

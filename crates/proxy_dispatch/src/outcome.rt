@@ -3,16 +3,7 @@ ghost use Rattle.std.specs.Prelude.{◌≡◌, None};
 
 use crate::datagrams::Handled;
 use fork_call::Datagram;
-use sip_uri::Hop;
 use std::alloc::Allocator;
-
-/// A datagram: its bytes, where it came from, and when.
-#[derive(Clone, Copy)]
-pub(crate) struct Received<'a> {
-    pub(crate) bytes: &'a [u8],
-    pub(crate) source: Hop,
-    pub(crate) at: u64,
-}
 
 /// What becomes of a datagram, and what is sent for it at once.
 #[derive(Drop)]

@@ -16,14 +16,16 @@ use crate::acks::acknowledged;
 use crate::answers::{answered, status_of};
 use crate::datagrams::Handled;
 use crate::delivery::deliver;
-use crate::outcome::{Outcome, Received};
+use crate::memory::Memory;
+use crate::outcome::Outcome;
 use crate::purpose::Purpose;
+use crate::received::Received;
 use call_table::{Shelf, ShelfFault};
 use fork_call::{Call, PendingCall, RequestRejection, Setup};
 use sip_build::OwnStatus;
 use sip_route::append_request_key;
 use sip_text::Message;
-use std::alloc::{AllocError, Allocator, Global};
+use std::alloc::{AllocError, Allocator};
 use std::sync::Wait;
 
 /// The key of a request, by which it is known when it comes again, with its ACK and its CANCEL (RFC 3261 section 17.2.3).
@@ -41,21 +43,25 @@ fn key_of<A: Allocator>(alloc: A, request: &Message<A>) -> Result<Option<Vec<u8,
 /// Opens a call under that key. The call is prepared before the keys are locked, so no other thread waits for that.
 fn open_call<A: Allocator + Clone, R: Wait>(
     rt: &R,
-    alloc: A,
-    heap: Global,
+    memory: Memory<A>,
     shelf: &Shelf<Call<A>, A>,
     setup: &Setup<A>,
     key: &[u8],
     request: Message<A>,
-    received: &Received<'_>,
+    received: Received<'_>,
 ) -> Result<u64, ShelfFault<RequestRejection>>
     requires { purpose_of request.start ≡ Some purposes.Opening }
-    ensures opened { IfOk result (λ no. (call : parts.Call) × Opens setup.now no request received.now.source call) }
-    ensures refused { (fault : RequestRejection) → IsErrOf result (shelf_fault.Made fault) → Refuses setup.now request received.now.source fault }
+    ensures opened { IfOk result (λ no. (call : parts.Call) × Opens setup.now no request received.source call) }
+    ensures refused { (fault : RequestRejection) → IsErrOf result (shelf_fault.Made fault) → Refuses setup.now request received.source fault }
 {
-    let source = received.source;
-    let now = received.at;
-    let prepared = match PendingCall::new(alloc, heap, setup, request, source, now) {
+    let prepared = match PendingCall::new(
+        memory.alloc,
+        memory.heap,
+        setup,
+        request,
+        received.source,
+        received.now,
+    ) {
         Ok(prepared) => prepared,
         Err(fault) => return Err(ShelfFault::Made(fault)),
     };
@@ -66,9 +72,9 @@ fn open_call<A: Allocator + Clone, R: Wait>(
 /// request is read again for the answer; a call that is opened costs no copy.
 fn read_again<A: Allocator + Clone>(
     alloc: A,
-    received: &Received<'_>,
+    received: Received<'_>,
 ) -> Result<Message<A>, AllocError>
-    ensures { IfOk result (λ message. read_at received.now.bytes.now ≡ Ok message) }
+    ensures { IfOk result (λ message. read_at received.bytes.now ≡ Ok message) }
 {
     match Message::read(alloc, received.bytes) {
         Ok(message) => Ok(message),
@@ -82,13 +88,13 @@ fn refused<A: Allocator + Clone>(
     alloc: A,
     setup: &Setup<A>,
     request: Message<A>,
-    received: &Received<'_>,
+    received: Received<'_>,
     fault: RequestRejection,
 ) -> Result<Outcome<A>, AllocError>
     requires opening { purpose_of request.start ≡ Some purposes.Opening }
-    requires refused { Refuses setup.now request received.now.source fault }
+    requires refused { Refuses setup.now request received.source fault }
     ensures { IfOk result (λ outcome.
-        MessageBecomes setup.now request received.now.source received.now.at outcome.handled (seen_sent outcome.datagram)) }
+        MessageBecomes setup.now request received.source received.now outcome.handled (seen_sent outcome.datagram)) }
 {
     match status_of(fault) {
         Some(status) => answered(alloc, request, received.source, status),
@@ -99,30 +105,21 @@ fn refused<A: Allocator + Clone>(
 /// What becomes of a request whose key no call has: it opens a call, or is answered.
 fn opened<A: Allocator + Clone, R: Wait>(
     rt: &R,
-    alloc: A,
-    heap: Global,
+    memory: Memory<A>,
     shelf: &Shelf<Call<A>, A>,
     setup: &Setup<A>,
     key: &[u8],
     request: Message<A>,
-    received: &Received<'_>,
+    received: Received<'_>,
 ) -> Result<Outcome<A>, AllocError>
     requires opening { purpose_of request.start ≡ Some purposes.Opening }
     requires key { request_key request ≢ None }
-    requires read { read_at received.now.bytes.now ≡ Ok request }
+    requires read { read_at received.bytes.now ≡ Ok request }
     ensures { IfOk result (λ outcome.
-        MessageBecomes setup.now request received.now.source received.now.at outcome.handled (seen_sent outcome.datagram)) }
+        MessageBecomes setup.now request received.source received.now outcome.handled (seen_sent outcome.datagram)) }
 {
-    match open_call(
-        rt,
-        alloc.clone()?,
-        heap,
-        shelf,
-        setup,
-        key,
-        request,
-        received,
-    ) {
+    let alloc = memory.alloc.clone()?;
+    match open_call(rt, memory, shelf, setup, key, request, received) {
         Ok(no) => Ok(Outcome::silent(Handled::Opened(no))),
         // Another worker opened the call meanwhile.
         Err(ShelfFault::Known(no)) => deliver(
@@ -150,38 +147,42 @@ fn opened<A: Allocator + Clone, R: Wait>(
 /// Only where the allocator refuses; no call has changed then, and none was opened.
 pub(crate) fn requested<A: Allocator + Clone, R: Wait>(
     rt: &R,
-    alloc: A,
-    heap: Global,
+    memory: Memory<A>,
     shelf: &Shelf<Call<A>, A>,
     setup: &Setup<A>,
     request: Message<A>,
     purpose: Purpose,
-    received: &Received<'_>,
+    received: Received<'_>,
 ) -> Result<Outcome<A>, AllocError>
     requires purpose { purpose_of request.start ≡ Some purpose }
-    requires read { read_at received.now.bytes.now ≡ Ok request }
+    requires read { read_at received.bytes.now ≡ Ok request }
     ensures { IfOk result (λ outcome.
-        MessageBecomes setup.now request received.now.source received.now.at outcome.handled (seen_sent outcome.datagram)) }
+        MessageBecomes setup.now request received.source received.now outcome.handled (seen_sent outcome.datagram)) }
 {
-    let key = key_of(alloc.clone()?, &request)?;
+    let key = key_of(memory.alloc.clone()?, &request)?;
     if let Some(key) = &key {
         if let Some(no) = shelf.keyed(rt, key) {
             return deliver(rt, shelf, no, request, received);
         }
     }
     match (purpose, key) {
-        (Purpose::Ack, _) => acknowledged(alloc, setup, request, received),
+        (Purpose::Ack, _) => acknowledged(memory.alloc, setup, request, received),
         (Purpose::Cancel, _) => answered(
-            alloc,
+            memory.alloc,
             request,
             received.source,
             OwnStatus::CallDoesNotExist,
         ),
         (Purpose::Opening, None) => {
-            answered(alloc, request, received.source, OwnStatus::BadRequest)
+            answered(
+                memory.alloc,
+                request,
+                received.source,
+                OwnStatus::BadRequest,
+            )
         }
         (Purpose::Opening, Some(key)) => {
-            opened(rt, alloc, heap, shelf, setup, &key, request, received)
+            opened(rt, memory, shelf, setup, &key, request, received)
         }
     }
 }

@@ -6,7 +6,8 @@ ghost use Rattle.proxy_dispatch.specs.inner.Sent.{seen_sent};
 
 use crate::datagrams::Handled;
 use crate::delivery::deliver;
-use crate::outcome::{Outcome, Received};
+use crate::outcome::Outcome;
+use crate::received::Received;
 use call_table::Shelf;
 use fork_call::{Call, Setup};
 use sip_text::Message;
@@ -38,11 +39,11 @@ pub(crate) fn responded<A: Allocator + Clone, R: Wait>(
     shelf: &Shelf<Call<A>, A>,
     setup: &Setup<A>,
     response: Message<A>,
-    received: &Received<'_>,
+    received: Received<'_>,
 ) -> Result<Outcome<A>, AllocError>
     requires { purpose_of response.start ≡ None }
     ensures { IfOk result (λ outcome.
-        MessageBecomes setup.now response received.now.source received.now.at outcome.handled (seen_sent outcome.datagram)) }
+        MessageBecomes setup.now response received.source received.now outcome.handled (seen_sent outcome.datagram)) }
 {
     match call_of(setup, &response) {
         Some(no) => deliver(rt, shelf, no, response, received),

@@ -8,8 +8,7 @@ use call_table::Shelf;
 use fork_call::{Call, Port, Setup, carry};
 use fork_clock::Schedule;
 use log::Log;
-use proxy_dispatch::{Handled, handle};
-use sip_uri::Hop;
+use proxy_dispatch::{Handled, Memory, Received, handle};
 use std::alloc::{AllocError, Allocator, Global};
 use std::sync::Wait;
 use worker_jobs::JobReceiver;
@@ -92,27 +91,16 @@ impl<A: Allocator + Clone> Proxy<A> {
         rt: &R,
         heap: Global,
         port: &mut P,
-        bytes: &[u8],
-        source: Hop,
-        now: u64,
+        received: Received<'_>,
     ) {
         let Ok(alloc) = self.alloc.clone() else {
             return self.refused.note(rt, "datagrams left for want of memory");
         };
-        match handle(
-            rt,
-            alloc,
-            heap,
-            &self.calls,
-            &self.setup,
-            bytes,
-            source,
-            now,
-            port,
-        ) {
-            Ok(Handled::Opened(number) | Handled::Delivered(number)) => self.carry(
-                rt, port, number, now,
-            ),
+        let memory = Memory { alloc, heap };
+        match handle(rt, memory, &self.calls, &self.setup, received, port) {
+            Ok(Handled::Opened(number) | Handled::Delivered(number)) => {
+                self.carry(rt, port, number, received.now);
+            }
             Ok(_) => {}
             Err(AllocError) => self.refused.note(rt, "datagrams left for want of memory"),
         }
@@ -164,14 +152,14 @@ impl<A: Allocator + Clone> Proxy<A> {
             }
             left = left.wrapping_sub(1);
             match jobs.receive(rt) {
-                Job::Packet { bytes, source, now } => self.take(
-                    rt,
-                    heap,
-                    &mut port,
-                    bytes.as_slice(),
-                    source,
-                    now,
-                ),
+                Job::Packet { bytes, source, now } => {
+                    let received = Received {
+                        bytes: bytes.as_slice(),
+                        source,
+                        now,
+                    };
+                    self.take(rt, heap, &mut port, received);
+                }
                 Job::Tick(now) => self.tick(rt, &mut port, now),
                 Job::Finish => return,
             }

@@ -9,7 +9,7 @@ use crate::holds::holds;
 use call_table::Shelf;
 use fork_call::{Call, Cause, Datagram, Port, Setup, carry};
 use fork_context::State;
-use proxy_dispatch::{Handled, handle};
+use proxy_dispatch::{Handled, Memory, Received, handle};
 use sip_uri::Hop;
 use std::alloc::{Allocator, Global};
 use std::process::Abort;
@@ -188,17 +188,16 @@ struct Desk {
 
 impl Taking for Desk {
     fn takes<R: Abort + Wait>(&self, rt: &R, text: &[u8], tally: &mut Tally) -> bool {
-        match handle(
-            rt,
-            self.alloc,
-            self.alloc,
-            &self.calls,
-            &self.setup,
-            text,
-            SOURCE,
-            0,
-            tally,
-        ) {
+        let memory = Memory {
+            alloc: self.alloc,
+            heap: self.alloc,
+        };
+        let received = Received {
+            bytes: text,
+            source: SOURCE,
+            now: 0,
+        };
+        match handle(rt, memory, &self.calls, &self.setup, received, tally) {
             Ok(Handled::Opened(number) | Handled::Delivered(number)) => {
                 self.calls
                     .with(rt, number, |call| is_carried(rt, call, tally))

@@ -6,8 +6,8 @@ use Rattle.proxy_dispatch.proofs.requests.requested.Goals as goal
 pub returns-in-Opening-None : goal.returns-in-Opening-None
 returns-in-Opening-None g c =
     let setup = c.args.setup.now in
-    let source = c.args.received.now.source in
+    let source = c.args.received.source in
     let opening = c.requires.purpose ∙ ap Some c.in-Opening-None.is-0 in
     let answered = unkeyed setup c.args.request source opening (none_key _ _ _ c.in_ok-key.ensures c.in-Opening-None.is-1) in
     answered_so c.answered-in-Opening-None.result (λ outcome. outcome.handled) (λ outcome. seen_sent outcome.datagram) setup c.args.request source
-    c.args.received.now.at own.BadRequest answered c.answered-in-Opening-None.ensures.handled c.answered-in-Opening-None.ensures.sent
+    c.args.received.now own.BadRequest answered c.answered-in-Opening-None.ensures.handled c.answered-in-Opening-None.ensures.sent
