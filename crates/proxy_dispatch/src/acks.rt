@@ -140,7 +140,7 @@ pub(crate) fn acknowledged<A: Allocator + Clone>(
 ) -> Result<Outcome<A>, AllocError>
     requires { purpose_of ack.start ≡ Some purposes.Ack }
     ensures { IfOk result (λ outcome.
-        MessageBecomes setup.now ack received.source received.now outcome.handled (seen_sent outcome.datagram)) }
+        MessageBecomes setup.now ack received.entry.source received.entry.now outcome.handled (seen_sent outcome.datagram)) }
 {
     if has_own_tag(&ack) {
         return Ok(Outcome::silent(Handled::Absorbed));

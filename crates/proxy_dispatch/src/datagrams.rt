@@ -52,7 +52,7 @@ fn of_message<A: Allocator + Clone, R: Wait>(
 ) -> Result<Outcome<A>, AllocError>
     requires { read_at received.bytes.now ≡ Ok message }
     ensures { IfOk result (λ outcome.
-        MessageBecomes setup.now message received.source received.now outcome.handled (seen_sent outcome.datagram)) }
+        MessageBecomes setup.now message received.entry.source received.entry.now outcome.handled (seen_sent outcome.datagram)) }
 {
     match purpose_of(&message) {
         None => responded(rt, shelf, setup, message, received),
@@ -105,7 +105,7 @@ fn outcome_of<A: Allocator + Clone, R: Wait>(
     received: Received<'_>,
 ) -> Result<Outcome<A>, AllocError>
     ensures { IfOk result (λ outcome.
-        Becomes setup.now received.bytes.now received.source received.now outcome.handled (seen_sent outcome.datagram)) }
+        Becomes setup.now received.entry.bytes.now received.entry.source received.entry.now outcome.handled (seen_sent outcome.datagram)) }
 {
     faults_are_of_the_text();
     match Message::read(memory.alloc.clone()?, received.bytes) {
@@ -140,7 +140,7 @@ pub fn handle<A: Allocator + Clone, P: Port, R: Wait>(
     port: &mut P,
 ) -> Result<Handled, AllocError>
     ensures became { IfOk result (λ handled.
-        (sent : Option built.Datagram) × Becomes setup.now received.bytes.now received.source received.now handled sent × IsHanded P.sends port.old sent port.new) }
+        (sent : Option built.Datagram) × Becomes setup.now received.entry.bytes.now received.entry.source received.entry.now handled sent × IsHanded P.sends port.old sent port.new) }
     ensures err { OnErr result (port.new ≡ port.old) }
 {
     let outcome = outcome_of(rt, memory, shelf, setup, received)?;

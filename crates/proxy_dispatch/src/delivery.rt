@@ -28,7 +28,7 @@ fn is_taken<A: Allocator + Clone, R: Wait>(
     message: Message<A>,
     received: Received<'_>,
 ) -> Result<bool, AllocError>
-    ensures { IfOk result (λ well. well ≡ true → IsTaken no message received.source received.now) }
+    ensures { IfOk result (λ well. well ≡ true → IsTaken no message received.entry.source received.entry.now) }
 {
     let source = received.source;
     let now = received.now;
@@ -53,8 +53,8 @@ pub(crate) fn deliver<A: Allocator + Clone, R: Wait>(
 ) -> Result<Outcome<A>, AllocError>
     ensures { IfOk result (λ outcome. (setup : Setup)
         → IsFor setup no message (purpose_of message.start)
-        → IsDropped setup message received.source (purpose_of message.start)
-        → MessageBecomes setup message received.source received.now outcome.handled (seen_sent outcome.datagram)) }
+        → IsDropped setup message received.entry.source (purpose_of message.start)
+        → MessageBecomes setup message received.entry.source received.entry.now outcome.handled (seen_sent outcome.datagram)) }
 {
     let taken = is_taken(rt, shelf, no, message, received)?;
     let handled = if taken {

@@ -51,8 +51,8 @@ fn open_call<A: Allocator + Clone, R: Wait>(
     received: Received<'_>,
 ) -> Result<u64, ShelfFault<RequestRejection>>
     requires { purpose_of request.start ≡ Some purposes.Opening }
-    ensures opened { IfOk result (λ no. (call : parts.Call) × Opens setup.now no request received.source call) }
-    ensures refused { (fault : RequestRejection) → IsErrOf result (shelf_fault.Made fault) → Refuses setup.now request received.source fault }
+    ensures opened { IfOk result (λ no. (call : parts.Call) × Opens setup.now no request received.entry.source call) }
+    ensures refused { (fault : RequestRejection) → IsErrOf result (shelf_fault.Made fault) → Refuses setup.now request received.entry.source fault }
 {
     let prepared = match PendingCall::new(
         memory.alloc,
@@ -74,7 +74,7 @@ fn read_again<A: Allocator + Clone>(
     alloc: A,
     received: Received<'_>,
 ) -> Result<Message<A>, AllocError>
-    ensures { IfOk result (λ message. read_at received.bytes.now ≡ Ok message) }
+    ensures { IfOk result (λ message. read_at received.entry.bytes.now ≡ Ok message) }
 {
     match Message::read(alloc, received.bytes) {
         Ok(message) => Ok(message),
@@ -94,7 +94,7 @@ fn refused<A: Allocator + Clone>(
     requires opening { purpose_of request.start ≡ Some purposes.Opening }
     requires refused { Refuses setup.now request received.source fault }
     ensures { IfOk result (λ outcome.
-        MessageBecomes setup.now request received.source received.now outcome.handled (seen_sent outcome.datagram)) }
+        MessageBecomes setup.now request received.entry.source received.entry.now outcome.handled (seen_sent outcome.datagram)) }
 {
     match status_of(fault) {
         Some(status) => answered(alloc, request, received.source, status),
@@ -116,7 +116,7 @@ fn opened<A: Allocator + Clone, R: Wait>(
     requires key { request_key request ≢ None }
     requires read { read_at received.bytes.now ≡ Ok request }
     ensures { IfOk result (λ outcome.
-        MessageBecomes setup.now request received.source received.now outcome.handled (seen_sent outcome.datagram)) }
+        MessageBecomes setup.now request received.entry.source received.entry.now outcome.handled (seen_sent outcome.datagram)) }
 {
     let alloc = memory.alloc.clone()?;
     match open_call(rt, memory, shelf, setup, key, request, received) {
@@ -157,7 +157,7 @@ pub(crate) fn requested<A: Allocator + Clone, R: Wait>(
     requires purpose { purpose_of request.start ≡ Some purpose }
     requires read { read_at received.bytes.now ≡ Ok request }
     ensures { IfOk result (λ outcome.
-        MessageBecomes setup.now request received.source received.now outcome.handled (seen_sent outcome.datagram)) }
+        MessageBecomes setup.now request received.entry.source received.entry.now outcome.handled (seen_sent outcome.datagram)) }
 {
     let key = key_of(memory.alloc.clone()?, &request)?;
     if let Some(key) = &key {

@@ -43,7 +43,7 @@ pub(crate) fn responded<A: Allocator + Clone, R: Wait>(
 ) -> Result<Outcome<A>, AllocError>
     requires { purpose_of response.start ≡ None }
     ensures { IfOk result (λ outcome.
-        MessageBecomes setup.now response received.source received.now outcome.handled (seen_sent outcome.datagram)) }
+        MessageBecomes setup.now response received.entry.source received.entry.now outcome.handled (seen_sent outcome.datagram)) }
 {
     match call_of(setup, &response) {
         Some(no) => deliver(rt, shelf, no, response, received),
