@@ -5,11 +5,10 @@ ghost use Rattle.daemon_parts.specs.declared.fault.DaemonFault.TheVariants as fa
 ghost use Rattle.daemon_parts.specs.Faults.{most_text, IsConfigurationFault, IsFaultOf};
 
 use crate::fault::{DaemonFault, configuration_fault};
+use crate::files::ProxyFiles;
 use proxy_config::Setup;
 use sip_via::Own;
 use std::alloc::{Allocator, Global};
-use std::fs;
-use std::fs::Files;
 
 /// How many bytes a configuration has at most.
 const MOST_TEXT: usize = 1_048_576;
@@ -55,14 +54,14 @@ pub fn read_text<A: Allocator + Clone>(alloc: A, text: &[u8]) -> Result<Setup<A>
 /// # Errors
 ///
 /// `Unreadable` where the system refuses; else those of [`read_text`].
-pub fn read_setup<R: Files>(
+pub fn read_setup<R: ProxyFiles>(
     rt: &R,
     alloc: Global,
     config: &str,
 ) -> Result<Setup<Global>, DaemonFault>
     ensures { IfErr result IsConfigurationFault }
 {
-    let text = match fs::read(&(rt, alloc), config) {
+    let text = match rt.read_file(alloc, config) {
         Ok(text) => text,
         Err(error) => return Err(configuration_fault(error)),
     };
@@ -74,7 +73,7 @@ pub fn read_setup<R: Files>(
 /// # Errors
 ///
 /// Those of [`read_setup`]; else `Identity` where it has another one.
-pub fn read_again<R: Files>(
+pub fn read_again<R: ProxyFiles>(
     rt: &R,
     alloc: Global,
     config: &str,

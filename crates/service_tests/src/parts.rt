@@ -1,13 +1,12 @@
 //! What a service is made of below its threads.
 use crate::holds::holds;
 use daemon_parts::{
-    Counts, DaemonFault, Identity, Sent, Socket, configuration_fault, control_fault, read_again,
-    read_text, socket_fault, worker_of,
+    Counts, DaemonFault, Identity, ProxyFiles, Sent, Socket, configuration_fault, control_fault,
+    read_again, read_text, socket_fault, worker_of,
 };
 use sip_uri::Hop;
 use sip_via::Own;
 use std::alloc::{AllocError, Global};
-use std::fs::Files;
 use std::io::ErrorKind;
 use std::net::Net;
 use std::test::Fail;
@@ -74,7 +73,7 @@ fn a_fault_of_the_system_is_told(rt: HostRuntime) {
 const FILE: &str = "daemon_parts_test_config";
 
 /// Why a proxy of this identity does not read its file anew, if it does not.
-fn read_by<R: Files>(rt: &R, alloc: Global, identity: Identity) -> Option<DaemonFault> {
+fn read_by<R: ProxyFiles>(rt: &R, alloc: Global, identity: Identity) -> Option<DaemonFault> {
     match read_again(rt, alloc, FILE, identity) {
         Ok(_) => None,
         Err(fault) => Some(fault),
