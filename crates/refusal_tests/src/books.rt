@@ -1,34 +1,77 @@
 //! Books that are made and posted to, and events that are copied, while memory is refused.
-use crate::forks::{Aims, EventList, events, targets};
-use crate::plays::plays;
+use crate::forks::{Aims, TargetList, event_at, targets};
+use crate::plays::{calls, plays};
 use crate::sources::Alloc;
+use crate::texts::BOOK_SCRIPT;
 use fork_book::Book;
 use fork_context::{Choice, Event, Kind, NewFault, PostError, Up};
 use fork_rank::Rules;
-use refusing::{Answer, Heap, Play, Repeated};
+use refusing::{Answer, Heap, Play, Repeated, Stateless};
 
-/// A 401 with a challenge, and a 302 with a contact, which answers 404.
-const SCRIPT: &[u8] = b"kind INVITE\ntarget 1000 a\ntarget 1000 b\n\
-answer 0 401\nchallenge W Digest realm=\"a\"\nanswer 1 302\ncontact 1000 c\nanswer 2 404\n";
+/// How many events the script has.
+const EVENTS: usize = 3;
 
-/// A book of an INVITE to the targets of the script is made.
-#[derive(Drop)]
-struct Opening<'a> {
-    heap: Heap<'a>,
+/// A book of an INVITE, or why there is none.
+type Made<'a> = Result<Book<Alloc<'a>>, Answer>;
+
+fn made<'a>(alloc: Alloc<'a>, targets: TargetList<'a>) -> Made<'a> {
+    match Book::new(alloc, Kind::Invite, Rules::usual(), targets) {
+        Ok(book) => Ok(book),
+        Err(NewFault::NoMemory) => Err(Answer::NoMemory),
+        Err(_) => Err(Answer::Wrong),
+    }
 }
 
-impl<'a> Repeated for Opening<'a> {
-    type Out = Book<Alloc<'a>>;
+/// A book of an INVITE to the targets of the script is made.
+fn opened(heap: Heap<'_>) -> Made<'_> {
+    match targets(heap.ample, Aims::Script(BOOK_SCRIPT)) {
+        Some(targets) => made(heap.scarce, targets),
+        None => Err(Answer::Wrong),
+    }
+}
 
-    fn attempt(&mut self) -> Answer<Book<Alloc<'a>>> {
-        let Some(targets) = targets(self.heap.ample, Aims::Script(SCRIPT)) else {
-            return Answer::Other;
-        };
-        match Book::new(self.heap.scarce, Kind::Invite, Rules::usual(), targets) {
-            Ok(book) => Answer::Given(book),
-            Err(NewFault::NoMemory) => Answer::NoMemory,
-            Err(_) => Answer::Other,
+#[derive(Clone, Copy)]
+struct Opening;
+
+impl Stateless for Opening {
+    fn answer(&self, heap: Heap<'_>) -> Answer {
+        match opened(heap) {
+            Ok(book) => Answer::of(book.history().is_empty() && book.context().count() == 2),
+            Err(answer) => answer,
         }
+    }
+}
+
+/// The event is copied, and the copy takes its place.
+fn copies<'a>(alloc: Alloc<'a>, event: &mut Event<Alloc<'a>>) -> Answer {
+    match event.copy(&alloc) {
+        Ok(copy) => {
+            *event = copy;
+            Answer::Right
+        }
+        Err(_) => Answer::NoMemory,
+    }
+}
+
+/// The event is posted; where that is refused the history is as it was.
+fn posts<'a>(book: &mut Book<Alloc<'a>>, event: Event<Alloc<'a>>) -> Answer {
+    let before = book.history().len();
+    match book.post(1, event) {
+        Ok(_) => Answer::Right,
+        Err(PostError::NoMemory(_)) if book.history().len() == before => Answer::NoMemory,
+        Err(_) => Answer::Wrong,
+    }
+}
+
+/// A copy of the event is posted.
+fn posts_copy<'a>(
+    ample: Alloc<'a>,
+    book: &mut Book<Alloc<'a>>,
+    event: &Event<Alloc<'a>>,
+) -> Answer {
+    match event.copy(&ample) {
+        Ok(event) => posts(book, event),
+        Err(_) => Answer::Wrong,
     }
 }
 
@@ -41,81 +84,31 @@ struct Booked<'a> {
     is_copied: bool,
 }
 
-impl Booked<'_> {
-    /// The copy takes the place of the event.
-    fn copies(&mut self) -> Answer<()> {
-        match self.event.copy(&self.heap.scarce) {
-            Ok(event) => {
-                self.event = event;
-                Answer::Given(())
-            }
-            Err(_) => Answer::NoMemory,
-        }
-    }
-
-    /// A copy is posted; where that is refused the history is as it was.
-    fn posts(&mut self) -> Answer<()> {
-        let Ok(event) = self.event.copy(&self.heap.ample) else {
-            return Answer::Other;
-        };
-        let before = self.book.history().len();
-        match self.book.post(1, event) {
-            Ok(_) => Answer::Given(()),
-            Err(PostError::NoMemory(_)) if self.book.history().len() == before => Answer::NoMemory,
-            Err(_) => Answer::Other,
-        }
-    }
-
-    /// Copies the event and posts it; whether both were done.
-    fn goes(&mut self) -> bool {
-        let heap = self.heap;
-        self.is_copied = false;
-        self.is_copied = heap.insist(self).is_some();
-        self.is_copied && heap.insist(self).is_some()
-    }
-}
-
 impl Repeated for Booked<'_> {
-    type Out = ();
-
-    fn attempt(&mut self) -> Answer<()> {
+    fn attempt(&mut self) -> Answer {
         if self.is_copied {
-            self.posts()
+            posts_copy(self.heap.ample, &mut self.book, &self.event)
         } else {
-            self.copies()
+            copies(self.heap.scarce, &mut self.event)
         }
     }
 }
 
-/// Whether each event is copied and posted.
-fn are_posted(booked: &mut Booked<'_>) -> bool {
-    match events(booked.heap.ample, SCRIPT) {
-        Some(events) => goes_on(booked, events),
+/// Copies an event and posts it; whether both were done.
+fn goes<'a>(booked: &mut Booked<'a>, event: Event<Alloc<'a>>) -> bool {
+    let heap = booked.heap;
+    booked.event = event;
+    booked.is_copied = false;
+    booked.is_copied = heap.insist(booked);
+    booked.is_copied && heap.insist(booked)
+}
+
+/// The same of the event of this number of the script.
+fn goes_at(booked: &mut Booked<'_>, number: usize) -> bool {
+    match event_at(booked.heap.ample, BOOK_SCRIPT, number) {
+        Some(event) => goes(booked, event),
         None => false,
     }
-}
-
-/// The same of these events.
-fn goes_on<'a>(booked: &mut Booked<'a>, mut events: EventList<'a>) -> bool {
-    let mut well = true;
-    for _ in 0..events.len() {
-        if let Some(event) = events.pop_front() {
-            booked.event = event;
-            well = well && booked.goes();
-        }
-    }
-    well
-}
-
-/// Whether the events of the script come to this book as they should.
-fn is_right<'a>(heap: Heap<'a>, book: Book<Alloc<'a>>) -> bool {
-    let mut booked = Booked {
-        heap,
-        book,
-        event: Event::Cancel,
-        is_copied: false,
-    };
-    are_posted(&mut booked) && last_up(&booked.book) == Some(Up::Final(Choice::Stored(0)))
 }
 
 /// What goes up with the last event of the book.
@@ -124,18 +117,41 @@ fn last_up(book: &Book<Alloc<'_>>) -> Option<Up> {
     Some(book.reply(u32::try_from(count.checked_sub(1)?).ok()?)?.up())
 }
 
+/// Whether the events of the script come to this book as they should.
+fn goes_on(mut booked: Booked<'_>) -> bool {
+    let mut well = true;
+    for number in 0..EVENTS {
+        well = well && goes_at(&mut booked, number);
+    }
+    well && last_up(&booked.book) == Some(Up::Final(Choice::Stored(0)))
+}
+
+/// A book, where no growth is refused or counted.
+fn spared(heap: Heap<'_>) -> Made<'_> {
+    heap.scarce.pause();
+    let book = opened(heap);
+    heap.scarce.go_on();
+    book
+}
+
 struct Answers;
 
 impl Play for Answers {
     fn play(&self, heap: Heap<'_>) -> bool {
-        match heap.insist(&mut Opening { heap }) {
-            Some(book) => is_right(heap, book),
-            None => false,
+        match spared(heap) {
+            Ok(book) => goes_on(Booked {
+                heap,
+                book,
+                event: Event::Cancel,
+                is_copied: false,
+            }),
+            Err(_) => false,
         }
     }
 }
 
 #[test]
 fn a_book_is_posted_to(rt: HostRuntime) {
+    calls(&rt, Opening, 0, "a book is made");
     plays(&rt, &Answers, 0, "a book");
 }

@@ -1,30 +1,55 @@
 //! Contexts that are made, and events that they take, while memory is refused.
-use crate::forks::{Aims, EventList, events, targets};
-use crate::plays::plays;
+use crate::forks::{Aims, TargetList, event_at, targets};
+use crate::plays::{calls, plays};
 use crate::sources::Alloc;
+use crate::texts::{
+    BEST_LISTING, BEST_SCRIPT, CHALLENGED_LISTING, CHALLENGED_SCRIPT, LATE_LISTING, LATE_SCRIPT,
+    MOVED_TWICE, REDIRECTED_LISTING, REDIRECTED_SCRIPT,
+};
 use fork_context::{Challenge, Choice, Context, Event, Kind, NewFault, PostError, Reply, Up};
 use fork_listing::{ListFault, listing};
 use fork_rank::Rules;
-use refusing::{Answer, Heap, Play, Repeated};
+use refusing::{Answer, Heap, Play, Repeated, Stateless};
 
-/// A context of an INVITE to these targets is made.
-#[derive(Drop)]
-struct Opening<'a> {
-    heap: Heap<'a>,
-    aims: Aims,
+/// A context of an INVITE, or why there is none.
+type Made<'a> = Result<Context<Alloc<'a>>, Answer>;
+
+fn made<'a>(alloc: Alloc<'a>, targets: TargetList<'a>) -> Made<'a> {
+    match Context::new(alloc, Kind::Invite, Rules::usual(), targets) {
+        Ok(fork) => Ok(fork),
+        Err(NewFault::NoMemory) => Err(Answer::NoMemory),
+        Err(_) => Err(Answer::Wrong),
+    }
 }
 
-impl<'a> Repeated for Opening<'a> {
-    type Out = Context<Alloc<'a>>;
+/// A context of an INVITE to these targets is made.
+fn opened(heap: Heap<'_>, aims: Aims) -> Made<'_> {
+    match targets(heap.ample, aims) {
+        Some(targets) => made(heap.scarce, targets),
+        None => Err(Answer::Wrong),
+    }
+}
 
-    fn attempt(&mut self) -> Answer<Context<Alloc<'a>>> {
-        let Some(targets) = targets(self.heap.ample, self.aims) else {
-            return Answer::Other;
-        };
-        match Context::new(self.heap.scarce, Kind::Invite, Rules::usual(), targets) {
-            Ok(fork) => Answer::Given(fork),
-            Err(NewFault::NoMemory) => Answer::NoMemory,
-            Err(_) => Answer::Other,
+/// The same, where no growth is refused or counted.
+fn spared(heap: Heap<'_>, aims: Aims) -> Made<'_> {
+    heap.scarce.pause();
+    let fork = opened(heap, aims);
+    heap.scarce.go_on();
+    fork
+}
+
+/// A context of an INVITE to the targets of a script, which are so many.
+#[derive(Clone, Copy)]
+struct Opening {
+    script: &'static [u8],
+    targets: u16,
+}
+
+impl Stateless for Opening {
+    fn answer(&self, heap: Heap<'_>) -> Answer {
+        match opened(heap, Aims::Script(self.script)) {
+            Ok(fork) => Answer::of(fork.count() == self.targets),
+            Err(answer) => answer,
         }
     }
 }
@@ -39,90 +64,109 @@ fn is_right(reply: &Reply<Alloc<'_>>, (started, up): Turn) -> bool {
 /// What is done with a context.
 #[derive(Clone, Copy)]
 enum Deed {
-    /// The next event is posted, and replied to so; where it is refused it is handed back, and posted again.
+    /// The event is posted, and replied to so; where it is refused it is handed back, and posted again.
     Posts(Turn),
     /// The challenges of the choice are appended, so many; where that is refused, there are none yet.
     Challenges(usize),
-    /// The listing is appended; where that is refused, the text is still empty.
-    Lists,
+    /// The listing is appended, and is this; where it is refused, the text is still empty.
+    Lists(&'static [u8]),
 }
 
-/// A context, its events, the one that is posted next, and what was appended.
+fn posts<'a>(
+    fork: &mut Context<Alloc<'a>>,
+    event: &mut Option<Event<Alloc<'a>>>,
+    turn: Turn,
+) -> Answer {
+    let Some(posted) = event.take() else {
+        return Answer::Wrong;
+    };
+    match fork.post(posted) {
+        Ok(reply) => Answer::of(is_right(&reply, turn)),
+        Err(PostError::NoMemory(posted)) => {
+            *event = Some(posted);
+            Answer::NoMemory
+        }
+        Err(PostError::Full(_)) => Answer::Wrong,
+    }
+}
+
+/// Challenges, where they take their memory.
+type ChallengeList<'a> = Vec<Challenge<Alloc<'a>>, Alloc<'a>>;
+
+fn adds_challenges<'a>(
+    fork: &Context<Alloc<'a>>,
+    challenges: &mut ChallengeList<'a>,
+    count: usize,
+) -> Answer {
+    match fork.challenges(challenges) {
+        Ok(()) => Answer::of(challenges.len() == count),
+        Err(_) if challenges.is_empty() => Answer::NoMemory,
+        Err(_) => Answer::Wrong,
+    }
+}
+
+fn lists<'a>(
+    fork: &Context<Alloc<'a>>,
+    text: &mut Vec<u8, Alloc<'a>>,
+    wanted: &'static [u8],
+) -> Answer {
+    match listing(fork, text) {
+        Ok(()) => Answer::of(text.as_slice() == wanted),
+        Err(ListFault::NoMemory) if text.is_empty() => Answer::NoMemory,
+        Err(_) => Answer::Wrong,
+    }
+}
+
+/// A context, the event that is posted, and what was appended.
 #[derive(Drop)]
 struct Forked<'a> {
     fork: Context<Alloc<'a>>,
-    events: EventList<'a>,
     event: Option<Event<Alloc<'a>>>,
-    challenges: Vec<Challenge<Alloc<'a>>, Alloc<'a>>,
+    challenges: ChallengeList<'a>,
     text: Vec<u8, Alloc<'a>>,
     deed: Deed,
 }
 
-impl Forked<'_> {
-    fn posts(&mut self, turn: Turn) -> Answer<bool> {
-        let Some(event) = self.event.take() else {
-            return Answer::Other;
-        };
-        match self.fork.post(event) {
-            Ok(reply) => Answer::Given(is_right(&reply, turn)),
-            Err(PostError::NoMemory(event)) => {
-                self.event = Some(event);
-                Answer::NoMemory
-            }
-            Err(PostError::Full(_)) => Answer::Other,
-        }
-    }
-
-    fn adds_challenges(&mut self, count: usize) -> Answer<bool> {
-        match self.fork.challenges(&mut self.challenges) {
-            Ok(()) => Answer::Given(self.challenges.len() == count),
-            Err(_) if self.challenges.is_empty() => Answer::NoMemory,
-            Err(_) => Answer::Other,
-        }
-    }
-
-    fn lists(&mut self) -> Answer<bool> {
-        match listing(&self.fork, &mut self.text) {
-            Ok(()) => Answer::Given(true),
-            Err(ListFault::NoMemory) if self.text.is_empty() => Answer::NoMemory,
-            Err(_) => Answer::Other,
-        }
-    }
-
-    /// Goes on to what is done next.
-    fn comes_to(&mut self, deed: Deed) {
-        self.deed = deed;
-        if let Deed::Posts(_) = deed {
-            self.event = self.events.pop_front();
-        }
-    }
-}
-
 impl Repeated for Forked<'_> {
-    type Out = bool;
-
-    fn attempt(&mut self) -> Answer<bool> {
+    fn attempt(&mut self) -> Answer {
         match self.deed {
-            Deed::Posts(turn) => self.posts(turn),
-            Deed::Challenges(count) => self.adds_challenges(count),
-            Deed::Lists => self.lists(),
+            Deed::Posts(turn) => posts(&mut self.fork, &mut self.event, turn),
+            Deed::Challenges(count) => adds_challenges(&self.fork, &mut self.challenges, count),
+            Deed::Lists(wanted) => lists(&self.fork, &mut self.text, wanted),
         }
     }
 }
 
-/// The context with these events to come.
-fn with_events<'a>(heap: Heap<'a>, fork: Context<Alloc<'a>>, events: EventList<'a>) -> Forked<'a> {
+/// The context, with nothing done yet.
+fn begun<'a>(heap: Heap<'a>, fork: Context<Alloc<'a>>) -> Forked<'a> {
     Forked {
         fork,
-        events,
         event: None,
         challenges: Vec::new(heap.scarce),
         text: Vec::new(heap.scarce),
-        deed: Deed::Lists,
+        deed: Deed::Challenges(0),
     }
 }
 
-/// A call: its script, the replies to its events, the challenges that are added at its end, and its listing.
+/// Whether this is done as it should.
+fn goes(heap: Heap<'_>, forked: &mut Forked<'_>, deed: Deed) -> bool {
+    forked.deed = deed;
+    heap.insist(forked)
+}
+
+/// Whether the event of this number of the script is replied to so.
+fn replies<'a>(
+    heap: Heap<'a>,
+    forked: &mut Forked<'a>,
+    script: &[u8],
+    number: usize,
+    turn: Turn,
+) -> bool {
+    forked.event = event_at(heap.ample, script, number);
+    goes(heap, forked, Deed::Posts(turn))
+}
+
+/// A fork: its script, the replies to its events, the challenges that are added at its end, and its listing.
 struct History {
     script: &'static [u8],
     turns: &'static [Turn],
@@ -130,53 +174,36 @@ struct History {
     listing: &'static [u8],
 }
 
-/// Whether this is done as it should.
-fn goes(heap: Heap<'_>, forked: &mut Forked<'_>, deed: Deed) -> bool {
-    forked.comes_to(deed);
-    heap.insist(forked) == Some(true)
-}
-
-/// Whether each event is replied to so.
-fn replies(heap: Heap<'_>, forked: &mut Forked<'_>, turns: &[Turn]) -> bool {
+/// Whether each event is replied to as it should.
+fn all_reply<'a>(heap: Heap<'a>, forked: &mut Forked<'a>, history: &History) -> bool {
     let mut well = true;
-    for turn in turns {
-        well = well && goes(heap, forked, Deed::Posts(*turn));
+    let mut number = 0usize;
+    for turn in history.turns {
+        well = well && replies(heap, forked, history.script, number, *turn);
+        number = number.saturating_add(1);
     }
     well
 }
 
 /// Whether the whole goes as it should.
-fn goes_on(heap: Heap<'_>, mut forked: Forked<'_>, history: &History) -> bool {
-    replies(heap, &mut forked, history.turns)
+fn goes_on<'a>(heap: Heap<'a>, mut forked: Forked<'a>, history: &History) -> bool {
+    all_reply(heap, &mut forked, history)
         && goes(heap, &mut forked, Deed::Challenges(history.challenges))
-        && goes(heap, &mut forked, Deed::Lists)
-        && forked.text.as_slice() == history.listing
-}
-
-/// Whether the events of the script come to this context as they should.
-fn is_listed<'a>(heap: Heap<'a>, fork: Context<Alloc<'a>>, history: &History) -> bool {
-    match events(heap.ample, history.script) {
-        Some(events) => goes_on(heap, with_events(heap, fork, events), history),
-        None => false,
-    }
+        && goes(heap, &mut forked, Deed::Lists(history.listing))
 }
 
 impl Play for History {
     fn play(&self, heap: Heap<'_>) -> bool {
-        match heap.insist(&mut Opening {
-            heap,
-            aims: Aims::Script(self.script),
-        }) {
-            Some(fork) => is_listed(heap, fork, self),
-            None => false,
+        match spared(heap, Aims::Script(self.script)) {
+            Ok(fork) => goes_on(heap, begun(heap, fork), self),
+            Err(_) => false,
         }
     }
 }
 
 /// Four answers, the best of which is a 407.
 const BEST: History = History {
-    script: b"kind INVITE\ntarget 1000 a\ntarget 1000 b\ntarget 1000 c\ntarget 1000 d\n\
-answer 0 503\nanswer 1 407\nanswer 2 501\nanswer 3 404\n",
+    script: BEST_SCRIPT,
     turns: &[
         (&[], Up::Nothing),
         (&[], Up::Nothing),
@@ -184,59 +211,59 @@ answer 0 503\nanswer 1 407\nanswer 2 501\nanswer 3 404\n",
         (&[], Up::Final(Choice::Stored(1))),
     ],
     challenges: 0,
-    listing: b"fork 3 4\nprefer 401,407,415,420,484\ndepth 256\n\
-target 0 - 1000 stored 503 0 received\ntarget 1 - 1000 stored 407 1 received\n\
-target 2 - 1000 stored 501 2 received\ntarget 3 - 1000 stored 404 3 received\n\
-rank 407 1 1\nrank 404 3 3\nrank 501 2 2\nrank 503 0 0\nfinal 407 1\n",
+    listing: BEST_LISTING,
 };
 
 /// A 486, and a 401 and a 407 with a challenge each.
 const CHALLENGED: History = History {
-    script: b"kind INVITE\ntarget 1000 a\ntarget 1000 b\ntarget 1000 c\n\
-answer 0 486\nanswer 1 401\nchallenge W Digest realm=\"a\"\nanswer 2 407\nchallenge P Digest realm=\"b\"\n",
+    script: CHALLENGED_SCRIPT,
     turns: &[
         (&[], Up::Nothing),
         (&[], Up::Nothing),
         (&[], Up::Final(Choice::Stored(1))),
     ],
     challenges: 1,
-    listing: b"fork 3 3\nprefer 401,407,415,420,484\ndepth 256\n\
-target 0 - 1000 stored 486 0 received\ntarget 1 - 1000 stored 401 1 received\n\
-target 2 - 1000 stored 407 2 received\n\
-rank 401 1 1\nrank 407 2 2\nrank 486 0 0\nfinal 401 1\n",
+    listing: CHALLENGED_LISTING,
 };
 
 /// A 302 with two contacts, both of which are tried.
 const REDIRECTED: History = History {
-    script: b"kind INVITE\ntarget 1000 a\n\
-answer 0 302\ncontact 1000 b\ncontact 1000 c\nanswer 1 404\ntimeout 2\n",
+    script: REDIRECTED_SCRIPT,
     turns: &[
         (&[1, 2], Up::Nothing),
         (&[], Up::Nothing),
         (&[], Up::Final(Choice::Stored(1))),
     ],
     challenges: 0,
-    listing: b"fork 3 3\nprefer 401,407,415,420,484\ndepth 256\n\
-target 0 - 1000 taken 0\ntarget 1 0 1000 stored 404 1 received\n\
-target 2 0 1000 stored 408 2 assumed\n\
-rank 404 1 1\nrank 408 2 2\nfinal 404 1\n",
+    listing: REDIRECTED_LISTING,
 };
 
 /// A 302 with a contact, which is tried before the target of a lower q.
 const LATE: History = History {
-    script: b"kind INVITE\ntarget 1000 a\ntarget 500 b\n\
-answer 0 302\ncontact 1000 c\nanswer 2 404\ntimeout 1\n",
+    script: LATE_SCRIPT,
     turns: &[
         (&[2], Up::Nothing),
         (&[1], Up::Nothing),
         (&[], Up::Final(Choice::Stored(2))),
     ],
     challenges: 0,
-    listing: b"fork 3 3\nprefer 401,407,415,420,484\ndepth 256\n\
-target 0 - 1000 taken 0\ntarget 1 - 500 stored 408 2 assumed\n\
-target 2 0 1000 stored 404 1 received\n\
-rank 404 2 1\nrank 408 1 2\nfinal 404 2\n",
+    listing: LATE_LISTING,
 };
+
+/// Scripts, and how many targets each has.
+const OPENINGS: [(&[u8], u16); 4] = [
+    (BEST_SCRIPT, 4),
+    (CHALLENGED_SCRIPT, 3),
+    (REDIRECTED_SCRIPT, 1),
+    (LATE_SCRIPT, 2),
+];
+
+#[test]
+fn contexts_are_made(rt: HostRuntime) {
+    for (script, targets) in OPENINGS {
+        calls(&rt, Opening { script, targets }, 0, "a context");
+    }
+}
 
 #[test]
 fn answers_are_posted(rt: HostRuntime) {
@@ -246,19 +273,8 @@ fn answers_are_posted(rt: HostRuntime) {
     plays(&rt, &LATE, 0, "a 302 before a later target");
 }
 
-/// A 302 with two contacts.
-const MOVED: &[u8] =
-    b"kind INVITE\ntarget 1000 a\nanswer 0 302\ncontact 1000 x1\ncontact 1000 y1\n";
-
-/// It comes among 255 targets: one contact is the last that is taken, the other is left.
+/// A 302 with two contacts comes among 255 targets: one contact is the last that is taken, the other is left.
 struct Full;
-
-/// Whether it goes so.
-fn is_filled(heap: Heap<'_>, mut forked: Forked<'_>) -> bool {
-    goes(heap, &mut forked, Deed::Posts((&[255], Up::Nothing)))
-        && forked.fork.count() == 256
-        && leaves(&forked.fork, b"y1")
-}
 
 /// Whether row 0 leaves a contact of this text alone.
 fn leaves(fork: &Context<Alloc<'_>>, text: &[u8]) -> bool {
@@ -268,22 +284,18 @@ fn leaves(fork: &Context<Alloc<'_>>, text: &[u8]) -> bool {
     }
 }
 
-/// Whether the 302 comes to this context as it should.
-fn takes_the_last<'a>(heap: Heap<'a>, fork: Context<Alloc<'a>>) -> bool {
-    match events(heap.ample, MOVED) {
-        Some(events) => is_filled(heap, with_events(heap, fork, events)),
-        None => false,
-    }
+/// Whether it goes so.
+fn is_filled<'a>(heap: Heap<'a>, mut forked: Forked<'a>) -> bool {
+    replies(heap, &mut forked, MOVED_TWICE, 0, (&[255], Up::Nothing))
+        && forked.fork.count() == 256
+        && leaves(&forked.fork, b"y1")
 }
 
 impl Play for Full {
     fn play(&self, heap: Heap<'_>) -> bool {
-        match heap.spare(&mut Opening {
-            heap,
-            aims: Aims::Many(255),
-        }) {
-            Some(fork) => takes_the_last(heap, fork),
-            None => false,
+        match spared(heap, Aims::Many(255)) {
+            Ok(fork) => is_filled(heap, begun(heap, fork)),
+            Err(_) => false,
         }
     }
 }

@@ -5,7 +5,7 @@ use fork_program::{MOST_TEXT, Script};
 use std::collections::VecDeque;
 
 /// The events of a script, in their order.
-pub type EventList<'a> = VecDeque<Event<Alloc<'a>>, Alloc<'a>>;
+type EventList<'a> = VecDeque<Event<Alloc<'a>>, Alloc<'a>>;
 
 /// The targets of a fork.
 pub type TargetList<'a> = Vec<Target<Alloc<'a>>, Alloc<'a>>;
@@ -21,7 +21,7 @@ fn script<'a>(ample: Alloc<'a>, text: &[u8]) -> Option<Script<Alloc<'a>>> {
 }
 
 /// The events of the script that this text is.
-pub fn events<'a>(ample: Alloc<'a>, text: &[u8]) -> Option<EventList<'a>> {
+fn events<'a>(ample: Alloc<'a>, text: &[u8]) -> Option<EventList<'a>> {
     match script(ample, text) {
         Some(
             Script {
@@ -31,6 +31,22 @@ pub fn events<'a>(ample: Alloc<'a>, text: &[u8]) -> Option<EventList<'a>> {
                 events,
             },
         ) => Some(events),
+        None => None,
+    }
+}
+
+/// The event of this number, from 0.
+fn nth<'a>(mut events: EventList<'a>, number: usize) -> Option<Event<Alloc<'a>>> {
+    for _ in 0..number {
+        let _ = events.pop_front();
+    }
+    events.pop_front()
+}
+
+/// The event of this number, from 0, of the script that this text is.
+pub fn event_at<'a>(ample: Alloc<'a>, text: &[u8], number: usize) -> Option<Event<Alloc<'a>>> {
+    match events(ample, text) {
+        Some(events) => nth(events, number),
         None => None,
     }
 }

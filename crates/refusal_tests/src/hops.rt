@@ -1,18 +1,20 @@
 //! What a request must have to be forwarded.
 ghost use Rattle.std.specs.Prelude.{IfSome, IsTrue};
 ghost use Rattle.sip_text.specs.Name.{first_value};
-ghost use Rattle.sip_route.specs.Hops.{IsHops, hops_name};
+ghost use Rattle.sip_route.specs.Hops.{IsHops, MayPass, hops_name};
 
 use crate::sources::Alloc;
-use sip_lex::read_number;
+use sip_route::{Hops, hops_of};
 use sip_text::Message;
 
-fn are_hops(value: &[u8]) -> bool
-    ensures { IsTrue result → IsHops value.now }
+/// Whether a request that says this of hops may be forwarded.
+fn lets_pass(hops: Hops) -> bool
+    ensures { IsTrue result → MayPass hops }
 {
-    match read_number(value, 255) {
-        None => false,
-        Some(hops) => hops >= 1 && value.len() <= 3,
+    match hops {
+        Hops::Unsaid => true,
+        Hops::Said(more) => more >= 1,
+        Hops::Wrong => false,
     }
 }
 
@@ -20,8 +22,6 @@ fn are_hops(value: &[u8]) -> bool
 pub fn has_hops(message: &Message<Alloc<'_>>) -> bool
     ensures { IsTrue result → IfSome (first_value hops_name message.now.headers) IsHops }
 {
-    match message.values(b"max-forwards").next() {
-        None => true,
-        Some(value) => are_hops(value),
-    }
+    let hops = hops_of(message);
+    lets_pass(hops)
 }

@@ -3,15 +3,23 @@
 #![tactic(auto)]
 
 #[cfg(test)]
-mod answers;
-#[cfg(test)]
 mod books;
 #[cfg(test)]
+mod call_texts;
+#[cfg(test)]
+mod calls;
+#[cfg(test)]
+mod carrying;
+#[cfg(test)]
 mod contexts;
+#[cfg(test)]
+mod fork_texts;
 #[cfg(test)]
 mod forks;
 #[cfg(test)]
 mod growths;
+#[cfg(test)]
+mod handling;
 #[cfg(test)]
 mod hops;
 #[cfg(test)]
@@ -21,12 +29,20 @@ mod made;
 #[cfg(test)]
 mod plays;
 #[cfg(test)]
+mod port;
+#[cfg(test)]
 mod programs;
 #[cfg(test)]
 mod reads;
 #[cfg(test)]
+mod shelves;
+#[cfg(test)]
 mod sources;
 #[cfg(test)]
+mod texts;
+#[cfg(test)]
 mod trees;
+#[cfg(test)]
+mod wanted;
 #[cfg(test)]
 mod written;

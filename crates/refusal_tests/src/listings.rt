@@ -1,6 +1,7 @@
 //! Listings that are checked while memory is refused.
 use crate::plays::plays;
 use crate::sources::Alloc;
+use crate::texts::{BEST_LISTING, LATE_LISTING};
 use bumpalo::Bump;
 use fork_listing::{CheckFault, Verdict, check};
 use refusing::{Answer, Heap, Play, Repeated};
@@ -15,62 +16,52 @@ struct Listing {
 }
 
 const BEST: Listing = Listing {
-    text: b"fork 3 4\nprefer 401,407,415,420,484\ndepth 256\n\
-target 0 - 1000 stored 503 0 received\ntarget 1 - 1000 stored 407 1 received\n\
-target 2 - 1000 stored 501 2 received\ntarget 3 - 1000 stored 404 3 received\n\
-rank 407 1 1\nrank 404 3 3\nrank 501 2 2\nrank 503 0 0\nfinal 407 1\n",
+    text: BEST_LISTING,
     targets: 4,
     status: 407,
     number: 1,
 };
 
 const LATE: Listing = Listing {
-    text: b"fork 3 3\nprefer 401,407,415,420,484\ndepth 256\n\
-target 0 - 1000 taken 0\ntarget 1 - 500 stored 408 2 assumed\n\
-target 2 0 1000 stored 404 1 received\n\
-rank 404 2 1\nrank 408 1 2\nfinal 404 2\n",
+    text: LATE_LISTING,
     targets: 3,
     status: 404,
     number: 2,
 };
 
+fn is_found(verdict: &Verdict, listing: &Listing) -> bool {
+    verdict.targets == listing.targets
+        && verdict.status == listing.status
+        && verdict.no == Some(listing.number)
+}
+
 /// The listing is checked in an arena, which is used again.
 #[derive(Drop)]
 struct Checking<'a> {
     arena: Bump<Alloc<'a>>,
-    text: &'static [u8],
+    listing: Listing,
 }
 
 impl Repeated for Checking<'_> {
-    type Out = Verdict;
-
-    fn attempt(&mut self) -> Answer<Verdict> {
-        let found = check(&self.arena, self.text);
+    fn attempt(&mut self) -> Answer {
+        let found = check(&self.arena, self.listing.text);
         if self.arena.reset().is_err() {
-            return Answer::Other;
+            return Answer::Wrong;
         }
         match found {
-            Ok(verdict) => Answer::Given(verdict),
+            Ok(verdict) => Answer::of(is_found(&verdict, &self.listing)),
             Err(CheckFault::NoMemory) => Answer::NoMemory,
-            Err(_) => Answer::Other,
+            Err(_) => Answer::Wrong,
         }
     }
 }
 
 impl Play for Listing {
     fn play(&self, heap: Heap<'_>) -> bool {
-        let mut checking = Checking {
+        heap.insist(&mut Checking {
             arena: Bump::new(heap.scarce),
-            text: self.text,
-        };
-        match heap.insist(&mut checking) {
-            Some(verdict) => {
-                verdict.targets == self.targets
-                    && verdict.status == self.status
-                    && verdict.no == Some(self.number)
-            }
-            None => false,
-        }
+            listing: *self,
+        })
     }
 }
 

@@ -1,122 +1,132 @@
-//! Inputs that are read, scripts that are replayed and listings that are checked, as the program does, while memory is refused.
-use crate::plays::plays;
+//! Inputs that are read, and commands that answer a text as the program does, while memory is refused.
+use crate::plays::calls;
 use crate::sources::Alloc;
-use fork_program::{Fault, ProgFault, check_text, read_input, replay_text};
-use refusing::{Answer, Heap, Play, Repeated};
+use crate::texts::{
+    BEST_LISTING, BEST_PRINTED, BEST_SCRIPT, CHALLENGED_PRINTED, CHALLENGED_SCRIPT, MOVED_PRINTED,
+    MOVED_SCRIPT, ONE_LISTING, WRONG_LISTING,
+};
+use fork_program::{Command, Fault, ProgFault, check_text, read_input, replay_text};
+use refusing::{Answer, Heap, Stateless};
+use std::process::Abort;
 
-const SCRIPT: &[u8] = b"kind INVITE\ntarget 1000 a\ntarget 1000 b\ntarget 1000 c\ntarget 1000 d\n\
-answer 0 503\nanswer 1 407\nanswer 2 501\nanswer 3 404\n";
-
-const REPLAY: &[u8] = b"opening start 0,1,2,3\n0 start - cancel - up -\n1 start - cancel - up -\n\
-2 start - cancel - up -\n3 start - cancel - up final 407 1\nfork 3 4\nprefer 401,407,415,420,484\ndepth 256\n\
-target 0 - 1000 stored 503 0 received\ntarget 1 - 1000 stored 407 1 received\n\
-target 2 - 1000 stored 501 2 received\ntarget 3 - 1000 stored 404 3 received\n\
-rank 407 1 1\nrank 404 3 3\nrank 501 2 2\nrank 503 0 0\nfinal 407 1\n";
-
-const LISTING: &[u8] =
-    b"fork 1 1\ntarget 0 - 1000 stored 404 0 received\nrank 404 0 0\nfinal 404 0\n";
-
-/// A command of the program, and what it prints; where it is refused, nothing was printed.
-#[derive(Drop)]
-struct Running<'a> {
-    checks: bool,
-    text: &'static [u8],
-    out: Vec<u8, Alloc<'a>>,
-    alloc: Alloc<'a>,
+/// The call that answers a text.
+#[derive(Clone, Copy)]
+enum Program {
+    ReplayText,
+    CheckText,
+    Run(Command),
 }
 
-impl Repeated for Running<'_> {
-    type Out = u8;
-
-    fn attempt(&mut self) -> Answer<u8> {
-        let ended = if self.checks {
-            check_text(self.alloc, self.text, &mut self.out)
-        } else {
-            replay_text(self.alloc, self.text, &mut self.out)
-        };
-        match ended {
-            Ok(status) => Answer::Given(status),
-            Err(ProgFault::NoMemory) if self.out.is_empty() => Answer::NoMemory,
-            Err(_) => Answer::Other,
-        }
-    }
-}
-
-/// A command, its text, its status, and what it prints.
-struct Program {
-    checks: bool,
+/// A call, its text, its exit status, and what it prints.
+#[derive(Clone, Copy)]
+struct Case {
+    program: Program,
     text: &'static [u8],
     status: u8,
     printed: &'static [u8],
 }
 
-impl Play for Program {
-    fn play(&self, heap: Heap<'_>) -> bool {
-        let mut running = Running {
-            checks: self.checks,
-            text: self.text,
-            out: Vec::new(heap.scarce),
-            alloc: heap.scarce,
-        };
-        heap.insist(&mut running) == Some(self.status) && running.out.as_slice() == self.printed
+fn run<'a>(alloc: Alloc<'a>, case: Case, out: &mut Vec<u8, Alloc<'a>>) -> Result<u8, ProgFault> {
+    match case.program {
+        Program::ReplayText => replay_text(alloc, case.text, out),
+        Program::CheckText => check_text(alloc, case.text, out),
+        Program::Run(command) => command.run(alloc, case.text, out),
     }
 }
 
-const REPLAYED: Program = Program {
-    checks: false,
-    text: SCRIPT,
-    status: 0,
-    printed: REPLAY,
-};
+/// Whether a program that this fault ends has status 3.
+fn is_refusal(fault: ProgFault) -> bool {
+    fault == ProgFault::NoMemory && Fault::Text(fault).status() == 3
+}
 
-const CHECKED: Program = Program {
-    checks: true,
-    text: LISTING,
-    status: 0,
-    printed: b"yes\n",
-};
+/// What the case comes to; where it is refused nothing was printed.
+fn ended(case: Case, ended: Result<u8, ProgFault>, printed: &[u8]) -> Answer {
+    match ended {
+        Ok(status) => Answer::of(status == case.status && printed == case.printed),
+        Err(fault) if is_refusal(fault) && printed.is_empty() => Answer::NoMemory,
+        Err(_) => Answer::Wrong,
+    }
+}
+
+impl Stateless for Case {
+    fn answer(&self, heap: Heap<'_>) -> Answer {
+        let mut out = Vec::new(heap.scarce);
+        let status = run(heap.scarce, *self, &mut out);
+        ended(*self, status, &out)
+    }
+}
+
+/// A replay of a script, and what it prints.
+fn replay(program: Program, text: &'static [u8], printed: &'static [u8]) -> Case {
+    Case {
+        program,
+        text,
+        status: 0,
+        printed,
+    }
+}
+
+/// A check of a listing, its status, and what it prints.
+fn check(program: Program, text: &'static [u8], status: u8, printed: &'static [u8]) -> Case {
+    Case {
+        program,
+        text,
+        status,
+        printed,
+    }
+}
+
+/// Ends the test where the case goes otherwise, or where other than so many of its growths are done without.
+fn goes(rt: &(impl Abort + AllocGlobal), case: Case, without: u64) {
+    calls(rt, case, without, "a program");
+}
 
 #[test]
 fn a_script_is_replayed(rt: HostRuntime) {
-    plays(&rt, &REPLAYED, 0, "a replay");
+    goes(
+        &rt,
+        replay(Program::ReplayText, BEST_SCRIPT, BEST_PRINTED),
+        0,
+    );
+}
+
+#[test]
+fn replays_end_with_3(rt: HostRuntime) {
+    let run = Program::Run(Command::Replay);
+    goes(&rt, replay(run, BEST_SCRIPT, BEST_PRINTED), 0);
+    goes(&rt, replay(run, CHALLENGED_SCRIPT, CHALLENGED_PRINTED), 0);
+    goes(&rt, replay(run, MOVED_SCRIPT, MOVED_PRINTED), 0);
 }
 
 #[test]
 fn a_listing_is_answered(rt: HostRuntime) {
-    plays(&rt, &CHECKED, 1, "a check");
+    goes(&rt, check(Program::CheckText, ONE_LISTING, 0, b"yes\n"), 1);
+}
+
+#[test]
+fn checks_end_with_3(rt: HostRuntime) {
+    let run = Program::Run(Command::Check);
+    goes(&rt, check(run, ONE_LISTING, 0, b"yes\n"), 1);
+    goes(&rt, check(run, BEST_LISTING, 0, b"yes\n"), 2);
+    goes(&rt, check(run, WRONG_LISTING, 4, b"no K5\n"), 2);
 }
 
 /// An input is read.
-#[derive(Drop)]
-struct Taking<'a> {
-    alloc: Alloc<'a>,
-}
-
-impl<'a> Repeated for Taking<'a> {
-    type Out = Vec<u8, Alloc<'a>>;
-
-    fn attempt(&mut self) -> Answer<Vec<u8, Alloc<'a>>> {
-        let mut input = SCRIPT;
-        match read_input(self.alloc, &mut input) {
-            Ok(text) => Answer::Given(text),
-            Err(Fault::Text(ProgFault::NoMemory)) => Answer::NoMemory,
-            Err(_) => Answer::Other,
-        }
-    }
-}
-
+#[derive(Clone, Copy)]
 struct Input;
 
-impl Play for Input {
-    fn play(&self, heap: Heap<'_>) -> bool {
-        match heap.insist(&mut Taking { alloc: heap.scarce }) {
-            Some(text) => text.as_slice() == SCRIPT,
-            None => false,
+impl Stateless for Input {
+    fn answer(&self, heap: Heap<'_>) -> Answer {
+        let mut input = BEST_SCRIPT;
+        match read_input(heap.scarce, &mut input) {
+            Ok(text) => Answer::of(text.as_slice() == BEST_SCRIPT),
+            Err(Fault::Text(ProgFault::NoMemory)) => Answer::NoMemory,
+            Err(_) => Answer::Wrong,
         }
     }
 }
 
 #[test]
 fn an_input_is_read(rt: HostRuntime) {
-    plays(&rt, &Input, 0, "an input");
+    calls(&rt, Input, 0, "an input");
 }

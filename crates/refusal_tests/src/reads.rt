@@ -1,82 +1,47 @@
 //! URIs, contacts, messages and Via values that are read while memory is refused.
-use crate::plays::plays;
-use crate::sources::{Alloc, REQUEST, URI, text_of};
-use refusing::{Answer, Heap, Play, Repeated};
+use crate::plays::calls;
+use crate::sources::{Alloc, REQUEST, URI, is_written_as, target};
+use refusing::{Answer, Heap, Stateless};
 use sip_text::{Message, ReadFault};
 use sip_uri::{Contact, SipUri, UriFault, read_contacts};
 use sip_via::{Via, ViaFault};
 
-/// A text is read.
-#[derive(Drop)]
-struct ReadingUri<'a> {
-    alloc: Alloc<'a>,
+/// What is read.
+#[derive(Clone, Copy)]
+enum Reading {
+    Uri,
+    /// A URI as it stands in a request is made of one that was read.
+    Requested,
+    Contacts,
+    Request,
+    Via,
 }
 
-impl<'a> Repeated for ReadingUri<'a> {
-    type Out = SipUri<Alloc<'a>>;
+/// Whether the URI is that which is read, as it stands in a request.
+fn is_requested(uri: &SipUri<Alloc<'_>>) -> bool {
+    uri.key() == b"bob@192.0.2.4:5062;transport=udp".as_slice()
+}
 
-    fn attempt(&mut self) -> Answer<SipUri<Alloc<'a>>> {
-        match SipUri::read(self.alloc, URI) {
-            Ok(uri) => Answer::Given(uri),
-            Err(UriFault::NoMemory) => Answer::NoMemory,
-            Err(_) => Answer::Other,
-        }
+/// The URI as it stands in a request is made.
+fn requested<'a>(alloc: Alloc<'a>, uri: &SipUri<Alloc<'a>>) -> Answer {
+    match uri.requested(alloc) {
+        Ok(uri) => Answer::of(is_requested(&uri)),
+        Err(_) => Answer::NoMemory,
     }
 }
 
-/// The URI as it stands in a request is made of one.
-#[derive(Drop)]
-struct Requesting<'a> {
-    alloc: Alloc<'a>,
-    uri: SipUri<Alloc<'a>>,
-}
-
-impl<'a> Repeated for Requesting<'a> {
-    type Out = SipUri<Alloc<'a>>;
-
-    fn attempt(&mut self) -> Answer<SipUri<Alloc<'a>>> {
-        match self.uri.requested(self.alloc) {
-            Ok(uri) => Answer::Given(uri),
-            Err(_) => Answer::NoMemory,
-        }
+fn requested_of_read(heap: Heap<'_>) -> Answer {
+    match target(heap.ample) {
+        Some(uri) => requested(heap.scarce, &uri),
+        None => Answer::Wrong,
     }
 }
 
-/// The key of the URI that is read and made fit for a request.
-fn requested<'a>(heap: Heap<'a>) -> Option<SipUri<Alloc<'a>>> {
-    let alloc = heap.scarce;
-    let uri = heap.insist(&mut ReadingUri { alloc })?;
-    heap.insist(&mut Requesting { alloc, uri })
-}
-
-struct Uri;
-
-impl Play for Uri {
-    fn play(&self, heap: Heap<'_>) -> bool {
-        match requested(heap) {
-            Some(uri) => uri.key() == b"bob@192.0.2.4:5062;transport=udp".as_slice(),
-            None => false,
-        }
-    }
-}
-
-const CONTACTS: &[u8] = b"\"Bob, B\" <sip:bob@192.0.2.4>;q=0.5, <tel:+1555>";
-
-/// A value of contacts is read.
-#[derive(Drop)]
-struct ReadingContacts<'a> {
-    alloc: Alloc<'a>,
-}
-
-impl<'a> Repeated for ReadingContacts<'a> {
-    type Out = Vec<Contact<Alloc<'a>>, Alloc<'a>>;
-
-    fn attempt(&mut self) -> Answer<Vec<Contact<Alloc<'a>>, Alloc<'a>>> {
-        match read_contacts(self.alloc, CONTACTS) {
-            Ok(contacts) => Answer::Given(contacts),
-            Err(UriFault::NoMemory) => Answer::NoMemory,
-            Err(_) => Answer::Other,
-        }
+fn uri_read(heap: Heap<'_>) -> Answer {
+    match SipUri::read(heap.scarce, URI) {
+        Ok(uri) => requested(heap.ample, &uri),
+        Err(UriFault::NoMemory) => Answer::NoMemory,
+        Err(_) => Answer::Wrong,
     }
 }
 
@@ -84,92 +49,61 @@ fn is_contact(contact: &Contact<Alloc<'_>>, text: &[u8], q: u16, can_be_tried: b
     contact.text.as_slice() == text && contact.q == q && contact.uri.is_some() == can_be_tried
 }
 
-struct ContactValue;
-
-impl Play for ContactValue {
-    fn play(&self, heap: Heap<'_>) -> bool {
-        let Some(contacts) = heap.insist(&mut ReadingContacts { alloc: heap.scarce }) else {
-            return false;
-        };
-        match contacts.as_slice() {
-            [first, second] => {
-                is_contact(first, b"\"Bob, B\" <sip:bob@192.0.2.4>;q=0.5", 500, true)
-                    && is_contact(second, b"<tel:+1555>", 1000, false)
-            }
-            _ => false,
+/// Whether these are the contacts of the value that is read.
+fn are_contacts(contacts: &[Contact<Alloc<'_>>]) -> bool {
+    match contacts {
+        [first, second] => {
+            is_contact(first, b"\"Bob, B\" <sip:bob@192.0.2.4>;q=0.5", 500, true)
+                && is_contact(second, b"<tel:+1555>", 1000, false)
         }
+        _ => false,
     }
 }
 
-/// A message is read.
-#[derive(Drop)]
-struct ReadingMessage<'a> {
-    alloc: Alloc<'a>,
-}
-
-impl<'a> Repeated for ReadingMessage<'a> {
-    type Out = Message<Alloc<'a>>;
-
-    fn attempt(&mut self) -> Answer<Message<Alloc<'a>>> {
-        match Message::read(self.alloc, REQUEST) {
-            Ok(message) => Answer::Given(message),
-            Err(ReadFault::NoMemory) => Answer::NoMemory,
-            Err(_) => Answer::Other,
-        }
+fn contacts_read(heap: Heap<'_>) -> Answer {
+    match read_contacts(
+        heap.scarce,
+        b"\"Bob, B\" <sip:bob@192.0.2.4>;q=0.5, <tel:+1555>",
+    ) {
+        Ok(contacts) => Answer::of(are_contacts(&contacts)),
+        Err(UriFault::NoMemory) => Answer::NoMemory,
+        Err(_) => Answer::Wrong,
     }
 }
 
-/// The text of the request that is read.
-fn written<'a>(heap: Heap<'a>) -> Option<Vec<u8, Alloc<'a>>> {
-    let alloc = heap.scarce;
-    let message = heap.insist(&mut ReadingMessage { alloc })?;
-    text_of(heap.ample, &message)
-}
-
-struct Request;
-
-impl Play for Request {
-    fn play(&self, heap: Heap<'_>) -> bool {
-        match written(heap) {
-            Some(text) => text.as_slice() == REQUEST,
-            None => false,
-        }
+fn request_read(heap: Heap<'_>) -> Answer {
+    match Message::read(heap.scarce, REQUEST) {
+        Ok(message) => Answer::of(is_written_as(heap.ample, &message, REQUEST)),
+        Err(ReadFault::NoMemory) => Answer::NoMemory,
+        Err(_) => Answer::Wrong,
     }
 }
 
-/// A Via value is read.
-#[derive(Drop)]
-struct ReadingVia<'a> {
-    alloc: Alloc<'a>,
-}
-
-impl<'a> Repeated for ReadingVia<'a> {
-    type Out = Via<Alloc<'a>>;
-
-    fn attempt(&mut self) -> Answer<Via<Alloc<'a>>> {
-        match Via::read(self.alloc, b"SIP/2.0/UDP h.example:5062;branch=z9hG4bKa") {
-            Ok(via) => Answer::Given(via),
-            Err(ViaFault::NoMemory) => Answer::NoMemory,
-            Err(ViaFault::BadVia) => Answer::Other,
-        }
+fn via_read(heap: Heap<'_>) -> Answer {
+    match Via::read(heap.scarce, b"SIP/2.0/UDP h.example:5062;branch=z9hG4bKa") {
+        Ok(via) => Answer::of(via.host() == b"h.example".as_slice() && via.port() == Some(5062)),
+        Err(ViaFault::NoMemory) => Answer::NoMemory,
+        Err(ViaFault::BadVia) => Answer::Wrong,
     }
 }
 
-struct ViaValue;
-
-impl Play for ViaValue {
-    fn play(&self, heap: Heap<'_>) -> bool {
-        match heap.insist(&mut ReadingVia { alloc: heap.scarce }) {
-            Some(via) => via.host() == b"h.example".as_slice() && via.port() == Some(5062),
-            None => false,
+impl Stateless for Reading {
+    fn answer(&self, heap: Heap<'_>) -> Answer {
+        match self {
+            Reading::Uri => uri_read(heap),
+            Reading::Requested => requested_of_read(heap),
+            Reading::Contacts => contacts_read(heap),
+            Reading::Request => request_read(heap),
+            Reading::Via => via_read(heap),
         }
     }
 }
 
 #[test]
 fn texts_are_read(rt: HostRuntime) {
-    plays(&rt, &Uri, 0, "a URI");
-    plays(&rt, &ContactValue, 0, "contacts");
-    plays(&rt, &Request, 0, "a request");
-    plays(&rt, &ViaValue, 0, "a Via value");
+    calls(&rt, Reading::Uri, 0, "a URI");
+    calls(&rt, Reading::Requested, 0, "a URI of a request");
+    calls(&rt, Reading::Contacts, 0, "contacts");
+    calls(&rt, Reading::Request, 0, "a request");
+    calls(&rt, Reading::Via, 0, "a Via value");
 }

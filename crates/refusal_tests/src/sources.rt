@@ -61,7 +61,8 @@ pub fn message<'a>(ample: Alloc<'a>, text: &[u8]) -> Option<Message<Alloc<'a>>> 
     }
 }
 
-fn target<'a>(ample: Alloc<'a>) -> Option<SipUri<Alloc<'a>>> {
+/// The URI of a target.
+pub fn target<'a>(ample: Alloc<'a>) -> Option<SipUri<Alloc<'a>>> {
     match SipUri::read(ample, URI) {
         Ok(target) => Some(target),
         Err(_) => None,
@@ -69,7 +70,7 @@ fn target<'a>(ample: Alloc<'a>) -> Option<SipUri<Alloc<'a>>> {
 }
 
 /// The text of a message.
-pub fn text_of<'a>(ample: Alloc<'a>, message: &Message<Alloc<'a>>) -> Option<Vec<u8, Alloc<'a>>> {
+fn text_of<'a>(ample: Alloc<'a>, message: &Message<Alloc<'a>>) -> Option<Vec<u8, Alloc<'a>>> {
     let mut out = Vec::new(ample);
     match message.write(&mut out) {
         Ok(()) => Some(out),
@@ -77,22 +78,23 @@ pub fn text_of<'a>(ample: Alloc<'a>, message: &Message<Alloc<'a>>) -> Option<Vec
     }
 }
 
-/// The text of a message, if there is one.
-pub fn text_of_any<'a>(
+/// Whether the messages are written alike.
+pub fn have_same_text<'a>(
     ample: Alloc<'a>,
-    message: Option<Message<Alloc<'a>>>,
-) -> Option<Vec<u8, Alloc<'a>>> {
-    match message {
-        Some(message) => text_of(ample, &message),
-        None => None,
+    one: &Message<Alloc<'a>>,
+    other: &Message<Alloc<'a>>,
+) -> bool {
+    match text_of(ample, one) {
+        Some(text) => is_written_as(ample, other, &text),
+        None => false,
     }
 }
 
-/// Whether the texts are both there and the same.
-pub fn are_same(one: Option<Vec<u8, Alloc<'_>>>, other: Option<Vec<u8, Alloc<'_>>>) -> bool {
-    match (one, other) {
-        (Some(one), Some(other)) => one.as_slice() == other.as_slice(),
-        _ => false,
+/// Whether this is the text of the message.
+pub fn is_written_as<'a>(ample: Alloc<'a>, message: &Message<Alloc<'a>>, wanted: &[u8]) -> bool {
+    match text_of(ample, message) {
+        Some(text) => text.as_slice() == wanted,
+        None => false,
     }
 }
 

@@ -3,92 +3,49 @@ ghost use Rattle.std.specs.Prelude.{◌≡◌, IfOk};
 ghost use Rattle.fork_tree.specs.declared.row.State.TheVariants.{Ended};
 ghost use Rattle.fork_tree.specs.Given.{AreRows};
 
-use crate::plays::plays;
+use crate::plays::calls;
 use crate::sources::Alloc;
 use fork_rank::{Rules, Status, groups};
 use fork_tree::{End, ForkTree, NewRows, RowRef, State};
-use refusing::{Answer, Heap, Play, Repeated};
+use refusing::{Answer, Heap, Stateless};
 
-/// Targets are grouped.
-#[derive(Drop)]
-struct Grouping<'a> {
-    alloc: Alloc<'a>,
-}
-
-impl<'a> Repeated for Grouping<'a> {
-    type Out = Vec<Vec<usize, Alloc<'a>>, Alloc<'a>>;
-
-    fn attempt(&mut self) -> Answer<Vec<Vec<usize, Alloc<'a>>, Alloc<'a>>> {
-        match groups(self.alloc, &[500, 1000, 500]) {
-            Ok(groups) => Answer::Given(groups),
-            Err(_) => Answer::NoMemory,
-        }
-    }
+/// What is made.
+#[derive(Clone, Copy)]
+enum Making {
+    Groups,
+    /// The tree of initial targets.
+    Tree,
+    /// Rows that come below another.
+    Rows,
+    /// A tree of rows that have ended.
+    Ended,
 }
 
 fn are(places: &[usize], wanted: &[usize]) -> bool {
     places == wanted
 }
 
-struct Grouped;
-
-impl Play for Grouped {
-    fn play(&self, heap: Heap<'_>) -> bool {
-        let Some(groups) = heap.insist(&mut Grouping { alloc: heap.scarce }) else {
-            return false;
-        };
-        match groups.as_slice() {
-            [first, second] => are(first, &[1]) && are(second, &[0, 2]),
-            _ => false,
-        }
+fn groups_made(heap: Heap<'_>) -> Answer {
+    let Ok(groups) = groups(heap.scarce, &[500, 1000, 500]) else {
+        return Answer::NoMemory;
+    };
+    match groups.as_slice() {
+        [first, second] => Answer::of(are(first, &[1]) && are(second, &[0, 2])),
+        _ => Answer::Wrong,
     }
 }
 
-/// The tree of initial targets is made.
-#[derive(Drop)]
-struct Planting<'a> {
-    alloc: Alloc<'a>,
-}
-
-impl<'a> Repeated for Planting<'a> {
-    type Out = ForkTree<Alloc<'a>>;
-
-    fn attempt(&mut self) -> Answer<ForkTree<Alloc<'a>>> {
-        match ForkTree::new(self.alloc, Rules::usual(), &[1000, 1000, 500]) {
-            Ok(tree) => Answer::Given(tree),
-            Err(_) => Answer::NoMemory,
-        }
+fn tree_made(heap: Heap<'_>) -> Answer {
+    match ForkTree::new(heap.scarce, Rules::usual(), &[1000, 1000, 500]) {
+        Ok(tree) => Answer::of(tree.count() == 3 && tree.open_count() == 3),
+        Err(_) => Answer::NoMemory,
     }
 }
 
-/// Rows that come below another are made.
-#[derive(Drop)]
-struct Adding<'a> {
-    alloc: Alloc<'a>,
-}
-
-impl<'a> Repeated for Adding<'a> {
-    type Out = NewRows<Alloc<'a>>;
-
-    fn attempt(&mut self) -> Answer<NewRows<Alloc<'a>>> {
-        match NewRows::idle(self.alloc, 3, &[1000, 500]) {
-            Ok(rows) => Answer::Given(rows),
-            Err(_) => Answer::NoMemory,
-        }
-    }
-}
-
-struct Idle;
-
-impl Play for Idle {
-    fn play(&self, heap: Heap<'_>) -> bool {
-        let alloc = heap.scarce;
-        let tree = heap.insist(&mut Planting { alloc });
-        let rows = heap.insist(&mut Adding { alloc });
-        match (tree, rows) {
-            (Some(tree), Some(_)) => tree.count() == 3 && tree.open_count() == 3,
-            _ => false,
-        }
+fn rows_made(heap: Heap<'_>) -> Answer {
+    match NewRows::idle(heap.scarce, 3, &[1000, 500]) {
+        Ok(_) => Answer::Right,
+        Err(_) => Answer::NoMemory,
     }
 }
 
@@ -132,43 +89,39 @@ fn ended_rows() -> Result<[RowRef; 6], ()>
     ])
 }
 
-/// A tree is built of rows that have ended.
-#[derive(Drop)]
-struct Building<'a> {
-    alloc: Alloc<'a>,
-}
-
-impl<'a> Repeated for Building<'a> {
-    type Out = ForkTree<Alloc<'a>>;
-
-    fn attempt(&mut self) -> Answer<ForkTree<Alloc<'a>>> {
-        let Ok(rows) = ended_rows() else {
-            return Answer::Other;
-        };
-        match ForkTree::build(self.alloc, Rules::usual(), &rows) {
-            Ok(tree) => Answer::Given(tree),
-            Err(_) => Answer::NoMemory,
-        }
+/// The number of the best row of a tree in which none is open.
+fn best_of(tree: &ForkTree<Alloc<'_>>) -> Option<u16> {
+    match tree.best() {
+        Some(best) if tree.open_count() == 0 => Some(best.no),
+        _ => None,
     }
 }
 
-struct Ends;
+fn ended_made(heap: Heap<'_>) -> Answer {
+    let Ok(rows) = ended_rows() else {
+        return Answer::Wrong;
+    };
+    match ForkTree::build(heap.scarce, Rules::usual(), &rows) {
+        Ok(tree) => Answer::of(best_of(&tree) == Some(1)),
+        Err(_) => Answer::NoMemory,
+    }
+}
 
-impl Play for Ends {
-    fn play(&self, heap: Heap<'_>) -> bool {
-        match heap.insist(&mut Building { alloc: heap.scarce }) {
-            Some(tree) => match tree.best() {
-                Some(best) => best.no == 1 && tree.open_count() == 0,
-                None => false,
-            },
-            None => false,
+impl Stateless for Making {
+    fn answer(&self, heap: Heap<'_>) -> Answer {
+        match self {
+            Making::Groups => groups_made(heap),
+            Making::Tree => tree_made(heap),
+            Making::Rows => rows_made(heap),
+            Making::Ended => ended_made(heap),
         }
     }
 }
 
 #[test]
 fn trees_are_made(rt: HostRuntime) {
-    plays(&rt, &Grouped, 0, "groups");
-    plays(&rt, &Idle, 0, "a tree and new rows");
-    plays(&rt, &Ends, 0, "a tree of rows that have ended");
+    calls(&rt, Making::Groups, 0, "groups");
+    calls(&rt, Making::Tree, 0, "a tree");
+    calls(&rt, Making::Rows, 0, "new rows");
+    calls(&rt, Making::Ended, 0, "a tree of rows that have ended");
 }

@@ -27,43 +27,55 @@ enum Written {
     ForwardedCancel,
 }
 
-/// Whether it was appended: where the request is none, it is not.
-type Done = Result<bool, AllocError>;
-
-fn whole(done: Result<(), AllocError>) -> Done {
-    done?;
-    Ok(true)
+fn done(appended: Result<(), AllocError>) -> Answer {
+    match appended {
+        Ok(()) => Answer::Right,
+        Err(_) => Answer::NoMemory,
+    }
 }
 
 /// Appends what goes to a target.
-fn forwarded<'a>(of: &Sources<'a>, what: Written, out: &mut Vec<u8, Alloc<'a>>) -> Done {
+fn forwarded<'a>(of: &Sources<'a>, what: Written, out: &mut Vec<u8, Alloc<'a>>) -> Answer {
     if !has_hops(&of.request) {
-        return Ok(false);
+        return Answer::Wrong;
     }
     match of.request.start() {
-        Start::Request { .. } => whole(match what {
+        Start::Request { .. } => done(match what {
             Written::Forwarded => write_forwarded(&of.request, &of.target, OWN, &BRANCH, out),
             Written::ForwardedAck => {
                 write_forwarded_ack(&of.request, &of.target, OWN, &BRANCH, &of.response, out)
             }
             _ => write_forwarded_cancel(&of.request, &of.target, OWN, &BRANCH, out),
         }),
-        Start::Response { .. } => Ok(false),
+        Start::Response { .. } => Answer::Wrong,
     }
 }
 
-fn append<'a>(of: &Sources<'a>, what: Written, out: &mut Vec<u8, Alloc<'a>>) -> Done {
+/// Appends the key of a request.
+fn keyed<'a>(of: &Sources<'a>, out: &mut Vec<u8, Alloc<'a>>) -> Answer {
+    match append_request_key(out, &of.request) {
+        Ok(is_there) => Answer::of(is_there),
+        Err(_) => Answer::NoMemory,
+    }
+}
+
+/// Appends what goes up.
+fn passed_up<'a>(of: &Sources<'a>, out: &mut Vec<u8, Alloc<'a>>) -> Answer {
+    match write_upward(&of.response, None, &[], out) {
+        Ok(()) => Answer::Right,
+        Err(_) => Answer::NoMemory,
+    }
+}
+
+fn append<'a>(of: &Sources<'a>, what: Written, out: &mut Vec<u8, Alloc<'a>>) -> Answer {
     match what {
-        Written::RequestUri => whole(of.target.request_uri(out)),
-        Written::TargetKey => whole(of.target.target_key(out)),
-        Written::Branch => whole(write_branch(&BRANCH, out)),
-        Written::RequestKey => append_request_key(out, &of.request),
-        Written::Message => whole(of.response.write(out)),
-        Written::Generated => whole(write_generated(&of.request, OwnStatus::BadRequest, out)),
-        Written::Upward => match write_upward(&of.response, None, &[], out) {
-            Ok(()) => Ok(true),
-            Err(_) => Err(AllocError),
-        },
+        Written::RequestUri => done(of.target.request_uri(out)),
+        Written::TargetKey => done(of.target.target_key(out)),
+        Written::Branch => done(write_branch(&BRANCH, out)),
+        Written::RequestKey => keyed(of, out),
+        Written::Message => done(of.response.write(out)),
+        Written::Generated => done(write_generated(&of.request, OwnStatus::BadRequest, out)),
+        Written::Upward => passed_up(of, out),
         _ => forwarded(of, what, out),
     }
 }
@@ -77,54 +89,43 @@ struct Appending<'a> {
 }
 
 impl Repeated for Appending<'_> {
-    type Out = ();
-
-    fn attempt(&mut self) -> Answer<()> {
+    fn attempt(&mut self) -> Answer {
         let before = self.out.len();
         match append(&self.sources, self.what, &mut self.out) {
-            Ok(true) => Answer::Given(()),
-            Err(_) if self.out.len() == before => Answer::NoMemory,
-            _ => Answer::Other,
+            Answer::NoMemory if self.out.len() != before => Answer::Wrong,
+            answer => answer,
         }
     }
 }
 
-/// What is appended to an empty text, which takes its memory here.
-fn begun<'a>(heap: Heap<'a>, alloc: Alloc<'a>, what: Written) -> Option<Appending<'a>> {
-    match given(heap.ample, REQUEST) {
-        Some(sources) => Some(Appending {
-            sources,
-            what,
-            out: Vec::new(alloc),
-        }),
-        None => None,
-    }
+fn is_done(answer: Answer) -> bool {
+    matches!(answer, Answer::Right)
 }
 
-/// Whether it is appended twice.
-fn goes_twice(heap: Heap<'_>, appending: &mut Appending<'_>) -> bool {
-    heap.insist(appending).is_some() && heap.insist(appending).is_some()
+/// Whether the text is what is appended twice with memory enough.
+fn is_right<'a>(ample: Alloc<'a>, appending: &Appending<'a>) -> bool {
+    let mut wanted = Vec::new(ample);
+    is_done(append(&appending.sources, appending.what, &mut wanted))
+        && is_done(append(&appending.sources, appending.what, &mut wanted))
+        && wanted.as_slice() == appending.out.as_slice()
 }
 
-/// Whether both are appended twice, and the texts are the same then.
-fn are_same<'a>(heap: Heap<'a>, mut one: Appending<'a>, mut other: Appending<'a>) -> bool {
-    goes_twice(heap, &mut one)
-        && goes_twice(heap, &mut other)
-        && one.out.as_slice() == other.out.as_slice()
-}
-
-/// Whether the text is the same as with memory enough.
-fn is_same<'a>(heap: Heap<'a>, one: Appending<'a>, what: Written) -> bool {
-    match begun(heap, heap.scarce, what) {
-        Some(other) => are_same(heap, one, other),
-        None => false,
-    }
+/// Whether it is appended twice, and rightly.
+fn goes_twice<'a>(heap: Heap<'a>, mut appending: Appending<'a>) -> bool {
+    heap.insist(&mut appending) && heap.insist(&mut appending) && is_right(heap.ample, &appending)
 }
 
 impl Play for Written {
     fn play(&self, heap: Heap<'_>) -> bool {
-        match begun(heap, heap.ample, *self) {
-            Some(one) => is_same(heap, one, *self),
+        match given(heap.ample, REQUEST) {
+            Some(sources) => goes_twice(
+                heap,
+                Appending {
+                    sources,
+                    what: *self,
+                    out: Vec::new(heap.scarce),
+                },
+            ),
             None => false,
         }
     }

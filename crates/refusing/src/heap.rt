@@ -28,21 +28,35 @@ pub struct Heap<'a> {
 }
 
 /// What a call answered while memory was refused.
-#[derive(Drop)]
-pub enum Answer<T> {
-    /// What it answers with memory.
-    Given(T),
+#[derive(Clone, Copy)]
+pub enum Answer {
+    /// What it answers with memory, and rightly.
+    Right,
     /// That it was refused.
     NoMemory,
     /// Anything else.
-    Other,
+    Wrong,
 }
 
-/// A call that can be made again where it was refused.
-pub trait Repeated {
-    type Out: Drop;
+impl Answer {
+    /// The answer of a call whose result was looked at.
+    pub fn of(is_right: bool) -> Answer {
+        if is_right {
+            Answer::Right
+        } else {
+            Answer::Wrong
+        }
+    }
+}
 
-    fn attempt(&mut self) -> Answer<Self::Out>;
+/// A call that can be made again where it was refused, on what it keeps.
+pub trait Repeated {
+    fn attempt(&mut self) -> Answer;
+}
+
+/// A call that keeps nothing: where it is made again, it is given the same anew.
+pub trait Stateless {
+    fn answer(&self, heap: Heap<'_>) -> Answer;
 }
 
 /// A use of calls.
@@ -51,58 +65,72 @@ pub trait Play {
     fn play(&self, heap: Heap<'_>) -> bool;
 }
 
+/// A call that keeps nothing, and where it takes its memory.
+#[derive(Clone, Copy)]
+struct Attempted<'a, C> {
+    call: C,
+    heap: Heap<'a>,
+}
+
+impl<C: Stateless + Copy> Repeated for Attempted<'_, C> {
+    fn attempt(&mut self) -> Answer {
+        self.call.answer(self.heap)
+    }
+}
+
+/// The play of one call that keeps nothing.
+#[derive(Clone, Copy)]
+pub struct Single<C> {
+    pub call: C,
+}
+
+impl<C: Stateless + Copy> Play for Single<C> {
+    fn play(&self, heap: Heap<'_>) -> bool {
+        heap.insist(&mut Attempted {
+            call: self.call,
+            heap,
+        })
+    }
+}
+
 impl<'a> Heap<'a> {
-    /// What the call answers with memory, after it was refused. None where a refused call answers anything but that.
-    pub fn insist<C: Repeated>(self, call: &mut C) -> Option<C::Out> {
+    /// Whether the call is right with memory, after it was refused. Where a refused call answers anything but that, it is not.
+    pub fn insist<C: Repeated>(self, call: &mut C) -> bool {
         match self.order {
             Order::Once => self.once(call),
             Order::Always => self.always(call),
         }
     }
 
-    /// What the call answers with memory; none of its growths is counted or refused.
-    pub fn spare<C: Repeated>(self, call: &mut C) -> Option<C::Out> {
-        self.scarce.pause();
-        let answer = call.attempt();
-        self.scarce.go_on();
-        match answer {
-            Answer::Given(answer) => Some(answer),
-            _ => None,
-        }
-    }
-
     /// Calls, and once more where that was refused.
-    fn once<C: Repeated>(self, call: &mut C) -> Option<C::Out> {
+    fn once<C: Repeated>(self, call: &mut C) -> bool {
         let before = self.scarce.refused();
         match call.attempt() {
-            Answer::Given(answer) => Some(answer),
-            Answer::NoMemory if before < self.scarce.refused() => {
+            Answer::Right => true,
+            Answer::Wrong => false,
+            Answer::NoMemory => {
                 self.told.fetch_add(1, Ordering::SeqCst);
-                match call.attempt() {
-                    Answer::Given(answer) => Some(answer),
-                    _ => None,
-                }
+                before < self.scarce.refused() && matches!(call.attempt(), Answer::Right)
             }
-            _ => None,
         }
     }
 
     /// Calls until no growth is refused.
-    fn always<C: Repeated>(self, call: &mut C) -> Option<C::Out> {
+    fn always<C: Repeated>(self, call: &mut C) -> bool {
         for number in 1..MOST {
             self.scarce.refuse_from(number);
             let answer = call.attempt();
-            let refused = self.scarce.refused() > 0;
+            let is_refused = self.scarce.refused() > 0;
             self.scarce.refuse_none();
-            match (answer, refused) {
-                (Answer::Given(answer), false) => return Some(answer),
+            match (answer, is_refused) {
+                (Answer::Right, false) => return true,
                 (Answer::NoMemory, true) => {
                     self.told.fetch_add(1, Ordering::SeqCst);
                 }
-                _ => return None,
+                _ => return false,
             }
         }
-        None
+        false
     }
 }
 

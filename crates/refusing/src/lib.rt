@@ -6,6 +6,7 @@ pub mod heap;
 pub mod refusing;
 
 pub use heap::{
-    Answer, Heap, Play, Refusals, Repeated, refused_always, refused_never, refused_once,
+    Answer, Heap, Play, Refusals, Repeated, Single, Stateless, refused_always, refused_never,
+    refused_once,
 };
 pub use refusing::Refusing;

@@ -1,13 +1,11 @@
 //! Values that are put on a shelf, and an inbox, while memory is refused.
 ghost use Rattle.std.specs.Prelude.{◌≡◌};
 
-use crate::calls::plays;
+use crate::plays::plays;
+use crate::sources::Alloc;
 use call_table::{Inbox, InboxIn, InboxOut, Numbered, Shelf, ShelfFault};
-use refusing::{Answer, Heap, Play, Refusing, Repeated};
-use std::alloc::Global;
+use refusing::{Answer, Heap, Play, Repeated};
 use std::sync::Wait;
-
-type Alloc<'a> = &'a Refusing<Global>;
 
 /// A value that knows its number.
 #[derive(Drop)]
@@ -29,29 +27,14 @@ fn slot_of(number: u64) -> Slot
     Slot { number }
 }
 
-/// A shelf is made.
-#[derive(Drop)]
-struct Making<'a> {
-    alloc: Alloc<'a>,
-}
-
-impl<'a> Repeated for Making<'a> {
-    type Out = Shelf<Slot, Alloc<'a>>;
-
-    fn attempt(&mut self) -> Answer<Shelf<Slot, Alloc<'a>>> {
-        match Shelf::new(self.alloc) {
-            Ok(shelf) => Answer::Given(shelf),
-            Err(_) => Answer::NoMemory,
-        }
-    }
-}
-
 /// A value is put under a key, which is unknown where that is refused.
 #[derive(Drop)]
 struct Putting<'a, R> {
     rt: &'a R,
     shelf: Shelf<Slot, Alloc<'a>>,
     key: &'static [u8],
+    /// The number that it is to get.
+    number: u64,
 }
 
 fn put<R: Wait>(rt: &R, shelf: &Shelf<Slot, Alloc<'_>>, key: &[u8]) -> Result<u64, ShelfFault<u8>> {
@@ -59,15 +42,13 @@ fn put<R: Wait>(rt: &R, shelf: &Shelf<Slot, Alloc<'_>>, key: &[u8]) -> Result<u6
 }
 
 impl<R: Wait> Repeated for Putting<'_, R> {
-    type Out = u64;
-
-    fn attempt(&mut self) -> Answer<u64> {
+    fn attempt(&mut self) -> Answer {
         match put(self.rt, &self.shelf, self.key) {
-            Ok(number) => Answer::Given(number),
+            Ok(number) => Answer::of(number == self.number),
             Err(ShelfFault::NoMemory) if self.shelf.keyed(self.rt, self.key).is_none() => {
                 Answer::NoMemory
             }
-            Err(_) => Answer::Other,
+            Err(_) => Answer::Wrong,
         }
     }
 }
@@ -88,7 +69,8 @@ fn is_put<R: Wait>(
     number: u64,
 ) -> bool {
     putting.key = key;
-    heap.insist(putting) == Some(number) && putting.shelf.keyed(putting.rt, key) == Some(number)
+    putting.number = number;
+    heap.insist(putting) && putting.shelf.keyed(putting.rt, key) == Some(number)
 }
 
 /// Whether the values get rising numbers, and there are no others.
@@ -104,39 +86,51 @@ fn are_put<R: Wait>(heap: Heap<'_>, mut putting: Putting<'_, R>) -> bool {
 
 impl<R: Wait> Play for Keys<'_, R> {
     fn play(&self, heap: Heap<'_>) -> bool {
-        match heap.insist(&mut Making { alloc: heap.scarce }) {
-            Some(shelf) => are_put(
+        // (a new shelf grows nothing)
+        match Shelf::new(heap.scarce) {
+            Ok(shelf) => are_put(
                 heap,
                 Putting {
                     rt: self.rt,
                     shelf,
                     key: b"",
+                    number: 0,
                 },
             ),
-            None => false,
+            Err(_) => false,
         }
     }
 }
 
 #[test]
 fn values_are_put(rt: HostRuntime) {
-    plays(&rt, rt.alloc(), &Keys { rt: &rt }, 0, "values on a shelf");
+    plays(&rt, &Keys { rt: &rt }, 0, "values on a shelf");
 }
 
 /// An inbox of numbers is made.
 #[derive(Drop)]
 struct Queueing<'a> {
     alloc: Alloc<'a>,
+    ends: Option<(InboxIn<u8, Alloc<'a>>, InboxOut<u8, Alloc<'a>>)>,
 }
 
-impl<'a> Repeated for Queueing<'a> {
-    type Out = (InboxIn<u8, Alloc<'a>>, InboxOut<u8, Alloc<'a>>);
-
-    fn attempt(&mut self) -> Answer<(InboxIn<u8, Alloc<'a>>, InboxOut<u8, Alloc<'a>>)> {
+impl Repeated for Queueing<'_> {
+    fn attempt(&mut self) -> Answer {
         match Inbox::new(self.alloc) {
-            Ok(ends) => Answer::Given(ends),
+            Ok(ends) => {
+                self.ends = Some(ends);
+                Answer::Right
+            }
             Err(_) => Answer::NoMemory,
         }
+    }
+}
+
+/// Whether a number goes through the inbox.
+fn passes_one<R: Wait>(rt: &R, queueing: &mut Queueing<'_>) -> bool {
+    match &mut queueing.ends {
+        Some((giving, receiving)) => giving.give(rt, 7).is_ok() && receiving.receive(rt) == Some(7),
+        None => false,
     }
 }
 
@@ -147,16 +141,15 @@ struct Jobs<'r, R> {
 
 impl<R: Wait> Play for Jobs<'_, R> {
     fn play(&self, heap: Heap<'_>) -> bool {
-        match heap.insist(&mut Queueing { alloc: heap.scarce }) {
-            Some((mut giving, mut receiving)) => {
-                giving.give(self.rt, 7).is_ok() && receiving.receive(self.rt) == Some(7)
-            }
-            None => false,
-        }
+        let mut queueing = Queueing {
+            alloc: heap.scarce,
+            ends: None,
+        };
+        heap.insist(&mut queueing) && passes_one(self.rt, &mut queueing)
     }
 }
 
 #[test]
 fn an_inbox_is_made(rt: HostRuntime) {
-    plays(&rt, rt.alloc(), &Jobs { rt: &rt }, 0, "an inbox");
+    plays(&rt, &Jobs { rt: &rt }, 0, "an inbox");
 }

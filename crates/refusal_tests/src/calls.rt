@@ -1,100 +1,111 @@
 //! Whole calls, each of whose steps is made again until it meets no refusal.
-use crate::port::Comparing;
-use crate::texts::{
+use crate::call_texts::{
     ACK_SENT, CALLER, CANCEL, CANCEL_OK, CANCEL_SENT, FAULT_UP, INVITE, INVITE_SENT, OPTIONS,
     OPTIONS_FAULT_UP, OPTIONS_NOT_FOUND, OPTIONS_NOT_FOUND_OF_FIVE, OPTIONS_NOT_FOUND_UP,
     OPTIONS_SENT, RINGING, RINGING_UP, SETUP, Sent, TARGET, TERMINATED, TERMINATED_UP, TRYING,
     is_sent,
 };
+use crate::fork_texts::FORK_SETUP;
+use crate::plays::{calls, plays};
+use crate::port::Comparing;
+use crate::sources::{Alloc, message};
 use call_routing::is_openable;
 use fork_call::{Call, Cause, RequestRejection, Setup, SetupFault, Step, TakeFault, Taken, carry};
 use fork_context::Event;
-use refusing::{Answer, Heap, Play, Refusals, Refusing, Repeated, refused_always, refused_once};
+use refusing::{Answer, Heap, Play, Repeated, Stateless};
 use sip_text::Message;
 use sip_uri::Hop;
 use std::alloc::Global;
 use std::process::Abort;
 
-type Alloc<'a> = &'a Refusing<Global>;
-
-/// A configuration is read.
-#[derive(Drop)]
-pub struct SettingUp<'a> {
-    pub alloc: Alloc<'a>,
-    pub text: &'static [u8],
+/// What a configuration says, or why that is not known.
+pub fn set_up<'a>(alloc: Alloc<'a>, text: &[u8]) -> Result<Setup<Alloc<'a>>, Answer> {
+    match Setup::read(alloc, text) {
+        Ok(setup) => Ok(setup),
+        Err(SetupFault::NoMemory) => Err(Answer::NoMemory),
+        Err(_) => Err(Answer::Wrong),
+    }
 }
 
-impl<'a> Repeated for SettingUp<'a> {
-    type Out = Setup<Alloc<'a>>;
+/// A configuration is read.
+#[derive(Clone, Copy)]
+struct SettingUp {
+    text: &'static [u8],
+}
 
-    fn attempt(&mut self) -> Answer<Setup<Alloc<'a>>> {
-        match Setup::read(self.alloc, self.text) {
-            Ok(setup) => Answer::Given(setup),
-            Err(SetupFault::NoMemory) => Answer::NoMemory,
-            Err(_) => Answer::Other,
+impl Stateless for SettingUp {
+    fn answer(&self, heap: Heap<'_>) -> Answer {
+        match set_up(heap.scarce, self.text) {
+            Ok(setup) => Answer::of(setup.instance() == 7),
+            Err(answer) => answer,
         }
     }
 }
 
 /// A call is opened as number 3.
-#[derive(Drop)]
-pub struct Opening<'a> {
-    pub heap: Heap<'a>,
-    pub global: Global,
-    pub setup: Setup<Alloc<'a>>,
-    pub request: &'static [u8],
+#[derive(Clone, Copy)]
+struct Opening {
+    global: Global,
+    setup: &'static [u8],
+    request: &'static [u8],
 }
 
-impl<'a> Repeated for Opening<'a> {
-    type Out = Call<Alloc<'a>>;
+/// A call, or why there is none.
+type Opened<'a> = Result<Call<Alloc<'a>>, Answer>;
 
-    fn attempt(&mut self) -> Answer<Call<Alloc<'a>>> {
-        let Ok(request) = Message::read(self.heap.ample, self.request) else {
-            return Answer::Other;
-        };
-        if !is_openable(&request) {
-            return Answer::Other;
-        }
-        match Call::open(
-            self.heap.scarce,
-            self.global,
-            &self.setup,
-            3,
-            request,
-            CALLER,
-            0,
-        ) {
-            Ok(call) => Answer::Given(call),
-            Err(RequestRejection::NoMemory) => Answer::NoMemory,
-            Err(_) => Answer::Other,
+/// The call that this request opens.
+fn opened_by<'a>(
+    alloc: Alloc<'a>,
+    global: Global,
+    setup: &Setup<Alloc<'a>>,
+    request: Message<Alloc<'a>>,
+) -> Opened<'a> {
+    if !is_openable(&request) {
+        return Err(Answer::Wrong);
+    }
+    match Call::open(alloc, global, setup, 3, request, CALLER, 0) {
+        Ok(call) => Ok(call),
+        Err(RequestRejection::NoMemory) => Err(Answer::NoMemory),
+        Err(_) => Err(Answer::Wrong),
+    }
+}
+
+/// The call that the request of this text opens.
+fn opened_with<'a>(
+    heap: Heap<'a>,
+    global: Global,
+    setup: &Setup<Alloc<'a>>,
+    request: &[u8],
+) -> Opened<'a> {
+    match message(heap.ample, request) {
+        Some(request) => opened_by(heap.scarce, global, setup, request),
+        None => Err(Answer::Wrong),
+    }
+}
+
+/// The call that is opened so.
+fn opened(heap: Heap<'_>, opening: Opening) -> Opened<'_> {
+    match set_up(heap.ample, opening.setup) {
+        Ok(setup) => opened_with(heap, opening.global, &setup, opening.request),
+        Err(_) => Err(Answer::Wrong),
+    }
+}
+
+impl Stateless for Opening {
+    fn answer(&self, heap: Heap<'_>) -> Answer {
+        match opened(heap, *self) {
+            Ok(call) => Answer::of(call.number() == 3 && call.due() == Some(0)),
+            Err(answer) => answer,
         }
     }
 }
 
-/// What the call answers with memory, after it was refused; where a send of the history fails no growth is refused yet, since
-/// the history in which none fails is played, too.
-fn insist<C: Repeated>(heap: Heap<'_>, history: &History, call: &mut C) -> Option<C::Out> {
-    if history.fails == 0 {
-        heap.insist(call)
-    } else {
-        heap.spare(call)
-    }
-}
-
-/// The call that the request of a history opens.
-fn opened<'a>(heap: Heap<'a>, history: &History) -> Option<Call<Alloc<'a>>> {
-    let mut setting_up = SettingUp {
-        alloc: heap.scarce,
-        text: history.setup,
-    };
-    let setup = insist(heap, history, &mut setting_up)?;
-    let mut opening = Opening {
-        heap,
-        global: history.global,
-        setup,
-        request: history.request,
-    };
-    insist(heap, history, &mut opening)
+/// The same, where no growth is refused or counted.
+fn spared(heap: Heap<'_>, opening: Opening) -> Opened<'_> {
+    heap.scarce.pause();
+    let call = opened(heap, opening);
+    heap.scarce.go_on();
+    call
 }
 
 /// What happens to a call, and what comes of it.
@@ -120,6 +131,105 @@ pub enum Turn {
 /// A moment in milliseconds, and what happens then.
 pub type Moment = (u64, Turn);
 
+fn sends(step: &Step<Alloc<'_>>, wanted: &Sent) -> bool {
+    match step {
+        Step::Send(datagram) => is_sent(datagram, wanted),
+        Step::Did | Step::Idle => false,
+    }
+}
+
+/// The message comes: whether it is taken so.
+fn takes<'a>(
+    call: &mut Call<Alloc<'a>>,
+    message: Message<Alloc<'a>>,
+    from: Hop,
+    now: u64,
+    wanted: Result<Taken, TakeFault>,
+) -> Answer {
+    match call.take(message, from, now) {
+        Err(TakeFault::NoMemory) => Answer::NoMemory,
+        taken => Answer::of(taken == wanted),
+    }
+}
+
+/// The message of this text comes.
+fn takes_text<'a>(
+    ample: Alloc<'a>,
+    call: &mut Call<Alloc<'a>>,
+    text: &[u8],
+    from: Hop,
+    now: u64,
+    wanted: Result<Taken, TakeFault>,
+) -> Answer {
+    match message(ample, text) {
+        Some(message) => takes(call, message, from, now, wanted),
+        None => Answer::Wrong,
+    }
+}
+
+/// Whether a step does what the turn says.
+fn is_right(call: &Call<Alloc<'_>>, step: &Step<Alloc<'_>>, turn: Turn) -> bool {
+    match turn {
+        Turn::Sends(wanted) => sends(step, wanted),
+        Turn::Does => matches!(step, Step::Did),
+        Turn::Waits(due) => {
+            matches!(step, Step::Idle) && call.due() == due && call.over() == due.is_none()
+        }
+        _ => false,
+    }
+}
+
+/// The next thing that is due: whether it is what the turn says.
+fn pumps(call: &mut Call<Alloc<'_>>, now: u64, turn: Turn) -> Answer {
+    match call.pump(now) {
+        Ok(step) => Answer::of(is_right(call, &step, turn)),
+        Err(_) => Answer::NoMemory,
+    }
+}
+
+fn fails(call: &mut Call<Alloc<'_>>, cause: Cause, now: u64) -> Answer {
+    match call.failed(cause, now) {
+        Ok(()) => Answer::Right,
+        Err(_) => Answer::NoMemory,
+    }
+}
+
+/// The position of the event that is posted next.
+fn next_position(call: &Call<Alloc<'_>>) -> u32 {
+    match u32::try_from(call.book().history().len()) {
+        Ok(position) => position,
+        Err(_) => u32::MAX,
+    }
+}
+
+/// What becomes of a message of this branch: it is posted, or changes nothing where the request of the branch was lost.
+fn taken_of(call: &Call<Alloc<'_>>, lost: Option<u16>, branch: Option<u16>) -> Taken {
+    if branch.is_some() && branch == lost {
+        Taken::Absorbed
+    } else {
+        Taken::Posted(next_position(call))
+    }
+}
+
+/// The branch whose request was lost, as the book says.
+fn faulted(call: &Call<Alloc<'_>>) -> Option<u16> {
+    for posted in call.book().history() {
+        if let Event::Fault(n) = posted.event() {
+            return Some(*n);
+        }
+    }
+    None
+}
+
+/// The call is carried: whether what it was to send was sent, and its book says what was lost.
+fn carries(call: &mut Call<Alloc<'_>>, port: &mut Comparing, now: u64) -> Answer {
+    port.begins(faulted(call));
+    match carry(call, port, now) {
+        Ok(carried) => { Answer::of(port.is_done(carried) && faulted(call) == port.lost_branch()) }
+        Err(_) => Answer::NoMemory,
+    }
+}
+
 /// A turn of a call.
 #[derive(Drop)]
 pub struct Playing<'a> {
@@ -130,120 +240,36 @@ pub struct Playing<'a> {
     pub turn: Turn,
 }
 
-fn sends(step: &Step<Alloc<'_>>, wanted: &Sent) -> bool {
-    match step {
-        Step::Send(datagram) => is_sent(datagram, wanted),
-        Step::Did | Step::Idle => false,
-    }
-}
-
-impl<'a> Playing<'a> {
-    /// The message comes: whether it is taken so.
-    fn takes(&mut self, from: Hop, text: &[u8], wanted: Result<Taken, TakeFault>) -> Answer<bool> {
-        let Ok(message) = Message::read(self.heap.ample, text) else {
-            return Answer::Other;
-        };
-        match self.call.take(message, from, self.now) {
-            Err(TakeFault::NoMemory) => Answer::NoMemory,
-            taken => Answer::Given(taken == wanted),
-        }
-    }
-
-    /// Whether a step does what the turn says.
-    fn is_right(&self, step: &Step<Alloc<'a>>) -> bool {
-        match self.turn {
-            Turn::Sends(wanted) => sends(step, wanted),
-            Turn::Does => matches!(step, Step::Did),
-            Turn::Waits(due) => {
-                matches!(step, Step::Idle)
-                    && self.call.due() == due
-                    && self.call.over() == due.is_none()
-            }
-            _ => false,
-        }
-    }
-
-    /// The next thing that is due: whether it is what the turn says.
-    fn pumps(&mut self) -> Answer<bool> {
-        match self.call.pump(self.now) {
-            Ok(step) => Answer::Given(self.is_right(&step)),
-            Err(_) => Answer::NoMemory,
-        }
-    }
-
-    fn fails(&mut self, cause: Cause) -> Answer<bool> {
-        match self.call.failed(cause, self.now) {
-            Ok(()) => Answer::Given(true),
-            Err(_) => Answer::NoMemory,
-        }
-    }
-
-    /// The position of the event that is posted next.
-    fn next_position(&self) -> u32 {
-        match u32::try_from(self.call.book().history().len()) {
-            Ok(position) => position,
-            Err(_) => u32::MAX,
-        }
-    }
-
-    /// The message comes: whether it is posted, or changes nothing where the request of its branch was lost.
-    fn comes(&mut self, branch: Option<u16>, from: Hop, text: &[u8]) -> Answer<bool> {
-        let wanted = if branch.is_some() && branch == self.port.lost_branch() {
-            Taken::Absorbed
-        } else {
-            Taken::Posted(self.next_position())
-        };
-        self.takes(from, text, Ok(wanted))
-    }
-
-    /// The branch whose request was lost, as the book says.
-    fn faulted(&self) -> Option<u16> {
-        for posted in self.call.book().history() {
-            if let Event::Fault(n) = posted.event() {
-                return Some(*n);
-            }
-        }
-        None
-    }
-
-    /// The call is carried: whether what it was to send was sent, and its book says what was lost.
-    fn carries(&mut self) -> Answer<bool> {
-        let faulted = self.faulted();
-        self.port.begins(faulted);
-        match carry(&mut self.call, &mut self.port, self.now) {
-            Ok(carried) => Answer::Given(
-                self.port.is_done(carried) && self.faulted() == self.port.lost_branch(),
-            ),
-            Err(_) => Answer::NoMemory,
-        }
-    }
-
-    /// Goes on to what happens at a moment.
-    fn comes_to(&mut self, (now, turn): Moment) {
-        self.now = now;
-        self.turn = turn;
-        if let Turn::Carries(count) = turn {
-            self.port.wants(count);
-        }
-    }
-}
-
 impl Repeated for Playing<'_> {
-    type Out = bool;
-
-    fn attempt(&mut self) -> Answer<bool> {
+    fn attempt(&mut self) -> Answer {
+        let (ample, now) = (self.heap.ample, self.now);
         match self.turn {
-            Turn::Takes(from, text, wanted) => self.takes(from, text, wanted),
-            Turn::Fails(cause) => self.fails(cause),
-            Turn::Comes(branch, from, text) => self.comes(branch, from, text),
-            Turn::Carries(_) => self.carries(),
-            _ => self.pumps(),
+            Turn::Takes(from, text, wanted) => {
+                takes_text(ample, &mut self.call, text, from, now, wanted)
+            }
+            Turn::Fails(cause) => fails(&mut self.call, cause, now),
+            Turn::Comes(branch, from, text) => {
+                let wanted = taken_of(&self.call, self.port.lost_branch(), branch);
+                takes_text(ample, &mut self.call, text, from, now, Ok(wanted))
+            }
+            Turn::Carries(_) => carries(&mut self.call, &mut self.port, now),
+            turn => pumps(&mut self.call, now, turn),
         }
     }
+}
+
+/// Goes on to what happens at a moment: whether that goes as it should.
+fn goes_at(heap: Heap<'_>, playing: &mut Playing<'_>, (now, turn): Moment) -> bool {
+    playing.now = now;
+    playing.turn = turn;
+    if let Turn::Carries(count) = turn {
+        playing.port.wants(count);
+    }
+    heap.insist(playing)
 }
 
 /// A call: what it is set up with, the request that opens it, and what happens then.
-#[derive(Drop)]
+#[derive(Clone, Copy)]
 pub struct History {
     pub global: Global,
     pub setup: &'static [u8],
@@ -260,16 +286,25 @@ fn goes_on(mut playing: Playing<'_>, moments: &[Moment]) -> bool {
     let heap = playing.heap;
     let mut well = true;
     for moment in moments {
-        playing.comes_to(*moment);
-        well = well && heap.insist(&mut playing) == Some(true);
+        well = well && goes_at(heap, &mut playing, *moment);
     }
     well
 }
 
+impl History {
+    fn opening(&self) -> Opening {
+        Opening {
+            global: self.global,
+            setup: self.setup,
+            request: self.request,
+        }
+    }
+}
+
 impl Play for History {
     fn play(&self, heap: Heap<'_>) -> bool {
-        match opened(heap, self) {
-            Some(call) => goes_on(
+        match spared(heap, self.opening()) {
+            Ok(call) => goes_on(
                 Playing {
                     heap,
                     call,
@@ -279,29 +314,19 @@ impl Play for History {
                 },
                 self.moments,
             ),
-            None => false,
+            Err(_) => false,
         }
     }
 }
 
-/// Ends the test where a play goes wrong, or where not so many growths are done without.
-pub fn plays<R: Abort, P: Play>(rt: &R, alloc: Global, play: &P, without: u64, what: &str) {
-    let once = refused_once(alloc, play).unwrap_or(Refusals {
-        growths: 0,
-        told: 0,
-    });
-    let always = refused_always(alloc, play).unwrap_or(Refusals {
-        growths: 0,
-        told: 0,
-    });
-    let left = once.growths.saturating_sub(once.told);
-    assert!(rt;
-        once.growths > 0 && left == without && always.told > 0,
-        "{what}: {} growths, {} told; {} told where memory ends",
-        once.growths,
-        once.told,
-        always.told
-    );
+/// A call is opened by this request, which is refused in turn.
+fn opens(rt: &(impl Abort + AllocGlobal), setup: &'static [u8], request: &'static [u8]) {
+    let opening = Opening {
+        global: rt.alloc(),
+        setup,
+        request,
+    };
+    calls(rt, opening, 0, "a call opens");
 }
 
 /// The call of this request, and what happens.
@@ -319,7 +344,7 @@ fn goes(
         begins: 0,
         fails: 0,
     };
-    plays(rt, rt.alloc(), &history, 0, what);
+    plays(rt, &history, 0, what);
 }
 
 /// An OPTIONS request whose target answers 404, and that again.
@@ -437,6 +462,20 @@ const ALL_LOST: &[Moment] = &[
     (32_030, Turn::Does),
     (32_030, Turn::Waits(None)),
 ];
+
+#[test]
+fn configurations_are_read(rt: HostRuntime) {
+    for text in [SETUP, FORK_SETUP] {
+        calls(&rt, SettingUp { text }, 0, "a configuration");
+    }
+}
+
+#[test]
+fn calls_are_opened(rt: HostRuntime) {
+    opens(&rt, SETUP, OPTIONS);
+    opens(&rt, SETUP, INVITE);
+    opens(&rt, FORK_SETUP, INVITE);
+}
 
 #[test]
 fn a_failure_goes_up(rt: HostRuntime) {

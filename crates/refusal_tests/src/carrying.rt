@@ -1,14 +1,15 @@
 //! Calls that are carried while memory is refused and sends fail: the steps before a refusal stand, and a carry goes on where
 //! it was refused.
-use crate::calls::{History, Moment, Turn, plays};
+use crate::call_texts::{
+    ACK, CALLER, CANCEL, INVITE, NOT_FOUND, OPTIONS, OPTIONS_NOT_FOUND, OPTIONS_NOT_FOUND_OF_FIVE,
+    RINGING, SETUP, TARGET, TERMINATED,
+};
+use crate::calls::{History, Moment, Turn};
 use crate::fork_texts::{
     FIFTH, FIFTH_NOT_FOUND, FORK_SETUP, FOURTH, FOURTH_RINGS, FOURTH_TERMINATED, SECOND,
     SECOND_RINGS, SECOND_TERMINATED, THIRD, THIRD_RINGS, THIRD_TERMINATED,
 };
-use crate::texts::{
-    ACK, CALLER, CANCEL, INVITE, NOT_FOUND, OPTIONS, OPTIONS_NOT_FOUND, OPTIONS_NOT_FOUND_OF_FIVE,
-    RINGING, SETUP, TARGET, TERMINATED,
-};
+use crate::plays::plays;
 use crate::wanted;
 use fork_call::{TakeFault, Taken};
 use refusing::{refused_always, refused_never};
@@ -123,19 +124,13 @@ fn asks(rt: &(impl Abort + AllocGlobal), fails: u64) {
         begins: wanted::OPTIONS,
         fails,
     };
-    plays(
-        rt,
-        rt.alloc(),
-        &history,
-        0,
-        "an OPTIONS request that is carried",
-    );
+    plays(rt, &history, 0, "an OPTIONS request that is carried");
 }
 
 #[test]
 fn a_carry_goes_on_where_it_was_refused(rt: HostRuntime) {
     let forked = fork(rt.alloc(), 0);
-    plays(&rt, rt.alloc(), &forked, 0, "an INVITE to five targets");
+    plays(&rt, &forked, 0, "an INVITE to five targets");
     asks(&rt, 0);
     let history = History {
         global: rt.alloc(),
@@ -145,7 +140,7 @@ fn a_carry_goes_on_where_it_was_refused(rt: HostRuntime) {
         begins: wanted::INVITE,
         fails: 0,
     };
-    plays(&rt, rt.alloc(), &history, 0, "an INVITE that is carried");
+    plays(&rt, &history, 0, "an INVITE that is carried");
 }
 
 #[test]

@@ -1,18 +1,18 @@
 //! Datagrams that are handled, and calls that are carried after each, while memory is refused.
 ghost use Rattle.std.specs.Prelude.{◌≡◌};
 
-use crate::calls::{SettingUp, plays};
-use crate::texts::{ACK, CALLER, CANCEL, INVITE, OPTIONS, SETUP, TARGET};
+use crate::call_texts::{ACK, CALLER, CANCEL, INVITE, OPTIONS, SETUP, TARGET};
+use crate::calls::set_up;
+use crate::plays::plays;
+use crate::sources::Alloc;
 use call_table::Shelf;
 use fork_call::{Call, Datagram, Port, Setup, carry};
 use proxy_dispatch::{Handled, Memory, Received, handle};
-use refusing::{Answer, Heap, Play, Refusing, Repeated};
+use refusing::{Answer, Heap, Play, Repeated};
 use sip_uri::Hop;
 use std::alloc::{Allocator, Global};
 use std::process::Abort;
 use std::sync::Wait;
-
-type Alloc<'a> = &'a Refusing<Global>;
 
 /// The 404 of the target, for call 0.
 const NOT_FOUND: &[u8] = b"SIP/2.0 404 Not Found\r\n\
@@ -151,22 +151,8 @@ impl Port for Counting {
     }
 }
 
-/// A shelf is made.
-#[derive(Drop)]
-struct Shelving<'a> {
-    alloc: Alloc<'a>,
-}
-
-impl<'a> Repeated for Shelving<'a> {
-    type Out = Shelf<Call<Alloc<'a>>, Alloc<'a>>;
-
-    fn attempt(&mut self) -> Answer<Shelf<Call<Alloc<'a>>, Alloc<'a>>> {
-        match Shelf::new(self.alloc) {
-            Ok(shelf) => Answer::Given(shelf),
-            Err(_) => Answer::NoMemory,
-        }
-    }
-}
+/// The calls that are open.
+type Calls<'a> = Shelf<Call<Alloc<'a>>, Alloc<'a>>;
 
 /// What takes datagrams.
 #[derive(Drop)]
@@ -174,11 +160,13 @@ struct Proxy<'a, R> {
     rt: &'a R,
     scarce: Alloc<'a>,
     global: Global,
-    shelf: Shelf<Call<Alloc<'a>>, Alloc<'a>>,
+    shelf: Calls<'a>,
     setup: Setup<Alloc<'a>>,
     port: Counting,
     packet: &'static [u8],
     source: Hop,
+    /// What becomes of the packet.
+    wanted: Handled,
     /// Whether call 0 is carried, and no datagram handled.
     carrying: bool,
 }
@@ -206,16 +194,25 @@ fn look_at(call: &mut Call<Alloc<'_>>) -> Shown
     }
 }
 
-impl<R: Wait> Proxy<'_, R> {
-    /// What call 0 shows, if it is open.
-    fn shows(&self) -> Option<Shown> {
-        self.shelf.with(self.rt, 0, |call| look_at(call))
-    }
+/// What call 0 shows, if it is open.
+fn shows<R: Wait>(rt: &R, shelf: &Calls<'_>) -> Option<Shown> {
+    shelf.with(rt, 0, |call| look_at(call))
+}
 
+/// Call 0 is carried.
+fn carries<R: Wait>(rt: &R, shelf: &Calls<'_>, port: &mut Counting) -> Answer {
+    match shelf.with(rt, 0, |call| is_carried(call, port)) {
+        Some(true) => Answer::Right,
+        Some(false) => Answer::NoMemory,
+        None => Answer::Wrong,
+    }
+}
+
+impl<R: Wait> Proxy<'_, R> {
     /// The datagram is handled; where that is refused nothing is sent, and the call is as it was, or not open.
-    fn handles(&mut self) -> Answer<Handled> {
+    fn handles(&mut self) -> Answer {
         let sends = self.port.sends;
-        let shows = self.shows();
+        let before = shows(self.rt, &self.shelf);
         let memory = Memory {
             alloc: self.scarce,
             heap: self.global,
@@ -234,29 +231,19 @@ impl<R: Wait> Proxy<'_, R> {
             &mut self.port,
         );
         match handled {
-            Ok(handled) => Answer::Given(handled),
-            Err(_) if self.port.sends == sends && self.shows() == shows => Answer::NoMemory,
-            Err(_) => Answer::Other,
-        }
-    }
-
-    /// Call 0 is carried.
-    fn carries(&mut self) -> Answer<Handled> {
-        let port = &mut self.port;
-        match self.shelf.with(self.rt, 0, |call| is_carried(call, port)) {
-            Some(true) => Answer::Given(Handled::Delivered(0)),
-            Some(false) => Answer::NoMemory,
-            None => Answer::Other,
+            Ok(handled) => Answer::of(handled == self.wanted),
+            Err(_) if self.port.sends == sends && shows(self.rt, &self.shelf) == before => {
+                Answer::NoMemory
+            }
+            Err(_) => Answer::Wrong,
         }
     }
 }
 
 impl<R: Wait> Repeated for Proxy<'_, R> {
-    type Out = Handled;
-
-    fn attempt(&mut self) -> Answer<Handled> {
+    fn attempt(&mut self) -> Answer {
         if self.carrying {
-            self.carries()
+            carries(self.rt, &self.shelf, &mut self.port)
         } else {
             self.handles()
         }
@@ -271,14 +258,16 @@ struct Packets<'r, R> {
     list: &'static [Packet],
 }
 
-/// What takes datagrams, once it is set up.
-fn set_up<'a, R: Wait>(heap: Heap<'a>, rt: &'a R, global: Global) -> Option<Proxy<'a, R>> {
-    let setup = heap.insist(&mut SettingUp {
-        alloc: heap.scarce,
-        text: SETUP,
-    })?;
-    match heap.insist(&mut Shelving { alloc: heap.scarce }) {
-        Some(shelf) => Some(Proxy {
+/// What takes datagrams with this configuration.
+fn started<'a, R: Wait>(
+    heap: Heap<'a>,
+    rt: &'a R,
+    global: Global,
+    setup: Setup<Alloc<'a>>,
+) -> Option<Proxy<'a, R>> {
+    // (a new shelf grows nothing)
+    match Shelf::new(heap.scarce) {
+        Ok(shelf) => Some(Proxy {
             rt,
             scarce: heap.scarce,
             global,
@@ -287,9 +276,18 @@ fn set_up<'a, R: Wait>(heap: Heap<'a>, rt: &'a R, global: Global) -> Option<Prox
             port: Counting { sends: 0 },
             packet: OPTIONS,
             source: CALLER,
+            wanted: Handled::Dropped,
             carrying: false,
         }),
-        None => None,
+        Err(_) => None,
+    }
+}
+
+/// What takes datagrams.
+fn ready<'a, R: Wait>(heap: Heap<'a>, rt: &'a R, global: Global) -> Option<Proxy<'a, R>> {
+    match set_up(heap.ample, SETUP) {
+        Ok(setup) => started(heap, rt, global, setup),
+        Err(_) => None,
     }
 }
 
@@ -298,10 +296,11 @@ fn is_handled<R: Wait>(heap: Heap<'_>, proxy: &mut Proxy<'_, R>, packet: Packet)
     let (text, source, wanted, sends) = packet;
     proxy.packet = text;
     proxy.source = source;
+    proxy.wanted = wanted;
     proxy.carrying = false;
-    let is_right = heap.insist(proxy) == Some(wanted);
+    let is_right = heap.insist(proxy);
     proxy.carrying = true;
-    is_right && heap.insist(proxy).is_some() && proxy.port.sends == sends
+    is_right && heap.insist(proxy) && proxy.port.sends == sends
 }
 
 /// Whether that is so of each datagram.
@@ -315,7 +314,7 @@ fn are_handled<R: Wait>(heap: Heap<'_>, mut proxy: Proxy<'_, R>, list: &[Packet]
 
 impl<R: Wait> Play for Packets<'_, R> {
     fn play(&self, heap: Heap<'_>) -> bool {
-        match set_up(heap, self.rt, self.global) {
+        match ready(heap, self.rt, self.global) {
             Some(proxy) => are_handled(heap, proxy, self.list),
             None => false,
         }
@@ -323,12 +322,13 @@ impl<R: Wait> Play for Packets<'_, R> {
 }
 
 /// Plays these datagrams.
-fn goes<R: Wait + Abort>(rt: &R, global: Global, list: &'static [Packet], what: &str) {
-    plays(rt, global, &Packets { rt, global, list }, 0, what);
+fn goes<R: Wait + Abort + AllocGlobal>(rt: &R, list: &'static [Packet], what: &str) {
+    let global = rt.alloc();
+    plays(rt, &Packets { rt, global, list }, 0, what);
 }
 
 #[test]
 fn datagrams_are_handled(rt: HostRuntime) {
-    goes(&rt, rt.alloc(), ASKED, "an OPTIONS request, and strays");
-    goes(&rt, rt.alloc(), CANCELLED, "an INVITE that is cancelled");
+    goes(&rt, ASKED, "an OPTIONS request, and strays");
+    goes(&rt, CANCELLED, "an INVITE that is cancelled");
 }

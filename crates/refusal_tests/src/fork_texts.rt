@@ -1,6 +1,6 @@
 //! The messages of an INVITE that is forked to five targets, byte for byte, where they are not those of a call to the first
 //! alone.
-use crate::texts::{CALLER, Sent};
+use crate::call_texts::{CALLER, Sent};
 use fork_call::Cause;
 use sip_uri::Hop;
 
