@@ -22,4 +22,6 @@ mod limits;
 #[cfg(test)]
 mod play;
 #[cfg(test)]
+mod refused;
+#[cfg(test)]
 mod replays;
