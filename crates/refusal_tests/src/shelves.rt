@@ -107,11 +107,14 @@ fn values_are_put(rt: HostRuntime) {
     plays(&rt, &Keys { rt: &rt }, 0, "values on a shelf");
 }
 
+/// Both ends of an inbox of numbers.
+type Ends<'a> = (InboxIn<u8, Alloc<'a>>, InboxOut<u8, Alloc<'a>>);
+
 /// An inbox of numbers is made.
 #[derive(Drop)]
 struct Queueing<'a> {
     alloc: Alloc<'a>,
-    ends: Option<(InboxIn<u8, Alloc<'a>>, InboxOut<u8, Alloc<'a>>)>,
+    ends: Option<Ends<'a>>,
 }
 
 impl Repeated for Queueing<'_> {
@@ -127,9 +130,11 @@ impl Repeated for Queueing<'_> {
 }
 
 /// Whether a number goes through the inbox.
-fn passes_one<R: Wait>(rt: &R, queueing: &mut Queueing<'_>) -> bool {
-    match &mut queueing.ends {
-        Some((giving, receiving)) => giving.give(rt, 7).is_ok() && receiving.receive(rt) == Some(7),
+fn passes_one<R: Wait>(rt: &R, ends: Option<Ends<'_>>) -> bool {
+    match ends {
+        Some((mut giving, mut receiving)) => {
+            giving.give(rt, 7).is_ok() && receiving.receive(rt) == Some(7)
+        }
         None => false,
     }
 }
@@ -145,7 +150,7 @@ impl<R: Wait> Play for Jobs<'_, R> {
             alloc: heap.scarce,
             ends: None,
         };
-        heap.insist(&mut queueing) && passes_one(self.rt, &mut queueing)
+        heap.insist(&mut queueing) && passes_one(self.rt, queueing.ends.take())
     }
 }
 
