@@ -1,0 +1,139 @@
+//! Who calls and who is called, as sockets of this process.
+use sip_lex::cut_at;
+use std::alloc::{AllocError, Global};
+use std::net::{Ipv4Addr, Net, SocketAddr, SocketAddrV4, UdpSocket};
+use std::time::Duration;
+use worker_jobs::call_id;
+
+/// Where the proxy listens.
+pub const PROXY: u16 = 47_420;
+
+/// Where the caller does.
+const CALLER: u16 = 47_421;
+
+/// Where the target does.
+const TARGET: u16 = 47_422;
+
+/// How often a datagram is waited for, a tenth of a second each time.
+const LOOKS: u32 = 30;
+
+fn at(port: u16) -> SocketAddr {
+    SocketAddr::V4(SocketAddrV4::new(Ipv4Addr::new(127, 0, 0, 1), port))
+}
+
+/// A socket at this port, whose receives wait a tenth of a second.
+fn socket_at<R: Net>(rt: &R, port: u16) -> Option<UdpSocket> {
+    let socket = UdpSocket::bind(rt, at(port)).ok()?;
+    socket
+        .set_read_timeout(Some(Duration::from_millis(100)))
+        .ok()?;
+    Some(socket)
+}
+
+/// A request of the caller. The branch and the Call-ID are the call's name.
+fn request_of(alloc: Global, method: &str, call: &str, tag: &str) -> Result<String, AllocError> {
+    format!(in alloc;
+        "{method} sip:bob@example.com SIP/2.0\r\nVia: SIP/2.0/UDP 127.0.0.1:47421;branch=z9hG4bK{call}\r\nMax-Forwards: 70\r\nFrom: <sip:alice@example.com>;tag=1\r\nTo: <sip:bob@example.com>{tag}\r\nCall-ID: {call}\r\nCSeq: 1 {method}\r\nContact: <sip:alice@127.0.0.1:47421>\r\nContent-Length: 0\r\n\r\n"
+    )
+}
+
+/// The answer to a request: this status line, and the header fields of the request (RFC 3261 section 8.2.6).
+fn answer_to(alloc: Global, line: &[u8], request: &[u8]) -> Option<Vec<u8>> {
+    let (_, fields) = cut_at(request, b'\n');
+    let mut answer = Vec::from_slice(alloc, line).ok()?;
+    answer.extend_from_slice(fields?).ok()?;
+    Some(answer)
+}
+
+/// The next datagram at a socket.
+fn received(alloc: Global, socket: &UdpSocket) -> Option<Vec<u8>> {
+    let mut buffer = [0u8; 4_096];
+    match socket.recv_from(&mut buffer) {
+        Ok((count, _)) => Vec::from_slice(alloc, &buffer[..count]).ok(),
+        Err(_) => None,
+    }
+}
+
+/// Whether a datagram of a call begins so.
+fn is_of(text: &[u8], front: &str, call: &str) -> bool {
+    text.starts_with(front.as_bytes()) && call_id(text) == Some(call.as_bytes())
+}
+
+/// The first datagram of a call that begins so, if one comes in some seconds.
+fn heard(alloc: Global, socket: &UdpSocket, front: &str, call: &str) -> Option<Vec<u8>> {
+    for _ in 0..LOOKS {
+        if let Some(text) = received(alloc, socket) {
+            if is_of(text.as_slice(), front, call) {
+                return Some(text);
+            }
+        }
+    }
+    None
+}
+
+/// The caller and the target.
+#[derive(Drop)]
+pub struct Agents {
+    alloc: Global,
+    caller: UdpSocket,
+    target: UdpSocket,
+}
+
+impl Agents {
+    pub fn new<R: Net>(rt: &R, alloc: Global) -> Option<Agents> {
+        let caller = socket_at(rt, CALLER)?;
+        let target = socket_at(rt, TARGET)?;
+        Some(Agents {
+            alloc,
+            caller,
+            target,
+        })
+    }
+
+    /// Sends a request of the caller.
+    pub fn asks(&self, method: &str, call: &str, tag: &str) {
+        if let Ok(text) = request_of(self.alloc, method, call, tag) {
+            let _ = self.caller.send_to(text.as_bytes(), at(PROXY));
+        }
+    }
+
+    /// Whether the caller hears an answer of a call that begins so.
+    pub fn hears(&self, front: &str, call: &str) -> bool {
+        heard(self.alloc, &self.caller, front, call).is_some()
+    }
+
+    /// The request of a call that comes to the target.
+    pub fn gets(&self, method: &str, call: &str) -> Option<Vec<u8>> {
+        heard(self.alloc, &self.target, method, call)
+    }
+
+    /// Whether the target answers a request with this status line.
+    pub fn answers(&self, request: &[u8], line: &str) -> bool {
+        match answer_to(self.alloc, line.as_bytes(), request) {
+            Some(answer) => self.target.send_to(answer.as_slice(), at(PROXY)).is_ok(),
+            None => false,
+        }
+    }
+
+    /// Whether a request of the caller reaches the target, and its answer the caller.
+    pub fn passes(&self, method: &str, call: &str, line: &str) -> bool {
+        self.asks(method, call, "");
+        match self.gets(method, call) {
+            Some(request) => self.answers(request.as_slice(), line) && self.hears(line, call),
+            None => false,
+        }
+    }
+
+    /// The request of a call that the target lets ring, once the caller has heard so.
+    pub fn rings(&self, call: &str) -> Option<Vec<u8>> {
+        self.asks("INVITE", call, "");
+        let request = self.gets("INVITE", call)?;
+        if self.answers(request.as_slice(), "SIP/2.0 180 Ringing\r\n")
+            && self.hears("SIP/2.0 180", call)
+        {
+            Some(request)
+        } else {
+            None
+        }
+    }
+}

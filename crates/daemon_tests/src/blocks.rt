@@ -1,0 +1,176 @@
+//! What is written of a call, who is turned away while no calls are opened, and which configurations are taken.
+ghost use Rattle.std.specs.Prelude.{◌≡◌};
+
+use crate::holds::holds;
+use crate::outbox::Outbox;
+use call_table::Shelf;
+use daemon_parts::{DaemonFault, Options};
+use fork_call::{Call, Setup};
+use fork_daemon::{append_block, check_config, serve_text, turn_away};
+use proxy_dispatch::{Handled, Memory, Received, handle};
+use sip_uri::Hop;
+use std::alloc::Global;
+use std::fs;
+use std::sync::Wait;
+
+const CONFIGURATION: &[u8] =
+    b"own 192.0.2.9 5060\ninstance 7\ndomain example.com\nlocation bob 1000 sip:bob@192.0.2.4\n";
+
+const REQUEST: &[u8] =
+    b"OPTIONS sip:bob@example.com SIP/2.0\r\nVia: SIP/2.0/UDP 192.0.2.1;branch=z9hG4bKa\r\nMax-Forwards: 70\r\nFrom: <sip:alice@example.com>;tag=1\r\nTo: <sip:bob@example.com>\r\nCall-ID: one\r\nCSeq: 1 OPTIONS\r\nContent-Length: 0\r\n\r\n";
+
+/// The same in a dialog.
+const INSIDE: &[u8] =
+    b"OPTIONS sip:bob@example.com SIP/2.0\r\nVia: SIP/2.0/UDP 192.0.2.1;branch=z9hG4bKb\r\nMax-Forwards: 70\r\nFrom: <sip:alice@example.com>;tag=1\r\nTo: <sip:bob@example.com>;tag=2\r\nCall-ID: one\r\nCSeq: 2 OPTIONS\r\nContent-Length: 0\r\n\r\n";
+
+const SOURCE: Hop = Hop {
+    addr: [192, 0, 2, 1],
+    port: 5060,
+};
+
+/// The second of which a block tells.
+const TIME: u64 = 1_700_000_000;
+
+const BLOCK: &[u8] =
+    b"call 1700000000 0 OPTIONS sip:bob@example.com from <sip:alice@example.com>;tag=1 call-id one open\n";
+
+/// A configuration whose second line is malformed.
+const MALFORMED: &[u8] = b"own 127.0.0.1 47430\ninstance seven\n";
+
+/// A file of a configuration, in the folder in which the test runs.
+const FILE: &str = "forkproxyd_test_checked";
+
+/// A proxy without threads: calls, a configuration, and where its datagrams go.
+#[derive(Drop)]
+struct Scene {
+    alloc: Global,
+    setup: Setup<Global>,
+    calls: Shelf<Call<Global>>,
+    outbox: Outbox,
+}
+
+/// Writes what there is of a call, and says whether there was memory for it.
+fn written(call: &mut Call<Global>, block: &mut Vec<u8>) -> bool
+    ensures { call.new.opened.number ≡ call.old.opened.number }
+{
+    append_block(call, TIME, block).is_ok()
+}
+
+impl Scene {
+    fn new(alloc: Global) -> Option<Scene> {
+        Some(Scene {
+            alloc,
+            setup: Setup::read(alloc, CONFIGURATION).ok()?,
+            calls: Shelf::new(alloc).ok()?,
+            outbox: Outbox::new(alloc),
+        })
+    }
+
+    /// Whether the request opens the call 0.
+    fn opens<R: Wait>(&mut self, rt: &R) -> bool {
+        let memory = Memory {
+            alloc: self.alloc,
+            heap: self.alloc,
+        };
+        let received = Received {
+            bytes: REQUEST,
+            source: SOURCE,
+            now: 0,
+        };
+        let outbox = &mut self.outbox;
+        handle(rt, memory, &self.calls, &self.setup, received, outbox) == Ok(Handled::Opened(0))
+    }
+
+    /// Whether a text is turned away.
+    fn turns_away<R: Wait>(&mut self, rt: &R, text: &[u8]) -> bool {
+        turn_away(rt, self.alloc, &self.calls, text, SOURCE, &mut self.outbox) == Ok(true)
+    }
+
+    /// The block of the call 0.
+    fn block<R: Wait>(&self, rt: &R) -> Option<Vec<u8>> {
+        let mut block = Vec::new(self.alloc);
+        match self.calls.with(rt, 0, |call| written(call, &mut block)) {
+            Some(true) => Some(block),
+            _ => None,
+        }
+    }
+}
+
+/// Whether the request is turned away, as long as no call has it, and with which answer.
+fn turns_away<R: Wait>(rt: &R, alloc: Global) -> &'static str {
+    let Some(mut scene) = Scene::new(alloc) else {
+        return "there is a scene";
+    };
+    if scene.turns_away(rt, b"no message") || scene.turns_away(rt, INSIDE) {
+        return "a request of a dialog is not turned away";
+    }
+    if !scene.turns_away(rt, REQUEST) {
+        return "a request that begins something new is turned away";
+    }
+    let answer = scene.outbox.bytes();
+    if !answer.starts_with(b"SIP/2.0 503 ")
+        || !answer
+            .windows(15)
+            .any(|part| part == b"Retry-After: 10".as_slice())
+    {
+        return "it is answered 503 with Retry-After";
+    }
+    if !scene.opens(rt) || scene.turns_away(rt, REQUEST) {
+        return "the repeat of a request is not turned away";
+    }
+    "nothing"
+}
+
+/// The block of a call that is still open.
+fn block_of<R: Wait>(rt: &R, alloc: Global) -> Option<Vec<u8>> {
+    let mut scene = Scene::new(alloc)?;
+    if scene.opens(rt) {
+        scene.block(rt)
+    } else {
+        None
+    }
+}
+
+#[test]
+fn what_begins_something_new_is_turned_away(rt: HostRuntime) {
+    let missed = turns_away(&rt, rt.alloc());
+    holds(&rt, missed == "nothing", missed);
+}
+
+#[test]
+fn a_call_is_written_down(rt: HostRuntime) {
+    let well = match block_of(&rt, rt.alloc()) {
+        Some(block) => block.as_slice() == BLOCK,
+        None => false,
+    };
+    holds(&rt, well, "the block of an open call");
+}
+
+#[test]
+fn a_configuration_is_checked(rt: HostRuntime) {
+    let options = Options {
+        config: FILE,
+        control: "forkproxyd_test_unused",
+        journal: None,
+        most_calls: 1,
+        workers: 1,
+        records: false,
+    };
+    let served = serve_text(&rt, rt.alloc(), MALFORMED, options);
+    holds(
+        &rt,
+        served == Err(DaemonFault::Line(2)),
+        "a malformed configuration is not served",
+    );
+    let missing = check_config(&rt, rt.alloc(), FILE);
+    holds(
+        &rt,
+        missing == Err(DaemonFault::Unreadable),
+        "there is no such file",
+    );
+    let written = fs::write(&rt, FILE, CONFIGURATION).is_ok();
+    holds(&rt, written, "the configuration is written");
+    let checked = check_config(&rt, rt.alloc(), FILE);
+    holds(&rt, checked.is_ok(), "the configuration is well-formed");
+    let _ = fs::remove_file(&rt, FILE);
+}

@@ -1,0 +1,13 @@
+//! Tests of the public calls of `fork_daemon`.
+#![tactic(auto)]
+
+#[cfg(test)]
+mod agents;
+#[cfg(test)]
+mod blocks;
+#[cfg(test)]
+mod holds;
+#[cfg(test)]
+mod living;
+#[cfg(test)]
+mod outbox;

@@ -1,0 +1,204 @@
+//! A proxy that serves as a service: two agents, a full proxy, a configuration that is read anew, a forgotten call whose request
+//! comes again, a stop.
+use crate::agents::Agents;
+use crate::holds::holds;
+use daemon_parts::{DaemonFault, Options};
+use fork_control::tell;
+use fork_daemon::serve;
+use std::alloc::Global;
+use std::fs::Files;
+use std::io::{Read, Write};
+use std::net::Net;
+use std::os::unix::net::UnixStream;
+use std::test::Fail;
+use std::thread::join;
+use std::time::{Clock, Duration};
+use std::{fs, io, thread};
+
+/// The files of the proxy, in the folder in which the test runs.
+const CONFIG: &str = "forkproxyd_test_config";
+
+const CONTROL: &str = "forkproxyd_test_control";
+
+const JOURNAL: &str = "forkproxyd_test_journal";
+
+/// The configuration: one user at one telephone.
+const CONFIGURATION: &[u8] =
+    b"own 127.0.0.1 47420\ninstance 7\ndomain example.com\nlocation bob 1000 sip:bob@127.0.0.1:47422\n";
+
+/// The same with a line that is malformed.
+const MALFORMED: &[u8] = b"own 127.0.0.1 47420\ninstance seven\n";
+
+/// The same of another instance.
+const OTHER: &[u8] =
+    b"own 127.0.0.1 47420\ninstance 8\ndomain example.com\nlocation bob 1000 sip:bob@127.0.0.1:47422\n";
+
+/// It is full with two calls.
+const OPTIONS: Options<'static> = Options {
+    config: CONFIG,
+    control: CONTROL,
+    journal: Some(JOURNAL),
+    most_calls: 2,
+    workers: 2,
+    records: true,
+};
+
+/// How often the proxy is asked whether something has come about, a tenth of a second apart.
+const LOOKS: u32 = 400;
+
+/// What is answered to a line at the control socket.
+fn told<R: Net>(rt: &R, alloc: Global, line: &str) -> Option<Vec<u8>> {
+    let mut answer = Vec::new(alloc);
+    match tell(rt, CONTROL, line.as_bytes(), &mut answer) {
+        Ok(()) => Some(answer),
+        Err(_) => None,
+    }
+}
+
+/// Whether this is answered to a line.
+fn tells<R: Net>(rt: &R, alloc: Global, line: &str, expected: &str) -> bool {
+    match told(rt, alloc, line) {
+        Some(answer) => answer.as_slice() == expected.as_bytes(),
+        None => false,
+    }
+}
+
+/// Whether a line stands in a text.
+fn has_line(text: &[u8], line: &str) -> bool {
+    text.windows(line.len()).any(|part| part == line.as_bytes())
+}
+
+/// Whether the counters come to have this line.
+fn counts<R: Net + Clock>(rt: &R, alloc: Global, line: &str) -> bool {
+    for _ in 0..LOOKS {
+        if let Some(text) = told(rt, alloc, "stats") {
+            if has_line(text.as_slice(), line) {
+                return true;
+            }
+        }
+        thread::sleep(rt, Duration::from_millis(100));
+    }
+    false
+}
+
+/// Whether this is answered to a reload of this text.
+fn reloads<R: Net + Files>(rt: &R, alloc: Global, text: &[u8], expected: &str) -> bool {
+    fs::write(rt, CONFIG, text).is_ok() && tells(rt, alloc, "reload", expected)
+}
+
+/// Whether what is wanted of a configuration that is read anew comes about.
+fn takes_configurations<R: Net + Files>(rt: &R, alloc: Global) -> bool {
+    reloads(
+        rt,
+        alloc,
+        MALFORMED,
+        "refused: configuration, line 2: malformed\n",
+    ) && reloads(
+        rt,
+        alloc,
+        OTHER,
+        "refused: address and instance may not change\n",
+    ) && reloads(rt, alloc, CONFIGURATION, "taken\n")
+}
+
+/// Plays until the proxy is full, waits until it has forgotten a call, and says what did not hold.
+fn filled<R: Net + Files + Clock>(rt: &R, alloc: Global, agents: &Agents) -> &'static str {
+    agents.asks("INVITE", "three", "");
+    if !agents.hears("SIP/2.0 503", "three") {
+        return "a full proxy answers 503";
+    }
+    if !takes_configurations(rt, alloc) {
+        return "a configuration is read anew";
+    }
+    if !counts(rt, alloc, "forkproxy_calls_forgotten_total 1\n") {
+        return "a call that is over is forgotten";
+    }
+    if !agents.passes("OPTIONS", "one", "SIP/2.0 200 OK\r\n") {
+        return "the request of a forgotten call opens another";
+    }
+    "nothing"
+}
+
+/// Asks for the end while a call rings, and says what did not hold.
+fn stopped<R: Net>(rt: &R, agents: &Agents, ringing: &[u8]) -> io::Result<&'static str> {
+    let mut stream = UnixStream::connect(rt, CONTROL)?;
+    stream.write_all(b"stop 20\n")?;
+    let mut answer = [0u8; 9];
+    stream.read_exact(&mut answer)?;
+    agents.asks("INVITE", "four", "");
+    if !agents.hears("SIP/2.0 503", "four") {
+        return Ok("a proxy that ends answers 503");
+    }
+    if !agents.answers(ringing, "SIP/2.0 486 Busy Here\r\n")
+        || !agents.hears("SIP/2.0 486", "two")
+    {
+        return Ok("the call that rings gets its answer");
+    }
+    let mut more = [0u8; 1];
+    match stream.read(&mut more)? {
+        0 => Ok("nothing"),
+        _ => Ok("the connection closes at the end"),
+    }
+}
+
+/// Plays all, and says what did not hold.
+fn played<R: Net + Files + Clock>(rt: &R, alloc: Global, agents: &Agents) -> &'static str {
+    if !counts(rt, alloc, "forkproxy_calls 0\n") {
+        return "the proxy answers at its control socket";
+    }
+    if !agents.passes("OPTIONS", "one", "SIP/2.0 200 OK\r\n") {
+        return "an OPTIONS gets its 200";
+    }
+    let Some(ringing) = agents.rings("two") else {
+        return "an INVITE rings";
+    };
+    let missed = filled(rt, alloc, agents);
+    if missed != "nothing" {
+        return missed;
+    }
+    match stopped(rt, agents, ringing.as_slice()) {
+        Ok(missed) => missed,
+        Err(_) => "the control socket answers",
+    }
+}
+
+/// Plays all, and says what did not hold; then the proxy is told to end at once, where it has not ended.
+fn plays<R: Net + Files + Clock>(rt: &R, alloc: Global) -> &'static str {
+    let missed = match Agents::new(rt, alloc) {
+        Some(agents) => played(rt, alloc, &agents),
+        None => "there are two agents",
+    };
+    let _ = told(rt, alloc, "stop 0");
+    missed
+}
+
+/// Whether the journal tells of the call that was answered, and of the one that failed.
+fn has_journal<R: Files>(rt: &R, alloc: Global) -> bool {
+    match fs::read(&(rt, alloc), JOURNAL) {
+        Ok(text) => {
+            has_line(text.as_slice(), " call-id one answered\n")
+                && has_line(text.as_slice(), " call-id two failed 486\nfork 3 1\n")
+        }
+        Err(_) => false,
+    }
+}
+
+#[test]
+fn a_proxy_serves_until_it_is_stopped(rt: HostRuntime) -> Result<(), Fail> {
+    let alloc = rt.alloc();
+    let written = fs::write(&rt, CONFIG, CONFIGURATION).is_ok();
+    holds(&rt, written, "the configuration is written");
+    let (served, missed) = join(&rt, || serve(&rt, alloc, OPTIONS), || plays(&rt, alloc));
+    let ended: Result<(), DaemonFault> = served;
+    holds(&rt, missed == "nothing", missed);
+    holds(&rt, ended.is_ok(), "the proxy ends in good order");
+    holds(
+        &rt,
+        has_journal(&rt, alloc),
+        "the calls are in the journal, with the listing of the one that failed",
+    );
+    for path in [CONFIG, JOURNAL] {
+        let _ = fs::remove_file(&rt, path);
+    }
+    Ok(())
+}

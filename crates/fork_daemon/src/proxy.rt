@@ -1,0 +1,332 @@
+//! What the threads of a proxy share, and what they do with one call.
+ghost use Rattle.std.specs.Prelude.{◌≡◌};
+
+use crate::journal::append_block;
+use call_table::Shelf;
+use daemon_parts::{Counts, Identity, Options, ProxyFiles, Socket};
+use fork_call::{Call, Port, Setup, carry};
+use fork_clock::{Epoch, Schedule};
+use sip_uri::Hop;
+use std::alloc::{AllocError, Global};
+use std::sync::atomic::{AtomicU64, Ordering};
+use std::sync::{Mutex, RwLock, Wait};
+use std::time::{Clock, SystemTime};
+
+/// Where a proxy stands.
+#[derive(Clone, Copy, PartialEq, Eq)]
+pub(crate) enum State {
+    /// It opens calls.
+    Serving,
+    /// It opens no more, and ends once none is open, or its time is over.
+    Draining,
+    Ended,
+}
+
+impl State {
+    fn code(self) -> u64 {
+        match self {
+            State::Serving => 0,
+            State::Draining => 1,
+            State::Ended => 2,
+        }
+    }
+}
+
+/// What is to be done with a call next.
+#[derive(Clone, Copy)]
+enum Next {
+    At(u64),
+    Nothing,
+    /// It is over: whether it was answered with a 2xx.
+    Over(bool),
+}
+
+/// The files of a proxy.
+#[derive(Drop)]
+pub(crate) struct Paths {
+    pub(crate) config: String,
+    pub(crate) control: String,
+    journal: Option<String>,
+}
+
+/// What a proxy keeps to as long as it runs.
+#[derive(Clone, Copy)]
+pub(crate) struct Limits {
+    pub(crate) identity: Identity,
+    most_calls: u64,
+    pub(crate) records: bool,
+    /// When it began, in seconds since 1970.
+    began: u64,
+}
+
+/// What the threads of a proxy share.
+#[derive(Drop)]
+pub(crate) struct Proxy {
+    pub(crate) alloc: Global,
+    pub(crate) setup: RwLock<Setup<Global>>,
+    pub(crate) socket: Socket,
+    pub(crate) calls: Shelf<Call<Global>, Global>,
+    pub(crate) schedule: Schedule<Global>,
+    pub(crate) epoch: Epoch,
+    pub(crate) counts: Counts,
+    pub(crate) paths: Paths,
+    pub(crate) limits: Limits,
+    state: AtomicU64,
+    /// When a proxy that drains ends at the latest, in milliseconds.
+    until: AtomicU64,
+    /// How many calls are kept, and places for calls that datagrams may open that are being handled.
+    places: AtomicU64,
+    /// Blocks are written to the journal under this lock, one after another.
+    journal: Mutex<u64>,
+}
+
+/// Carries a call, and answers what is to be done next. Of one that is over the block for the journal is appended, or nothing for
+/// want of memory.
+fn carried<P: Port>(
+    call: &mut Call<Global>,
+    port: &mut P,
+    now: u64,
+    time: u64,
+    block: &mut Vec<u8>,
+) -> Next
+    ensures { call.new.opened.number ≡ call.old.opened.number }
+{
+    match carry(call, port, now) {
+        Ok(carried) if !carried.more => match call.due() {
+            Some(due) => Next::At(due),
+            None if call.over() => {
+                let _ = append_block(call, time, block);
+                Next::Over(call.book().context().succeeded())
+            }
+            None => Next::Nothing,
+        },
+        Ok(_) => Next::At(now),
+        Err(AllocError) => Next::At(now.saturating_add(1)),
+    }
+}
+
+/// Appends the block of a call for the journal, or nothing for want of memory.
+fn written_at(call: &mut Call<Global>, time: u64, block: &mut Vec<u8>)
+    ensures { call.new.opened.number ≡ call.old.opened.number }
+{
+    let _ = append_block(call, time, block);
+}
+
+/// Whether a call is open: a branch has not ended, or something is owed.
+fn is_open(call: &mut Call<Global>) -> bool
+    ensures { call.new.opened.number ≡ call.old.opened.number }
+{
+    !call.book().context().finished() || call.due() == Some(0)
+}
+
+/// Seconds since 1970; 0 where the clock cannot be read.
+fn seconds<R: Clock>(rt: &R) -> u64 {
+    match SystemTime::UNIX_EPOCH.elapsed(rt) {
+        Ok(passed) => passed.as_secs(),
+        Err(_) => 0,
+    }
+}
+
+/// A path of its own, if there is one.
+fn owned(alloc: Global, path: Option<&str>) -> Result<Option<String>, AllocError> {
+    match path {
+        Some(path) => Ok(Some(String::from_str(alloc, path)?)),
+        None => Ok(None),
+    }
+}
+
+impl Proxy {
+    /// A proxy without a call.
+    ///
+    /// # Errors
+    ///
+    /// Only where the allocator refuses.
+    pub(crate) fn new<R: Clock>(
+        rt: &R,
+        alloc: Global,
+        options: Options<'_>,
+        setup: Setup<Global>,
+        socket: Socket,
+        epoch: Epoch,
+    ) -> Result<Proxy, AllocError> {
+        let calls = Shelf::new(alloc)?;
+        let schedule = Schedule::new(alloc)?;
+        let paths = Paths {
+            config: String::from_str(alloc, options.config)?,
+            control: String::from_str(alloc, options.control)?,
+            journal: owned(alloc, options.journal)?,
+        };
+        let limits = Limits {
+            identity: Identity::of(&setup),
+            most_calls: options.most_calls,
+            records: options.records,
+            began: seconds(rt),
+        };
+        Ok(Proxy {
+            alloc,
+            setup: RwLock::new(setup),
+            socket,
+            calls,
+            schedule,
+            epoch,
+            counts: Counts::new(),
+            paths,
+            limits,
+            state: AtomicU64::new(0),
+            until: AtomicU64::new(0),
+            places: AtomicU64::new(0),
+            journal: Mutex::new(0),
+        })
+    }
+
+    /// The address that it receives at.
+    pub(crate) fn own(&self) -> Hop {
+        let own = self.limits.identity.own;
+        let addr = own.addr;
+        Hop {
+            addr,
+            port: own.port,
+        }
+    }
+
+    pub(crate) fn is_in(&self, state: State) -> bool {
+        self.state.load(Ordering::SeqCst) == state.code()
+    }
+
+    /// When it ends at the latest, where it drains.
+    pub(crate) fn until(&self) -> u64 {
+        self.until.load(Ordering::SeqCst)
+    }
+
+    /// Begins the end: no more calls are opened, and those that are open go on until this moment, in milliseconds.
+    pub(crate) fn drain(&self, until: u64) {
+        self.until.store(until, Ordering::SeqCst);
+        let _ = self.state.compare_exchange(
+            State::Serving.code(),
+            State::Draining.code(),
+            Ordering::SeqCst,
+            Ordering::SeqCst,
+        );
+        self.schedule.wake();
+    }
+
+    /// Ends: who receives wakes by a datagram from the proxy to itself, or else within a second.
+    pub(crate) fn end(&self) {
+        self.state.store(State::Ended.code(), Ordering::SeqCst);
+        self.socket.wake(self.own());
+        self.schedule.wake();
+    }
+
+    /// Keeps a place for a call that a datagram may open, and says whether there is one. While it drains there is none.
+    pub(crate) fn keep_place(&self) -> bool {
+        if !self.is_in(State::Serving) {
+            return false;
+        }
+        if self.places.fetch_add(1, Ordering::SeqCst) < self.limits.most_calls {
+            return true;
+        }
+        self.give_place_back();
+        false
+    }
+
+    /// Counts a call that has no place.
+    pub(crate) fn take_place(&self) {
+        self.places.fetch_add(1, Ordering::SeqCst);
+    }
+
+    /// Gives a place back.
+    pub(crate) fn give_place_back(&self) {
+        self.places.fetch_sub(1, Ordering::SeqCst);
+    }
+
+    /// Whether a call is open. `oldest` is a number that no call is below, and is raised to the least that a call has.
+    pub(crate) fn has_open<R: Wait>(&self, rt: &R, oldest: &mut u64) -> bool {
+        let mut is_first = true;
+        for number in *oldest..self.calls.count(rt) {
+            match self.calls.with(rt, number, is_open) {
+                Some(true) => return true,
+                Some(false) => is_first = false,
+                None if is_first => *oldest = number.saturating_add(1),
+                None => {}
+            }
+        }
+        false
+    }
+
+    /// Writes a block to the journal, if there is one. An empty block is one for which there was no memory.
+    fn write_down<R: Wait + ProxyFiles>(&self, rt: &R, block: &[u8]) {
+        let Some(path) = &self.paths.journal else {
+            return;
+        };
+        if block.is_empty() {
+            return self.counts.calls.unwritten.add(1);
+        }
+        let mut written = self.journal.lock(rt);
+        match rt.append_to_file(path.as_str(), block) {
+            Ok(()) => {
+                *written = written.saturating_add(1);
+                self.counts.calls.journaled.add(1)
+            }
+            Err(_) => self.counts.calls.unwritten.add(1),
+        }
+    }
+
+    /// The time, in seconds since 1970, at this moment, in milliseconds since the proxy began.
+    fn time_at(&self, now: u64) -> u64 {
+        self.limits.began.saturating_add(now / 1_000)
+    }
+
+    /// Writes down the call of this number, if it is still there, as the proxy ends.
+    fn write_left<R: Wait + ProxyFiles>(&self, rt: &R, number: u64, time: u64) {
+        let mut block = Vec::new(self.alloc);
+        let listed = self
+            .calls
+            .with(rt, number, |call| written_at(call, time, &mut block));
+        if listed.is_some() {
+            self.write_down(rt, block.as_slice());
+        }
+    }
+
+    /// Writes down the calls that are left as the proxy ends, at this moment, in milliseconds.
+    pub(crate) fn write_all_left<R: Wait + ProxyFiles>(&self, rt: &R, now: u64) {
+        let time = self.time_at(now);
+        for number in 0..self.calls.count(rt) {
+            self.write_left(rt, number, time);
+        }
+    }
+
+    /// Forgets a call that is over, counts how it ended, and writes it down. Who comes second to it does nothing.
+    fn forget<R: Wait + ProxyFiles>(&self, rt: &R, number: u64, is_answered: bool, block: &[u8]) {
+        if !self.calls.remove(rt, number) {
+            return;
+        }
+        self.give_place_back();
+        self.counts.calls.forgotten.add(1);
+        if is_answered {
+            self.counts.calls.answered.add(1);
+        } else {
+            self.counts.calls.failed.add(1);
+        }
+        self.write_down(rt, block);
+    }
+
+    /// Carries the call of this number at this moment, in milliseconds; one that is over is written down and forgotten.
+    pub(crate) fn carry<R: Wait + ProxyFiles, P: Port>(
+        &self,
+        rt: &R,
+        port: &mut P,
+        number: u64,
+        now: u64,
+    ) {
+        let mut block = Vec::new(self.alloc);
+        let time = self.time_at(now);
+        let next = self.calls.with(rt, number, |call| {
+            carried(call, port, now, time, &mut block)
+        });
+        match next {
+            Some(Next::At(due)) => self.schedule.add(rt, number, due),
+            Some(Next::Over(is_answered)) => self.forget(rt, number, is_answered, block.as_slice()),
+            Some(Next::Nothing) | None => {}
+        }
+    }
+}

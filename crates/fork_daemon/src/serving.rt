@@ -1,0 +1,372 @@
+//! A proxy serves until it is told to stop.
+ghost use denote.Param.Send.{IsSync};
+ghost use Rattle.fork_daemon.specs.contracts.serving.Server.{the_row as server_row};
+ghost use Rattle.std.specs.Prelude.{◌↔◌, ◌<◌, length, IfErr, OnOk, IsErrOf};
+ghost use Rattle.daemon_parts.specs.declared.fault.DaemonFault.TheVariants as faults;
+ghost use Rattle.daemon_parts.specs.Faults.{most_text, IsConfigurationFault, IsControlFault, IsSocketFault};
+ghost use Rattle.fork_daemon.specs.Faults.{IsServeFault, IsServeFaultOf, IsSystemFault, Spells};
+
+use crate::control::Control;
+use crate::job::Job;
+use crate::proxy::Proxy;
+use call_table::Inbox;
+use daemon_parts::{
+    DaemonFault, Options, ProxyFiles, Socket, configuration_fault, control_fault, read_setup,
+    read_text,
+};
+use fork_call::Setup;
+use fork_clock::{Epoch, Watch};
+use fork_control::listen;
+use libc::net;
+use sip_uri::Hop;
+use std::alloc::{AllocError, Global};
+use std::io::Print;
+use std::net::Net;
+use std::os::fd::AsRawFd;
+use std::os::unix::net::UnixListener;
+use std::sync::Wait;
+use std::thread;
+use std::thread::Threads;
+use std::time::Clock;
+use worker_jobs::{JobReceiver, JobSender, Waker};
+
+/// How many bytes of a datagram are received.
+const MOST_BYTES: usize = 65_535;
+
+/// What the threads of a proxy do.
+trait Crew {
+    /// Does the jobs that a worker is given, until the end job.
+    fn do_jobs<R: Wait + ProxyFiles + Clock>(&self, rt: &R, jobs: JobReceiver<'_, Job>);
+
+    /// Does what is due, when it is, until the end.
+    fn keep_time<R: Wait + ProxyFiles + Clock>(&self, rt: &R);
+
+    /// Answers at the control socket until it is closed.
+    fn answer<R: Wait + ProxyFiles + Clock>(&self, rt: &R);
+
+    /// Receives until the end.
+    fn receive<R: Wait>(
+        &self,
+        rt: &R,
+        senders: &mut [JobSender<'_, Job>],
+        buffer: &mut [u8],
+    ) -> Result<(), DaemonFault>
+        ensures { IfErr result IsSystemFault };
+
+    /// Ends: the threads that work return.
+    fn end(&self);
+
+    /// Writes down what is left, once no thread works any more, and tells so.
+    fn leave<R: Wait + ProxyFiles + Clock + Print>(&self, rt: &R);
+
+    /// Closes the control socket. Whoever waits there for the end knows then that it has come.
+    fn close(&self);
+}
+
+/// A proxy and its control socket.
+#[derive(Drop)]
+struct Server {
+    proxy: Proxy,
+    listener: UnixListener,
+}
+
+impl Crew for Server {
+    fn do_jobs<R: Wait + ProxyFiles + Clock>(&self, rt: &R, jobs: JobReceiver<'_, Job>) {
+        self.proxy.work(rt, jobs);
+    }
+
+    fn keep_time<R: Wait + ProxyFiles + Clock>(&self, rt: &R) {
+        self.proxy.keep_time(rt);
+    }
+
+    fn answer<R: Wait + ProxyFiles + Clock>(&self, rt: &R) {
+        let control = Control {
+            rt,
+            proxy: &self.proxy,
+        };
+        listen(self.proxy.alloc, &control, &self.listener);
+    }
+
+    fn receive<R: Wait>(
+        &self,
+        rt: &R,
+        senders: &mut [JobSender<'_, Job>],
+        buffer: &mut [u8],
+    ) -> Result<(), DaemonFault> {
+        self.proxy.receive(rt, senders, buffer)
+    }
+
+    fn end(&self) {
+        self.proxy.end();
+    }
+
+    fn leave<R: Wait + ProxyFiles + Clock + Print>(&self, rt: &R) {
+        let proxy = &self.proxy;
+        let mut watch = Watch::new(proxy.epoch);
+        proxy.write_all_left(rt, watch.micros(rt) / 1_000);
+        rt.take_file_away(proxy.paths.control.as_str());
+        let opened = proxy.calls.count(rt);
+        let left = proxy.calls.held(rt);
+        let _ = rt.println(format_args!("ended, {opened} calls, {left} left"));
+    }
+
+    fn close(&self) {
+        let _ = net::shutdown(self.listener.as_raw_fd(), net::SHUT_RDWR);
+    }
+}
+
+/// The ways to the workers, and their ends.
+#[derive(Drop)]
+struct Ways<'a> {
+    senders: Vec<JobSender<'a, Job>>,
+    receivers: Vec<JobReceiver<'a, Job>>,
+}
+
+/// The ways to the workers, one for each waker.
+fn ways_of<'a>(alloc: Global, wakers: &'a [Waker]) -> Result<Ways<'a>, AllocError> {
+    let mut senders = Vec::new(alloc);
+    let mut receivers = Vec::new(alloc);
+    for waker in wakers {
+        let (giving, receiving) = Inbox::new(alloc)?;
+        if senders.push(JobSender::new(giving, waker)).is_err()
+            || receivers.push(JobReceiver::new(receiving, waker)).is_err()
+        {
+            return Err(AllocError);
+        }
+    }
+    Ok(Ways { senders, receivers })
+}
+
+/// Ends all workers.
+fn finish_all<R: Wait>(rt: &R, senders: &mut [JobSender<'_, Job>]) {
+    for i in 0..senders.len() {
+        senders[i].finish(rt, Job::Finish);
+    }
+}
+
+/// Starts the threads that work, receives until the end, and joins them.
+fn work_all<C: Crew + Sync, R: Threads + Wait + ProxyFiles + Clock + Sync>(
+    rt: &R,
+    crew: &C,
+    ways: Ways<'_>,
+    buffer: &mut [u8],
+) -> Result<(), DaemonFault>
+    ensures { IfErr result IsSystemFault }
+{
+    let Ways {
+        mut senders,
+        receivers,
+    } = ways;
+    thread::scope(
+        thread::scope_env(),
+        rt,
+        |scope| -> Result<(), DaemonFault>
+            ensures { IfErr result IsSystemFault }
+        {
+            let mut are_running = true;
+            for jobs in receivers {
+                if scope.spawn(move || crew.do_jobs(rt, jobs)).is_err() {
+                    are_running = false;
+                }
+            }
+            let keeps = scope.spawn(move || crew.keep_time(rt)).is_ok();
+            let ran = if are_running && keeps {
+                crew.receive(rt, senders.as_mut_slice(), buffer)
+            } else {
+                Err(DaemonFault::NoMemory)
+            };
+            crew.end();
+            finish_all(rt, senders.as_mut_slice());
+            ran
+        },
+    )
+}
+
+/// Answers at the control socket while the proxy works, and ends in good order: who waits for the end at the control socket hears of it
+/// last.
+fn run<C: Crew + Sync, R: Threads + Wait + ProxyFiles + Clock + Print + Sync>(
+    rt: &R,
+    crew: &C,
+    ways: Ways<'_>,
+    buffer: &mut [u8],
+) -> Result<(), DaemonFault>
+    ensures { IfErr result IsSystemFault }
+{
+    thread::scope(
+        thread::scope_env(),
+        rt,
+        |scope| -> Result<(), DaemonFault>
+            ensures { IfErr result IsSystemFault }
+        {
+            let listens = scope.spawn(move || crew.answer(rt)).is_ok();
+            let ran = if listens {
+                work_all(rt, crew, ways, buffer)
+            } else {
+                Err(DaemonFault::NoMemory)
+            };
+            crew.end();
+            crew.leave(rt);
+            crew.close();
+            ran
+        },
+    )
+}
+
+/// Shows that threads may share this value.
+fn is_shared<T: Sync>(_: &T)
+    ensures { IsSync T.row }
+{}
+
+/// Shows that threads may share a server.
+fn server_is_shared(server: &Server)
+    ensures { IsSync server_row }
+{
+    is_shared(server);
+}
+
+/// Listens at the control socket's file. The address is bound by now, so a socket that was left there is no other proxy's.
+fn open_control<R: ProxyFiles>(rt: &R, path: &str) -> Result<UnixListener, DaemonFault>
+    ensures { IfErr result IsControlFault }
+{
+    match rt.listen_at(path) {
+        Ok(listener) => Ok(listener),
+        Err(error) => Err(control_fault(error)),
+    }
+}
+
+/// Binds the address of a setup.
+fn bound<R: Net>(rt: &R, setup: &Setup<Global>) -> Result<Socket, DaemonFault>
+    ensures { IfErr result IsSocketFault }
+{
+    let own = setup.own();
+    let addr = own.addr;
+    let hop = Hop {
+        addr,
+        port: own.port,
+    };
+    Socket::bind(rt, hop)
+}
+
+/// Binds the address of a setup and the control socket, and makes a proxy without a call.
+#[tactic(auto, using(crate::proofs::Faults::socket_is_system, crate::proofs::Faults::control_is_system))]
+fn server_of<R: Net + Clock + ProxyFiles>(
+    rt: &R,
+    alloc: Global,
+    setup: Setup<Global>,
+    options: Options<'_>,
+) -> Result<Server, DaemonFault>
+    ensures { IfErr result IsSystemFault }
+{
+    let socket = bound(rt, &setup)?;
+    let Some(epoch) = Epoch::now(rt) else {
+        return Err(DaemonFault::Clock);
+    };
+    let proxy = Proxy::new(rt, alloc, options, setup, socket, epoch)?;
+    let listener = open_control(rt, options.control)?;
+    Ok(Server { proxy, listener })
+}
+
+/// The wakers of so many workers.
+fn wakers_of(alloc: Global, workers: usize) -> Result<Vec<Waker>, AllocError> {
+    let mut wakers = Vec::new(alloc);
+    for _ in 0..workers {
+        if wakers.push(Waker::new()).is_err() {
+            return Err(AllocError);
+        }
+    }
+    Ok(wakers)
+}
+
+/// Tells where a proxy listens.
+fn print_listening<P: Print>(out: &P, own: Hop) {
+    let [a, b, c, d] = own.addr;
+    let port = own.port;
+    let _ = out.println(format_args!("listening {a}.{b}.{c}.{d} {port}"));
+}
+
+/// Makes the ways to the workers, tells where the proxy listens, and lets it run until the end.
+fn run_workers<R: Threads + Wait + ProxyFiles + Clock + Print + Sync>(
+    rt: &R,
+    alloc: Global,
+    server: &Server,
+    workers: usize,
+) -> Result<(), DaemonFault>
+    ensures { IfErr result IsSystemFault }
+{
+    let wakers = wakers_of(alloc, workers.max(1))?;
+    let ways = ways_of(alloc, wakers.as_slice())?;
+    let mut buffer = vec![in alloc; 0u8; MOST_BYTES]?;
+    server_is_shared(server);
+    print_listening(rt, server.proxy.own());
+    run(rt, server, ways, buffer.as_mut_slice())
+}
+
+/// Reads a configuration's file, and answers whether a proxy would serve by it.
+///
+/// # Errors
+///
+/// `Unreadable` where the system refuses; `TooLong` over 1,048,576 bytes; `Line` with the first malformed line; `NoMemory`.
+pub fn check_config<R: ProxyFiles>(rt: &R, alloc: Global, config: &str) -> Result<(), DaemonFault>
+    ensures { IfErr result IsConfigurationFault }
+{
+    let setup = read_setup(rt, alloc, config)?;
+    drop(setup);
+    Ok(())
+}
+
+/// Serves as a setup says.
+fn serve_setup<R: Threads + Wait + Net + ProxyFiles + Clock + Print + Sync>(
+    rt: &R,
+    alloc: Global,
+    setup: Setup<Global>,
+    options: Options<'_>,
+) -> Result<(), DaemonFault>
+    ensures { IfErr result IsSystemFault }
+{
+    let server = server_of(rt, alloc, setup, options)?;
+    run_workers(rt, alloc, &server, options.workers)
+}
+
+/// Serves as [`serve`] does, by this text of a configuration; `reload` reads the configuration's file.
+///
+/// # Errors
+///
+/// Those of [`serve`] but for `Unreadable`.
+#[tactic(auto, using(crate::proofs::Faults::read_is_serve, crate::proofs::Faults::system_is_serve))]
+pub fn serve_text<R: Threads + Wait + Net + ProxyFiles + Clock + Print + Sync>(
+    rt: &R,
+    alloc: Global,
+    text: &[u8],
+    options: Options<'_>,
+) -> Result<(), DaemonFault>
+    ensures served { OnOk result (Spells text.now) }
+    ensures too_long { IsErrOf result faults.TooLong ↔ (most_text < length text.now) }
+    ensures fault { IfErr result (IsServeFaultOf text.now) }
+{
+    let setup = read_text(alloc, text)?;
+    serve_setup(rt, alloc, setup, options)
+}
+
+/// Serves until it is told to stop, at the control socket. It tells where it listens, and at the end how many calls it had and how
+/// many were left. What its threads do is proved call by call (`proxy_dispatch::handle`, `fork_call::carry`); no clause says what they
+/// do together.
+///
+/// # Errors
+///
+/// The configuration's faults as [`check_config`] finds them; `Socket` where the address cannot be bound or a receive failed; `Clock`
+/// where the clock cannot be read; `Control` where the control socket cannot be made; `NoMemory` where the allocator refuses or a
+/// thread could not be made.
+#[tactic(auto, using(crate::proofs::Faults::configuration_is_serve, crate::proofs::Faults::text_is_serve))]
+pub fn serve<R: Threads + Wait + Net + ProxyFiles + Clock + Print + Sync>(
+    rt: &R,
+    alloc: Global,
+    options: Options<'_>,
+) -> Result<(), DaemonFault>
+    ensures { IfErr result IsServeFault }
+{
+    let text = match rt.read_file(alloc, options.config) {
+        Ok(text) => text,
+        Err(error) => return Err(configuration_fault(error)),
+    };
+    serve_text(rt, alloc, text.as_slice(), options)
+}

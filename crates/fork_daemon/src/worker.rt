@@ -1,0 +1,158 @@
+//! What a worker does with the datagrams of its calls.
+use crate::job::Job;
+use crate::port::SocketPort;
+use crate::proxy::Proxy;
+use crate::turning::turn_away;
+use daemon_parts::ProxyFiles;
+use fork_call::Port;
+use fork_clock::Watch;
+use proxy_dispatch::{Handled, Memory, Received, handle};
+use sip_service::record_text;
+use std::alloc::AllocError;
+use std::sync::Wait;
+use std::time::Clock;
+use worker_jobs::JobReceiver;
+
+impl Proxy {
+    /// The text of a datagram with a Record-Route line, where it opens a dialog on whose path the proxy stays.
+    fn recorded(&self, bytes: &[u8]) -> Result<Option<Vec<u8>>, AllocError> {
+        if self.limits.records {
+            record_text(self.alloc, bytes, self.limits.identity.own)
+        } else {
+            Ok(None)
+        }
+    }
+
+    /// Handles a datagram as the configuration says that stands now.
+    fn handled<R: Wait, P: Port>(
+        &self,
+        rt: &R,
+        port: &mut P,
+        received: Received<'_>,
+    ) -> Result<Handled, AllocError> {
+        let recorded = self.recorded(received.bytes)?;
+        let bytes = match &recorded {
+            Some(text) => text.as_slice(),
+            None => received.bytes,
+        };
+        let memory = Memory {
+            alloc: self.alloc,
+            heap: self.alloc,
+        };
+        let setup = self.setup.read(rt);
+        handle(
+            rt,
+            memory,
+            &self.calls,
+            &*setup,
+            Received {
+                bytes,
+                source: received.source,
+                now: received.now,
+            },
+            port,
+        )
+    }
+
+    /// Counts what became of a datagram, and carries the call that it opened or that took it. Its place is given back where it
+    /// opened none.
+    fn settle<R: Wait + ProxyFiles, P: Port>(
+        &self,
+        rt: &R,
+        port: &mut P,
+        handled: Handled,
+        has_place: bool,
+        now: u64,
+    ) {
+        let is_opened = matches!(handled, Handled::Opened(_));
+        if has_place && !is_opened {
+            self.give_place_back();
+        }
+        if is_opened && !has_place {
+            self.take_place();
+        }
+        match handled {
+            Handled::Opened(number) => {
+                self.counts.calls.opened.add(1);
+                self.carry(rt, port, number, now);
+            }
+            Handled::Delivered(number) => {
+                self.counts.datagrams.delivered.add(1);
+                self.carry(rt, port, number, now);
+            }
+            Handled::Answered(_) => self.counts.datagrams.answered.add(1),
+            Handled::Forwarded => self.counts.datagrams.forwarded.add(1),
+            Handled::Dropped | Handled::Absorbed => self.counts.datagrams.dropped.add(1),
+        }
+    }
+
+    /// Does what is to be done for a datagram that was received.
+    fn take<R: Wait + ProxyFiles, P: Port>(
+        &self,
+        rt: &R,
+        port: &mut P,
+        received: Received<'_>,
+    ) -> Result<(), AllocError> {
+        let has_place = self.keep_place();
+        if !has_place {
+            let (bytes, source) = (received.bytes, received.source);
+            if turn_away(rt, self.alloc, &self.calls, bytes, source, port)? {
+                self.counts.datagrams.turned_away.add(1);
+                return Ok(());
+            }
+        }
+        match self.handled(rt, port, received) {
+            Ok(handled) => {
+                self.settle(rt, port, handled, has_place, received.now);
+                Ok(())
+            }
+            Err(AllocError) => {
+                if has_place {
+                    self.give_place_back();
+                }
+                Err(AllocError)
+            }
+        }
+    }
+
+    /// Counts the sends that the system refused since so many were counted, and answers how many it has refused.
+    pub(crate) fn count_unsent(&self, counted: u64, failures: u64) -> u64 {
+        self.counts
+            .datagrams
+            .unsent
+            .add(failures.saturating_sub(counted));
+        failures
+    }
+
+    /// Does the jobs that a worker is given, until the end job. A moment is read as a job is begun.
+    pub(crate) fn work<R: Wait + ProxyFiles + Clock>(
+        &self,
+        rt: &R,
+        mut jobs: JobReceiver<'_, Job>,
+    ) {
+        let mut port = SocketPort::new(&self.socket);
+        let mut watch = Watch::new(self.epoch);
+        let mut counted = 0u64;
+        for _ in rt.forever() {
+            match jobs.receive(rt) {
+                Job::Packet { bytes, source } => {
+                    let began = watch.micros(rt);
+                    let received = Received {
+                        bytes: bytes.as_slice(),
+                        source,
+                        now: began / 1_000,
+                    };
+                    let taken = self.take(rt, &mut port, received);
+                    if taken.is_err() {
+                        self.counts.datagrams.no_memory.add(1);
+                    }
+                    let took = watch.micros(rt).saturating_sub(began);
+                    self.counts.latencies.add(took);
+                }
+                Job::Finish => return,
+            }
+            counted = self.count_unsent(counted, port.failures());
+        }
+        unreachable!()
+    }
+}

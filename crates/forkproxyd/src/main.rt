@@ -1,0 +1,223 @@
+//! `forkproxyd`: a proxy that serves until it is told to stop, and the words that tell it to.
+#![tactic(auto)]
+
+use clap::{Arg, ArgAction, ArgMatches, Command, value_parser};
+use daemon_parts::{DaemonFault, Options, ProxyFiles};
+use fork_control::tell;
+use fork_daemon::{check_config, serve};
+use std::alloc::{AllocError, Global};
+use std::io::{Eprint, Print};
+use std::net::Net;
+use std::process::ExitCode;
+use std::sync::Wait;
+use std::thread::Threads;
+use std::time::Clock;
+use std::{env, thread};
+
+/// The exit status where the words ask for nothing.
+const USAGE: u8 = 2;
+
+/// The exit status where the other end of the control socket is not there.
+const NOT_TOLD: u8 = 5;
+
+/// For how many seconds calls may go on where `stop` does not say.
+const SECONDS: &str = "30";
+
+/// How many threads handle datagrams at least, and at most, where the words do not say how many.
+const FEWEST_WORKERS: usize = 2;
+
+const MOST_WORKERS: usize = 64;
+
+/// The command line that tells a proxy that runs.
+fn tell_command<'a>(alloc: Global) -> Result<Command<'a>, AllocError> {
+    let path = Arg::new(alloc, "path")
+        .required(true)
+        .help("the control socket's file");
+    let what = Arg::new(alloc, "what")
+        .required(true)
+        .help("stop, reload or stats");
+    let seconds = Arg::new(alloc, "seconds")
+        .default_value(SECONDS)
+        .help("for how many seconds open calls may go on after stop");
+    Command::new(alloc, "tell")
+        .about(
+            "tells a proxy that runs to stop, to reload its configuration, or to write its counters",
+        )
+        .arg(path)?
+        .arg(what)?
+        .arg(seconds)
+}
+
+/// An argument that names a file.
+fn file_arg<'a>(alloc: Global, name: &'a str, value: &'a str, help: &'a str) -> Arg<'a> {
+    Arg::new(alloc, name)
+        .long(name)
+        .value_name(value)
+        .help(help)
+}
+
+/// The arguments that name files.
+fn with_files<'a>(alloc: Global, command: Command<'a>) -> Result<Command<'a>, AllocError> {
+    command
+        .arg(file_arg(alloc, "config", "FILE", "the configuration"))?
+        .arg(file_arg(alloc, "control", "PATH", "the control socket's file"))?
+        .arg(file_arg(
+            alloc,
+            "journal",
+            "FILE",
+            "the file to which each call is written at its end",
+        ))?
+        .arg(file_arg(
+            alloc,
+            "check-config",
+            "FILE",
+            "reads a configuration, and says whether it is well-formed",
+        ))
+}
+
+/// The arguments that say how a proxy serves.
+fn with_limits<'a>(alloc: Global, command: Command<'a>) -> Result<Command<'a>, AllocError> {
+    let most_calls = Arg::new(alloc, "most-calls")
+        .long("most-calls")
+        .value_name("N")
+        .value_parser(value_parser!(u64))
+        .default_value("1000000")
+        .help("how many calls are kept at most");
+    let workers = Arg::new(alloc, "workers")
+        .long("workers")
+        .value_name("N")
+        .value_parser(value_parser!(u16).range(1..=64))
+        .help(
+            "how many threads handle datagrams: as many as there are processors, and 2 at least, if left out",
+        );
+    let record_route = Arg::new(alloc, "record-route")
+        .long("record-route")
+        .action(ArgAction::SetTrue)
+        .help("stays on the path of dialogs, by a Record-Route line in each INVITE that opens one");
+    command.arg(most_calls)?.arg(workers)?.arg(record_route)
+}
+
+/// The command line.
+fn command_line<'a>(alloc: Global) -> Result<Command<'a>, AllocError> {
+    let command = Command::new(alloc, "forkproxyd")
+        .version("0.3.0")
+        .about("a forking SIP proxy that serves until it is told to stop");
+    let command = with_files(alloc, command)?;
+    let command = with_limits(alloc, command)?;
+    command.subcommand(tell_command(alloc)?)
+}
+
+/// How many threads handle datagrams where the words do not say: as many as there are processors, 2 at least and 64 at most.
+fn workers_here<R: Threads>(handle: &R) -> usize {
+    match thread::available_parallelism(handle) {
+        Ok(processors) => processors.get().clamp(FEWEST_WORKERS, MOST_WORKERS),
+        Err(_) => FEWEST_WORKERS,
+    }
+}
+
+/// How the program ends after a run, whose fault it prints on standard error.
+fn ended(rt: &HostRuntime, ran: Result<(), DaemonFault>) -> u8 {
+    match ran {
+        Ok(()) => 0,
+        Err(fault) => {
+            let _ = rt.eprintln(fault);
+            fault.status()
+        }
+    }
+}
+
+/// Tells a proxy that runs, and prints what it answers.
+fn told(rt: &HostRuntime, matches: &ArgMatches<'_>) -> u8 {
+    let (Some(path), Some(what), Some(seconds)) = (
+        matches.get_str("path"),
+        matches.get_str("what"),
+        matches.get_str("seconds"),
+    ) else {
+        return USAGE;
+    };
+    let mut line = Vec::new(rt.alloc());
+    let mut answer = Vec::new(rt.alloc());
+    let spelled = match what {
+        "stop" => line.extend_from_slice(b"stop "),
+        _ => line.extend_from_slice(what.as_bytes()),
+    };
+    let spelled = match (spelled, what) {
+        (Ok(()), "stop") => line.extend_from_slice(seconds.as_bytes()),
+        (spelled, _) => spelled,
+    };
+    if spelled.is_err() {
+        return DaemonFault::NoMemory.status();
+    }
+    if let Err(error) = tell(rt, path, line.as_slice(), &mut answer) {
+        let _ = rt.eprintln(error);
+        return NOT_TOLD;
+    }
+    let _ = rt.write_all(answer.as_slice());
+    if answer.starts_with(b"refused") || answer.starts_with(b"unknown") {
+        return 1;
+    }
+    0
+}
+
+/// Serves as the words say.
+fn served<R: Threads + Wait + Net + ProxyFiles + Clock + Print + Sync>(
+    handle: &R,
+    rt: &HostRuntime,
+    matches: &ArgMatches<'_>,
+) -> u8 {
+    if let Some(config) = matches.get_str("check-config") {
+        return ended(rt, check_config(rt, rt.alloc(), config));
+    }
+    let (Some(config), Some(control)) = (matches.get_str("config"), matches.get_str("control"))
+    else {
+        let _ = rt.eprintln("--config FILE and --control PATH are needed; --help tells more");
+        return USAGE;
+    };
+    let most_calls = matches.get_one::<u64>("most-calls").unwrap_or(1_000_000);
+    let workers = match matches.get_one::<u16>("workers") {
+        Some(workers) => usize::from(workers),
+        None => workers_here(handle),
+    };
+    let options = Options {
+        config,
+        control,
+        journal: matches.get_str("journal"),
+        most_calls,
+        workers,
+        records: matches.get_flag("record-route"),
+    };
+    ended(rt, serve(handle, rt.alloc(), options))
+}
+
+/// Does what the words ask for; `handle` has the threads and the sockets.
+fn run<R: Threads + Wait + Net + ProxyFiles + Clock + Print + Sync>(
+    handle: &R,
+    rt: &HostRuntime,
+    words: &[String],
+) -> Result<u8, AllocError> {
+    let command = command_line(rt.alloc())?;
+    match command.try_get_matches_from(words) {
+        Ok(matches) => Ok(match matches.subcommand_matches("tell") {
+            Some(matches) => told(rt, matches),
+            None => served(handle, rt, &matches),
+        }),
+        Err(error) => {
+            let _ = error.print(rt);
+            Ok(error.exit_code() as u8)
+        }
+    }
+}
+
+fn main(rt: HostRuntime) -> ExitCode {
+    let Ok(args) = env::args(&rt) else {
+        return ExitCode::from(USAGE);
+    };
+    let words: Result<Vec<String>, AllocError> = args.collect(rt.alloc());
+    let Ok(words) = words else {
+        return ExitCode::from(DaemonFault::NoMemory.status());
+    };
+    match run(&rt, &rt, words.as_slice()) {
+        Ok(status) => ExitCode::from(status),
+        Err(AllocError) => ExitCode::from(DaemonFault::NoMemory.status()),
+    }
+}
