@@ -65,7 +65,9 @@ fn tells<R: Net>(rt: &R, alloc: Global, line: &str, expected: &str) -> bool {
 
 /// Whether a line stands in a text.
 fn has_line(text: &[u8], line: &str) -> bool {
-    text.windows(line.len()).any(|part| part == line.as_bytes())
+    let line = line.as_bytes();
+    let len = line.len();
+    len > 0 && text.windows(len).any(|part| part == line)
 }
 
 /// Whether the counters come to have this line.
