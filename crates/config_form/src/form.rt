@@ -86,3 +86,23 @@ pub fn form_at(text: &[u8], number: usize) -> Form
 {
     form_by_number(text, number)
 }
+
+/// A malformed line of a configuration, counted from 1, and what it should be, on a line of its own.
+#[derive(Clone, Copy, Debug, PartialEq, Eq, Error)]
+#[error("line {number}: malformed\n{form}")]
+pub struct Malformed {
+    pub number: usize,
+    pub form: Form,
+}
+
+impl Malformed {
+    /// The line of this number of a text.
+    pub fn of(text: &[u8], number: usize) -> Malformed
+        ensures { result ≡ record { number = number; form = form_at text.now number } }
+    {
+        Malformed {
+            number,
+            form: form_at(text, number),
+        }
+    }
+}

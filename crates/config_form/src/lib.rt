@@ -5,4 +5,4 @@
 mod form;
 mod line;
 
-pub use form::{Form, form_at};
+pub use form::{Form, Malformed, form_at};

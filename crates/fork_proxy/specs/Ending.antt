@@ -17,7 +17,7 @@ Serves input status = (status ≡ 0) × (text : List ℕ) × IsWhole input text 
 
 -- a fault of a text, as it is told: of a malformed line with what it should be
 abbrev pub told : List ℕ → ServeFault → Failure
-told text (served.Line number) = failure.Malformed number (form_at text number)
+told text (served.Line number) = failure.Malformed (record { number = number; form = form_at text number })
 told text why = failure.Serve why
 
 -- the input could not be read, or its text has a fault, which is told
@@ -29,7 +29,7 @@ IsServeFailure input failed = (text : List ℕ) × (why : ServeFault) × IsWhole
 abbrev pub exit_status : Failure → ℕ
 exit_status (failure.Answer fault) = answer.exit_status fault
 exit_status (failure.Serve fault) = serve.exit_status fault
-exit_status (failure.Malformed number form) = serve.exit_status (served.Line number)
+exit_status (failure.Malformed line) = serve.exit_status (served.Line line.number)
 
 -- the status of a run, or that of what it failed by
 abbrev pub status_of : Result ℕ Failure → ℕ

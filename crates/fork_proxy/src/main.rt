@@ -8,10 +8,7 @@ ghost use Rattle.fork_program.specs.Program.{IsUsageFault};
 ghost use Rattle.fork_drive.specs.Asked.{asked_for, Writes, IsAnswerFault};
 ghost use Rattle.fork_proxy.specs.Ending.{Serves, IsServeFailure, exit_status, status_of, told};
 
-#[cfg(test)]
-mod tests;
-
-use config_form::{Form, form_at};
+use config_form::Malformed;
 use fork_drive::Asked;
 use fork_program::{Fault, ProgFault, read_input};
 use log::Log;
@@ -34,9 +31,9 @@ enum Failure {
     /// The input's text is served no longer, or not at all, and no line of it is malformed.
     #[error(transparent)]
     Serve(ServeFault),
-    /// The first malformed line of the input's text, counted from 1, and what it should be, on a line of its own.
-    #[error("{}\n{}", ServeFault::Line(*.0), .1)]
-    Malformed(usize, Form),
+    /// The first malformed line of the input's text, and what it should be.
+    #[error(transparent)]
+    Malformed(Malformed),
 }
 
 impl Failure {
@@ -47,7 +44,7 @@ impl Failure {
         match self {
             Failure::Answer(fault) => fault.status(),
             Failure::Serve(fault) => fault.status(),
-            Failure::Malformed(number, _) => ServeFault::Line(number).status(),
+            Failure::Malformed(line) => ServeFault::Line(line.number).status(),
         }
     }
 }
@@ -102,7 +99,7 @@ fn told(text: &[u8], fault: ServeFault) -> Failure
     ensures { result ≡ told text.now fault }
 {
     match fault {
-        ServeFault::Line(number) => Failure::Malformed(number, form_at(text, number)),
+        ServeFault::Line(number) => Failure::Malformed(Malformed::of(text, number)),
         ServeFault::TooLong | ServeFault::NoMemory | ServeFault::Socket => Failure::Serve(fault),
     }
 }

@@ -1,6 +1,6 @@
 //! What a malformed line of a configuration should be.
 use crate::holds::holds;
-use config_form::{Form, form_at};
+use config_form::{Form, Malformed, form_at};
 use std::alloc::{AllocError, Global};
 
 /// Lines that are malformed, but for the first, and the last of which no line feed ends.
@@ -87,5 +87,38 @@ fn has_words(alloc: Global, form: Form, words: &str) -> bool {
 fn each_form_has_words(rt: HostRuntime) {
     for (form, words) in WORDS {
         holds(&rt, has_words(rt.alloc(), form, words), words);
+    }
+}
+
+/// Configurations with a malformed line, its number, and what is said of it.
+const MALFORMED: [(&[u8], usize, &str); 2] = [
+    (
+        b"own 0.0.0.0 5060\n",
+        1,
+        "line 1: malformed\nthe first line, and no other, is exactly `own ADDRESS PORT`: an IPv4 address, not 0.0.0.0, and a port from 1 to 65535, without leading zeros; no carriage return stands behind them",
+    ),
+    (
+        b"own 127.0.0.1 47315\ninstance 7\n",
+        3,
+        "line 3: malformed\nthe text ends before this line or within it: each line is ended by a line feed, and own, instance and domain have to be there",
+    ),
+];
+
+fn words_of_line(alloc: Global, line: Malformed) -> Result<String, AllocError> {
+    format!(in alloc; "{line}")
+}
+
+/// Whether a malformed line is told in these words.
+fn is_told(alloc: Global, text: &[u8], number: usize, words: &str) -> bool {
+    match words_of_line(alloc, Malformed::of(text, number)) {
+        Ok(said) => said.as_str() == words,
+        Err(_) => false,
+    }
+}
+
+#[test]
+fn a_malformed_line_is_told_with_its_form(rt: HostRuntime) {
+    for (text, number, words) in MALFORMED {
+        holds(&rt, is_told(rt.alloc(), text, number, words), words);
     }
 }
