@@ -4,6 +4,8 @@
 #[cfg(test)]
 mod by_call;
 #[cfg(test)]
+mod capable;
+#[cfg(test)]
 mod clock;
 #[cfg(test)]
 mod commands;
@@ -29,5 +31,7 @@ mod parts;
 mod recording;
 #[cfg(test)]
 mod schedule;
+#[cfg(test)]
+mod stamping;
 #[cfg(test)]
 mod turning;

@@ -1,4 +1,7 @@
+mod Added
 mod Common
+mod Extended
 mod Recorded
 mod Texts
+mod Timed
 mod Turned

@@ -1,15 +1,12 @@
--- The answer of a proxy that opens no more calls (RFC 3261 sections 8.2.6, 18.2.2, 20.33 and 21.5.4).
-use Rattle.std.specs.Prelude.{◌≡◌, ℕ, List, [], ◌∷◌, ◌++◌, Result, Ok, Err, codes}
+-- The answer of a proxy that opens no more calls (RFC 3261 sections 8.2.6, 20.33 and 21.5.4).
+use Rattle.std.specs.Prelude.{ℕ, List, [], ◌∷◌, ◌++◌, codes}
 use Rattle.std.specs.Fmt.{decimal}
-use Rattle.sip_text.specs.Text.{HeaderText, MessageText, Response, spelling}
+use Rattle.sip_text.specs.Text.{HeaderText, MessageText, Response}
 use Rattle.sip_uri.specs.declared.hop.Hop.{Hop}
-use Rattle.sip_via.specs.declared.own.ViaFault.{ViaFault}
 use Rattle.sip_via.specs.Edits.{line}
-use Rattle.sip_via.specs.Received.{marked, reply_of}
-use Rattle.sip_via.specs.TopVia.{top_value}
-use Rattle.sip_via.specs.ViaParts.{via_of}
 use Rattle.sip_build.specs.Generated.{generated_of}
 use Rattle.sip_build.specs.declared.responses.OwnStatus.TheVariants as own
+use Rattle.sip_service.specs.Answering.{IsAnswer}
 
 -- after how many seconds to ask again
 abbrev pub retry_line : ℕ → HeaderText
@@ -23,12 +20,5 @@ unavailable_of m seconds = record {
   body = [];
 }
 
--- it is made of the request with its source, and goes where its top Via value says; where that cannot be read it is made of the
--- request as it came, and goes back to where that came from
-abbrev pub IsTurnedAwayBy : Result MessageText ViaFault → MessageText → Hop → ℕ → Hop → List ℕ → Type 0
-IsTurnedAwayBy (Ok with_source) m source seconds to text =
-    (to ≡ reply_of (via_of (top_value with_source)) source) × (text ≡ spelling (unavailable_of with_source seconds))
-IsTurnedAwayBy (Err fault) m source seconds to text = (to ≡ source) × (text ≡ spelling (unavailable_of m seconds))
-
 abbrev pub IsTurnedAway : MessageText → Hop → ℕ → Hop → List ℕ → Type 0
-IsTurnedAway m source seconds to text = IsTurnedAwayBy (marked m source) m source seconds to text
+IsTurnedAway m source seconds to text = IsAnswer (λ request. unavailable_of request seconds) m source to text

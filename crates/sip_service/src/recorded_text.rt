@@ -1,10 +1,10 @@
 //! Texts of requests that open dialogs, with a Record-Route line.
 ghost use Rattle.std.specs.Prelude.{◌≡◌, IfOk};
 ghost use Rattle.std.specs.Option.{option_map};
-ghost use Rattle.sip_text.specs.Text.{spelling};
 ghost use Rattle.sip_service.specs.RecordedText.{opens_dialog, text_recorded};
 
 use crate::outside::is_outside_dialog;
+use crate::reading::text_of;
 use crate::recording::record;
 use sip_text::{Message, ReadFault};
 use sip_via::Own;
@@ -15,15 +15,6 @@ pub fn opens_dialog<A: Allocator>(message: &Message<A>) -> bool
     ensures { result ≡ opens_dialog message.now }
 {
     is_outside_dialog(message) && message.method() == Some(b"INVITE".as_slice())
-}
-
-/// The text of a message.
-fn text_of<A: Allocator>(alloc: A, message: &Message<A>) -> Result<Vec<u8, A>, AllocError>
-    ensures { IfOk result (λ text. text.items ≡ spelling message.now) }
-{
-    let mut text = Vec::new(alloc);
-    message.write(&mut text)?;
-    Ok(text)
 }
 
 /// The text of a request that may open a dialog, with a Record-Route line of the proxy's own (see [`record`]); None of any other text.

@@ -2,24 +2,18 @@
 ghost use Rattle.std.specs.Prelude.{◌≡◌, ◌<◌, ◌^◌, ◌++◌, ℕ, [], ◌∷◌, codes, IfErr, IfOk, OnOk};
 ghost use Rattle.sip_text.specs.Message.{IsMessage};
 ghost use Rattle.sip_text.specs.Seen.{view_start, views};
-ghost use Rattle.sip_text.specs.Text.{MessageText, Response, spelling};
+ghost use Rattle.sip_text.specs.Text.{MessageText, Response};
 ghost use Rattle.sip_via.specs.declared.own.BuildFault.TheVariants.{NoMemory};
 ghost use Rattle.sip_service.specs.Unavailable.{IsTurnedAway, retry_line, unavailable_of};
 
+use crate::answering::{Answer, OwnAnswer, reply};
 use sip_build::OwnStatus;
 use sip_lex::append_decimal;
 use sip_message::{add_made, generated};
 use sip_text::{Header, Message, Start};
 use sip_uri::Hop;
-use sip_via::{BuildFault, ViaFault, add_received, reply_hop_of};
+use sip_via::BuildFault;
 use std::alloc::{AllocError, Allocator};
-
-/// An answer, and where it goes.
-#[derive(Drop)]
-pub struct Answer<A: Allocator> {
-    pub to: Hop,
-    pub text: Vec<u8, A>,
-}
 
 /// Adds the line that says after how many seconds to ask again.
 fn add_retry<A: Allocator + Clone>(
@@ -84,22 +78,6 @@ pub fn unavailable_is_message()
     ensures { (m : MessageText) (seconds : ℕ) → seconds < 2 ^ 32 → IsMessage m → IsMessage (unavailable_of m seconds) }
 {}
 
-/// The text of that 503.
-fn text_of<A: Allocator + Clone>(
-    alloc: A,
-    request: &Message<A>,
-    seconds: u32,
-) -> Result<Vec<u8, A>, AllocError>
-    ensures { IfOk result (λ text. text.items ≡ spelling (unavailable_of request.now seconds)) }
-{
-    let Ok(answer) = unavailable(alloc.clone()?, request, seconds) else {
-        return Err(AllocError);
-    };
-    let mut text = Vec::new(alloc);
-    answer.write(&mut text)?;
-    Ok(text)
-}
-
 /// The 503 to a request that came from `source`: made of the request with its source, it goes where its top Via value says (RFC 3261
 /// sections 18.2.1 and 18.2.2). Where that cannot be read it is made of the request as it came, and goes back to where that came
 /// from.
@@ -115,17 +93,5 @@ pub fn turn_away<A: Allocator + Clone>(
 ) -> Result<Answer<A>, AllocError>
     ensures { IfOk result (λ answer. IsTurnedAway request source seconds answer.to answer.text.items) }
 {
-    match add_received(alloc.clone()?, request, source) {
-        Ok(marked) => Ok(Answer {
-            to: reply_hop_of(&marked, source),
-            text: text_of(alloc, &marked, seconds)?,
-        }),
-        Err(unmarked) => match unmarked.fault {
-            ViaFault::BadVia => Ok(Answer {
-                to: source,
-                text: text_of(alloc, &unmarked.message, seconds)?,
-            }),
-            ViaFault::NoMemory => Err(AllocError),
-        },
-    }
+    reply(alloc, request, source, OwnAnswer::Unavailable(seconds))
 }
