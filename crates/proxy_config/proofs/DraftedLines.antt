@@ -75,9 +75,13 @@ locations_drafted phase setup (location ∷ locations) takes whole kept all =
 
 -- before its first location
 abbrev head : Own → ℕ → List ℕ → Rules → Setup
-head own instance domain rules = record { own = own; instance = instance; domain = domain; rules = rules; locations = [] }
+head own instance domain rules = record { own = own; instance = instance; domain = domain; rules = rules; locations = []; by_port = false }
 
-setup_drafted_as : (prefer depth : Bool) (s : Setup) → IsSetup (record { prefer = prefer; depth = depth }) s → Reached no_draft (lines_of (record { prefer = prefer; depth = depth }) s) s
+-- as lines spell it: none says that the port counts
+abbrev spelled_as : Setup → Setup
+spelled_as s = record s { by_port = false }
+
+setup_drafted_as : (prefer depth : Bool) (s : Setup) → IsSetup (record { prefer = prefer; depth = depth }) s → Reached no_draft (lines_of (record { prefer = prefer; depth = depth }) s) (spelled_as s)
 setup_drafted_as true true s h =
     let r = locations_drafted AtLocations (head s.own s.instance s.domain s.rules) s.locations (λ user q uri. refl) refl h.kept h.locations in
     record { phase = r.phase; due = r.due; whole = r.whole }
@@ -85,14 +89,14 @@ setup_drafted_as true false s h =
     let r = locations_drafted AtDepth (head s.own s.instance s.domain (record { preferred = s.rules.preferred; depth = most_targets })) s.locations (λ user q uri. refl) refl h.kept h.locations in
     record {
       phase = r.phase;
-      due = r.due ∙ ap (λ (n : ℕ). Some (in_phase (record s { rules = record { preferred = s.rules.preferred; depth = n } }) r.phase)) (sym (h.rules.usual_depth refl));
+      due = r.due ∙ ap (λ (n : ℕ). Some (in_phase (record (spelled_as s) { rules = record { preferred = s.rules.preferred; depth = n } }) r.phase)) (sym (h.rules.usual_depth refl));
       whole = r.whole;
     }
 setup_drafted_as false true s h =
     let r = locations_drafted AtLocations (head s.own s.instance s.domain (record { preferred = usual_preferred; depth = s.rules.depth })) s.locations (λ user q uri. refl) refl h.kept h.locations in
     record {
       phase = r.phase;
-      due = r.due ∙ ap (λ (ns : List ℕ). Some (in_phase (record s { rules = record { preferred = ns; depth = s.rules.depth } }) r.phase)) (sym (h.rules.usual_preferred refl));
+      due = r.due ∙ ap (λ (ns : List ℕ). Some (in_phase (record (spelled_as s) { rules = record { preferred = ns; depth = s.rules.depth } }) r.phase)) (sym (h.rules.usual_preferred refl));
       whole = r.whole;
     }
 setup_drafted_as false false s h =
@@ -100,13 +104,14 @@ setup_drafted_as false false s h =
     record {
       phase = r.phase;
       due = r.due
-          ∙ ap (λ (ns : List ℕ). Some (in_phase (record s { rules = record { preferred = ns; depth = most_targets } }) r.phase)) (sym (h.rules.usual_preferred refl))
-          ∙ ap (λ (n : ℕ). Some (in_phase (record s { rules = record { preferred = s.rules.preferred; depth = n } }) r.phase)) (sym (h.rules.usual_depth refl));
+          ∙ ap (λ (ns : List ℕ). Some (in_phase (record (spelled_as s) { rules = record { preferred = ns; depth = most_targets } }) r.phase)) (sym (h.rules.usual_preferred refl))
+          ∙ ap (λ (n : ℕ). Some (in_phase (record (spelled_as s) { rules = record { preferred = s.rules.preferred; depth = n } }) r.phase)) (sym (h.rules.usual_depth refl));
       whole = r.whole;
     }
 
 pub setup_drafted : (shown : Shown) (s : Setup) → IsSetup shown s → Reached no_draft (lines_of shown s) s
-setup_drafted shown s h = setup_drafted_as shown.prefer shown.depth s h
+setup_drafted shown s h =
+    subst (λ (b : Bool). Reached no_draft (lines_of shown s) (record s { by_port = b })) (sym h.by_port) (setup_drafted_as shown.prefer shown.depth s h)
 
 -- ---- what may stand in the lines of a setup
 
@@ -245,7 +250,7 @@ close shown own instance domain rules lines next h are b =
     let P : Setup → Type 0 = LinesFound (head_lines own instance domain (line_if shown.prefer (PreferLine rules.preferred) ++ (line_if shown.depth (DepthLine rules.depth) ++ lines))) in
     subst P b.same (record {
       shown = shown;
-      is = record { own = h.own_is; instance = h.within; domain = h.host; rules = are; locations = b.right; kept = b.kept };
+      is = record { own = h.own_is; instance = h.within; domain = h.host; rules = are; locations = b.right; kept = b.kept; by_port = refl };
       spelled = ap (λ (ls : List Line). head_lines own instance domain (line_if shown.prefer (PreferLine rules.preferred) ++ (line_if shown.depth (DepthLine rules.depth) ++ ls))) b.spelled;
     })
 

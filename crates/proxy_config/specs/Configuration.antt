@@ -65,6 +65,8 @@ pub record IsSetup (shown : Shown) (setup : Setup) : Type 0 where
   pub rules : AreRules shown setup.rules
   pub locations : AllByRecursion IsLocation setup.locations
   pub kept : KeepsRules setup.locations
+  -- no line says that the port counts
+  pub by_port : setup.by_port ≡ false
 
 -- ---- the text
 

@@ -22,6 +22,8 @@ pub record Setup : Type 0 where
   pub domain : List ℕ
   pub rules : Rules
   pub locations : List Location
+  -- whether the own address counts as the domain with the own port alone, or else with any port (section 16.5)
+  pub by_port : Bool
 
 abbrev pub is_of_user : List ℕ → Location → Bool
 is_of_user user location = bytes_eq location.user user

@@ -86,6 +86,7 @@ struct Parts<A: Allocator> {
 }
 
 impl<A: Allocator> Model for Parts<A> {
+    ghost use Rattle.std.specs.Prelude.{false};
     ghost use Rattle.proxy_config.specs.Setup as spec;
 
     ghost Value = { spec.Setup };
@@ -96,6 +97,7 @@ impl<A: Allocator> Model for Parts<A> {
       domain = p.domain.items;
       rules = p.rules;
       locations = p.locations;
+      by_port = false;
     } };
 }
 
@@ -234,6 +236,7 @@ impl<A: Allocator + Clone> Draft<A> {
             domain: self.parts.domain,
             rules: self.parts.rules,
             locations: self.parts.locations.into_locations(),
+            by_port: false,
         })
     }
 }

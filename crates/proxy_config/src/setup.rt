@@ -1,5 +1,5 @@
 //! What a proxy is set up with.
-ghost use Rattle.std.specs.Prelude.{◌≡◌, ◌≤◌, IfOk, IfErr, Ok, IsTrue};
+ghost use Rattle.std.specs.Prelude.{◌≡◌, ◌≤◌, IfOk, IfErr, Ok, IsTrue, true};
 ghost use Rattle.sip_uri.specs.Host.{is_host};
 ghost use Rattle.proxy_config.specs.Configuration.{IsConfiguration};
 ghost use Rattle.proxy_config.specs.ReadView.{GivesSetup, IsFaultOf};
@@ -14,7 +14,7 @@ use sip_via::Own;
 use std::alloc::{Allocator, Global};
 use std::marker::Model;
 
-/// What a proxy is set up with. `read` alone makes one.
+/// What a proxy is set up with. `read` makes one, and `with_own_port` another of it.
 #[derive(Drop)]
 pub struct Setup<A: Allocator = Global> {
     pub(crate) own: Own,
@@ -22,6 +22,7 @@ pub struct Setup<A: Allocator = Global> {
     pub(crate) domain: Vec<u8, A>,
     pub(crate) rules: Rules,
     pub(crate) locations: Vec<Location<A>, A>,
+    pub(crate) by_port: bool,
 }
 
 impl<A: Allocator> Model for Setup<A> {
@@ -36,6 +37,7 @@ impl<A: Allocator> Model for Setup<A> {
       domain = s.domain.items;
       rules = s.rules;
       locations = s.locations.items;
+      by_port = s.by_port;
     } };
 
     ghost invariant = { λ s. IsKept s.own s.domain.items s.locations.items };
@@ -80,6 +82,22 @@ impl<A: Allocator> Setup<A> {
     {
         &self.locations
     }
+
+    /// Whether the own address counts as the domain with the own port alone, or else with any port (RFC 3261 section 16.5).
+    pub fn by_port(&self) -> bool
+        ensures { result ≡ self.now.by_port }
+    {
+        self.by_port
+    }
+
+    /// The same setup, but with the own address counting as the domain with the own port alone: so requests reach telephones
+    /// that are at other ports of that address (RFC 3261 section 16.5).
+    pub fn with_own_port(mut self) -> Setup<A>
+        ensures { result ≡ record self { by_port = true } }
+    {
+        self.by_port = true;
+        self
+    }
 }
 
 impl<A: Allocator + Clone> Setup<A> {
@@ -87,6 +105,7 @@ impl<A: Allocator + Clone> Setup<A> {
     /// `prefer LIST` and `depth STEPS`, each of which may be left out, and then the usual rule holds; and any number of
     /// `location USER Q URI`. An own address 0.0.0.0 is malformed, for no answer could come back to it. So is a location that
     /// no request can be sent to, and one whose user has the same target already, or as many locations as may be tried.
+    /// The own address counts as the domain with any port.
     ///
     /// # Errors
     ///

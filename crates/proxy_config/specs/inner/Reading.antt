@@ -67,6 +67,7 @@ no_setup = record {
   domain = [];
   rules = usual_rules;
   locations = [];
+  by_port = false;
 }
 
 -- the lines read so far
