@@ -79,13 +79,13 @@ asked_if setup request uri a t (Err fault) h = asked setup request uri a t fault
 pub fixed_so : (setup : Setup) (number : ℕ) (request : MessageText) (source : Hop) (uri : Uri) (own : Own) (instance : ℕ) (caller : Hop) (route : Option Hop) (inside : Bool) (first : FirstRoute) (opened : OpenedRequest)
     → opened ≡ record { number = number; own = own; instance = instance; request = request; caller = caller; route = route; is_responsible = inside }
     → own ≡ setup.own → instance ≡ setup.instance → caller ≡ reply_of (via_of (top_value request)) source
-    → route ≡ hop_if_any first → first ≡ first_route request → inside ≡ is_domain setup uri.host → opened ≡ opened_of setup number request source uri
+    → route ≡ hop_if_any first → first ≡ first_route request → inside ≡ is_domain setup uri → opened ≡ opened_of setup number request source uri
 fixed_so setup number request source uri own instance caller route inside first opened e p q r s t u =
     let destination : route ≡ hop_if_any (first_route request) = s ∙ ap hop_if_any t in
     e ∙ (λ k. record { number = number; own = p k; instance = q k; request = request; caller = r k; route = destination k; is_responsible = u k })
 
 pub reaches : (setup : Setup) (number : ℕ) (request : MessageText) (source : Hop) (uri : Uri) (rules : Rules) (inside : Bool) (route : FirstRoute) (opened : OpenedRequest) (cs : List Choice) (call : Call)
-    → cs ≡ choices_by inside setup route uri → inside ≡ is_domain setup uri.host → (cs ≡ [] → ⊥) → list_all has_hop cs ≡ true → rules ≡ setup.rules → route ≡ first_route request
+    → cs ≡ choices_by inside setup route uri → inside ≡ is_domain setup uri → (cs ≡ [] → ⊥) → list_all has_hop cs ≡ true → rules ≡ setup.rules → route ≡ first_route request
     → opened ≡ opened_of setup number request source uri → IsBegun rules opened cs call → Reaches setup number request source uri call
 reaches setup number request source uri rules inside route opened cs call p i n h q r s b =
     let whole : cs ≡ choices_for setup request uri = p ∙ ap (λ (x : Bool). choices_by x setup route uri) i ∙ ap (λ (x : FirstRoute). choices setup x uri) r in

@@ -29,7 +29,7 @@ IsOpenable (texts.Request method uri) = (method ≢ codes "ACK") × (method ≢ 
 IsOpenable (texts.Response status reason) = ⊥
 
 -- what the request to this URI, as it was prepared, opens with; its answers go where its top Via value says (section
--- 18.2.2), and the proxy is responsible for a URI for whose host it answers (section 16.5)
+-- 18.2.2), and the proxy is responsible for a URI of its domain (section 16.5)
 abbrev pub opened_of : Setup → ℕ → MessageText → Hop → Uri → OpenedRequest
 opened_of setup number request source uri = record {
   number = number;
@@ -38,7 +38,7 @@ opened_of setup number request source uri = record {
   request = request;
   caller = reply_of (via_of (top_value request)) source;
   route = hop_if_any (first_route request);
-  is_responsible = is_domain setup uri.host;
+  is_responsible = is_domain setup uri;
 }
 
 -- a fork to these targets, of which nothing was sent yet

@@ -186,7 +186,7 @@ fn open_to<A: Allocator + Clone>(
     ensures refused { IfErr result (IsUnreachable setup.now request uri.now) }
 {
     let route = first_route(&request);
-    let inside = is_domain(setup, uri.host());
+    let inside = is_domain(setup, uri);
     let choices = choices(alloc.clone()?, setup, inside, route, uri)?;
     if choices.is_empty() {
         return Err(RequestRejection::NoTarget);

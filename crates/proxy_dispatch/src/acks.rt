@@ -101,7 +101,7 @@ fn going_on<A: Allocator + Clone>(
     ensures { IfOk result (λ sent. GoesOn setup.now request.now (seen_sent sent)) }
 {
     let uri = admitted_target(alloc.clone()?, request)?;
-    if is_domain(setup, uri.host()) {
+    if is_domain(setup, &uri) {
         return Ok(None);
     }
     match hop_by(first_route(request), &uri) {

@@ -1,5 +1,5 @@
 -- Where a request may be sent, and by which hop (RFC 3261 sections 16.5 and 16.6).
-use Rattle.std.specs.Prelude.{ℕ, Bool, ◌||◌, List, [], ◌∷◌, map, Option, Some, None, is_some, if◌then◌else◌}
+use Rattle.std.specs.Prelude.{ℕ, Bool, true, not, ◌==◌, ◌&&◌, ◌||◌, List, [], ◌∷◌, map, Option, Some, None, is_some, if◌then◌else◌}
 use Rattle.std.specs.Str.{bytes_eq, str_to_ascii_lowercase}
 use Rattle.fork_model.specs.History.{Target}
 use Rattle.fork_text.specs.Field.{most_q}
@@ -8,6 +8,7 @@ use Rattle.sip_uri.specs.Hop.{hop_of}
 use Rattle.sip_uri.specs.Key.{key_of}
 use Rattle.sip_uri.specs.Uri.{Uri}
 use Rattle.sip_via.specs.Address.{address_text}
+use Rattle.sip_via.specs.declared.own.Own.{Own}
 use Rattle.sip_route.specs.declared.route_values.FirstRoute.{FirstRoute}
 use Rattle.sip_route.specs.declared.route_values.FirstRoute.TheVariants.{Absent, NoHop, To}
 use Rattle.proxy_config.specs.Setup.{Location, Setup, locations_of}
@@ -28,11 +29,21 @@ pub record Choice : Type 0 where
 
 -- ---- which targets there are (section 16.5)
 
--- the proxy answers for this host: it is that of its domain, in any case, or its own address as it is written
-abbrev pub is_domain : Setup → List ℕ → Bool
-is_domain setup host =
-    bytes_eq (str_to_ascii_lowercase host) (str_to_ascii_lowercase setup.domain)
-    || bytes_eq host (address_text setup.own.addr)
+-- a request by this hop goes to the own port; a URI without a hop leads to no other port
+abbrev pub is_own_port : Own → Option Hop → Bool
+is_own_port own None = true
+is_own_port own (Some hop) = hop.port == own.port
+
+-- the URI has the own address for its host, as it is written; where the setup counts the port, it leads to no other port of that
+-- address, and without a port it leads to 5060 (section 19.1.2)
+abbrev pub is_own : Setup → Uri → Bool
+is_own setup uri = bytes_eq uri.host (address_text setup.own.addr) && (not setup.by_port || is_own_port setup.own (hop_of uri))
+
+-- the proxy is responsible for this URI: its host is the domain, in any case, or it names the proxy by its own address
+abbrev pub is_domain : Setup → Uri → Bool
+is_domain setup uri =
+    bytes_eq (str_to_ascii_lowercase uri.host) (str_to_ascii_lowercase setup.domain)
+    || is_own setup uri
 
 abbrev pub choice_at : FirstRoute → Location → Choice
 choice_at route location = record { q = location.q; uri = location.uri; hop = hop_by route location.uri }
@@ -41,14 +52,14 @@ abbrev pub choices_of : FirstRoute → List Location → Option (List ℕ) → L
 choices_of route locations None = []
 choices_of route locations (Some user) = map (choice_at route) (locations_of user locations)
 
--- where the proxy answers for the host the locations of the user, else the Request-URI alone
+-- where the proxy is responsible for it the locations of the user, else the Request-URI alone
 abbrev pub choices_by : (inside : Bool) → Setup → FirstRoute → Uri → List Choice
 choices_by inside setup route uri =
     if inside then choices_of route setup.locations uri.user
     else record { q = most_q; uri = uri; hop = hop_by route uri } ∷ []
 
 abbrev pub choices : Setup → FirstRoute → Uri → List Choice
-choices setup route uri = choices_by (is_domain setup uri.host) setup route uri
+choices setup route uri = choices_by (is_domain setup uri) setup route uri
 
 abbrev pub target_of : Choice → Target
 target_of choice = record { key = key_of choice.uri; q = choice.q }

@@ -4,13 +4,13 @@ ghost use Rattle.std.specs.List.{list_all};
 ghost use Rattle.std.specs.Option.{option_copied};
 ghost use Rattle.fork_text.specs.Field.{most_q};
 ghost use Rattle.proxy_config.specs.Setup.{locations_of};
-ghost use Rattle.proxy_routing.specs.Targets.{choice_at, choices_by, choices_of, has_hop, hop_by, hop_if_any, is_domain, target_of, targets_of};
+ghost use Rattle.proxy_routing.specs.Targets.{choice_at, choices_by, choices_of, has_hop, hop_by, hop_if_any, is_domain, is_own, is_own_port, target_of, targets_of};
 
 use fork_context::Target;
 use proxy_config::{Location, Setup};
 use sip_route::FirstRoute;
 use sip_uri::{Hop, SipUri};
-use sip_via::is_address;
+use sip_via::{Own, is_address};
 use std::alloc::{AllocError, Allocator};
 use std::marker::Model;
 
@@ -77,12 +77,31 @@ impl<'a, A: Allocator + Clone> Choice<'a, A> {
 
 // ---- which targets there are
 
-/// Whether the proxy answers for this host: the host is that of the proxy's domain, in upper or lower case, or the
-/// proxy's own address as it is written (RFC 3261 section 16.5).
-pub fn is_domain<A: Allocator>(setup: &Setup<A>, host: &[u8]) -> bool
-    ensures { result ≡ is_domain setup.now host.now }
+/// Whether a request by this hop goes to the own port. A URI without a hop leads to no other port.
+fn is_own_port(own: Own, hop: Option<Hop>) -> bool
+    ensures { result ≡ is_own_port own hop }
 {
-    host.eq_ignore_ascii_case(setup.domain()) || is_address(host, setup.own().addr)
+    match hop {
+        None => true,
+        Some(hop) => hop.port == own.port,
+    }
+}
+
+/// Whether a URI names the proxy by its own address.
+fn is_own<A: Allocator + Clone>(setup: &Setup<A>, uri: &SipUri<A>) -> bool
+    ensures { result ≡ is_own setup.now uri.now }
+{
+    is_address(uri.host(), setup.own().addr)
+        && (!setup.by_port() || is_own_port(setup.own(), uri.next_hop()))
+}
+
+/// Whether the proxy is responsible for this URI (RFC 3261 section 16.5): its host is the proxy's domain, in upper or lower
+/// case, or the proxy's own address as it is written. Where the setup counts the port, a URI with the own address that leads
+/// to another port is that of another element; one without a port leads to 5060 (section 19.1.2).
+pub fn is_domain<A: Allocator + Clone>(setup: &Setup<A>, uri: &SipUri<A>) -> bool
+    ensures { result ≡ is_domain setup.now uri.now }
+{
+    uri.host().eq_ignore_ascii_case(setup.domain()) || is_own(setup, uri)
 }
 
 /// Adds a location, where it is the user's.
@@ -131,7 +150,7 @@ fn located_if_any<'a, A: Allocator + Clone>(
     }
 }
 
-/// The one target of a request to a host that the proxy does not answer for.
+/// The one target of a request to a URI that the proxy is not responsible for.
 fn alone<'a, A: Allocator + Clone>(
     alloc: A,
     route: FirstRoute,

@@ -1,4 +1,4 @@
-use Rattle.call_routing.proofs.Common.{◌≡◌, ◌∙◌, [], true, List, ap, subst, sym, list_all, Choice, has_hop, IsBegun}
+use Rattle.call_routing.proofs.Common.{◌≡◌, ◌∙◌, [], true, List, subst, sym, list_all, Choice, has_hop, IsBegun}
 use Rattle.std.proofs.Common.{rules}
 use Rattle.call_routing.proofs.Opened.{fixed_so, reaches}
 use Rattle.proxy_routing.specs.Targets.{is_domain}
@@ -17,7 +17,7 @@ returns-in-Ok-clause-opened g c =
     let request = c.args.request in
     let some : c.in_ok-choices.choices.items ≡ [] → ⊥ = search rules in
     let hops : list_all has_hop c.deref.result.now ≡ true = search rules in
-    let inside : c.is_domain-inside.result ≡ is_domain c.args.setup.now c.args.uri.now.host = c.is_domain-inside.ensures ∙ ap (is_domain c.args.setup.now) c.host.ensures.value in
+    let inside : c.is_domain-inside.result ≡ is_domain c.args.setup.now c.args.uri.now = c.is_domain-inside.ensures in
     let opened = fixed_so c.args.setup.now c.args.number request c.args.source c.args.uri.now c.own.result c.instance.result c.reply_hop_of-caller.result
     c.hop_if_any.result c.is_domain-inside.result c.first_route-route.result c.new-opened.result c.new-opened.ensures c.own.ensures.value c.instance.ensures c.reply_hop_of-caller.ensures
     c.hop_if_any.ensures c.first_route-route.ensures inside in
