@@ -5,6 +5,8 @@ use Rattle.std.specs.Fmt.{decimal}
 use Rattle.proxy_metrics.specs.declared.metric.Kind.{Kind}
 use Rattle.proxy_metrics.specs.declared.metric.Kind.TheVariants as kind
 use Rattle.proxy_metrics.specs.declared.metric.Metric.{Metric}
+use Rattle.proxy_metrics.specs.declared.family.Labelled.{Labelled}
+use Rattle.proxy_metrics.specs.declared.family.Family.{Family}
 use Rattle.proxy_metrics.specs.declared.histogram.Bucket.{Bucket}
 use Rattle.proxy_metrics.specs.declared.histogram.Histogram.{Histogram}
 
@@ -29,6 +31,20 @@ metric_text m = type_line m.name.now m.kind ++ value_line m.name.now [] m.value
 
 abbrev pub metrics_text : List Metric → List ℕ
 metrics_text metrics = flat_map metric_text metrics
+
+-- ---- values that a label tells apart
+
+abbrev pub label_text : List ℕ → List ℕ → List ℕ
+label_text label says = 123 ∷ (label ++ (codes "=\"" ++ (says ++ codes "\"}")))
+
+abbrev pub labelled_line : List ℕ → List ℕ → Labelled → List ℕ
+labelled_line name label v = name ++ (label_text label v.says.now ++ number_end v.value)
+
+abbrev pub labelled_text : List ℕ → List ℕ → List Labelled → List ℕ
+labelled_text name label values = flat_map (labelled_line name label) values
+
+abbrev pub family_text : Family → List ℕ
+family_text f = type_line f.name.now f.kind ++ labelled_text f.name.now f.label.now f.values.now
 
 -- ---- histograms
 

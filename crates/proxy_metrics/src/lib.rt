@@ -1,8 +1,10 @@
 //! Counters and histograms in the text form that Prometheus reads (its exposition format, version 0.0.4).
 #![tactic(auto)]
 
+mod family;
 mod histogram;
 mod metric;
 
+pub use family::{Family, Labelled, append_family};
 pub use histogram::{Bucket, Histogram, append_histogram, class_of};
 pub use metric::{Kind, Metric, append_metrics};
