@@ -1,0 +1,3 @@
+pub mod laws
+mod Sweeping
+mod Rates
