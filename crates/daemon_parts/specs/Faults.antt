@@ -1,9 +1,6 @@
 -- Why a proxy does not serve, or serves no longer.
-use Rattle.std.specs.Prelude.{◌≡◌, ◌<◌, ◌≤◌, ℕ, List, length}
-use Rattle.proxy_config.specs.Configuration.{IsConfiguration, IsMalformedAt}
-use Rattle.proxy_config.specs.Setup.{Setup}
-use Rattle.proxy_config.specs.declared.fault.SetupFault.{SetupFault}
-use Rattle.proxy_config.specs.declared.fault.SetupFault.TheVariants as read
+use Rattle.std.specs.Prelude.{◌<◌, ◌≤◌, ℕ, List, length}
+use Rattle.daemon_parts.specs.Completion.{IsMalformedIn, IsMalformedLine}
 use Rattle.daemon_parts.specs.declared.fault.DaemonFault.{DaemonFault}
 use Rattle.daemon_parts.specs.declared.fault.DaemonFault.TheVariants as fault
 
@@ -16,21 +13,24 @@ exit_status fault.NoMemory = 3
 exit_status fault.Clock = 5
 exit_status fault.Socket = 5
 exit_status fault.Control = 5
-
-abbrev pub fault_read : SetupFault → DaemonFault
-fault_read (read.Line n) = fault.Line n
-fault_read read.NoMemory = fault.NoMemory
+exit_status fault.Metrics = 5
 
 -- a configuration has at most so many bytes
 abbrev pub most_text : ℕ
 most_text = 1048576
 
--- what each fault says of a text that was read: it is too long; it is not, and this is its first malformed line
-abbrev pub IsFaultOf : List ℕ → DaemonFault → Type 0
-IsFaultOf text fault.TooLong = most_text < length text
-IsFaultOf text (fault.Line n) = (length text ≤ most_text) × IsMalformedAt text n
-IsFaultOf text fault.NoMemory = length text ≤ most_text
-IsFaultOf text _ = ⊥
+-- why the whole text is not read that a text was completed to
+abbrev pub IsFaultIn : (whole text : List ℕ) → DaemonFault → Type 0
+IsFaultIn whole text (fault.Line n) = IsMalformedIn whole text n
+IsFaultIn whole text fault.NoMemory = Unit {0}
+IsFaultIn whole text _ = ⊥
+
+-- what each fault says of a text that was read, and completed by this number: it is too long; it is not, and this is its first malformed line
+abbrev pub IsFaultOf : List ℕ → ℕ → DaemonFault → Type 0
+IsFaultOf text seconds fault.TooLong = most_text < length text
+IsFaultOf text seconds (fault.Line n) = (length text ≤ most_text) × IsMalformedLine text seconds n
+IsFaultOf text seconds fault.NoMemory = length text ≤ most_text
+IsFaultOf text seconds _ = ⊥
 
 -- why a configuration's file is not taken
 abbrev pub IsConfigurationFault : DaemonFault → Type 0
@@ -51,3 +51,9 @@ abbrev pub IsControlFault : DaemonFault → Type 0
 IsControlFault fault.Control = Unit {0}
 IsControlFault fault.NoMemory = Unit {0}
 IsControlFault _ = ⊥
+
+-- why the address for those who scrape the counters cannot be bound
+abbrev pub IsMetricsFault : DaemonFault → Type 0
+IsMetricsFault fault.Metrics = Unit {0}
+IsMetricsFault fault.NoMemory = Unit {0}
+IsMetricsFault _ = ⊥

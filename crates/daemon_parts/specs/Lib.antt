@@ -1,2 +1,4 @@
+pub mod Completion
 pub mod Faults
+pub mod Memory
 pub mod Workers

@@ -1,9 +1,8 @@
 //! Why a proxy does not serve, or serves no longer.
 ghost use Rattle.std.specs.Prelude.{◌≡◌};
 ghost use Rattle.daemon_parts.specs.declared.fault.DaemonFault.TheVariants as faults;
-ghost use Rattle.daemon_parts.specs.Faults.{exit_status, IsConfigurationFault, IsControlFault, IsSocketFault};
+ghost use Rattle.daemon_parts.specs.Faults.{exit_status, IsConfigurationFault, IsControlFault, IsMetricsFault, IsSocketFault};
 
-use proxy_config::SetupFault;
 use std::alloc::AllocError;
 use std::io;
 use std::io::ErrorKind;
@@ -36,6 +35,9 @@ pub enum DaemonFault {
     /// The control socket could not be made.
     #[error("the control socket cannot be made")]
     Control,
+    /// The address for those who scrape the counters could not be bound.
+    #[error("the metrics address cannot be bound")]
+    Metrics,
 }
 
 impl DaemonFault {
@@ -49,7 +51,10 @@ impl DaemonFault {
             | DaemonFault::Line(_)
             | DaemonFault::Identity => 1,
             DaemonFault::NoMemory => 3,
-            DaemonFault::Clock | DaemonFault::Socket | DaemonFault::Control => 5,
+            DaemonFault::Clock
+            | DaemonFault::Socket
+            | DaemonFault::Control
+            | DaemonFault::Metrics => 5,
         }
     }
 }
@@ -59,19 +64,6 @@ impl From<AllocError> for DaemonFault {
 
     fn from(_refused: AllocError) -> DaemonFault {
         DaemonFault::NoMemory
-    }
-}
-
-impl From<SetupFault> for DaemonFault {
-    ghost use Rattle.daemon_parts.specs.Faults.{fault_read};
-
-    ghost from_gives = { λ read given. given ≡ fault_read read };
-
-    fn from(read: SetupFault) -> DaemonFault {
-        match read {
-            SetupFault::Line(number) => DaemonFault::Line(number),
-            SetupFault::NoMemory => DaemonFault::NoMemory,
-        }
     }
 }
 
@@ -102,5 +94,15 @@ pub fn control_fault(error: io::Error) -> DaemonFault
     match error.kind() {
         ErrorKind::OutOfMemory => DaemonFault::NoMemory,
         _ => DaemonFault::Control,
+    }
+}
+
+/// Why the address for those who scrape the counters cannot be bound: the system refuses, or has no memory.
+pub fn metrics_fault(error: io::Error) -> DaemonFault
+    ensures { IsMetricsFault result }
+{
+    match error.kind() {
+        ErrorKind::OutOfMemory => DaemonFault::NoMemory,
+        _ => DaemonFault::Metrics,
     }
 }

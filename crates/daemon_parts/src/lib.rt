@@ -2,17 +2,30 @@
 //! counters, its socket, and which worker a datagram is for.
 #![tactic(auto)]
 
+mod call_counts;
+mod completion;
+mod count;
 mod counts;
+mod datagram_counts;
 mod fault;
 mod files;
+mod latencies;
+mod marks;
+mod memory;
 mod options;
 mod setup;
 mod socket;
 mod workers;
 
-pub use counts::{CallCounts, Count, Counts, DatagramCounts, Latencies};
-pub use fault::{DaemonFault, configuration_fault, control_fault, socket_fault};
+pub use call_counts::{CallCounts, FailedCounts};
+pub use count::Count;
+pub use counts::{Counts, Gauges};
+pub use datagram_counts::{AnsweredCounts, DatagramCounts, SentCounts};
+pub use fault::{DaemonFault, configuration_fault, control_fault, metrics_fault, socket_fault};
 pub use files::ProxyFiles;
+pub use latencies::Latencies;
+pub use marks::Marks;
+pub use memory::{resident_bytes, resident_pages};
 pub use options::Options;
 pub use setup::{Identity, read_again, read_setup, read_text};
 pub use socket::{Sent, Socket};

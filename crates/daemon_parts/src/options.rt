@@ -15,4 +15,6 @@ pub struct Options<'a> {
     pub workers: usize,
     /// Whether it stays on the path of the dialogs that pass it.
     pub records: bool,
+    /// The address and the port at which its counters are scraped.
+    pub metrics: Option<&'a str>,
 }

@@ -2,11 +2,13 @@
 ghost use Rattle.std.specs.Prelude.{◌≡◌, ◌<◌, ◌↔◌, length, IfErr, IfOk, IsErrOf, IsTrue};
 ghost use Rattle.proxy_config.specs.Configuration.{IsConfiguration};
 ghost use Rattle.daemon_parts.specs.declared.fault.DaemonFault.TheVariants as faults;
-ghost use Rattle.daemon_parts.specs.Faults.{most_text, IsConfigurationFault, IsFaultOf};
+ghost use Rattle.daemon_parts.specs.Completion.{completed};
+ghost use Rattle.daemon_parts.specs.Faults.{most_text, IsConfigurationFault, IsFaultIn, IsFaultOf};
 
+use crate::completion::{completed, line_in_text};
 use crate::fault::{DaemonFault, configuration_fault};
 use crate::files::ProxyFiles;
-use proxy_config::Setup;
+use proxy_config::{Setup, SetupFault};
 use sip_via::Own;
 use std::alloc::{Allocator, Global};
 
@@ -33,23 +35,48 @@ impl Identity {
     }
 }
 
-/// Reads the text of a configuration (see [`Setup::read`]).
+/// Reads a text as a whole one; a malformed line is told by its number in the text that it was completed from.
+fn read_whole<A: Allocator + Clone>(
+    alloc: A,
+    whole: &[u8],
+    text: &[u8],
+) -> Result<Setup<A>, DaemonFault>
+    ensures ok { IfOk result (IsConfiguration whole.now) }
+    ensures short { ¬ IsErrOf result faults.TooLong }
+    ensures fault { IfErr result (IsFaultIn whole.now text.now) }
+{
+    match Setup::read(alloc, whole) {
+        Ok(setup) => Ok(setup),
+        Err(SetupFault::Line(line)) => Err(DaemonFault::Line(line_in_text(text, line))),
+        Err(SetupFault::NoMemory) => Err(DaemonFault::NoMemory),
+    }
+}
+
+/// Reads the text of a configuration (see [`Setup::read`]). Where its second line is no line of an instance, this number is the
+/// instance.
 ///
 /// # Errors
 ///
-/// `TooLong` over 1,048,576 bytes; else `Line` with the first malformed line; `NoMemory` where the allocator refuses.
-pub fn read_text<A: Allocator + Clone>(alloc: A, text: &[u8]) -> Result<Setup<A>, DaemonFault>
-    ensures ok { IfOk result (λ setup. IsConfiguration text.now setup) }
+/// `TooLong` over 1,048,576 bytes; else `Line` with the first malformed line of the text, a missing one by the number that it would
+/// have; `NoMemory` where the allocator refuses.
+#[tactic(auto, using(crate::proofs::Faults::in_is_of))]
+pub fn read_text<A: Allocator + Clone>(
+    alloc: A,
+    text: &[u8],
+    seconds: u32,
+) -> Result<Setup<A>, DaemonFault>
+    ensures ok { IfOk result (IsConfiguration (completed text.now seconds)) }
     ensures too_long { IsErrOf result faults.TooLong ↔ (most_text < length text.now) }
-    ensures fault { IfErr result (IsFaultOf text.now) }
+    ensures fault { IfErr result (IsFaultOf text.now seconds) }
 {
     if text.len() > MOST_TEXT {
         return Err(DaemonFault::TooLong);
     }
-    Ok(Setup::read(alloc, text)?)
+    let whole = completed(alloc.clone()?, text, seconds)?;
+    read_whole(alloc, whole.as_slice(), text)
 }
 
-/// Reads a configuration's file.
+/// Reads a configuration's file, whose instance is this number where it has no line of one.
 ///
 /// # Errors
 ///
@@ -58,6 +85,7 @@ pub fn read_setup<R: ProxyFiles>(
     rt: &R,
     alloc: Global,
     config: &str,
+    seconds: u32,
 ) -> Result<Setup<Global>, DaemonFault>
     ensures { IfErr result IsConfigurationFault }
 {
@@ -65,10 +93,11 @@ pub fn read_setup<R: ProxyFiles>(
         Ok(text) => text,
         Err(error) => return Err(configuration_fault(error)),
     };
-    read_text(alloc, text.as_slice())
+    read_text(alloc, text.as_slice(), seconds)
 }
 
-/// Reads a configuration's file anew for a proxy that has this identity.
+/// Reads a configuration's file anew for a proxy that has this identity. The number is the one that the file was completed by at the
+/// start, so a file that has no line of an instance keeps it.
 ///
 /// # Errors
 ///
@@ -77,12 +106,13 @@ pub fn read_again<R: ProxyFiles>(
     rt: &R,
     alloc: Global,
     config: &str,
+    seconds: u32,
     identity: Identity,
 ) -> Result<Setup<Global>, DaemonFault>
     ensures own { IfOk result (λ setup. setup.own ≡ identity.own) }
     ensures instance { IfOk result (λ setup. setup.instance ≡ identity.instance) }
 {
-    let setup = read_setup(rt, alloc, config)?;
+    let setup = read_setup(rt, alloc, config, seconds)?;
     if setup.own() != identity.own || setup.instance() != identity.instance {
         return Err(DaemonFault::Identity);
     }

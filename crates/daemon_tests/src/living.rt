@@ -8,7 +8,7 @@ use fork_daemon::serve;
 use std::alloc::Global;
 use std::fs::Files;
 use std::io::{Read, Write};
-use std::net::Net;
+use std::net::{Net, TcpStream};
 use std::os::unix::net::UnixStream;
 use std::test::Fail;
 use std::thread::join;
@@ -22,9 +22,9 @@ const CONTROL: &str = "forkproxyd_test_control";
 
 const JOURNAL: &str = "forkproxyd_test_journal";
 
-/// The configuration: one user at one telephone.
+/// The configuration: one user at one telephone. Its instance is the time of the start.
 const CONFIGURATION: &[u8] =
-    b"own 127.0.0.1 47420\ninstance 7\ndomain example.com\nlocation bob 1000 sip:bob@127.0.0.1:47422\n";
+    b"own 127.0.0.1 47420\ndomain example.com\nlocation bob 1000 sip:bob@127.0.0.1:47422\n";
 
 /// The same with a line that is malformed.
 const MALFORMED: &[u8] = b"own 127.0.0.1 47420\ninstance seven\n";
@@ -41,7 +41,11 @@ const OPTIONS: Options<'static> = Options {
     most_calls: 2,
     workers: 2,
     records: true,
+    metrics: Some(METRICS),
 };
+
+/// Where its counters are scraped.
+const METRICS: &str = "127.0.0.1:47424";
 
 /// How often the proxy is asked whether something has come about, a tenth of a second apart.
 const LOOKS: u32 = 400;
@@ -81,6 +85,27 @@ fn counts<R: Net + Clock>(rt: &R, alloc: Global, line: &str) -> bool {
         thread::sleep(rt, Duration::from_millis(100));
     }
     false
+}
+
+/// What a scraper gets.
+fn scraped<R: Net>(rt: &R, alloc: Global) -> io::Result<Vec<u8>> {
+    let mut stream = TcpStream::connect(rt, METRICS)?;
+    stream.write_all(b"GET /metrics HTTP/1.1\r\nHost: x\r\n\r\n")?;
+    let mut answer = Vec::new(alloc);
+    stream.read_to_end(&mut answer)?;
+    Ok(answer)
+}
+
+/// Whether a scraper gets the counters, with a call that is open.
+fn is_scraped<R: Net>(rt: &R, alloc: Global) -> bool {
+    match scraped(rt, alloc) {
+        Ok(answer) => {
+            answer.starts_with(b"HTTP/1.1 200 OK\r\n")
+                && has_line(answer.as_slice(), "\nforkproxy_calls 2\n")
+                && has_line(answer.as_slice(), "\nforkproxy_calls_open 1\n")
+        }
+        Err(_) => false,
+    }
 }
 
 /// Whether this is answered to a reload of this text.
@@ -154,6 +179,9 @@ fn played<R: Net + Files + Clock>(rt: &R, alloc: Global, agents: &Agents) -> &'s
     let Some(ringing) = agents.rings("two") else {
         return "an INVITE rings";
     };
+    if !is_scraped(rt, alloc) {
+        return "a scraper gets the counters";
+    }
     let missed = filled(rt, alloc, agents);
     if missed != "nothing" {
         return missed;

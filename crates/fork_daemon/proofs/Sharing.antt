@@ -12,11 +12,11 @@ use Rattle.fork_call.proofs.laws.Crossing.{call_send}
 use Rattle.fork_call.specs.contracts.call.Call.{the_row as call_row}
 use Rattle.call_table.proofs.laws.Crossing.{shelf_sync}
 use Rattle.call_table.specs.contracts.shelf.Shelf as shelf
-use Rattle.daemon_parts.proofs.counts.Counts.TheSendSync as counts
-use Rattle.daemon_parts.proofs.socket.Socket.TheSendSync as socket
+use Rattle.daemon_parts.proofs.laws.Crossing.{counts_sync, marks_sync, socket_sync}
 use Rattle.fork_clock.proofs.laws.Crossing.{epoch_sync, schedule_sync}
 use Rattle.fork_daemon.proofs.proxy.Limits.TheSendSync as limits
 use Rattle.fork_daemon.proofs.proxy.Paths.TheSendSync as paths
+use Rattle.fork_daemon.proofs.serving.Scraped.TheSendSync as scraped
 use Rattle.fork_daemon.specs.contracts.proxy.Proxy as proxy
 use Rattle.fork_daemon.specs.contracts.serving.Server as server
 use Rattle.proxy_config.proofs.laws.Crossing as setup
@@ -37,7 +37,7 @@ proxy_sync = struct_sync (shape proxy.the_type) (
   (
     search (lock.the_field_sync, setup_sync, setup_send),
     (
-      socket.the_field_sync,
+      socket_sync,
       (
         search calls_sync,
         (
@@ -45,12 +45,15 @@ proxy_sync = struct_sync (shape proxy.the_type) (
           (
             epoch_sync,
             (
-              counts.the_field_sync,
+              counts_sync,
               (
-                paths.the_field_sync,
+                marks_sync,
                 (
-                  limits.the_field_sync,
-                  (search (crosses, sendable), (search (crosses, sendable), (search (crosses, sendable), (search (crosses, sendable), tt)))),
+                  paths.the_field_sync,
+                  (
+                    limits.the_field_sync,
+                    (search (crosses, sendable), (search (crosses, sendable), (search (crosses, sendable), (search (crosses, sendable), tt)))),
+                  ),
                 ),
               ),
             ),
@@ -63,4 +66,4 @@ proxy_sync = struct_sync (shape proxy.the_type) (
 
 pub server_sync : IsSync server.the_row
 server_sync = recorded_sync server.the_field.row _ _ (server.the_type).to_one (struct_sync (shape server.the_type)
-    (proxy_sync, (listener.the_field_sync, tt)))
+    (proxy_sync, (listener.the_field_sync, (scraped.the_field_sync, tt))))

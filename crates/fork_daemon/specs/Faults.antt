@@ -1,7 +1,8 @@
 -- Why a proxy serves no longer, or not at all.
 use Rattle.std.specs.Prelude.{◌<◌, ◌≤◌, ℕ, List, length}
-use Rattle.proxy_config.specs.Configuration.{IsConfiguration, IsMalformedAt}
+use Rattle.proxy_config.specs.Configuration.{IsConfiguration}
 use Rattle.proxy_config.specs.Setup.{Setup}
+use Rattle.daemon_parts.specs.Completion.{completed, IsMalformedLine}
 use Rattle.daemon_parts.specs.declared.fault.DaemonFault.{DaemonFault}
 use Rattle.daemon_parts.specs.declared.fault.DaemonFault.TheVariants as fault
 use Rattle.daemon_parts.specs.Faults.{most_text}
@@ -12,20 +13,26 @@ IsSystemFault fault.NoMemory = Unit {0}
 IsSystemFault fault.Clock = Unit {0}
 IsSystemFault fault.Socket = Unit {0}
 IsSystemFault fault.Control = Unit {0}
+IsSystemFault fault.Metrics = Unit {0}
 IsSystemFault _ = ⊥
 
 abbrev pub Spells : List ℕ → Type 0
 Spells text = (setup : Setup) × IsConfiguration text setup
 
--- what each fault says of the text of the configuration: it is too long; it is not, and this is its first malformed line; it spells a setup
-abbrev pub IsServeFaultOf : List ℕ → DaemonFault → Type 0
-IsServeFaultOf text fault.TooLong = most_text < length text
-IsServeFaultOf text (fault.Line n) = (length text ≤ most_text) × IsMalformedAt text n
-IsServeFaultOf text fault.NoMemory = length text ≤ most_text
-IsServeFaultOf text fault.Clock = (length text ≤ most_text) × Spells text
-IsServeFaultOf text fault.Socket = (length text ≤ most_text) × Spells text
-IsServeFaultOf text fault.Control = (length text ≤ most_text) × Spells text
-IsServeFaultOf text _ = ⊥
+-- the text is not too long, and spells a setup where it is completed by this number
+abbrev pub IsRead : List ℕ → ℕ → Type 0
+IsRead text seconds = (length text ≤ most_text) × Spells (completed text seconds)
+
+-- what each fault says of the text of the configuration: it is too long; it is not, and this is its first malformed line; it was read
+abbrev pub IsServeFaultOf : List ℕ → ℕ → DaemonFault → Type 0
+IsServeFaultOf text seconds fault.TooLong = most_text < length text
+IsServeFaultOf text seconds (fault.Line n) = (length text ≤ most_text) × IsMalformedLine text seconds n
+IsServeFaultOf text seconds fault.NoMemory = length text ≤ most_text
+IsServeFaultOf text seconds fault.Clock = IsRead text seconds
+IsServeFaultOf text seconds fault.Socket = IsRead text seconds
+IsServeFaultOf text seconds fault.Control = IsRead text seconds
+IsServeFaultOf text seconds fault.Metrics = IsRead text seconds
+IsServeFaultOf text seconds _ = ⊥
 
 -- only a configuration that is read anew has another identity
 abbrev pub IsServeFault : DaemonFault → Type 0

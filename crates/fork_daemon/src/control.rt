@@ -1,8 +1,9 @@
 //! What the control socket asks of a proxy.
 use crate::proxy::{Proxy, State};
-use daemon_parts::{DaemonFault, ProxyFiles, read_again};
+use daemon_parts::{DaemonFault, Gauges, ProxyFiles, read_again, resident_bytes};
 use fork_clock::Watch;
 use fork_control::Controlled;
+use metrics_page::Counted;
 use std::alloc::Global;
 use std::io;
 use std::io::ErrorKind;
@@ -34,10 +35,26 @@ impl<'a, R: Wait + Clock + ProxyFiles> Control<'a, R> {
             self.rt,
             proxy.alloc,
             proxy.paths.config.as_str(),
+            proxy.limits.seconds,
             proxy.limits.identity,
         )?;
         *proxy.setup.write(self.rt) = setup;
         Ok(())
+    }
+
+    /// The counters as they stand now, in the text form of Prometheus.
+    ///
+    /// # Errors
+    ///
+    /// Want of memory for the text.
+    fn text(&self) -> io::Result<Vec<u8>> {
+        let proxy = self.proxy;
+        let gauges = Gauges {
+            seconds: self.micros() / 1_000_000,
+            held: proxy.calls.held(self.rt),
+            resident: resident_bytes(self.rt, proxy.alloc),
+        };
+        Ok(proxy.counts.text(proxy.alloc, gauges)?)
     }
 }
 
@@ -57,13 +74,20 @@ impl<'a, R: Wait + Clock + ProxyFiles> Controlled for Control<'a, R> {
     }
 
     fn stats(&self) -> Result<String<Global>, io::Error> {
-        let seconds = self.micros() / 1_000_000;
-        let held = self.proxy.calls.held(self.rt);
-        let text = self.proxy.counts.text(self.proxy.alloc, seconds, held)?;
-        match String::from_utf8(text) {
+        match String::from_utf8(self.text()?) {
             Ok(text) => Ok(text),
             Err(_) => Err(io::Error::from(ErrorKind::InvalidData)),
         }
+    }
+
+    fn has_ended(&self) -> bool {
+        self.proxy.is_in(State::Ended)
+    }
+}
+
+impl<'a, R: Wait + Clock + ProxyFiles> Counted for Control<'a, R> {
+    fn counters(&self) -> io::Result<Vec<u8>> {
+        self.text()
     }
 
     fn has_ended(&self) -> bool {

@@ -3,7 +3,7 @@ ghost use Rattle.std.specs.Prelude.{◌≡◌};
 
 use crate::journal::append_block;
 use call_table::Shelf;
-use daemon_parts::{Counts, Identity, Options, ProxyFiles, Socket};
+use daemon_parts::{Counts, Identity, Marks, Options, ProxyFiles, Socket};
 use fork_call::{Call, Port, Setup, carry};
 use fork_clock::{Epoch, Schedule};
 use sip_uri::Hop;
@@ -37,8 +37,8 @@ impl State {
 enum Next {
     At(u64),
     Nothing,
-    /// It is over: whether it was answered with a 2xx.
-    Over(bool),
+    /// It is over: the status with which it failed; None where it was answered with a 2xx.
+    Over(Option<u16>),
 }
 
 /// The files of a proxy.
@@ -49,10 +49,19 @@ pub(crate) struct Paths {
     journal: Option<String>,
 }
 
+/// How a proxy is started: as these options say, with this number of the run for a configuration that has no line of an instance.
+#[derive(Clone, Copy)]
+pub(crate) struct Start<'a> {
+    pub(crate) options: Options<'a>,
+    pub(crate) seconds: u32,
+}
+
 /// What a proxy keeps to as long as it runs.
 #[derive(Clone, Copy)]
 pub(crate) struct Limits {
     pub(crate) identity: Identity,
+    /// The number of the run for a configuration that has no line of an instance.
+    pub(crate) seconds: u32,
     most_calls: u64,
     pub(crate) records: bool,
     /// When it began, in seconds since 1970.
@@ -69,6 +78,8 @@ pub(crate) struct Proxy {
     pub(crate) schedule: Schedule<Global>,
     pub(crate) epoch: Epoch,
     pub(crate) counts: Counts,
+    /// The calls that are kept and were counted as finished.
+    finished: Marks,
     pub(crate) paths: Paths,
     pub(crate) limits: Limits,
     state: AtomicU64,
@@ -80,28 +91,11 @@ pub(crate) struct Proxy {
     journal: Mutex<u64>,
 }
 
-/// Carries a call, and answers what is to be done next. Of one that is over the block for the journal is appended, or nothing for
-/// want of memory.
-fn carried<P: Port>(
-    call: &mut Call<Global>,
-    port: &mut P,
-    now: u64,
-    time: u64,
-    block: &mut Vec<u8>,
-) -> Next
-    ensures { call.new.opened.number ≡ call.old.opened.number }
-{
-    match carry(call, port, now) {
-        Ok(carried) if !carried.more => match call.due() {
-            Some(due) => Next::At(due),
-            None if call.over() => {
-                let _ = append_block(call, time, block);
-                Next::Over(call.book().context().succeeded())
-            }
-            None => Next::Nothing,
-        },
-        Ok(_) => Next::At(now),
-        Err(AllocError) => Next::At(now.saturating_add(1)),
+/// The status with which a call that is over failed; None where it was answered with a 2xx.
+fn failure_of(call: &Call<Global>) -> Option<u16> {
+    match call.book().context().choice_with_status() {
+        Some((_, status)) => Some(status),
+        None => None,
     }
 }
 
@@ -120,7 +114,7 @@ fn is_open(call: &mut Call<Global>) -> bool
 }
 
 /// Seconds since 1970; 0 where the clock cannot be read.
-fn seconds<R: Clock>(rt: &R) -> u64 {
+pub(crate) fn seconds<R: Clock>(rt: &R) -> u64 {
     match SystemTime::UNIX_EPOCH.elapsed(rt) {
         Ok(passed) => passed.as_secs(),
         Err(_) => 0,
@@ -144,13 +138,15 @@ impl Proxy {
     pub(crate) fn new<R: Clock>(
         rt: &R,
         alloc: Global,
-        options: Options<'_>,
+        start: Start<'_>,
         setup: Setup<Global>,
         socket: Socket,
         epoch: Epoch,
     ) -> Result<Proxy, AllocError> {
+        let options = start.options;
         let calls = Shelf::new(alloc)?;
         let schedule = Schedule::new(alloc)?;
+        let finished = Marks::new(alloc)?;
         let paths = Paths {
             config: String::from_str(alloc, options.config)?,
             control: String::from_str(alloc, options.control)?,
@@ -158,6 +154,7 @@ impl Proxy {
         };
         let limits = Limits {
             identity: Identity::of(&setup),
+            seconds: start.seconds,
             most_calls: options.most_calls,
             records: options.records,
             began: seconds(rt),
@@ -170,6 +167,7 @@ impl Proxy {
             schedule,
             epoch,
             counts: Counts::new(),
+            finished,
             paths,
             limits,
             state: AtomicU64::new(0),
@@ -295,17 +293,65 @@ impl Proxy {
         }
     }
 
+    /// Counts a call as finished, once, where each of its branches has ended and it is not over. One that is over is counted as it is
+    /// forgotten, so that its mark is not set anew behind that.
+    fn count_finished(&self, call: &Call<Global>) {
+        if call.book().context().finished() && self.finished.set(call.number()) {
+            self.counts.calls.finished.add(1);
+        }
+    }
+
+    /// Carries a call, and answers what is to be done next. Of one that is over the block for the journal is appended, or nothing for
+    /// want of memory.
+    fn carried<P: Port>(
+        &self,
+        call: &mut Call<Global>,
+        port: &mut P,
+        now: u64,
+        block: &mut Vec<u8>,
+    ) -> Next
+        ensures { call.new.opened.number ≡ call.old.opened.number }
+    {
+        match carry(call, port, now) {
+            Ok(carried) if !carried.more => self.next_of(call, now, block),
+            Ok(_) => Next::At(now),
+            Err(AllocError) => Next::At(now.saturating_add(1)),
+        }
+    }
+
+    /// What is to be done next with a call that was carried.
+    fn next_of(&self, call: &Call<Global>, now: u64, block: &mut Vec<u8>) -> Next {
+        let due = call.due();
+        if due.is_none() && call.over() {
+            let _ = append_block(call, self.time_at(now), block);
+            return Next::Over(failure_of(call));
+        }
+        self.count_finished(call);
+        match due {
+            Some(due) => Next::At(due),
+            None => Next::Nothing,
+        }
+    }
+
     /// Forgets a call that is over, counts how it ended, and writes it down. Who comes second to it does nothing.
-    fn forget<R: Wait + ProxyFiles>(&self, rt: &R, number: u64, is_answered: bool, block: &[u8]) {
+    fn forget<R: Wait + ProxyFiles>(
+        &self,
+        rt: &R,
+        number: u64,
+        failure: Option<u16>,
+        block: &[u8],
+    ) {
         if !self.calls.remove(rt, number) {
             return;
         }
         self.give_place_back();
         self.counts.calls.forgotten.add(1);
-        if is_answered {
-            self.counts.calls.answered.add(1);
-        } else {
-            self.counts.calls.failed.add(1);
+        if !self.finished.clear(number) {
+            self.counts.calls.finished.add(1);
+        }
+        match failure {
+            Some(status) => self.counts.calls.failed.add(status),
+            None => self.counts.calls.answered.add(1),
         }
         self.write_down(rt, block);
     }
@@ -319,13 +365,10 @@ impl Proxy {
         now: u64,
     ) {
         let mut block = Vec::new(self.alloc);
-        let time = self.time_at(now);
-        let next = self.calls.with(rt, number, |call| {
-            carried(call, port, now, time, &mut block)
-        });
+        let next = self.calls.with(rt, number, |call| self.carried(call, port, now, &mut block));
         match next {
             Some(Next::At(due)) => self.schedule.add(rt, number, due),
-            Some(Next::Over(is_answered)) => self.forget(rt, number, is_answered, block.as_slice()),
+            Some(Next::Over(failure)) => self.forget(rt, number, failure, block.as_slice()),
             Some(Next::Nothing) | None => {}
         }
     }

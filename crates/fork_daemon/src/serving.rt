@@ -2,26 +2,28 @@
 ghost use denote.Param.Send.{IsSync};
 ghost use Rattle.fork_daemon.specs.contracts.serving.Server.{the_row as server_row};
 ghost use Rattle.std.specs.Prelude.{◌↔◌, ◌<◌, length, IfErr, OnOk, IsErrOf};
+ghost use Rattle.daemon_parts.specs.Completion.{completed};
 ghost use Rattle.daemon_parts.specs.declared.fault.DaemonFault.TheVariants as faults;
-ghost use Rattle.daemon_parts.specs.Faults.{most_text, IsConfigurationFault, IsControlFault, IsSocketFault};
+ghost use Rattle.daemon_parts.specs.Faults.{most_text, IsConfigurationFault, IsControlFault, IsMetricsFault, IsSocketFault};
 ghost use Rattle.fork_daemon.specs.Faults.{IsServeFault, IsServeFaultOf, IsSystemFault, Spells};
 
 use crate::control::Control;
 use crate::job::Job;
-use crate::proxy::Proxy;
+use crate::proxy::{Proxy, Start, seconds};
 use call_table::Inbox;
 use daemon_parts::{
-    DaemonFault, Options, ProxyFiles, Socket, configuration_fault, control_fault, read_setup,
-    read_text,
+    DaemonFault, Options, ProxyFiles, Socket, configuration_fault, control_fault, metrics_fault,
+    read_setup, read_text,
 };
 use fork_call::Setup;
 use fork_clock::{Epoch, Watch};
 use fork_control::listen;
 use libc::net;
+use metrics_page::{PageSockets, answer_scrapers};
 use sip_uri::Hop;
 use std::alloc::{AllocError, Global};
 use std::io::Print;
-use std::net::Net;
+use std::net::{Net, TcpListener};
 use std::os::fd::AsRawFd;
 use std::os::unix::net::UnixListener;
 use std::sync::Wait;
@@ -44,6 +46,9 @@ trait Crew {
     /// Answers at the control socket until it is closed.
     fn answer<R: Wait + ProxyFiles + Clock>(&self, rt: &R);
 
+    /// Answers those who scrape the counters, if there is an address for them, until it is closed.
+    fn show<R: Wait + ProxyFiles + Clock + PageSockets>(&self, rt: &R);
+
     /// Receives until the end.
     fn receive<R: Wait>(
         &self,
@@ -59,15 +64,22 @@ trait Crew {
     /// Writes down what is left, once no thread works any more, and tells so.
     fn leave<R: Wait + ProxyFiles + Clock + Print>(&self, rt: &R);
 
-    /// Closes the control socket. Whoever waits there for the end knows then that it has come.
+    /// Closes the control socket and the one for scrapers. Whoever waits for the end at the control socket knows then that it has come.
     fn close(&self);
 }
 
-/// A proxy and its control socket.
+/// The socket for those who scrape the counters, if there is an address for them.
+#[derive(Drop)]
+struct Scraped {
+    listener: Option<TcpListener>,
+}
+
+/// A proxy, its control socket, and the socket for those who scrape its counters.
 #[derive(Drop)]
 struct Server {
     proxy: Proxy,
     listener: UnixListener,
+    scraped: Scraped,
 }
 
 impl Crew for Server {
@@ -85,6 +97,16 @@ impl Crew for Server {
             proxy: &self.proxy,
         };
         listen(self.proxy.alloc, &control, &self.listener);
+    }
+
+    fn show<R: Wait + ProxyFiles + Clock + PageSockets>(&self, rt: &R) {
+        let control = Control {
+            rt,
+            proxy: &self.proxy,
+        };
+        if let Some(listener) = &self.scraped.listener {
+            answer_scrapers(rt, self.proxy.alloc, &control, listener);
+        }
     }
 
     fn receive<R: Wait>(
@@ -112,6 +134,9 @@ impl Crew for Server {
 
     fn close(&self) {
         let _ = net::shutdown(self.listener.as_raw_fd(), net::SHUT_RDWR);
+        if let Some(listener) = &self.scraped.listener {
+            let _ = net::shutdown(listener.as_raw_fd(), net::SHUT_RDWR);
+        }
     }
 }
 
@@ -182,9 +207,9 @@ fn work_all<C: Crew + Sync, R: Threads + Wait + ProxyFiles + Clock + Sync>(
     )
 }
 
-/// Answers at the control socket while the proxy works, and ends in good order: who waits for the end at the control socket hears of it
-/// last.
-fn run<C: Crew + Sync, R: Threads + Wait + ProxyFiles + Clock + Print + Sync>(
+/// Answers at the control socket and scrapers while the proxy works, and ends in good order: who waits for the end at the control socket
+/// hears of it last.
+fn run<C: Crew + Sync, R: Threads + Wait + ProxyFiles + PageSockets + Clock + Print + Sync>(
     rt: &R,
     crew: &C,
     ways: Ways<'_>,
@@ -199,7 +224,8 @@ fn run<C: Crew + Sync, R: Threads + Wait + ProxyFiles + Clock + Print + Sync>(
             ensures { IfErr result IsSystemFault }
         {
             let listens = scope.spawn(move || crew.answer(rt)).is_ok();
-            let ran = if listens {
+            let shows = scope.spawn(move || crew.show(rt)).is_ok();
+            let ran = if listens && shows {
                 work_all(rt, crew, ways, buffer)
             } else {
                 Err(DaemonFault::NoMemory)
@@ -234,6 +260,21 @@ fn open_control<R: ProxyFiles>(rt: &R, path: &str) -> Result<UnixListener, Daemo
     }
 }
 
+/// Listens at the address for those who scrape the counters, if there is one.
+fn open_metrics<R: PageSockets>(rt: &R, address: Option<&str>) -> Result<Scraped, DaemonFault>
+    ensures { IfErr result IsMetricsFault }
+{
+    let Some(address) = address else {
+        return Ok(Scraped { listener: None });
+    };
+    match rt.listen_on(address) {
+        Ok(listener) => Ok(Scraped {
+            listener: Some(listener),
+        }),
+        Err(error) => Err(metrics_fault(error)),
+    }
+}
+
 /// Binds the address of a setup.
 fn bound<R: Net>(rt: &R, setup: &Setup<Global>) -> Result<Socket, DaemonFault>
     ensures { IfErr result IsSocketFault }
@@ -247,13 +288,13 @@ fn bound<R: Net>(rt: &R, setup: &Setup<Global>) -> Result<Socket, DaemonFault>
     Socket::bind(rt, hop)
 }
 
-/// Binds the address of a setup and the control socket, and makes a proxy without a call.
-#[tactic(auto, using(crate::proofs::Faults::socket_is_system, crate::proofs::Faults::control_is_system))]
-fn server_of<R: Net + Clock + ProxyFiles>(
+/// Binds the address of a setup, the one for scrapers and the control socket, and makes a proxy without a call.
+#[tactic(auto, using(crate::proofs::Faults::socket_is_system, crate::proofs::Faults::metrics_is_system, crate::proofs::Faults::control_is_system))]
+fn server_of<R: Net + Clock + ProxyFiles + PageSockets>(
     rt: &R,
     alloc: Global,
     setup: Setup<Global>,
-    options: Options<'_>,
+    start: Start<'_>,
 ) -> Result<Server, DaemonFault>
     ensures { IfErr result IsSystemFault }
 {
@@ -261,9 +302,14 @@ fn server_of<R: Net + Clock + ProxyFiles>(
     let Some(epoch) = Epoch::now(rt) else {
         return Err(DaemonFault::Clock);
     };
-    let proxy = Proxy::new(rt, alloc, options, setup, socket, epoch)?;
-    let listener = open_control(rt, options.control)?;
-    Ok(Server { proxy, listener })
+    let proxy = Proxy::new(rt, alloc, start, setup, socket, epoch)?;
+    let scraped = open_metrics(rt, start.options.metrics)?;
+    let listener = open_control(rt, start.options.control)?;
+    Ok(Server {
+        proxy,
+        listener,
+        scraped,
+    })
 }
 
 /// The wakers of so many workers.
@@ -285,7 +331,7 @@ fn print_listening<P: Print>(out: &P, own: Hop) {
 }
 
 /// Makes the ways to the workers, tells where the proxy listens, and lets it run until the end.
-fn run_workers<R: Threads + Wait + ProxyFiles + Clock + Print + Sync>(
+fn run_workers<R: Threads + Wait + ProxyFiles + PageSockets + Clock + Print + Sync>(
     rt: &R,
     alloc: Global,
     server: &Server,
@@ -301,7 +347,8 @@ fn run_workers<R: Threads + Wait + ProxyFiles + Clock + Print + Sync>(
     run(rt, server, ways, buffer.as_mut_slice())
 }
 
-/// Reads a configuration's file, and answers whether a proxy would serve by it.
+/// Reads a configuration's file, and answers whether a proxy would serve by it. Where it has no line of an instance, none is missing:
+/// whichever number a run has, its line is well-formed.
 ///
 /// # Errors
 ///
@@ -309,64 +356,73 @@ fn run_workers<R: Threads + Wait + ProxyFiles + Clock + Print + Sync>(
 pub fn check_config<R: ProxyFiles>(rt: &R, alloc: Global, config: &str) -> Result<(), DaemonFault>
     ensures { IfErr result IsConfigurationFault }
 {
-    let setup = read_setup(rt, alloc, config)?;
+    let setup = read_setup(rt, alloc, config, 0)?;
     drop(setup);
     Ok(())
 }
 
 /// Serves as a setup says.
-fn serve_setup<R: Threads + Wait + Net + ProxyFiles + Clock + Print + Sync>(
+fn serve_setup<R: Threads + Wait + Net + ProxyFiles + PageSockets + Clock + Print + Sync>(
     rt: &R,
     alloc: Global,
     setup: Setup<Global>,
-    options: Options<'_>,
+    start: Start<'_>,
 ) -> Result<(), DaemonFault>
     ensures { IfErr result IsSystemFault }
 {
-    let server = server_of(rt, alloc, setup, options)?;
-    run_workers(rt, alloc, &server, options.workers)
+    let server = server_of(rt, alloc, setup, start)?;
+    run_workers(rt, alloc, &server, start.options.workers)
 }
 
-/// Serves as [`serve`] does, by this text of a configuration; `reload` reads the configuration's file.
+/// Serves as [`serve`] does, by this text of a configuration; `reload` reads the configuration's file. Where a text has no line of an
+/// instance, this number of the run is its instance.
 ///
 /// # Errors
 ///
 /// Those of [`serve`] but for `Unreadable`.
 #[tactic(auto, using(crate::proofs::Faults::read_is_serve, crate::proofs::Faults::system_is_serve))]
-pub fn serve_text<R: Threads + Wait + Net + ProxyFiles + Clock + Print + Sync>(
+pub fn serve_text<R: Threads + Wait + Net + ProxyFiles + PageSockets + Clock + Print + Sync>(
     rt: &R,
     alloc: Global,
     text: &[u8],
+    seconds: u32,
     options: Options<'_>,
 ) -> Result<(), DaemonFault>
-    ensures served { OnOk result (Spells text.now) }
+    ensures served { OnOk result (Spells (completed text.now seconds)) }
     ensures too_long { IsErrOf result faults.TooLong ↔ (most_text < length text.now) }
-    ensures fault { IfErr result (IsServeFaultOf text.now) }
+    ensures fault { IfErr result (IsServeFaultOf text.now seconds) }
 {
-    let setup = read_text(alloc, text)?;
-    serve_setup(rt, alloc, setup, options)
+    let setup = read_text(alloc, text, seconds)?;
+    serve_setup(rt, alloc, setup, Start { options, seconds })
+}
+
+/// The number of a run that begins now: the seconds since 1970, 4,294,967,295 at most.
+fn number_of_run<R: Clock>(rt: &R) -> u32 {
+    u32::try_from(seconds(rt)).unwrap_or(u32::MAX)
 }
 
 /// Serves until it is told to stop, at the control socket. It tells where it listens, and at the end how many calls it had and how
-/// many were left. What its threads do is proved call by call (`proxy_dispatch::handle`, `fork_call::carry`); no clause says what they
+/// many were left. Where the configuration has no line of an instance, that is the time of the start, in seconds since 1970. What its
+/// threads do is proved call by call (`proxy_dispatch::handle`, `fork_call::carry`); no clause says what they
 /// do together.
 ///
 /// # Errors
 ///
 /// The configuration's faults as [`check_config`] finds them; `Socket` where the address cannot be bound or a receive failed; `Clock`
-/// where the clock cannot be read; `Control` where the control socket cannot be made; `NoMemory` where the allocator refuses or a
-/// thread could not be made.
+/// where the clock cannot be read; `Metrics` where the address for scrapers cannot be bound; `Control` where the control socket cannot be
+/// made; `NoMemory` where the allocator refuses or a thread could not be made.
 #[tactic(auto, using(crate::proofs::Faults::configuration_is_serve, crate::proofs::Faults::text_is_serve))]
-pub fn serve<R: Threads + Wait + Net + ProxyFiles + Clock + Print + Sync>(
+pub fn serve<R: Threads + Wait + Net + ProxyFiles + PageSockets + Clock + Print + Sync>(
     rt: &R,
     alloc: Global,
     options: Options<'_>,
 ) -> Result<(), DaemonFault>
     ensures { IfErr result IsServeFault }
 {
+    let seconds = number_of_run(rt);
     let text = match rt.read_file(alloc, options.config) {
         Ok(text) => text,
         Err(error) => return Err(configuration_fault(error)),
     };
-    serve_text(rt, alloc, text.as_slice(), options)
+    serve_text(rt, alloc, text.as_slice(), seconds, options)
 }

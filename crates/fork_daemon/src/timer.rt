@@ -50,14 +50,13 @@ impl Proxy {
 
     /// Does what is due, when it is, until the end.
     pub(crate) fn keep_time<R: Wait + ProxyFiles + Clock>(&self, rt: &R) {
-        let mut port = SocketPort::new(&self.socket);
+        let counts = &self.counts.datagrams;
+        let mut port = SocketPort::new(&self.socket, counts, &counts.timed);
         let mut watch = Watch::new(self.epoch);
         let mut oldest = 0u64;
-        let mut counted = 0u64;
         for _ in rt.forever() {
             let now = watch.micros(rt) / 1_000;
             self.tick(rt, &mut port, now);
-            counted = self.count_unsent(counted, port.failures());
             if self.is_in(State::Ended) {
                 return;
             }

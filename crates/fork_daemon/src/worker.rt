@@ -80,9 +80,10 @@ impl Proxy {
                 self.counts.datagrams.delivered.add(1);
                 self.carry(rt, port, number, now);
             }
-            Handled::Answered(_) => self.counts.datagrams.answered.add(1),
+            Handled::Answered(status) => self.counts.datagrams.answered.add(status),
             Handled::Forwarded => self.counts.datagrams.forwarded.add(1),
-            Handled::Dropped | Handled::Absorbed => self.counts.datagrams.dropped.add(1),
+            Handled::Dropped => self.counts.datagrams.dropped.add(1),
+            Handled::Absorbed => self.counts.datagrams.absorbed.add(1),
         }
     }
 
@@ -115,24 +116,15 @@ impl Proxy {
         }
     }
 
-    /// Counts the sends that the system refused since so many were counted, and answers how many it has refused.
-    pub(crate) fn count_unsent(&self, counted: u64, failures: u64) -> u64 {
-        self.counts
-            .datagrams
-            .unsent
-            .add(failures.saturating_sub(counted));
-        failures
-    }
-
     /// Does the jobs that a worker is given, until the end job. A moment is read as a job is begun.
     pub(crate) fn work<R: Wait + ProxyFiles + Clock>(
         &self,
         rt: &R,
         mut jobs: JobReceiver<'_, Job>,
     ) {
-        let mut port = SocketPort::new(&self.socket);
+        let counts = &self.counts.datagrams;
+        let mut port = SocketPort::new(&self.socket, counts, &counts.sent);
         let mut watch = Watch::new(self.epoch);
-        let mut counted = 0u64;
         for _ in rt.forever() {
             match jobs.receive(rt) {
                 Job::Packet { bytes, source } => {
@@ -151,7 +143,6 @@ impl Proxy {
                 }
                 Job::Finish => return,
             }
-            counted = self.count_unsent(counted, port.failures());
         }
         unreachable!()
     }

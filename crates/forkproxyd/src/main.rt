@@ -5,6 +5,7 @@ use clap::{Arg, ArgAction, ArgMatches, Command, value_parser};
 use daemon_parts::{DaemonFault, Options, ProxyFiles};
 use fork_control::tell;
 use fork_daemon::{check_config, serve};
+use metrics_page::PageSockets;
 use std::alloc::{AllocError, Global};
 use std::io::{Eprint, Print};
 use std::net::Net;
@@ -94,7 +95,15 @@ fn with_limits<'a>(alloc: Global, command: Command<'a>) -> Result<Command<'a>, A
         .long("record-route")
         .action(ArgAction::SetTrue)
         .help("stays on the path of dialogs, by a Record-Route line in each INVITE that opens one");
-    command.arg(most_calls)?.arg(workers)?.arg(record_route)
+    let metrics = Arg::new(alloc, "metrics")
+        .long("metrics")
+        .value_name("ADDRESS:PORT")
+        .help("where the counters are scraped, by a GET of /metrics");
+    command
+        .arg(most_calls)?
+        .arg(workers)?
+        .arg(record_route)?
+        .arg(metrics)
 }
 
 /// The command line.
@@ -160,7 +169,7 @@ fn told(rt: &HostRuntime, matches: &ArgMatches<'_>) -> u8 {
 }
 
 /// Serves as the words say.
-fn served<R: Threads + Wait + Net + ProxyFiles + Clock + Print + Sync>(
+fn served<R: Threads + Wait + Net + ProxyFiles + PageSockets + Clock + Print + Sync>(
     handle: &R,
     rt: &HostRuntime,
     matches: &ArgMatches<'_>,
@@ -185,12 +194,13 @@ fn served<R: Threads + Wait + Net + ProxyFiles + Clock + Print + Sync>(
         most_calls,
         workers,
         records: matches.get_flag("record-route"),
+        metrics: matches.get_str("metrics"),
     };
     ended(rt, serve(handle, rt.alloc(), options))
 }
 
 /// Does what the words ask for; `handle` has the threads and the sockets.
-fn run<R: Threads + Wait + Net + ProxyFiles + Clock + Print + Sync>(
+fn run<R: Threads + Wait + Net + ProxyFiles + PageSockets + Clock + Print + Sync>(
     handle: &R,
     rt: &HostRuntime,
     words: &[String],

@@ -1,8 +1,9 @@
 //! What a service is made of below its threads.
 use crate::holds::holds;
 use daemon_parts::{
-    Counts, DaemonFault, Identity, ProxyFiles, Sent, Socket, configuration_fault, control_fault,
-    read_again, read_text, socket_fault, worker_of,
+    Counts, DaemonFault, Gauges, Identity, Marks, ProxyFiles, Sent, Socket, configuration_fault,
+    control_fault, metrics_fault, read_again, read_setup, read_text, resident_bytes,
+    resident_pages, socket_fault, worker_of,
 };
 use sip_uri::Hop;
 use sip_via::Own;
@@ -14,9 +15,21 @@ use std::{fs, io};
 
 const CONFIGURATION: &[u8] = b"own 127.0.0.1 47430\ninstance 7\ndomain example.com\n";
 
+/// The same without the line of its instance.
+const WITHOUT_INSTANCE: &[u8] = b"own 127.0.0.1 47430\ndomain example.com\n";
+
+/// The number of the run.
+const RUN: u32 = 1_700_000_000;
+
+/// Where a proxy of these configurations receives.
+const OWN: Own = Own {
+    addr: [127, 0, 0, 1],
+    port: 47_430,
+};
+
 /// The identity of a proxy that this text sets up, or why it sets up none.
 fn identity_of(alloc: Global, text: &[u8]) -> Result<Identity, DaemonFault> {
-    let setup = read_text(alloc, text)?;
+    let setup = read_text(alloc, text, RUN)?;
     Ok(Identity::of(&setup))
 }
 
@@ -28,11 +41,10 @@ fn filled(alloc: Global, count: usize) -> Result<Vec<u8>, AllocError> {
 #[test]
 fn a_text_sets_a_proxy_up(rt: HostRuntime) -> Result<(), Fail> {
     let alloc = rt.alloc();
-    let own = Own {
-        addr: [127, 0, 0, 1],
-        port: 47_430,
+    let identity = Identity {
+        own: OWN,
+        instance: 7,
     };
-    let identity = Identity { own, instance: 7 };
     let read = identity_of(alloc, CONFIGURATION);
     holds(&rt, read == Ok(identity), "its address and its instance");
     let read = identity_of(alloc, b"own 127.0.0.1 47430\ninstance seven\n");
@@ -48,12 +60,37 @@ fn a_text_sets_a_proxy_up(rt: HostRuntime) -> Result<(), Fail> {
 }
 
 #[test]
+fn a_run_is_the_instance_that_a_text_leaves_out(rt: HostRuntime) {
+    let alloc = rt.alloc();
+    let identity = Identity {
+        own: OWN,
+        instance: RUN,
+    };
+    let read = identity_of(alloc, WITHOUT_INSTANCE);
+    holds(&rt, read == Ok(identity), "the number of the run");
+    for (text, line) in [
+        ("own nowhere\ndomain example.com\n", 1),
+        ("own 127.0.0.1 47430\n", 2),
+        ("own 127.0.0.1 47430\ninstances 7\ndomain example.com\n", 2),
+        ("own 127.0.0.1 47430\ndomain example.com\nprefer it\n", 3),
+        (
+            "own 127.0.0.1 47430\ninstance 7\ndomain example.com\nprefer it\n",
+            4,
+        ),
+    ] {
+        let read = identity_of(alloc, text.as_bytes());
+        holds(&rt, read == Err(DaemonFault::Line(line)), text);
+    }
+}
+
+#[test]
 fn a_fault_has_a_status(rt: HostRuntime) {
     for (fault, status) in [
         (DaemonFault::Unreadable, 1),
         (DaemonFault::Identity, 1),
         (DaemonFault::NoMemory, 3),
         (DaemonFault::Socket, 5),
+        (DaemonFault::Metrics, 5),
     ] {
         holds(&rt, fault.status() == status, "the status of a fault");
     }
@@ -67,14 +104,25 @@ fn a_fault_of_the_system_is_told(rt: HostRuntime) {
     holds(&rt, refused == DaemonFault::NoMemory, "no memory");
     let refused = control_fault(io::Error::from(ErrorKind::AddrInUse));
     holds(&rt, refused == DaemonFault::Control, "no control socket");
+    let refused = metrics_fault(io::Error::from(ErrorKind::AddrInUse));
+    holds(&rt, refused == DaemonFault::Metrics, "no metrics address");
 }
 
 /// A file in the folder in which the test runs.
 const FILE: &str = "daemon_parts_test_config";
 
-/// Why a proxy of this identity does not read its file anew, if it does not.
-fn read_by<R: ProxyFiles>(rt: &R, alloc: Global, identity: Identity) -> Option<DaemonFault> {
-    match read_again(rt, alloc, FILE, identity) {
+/// Why a proxy of this instance, which was started as run `RUN`, does not read its file anew, if it does not.
+fn read_by<R: ProxyFiles>(rt: &R, alloc: Global, instance: u32) -> Option<DaemonFault> {
+    let identity = Identity { own: OWN, instance };
+    match read_again(rt, alloc, FILE, RUN, identity) {
+        Ok(_) => None,
+        Err(fault) => Some(fault),
+    }
+}
+
+/// Why a proxy is not started by the file, if it is not.
+fn started_by<R: ProxyFiles>(rt: &R, alloc: Global) -> Option<DaemonFault> {
+    match read_setup(rt, alloc, FILE, RUN) {
         Ok(_) => None,
         Err(fault) => Some(fault),
     }
@@ -83,34 +131,52 @@ fn read_by<R: ProxyFiles>(rt: &R, alloc: Global, identity: Identity) -> Option<D
 #[test]
 fn a_file_is_read_anew(rt: HostRuntime) {
     let alloc = rt.alloc();
-    let own = Own {
-        addr: [127, 0, 0, 1],
-        port: 47_430,
-    };
     let _ = fs::remove_file(&rt, FILE);
-    let missed = read_by(&rt, alloc, Identity { own, instance: 7 });
+    let missed = read_by(&rt, alloc, 7);
     holds(&rt, missed == Some(DaemonFault::Unreadable), "no file");
-    holds(
-        &rt,
-        fs::write(&rt, FILE, CONFIGURATION).is_ok(),
-        "it is written",
-    );
-    let missed = read_by(&rt, alloc, Identity { own, instance: 7 });
-    holds(&rt, missed.is_none(), "it is taken");
-    let missed = read_by(&rt, alloc, Identity { own, instance: 8 });
-    holds(
-        &rt,
-        missed == Some(DaemonFault::Identity),
-        "another instance",
-    );
+    for (text, instance, fault, what) in [
+        (CONFIGURATION, 7, None, "it is taken"),
+        (
+            CONFIGURATION,
+            8,
+            Some(DaemonFault::Identity),
+            "another instance",
+        ),
+        (WITHOUT_INSTANCE, RUN, None, "the instance of the run"),
+        (
+            WITHOUT_INSTANCE,
+            7,
+            Some(DaemonFault::Identity),
+            "another run",
+        ),
+    ] {
+        holds(&rt, fs::write(&rt, FILE, text).is_ok(), "it is written");
+        holds(&rt, read_by(&rt, alloc, instance) == fault, what);
+    }
+    holds(&rt, started_by(&rt, alloc).is_none(), "it starts a proxy");
     let _ = fs::remove_file(&rt, FILE);
 }
 
-/// Whether the counters begin and end so.
-fn are_counted(alloc: Global, counts: &Counts, front: &str, end: &str) -> bool {
-    match counts.text(alloc, 3, 2) {
-        Ok(text) => text.starts_with(front.as_bytes()) && text.ends_with(end.as_bytes()),
-        Err(_) => false,
+/// Whether a line stands in a text.
+fn has_line(text: &[u8], line: &str) -> bool {
+    let line = line.as_bytes();
+    let len = line.len();
+    len > 0 && text.windows(len).any(|part| part == line)
+}
+
+/// How many of these lines stand in the text of the counters.
+fn lines_in(alloc: Global, counts: &Counts, lines: &[&str]) -> usize {
+    let gauges = Gauges {
+        seconds: 3,
+        held: 2,
+        resident: Some(4_096),
+    };
+    match counts.text(alloc, gauges) {
+        Ok(text) => lines
+            .iter()
+            .filter(|line| has_line(text.as_slice(), line))
+            .count(),
+        Err(_) => 0,
     }
 }
 
@@ -118,14 +184,55 @@ fn are_counted(alloc: Global, counts: &Counts, front: &str, end: &str) -> bool {
 fn what_is_counted_is_written(rt: HostRuntime) {
     let counts = Counts::new();
     counts.calls.opened.add(5);
+    counts.calls.finished.add(3);
+    counts.calls.failed.add(486);
+    counts.calls.failed.add(603);
+    counts.datagrams.answered.add(416);
+    counts.datagrams.answered.add(501);
+    counts.datagrams.timed.requests.add(8);
     counts.latencies.add(200);
-    let well = are_counted(
-        rt.alloc(),
-        &counts,
-        "# TYPE forkproxy_uptime_seconds gauge\nforkproxy_uptime_seconds 3\n# TYPE forkproxy_calls gauge\nforkproxy_calls 2\n# TYPE forkproxy_calls_opened_total counter\nforkproxy_calls_opened_total 5\n",
-        "forkproxy_handling_micros_bucket{le=\"+Inf\"} 1\nforkproxy_handling_micros_sum 200\nforkproxy_handling_micros_count 1\n",
-    );
-    holds(&rt, well, "the counters");
+    let lines = [
+        "# TYPE forkproxy_uptime_seconds gauge\nforkproxy_uptime_seconds 3\n",
+        "\nforkproxy_calls 2\n",
+        "\nforkproxy_calls_open 2\n",
+        "\nprocess_resident_memory_bytes 4096\n",
+        "\nforkproxy_calls_opened_total 5\n",
+        "# TYPE forkproxy_calls_failed_total counter\nforkproxy_calls_failed_total{class=\"3xx\"} 0\nforkproxy_calls_failed_total{class=\"4xx\"} 1\n",
+        "\nforkproxy_calls_failed_total{class=\"6xx\"} 1\n",
+        "\nforkproxy_answered_total{status=\"416\"} 1\n",
+        "\nforkproxy_answered_total{status=\"other\"} 1\n",
+        "\nforkproxy_timer_sent_total{message=\"request\"} 8\n",
+        "forkproxy_handling_micros_sum 200\nforkproxy_handling_micros_count 1\n",
+    ];
+    let found = lines_in(rt.alloc(), &counts, &lines);
+    holds(&rt, found == lines.len(), "the counters");
+}
+
+#[test]
+fn memory_is_told_by_the_system(rt: HostRuntime) {
+    let pages = resident_pages(b"765 422 393 5 0 123 0\n");
+    holds(&rt, pages == Some(422), "the second number");
+    holds(&rt, resident_pages(b"765").is_none(), "no second number");
+    let bytes = resident_bytes(&rt, rt.alloc()).unwrap_or(0);
+    holds(&rt, bytes > 4_096, "this process has memory");
+}
+
+/// Whether marks are set once, and cleared once.
+fn are_marked(alloc: Global) -> bool {
+    let Ok(marks) = Marks::new(alloc) else {
+        return false;
+    };
+    for number in [0, 63, 64, 4_194_303, 4_194_304 + 1] {
+        if !marks.set(number) || marks.set(number) {
+            return false;
+        }
+    }
+    marks.clear(63) && !marks.clear(63) && !marks.clear(62) && !marks.set(64)
+}
+
+#[test]
+fn a_call_is_marked_once(rt: HostRuntime) {
+    holds(&rt, are_marked(rt.alloc()), "the marks");
 }
 
 /// Where the socket of the test is.
