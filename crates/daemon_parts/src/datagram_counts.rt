@@ -129,6 +129,8 @@ pub struct DatagramCounts {
     pub absorbed: Count,
     /// Requests that were answered 503.
     pub turned_away: Count,
+    /// Those that were more than one source may send.
+    pub limited: Count,
     /// Those that a full inbox refused, and that were left for want of memory.
     pub crowded_out: Count,
     pub no_memory: Count,
@@ -151,6 +153,7 @@ impl DatagramCounts {
             dropped: Count::new(),
             absorbed: Count::new(),
             turned_away: Count::new(),
+            limited: Count::new(),
             crowded_out: Count::new(),
             no_memory: Count::new(),
             sent: SentCounts::new(),
@@ -169,6 +172,7 @@ impl DatagramCounts {
             counter(b"forkproxy_dropped_total", &self.dropped),
             counter(b"forkproxy_absorbed_total", &self.absorbed),
             counter(b"forkproxy_turned_away_total", &self.turned_away),
+            counter(b"forkproxy_limited_total", &self.limited),
             counter(b"forkproxy_crowded_out_total", &self.crowded_out),
             counter(b"forkproxy_no_memory_total", &self.no_memory),
         ];

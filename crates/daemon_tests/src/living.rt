@@ -41,6 +41,8 @@ const OPTIONS: Options<'static> = Options {
     most_calls: 2,
     workers: 2,
     records: true,
+    own_port: true,
+    most_per_source: Some(1_000),
     metrics: Some(METRICS),
 };
 

@@ -1,5 +1,5 @@
 //! What the control socket asks of a proxy.
-use crate::proxy::{Proxy, State};
+use crate::proxy::{Proxy, State, by_own_port};
 use daemon_parts::{DaemonFault, Gauges, ProxyFiles, read_again, resident_bytes};
 use fork_clock::Watch;
 use fork_control::Controlled;
@@ -38,7 +38,7 @@ impl<'a, R: Wait + Clock + ProxyFiles> Control<'a, R> {
             proxy.limits.seconds,
             proxy.limits.identity,
         )?;
-        *proxy.setup.write(self.rt) = setup;
+        *proxy.setup.write(self.rt) = by_own_port(setup, proxy.limits.own_port);
         Ok(())
     }
 

@@ -64,6 +64,8 @@ pub(crate) struct Limits {
     pub(crate) seconds: u32,
     most_calls: u64,
     pub(crate) records: bool,
+    pub(crate) own_port: bool,
+    pub(crate) most_per_source: Option<u32>,
     /// When it began, in seconds since 1970.
     began: u64,
 }
@@ -121,6 +123,15 @@ pub(crate) fn seconds<R: Clock>(rt: &R) -> u64 {
     }
 }
 
+/// A setup by which the own address counts as the domain with the own port alone, if that is asked for.
+pub(crate) fn by_own_port(setup: Setup<Global>, own_port: bool) -> Setup<Global> {
+    if own_port {
+        setup.with_own_port()
+    } else {
+        setup
+    }
+}
+
 /// A path of its own, if there is one.
 fn owned(alloc: Global, path: Option<&str>) -> Result<Option<String>, AllocError> {
     match path {
@@ -157,6 +168,8 @@ impl Proxy {
             seconds: start.seconds,
             most_calls: options.most_calls,
             records: options.records,
+            own_port: options.own_port,
+            most_per_source: options.most_per_source,
             began: seconds(rt),
         };
         Ok(Proxy {

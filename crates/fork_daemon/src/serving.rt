@@ -9,7 +9,7 @@ ghost use Rattle.fork_daemon.specs.Faults.{IsServeFault, IsServeFaultOf, IsSyste
 
 use crate::control::Control;
 use crate::job::Job;
-use crate::proxy::{Proxy, Start, seconds};
+use crate::proxy::{Proxy, Start, by_own_port, seconds};
 use call_table::Inbox;
 use daemon_parts::{
     DaemonFault, Options, ProxyFiles, Socket, configuration_fault, control_fault, metrics_fault,
@@ -50,7 +50,7 @@ trait Crew {
     fn show<R: Wait + ProxyFiles + Clock + PageSockets>(&self, rt: &R);
 
     /// Receives until the end.
-    fn receive<R: Wait>(
+    fn receive<R: Wait + Clock>(
         &self,
         rt: &R,
         senders: &mut [JobSender<'_, Job>],
@@ -109,7 +109,7 @@ impl Crew for Server {
         }
     }
 
-    fn receive<R: Wait>(
+    fn receive<R: Wait + Clock>(
         &self,
         rt: &R,
         senders: &mut [JobSender<'_, Job>],
@@ -370,6 +370,7 @@ fn serve_setup<R: Threads + Wait + Net + ProxyFiles + PageSockets + Clock + Prin
 ) -> Result<(), DaemonFault>
     ensures { IfErr result IsSystemFault }
 {
+    let setup = by_own_port(setup, start.options.own_port);
     let server = server_of(rt, alloc, setup, start)?;
     run_workers(rt, alloc, &server, start.options.workers)
 }

@@ -1,7 +1,9 @@
 //! What a worker does with the datagrams of its calls.
 use crate::job::Job;
+use crate::options::{answer_options, may_be_options};
 use crate::port::SocketPort;
 use crate::proxy::Proxy;
+use crate::stamping::StampedPort;
 use crate::turning::turn_away;
 use daemon_parts::ProxyFiles;
 use fork_call::Port;
@@ -87,6 +89,43 @@ impl Proxy {
         }
     }
 
+    /// Answers an OPTIONS request to the proxy itself, and says whether the datagram was one. It is answered while no call is opened,
+    /// too.
+    fn answers_options<R: Wait, P: Port>(
+        &self,
+        rt: &R,
+        port: &mut P,
+        received: Received<'_>,
+    ) -> Result<bool, AllocError> {
+        if !may_be_options(received.bytes) {
+            return Ok(false);
+        }
+        let setup = self.setup.read(rt);
+        answer_options(self.alloc, &*setup, received.bytes, received.source, port)
+    }
+
+    /// Handles a datagram, and what is to be done behind that; a 100 has the Timestamp of the request.
+    fn handle_stamped<R: Wait + ProxyFiles, P: Port>(
+        &self,
+        rt: &R,
+        port: &mut P,
+        received: Received<'_>,
+        has_place: bool,
+    ) -> Result<(), AllocError> {
+        let mut stamped = StampedPort {
+            port,
+            request: received.bytes,
+            alloc: self.alloc,
+            lacks_memory: false,
+        };
+        let handled = self.handled(rt, &mut stamped, received)?;
+        self.settle(rt, &mut stamped, handled, has_place, received.now);
+        if stamped.lacks_memory {
+            self.counts.datagrams.no_memory.add(1);
+        }
+        Ok(())
+    }
+
     /// Does what is to be done for a datagram that was received.
     fn take<R: Wait + ProxyFiles, P: Port>(
         &self,
@@ -94,6 +133,10 @@ impl Proxy {
         port: &mut P,
         received: Received<'_>,
     ) -> Result<(), AllocError> {
+        if self.answers_options(rt, port, received)? {
+            self.counts.datagrams.answered.add(200);
+            return Ok(());
+        }
         let has_place = self.keep_place();
         if !has_place {
             let (bytes, source) = (received.bytes, received.source);
@@ -102,18 +145,11 @@ impl Proxy {
                 return Ok(());
             }
         }
-        match self.handled(rt, port, received) {
-            Ok(handled) => {
-                self.settle(rt, port, handled, has_place, received.now);
-                Ok(())
-            }
-            Err(AllocError) => {
-                if has_place {
-                    self.give_place_back();
-                }
-                Err(AllocError)
-            }
+        let done = self.handle_stamped(rt, port, received, has_place);
+        if done.is_err() && has_place {
+            self.give_place_back();
         }
+        done
     }
 
     /// Does the jobs that a worker is given, until the end job. A moment is read as a job is begun.

@@ -95,6 +95,15 @@ fn with_limits<'a>(alloc: Global, command: Command<'a>) -> Result<Command<'a>, A
         .long("record-route")
         .action(ArgAction::SetTrue)
         .help("stays on the path of dialogs, by a Record-Route line in each INVITE that opens one");
+    let own_port = Arg::new(alloc, "own-port")
+        .long("own-port")
+        .action(ArgAction::SetTrue)
+        .help("counts the own address as the domain with the own port alone");
+    let most_per_source = Arg::new(alloc, "most-per-source")
+        .long("most-per-source")
+        .value_name("N")
+        .value_parser(value_parser!(u32).range(1..))
+        .help("how many datagrams a second one source address may send: no limit if left out");
     let metrics = Arg::new(alloc, "metrics")
         .long("metrics")
         .value_name("ADDRESS:PORT")
@@ -103,6 +112,8 @@ fn with_limits<'a>(alloc: Global, command: Command<'a>) -> Result<Command<'a>, A
         .arg(most_calls)?
         .arg(workers)?
         .arg(record_route)?
+        .arg(own_port)?
+        .arg(most_per_source)?
         .arg(metrics)
 }
 
@@ -194,6 +205,8 @@ fn served<R: Threads + Wait + Net + ProxyFiles + PageSockets + Clock + Print + S
         most_calls,
         workers,
         records: matches.get_flag("record-route"),
+        own_port: matches.get_flag("own-port"),
+        most_per_source: matches.get_one::<u32>("most-per-source"),
         metrics: matches.get_str("metrics"),
     };
     ended(rt, serve(handle, rt.alloc(), options))
