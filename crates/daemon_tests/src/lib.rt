@@ -10,4 +10,8 @@ mod holds;
 #[cfg(test)]
 mod living;
 #[cfg(test)]
+mod options;
+#[cfg(test)]
 mod outbox;
+#[cfg(test)]
+mod stamping;

@@ -1,2 +1,6 @@
 pub mod Faults
+mod Looks
+mod OptionsFront
+mod Packets
 pub mod Sharing
+mod Stamps

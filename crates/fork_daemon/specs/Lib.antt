@@ -1,3 +1,5 @@
 pub mod Faults
 pub mod Journal
+pub mod Options
+pub mod Stamping
 pub mod Turning

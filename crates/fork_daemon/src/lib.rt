@@ -5,14 +5,18 @@
 mod control;
 mod job;
 mod journal;
+mod options;
 mod port;
 mod proxy;
 mod receiver;
 mod serving;
+mod stamping;
 mod timer;
 mod turning;
 mod worker;
 
 pub use journal::append_block;
+pub use options::answer_options;
 pub use serving::{check_config, serve, serve_text};
-pub use turning::turn_away;
+pub use stamping::StampedPort;
+pub use turning::{CallKeys, turn_away};

@@ -1,11 +1,12 @@
 //! Requests that are turned away: the proxy opens no more calls.
-ghost use Rattle.std.specs.Prelude.{◌≡◌, IfOk, OnErr};
-ghost use Rattle.fork_daemon.specs.Turning.{IsTurned};
+ghost use Rattle.std.specs.Prelude.{◌≡◌, ℕ, Bool, List, true, IfOk, OnErr};
+ghost use Rattle.sip_service.specs.Outside.{is_outside_dialog};
+ghost use Rattle.fork_daemon.specs.Turning.{Begins, IsNew, IsTurned};
 
 use call_table::Shelf;
 use fork_call::{Call, Cause, Datagram, Port};
 use sip_route::append_request_key;
-use sip_service::is_outside_dialog;
+use sip_service::{is_outside_dialog, message_in};
 use sip_text::Message;
 use sip_uri::Hop;
 use std::alloc::{AllocError, Allocator};
@@ -14,18 +15,52 @@ use std::sync::Wait;
 /// After how many seconds a request that was turned away may come again.
 const RETRY: u32 = 10;
 
-/// Whether a call has the key of this request, or none can have it.
-fn is_known<A: Allocator + Clone, R: Wait>(
+/// Calls by the keys of their requests, as they stand at the moment of a look.
+pub trait CallKeys {
+    /// What one look is: the calls, a key, and whether a call has it. What is proved of all calls can show it by a `has_key` alone.
+    ghost keyed: { Self → List ℕ → Bool → Type 0 } = { λ _ _ _. Unit {0} };
+
+    /// Whether a call has this key.
+    fn has_key<R: Wait>(&self, rt: &R, key: &[u8]) -> bool
+        ensures { Self.keyed self.now key.now result };
+}
+
+impl<A: Allocator + Clone> CallKeys for Shelf<Call<A>, A> {
+    fn has_key<R: Wait>(&self, rt: &R, key: &[u8]) -> bool {
+        self.keyed(rt, key).is_some()
+    }
+}
+
+/// Whether a request has a key, and no call has it.
+fn is_new<A: Allocator + Clone, K: CallKeys, R: Wait>(
     rt: &R,
     alloc: A,
-    shelf: &Shelf<Call<A>, A>,
+    calls: &K,
     request: &Message<A>,
-) -> Result<bool, AllocError> {
+) -> Result<bool, AllocError>
+    ensures { IfOk result (λ new. IsNew K.keyed calls.now request.now new) }
+{
     let mut key = Vec::new(alloc);
     if !append_request_key(&mut key, request)? {
-        return Ok(true);
+        return Ok(false);
     }
-    Ok(shelf.keyed(rt, &key).is_some())
+    Ok(!calls.has_key(rt, &key))
+}
+
+/// Whether a message is a request that would begin something new: it stands outside of a dialog, and no call has its key.
+fn begins<A: Allocator + Clone, K: CallKeys, R: Wait>(
+    rt: &R,
+    alloc: A,
+    calls: &K,
+    message: &Message<A>,
+) -> Result<bool, AllocError>
+    ensures begins { IfOk result (λ begins. Begins K.keyed calls.now message.now begins) }
+    ensures outside { IfOk result (λ begins. begins ≡ true → is_outside_dialog message.now ≡ true) }
+{
+    if !is_outside_dialog(message) {
+        return Ok(false);
+    }
+    is_new(rt, alloc, calls, message)
 }
 
 /// Answers 503 with Retry-After to a request that would begin something new, and says whether it was one: it stands outside of a
@@ -34,21 +69,21 @@ fn is_known<A: Allocator + Clone, R: Wait>(
 /// # Errors
 ///
 /// Only where the allocator refuses; nothing was sent then.
-pub fn turn_away<A: Allocator + Clone, P: Port, R: Wait>(
+pub fn turn_away<A: Allocator + Clone, K: CallKeys, P: Port, R: Wait>(
     rt: &R,
     alloc: A,
-    shelf: &Shelf<Call<A>, A>,
+    calls: &K,
     packet: &[u8],
     source: Hop,
     port: &mut P,
 ) -> Result<bool, AllocError>
-    ensures turned { IfOk result (λ turned. IsTurned P.sends packet.now source port.old turned port.new) }
+    ensures turned { IfOk result (λ turned. IsTurned K.keyed P.sends packet.now source calls.now port.old turned port.new) }
     ensures err { OnErr result (port.new ≡ port.old) }
 {
-    let Ok(message) = Message::read(alloc.clone()?, packet) else {
+    let Some(message) = message_in(alloc.clone()?, packet)? else {
         return Ok(false);
     };
-    if !is_outside_dialog(&message) || is_known(rt, alloc.clone()?, shelf, &message)? {
+    if !begins(rt, alloc.clone()?, calls, &message)? {
         return Ok(false);
     }
     let answer = sip_service::turn_away(alloc, message, source, RETRY)?;

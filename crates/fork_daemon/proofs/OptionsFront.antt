@@ -1,0 +1,47 @@
+-- How a text begins that spells an OPTIONS request.
+use Rattle.std.proofs.Common.{◌≡◌, ℕ, zero, suc, Bool, true, false, ◌&&◌, ◌||◌, List, [], ◌∷◌, ◌++◌, codes, refl, ap, ◌∙◌, arith}
+use Rattle.std.proofs.lemmas.Bool.Decides.{Decides-eqb}
+use Rattle.std.proofs.lemmas.Slice.Eq.{bytes_eq-Decides, starts_is}
+use Rattle.std.specs.Prelude.{nat_eq}
+use Rattle.std.specs.List.{starts_with}
+use Rattle.sip_lex.specs.Line.{ended}
+use Rattle.sip_text.specs.Grammar.{IsStartLine, IsText, blank_lines}
+use Rattle.sip_text.specs.Text.{MessageText, Request, Response, StartText, method_in}
+use Rattle.proxy_config.specs.Setup.{Setup}
+use Rattle.fork_daemon.specs.Options.{asks_proxy, is_options}
+
+abbrev begins_so : List ℕ → Bool
+begins_so text = starts_with nat_eq text (codes "OPTIONS") || starts_with nat_eq text (13 ∷ 10 ∷ [])
+
+begins : (text front back : List ℕ) → text ≡ front ++ back → starts_with nat_eq text front ≡ true
+begins text front back e = (starts_is Decides-eqb text front (starts_with nat_eq text front) refl).1 back e
+
+or_first : (a b : Bool) → a ≡ true → (a || b) ≡ true
+or_first a b e = grind arith
+
+or_second : (a b : Bool) → b ≡ true → (a || b) ≡ true
+or_second a b e = grind arith
+
+-- the method stands at the front of the line, and the line at the front of the text or behind empty lines
+front_by : (text line behind : List ℕ) (blank : ℕ) (start : StartText) → text ≡ blank_lines blank ++ (ended line ++ behind) → IsStartLine line start
+    → is_options (method_in start) ≡ true → begins_so text ≡ true
+front_by text line behind blank (Response status reason) whole is asks = absurd cc
+front_by text line behind zero (Request method uri) whole is asks =
+    let named : method ≡ codes "OPTIONS" = (bytes_eq-Decides method (codes "OPTIONS")).0 asks in
+    let after = is.gap ∷ (uri ++ (is.second_gap ∷ is.version)) in
+    or_first (starts_with nat_eq text (codes "OPTIONS")) (starts_with nat_eq text (13 ∷ 10 ∷ []))
+    (begins text (codes "OPTIONS") (ended after ++ behind)
+    (whole ∙ ap (λ (l : List ℕ). ended l ++ behind) (is.parts ∙ ap (λ (n : List ℕ). n ++ after) named)))
+front_by text line behind (suc n) (Request method uri) whole is asks =
+    or_second (starts_with nat_eq text (codes "OPTIONS")) (starts_with nat_eq text (13 ∷ 10 ∷ []))
+    (begins text (13 ∷ 10 ∷ []) (blank_lines n ++ (ended line ++ behind)) whole)
+
+pub front_of : (text : List ℕ) (m : MessageText) → IsText text m → is_options (method_in m.start) ≡ true → begins_so text ≡ true
+front_of text m is asks = front_by text is.line _ is.blank m.start is.whole is.start asks
+
+not_both : (b rest : Bool) → (b ≡ true → false ≡ true) → (b && rest) ≡ false
+not_both true rest other = let wrong : false ≡ true = other refl in absurd cc
+not_both false rest other = refl
+
+pub not_asked : (setup : Setup) (m : MessageText) → (is_options (method_in m.start) ≡ true → false ≡ true) → asks_proxy setup m ≡ false
+not_asked setup m other = not_both (is_options (method_in m.start)) _ other

@@ -1,0 +1,94 @@
+//! OPTIONS requests to the proxy itself.
+ghost use Rattle.std.specs.Prelude.{◌≡◌, true, IfOk, OnErr};
+ghost use Rattle.sip_text.specs.Grammar.{IsText};
+ghost use Rattle.sip_text.specs.Text.{MessageText, method_in};
+ghost use Rattle.fork_daemon.specs.Options.{IsAnsweredIf, asks_proxy, is_options, is_proxy, is_proxy_if_read};
+ghost use Rattle.sip_uri.specs.Reading.{read_uri};
+
+use fork_call::{Cause, Datagram, Port, Setup};
+use proxy_routing::is_domain;
+use sip_route::request_uri;
+use sip_service::{capabilities, is_outside_dialog, message_in};
+use sip_text::Message;
+use sip_uri::{Hop, SipUri, UriFault};
+use std::alloc::{AllocError, Allocator};
+
+/// Whether a text may spell an OPTIONS request, by its first bytes: the method stands at its front, or behind empty lines. It takes
+/// no memory.
+pub(crate) fn may_be_options(text: &[u8]) -> bool
+    ensures { (m : MessageText) → IsText text.now m → is_options (method_in m.start) ≡ true → result ≡ true }
+{
+    text.starts_with(b"OPTIONS") || text.starts_with(b"\r\n")
+}
+
+/// Whether a URI is the proxy's own: it names no user, and the proxy is responsible for it (RFC 3261 section 16.5).
+fn is_proxy<A: Allocator + Clone>(setup: &Setup<A>, uri: &SipUri<A>) -> bool
+    ensures { result ≡ is_proxy setup.now uri.now }
+{
+    uri.user().is_none() && is_domain(setup, uri)
+}
+
+/// Whether a Request-URI is a URI of the proxy's own.
+fn names_proxy<A: Allocator + Clone>(
+    alloc: A,
+    setup: &Setup<A>,
+    text: &[u8],
+) -> Result<bool, AllocError>
+    ensures { IfOk result (λ named. named ≡ is_proxy_if_read setup.now (read_uri text.now)) }
+{
+    match SipUri::read(alloc, text) {
+        Ok(uri) => Ok(is_proxy(setup, &uri)),
+        Err(UriFault::NoMemory) => Err(AllocError),
+        Err(_) => Ok(false),
+    }
+}
+
+/// Whether a message is an OPTIONS request outside of a dialog to the proxy itself (RFC 3261 section 11).
+fn asks_proxy<A: Allocator + Clone>(
+    alloc: A,
+    setup: &Setup<A>,
+    message: &Message<A>,
+) -> Result<bool, AllocError>
+    ensures { IfOk result (λ asks. asks ≡ asks_proxy setup.now message.now) }
+{
+    if message.method() != Some(b"OPTIONS".as_slice()) || !is_outside_dialog(message) {
+        return Ok(false);
+    }
+    names_proxy(alloc, setup, request_uri(message))
+}
+
+/// Answers 200 with Allow and Accept to an OPTIONS request to the proxy itself, and says whether the packet was one: it stands outside
+/// of a dialog, its Request-URI names no user, and the proxy is responsible for it (RFC 3261 sections 11 and 11.2). Any other
+/// packet is for `handle`, and costs a look at its first bytes.
+///
+/// # Errors
+///
+/// Only where the allocator refuses; nothing was sent then.
+pub fn answer_options<A: Allocator + Clone, P: Port>(
+    alloc: A,
+    setup: &Setup<A>,
+    packet: &[u8],
+    source: Hop,
+    port: &mut P,
+) -> Result<bool, AllocError>
+    ensures answered { IfOk result (λ answered. IsAnsweredIf P.sends setup.now packet.now source port.old answered port.new) }
+    ensures err { OnErr result (port.new ≡ port.old) }
+{
+    if !may_be_options(packet) {
+        return Ok(false);
+    }
+    let Some(message) = message_in(alloc.clone()?, packet)? else {
+        return Ok(false);
+    };
+    if !asks_proxy(alloc.clone()?, setup, &message)? {
+        return Ok(false);
+    }
+    let answer = capabilities(alloc, message, source)?;
+    let datagram = Datagram {
+        to: answer.to,
+        bytes: answer.text,
+        cause: Cause::Answer,
+    };
+    port.send(&datagram);
+    Ok(true)
+}
