@@ -7,9 +7,10 @@ use call_model::{Cause, Datagram};
 use call_routing::is_openable;
 use call_state::CallState;
 use fork_context::Kind;
+use proxy_config::Setup;
 use proxy_routing::{RequestRejection, is_domain, validate_request};
 use sip_text::Message;
-use sip_uri::Hop;
+use sip_uri::{Hop, SipUri};
 use std::alloc::Global;
 
 #[test]
@@ -53,26 +54,61 @@ fn a_request_is_admitted(rt: HostRuntime) {
     );
 }
 
-/// Whether the proxy answers for a host.
-fn answers_for(alloc: Global, host: &[u8]) -> Option<bool> {
-    let setup = setup_of(alloc, SETUP)?;
-    Some(is_domain(&setup, host))
+/// Whether a proxy that is set up so is responsible for the URI that a text spells.
+fn names(alloc: Global, setup: &Setup<Global>, text: &[u8]) -> Option<bool> {
+    match SipUri::read(alloc, text) {
+        Ok(uri) => Some(is_domain(setup, &uri)),
+        Err(_) => None,
+    }
 }
 
+/// The same of a proxy that has this setup.
+fn names_by_any_port(alloc: Global, setup: &[u8], text: &[u8]) -> Option<bool> {
+    let setup = setup_of(alloc, setup)?;
+    names(alloc, &setup, text)
+}
+
+/// The same where the own address counts with the own port alone.
+fn names_by_own_port(alloc: Global, setup: &[u8], text: &[u8]) -> Option<bool> {
+    let setup = setup_of(alloc, setup)?.with_own_port();
+    names(alloc, &setup, text)
+}
+
+/// The setup of a proxy at another port.
+const ELSEWHERE: &[u8] = b"own 192.0.2.9 5062\ninstance 7\ndomain example.com\n";
+
+/// Setups and URIs, and whether the proxy is responsible: where the own address counts with any port, and with the own
+/// port alone.
+const NAMED: [(&[u8], &[u8], bool, bool); 13] = [
+    (SETUP, b"sip:bob@example.com", true, true),
+    (SETUP, b"sip:Example.COM", true, true),
+    (SETUP, b"sip:bob@example.com:5081", true, true),
+    (SETUP, b"sip:bob@192.0.2.9", true, true),
+    (SETUP, b"sip:192.0.2.9:05060", true, true),
+    (SETUP, b"sip:bob@192.0.2.9:5081", true, false),
+    (SETUP, b"sip:bob@192.0.2.9:5081;ob", true, false),
+    // it leads to no hop
+    (SETUP, b"sip:bob@192.0.2.9:5081;transport=tcp", true, true),
+    (SETUP, b"sip:bob@192.0.02.9", false, false),
+    (SETUP, b"sip:bob@example.org", false, false),
+    // 5060 is the port where none is named
+    (ELSEWHERE, b"sip:bob@192.0.2.9", true, false),
+    (ELSEWHERE, b"sip:bob@192.0.2.9:5062", true, true),
+    (ELSEWHERE, b"sip:bob@example.com", true, true),
+];
+
 #[test]
-fn the_domain_and_the_own_address_are_answered_for(rt: HostRuntime) {
-    let hosts: [(&[u8], bool); 5] = [
-        (b"example.com", true),
-        (b"Example.COM", true),
-        (b"192.0.2.9", true),
-        (b"192.0.02.9", false),
-        (b"example.org", false),
-    ];
-    for (host, well) in hosts {
+fn the_domain_and_the_own_address_name_the_proxy(rt: HostRuntime) {
+    for (setup, uri, any_port, own_port) in NAMED {
         holds(
             &rt,
-            answers_for(rt.alloc(), host) == Some(well),
-            "a host that the proxy answers for",
+            names_by_any_port(rt.alloc(), setup, uri) == Some(any_port),
+            "a URI that the proxy is responsible for",
+        );
+        holds(
+            &rt,
+            names_by_own_port(rt.alloc(), setup, uri) == Some(own_port),
+            "a URI that it is responsible for by its own port",
         );
     }
 }

@@ -126,6 +126,12 @@ fn check(rt: &impl Abort, setup: &Setup<Global>) {
     }
 }
 
+/// Checks that any port counts, and all that the lines of one setup say.
+fn check_any_port(rt: &impl Abort, setup: &Setup<Global>) {
+    holds(rt, !setup.by_port(), "any port counts");
+    check(rt, setup);
+}
+
 /// What the lines of one setup set up.
 fn setup_of_lines(alloc: Global) -> Option<Setup<Global>> {
     let text = lines_with(alloc, &LINES, 0, b"")?;
@@ -135,10 +141,24 @@ fn setup_of_lines(alloc: Global) -> Option<Setup<Global>> {
 #[test]
 fn four_lines_set_a_proxy_up(rt: HostRuntime) {
     match setup_of_lines(rt.alloc()) {
-        Some(setup) => check(&rt, &setup),
+        Some(setup) => check_any_port(&rt, &setup),
         None => holds(&rt, false, "four lines are a setup"),
     }
     locations_are_targets();
+}
+
+/// Checks that the own port alone counts, and that all else is as the lines say.
+fn check_own_port(rt: &impl Abort, setup: &Setup<Global>) {
+    holds(rt, setup.by_port(), "the own port alone counts");
+    check(rt, setup);
+}
+
+#[test]
+fn the_own_port_alone_may_count(rt: HostRuntime) {
+    match setup_of_lines(rt.alloc()) {
+        Some(setup) => check_own_port(&rt, &setup.with_own_port()),
+        None => holds(&rt, false, "four lines are a setup"),
+    }
 }
 
 /// Texts, and the number of the malformed line of each, 0 where there is none.
