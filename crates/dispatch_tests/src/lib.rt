@@ -21,6 +21,8 @@ mod noise;
 #[cfg(test)]
 mod outbox;
 #[cfg(test)]
+mod own_port;
+#[cfg(test)]
 mod strays;
 #[cfg(test)]
 mod texts;

@@ -41,6 +41,11 @@ impl Outbox {
         self.to == Some(to) && self.bytes.as_slice() == bytes
     }
 
+    /// Where it was sent last, if anything was.
+    pub fn to(&self) -> Option<Hop> {
+        self.to
+    }
+
     /// What was sent last.
     pub fn bytes(&self) -> &[u8] {
         &self.bytes
