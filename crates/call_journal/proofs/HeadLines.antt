@@ -1,33 +1,32 @@
 -- The line of a call has no end of a line in it.
-use Rattle.std.proofs.Common.{◌≡◌, ◌≢◌, ℕ, ◌<◌, ◌^◌, Bool, true, false, not, eqb, List, [], ◌∷◌, ◌++◌, map, take, codes, refl, arith}
+use Rattle.std.proofs.Common.{◌≡◌, ◌≢◌, ℕ, ◌<◌, ◌^◌, Bool, true, not, eqb, List, [], ◌∷◌, ◌++◌, map, take, codes, refl, arith}
 use Rattle.std.specs.Fmt.{decimal}
 use Rattle.std.specs.List.{list_all}
 use Rattle.std.specs.Char.{is_ascii_digit}
 use Rattle.std.proofs.lemmas.Fmt.{digits_decimal}
-use Rattle.std.proofs.lemmas.Grind.{common_steps}
 use Rattle.sip_lex.specs.Cut.{Lacks}
 use Rattle.sip_lex.proofs.laws.Cuts.{Lacks-append, Lacks-pass}
 use Rattle.sip_lex.proofs.laws.Numbers.{own}
 use Rattle.call_journal.specs.declared.head.Head.{Head}
 use Rattle.call_journal.specs.Head.{asked_text, caller_text, front_text, head_text, shown, shown_byte}
 
-abbrev is_other : ℕ → Bool
+abbrev pub is_other : ℕ → Bool
 is_other b = not (eqb b 10)
 
-plain : (bs : List ℕ) → list_all is_other bs ≡ true → Lacks 10 bs
+pub plain : (bs : List ℕ) → list_all is_other bs ≡ true → Lacks 10 bs
 plain bs h = Lacks-pass is_other 10 bs refl h
 
 shown_other : (b : ℕ) → shown_byte b ≢ 10
 shown_other b e = grind arith
 
-shown_lacks : (text : List ℕ) → Lacks 10 (map shown_byte text)
+pub shown_lacks : (text : List ℕ) → Lacks 10 (map shown_byte text)
 shown_lacks [] = tt
 shown_lacks (b ∷ bs) = (shown_other b, shown_lacks bs)
 
-decimal_lacks : (n : ℕ) → n < 2 ^ 64 → Lacks 10 (decimal n)
+pub decimal_lacks : (n : ℕ) → n < 2 ^ 64 → Lacks 10 (decimal n)
 decimal_lacks n small = Lacks-pass is_ascii_digit 10 (decimal n) refl (digits_decimal own n small)
 
-joined : (xs ys : List ℕ) → Lacks 10 xs → Lacks 10 ys → Lacks 10 (xs ++ ys)
+pub joined : (xs ys : List ℕ) → Lacks 10 xs → Lacks 10 ys → Lacks 10 (xs ++ ys)
 joined xs ys h k = Lacks-append 10 xs ys h k
 
 space : Lacks 10 (codes " ")

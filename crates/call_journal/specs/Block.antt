@@ -8,14 +8,16 @@ use Rattle.fork_listing.specs.Accepted.{IsRightText}
 use Rattle.fork_listing.specs.Listed.{IsListingOf}
 use Rattle.call_journal.specs.declared.head.Head.{Head}
 use Rattle.call_journal.specs.Head.{head_text}
+use Rattle.call_journal.specs.Why.{why_text}
+use Rattle.sip_lex.specs.Cut.{Lacks}
 
--- the status that went up, and the listing, behind what stood there
+-- the status that went up, why that did, and the listing, behind what stood there
 pub record Fails (t : table.Table) (old new : List ℕ) : Type 0 where
   pub choice : Choice
   pub chosen : IsChoice t.rules t.rows choice
   pub listing : List ℕ
   pub listed : IsListingOf t listing
-  pub spelled : new ≡ old ++ (codes " failed " ++ (decimal (status_sent t.rows choice) ++ (codes "\n" ++ listing)))
+  pub spelled : new ≡ old ++ (codes " failed " ++ (decimal (status_sent t.rows choice) ++ (why_text t choice ++ (codes "\n" ++ listing))))
 
 -- how a call ended, behind what stood there: a branch was answered with a 2xx; none was, and one has not ended; none was, and all have
 pub record Ends (t : table.Table) (old new : List ℕ) : Type 0 where
@@ -29,11 +31,13 @@ IsBlock h t text = Ends t (head_text h) text
 abbrev pub Journals : Head → table.Table → List ℕ → List ℕ → Type 0
 Journals h t old new = (text : List ℕ) × IsBlock h t text × (new ≡ old ++ text)
 
--- a listing that a check accepts stands behind the line
+-- a listing that a check accepts stands behind the line, which ends behind the words that say why
 abbrev pub IsFailedBlock : Head → List ℕ → Type 0
 IsFailedBlock h text =
     (status : ℕ)
+    × (why : List ℕ)
     × (listing : List ℕ)
     × (verdict : Verdict)
-    × (text ≡ head_text h ++ (codes " failed " ++ (decimal status ++ (codes "\n" ++ listing))))
+    × (text ≡ head_text h ++ (codes " failed " ++ (decimal status ++ (why ++ (codes "\n" ++ listing)))))
+    × Lacks 10 why
     × IsRightText listing verdict

@@ -3,13 +3,15 @@ ghost use Rattle.std.specs.Prelude.{◌≡◌, ◌++◌, IfOk, OnErr, OnOk};
 ghost use Rattle.call_journal.specs.Block.{Ends, IsBlock, Journals};
 
 use crate::head::{Head, append_head};
+use crate::why::append_why;
 use fork_context::Context;
 use fork_listing::listing;
 use fork_text::append;
 use sip_lex::append_decimal;
 use std::alloc::{AllocError, Allocator};
 
-/// Appends how a call ended: it was answered, it is still open, or it failed, with the status that went up and its listing.
+/// Appends how a call ended: it was answered, it is still open, or it failed, with the status that went up, why that did, and its
+/// listing.
 fn append_end<A: Allocator + Clone>(
     out: &mut Vec<u8, A>,
     context: &Context<A>,
@@ -20,12 +22,13 @@ fn append_end<A: Allocator + Clone>(
         append(out, b" answered\n")?;
         return Ok(());
     }
-    let Some((_, status)) = context.choice_with_status() else {
+    let Some((choice, status)) = context.choice_with_status() else {
         append(out, b" open\n")?;
         return Ok(());
     };
     append(out, b" failed ")?;
     append_decimal(out, u64::from(status))?;
+    append_why(out, context, choice)?;
     append(out, b"\n")?;
     match listing(context, out) {
         Ok(()) => Ok(()),
@@ -48,7 +51,9 @@ fn block_of<A: Allocator + Clone>(
 }
 
 /// Appends the block of a call: the line that says which call it was and how it ended, and the listing of one that failed (see
-/// [`listing`]). One that is cut off by the end of the proxy is said to be open.
+/// [`listing`]). Of one that failed the line also says which answer went up and why: the target that it came from, by the key of
+/// its row, which is that of a SIP URI behind `sip:` (see [`Context::key`]); what sets it apart from all other stored answers; and
+/// how many those are (RFC 3261 section 16.7 step 6). One that is cut off by the end of the proxy is said to be open.
 ///
 /// # Errors
 ///

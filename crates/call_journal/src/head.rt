@@ -53,7 +53,10 @@ fn append_bytes<A: Allocator>(out: &mut Vec<u8, A>, text: &[u8]) -> Result<(), A
 
 /// Appends a text of the caller's, cut where it is long: each byte that is no visible ASCII, as a space or the end of a line, is a dot, so that
 /// the text is one word.
-fn append_shown<A: Allocator>(out: &mut Vec<u8, A>, text: &[u8]) -> Result<(), AllocError>
+pub(crate) fn append_shown<A: Allocator>(
+    out: &mut Vec<u8, A>,
+    text: &[u8],
+) -> Result<(), AllocError>
     ensures { OnOk result (out.new.items ≡ out.old.items ++ shown text.now) }
 {
     append_bytes(out, front_of(text))?;
