@@ -11,7 +11,8 @@
 //   lane      0 to 3: ports and users of its own, so that several play at once
 //   patience  ends after so many seconds in which nothing came, though calls have not ended (40)
 // The proxy listens at 127.0.0.1 port 5060. In lane L the caller is at port 5070 + 100 L, the telephones are at 5081 + 100 L and the three
-// next ones; user `oneL` has the first of them, `fourL` all four. Nothing is sent again but an answer to what came again.
+// next ones; user `oneL` has the first of them, `fourL` all four. Nothing is sent again but the answer to what came
+// again: a call whose request found a socket full never ends, so what is played has to be less than the machine bears.
 // It prints one line of NAME=NUMBER: calls that were begun and that ended, by what went up; seconds from the first to the last end; the
 // median and the 99th of a hundred of what a call took, in microseconds; what came again; calls for which two 200s came; telephones
 // of answered calls that still ring; datagrams sent and come; the processor seconds of this program.
@@ -215,16 +216,29 @@ static void rings(int n, int k, const char *text)
         dues[last_due++] = (struct due) { .at = now() + ring * 1e3, .call = n };
 }
 
+// An INVITE that comes again after telephone k rang: its last answer goes again.
+static void answer_again(int n, int k, const char *text)
+{
+    if (calls[n].invites[k])
+        answer(k, text, 180, "Ringing");
+    else if (calls[n].answered[k])
+        answer(k, text, 200, "OK");
+    else if (calls[n].cancelled[k])
+        answer(k, text, 487, "Request Terminated");
+    else
+        answer(k, text, 486, "Busy Here");
+}
+
 static void asked(int n, int k, const char *text)
 {
-    if (calls[n].asked[k]++) {
-        again++;
-        return;
-    }
+    int is_again = calls[n].asked[k]++ > 0;
+    again += is_again;
     if (kind == OPTIONS)
         answer(k, text, 200, "OK");
     else if (kind == FAIL && !ring)
         answer(k, text, 486, "Busy Here");
+    else if (is_again)
+        answer_again(n, k, text);
     else
         rings(n, k, text);
 }
