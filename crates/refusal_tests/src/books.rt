@@ -36,7 +36,7 @@ struct Opening;
 impl Stateless for Opening {
     fn answer(&self, heap: Heap<'_>) -> Answer {
         match opened(heap) {
-            Ok(book) => Answer::of(book.history().is_empty() && book.context().count() == 2),
+            Ok(book) => Answer::of(book.history().is_empty()),
             Err(answer) => answer,
         }
     }

@@ -1,12 +1,12 @@
 //! A port that compares what it is given with what is wanted, and fails one send.
-use crate::wanted::{Needs, WANTED, is_what};
+use crate::wanted::{Needs, is_what, wanted_at};
 use fork_call::{Carried, Cause, Datagram, Port};
 use std::alloc::Allocator;
 
 /// Whether a datagram is that at this place of what is wanted.
 fn is_wanted<A: Allocator>(datagram: &Datagram<A>, place: usize) -> bool {
-    match WANTED.get(place) {
-        Some((_, what)) => is_what(datagram, *what),
+    match wanted_at(place) {
+        Some((_, what)) => is_what(datagram, what),
         None => false,
     }
 }
@@ -24,8 +24,8 @@ fn is_met(needs: Needs, lost: Option<Cause>) -> bool {
 
 /// Whether what is wanted at this place is sent, where this was lost.
 fn is_left(place: usize, lost: Option<Cause>) -> bool {
-    match WANTED.get(place) {
-        Some((needs, _)) => is_met(*needs, lost),
+    match wanted_at(place) {
+        Some((needs, _)) => is_met(needs, lost),
         None => false,
     }
 }

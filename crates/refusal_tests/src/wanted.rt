@@ -95,7 +95,7 @@ pub const OPTIONS_SENDS: u64 = 3;
 pub const INVITE: usize = 31;
 
 /// All of them, one call after another.
-pub const WANTED: [(Needs, What); 42] = [
+const WANTED: [(Needs, What); 42] = [
     // at 0
     (Needs::Nothing, What::Trying),
     (Needs::Branch(0), What::Invite(0)),
@@ -159,3 +159,8 @@ pub const WANTED: [(Needs, What); 42] = [
     (Needs::Again(0, Cause::Ack(0)), What::Ack(0)),
     (Needs::Nothing, What::Terminated),
 ];
+
+/// What is wanted at this place, and on what it depends.
+pub fn wanted_at(place: usize) -> Option<(Needs, What)> {
+    WANTED.get(place).copied()
+}
