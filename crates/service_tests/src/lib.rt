@@ -22,8 +22,6 @@ mod jobs;
 #[cfg(test)]
 mod journal;
 #[cfg(test)]
-mod limits;
-#[cfg(test)]
 mod messages;
 #[cfg(test)]
 mod metrics;
