@@ -49,6 +49,10 @@ const OPTIONS: Options<'static> = Options {
 /// Where its counters are scraped.
 const METRICS: &str = "127.0.0.1:47424";
 
+/// How the line of the call that failed ends, and its listing begins.
+const FAILED: &str =
+    " call-id two failed 486 from sip:bob@127.0.0.1:47422, the only answer\nfork 3 1\n";
+
 /// How often the proxy is asked whether something has come about, a tenth of a second apart.
 const LOOKS: u32 = 400;
 
@@ -209,7 +213,7 @@ fn has_journal<R: Files>(rt: &R, alloc: Global) -> bool {
     match fs::read(&(rt, alloc), JOURNAL) {
         Ok(text) => {
             has_line(text.as_slice(), " call-id one answered\n")
-                && has_line(text.as_slice(), " call-id two failed 486\nfork 3 1\n")
+                && has_line(text.as_slice(), FAILED)
         }
         Err(_) => false,
     }
