@@ -155,8 +155,11 @@ fn a_configuration_is_checked(rt: HostRuntime) {
         most_calls: 1,
         workers: 1,
         records: false,
+        own_port: false,
+        most_per_source: None,
+        metrics: None,
     };
-    let served = serve_text(&rt, rt.alloc(), MALFORMED, options);
+    let served = serve_text(&rt, rt.alloc(), MALFORMED, 1, options);
     holds(
         &rt,
         served == Err(DaemonFault::Line(2)),

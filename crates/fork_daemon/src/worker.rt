@@ -89,8 +89,7 @@ impl Proxy {
         }
     }
 
-    /// Answers an OPTIONS request to the proxy itself, and says whether the datagram was one. It is answered while no call is opened,
-    /// too.
+    /// Answers an OPTIONS request to the proxy itself, and says whether the datagram was one.
     fn answers_options<R: Wait, P: Port>(
         &self,
         rt: &R,
@@ -126,6 +125,24 @@ impl Proxy {
         Ok(())
     }
 
+    /// Does what is to be done for a datagram that is not turned away.
+    fn take_in_place<R: Wait + ProxyFiles, P: Port>(
+        &self,
+        rt: &R,
+        port: &mut P,
+        received: Received<'_>,
+        has_place: bool,
+    ) -> Result<(), AllocError> {
+        if !self.answers_options(rt, port, received)? {
+            return self.handle_stamped(rt, port, received, has_place);
+        }
+        self.counts.datagrams.answered.add(200);
+        if has_place {
+            self.give_place_back();
+        }
+        Ok(())
+    }
+
     /// Does what is to be done for a datagram that was received.
     fn take<R: Wait + ProxyFiles, P: Port>(
         &self,
@@ -133,10 +150,6 @@ impl Proxy {
         port: &mut P,
         received: Received<'_>,
     ) -> Result<(), AllocError> {
-        if self.answers_options(rt, port, received)? {
-            self.counts.datagrams.answered.add(200);
-            return Ok(());
-        }
         let has_place = self.keep_place();
         if !has_place {
             let (bytes, source) = (received.bytes, received.source);
@@ -145,7 +158,7 @@ impl Proxy {
                 return Ok(());
             }
         }
-        let done = self.handle_stamped(rt, port, received, has_place);
+        let done = self.take_in_place(rt, port, received, has_place);
         if done.is_err() && has_place {
             self.give_place_back();
         }
