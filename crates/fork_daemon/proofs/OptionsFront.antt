@@ -1,5 +1,5 @@
 -- How a text begins that spells an OPTIONS request.
-use Rattle.std.proofs.Common.{◌≡◌, ℕ, zero, suc, Bool, true, false, ◌&&◌, ◌||◌, List, [], ◌∷◌, ◌++◌, codes, refl, ap, ◌∙◌, arith}
+use Rattle.std.proofs.Common.{◌≡◌, ℕ, zero, suc, Bool, true, false, ◌&&◌, ◌||◌, List, [], ◌∷◌, ◌++◌, codes, refl, ap, sym, ◌∙◌, arith}
 use Rattle.std.proofs.lemmas.Bool.Decides.{Decides-eqb}
 use Rattle.std.proofs.lemmas.Slice.Eq.{bytes_eq-Decides, starts_is}
 use Rattle.std.specs.Prelude.{nat_eq}
@@ -38,6 +38,16 @@ front_by text line behind (suc n) (Request method uri) whole is asks =
 
 pub front_of : (text : List ℕ) (m : MessageText) → IsText text m → is_options (method_in m.start) ≡ true → begins_so text ≡ true
 front_of text m is asks = front_by text is.line _ is.blank m.start is.whole is.start asks
+
+or_right : (a b first second : Bool) → first ≡ a → first ≡ false → second ≡ b → (a || b) ≡ true → second ≡ true
+or_right true b first second is_first is_not is_second e = let wrong : true ≡ false = sym is_first ∙ is_not in absurd cc
+or_right false b first second is_first is_not is_second e = is_second ∙ e
+
+-- where the method does not stand at the front, an empty line does
+pub behind_first : (text : List ℕ) (m : MessageText) (first second : Bool) → first ≡ starts_with nat_eq text (codes "OPTIONS") → first ≡ false
+    → second ≡ starts_with nat_eq text (13 ∷ 10 ∷ []) → IsText text m → is_options (method_in m.start) ≡ true → second ≡ true
+behind_first text m first second is_first is_not is_second is asks =
+    or_right (starts_with nat_eq text (codes "OPTIONS")) (starts_with nat_eq text (13 ∷ 10 ∷ [])) first second is_first is_not is_second (front_of text m is asks)
 
 not_both : (b rest : Bool) → (b ≡ true → false ≡ true) → (b && rest) ≡ false
 not_both true rest other = let wrong : false ≡ true = other refl in absurd cc
