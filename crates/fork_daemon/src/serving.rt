@@ -4,7 +4,7 @@ ghost use Rattle.fork_daemon.specs.contracts.serving.Server.{the_row as server_r
 ghost use Rattle.std.specs.Prelude.{◌↔◌, ◌<◌, length, IfErr, OnOk, IsErrOf};
 ghost use Rattle.daemon_parts.specs.Completion.{completed};
 ghost use Rattle.daemon_parts.specs.declared.fault.DaemonFault.TheVariants as faults;
-ghost use Rattle.daemon_parts.specs.Faults.{most_text, IsConfigurationFault, IsControlFault, IsMetricsFault, IsSocketFault};
+ghost use Rattle.daemon_parts.specs.Faults.{most_text, IsConfigurationFault};
 ghost use Rattle.fork_daemon.specs.Faults.{IsServeFault, IsServeFaultOf, IsSystemFault, Spells};
 
 use crate::control::Control;
@@ -70,7 +70,7 @@ trait Crew {
 
 /// The socket for those who scrape the counters, if there is an address for them.
 #[derive(Drop)]
-struct Scraped {
+pub(crate) struct Scraped {
     listener: Option<TcpListener>,
 }
 
@@ -251,8 +251,9 @@ fn server_is_shared(server: &Server)
 }
 
 /// Listens at the control socket's file. The address is bound by now, so a socket that was left there is no other proxy's.
+#[tactic(auto, using(crate::proofs::Faults::control_is_system))]
 fn open_control<R: ProxyFiles>(rt: &R, path: &str) -> Result<UnixListener, DaemonFault>
-    ensures { IfErr result IsControlFault }
+    ensures { IfErr result IsSystemFault }
 {
     match rt.listen_at(path) {
         Ok(listener) => Ok(listener),
@@ -261,8 +262,9 @@ fn open_control<R: ProxyFiles>(rt: &R, path: &str) -> Result<UnixListener, Daemo
 }
 
 /// Listens at the address for those who scrape the counters, if there is one.
+#[tactic(auto, using(crate::proofs::Faults::metrics_is_system))]
 fn open_metrics<R: PageSockets>(rt: &R, address: Option<&str>) -> Result<Scraped, DaemonFault>
-    ensures { IfErr result IsMetricsFault }
+    ensures { IfErr result IsSystemFault }
 {
     let Some(address) = address else {
         return Ok(Scraped { listener: None });
@@ -276,8 +278,9 @@ fn open_metrics<R: PageSockets>(rt: &R, address: Option<&str>) -> Result<Scraped
 }
 
 /// Binds the address of a setup.
+#[tactic(auto, using(crate::proofs::Faults::socket_is_system))]
 fn bound<R: Net>(rt: &R, setup: &Setup<Global>) -> Result<Socket, DaemonFault>
-    ensures { IfErr result IsSocketFault }
+    ensures { IfErr result IsSystemFault }
 {
     let own = setup.own();
     let addr = own.addr;
@@ -289,7 +292,6 @@ fn bound<R: Net>(rt: &R, setup: &Setup<Global>) -> Result<Socket, DaemonFault>
 }
 
 /// Binds the address of a setup, the one for scrapers and the control socket, and makes a proxy without a call.
-#[tactic(auto, using(crate::proofs::Faults::socket_is_system, crate::proofs::Faults::metrics_is_system, crate::proofs::Faults::control_is_system))]
 fn server_of<R: Net + Clock + ProxyFiles + PageSockets>(
     rt: &R,
     alloc: Global,
