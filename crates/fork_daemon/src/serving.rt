@@ -291,7 +291,8 @@ fn bound<R: Net>(rt: &R, setup: &Setup<Global>) -> Result<Socket, DaemonFault>
     Socket::bind(rt, hop)
 }
 
-/// Binds the address of a setup, the one for scrapers and the control socket, and makes a proxy without a call.
+/// Binds the address of a setup, the control socket and the address for scrapers, and makes a proxy without a call. Where the last cannot
+/// be bound, the control socket's file goes, too.
 fn server_of<R: Net + Clock + ProxyFiles + PageSockets>(
     rt: &R,
     alloc: Global,
@@ -305,13 +306,18 @@ fn server_of<R: Net + Clock + ProxyFiles + PageSockets>(
         return Err(DaemonFault::Clock);
     };
     let proxy = Proxy::new(rt, alloc, start, setup, socket, epoch)?;
-    let scraped = open_metrics(rt, start.options.metrics)?;
     let listener = open_control(rt, start.options.control)?;
-    Ok(Server {
-        proxy,
-        listener,
-        scraped,
-    })
+    match open_metrics(rt, start.options.metrics) {
+        Ok(scraped) => Ok(Server {
+            proxy,
+            listener,
+            scraped,
+        }),
+        Err(fault) => {
+            rt.take_file_away(start.options.control);
+            Err(fault)
+        }
+    }
 }
 
 /// The wakers of so many workers.
