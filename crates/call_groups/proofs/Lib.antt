@@ -1,0 +1,2 @@
+mod InOrder
+pub mod laws

@@ -1,0 +1,9 @@
+//! The order of what comes of a call, where several workers take what comes: one worker at a time is on a group of calls, and what comes of
+//! the group meanwhile waits for that worker.
+#![tactic(auto)]
+
+mod group;
+mod law;
+
+pub use group::{Group, MOST_WAITING};
+pub use law::jobs_come_in_order;
