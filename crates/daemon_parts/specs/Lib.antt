@@ -1,4 +1,3 @@
 pub mod Completion
 pub mod Faults
 pub mod Memory
-pub mod Workers

@@ -131,7 +131,7 @@ pub struct DatagramCounts {
     pub turned_away: Count,
     /// Those that were more than one source may send.
     pub limited: Count,
-    /// Those that a full inbox refused, and that were left for want of memory.
+    /// Those for whose worker as many waited as may, and that were left for want of memory.
     pub crowded_out: Count,
     pub no_memory: Count,
     /// Those that were sent for a datagram that came.

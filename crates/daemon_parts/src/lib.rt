@@ -1,5 +1,5 @@
 //! What a proxy that serves as a service is made of below its threads: its options and its faults, its configuration, its files, its
-//! counters, its socket, and which worker a datagram is for.
+//! counters, and its socket.
 #![tactic(auto)]
 
 mod call_counts;
@@ -15,7 +15,6 @@ mod memory;
 mod options;
 mod setup;
 mod socket;
-mod workers;
 
 pub use call_counts::{CallCounts, FailedCounts};
 pub use count::Count;
@@ -29,4 +28,3 @@ pub use memory::{resident_bytes, resident_pages};
 pub use options::Options;
 pub use setup::{Identity, read_again, read_setup, read_text};
 pub use socket::{Sent, Socket};
-pub use workers::worker_of;

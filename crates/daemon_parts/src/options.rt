@@ -11,7 +11,7 @@ pub struct Options<'a> {
     pub journal: Option<&'a str>,
     /// How many calls it keeps at most; while it has so many it opens no more.
     pub most_calls: u64,
-    /// How many threads handle datagrams.
+    /// How many threads receive and handle datagrams.
     pub workers: usize,
     /// Whether it stays on the path of the dialogs that pass it.
     pub records: bool,

@@ -3,18 +3,20 @@ ghost use Rattle.std.specs.Prelude.{◌≤◌, IfErr, IfOk, IfSome, length};
 ghost use Rattle.daemon_parts.specs.Faults.{IsSocketFault};
 
 use crate::fault::{DaemonFault, socket_fault};
-use libc::types::pollfd;
-use libc::{EINTR, net};
+use libc::net;
 use sip_uri::Hop;
-use std::io::{Error, ErrorKind};
+use std::io;
+use std::io::ErrorKind;
 use std::net::{Ipv4Addr, Net, SocketAddr, SocketAddrV4, UdpSocket};
 use std::os::fd::AsRawFd;
+use std::time::Duration;
 
 /// How long a receive waits at most for a datagram, in milliseconds.
-const LONGEST_RECEIVE: u16 = 1_000;
+const LONGEST_RECEIVE: u64 = 1_000;
 
-/// How long a send waits at most for room in the socket, in milliseconds.
-const LONGEST_SEND: u16 = 10;
+/// How long a send waits at most for room in the socket, in milliseconds. The system counts in ticks of its clock, and one more: where it
+/// has 250 a second, this may take 12.
+const LONGEST_SEND: u64 = 5;
 
 /// How many bytes of room are asked of the system for datagrams that wait to be received.
 const ROOM: i32 = 4_194_304;
@@ -58,9 +60,15 @@ fn ask_for_room(udp: &UdpSocket) {
     let _ = unsafe { net::setsockopt(udp.as_raw_fd(), net::SOL_SOCKET, net::SO_RCVBUF, &value, 4) };
 }
 
+/// Says how long the calls of the system wait at most.
+fn set_limits(udp: &UdpSocket) -> io::Result<()> {
+    udp.set_read_timeout(Some(Duration::from_millis(LONGEST_RECEIVE)))?;
+    udp.set_write_timeout(Some(Duration::from_millis(LONGEST_SEND)))
+}
+
 impl Socket {
-    /// A socket that receives at this address. No call on it waits by itself: a time limit of the socket would be counted in
-    /// ticks of the system's clock, of which 10 ms may take 24.
+    /// A socket that receives at this address. Each of its calls waits by itself, in one call of the system, and none for longer than a
+    /// second.
     ///
     /// # Errors
     ///
@@ -72,43 +80,20 @@ impl Socket {
             Ok(udp) => udp,
             Err(error) => return Err(socket_fault(error)),
         };
-        if let Err(error) = udp.set_nonblocking(true) {
+        if let Err(error) = set_limits(&udp) {
             return Err(socket_fault(error));
         }
         ask_for_room(&udp);
         Ok(Socket { udp })
     }
 
-    /// Waits until a receive, or a send, would not have to wait, so many milliseconds at most. Says whether it is so; a signal ends
-    /// the wait, too.
-    ///
-    /// # Errors
-    ///
-    /// `Socket` where the system cannot wait.
-    fn is_ready(&self, what: i16, longest: u16) -> Result<bool, DaemonFault>
-        ensures { IfErr result IsSocketFault }
-    {
-        let mut asked = [pollfd {
-            fd: self.udp.as_raw_fd(),
-            events: what,
-            revents: 0,
-        }];
-        let count = net::poll(&mut asked, i32::from(longest));
-        if count >= 0 {
-            return Ok(count > 0);
-        }
-        match os::errno() {
-            EINTR => Ok(false),
-            errno => Err(socket_fault(Error::from_raw_os_error(errno))),
-        }
-    }
-
-    /// The length and the source of a datagram that waits in the socket, or None where none does.
+    /// A datagram that waits in the socket or comes within a second: its length and its source. None where none does, or a signal ends
+    /// the wait.
     ///
     /// # Errors
     ///
     /// `Socket` where the receive failed.
-    fn take(&self, buffer: &mut [u8]) -> Result<Option<(usize, Hop)>, DaemonFault>
+    pub fn receive(&self, buffer: &mut [u8]) -> Result<Option<(usize, Hop)>, DaemonFault>
         ensures fits { IfOk result (λ came. IfSome came (λ packet. packet.0 ≤ length buffer.new)) }
         ensures fault { IfErr result IsSocketFault }
     {
@@ -124,32 +109,14 @@ impl Socket {
         }
     }
 
-    /// A datagram that waits in the socket or comes within a second; None where none does. One that waits costs one call of the system.
-    ///
-    /// # Errors
-    ///
-    /// `Socket` where the receive failed.
-    pub fn receive(&self, buffer: &mut [u8]) -> Result<Option<(usize, Hop)>, DaemonFault>
-        ensures fits { IfOk result (λ came. IfSome came (λ packet. packet.0 ≤ length buffer.new)) }
-        ensures fault { IfErr result IsSocketFault }
-    {
-        let waiting = self.take(buffer)?;
-        if waiting.is_some() {
-            return Ok(waiting);
-        }
-        if !self.is_ready(net::POLLIN, LONGEST_RECEIVE)? {
-            return Ok(None);
-        }
-        self.take(buffer)
-    }
-
     /// Wakes who receives, by an empty datagram to itself.
     pub fn wake(&self, own: Hop) {
         let _ = self.udp.send_to(b"", address(own));
     }
 
-    /// Sends a datagram where the socket has room for it.
-    fn put(&self, bytes: &[u8], to: Hop) -> Sent {
+    /// Sends a datagram. Where the socket has no room the send waits some hundredths of a second at most: what waits for hosts that cannot
+    /// be found fills the room of all others, and would else hold every worker for seconds.
+    pub fn send(&self, bytes: &[u8], to: Hop) -> Sent {
         match self.udp.send_to(bytes, address(to)) {
             Ok(count) if count == bytes.len() => Sent::Whole,
             Ok(_) => Sent::Refused,
@@ -157,18 +124,6 @@ impl Socket {
                 ErrorKind::WouldBlock | ErrorKind::Interrupted => Sent::Lost,
                 _ => Sent::Refused,
             },
-        }
-    }
-
-    /// Sends a datagram. Where the socket has no room it is tried once more as soon as it has, or in 10 ms: what waits for hosts that
-    /// cannot be found fills the room of all others, and would else hold every worker for seconds.
-    pub fn send(&self, bytes: &[u8], to: Hop) -> Sent {
-        match self.put(bytes, to) {
-            Sent::Lost => {
-                let _ = self.is_ready(net::POLLOUT, LONGEST_SEND);
-                self.put(bytes, to)
-            }
-            sent => sent,
         }
     }
 }

@@ -5,15 +5,6 @@ use std::net::{Ipv4Addr, Net, SocketAddr, SocketAddrV4, UdpSocket};
 use std::time::Duration;
 use worker_jobs::call_id;
 
-/// Where the proxy listens.
-pub const PROXY: u16 = 47_420;
-
-/// Where the caller does.
-const CALLER: u16 = 47_421;
-
-/// Where the target does.
-const TARGET: u16 = 47_422;
-
 /// How often a datagram is waited for, a tenth of a second each time.
 const LOOKS: u32 = 30;
 
@@ -30,10 +21,16 @@ fn socket_at<R: Net>(rt: &R, port: u16) -> Option<UdpSocket> {
     Some(socket)
 }
 
-/// A request of the caller. The branch and the Call-ID are the call's name.
-fn request_of(alloc: Global, method: &str, call: &str, tag: &str) -> Result<String, AllocError> {
+/// A request of the caller at this port. The branch and the Call-ID are the call's name.
+fn request_of(
+    alloc: Global,
+    port: u16,
+    method: &str,
+    call: &str,
+    tag: &str,
+) -> Result<String, AllocError> {
     format!(in alloc;
-        "{method} sip:bob@example.com SIP/2.0\r\nVia: SIP/2.0/UDP 127.0.0.1:47421;branch=z9hG4bK{call}\r\nMax-Forwards: 70\r\nFrom: <sip:alice@example.com>;tag=1\r\nTo: <sip:bob@example.com>{tag}\r\nCall-ID: {call}\r\nCSeq: 1 {method}\r\nContact: <sip:alice@127.0.0.1:47421>\r\nContent-Length: 0\r\n\r\n"
+        "{method} sip:bob@example.com SIP/2.0\r\nVia: SIP/2.0/UDP 127.0.0.1:{port};branch=z9hG4bK{call}\r\nMax-Forwards: 70\r\nFrom: <sip:alice@example.com>;tag=1\r\nTo: <sip:bob@example.com>{tag}\r\nCall-ID: {call}\r\nCSeq: 1 {method}\r\nContact: <sip:alice@127.0.0.1:{port}>\r\nContent-Length: 0\r\n\r\n"
     )
 }
 
@@ -71,20 +68,24 @@ fn heard(alloc: Global, socket: &UdpSocket, front: &str, call: &str) -> Option<V
     None
 }
 
-/// The caller and the target.
+/// The caller and the target of a proxy.
 #[derive(Drop)]
 pub struct Agents {
     alloc: Global,
+    /// Where the proxy listens.
+    proxy: u16,
     caller: UdpSocket,
     target: UdpSocket,
 }
 
 impl Agents {
-    pub fn new<R: Net>(rt: &R, alloc: Global) -> Option<Agents> {
-        let caller = socket_at(rt, CALLER)?;
-        let target = socket_at(rt, TARGET)?;
+    /// A caller and a target at the two ports behind the proxy's.
+    pub fn new<R: Net>(rt: &R, alloc: Global, proxy: u16) -> Option<Agents> {
+        let caller = socket_at(rt, proxy.saturating_add(1))?;
+        let target = socket_at(rt, proxy.saturating_add(2))?;
         Some(Agents {
             alloc,
+            proxy,
             caller,
             target,
         })
@@ -92,8 +93,9 @@ impl Agents {
 
     /// Sends a request of the caller.
     pub fn asks(&self, method: &str, call: &str, tag: &str) {
-        if let Ok(text) = request_of(self.alloc, method, call, tag) {
-            let _ = self.caller.send_to(text.as_bytes(), at(PROXY));
+        let port = self.proxy.saturating_add(1);
+        if let Ok(text) = request_of(self.alloc, port, method, call, tag) {
+            let _ = self.caller.send_to(text.as_bytes(), at(self.proxy));
         }
     }
 
@@ -110,7 +112,10 @@ impl Agents {
     /// Whether the target answers a request with this status line.
     pub fn answers(&self, request: &[u8], line: &str) -> bool {
         match answer_to(self.alloc, line.as_bytes(), request) {
-            Some(answer) => self.target.send_to(answer.as_slice(), at(PROXY)).is_ok(),
+            Some(answer) => self
+                .target
+                .send_to(answer.as_slice(), at(self.proxy))
+                .is_ok(),
             None => false,
         }
     }

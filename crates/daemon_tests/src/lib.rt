@@ -12,6 +12,8 @@ mod living;
 #[cfg(test)]
 mod options;
 #[cfg(test)]
+mod ordering;
+#[cfg(test)]
 mod outbox;
 #[cfg(test)]
 mod stamping;

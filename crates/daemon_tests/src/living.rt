@@ -15,6 +15,9 @@ use std::thread::join;
 use std::time::{Clock, Duration};
 use std::{fs, io, thread};
 
+/// Where the proxy listens.
+const PROXY: u16 = 47_420;
+
 /// The files of the proxy, in the folder in which the test runs.
 const CONFIG: &str = "forkproxyd_test_config";
 
@@ -200,7 +203,7 @@ fn played<R: Net + Files + Clock>(rt: &R, alloc: Global, agents: &Agents) -> &'s
 
 /// Plays all, and says what did not hold; then the proxy is told to end at once, where it has not ended.
 fn plays<R: Net + Files + Clock>(rt: &R, alloc: Global) -> &'static str {
-    let missed = match Agents::new(rt, alloc) {
+    let missed = match Agents::new(rt, alloc, PROXY) {
         Some(agents) => played(rt, alloc, &agents),
         None => "there are two agents",
     };

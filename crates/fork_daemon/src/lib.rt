@@ -3,12 +3,13 @@
 #![tactic(auto)]
 
 mod control;
-mod job;
+mod groups;
 mod journal;
 mod options;
+mod packet;
 mod port;
 mod proxy;
-mod receiver;
+mod receiving;
 mod serving;
 mod stamping;
 mod timer;

@@ -1,12 +1,14 @@
 //! What the threads of a proxy share, and what they do with one call.
 ghost use Rattle.std.specs.Prelude.{◌≡◌};
 
+use crate::groups::Groups;
 use crate::journal::append_block;
 use call_table::Shelf;
 use daemon_parts::{Counts, Identity, Marks, Options, ProxyFiles, Socket};
 use fork_call::{Call, Port, Setup, carry};
 use fork_clock::{Epoch, Schedule};
 use sip_uri::Hop;
+use source_limit::SourceLimits;
 use std::alloc::{AllocError, Global};
 use std::sync::atomic::{AtomicU64, Ordering};
 use std::sync::{Mutex, RwLock, Wait};
@@ -65,7 +67,6 @@ pub(crate) struct Limits {
     most_calls: u64,
     pub(crate) records: bool,
     pub(crate) own_port: bool,
-    pub(crate) most_per_source: Option<u32>,
     /// When it began, in seconds since 1970.
     began: u64,
 }
@@ -82,6 +83,9 @@ pub(crate) struct Proxy {
     pub(crate) counts: Counts,
     /// The calls that are kept and were counted as finished.
     finished: Marks,
+    /// Who has this lock receives. Under it stands what sources have sent, if there is a limit.
+    pub(crate) receiving: Mutex<Option<SourceLimits<Global>>>,
+    pub(crate) groups: Groups,
     pub(crate) paths: Paths,
     pub(crate) limits: Limits,
     state: AtomicU64,
@@ -132,6 +136,11 @@ pub(crate) fn by_own_port(setup: Setup<Global>, own_port: bool) -> Setup<Global>
     }
 }
 
+/// What sources may send, if there is a limit: nothing was sent yet.
+fn source_limits(alloc: Global, most: Option<u32>) -> Option<SourceLimits<Global>> {
+    Some(SourceLimits::new(alloc, most?))
+}
+
 /// A path of its own, if there is one.
 fn owned(alloc: Global, path: Option<&str>) -> Result<Option<String>, AllocError> {
     match path {
@@ -158,6 +167,7 @@ impl Proxy {
         let calls = Shelf::new(alloc)?;
         let schedule = Schedule::new(alloc)?;
         let finished = Marks::new(alloc)?;
+        let groups = Groups::new(alloc)?;
         let paths = Paths {
             config: String::from_str(alloc, options.config)?,
             control: String::from_str(alloc, options.control)?,
@@ -169,7 +179,6 @@ impl Proxy {
             most_calls: options.most_calls,
             records: options.records,
             own_port: options.own_port,
-            most_per_source: options.most_per_source,
             began: seconds(rt),
         };
         Ok(Proxy {
@@ -181,6 +190,8 @@ impl Proxy {
             epoch,
             counts: Counts::new(),
             finished,
+            receiving: Mutex::new(source_limits(alloc, options.most_per_source)),
+            groups,
             paths,
             limits,
             state: AtomicU64::new(0),
@@ -221,7 +232,7 @@ impl Proxy {
         self.schedule.wake();
     }
 
-    /// Ends: who receives wakes by a datagram from the proxy to itself, or else within a second.
+    /// Ends: the worker that receives wakes by a datagram from the proxy to itself, or else within a second, and the others leave behind it.
     pub(crate) fn end(&self) {
         self.state.store(State::Ended.code(), Ordering::SeqCst);
         self.socket.wake(self.own());

@@ -8,9 +8,7 @@ ghost use Rattle.daemon_parts.specs.Faults.{most_text, IsConfigurationFault};
 ghost use Rattle.fork_daemon.specs.Faults.{IsServeFault, IsServeFaultOf, IsSystemFault, Spells};
 
 use crate::control::Control;
-use crate::job::Job;
 use crate::proxy::{Proxy, Start, by_own_port, seconds};
-use call_table::Inbox;
 use daemon_parts::{
     DaemonFault, Options, ProxyFiles, Socket, configuration_fault, control_fault, metrics_fault,
     read_setup, read_text,
@@ -28,17 +26,17 @@ use std::os::fd::AsRawFd;
 use std::os::unix::net::UnixListener;
 use std::sync::Wait;
 use std::thread;
-use std::thread::Threads;
+use std::thread::{Promise, PromisedHandle, Threads};
 use std::time::Clock;
-use worker_jobs::{JobReceiver, JobSender, Waker};
 
 /// How many bytes of a datagram are received.
 const MOST_BYTES: usize = 65_535;
 
 /// What the threads of a proxy do.
 trait Crew {
-    /// Does the jobs that a worker is given, until the end job.
-    fn do_jobs<R: Wait + ProxyFiles + Clock>(&self, rt: &R, jobs: JobReceiver<'_, Job>);
+    /// Receives datagrams in this buffer and handles them, until the end. Where a receive failed the proxy ends.
+    fn work<R: Wait + ProxyFiles + Clock>(&self, rt: &R, buffer: Vec<u8>) -> Result<(), DaemonFault>
+        ensures { IfErr result IsSystemFault };
 
     /// Does what is due, when it is, until the end.
     fn keep_time<R: Wait + ProxyFiles + Clock>(&self, rt: &R);
@@ -48,15 +46,6 @@ trait Crew {
 
     /// Answers those who scrape the counters, if there is an address for them, until it is closed.
     fn show<R: Wait + ProxyFiles + Clock + PageSockets>(&self, rt: &R);
-
-    /// Receives until the end.
-    fn receive<R: Wait + Clock>(
-        &self,
-        rt: &R,
-        senders: &mut [JobSender<'_, Job>],
-        buffer: &mut [u8],
-    ) -> Result<(), DaemonFault>
-        ensures { IfErr result IsSystemFault };
 
     /// Ends: the threads that work return.
     fn end(&self);
@@ -83,8 +72,12 @@ struct Server {
 }
 
 impl Crew for Server {
-    fn do_jobs<R: Wait + ProxyFiles + Clock>(&self, rt: &R, jobs: JobReceiver<'_, Job>) {
-        self.proxy.work(rt, jobs);
+    fn work<R: Wait + ProxyFiles + Clock>(
+        &self,
+        rt: &R,
+        mut buffer: Vec<u8>,
+    ) -> Result<(), DaemonFault> {
+        self.proxy.work(rt, buffer.as_mut_slice())
     }
 
     fn keep_time<R: Wait + ProxyFiles + Clock>(&self, rt: &R) {
@@ -109,15 +102,6 @@ impl Crew for Server {
         }
     }
 
-    fn receive<R: Wait + Clock>(
-        &self,
-        rt: &R,
-        senders: &mut [JobSender<'_, Job>],
-        buffer: &mut [u8],
-    ) -> Result<(), DaemonFault> {
-        self.proxy.receive(rt, senders, buffer)
-    }
-
     fn end(&self) {
         self.proxy.end();
     }
@@ -140,69 +124,64 @@ impl Crew for Server {
     }
 }
 
-/// The ways to the workers, and their ends.
-#[derive(Drop)]
-struct Ways<'a> {
-    senders: Vec<JobSender<'a, Job>>,
-    receivers: Vec<JobReceiver<'a, Job>>,
+/// What a worker's thread ends with, if it is a fault: one of the system's.
+#[derive(Clone, Copy)]
+struct SystemFaults;
+
+impl Promise<Result<(), DaemonFault>> for SystemFaults {
+    ghost kept_by = { λ _ ended. IfErr ended IsSystemFault };
 }
 
-/// The ways to the workers, one for each waker.
-fn ways_of<'a>(alloc: Global, wakers: &'a [Waker]) -> Result<Ways<'a>, AllocError> {
-    let mut senders = Vec::new(alloc);
-    let mut receivers = Vec::new(alloc);
-    for waker in wakers {
-        let (giving, receiving) = Inbox::new(alloc)?;
-        if senders.push(JobSender::new(giving, waker)).is_err()
-            || receivers.push(JobReceiver::new(receiving, waker)).is_err()
-        {
-            return Err(AllocError);
+/// The thread of a worker.
+type Worker = PromisedHandle<Result<(), DaemonFault>, SystemFaults>;
+
+/// Waits until the workers have ended, and answers the first fault that one ended with.
+fn join_all<R: Threads>(rt: &R, workers: Vec<Worker>) -> Result<(), DaemonFault>
+    ensures { IfErr result IsSystemFault }
+{
+    let mut all = Ok(());
+    for worker in workers {
+        let ended = worker.join(rt);
+        if all.is_ok() {
+            all = ended;
         }
     }
-    Ok(Ways { senders, receivers })
+    all
 }
 
-/// Ends all workers.
-fn finish_all<R: Wait>(rt: &R, senders: &mut [JobSender<'_, Job>]) {
-    for i in 0..senders.len() {
-        senders[i].finish(rt, Job::Finish);
-    }
-}
-
-/// Starts the threads that work, receives until the end, and joins them.
+/// Starts the threads that work, a worker for each buffer, and waits until they have ended. Where one could not be made all end.
 fn work_all<C: Crew + Sync, R: Threads + Wait + ProxyFiles + Clock + Sync>(
     rt: &R,
+    alloc: Global,
     crew: &C,
-    ways: Ways<'_>,
-    buffer: &mut [u8],
+    buffers: Vec<Vec<u8>>,
 ) -> Result<(), DaemonFault>
     ensures { IfErr result IsSystemFault }
 {
-    let Ways {
-        mut senders,
-        receivers,
-    } = ways;
     thread::scope(
         thread::scope_env(),
         rt,
         |scope| -> Result<(), DaemonFault>
             ensures { IfErr result IsSystemFault }
         {
-            let mut are_running = true;
-            for jobs in receivers {
-                if scope.spawn(move || crew.do_jobs(rt, jobs)).is_err() {
-                    are_running = false;
+            let mut are_running = scope.spawn(move || crew.keep_time(rt)).is_ok();
+            let mut workers: Vec<Worker> = Vec::new(alloc);
+            for buffer in buffers {
+                match scope.spawn_with(SystemFaults, move || crew.work(rt, buffer)) {
+                    Ok(worker) => are_running = workers.push(worker).is_ok() && are_running,
+                    Err(_) => are_running = false,
                 }
             }
-            let keeps = scope.spawn(move || crew.keep_time(rt)).is_ok();
-            let ran = if are_running && keeps {
-                crew.receive(rt, senders.as_mut_slice(), buffer)
+            if !are_running {
+                crew.end();
+            }
+            let ended = join_all(rt, workers);
+            crew.end();
+            if are_running {
+                ended
             } else {
                 Err(DaemonFault::NoMemory)
-            };
-            crew.end();
-            finish_all(rt, senders.as_mut_slice());
-            ran
+            }
         },
     )
 }
@@ -211,9 +190,9 @@ fn work_all<C: Crew + Sync, R: Threads + Wait + ProxyFiles + Clock + Sync>(
 /// hears of it last.
 fn run<C: Crew + Sync, R: Threads + Wait + ProxyFiles + PageSockets + Clock + Print + Sync>(
     rt: &R,
+    alloc: Global,
     crew: &C,
-    ways: Ways<'_>,
-    buffer: &mut [u8],
+    buffers: Vec<Vec<u8>>,
 ) -> Result<(), DaemonFault>
     ensures { IfErr result IsSystemFault }
 {
@@ -226,7 +205,7 @@ fn run<C: Crew + Sync, R: Threads + Wait + ProxyFiles + PageSockets + Clock + Pr
             let listens = scope.spawn(move || crew.answer(rt)).is_ok();
             let shows = scope.spawn(move || crew.show(rt)).is_ok();
             let ran = if listens && shows {
-                work_all(rt, crew, ways, buffer)
+                work_all(rt, alloc, crew, buffers)
             } else {
                 Err(DaemonFault::NoMemory)
             };
@@ -277,6 +256,23 @@ fn open_metrics<R: PageSockets>(rt: &R, address: Option<&str>) -> Result<Scraped
     }
 }
 
+/// Listens at the control socket's file and at the address for scrapers. Where the address cannot be bound, the file goes, too.
+fn open_sockets<R: ProxyFiles + PageSockets>(
+    rt: &R,
+    options: Options<'_>,
+) -> Result<(UnixListener, Scraped), DaemonFault>
+    ensures { IfErr result IsSystemFault }
+{
+    let listener = open_control(rt, options.control)?;
+    match open_metrics(rt, options.metrics) {
+        Ok(scraped) => Ok((listener, scraped)),
+        Err(fault) => {
+            rt.take_file_away(options.control);
+            Err(fault)
+        }
+    }
+}
+
 /// Binds the address of a setup.
 #[tactic(auto, using(crate::proofs::Faults::socket_is_system))]
 fn bound<R: Net>(rt: &R, setup: &Setup<Global>) -> Result<Socket, DaemonFault>
@@ -291,8 +287,8 @@ fn bound<R: Net>(rt: &R, setup: &Setup<Global>) -> Result<Socket, DaemonFault>
     Socket::bind(rt, hop)
 }
 
-/// Binds the address of a setup, the control socket and the address for scrapers, and makes a proxy without a call. Where the last cannot
-/// be bound, the control socket's file goes, too.
+/// Binds the address of a setup, the control socket and the address for scrapers, and makes a proxy without a call. Where there is no
+/// memory for it, the control socket's file goes, too.
 fn server_of<R: Net + Clock + ProxyFiles + PageSockets>(
     rt: &R,
     alloc: Global,
@@ -305,30 +301,30 @@ fn server_of<R: Net + Clock + ProxyFiles + PageSockets>(
     let Some(epoch) = Epoch::now(rt) else {
         return Err(DaemonFault::Clock);
     };
-    let proxy = Proxy::new(rt, alloc, start, setup, socket, epoch)?;
-    let listener = open_control(rt, start.options.control)?;
-    match open_metrics(rt, start.options.metrics) {
-        Ok(scraped) => Ok(Server {
+    let (listener, scraped) = open_sockets(rt, start.options)?;
+    match Proxy::new(rt, alloc, start, setup, socket, epoch) {
+        Ok(proxy) => Ok(Server {
             proxy,
             listener,
             scraped,
         }),
-        Err(fault) => {
+        Err(AllocError) => {
             rt.take_file_away(start.options.control);
-            Err(fault)
+            Err(DaemonFault::NoMemory)
         }
     }
 }
 
-/// The wakers of so many workers.
-fn wakers_of(alloc: Global, workers: usize) -> Result<Vec<Waker>, AllocError> {
-    let mut wakers = Vec::new(alloc);
+/// A buffer for each of so many workers.
+fn buffers_of(alloc: Global, workers: usize) -> Result<Vec<Vec<u8>>, AllocError> {
+    let mut buffers = Vec::new(alloc);
     for _ in 0..workers {
-        if wakers.push(Waker::new()).is_err() {
+        let buffer = vec![in alloc; 0u8; MOST_BYTES]?;
+        if buffers.push(buffer).is_err() {
             return Err(AllocError);
         }
     }
-    Ok(wakers)
+    Ok(buffers)
 }
 
 /// Tells where a proxy listens.
@@ -338,7 +334,7 @@ fn print_listening<P: Print>(out: &P, own: Hop) {
     let _ = out.println(format_args!("listening {a}.{b}.{c}.{d} {port}"));
 }
 
-/// Makes the ways to the workers, tells where the proxy listens, and lets it run until the end.
+/// Makes the buffers of the workers, tells where the proxy listens, and lets it run until the end.
 fn run_workers<R: Threads + Wait + ProxyFiles + PageSockets + Clock + Print + Sync>(
     rt: &R,
     alloc: Global,
@@ -347,12 +343,10 @@ fn run_workers<R: Threads + Wait + ProxyFiles + PageSockets + Clock + Print + Sy
 ) -> Result<(), DaemonFault>
     ensures { IfErr result IsSystemFault }
 {
-    let wakers = wakers_of(alloc, workers.max(1))?;
-    let ways = ways_of(alloc, wakers.as_slice())?;
-    let mut buffer = vec![in alloc; 0u8; MOST_BYTES]?;
+    let buffers = buffers_of(alloc, workers.max(1))?;
     server_is_shared(server);
     print_listening(rt, server.proxy.own());
-    run(rt, server, ways, buffer.as_mut_slice())
+    run(rt, alloc, server, buffers)
 }
 
 /// Reads a configuration's file, and answers whether a proxy would serve by it. Where it has no line of an instance, none is missing:

@@ -1,19 +1,21 @@
-//! What a worker does with the datagrams of its calls.
-use crate::job::Job;
+//! What a worker does with the datagrams that it receives, and with those that are handed over to it.
+ghost use Rattle.std.specs.Prelude.{IfErr};
+ghost use Rattle.fork_daemon.specs.Faults.{IsSystemFault};
+
 use crate::options::{answer_options, may_be_options};
 use crate::port::SocketPort;
-use crate::proxy::Proxy;
+use crate::proxy::{Proxy, State};
 use crate::stamping::StampedPort;
 use crate::turning::turn_away;
-use daemon_parts::ProxyFiles;
+use daemon_parts::{DaemonFault, ProxyFiles};
 use fork_call::Port;
 use fork_clock::Watch;
 use proxy_dispatch::{Handled, Memory, Received, handle};
 use sip_service::record_text;
+use sip_uri::Hop;
 use std::alloc::AllocError;
 use std::sync::Wait;
 use std::time::Clock;
-use worker_jobs::JobReceiver;
 
 impl Proxy {
     /// The text of a datagram with a Record-Route line, where it opens a dialog on whose path the proxy stays.
@@ -165,34 +167,92 @@ impl Proxy {
         done
     }
 
-    /// Does the jobs that a worker is given, until the end job. A moment is read as a job is begun.
-    pub(crate) fn work<R: Wait + ProxyFiles + Clock>(
+    /// Handles a datagram, and notes how long that took. The moment is read as it begins.
+    fn take_timed<R: Wait + ProxyFiles + Clock, P: Port>(
         &self,
         rt: &R,
-        mut jobs: JobReceiver<'_, Job>,
+        port: &mut P,
+        watch: &mut Watch,
+        bytes: &[u8],
+        source: Hop,
     ) {
+        let began = watch.micros(rt);
+        let received = Received {
+            bytes,
+            source,
+            now: began / 1_000,
+        };
+        let taken = self.take(rt, port, received);
+        if taken.is_err() {
+            self.counts.datagrams.no_memory.add(1);
+        }
+        let took = watch.micros(rt).saturating_sub(began);
+        self.counts.latencies.add(took);
+    }
+
+    /// Handles what was handed over meanwhile in a group that this worker is on, and leaves the group.
+    fn take_waiting<R: Wait + ProxyFiles + Clock, P: Port>(
+        &self,
+        rt: &R,
+        port: &mut P,
+        watch: &mut Watch,
+        group: Option<u8>,
+    ) {
+        for _ in rt.forever() {
+            match self.groups.next(rt, group) {
+                Some(packet) => {
+                    self.take_timed(rt, port, watch, packet.bytes.as_slice(), packet.source);
+                }
+                None => return,
+            }
+        }
+        unreachable!()
+    }
+
+    /// Receives and handles datagrams until the end.
+    ///
+    /// # Errors
+    ///
+    /// `Socket` where a receive failed.
+    fn work_until_end<R: Wait + ProxyFiles + Clock>(
+        &self,
+        rt: &R,
+        buffer: &mut [u8],
+    ) -> Result<(), DaemonFault>
+        ensures { IfErr result IsSystemFault }
+    {
         let counts = &self.counts.datagrams;
         let mut port = SocketPort::new(&self.socket, counts, &counts.sent);
         let mut watch = Watch::new(self.epoch);
         for _ in rt.forever() {
-            match jobs.receive(rt) {
-                Job::Packet { bytes, source } => {
-                    let began = watch.micros(rt);
-                    let received = Received {
-                        bytes: bytes.as_slice(),
-                        source,
-                        now: began / 1_000,
-                    };
-                    let taken = self.take(rt, &mut port, received);
-                    if taken.is_err() {
-                        self.counts.datagrams.no_memory.add(1);
-                    }
-                    let took = watch.micros(rt).saturating_sub(began);
-                    self.counts.latencies.add(took);
-                }
-                Job::Finish => return,
+            if self.is_in(State::Ended) {
+                return Ok(());
+            }
+            if let Some(entered) = self.receive(rt, &mut watch, buffer)? {
+                let bytes = &buffer[..entered.count];
+                self.take_timed(rt, &mut port, &mut watch, bytes, entered.source);
+                self.take_waiting(rt, &mut port, &mut watch, entered.group);
             }
         }
         unreachable!()
+    }
+
+    /// Receives and handles datagrams until the end. Where a receive failed the proxy ends.
+    ///
+    /// # Errors
+    ///
+    /// `Socket` where a receive failed.
+    pub(crate) fn work<R: Wait + ProxyFiles + Clock>(
+        &self,
+        rt: &R,
+        buffer: &mut [u8],
+    ) -> Result<(), DaemonFault>
+        ensures { IfErr result IsSystemFault }
+    {
+        let ended = self.work_until_end(rt, buffer);
+        if ended.is_err() {
+            self.end();
+        }
+        ended
     }
 }

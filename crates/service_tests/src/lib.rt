@@ -16,6 +16,8 @@ mod deadlines;
 #[cfg(test)]
 mod forgetting;
 #[cfg(test)]
+mod groups;
+#[cfg(test)]
 mod holds;
 #[cfg(test)]
 mod jobs;

@@ -3,7 +3,7 @@ use crate::holds::holds;
 use daemon_parts::{
     Counts, DaemonFault, Gauges, Identity, Marks, ProxyFiles, Sent, Socket, configuration_fault,
     control_fault, metrics_fault, read_again, read_setup, read_text, resident_bytes,
-    resident_pages, socket_fault, worker_of,
+    resident_pages, socket_fault,
 };
 use sip_uri::Hop;
 use sip_via::Own;
@@ -260,16 +260,4 @@ fn comes_back<R: Net>(rt: &R) -> bool {
 #[test]
 fn a_socket_sends_and_receives(rt: HostRuntime) {
     holds(&rt, comes_back(&rt), "what it sends to itself comes");
-}
-
-#[test]
-fn one_call_has_one_worker(rt: HostRuntime) {
-    let request = b"INVITE sip:a SIP/2.0\r\nCall-ID: q\r\n\r\n".as_slice();
-    let answer = b"SIP/2.0 180 Ringing\r\nVia: x\r\ni: q\r\n\r\n".as_slice();
-    for workers in 0..8usize {
-        let worker = worker_of(request, workers);
-        holds(&rt, worker == worker_of(answer, workers), "the same worker");
-        holds(&rt, worker < workers.max(1), "one of them");
-    }
-    holds(&rt, worker_of(b"noise", 4) == 0, "the first");
 }

@@ -1,0 +1,128 @@
+//! What comes of one call is handled in the order in which it came, though each of four workers receives: a CANCEL right behind its INVITE,
+//! and a target that rings and accepts at once.
+use crate::agents::Agents;
+use crate::holds::holds;
+use daemon_parts::{DaemonFault, Options};
+use fork_control::tell;
+use fork_daemon::serve_text;
+use std::alloc::Global;
+use std::net::Net;
+use std::test::Fail;
+use std::thread;
+use std::thread::join;
+use std::time::{Clock, Duration};
+
+/// Where the proxy listens.
+const PROXY: u16 = 47_440;
+
+/// Its control socket, in the folder in which the test runs.
+const CONTROL: &str = "forkproxyd_test_ordering";
+
+/// The configuration: one user at one telephone.
+const CONFIGURATION: &[u8] =
+    b"own 127.0.0.1 47440\ninstance 7\ndomain example.com\nlocation bob 1000 sip:bob@127.0.0.1:47442\n";
+
+const OPTIONS: Options<'static> = Options {
+    config: "forkproxyd_test_unused",
+    control: CONTROL,
+    journal: None,
+    most_calls: 1_000,
+    workers: 4,
+    records: false,
+    own_port: true,
+    most_per_source: None,
+    metrics: None,
+};
+
+/// How many calls are cancelled, and how many are accepted.
+const CALLS: u32 = 50;
+
+/// How often the proxy is looked for, a tenth of a second apart.
+const LOOKS: u32 = 100;
+
+/// Whether the proxy does what a line at its control socket asks for.
+fn obeys<R: Net>(rt: &R, alloc: Global, line: &str) -> bool {
+    let mut answer = Vec::new(alloc);
+    tell(rt, CONTROL, line.as_bytes(), &mut answer).is_ok()
+}
+
+/// Whether the proxy comes to serve.
+fn serves<R: Net + Clock>(rt: &R, alloc: Global) -> bool {
+    for _ in 0..LOOKS {
+        if obeys(rt, alloc, "stats") {
+            return true;
+        }
+        thread::sleep(rt, Duration::from_millis(100));
+    }
+    false
+}
+
+/// Whether a CANCEL right behind its INVITE finds the call; else it is answered 481.
+fn is_cancelled(agents: &Agents, call: &str) -> bool {
+    agents.asks("INVITE", call, "");
+    agents.asks("CANCEL", call, "");
+    agents.hears("SIP/2.0 200", call)
+}
+
+/// Whether the caller hears that the target rings before it hears that it has accepted.
+fn rings_first(agents: &Agents, call: &str) -> bool {
+    agents.asks("INVITE", call, "");
+    match agents.gets("INVITE", call) {
+        Some(request) => {
+            agents.answers(request.as_slice(), "SIP/2.0 180 Ringing\r\n")
+                && agents.answers(request.as_slice(), "SIP/2.0 200 OK\r\n")
+                && agents.hears("SIP/2.0 180", call)
+                && agents.hears("SIP/2.0 200", call)
+        }
+        None => false,
+    }
+}
+
+/// Plays the calls once the proxy serves, and says what did not hold. Those that are accepted come first: the target is sent the INVITEs of the
+/// others again and again.
+fn played<R: Net + Clock>(rt: &R, alloc: Global, agents: &Agents) -> &'static str {
+    if !serves(rt, alloc) {
+        return "the proxy serves";
+    }
+    for number in 0..CALLS {
+        let Ok(call) = format!(in alloc; "accepted{number}") else {
+            return "there is memory";
+        };
+        if !rings_first(agents, call.as_str()) {
+            return "a 180 goes up before the 200 behind it";
+        }
+    }
+    for number in 0..CALLS {
+        let Ok(call) = format!(in alloc; "cancelled{number}") else {
+            return "there is memory";
+        };
+        if !is_cancelled(agents, call.as_str()) {
+            return "a CANCEL right behind its INVITE is answered 200";
+        }
+    }
+    "nothing"
+}
+
+/// Plays all, and says what did not hold; then the proxy is told to end at once.
+fn plays<R: Net + Clock>(rt: &R, alloc: Global) -> &'static str {
+    let missed = match Agents::new(rt, alloc, PROXY) {
+        Some(agents) => played(rt, alloc, &agents),
+        None => "there are two agents",
+    };
+    let _ = obeys(rt, alloc, "stop 0");
+    missed
+}
+
+#[test]
+fn what_comes_of_one_call_is_handled_in_order(rt: HostRuntime) -> Result<(), Fail> {
+    let alloc = rt.alloc();
+    let (served, missed) = join(
+        &rt,
+        || serve_text(&rt, alloc, CONFIGURATION, 1, OPTIONS),
+        || plays(&rt, alloc),
+    );
+    let ended: Result<(), DaemonFault> = served;
+    holds(&rt, missed == "nothing", missed);
+    holds(&rt, ended.is_ok(), "the proxy ends in good order");
+    Ok(())
+}

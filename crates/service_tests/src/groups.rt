@@ -1,0 +1,101 @@
+//! Jobs of a group of calls wait for the worker that is on it, and come in order.
+use crate::holds::holds;
+use call_groups::{Group, MOST_WAITING, jobs_come_in_order};
+
+/// What becomes of a job that a worker receives.
+#[derive(Clone, Copy, PartialEq, Eq)]
+enum Fate {
+    /// The worker enters the group with it.
+    Enters,
+    /// It waits for the worker that is on the group.
+    Waits,
+    /// It comes back.
+    Refused,
+}
+
+/// What happens to a group.
+#[derive(Clone, Copy)]
+enum Act {
+    /// This job is received, with this fate.
+    Receive(u32, Fate),
+    /// The worker that is on the group asks for the next job, and gets this one.
+    Next(Option<u32>),
+}
+
+/// A worker receives a job, and enters the group with it or hands it over.
+fn receive(group: &mut Group<u32>, job: u32) -> Fate {
+    if group.enter() {
+        Fate::Enters
+    } else if group.hand_over(job).is_ok() {
+        Fate::Waits
+    } else {
+        Fate::Refused
+    }
+}
+
+/// Whether a group answers so.
+fn is_so(group: &mut Group<u32>, act: Act) -> bool {
+    match act {
+        Act::Receive(job, expected) => receive(group, job) == expected,
+        Act::Next(expected) => group.next() == expected,
+    }
+}
+
+/// Whether a group answers so, one act after another.
+fn plays(group: &mut Group<u32>, history: &[Act]) -> bool {
+    let mut is_well = true;
+    for act in history {
+        is_well = is_so(group, *act) && is_well;
+    }
+    is_well
+}
+
+#[test]
+fn one_worker_at_a_time_is_on_a_group(rt: HostRuntime) {
+    jobs_come_in_order::<u32>();
+    let mut group = Group::new(rt.alloc());
+    let well = plays(
+        &mut group,
+        &[
+            Act::Receive(1, Fate::Enters),
+            Act::Receive(2, Fate::Waits),
+            Act::Receive(3, Fate::Waits),
+            Act::Next(Some(2)),
+            Act::Receive(4, Fate::Waits),
+            Act::Next(Some(3)),
+            Act::Next(Some(4)),
+            Act::Next(None),
+            Act::Receive(5, Fate::Enters),
+            Act::Next(None),
+        ],
+    );
+    holds(&rt, well, "what waits comes in order");
+}
+
+#[test]
+fn no_more_than_64_jobs_wait(rt: HostRuntime) {
+    let mut group = Group::new(rt.alloc());
+    let entered = receive(&mut group, 0) == Fate::Enters;
+    holds(&rt, entered && !group.is_full(), "nothing waits at first");
+    let mut waiting = 0usize;
+    for job in 1..100u32 {
+        if receive(&mut group, job) == Fate::Waits {
+            waiting = waiting.saturating_add(1);
+        }
+    }
+    holds(
+        &rt,
+        waiting == MOST_WAITING && group.is_full(),
+        "64 jobs wait",
+    );
+    let first = group.next() == Some(1);
+    holds(&rt, first && !group.is_full(), "the first made room");
+    let well = plays(
+        &mut group,
+        &[
+            Act::Receive(100, Fate::Waits),
+            Act::Receive(101, Fate::Refused),
+        ],
+    );
+    holds(&rt, well, "for one");
+}
