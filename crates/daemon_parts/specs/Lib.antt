@@ -1,3 +1,4 @@
 pub mod Completion
 pub mod Faults
 pub mod Memory
+pub mod Places

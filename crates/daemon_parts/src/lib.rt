@@ -13,6 +13,7 @@ mod latencies;
 mod marks;
 mod memory;
 mod options;
+mod places;
 mod setup;
 mod socket;
 
@@ -26,5 +27,6 @@ pub use latencies::Latencies;
 pub use marks::Marks;
 pub use memory::{resident_bytes, resident_pages};
 pub use options::Options;
+pub use places::Places;
 pub use setup::{Identity, read_again, read_setup, read_text};
 pub use socket::{Sent, Socket};

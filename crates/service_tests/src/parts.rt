@@ -1,7 +1,7 @@
 //! What a service is made of below its threads.
 use crate::holds::holds;
 use daemon_parts::{
-    Counts, DaemonFault, Gauges, Identity, Marks, ProxyFiles, Sent, Socket, configuration_fault,
+    Counts, DaemonFault, Gauges, Identity, Marks, Places, ProxyFiles, Sent, Socket, configuration_fault,
     control_fault, metrics_fault, read_again, read_setup, read_text, resident_bytes,
     resident_pages, socket_fault,
 };
@@ -233,6 +233,24 @@ fn are_marked(alloc: Global) -> bool {
 #[test]
 fn a_call_is_marked_once(rt: HostRuntime) {
     holds(&rt, are_marked(rt.alloc()), "the marks");
+}
+
+/// Whether two places are kept, and a third only once one is given back, or behind one that was taken beyond them only once two are.
+fn are_kept() -> bool {
+    let mut places = Places::new(2);
+    let kept = places.keep() && places.keep() && !places.keep();
+    places.give_back();
+    let again = places.keep() && !places.keep();
+    places.take();
+    places.give_back();
+    let beyond = !places.keep();
+    places.give_back();
+    kept && again && beyond && places.keep()
+}
+
+#[test]
+fn places_are_kept_while_there_are_some(rt: HostRuntime) {
+    holds(&rt, are_kept(), "two places");
 }
 
 /// Where the socket of the test is.
