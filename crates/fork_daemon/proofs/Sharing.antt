@@ -15,7 +15,7 @@ use Rattle.fork_call.proofs.laws.Crossing.{call_send}
 use Rattle.fork_call.specs.contracts.call.Call.{the_row as call_row}
 use Rattle.call_table.proofs.laws.Crossing.{shelf_sync}
 use Rattle.call_table.specs.contracts.shelf.Shelf as shelf
-use Rattle.daemon_parts.proofs.laws.Crossing.{counts_sync, marks_sync, socket_sync}
+use Rattle.daemon_parts.proofs.laws.Crossing.{counts_sync, marks_sync, places_send, socket_sync}
 use Rattle.fork_clock.proofs.laws.Crossing.{epoch_sync, schedule_sync}
 use Rattle.fork_daemon.proofs.packet.Packet.TheSendSync as packet
 use Rattle.fork_daemon.proofs.proxy.Limits.TheSendSync as limits
@@ -73,7 +73,7 @@ proxy_sync = struct_sync (shape proxy.the_type) (
                       paths.the_field_sync,
                       (
                         limits.the_field_sync,
-                        (search (crosses, sendable), (search (crosses, sendable), (search (crosses, sendable), (search (crosses, sendable), tt)))),
+                        (search (crosses, sendable), (search (crosses, sendable), (search (crosses, places_send), (search (crosses, sendable), tt)))),
                       ),
                     ),
                   ),

@@ -4,7 +4,7 @@ ghost use Rattle.std.specs.Prelude.{◌≡◌};
 use crate::groups::Groups;
 use crate::journal::append_block;
 use call_table::Shelf;
-use daemon_parts::{Counts, Identity, Marks, Options, ProxyFiles, Socket};
+use daemon_parts::{Counts, Identity, Marks, Options, Places, ProxyFiles, Socket};
 use fork_call::{Call, Port, Setup, carry};
 use fork_clock::{Epoch, Schedule};
 use sip_uri::Hop;
@@ -64,7 +64,6 @@ pub(crate) struct Limits {
     pub(crate) identity: Identity,
     /// The number of the run for a configuration that has no line of an instance.
     pub(crate) seconds: u32,
-    most_calls: u64,
     pub(crate) records: bool,
     pub(crate) own_port: bool,
     /// When it began, in seconds since 1970.
@@ -91,8 +90,8 @@ pub(crate) struct Proxy {
     state: AtomicU64,
     /// When a proxy that drains ends at the latest, in milliseconds.
     until: AtomicU64,
-    /// How many calls are kept, and places for calls that datagrams may open that are being handled.
-    places: AtomicU64,
+    /// For calls that are kept, and for those that datagrams may open that are being handled.
+    places: Mutex<Places>,
     /// Blocks are written to the journal under this lock, one after another.
     journal: Mutex<u64>,
 }
@@ -176,7 +175,6 @@ impl Proxy {
         let limits = Limits {
             identity: Identity::of(&setup),
             seconds: start.seconds,
-            most_calls: options.most_calls,
             records: options.records,
             own_port: options.own_port,
             began: seconds(rt),
@@ -196,7 +194,7 @@ impl Proxy {
             limits,
             state: AtomicU64::new(0),
             until: AtomicU64::new(0),
-            places: AtomicU64::new(0),
+            places: Mutex::new(Places::new(options.most_calls)),
             journal: Mutex::new(0),
         })
     }
@@ -240,25 +238,18 @@ impl Proxy {
     }
 
     /// Keeps a place for a call that a datagram may open, and says whether there is one. While it drains there is none.
-    pub(crate) fn keep_place(&self) -> bool {
-        if !self.is_in(State::Serving) {
-            return false;
-        }
-        if self.places.fetch_add(1, Ordering::SeqCst) < self.limits.most_calls {
-            return true;
-        }
-        self.give_place_back();
-        false
+    pub(crate) fn keep_place<R: Wait>(&self, rt: &R) -> bool {
+        self.is_in(State::Serving) && self.places.lock(rt).keep()
     }
 
     /// Counts a call that has no place.
-    pub(crate) fn take_place(&self) {
-        self.places.fetch_add(1, Ordering::SeqCst);
+    pub(crate) fn take_place<R: Wait>(&self, rt: &R) {
+        self.places.lock(rt).take();
     }
 
     /// Gives a place back.
-    pub(crate) fn give_place_back(&self) {
-        self.places.fetch_sub(1, Ordering::SeqCst);
+    pub(crate) fn give_place_back<R: Wait>(&self, rt: &R) {
+        self.places.lock(rt).give_back();
     }
 
     /// Whether a call is open. `oldest` is a number that no call is below, and is raised to the least that a call has.
@@ -368,7 +359,7 @@ impl Proxy {
         if !self.calls.remove(rt, number) {
             return;
         }
-        self.give_place_back();
+        self.give_place_back(rt);
         self.counts.calls.forgotten.add(1);
         if !self.finished.clear(number) {
             self.counts.calls.finished.add(1);

@@ -70,10 +70,10 @@ impl Proxy {
     ) {
         let is_opened = matches!(handled, Handled::Opened(_));
         if has_place && !is_opened {
-            self.give_place_back();
+            self.give_place_back(rt);
         }
         if is_opened && !has_place {
-            self.take_place();
+            self.take_place(rt);
         }
         match handled {
             Handled::Opened(number) => {
@@ -140,7 +140,7 @@ impl Proxy {
         }
         self.counts.datagrams.answered.add(200);
         if has_place {
-            self.give_place_back();
+            self.give_place_back(rt);
         }
         Ok(())
     }
@@ -152,7 +152,7 @@ impl Proxy {
         port: &mut P,
         received: Received<'_>,
     ) -> Result<(), AllocError> {
-        let has_place = self.keep_place();
+        let has_place = self.keep_place(rt);
         if !has_place {
             let (bytes, source) = (received.bytes, received.source);
             if turn_away(rt, self.alloc, &self.calls, bytes, source, port)? {
@@ -162,7 +162,7 @@ impl Proxy {
         }
         let done = self.take_in_place(rt, port, received, has_place);
         if done.is_err() && has_place {
-            self.give_place_back();
+            self.give_place_back(rt);
         }
         done
     }
