@@ -23,7 +23,8 @@ pub enum DaemonFault {
     /// The address or the instance of a configuration that is read anew is another one.
     #[error("address and instance may not change")]
     Identity,
-    /// A growth was refused before the threads ran, or a thread could not be made.
+    /// A growth was refused before the threads ran, a thread could not be made, or the system had no memory for the configuration's file or a
+    /// socket.
     #[error("want of memory")]
     NoMemory,
     /// The clock cannot be read.

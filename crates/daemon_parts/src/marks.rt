@@ -12,7 +12,7 @@ const BITS: u64 = 64;
 const MOST_TRIES: u32 = 64;
 
 /// A mark for each call that is kept, by its number, so that what happens once to a call is counted once. It takes no lock, and half a
-/// megabyte for all calls. Two calls have the same mark where 4,194,304 others were opened between them: the later one is marked only
+/// megabyte for all calls. Two calls have the same mark where 4,194,303 others were opened between them: the later one is marked only
 /// once the earlier is unmarked.
 #[derive(Drop)]
 pub struct Marks {

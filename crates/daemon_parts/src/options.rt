@@ -17,7 +17,7 @@ pub struct Options<'a> {
     pub records: bool,
     /// Whether its own address counts as its domain with its own port alone.
     pub own_port: bool,
-    /// How many datagrams one source address may send a second; as many as it likes where this is left out.
+    /// How many datagrams one source address may send at once, and as many more each second; as many as it likes where this is left out.
     pub most_per_source: Option<u32>,
     /// The address and the port at which its counters are scraped.
     pub metrics: Option<&'a str>,

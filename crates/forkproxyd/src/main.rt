@@ -89,7 +89,7 @@ fn with_limits<'a>(alloc: Global, command: Command<'a>) -> Result<Command<'a>, A
         .value_name("N")
         .value_parser(value_parser!(u16).range(1..=64))
         .help(
-            "how many threads handle datagrams: as many as there are processors, and 2 at least, if left out",
+            "how many threads receive and handle datagrams: as many as there are processors, and 2 at least, if left out",
         );
     let record_route = Arg::new(alloc, "record-route")
         .long("record-route")
@@ -103,7 +103,9 @@ fn with_limits<'a>(alloc: Global, command: Command<'a>) -> Result<Command<'a>, A
         .long("most-per-source")
         .value_name("N")
         .value_parser(value_parser!(u32).range(1..))
-        .help("how many datagrams a second one source address may send: no limit if left out");
+        .help(
+            "how many datagrams one source address may send at once, and as many more each second: no limit if left out",
+        );
     let metrics = Arg::new(alloc, "metrics")
         .long("metrics")
         .value_name("ADDRESS:PORT")
