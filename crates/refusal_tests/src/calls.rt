@@ -1,4 +1,5 @@
 //! Whole calls, each of whose steps is made again until it meets no refusal.
+use crate::answers::{Judge, answered, discard, judged};
 use crate::call_texts::{
     ACK_SENT, CALLER, CANCEL, CANCEL_OK, CANCEL_SENT, FAULT_UP, INVITE, INVITE_SENT, OPTIONS,
     OPTIONS_FAULT_UP, OPTIONS_NOT_FOUND, OPTIONS_NOT_FOUND_OF_FIVE, OPTIONS_NOT_FOUND_UP,
@@ -8,7 +9,7 @@ use crate::call_texts::{
 use crate::fork_texts::FORK_SETUP;
 use crate::plays::{calls, plays};
 use crate::port::Comparing;
-use crate::sources::{Alloc, message};
+use crate::sources::{Alloc, read};
 use call_routing::is_openable;
 use fork_call::{Call, Cause, RequestRejection, Setup, SetupFault, Step, TakeFault, Taken, carry};
 use fork_context::Event;
@@ -20,11 +21,7 @@ use std::process::Abort;
 
 /// What a configuration says, or why that is not known.
 pub fn set_up<'a>(alloc: Alloc<'a>, text: &[u8]) -> Result<Setup<Alloc<'a>>, Answer> {
-    match Setup::read(alloc, text) {
-        Ok(setup) => Ok(setup),
-        Err(SetupFault::NoMemory) => Err(Answer::NoMemory),
-        Err(_) => Err(Answer::Wrong),
-    }
+    answered(Setup::read(alloc, text), SetupFault::NoMemory)
 }
 
 /// A configuration is read.
@@ -33,12 +30,16 @@ struct SettingUp {
     text: &'static [u8],
 }
 
+impl<'a> Judge<'a, Setup<Alloc<'a>>> for SettingUp {
+    fn is_right(&self, _heap: Heap<'a>, setup: &Setup<Alloc<'a>>) -> bool {
+        setup.instance() == 7
+    }
+}
+
 impl Stateless for SettingUp {
     fn answer(&self, heap: Heap<'_>) -> Answer {
-        match set_up(heap.scarce, self.text) {
-            Ok(setup) => Answer::of(setup.instance() == 7),
-            Err(answer) => answer,
-        }
+        let setup = Setup::read(heap.scarce, self.text);
+        judged(heap, self, setup, SetupFault::NoMemory)
     }
 }
 
@@ -55,57 +56,48 @@ type Opened<'a> = Result<Call<Alloc<'a>>, Answer>;
 
 /// The call that this request opens.
 fn opened_by<'a>(
-    alloc: Alloc<'a>,
+    heap: Heap<'a>,
     global: Global,
     setup: &Setup<Alloc<'a>>,
     request: Message<Alloc<'a>>,
 ) -> Opened<'a> {
     if !is_openable(&request) {
+        discard(request);
         return Err(Answer::Wrong);
     }
-    match Call::open(alloc, global, setup, 3, request, CALLER, 0) {
-        Ok(call) => Ok(call),
-        Err(RequestRejection::NoMemory) => Err(Answer::NoMemory),
-        Err(_) => Err(Answer::Wrong),
-    }
+    let call = Call::open(heap.scarce, global, setup, 3, request, CALLER, 0);
+    answered(call, RequestRejection::NoMemory)
 }
 
-/// The call that the request of this text opens.
-fn opened_with<'a>(
-    heap: Heap<'a>,
-    global: Global,
-    setup: &Setup<Alloc<'a>>,
-    request: &[u8],
-) -> Opened<'a> {
-    match message(heap.ample, request) {
-        Some(request) => opened_by(heap.scarce, global, setup, request),
-        None => Err(Answer::Wrong),
+/// The call that is opened with this configuration.
+fn opened_with<'a>(heap: Heap<'a>, setup: &Setup<Alloc<'a>>, opening: Opening) -> Opened<'a> {
+    match read(heap.ample, opening.request) {
+        Ok(request) => opened_by(heap, opening.global, setup, request),
+        Err(_) => Err(Answer::Wrong),
     }
 }
 
 /// The call that is opened so.
 fn opened(heap: Heap<'_>, opening: Opening) -> Opened<'_> {
-    match set_up(heap.ample, opening.setup) {
-        Ok(setup) => opened_with(heap, opening.global, &setup, opening.request),
+    let setup = set_up(heap.ample, opening.setup);
+    let opened = match &setup {
+        Ok(setup) => opened_with(heap, setup, opening),
         Err(_) => Err(Answer::Wrong),
+    };
+    discard(setup);
+    opened
+}
+
+impl<'a> Judge<'a, Call<Alloc<'a>>> for Opening {
+    fn is_right(&self, _heap: Heap<'a>, call: &Call<Alloc<'a>>) -> bool {
+        call.number() == 3
     }
 }
 
 impl Stateless for Opening {
     fn answer(&self, heap: Heap<'_>) -> Answer {
-        match opened(heap, *self) {
-            Ok(call) => Answer::of(call.number() == 3),
-            Err(answer) => answer,
-        }
+        judged(heap, self, opened(heap, *self), Answer::NoMemory)
     }
-}
-
-/// The same, where no growth is refused or counted.
-fn spared(heap: Heap<'_>, opening: Opening) -> Opened<'_> {
-    heap.scarce.pause();
-    let call = opened(heap, opening);
-    heap.scarce.go_on();
-    call
 }
 
 /// What happens to a call, and what comes of it.
@@ -139,7 +131,7 @@ fn sends(step: &Step<Alloc<'_>>, wanted: &Sent) -> bool {
 }
 
 /// The message comes: whether it is taken so.
-fn takes<'a>(
+fn is_taken<'a>(
     call: &mut Call<Alloc<'a>>,
     message: Message<Alloc<'a>>,
     from: Hop,
@@ -149,21 +141,6 @@ fn takes<'a>(
     match call.take(message, from, now) {
         Err(TakeFault::NoMemory) => Answer::NoMemory,
         taken => Answer::of(taken == wanted),
-    }
-}
-
-/// The message of this text comes.
-fn takes_text<'a>(
-    ample: Alloc<'a>,
-    call: &mut Call<Alloc<'a>>,
-    text: &[u8],
-    from: Hop,
-    now: u64,
-    wanted: Result<Taken, TakeFault>,
-) -> Answer {
-    match message(ample, text) {
-        Some(message) => takes(call, message, from, now, wanted),
-        None => Answer::Wrong,
     }
 }
 
@@ -179,38 +156,6 @@ fn is_right(call: &Call<Alloc<'_>>, step: &Step<Alloc<'_>>, turn: Turn) -> bool 
     }
 }
 
-/// The next thing that is due: whether it is what the turn says.
-fn pumps(call: &mut Call<Alloc<'_>>, now: u64, turn: Turn) -> Answer {
-    match call.pump(now) {
-        Ok(step) => Answer::of(is_right(call, &step, turn)),
-        Err(_) => Answer::NoMemory,
-    }
-}
-
-fn fails(call: &mut Call<Alloc<'_>>, cause: Cause, now: u64) -> Answer {
-    match call.failed(cause, now) {
-        Ok(()) => Answer::Right,
-        Err(_) => Answer::NoMemory,
-    }
-}
-
-/// The position of the event that is posted next.
-fn next_position(call: &Call<Alloc<'_>>) -> u32 {
-    match u32::try_from(call.book().history().len()) {
-        Ok(position) => position,
-        Err(_) => u32::MAX,
-    }
-}
-
-/// What becomes of a message of this branch: it is posted, or changes nothing where the request of the branch was lost.
-fn taken_of(call: &Call<Alloc<'_>>, lost: Option<u16>, branch: Option<u16>) -> Taken {
-    if branch.is_some() && branch == lost {
-        Taken::Absorbed
-    } else {
-        Taken::Posted(next_position(call))
-    }
-}
-
 /// The branch whose request was lost, as the book says.
 fn faulted(call: &Call<Alloc<'_>>) -> Option<u16> {
     for posted in call.book().history() {
@@ -219,15 +164,6 @@ fn faulted(call: &Call<Alloc<'_>>) -> Option<u16> {
         }
     }
     None
-}
-
-/// The call is carried: whether what it was to send was sent, and its book says what was lost.
-fn carries(call: &mut Call<Alloc<'_>>, port: &mut Comparing, now: u64) -> Answer {
-    port.begins(faulted(call));
-    match carry(call, port, now) {
-        Ok(carried) => { Answer::of(port.is_done(carried) && faulted(call) == port.lost_branch()) }
-        Err(_) => Answer::NoMemory,
-    }
 }
 
 /// A turn of a call.
@@ -240,26 +176,77 @@ pub struct Playing<'a> {
     pub turn: Turn,
 }
 
+impl Playing<'_> {
+    /// The message of this text comes: whether it is taken so.
+    fn takes(&mut self, from: Hop, text: &[u8], wanted: Result<Taken, TakeFault>) -> Answer {
+        match read(self.heap.ample, text) {
+            Ok(message) => is_taken(&mut self.call, message, from, self.now, wanted),
+            Err(_) => Answer::Wrong,
+        }
+    }
+
+    /// What becomes of a message of this branch: it is posted, as the next event, or changes nothing where the request of
+    /// the branch was lost.
+    fn taken_of(&self, branch: Option<u16>) -> Taken {
+        if branch.is_some() && branch == self.port.lost_branch() {
+            Taken::Absorbed
+        } else {
+            Taken::Posted(u32::try_from(self.call.book().history().len()).unwrap_or(u32::MAX))
+        }
+    }
+
+    /// The next thing that is due: whether it is what the turn says.
+    fn pumps(&mut self) -> Answer {
+        match self.call.pump(self.now) {
+            Ok(step) => {
+                let answer = Answer::of(is_right(&self.call, &step, self.turn));
+                discard(step);
+                answer
+            }
+            Err(_) => Answer::NoMemory,
+        }
+    }
+
+    /// A datagram of this cause could not be sent.
+    fn fails(&mut self, cause: Cause) -> Answer {
+        if self.call.failed(cause, self.now).is_ok() {
+            Answer::Right
+        } else {
+            Answer::NoMemory
+        }
+    }
+
+    /// The call is carried: whether what it was to send was sent, and its book says what was lost.
+    fn carries(&mut self) -> Answer {
+        self.port.begins(faulted(&self.call));
+        match carry(&mut self.call, &mut self.port, self.now) {
+            Ok(carried) => {
+                let is_done = self.port.is_done(carried);
+                Answer::of(is_done && faulted(&self.call) == self.port.lost_branch())
+            }
+            Err(_) => Answer::NoMemory,
+        }
+    }
+}
+
 impl Repeated for Playing<'_> {
     fn attempt(&mut self) -> Answer {
-        let (ample, now) = (self.heap.ample, self.now);
         match self.turn {
-            Turn::Takes(from, text, wanted) => {
-                takes_text(ample, &mut self.call, text, from, now, wanted)
-            }
-            Turn::Fails(cause) => fails(&mut self.call, cause, now),
+            Turn::Takes(from, text, wanted) => self.takes(from, text, wanted),
+            Turn::Fails(cause) => self.fails(cause),
             Turn::Comes(branch, from, text) => {
-                let wanted = taken_of(&self.call, self.port.lost_branch(), branch);
-                takes_text(ample, &mut self.call, text, from, now, Ok(wanted))
+                let wanted = Ok(self.taken_of(branch));
+                self.takes(from, text, wanted)
             }
-            Turn::Carries(_) => carries(&mut self.call, &mut self.port, now),
-            turn => pumps(&mut self.call, now, turn),
+            Turn::Carries(_) => self.carries(),
+            _ => self.pumps(),
         }
     }
 }
 
 /// Goes on to what happens at a moment: whether that goes as it should.
-fn goes_at(heap: Heap<'_>, playing: &mut Playing<'_>, (now, turn): Moment) -> bool {
+fn goes_at(playing: &mut Playing<'_>, (now, turn): Moment) -> bool {
+    let heap = playing.heap;
     playing.now = now;
     playing.turn = turn;
     if let Turn::Carries(count) = turn {
@@ -282,69 +269,44 @@ pub struct History {
 }
 
 /// Whether each turn goes as it should.
-fn goes_on(mut playing: Playing<'_>, moments: &[Moment]) -> bool {
-    let heap = playing.heap;
+fn all_go(playing: &mut Playing<'_>, moments: &[Moment]) -> bool {
     let mut well = true;
     for moment in moments {
-        well = well && goes_at(heap, &mut playing, *moment);
+        well = well && goes_at(playing, *moment);
     }
     well
 }
 
-impl History {
-    fn opening(&self) -> Opening {
-        Opening {
-            global: self.global,
-            setup: self.setup,
-            request: self.request,
-        }
-    }
+/// Whether the whole call goes as it should.
+fn goes_on<'a>(heap: Heap<'a>, call: Call<Alloc<'a>>, history: &History) -> bool {
+    let mut playing = Playing {
+        heap,
+        call,
+        port: Comparing::new(history.begins, history.fails),
+        now: 0,
+        turn: Turn::Does,
+    };
+    let well = all_go(&mut playing, history.moments);
+    discard(playing);
+    well
 }
 
 impl Play for History {
     fn play(&self, heap: Heap<'_>) -> bool {
-        match spared(heap, self.opening()) {
-            Ok(call) => goes_on(
-                Playing {
-                    heap,
-                    call,
-                    port: Comparing::new(self.begins, self.fails),
-                    now: 0,
-                    turn: Turn::Does,
-                },
-                self.moments,
-            ),
+        let opening = Opening {
+            global: self.global,
+            setup: self.setup,
+            request: self.request,
+        };
+        // (no growth is refused or counted before the call is open)
+        heap.scarce.pause();
+        let call = opened(heap, opening);
+        heap.scarce.go_on();
+        match call {
+            Ok(call) => goes_on(heap, call, self),
             Err(_) => false,
         }
     }
-}
-
-/// A call is opened by this request, which is refused in turn.
-fn opens(rt: &(impl Abort + AllocGlobal), setup: &'static [u8], request: &'static [u8]) {
-    let opening = Opening {
-        global: rt.alloc(),
-        setup,
-        request,
-    };
-    calls(rt, opening, 0, "a call opens");
-}
-
-/// The call of this request, and what happens.
-fn goes(
-    rt: &(impl Abort + AllocGlobal),
-    request: &'static [u8],
-    moments: &'static [Moment],
-    what: &str,
-) {
-    let history = History {
-        global: rt.alloc(),
-        setup: SETUP,
-        request,
-        moments,
-        begins: 0,
-        fails: 0,
-    };
-    plays(rt, &history, 0, what);
 }
 
 /// An OPTIONS request whose target answers 404, and that again.
@@ -465,36 +427,54 @@ const ALL_LOST: &[Moment] = &[
 
 #[test]
 fn configurations_are_read(rt: HostRuntime) {
-    for text in [SETUP, FORK_SETUP] {
-        calls(&rt, SettingUp { text }, 0, "a configuration");
-    }
+    calls(&rt, &SettingUp { text: SETUP }, 0, "a configuration");
+    calls(&rt, &SettingUp { text: FORK_SETUP }, 0, "five locations");
 }
+
+/// Configurations, and a request that opens a call with each.
+const OPENINGS: &[(&[u8], &[u8])] = &[(SETUP, OPTIONS), (SETUP, INVITE), (FORK_SETUP, INVITE)];
 
 #[test]
 fn calls_are_opened(rt: HostRuntime) {
-    opens(&rt, SETUP, OPTIONS);
-    opens(&rt, SETUP, INVITE);
-    opens(&rt, FORK_SETUP, INVITE);
+    for &(setup, request) in OPENINGS {
+        let opening = Opening {
+            global: rt.alloc(),
+            setup,
+            request,
+        };
+        calls(&rt, &opening, 0, "a call opens");
+    }
+}
+
+/// The call of this request, and what happens.
+fn goes(
+    rt: &(impl Abort + AllocGlobal),
+    request: &'static [u8],
+    moments: &'static [Moment],
+    what: &str,
+) {
+    let history = History {
+        global: rt.alloc(),
+        setup: SETUP,
+        request,
+        moments,
+        begins: 0,
+        fails: 0,
+    };
+    plays(rt, &history, 0, what);
 }
 
 #[test]
-fn a_failure_goes_up(rt: HostRuntime) {
+fn calls_go_on(rt: HostRuntime) {
     goes(
         &rt,
         OPTIONS,
         FAILING,
         "an OPTIONS request that is answered 404",
     );
-}
-
-#[test]
-fn a_request_is_lost(rt: HostRuntime) {
+    goes(&rt, INVITE, CANCELLED, "an INVITE that is cancelled");
     goes(&rt, OPTIONS, LOST, "an OPTIONS request that cannot be sent");
     goes(&rt, INVITE, NEVER_SENT, "an INVITE that cannot be sent");
-}
-
-#[test]
-fn what_is_lost_is_told_while_an_answer_is_owed(rt: HostRuntime) {
     goes(
         &rt,
         OPTIONS,
@@ -502,9 +482,4 @@ fn what_is_lost_is_told_while_an_answer_is_owed(rt: HostRuntime) {
         "an OPTIONS request that is answered",
     );
     goes(&rt, INVITE, ALL_LOST, "an INVITE of which all is lost");
-}
-
-#[test]
-fn the_caller_cancels(rt: HostRuntime) {
-    goes(&rt, INVITE, CANCELLED, "an INVITE that is cancelled");
 }

@@ -9,12 +9,11 @@ use crate::fork_texts::{
     FIFTH, FIFTH_NOT_FOUND, FORK_SETUP, FOURTH, FOURTH_RINGS, FOURTH_TERMINATED, SECOND,
     SECOND_RINGS, SECOND_TERMINATED, THIRD, THIRD_RINGS, THIRD_TERMINATED,
 };
-use crate::plays::plays;
+use crate::plays::{holds, plays};
 use crate::wanted;
 use fork_call::{TakeFault, Taken};
 use refusing::{refused_always, refused_never};
 use std::alloc::Global;
-use std::process::Abort;
 
 /// An INVITE to five targets: the first and the fifth answer 404, and the first once more; the second and the third ring; the
 /// caller cancels; then the fourth rings, too. Each of the three is cancelled and answers 487, and the first 404 goes up,
@@ -88,67 +87,74 @@ const CANCELLED: &[Moment] = &[
     (1800, Turn::Carries(1)),
 ];
 
-/// An INVITE to five targets whose send of this number fails.
-fn fork(global: Global, fails: u64) -> History {
+/// A call that is carried: what it is set up with, the request that opens it, what happens then, and where what it is to send
+/// begins.
+#[derive(Clone, Copy)]
+struct Carried {
+    setup: &'static [u8],
+    request: &'static [u8],
+    moments: &'static [Moment],
+    begins: usize,
+}
+
+const TO_FIVE: Carried = Carried {
+    setup: FORK_SETUP,
+    request: INVITE,
+    moments: FORK,
+    begins: wanted::FORK,
+};
+
+const ASKED: Carried = Carried {
+    setup: SETUP,
+    request: OPTIONS,
+    moments: FAILING,
+    begins: wanted::OPTIONS,
+};
+
+const TO_ONE: Carried = Carried {
+    setup: SETUP,
+    request: INVITE,
+    moments: CANCELLED,
+    begins: wanted::INVITE,
+};
+
+/// The call whose send of this number fails; where that is 0, none does.
+fn history(global: Global, carried: &Carried, fails: u64) -> History {
     History {
         global,
-        setup: FORK_SETUP,
-        request: INVITE,
-        moments: FORK,
-        begins: wanted::FORK,
+        setup: carried.setup,
+        request: carried.request,
+        moments: carried.moments,
+        begins: carried.begins,
         fails,
     }
 }
 
-/// Ends the test where the call goes wrong with memory enough, when it is told of the loss, or where memory ends at each
-/// growth, when it is not told of a request's.
-fn loses(rt: &impl Abort, alloc: Global, history: &History) {
-    let told = match refused_always(alloc, history) {
-        Some(refusals) => refusals.told,
-        None => 0,
-    };
-    assert!(rt;
-        refused_never(alloc, history) && told > 0,
-        "an INVITE to five targets whose send {} fails: {told} told where memory ends",
-        history.fails
-    );
-}
-
-/// Plays an OPTIONS request whose send of this number fails.
-fn asks(rt: &(impl Abort + AllocGlobal), fails: u64) {
-    let history = History {
-        global: rt.alloc(),
-        setup: SETUP,
-        request: OPTIONS,
-        moments: FAILING,
-        begins: wanted::OPTIONS,
-        fails,
-    };
-    plays(rt, &history, 0, "an OPTIONS request that is carried");
-}
+/// Calls, and what each is called.
+const CALLS: &[(Carried, &str)] = &[
+    (TO_FIVE, "an INVITE to five targets"),
+    (ASKED, "an OPTIONS request that is carried"),
+    (TO_ONE, "an INVITE that is carried"),
+];
 
 #[test]
 fn a_carry_goes_on_where_it_was_refused(rt: HostRuntime) {
-    let forked = fork(rt.alloc(), 0);
-    plays(&rt, &forked, 0, "an INVITE to five targets");
-    asks(&rt, 0);
-    let history = History {
-        global: rt.alloc(),
-        setup: SETUP,
-        request: INVITE,
-        moments: CANCELLED,
-        begins: wanted::INVITE,
-        fails: 0,
-    };
-    plays(&rt, &history, 0, "an INVITE that is carried");
+    for (carried, name) in CALLS {
+        plays(&rt, &history(rt.alloc(), carried, 0), 0, *name);
+    }
 }
 
 #[test]
 fn a_send_that_fails_loses_that_datagram_alone(rt: HostRuntime) {
+    // (with memory enough the call is told of the loss; where memory ends at each growth it is not told of a request's)
     for fails in 1..=wanted::FORK_SENDS {
-        loses(&rt, rt.alloc(), &fork(rt.alloc(), fails));
+        let history = history(rt.alloc(), &TO_FIVE, fails);
+        let is_right = refused_never(rt.alloc(), &history);
+        let well = is_right && refused_always(rt.alloc(), &history);
+        holds(&rt, well, "an INVITE to five targets of which a send fails");
     }
     for fails in 1..=wanted::OPTIONS_SENDS {
-        asks(&rt, fails);
+        let history = history(rt.alloc(), &ASKED, fails);
+        plays(&rt, &history, 0, "an OPTIONS request of which a send fails");
     }
 }

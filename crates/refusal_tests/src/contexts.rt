@@ -1,5 +1,6 @@
 //! Contexts that are made, and events that they take, while memory is refused.
-use crate::forks::{Aims, TargetList, event_at, targets};
+use crate::answers::{Judge, answered, discard, judged};
+use crate::forks::{Aims, EventList, events, targets};
 use crate::plays::{calls, plays};
 use crate::sources::Alloc;
 use crate::texts::{
@@ -10,47 +11,33 @@ use fork_context::{Challenge, Choice, Context, Event, Kind, NewFault, PostError,
 use fork_listing::{ListFault, listing};
 use fork_rank::Rules;
 use refusing::{Answer, Heap, Play, Repeated, Stateless};
+use std::mem;
 
 /// A context of an INVITE, or why there is none.
 type Made<'a> = Result<Context<Alloc<'a>>, Answer>;
 
-fn made<'a>(alloc: Alloc<'a>, targets: TargetList<'a>) -> Made<'a> {
-    match Context::new(alloc, Kind::Invite, Rules::usual(), targets) {
-        Ok(fork) => Ok(fork),
-        Err(NewFault::NoMemory) => Err(Answer::NoMemory),
-        Err(_) => Err(Answer::Wrong),
-    }
-}
-
 /// A context of an INVITE to these targets is made.
 fn opened(heap: Heap<'_>, aims: Aims) -> Made<'_> {
-    match targets(heap.ample, aims) {
-        Some(targets) => made(heap.scarce, targets),
-        None => Err(Answer::Wrong),
-    }
+    let targets = targets(heap.ample, aims);
+    let made = Context::new(heap.scarce, Kind::Invite, Rules::usual(), targets);
+    answered(made, NewFault::NoMemory)
 }
 
-/// The same, where no growth is refused or counted.
-fn spared(heap: Heap<'_>, aims: Aims) -> Made<'_> {
-    heap.scarce.pause();
-    let fork = opened(heap, aims);
-    heap.scarce.go_on();
-    fork
-}
-
-/// A context of an INVITE to the targets of a script, which are so many.
+/// A context of an INVITE to these targets.
 #[derive(Clone, Copy)]
 struct Opening {
-    script: &'static [u8],
-    targets: u16,
+    aims: Aims,
+}
+
+impl<'a> Judge<'a, Context<Alloc<'a>>> for Opening {
+    fn is_right(&self, _heap: Heap<'a>, fork: &Context<Alloc<'a>>) -> bool {
+        fork.count() == u16::from(self.aims.count)
+    }
 }
 
 impl Stateless for Opening {
     fn answer(&self, heap: Heap<'_>) -> Answer {
-        match opened(heap, Aims::Script(self.script)) {
-            Ok(fork) => Answer::of(fork.count() == self.targets),
-            Err(answer) => answer,
-        }
+        judged(heap, self, opened(heap, self.aims), Answer::NoMemory)
     }
 }
 
@@ -81,12 +68,19 @@ fn posts<'a>(
         return Answer::Wrong;
     };
     match fork.post(posted) {
-        Ok(reply) => Answer::of(is_right(&reply, turn)),
+        Ok(reply) => {
+            let answer = Answer::of(is_right(&reply, turn));
+            discard(reply);
+            answer
+        }
         Err(PostError::NoMemory(posted)) => {
-            *event = Some(posted);
+            discard(mem::replace(event, Some(posted)));
             Answer::NoMemory
         }
-        Err(PostError::Full(_)) => Answer::Wrong,
+        Err(PostError::Full(posted)) => {
+            discard(posted);
+            Answer::Wrong
+        }
     }
 }
 
@@ -98,10 +92,10 @@ fn adds_challenges<'a>(
     challenges: &mut ChallengeList<'a>,
     count: usize,
 ) -> Answer {
-    match fork.challenges(challenges) {
-        Ok(()) => Answer::of(challenges.len() == count),
-        Err(_) if challenges.is_empty() => Answer::NoMemory,
-        Err(_) => Answer::Wrong,
+    if fork.challenges(challenges).is_ok() {
+        Answer::of(challenges.len() == count)
+    } else {
+        Answer::failed(challenges.is_empty())
     }
 }
 
@@ -112,15 +106,15 @@ fn lists<'a>(
 ) -> Answer {
     match listing(fork, text) {
         Ok(()) => Answer::of(text.as_slice() == wanted),
-        Err(ListFault::NoMemory) if text.is_empty() => Answer::NoMemory,
-        Err(_) => Answer::Wrong,
+        Err(fault) => Answer::failed(fault == ListFault::NoMemory && text.is_empty()),
     }
 }
 
-/// A context, the event that is posted, and what was appended.
+/// A context, the events that come to it, that which is posted, and what was appended.
 #[derive(Drop)]
 struct Forked<'a> {
     fork: Context<Alloc<'a>>,
+    events: EventList<'a>,
     event: Option<Event<Alloc<'a>>>,
     challenges: ChallengeList<'a>,
     text: Vec<u8, Alloc<'a>>,
@@ -137,144 +131,36 @@ impl Repeated for Forked<'_> {
     }
 }
 
-/// The context, with nothing done yet.
-fn begun<'a>(heap: Heap<'a>, fork: Context<Alloc<'a>>) -> Forked<'a> {
-    Forked {
-        fork,
-        event: None,
-        challenges: Vec::new(heap.scarce),
-        text: Vec::new(heap.scarce),
-        deed: Deed::Challenges(0),
-    }
-}
-
 /// Whether this is done as it should.
 fn goes(heap: Heap<'_>, forked: &mut Forked<'_>, deed: Deed) -> bool {
     forked.deed = deed;
     heap.insist(forked)
 }
 
-/// Whether the event of this number of the script is replied to so.
-fn replies<'a>(
-    heap: Heap<'a>,
-    forked: &mut Forked<'a>,
-    script: &[u8],
-    number: usize,
-    turn: Turn,
-) -> bool {
-    forked.event = event_at(heap.ample, script, number);
+/// Whether the next event is replied to so.
+fn replies(heap: Heap<'_>, forked: &mut Forked<'_>, turn: Turn) -> bool {
+    let event = forked.events.pop_front();
+    discard(mem::replace(&mut forked.event, event));
     goes(heap, forked, Deed::Posts(turn))
 }
 
-/// A fork: its script, the replies to its events, the challenges that are added at its end, and its listing.
+/// What holds of a fork at its end.
+#[derive(Clone, Copy)]
+enum End {
+    /// So many challenges are added, and its listing is this.
+    Listed(usize, &'static [u8]),
+    /// It has as many targets as it can have, and row 0 leaves a contact of this text alone.
+    Full(&'static [u8]),
+}
+
+/// A fork: its targets, the script whose events come to it, the replies to these, and its end.
+#[derive(Clone, Copy)]
 struct History {
+    aims: Aims,
     script: &'static [u8],
     turns: &'static [Turn],
-    challenges: usize,
-    listing: &'static [u8],
+    end: End,
 }
-
-/// Whether each event is replied to as it should.
-fn all_reply<'a>(heap: Heap<'a>, forked: &mut Forked<'a>, history: &History) -> bool {
-    let mut well = true;
-    let mut number = 0usize;
-    for turn in history.turns {
-        well = well && replies(heap, forked, history.script, number, *turn);
-        number = number.saturating_add(1);
-    }
-    well
-}
-
-/// Whether the whole goes as it should.
-fn goes_on<'a>(heap: Heap<'a>, mut forked: Forked<'a>, history: &History) -> bool {
-    all_reply(heap, &mut forked, history)
-        && goes(heap, &mut forked, Deed::Challenges(history.challenges))
-        && goes(heap, &mut forked, Deed::Lists(history.listing))
-}
-
-impl Play for History {
-    fn play(&self, heap: Heap<'_>) -> bool {
-        match spared(heap, Aims::Script(self.script)) {
-            Ok(fork) => goes_on(heap, begun(heap, fork), self),
-            Err(_) => false,
-        }
-    }
-}
-
-/// Four answers, the best of which is a 407.
-const BEST: History = History {
-    script: BEST_SCRIPT,
-    turns: &[
-        (&[], Up::Nothing),
-        (&[], Up::Nothing),
-        (&[], Up::Nothing),
-        (&[], Up::Final(Choice::Stored(1))),
-    ],
-    challenges: 0,
-    listing: BEST_LISTING,
-};
-
-/// A 486, and a 401 and a 407 with a challenge each.
-const CHALLENGED: History = History {
-    script: CHALLENGED_SCRIPT,
-    turns: &[
-        (&[], Up::Nothing),
-        (&[], Up::Nothing),
-        (&[], Up::Final(Choice::Stored(1))),
-    ],
-    challenges: 1,
-    listing: CHALLENGED_LISTING,
-};
-
-/// A 302 with two contacts, both of which are tried.
-const REDIRECTED: History = History {
-    script: REDIRECTED_SCRIPT,
-    turns: &[
-        (&[1, 2], Up::Nothing),
-        (&[], Up::Nothing),
-        (&[], Up::Final(Choice::Stored(1))),
-    ],
-    challenges: 0,
-    listing: REDIRECTED_LISTING,
-};
-
-/// A 302 with a contact, which is tried before the target of a lower q.
-const LATE: History = History {
-    script: LATE_SCRIPT,
-    turns: &[
-        (&[2], Up::Nothing),
-        (&[1], Up::Nothing),
-        (&[], Up::Final(Choice::Stored(2))),
-    ],
-    challenges: 0,
-    listing: LATE_LISTING,
-};
-
-/// Scripts, and how many targets each has.
-const OPENINGS: [(&[u8], u16); 4] = [
-    (BEST_SCRIPT, 4),
-    (CHALLENGED_SCRIPT, 3),
-    (REDIRECTED_SCRIPT, 1),
-    (LATE_SCRIPT, 2),
-];
-
-#[test]
-fn contexts_are_made(rt: HostRuntime) {
-    for (script, targets) in OPENINGS {
-        calls(&rt, Opening { script, targets }, 0, "a context");
-    }
-}
-
-#[test]
-fn answers_are_posted(rt: HostRuntime) {
-    plays(&rt, &BEST, 0, "four answers");
-    plays(&rt, &CHALLENGED, 0, "a 401 and a 407");
-    plays(&rt, &REDIRECTED, 0, "a 302 with two contacts");
-    plays(&rt, &LATE, 0, "a 302 before a later target");
-}
-
-/// A 302 with two contacts comes among 255 targets: one contact is the last that is taken, the other is left.
-struct Full;
 
 /// Whether row 0 leaves a contact of this text alone.
 fn leaves(fork: &Context<Alloc<'_>>, text: &[u8]) -> bool {
@@ -284,23 +170,158 @@ fn leaves(fork: &Context<Alloc<'_>>, text: &[u8]) -> bool {
     }
 }
 
-/// Whether it goes so.
-fn is_filled<'a>(heap: Heap<'a>, mut forked: Forked<'a>) -> bool {
-    replies(heap, &mut forked, MOVED_TWICE, 0, (&[255], Up::Nothing))
-        && forked.fork.count() == 256
-        && leaves(&forked.fork, b"y1")
+/// Whether each event is replied to as it should.
+fn all_reply(heap: Heap<'_>, forked: &mut Forked<'_>, turns: &[Turn]) -> bool {
+    let mut well = true;
+    for turn in turns {
+        well = well && replies(heap, forked, *turn);
+    }
+    well
 }
 
-impl Play for Full {
+/// Whether it ends so.
+fn ends(heap: Heap<'_>, forked: &mut Forked<'_>, end: End) -> bool {
+    match end {
+        End::Listed(challenges, listing) => {
+            goes(heap, forked, Deed::Challenges(challenges))
+                && goes(heap, forked, Deed::Lists(listing))
+        }
+        End::Full(text) => forked.fork.count() == 256 && leaves(&forked.fork, text),
+    }
+}
+
+/// Whether the whole goes as it should.
+fn goes_on<'a>(heap: Heap<'a>, fork: Context<Alloc<'a>>, history: &History) -> bool {
+    let mut forked = Forked {
+        fork,
+        events: events(heap.ample, history.script),
+        event: None,
+        challenges: Vec::new(heap.scarce),
+        text: Vec::new(heap.scarce),
+        deed: Deed::Challenges(0),
+    };
+    let well = all_reply(heap, &mut forked, history.turns) && ends(heap, &mut forked, history.end);
+    discard(forked);
+    well
+}
+
+impl Play for History {
     fn play(&self, heap: Heap<'_>) -> bool {
-        match spared(heap, Aims::Many(255)) {
-            Ok(fork) => is_filled(heap, begun(heap, fork)),
+        // (no growth is refused or counted before there is a context)
+        heap.scarce.pause();
+        let fork = opened(heap, self.aims);
+        heap.scarce.go_on();
+        match fork {
+            Ok(fork) => goes_on(heap, fork, self),
             Err(_) => false,
         }
     }
 }
 
+/// Targets of forks.
+const ONE: Aims = Aims {
+    count: 1,
+    is_last_later: false,
+};
+
+const TWO: Aims = Aims {
+    count: 2,
+    is_last_later: true,
+};
+
+const THREE: Aims = Aims {
+    count: 3,
+    is_last_later: false,
+};
+
+const FOUR: Aims = Aims {
+    count: 4,
+    is_last_later: false,
+};
+
+const MANY: Aims = Aims {
+    count: 255,
+    is_last_later: false,
+};
+
+/// Four answers, the best of which is a 407.
+const BEST: History = History {
+    aims: FOUR,
+    script: BEST_SCRIPT,
+    turns: &[
+        (&[], Up::Nothing),
+        (&[], Up::Nothing),
+        (&[], Up::Nothing),
+        (&[], Up::Final(Choice::Stored(1))),
+    ],
+    end: End::Listed(0, BEST_LISTING),
+};
+
+/// A 486, and a 401 and a 407 with a challenge each.
+const CHALLENGED: History = History {
+    aims: THREE,
+    script: CHALLENGED_SCRIPT,
+    turns: &[
+        (&[], Up::Nothing),
+        (&[], Up::Nothing),
+        (&[], Up::Final(Choice::Stored(1))),
+    ],
+    end: End::Listed(1, CHALLENGED_LISTING),
+};
+
+/// A 302 with two contacts, both of which are tried.
+const REDIRECTED: History = History {
+    aims: ONE,
+    script: REDIRECTED_SCRIPT,
+    turns: &[
+        (&[1, 2], Up::Nothing),
+        (&[], Up::Nothing),
+        (&[], Up::Final(Choice::Stored(1))),
+    ],
+    end: End::Listed(0, REDIRECTED_LISTING),
+};
+
+/// A 302 with a contact, which is tried before the target of a lower q.
+const LATE: History = History {
+    aims: TWO,
+    script: LATE_SCRIPT,
+    turns: &[
+        (&[2], Up::Nothing),
+        (&[1], Up::Nothing),
+        (&[], Up::Final(Choice::Stored(2))),
+    ],
+    end: End::Listed(0, LATE_LISTING),
+};
+
+/// A 302 with two contacts comes among 255 targets: one contact is the last that is taken, the other is left.
+const FULL: History = History {
+    aims: MANY,
+    script: MOVED_TWICE,
+    turns: &[(&[255], Up::Nothing)],
+    end: End::Full(b"y1"),
+};
+
+/// Forks, and what each is called.
+const HISTORIES: &[(History, &str)] = &[
+    (BEST, "four answers"),
+    (CHALLENGED, "a 401 and a 407"),
+    (REDIRECTED, "a 302 with two contacts"),
+    (LATE, "a 302 before a later target"),
+    (FULL, "a 302 among 255 targets"),
+];
+
+const AIMS: &[Aims] = &[ONE, TWO, THREE, FOUR];
+
 #[test]
-fn the_last_target_is_taken(rt: HostRuntime) {
-    plays(&rt, &Full, 0, "a 302 among 255 targets");
+fn contexts_are_made(rt: HostRuntime) {
+    for aims in AIMS {
+        calls(&rt, &Opening { aims: *aims }, 0, "a context");
+    }
+}
+
+#[test]
+fn answers_are_posted(rt: HostRuntime) {
+    for (history, name) in HISTORIES {
+        plays(&rt, history, 0, *name);
+    }
 }

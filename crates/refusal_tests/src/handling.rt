@@ -1,6 +1,7 @@
 //! Datagrams that are handled, and calls that are carried after each, while memory is refused.
 ghost use Rattle.std.specs.Prelude.{◌≡◌};
 
+use crate::answers::discard;
 use crate::call_texts::{ACK, CALLER, CANCEL, INVITE, OPTIONS, SETUP, TARGET};
 use crate::calls::set_up;
 use crate::plays::plays;
@@ -11,7 +12,6 @@ use proxy_dispatch::{Handled, Memory, Received, handle};
 use refusing::{Answer, Heap, Play, Repeated};
 use sip_uri::Hop;
 use std::alloc::{Allocator, Global};
-use std::process::Abort;
 use std::sync::Wait;
 
 /// The 404 of the target, for call 0.
@@ -171,39 +171,50 @@ struct Proxy<'a, R> {
     carrying: bool,
 }
 
-/// Carries a call, and says whether that was refused memory.
-fn is_carried(call: &mut Call<Alloc<'_>>, port: &mut Counting) -> bool
-    ensures { call.new.opened.number ≡ call.old.opened.number }
-{
-    carry(call, port, 0).is_ok()
-}
-
-/// What a call shows of itself: how many events were posted to it, and when something is due.
+/// What a call shows of itself: whether it was carried, where that was asked, how many events were posted to it, and when
+/// something is due.
 #[derive(Clone, Copy, PartialEq, Eq)]
 struct Shown {
+    is_carried: bool,
     events: usize,
     due: Option<u64>,
 }
 
-fn look_at(call: &mut Call<Alloc<'_>>) -> Shown
-    ensures { call.new.opened.number ≡ call.old.opened.number }
-{
+fn look_at(call: &Call<Alloc<'_>>, is_carried: bool) -> Shown {
     Shown {
+        is_carried,
         events: call.book().history().len(),
         due: call.due(),
     }
 }
 
-/// What call 0 shows, if it is open.
-fn shows<R: Wait>(rt: &R, shelf: &Calls<'_>) -> Option<Shown> {
-    shelf.with(rt, 0, |call| look_at(call))
+/// Carries a call, or looks at it alone.
+fn visit(call: &mut Call<Alloc<'_>>, port: &mut Counting, carries: bool) -> Shown
+    ensures { call.new.opened.number ≡ call.old.opened.number }
+{
+    if carries {
+        let is_carried = carry(call, port, 0).is_ok();
+        look_at(call, is_carried)
+    } else {
+        look_at(call, true)
+    }
+}
+
+/// What call 0 shows, if it is open, and carried first where that is asked.
+fn shows<R: Wait>(rt: &R, shelf: &Calls<'_>, port: &mut Counting, carries: bool) -> Option<Shown> {
+    shelf.with(rt, 0, |call| visit(call, port, carries))
 }
 
 /// Call 0 is carried.
 fn carries<R: Wait>(rt: &R, shelf: &Calls<'_>, port: &mut Counting) -> Answer {
-    match shelf.with(rt, 0, |call| is_carried(call, port)) {
-        Some(true) => Answer::Right,
-        Some(false) => Answer::NoMemory,
+    match shows(rt, shelf, port, true) {
+        Some(Shown { is_carried, .. }) => {
+            if is_carried {
+                Answer::Right
+            } else {
+                Answer::NoMemory
+            }
+        }
         None => Answer::Wrong,
     }
 }
@@ -212,7 +223,7 @@ impl<R: Wait> Proxy<'_, R> {
     /// The datagram is handled; where that is refused nothing is sent, and the call is as it was, or not open.
     fn handles(&mut self) -> Answer {
         let sends = self.port.sends;
-        let before = shows(self.rt, &self.shelf);
+        let before = shows(self.rt, &self.shelf, &mut self.port, false);
         let memory = Memory {
             alloc: self.scarce,
             heap: self.global,
@@ -232,10 +243,10 @@ impl<R: Wait> Proxy<'_, R> {
         );
         match handled {
             Ok(handled) => Answer::of(handled == self.wanted),
-            Err(_) if self.port.sends == sends && shows(self.rt, &self.shelf) == before => {
-                Answer::NoMemory
+            Err(_) => {
+                let after = shows(self.rt, &self.shelf, &mut self.port, false);
+                Answer::failed(self.port.sends == sends && after == before)
             }
-            Err(_) => Answer::Wrong,
         }
     }
 }
@@ -258,39 +269,6 @@ struct Packets<'r, R> {
     list: &'static [Packet],
 }
 
-/// What takes datagrams with this configuration.
-fn started<'a, R: Wait>(
-    heap: Heap<'a>,
-    rt: &'a R,
-    global: Global,
-    setup: Setup<Alloc<'a>>,
-) -> Option<Proxy<'a, R>> {
-    // (a new shelf grows nothing)
-    match Shelf::new(heap.scarce) {
-        Ok(shelf) => Some(Proxy {
-            rt,
-            scarce: heap.scarce,
-            global,
-            shelf,
-            setup,
-            port: Counting { sends: 0 },
-            packet: OPTIONS,
-            source: CALLER,
-            wanted: Handled::Dropped,
-            carrying: false,
-        }),
-        Err(_) => None,
-    }
-}
-
-/// What takes datagrams.
-fn ready<'a, R: Wait>(heap: Heap<'a>, rt: &'a R, global: Global) -> Option<Proxy<'a, R>> {
-    match set_up(heap.ample, SETUP) {
-        Ok(setup) => started(heap, rt, global, setup),
-        Err(_) => None,
-    }
-}
-
 /// Whether a datagram becomes what it is to become, and so many were sent once its call was carried.
 fn is_handled<R: Wait>(heap: Heap<'_>, proxy: &mut Proxy<'_, R>, packet: Packet) -> bool {
     let (text, source, wanted, sends) = packet;
@@ -304,31 +282,73 @@ fn is_handled<R: Wait>(heap: Heap<'_>, proxy: &mut Proxy<'_, R>, packet: Packet)
 }
 
 /// Whether that is so of each datagram.
-fn are_handled<R: Wait>(heap: Heap<'_>, mut proxy: Proxy<'_, R>, list: &[Packet]) -> bool {
+fn all_handled<R: Wait>(heap: Heap<'_>, proxy: &mut Proxy<'_, R>, list: &[Packet]) -> bool {
     let mut well = true;
     for packet in list {
-        well = well && is_handled(heap, &mut proxy, *packet);
+        well = well && is_handled(heap, proxy, *packet);
     }
     well
 }
 
-impl<R: Wait> Play for Packets<'_, R> {
-    fn play(&self, heap: Heap<'_>) -> bool {
-        match ready(heap, self.rt, self.global) {
-            Some(proxy) => are_handled(heap, proxy, self.list),
-            None => false,
+/// Whether it is so with this configuration, where no call is open yet.
+fn are_handled<'a, R: Wait>(
+    heap: Heap<'a>,
+    packets: &Packets<'a, R>,
+    setup: Setup<Alloc<'a>>,
+    shelf: Calls<'a>,
+) -> bool {
+    let mut proxy = Proxy {
+        rt: packets.rt,
+        scarce: heap.scarce,
+        global: packets.global,
+        shelf,
+        setup,
+        port: Counting { sends: 0 },
+        packet: OPTIONS,
+        source: CALLER,
+        wanted: Handled::Dropped,
+        carrying: false,
+    };
+    let well = all_handled(heap, &mut proxy, packets.list);
+    discard(proxy);
+    well
+}
+
+/// Whether it is so with this configuration.
+fn start<'a, R: Wait>(heap: Heap<'a>, packets: &Packets<'a, R>, setup: Setup<Alloc<'a>>) -> bool {
+    // (a new shelf grows nothing)
+    match Shelf::new(heap.scarce) {
+        Ok(shelf) => are_handled(heap, packets, setup, shelf),
+        Err(_) => {
+            discard(setup);
+            false
         }
     }
 }
 
-/// Plays these datagrams.
-fn goes<R: Wait + Abort + AllocGlobal>(rt: &R, list: &'static [Packet], what: &str) {
-    let global = rt.alloc();
-    plays(rt, &Packets { rt, global, list }, 0, what);
+impl<R: Wait> Play for Packets<'_, R> {
+    fn play(&self, heap: Heap<'_>) -> bool {
+        match set_up(heap.ample, SETUP) {
+            Ok(setup) => start(heap, self, setup),
+            Err(_) => false,
+        }
+    }
 }
+
+/// Datagrams, and what they are called.
+const LISTS: &[(&[Packet], &str)] = &[
+    (ASKED, "an OPTIONS request, and strays"),
+    (CANCELLED, "an INVITE that is cancelled"),
+];
 
 #[test]
 fn datagrams_are_handled(rt: HostRuntime) {
-    goes(&rt, ASKED, "an OPTIONS request, and strays");
-    goes(&rt, CANCELLED, "an INVITE that is cancelled");
+    for &(list, what) in LISTS {
+        let packets = Packets {
+            rt: &rt,
+            global: rt.alloc(),
+            list,
+        };
+        plays(&rt, &packets, 0, what);
+    }
 }

@@ -3,6 +3,8 @@
 #![tactic(auto)]
 
 #[cfg(test)]
+mod answers;
+#[cfg(test)]
 mod books;
 #[cfg(test)]
 mod call_texts;
@@ -26,6 +28,8 @@ mod hops;
 mod listings;
 #[cfg(test)]
 mod made;
+#[cfg(test)]
+mod made_texts;
 #[cfg(test)]
 mod plays;
 #[cfg(test)]

@@ -1,4 +1,5 @@
 //! Listings that are checked while memory is refused.
+use crate::answers::discard;
 use crate::plays::plays;
 use crate::sources::Alloc;
 use crate::texts::{BEST_LISTING, LATE_LISTING};
@@ -15,19 +16,21 @@ struct Listing {
     number: u16,
 }
 
-const BEST: Listing = Listing {
-    text: BEST_LISTING,
-    targets: 4,
-    status: 407,
-    number: 1,
-};
-
-const LATE: Listing = Listing {
-    text: LATE_LISTING,
-    targets: 3,
-    status: 404,
-    number: 2,
-};
+/// The listing of four answers, and that of a 302 before a later target.
+const LISTINGS: &[Listing] = &[
+    Listing {
+        text: BEST_LISTING,
+        targets: 4,
+        status: 407,
+        number: 1,
+    },
+    Listing {
+        text: LATE_LISTING,
+        targets: 3,
+        status: 404,
+        number: 2,
+    },
+];
 
 fn is_found(verdict: &Verdict, listing: &Listing) -> bool {
     verdict.targets == listing.targets
@@ -50,23 +53,26 @@ impl Repeated for Checking<'_> {
         }
         match found {
             Ok(verdict) => Answer::of(is_found(&verdict, &self.listing)),
-            Err(CheckFault::NoMemory) => Answer::NoMemory,
-            Err(_) => Answer::Wrong,
+            Err(fault) => Answer::failed(fault == CheckFault::NoMemory),
         }
     }
 }
 
 impl Play for Listing {
     fn play(&self, heap: Heap<'_>) -> bool {
-        heap.insist(&mut Checking {
+        let mut checking = Checking {
             arena: Bump::new(heap.scarce),
             listing: *self,
-        })
+        };
+        let well = heap.insist(&mut checking);
+        discard(checking);
+        well
     }
 }
 
 #[test]
 fn listings_are_checked(rt: HostRuntime) {
-    plays(&rt, &BEST, 2, "the listing of four answers");
-    plays(&rt, &LATE, 2, "the listing of a 302 before a later target");
+    for listing in LISTINGS {
+        plays(&rt, listing, 2, "a listing");
+    }
 }

@@ -1,8 +1,10 @@
 //! Messages that are made of others while memory is refused.
+use crate::answers::{discard, judged};
 use crate::hops::has_hops;
+use crate::made_texts::{ACK, CANCEL, FORWARDED, MARKED, STRIPPED, TRYING, UPWARD_WITH_ANOTHER};
 use crate::plays::{calls, plays};
 use crate::sources::{
-    Alloc, BRANCH, OWN, REQUEST, ROUTED, SOURCE, Sources, given, have_same_text, message,
+    Alloc, BRANCH, MOVED, OWN, REQUEST, ROUTED, SOURCE, Wanted, is_written_as, read, target,
 };
 use fork_rank::Challenge;
 use refusing::{Answer, Heap, Play, Repeated, Stateless};
@@ -11,6 +13,7 @@ use sip_message::{ack_of, cancel_of, forward, generated, mark_received, strip_ro
 use sip_text::{Message, Start};
 use sip_uri::SipUri;
 use sip_via::{BuildFault, ReceivedFault, ViaFault, add_received};
+use std::mem;
 
 /// How a message is made.
 #[derive(Clone, Copy)]
@@ -24,109 +27,108 @@ enum Making {
     Cancel,
 }
 
-/// A message, or why there is none.
-type Made<'a> = Result<Message<Alloc<'a>>, Answer>;
-
-fn of_via(made: Result<Message<Alloc<'_>>, ViaFault>) -> Made<'_> {
-    match made {
-        Ok(message) => Ok(message),
-        Err(ViaFault::NoMemory) => Err(Answer::NoMemory),
-        Err(ViaFault::BadVia) => Err(Answer::Wrong),
-    }
+/// A message that is made, the text of that which it is made of, and what it is to say.
+#[derive(Clone, Copy)]
+struct Case {
+    making: Making,
+    of: &'static [u8],
+    wanted: Wanted,
 }
 
-fn of_build(made: Result<Message<Alloc<'_>>, BuildFault>) -> Made<'_> {
-    match made {
-        Ok(message) => Ok(message),
-        Err(BuildFault::NoMemory) => Err(Answer::NoMemory),
-        Err(BuildFault::LastVia) => Err(Answer::Wrong),
-    }
-}
-
-fn forwarded<'a>(
-    alloc: Alloc<'a>,
-    request: &Message<Alloc<'a>>,
-    to: &SipUri<Alloc<'a>>,
-) -> Made<'a> {
-    if !has_hops(request) {
-        return Err(Answer::Wrong);
-    }
-    match request.start() {
-        Start::Request { .. } => of_build(forward(alloc, request, to, OWN, &BRANCH)),
-        Start::Response { .. } => Err(Answer::Wrong),
-    }
-}
-
-fn acknowledged<'a>(
-    alloc: Alloc<'a>,
-    request: &Message<Alloc<'a>>,
-    response: &Message<Alloc<'a>>,
-) -> Made<'a> {
-    match request.start() {
-        Start::Request { .. } => of_build(ack_of(alloc, request, response)),
-        Start::Response { .. } => Err(Answer::Wrong),
-    }
-}
-
-fn cancelled<'a>(alloc: Alloc<'a>, request: &Message<Alloc<'a>>) -> Made<'a> {
-    match request.start() {
-        Start::Request { .. } => of_build(cancel_of(alloc, request)),
-        Start::Response { .. } => Err(Answer::Wrong),
-    }
-}
-
-fn moved<'a>(alloc: Alloc<'a>, response: &Message<Alloc<'a>>) -> Made<'a> {
+/// The response goes up with a contact that was kept.
+fn moved<'a>(heap: Heap<'a>, response: &Message<Alloc<'a>>, wanted: Wanted) -> Answer {
     let kept: [&[u8]; 1] = [b"<sip:d@192.0.2.7>"];
     let none: [Challenge<Alloc<'a>>; 0] = [];
-    of_build(upward(alloc, response, Some(&kept), &none))
+    judged(
+        heap,
+        &wanted,
+        upward(heap.scarce, response, Some(&kept), &none),
+        BuildFault::NoMemory,
+    )
 }
 
-fn made<'a>(alloc: Alloc<'a>, of: &Sources<'a>, making: Making) -> Made<'a> {
-    match making {
-        Making::Marked => of_via(mark_received(alloc, &of.request, SOURCE)),
-        Making::Stripped => of_build(strip_route(alloc, &of.request, OWN)),
-        Making::Forwarded => forwarded(alloc, &of.request, &of.target),
-        Making::Upward => moved(alloc, &of.response),
-        Making::Generated => of_build(generated(alloc, &of.request, OwnStatus::Trying)),
-        Making::Ack => acknowledged(alloc, &of.request, &of.response),
-        Making::Cancel => cancelled(alloc, &of.request),
+/// The request goes to the target, or another along with it.
+fn sent_along<'a>(
+    heap: Heap<'a>,
+    request: &Message<Alloc<'a>>,
+    response: &Message<Alloc<'a>>,
+    target: &SipUri<Alloc<'a>>,
+    case: Case,
+) -> Answer {
+    if !has_hops(request) {
+        return Answer::Wrong;
+    }
+    match request.start() {
+        Start::Request { .. } => match case.making {
+            Making::Forwarded => judged(
+                heap,
+                &case.wanted,
+                forward(heap.scarce, request, target, OWN, &BRANCH),
+                BuildFault::NoMemory,
+            ),
+            Making::Ack => judged(
+                heap,
+                &case.wanted,
+                ack_of(heap.scarce, request, response),
+                BuildFault::NoMemory,
+            ),
+            _ => judged(
+                heap,
+                &case.wanted,
+                cancel_of(heap.scarce, request),
+                BuildFault::NoMemory,
+            ),
+        },
+        Start::Response { .. } => Answer::Wrong,
     }
 }
 
-/// Whether the message has the text of one that is made with memory enough.
-fn is_made<'a>(
-    ample: Alloc<'a>,
-    of: &Sources<'a>,
-    making: Making,
-    message: &Message<Alloc<'a>>,
-) -> bool {
-    match made(ample, of, making) {
-        Ok(wanted) => have_same_text(ample, message, &wanted),
-        Err(_) => false,
+fn along<'a>(heap: Heap<'a>, request: &Message<Alloc<'a>>, case: Case) -> Answer {
+    let response = read(heap.ample, MOVED);
+    let target = target(heap.ample);
+    let answer = match (&response, &target) {
+        (Ok(response), Ok(target)) => sent_along(heap, request, response, target, case),
+        _ => Answer::Wrong,
+    };
+    discard(response);
+    discard(target);
+    answer
+}
+
+fn made<'a>(heap: Heap<'a>, of: &Message<Alloc<'a>>, case: Case) -> Answer {
+    match case.making {
+        Making::Marked => judged(
+            heap,
+            &case.wanted,
+            mark_received(heap.scarce, of, SOURCE),
+            ViaFault::NoMemory,
+        ),
+        Making::Stripped => judged(
+            heap,
+            &case.wanted,
+            strip_route(heap.scarce, of, OWN),
+            BuildFault::NoMemory,
+        ),
+        Making::Generated => judged(
+            heap,
+            &case.wanted,
+            generated(heap.scarce, of, OwnStatus::Trying),
+            BuildFault::NoMemory,
+        ),
+        Making::Upward => moved(heap, of, case.wanted),
+        _ => along(heap, of, case),
     }
 }
 
-fn made_of<'a>(heap: Heap<'a>, of: &Sources<'a>, making: Making) -> Answer {
-    match made(heap.scarce, of, making) {
-        Ok(message) => Answer::of(is_made(heap.ample, of, making, &message)),
-        Err(answer) => answer,
-    }
-}
-
-/// The request that it is made of.
-fn request_for(making: Making) -> &'static [u8] {
-    match making {
-        Making::Stripped => ROUTED,
-        _ => REQUEST,
-    }
-}
-
-impl Stateless for Making {
+impl Stateless for Case {
     fn answer(&self, heap: Heap<'_>) -> Answer {
-        match given(heap.ample, request_for(*self)) {
-            Some(sources) => made_of(heap, &sources, *self),
-            None => Answer::Wrong,
-        }
+        let of = read(heap.ample, self.of);
+        let answer = match &of {
+            Ok(of) => made(heap, of, *self),
+            Err(_) => Answer::Wrong,
+        };
+        discard(of);
+        answer
     }
 }
 
@@ -137,26 +139,19 @@ struct Marking<'a> {
     request: Option<Message<Alloc<'a>>>,
 }
 
-/// Whether the message is the request as `mark_received` marks it.
-fn is_marked<'a>(ample: Alloc<'a>, message: &Message<Alloc<'a>>) -> bool {
-    match given(ample, REQUEST) {
-        Some(sources) => is_made(ample, &sources, Making::Marked, message),
-        None => false,
-    }
-}
-
 fn marked<'a>(heap: Heap<'a>, request: &mut Option<Message<Alloc<'a>>>) -> Answer {
     let Some(message) = request.take() else {
         return Answer::Wrong;
     };
     match add_received(heap.scarce, message, SOURCE) {
-        Ok(message) => Answer::of(is_marked(heap.ample, &message)),
+        Ok(message) => {
+            let answer = Answer::of(is_written_as(heap.ample, &message, MARKED));
+            discard(message);
+            answer
+        }
         Err(ReceivedFault { message, fault }) => {
-            *request = Some(message);
-            match fault {
-                ViaFault::NoMemory => Answer::NoMemory,
-                ViaFault::BadVia => Answer::Wrong,
-            }
+            discard(mem::replace(request, Some(message)));
+            Answer::failed(fault == ViaFault::NoMemory)
         }
     }
 }
@@ -171,21 +166,34 @@ struct InPlace;
 
 impl Play for InPlace {
     fn play(&self, heap: Heap<'_>) -> bool {
-        heap.insist(&mut Marking {
+        let mut marking = Marking {
             heap,
-            request: message(heap.ample, REQUEST),
-        })
+            request: read(heap.ample, REQUEST).ok(),
+        };
+        let well = heap.insist(&mut marking);
+        discard(marking);
+        well
     }
 }
 
+/// How a message is made, of which, what it is to say, and the call's name.
+type Row = (Making, &'static [u8], &'static [u8], &'static str);
+
+const ROWS: &[Row] = &[
+    (Making::Marked, REQUEST, MARKED, "mark_received"),
+    (Making::Stripped, ROUTED, STRIPPED, "strip_route"),
+    (Making::Forwarded, REQUEST, FORWARDED, "forward"),
+    (Making::Upward, MOVED, UPWARD_WITH_ANOTHER, "upward"),
+    (Making::Generated, REQUEST, TRYING, "generated"),
+    (Making::Ack, REQUEST, ACK, "ack_of"),
+    (Making::Cancel, REQUEST, CANCEL, "cancel_of"),
+];
+
 #[test]
 fn messages_are_made_of_others(rt: HostRuntime) {
-    calls(&rt, Making::Marked, 0, "mark_received");
     plays(&rt, &InPlace, 0, "add_received");
-    calls(&rt, Making::Stripped, 0, "strip_route");
-    calls(&rt, Making::Forwarded, 0, "forward");
-    calls(&rt, Making::Upward, 0, "upward");
-    calls(&rt, Making::Generated, 0, "generated");
-    calls(&rt, Making::Ack, 0, "ack_of");
-    calls(&rt, Making::Cancel, 0, "cancel_of");
+    for &(making, of, text, name) in ROWS {
+        let wanted = Wanted { text };
+        calls(&rt, &Case { making, of, wanted }, 0, name);
+    }
 }

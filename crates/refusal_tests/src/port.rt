@@ -1,12 +1,12 @@
 //! A port that compares what it is given with what is wanted, and fails one send.
-use crate::wanted::{Needs, is_what, wanted_at};
+use crate::wanted::{Needs, is_one, wanted_at};
 use fork_call::{Carried, Cause, Datagram, Port};
 use std::alloc::Allocator;
 
 /// Whether a datagram is that at this place of what is wanted.
 fn is_wanted<A: Allocator>(datagram: &Datagram<A>, place: usize) -> bool {
     match wanted_at(place) {
-        Some((_, what)) => is_what(datagram, what),
+        Some((_, sent)) => is_one(datagram, sent),
         None => false,
     }
 }

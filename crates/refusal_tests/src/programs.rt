@@ -1,4 +1,5 @@
 //! Inputs that are read, and commands that answer a text as the program does, while memory is refused.
+use crate::answers::{Judge, judged};
 use crate::plays::calls;
 use crate::sources::Alloc;
 use crate::texts::{
@@ -7,7 +8,6 @@ use crate::texts::{
 };
 use fork_program::{Command, Fault, ProgFault, check_text, read_input, replay_text};
 use refusing::{Answer, Heap, Stateless};
-use std::process::Abort;
 
 /// The call that answers a text.
 #[derive(Clone, Copy)]
@@ -56,77 +56,111 @@ impl Stateless for Case {
     }
 }
 
-/// A replay of a script, and what it prints.
-fn replay(program: Program, text: &'static [u8], printed: &'static [u8]) -> Case {
-    Case {
-        program,
-        text,
-        status: 0,
-        printed,
-    }
-}
+const REPLAY: Program = Program::Run(Command::Replay);
 
-/// A check of a listing, its status, and what it prints.
-fn check(program: Program, text: &'static [u8], status: u8, printed: &'static [u8]) -> Case {
-    Case {
-        program,
-        text,
-        status,
-        printed,
-    }
-}
+const CHECK: Program = Program::Run(Command::Check);
 
-/// Ends the test where the case goes otherwise, or where other than so many of its growths are done without.
-fn goes(rt: &(impl Abort + AllocGlobal), case: Case, without: u64) {
-    calls(rt, case, without, "a program");
-}
-
-#[test]
-fn a_script_is_replayed(rt: HostRuntime) {
-    goes(
-        &rt,
-        replay(Program::ReplayText, BEST_SCRIPT, BEST_PRINTED),
+/// Calls, and how many of their growths are done without.
+const CASES: &[(Case, u64)] = &[
+    (
+        Case {
+            program: Program::ReplayText,
+            text: BEST_SCRIPT,
+            status: 0,
+            printed: BEST_PRINTED,
+        },
         0,
-    );
-}
+    ),
+    (
+        Case {
+            program: REPLAY,
+            text: BEST_SCRIPT,
+            status: 0,
+            printed: BEST_PRINTED,
+        },
+        0,
+    ),
+    (
+        Case {
+            program: REPLAY,
+            text: CHALLENGED_SCRIPT,
+            status: 0,
+            printed: CHALLENGED_PRINTED,
+        },
+        0,
+    ),
+    (
+        Case {
+            program: REPLAY,
+            text: MOVED_SCRIPT,
+            status: 0,
+            printed: MOVED_PRINTED,
+        },
+        0,
+    ),
+    (
+        Case {
+            program: Program::CheckText,
+            text: ONE_LISTING,
+            status: 0,
+            printed: b"yes\n",
+        },
+        1,
+    ),
+    (
+        Case {
+            program: CHECK,
+            text: ONE_LISTING,
+            status: 0,
+            printed: b"yes\n",
+        },
+        1,
+    ),
+    (
+        Case {
+            program: CHECK,
+            text: BEST_LISTING,
+            status: 0,
+            printed: b"yes\n",
+        },
+        2,
+    ),
+    (
+        Case {
+            program: CHECK,
+            text: WRONG_LISTING,
+            status: 4,
+            printed: b"no K5\n",
+        },
+        2,
+    ),
+];
 
 #[test]
-fn replays_end_with_3(rt: HostRuntime) {
-    let run = Program::Run(Command::Replay);
-    goes(&rt, replay(run, BEST_SCRIPT, BEST_PRINTED), 0);
-    goes(&rt, replay(run, CHALLENGED_SCRIPT, CHALLENGED_PRINTED), 0);
-    goes(&rt, replay(run, MOVED_SCRIPT, MOVED_PRINTED), 0);
-}
-
-#[test]
-fn a_listing_is_answered(rt: HostRuntime) {
-    goes(&rt, check(Program::CheckText, ONE_LISTING, 0, b"yes\n"), 1);
-}
-
-#[test]
-fn checks_end_with_3(rt: HostRuntime) {
-    let run = Program::Run(Command::Check);
-    goes(&rt, check(run, ONE_LISTING, 0, b"yes\n"), 1);
-    goes(&rt, check(run, BEST_LISTING, 0, b"yes\n"), 2);
-    goes(&rt, check(run, WRONG_LISTING, 4, b"no K5\n"), 2);
+fn commands_end_with_3(rt: HostRuntime) {
+    for (case, without) in CASES {
+        calls(&rt, case, *without, "a command");
+    }
 }
 
 /// An input is read.
-#[derive(Clone, Copy)]
 struct Input;
+
+impl<'a> Judge<'a, Vec<u8, Alloc<'a>>> for Input {
+    fn is_right(&self, _heap: Heap<'a>, text: &Vec<u8, Alloc<'a>>) -> bool {
+        text.as_slice() == BEST_SCRIPT
+    }
+}
 
 impl Stateless for Input {
     fn answer(&self, heap: Heap<'_>) -> Answer {
         let mut input = BEST_SCRIPT;
-        match read_input(heap.scarce, &mut input) {
-            Ok(text) => Answer::of(text.as_slice() == BEST_SCRIPT),
-            Err(Fault::Text(ProgFault::NoMemory)) => Answer::NoMemory,
-            Err(_) => Answer::Wrong,
-        }
+        let text = read_input(heap.scarce, &mut input);
+        judged(heap, self, text, Fault::Text(ProgFault::NoMemory))
     }
 }
 
 #[test]
 fn an_input_is_read(rt: HostRuntime) {
-    calls(&rt, Input, 0, "an input");
+    calls(&rt, &Input, 0, "an input");
 }

@@ -1,10 +1,11 @@
 //! URIs, contacts, messages and Via values that are read while memory is refused.
+use crate::answers::{Judge, discard, judged};
 use crate::plays::calls;
-use crate::sources::{Alloc, REQUEST, URI, is_written_as, target};
+use crate::sources::{Alloc, REQUEST, Wanted, read, target};
 use refusing::{Answer, Heap, Stateless};
-use sip_text::{Message, ReadFault};
 use sip_uri::{Contact, SipUri, UriFault, read_contacts};
 use sip_via::{Via, ViaFault};
+use std::alloc::AllocError;
 
 /// What is read.
 #[derive(Clone, Copy)]
@@ -17,31 +18,14 @@ enum Reading {
     Via,
 }
 
-/// Whether the URI is that which is read, as it stands in a request.
-fn is_requested(uri: &SipUri<Alloc<'_>>) -> bool {
-    uri.key() == b"bob@192.0.2.4:5062;transport=udp".as_slice()
-}
+const VIA: &[u8] = b"SIP/2.0/UDP h.example:5062;branch=z9hG4bKa";
 
-/// The URI as it stands in a request is made.
-fn requested<'a>(alloc: Alloc<'a>, uri: &SipUri<Alloc<'a>>) -> Answer {
-    match uri.requested(alloc) {
-        Ok(uri) => Answer::of(is_requested(&uri)),
-        Err(_) => Answer::NoMemory,
-    }
-}
+/// A value of Contact, with one contact that can be tried and one that cannot.
+const CONTACTS: &[u8] = b"\"Bob, B\" <sip:bob@192.0.2.4>;q=0.5, <tel:+1555>";
 
-fn requested_of_read(heap: Heap<'_>) -> Answer {
-    match target(heap.ample) {
-        Some(uri) => requested(heap.scarce, &uri),
-        None => Answer::Wrong,
-    }
-}
-
-fn uri_read(heap: Heap<'_>) -> Answer {
-    match SipUri::read(heap.scarce, URI) {
-        Ok(uri) => requested(heap.ample, &uri),
-        Err(UriFault::NoMemory) => Answer::NoMemory,
-        Err(_) => Answer::Wrong,
+impl<'a> Judge<'a, SipUri<Alloc<'a>>> for Reading {
+    fn is_right(&self, _heap: Heap<'a>, uri: &SipUri<Alloc<'a>>) -> bool {
+        uri.key() == b"bob@192.0.2.4:5062;transport=udp".as_slice()
     }
 }
 
@@ -49,61 +33,67 @@ fn is_contact(contact: &Contact<Alloc<'_>>, text: &[u8], q: u16, can_be_tried: b
     contact.text.as_slice() == text && contact.q == q && contact.uri.is_some() == can_be_tried
 }
 
-/// Whether these are the contacts of the value that is read.
-fn are_contacts(contacts: &[Contact<Alloc<'_>>]) -> bool {
-    match contacts {
-        [first, second] => {
-            is_contact(first, b"\"Bob, B\" <sip:bob@192.0.2.4>;q=0.5", 500, true)
-                && is_contact(second, b"<tel:+1555>", 1000, false)
+impl<'a> Judge<'a, Vec<Contact<Alloc<'a>>, Alloc<'a>>> for Reading {
+    fn is_right(&self, _heap: Heap<'a>, contacts: &Vec<Contact<Alloc<'a>>, Alloc<'a>>) -> bool {
+        match contacts.as_slice() {
+            [first, second] => {
+                is_contact(first, b"\"Bob, B\" <sip:bob@192.0.2.4>;q=0.5", 500, true)
+                    && is_contact(second, b"<tel:+1555>", 1000, false)
+            }
+            _ => false,
         }
-        _ => false,
     }
 }
 
-fn contacts_read(heap: Heap<'_>) -> Answer {
-    match read_contacts(
-        heap.scarce,
-        b"\"Bob, B\" <sip:bob@192.0.2.4>;q=0.5, <tel:+1555>",
-    ) {
-        Ok(contacts) => Answer::of(are_contacts(&contacts)),
-        Err(UriFault::NoMemory) => Answer::NoMemory,
+impl<'a> Judge<'a, Via<Alloc<'a>>> for Reading {
+    fn is_right(&self, _heap: Heap<'a>, via: &Via<Alloc<'a>>) -> bool {
+        via.host() == b"h.example".as_slice() && via.port() == Some(5062)
+    }
+}
+
+fn requested(heap: Heap<'_>) -> Answer {
+    let uri = target(heap.ample);
+    let answer = match &uri {
+        Ok(uri) => judged(
+            heap,
+            &Reading::Requested,
+            uri.requested(heap.scarce),
+            AllocError,
+        ),
         Err(_) => Answer::Wrong,
-    }
-}
-
-fn request_read(heap: Heap<'_>) -> Answer {
-    match Message::read(heap.scarce, REQUEST) {
-        Ok(message) => Answer::of(is_written_as(heap.ample, &message, REQUEST)),
-        Err(ReadFault::NoMemory) => Answer::NoMemory,
-        Err(_) => Answer::Wrong,
-    }
-}
-
-fn via_read(heap: Heap<'_>) -> Answer {
-    match Via::read(heap.scarce, b"SIP/2.0/UDP h.example:5062;branch=z9hG4bKa") {
-        Ok(via) => Answer::of(via.host() == b"h.example".as_slice() && via.port() == Some(5062)),
-        Err(ViaFault::NoMemory) => Answer::NoMemory,
-        Err(ViaFault::BadVia) => Answer::Wrong,
-    }
+    };
+    discard(uri);
+    answer
 }
 
 impl Stateless for Reading {
     fn answer(&self, heap: Heap<'_>) -> Answer {
+        let alloc = heap.scarce;
         match self {
-            Reading::Uri => uri_read(heap),
-            Reading::Requested => requested_of_read(heap),
-            Reading::Contacts => contacts_read(heap),
-            Reading::Request => request_read(heap),
-            Reading::Via => via_read(heap),
+            Reading::Uri => judged(heap, self, target(alloc), Answer::NoMemory),
+            Reading::Requested => requested(heap),
+            Reading::Contacts => {
+                judged(
+                    heap,
+                    self,
+                    read_contacts(alloc, CONTACTS),
+                    UriFault::NoMemory,
+                )
+            }
+            Reading::Request => {
+                let wanted = Wanted { text: REQUEST };
+                judged(heap, &wanted, read(alloc, REQUEST), Answer::NoMemory)
+            }
+            Reading::Via => judged(heap, self, Via::read(alloc, VIA), ViaFault::NoMemory),
         }
     }
 }
 
 #[test]
 fn texts_are_read(rt: HostRuntime) {
-    calls(&rt, Reading::Uri, 0, "a URI");
-    calls(&rt, Reading::Requested, 0, "a URI of a request");
-    calls(&rt, Reading::Contacts, 0, "contacts");
-    calls(&rt, Reading::Request, 0, "a request");
-    calls(&rt, Reading::Via, 0, "a Via value");
+    calls(&rt, &Reading::Uri, 0, "a URI");
+    calls(&rt, &Reading::Requested, 0, "a URI of a request");
+    calls(&rt, &Reading::Contacts, 0, "contacts");
+    calls(&rt, &Reading::Request, 0, "a request");
+    calls(&rt, &Reading::Via, 0, "a Via value");
 }

@@ -1,7 +1,8 @@
-//! Messages, a URI and a Via value that are read with memory enough, for calls that are made of them.
-use refusing::Refusing;
-use sip_text::Message;
-use sip_uri::{Hop, SipUri};
+//! Messages and a URI that are read, for calls that are made of them.
+use crate::answers::{Judge, answered};
+use refusing::{Answer, Heap, Refusing};
+use sip_text::{Message, ReadFault};
+use sip_uri::{Hop, SipUri, UriFault};
 use sip_via::{BranchName, Own};
 use std::alloc::Global;
 
@@ -37,93 +38,42 @@ v: SIP/2.0/UDP 192.0.2.1:5060;branch=z9hG4bKa;rport\r\nRoute: <sip:192.0.2.9;lr>
 f: <sip:alice@example.com>;tag=1\r\nt: <sip:bob@example.com>\r\ni: c1\r\nCSeq: 1 OPTIONS\r\nl: 0\r\n\r\n";
 
 /// A response with two Via lines and a contact.
-const MOVED: &[u8] =
+pub const MOVED: &[u8] =
     b"SIP/2.0 302 Moved Temporarily\r\nVia: SIP/2.0/UDP 192.0.2.9:5060;branch=z9hG4bK1\r\n\
 v: SIP/2.0/UDP 192.0.2.1:5060;branch=z9hG4bKa\r\nm: <sip:b@192.0.2.5>\r\nf: <sip:alice@example.com>;tag=1\r\n\
 t: <sip:bob@example.com>;tag=2\r\ni: c1\r\nCSeq: 1 OPTIONS\r\nl: 0\r\n\r\n";
 
 /// A URI with each of its parts.
-pub const URI: &[u8] = b"sip:bob@192.0.2.4:5062;transport=udp;Method=INVITE?Subject=x";
+const URI: &[u8] = b"sip:bob@192.0.2.4:5062;transport=udp;Method=INVITE?Subject=x";
 
-/// What messages and texts are made of.
-#[derive(Drop)]
-pub struct Sources<'a> {
-    pub request: Message<Alloc<'a>>,
-    pub response: Message<Alloc<'a>>,
-    pub target: SipUri<Alloc<'a>>,
-}
-
-/// The message of this text.
-pub fn message<'a>(ample: Alloc<'a>, text: &[u8]) -> Option<Message<Alloc<'a>>> {
-    match Message::read(ample, text) {
-        Ok(message) => Some(message),
-        Err(_) => None,
+/// The message of this text, or what the call comes to that reads it.
+pub fn read<'a>(alloc: Alloc<'a>, text: &[u8]) -> Result<Message<Alloc<'a>>, Answer> {
+    match Message::read(alloc, text) {
+        Ok(message) => Ok(message),
+        Err(ReadFault::NoMemory) => Err(Answer::NoMemory),
+        Err(_) => Err(Answer::Wrong),
     }
 }
 
-/// The URI of a target.
-pub fn target<'a>(ample: Alloc<'a>) -> Option<SipUri<Alloc<'a>>> {
-    match SipUri::read(ample, URI) {
-        Ok(target) => Some(target),
-        Err(_) => None,
-    }
-}
-
-/// The text of a message.
-fn text_of<'a>(ample: Alloc<'a>, message: &Message<Alloc<'a>>) -> Option<Vec<u8, Alloc<'a>>> {
-    let mut out = Vec::new(ample);
-    match message.write(&mut out) {
-        Ok(()) => Some(out),
-        Err(_) => None,
-    }
-}
-
-/// Whether the messages are written alike.
-pub fn have_same_text<'a>(
-    ample: Alloc<'a>,
-    one: &Message<Alloc<'a>>,
-    other: &Message<Alloc<'a>>,
-) -> bool {
-    match text_of(ample, one) {
-        Some(text) => is_written_as(ample, other, &text),
-        None => false,
-    }
+/// The URI of a target, or what the call comes to that reads it.
+pub fn target<'a>(alloc: Alloc<'a>) -> Result<SipUri<Alloc<'a>>, Answer> {
+    answered(SipUri::read(alloc, URI), UriFault::NoMemory)
 }
 
 /// Whether this is the text of the message.
 pub fn is_written_as<'a>(ample: Alloc<'a>, message: &Message<Alloc<'a>>, wanted: &[u8]) -> bool {
-    match text_of(ample, message) {
-        Some(text) => text.as_slice() == wanted,
-        None => false,
-    }
+    let mut out = Vec::new(ample);
+    message.write(&mut out).is_ok() && out.as_slice() == wanted
 }
 
-fn with_messages<'a>(
-    ample: Alloc<'a>,
-    request: Message<Alloc<'a>>,
-    response: Message<Alloc<'a>>,
-) -> Option<Sources<'a>> {
-    match target(ample) {
-        Some(target) => Some(Sources {
-            request,
-            response,
-            target,
-        }),
-        None => None,
-    }
+/// The text that a message is to have.
+#[derive(Clone, Copy)]
+pub struct Wanted {
+    pub text: &'static [u8],
 }
 
-fn with_request<'a>(ample: Alloc<'a>, request: Message<Alloc<'a>>) -> Option<Sources<'a>> {
-    match message(ample, MOVED) {
-        Some(response) => with_messages(ample, request, response),
-        None => None,
-    }
-}
-
-/// All of them; the request is that of this text.
-pub fn given<'a>(ample: Alloc<'a>, request: &[u8]) -> Option<Sources<'a>> {
-    match message(ample, request) {
-        Some(request) => with_request(ample, request),
-        None => None,
+impl<'a> Judge<'a, Message<Alloc<'a>>> for Wanted {
+    fn is_right(&self, heap: Heap<'a>, made: &Message<Alloc<'a>>) -> bool {
+        is_written_as(heap.ample, made, self.text)
     }
 }

@@ -3,11 +3,13 @@ ghost use Rattle.std.specs.Prelude.{◌≡◌, IfOk};
 ghost use Rattle.fork_tree.specs.declared.row.State.TheVariants.{Ended};
 ghost use Rattle.fork_tree.specs.Given.{AreRows};
 
+use crate::answers::{Judge, judged};
 use crate::plays::calls;
 use crate::sources::Alloc;
 use fork_rank::{Rules, Status, groups};
 use fork_tree::{End, ForkTree, NewRows, RowRef, State};
 use refusing::{Answer, Heap, Stateless};
+use std::alloc::AllocError;
 
 /// What is made.
 #[derive(Clone, Copy)]
@@ -21,31 +23,41 @@ enum Making {
     Ended,
 }
 
-fn are(places: &[usize], wanted: &[usize]) -> bool {
-    places == wanted
-}
+/// Places of targets, where they take their memory.
+type Places<'a> = Vec<usize, Alloc<'a>>;
 
-fn groups_made(heap: Heap<'_>) -> Answer {
-    let Ok(groups) = groups(heap.scarce, &[500, 1000, 500]) else {
-        return Answer::NoMemory;
-    };
-    match groups.as_slice() {
-        [first, second] => Answer::of(are(first, &[1]) && are(second, &[0, 2])),
-        _ => Answer::Wrong,
+impl<'a> Judge<'a, Vec<Places<'a>, Alloc<'a>>> for Making {
+    fn is_right(&self, _heap: Heap<'a>, groups: &Vec<Places<'a>, Alloc<'a>>) -> bool {
+        match groups.as_slice() {
+            [first, second] => {
+                first.as_slice() == [1usize].as_slice()
+                    && second.as_slice() == [0usize, 2].as_slice()
+            },
+            _ => false,
+        }
     }
 }
 
-fn tree_made(heap: Heap<'_>) -> Answer {
-    match ForkTree::new(heap.scarce, Rules::usual(), &[1000, 1000, 500]) {
-        Ok(tree) => Answer::of(tree.count() == 3 && tree.open_count() == 3),
-        Err(_) => Answer::NoMemory,
+impl<'a> Judge<'a, NewRows<Alloc<'a>>> for Making {
+    fn is_right(&self, _heap: Heap<'a>, _rows: &NewRows<Alloc<'a>>) -> bool {
+        true
     }
 }
 
-fn rows_made(heap: Heap<'_>) -> Answer {
-    match NewRows::idle(heap.scarce, 3, &[1000, 500]) {
-        Ok(_) => Answer::Right,
-        Err(_) => Answer::NoMemory,
+/// Whether the best row of the tree is number 1.
+fn is_second_best(tree: &ForkTree<Alloc<'_>>) -> bool {
+    match tree.best() {
+        Some(best) => best.no == 1,
+        None => false,
+    }
+}
+
+impl<'a> Judge<'a, ForkTree<Alloc<'a>>> for Making {
+    fn is_right(&self, _heap: Heap<'a>, tree: &ForkTree<Alloc<'a>>) -> bool {
+        match self {
+            Making::Tree => tree.count() == 3 && tree.open_count() == 3,
+            _ => tree.open_count() == 0 && is_second_best(tree),
+        }
     }
 }
 
@@ -89,30 +101,29 @@ fn ended_rows() -> Result<[RowRef; 6], ()>
     ])
 }
 
-/// The number of the best row of a tree in which none is open.
-fn best_of(tree: &ForkTree<Alloc<'_>>) -> Option<u16> {
-    match tree.best() {
-        Some(best) if tree.open_count() == 0 => Some(best.no),
-        _ => None,
-    }
-}
-
 fn ended_made(heap: Heap<'_>) -> Answer {
     let Ok(rows) = ended_rows() else {
         return Answer::Wrong;
     };
-    match ForkTree::build(heap.scarce, Rules::usual(), &rows) {
-        Ok(tree) => Answer::of(best_of(&tree) == Some(1)),
-        Err(_) => Answer::NoMemory,
-    }
+    let made = ForkTree::build(heap.scarce, Rules::usual(), &rows);
+    judged(heap, &Making::Ended, made, AllocError)
 }
 
 impl Stateless for Making {
     fn answer(&self, heap: Heap<'_>) -> Answer {
+        let alloc = heap.scarce;
         match self {
-            Making::Groups => groups_made(heap),
-            Making::Tree => tree_made(heap),
-            Making::Rows => rows_made(heap),
+            Making::Groups => judged(heap, self, groups(alloc, &[500, 1000, 500]), AllocError),
+            Making::Tree => {
+                let made = ForkTree::new(alloc, Rules::usual(), &[1000, 1000, 500]);
+                judged(heap, self, made, AllocError)
+            }
+            Making::Rows => judged(
+                heap,
+                self,
+                NewRows::idle(alloc, 3, &[1000, 500]),
+                AllocError,
+            ),
             Making::Ended => ended_made(heap),
         }
     }
@@ -120,8 +131,8 @@ impl Stateless for Making {
 
 #[test]
 fn trees_are_made(rt: HostRuntime) {
-    calls(&rt, Making::Groups, 0, "groups");
-    calls(&rt, Making::Tree, 0, "a tree");
-    calls(&rt, Making::Rows, 0, "new rows");
-    calls(&rt, Making::Ended, 0, "a tree of rows that have ended");
+    calls(&rt, &Making::Groups, 0, "groups");
+    calls(&rt, &Making::Tree, 0, "a tree");
+    calls(&rt, &Making::Rows, 0, "new rows");
+    calls(&rt, &Making::Ended, 0, "a tree of rows that have ended");
 }

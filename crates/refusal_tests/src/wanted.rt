@@ -11,61 +11,59 @@ use crate::fork_texts::{
 use fork_call::{Cause, Datagram};
 use std::alloc::Allocator;
 
-/// A datagram; a number is that of its branch.
-#[derive(Clone, Copy)]
-pub enum What {
-    Invite(usize),
-    Ack(usize),
-    Cancel(usize),
-    /// A 180 as it goes up.
-    Rings(usize),
-    Trying,
-    NotFound,
-    Terminated,
-    CancelOk,
-    Options,
-    OptionsNotFound,
-    OptionsFault,
-}
-
-const INVITES: &[Sent] = &[
+/// The datagrams, byte for byte.
+const DATAGRAMS: &[Sent] = &[
     INVITE_SENT,
     SECOND_SENT,
     THIRD_SENT,
     FOURTH_SENT,
     FIFTH_SENT,
+    ACK_SENT,
+    SECOND_ACK,
+    THIRD_ACK,
+    FOURTH_ACK,
+    FIFTH_ACK,
+    CANCEL_SENT,
+    SECOND_CANCEL,
+    THIRD_CANCEL,
+    FOURTH_CANCEL,
+    RINGING_UP,
+    SECOND_RINGS_UP,
+    THIRD_RINGS_UP,
+    FOURTH_RINGS_UP,
+    TRYING,
+    NOT_FOUND_UP,
+    TERMINATED_UP,
+    CANCEL_OK,
+    OPTIONS_SENT,
+    OPTIONS_NOT_FOUND_UP,
+    OPTIONS_FAULT_UP,
 ];
 
-const ACKS: &[Sent] = &[ACK_SENT, SECOND_ACK, THIRD_ACK, FOURTH_ACK, FIFTH_ACK];
+/// The places there of the first branch's INVITE, ACK and CANCEL and of its 180 as that goes up; those of the next branches
+/// follow each.
+const INVITES: usize = 0;
 
-const CANCELS: &[Sent] = &[CANCEL_SENT, SECOND_CANCEL, THIRD_CANCEL, FOURTH_CANCEL];
+const ACKS: usize = 5;
 
-const RINGS: &[Sent] = &[RINGING_UP, SECOND_RINGS_UP, THIRD_RINGS_UP, FOURTH_RINGS_UP];
+const CANCELS: usize = 10;
 
-/// Whether a datagram is that at this place of a list.
-fn is_one<A: Allocator>(datagram: &Datagram<A>, list: &[Sent], n: usize) -> bool {
-    match list.get(n) {
-        Some(wanted) => is_sent(datagram, wanted),
-        None => false,
-    }
-}
+const RINGS: usize = 14;
 
-/// Whether it is this one, byte for byte.
-pub fn is_what<A: Allocator>(datagram: &Datagram<A>, what: What) -> bool {
-    match what {
-        What::Invite(n) => is_one(datagram, INVITES, n),
-        What::Ack(n) => is_one(datagram, ACKS, n),
-        What::Cancel(n) => is_one(datagram, CANCELS, n),
-        What::Rings(n) => is_one(datagram, RINGS, n),
-        What::Trying => is_sent(datagram, &TRYING),
-        What::NotFound => is_sent(datagram, &NOT_FOUND_UP),
-        What::Terminated => is_sent(datagram, &TERMINATED_UP),
-        What::CancelOk => is_sent(datagram, &CANCEL_OK),
-        What::Options => is_sent(datagram, &OPTIONS_SENT),
-        What::OptionsNotFound => is_sent(datagram, &OPTIONS_NOT_FOUND_UP),
-        What::OptionsFault => is_sent(datagram, &OPTIONS_FAULT_UP),
-    }
-}
+/// The places there of the others.
+const A_TRYING: usize = 18;
+
+const A_NOT_FOUND: usize = 19;
+
+const A_TERMINATED: usize = 20;
+
+const A_CANCEL_OK: usize = 21;
+
+const AN_OPTIONS: usize = 22;
+
+const AN_OPTIONS_NOT_FOUND: usize = 23;
+
+const AN_OPTIONS_FAULT: usize = 24;
 
 /// On what it depends that a datagram is sent.
 #[derive(Clone, Copy)]
@@ -94,73 +92,81 @@ pub const OPTIONS_SENDS: u64 = 3;
 /// Where an INVITE to one target begins.
 pub const INVITE: usize = 31;
 
-/// All of them, one call after another.
-const WANTED: [(Needs, What); 42] = [
+/// What is wanted, one call after another: on what it depends, and its place among the datagrams.
+const WANTED: &[(Needs, usize)] = &[
     // at 0
-    (Needs::Nothing, What::Trying),
-    (Needs::Branch(0), What::Invite(0)),
-    (Needs::Branch(1), What::Invite(1)),
-    (Needs::Branch(2), What::Invite(2)),
-    (Needs::Branch(3), What::Invite(3)),
-    (Needs::Branch(4), What::Invite(4)),
+    (Needs::Nothing, A_TRYING),
+    (Needs::Branch(0), INVITES),
+    (Needs::Branch(1), INVITES + 1),
+    (Needs::Branch(2), INVITES + 2),
+    (Needs::Branch(3), INVITES + 3),
+    (Needs::Branch(4), INVITES + 4),
     // at 100, 200 and 250
-    (Needs::Branch(0), What::Ack(0)),
-    (Needs::Branch(4), What::Ack(4)),
-    (Needs::Again(0, Cause::Ack(0)), What::Ack(0)),
+    (Needs::Branch(0), ACKS),
+    (Needs::Branch(4), ACKS + 4),
+    (Needs::Again(0, Cause::Ack(0)), ACKS),
     // at 300
-    (Needs::Branch(1), What::Rings(1)),
+    (Needs::Branch(1), RINGS + 1),
     // at 500
-    (Needs::Branch(2), What::Invite(2)),
-    (Needs::Branch(3), What::Invite(3)),
+    (Needs::Branch(2), INVITES + 2),
+    (Needs::Branch(3), INVITES + 3),
     // at 600
-    (Needs::Branch(2), What::Rings(2)),
+    (Needs::Branch(2), RINGS + 2),
     // at 700
-    (Needs::Nothing, What::CancelOk),
-    (Needs::Branch(1), What::Cancel(1)),
-    (Needs::Branch(2), What::Cancel(2)),
+    (Needs::Nothing, A_CANCEL_OK),
+    (Needs::Branch(1), CANCELS + 1),
+    (Needs::Branch(2), CANCELS + 2),
     // at 800
-    (Needs::Branch(1), What::Ack(1)),
+    (Needs::Branch(1), ACKS + 1),
     // at 1,200
-    (Needs::Again(1, Cause::Cancel(1)), What::Cancel(1)),
-    (Needs::Again(2, Cause::Cancel(2)), What::Cancel(2)),
+    (Needs::Again(1, Cause::Cancel(1)), CANCELS + 1),
+    (Needs::Again(2, Cause::Cancel(2)), CANCELS + 2),
     // at 1,350
-    (Needs::Branch(3), What::Rings(3)),
-    (Needs::Branch(3), What::Cancel(3)),
+    (Needs::Branch(3), RINGS + 3),
+    (Needs::Branch(3), CANCELS + 3),
     // at 1,450
-    (Needs::Nothing, What::NotFound),
-    (Needs::Branch(2), What::Ack(2)),
-    (Needs::Branch(3), What::Ack(3)),
+    (Needs::Nothing, A_NOT_FOUND),
+    (Needs::Branch(2), ACKS + 2),
+    (Needs::Branch(3), ACKS + 3),
     // at 1,850 and 1,950
-    (Needs::Again(3, Cause::Cancel(3)), What::Cancel(3)),
-    (Needs::Nothing, What::NotFound),
+    (Needs::Again(3, Cause::Cancel(3)), CANCELS + 3),
+    (Needs::Nothing, A_NOT_FOUND),
     // an OPTIONS request, at 0
-    (Needs::Branch(0), What::Options),
-    (Needs::Fault(0), What::OptionsFault),
+    (Needs::Branch(0), AN_OPTIONS),
+    (Needs::Fault(0), AN_OPTIONS_FAULT),
     // at 20
-    (Needs::Branch(0), What::OptionsNotFound),
+    (Needs::Branch(0), AN_OPTIONS_NOT_FOUND),
     // at 40
-    (Needs::Fault(0), What::OptionsFault),
-    (Needs::Again(0, Cause::Answer), What::OptionsNotFound),
+    (Needs::Fault(0), AN_OPTIONS_FAULT),
+    (Needs::Again(0, Cause::Answer), AN_OPTIONS_NOT_FOUND),
     // an INVITE, at 0
-    (Needs::Nothing, What::Trying),
-    (Needs::Branch(0), What::Invite(0)),
+    (Needs::Nothing, A_TRYING),
+    (Needs::Branch(0), INVITES),
     // at 500 and 600
-    (Needs::Branch(0), What::Invite(0)),
-    (Needs::Nothing, What::CancelOk),
+    (Needs::Branch(0), INVITES),
+    (Needs::Nothing, A_CANCEL_OK),
     // at 700
-    (Needs::Branch(0), What::Rings(0)),
-    (Needs::Branch(0), What::Cancel(0)),
+    (Needs::Branch(0), RINGS),
+    (Needs::Branch(0), CANCELS),
     // at 1,200
-    (Needs::Again(0, Cause::Cancel(0)), What::Cancel(0)),
+    (Needs::Again(0, Cause::Cancel(0)), CANCELS),
     // at 1,300
-    (Needs::Nothing, What::Terminated),
-    (Needs::Branch(0), What::Ack(0)),
+    (Needs::Nothing, A_TERMINATED),
+    (Needs::Branch(0), ACKS),
     // at 1,400 and 1,800
-    (Needs::Again(0, Cause::Ack(0)), What::Ack(0)),
-    (Needs::Nothing, What::Terminated),
+    (Needs::Again(0, Cause::Ack(0)), ACKS),
+    (Needs::Nothing, A_TERMINATED),
 ];
 
-/// What is wanted at this place, and on what it depends.
-pub fn wanted_at(place: usize) -> Option<(Needs, What)> {
+/// What is wanted at this place: on what it depends, and its place among the datagrams.
+pub fn wanted_at(place: usize) -> Option<(Needs, usize)> {
     WANTED.get(place).copied()
+}
+
+/// Whether it is the datagram of this place, byte for byte.
+pub fn is_one<A: Allocator>(datagram: &Datagram<A>, place: usize) -> bool {
+    match DATAGRAMS.get(place) {
+        Some(wanted) => is_sent(datagram, wanted),
+        None => false,
+    }
 }

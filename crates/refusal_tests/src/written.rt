@@ -1,16 +1,21 @@
 //! Texts that are appended while memory is refused.
+use crate::answers::discard;
 use crate::hops::has_hops;
+use crate::made_texts::{
+    BAD_REQUEST, BRANCH_TEXT, FORWARDED, FORWARDED_ACK, FORWARDED_CANCEL, REQUEST_KEY, REQUEST_URI,
+    TARGET_KEY, UPWARD,
+};
 use crate::plays::plays;
-use crate::sources::{Alloc, BRANCH, OWN, REQUEST, Sources, given};
+use crate::sources::{Alloc, BRANCH, MOVED, OWN, REQUEST, read, target};
 use refusing::{Answer, Heap, Play, Repeated};
 use sip_build::{
     OwnStatus, write_forwarded, write_forwarded_ack, write_forwarded_cancel, write_generated,
     write_upward,
 };
 use sip_route::append_request_key;
-use sip_text::Start;
+use sip_text::{Message, Start};
+use sip_uri::SipUri;
 use sip_via::write_branch;
-use std::alloc::AllocError;
 
 /// What is appended.
 #[derive(Clone, Copy)]
@@ -27,127 +32,137 @@ enum Written {
     ForwardedCancel,
 }
 
-fn done(appended: Result<(), AllocError>) -> Answer {
-    match appended {
-        Ok(()) => Answer::Right,
-        Err(_) => Answer::NoMemory,
-    }
+/// What is appended, and its text.
+#[derive(Clone, Copy)]
+struct Case {
+    what: Written,
+    text: &'static [u8],
 }
 
-/// Appends what goes to a target.
-fn forwarded<'a>(of: &Sources<'a>, what: Written, out: &mut Vec<u8, Alloc<'a>>) -> Answer {
-    if !has_hops(&of.request) {
-        return Answer::Wrong;
+/// Appends what goes to a target; whether it was appended.
+fn forwards<'a>(
+    request: &Message<Alloc<'a>>,
+    response: &Message<Alloc<'a>>,
+    target: &SipUri<Alloc<'a>>,
+    what: Written,
+    out: &mut Vec<u8, Alloc<'a>>,
+) -> bool {
+    if !has_hops(request) {
+        return false;
     }
-    match of.request.start() {
-        Start::Request { .. } => done(match what {
-            Written::Forwarded => write_forwarded(&of.request, &of.target, OWN, &BRANCH, out),
+    match request.start() {
+        Start::Request { .. } => match what {
+            Written::Forwarded => write_forwarded(request, target, OWN, &BRANCH, out).is_ok(),
             Written::ForwardedAck => {
-                write_forwarded_ack(&of.request, &of.target, OWN, &BRANCH, &of.response, out)
+                write_forwarded_ack(request, target, OWN, &BRANCH, response, out).is_ok()
             }
-            _ => write_forwarded_cancel(&of.request, &of.target, OWN, &BRANCH, out),
-        }),
-        Start::Response { .. } => Answer::Wrong,
+            _ => write_forwarded_cancel(request, target, OWN, &BRANCH, out).is_ok(),
+        },
+        Start::Response { .. } => false,
     }
 }
 
-/// Appends the key of a request.
-fn keyed<'a>(of: &Sources<'a>, out: &mut Vec<u8, Alloc<'a>>) -> Answer {
-    match append_request_key(out, &of.request) {
-        Ok(is_there) => Answer::of(is_there),
-        Err(_) => Answer::NoMemory,
-    }
-}
-
-/// Appends what goes up.
-fn passed_up<'a>(of: &Sources<'a>, out: &mut Vec<u8, Alloc<'a>>) -> Answer {
-    match write_upward(&of.response, None, &[], out) {
-        Ok(()) => Answer::Right,
-        Err(_) => Answer::NoMemory,
-    }
-}
-
-fn append<'a>(of: &Sources<'a>, what: Written, out: &mut Vec<u8, Alloc<'a>>) -> Answer {
+/// Appends it; whether it was appended.
+fn appends<'a>(
+    request: &Message<Alloc<'a>>,
+    response: &Message<Alloc<'a>>,
+    target: &SipUri<Alloc<'a>>,
+    what: Written,
+    out: &mut Vec<u8, Alloc<'a>>,
+) -> bool {
     match what {
-        Written::RequestUri => done(of.target.request_uri(out)),
-        Written::TargetKey => done(of.target.target_key(out)),
-        Written::Branch => done(write_branch(&BRANCH, out)),
-        Written::RequestKey => keyed(of, out),
-        Written::Message => done(of.response.write(out)),
-        Written::Generated => done(write_generated(&of.request, OwnStatus::BadRequest, out)),
-        Written::Upward => passed_up(of, out),
-        _ => forwarded(of, what, out),
+        Written::RequestUri => target.request_uri(out).is_ok(),
+        Written::TargetKey => target.target_key(out).is_ok(),
+        Written::Branch => write_branch(&BRANCH, out).is_ok(),
+        Written::RequestKey => append_request_key(out, request).is_ok(),
+        Written::Message => response.write(out).is_ok(),
+        Written::Generated => write_generated(request, OwnStatus::BadRequest, out).is_ok(),
+        Written::Upward => write_upward(response, None, &[], out).is_ok(),
+        _ => forwards(request, response, target, what, out),
     }
 }
 
-/// Something is appended; where that is refused, the text has to be as long as before.
+/// Whether this text was appended to one of this length that holds the same, or nothing.
+fn is_appended(out: &[u8], before: usize, text: &[u8]) -> bool {
+    out.len() == before.saturating_add(text.len()) && out.starts_with(text) && out.ends_with(text)
+}
+
+/// What the call comes to; where it was refused, the text has to be as long as before.
+fn done(appended: bool, out: &[u8], before: usize, text: &[u8]) -> Answer {
+    if appended {
+        Answer::of(is_appended(out, before, text))
+    } else {
+        Answer::failed(out.len() == before)
+    }
+}
+
+/// What something is appended of, and to.
 #[derive(Drop)]
 struct Appending<'a> {
-    sources: Sources<'a>,
-    what: Written,
+    request: Result<Message<Alloc<'a>>, Answer>,
+    response: Result<Message<Alloc<'a>>, Answer>,
+    target: Result<SipUri<Alloc<'a>>, Answer>,
+    case: Case,
     out: Vec<u8, Alloc<'a>>,
 }
 
 impl Repeated for Appending<'_> {
     fn attempt(&mut self) -> Answer {
+        let Case { what, text } = self.case;
         let before = self.out.len();
-        match append(&self.sources, self.what, &mut self.out) {
-            Answer::NoMemory if self.out.len() != before => Answer::Wrong,
-            answer => answer,
+        match (&self.request, &self.response, &self.target) {
+            (Ok(request), Ok(response), Ok(target)) => {
+                let appended = appends(request, response, target, what, &mut self.out);
+                done(appended, &self.out, before, text)
+            }
+            _ => Answer::Wrong,
         }
     }
-}
-
-fn is_done(answer: Answer) -> bool {
-    matches!(answer, Answer::Right)
-}
-
-/// Whether the text is what is appended twice with memory enough.
-fn is_right<'a>(ample: Alloc<'a>, appending: &Appending<'a>) -> bool {
-    let mut wanted = Vec::new(ample);
-    is_done(append(&appending.sources, appending.what, &mut wanted))
-        && is_done(append(&appending.sources, appending.what, &mut wanted))
-        && wanted.as_slice() == appending.out.as_slice()
 }
 
 /// Whether it is appended twice, and rightly.
-fn goes_twice<'a>(heap: Heap<'a>, mut appending: Appending<'a>) -> bool {
-    heap.insist(&mut appending) && heap.insist(&mut appending) && is_right(heap.ample, &appending)
+fn goes_twice(heap: Heap<'_>, appending: &mut Appending<'_>) -> bool {
+    heap.insist(appending) && heap.insist(appending)
 }
 
-impl Play for Written {
+impl Play for Case {
     fn play(&self, heap: Heap<'_>) -> bool {
-        match given(heap.ample, REQUEST) {
-            Some(sources) => goes_twice(
-                heap,
-                Appending {
-                    sources,
-                    what: *self,
-                    out: Vec::new(heap.scarce),
-                },
-            ),
-            None => false,
-        }
+        let mut appending = Appending {
+            request: read(heap.ample, REQUEST),
+            response: read(heap.ample, MOVED),
+            target: target(heap.ample),
+            case: *self,
+            out: Vec::new(heap.scarce),
+        };
+        let well = goes_twice(heap, &mut appending);
+        discard(appending);
+        well
     }
 }
 
-/// Each text, and what it is called.
-const TEXTS: [(Written, &str); 10] = [
-    (Written::RequestUri, "request_uri"),
-    (Written::TargetKey, "target_key"),
-    (Written::Branch, "write_branch"),
-    (Written::RequestKey, "append_request_key"),
-    (Written::Message, "write"),
-    (Written::Generated, "write_generated"),
-    (Written::Upward, "write_upward"),
-    (Written::Forwarded, "write_forwarded"),
-    (Written::ForwardedAck, "write_forwarded_ack"),
-    (Written::ForwardedCancel, "write_forwarded_cancel"),
+/// What is appended, its text, and the call's name.
+type Row = (Written, &'static [u8], &'static str);
+
+const ROWS: &[Row] = &[
+    (Written::RequestUri, REQUEST_URI, "request_uri"),
+    (Written::TargetKey, TARGET_KEY, "target_key"),
+    (Written::Branch, BRANCH_TEXT, "write_branch"),
+    (Written::RequestKey, REQUEST_KEY, "append_request_key"),
+    (Written::Message, MOVED, "write"),
+    (Written::Generated, BAD_REQUEST, "write_generated"),
+    (Written::Upward, UPWARD, "write_upward"),
+    (Written::Forwarded, FORWARDED, "write_forwarded"),
+    (Written::ForwardedAck, FORWARDED_ACK, "write_forwarded_ack"),
+    (
+        Written::ForwardedCancel,
+        FORWARDED_CANCEL,
+        "write_forwarded_cancel",
+    ),
 ];
 
 #[test]
 fn texts_are_appended(rt: HostRuntime) {
-    for (what, name) in TEXTS {
-        plays(&rt, &what, 0, name);
+    for &(what, text, name) in ROWS {
+        plays(&rt, &Case { what, text }, 0, name);
     }
 }

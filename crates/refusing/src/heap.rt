@@ -28,7 +28,7 @@ pub struct Heap<'a> {
 }
 
 /// What a call answered while memory was refused.
-#[derive(Clone, Copy)]
+#[derive(Clone, Copy, PartialEq, Eq)]
 pub enum Answer {
     /// What it answers with memory, and rightly.
     Right,
@@ -43,6 +43,15 @@ impl Answer {
     pub fn of(is_right: bool) -> Answer {
         if is_right {
             Answer::Right
+        } else {
+            Answer::Wrong
+        }
+    }
+
+    /// The answer of a call that failed, and said that it was refused or something else.
+    pub fn failed(is_refused: bool) -> Answer {
+        if is_refused {
+            Answer::NoMemory
         } else {
             Answer::Wrong
         }
@@ -66,25 +75,25 @@ pub trait Play {
 }
 
 /// A call that keeps nothing, and where it takes its memory.
-#[derive(Clone, Copy)]
-struct Attempted<'a, C> {
-    call: C,
+#[derive(Drop)]
+struct Attempted<'c, 'a, C> {
+    call: &'c C,
     heap: Heap<'a>,
 }
 
-impl<C: Stateless + Copy> Repeated for Attempted<'_, C> {
+impl<C: Stateless> Repeated for Attempted<'_, '_, C> {
     fn attempt(&mut self) -> Answer {
         self.call.answer(self.heap)
     }
 }
 
 /// The play of one call that keeps nothing.
-#[derive(Clone, Copy)]
-pub struct Single<C> {
-    pub call: C,
+#[derive(Drop)]
+pub struct Single<'c, C> {
+    pub call: &'c C,
 }
 
-impl<C: Stateless + Copy> Play for Single<C> {
+impl<C: Stateless> Play for Single<'_, C> {
     fn play(&self, heap: Heap<'_>) -> bool {
         heap.insist(&mut Attempted {
             call: self.call,
@@ -134,37 +143,44 @@ impl<'a> Heap<'a> {
     }
 }
 
-/// How many growths a play has, and of how many the refusal was told. Where it was not, the call did without.
-#[derive(Clone, Copy)]
-pub struct Refusals {
-    pub growths: u64,
-    pub told: u64,
+/// Of how many growths no call told that they were refused. None where there was no growth.
+fn untold(growths: u64, told: u64) -> Option<u64> {
+    if growths > 0 {
+        Some(growths.saturating_sub(told))
+    } else {
+        None
+    }
 }
 
-/// Plays again and again: growth 1 is refused, then growth 2, and so on, until none is. None where a play goes wrong.
-pub fn refused_once<P: Play>(alloc: Global, play: &P) -> Option<Refusals> {
-    let scarce = Refusing::new(alloc);
-    let ample = Refusing::new(alloc);
-    let told = AtomicU64::new(0);
-    let heap = Heap {
-        scarce: &scarce,
-        ample: &ample,
-        told: &told,
-        order: Order::Once,
-    };
+/// Plays again and again, until no growth is refused.
+fn each_refused<P: Play>(heap: Heap<'_>, play: &P) -> Option<u64> {
     for number in 1..MOST {
-        scarce.refuse_one(number);
+        heap.scarce.refuse_one(number);
         if !play.play(heap) {
             return None;
         }
-        if scarce.refused() == 0 {
-            return Some(Refusals {
-                growths: number - 1,
-                told: told.load(Ordering::SeqCst),
-            });
+        if heap.scarce.refused() == 0 {
+            return untold(number - 1, heap.told.load(Ordering::SeqCst));
         }
     }
     None
+}
+
+/// Plays again and again: growth 1 is refused, then growth 2, and so on, until none is. How many growths were done without,
+/// as no call told that they were refused; None where a play goes wrong, or nothing grows.
+pub fn refused_once<P: Play>(alloc: Global, play: &P) -> Option<u64> {
+    let scarce = Refusing::new(alloc);
+    let ample = Refusing::new(alloc);
+    let told = AtomicU64::new(0);
+    each_refused(
+        Heap {
+            scarce: &scarce,
+            ample: &ample,
+            told: &told,
+            order: Order::Once,
+        },
+        play,
+    )
 }
 
 /// Plays once with memory enough: whether each call answered what it should.
@@ -180,22 +196,17 @@ pub fn refused_never<P: Play>(alloc: Global, play: &P) -> bool {
     })
 }
 
-/// Plays once, where memory ends at each growth of each call. None where that goes wrong.
-pub fn refused_always<P: Play>(alloc: Global, play: &P) -> Option<Refusals> {
+/// Plays once, where memory ends at each growth of each call: whether some call told that it was refused, and each answered
+/// what it should.
+pub fn refused_always<P: Play>(alloc: Global, play: &P) -> bool {
     let scarce = Refusing::new(alloc);
     let ample = Refusing::new(alloc);
     let told = AtomicU64::new(0);
-    let heap = Heap {
+    let goes = play.play(Heap {
         scarce: &scarce,
         ample: &ample,
         told: &told,
         order: Order::Always,
-    };
-    if !play.play(heap) {
-        return None;
-    }
-    Some(Refusals {
-        growths: scarce.refused_ever(),
-        told: told.load(Ordering::SeqCst),
-    })
+    });
+    goes && told.load(Ordering::SeqCst) > 0
 }

@@ -6,7 +6,6 @@ pub mod heap;
 pub mod refusing;
 
 pub use heap::{
-    Answer, Heap, Play, Refusals, Repeated, Single, Stateless, refused_always, refused_never,
-    refused_once,
+    Answer, Heap, Play, Repeated, Single, Stateless, refused_always, refused_never, refused_once,
 };
 pub use refusing::Refusing;

@@ -9,7 +9,6 @@ struct Counter {
     last: AtomicU64,
     asked: AtomicU64,
     refused: AtomicU64,
-    total: AtomicU64,
     /// 1 while growths are neither counted nor refused, else 0.
     spared: AtomicU64,
 }
@@ -22,7 +21,6 @@ impl Counter {
             last: AtomicU64::new(0),
             asked: AtomicU64::new(0),
             refused: AtomicU64::new(0),
-            total: AtomicU64::new(0),
             spared: AtomicU64::new(0),
         }
     }
@@ -45,7 +43,6 @@ impl Counter {
             return false;
         }
         self.refused.fetch_add(1, Ordering::SeqCst);
-        self.total.fetch_add(1, Ordering::SeqCst);
         true
     }
 }
@@ -95,11 +92,6 @@ impl<B> Refusing<B> {
     /// How many growths were refused since it was told last which to refuse.
     pub fn refused(&self) -> u64 {
         self.counter.refused.load(Ordering::SeqCst)
-    }
-
-    /// How many growths were refused at all.
-    pub fn refused_ever(&self) -> u64 {
-        self.counter.total.load(Ordering::SeqCst)
     }
 }
 
