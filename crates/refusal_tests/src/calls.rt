@@ -62,7 +62,6 @@ fn opened_by<'a>(
     request: Message<Alloc<'a>>,
 ) -> Opened<'a> {
     if !is_openable(&request) {
-        discard(request);
         return Err(Answer::Wrong);
     }
     let call = Call::open(heap.scarce, global, setup, 3, request, CALLER, 0);
@@ -198,11 +197,7 @@ impl Playing<'_> {
     /// The next thing that is due: whether it is what the turn says.
     fn pumps(&mut self) -> Answer {
         match self.call.pump(self.now) {
-            Ok(step) => {
-                let answer = Answer::of(is_right(&self.call, &step, self.turn));
-                discard(step);
-                answer
-            }
+            Ok(step) => Answer::of(is_right(&self.call, &step, self.turn)),
             Err(_) => Answer::NoMemory,
         }
     }
@@ -464,22 +459,37 @@ fn goes(
     plays(rt, &history, 0, what);
 }
 
+/// What happens to a call, and what that is called.
+type Row = (&'static [Moment], &'static str);
+
+/// The calls of an OPTIONS request.
+const ASKED: &[Row] = &[
+    (FAILING, "an OPTIONS request that is answered 404"),
+    (LOST, "an OPTIONS request that cannot be sent"),
+    (ANSWERED, "an OPTIONS request that is answered"),
+];
+
+fn asked() -> &'static [Row] {
+    ASKED
+}
+
+/// The calls of an INVITE.
+const INVITED: &[Row] = &[
+    (CANCELLED, "an INVITE that is cancelled"),
+    (NEVER_SENT, "an INVITE that cannot be sent"),
+    (ALL_LOST, "an INVITE of which all is lost"),
+];
+
+fn invited() -> &'static [Row] {
+    INVITED
+}
+
 #[test]
 fn calls_go_on(rt: HostRuntime) {
-    goes(
-        &rt,
-        OPTIONS,
-        FAILING,
-        "an OPTIONS request that is answered 404",
-    );
-    goes(&rt, INVITE, CANCELLED, "an INVITE that is cancelled");
-    goes(&rt, OPTIONS, LOST, "an OPTIONS request that cannot be sent");
-    goes(&rt, INVITE, NEVER_SENT, "an INVITE that cannot be sent");
-    goes(
-        &rt,
-        OPTIONS,
-        ANSWERED,
-        "an OPTIONS request that is answered",
-    );
-    goes(&rt, INVITE, ALL_LOST, "an INVITE of which all is lost");
+    for &(moments, what) in asked() {
+        goes(&rt, OPTIONS, moments, what);
+    }
+    for &(moments, what) in invited() {
+        goes(&rt, INVITE, moments, what);
+    }
 }

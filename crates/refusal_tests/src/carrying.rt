@@ -87,74 +87,65 @@ const CANCELLED: &[Moment] = &[
     (1800, Turn::Carries(1)),
 ];
 
-/// A call that is carried: what it is set up with, the request that opens it, what happens then, and where what it is to send
-/// begins.
-#[derive(Clone, Copy)]
-struct Carried {
-    setup: &'static [u8],
-    request: &'static [u8],
-    moments: &'static [Moment],
-    begins: usize,
-}
-
-const TO_FIVE: Carried = Carried {
-    setup: FORK_SETUP,
-    request: INVITE,
-    moments: FORK,
-    begins: wanted::FORK,
-};
-
-const ASKED: Carried = Carried {
-    setup: SETUP,
-    request: OPTIONS,
-    moments: FAILING,
-    begins: wanted::OPTIONS,
-};
-
-const TO_ONE: Carried = Carried {
-    setup: SETUP,
-    request: INVITE,
-    moments: CANCELLED,
-    begins: wanted::INVITE,
-};
-
-/// The call whose send of this number fails; where that is 0, none does.
-fn history(global: Global, carried: &Carried, fails: u64) -> History {
+/// The call to five targets whose send of this number fails; where that is 0, none does.
+fn to_five(global: Global, fails: u64) -> History {
     History {
         global,
-        setup: carried.setup,
-        request: carried.request,
-        moments: carried.moments,
-        begins: carried.begins,
+        setup: FORK_SETUP,
+        request: INVITE,
+        moments: FORK,
+        begins: wanted::FORK,
         fails,
     }
 }
 
-/// Calls, and what each is called.
-const CALLS: &[(Carried, &str)] = &[
-    (TO_FIVE, "an INVITE to five targets"),
-    (ASKED, "an OPTIONS request that is carried"),
-    (TO_ONE, "an INVITE that is carried"),
-];
+/// The call of an OPTIONS request whose send of this number fails; where that is 0, none does.
+fn asked(global: Global, fails: u64) -> History {
+    History {
+        global,
+        setup: SETUP,
+        request: OPTIONS,
+        moments: FAILING,
+        begins: wanted::OPTIONS,
+        fails,
+    }
+}
+
+/// The call to one target.
+fn to_one(global: Global) -> History {
+    History {
+        global,
+        setup: SETUP,
+        request: INVITE,
+        moments: CANCELLED,
+        begins: wanted::INVITE,
+        fails: 0,
+    }
+}
 
 #[test]
 fn a_carry_goes_on_where_it_was_refused(rt: HostRuntime) {
-    for (carried, name) in CALLS {
-        plays(&rt, &history(rt.alloc(), carried, 0), 0, *name);
-    }
+    plays(&rt, &to_five(rt.alloc(), 0), 0, "an INVITE to five targets");
+    plays(
+        &rt,
+        &asked(rt.alloc(), 0),
+        0,
+        "an OPTIONS request that is carried",
+    );
+    plays(&rt, &to_one(rt.alloc()), 0, "an INVITE that is carried");
 }
 
 #[test]
 fn a_send_that_fails_loses_that_datagram_alone(rt: HostRuntime) {
     // (with memory enough the call is told of the loss; where memory ends at each growth it is not told of a request's)
     for fails in 1..=wanted::FORK_SENDS {
-        let history = history(rt.alloc(), &TO_FIVE, fails);
+        let history = to_five(rt.alloc(), fails);
         let is_right = refused_never(rt.alloc(), &history);
         let well = is_right && refused_always(rt.alloc(), &history);
         holds(&rt, well, "an INVITE to five targets of which a send fails");
     }
     for fails in 1..=wanted::OPTIONS_SENDS {
-        let history = history(rt.alloc(), &ASKED, fails);
+        let history = asked(rt.alloc(), fails);
         plays(&rt, &history, 0, "an OPTIONS request of which a send fails");
     }
 }

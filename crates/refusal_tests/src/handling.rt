@@ -156,12 +156,12 @@ type Calls<'a> = Shelf<Call<Alloc<'a>>, Alloc<'a>>;
 
 /// What takes datagrams.
 #[derive(Drop)]
-struct Proxy<'a, R> {
-    rt: &'a R,
+struct Proxy<'s, 'a, R> {
+    rt: &'s R,
     scarce: Alloc<'a>,
     global: Global,
-    shelf: Calls<'a>,
-    setup: Setup<Alloc<'a>>,
+    shelf: &'s Calls<'a>,
+    setup: &'s Setup<Alloc<'a>>,
     port: Counting,
     packet: &'static [u8],
     source: Hop,
@@ -219,11 +219,9 @@ fn carries<R: Wait>(rt: &R, shelf: &Calls<'_>, port: &mut Counting) -> Answer {
     }
 }
 
-impl<R: Wait> Proxy<'_, R> {
-    /// The datagram is handled; where that is refused nothing is sent, and the call is as it was, or not open.
-    fn handles(&mut self) -> Answer {
-        let sends = self.port.sends;
-        let before = shows(self.rt, &self.shelf, &mut self.port, false);
+impl<R: Wait> Proxy<'_, '_, R> {
+    /// What becomes of the datagram, where that is not refused.
+    fn handled(&mut self) -> Option<Handled> {
         let memory = Memory {
             alloc: self.scarce,
             heap: self.global,
@@ -233,28 +231,35 @@ impl<R: Wait> Proxy<'_, R> {
             source: self.source,
             now: 0,
         };
-        let handled = handle(
+        handle(
             self.rt,
             memory,
-            &self.shelf,
-            &self.setup,
+            self.shelf,
+            self.setup,
             received,
             &mut self.port,
-        );
-        match handled {
-            Ok(handled) => Answer::of(handled == self.wanted),
-            Err(_) => {
-                let after = shows(self.rt, &self.shelf, &mut self.port, false);
+        )
+        .ok()
+    }
+
+    /// The datagram is handled; where that is refused nothing is sent, and the call is as it was, or not open.
+    fn handles(&mut self) -> Answer {
+        let sends = self.port.sends;
+        let before = shows(self.rt, self.shelf, &mut self.port, false);
+        match self.handled() {
+            Some(handled) => Answer::of(handled == self.wanted),
+            None => {
+                let after = shows(self.rt, self.shelf, &mut self.port, false);
                 Answer::failed(self.port.sends == sends && after == before)
             }
         }
     }
 }
 
-impl<R: Wait> Repeated for Proxy<'_, R> {
+impl<R: Wait> Repeated for Proxy<'_, '_, R> {
     fn attempt(&mut self) -> Answer {
         if self.carrying {
-            carries(self.rt, &self.shelf, &mut self.port)
+            carries(self.rt, self.shelf, &mut self.port)
         } else {
             self.handles()
         }
@@ -270,7 +275,7 @@ struct Packets<'r, R> {
 }
 
 /// Whether a datagram becomes what it is to become, and so many were sent once its call was carried.
-fn is_handled<R: Wait>(heap: Heap<'_>, proxy: &mut Proxy<'_, R>, packet: Packet) -> bool {
+fn is_handled<R: Wait>(heap: Heap<'_>, proxy: &mut Proxy<'_, '_, R>, packet: Packet) -> bool {
     let (text, source, wanted, sends) = packet;
     proxy.packet = text;
     proxy.source = source;
@@ -282,7 +287,7 @@ fn is_handled<R: Wait>(heap: Heap<'_>, proxy: &mut Proxy<'_, R>, packet: Packet)
 }
 
 /// Whether that is so of each datagram.
-fn all_handled<R: Wait>(heap: Heap<'_>, proxy: &mut Proxy<'_, R>, list: &[Packet]) -> bool {
+fn all_handled<R: Wait>(heap: Heap<'_>, proxy: &mut Proxy<'_, '_, R>, list: &[Packet]) -> bool {
     let mut well = true;
     for packet in list {
         well = well && is_handled(heap, proxy, *packet);
@@ -293,9 +298,9 @@ fn all_handled<R: Wait>(heap: Heap<'_>, proxy: &mut Proxy<'_, R>, list: &[Packet
 /// Whether it is so with this configuration, where no call is open yet.
 fn are_handled<'a, R: Wait>(
     heap: Heap<'a>,
-    packets: &Packets<'a, R>,
-    setup: Setup<Alloc<'a>>,
-    shelf: Calls<'a>,
+    packets: &Packets<'_, R>,
+    setup: &Setup<Alloc<'a>>,
+    shelf: &Calls<'a>,
 ) -> bool {
     let mut proxy = Proxy {
         rt: packets.rt,
@@ -309,29 +314,30 @@ fn are_handled<'a, R: Wait>(
         wanted: Handled::Dropped,
         carrying: false,
     };
-    let well = all_handled(heap, &mut proxy, packets.list);
-    discard(proxy);
-    well
+    all_handled(heap, &mut proxy, packets.list)
 }
 
 /// Whether it is so with this configuration.
-fn start<'a, R: Wait>(heap: Heap<'a>, packets: &Packets<'a, R>, setup: Setup<Alloc<'a>>) -> bool {
+fn start<'a, R: Wait>(heap: Heap<'a>, packets: &Packets<'_, R>, setup: &Setup<Alloc<'a>>) -> bool {
     // (a new shelf grows nothing)
-    match Shelf::new(heap.scarce) {
+    let shelf = Shelf::new(heap.scarce);
+    let well = match &shelf {
         Ok(shelf) => are_handled(heap, packets, setup, shelf),
-        Err(_) => {
-            discard(setup);
-            false
-        }
-    }
+        Err(_) => false,
+    };
+    discard(shelf);
+    well
 }
 
 impl<R: Wait> Play for Packets<'_, R> {
     fn play(&self, heap: Heap<'_>) -> bool {
-        match set_up(heap.ample, SETUP) {
+        let setup = set_up(heap.ample, SETUP);
+        let well = match &setup {
             Ok(setup) => start(heap, self, setup),
             Err(_) => false,
-        }
+        };
+        discard(setup);
+        well
     }
 }
 
@@ -341,9 +347,13 @@ const LISTS: &[(&[Packet], &str)] = &[
     (CANCELLED, "an INVITE that is cancelled"),
 ];
 
+fn lists() -> &'static [(&'static [Packet], &'static str)] {
+    LISTS
+}
+
 #[test]
 fn datagrams_are_handled(rt: HostRuntime) {
-    for &(list, what) in LISTS {
+    for &(list, what) in lists() {
         let packets = Packets {
             rt: &rt,
             global: rt.alloc(),

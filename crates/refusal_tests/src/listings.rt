@@ -1,5 +1,4 @@
 //! Listings that are checked while memory is refused.
-use crate::answers::discard;
 use crate::plays::plays;
 use crate::sources::Alloc;
 use crate::texts::{BEST_LISTING, LATE_LISTING};
@@ -60,13 +59,10 @@ impl Repeated for Checking<'_> {
 
 impl Play for Listing {
     fn play(&self, heap: Heap<'_>) -> bool {
-        let mut checking = Checking {
+        heap.insist(&mut Checking {
             arena: Bump::new(heap.scarce),
             listing: *self,
-        };
-        let well = heap.insist(&mut checking);
-        discard(checking);
-        well
+        })
     }
 }
 

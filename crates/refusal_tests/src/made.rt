@@ -6,7 +6,6 @@ use crate::plays::{calls, plays};
 use crate::sources::{
     Alloc, BRANCH, MOVED, OWN, REQUEST, ROUTED, SOURCE, Wanted, is_written_as, read, target,
 };
-use fork_rank::Challenge;
 use refusing::{Answer, Heap, Play, Repeated, Stateless};
 use sip_build::OwnStatus;
 use sip_message::{ack_of, cancel_of, forward, generated, mark_received, strip_route, upward};
@@ -38,11 +37,10 @@ struct Case {
 /// The response goes up with a contact that was kept.
 fn moved<'a>(heap: Heap<'a>, response: &Message<Alloc<'a>>, wanted: Wanted) -> Answer {
     let kept: [&[u8]; 1] = [b"<sip:d@192.0.2.7>"];
-    let none: [Challenge<Alloc<'a>>; 0] = [];
     judged(
         heap,
         &wanted,
-        upward(heap.scarce, response, Some(&kept), &none),
+        upward(heap.scarce, response, Some(&kept), &[]),
         BuildFault::NoMemory,
     )
 }
@@ -189,10 +187,14 @@ const ROWS: &[Row] = &[
     (Making::Cancel, REQUEST, CANCEL, "cancel_of"),
 ];
 
+fn rows() -> &'static [Row] {
+    ROWS
+}
+
 #[test]
 fn messages_are_made_of_others(rt: HostRuntime) {
     plays(&rt, &InPlace, 0, "add_received");
-    for &(making, of, text, name) in ROWS {
+    for &(making, of, text, name) in rows() {
         let wanted = Wanted { text };
         calls(&rt, &Case { making, of, wanted }, 0, name);
     }

@@ -30,15 +30,15 @@ fn slot_of(number: u64) -> Slot
 
 /// A value is put under a key, which is unknown where that is refused.
 #[derive(Drop)]
-struct Putting<'a, R> {
-    rt: &'a R,
-    shelf: Shelf<Slot, Alloc<'a>>,
+struct Putting<'s, 'a, R> {
+    rt: &'s R,
+    shelf: &'s Shelf<Slot, Alloc<'a>>,
     key: &'static [u8],
     /// The number that it is to get.
     number: u64,
 }
 
-impl<R: Wait> Repeated for Putting<'_, R> {
+impl<R: Wait> Repeated for Putting<'_, '_, R> {
     fn attempt(&mut self) -> Answer {
         let put: Result<u64, ShelfFault<u8>> = self
             .shelf
@@ -61,7 +61,7 @@ struct Keys<'r, R> {
 const NAMES: &[&[u8]] = &[b"one", b"two", b"three", b"four", b"five", b"six"];
 
 /// Whether the values get rising numbers, and there are no others.
-fn all_put<R: Wait>(heap: Heap<'_>, putting: &mut Putting<'_, R>) -> bool {
+fn all_put<R: Wait>(heap: Heap<'_>, putting: &mut Putting<'_, '_, R>) -> bool {
     let mut next = 0u64;
     let mut well = true;
     for key in NAMES {
@@ -73,26 +73,27 @@ fn all_put<R: Wait>(heap: Heap<'_>, putting: &mut Putting<'_, R>) -> bool {
     well && putting.shelf.count(putting.rt) == next
 }
 
-/// Whether it is so of a new shelf.
-fn are_put<'a, R: Wait>(heap: Heap<'a>, rt: &'a R, shelf: Shelf<Slot, Alloc<'a>>) -> bool {
+/// Whether it is so of this shelf.
+fn are_put<R: Wait>(heap: Heap<'_>, rt: &R, shelf: &Shelf<Slot, Alloc<'_>>) -> bool {
     let mut putting = Putting {
         rt,
         shelf,
         key: b"",
         number: 0,
     };
-    let well = all_put(heap, &mut putting);
-    discard(putting);
-    well
+    all_put(heap, &mut putting)
 }
 
 impl<R: Wait> Play for Keys<'_, R> {
     fn play(&self, heap: Heap<'_>) -> bool {
         // (a new shelf grows nothing)
-        match Shelf::new(heap.scarce) {
+        let shelf = Shelf::new(heap.scarce);
+        let well = match &shelf {
             Ok(shelf) => are_put(heap, self.rt, shelf),
             Err(_) => false,
-        }
+        };
+        discard(shelf);
+        well
     }
 }
 
@@ -116,10 +117,7 @@ fn passes_one<R: Wait>(
 /// What the inbox with these ends comes to.
 fn passes<R: Wait>(rt: &R, ends: Ends<'_>) -> Answer {
     let (mut giving, mut receiving) = ends;
-    let answer = Answer::of(passes_one(rt, &mut giving, &mut receiving));
-    discard(giving);
-    discard(receiving);
-    answer
+    Answer::of(passes_one(rt, &mut giving, &mut receiving))
 }
 
 /// An inbox of numbers is made.

@@ -62,6 +62,15 @@ fn forwards<'a>(
     }
 }
 
+/// Appends a URI, a key or a branch; whether it was appended.
+fn spells<'a>(target: &SipUri<Alloc<'a>>, what: Written, out: &mut Vec<u8, Alloc<'a>>) -> bool {
+    match what {
+        Written::RequestUri => target.request_uri(out).is_ok(),
+        Written::TargetKey => target.target_key(out).is_ok(),
+        _ => write_branch(&BRANCH, out).is_ok(),
+    }
+}
+
 /// Appends it; whether it was appended.
 fn appends<'a>(
     request: &Message<Alloc<'a>>,
@@ -71,9 +80,7 @@ fn appends<'a>(
     out: &mut Vec<u8, Alloc<'a>>,
 ) -> bool {
     match what {
-        Written::RequestUri => target.request_uri(out).is_ok(),
-        Written::TargetKey => target.target_key(out).is_ok(),
-        Written::Branch => write_branch(&BRANCH, out).is_ok(),
+        Written::RequestUri | Written::TargetKey | Written::Branch => spells(target, what, out),
         Written::RequestKey => append_request_key(out, request).is_ok(),
         Written::Message => response.write(out).is_ok(),
         Written::Generated => write_generated(request, OwnStatus::BadRequest, out).is_ok(),
