@@ -56,23 +56,24 @@ fn sent_along<'a>(
     if !has_hops(request) {
         return Answer::Wrong;
     }
+    let wanted = &case.wanted;
     match request.start() {
         Start::Request { .. } => match case.making {
             Making::Forwarded => judged(
                 heap,
-                &case.wanted,
+                wanted,
                 forward(heap.scarce, request, target, OWN, &BRANCH),
                 BuildFault::NoMemory,
             ),
             Making::Ack => judged(
                 heap,
-                &case.wanted,
+                wanted,
                 ack_of(heap.scarce, request, response),
                 BuildFault::NoMemory,
             ),
             _ => judged(
                 heap,
-                &case.wanted,
+                wanted,
                 cancel_of(heap.scarce, request),
                 BuildFault::NoMemory,
             ),
@@ -94,22 +95,23 @@ fn along<'a>(heap: Heap<'a>, request: &Message<Alloc<'a>>, case: Case) -> Answer
 }
 
 fn made<'a>(heap: Heap<'a>, of: &Message<Alloc<'a>>, case: Case) -> Answer {
+    let wanted = &case.wanted;
     match case.making {
         Making::Marked => judged(
             heap,
-            &case.wanted,
+            wanted,
             mark_received(heap.scarce, of, SOURCE),
             ViaFault::NoMemory,
         ),
         Making::Stripped => judged(
             heap,
-            &case.wanted,
+            wanted,
             strip_route(heap.scarce, of, OWN),
             BuildFault::NoMemory,
         ),
         Making::Generated => judged(
             heap,
-            &case.wanted,
+            wanted,
             generated(heap.scarce, of, OwnStatus::Trying),
             BuildFault::NoMemory,
         ),

@@ -1,5 +1,5 @@
 //! Messages and a URI that are read, for calls that are made of them.
-use crate::answers::{Judge, answered};
+use crate::answers::{Judge, answered, discard};
 use refusing::{Answer, Heap, Refusing};
 use sip_text::{Message, ReadFault};
 use sip_uri::{Hop, SipUri, UriFault};
@@ -50,8 +50,11 @@ const URI: &[u8] = b"sip:bob@192.0.2.4:5062;transport=udp;Method=INVITE?Subject=
 pub fn read<'a>(alloc: Alloc<'a>, text: &[u8]) -> Result<Message<Alloc<'a>>, Answer> {
     match Message::read(alloc, text) {
         Ok(message) => Ok(message),
-        Err(ReadFault::NoMemory) => Err(Answer::NoMemory),
-        Err(_) => Err(Answer::Wrong),
+        Err(fault) => {
+            let is_refused = matches!(fault, ReadFault::NoMemory);
+            discard(fault);
+            Err(Answer::failed(is_refused))
+        }
     }
 }
 
