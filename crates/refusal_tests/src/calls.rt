@@ -469,6 +469,7 @@ const ASKED: &[Row] = &[
     (ANSWERED, "an OPTIONS request that is answered"),
 ];
 
+/// They stand in a function of their own: a proof reads a constant wherever it is named, once for each call beside it.
 fn asked() -> &'static [Row] {
     ASKED
 }
@@ -480,6 +481,7 @@ const INVITED: &[Row] = &[
     (ALL_LOST, "an INVITE of which all is lost"),
 ];
 
+/// The same of these.
 fn invited() -> &'static [Row] {
     INVITED
 }

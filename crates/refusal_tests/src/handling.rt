@@ -347,6 +347,7 @@ const LISTS: &[(&[Packet], &str)] = &[
     (CANCELLED, "an INVITE that is cancelled"),
 ];
 
+/// They stand in a function of their own: a proof reads a constant wherever it is named, once for each call beside it.
 fn lists() -> &'static [(&'static [Packet], &'static str)] {
     LISTS
 }

@@ -189,6 +189,7 @@ const ROWS: &[Row] = &[
     (Making::Cancel, REQUEST, CANCEL, "cancel_of"),
 ];
 
+/// They stand in a function of their own: a proof reads a constant wherever it is named, once for each call beside it.
 fn rows() -> &'static [Row] {
     ROWS
 }
