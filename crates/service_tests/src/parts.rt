@@ -1,9 +1,9 @@
 //! What a service is made of below its threads.
 use crate::holds::holds;
 use daemon_parts::{
-    Counts, DaemonFault, Gauges, Identity, Marks, Places, ProxyFiles, Sent, Socket, configuration_fault,
-    control_fault, metrics_fault, read_again, read_setup, read_text, resident_bytes,
-    resident_pages, socket_fault,
+    Counts, DaemonFault, Gauges, Identity, Marks, Places, ProxyFiles, Sent, Socket,
+    configuration_fault, control_fault, metrics_fault, read_again, read_setup, read_text,
+    resident_bytes, resident_pages, socket_fault,
 };
 use sip_uri::Hop;
 use sip_via::Own;
