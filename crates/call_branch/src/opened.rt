@@ -1,6 +1,5 @@
 //! What a call is opened with, and no step changes.
-ghost use Rattle.std.specs.Prelude.{◌≡◌, codes, IfOk, IfSome, true};
-ghost use Rattle.std.specs.Str.{bytes_eq};
+ghost use Rattle.std.specs.Prelude.{◌≡◌, IfOk, IfSome, true};
 ghost use Rattle.std.specs.Option.{option_map};
 ghost use Rattle.sip_text.specs.Name.{first_value};
 ghost use Rattle.sip_text.specs.Text.{spelling};
@@ -8,14 +7,14 @@ ghost use Rattle.sip_route.specs.Hops.{IsHops, hops_name};
 ghost use Rattle.sip_build.specs.Forwarding.{is_request};
 ghost use Rattle.fork_rank.specs.KindView as kinds;
 ghost use Rattle.call_model.specs.Built.{ack_to, cancel_to, request_to};
-ghost use Rattle.call_model.specs.OpenedRequest.{branch_at, is_invite, kind_of, method_of};
+ghost use Rattle.call_model.specs.OpenedRequest.{branch_at, is_invite, kind_of};
 ghost use Rattle.call_branch.specs.BranchInside.{ack_made};
 
 use crate::destination::Destination;
 use fork_rank::Kind;
 use sip_build::{write_forwarded, write_forwarded_ack, write_forwarded_cancel};
 use sip_route::loop_key;
-use sip_text::{Message, Start};
+use sip_text::Message;
 use sip_txn::TxSend;
 use sip_uri::Hop;
 use sip_via::{BranchName, Own};
@@ -48,16 +47,6 @@ impl<A: Allocator> Model for OpenedRequest<A> {
     ghost invariant = { λ f. IsOpenedRequest (record { number = f.number; own = f.own; instance = f.instance; request = f.request; caller = f.caller; route = f.route; is_responsible = f.is_responsible }) f.key f.invite };
 }
 
-/// Whether a request is an INVITE.
-fn is_invite<A: Allocator>(request: &Message<A>) -> bool
-    ensures { result ≡ bytes_eq (method_of request.now.start) (codes "INVITE") }
-{
-    match request.start() {
-        Start::Request { method, .. } => method.as_slice() == b"INVITE".as_slice(),
-        Start::Response { .. } => false,
-    }
-}
-
 impl<A: Allocator> OpenedRequest<A> {
     /// What a call of this number is opened with: the request as it was marked with its source and stripped of the
     /// proxy's own Route value, where its answers go, the hop of its first Route value, if it has one, and whether the
@@ -76,7 +65,7 @@ impl<A: Allocator> OpenedRequest<A> {
         ensures { result ≡ record { number = number; own = own; instance = instance; request = request; caller = caller; route = route; is_responsible = is_responsible } }
     {
         let key = loop_key(&request);
-        let invite = is_invite(&request);
+        let invite = request.is_invite();
         OpenedRequest {
             number,
             own,

@@ -1,7 +1,7 @@
 -- What a call is opened with, and no step changes (RFC 3261 sections 16.2 to 16.6).
-use Rattle.std.specs.Prelude.{ℕ, Bool, List, [], Option, Some, None, codes, if◌then◌else◌}
-use Rattle.std.specs.Str.{bytes_eq}
+use Rattle.std.specs.Prelude.{ℕ, Bool, List, [], Option, Some, None, if◌then◌else◌}
 use Rattle.fork_model.specs.Table.{Kind, Invite, Other}
+use Rattle.sip_text.specs.Method as methods
 use Rattle.sip_text.specs.Text.{MessageText, StartText, Request, Response}
 use Rattle.sip_uri.specs.declared.hop.Hop.{Hop}
 use Rattle.sip_uri.specs.Hop.{hop_of}
@@ -28,7 +28,7 @@ method_of (Request method uri) = method
 method_of (Response status reason) = []
 
 abbrev pub is_invite : OpenedRequest → Bool
-is_invite opened = bytes_eq (method_of opened.request.start) (codes "INVITE")
+is_invite opened = methods.is_invite (methods.known_method opened.request.start)
 
 abbrev pub kind_of : OpenedRequest → Kind
 kind_of opened = if is_invite opened then Invite else Other

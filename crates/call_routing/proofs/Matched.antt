@@ -1,5 +1,5 @@
 -- The branch that a message answers, and which transaction it is for.
-use Rattle.call_routing.proofs.Common.{◌≡◌, refl, List, ℕ, ◌<◌, Bool, true, false, Option, Some, None, sym, subst, ap, ◌∙◌, ◌&&◌, codes, same_Some, option_map, Own, top_value, message_cseq, Call, is_sent, OpenedRequest, method_of, MessageText}
+use Rattle.call_routing.proofs.Common.{◌≡◌, List, ℕ, ◌<◌, Bool, true, false, Option, Some, None, sym, subst, ap, ◌∙◌, ◌&&◌, codes, same_Some, option_map, Own, top_value, message_cseq, Call, is_sent, OpenedRequest, method_of, MessageText}
 use Rattle.call_routing.proofs.Common.{StartText, is_to_method}
 use Rattle.std.proofs.Common.{◌^◌}
 use Rattle.std.specs.Prelude.{◌==◌}
@@ -13,9 +13,12 @@ use Rattle.sip_via.specs.TopVia.{has_second, via_values}
 use Rattle.call_model.specs.Call.{is_cancel_sent}
 use Rattle.call_model.specs.OpenedRequest.{branch_at}
 use Rattle.call_model.specs.Take.{Server, ServerAck, ServerCancel, Client, CancelClient}
+use Rattle.sip_text.specs.declared.method.Method.{Method}
+use Rattle.sip_text.specs.declared.method.Method.TheVariants.{Ack, Cancel}
+use Rattle.sip_text.specs.Method.{known_method}
 use Rattle.sip_text.specs.Text.{Request, Response}
 use Rattle.call_routing.specs.Kinds.{is_request_of, is_response}
-use Rattle.call_routing.specs.Matching.{BelongsTo, BelongsToNone, Repeats}
+use Rattle.call_routing.specs.Matching.{BelongsTo, BelongsToNone}
 use Rattle.call_routing.specs.inner.Matching.{BelongsToNoBranch, BelongsToNoServer}
 
 pub numbered : (call : BranchName) (n : ℕ) → IsBranch call → n < 2 ^ 16 → IsBranch (record call { target = n })
@@ -106,16 +109,18 @@ module _ (call : Call) (m : MessageText) where
 
 -- ---- requests
 
-not_method : (opened : OpenedRequest) (method : List ℕ) (m : MessageText) → is_request_of method m.start ≡ false → Repeats opened method m → ⊥
-not_method opened method m e r = false≢true (sym e ∙ r.request)
+-- a response is no request, of whatever method
+not_request : (method : List ℕ) (start : StartText) → is_response start ≡ true → is_request_of method start ≡ true → ⊥
+not_request method (Request own uri) e h = absurd cc
+not_request method (Response status reason) e h = absurd cc
 
-is_no_request : (method : List ℕ) (start : StartText) → is_response start ≡ true → is_request_of method start ≡ false
-is_no_request method (Request own uri) e = absurd cc
-is_no_request method (Response status reason) e = refl
+not_known : (method : Method) (start : StartText) → is_response start ≡ true → known_method start ≡ Some method → ⊥
+not_known method (Request own uri) e h = absurd cc
+not_known method (Response status reason) e h = absurd cc
 
 pub no_request : (call : Call) (m : MessageText) → is_response m.start ≡ true → BelongsToNoServer call m
 no_request call m e = (
-  not_method call.opened (method_of call.opened.request.start) m (is_no_request _ m.start e),
-  not_method call.opened (codes "ACK") m (is_no_request _ m.start e),
-  not_method call.opened (codes "CANCEL") m (is_no_request _ m.start e),
+  λ b. not_request (method_of call.opened.request.start) m.start e b.request,
+  λ b. not_known Ack m.start e b.request,
+  λ b. not_known Cancel m.start e b.request,
 )

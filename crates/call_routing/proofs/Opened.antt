@@ -18,7 +18,7 @@ use Rattle.proxy_routing.specs.Targets.{choices, choices_by, hop_if_any, is_doma
 
 pub openable : (start other : StartText) → start ≡ other → IsOpenable other → is_request start ≡ true
 openable start (texts.Request method uri) e h = ap is_request e
-openable start (texts.Response status reason) e h = absurd h
+openable start (texts.Response status reason) e h = absurd cc
 
 pub turned_away : (setup : Setup) (m : MessageText) (source : Hop) (fault : RequestRejection) → IsTurnedAway setup.own m source fault → Refuses setup m source fault
 turned_away setup m source BadRequest h = h

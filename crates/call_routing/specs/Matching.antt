@@ -1,7 +1,9 @@
 -- Which transaction of a call a message belongs to (RFC 3261 sections 9.2, 16.7 steps 1 and 3, 17.1.3 and 17.2.3).
-use Rattle.std.specs.Prelude.{◌≡◌, ◌≢◌, ◌<◌, ◌^◌, ℕ, true, List, None, codes}
+use Rattle.std.specs.Prelude.{◌≡◌, ◌≢◌, ◌<◌, ◌^◌, ℕ, true, List, Some, None, codes}
+use Rattle.sip_text.specs.declared.method.Method.TheVariants.{Ack, Cancel}
 use Rattle.sip_text.specs.Fields.{message_cseq}
-use Rattle.sip_text.specs.Text.{MessageText}
+use Rattle.sip_text.specs.Method.{known_method}
+use Rattle.sip_text.specs.Text.{MessageText, StartText}
 use Rattle.sip_via.specs.OwnPass.{IsOwnBranch}
 use Rattle.sip_via.specs.TopVia.{has_second, top_value, via_values}
 use Rattle.sip_route.specs.RequestKey.{request_key}
@@ -12,9 +14,9 @@ use Rattle.call_model.specs.Take.{MatchedTransaction, Server, ServerAck, ServerC
 
 -- ---- requests
 
--- a request of that method with the key of the call's own request (section 17.2.3)
-pub record Repeats (opened : OpenedRequest) (method : List ℕ) (m : MessageText) : Type 0 where
-  pub request : is_request_of method m.start ≡ true
+-- a request that is such a one, with the key of the call's own request (section 17.2.3)
+pub record Repeats (opened : OpenedRequest) (IsSuch : StartText → Type 0) (m : MessageText) : Type 0 where
+  pub request : IsSuch m.start
   pub keyed : request_key m ≢ None
   pub same : request_key m ≡ request_key opened.request
 
@@ -31,12 +33,13 @@ pub record Answers (opened : OpenedRequest) (method : List ℕ) (n : ℕ) (m : M
 
 -- ---- the transactions of a call
 
--- a branch takes a response once its request was sent; one with a single Via value was meant for the proxy itself
+-- the caller's transaction takes the call's own request again, its ACK and its CANCEL (sections 9.2 and 17.2.3); a branch
+-- takes a response once its request was sent; one with a single Via value was meant for the proxy itself
 -- (section 16.7 step 3)
 abbrev pub BelongsTo : Call → MessageText → MatchedTransaction → Type 0
-BelongsTo call m Server = Repeats call.opened (method_of call.opened.request.start) m
-BelongsTo call m ServerAck = Repeats call.opened (codes "ACK") m
-BelongsTo call m ServerCancel = Repeats call.opened (codes "CANCEL") m
+BelongsTo call m Server = Repeats call.opened (λ start. is_request_of (method_of call.opened.request.start) start ≡ true) m
+BelongsTo call m ServerAck = Repeats call.opened (λ start. known_method start ≡ Some Ack) m
+BelongsTo call m ServerCancel = Repeats call.opened (λ start. known_method start ≡ Some Cancel) m
 BelongsTo call m (Client n) =
     Answers call.opened (method_of call.opened.request.start) n m
     × (has_second (via_values m) ≡ true)

@@ -1,10 +1,10 @@
 -- How a call opens, and why it does not (RFC 3261 sections 16.2 to 16.6).
-use Rattle.std.specs.Prelude.{◌≡◌, ◌≢◌, ℕ, true, false, List, [], Ok, codes}
+use Rattle.std.specs.Prelude.{◌≡◌, ◌≢◌, ℕ, true, false, List, [], Ok}
 use Rattle.std.specs.List.{list_all}
 use Rattle.fork_model.specs.History.{opening_rows}
 use Rattle.fork_model.specs.Table.{Rules}
 use Rattle.fork_model.specs.Log.{opening_log}
-use Rattle.sip_text.specs.Text as texts
+use Rattle.sip_text.specs.Method.{known_method, stands_alone}
 use Rattle.sip_text.specs.Text.{MessageText, StartText}
 use Rattle.sip_uri.specs.declared.hop.Hop.{Hop}
 use Rattle.sip_uri.specs.Uri.{Uri}
@@ -25,8 +25,7 @@ use Rattle.proxy_routing.specs.Targets.{Choice, choices, has_hop, hop_if_any, is
 
 -- a request that opens a call: neither an ACK nor a CANCEL (sections 9.2 and 17.2.1)
 abbrev pub IsOpenable : StartText → Type 0
-IsOpenable (texts.Request method uri) = (method ≢ codes "ACK") × (method ≢ codes "CANCEL")
-IsOpenable (texts.Response status reason) = ⊥
+IsOpenable start = stands_alone (known_method start) ≡ true
 
 -- what the request to this URI, as it was prepared, opens with; its answers go where its top Via value says (section
 -- 18.2.2), and the proxy is responsible for a URI of its domain (section 16.5)

@@ -14,7 +14,7 @@ ghost use Rattle.call_routing.specs.SeenMatchedTransaction.{seen_recipient};
 use crate::transaction::MatchedTransaction;
 use call_state::CallState;
 use sip_route::has_same_key;
-use sip_text::{Message, Start};
+use sip_text::{Message, Method, Start};
 use sip_via::{BranchName, Own, has_second_via, own_branch_of, top_via};
 use std::alloc::Allocator;
 
@@ -148,13 +148,11 @@ fn request_recipient<A: Allocator + Clone>(
     if is_request_of(message, opening_method(state)) {
         return Some(MatchedTransaction::Server);
     }
-    if is_request_of(message, b"ACK") {
-        return Some(MatchedTransaction::ServerAck);
+    match message.known_method() {
+        Some(Method::Ack) => Some(MatchedTransaction::ServerAck),
+        Some(Method::Cancel) => Some(MatchedTransaction::ServerCancel),
+        Some(Method::Invite | Method::Options | Method::Other) | None => None,
     }
-    if is_request_of(message, b"CANCEL") {
-        return Some(MatchedTransaction::ServerCancel);
-    }
-    None
 }
 
 /// The transaction of a call that a message is for, if there is one. A request is for the caller's transaction where it

@@ -27,7 +27,7 @@ use proxy_routing::{
     targets_of, validate_request,
 };
 use sip_route::{first_route, request_uri};
-use sip_text::{Message, Start};
+use sip_text::Message;
 use sip_uri::{Hop, SipUri, UriFault};
 use sip_via::reply_hop_of;
 use std::alloc::{AllocError, Allocator, Global};
@@ -240,12 +240,7 @@ fn open_prepared<A: Allocator + Clone>(
 pub fn is_openable<A: Allocator>(message: &Message<A>) -> bool
     ensures { IsTrue result ↔ IsOpenable message.now.start }
 {
-    match message.start() {
-        Start::Request { method, .. } => {
-            method.as_slice() != b"ACK".as_slice() && method.as_slice() != b"CANCEL".as_slice()
-        }
-        Start::Response { .. } => false,
-    }
+    message.stands_alone()
 }
 
 /// The state of the call that a request from `source` opens under this number; the request is neither an ACK nor a

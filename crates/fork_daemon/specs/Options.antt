@@ -1,8 +1,10 @@
 -- OPTIONS requests to the proxy itself (RFC 3261 sections 11 and 11.2).
-use Rattle.std.specs.Prelude.{◌≡◌, ℕ, Bool, true, false, ◌&&◌, List, Option, Some, None, Result, Ok, Err, is_none, codes}
-use Rattle.std.specs.Str.{bytes_eq}
+use Rattle.std.specs.Prelude.{◌≡◌, ℕ, Bool, true, false, ◌&&◌, List, Option, Some, None, Result, Ok, Err, is_none}
 use Rattle.sip_text.specs.Grammar.{IsText}
-use Rattle.sip_text.specs.Text.{MessageText, method_in}
+use Rattle.sip_text.specs.declared.method.Method.{Method}
+use Rattle.sip_text.specs.declared.method.Method.TheVariants as methods
+use Rattle.sip_text.specs.Method.{known_method}
+use Rattle.sip_text.specs.Text.{MessageText}
 use Rattle.sip_uri.specs.declared.fault.UriFault.{UriFault}
 use Rattle.sip_uri.specs.declared.hop.Hop.{Hop}
 use Rattle.sip_uri.specs.Uri.{Uri}
@@ -14,9 +16,9 @@ use Rattle.fork_call.specs.Carry.{Sends}
 use Rattle.sip_service.specs.Capabilities.{IsCapabilities}
 use Rattle.sip_service.specs.Outside.{is_outside_dialog}
 
-abbrev pub is_options : Option (List ℕ) → Bool
-is_options None = false
-is_options (Some method) = bytes_eq method (codes "OPTIONS")
+abbrev pub is_options : Option Method → Bool
+is_options (Some methods.Options) = true
+is_options _ = false
 
 -- a URI of the proxy itself names no user, and the proxy is responsible for it
 abbrev pub is_proxy : Setup → Uri → Bool
@@ -28,7 +30,7 @@ is_proxy_if_read setup (Err fault) = false
 
 -- an OPTIONS outside of a dialog whose Request-URI is such a URI
 abbrev pub asks_proxy : Setup → MessageText → Bool
-asks_proxy setup m = is_options (method_in m.start) && (is_outside_dialog m && is_proxy_if_read setup (target_uri m))
+asks_proxy setup m = is_options (known_method m.start) && (is_outside_dialog m && is_proxy_if_read setup (target_uri m))
 
 module _ {P : Type 0} (sends : Sends P) (setup : Setup) (packet : List ℕ) (source : Hop) (port : P) where
   -- the port is handed the 200 by one send

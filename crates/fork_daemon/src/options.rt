@@ -1,7 +1,8 @@
 //! OPTIONS requests to the proxy itself.
 ghost use Rattle.std.specs.Prelude.{◌≡◌, true, IfOk, OnErr};
 ghost use Rattle.sip_text.specs.Grammar.{IsText};
-ghost use Rattle.sip_text.specs.Text.{MessageText, method_in};
+ghost use Rattle.sip_text.specs.Method.{known_method};
+ghost use Rattle.sip_text.specs.Text.{MessageText};
 ghost use Rattle.fork_daemon.specs.Options.{IsAnsweredIf, asks_proxy, is_options, is_proxy, is_proxy_if_read};
 ghost use Rattle.sip_uri.specs.Reading.{read_uri};
 
@@ -9,16 +10,26 @@ use fork_call::{Cause, Datagram, Port, Setup};
 use proxy_routing::is_domain;
 use sip_route::request_uri;
 use sip_service::{capabilities, is_outside_dialog, message_in};
-use sip_text::Message;
+use sip_text::{Message, Method};
 use sip_uri::{Hop, SipUri, UriFault};
 use std::alloc::{AllocError, Allocator};
 
 /// Whether a text may spell an OPTIONS request, by its first bytes: the method stands at its front, or behind empty lines. It takes
 /// no memory.
 pub(crate) fn may_be_options(text: &[u8]) -> bool
-    ensures { (m : MessageText) → IsText text.now m → is_options (method_in m.start) ≡ true → result ≡ true }
+    ensures { (m : MessageText) → IsText text.now m → is_options (known_method m.start) ≡ true → result ≡ true }
 {
     text.starts_with(b"OPTIONS") || text.starts_with(b"\r\n")
+}
+
+/// Whether a message is an OPTIONS request.
+fn is_options<A: Allocator>(message: &Message<A>) -> bool
+    ensures { result ≡ is_options (known_method message.now.start) }
+{
+    match message.known_method() {
+        Some(Method::Options) => true,
+        Some(Method::Invite | Method::Ack | Method::Cancel | Method::Other) | None => false,
+    }
 }
 
 /// Whether a URI is the proxy's own: it names no user, and the proxy is responsible for it (RFC 3261 section 16.5).
@@ -51,7 +62,7 @@ fn asks_proxy<A: Allocator + Clone>(
 ) -> Result<bool, AllocError>
     ensures { IfOk result (λ asks. asks ≡ asks_proxy setup.now message.now) }
 {
-    if message.method() != Some(b"OPTIONS".as_slice()) || !is_outside_dialog(message) {
+    if !is_options(message) || !is_outside_dialog(message) {
         return Ok(false);
     }
     names_proxy(alloc, setup, request_uri(message))

@@ -1,21 +1,21 @@
 -- What a request is for (RFC 3261 sections 9.2, 16.10, 16.11 and 17.2.1).
-use Rattle.std.specs.Prelude.{ℕ, Bool, true, false, List, Option, Some, None, codes, if◌then◌else◌}
-use Rattle.std.specs.Str.{bytes_eq}
-use Rattle.sip_text.specs.Text.{StartText, Request, Response}
+use Rattle.std.specs.Prelude.{Bool, true, false, Option, Some, None, option_map}
+use Rattle.sip_text.specs.declared.method.Method.{Method}
+use Rattle.sip_text.specs.declared.method.Method.TheVariants as methods
+use Rattle.sip_text.specs.Method.{known_method}
+use Rattle.sip_text.specs.Text.{StartText}
 use Rattle.sip_text.specs.Reading.{Fault, Short}
 use Rattle.proxy_dispatch.specs.declared.purpose.Purpose.{Purpose}
 use Rattle.proxy_dispatch.specs.declared.purpose.Purpose.TheVariants.{Ack, Cancel, Opening}
 
-abbrev pub purpose_of_method : List ℕ → Purpose
-purpose_of_method method =
-    if bytes_eq method (codes "ACK") then Ack
-    else (if bytes_eq method (codes "CANCEL") then Cancel
-    else Opening)
+abbrev pub purpose_by : Method → Purpose
+purpose_by methods.Ack = Ack
+purpose_by methods.Cancel = Cancel
+purpose_by _ = Opening
 
 -- that of a request; a response has none
 abbrev pub purpose_of : StartText → Option Purpose
-purpose_of (Request method uri) = Some (purpose_of_method method)
-purpose_of (Response status reason) = None
+purpose_of start = option_map purpose_by (known_method start)
 
 -- a response is not answered, and neither is an ACK (section 17.1.1.3)
 abbrev pub is_answered : Option Purpose → Bool

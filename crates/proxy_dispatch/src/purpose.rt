@@ -1,8 +1,8 @@
 //! What a request is for.
 ghost use Rattle.std.specs.Prelude.{◌≡◌};
-ghost use Rattle.proxy_dispatch.specs.Purpose.{is_answered, purpose_of, purpose_of_method};
+ghost use Rattle.proxy_dispatch.specs.Purpose.{is_answered, purpose_by, purpose_of};
 
-use sip_text::{Message, Start};
+use sip_text::{Message, Method};
 use std::alloc::Allocator;
 
 /// What a request is for.
@@ -17,15 +17,13 @@ pub(crate) enum Purpose {
 }
 
 /// What a request of that method is for.
-fn purpose_of_method(method: &[u8]) -> Purpose
-    ensures { result ≡ purpose_of_method method.now }
+fn purpose_by(method: Method) -> Purpose
+    ensures { result ≡ purpose_by method }
 {
-    if method == b"ACK".as_slice() {
-        Purpose::Ack
-    } else if method == b"CANCEL".as_slice() {
-        Purpose::Cancel
-    } else {
-        Purpose::Opening
+    match method {
+        Method::Ack => Purpose::Ack,
+        Method::Cancel => Purpose::Cancel,
+        Method::Invite | Method::Options | Method::Other => Purpose::Opening,
     }
 }
 
@@ -33,9 +31,9 @@ fn purpose_of_method(method: &[u8]) -> Purpose
 pub(crate) fn purpose_of<A: Allocator>(message: &Message<A>) -> Option<Purpose>
     ensures { result ≡ purpose_of message.now.start }
 {
-    match message.start() {
-        Start::Request { method, .. } => Some(purpose_of_method(method)),
-        Start::Response { .. } => None,
+    match message.known_method() {
+        Some(method) => Some(purpose_by(method)),
+        None => None,
     }
 }
 

@@ -41,6 +41,7 @@ fn key_of<A: Allocator>(alloc: A, request: &Message<A>) -> Result<Option<Vec<u8,
 }
 
 /// Opens a call under that key. The call is prepared before the keys are locked, so no other thread waits for that.
+#[tactic(auto, using(crate::proofs::Purposes::opening_opens))]
 fn open_call<A: Allocator + Clone, R: Wait>(
     rt: &R,
     memory: Memory<A>,

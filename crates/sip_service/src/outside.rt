@@ -10,12 +10,5 @@ use std::alloc::Allocator;
 pub fn is_outside_dialog<A: Allocator>(message: &Message<A>) -> bool
     ensures { result ≡ is_outside_dialog message.now }
 {
-    match message.method() {
-        None => false,
-        Some(method) => {
-            method != b"ACK".as_slice()
-                && method != b"CANCEL".as_slice()
-                && message.to_tag().is_none()
-        }
-    }
+    message.stands_alone() && message.to_tag().is_none()
 }

@@ -14,7 +14,7 @@ use std::alloc::{AllocError, Allocator};
 pub fn opens_dialog<A: Allocator>(message: &Message<A>) -> bool
     ensures { result ≡ opens_dialog message.now }
 {
-    is_outside_dialog(message) && message.method() == Some(b"INVITE".as_slice())
+    is_outside_dialog(message) && message.is_invite()
 }
 
 /// The text of a request that may open a dialog, with a Record-Route line of the proxy's own (see [`record`]); None of any other text.

@@ -3,7 +3,7 @@ use crate::bytes::{has, holds_of, is};
 use crate::holds::holds;
 use crate::messages::{REQUEST, message_of, spells};
 use sip_text::{
-    Message, append_pieces, append_request_line, append_status_line, header_values_are_values,
+    Message, Method, append_pieces, append_request_line, append_status_line, header_values_are_values,
     request_line_len, status_line_len, trimmed_part_is_a_value, whole_or_nothing,
 };
 use std::alloc::{AllocError, Global};
@@ -110,6 +110,30 @@ fn tells_requests_from_responses(rt: HostRuntime) {
         Some(response) => response.method().is_none() && response.status() == Some(486),
     };
     holds(&rt, well, "a response");
+}
+
+#[test]
+fn tells_methods_apart(rt: HostRuntime) {
+    let request = message_of(rt.alloc(), &REQUEST);
+    let well = match &request {
+        None => false,
+        Some(request) => {
+            request.known_method() == Some(Method::Options)
+                && request.stands_alone()
+                && !request.is_invite()
+        }
+    };
+    holds(&rt, well, "a request");
+    holds(
+        &rt,
+        Method::named(b"CANCEL") == Method::Cancel,
+        "the name of a method",
+    );
+    holds(
+        &rt,
+        Method::named(b"cancel") == Method::Other,
+        "a name in lower case",
+    );
 }
 
 /// The message of a message's parts.

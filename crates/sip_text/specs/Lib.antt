@@ -1,5 +1,6 @@
 pub mod inner
 pub mod Text
+pub mod Method
 pub mod Name
 pub mod Reading
 pub mod Fields

@@ -11,6 +11,7 @@ mod growth;
 mod head;
 mod law;
 mod message;
+mod method;
 mod name;
 mod needed;
 mod parts;
@@ -26,6 +27,7 @@ pub use law::{
     text_is_message, trimmed_part_is_a_value,
 };
 pub use message::Message;
+pub use method::Method;
 pub use name::Values;
 pub use needed::Needed;
 pub use parts::{CSeqLine, Header, Start};

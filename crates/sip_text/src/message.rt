@@ -2,6 +2,7 @@
 
 use crate::fault::ReadFault;
 use crate::fields::{message_cseq, value_of};
+use crate::method::Method;
 use crate::name::Values;
 use crate::needed::Needed;
 use crate::parts::{CSeqLine, Header, Start};
@@ -38,6 +39,7 @@ impl<A: Allocator> Message<A> {
     ghost use Rattle.sip_text.specs.declared.needed.Needed.TheVariants.{CallId, From, To};
     ghost use Rattle.sip_text.specs.Fields.{message_cseq, value_of};
     ghost use Rattle.sip_text.specs.Message.{IsMessage};
+    ghost use Rattle.sip_text.specs.Method.{is_invite, known_method, stands_alone};
     ghost use Rattle.sip_text.specs.Name.{values_of};
     ghost use Rattle.sip_text.specs.Seen.{view_cseq, view_start, views};
     ghost use Rattle.sip_text.specs.Tag.{tag_in};
@@ -84,6 +86,37 @@ impl<A: Allocator> Message<A> {
         match self.start() {
             Start::Request { method, .. } => Some(method.as_slice()),
             Start::Response { .. } => None,
+        }
+    }
+
+    /// The method of a request, as far as a proxy tells methods apart (RFC 3261 section 7.1); None for a response.
+    pub fn known_method(&self) -> Option<Method>
+        ensures { result ≡ known_method self.now.start }
+    {
+        match self.start() {
+            Start::Request { method, .. } => Some(Method::named(method)),
+            Start::Response { .. } => None,
+        }
+    }
+
+    /// Whether the message is an INVITE (RFC 3261 section 13).
+    pub fn is_invite(&self) -> bool
+        ensures { result ≡ is_invite (known_method self.now.start) }
+    {
+        match self.known_method() {
+            Some(Method::Invite) => true,
+            Some(Method::Ack | Method::Cancel | Method::Options | Method::Other) | None => false,
+        }
+    }
+
+    /// Whether the message is a request that is for itself, and not for another one, as an ACK and a CANCEL are (RFC 3261
+    /// sections 9.1 and 17.1.1.3).
+    pub fn stands_alone(&self) -> bool
+        ensures { result ≡ stands_alone (known_method self.now.start) }
+    {
+        match self.known_method() {
+            Some(Method::Invite | Method::Options | Method::Other) => true,
+            Some(Method::Ack | Method::Cancel) | None => false,
         }
     }
 
