@@ -3,7 +3,6 @@ ghost use Rattle.std.specs.Prelude.{◌≡◌, ◌<◌, ◌^◌, ◌&&◌, ℕ, 
 ghost use Rattle.sip_text.specs.Fields.{message_cseq};
 ghost use Rattle.sip_via.specs.BranchText.{IsBranch};
 ghost use Rattle.sip_via.specs.OwnPass.{IsOwnBranch};
-ghost use Rattle.sip_via.specs.TopVia.{has_second, top_value, via_values};
 ghost use Rattle.call_model.specs.Call.{is_cancel_sent, is_sent};
 ghost use Rattle.call_model.specs.OpenedRequest.{method_of};
 ghost use Rattle.call_routing.specs.Kinds.{is_request_of, is_response, is_to_method};
@@ -15,21 +14,13 @@ use crate::transaction::MatchedTransaction;
 use call_state::CallState;
 use sip_route::has_same_key;
 use sip_text::{Message, Method, Start};
-use sip_via::{BranchName, Own, has_second_via, own_branch_of, top_via};
+use sip_via::{BranchName, Own, own_branch_of, top_and_second};
 use std::alloc::Allocator;
 
 /// Shows that the numbers of a branch are bounded.
 fn is_branch(name: BranchName)
     ensures { IsBranch name }
 {}
-
-/// The top Via value of a message, and whether another stands behind it.
-fn top_of<A: Allocator>(message: &Message<A>) -> (&[u8], bool)
-    ensures top { result.0.now ≡ top_value message.now }
-    ensures second { result.1 ≡ has_second (via_values message.now) }
-{
-    (top_via(message), has_second_via(message))
-}
 
 /// The target that a Via value names, where it names a branch of the call.
 fn target_of(value: &[u8], own: Own, call: BranchName) -> Option<u16>
@@ -122,7 +113,7 @@ fn response_recipient<A: Allocator + Clone>(
     ensures none { IfNone result (BelongsToNoBranch state.now message.now) }
 {
     let opened = state.opened();
-    let (top, second) = top_of(message);
+    let (top, second) = top_and_second(message);
     let n = target_of(top, opened.own(), opened.branch(0))?;
     if is_for_client(state, message, second, n) {
         return Some(MatchedTransaction::Client(n));

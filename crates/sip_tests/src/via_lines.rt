@@ -5,7 +5,10 @@ use crate::messages::{copy_of, read, writes};
 use sip_message::{add_copies, add_line_if_any, add_replaced, copy_others, with_headers};
 use sip_route::request_uri;
 use sip_text::{Header, Message};
-use sip_via::{BranchName, Own, begins_named, has_second_via, own_via, place_of, split_named};
+use sip_via::{
+    BranchName, Own, begins_named, has_second_via, own_via, place_of, split_named, top_and_second,
+    top_via,
+};
 use std::alloc::Global;
 
 const REQUEST: &[u8] =
@@ -162,7 +165,14 @@ fn is_own_via(alloc: Global, text: &[u8]) -> bool {
 
 fn has_second(alloc: Global, text: &[u8]) -> Option<bool> {
     match read(alloc, text) {
-        Some(request) => Some(has_second_via(&request)),
+        Some(request) => {
+            let (top, second) = top_and_second(&request);
+            if top == top_via(&request) && second == has_second_via(&request) {
+                Some(second)
+            } else {
+                None
+            }
+        }
         None => None,
     }
 }

@@ -30,5 +30,5 @@ pub use own_pass::{own_branch, own_branch_of};
 pub use own_value::own_via;
 pub use received::{ReceivedFault, add_received, marked_line, reply_hop_of};
 pub use sender::{Sender, sender_of, top_branch};
-pub use values::{ViaValues, has_second_via, top_via};
+pub use values::{ViaValues, has_second_via, top_and_second, top_via};
 pub use via::Via;

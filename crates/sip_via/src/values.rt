@@ -92,6 +92,22 @@ pub fn top_via<A: Allocator>(message: &Message<A>) -> &[u8]
     }
 }
 
+/// The first Via value of a message, and whether another stands behind it: what [`top_via`] and [`has_second_via`] tell, at one
+/// reading of the lines.
+pub fn top_and_second<A: Allocator>(message: &Message<A>) -> (&[u8], bool)
+    ensures top { result.0.now ≡ top_value message.now }
+    ensures second { result.1 ≡ has_second (via_values message.now) }
+{
+    let mut values = ViaValues::of(message);
+    let Some(top) = values.next() else {
+        return (b"", false);
+    };
+    match values.next() {
+        Some(_) => (top, true),
+        None => (top, false),
+    }
+}
+
 /// Whether a Via value stands behind the top one. A response without one was meant for the proxy itself
 /// (RFC 3261 section 16.7 step 3). Each line holds a value, so that a second line isn't read.
 pub fn has_second_via<A: Allocator>(message: &Message<A>) -> bool

@@ -8,16 +8,16 @@ returns-in_err-n-clause-none g c =
     let m = c.args.message.now in
     rw c.from_residual.ensures
     (none_home call m
-    (at_home call m c.opened-opened.result.now c.own.result c.top_of-second.result.0.now c.branch-opened.result None c.opened-opened.ensures c.own.ensures
-    c.top_of-second.ensures.top c.branch-opened.ensures c.in_err-n.ensures.only))
+    (at_home call m c.opened-opened.result.now c.own.result c.top_and_second-second.result.0.now c.branch-opened.result None c.opened-opened.ensures c.own.ensures
+    c.top_and_second-second.ensures.top c.branch-opened.ensures c.in_err-n.ensures.only))
 
 pub returns-clause-none : goal.returns-clause-none
 returns-clause-none g c =
     let call = c.args.state.now in
     let m = c.args.message.now in
     let second = ap (λ (b : Bool). is_to_method (method_of call.opened.request.start) (message_cseq m.headers) && b && is_sent call c.in_ok-n.n)
-    (sym c.top_of-second.ensures.second) in
+    (sym c.top_and_second-second.ensures.second) in
     no_transaction call m c.in_ok-n.n
-    (at_home call m c.opened-opened.result.now c.own.result c.top_of-second.result.0.now c.branch-opened.result (Some c.in_ok-n.n) c.opened-opened.ensures
-    c.own.ensures c.top_of-second.ensures.top c.branch-opened.ensures c.in_ok-n.ensures.only)
+    (at_home call m c.opened-opened.result.now c.own.result c.top_and_second-second.result.0.now c.branch-opened.result (Some c.in_ok-n.n) c.opened-opened.ensures
+    c.own.ensures c.top_and_second-second.ensures.top c.branch-opened.ensures c.in_ok-n.ensures.only)
     (second ∙ sym c.is_for_client.ensures ∙ c.if-is_for_client.false) (sym c.is_for_cancel.ensures ∙ c.if-is_for_cancel.false)
