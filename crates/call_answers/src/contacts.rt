@@ -7,9 +7,9 @@ ghost use Rattle.sip_uri.specs.Key.{key_of};
 ghost use Rattle.sip_uri.specs.SeenContact.{view_contact, view_contacts};
 ghost use Rattle.call_model.specs.OpenedRequest.{destination_to};
 ghost use Rattle.call_model.specs.Posting.{destination_of_contact};
-ghost use Rattle.call_model.specs.Response.{contact_for, contacts_at, contacts_by, contacts_for, contacts_in, is_redirection, offer_of};
+ghost use Rattle.call_model.specs.Response.{contact_for, contacts_at, contacts_by, contacts_for, contacts_in, offer_of};
 
-use call_branch::{Destination, OpenedRequest};
+use call_branch::{Destination, OpenedRequest, is_redirection};
 use fork_context::Offer;
 use sip_text::{Message, Values};
 use sip_uri::{Contact, SipUri, UriFault, read_contacts};
@@ -92,13 +92,6 @@ fn contacts_in<A: Allocator + Clone>(
     let mut contacts = Vec::new(alloc.clone()?);
     add_each(&mut contacts, alloc, message.values(b"contact"))?;
     Ok(contacts)
-}
-
-/// Whether the contacts of a response with this status count.
-fn is_redirection(status: u16) -> bool
-    ensures { result ≡ is_redirection status }
-{
-    status >= 300 && status < 400
 }
 
 /// The contacts of a response that count.

@@ -1,3 +1,4 @@
+pub mod inner
 pub mod OpenedRequestInside
 pub mod BranchInside
 pub mod AckOwed

@@ -23,7 +23,7 @@ pub use client::ClientTransaction;
 pub use destination::Destination;
 pub use opened::OpenedRequest;
 pub use responses::{
-    answer_event, is_fault, is_passed, is_request, is_response, is_timeout, kept_if, parted,
-    response_event,
+    answer_event, is_fault, is_passed, is_redirection, is_request, is_response, is_timeout, kept_if,
+    parted, response_event, status_of,
 };
 pub use served::ServerTransaction;

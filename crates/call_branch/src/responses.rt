@@ -1,7 +1,10 @@
 //! What a response is to a transaction and to the fork.
 ghost use Rattle.std.specs.Prelude.{◌≡◌};
+ghost use Rattle.call_model.specs.Built.{status_of};
 ghost use Rattle.call_model.specs.Failed.{is_fault};
+ghost use Rattle.call_model.specs.Response.{is_redirection};
 ghost use Rattle.call_branch.specs.BranchInside.{answer_if, kept_if};
+ghost use Rattle.call_branch.specs.inner.Classes.{IsOfClass};
 ghost use Rattle.call_model.specs.Pump as pump;
 ghost use Rattle.call_model.specs.Server as server;
 ghost use Rattle.call_model.specs.Take as take;
@@ -10,16 +13,56 @@ use sip_text::Message;
 use sip_txn::{TxEvent, TxPass, TxSend};
 use std::alloc::Allocator;
 
+/// The class of a response, as transactions tell it (RFC 3261 sections 7.2 and 17).
+#[derive(Clone, Copy)]
+pub(crate) enum ResponseClass {
+    /// 1xx
+    Provisional,
+    /// 2xx
+    Success,
+    /// 3xx to 6xx
+    Failure,
+}
+
+/// The class of a response with this status.
+fn class_of(status: u16) -> ResponseClass
+    ensures { IsOfClass result status }
+{
+    if status < 200 {
+        ResponseClass::Provisional
+    } else if status < 300 {
+        ResponseClass::Success
+    } else {
+        ResponseClass::Failure
+    }
+}
+
+/// The status of a response (RFC 3261 section 7.2); 0 of a request.
+pub fn status_of<A: Allocator>(message: &Message<A>) -> u16
+    ensures { result ≡ status_of message.now }
+{
+    match message.status() {
+        Some(status) => status,
+        None => 0,
+    }
+}
+
+/// Whether a response with this status is a redirection, a 3xx: its contacts may become targets (RFC 3261 sections 16.5 and
+/// 21.3).
+pub fn is_redirection(status: u16) -> bool
+    ensures { result ≡ is_redirection status }
+{
+    status >= 300 && status < 400
+}
+
 /// The class of a response, as a client transaction is fed it: provisional, success or failure.
 pub fn response_event(status: u16) -> TxEvent
     ensures { result ≡ take.response_event status }
 {
-    if status < 200 {
-        TxEvent::Provisional
-    } else if status < 300 {
-        TxEvent::Success
-    } else {
-        TxEvent::Failure
+    match class_of(status) {
+        ResponseClass::Provisional => TxEvent::Provisional,
+        ResponseClass::Success => TxEvent::Success,
+        ResponseClass::Failure => TxEvent::Failure,
     }
 }
 
@@ -27,12 +70,10 @@ pub fn response_event(status: u16) -> TxEvent
 pub fn answer_event(status: u16) -> TxEvent
     ensures { result ≡ server.answer_event status }
 {
-    if status < 200 {
-        TxEvent::AnswerProvisional
-    } else if status < 300 {
-        TxEvent::AnswerSuccess
-    } else {
-        TxEvent::AnswerFailure
+    match class_of(status) {
+        ResponseClass::Provisional => TxEvent::AnswerProvisional,
+        ResponseClass::Success => TxEvent::AnswerSuccess,
+        ResponseClass::Failure => TxEvent::AnswerFailure,
     }
 }
 
@@ -95,10 +136,9 @@ pub fn parted<A: Allocator>(
     ensures up { result.0 ≡ take.going_up status message }
     ensures kept { result.1 ≡ answer_if status message }
 {
-    if status < 300 {
-        (Some(message), None)
-    } else {
-        (None, Some(message))
+    match class_of(status) {
+        ResponseClass::Provisional | ResponseClass::Success => (Some(message), None),
+        ResponseClass::Failure => (None, Some(message)),
     }
 }
 

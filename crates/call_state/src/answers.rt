@@ -10,7 +10,7 @@ ghost use Rattle.sip_build.specs.Upward.{AreKept, is_challenge, upward_of};
 ghost use Rattle.sip_via.specs.TopVia.{has_second, via_values};
 ghost use Rattle.call_state.specs.inner.AnswersInside.{IsPaid, IsPaidOk, IsText};
 ghost use Rattle.call_model.specs.Behind.{KeepsAnswers};
-ghost use Rattle.call_model.specs.Built.{final_of, generated, status_of, text_of};
+ghost use Rattle.call_model.specs.Built.{final_of, generated, text_of};
 ghost use Rattle.call_model.specs.Due.{SendAnswer};
 ghost use Rattle.call_model.specs.Pump.{Does};
 ghost use Rattle.call_model.specs.SeenStep.{pumped};
@@ -19,11 +19,11 @@ ghost use Rattle.call_model.specs.Sound.{IsSound};
 use crate::state::CallState;
 use crate::states::shows_received;
 use call_answers::PendingResponse;
-use call_branch::OpenedRequest;
+use call_branch::{OpenedRequest, status_of};
 use call_model::{Cause, Datagram, Step};
 use fork_context::{Challenge, Choice, Offer};
 use sip_build::{OwnStatus, write_generated, write_upward};
-use sip_text::{Message, Start};
+use sip_text::Message;
 use sip_uri::Hop;
 use sip_via::BuildFault;
 use std::alloc::{AllocError, Allocator};
@@ -34,16 +34,6 @@ use std::alloc::{AllocError, Allocator};
 pub(crate) enum BuiltResponse<A: Allocator> {
     Sent(Datagram<A>),
     Answer(u16, Vec<u8, A>),
-}
-
-/// The status of a response; 0 of a request.
-fn status_of<A: Allocator>(message: &Message<A>) -> u16
-    ensures { result ≡ status_of message.now }
-{
-    match message.start() {
-        Start::Request { .. } => 0,
-        Start::Response { status, .. } => *status,
-    }
 }
 
 /// The proxy's own answer of this status.

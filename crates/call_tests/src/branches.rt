@@ -6,8 +6,9 @@ use crate::holds::holds;
 use crate::state::{
     CALL_ID, CALLER, CANCEL_FIRST, CSEQ, FIRST, FIRST_VIA, FROM, INVITE, LENGTH, RINGING, SECOND,
     SECOND_VIA, TO, TO_FIRST, TO_SECOND, TRYING, VIA, begun, is_sent_as, is_silent, message_of,
-    sends_cancel, status_of, step_sends,
+    sends_cancel, step_sends,
 };
+use call_branch::status_of;
 use call_model::{Cause, Datagram, Step, Taken, branches_keep_their_answers, calls_stay_sound};
 use call_state::CallState;
 use sip_text::Message;

@@ -2,13 +2,12 @@
 ghost use Rattle.std.specs.Prelude.{◌≡◌, IfOk, IfSome, IsTrue};
 ghost use Rattle.sip_text.specs.Name.{first_value};
 ghost use Rattle.sip_route.specs.Hops.{IsHops, hops_name};
-ghost use Rattle.call_model.specs.Built.{status_of};
 ghost use Rattle.call_model.specs.Behind.{KeepsAnswers};
 ghost use Rattle.call_model.specs.Sound.{IsSound};
 
 use crate::holds::holds;
 use call_answers::PendingResponse;
-use call_branch::{Destination, OpenedRequest};
+use call_branch::{Destination, OpenedRequest, is_redirection, status_of};
 use call_model::{Cause, Datagram, Step, Taken, branches_keep_their_answers, calls_stay_sound};
 use call_state::CallState;
 use fork_book::Book;
@@ -409,16 +408,6 @@ pub(crate) fn sends_ack(alloc: Global, state: &mut CallState, lines: &[&[u8]]) -
     is_sent_as(alloc, &sent, FIRST, Cause::Ack(0), lines)
 }
 
-/// The status of a response; 0 of a request.
-pub(crate) fn status_of(message: &Message<Global>) -> u16
-    ensures { result ≡ status_of message.now }
-{
-    match message.start() {
-        Start::Request { .. } => 0,
-        Start::Response { status, .. } => *status,
-    }
-}
-
 /// What comes of a response to the first branch.
 fn taken_from(state: &mut CallState, response: Message<Global>, now: u64) -> Option<Taken> {
     let status = status_of(&response);
@@ -546,6 +535,7 @@ fn a_call_begins(rt: HostRuntime) {
     holds(&rt, state.opened().number() == 4, "its later number");
     holds(&rt, state.opened().kind() == Kind::Invite, "its kind");
     holds(&rt, status_of(state.opened().request()) == 0, "its request");
+    holds(&rt, is_redirection(399), "a 399 is a redirection");
     holds(&rt, state.book().history().is_empty(), "nothing was posted");
     holds(&rt, state.owed().len() == 1, "one answer is owed");
     holds(&rt, owes_trying(&state), "the 100 is owed");

@@ -13,6 +13,7 @@ ghost use Rattle.sip_route.specs.RequestKey.{request_key};
 ghost use Rattle.fork_call.specs.inner.Timing.{room_for, row_of_recipient};
 
 use crate::fault::TakeFault;
+use call_branch::{is_redirection, status_of};
 use call_model::Taken;
 use call_routing::MatchedTransaction;
 use call_state::{CallState, PostFault};
@@ -24,21 +25,11 @@ use std::alloc::Allocator;
 /// How many targets a call has at most.
 const MOST_TARGETS: u16 = 256;
 
-/// The status of a response; 0 of a request.
-pub(crate) fn status_of<A: Allocator>(message: &Message<A>) -> u16
-    ensures { result ≡ status_of message.now }
-{
-    match message.status() {
-        Some(status) => status,
-        None => 0,
-    }
-}
-
 /// How many rows a response with this status may add: contacts of a 3xx may become targets (RFC 3261 section 16.5).
 pub(crate) fn room_for(status: u16) -> u16
     ensures { result ≡ room_for status }
 {
-    if status >= 300 && status < 400 {
+    if is_redirection(status) {
         MOST_TARGETS
     } else {
         0
