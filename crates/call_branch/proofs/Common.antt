@@ -6,7 +6,6 @@ pub use Rattle.call_model.specs.Call.{found, with_branch}
 pub use Rattle.call_model.specs.OpenedRequest.{OpenedRequest, branch_at}
 pub use Rattle.call_model.specs.Branch.{Branch}
 pub use Rattle.call_model.specs.Posting.{no_branch}
-pub use Rattle.call_branch.specs.AckOwed.{ack_on}
 pub use Rattle.call_branch.specs.BranchInside.{changed_branch, no_branches}
 pub use Rattle.sip_build.specs.Forwarding.{forwarded}
 pub use Rattle.sip_text.specs.Text.{spelling}

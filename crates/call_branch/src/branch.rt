@@ -216,7 +216,7 @@ impl<A: Allocator> Branch<A> {
     }
 
     /// Sets the client transaction of the branch, which went on; where an ACK was made, the branch owes it.
-    pub(crate) fn respond(&mut self, client: ClientTransaction, ack: Option<Vec<u8, A>>)
+    pub fn respond(&mut self, client: ClientTransaction, ack: Option<Vec<u8, A>>)
         ensures { self.new ≡ responded client (option_map (λ v. v.items) ack) self.old }
     {
         self.client = client;
@@ -227,7 +227,7 @@ impl<A: Allocator> Branch<A> {
 
     /// Notes that a response of the branch was posted: when timer C fires from now on, and the failure that is kept, if
     /// there is one.
-    pub(crate) fn keep(&mut self, timer_c_at: Option<u64>, answer: Option<Message<A>>)
+    pub fn keep(&mut self, timer_c_at: Option<u64>, answer: Option<Message<A>>)
         ensures { self.new ≡ kept timer_c_at answer self.old }
     {
         self.timer_c_at = timer_c_at;
@@ -237,14 +237,14 @@ impl<A: Allocator> Branch<A> {
     }
 
     /// Notes that the CANCEL of the branch was sent.
-    pub(crate) fn cancel(&mut self, cancelling: CancelTransaction<A>)
+    pub fn cancel(&mut self, cancelling: CancelTransaction<A>)
         ensures { self.new ≡ cancelled cancelling self.old }
     {
         self.cancelling = Some(cancelling);
     }
 
     /// Sets the transaction of the branch's CANCEL, which went on.
-    pub(crate) fn cancel_on(&mut self, client: OtherClient)
+    pub fn cancel_on(&mut self, client: OtherClient)
         ensures { self.new ≡ cancel_on client self.old }
     {
         if let Some(cancelling) = &mut self.cancelling {
@@ -253,7 +253,7 @@ impl<A: Allocator> Branch<A> {
     }
 
     /// Takes the ACK that the branch owes, which it owes no more.
-    pub(crate) fn take_ack(&mut self) -> Option<Vec<u8, A>>
+    pub fn take_ack(&mut self) -> Option<Vec<u8, A>>
         ensures ack { option_map (λ v. v.items) result ≡ self.old.ack }
         ensures left { self.new ≡ without_ack self.old }
     {

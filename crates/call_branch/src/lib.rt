@@ -15,15 +15,12 @@ mod responses;
 mod served;
 
 pub use branch::{Branch, CancelTransaction};
-pub use branches::{
-    branch_in, cancel_branch, cancel_on_branch, destination_at, keep_branch, no_branches,
-    put_branch, respond_branch, take_ack_of,
-};
+pub use branches::{branch_in, destination_at, no_branches, put_branch};
 pub use client::ClientTransaction;
 pub use destination::Destination;
 pub use opened::OpenedRequest;
 pub use responses::{
-    answer_event, is_fault, is_passed, is_redirection, is_request, is_response, is_timeout, kept_if,
-    parted, response_event, status_of,
+    answer_event, is_fault, is_passed, is_redirection, is_request, is_response, is_timeout,
+    kept_if, parted, response_event, status_of,
 };
 pub use served::ServerTransaction;

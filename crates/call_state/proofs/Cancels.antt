@@ -1,5 +1,5 @@
 -- The caller's CANCEL is posted.
-use Rattle.call_state.proofs.Common.{◌≡◌, ◌∙◌, ℕ, ap, refl, sym, true, false, Bool, List, [], ◌∷◌, ◌++◌, drop, length, Option, None, append-nil, ◌&&◌, cond, map, not, Cancel, Reply, next, IsAdded, Log, added, core_of, table_of, MessageText}
+use Rattle.call_state.proofs.Common.{◌≡◌, ◌∙◌, ℕ, ap, sym, true, List, [], ◌∷◌, ◌++◌, drop, length, Option, None, append-nil, ◌&&◌, map, not, Cancel, Reply, next, IsAdded, Log, added, core_of, table_of, MessageText}
 use Rattle.call_state.proofs.Common.{Hop, Call, Destination, Branch, call_tag, gone_on, no_branch, owed_by, owes, rows_more, destinations_of, Owed, CancelOk, IsSound, CancelledBy, Posted, cancels}
 use Rattle.std.proofs.Math.Seq.{drop-length}
 use Rattle.fork_model.specs.Table as table

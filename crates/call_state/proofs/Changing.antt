@@ -1,6 +1,37 @@
 use Rattle.call_state.proofs.Common.{◌≡◌, ◌∙◌, ℕ, ◌<◌, ap, sym, subst, List, [], ◌++◌, map, length, Option, Some, None, slice_get, Event, Reply, added, MessageText, ContactText, ClientTransaction, Branch, Call, found, nth_branch, set_branch, with_branch}
 use Rattle.call_state.proofs.Common.{changed_branch, responded, PostsBare, Posts, call_tag, gone_on, no_branch, owed_by, owes, rows_more, OnPart}
-use Rattle.call_branch.proofs.laws.BranchLists.{changed_is, found_is, get_below, get_more, get_with, with_more, with_twice}
+use Rattle.call_state.proofs.Common.{Destination, Log, OpenedRequest, Server}
+use Rattle.std.proofs.Common.{get_or, slice_set}
+use Rattle.call_branch.proofs.laws.BranchLists.{changed_is, changed_none, changed_some, found_is, get_below, get_is, get_more, get_with, with_more, with_twice}
+
+-- ---- a branch changed in its place
+
+module _ (f : Branch → Branch) (branches : List (Option Branch)) (n : ℕ) (place : Option Branch) (lt : n < length branches) (is : place ≡ get_or branches n place) where
+  here : slice_get branches n ≡ Some place
+  here = get_is branches n place lt is
+
+  -- where the branch stands there
+  pub changed_at : (branch new : Branch) → place ≡ Some branch → new ≡ f branch → slice_set branches n (Some new) ≡ changed_branch f branches n
+  changed_at branch new there e = changed_some f branches n branch new (here ∙ ap Some there) e
+
+  -- and where none does
+  pub unchanged_at : place ≡ None → slice_set branches n place ≡ changed_branch f branches n
+  unchanged_at none = ap (slice_set branches n) none ∙ changed_none f branches n (here ∙ ap Some none)
+
+-- a call of these parts
+abbrev pub call_of : OpenedRequest → Log → List Destination → List (Option Branch) → Server → Call
+call_of opened log destinations branches server =
+    record { opened = opened; log = log; destinations = destinations; branches = branches; server = server }
+
+-- of a call it is the branches that change
+pub branches_changed : (f : Branch → Branch) (opened : OpenedRequest) (log : Log) (destinations : List Destination) (branches after : List (Option Branch)) (server : Server) (call : Call) (n : ℕ)
+    → call_of opened log destinations branches server ≡ call
+    → after ≡ changed_branch f branches n
+    → call_of opened log destinations after server ≡ record call { branches = changed_branch f call.branches n }
+branches_changed f opened log destinations branches after server call n is e =
+    let P : Call → Type 0 = λ x. call_of opened log destinations after server ≡ record x { branches = changed_branch f x.branches n } in
+    let make : List (Option Branch) → Call = λ ls. call_of opened log destinations ls server in
+    subst P is (ap make e)
 
 -- the part of a branch changed in its place is another part of it
 pub changed_part : (f : Branch → Branch) (call : Call) (n : ℕ) (branch : Branch) → nth_branch call n ≡ Some branch → record call { branches = changed_branch f call.branches n } ≡ set_branch call n (f branch)

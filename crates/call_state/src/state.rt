@@ -43,9 +43,8 @@ use call_answers::{
 };
 use call_branch::{
     Branch, CancelTransaction, ClientTransaction, Destination, OpenedRequest, ServerTransaction,
-    answer_event, branch_in, cancel_branch, cancel_on_branch, destination_at, is_request,
-    is_response, is_timeout, keep_branch, no_branches, put_branch, respond_branch, response_event,
-    take_ack_of,
+    answer_event, branch_in, destination_at, is_request, is_response, is_timeout, no_branches,
+    put_branch, response_event,
 };
 use call_model::{Cause, Datagram, Step, Taken};
 use fork_book::Book;
@@ -236,7 +235,9 @@ impl<A: Allocator + Clone> CallState<A> {
         requires there { n < length self.old.branches }
         ensures { self.new ≡ record self.old { branches = changed_branch (responded client (option_map (λ v. v.items) ack)) self.old.branches n } }
     {
-        respond_branch(&mut self.branches, n, client, ack);
+        if let Some(branch) = &mut self.branches[n as usize] {
+            branch.respond(client, ack);
+        }
     }
 
     /// Notes that a response of branch n was posted: when timer C fires from now on, and the failure that is kept, if there
@@ -245,7 +246,9 @@ impl<A: Allocator + Clone> CallState<A> {
         requires there { n < length self.old.branches }
         ensures { self.new ≡ record self.old { branches = changed_branch (kept timer_c_at answer) self.old.branches n } }
     {
-        keep_branch(&mut self.branches, n, timer_c_at, answer);
+        if let Some(branch) = &mut self.branches[n as usize] {
+            branch.keep(timer_c_at, answer);
+        }
     }
 
     /// Notes that the CANCEL of branch n was sent.
@@ -253,7 +256,9 @@ impl<A: Allocator + Clone> CallState<A> {
         requires there { n < length self.old.branches }
         ensures { self.new ≡ record self.old { branches = changed_branch (cancelled cancelling) self.old.branches n } }
     {
-        cancel_branch(&mut self.branches, n, cancelling);
+        if let Some(branch) = &mut self.branches[n as usize] {
+            branch.cancel(cancelling);
+        }
     }
 
     /// Sets the transaction of branch n's CANCEL, which went on.
@@ -261,7 +266,9 @@ impl<A: Allocator + Clone> CallState<A> {
         requires there { n < length self.old.branches }
         ensures { self.new ≡ record self.old { branches = changed_branch (cancel_on client) self.old.branches n } }
     {
-        cancel_on_branch(&mut self.branches, n, client);
+        if let Some(branch) = &mut self.branches[n as usize] {
+            branch.cancel_on(client);
+        }
     }
 
     /// Takes the ACK that branch n owes, which it owes no more.
@@ -270,14 +277,10 @@ impl<A: Allocator + Clone> CallState<A> {
         ensures ack { option_map (λ v. v.items) result ≡ ack_owed self.old n }
         ensures left { self.new ≡ record self.old { branches = changed_branch without_ack self.old.branches n } }
     {
-        take_ack_of(&mut self.branches, n)
-    }
-
-    /// Sets the server transaction, which went on.
-    fn serve(&mut self, served: ServerTransaction)
-        ensures { self.new ≡ record self.old { server = record self.old.server { machine = served } } }
-    {
-        self.served = served;
+        match &mut self.branches[n as usize] {
+            Some(branch) => branch.take_ack(),
+            None => None,
+        }
     }
 
     /// Feeds the server transaction an event; what it sends and passes is dropped.
@@ -285,7 +288,7 @@ impl<A: Allocator + Clone> CallState<A> {
         ensures { self.new ≡ served_on self.old event now }
     {
         let (served, _out) = self.served.fed(event, now);
-        self.serve(served);
+        self.served = served;
     }
 
     /// Takes the first answer off those that are owed to the caller.
@@ -746,11 +749,11 @@ impl<A: Allocator + Clone> CallState<A> {
     {
         let (served, out) = self.served.fed(TxEvent::Tick, now);
         if !is_response(out.send) {
-            self.serve(served);
+            self.served = served;
             return Ok(Step::Did);
         }
         let datagram = self.last_again()?;
-        self.serve(served);
+        self.served = served;
         Ok(Step::Send(datagram))
     }
 }
