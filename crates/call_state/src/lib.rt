@@ -16,4 +16,5 @@ mod state;
 mod states;
 
 pub use fault::PostFault;
+pub use look::BranchView;
 pub use state::CallState;

@@ -24,24 +24,17 @@ pub(crate) fn shows_open(state: Option<State>) -> bool
     }
 }
 
-/// Whether the branch is cancelled, and has not ended.
-pub(crate) fn shows_cancelled(state: Option<State>) -> bool
-    ensures { result ≡ shown.shows_cancelled state }
+/// Three tests of one state: whether the branch was tried and no response to it has come; whether it is cancelled and has not
+/// ended; and whether it was tried, and is neither cancelled nor has it ended.
+pub(crate) fn shows_each(state: Option<State>) -> (bool, bool, bool)
+    ensures trying { result.0 ≡ shown.shows_trying state }
+    ensures cancelled { result.1 ≡ shown.shows_cancelled state }
+    ensures timer_c { result.2 ≡ shown.shows_timer_c state }
 {
     match state {
-        Some(State::Rung { cancelled }) => cancelled,
-        Some(State::Idle | State::Trying | State::Ended(_)) | None => false,
-    }
-}
-
-/// Whether the branch was tried, and is neither cancelled nor has it ended.
-pub(crate) fn shows_timer_c(state: Option<State>) -> bool
-    ensures { result ≡ shown.shows_timer_c state }
-{
-    match state {
-        Some(State::Trying) => true,
-        Some(State::Rung { cancelled }) => !cancelled,
-        Some(State::Idle | State::Ended(_)) | None => false,
+        Some(State::Trying) => (true, false, true),
+        Some(State::Rung { cancelled }) => (false, cancelled, !cancelled),
+        Some(State::Idle | State::Ended(_)) | None => (false, false, false),
     }
 }
 

@@ -322,10 +322,11 @@ fn ticks_silently(state: &mut CallState, now: u64) -> bool
 fn fires_timer_c(state: &mut CallState, now: u64) -> bool
     requires { IsSound state.old }
 {
-    let Some(at) = state.timer_c_at(0) else {
+    let branch = state.branch_view(0);
+    let Some(at) = branch.timer_c_due else {
         return false;
     };
-    if at > now || !state.runs_timer_c(0) {
+    if at > now || !branch.timer_c_runs {
         return false;
     }
     state.fire_timer_c(0, now).is_ok()
@@ -333,7 +334,7 @@ fn fires_timer_c(state: &mut CallState, now: u64) -> bool
 
 /// Whether the first branch is given up.
 fn gives_up(state: &mut CallState, now: u64) -> bool {
-    if !state.is_sent(0) || !state.is_cancelled(0) {
+    if !state.is_sent(0) || !state.branch_view(0).cancelled {
         return false;
     }
     state.give_up(0, now).is_ok()
@@ -400,7 +401,7 @@ fn timer_c_ends_a_silent_branch(rt: HostRuntime) {
     );
     holds(
         &rt,
-        state.timer_c_at(0) == Some(181_000),
+        state.branch_view(0).timer_c_due == Some(181_000),
         "timer C runs for more than three minutes",
     );
     holds(&rt, fires_timer_c(&mut state, 181_000), "timer C fires");
@@ -425,11 +426,15 @@ fn a_branch_that_has_rung_is_given_up(rt: HostRuntime) {
     );
     holds(
         &rt,
-        state.timer_c_at(0) == Some(181_010),
+        state.branch_view(0).timer_c_due == Some(181_010),
         "timer C is set again",
     );
     holds(&rt, fires_timer_c(&mut state, 181_010), "timer C fires");
-    holds(&rt, state.is_cancelled(0), "the branch is cancelled");
+    holds(
+        &rt,
+        state.branch_view(0).cancelled,
+        "the branch is cancelled",
+    );
     holds(
         &rt,
         sends_cancel(alloc, &mut state, &CANCEL_FIRST),

@@ -38,7 +38,8 @@ fn a_branch_has_its_name(rt: HostRuntime) {
 
 /// The moments of the first branch: of its client transaction, of its CANCEL's, and that at which it is given up.
 fn moments(state: &CallState) -> (Option<u64>, Option<u64>, Option<u64>) {
-    (state.client_at(0), state.cancel_at(0), state.give_up_at(0))
+    let branch = state.branch_view(0);
+    (branch.client_due, branch.cancel_due, branch.give_up_due)
 }
 
 #[test]

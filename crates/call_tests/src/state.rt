@@ -401,7 +401,7 @@ pub(crate) fn sends_cancel(alloc: Global, state: &mut CallState, lines: &[&[u8]]
 
 /// Whether the ACK of the first branch is sent as these lines.
 pub(crate) fn sends_ack(alloc: Global, state: &mut CallState, lines: &[&[u8]]) -> bool {
-    if !state.owes_ack(0) {
+    if !state.branch_view(0).ack_owed {
         return false;
     }
     let sent = state.send_ack(0);
@@ -541,8 +541,12 @@ fn a_call_begins(rt: HostRuntime) {
     holds(&rt, owes_trying(&state), "the 100 is owed");
     holds(&rt, !state.is_sent(0), "no request was sent");
     holds(&rt, state.is_open(0), "a branch is open");
-    holds(&rt, state.runs_timer_c(1), "timer C runs");
-    holds(&rt, !state.is_cancelled(0), "no branch is cancelled");
+    holds(&rt, state.branch_view(1).timer_c_runs, "timer C runs");
+    holds(
+        &rt,
+        !state.branch_view(0).cancelled,
+        "no branch is cancelled",
+    );
 }
 
 #[test]
@@ -588,7 +592,7 @@ fn a_failure_is_acknowledged(rt: HostRuntime) {
     );
     holds(&rt, !state.is_open(0), "the branch has ended");
     holds(&rt, sends_ack(alloc, &mut state, &ACK), "the ACK is sent");
-    holds(&rt, !state.owes_ack(0), "no ACK is owed");
+    holds(&rt, !state.branch_view(0).ack_owed, "no ACK is owed");
     holds(
         &rt,
         takes(alloc, &mut state, 30, &NOT_FOUND, Taken::Absorbed),
@@ -666,7 +670,7 @@ fn the_caller_cancels(rt: HostRuntime) {
     holds(&rt, state.book().context().closed(), "no branch starts");
     holds(
         &rt,
-        !state.is_cancelled(0),
+        !state.branch_view(0).cancelled,
         "a branch that has not rung waits",
     );
 }

@@ -1,10 +1,8 @@
 -- What a call that opened answers its caller.
 use Rattle.std.specs.Prelude.{◌≢◌}
-use Rattle.fork_call.proofs.Common.{◌≡◌, ◌∙◌, ℕ, true, false, List, [], ◌∷◌, ◌++◌, refl, ap, sym, subst, MessageText, Hop, Call, rows_of, Opens}
-use Rattle.fork_model.specs.History.{Target}
+use Rattle.fork_call.proofs.Common.{◌≡◌, true, false, List, [], ◌∷◌, ◌++◌, refl, sym, subst, MessageText, Call, rows_of}
 use Rattle.fork_model.specs.Table.{is_finished, is_succeeded}
 use Rattle.sip_text.specs.Message.{IsMessage}
-use Rattle.call_model.specs.Begun.{begun}
 use Rattle.call_model.specs.Sound.{IsGiven, IsGivenTo}
 use Rattle.call_model.specs.Step as step
 use Rattle.call_model.specs.Step.{Input, Turn}
@@ -14,13 +12,12 @@ use Rattle.call_laws.specs.Answers as laws
 use Rattle.call_laws.specs.Successes.{GoesUp, PostsSuccess}
 use Rattle.call_laws.specs.Successes as successes
 use Rattle.call_model.specs.OpenedRequest.{is_invite}
-use Rattle.call_laws.specs.Stages.{Leads, Stage, end_of, turn_of}
-use Rattle.proxy_config.specs.Setup.{Setup}
+use Rattle.call_laws.specs.Stages.{Leads, end_of}
 use Rattle.call_routing.specs.Matching.{BelongsTo}
 use Rattle.call_routing.specs.Opening.{choices_for, opened_of}
 use Rattle.proxy_routing.specs.Targets.{Choice, targets_of}
-use Rattle.fork_call.specs.Answered.{AreSaid, AreStages, CallsHaveStages, EachSuccessGoesUp, IsSaid, OneFinalAnswerGoesUp, OpenedCallsPayInOrder}
-use Rattle.fork_call.specs.Runs.{Answer, AnswersAll, Came, IsInput, IsTurn, Lost, May, Said}
+use Rattle.fork_call.specs.Answered.{CallsHaveStages, EachSuccessGoesUp, IsSaid, OneFinalAnswerGoesUp, OpenedCallsPayInOrder}
+use Rattle.fork_call.specs.Runs.{Came, IsInput, IsTurn, Lost, May, Said}
 use Rattle.fork_call.proofs.Running.{stepped}
 
 -- ---- stages

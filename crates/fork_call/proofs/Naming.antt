@@ -1,10 +1,10 @@
 -- What the datagrams of a call that opened are made of.
-use Rattle.fork_call.proofs.Common.{◌≡◌, ◌∙◌, ◌++◌, ◌∷◌, ℕ, Bool, true, false, List, [], ap, refl, sym, subst, cond, MessageText, Hop, Call}
+use Rattle.fork_call.proofs.Common.{◌≡◌, ◌∙◌, ◌++◌, ◌∷◌, ℕ, Bool, true, false, List, [], ap, refl, sym, subst, cond, MessageText, Call}
 use Rattle.std.specs.Prelude.{filter, not}
 use Rattle.std.proofs.lemmas.Bool.{cond-true}
 use Rattle.sip_lex.specs.Cut.{behind}
 use Rattle.sip_text.specs.Text.{StartText, Request, Response}
-use Rattle.sip_uri.specs.Uri.{Uri, is_method, params_text, request_uri, requested, user_text, without_methods}
+use Rattle.sip_uri.specs.Uri.{Uri, is_method, params_text, request_uri, requested, user_text}
 use Rattle.sip_via.specs.declared.own.Own.{Own}
 use Rattle.sip_route.specs.Routes.{stripped}
 use Rattle.sip_build.specs.declared.responses.OwnStatus.{OwnStatus}

@@ -58,22 +58,23 @@ impl Action {
         requires due { is_due now (row_moment state.now n) ≡ true }
         ensures { is_due_at state.now now (seen_action result) ≡ true }
     {
-        if state.owes_ack(n) {
+        let branch = state.branch_view(n);
+        if branch.ack_owed {
             return Action::SendAck(n);
         }
-        if state.is_sent(n) && !state.is_cancel_sent(n) && state.is_cancelled(n) {
+        if branch.sent && !branch.cancel_sent && branch.cancelled {
             return Action::SendCancel(n);
         }
-        if state.is_trying(n) && !state.is_sent(n) {
+        if branch.trying && !branch.sent {
             return Action::SendRequest(n);
         }
-        if state.is_cancelled(n) && is_due(state.give_up_at(n), now) {
+        if branch.cancelled && is_due(branch.give_up_due, now) {
             return Action::GiveUp(n);
         }
-        if state.runs_timer_c(n) && is_due(state.timer_c_at(n), now) {
+        if branch.timer_c_runs && is_due(branch.timer_c_due, now) {
             return Action::FireTimerC(n);
         }
-        if is_due(state.client_at(n), now) {
+        if is_due(branch.client_due, now) {
             return Action::TickClient(n);
         }
         Action::TickCancel(n)

@@ -19,20 +19,20 @@ fn if_runs(runs: bool, at: Option<u64>) -> Option<u64>
 fn row_moment<A: Allocator + Clone>(state: &CallState<A>, n: u16) -> Option<u64>
     ensures { result ≡ row_moment state.now n }
 {
-    if !state.is_sent(n) {
-        return if_runs(state.is_trying(n), Some(0));
+    let branch = state.branch_view(n);
+    if !branch.sent {
+        return if_runs(branch.trying, Some(0));
     }
-    if state.owes_ack(n) {
+    if branch.ack_owed {
         return Some(0);
     }
-    let cancelled = state.is_cancelled(n);
-    if cancelled && !state.is_cancel_sent(n) {
+    if branch.cancelled && !branch.cancel_sent {
         return Some(0);
     }
-    let timer_c = if_runs(state.runs_timer_c(n), state.timer_c_at(n));
-    let give_up = if_runs(cancelled, state.give_up_at(n));
+    let timer_c = if_runs(branch.timer_c_runs, branch.timer_c_due);
+    let give_up = if_runs(branch.cancelled, branch.give_up_due);
     let ends = earlier(timer_c, give_up);
-    earlier(state.client_at(n), earlier(state.cancel_at(n), ends))
+    earlier(branch.client_due, earlier(branch.cancel_due, ends))
 }
 
 /// The schedule in which each row has its moment.
