@@ -71,7 +71,7 @@ impl<T, A: Allocator> Group<T, A> {
         ensures back { IfErr result (λ back. back ≡ job) }
         ensures err { OnErr result (self.new ≡ self.old) }
     {
-        if self.waiting.len() >= MOST_WAITING {
+        if self.is_full() {
             return Err(job);
         }
         match self.waiting.push_back(job) {

@@ -1,4 +1,4 @@
-//! Tests of the public calls of `interleaving`, `fork_engine` and `call_table`, a file for each. They stand apart from these
+//! Tests of the public calls of `fork_engine`, of `interleaving` by them, and of `call_table`. They stand apart from these
 //! crates so that none of them is proved twice.
 #![tactic(auto)]
 

@@ -19,7 +19,8 @@ pub enum ServeFault {
     /// The first malformed line of the configuration, counted from 1; a missing one has the number that it would have.
     #[error("line {0}: malformed")]
     Line(usize),
-    /// A growth was refused before the workers ran, or a worker's thread could not be made.
+    /// A growth was refused before the first turn or after the last, a worker's thread could not be made, or the system had no memory for
+    /// a call on the socket or standard output.
     #[error("want of memory")]
     NoMemory,
     /// The address could not be bound, a receive failed, or standard output could not be written.

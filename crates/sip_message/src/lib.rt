@@ -2,7 +2,7 @@
 //! (RFC 3261 sections 8.2.6, 9.1, 16.6, 16.7 and 17.1.1.3); a request with its source in the top Via value, or without the Route
 //! value that names the proxy, as copies (sections 16.4 and 18.2); and the header lines that these are made of.
 //!
-//! The program writes bytes alone and has no part of this crate. What is built is a definition in the `specs/` of `sip_via`,
+//! `forkproxy` writes bytes alone and has no part of this crate; the service makes its own answers by it. What is built is a definition in the `specs/` of `sip_via`,
 //! `sip_route` and `sip_build`, the same that the bytes are written by.
 #![tactic(auto)]
 

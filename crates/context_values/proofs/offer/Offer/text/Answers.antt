@@ -1,5 +1,0 @@
-use Rattle.context_values.proofs.Common.{rules}
-use Rattle.context_values.proofs.offer.Offer.text.Goals as goal
-
-pub returns : goal.returns
-returns g c = search rules

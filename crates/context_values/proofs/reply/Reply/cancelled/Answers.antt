@@ -1,5 +1,0 @@
-use Rattle.context_values.proofs.Common.{rules}
-use Rattle.context_values.proofs.reply.Reply.cancelled.Goals as goal
-
-pub returns : goal.returns
-returns g c = search rules

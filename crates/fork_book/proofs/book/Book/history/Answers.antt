@@ -1,5 +1,0 @@
-use Rattle.fork_book.proofs.Common.{rules}
-use Rattle.fork_book.proofs.book.Book.history.Goals as goal
-
-pub returns : goal.returns
-returns c = search rules

@@ -1,8 +1,0 @@
-use Rattle.fork_context.proofs.Common.{rules}
-use Rattle.fork_context.proofs.context.Context.count.Goals as goal
-
-pub returns-clause-value : goal.returns-clause-value
-returns-clause-value g c = search rules
-
-pub returns-clause-range : goal.returns-clause-range
-returns-clause-range g c = search rules

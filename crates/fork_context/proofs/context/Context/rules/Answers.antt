@@ -1,5 +1,0 @@
-use Rattle.fork_context.proofs.Common.{rules}
-use Rattle.fork_context.proofs.context.Context.rules.Goals as goal
-
-pub returns : goal.returns
-returns g c = search rules

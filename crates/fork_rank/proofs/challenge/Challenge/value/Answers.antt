@@ -1,5 +1,0 @@
-use Rattle.fork_rank.proofs.Common.{rules}
-use Rattle.fork_rank.proofs.challenge.Challenge.value.Goals as goal
-
-pub returns : goal.returns
-returns g c = search rules
