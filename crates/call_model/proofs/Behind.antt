@@ -25,7 +25,7 @@ use Rattle.call_model.specs.Step as step
 use Rattle.call_model.specs.Step.{Turn}
 use Rattle.call_model.specs.Take as to
 use Rattle.call_model.proofs.FirstStays.{first_before}
-use Rattle.call_model.proofs.SoundTables.{table_added}
+use Rattle.call_model.proofs.laws.SoundTables.{table_added}
 
 -- ---- parts
 

@@ -21,7 +21,7 @@ use Rattle.call_model.specs.Sound.{IsGiven, IsGivenTo, IsSoundBranch, StepsKeepS
 use Rattle.call_model.specs.Step as step
 use Rattle.call_model.specs.Take as to
 use Rattle.call_model.proofs.KeptBuilt.{at_more}
-use Rattle.call_model.proofs.SoundTables.{IsOpenAt, all_more, owed_sound, ring_stays, table_added, timer_c_stays}
+use Rattle.call_model.proofs.laws.SoundTables.{IsOpenAt, all_more, owed_sound, ring_stays, table_added, timer_c_stays}
 use Rattle.call_model.proofs.SoundValues.{event_values}
 use Rattle.call_model.proofs.laws.Waiting as waiting
 

@@ -36,7 +36,7 @@ use Rattle.call_model.specs.Step as step
 use Rattle.call_model.specs.Step.{Input, Output, Step}
 use Rattle.call_model.specs.Take as to
 use Rattle.call_model.specs.Take.{MatchedTransaction, Taken, TakesAs, CancelledBy, Responds, ack_by, again_if, client_on, is_passed, is_response, branch_after, owes_cancel_ok, requested_again, response_event, served_on}
-use Rattle.call_model.proofs.SoundTables.{table_added}
+use Rattle.call_model.proofs.laws.SoundTables.{table_added}
 use Rattle.call_over.specs.Quiet.{IsCancelOk, IsLeft, IsQuiet, IsQuietly, OverCallsAreQuiet, OverCallsHaveNothingDue, QuietCallsStayQuiet, SendsCancelOk, paid}
 use Rattle.call_over.proofs.Calls.{same_due, set_same}
 use Rattle.call_over.proofs.Machines.{Unheeded, unheeded_fault, unheeded_response, cancel_stays, client_silent, client_stays, served_silent, served_stays}

@@ -6,7 +6,7 @@ use Rattle.std.proofs.lemmas.Fmt.{decimal_nonempty}
 use Rattle.sip_text.specs.Name.{full_name, values_of}
 use Rattle.sip_route.specs.Loop.{call_id, cseq_number, request_uri}
 use Rattle.sip_build.specs.Requests.{ack_of, cancel_of, from_value}
-use Rattle.sip_message.proofs.Named.{AreNamed, cseq_there, named_lines, none_missing, skip}
+use Rattle.sip_message.proofs.laws.Named.{AreNamed, cseq_there, named_lines, none_missing, skip}
 use Rattle.sip_lex.proofs.laws.Numbers.{number_read_within}
 use Rattle.sip_message.proofs.CSeqAgain.{IsMethod, cseq_again}
 use Rattle.sip_message.proofs.HeaderValues.{ends, first_good, joined_good, lines_good, top_good, values_good}

@@ -18,4 +18,4 @@ pub use Rattle.sip_via.specs.OwnVia.{IsOwn}
 pub use Rattle.sip_via.specs.TopVia.{first_or_empty, values_in}
 pub use Rattle.sip_via.specs.ViaParts.{read_via}
 pub use Rattle.sip_via.specs.declared.own.Own.{Own}
-pub use Rattle.sip_message.proofs.Named.{has_all}
+pub use Rattle.sip_message.proofs.laws.Named.{has_all}

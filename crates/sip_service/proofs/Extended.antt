@@ -6,7 +6,7 @@ use Rattle.sip_text.specs.Name.{full_name}
 use Rattle.sip_text.specs.Text.{spelling, status_in}
 use Rattle.sip_build.specs.Generated.{generated_of}
 use Rattle.sip_build.specs.declared.responses.OwnStatus.TheVariants as own
-use Rattle.sip_message.proofs.GeneratedGood.{generated_good}
+use Rattle.sip_message.proofs.laws.GeneratedGood.{generated_good}
 use Rattle.sip_service.specs.Capabilities.{accept_line, allow_line, capabilities_of}
 use Rattle.sip_service.specs.Stamping.{is_trying, stamped, trying_with}
 use Rattle.sip_service.proofs.Added.{IsOther, added-good}

@@ -3,7 +3,7 @@ use Rattle.sip_service.proofs.Common.{◌≡◌, ℕ, true, List, Option, Some, 
 use Rattle.std.proofs.Common.{Result, Ok, Err, is_some}
 use Rattle.std.proofs.lemmas.Bool.{cond-true}
 use Rattle.std.specs.Result.{result_ok}
-use Rattle.sip_text.proofs.Whole.{text_read}
+use Rattle.sip_text.proofs.laws.Whole.{text_read}
 use Rattle.sip_text.specs.Fault.{FailsAs}
 use Rattle.sip_text.specs.Grammar.{IsText}
 use Rattle.sip_text.specs.Message.{read_at}

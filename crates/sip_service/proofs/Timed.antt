@@ -18,7 +18,7 @@ use Rattle.sip_text.specs.Name.{full_name, name_of_letter, values_of}
 use Rattle.std.specs.List.{suffix_len}
 use Rattle.std.specs.Result.{result_ok}
 use Rattle.sip_lex.specs.Bytes.{is_space}
-use Rattle.sip_text.proofs.Whole.{text_found}
+use Rattle.sip_text.proofs.laws.Whole.{text_found}
 use Rattle.sip_text.specs.Message.{read_at}
 use Rattle.sip_text.specs.Reading.{Fault}
 use Rattle.sip_text.specs.Text.{Request}

@@ -3,7 +3,7 @@ use Rattle.sip_service.proofs.Common.{◌≡◌, ◌<◌, ◌^◌, ℕ, true, Li
 use Rattle.sip_text.specs.Name.{full_name, values_of}
 use Rattle.sip_build.specs.Generated.{generated_of}
 use Rattle.sip_build.specs.declared.responses.OwnStatus.TheVariants as own
-use Rattle.sip_message.proofs.GeneratedGood.{generated_good}
+use Rattle.sip_message.proofs.laws.GeneratedGood.{generated_good}
 use Rattle.sip_service.specs.Unavailable.{retry_line, unavailable_of}
 use Rattle.sip_service.proofs.Added.{IsOther, headers-good, others, via_there}
 

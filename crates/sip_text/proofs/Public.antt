@@ -2,7 +2,7 @@
 use Rattle.sip_text.proofs.Common.{ℕ, List, Result, Ok, Err, sym, subst, ◌∙◌, FailsAs, Gives, fault_seen, IsText, read_at, Fault, MessageText, common_steps, arith}
 use Rattle.std.specs.Prelude.{IfOk}
 use Rattle.sip_text.specs.declared.fault.ReadFault.{ReadFault}
-use Rattle.sip_text.proofs.Whole.{text_found, text_read}
+use Rattle.sip_text.proofs.laws.Whole.{text_found, text_read}
 
 pub is_found : {A : Type 0} (text : List ℕ) (r : Result MessageText (ReadFault A)) → Gives (λ m. m) r (read_at text) → IfOk r (λ m. IsText text m)
 is_found text r e = grind (arith, text_found)

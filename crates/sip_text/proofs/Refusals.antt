@@ -12,7 +12,7 @@ use Rattle.sip_text.proofs.Joins.{join_pieces}
 use Rattle.sip_text.proofs.StartAgain.{start_again}
 use Rattle.sip_text.proofs.StartFaults.{fault_again, fault_found}
 use Rattle.sip_text.proofs.StartLines.{done, start_found}
-use Rattle.sip_text.proofs.Whole.{headers_found, headers_read, skip_blank, skip_found, skip_line}
+use Rattle.sip_text.proofs.laws.Whole.{headers_found, headers_read, skip_blank, skip_found, skip_line}
 
 abbrev failed : {A : Type 0} → Fault → Result A Fault
 failed f = Err f

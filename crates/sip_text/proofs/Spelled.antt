@@ -10,7 +10,7 @@ use Rattle.sip_lex.proofs.laws.Trims.{token_lacks, trim_end-token}
 use Rattle.sip_text.specs.Text.{header_line, spelling}
 use Rattle.sip_text.proofs.laws.Good.{and_both, headers_good, line_of_lacks}
 use Rattle.sip_text.proofs.StartLines.{start_line_good}
-use Rattle.sip_text.proofs.Whole.{headers_read, text_read}
+use Rattle.sip_text.proofs.laws.Whole.{headers_read, text_read}
 
 -- ---- lines
 

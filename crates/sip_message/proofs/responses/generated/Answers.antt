@@ -1,5 +1,5 @@
 use Rattle.sip_message.proofs.Common.{view_start, views, generated_of}
-use Rattle.sip_message.proofs.GeneratedGood.{generated_good, made_so}
+use Rattle.sip_message.proofs.laws.GeneratedGood.{generated_good, made_so}
 use Rattle.sip_message.proofs.responses.generated.Goals as goal
 
 pub from_parts-requires : goal.from_parts-requires

@@ -1,6 +1,6 @@
 use Rattle.sip_service.proofs.Common.{arith}
 use Rattle.sip_text.specs.Seen.{view_start, views}
-use Rattle.sip_message.proofs.GeneratedGood.{made_so}
+use Rattle.sip_message.proofs.laws.GeneratedGood.{made_so}
 use Rattle.sip_service.specs.Unavailable.{unavailable_of}
 use Rattle.sip_service.proofs.Turned.{unavailable-good}
 use Rattle.sip_service.proofs.turning.unavailable.Goals as goal

@@ -5,7 +5,7 @@ use Rattle.sip_message.proofs.Common.{field_lines, all_pass, high_line, high_no_
 use Rattle.sip_text.specs.Fields.{cseq_fits}
 use Rattle.sip_text.specs.Name.{full_name, values_of}
 use Rattle.sip_build.specs.OwnTag.{own_tag, tag_fields}
-use Rattle.sip_message.proofs.Named.{AreNamed, Has, all_keep, cseq_there, first_keeps, has_all, named_filter, named_first, named_lines, none_missing, skip, tagged_keeps}
+use Rattle.sip_message.proofs.laws.Named.{AreNamed, Has, all_keep, cseq_there, first_keeps, has_all, named_filter, named_first, named_lines, none_missing, skip, tagged_keeps}
 use Rattle.sip_via.proofs.laws.Tokens.{hex_text_high}
 use Rattle.sip_message.proofs.HeaderValues.{behind_good, filter_good, lines_good, one_good, values_good}
 
