@@ -1,5 +1,4 @@
 pub mod Common
-pub mod SoundTables
 pub mod SoundValues
 pub mod SoundSteps
 pub mod SoundBegun

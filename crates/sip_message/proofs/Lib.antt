@@ -1,12 +1,11 @@
 pub mod Common
+pub mod laws
 pub mod Added
 pub mod CSeqAgain
 pub mod Forwarded
-pub mod GeneratedGood
 pub mod HeaderValues
 pub mod MarkedValues
 pub mod MarkedVia
-pub mod Named
 pub mod RequestsGood
 pub mod TrimmedVias
 pub mod UpwardGood

@@ -17,5 +17,4 @@ pub mod Steps
 pub mod Tails
 pub mod TextLines
 pub mod Tags
-pub mod Whole
 pub mod Zeroed

@@ -1,0 +1,2 @@
+pub mod GeneratedGood
+pub mod Named
