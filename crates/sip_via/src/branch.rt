@@ -208,8 +208,3 @@ pub fn read_branch(text: &[u8]) -> Option<BranchName>
     let parts = split_parts(text.strip_prefix(b"z9hG4bK")?)?;
     read_parts(&parts)
 }
-
-/// A branch parameter is a token (RFC 3261 section 25.1), so it may stand in a Via value as it is.
-pub fn branch_is_token()
-    ensures { (b : BranchName) → IsBranch b → list_all is_token_byte (branch_text b) ≡ true }
-{}

@@ -20,7 +20,7 @@ mod values;
 mod via;
 
 pub use address::is_address;
-pub use branch::{BranchName, branch_is_token, read_branch, write_branch};
+pub use branch::{BranchName, read_branch, write_branch};
 pub use edits::{begins_named, place_of};
 pub use hex::hex_pair;
 pub use lines::{first_named, first_value, split_named};

@@ -3,7 +3,7 @@ use crate::bytes::has;
 use crate::holds::holds;
 use crate::rows::holds_in_row;
 use sip_lex::is_token;
-use sip_via::{BranchName, branch_is_token, read_branch, write_branch};
+use sip_via::{BranchName, read_branch, write_branch};
 use std::alloc::Global;
 
 /// A branch with the largest numbers, and its text.
@@ -36,7 +36,6 @@ fn has_token(text: &[u8]) -> bool {
 }
 
 fn is_written_as_token(alloc: Global, name: &BranchName) -> bool {
-    branch_is_token();
     let mut text = Vec::new(alloc);
     adds_branch(name, &mut text) && has_token(&text)
 }
