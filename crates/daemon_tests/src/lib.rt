@@ -1,4 +1,4 @@
-//! Tests of the public calls of `fork_daemon`.
+//! Tests of the public calls of `daemon_answers` and `fork_daemon`.
 #![tactic(auto)]
 
 #[cfg(test)]

@@ -1,8 +1,8 @@
 //! OPTIONS requests to the proxy itself.
 use crate::holds::holds;
 use crate::outbox::Outbox;
+use daemon_answers::{answer_options, may_be_options};
 use fork_call::Setup;
-use fork_daemon::answer_options;
 use sip_uri::Hop;
 use std::alloc::Global;
 
@@ -34,7 +34,7 @@ const SOURCE: Hop = Hop {
     port: 5060,
 };
 
-/// Whether a text is answered so, and with a text that begins so.
+/// Whether a text is answered so, and with a text that begins so; what is answered looks like an OPTIONS request.
 fn is_answered(alloc: Global, text: &[u8], expected: bool, front: &[u8]) -> bool {
     let Ok(setup) = Setup::read(alloc, CONFIGURATION) else {
         return false;
@@ -42,6 +42,7 @@ fn is_answered(alloc: Global, text: &[u8], expected: bool, front: &[u8]) -> bool
     let mut outbox = Outbox::new(alloc);
     let answered = answer_options(alloc, &setup, text, SOURCE, &mut outbox);
     answered == Ok(expected)
+        && (may_be_options(text) || !expected)
         && outbox.bytes().starts_with(front)
         && outbox.bytes().is_empty() != expected
 }

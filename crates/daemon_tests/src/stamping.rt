@@ -1,8 +1,8 @@
 //! Datagrams that go out while a request with a Timestamp is handled.
 use crate::holds::holds;
 use crate::outbox::Outbox;
+use daemon_answers::StampedPort;
 use fork_call::{Cause, Datagram, Port};
-use fork_daemon::StampedPort;
 use sip_uri::Hop;
 use std::alloc::Global;
 

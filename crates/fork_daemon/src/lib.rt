@@ -5,19 +5,13 @@
 mod control;
 mod groups;
 mod journal;
-mod options;
 mod packet;
 mod port;
 mod proxy;
 mod receiving;
 mod serving;
-mod stamping;
 mod timer;
-mod turning;
 mod worker;
 
 pub use journal::append_block;
-pub use options::answer_options;
 pub use serving::{check_config, serve, serve_text};
-pub use stamping::StampedPort;
-pub use turning::{CallKeys, turn_away};

@@ -2,11 +2,9 @@
 ghost use Rattle.std.specs.Prelude.{IfErr};
 ghost use Rattle.fork_daemon.specs.Faults.{IsSystemFault};
 
-use crate::options::{answer_options, may_be_options};
 use crate::port::SocketPort;
 use crate::proxy::{Proxy, State};
-use crate::stamping::StampedPort;
-use crate::turning::turn_away;
+use daemon_answers::{StampedPort, answer_options, may_be_options, turn_away};
 use daemon_parts::{DaemonFault, ProxyFiles};
 use fork_call::Port;
 use fork_clock::Watch;

@@ -2,7 +2,7 @@
 use Rattle.std.proofs.Common.{◌≡◌, ℕ, Bool, true, List, refl, subst, inl, inr}
 use Rattle.call_model.specs.Built.{Datagram}
 use Rattle.fork_call.specs.Carry.{Sends}
-use Rattle.fork_daemon.specs.Stamping.{SendsStamped, stamped_text}
+use Rattle.daemon_answers.specs.Stamping.{SendsStamped, stamped_text}
 
 pub with_stamp : {P : Type 0} (sends : Sends P) (request : List ℕ) (port : P) (lacks : Bool) (datagram : Datagram) (went : Bool) (new : P) (bytes : List ℕ)
     → bytes ≡ stamped_text request datagram.bytes → sends port (record { to = datagram.to; bytes = bytes; cause = datagram.cause }) went new

@@ -1,7 +1,7 @@
 //! Requests that are turned away: the proxy opens no more calls.
 ghost use Rattle.std.specs.Prelude.{◌≡◌, ℕ, Bool, List, true, IfOk, OnErr};
 ghost use Rattle.sip_service.specs.Outside.{is_outside_dialog};
-ghost use Rattle.fork_daemon.specs.Turning.{Begins, IsNew, IsTurned};
+ghost use Rattle.daemon_answers.specs.Turning.{Begins, IsNew, IsTurned};
 
 use call_table::Shelf;
 use fork_call::{Call, Cause, Datagram, Port};

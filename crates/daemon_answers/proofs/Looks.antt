@@ -1,7 +1,7 @@
 -- What a look at the calls says of a request.
 use Rattle.std.proofs.Common.{◌≡◌, ℕ, Bool, true, false, not, List, Option, Some, None, is_some, refl, sym, subst, ◌∙◌}
 use Rattle.sip_via.specs.ViaParts.{or_empty}
-use Rattle.fork_daemon.specs.Turning.{IsNewBy, Keyed}
+use Rattle.daemon_answers.specs.Turning.{IsNewBy, Keyed}
 
 not_not : (b : Bool) → b ≡ not (not b)
 not_not true = refl

@@ -13,7 +13,7 @@ use Rattle.sip_text.specs.Method.{known_method, method_named}
 use Rattle.sip_text.specs.Text.{MessageText, Request, Response, StartText}
 use Rattle.sip_text.proofs.laws.Methods.{options_named}
 use Rattle.proxy_config.specs.Setup.{Setup}
-use Rattle.fork_daemon.specs.Options.{asks_proxy, is_options}
+use Rattle.daemon_answers.specs.Options.{asks_proxy, is_options}
 
 abbrev begins_so : List ℕ → Bool
 begins_so text = starts_with nat_eq text (codes "OPTIONS") || starts_with nat_eq text (13 ∷ 10 ∷ [])

@@ -1,7 +1,7 @@
 //! Datagrams that go out while a request is handled: a 100 has the Timestamp of the request.
 ghost use Rattle.std.specs.Prelude.{◌≡◌, IfOk, unwrap_or};
 ghost use Rattle.std.specs.Option.{option_map};
-ghost use Rattle.fork_daemon.specs.Stamping.{SendsStamped, stamped_text};
+ghost use Rattle.daemon_answers.specs.Stamping.{SendsStamped, stamped_text};
 
 use fork_call::{Datagram, Port};
 use sip_service::stamp_trying;

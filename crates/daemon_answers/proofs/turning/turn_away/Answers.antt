@@ -1,7 +1,7 @@
 use Rattle.std.proofs.Common.{rules, ◌≡◌, false, refl, subst}
-use Rattle.fork_daemon.proofs.Packets.{of_none, of_text}
-use Rattle.fork_daemon.proofs.turning.turn_away.Goals as goal
-use Rattle.fork_daemon.specs.Turning.{Begins}
+use Rattle.daemon_answers.proofs.Packets.{of_none, of_text}
+use Rattle.daemon_answers.proofs.turning.turn_away.Goals as goal
+use Rattle.daemon_answers.specs.Turning.{Begins}
 
 pub returns-in_default-clause-turned : goal.returns-in_default-clause-turned
 returns-in_default-clause-turned g c = record {

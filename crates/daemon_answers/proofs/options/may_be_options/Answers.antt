@@ -1,5 +1,5 @@
-use Rattle.fork_daemon.proofs.OptionsFront.{behind_first}
-use Rattle.fork_daemon.proofs.options.may_be_options.Goals as goal
+use Rattle.daemon_answers.proofs.OptionsFront.{behind_first}
+use Rattle.daemon_answers.proofs.options.may_be_options.Goals as goal
 
 pub returns-else-starts_with : goal.returns-else-starts_with
 returns-else-starts_with c m is asks =

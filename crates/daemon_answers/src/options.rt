@@ -3,7 +3,7 @@ ghost use Rattle.std.specs.Prelude.{◌≡◌, true, IfOk, OnErr};
 ghost use Rattle.sip_text.specs.Grammar.{IsText};
 ghost use Rattle.sip_text.specs.Method.{known_method};
 ghost use Rattle.sip_text.specs.Text.{MessageText};
-ghost use Rattle.fork_daemon.specs.Options.{IsAnsweredIf, asks_proxy, is_options, is_proxy, is_proxy_if_read};
+ghost use Rattle.daemon_answers.specs.Options.{IsAnsweredIf, asks_proxy, is_options, is_proxy, is_proxy_if_read};
 ghost use Rattle.sip_uri.specs.Reading.{read_uri};
 
 use fork_call::{Cause, Datagram, Port, Setup};
@@ -16,7 +16,7 @@ use std::alloc::{AllocError, Allocator};
 
 /// Whether a text may spell an OPTIONS request, by its first bytes: the method stands at its front, or behind empty lines. It takes
 /// no memory.
-pub(crate) fn may_be_options(text: &[u8]) -> bool
+pub fn may_be_options(text: &[u8]) -> bool
     ensures { (m : MessageText) → IsText text.now m → is_options (known_method m.start) ≡ true → result ≡ true }
 {
     text.starts_with(b"OPTIONS") || text.starts_with(b"\r\n")

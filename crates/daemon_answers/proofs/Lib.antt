@@ -1,0 +1,4 @@
+mod Looks
+mod OptionsFront
+mod Packets
+mod Stamps
