@@ -11,7 +11,7 @@ pub use Rattle.proxy_routing.specs.Admission.{IsAdmitted, target_uri}
 pub use Rattle.call_routing.specs.Kinds.{is_to_method}
 pub use Rattle.call_routing.specs.Opening.{IsBegun}
 pub use Rattle.proxy_routing.specs.Refusing.{IsTurnedAway}
-pub use Rattle.proxy_routing.specs.Targets.{Choice, has_hop, targets_of}
+pub use Rattle.proxy_routing.specs.Targets.{CandidateTarget, has_hop, targets_of}
 pub use Rattle.call_routing.specs.Destinations.{destination_of_row}
 pub use Rattle.sip_text.specs.Fields.{message_cseq}
 pub use Rattle.sip_text.specs.Text.{MessageText, StartText}

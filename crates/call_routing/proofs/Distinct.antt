@@ -1,43 +1,43 @@
 -- The targets of a request are no more than may be tried, and none stands twice: they are the locations of a user, or one alone.
-use Rattle.call_routing.proofs.Common.{◌≡◌, ◌∙◌, ◌<◌, ℕ, zero, suc, true, false, Bool, List, [], Option, Some, None, map, ap, arith, refl, sym, Choice, targets_of}
+use Rattle.call_routing.proofs.Common.{◌≡◌, ◌∙◌, ◌<◌, ℕ, zero, suc, true, false, Bool, List, [], Option, Some, None, map, ap, arith, refl, sym, CandidateTarget, targets_of}
 use Rattle.std.specs.Prelude.{◌∷◌, length, slice_get}
 use Rattle.fork_context.specs.Refusals.{keys_of_targets}
 use Rattle.sip_uri.specs.Uri.{Uri}
 use Rattle.sip_route.specs.declared.route_values.FirstRoute.{FirstRoute}
 use Rattle.proxy_config.specs.Setup.{KeepsRules, Location, LocationsAreTargets, Setup, location_key, locations_of}
-use Rattle.proxy_routing.specs.Targets.{choice_at, choices_by, choices_of}
+use Rattle.proxy_routing.specs.Targets.{candidate_at, candidates_by, candidates_of}
 use Rattle.call_routing.specs.inner.Distinct.{AreDistinct}
 
-keys_same : (route : FirstRoute) (ls : List Location) → keys_of_targets (targets_of (map (choice_at route) ls)) ≡ map location_key ls
+keys_same : (route : FirstRoute) (ls : List Location) → keys_of_targets (targets_of (map (candidate_at route) ls)) ≡ map location_key ls
 keys_same route [] = refl
 keys_same route (l ∷ ls) = ap (λ (ks : List (List ℕ)). location_key l ∷ ks) (keys_same route ls)
 
-length_same : (route : FirstRoute) (ls : List Location) → length (targets_of (map (choice_at route) ls)) ≡ length ls
+length_same : (route : FirstRoute) (ls : List Location) → length (targets_of (map (candidate_at route) ls)) ≡ length ls
 length_same route [] = refl
 length_same route (l ∷ ls) = ap suc (length_same route ls)
 
 none_distinct : AreDistinct []
 none_distinct = record { few = omega arith; apart = λ (m, n, key, less, a, b). absurd cc }
 
-one_apart : (choice : Choice) (m n : ℕ) (key : List ℕ) → m < n → slice_get (keys_of_targets (targets_of (choice ∷ []))) n ≡ Some key → ⊥
-one_apart choice m zero key less b = omega (arith, less)
-one_apart choice m (suc n) key less b = absurd cc
+one_apart : (candidate : CandidateTarget) (m n : ℕ) (key : List ℕ) → m < n → slice_get (keys_of_targets (targets_of (candidate ∷ []))) n ≡ Some key → ⊥
+one_apart candidate m zero key less b = omega (arith, less)
+one_apart candidate m (suc n) key less b = absurd cc
 
-one_distinct : (choice : Choice) → AreDistinct (choice ∷ [])
-one_distinct choice = record { few = omega arith; apart = λ (m, n, key, less, a, b). one_apart choice m n key less b }
+one_distinct : (candidate : CandidateTarget) → AreDistinct (candidate ∷ [])
+one_distinct candidate = record { few = omega arith; apart = λ (m, n, key, less, a, b). one_apart candidate m n key less b }
 
-pub distinct : LocationsAreTargets → (inside : Bool) (setup : Setup) (route : FirstRoute) (uri : Uri) → KeepsRules setup.locations → AreDistinct (choices_by inside setup route uri)
+pub distinct : LocationsAreTargets → (inside : Bool) (setup : Setup) (route : FirstRoute) (uri : Uri) → KeepsRules setup.locations → AreDistinct (candidates_by inside setup route uri)
 distinct law false setup route uri keeps = one_distinct _
 distinct law true setup route uri keeps = by uri.user
   where
-    by : (user : Option (List ℕ)) → AreDistinct (choices_of route setup.locations user)
+    by : (user : Option (List ℕ)) → AreDistinct (candidates_of route setup.locations user)
     by None = none_distinct
     by (Some user) =
         let ls = locations_of user setup.locations in
         let are = law user setup.locations keeps in
         let few = are.few in
         let long = length_same route ls in
-        let key_at : (k : ℕ) (key : List ℕ) → slice_get (keys_of_targets (targets_of (map (choice_at route) ls))) k ≡ Some key → slice_get (map location_key ls) k ≡ Some key =
+        let key_at : (k : ℕ) (key : List ℕ) → slice_get (keys_of_targets (targets_of (map (candidate_at route) ls))) k ≡ Some key → slice_get (map location_key ls) k ≡ Some key =
         λ k key e. ap (λ (ks : List (List ℕ)). slice_get ks k) (sym (keys_same route ls)) ∙ e in
         record {
           few = omega (arith, few, long);

@@ -1,6 +1,6 @@
 -- What is known where a request was admitted, and where it was not.
 use Rattle.call_routing.proofs.Common.{◌≡◌, ◌∙◌, true, false, Bool, ℕ, List, [], Option, Result, Ok, Err, ap, subst, IfOk, list_all, Rules, MessageText, StartText, Own, top_value, via_of, Call, OpenedRequest, IsAdmitted, target_uri, IsTurnedAway}
-use Rattle.call_routing.proofs.Common.{IsBegun, Choice, has_hop}
+use Rattle.call_routing.proofs.Common.{IsBegun, CandidateTarget, has_hop}
 use Rattle.std.specs.Prelude.{IfErr}
 use Rattle.sip_text.specs.Text as texts
 use Rattle.sip_uri.specs.declared.hop.Hop.{Hop}
@@ -13,8 +13,8 @@ use Rattle.proxy_config.specs.Setup.{Setup}
 use Rattle.proxy_routing.specs.declared.fault.RequestRejection.{RequestRejection}
 use Rattle.proxy_routing.specs.declared.fault.RequestRejection.TheVariants.{BadRequest, Scheme, Hops, Loop, Extension, NoTarget, NoHop, NoMemory}
 use Rattle.proxy_routing.specs.Admission.{asks_extension}
-use Rattle.call_routing.specs.Opening.{Asks, IsOpenable, IsRefused, IsUnreachable, Opens, Reaches, Refuses, choices_for, opened_of}
-use Rattle.proxy_routing.specs.Targets.{choices, choices_by, hop_if_any, is_domain}
+use Rattle.call_routing.specs.Opening.{Asks, IsOpenable, IsRefused, IsUnreachable, Opens, Reaches, Refuses, candidates_for, opened_of}
+use Rattle.proxy_routing.specs.Targets.{candidates, candidates_by, hop_if_any, is_domain}
 
 pub openable : (start other : StartText) → start ≡ other → IsOpenable other → is_request start ≡ true
 openable start (texts.Request method uri) e h = ap is_request e
@@ -84,13 +84,13 @@ fixed_so setup number request source uri own instance caller route inside first 
     let destination : route ≡ hop_if_any (first_route request) = s ∙ ap hop_if_any t in
     e ∙ (λ k. record { number = number; own = p k; instance = q k; request = request; caller = r k; route = destination k; is_responsible = u k })
 
-pub reaches : (setup : Setup) (number : ℕ) (request : MessageText) (source : Hop) (uri : Uri) (rules : Rules) (inside : Bool) (route : FirstRoute) (opened : OpenedRequest) (cs : List Choice) (call : Call)
-    → cs ≡ choices_by inside setup route uri → inside ≡ is_domain setup uri → (cs ≡ [] → ⊥) → list_all has_hop cs ≡ true → rules ≡ setup.rules → route ≡ first_route request
+pub reaches : (setup : Setup) (number : ℕ) (request : MessageText) (source : Hop) (uri : Uri) (rules : Rules) (inside : Bool) (route : FirstRoute) (opened : OpenedRequest) (cs : List CandidateTarget) (call : Call)
+    → cs ≡ candidates_by inside setup route uri → inside ≡ is_domain setup uri → (cs ≡ [] → ⊥) → list_all has_hop cs ≡ true → rules ≡ setup.rules → route ≡ first_route request
     → opened ≡ opened_of setup number request source uri → IsBegun rules opened cs call → Reaches setup number request source uri call
 reaches setup number request source uri rules inside route opened cs call p i n h q r s b =
-    let whole : cs ≡ choices_for setup request uri = p ∙ ap (λ (x : Bool). choices_by x setup route uri) i ∙ ap (λ (x : FirstRoute). choices setup x uri) r in
-    let H : List Choice → Type 0 = λ x. list_all has_hop x ≡ true in
-    let B : List Choice → Type 0 = λ x. IsBegun rules opened x call in
-    let C : Rules → Type 0 = λ x. IsBegun x opened (choices_for setup request uri) call in
-    let E : OpenedRequest → Type 0 = λ x. IsBegun setup.rules x (choices_for setup request uri) call in
+    let whole : cs ≡ candidates_for setup request uri = p ∙ ap (λ (x : Bool). candidates_by x setup route uri) i ∙ ap (λ (x : FirstRoute). candidates setup x uri) r in
+    let H : List CandidateTarget → Type 0 = λ x. list_all has_hop x ≡ true in
+    let B : List CandidateTarget → Type 0 = λ x. IsBegun rules opened x call in
+    let C : Rules → Type 0 = λ x. IsBegun x opened (candidates_for setup request uri) call in
+    let E : OpenedRequest → Type 0 = λ x. IsBegun setup.rules x (candidates_for setup request uri) call in
     record { some = λ e. n (whole ∙ e); hops = subst H whole h; begins = subst E s (subst C q (subst B whole b)) }

@@ -1,5 +1,5 @@
 -- Each row of a fork as it opens is for one of its targets.
-use Rattle.call_routing.proofs.Common.{◌≡◌, ◌∙◌, ℕ, zero, suc, ◌<◌, List, [], map, take, Option, Some, None, Result, Ok, Err, refl, ap, sym, subst, arith, IfOk, option_map, same_Some, Rules, Call, OpenedRequest, table_of, IsBegun, Choice}
+use Rattle.call_routing.proofs.Common.{◌≡◌, ◌∙◌, ℕ, zero, suc, ◌<◌, List, [], map, take, Option, Some, None, Result, Ok, Err, refl, ap, sym, subst, arith, IfOk, option_map, same_Some, Rules, Call, OpenedRequest, table_of, IsBegun, CandidateTarget}
 use Rattle.call_routing.proofs.Common.{targets_of, destination_of_row}
 use Rattle.std.proofs.Common.{◌+◌, ◌∷◌, ◌++◌, length, drop, slice_get}
 use Rattle.std.specs.List.{cons_option, filter_map}
@@ -41,11 +41,11 @@ placed targets n row e =
         let P : ℕ → Type 0 = λ k. k < length targets in
         subst P at (slice_get_within targets p.1 t q)
 
-many : (cs : List Choice) → length (targets_of cs) ≡ length cs
+many : (cs : List CandidateTarget) → length (targets_of cs) ≡ length cs
 many [] = refl
 many (c ∷ cs) = ap suc (many cs)
 
-pub places : (cs : List Choice) (kind : Kind) (rules : Rules) (log : Log) → log ≡ opening_log kind rules (targets_of cs)
+pub places : (cs : List CandidateTarget) (kind : Kind) (rules : Rules) (log : Log) → log ≡ opening_log kind rules (targets_of cs)
     → (n : ℕ) (row : Row) → slice_get (table_of log).rows n ≡ Some row → row.place < length cs
 places cs kind rules log e n row f =
     let P : Log → Type 0 = λ l. slice_get (table_of l).rows n ≡ Some row in
@@ -58,7 +58,7 @@ named : (o : Option Row) (k : ℕ) → option_map (λ (row : Row). row.place) o 
 named None k e = absurd cc
 named (Some row) k e = (row, refl, same_Some _ _ e)
 
-pub place_within : (rows : List Row) (cs : List Choice) (n k : ℕ)
+pub place_within : (rows : List Row) (cs : List CandidateTarget) (n k : ℕ)
     → ((n : ℕ) (row : Row) → slice_get rows n ≡ Some row → row.place < length cs)
     → option_map (λ (row : Row). row.place) (slice_get rows n) ≡ Some k → k < length cs
 place_within rows cs n k within e =
@@ -74,7 +74,7 @@ module _ {X Y : Type 0} (f : X → Y) where
       let on : suc n + 1 ≡ suc (n + 1) = omega arith in
       ap (λ (k : ℕ). map f (take k (y ∷ xs))) on ∙ ap (λ (l : List Y). f y ∷ l) (one_more xs n x e)
 
-pub destinations_more : (cs : List Choice) (rows : List Row) (destinations new : List Destination) (n k : ℕ) (destination : Destination)
+pub destinations_more : (cs : List CandidateTarget) (rows : List Row) (destinations new : List Destination) (n k : ℕ) (destination : Destination)
     → map Some destinations ≡ map (destination_of_row cs) (take n rows) → new ≡ destinations ++ destination ∷ []
     → option_map (λ (row : Row). row.place) (slice_get rows n) ≡ Some k → option_and_then destination_to (slice_get cs k) ≡ Some destination
     → map Some new ≡ map (destination_of_row cs) (take (n + 1) rows)
@@ -97,7 +97,7 @@ as_many f (y ∷ ys) (x ∷ xs) e =
     let rest : map Some ys ≡ map f xs = ap (drop 1) e in
     ap suc (as_many f ys xs rest)
 
-pub begun_so : {E : Type 0} (rules : Rules) (opened : OpenedRequest) (cs : List Choice) (destinations : List Destination) (log : Log) (kind : Kind)
+pub begun_so : {E : Type 0} (rules : Rules) (opened : OpenedRequest) (cs : List CandidateTarget) (destinations : List Destination) (log : Log) (kind : Kind)
     (r : Result Call E) → IfOk r (λ call. call ≡ begun opened log destinations) → log ≡ opening_log kind rules (targets_of cs) → kind ≡ kind_of opened
     → AreDestinations cs (table_of log).rows destinations → IfOk r (IsBegun rules opened cs)
 begun_so rules opened cs destinations log kind (Err fault) e p q w = tt

@@ -21,7 +21,7 @@ use Rattle.proxy_routing.specs.declared.fault.RequestRejection.TheVariants.{BadR
 use Rattle.proxy_routing.specs.Admission.{IsAdmitted, asks_extension, target_uri}
 use Rattle.proxy_routing.specs.Refusing.{IsTurnedAway}
 use Rattle.call_routing.specs.Destinations.{AreDestinations}
-use Rattle.proxy_routing.specs.Targets.{Choice, choices, has_hop, hop_if_any, is_domain, targets_of}
+use Rattle.proxy_routing.specs.Targets.{CandidateTarget, candidates, has_hop, hop_if_any, is_domain, targets_of}
 
 -- a request that opens a call: neither an ACK nor a CANCEL (sections 9.2 and 17.2.1)
 abbrev pub IsOpenable : StartText → Type 0
@@ -41,7 +41,7 @@ opened_of setup number request source uri = record {
 }
 
 -- a fork to these targets, of which nothing was sent yet
-abbrev pub IsBegun : Rules → OpenedRequest → List Choice → Call → Type 0
+abbrev pub IsBegun : Rules → OpenedRequest → List CandidateTarget → Call → Type 0
 IsBegun rules opened cs call =
     (destinations : List Destination)
     × AreDestinations cs (opening_rows (targets_of cs)) destinations
@@ -50,14 +50,14 @@ IsBegun rules opened cs call =
 -- ---- the first fault, or the call
 
 -- where the request may be sent, by its first Route value or by the targets themselves
-abbrev pub choices_for : Setup → MessageText → Uri → List Choice
-choices_for setup request uri = choices setup (first_route request) uri
+abbrev pub candidates_for : Setup → MessageText → Uri → List CandidateTarget
+candidates_for setup request uri = candidates setup (first_route request) uri
 
 -- why a request as it was prepared is not sent on to the targets that its URI leads to (sections 16.5 and 16.6)
 abbrev pub IsUnreachable : Setup → MessageText → Uri → RequestRejection → Type 0
-IsUnreachable setup request uri NoTarget = choices_for setup request uri ≡ []
+IsUnreachable setup request uri NoTarget = candidates_for setup request uri ≡ []
 IsUnreachable setup request uri NoHop =
-    (choices_for setup request uri ≢ []) × (list_all has_hop (choices_for setup request uri) ≡ false)
+    (candidates_for setup request uri ≢ []) × (list_all has_hop (candidates_for setup request uri) ≡ false)
 -- want of memory says nothing
 IsUnreachable setup request uri NoMemory = Unit {0}
 -- the others come before these steps
@@ -65,9 +65,9 @@ IsUnreachable setup request uri _ = ⊥
 
 -- or it is, as this call
 pub record Reaches (setup : Setup) (number : ℕ) (request : MessageText) (source : Hop) (uri : Uri) (call : Call) : Type 0 where
-  pub some : choices_for setup request uri ≢ []
-  pub hops : list_all has_hop (choices_for setup request uri) ≡ true
-  pub begins : IsBegun setup.rules (opened_of setup number request source uri) (choices_for setup request uri) call
+  pub some : candidates_for setup request uri ≢ []
+  pub hops : list_all has_hop (candidates_for setup request uri) ≡ true
+  pub begins : IsBegun setup.rules (opened_of setup number request source uri) (candidates_for setup request uri) call
 
 -- it asks for no extension (section 16.3 step 5), and this is the URI that it names
 abbrev pub Asks : MessageText → (Uri → Type 0) → Type 0

@@ -23,8 +23,8 @@ use fork_context::{Kind, NewFault};
 use fork_rank::Rules;
 use proxy_config::{Setup, locations_are_targets};
 use proxy_routing::{
-    Choice, RequestRejection, asks_extension, choices, have_hops, hop_if_any, is_domain,
-    targets_of, validate_request,
+    CandidateTarget, RequestRejection, asks_extension, candidates, have_hops, hop_if_any,
+    is_domain, targets_of, validate_request,
 };
 use sip_route::{first_route, request_uri};
 use sip_text::Message;
@@ -35,28 +35,28 @@ use std::alloc::{AllocError, Allocator, Global};
 /// Where the request to a target that has a hop goes.
 fn destination_to<A: Allocator + Clone>(
     alloc: A,
-    choice: &Choice<'_, A>,
+    candidate: &CandidateTarget<'_, A>,
 ) -> Result<Destination<A>, AllocError>
-    requires hop { has_hop choice.now ≡ true }
-    ensures { IfOk result (λ destination. destination_to choice.now ≡ Some destination) }
+    requires hop { has_hop candidate.now ≡ true }
+    ensures { IfOk result (λ destination. destination_to candidate.now ≡ Some destination) }
 {
-    let Some(hop) = choice.hop() else {
+    let Some(hop) = candidate.hop() else {
         unreachable!()
     };
-    Ok(Destination::new(choice.uri().requested(alloc)?, hop))
+    Ok(Destination::new(candidate.uri().requested(alloc)?, hop))
 }
 
 /// Where the request to the target at that place goes.
 fn destination_at<A: Allocator + Clone>(
     alloc: A,
-    choices: &[Choice<'_, A>],
+    candidates: &[CandidateTarget<'_, A>],
     place: usize,
 ) -> Result<Destination<A>, AllocError>
-    requires there { place < length choices.now }
-    requires hops { list_all has_hop choices.now ≡ true }
-    ensures { IfOk result (λ destination. option_and_then destination_to (slice_get choices.now place) ≡ Some destination) }
+    requires there { place < length candidates.now }
+    requires hops { list_all has_hop candidates.now ≡ true }
+    ensures { IfOk result (λ destination. option_and_then destination_to (slice_get candidates.now place) ≡ Some destination) }
 {
-    destination_to(alloc, &choices[place])
+    destination_to(alloc, &candidates[place])
 }
 
 /// The URI that a request names, where it can be read (RFC 3261 section 16.5).
@@ -99,18 +99,18 @@ pub fn admitted_target<A: Allocator + Clone>(
 /// Where the request of each row goes, in the order of the rows.
 fn destinations_of<A: Allocator + Clone>(
     alloc: &A,
-    choices: &[Choice<'_, A>],
+    candidates: &[CandidateTarget<'_, A>],
     book: &Book<A>,
 ) -> Result<Vec<Destination<A>, A>, AllocError>
-    requires hops { list_all has_hop choices.now ≡ true }
-    requires places { (n : ℕ) (row : Row) → slice_get (table_of book.now).rows n ≡ Some row → row.place < length choices.now }
-    ensures { IfOk result (λ destinations. AreDestinations choices.now (table_of book.now).rows destinations.items) }
+    requires hops { list_all has_hop candidates.now ≡ true }
+    requires places { (n : ℕ) (row : Row) → slice_get (table_of book.now).rows n ≡ Some row → row.place < length candidates.now }
+    ensures { IfOk result (λ destinations. AreDestinations candidates.now (table_of book.now).rows destinations.items) }
 {
     let count = book.context().count();
     let mut destinations = Vec::with_capacity(alloc.clone()?, count as usize)?;
     for n in 0..book.context().count() {
         let place = place_of(book, n);
-        destinations.push(destination_at(alloc.clone()?, choices, place)?)?;
+        destinations.push(destination_at(alloc.clone()?, candidates, place)?)?;
     }
     Ok(destinations)
 }
@@ -121,13 +121,13 @@ fn book_of<A: Allocator + Clone>(
     alloc: A,
     kind: Kind,
     rules: Rules,
-    choices: &[Choice<'_, A>],
+    candidates: &[CandidateTarget<'_, A>],
 ) -> Result<Book<A>, AllocError>
-    requires some { choices.now ≢ [] }
-    requires distinct { AreDistinct choices.now }
-    ensures { IfOk result (λ book. book ≡ opening_log (kinds.kind_of kind) rules (targets_of choices.now)) }
+    requires some { candidates.now ≢ [] }
+    requires distinct { AreDistinct candidates.now }
+    ensures { IfOk result (λ book. book ≡ opening_log (kinds.kind_of kind) rules (targets_of candidates.now)) }
 {
-    let targets = targets_of(alloc.clone()?, choices)?;
+    let targets = targets_of(alloc.clone()?, candidates)?;
     match Book::new(alloc, kind, rules, targets) {
         Ok(book) => Ok(book),
         Err(NewFault::NoMemory) => Err(AllocError),
@@ -140,12 +140,12 @@ fn book_of<A: Allocator + Clone>(
 /// Shows that each row of a book that was opened to these targets is for one of them.
 fn rows_have_places<A: Allocator + Clone>(
     book: &Book<A>,
-    choices: &[Choice<'_, A>],
+    candidates: &[CandidateTarget<'_, A>],
     kind: Kind,
     rules: Rules,
 )
-    requires { book.now ≡ opening_log (kinds.kind_of kind) rules (targets_of choices.now) }
-    ensures { (n : ℕ) (row : Row) → slice_get (table_of book.now).rows n ≡ Some row → row.place < length choices.now }
+    requires { book.now ≡ opening_log (kinds.kind_of kind) rules (targets_of candidates.now) }
+    ensures { (n : ℕ) (row : Row) → slice_get (table_of book.now).rows n ≡ Some row → row.place < length candidates.now }
 {}
 
 /// The state of a call that begins to these targets, each of which has a hop.
@@ -154,18 +154,18 @@ fn begin<A: Allocator + Clone>(
     heap: Global,
     rules: Rules,
     opened: OpenedRequest<A>,
-    choices: &[Choice<'_, A>],
+    candidates: &[CandidateTarget<'_, A>],
     now: u64,
 ) -> Result<CallState<A>, AllocError>
-    requires hops { list_all has_hop choices.now ≡ true }
-    requires some { choices.now ≢ [] }
-    requires distinct { AreDistinct choices.now }
-    ensures { IfOk result (IsBegun rules opened choices.now) }
+    requires hops { list_all has_hop candidates.now ≡ true }
+    requires some { candidates.now ≢ [] }
+    requires distinct { AreDistinct candidates.now }
+    ensures { IfOk result (IsBegun rules opened candidates.now) }
 {
     let kind = opened.kind();
-    let book = book_of(alloc.clone()?, kind, rules, choices)?;
-    rows_have_places(&book, choices, kind, rules);
-    let destinations = destinations_of(&alloc, choices, &book)?;
+    let book = book_of(alloc.clone()?, kind, rules, candidates)?;
+    rows_have_places(&book, candidates, kind, rules);
+    let destinations = destinations_of(&alloc, candidates, &book)?;
     CallState::begin(alloc, heap, opened, book, destinations, now)
 }
 
@@ -187,11 +187,11 @@ fn open_to<A: Allocator + Clone>(
 {
     let route = first_route(&request);
     let inside = is_domain(setup, uri);
-    let choices = choices(alloc.clone()?, setup, inside, route, uri)?;
-    if choices.is_empty() {
+    let candidates = candidates(alloc.clone()?, setup, inside, route, uri)?;
+    if candidates.is_empty() {
         return Err(RequestRejection::NoTarget);
     }
-    if !have_hops(&choices) {
+    if !have_hops(&candidates) {
         return Err(RequestRejection::NoHop);
     }
     let caller = reply_hop_of(&request, source);
@@ -206,7 +206,7 @@ fn open_to<A: Allocator + Clone>(
     );
     locations_are_targets();
     let _locations = setup.locations();
-    match begin(alloc, heap, setup.rules(), opened, &choices, now) {
+    match begin(alloc, heap, setup.rules(), opened, &candidates, now) {
         Ok(state) => Ok(state),
         Err(_) => Err(RequestRejection::NoMemory),
     }

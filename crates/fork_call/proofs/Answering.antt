@@ -14,8 +14,8 @@ use Rattle.call_laws.specs.Successes as successes
 use Rattle.call_model.specs.OpenedRequest.{is_invite}
 use Rattle.call_laws.specs.Stages.{Leads, end_of}
 use Rattle.call_routing.specs.Matching.{BelongsTo}
-use Rattle.call_routing.specs.Opening.{choices_for, opened_of}
-use Rattle.proxy_routing.specs.Targets.{Choice, targets_of}
+use Rattle.call_routing.specs.Opening.{candidates_for, opened_of}
+use Rattle.proxy_routing.specs.Targets.{CandidateTarget, targets_of}
 use Rattle.fork_call.specs.Answered.{CallsHaveStages, EachSuccessGoesUp, IsSaid, OneFinalAnswerGoesUp, OpenedCallsPayInOrder}
 use Rattle.fork_call.specs.Runs.{Came, IsInput, IsTurn, Lost, May, Said}
 use Rattle.fork_call.proofs.Running.{stepped}
@@ -60,7 +60,7 @@ calls_have_stages call new (answer ∷ answers) (mid, first, rest) said =
 
 -- ---- what opened
 
-some_targets : (cs : List Choice) → cs ≢ [] → targets_of cs ≢ []
+some_targets : (cs : List CandidateTarget) → cs ≢ [] → targets_of cs ≢ []
 some_targets [] some e = some refl
 some_targets (c ∷ cs) some e = absurd cc
 
@@ -70,7 +70,7 @@ opened_pay pays setup number m source call stages opens given leads =
     let uri = opens.2.1 in
     let reaches = opens.2.3 in
     let begins = reaches.begins in
-    let cs = choices_for setup request uri in
+    let cs = candidates_for setup request uri in
     let P : Call → Type 0 = λ x. Leads x stages → PaysInOrder x stages in
     subst P (sym begins.2) (pays (opened_of setup number request source uri) setup.rules (targets_of cs) begins.0 stages (some_targets cs reaches.some) given) leads
 
@@ -80,7 +80,7 @@ opened_answer_once once setup number m source call stages opens given leads =
     let uri = opens.2.1 in
     let reaches = opens.2.3 in
     let begins = reaches.begins in
-    let cs = choices_for setup request uri in
+    let cs = candidates_for setup request uri in
     let P : Call → Type 0 = λ x.
     Leads x stages → is_finished (rows_of (end_of x stages)) ≡ true → is_succeeded (rows_of (end_of x stages)) ≡ false → (end_of x stages).server.owed ≡ []
     → AnswersOnce x stages in
@@ -92,7 +92,7 @@ opened_success goes setup number m source call before stage later answer opens i
     let uri = opens.2.1 in
     let reaches = opens.2.3 in
     let begins = reaches.begins in
-    let cs = choices_for setup request uri in
+    let cs = candidates_for setup request uri in
     let P : Call → Type 0 = λ x. is_invite x.opened ≡ true → Leads x (before ++ stage ∷ later) → GoesUp x before stage later answer in
     subst P (sym begins.2)
     (λ is l. goes (opened_of setup number request source uri) setup.rules (targets_of cs) begins.0 before stage later answer (some_targets cs reaches.some) is given l posts)

@@ -4,7 +4,7 @@ use Rattle.proxy_config.specs.Setup.{Setup}
 use Rattle.call_model.specs.Call.{numbered}
 use Rattle.call_model.specs.Sound.{BegunIsSound}
 use Rattle.call_laws.specs.Right.{BegunStands}
-use Rattle.call_routing.specs.Opening.{choices_for, opened_of}
+use Rattle.call_routing.specs.Opening.{candidates_for, opened_of}
 use Rattle.proxy_routing.specs.Targets.{targets_of}
 
 pub opened_timed : (begun : BegunIsSound) (stand : BegunStands) (setup : Setup) (number : ℕ) (m : MessageText) (source : Hop) (call : Call) (moments : List (Option ℕ))
@@ -18,8 +18,8 @@ opened_timed begun stand setup number m source call moments opens times =
     let Q : List (Option ℕ) → Type 0 = λ ms. IsTimed call ms in
     let opened = opened_of setup number request source uri in
     subst Q (sym times) (subst P (sym begins.2) (record {
-      sound = begun opened setup.rules (targets_of (choices_for setup request uri)) begins.0;
-      right = ([], [], stand opened setup.rules (targets_of (choices_for setup request uri)) begins.0);
+      sound = begun opened setup.rules (targets_of (candidates_for setup request uri)) begins.0;
+      right = ([], [], stand opened setup.rules (targets_of (candidates_for setup request uri)) begins.0);
       times = refl;
       within = omega arith;
     }))

@@ -22,7 +22,7 @@ hop_by NoHop uri = None
 hop_by (To hop) uri = Some hop
 
 -- a target, tried at this q, in thousandths, and the hop by which it is reached, if there is one
-pub record Choice : Type 0 where
+pub record CandidateTarget : Type 0 where
   pub q : ℕ
   pub uri : Uri
   pub hop : Option Hop
@@ -45,30 +45,30 @@ is_domain setup uri =
     bytes_eq (str_to_ascii_lowercase uri.host) (str_to_ascii_lowercase setup.domain)
     || is_own setup uri
 
-abbrev pub choice_at : FirstRoute → Location → Choice
-choice_at route location = record { q = location.q; uri = location.uri; hop = hop_by route location.uri }
+abbrev pub candidate_at : FirstRoute → Location → CandidateTarget
+candidate_at route location = record { q = location.q; uri = location.uri; hop = hop_by route location.uri }
 
-abbrev pub choices_of : FirstRoute → List Location → Option (List ℕ) → List Choice
-choices_of route locations None = []
-choices_of route locations (Some user) = map (choice_at route) (locations_of user locations)
+abbrev pub candidates_of : FirstRoute → List Location → Option (List ℕ) → List CandidateTarget
+candidates_of route locations None = []
+candidates_of route locations (Some user) = map (candidate_at route) (locations_of user locations)
 
 -- where the proxy is responsible for it the locations of the user, else the Request-URI alone
-abbrev pub choices_by : (inside : Bool) → Setup → FirstRoute → Uri → List Choice
-choices_by inside setup route uri =
-    if inside then choices_of route setup.locations uri.user
+abbrev pub candidates_by : (inside : Bool) → Setup → FirstRoute → Uri → List CandidateTarget
+candidates_by inside setup route uri =
+    if inside then candidates_of route setup.locations uri.user
     else record { q = most_q; uri = uri; hop = hop_by route uri } ∷ []
 
-abbrev pub choices : Setup → FirstRoute → Uri → List Choice
-choices setup route uri = choices_by (is_domain setup uri) setup route uri
+abbrev pub candidates : Setup → FirstRoute → Uri → List CandidateTarget
+candidates setup route uri = candidates_by (is_domain setup uri) setup route uri
 
-abbrev pub target_of : Choice → Target
-target_of choice = record { key = key_of choice.uri; q = choice.q }
+abbrev pub target_of : CandidateTarget → Target
+target_of candidate = record { key = key_of candidate.uri; q = candidate.q }
 
-abbrev pub targets_of : List Choice → List Target
+abbrev pub targets_of : List CandidateTarget → List Target
 targets_of cs = map target_of cs
 
-abbrev pub has_hop : Choice → Bool
-has_hop choice = is_some choice.hop
+abbrev pub has_hop : CandidateTarget → Bool
+has_hop candidate = is_some candidate.hop
 
 abbrev pub hop_if_any : FirstRoute → Option Hop
 hop_if_any Absent = None

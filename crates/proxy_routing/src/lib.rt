@@ -13,4 +13,6 @@ mod targets;
 pub use admission::validate_request;
 pub use checks::asks_extension;
 pub use fault::RequestRejection;
-pub use targets::{Choice, choices, have_hops, hop_by, hop_if_any, is_domain, targets_of};
+pub use targets::{
+    CandidateTarget, candidates, have_hops, hop_by, hop_if_any, is_domain, targets_of,
+};

@@ -4,7 +4,7 @@ ghost use Rattle.std.specs.List.{list_all};
 ghost use Rattle.std.specs.Option.{option_copied};
 ghost use Rattle.fork_text.specs.Field.{most_q};
 ghost use Rattle.proxy_config.specs.Setup.{locations_of};
-ghost use Rattle.proxy_routing.specs.Targets.{choice_at, choices_by, choices_of, has_hop, hop_by, hop_if_any, is_domain, is_own, is_own_port, target_of, targets_of};
+ghost use Rattle.proxy_routing.specs.Targets.{candidate_at, candidates_by, candidates_of, has_hop, hop_by, hop_if_any, is_domain, is_own, is_own_port, target_of, targets_of};
 
 use fork_context::Target;
 use proxy_config::{Location, Setup};
@@ -19,25 +19,25 @@ const MOST_Q: u16 = 1000;
 
 /// A target, the q at which it is tried, and the hop by which it is reached, if there is one.
 #[derive(Drop)]
-pub struct Choice<'a, A: Allocator> {
+pub struct CandidateTarget<'a, A: Allocator> {
     q: u16,
     uri: &'a SipUri<A>,
     hop: Option<Hop>,
 }
 
-impl<'a, A: Allocator> Model for Choice<'a, A> {
+impl<'a, A: Allocator> Model for CandidateTarget<'a, A> {
     ghost use Rattle.std.specs.Prelude.{◌≤◌};
     ghost use Rattle.fork_text.specs.Field.{most_q};
     ghost use Rattle.proxy_routing.specs.Targets as spec;
 
-    ghost Value = { spec.Choice };
+    ghost Value = { spec.CandidateTarget };
 
     ghost view = { λ c. record { q = c.q; uri = c.uri.now; hop = c.hop } };
 
     ghost invariant = { λ c. c.q ≤ most_q };
 }
 
-impl<'a, A: Allocator> Choice<'a, A> {
+impl<'a, A: Allocator> CandidateTarget<'a, A> {
     /// The URI of the target.
     pub fn uri(&self) -> &SipUri<A>
         ensures { result.now ≡ self.now.uri }
@@ -53,13 +53,13 @@ impl<'a, A: Allocator> Choice<'a, A> {
     }
 }
 
-impl<'a, A: Allocator + Clone> Choice<'a, A> {
+impl<'a, A: Allocator + Clone> CandidateTarget<'a, A> {
     /// A target that is tried at this q, where the request has this first Route value.
-    fn new(route: FirstRoute, q: u16, uri: &'a SipUri<A>) -> Choice<'a, A>
+    fn new(route: FirstRoute, q: u16, uri: &'a SipUri<A>) -> CandidateTarget<'a, A>
         requires { q ≤ most_q }
         ensures { result ≡ record { q = q; uri = uri.now; hop = hop_by route uri.now } }
     {
-        Choice {
+        CandidateTarget {
             q,
             uri,
             hop: hop_by(route, uri),
@@ -106,15 +106,15 @@ pub fn is_domain<A: Allocator + Clone>(setup: &Setup<A>, uri: &SipUri<A>) -> boo
 
 /// Adds a location, where it is the user's.
 fn add_if_of<'a, A: Allocator + Clone>(
-    choices: &mut Vec<Choice<'a, A>, A>,
+    candidates: &mut Vec<CandidateTarget<'a, A>, A>,
     route: FirstRoute,
     location: &'a Location<A>,
     user: &[u8],
 ) -> Result<(), AllocError>
-    ensures { OnOk result (choices.new.items ≡ choices.old.items ++ map (choice_at route) (locations_of user.now (location.now ∷ []))) }
+    ensures { OnOk result (candidates.new.items ≡ candidates.old.items ++ map (candidate_at route) (locations_of user.now (location.now ∷ []))) }
 {
     if location.is_of(user) {
-        choices.push(Choice::new(route, location.q(), location.uri()))?;
+        candidates.push(CandidateTarget::new(route, location.q(), location.uri()))?;
     }
     Ok(())
 }
@@ -125,14 +125,14 @@ fn located<'a, A: Allocator + Clone>(
     route: FirstRoute,
     locations: &'a [Location<A>],
     user: &[u8],
-) -> Result<Vec<Choice<'a, A>, A>, AllocError>
-    ensures { IfOk result (λ choices. choices.items ≡ map (choice_at route) (locations_of user.now locations.now)) }
+) -> Result<Vec<CandidateTarget<'a, A>, A>, AllocError>
+    ensures { IfOk result (λ candidates. candidates.items ≡ map (candidate_at route) (locations_of user.now locations.now)) }
 {
-    let mut choices = Vec::new(alloc);
+    let mut candidates = Vec::new(alloc);
     for location in locations {
-        add_if_of(&mut choices, route, location, user)?;
+        add_if_of(&mut candidates, route, location, user)?;
     }
-    Ok(choices)
+    Ok(candidates)
 }
 
 /// The locations of a user, if there is one.
@@ -141,8 +141,8 @@ fn located_if_any<'a, A: Allocator + Clone>(
     route: FirstRoute,
     locations: &'a [Location<A>],
     user: Option<&[u8]>,
-) -> Result<Vec<Choice<'a, A>, A>, AllocError>
-    ensures { IfOk result (λ choices. choices.items ≡ choices_of route locations.now (option_copied user.entry)) }
+) -> Result<Vec<CandidateTarget<'a, A>, A>, AllocError>
+    ensures { IfOk result (λ candidates. candidates.items ≡ candidates_of route locations.now (option_copied user.entry)) }
 {
     match user {
         None => Ok(Vec::new(alloc)),
@@ -155,24 +155,24 @@ fn alone<'a, A: Allocator + Clone>(
     alloc: A,
     route: FirstRoute,
     uri: &'a SipUri<A>,
-) -> Result<Vec<Choice<'a, A>, A>, AllocError>
-    ensures { IfOk result (λ choices. choices.items ≡ record { q = most_q; uri = uri.now; hop = hop_by route uri.now } ∷ []) }
+) -> Result<Vec<CandidateTarget<'a, A>, A>, AllocError>
+    ensures { IfOk result (λ candidates. candidates.items ≡ record { q = most_q; uri = uri.now; hop = hop_by route uri.now } ∷ []) }
 {
-    let mut choices = Vec::with_capacity(alloc, 1)?;
-    choices.push(Choice::new(route, MOST_Q, uri))?;
-    Ok(choices)
+    let mut candidates = Vec::with_capacity(alloc, 1)?;
+    candidates.push(CandidateTarget::new(route, MOST_Q, uri))?;
+    Ok(candidates)
 }
 
 /// The targets of a request to this URI, inside the domain or not, with this first Route value: in the domain the locations
 /// of its user, else the URI alone (RFC 3261 section 16.5).
-pub fn choices<'a, A: Allocator + Clone>(
+pub fn candidates<'a, A: Allocator + Clone>(
     alloc: A,
     setup: &'a Setup<A>,
     inside: bool,
     route: FirstRoute,
     uri: &'a SipUri<A>,
-) -> Result<Vec<Choice<'a, A>, A>, AllocError>
-    ensures { IfOk result (λ found. found.items ≡ choices_by inside setup.now route uri.now) }
+) -> Result<Vec<CandidateTarget<'a, A>, A>, AllocError>
+    ensures { IfOk result (λ found. found.items ≡ candidates_by inside setup.now route uri.now) }
 {
     if inside {
         located_if_any(alloc, route, setup.locations(), uri.user())
@@ -184,13 +184,13 @@ pub fn choices<'a, A: Allocator + Clone>(
 /// The targets as a fork takes them.
 pub fn targets_of<A: Allocator + Clone>(
     alloc: A,
-    choices: &[Choice<'_, A>],
+    candidates: &[CandidateTarget<'_, A>],
 ) -> Result<Vec<Target<A>, A>, AllocError>
-    ensures { IfOk result (λ targets. targets.items ≡ targets_of choices.now) }
+    ensures { IfOk result (λ targets. targets.items ≡ targets_of candidates.now) }
 {
-    let mut targets = Vec::with_capacity(alloc.clone()?, choices.len())?;
-    for choice in choices {
-        targets.push(choice.target(alloc.clone()?)?)?;
+    let mut targets = Vec::with_capacity(alloc.clone()?, candidates.len())?;
+    for candidate in candidates {
+        targets.push(candidate.target(alloc.clone()?)?)?;
     }
     Ok(targets)
 }
@@ -220,8 +220,8 @@ pub fn hop_if_any(route: FirstRoute) -> Option<Hop>
 }
 
 /// Whether each target has a hop.
-pub fn have_hops<A: Allocator>(choices: &[Choice<'_, A>]) -> bool
-    ensures { result ≡ list_all has_hop choices.now }
+pub fn have_hops<A: Allocator>(candidates: &[CandidateTarget<'_, A>]) -> bool
+    ensures { result ≡ list_all has_hop candidates.now }
 {
-    choices.iter().all(|choice| choice.hop.is_some())
+    candidates.iter().all(|candidate| candidate.hop.is_some())
 }

@@ -3,9 +3,9 @@
 use Rattle.std.specs.Prelude.{◌≤◌, ℕ, List, length}
 use Rattle.fork_model.specs.Table.{most_targets}
 use Rattle.fork_context.specs.Refusals.{HasTwice}
-use Rattle.proxy_routing.specs.Targets.{Choice, targets_of}
+use Rattle.proxy_routing.specs.Targets.{CandidateTarget, targets_of}
 
 -- no more than may be tried, and none twice
-pub record AreDistinct (cs : List Choice) : Type 0 where
+pub record AreDistinct (cs : List CandidateTarget) : Type 0 where
   pub few : length (targets_of cs) ≤ most_targets
   pub apart : HasTwice (targets_of cs) → ⊥

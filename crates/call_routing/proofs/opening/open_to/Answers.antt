@@ -1,4 +1,4 @@
-use Rattle.call_routing.proofs.Common.{◌≡◌, ◌∙◌, [], true, List, subst, sym, list_all, Choice, has_hop, IsBegun}
+use Rattle.call_routing.proofs.Common.{◌≡◌, ◌∙◌, [], true, List, subst, sym, list_all, CandidateTarget, has_hop, IsBegun}
 use Rattle.std.proofs.Common.{rules}
 use Rattle.call_routing.proofs.Opened.{fixed_so, reaches}
 use Rattle.proxy_routing.specs.Targets.{is_domain}
@@ -8,21 +8,21 @@ use Rattle.call_routing.proofs.opening.open_to.Goals as goal
 
 pub begin-requires-clause-distinct : goal.begin-requires-clause-distinct
 begin-requires-clause-distinct g c =
-    let P : List Choice → Type 0 = λ cs. AreDistinct cs in
-    subst P (sym (c.deref-2.ensures.value ∙ c.in_ok-choices.ensures))
+    let P : List CandidateTarget → Type 0 = λ cs. AreDistinct cs in
+    subst P (sym (c.deref-2.ensures.value ∙ c.in_ok-candidates.ensures))
     (distinct c.locations_are_targets.ensures c.is_domain-inside.result c.args.setup.now c.first_route-route.result c.args.uri.now c.locations-locations.ensures.rules)
 
 pub returns-in-Ok-clause-opened : goal.returns-in-Ok-clause-opened
 returns-in-Ok-clause-opened g c =
     let request = c.args.request in
-    let some : c.in_ok-choices.choices.items ≡ [] → ⊥ = search rules in
+    let some : c.in_ok-candidates.candidates.items ≡ [] → ⊥ = search rules in
     let hops : list_all has_hop c.deref.result.now ≡ true = search rules in
     let inside : c.is_domain-inside.result ≡ is_domain c.args.setup.now c.args.uri.now = c.is_domain-inside.ensures in
     let opened = fixed_so c.args.setup.now c.args.number request c.args.source c.args.uri.now c.own.result c.instance.result c.reply_hop_of-caller.result
     c.hop_if_any.result c.is_domain-inside.result c.first_route-route.result c.new-opened.result c.new-opened.ensures c.own.ensures.value c.instance.ensures c.reply_hop_of-caller.ensures
     c.hop_if_any.ensures c.first_route-route.ensures inside in
-    let P : List Choice → Type 0 = λ cs. list_all has_hop cs ≡ true in
-    let B : List Choice → Type 0 = λ cs. IsBegun c.rules.result c.new-opened.result cs c.in-Ok.state in
+    let P : List CandidateTarget → Type 0 = λ cs. list_all has_hop cs ≡ true in
+    let B : List CandidateTarget → Type 0 = λ cs. IsBegun c.rules.result c.new-opened.result cs c.in-Ok.state in
     reaches c.args.setup.now c.args.number request c.args.source c.args.uri.now c.rules.result c.is_domain-inside.result c.first_route-route.result c.new-opened.result
-    c.in_ok-choices.choices.items c.in-Ok.state c.in_ok-choices.ensures inside some (subst P c.deref.ensures.value hops) c.rules.ensures
+    c.in_ok-candidates.candidates.items c.in-Ok.state c.in_ok-candidates.ensures inside some (subst P c.deref.ensures.value hops) c.rules.ensures
     c.first_route-route.ensures opened (subst B c.deref-2.ensures.value c.in-Ok.ensures)

@@ -3,4 +3,4 @@ use Rattle.call_routing.proofs.Placed.{places}
 use Rattle.call_routing.proofs.opening.rows_have_places.Goals as goal
 
 pub returns : goal.returns
-returns g c = places c.args.choices.now (kinds.kind_of c.args.kind) c.args.rules c.args.book.now c.requires
+returns g c = places c.args.candidates.now (kinds.kind_of c.args.kind) c.args.rules c.args.book.now c.requires
