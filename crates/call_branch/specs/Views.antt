@@ -1,4 +1,4 @@
--- The parts of a call that those of the program stand for.
+-- The transactions of a call that those of the program stand for.
 use Rattle.call_model.specs.Client as client
 use Rattle.call_model.specs.Server as server
 use Rattle.call_branch.specs.declared.client.ClientMachine.{ClientMachine}

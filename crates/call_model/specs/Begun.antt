@@ -1,4 +1,4 @@
--- The parts of a call before anything was sent or answered (RFC 3261 sections 16.2 and 17.2.1).
+-- A call before anything was sent or answered (RFC 3261 sections 16.2 and 17.2.1).
 use Rattle.std.specs.Prelude.{List, map}
 use Rattle.fork_model.specs.Log.{Log, table_of}
 use Rattle.call_model.specs.OpenedRequest.{OpenedRequest, Destination, kind_of}

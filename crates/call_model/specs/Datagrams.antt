@@ -31,7 +31,7 @@ ToBranch call n d P = (destination : Destination) × (slice_get call.destination
 
 -- ---- laws
 
--- the parts of a call are as they were made before anything was sent, and each step keeps it
+-- a call is well built before anything was sent, and each step keeps it so
 abbrev pub BegunIsBuilt : Type 0
 BegunIsBuilt = (opened : OpenedRequest) (log : Log) (destinations : List Destination) → IsBuilt (begun opened log destinations)
 

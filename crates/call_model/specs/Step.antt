@@ -1,5 +1,5 @@
--- The parts of a call as a machine: what they are given, what they answer, and how they go on (RFC 3261 sections 16 and
--- 17). Which transaction a message belongs to is said by who gives it.
+-- The steps of a call: what it is given, what it answers, and how it goes on (RFC 3261 sections 16 and 17). Which
+-- transaction a message belongs to is said by who gives it.
 use Rattle.std.specs.Prelude.{◌≡◌, ℕ, List, [], ◌∷◌}
 use Rattle.sip_text.specs.Text.{MessageText}
 use Rattle.sip_uri.specs.declared.hop.Hop.{Hop}

@@ -1,5 +1,5 @@
-//! Tests of the public calls of `call_branch`, `call_answers`, `call_state`, `proxy_config`, `proxy_routing`, `call_routing` and `fork_call`, in files and folders named for what
-//! is tested. They stand apart from these crates so that none of them is proved twice.
+//! Tests of the public calls of `call_branch`, `call_answers`, `call_state`, `proxy_config`, `proxy_routing`, `call_routing` and
+//! `fork_call`, in files and folders named for what is tested. They stand apart from these crates so that none of them is proved twice.
 #![tactic(auto)]
 
 #[cfg(test)]

@@ -1,4 +1,4 @@
-//! What can be read of the parts of a call: how its branches are named, when its transactions want a tick, and whether they
+//! What can be read of the state of a call: how its branches are named, when its transactions want a tick, and whether they
 //! are over (RFC 3261 sections 9.1, 16.6 and 17).
 use crate::branches::{
     PROXY_UNAUTHORIZED, UNAUTHORIZED, UNAUTHORIZED_UP, answers, starts, taken_by,

@@ -1,4 +1,4 @@
-//! The parts of a call: what each call of theirs sends, and where it leaves the branches.
+//! The state of a call: what each of its public calls sends, and where it leaves the branches.
 ghost use Rattle.std.specs.Prelude.{◌≡◌, IfOk, IfSome, IsTrue};
 ghost use Rattle.sip_text.specs.Name.{first_value};
 ghost use Rattle.sip_route.specs.Hops.{IsHops, hops_name};
@@ -305,7 +305,7 @@ fn destinations_of(alloc: Global) -> Option<Vec<Destination>> {
     }
 }
 
-/// The parts of a call that begins to these targets, which are sound.
+/// The state of a call that begins to these targets, which is sound.
 fn begun_to(
     alloc: Global,
     opened: OpenedRequest,

@@ -1,5 +1,5 @@
 //! What a proxy that serves as a service is made of below its threads: its options and its faults, its configuration, its files, its
-//! counters, and its socket.
+//! counters, the memory that it takes, its places for calls, and its socket.
 #![tactic(auto)]
 
 mod call_counts;
