@@ -9,6 +9,6 @@ mod options;
 mod stamping;
 mod turning;
 
-pub use options::{answer_options, may_be_options};
+pub use options::{answer_options, may_ask_proxy};
 pub use stamping::StampedPort;
 pub use turning::{CallKeys, turn_away};

@@ -1,5 +1,8 @@
 //! OPTIONS requests to the proxy itself.
-ghost use Rattle.std.specs.Prelude.{◌≡◌, true, IfOk, OnErr};
+ghost use Rattle.std.specs.Prelude.{◌≡◌, ◌++◌, ◌∷◌, ℕ, List, true, false, is_some, IfOk, OnErr};
+ghost use Rattle.proxy_config.specs.Setup as config;
+ghost use Rattle.sip_lex.specs.Bytes.{is_space};
+ghost use Rattle.sip_lex.specs.Cut.{cut, Lacks};
 ghost use Rattle.sip_text.specs.Grammar.{IsText};
 ghost use Rattle.sip_text.specs.Method.{known_method};
 ghost use Rattle.sip_text.specs.Text.{MessageText};
@@ -8,18 +11,40 @@ ghost use Rattle.sip_uri.specs.Reading.{read_uri};
 
 use fork_call::{Cause, Datagram, Port, Setup};
 use proxy_routing::is_domain;
+use sip_lex::{cut_at, cut_at_space};
 use sip_route::request_uri;
 use sip_service::{capabilities, is_outside_dialog, message_in};
 use sip_text::{Message, Method};
 use sip_uri::{Hop, SipUri, UriFault};
 use std::alloc::{AllocError, Allocator};
 
-/// Whether a text may spell an OPTIONS request, by its first bytes: the method stands at its front, or behind empty lines. It takes
-/// no memory.
-pub fn may_be_options(text: &[u8]) -> bool
-    ensures { (m : MessageText) → IsText text.now m → is_options (known_method m.start) ≡ true → result ≡ true }
+/// Whether a space stands in a text.
+fn has_space(text: &[u8]) -> bool
+    ensures { result ≡ is_some (cut is_space text.now).1 }
 {
-    text.starts_with(b"OPTIONS") || text.starts_with(b"\r\n")
+    cut_at_space(text).1.is_some()
+}
+
+/// Whether an `@` stands in the first word of a text.
+fn has_at(text: &[u8]) -> bool
+    ensures { (word behind : List ℕ) (gap : ℕ) → text.now ≡ word ++ gap ∷ behind → is_space gap ≡ true → Lacks 64 word → result ≡ false }
+{
+    match cut_at(text, b'@') {
+        (front, Some(_)) => !has_space(front),
+        (_, None) => false,
+    }
+}
+
+/// Whether a text may spell an OPTIONS request to the proxy itself, by its first bytes: the method stands at its front and no `@` in the
+/// word behind it, so that no user is named, or all of it stands behind empty lines. It takes no memory.
+pub fn may_ask_proxy(text: &[u8]) -> bool
+    ensures { (setup : config.Setup) (m : MessageText) → IsText text.now m → asks_proxy setup m ≡ true → result ≡ true }
+{
+    match text.strip_prefix(b"OPTIONS") {
+        Some([_, behind @ ..]) => !has_at(behind),
+        Some([]) => true,
+        None => text.starts_with(b"\r\n"),
+    }
 }
 
 /// Whether a message is an OPTIONS request.
@@ -85,7 +110,7 @@ pub fn answer_options<A: Allocator + Clone, P: Port>(
     ensures answered { IfOk result (λ answered. IsAnsweredIf P.sends setup.now packet.now source port.old answered port.new) }
     ensures err { OnErr result (port.new ≡ port.old) }
 {
-    if !may_be_options(packet) {
+    if !may_ask_proxy(packet) {
         return Ok(false);
     }
     let Some(message) = message_in(alloc.clone()?, packet)? else {

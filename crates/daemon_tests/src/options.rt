@@ -1,7 +1,7 @@
 //! OPTIONS requests to the proxy itself.
 use crate::holds::holds;
 use crate::outbox::Outbox;
-use daemon_answers::{answer_options, may_be_options};
+use daemon_answers::{answer_options, may_ask_proxy};
 use fork_call::Setup;
 use sip_uri::Hop;
 use std::alloc::Global;
@@ -34,7 +34,7 @@ const SOURCE: Hop = Hop {
     port: 5060,
 };
 
-/// Whether a text is answered so, and with a text that begins so; what is answered looks like an OPTIONS request.
+/// Whether a text is answered so, and with a text that begins so; what is answered looks like an OPTIONS request to the proxy.
 fn is_answered(alloc: Global, text: &[u8], expected: bool, front: &[u8]) -> bool {
     let Ok(setup) = Setup::read(alloc, CONFIGURATION) else {
         return false;
@@ -42,7 +42,7 @@ fn is_answered(alloc: Global, text: &[u8], expected: bool, front: &[u8]) -> bool
     let mut outbox = Outbox::new(alloc);
     let answered = answer_options(alloc, &setup, text, SOURCE, &mut outbox);
     answered == Ok(expected)
-        && (may_be_options(text) || !expected)
+        && (may_ask_proxy(text) || !expected)
         && outbox.bytes().starts_with(front)
         && outbox.bytes().is_empty() != expected
 }
@@ -52,6 +52,12 @@ fn the_proxy_answers_what_is_asked_of_itself(rt: HostRuntime) {
     let alloc = rt.alloc();
     for (text, expected, front, what) in [
         (ASKED, true, OKAY, "the proxy"),
+        (
+            &ASKED[2..],
+            true,
+            OKAY,
+            "the proxy, with no empty line before",
+        ),
         (TO_USER, false, NOTHING, "a user"),
         (TO_OTHER, false, NOTHING, "another host"),
         (NOISE, false, NOTHING, "no message"),

@@ -4,7 +4,7 @@ ghost use Rattle.fork_daemon.specs.Faults.{IsSystemFault};
 
 use crate::port::SocketPort;
 use crate::proxy::{Proxy, State};
-use daemon_answers::{StampedPort, answer_options, may_be_options, turn_away};
+use daemon_answers::{StampedPort, answer_options, may_ask_proxy, turn_away};
 use daemon_parts::{DaemonFault, ProxyFiles};
 use fork_call::Port;
 use fork_clock::Watch;
@@ -96,7 +96,7 @@ impl Proxy {
         port: &mut P,
         received: Received<'_>,
     ) -> Result<bool, AllocError> {
-        if !may_be_options(received.bytes) {
+        if !may_ask_proxy(received.bytes) {
             return Ok(false);
         }
         let setup = self.setup.read(rt);
