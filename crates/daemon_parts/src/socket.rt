@@ -4,6 +4,7 @@ ghost use Rattle.daemon_parts.specs.Faults.{IsSocketFault};
 
 use crate::fault::{DaemonFault, socket_fault};
 use libc::net;
+use libc::types::pollfd;
 use sip_uri::Hop;
 use std::io;
 use std::io::ErrorKind;
@@ -107,6 +108,16 @@ impl Socket {
                 _ => Err(socket_fault(error)),
             },
         }
+    }
+
+    /// Whether a datagram waits in the socket at this moment; it stays there. Where the system cannot tell, none counts as waiting.
+    pub fn has_waiting(&self) -> bool {
+        let mut asked = [pollfd {
+            fd: self.udp.as_raw_fd(),
+            events: net::POLLIN,
+            revents: 0,
+        }];
+        net::poll(&mut asked, 0) > 0
     }
 
     /// Wakes who receives, by an empty datagram to itself.

@@ -265,14 +265,19 @@ fn comes_back<R: Net>(rt: &R) -> bool {
         return false;
     };
     let mut buffer = [0u8; 16];
-    if socket.send(b"one", AT) != Sent::Whole {
+    let is_empty = !socket.has_waiting();
+    if socket.send(b"one", AT) != Sent::Whole || !socket.has_waiting() {
         return false;
     }
     let Ok(Some((3, source))) = socket.receive(&mut buffer) else {
         return false;
     };
+    let is_empty_again = !socket.has_waiting();
     socket.wake(AT);
-    source == AT && matches!(socket.receive(&mut buffer), Ok(Some((0, _))))
+    is_empty
+        && is_empty_again
+        && source == AT
+        && matches!(socket.receive(&mut buffer), Ok(Some((0, _))))
 }
 
 #[test]
