@@ -20,6 +20,7 @@ use Rattle.fork_clock.proofs.laws.Crossing.{epoch_sync, schedule_sync}
 use Rattle.fork_daemon.proofs.packet.Packet.TheSendSync as packet
 use Rattle.fork_daemon.proofs.proxy.Limits.TheSendSync as limits
 use Rattle.fork_daemon.proofs.proxy.Paths.TheSendSync as paths
+use Rattle.fork_daemon.proofs.rest.Rest.TheSendSync as rest
 use Rattle.fork_daemon.proofs.serving.Scraped.TheSendSync as scraped
 use Rattle.fork_daemon.specs.contracts.groups.Groups as groups
 use Rattle.fork_daemon.specs.contracts.packet.Packet.{the_row as packet_row}
@@ -68,12 +69,15 @@ proxy_sync = struct_sync (shape proxy.the_type) (
                 (
                   search (crosses, option.the_send, source_send),
                   (
-                    groups_sync,
+                    rest.the_field_sync,
                     (
-                      paths.the_field_sync,
+                      groups_sync,
                       (
-                        limits.the_field_sync,
-                        (search (crosses, sendable), (search (crosses, sendable), (search (crosses, places_send), (search (crosses, sendable), tt)))),
+                        paths.the_field_sync,
+                        (
+                          limits.the_field_sync,
+                          (search (crosses, sendable), (search (crosses, sendable), (search (crosses, places_send), (search (crosses, sendable), tt)))),
+                        ),
                       ),
                     ),
                   ),

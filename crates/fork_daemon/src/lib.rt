@@ -9,6 +9,7 @@ mod packet;
 mod port;
 mod proxy;
 mod receiving;
+mod rest;
 mod serving;
 mod timer;
 mod worker;

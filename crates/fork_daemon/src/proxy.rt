@@ -3,6 +3,7 @@ ghost use Rattle.std.specs.Prelude.{◌≡◌};
 
 use crate::groups::Groups;
 use crate::journal::append_block;
+use crate::rest::Rest;
 use call_table::Shelf;
 use daemon_parts::{Counts, Identity, Marks, Options, Places, ProxyFiles, Socket};
 use fork_call::{Call, Port, Setup, carry};
@@ -84,6 +85,8 @@ pub(crate) struct Proxy {
     finished: Marks,
     /// Who has this lock receives. Under it stands what sources have sent, if there is a limit.
     pub(crate) receiving: Mutex<Option<SourceLimits<Global>>>,
+    /// Workers rest here while another one receives.
+    pub(crate) rest: Rest,
     pub(crate) groups: Groups,
     pub(crate) paths: Paths,
     pub(crate) limits: Limits,
@@ -189,6 +192,7 @@ impl Proxy {
             counts: Counts::new(),
             finished,
             receiving: Mutex::new(source_limits(alloc, options.most_per_source)),
+            rest: Rest::new(),
             groups,
             paths,
             limits,

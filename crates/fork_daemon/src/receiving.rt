@@ -1,5 +1,6 @@
 //! How a worker comes by a datagram. One worker at a time receives. Before it lets the next one receive, it enters the datagram's group of
 //! calls, or hands the datagram over to the worker that is on that group; so what comes of one call is handled in the order in which it came.
+//! It lets the next one receive where one more datagram waits.
 ghost use Rattle.std.specs.Prelude.{◌≡◌, ◌≤◌, true, length, IfErr, IfOk, IfSome};
 ghost use Rattle.fork_daemon.specs.Faults.{IsSystemFault};
 
@@ -87,9 +88,14 @@ impl Proxy {
         self.enter_or_hand_over(&mut *group, bytes, source)
     }
 
-    /// Receives as [`Proxy::receive`] does, while no other worker does.
+    /// The next datagram that this worker is to handle, while no other worker receives. None where none comes within a second, or it is for
+    /// another worker, or is dropped, or the proxy has ended.
+    ///
+    /// # Errors
+    ///
+    /// `Socket` where the receive failed.
     #[tactic(auto, using(crate::proofs::Faults::socket_is_system))]
-    fn receive_alone<R: Wait + Clock>(
+    pub(crate) fn receive<R: Wait + Clock>(
         &self,
         rt: &R,
         limits: &mut Option<SourceLimits<Global>>,
@@ -99,9 +105,6 @@ impl Proxy {
         ensures fits { IfOk result (λ came. IfSome came (λ entered. entered.count ≤ length buffer.new)) }
         ensures fault { IfErr result IsSystemFault }
     {
-        if self.is_in(State::Ended) {
-            return Ok(None);
-        }
         let came = self.socket.receive(buffer)?;
         if self.is_in(State::Ended) {
             return Ok(None);
@@ -122,24 +125,5 @@ impl Proxy {
             source,
             group,
         }))
-    }
-
-    /// The next datagram that this worker is to handle, once no other worker receives. None where none comes within a second, or it is for
-    /// another worker, or is dropped, or the proxy has ended.
-    ///
-    /// # Errors
-    ///
-    /// `Socket` where the receive failed.
-    pub(crate) fn receive<R: Wait + Clock>(
-        &self,
-        rt: &R,
-        watch: &mut Watch,
-        buffer: &mut [u8],
-    ) -> Result<Option<Entered>, DaemonFault>
-        ensures fits { IfOk result (λ came. IfSome came (λ entered. entered.count ≤ length buffer.new)) }
-        ensures fault { IfErr result IsSystemFault }
-    {
-        let mut limits = self.receiving.lock(rt);
-        self.receive_alone(rt, &mut *limits, watch, buffer)
     }
 }

@@ -1,9 +1,10 @@
 //! What a worker does with the datagrams that it receives, and with those that are handed over to it.
-ghost use Rattle.std.specs.Prelude.{IfErr};
+ghost use Rattle.std.specs.Prelude.{◌≤◌, length, IfErr, IfOk, IfSome};
 ghost use Rattle.fork_daemon.specs.Faults.{IsSystemFault};
 
 use crate::port::SocketPort;
 use crate::proxy::{Proxy, State};
+use crate::receiving::Entered;
 use daemon_answers::{StampedPort, answer_options, may_ask_proxy, turn_away};
 use daemon_parts::{DaemonFault, ProxyFiles};
 use fork_call::Port;
@@ -11,9 +12,49 @@ use fork_clock::Watch;
 use proxy_dispatch::{Handled, Memory, Received, handle};
 use sip_service::record_text;
 use sip_uri::Hop;
-use std::alloc::AllocError;
+use std::alloc::{AllocError, Global};
+use std::hint::spin_loop;
 use std::sync::Wait;
 use std::time::Clock;
+
+/// How many bytes of memory a worker has the allocator hold ready.
+const READY: usize = 8_388_608;
+
+/// After how many datagrams a worker asks again: so many keep less than the memory that is held ready.
+const DATAGRAMS_BETWEEN: u32 = 256;
+
+/// How often a worker looks whether another one still receives before it rests. Together the looks take as long as a receive does where a
+/// datagram waits.
+const LOOKS: u32 = 9;
+
+/// Lets less than a microsecond pass.
+fn pause() {
+    for _ in 0..10u32 {
+        spin_loop();
+    }
+}
+
+/// What a worker keeps from one datagram to the next.
+#[derive(Drop)]
+struct WorkerState<'a> {
+    port: SocketPort<'a>,
+    watch: Watch,
+    /// How many datagrams it handles until it has the allocator hold memory ready again.
+    left: u32,
+}
+
+impl WorkerState<'_> {
+    /// Counts a datagram, and asks the allocator for memory where it is time, which is given back at once: so the allocator holds some
+    /// ready for what the worker keeps. Else the C library gets each page of a thread's memory by a system call of its own.
+    fn hold_ready(&mut self, alloc: Global) {
+        if self.left == 0 {
+            let asked: Result<Vec<u8>, AllocError> = Vec::with_capacity(alloc, READY);
+            drop(asked);
+            self.left = DATAGRAMS_BETWEEN;
+        }
+        self.left = self.left.wrapping_sub(1);
+    }
+}
 
 impl Proxy {
     /// The text of a datagram with a Record-Route line, where it opens a dialog on whose path the proxy stays.
@@ -207,6 +248,57 @@ impl Proxy {
         unreachable!()
     }
 
+    /// Handles a datagram whose group of calls this worker has entered, and those that are handed over to it meanwhile.
+    fn take_entered<R: Wait + ProxyFiles + Clock>(
+        &self,
+        rt: &R,
+        state: &mut WorkerState<'_>,
+        buffer: &[u8],
+        entered: Entered,
+    )
+        requires { entered.count ≤ length buffer.now }
+    {
+        state.hold_ready(self.alloc);
+        let bytes = &buffer[..entered.count];
+        let source = entered.source;
+        self.take_timed(rt, &mut state.port, &mut state.watch, bytes, source);
+        self.take_waiting(rt, &mut state.port, &mut state.watch, entered.group);
+    }
+
+    /// Rests until a worker is called, while another one receives.
+    fn rest<R: Wait>(&self, rt: &R) {
+        let called = self.rest.begin();
+        let is_free = self.receiving.try_lock().is_some();
+        if !is_free {
+            self.rest.sleep(rt, called);
+        }
+        self.rest.end();
+    }
+
+    /// The next datagram that this worker is to handle; None where there is none, or another worker receives, until one is called.
+    ///
+    /// # Errors
+    ///
+    /// `Socket` where a receive failed.
+    fn receive_or_rest<R: Wait + Clock>(
+        &self,
+        rt: &R,
+        watch: &mut Watch,
+        buffer: &mut [u8],
+    ) -> Result<Option<Entered>, DaemonFault>
+        ensures fits { IfOk result (λ came. IfSome came (λ entered. entered.count ≤ length buffer.new)) }
+        ensures fault { IfErr result IsSystemFault }
+    {
+        for _ in 0..LOOKS {
+            if let Some(mut limits) = self.receiving.try_lock() {
+                return self.receive(rt, &mut *limits, watch, buffer);
+            }
+            pause();
+        }
+        self.rest(rt);
+        Ok(None)
+    }
+
     /// Receives and handles datagrams until the end.
     ///
     /// # Errors
@@ -220,22 +312,26 @@ impl Proxy {
         ensures { IfErr result IsSystemFault }
     {
         let counts = &self.counts.datagrams;
-        let mut port = SocketPort::new(&self.socket, counts, &counts.sent);
-        let mut watch = Watch::new(self.epoch);
+        let mut state = WorkerState {
+            port: SocketPort::new(&self.socket, counts, &counts.sent),
+            watch: Watch::new(self.epoch),
+            left: 0,
+        };
         for _ in rt.forever() {
             if self.is_in(State::Ended) {
                 return Ok(());
             }
-            if let Some(entered) = self.receive(rt, &mut watch, buffer)? {
-                let bytes = &buffer[..entered.count];
-                self.take_timed(rt, &mut port, &mut watch, bytes, entered.source);
-                self.take_waiting(rt, &mut port, &mut watch, entered.group);
+            if let Some(entered) = self.receive_or_rest(rt, &mut state.watch, buffer)? {
+                if self.socket.has_waiting() {
+                    self.rest.call_one();
+                }
+                self.take_entered(rt, &mut state, buffer, entered);
             }
         }
         unreachable!()
     }
 
-    /// Receives and handles datagrams until the end. Where a receive failed the proxy ends.
+    /// Receives and handles datagrams until the end. Where a receive failed the proxy ends. Behind this worker the others leave.
     ///
     /// # Errors
     ///
@@ -251,6 +347,7 @@ impl Proxy {
         if ended.is_err() {
             self.end();
         }
+        self.rest.call_all();
         ended
     }
 }
