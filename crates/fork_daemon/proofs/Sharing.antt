@@ -20,7 +20,7 @@ use Rattle.fork_clock.proofs.laws.Crossing.{epoch_sync, schedule_sync}
 use Rattle.fork_daemon.proofs.packet.Packet.TheSendSync as packet
 use Rattle.fork_daemon.proofs.proxy.Limits.TheSendSync as limits
 use Rattle.fork_daemon.proofs.proxy.Paths.TheSendSync as paths
-use Rattle.fork_daemon.proofs.rest.Rest.TheSendSync as rest
+use Rattle.fork_daemon.proofs.idle.IdleWorkers.TheSendSync as idle
 use Rattle.fork_daemon.proofs.serving.Scraped.TheSendSync as scraped
 use Rattle.fork_daemon.specs.contracts.groups.Groups as groups
 use Rattle.fork_daemon.specs.contracts.packet.Packet.{the_row as packet_row}
@@ -69,7 +69,7 @@ proxy_sync = struct_sync (shape proxy.the_type) (
                 (
                   search (crosses, option.the_send, source_send),
                   (
-                    rest.the_field_sync,
+                    idle.the_field_sync,
                     (
                       groups_sync,
                       (

@@ -4,12 +4,12 @@
 
 mod control;
 mod groups;
+mod idle;
 mod journal;
 mod packet;
 mod port;
 mod proxy;
 mod receiving;
-mod rest;
 mod serving;
 mod timer;
 mod worker;

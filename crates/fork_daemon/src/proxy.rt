@@ -2,8 +2,8 @@
 ghost use Rattle.std.specs.Prelude.{◌≡◌};
 
 use crate::groups::Groups;
+use crate::idle::IdleWorkers;
 use crate::journal::append_block;
-use crate::rest::Rest;
 use call_table::Shelf;
 use daemon_parts::{Counts, Identity, Marks, Options, Places, ProxyFiles, Socket};
 use fork_call::{Call, Port, Setup, carry};
@@ -85,8 +85,8 @@ pub(crate) struct Proxy {
     finished: Marks,
     /// Who has this lock receives. Under it stands what sources have sent, if there is a limit.
     pub(crate) receiving: Mutex<Option<SourceLimits<Global>>>,
-    /// Workers rest here while another one receives.
-    pub(crate) rest: Rest,
+    /// Workers that are idle while another one receives.
+    pub(crate) idle: IdleWorkers,
     pub(crate) groups: Groups,
     pub(crate) paths: Paths,
     pub(crate) limits: Limits,
@@ -192,7 +192,7 @@ impl Proxy {
             counts: Counts::new(),
             finished,
             receiving: Mutex::new(source_limits(alloc, options.most_per_source)),
-            rest: Rest::new(),
+            idle: IdleWorkers::new(),
             groups,
             paths,
             limits,

@@ -23,7 +23,7 @@ const READY: usize = 8_388_608;
 /// After how many datagrams a worker asks again: so many keep less than the memory that is held ready.
 const DATAGRAMS_BETWEEN: u32 = 256;
 
-/// How often a worker looks whether another one still receives before it rests. Together the looks take as long as a receive does where a
+/// How often a worker looks whether another one still receives before it is idle. Together the looks take as long as a receive does where a
 /// datagram waits.
 const LOOKS: u32 = 9;
 
@@ -265,22 +265,22 @@ impl Proxy {
         self.take_waiting(rt, &mut state.port, &mut state.watch, entered.group);
     }
 
-    /// Rests until a worker is called, while another one receives.
-    fn rest<R: Wait>(&self, rt: &R) {
-        let called = self.rest.begin();
+    /// Is idle until a worker is woken, while another one receives.
+    fn wait_idle<R: Wait>(&self, rt: &R) {
+        let woken = self.idle.enter();
         let is_free = self.receiving.try_lock().is_some();
         if !is_free {
-            self.rest.sleep(rt, called);
+            self.idle.sleep(rt, woken);
         }
-        self.rest.end();
+        self.idle.leave();
     }
 
-    /// The next datagram that this worker is to handle; None where there is none, or another worker receives, until one is called.
+    /// The next datagram that this worker is to handle; None where there is none, or where another worker received until this one was woken.
     ///
     /// # Errors
     ///
     /// `Socket` where a receive failed.
-    fn receive_or_rest<R: Wait + Clock>(
+    fn receive_or_wait<R: Wait + Clock>(
         &self,
         rt: &R,
         watch: &mut Watch,
@@ -295,7 +295,7 @@ impl Proxy {
             }
             pause();
         }
-        self.rest(rt);
+        self.wait_idle(rt);
         Ok(None)
     }
 
@@ -321,9 +321,9 @@ impl Proxy {
             if self.is_in(State::Ended) {
                 return Ok(());
             }
-            if let Some(entered) = self.receive_or_rest(rt, &mut state.watch, buffer)? {
+            if let Some(entered) = self.receive_or_wait(rt, &mut state.watch, buffer)? {
                 if self.socket.has_waiting() {
-                    self.rest.call_one();
+                    self.idle.wake_one();
                 }
                 self.take_entered(rt, &mut state, buffer, entered);
             }
@@ -347,7 +347,7 @@ impl Proxy {
         if ended.is_err() {
             self.end();
         }
-        self.rest.call_all();
+        self.idle.wake_all();
         ended
     }
 }

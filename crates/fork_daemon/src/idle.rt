@@ -1,0 +1,61 @@
+//! Workers that are idle while another one receives.
+use std::sync::Wait;
+use std::sync::atomic::{AtomicU64, Ordering};
+use std::time::Duration;
+
+/// How long a worker is idle at most, in milliseconds: half of T1, so that a datagram is received before it is sent again (RFC 3261 section
+/// 17.1.1.1) where the worker that received last is held up by what it handles.
+const LONGEST: u64 = 250;
+
+/// Workers that are idle until one is woken. Who enters, then finds another worker receiving, and then sleeps, is woken by whoever has let
+/// the receiving go and wakes one behind that: none is missed.
+#[derive(Drop)]
+pub(crate) struct IdleWorkers {
+    /// How often workers were woken.
+    wakes: AtomicU64,
+    /// How many are idle, or are about to be.
+    count: AtomicU64,
+}
+
+impl IdleWorkers {
+    /// No worker is idle.
+    pub(crate) fn new() -> IdleWorkers {
+        IdleWorkers {
+            wakes: AtomicU64::new(0),
+            count: AtomicU64::new(0),
+        }
+    }
+
+    /// Counts a worker that is about to be idle, and answers how often workers were woken before.
+    pub(crate) fn enter(&self) -> u64 {
+        self.count.fetch_add(1, Ordering::SeqCst);
+        self.wakes.load(Ordering::SeqCst)
+    }
+
+    /// Sleeps until a worker is woken, a quarter of a second at most, unless one was woken since workers had been woken so often. It may
+    /// also end for no reason.
+    pub(crate) fn sleep<R: Wait>(&self, rt: &R, woken: u64) {
+        let longest = Duration::from_millis(LONGEST);
+        self.wakes
+            .park_timeout(rt, (woken % (1 << 32)) as u32, longest);
+    }
+
+    /// Counts a worker that is idle no more.
+    pub(crate) fn leave(&self) {
+        self.count.fetch_sub(1, Ordering::SeqCst);
+    }
+
+    /// Wakes a worker, if one is idle.
+    pub(crate) fn wake_one(&self) {
+        if self.count.load(Ordering::SeqCst) > 0 {
+            self.wakes.fetch_add(1, Ordering::SeqCst);
+            self.wakes.wake_one();
+        }
+    }
+
+    /// Wakes all workers that are idle.
+    pub(crate) fn wake_all(&self) {
+        self.wakes.fetch_add(1, Ordering::SeqCst);
+        self.wakes.wake_all();
+    }
+}
