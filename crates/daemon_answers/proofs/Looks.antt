@@ -1,5 +1,5 @@
 -- What a look at the calls says of a request.
-use Rattle.std.proofs.Common.{◌≡◌, ℕ, Bool, true, false, not, List, Option, Some, None, is_some, refl, sym, subst, ◌∙◌}
+use Rattle.std.proofs.Common.{◌≡◌, ℕ, Bool, true, false, not, List, Option, Some, None, is_some, refl, subst}
 use Rattle.sip_via.specs.ViaParts.{or_empty}
 use Rattle.daemon_answers.specs.Turning.{IsNewBy, Keyed}
 

@@ -1,5 +1,5 @@
 -- How a text begins that spells an OPTIONS request to the proxy itself: its Request-URI names no user, so it has no `@`.
-use Rattle.std.proofs.Common.{◌≡◌, ◌≢◌, ℕ, zero, suc, Bool, true, false, ◌&&◌, List, [], ◌∷◌, ◌++◌, append_assoc, length, take, drop, ◌≤◌, Option, Some, None, IfNone, Result, Ok, Err, codes, refl, ap, sym, subst, ◌∙◌, arith, map, not, is_none, is_some}
+use Rattle.std.proofs.Common.{◌≡◌, ℕ, zero, suc, Bool, true, false, ◌&&◌, List, [], ◌∷◌, ◌++◌, append_assoc, length, take, drop, ◌≤◌, Option, Some, None, IfNone, Result, Ok, Err, codes, refl, ap, sym, subst, ◌∙◌, arith, map, not, is_none}
 use Rattle.std.proofs.lemmas.Bool.{and_parts}
 use Rattle.std.proofs.lemmas.Bool.Decides.{Decides-eqb}
 use Rattle.std.proofs.lemmas.List.{take-append-drop, take_all}
@@ -20,19 +20,16 @@ use Rattle.sip_text.specs.Text.{MessageText, Request, Response, StartText}
 use Rattle.sip_text.proofs.laws.Methods.{options_named}
 use Rattle.sip_uri.specs.declared.fault.UriFault.{UriFault}
 use Rattle.sip_uri.specs.Reading.{read_uri}
-use Rattle.sip_uri.specs.Uri.{Uri, rest_text, spelling, user_text}
+use Rattle.sip_uri.specs.Uri.{Uri, rest_text, user_text}
 use Rattle.sip_uri.proofs.laws.Found.{found}
 use Rattle.sip_route.specs.Loop.{request_uri}
 use Rattle.proxy_config.specs.Setup.{Setup}
 use Rattle.proxy_routing.specs.Admission.{target_uri}
 use Rattle.proxy_routing.specs.Targets.{is_domain}
 use Rattle.sip_service.specs.Outside.{is_outside_dialog}
-use Rattle.daemon_answers.specs.Options.{asks_proxy, is_options, is_proxy_if_read}
+use Rattle.daemon_answers.specs.Options.{asks_proxy, has_space, is_options, is_proxy_if_read}
 
 -- ---- the first word
-
-abbrev has_space : List ℕ → Bool
-has_space bs = is_some (cut is_space bs).1
 
 spaced_by : (gap : ℕ) (behind : List ℕ) → is_space gap ≡ true → has_space (cut (is 64) (gap ∷ behind)).0 ≡ true
 spaced_by gap behind h = grind arith

@@ -1,5 +1,8 @@
 -- OPTIONS requests to the proxy itself (RFC 3261 sections 11 and 11.2).
-use Rattle.std.specs.Prelude.{◌≡◌, ℕ, Bool, true, false, ◌&&◌, List, Option, Some, None, Result, Ok, Err, is_none}
+use Rattle.std.specs.Prelude.{◌≡◌, ℕ, Bool, true, false, not, ◌&&◌, List, [], ◌∷◌, drop, Option, Some, Result, Ok, Err, is_none, is_some, nat_eq, codes, if◌then◌else◌}
+use Rattle.std.specs.List.{starts_with}
+use Rattle.sip_lex.specs.Bytes.{is_space}
+use Rattle.sip_lex.specs.Cut.{cut, is}
 use Rattle.sip_text.specs.Grammar.{IsText}
 use Rattle.sip_text.specs.declared.method.Method.{Method}
 use Rattle.sip_text.specs.declared.method.Method.TheVariants as methods
@@ -31,6 +34,18 @@ is_proxy_if_read setup (Err fault) = false
 -- an OPTIONS outside of a dialog whose Request-URI is such a URI
 abbrev pub asks_proxy : Setup → MessageText → Bool
 asks_proxy setup m = is_options (known_method m.start) && (is_outside_dialog m && is_proxy_if_read setup (target_uri m))
+
+-- a space stands in a text
+abbrev pub has_space : List ℕ → Bool
+has_space text = is_some (cut is_space text).1
+
+-- an `@` stands in the first word of a text
+abbrev pub has_at : List ℕ → Bool
+has_at text = is_some (cut (is 64) text).1 && not (has_space (cut (is 64) text).0)
+
+-- the first bytes of a text that may spell such a request: the method, and no `@` in the word behind it; or an empty line
+abbrev pub may_ask_proxy : List ℕ → Bool
+may_ask_proxy text = if starts_with nat_eq text (codes "OPTIONS") then not (has_at (drop 8 text)) else starts_with nat_eq text (13 ∷ 10 ∷ [])
 
 module _ {P : Type 0} (sends : Sends P) (setup : Setup) (packet : List ℕ) (source : Hop) (port : P) where
   -- the port is handed the 200 by one send

@@ -1,12 +1,12 @@
 //! OPTIONS requests to the proxy itself.
-ghost use Rattle.std.specs.Prelude.{◌≡◌, ◌++◌, ◌∷◌, ℕ, List, true, false, is_some, IfOk, OnErr};
+ghost use Rattle.std.specs.Prelude.{◌≡◌, ◌++◌, ◌∷◌, ℕ, List, true, false, IfOk, OnErr};
 ghost use Rattle.proxy_config.specs.Setup as config;
 ghost use Rattle.sip_lex.specs.Bytes.{is_space};
-ghost use Rattle.sip_lex.specs.Cut.{cut, Lacks};
+ghost use Rattle.sip_lex.specs.Cut.{Lacks};
 ghost use Rattle.sip_text.specs.Grammar.{IsText};
 ghost use Rattle.sip_text.specs.Method.{known_method};
 ghost use Rattle.sip_text.specs.Text.{MessageText};
-ghost use Rattle.daemon_answers.specs.Options.{IsAnsweredIf, asks_proxy, is_options, is_proxy, is_proxy_if_read};
+ghost use Rattle.daemon_answers.specs.Options.{IsAnsweredIf, asks_proxy, has_at, has_space, is_options, is_proxy, is_proxy_if_read, may_ask_proxy};
 ghost use Rattle.sip_uri.specs.Reading.{read_uri};
 
 use fork_call::{Cause, Datagram, Port, Setup};
@@ -20,14 +20,15 @@ use std::alloc::{AllocError, Allocator};
 
 /// Whether a space stands in a text.
 fn has_space(text: &[u8]) -> bool
-    ensures { result ≡ is_some (cut is_space text.now).1 }
+    ensures { result ≡ has_space text.now }
 {
     cut_at_space(text).1.is_some()
 }
 
 /// Whether an `@` stands in the first word of a text.
 fn has_at(text: &[u8]) -> bool
-    ensures { (word behind : List ℕ) (gap : ℕ) → text.now ≡ word ++ gap ∷ behind → is_space gap ≡ true → Lacks 64 word → result ≡ false }
+    ensures value { result ≡ has_at text.now }
+    ensures lacks { (word behind : List ℕ) (gap : ℕ) → text.now ≡ word ++ gap ∷ behind → is_space gap ≡ true → Lacks 64 word → result ≡ false }
 {
     match cut_at(text, b'@') {
         (front, Some(_)) => !has_space(front),
@@ -38,7 +39,8 @@ fn has_at(text: &[u8]) -> bool
 /// Whether a text may spell an OPTIONS request to the proxy itself, by its first bytes: the method stands at its front and no `@` in the
 /// word behind it, so that no user is named, or all of it stands behind empty lines. It takes no memory.
 pub fn may_ask_proxy(text: &[u8]) -> bool
-    ensures { (setup : config.Setup) (m : MessageText) → IsText text.now m → asks_proxy setup m ≡ true → result ≡ true }
+    ensures value { result ≡ may_ask_proxy text.now }
+    ensures asked { (setup : config.Setup) (m : MessageText) → IsText text.now m → asks_proxy setup m ≡ true → result ≡ true }
 {
     match text.strip_prefix(b"OPTIONS") {
         Some([_, behind @ ..]) => !has_at(behind),
