@@ -45,12 +45,15 @@ impl IdleWorkers {
         self.count.fetch_sub(1, Ordering::SeqCst);
     }
 
+    /// Whether a worker is idle, or about to be.
+    pub(crate) fn has_any(&self) -> bool {
+        self.count.load(Ordering::SeqCst) > 0
+    }
+
     /// Wakes a worker, if one is idle.
     pub(crate) fn wake_one(&self) {
-        if self.count.load(Ordering::SeqCst) > 0 {
-            self.wakes.fetch_add(1, Ordering::SeqCst);
-            self.wakes.wake_one();
-        }
+        self.wakes.fetch_add(1, Ordering::SeqCst);
+        self.wakes.wake_one();
     }
 
     /// Wakes all workers that are idle.

@@ -304,8 +304,11 @@ impl Proxy {
         }
     }
 
-    /// Writes down the calls that are left as the proxy ends, at this moment, in milliseconds.
+    /// Writes down the calls that are left as the proxy ends, at this moment, in milliseconds, if there is a journal.
     pub(crate) fn write_all_left<R: Wait + ProxyFiles>(&self, rt: &R, now: u64) {
+        if self.paths.journal.is_none() {
+            return;
+        }
         let time = self.time_at(now);
         for number in 0..self.calls.count(rt) {
             self.write_left(rt, number, time);
@@ -320,8 +323,8 @@ impl Proxy {
         }
     }
 
-    /// Carries a call, and answers what is to be done next. Of one that is over the block for the journal is appended, or nothing for
-    /// want of memory.
+    /// Carries a call, and answers what is to be done next. Of one that is over the block for the journal is appended, if there is a journal,
+    /// or nothing for want of memory.
     fn carried<P: Port>(
         &self,
         call: &mut Call<Global>,
@@ -342,7 +345,9 @@ impl Proxy {
     fn next_of(&self, call: &Call<Global>, now: u64, block: &mut Vec<u8>) -> Next {
         let due = call.due();
         if due.is_none() && call.over() {
-            let _ = append_block(call, self.time_at(now), block);
+            if self.paths.journal.is_some() {
+                let _ = append_block(call, self.time_at(now), block);
+            }
             return Next::Over(failure_of(call));
         }
         self.count_finished(call);

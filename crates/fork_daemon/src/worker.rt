@@ -34,6 +34,11 @@ fn pause() {
     }
 }
 
+/// Whether a datagram begins as a response does (RFC 3261 section 7.2): no such one opens a call.
+fn begins_as_response(bytes: &[u8]) -> bool {
+    bytes.starts_with(b"SIP/")
+}
+
 /// What a worker keeps from one datagram to the next.
 #[derive(Drop)]
 struct WorkerState<'a> {
@@ -191,6 +196,9 @@ impl Proxy {
         port: &mut P,
         received: Received<'_>,
     ) -> Result<(), AllocError> {
+        if begins_as_response(received.bytes) {
+            return self.handle_stamped(rt, port, received, false);
+        }
         let has_place = self.keep_place(rt);
         if !has_place {
             let (bytes, source) = (received.bytes, received.source);
@@ -322,7 +330,7 @@ impl Proxy {
                 return Ok(());
             }
             if let Some(entered) = self.receive_or_wait(rt, &mut state.watch, buffer)? {
-                if self.socket.has_waiting() {
+                if self.idle.has_any() && self.socket.has_waiting() {
                     self.idle.wake_one();
                 }
                 self.take_entered(rt, &mut state, buffer, entered);
