@@ -1,6 +1,6 @@
 //! Workers that are idle while another one receives.
 use std::sync::Wait;
-use std::sync::atomic::{AtomicU64, Ordering};
+use std::sync::atomic::{AtomicBool, AtomicU64, Ordering};
 use std::time::Duration;
 
 /// How long a worker is idle at most, in milliseconds: half of T1, so that a datagram is received before it is sent again (RFC 3261 section
@@ -8,13 +8,16 @@ use std::time::Duration;
 const LONGEST: u64 = 250;
 
 /// Workers that are idle until one is woken. Who enters, then finds another worker receiving, and then sleeps, is woken by whoever has let
-/// the receiving go and wakes one behind that: none is missed.
+/// the receiving go and wakes one behind that: none is missed. One at a time is being woken: it looks itself whether more waits, and a wake
+/// is a call of the system each.
 #[derive(Drop)]
 pub(crate) struct IdleWorkers {
     /// How often workers were woken.
     wakes: AtomicU64,
     /// How many are idle, or are about to be.
     count: AtomicU64,
+    /// Whether one was woken that does not run yet.
+    is_waking: AtomicBool,
 }
 
 impl IdleWorkers {
@@ -23,13 +26,17 @@ impl IdleWorkers {
         IdleWorkers {
             wakes: AtomicU64::new(0),
             count: AtomicU64::new(0),
+            is_waking: AtomicBool::new(false),
         }
     }
 
-    /// Counts a worker that is about to be idle, and answers how often workers were woken before.
+    /// Counts a worker that is about to be idle, and answers how often workers were woken before. A wake that found none idle is forgotten here,
+    /// so it keeps nobody from waking this one.
     pub(crate) fn enter(&self) -> u64 {
         self.count.fetch_add(1, Ordering::SeqCst);
-        self.wakes.load(Ordering::SeqCst)
+        let woken = self.wakes.load(Ordering::SeqCst);
+        self.is_waking.store(false, Ordering::SeqCst);
+        woken
     }
 
     /// Sleeps until a worker is woken, a quarter of a second at most, unless one was woken since workers had been woken so often. It may
@@ -43,17 +50,20 @@ impl IdleWorkers {
     /// Counts a worker that is idle no more.
     pub(crate) fn leave(&self) {
         self.count.fetch_sub(1, Ordering::SeqCst);
+        self.is_waking.store(false, Ordering::SeqCst);
     }
 
-    /// Whether a worker is idle, or about to be.
+    /// Whether a worker is idle, or about to be, and none is being woken.
     pub(crate) fn has_any(&self) -> bool {
-        self.count.load(Ordering::SeqCst) > 0
+        self.count.load(Ordering::SeqCst) > 0 && !self.is_waking.load(Ordering::SeqCst)
     }
 
-    /// Wakes a worker, if one is idle.
+    /// Wakes a worker, if one is idle and none is being woken.
     pub(crate) fn wake_one(&self) {
-        self.wakes.fetch_add(1, Ordering::SeqCst);
-        self.wakes.wake_one();
+        if !self.is_waking.swap(true, Ordering::SeqCst) {
+            self.wakes.fetch_add(1, Ordering::SeqCst);
+            self.wakes.wake_one();
+        }
     }
 
     /// Wakes all workers that are idle.
