@@ -10,6 +10,7 @@ use crate::groups::Handover;
 use crate::proxy::Proxy;
 use daemon_parts::{Came, DaemonFault, Socket};
 use fork_clock::Watch;
+use proxy_service::State;
 use sip_uri::Hop;
 use source_limit::SourceLimits;
 use std::alloc::Global;
@@ -71,7 +72,7 @@ impl Proxy {
     }
 
     /// The next datagram that this worker is to handle, while no other worker receives. Nothing where none comes within a second, or it is
-    /// for another worker, or is dropped.
+    /// for another worker, or is dropped, or the proxy has ended.
     ///
     /// # Errors
     ///
@@ -88,7 +89,11 @@ impl Proxy {
         ensures fits { IfOk result (FitsIn (length buffer.new)) }
         ensures fault { IfErr result IsSystemFault }
     {
-        let (count, source) = match socket.receive(buffer)? {
+        let came = socket.receive(buffer)?;
+        if self.service.is_in(State::Ended) {
+            return Ok(Work::Nothing);
+        }
+        let (count, source) = match came {
             Came::Datagram(count, source) => (count, source),
             Came::Undelivered => return Ok(Work::Undelivered),
             Came::Nothing => return Ok(Work::Nothing),

@@ -68,7 +68,7 @@ impl Crew<Socket> for Server {
             rt,
             proxy: &self.proxy,
         };
-        listen(self.proxy.alloc, &control, &self.listeners.control);
+        listen(rt, self.proxy.alloc, &control, &self.listeners.control);
     }
 
     fn show<R: Wait + ProxyFiles + Clock + PageSockets>(&self, rt: &R) {
