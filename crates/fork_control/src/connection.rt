@@ -80,11 +80,8 @@ impl Connection {
 
     /// Writes once of its answer, and says whether its connection stands. Behind all of the answer the client reads that there is no more.
     pub(crate) fn write(&mut self) -> bool {
-        let Some(answer) = self.client.answer_mut() else {
-            return true;
-        };
-        match self.stream.write(answer.next()) {
-            Ok(count) => answer.advance(count),
+        match self.stream.write(self.client.next()) {
+            Ok(count) => self.client.advance(count),
             Err(error) => return is_passing(&error),
         }
         if self.client.deadline().is_some() && self.client.is_answered() {
