@@ -45,9 +45,10 @@ pub enum Heard {
     Undelivered(usize, Hop),
 }
 
-/// Sockets of the proxy's own address, each connected to one hop, for some tenths of a second. To a socket that is not connected the
-/// system does not tell that nobody receives at a port, unless it is asked by what is not within a program's reach here. What comes from
-/// that hop meanwhile comes to this socket, and not to the proxy's other one.
+/// Sockets of the proxy's own address, each connected to one hop, for two tenths of a second. Where an ICMP message says that nobody
+/// receives at a port, the system tells a connected socket. It tells one that is not connected only by IP_RECVERR and MSG_ERRQUEUE, which
+/// the C library as it is declared here does not have. What comes from that hop meanwhile comes to the connected socket, and not to the
+/// proxy's other one.
 #[derive(Drop)]
 pub struct ConnectedSockets {
     alloc: Global,
@@ -127,10 +128,10 @@ impl ConnectedSockets {
         })
     }
 
-    /// Sends a datagram at this moment by a socket of its own, and listens for some tenths of a second whether nobody receives it. None
-    /// where it was not sent, since there are as many sockets as there may be, or none can be made.
+    /// Sends a datagram at this moment by a socket of its own, and listens for two tenths of a second whether nobody receives it. None
+    /// where it was not sent, since there are as many sockets as there may be (16), or none can be made, or it is for the proxy itself.
     pub fn send(&mut self, bytes: &[u8], to: Hop, now: u64) -> Option<Sent> {
-        if self.sockets.len() >= MOST_SOCKETS {
+        if to == self.own || self.sockets.len() >= MOST_SOCKETS {
             return None;
         }
         let Ok(connected) = self.connected(bytes, to, now) else {

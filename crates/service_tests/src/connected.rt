@@ -78,6 +78,11 @@ fn are_bounded(sockets: &mut ConnectedSockets) -> bool {
     count == 16
 }
 
+/// Whether what is for the proxy itself is not sent so.
+fn leaves_own_alone(sockets: &mut ConnectedSockets) -> bool {
+    sockets.send(b"INVITE", hop(OWN), 0).is_none()
+}
+
 /// Whether a second proxy is refused at this address.
 fn is_alone<R: Net>(rt: &R) -> bool {
     Socket::bind(rt, hop(OWN)).is_err()
@@ -96,8 +101,9 @@ fn is_heard<R: Net + Clock>(rt: &R, alloc: Global) -> bool {
     };
     let told = tells(rt, &mut sockets);
     let answered = answers(rt, &proxy, &other, &mut sockets);
+    let left = leaves_own_alone(&mut sockets);
     let bounded = are_bounded(&mut sockets);
-    told && answered && bounded && is_alone(rt)
+    told && answered && left && bounded && is_alone(rt)
 }
 
 #[test]
