@@ -12,8 +12,6 @@ mod clock;
 #[cfg(test)]
 mod commands;
 #[cfg(test)]
-mod connected;
-#[cfg(test)]
 mod control;
 #[cfg(test)]
 mod deadlines;
