@@ -20,6 +20,7 @@ mod places;
 mod reading;
 mod setup;
 mod socket;
+mod system;
 
 pub use call_counts::{CallCounts, FailedCounts};
 pub use count::Count;
