@@ -128,8 +128,7 @@ routes_times : RoutesLeft → (k : ℕ) (m : MessageText) (own : Own) → (n : �
 routes_times left zero m own = (0, refl)
 routes_times left (suc k) m own =
     let once = routes_once left m own in
-    let more = routes_times left k (stripped m own) own in
-    (
+    let more = routes_times left k (stripped m own) own in (
       once.0 + more.0,
       more.1 ∙ ap (λ (vs : List (List ℕ)). drop more.0 vs) once.1 ∙ drop-drop more.0 once.0 (map trim (route_values m)),
     )
