@@ -4,4 +4,3 @@ pub mod Placed
 pub mod Opened
 pub mod Distinct
 pub mod laws
-pub mod Quoted

@@ -4,4 +4,3 @@ pub mod Matching
 pub mod SeenMatchedTransaction
 pub mod Destinations
 pub mod Opening
-pub mod Quoting

@@ -1,3 +1,2 @@
 pub mod Matching
 pub mod Distinct
-pub mod Quoting
