@@ -8,6 +8,7 @@ mod groups;
 mod idle;
 mod opening;
 mod packet;
+mod pieces;
 mod port;
 mod proxy;
 mod receiving;
