@@ -153,10 +153,10 @@ impl Proxy {
     /// # Errors
     ///
     /// `Socket` where a receive failed.
-    fn work_until_end<R: Wait + Clock>(
-        &self,
+    fn work_until_end<'a, R: Wait + Clock>(
+        &'a self,
         rt: &R,
-        socket: &Socket,
+        socket: &'a Socket,
         buffer: &mut [u8],
     ) -> Result<(), DaemonFault>
         ensures { IfErr result IsSystemFault }
