@@ -1,9 +1,9 @@
 //! Values under numbers and keys, each behind a lock of its own.
-ghost use Rattle.std.specs.Prelude.{◌≡◌, ◌+◌, ℕ, List, Ok, Err, Some, IfErr, IfOk, IfSome, OnOk, OnErr};
-ghost use Rattle.std.specs.Bool.{OnTrue, OnFalse};
+ghost use Rattle.std.specs.Prelude.{◌≡◌, ◌+◌, ◌≤◌, ℕ, true, List, Ok, Err, Some, IfErr, IfNone, IfOk, IfSome, OnOk, OnErr};
 ghost use Rattle.std.specs.Fn.{FnOnceReturnsAtMut};
 ghost use Rattle.call_table.specs.inner.KeyTable.{number_of, IsListed, IsSame, IsUnlisted};
 ghost use Rattle.call_table.specs.Faults.{IfMade};
+ghost use Rattle.call_table.specs.Removals.{said};
 
 use crate::entries::{Entries, Entry};
 use crate::key_table::{KeyTable, Taken};
@@ -171,14 +171,6 @@ impl<T: Numbered + Drop, A: Allocator + Clone> Shelf<T, A> {
         self.key_table.lock(rt).keyed(key)
     }
 
-    /// Takes the value of a number away, with its key, and says whether it was there. The key may be put anew and gets a new
-    /// number then; the number is never given again. Who looks at the value meanwhile goes on looking, and it goes with the last
-    /// look. It takes no memory.
-    pub fn remove<R: Wait>(&self, rt: &R, no: u64) -> bool {
-        let unlisted = self.unlist(rt, &mut self.key_table.lock(rt), no);
-        unlisted.is_some()
-    }
-
     /// Takes the value of a number away, with its key, where `f` says so of it. The value is locked while `f` looks at it, and
     /// nobody looks at it between then and its end; `f` must not look at the shelf. The key may be put anew and gets a new
     /// number then; the number is never given again. It waits for no look at the value, takes no memory, and frees the value
@@ -186,6 +178,7 @@ impl<T: Numbered + Drop, A: Allocator + Clone> Shelf<T, A> {
     pub fn remove_if<R: Wait, F: FnOnce(&mut T) -> bool>(&self, rt: &R, no: u64, f: F) -> Removal
         requires callable { (x : _) → T.number_of x.now ≡ no → F.pre f x }
         requires keeps { (old new : T) (r : _) → T.number_of old ≡ no → FnOnceReturnsAtMut F.FnOnce f old r new → T.number_of new ≡ no }
+        ensures { IfSome (said result) (λ r. (old : T) × (new : T) × (T.number_of old ≡ no) × FnOnceReturnsAtMut F.FnOnce f old r new) }
     {
         let removed = self.remove_at(rt, &mut self.key_table.lock(rt), no, f);
         match removed {
@@ -203,6 +196,8 @@ impl<T: Numbered + Drop, A: Allocator + Clone> Shelf<T, A> {
         f: F,
     ) -> Result<(T, Unlisted<T, A>), Removal>
         requires callable { (x : _) → T.number_of x.now ≡ no → F.pre f x }
+        ensures taken { IfOk result (λ taken. (old : T) × (T.number_of old ≡ no) × FnOnceReturnsAtMut F.FnOnce f old true taken.0) }
+        ensures left { IfErr result (λ why. IfSome (said why) (λ r. (old : T) × (new : T) × (T.number_of old ≡ no) × FnOnceReturnsAtMut F.FnOnce f old r new)) }
         ensures gone { OnOk result ((key : List ℕ) × (number_of key_table.old key ≡ Some no) × IsUnlisted key key_table.old key_table.new) }
         ensures same { OnErr result (key_table.new ≡ key_table.old) }
     {
@@ -240,7 +235,9 @@ impl<T: Numbered + Drop, A: Allocator + Clone> Shelf<T, A> {
     }
 
     /// The least number from this one on whose value is there. The time does not grow with how many numbers were given before.
-    pub fn next_from<R: Wait>(&self, rt: &R, from: u64) -> Option<u64> {
+    pub fn next_from<R: Wait>(&self, rt: &R, from: u64) -> Option<u64>
+        ensures { IfSome result (λ no. from ≤ no) }
+    {
         self.entries.lock(rt).next_from(from)
     }
 
@@ -259,13 +256,7 @@ impl<T: Numbered + Drop, A: Allocator + Clone> Shelf<T, A> {
     {
         let entry = self.entry(rt, no)?;
         let mut guard = entry.lock(rt);
-        let Some(value) = guard.as_mut() else {
-            return None;
-        };
-        if value.number() != no {
-            return None;
-        }
-        Some(called(f, value))
+        called_at(&mut *guard, no, f)
     }
 }
 
@@ -276,20 +267,37 @@ fn take_if<T: Numbered + Drop, F: FnOnce(&mut T) -> bool>(
     f: F,
 ) -> Result<T, Removal>
     requires callable { (x : _) → T.number_of x.now ≡ no → F.pre f x }
+    ensures taken { IfOk result (λ new. (old : T) × (T.number_of old ≡ no) × FnOnceReturnsAtMut F.FnOnce f old true new) }
+    ensures left { IfErr result (λ why. IfSome (said why) (λ r. (old : T) × (new : T) × (T.number_of old ≡ no) × FnOnceReturnsAtMut F.FnOnce f old r new)) }
 {
     let Some(mut guard) = lock.try_lock() else {
         return Err(Removal::Busy);
     };
-    let Some(value) = guard.as_mut() else {
-        return Err(Removal::Absent);
-    };
+    match called_at(&mut *guard, no, f) {
+        None => return Err(Removal::Absent),
+        Some(false) => return Err(Removal::Kept),
+        Some(true) => {}
+    }
+    match mem::take(&mut *guard) {
+        Some(value) => Ok(value),
+        None => Err(Removal::Absent),
+    }
+}
+
+/// What a call of `f` at a value returns, where the value is there and has this number.
+fn called_at<T: Numbered, U, F: FnOnce(&mut T) -> U>(
+    value: &mut Option<T>,
+    no: u64,
+    f: F,
+) -> Option<U>
+    requires callable { (x : _) → T.number_of x.now ≡ no → F.pre f x }
+    ensures { IfSome result (λ r. (old : T) × (new : T) × (value.old ≡ Some old) × (value.new ≡ Some new) × (T.number_of old ≡ no) × FnOnceReturnsAtMut F.FnOnce f old r new) }
+{
+    let value = value.as_mut()?;
     if value.number() != no {
-        return Err(Removal::Absent);
+        return None;
     }
-    if !called(f, value) {
-        return Err(Removal::Kept);
-    }
-    mem::take(&mut *guard).ok_or(Removal::Absent)
+    Some(called(f, value))
 }
 
 /// What a call of `f` at a value returns.
