@@ -91,16 +91,12 @@ pub(crate) fn open_all<R: ProxyFiles + PageSockets>(
     Ok(Listeners { control, metrics })
 }
 
-/// A buffer for a datagram.
-pub(crate) fn buffer(alloc: Global) -> Result<Vec<u8>, AllocError> {
-    vec![in alloc; 0u8; MOST_BYTES]
-}
-
 /// A buffer for each of so many workers.
 pub(crate) fn buffers_of(alloc: Global, workers: usize) -> Result<Vec<Vec<u8>>, AllocError> {
     let mut buffers = Vec::new(alloc);
     for _ in 0..workers {
-        if buffers.push(buffer(alloc)?).is_err() {
+        let buffer = vec![in alloc; 0u8; MOST_BYTES]?;
+        if buffers.push(buffer).is_err() {
             return Err(AllocError);
         }
     }
