@@ -14,7 +14,6 @@ mod proxy;
 mod receiving;
 mod serving;
 mod timer;
-mod undelivered;
 mod worker;
 mod writer;
 
