@@ -1,3 +1,3 @@
 pub mod Admission
 pub mod Faults
-pub mod Receiving
+pub mod Handover

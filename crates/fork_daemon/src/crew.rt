@@ -126,13 +126,7 @@ fn work_beside<
     S: Sync + Drop,
     C: Crew<S> + Sync,
     R: Threads + Wait + ProxyFiles + PageSockets + Clock + Sync,
->(
-    rt: &R,
-    alloc: Global,
-    crew: &C,
-    socket: S,
-    buffers: Vec<Vec<u8>>,
-) -> Result<(), DaemonFault>
+>(rt: &R, alloc: Global, crew: &C, socket: S, buffers: Vec<Vec<u8>>) -> Result<(), DaemonFault>
     ensures { IfErr result IsSystemFault }
 {
     thread::scope(
@@ -144,7 +138,7 @@ fn work_beside<
             let shows = scope.spawn(move || crew.show(rt)).is_ok();
             let writes = scope.spawn(move || crew.write(rt)).is_ok();
             let ran = if shows && writes {
-                work_and_close(rt, alloc, crew, socket, buffers)
+                work_and_close(&*rt, alloc, &*crew, socket, buffers)
             } else {
                 Err(DaemonFault::NoMemory)
             };
@@ -161,13 +155,7 @@ pub(crate) fn run<
     S: Sync + Drop,
     C: Crew<S> + Sync,
     R: Threads + Wait + ProxyFiles + PageSockets + Clock + Print + Sync,
->(
-    rt: &R,
-    alloc: Global,
-    crew: &C,
-    socket: S,
-    buffers: Vec<Vec<u8>>,
-) -> Result<(), DaemonFault>
+>(rt: &R, alloc: Global, crew: &C, socket: S, buffers: Vec<Vec<u8>>) -> Result<(), DaemonFault>
     ensures { IfErr result IsSystemFault }
 {
     thread::scope(
@@ -177,7 +165,7 @@ pub(crate) fn run<
             ensures { IfErr result IsSystemFault }
         {
             let ran = if scope.spawn(move || crew.answer(rt)).is_ok() {
-                work_beside(rt, alloc, crew, socket, buffers)
+                work_beside(&*rt, alloc, &*crew, socket, buffers)
             } else {
                 Err(DaemonFault::NoMemory)
             };

@@ -1,12 +1,12 @@
 //! What a worker does with the datagrams that it receives, and with those that are handed over to it.
-ghost use Rattle.std.specs.Prelude.{◌≤◌, length, IfErr, IfOk};
+ghost use Rattle.std.specs.Prelude.{◌≤◌, length, IfErr, IfOk, IfSome};
 ghost use Rattle.fork_daemon.specs.Faults.{IsSystemFault};
-ghost use Rattle.fork_daemon.specs.Receiving.{FitsIn};
 
 use crate::port::SocketPort;
 use crate::proxy::Proxy;
-use crate::receiving::{Entered, Work};
+use crate::receiving::Entered;
 use daemon_parts::{DaemonFault, Socket};
+use fork_call::Port;
 use fork_clock::Watch;
 use proxy_dispatch::Received;
 use proxy_service::State;
@@ -57,21 +57,22 @@ impl WorkerState<'_> {
 
 impl Proxy {
     /// Handles a datagram, and notes how long that took. The moment is read as it begins.
-    fn take_timed<R: Wait + Clock>(
+    pub(crate) fn take_timed<R: Wait + Clock, P: Port>(
         &self,
         rt: &R,
-        state: &mut WorkerState<'_>,
+        port: &mut P,
+        watch: &mut Watch,
         bytes: &[u8],
         source: Hop,
     ) {
-        let began = state.watch.micros(rt);
+        let began = watch.micros(rt);
         let received = Received {
             bytes,
             source,
             now: began / 1_000,
         };
-        self.service.take(rt, &mut state.port, received);
-        let took = state.watch.micros(rt).saturating_sub(began);
+        self.service.take(rt, port, received);
+        let took = watch.micros(rt).saturating_sub(began);
         self.service.counts().latencies.add(took);
     }
 
@@ -84,7 +85,10 @@ impl Proxy {
     ) {
         for _ in rt.forever() {
             match self.groups.next(rt, group) {
-                Some(packet) => self.take_timed(rt, state, packet.bytes.as_slice(), packet.source),
+                Some(packet) => {
+                    let (port, watch) = (&mut state.port, &mut state.watch);
+                    self.take_timed(rt, port, watch, packet.bytes.as_slice(), packet.source);
+                }
                 None => return,
             }
         }
@@ -102,7 +106,9 @@ impl Proxy {
         requires { entered.count ≤ length buffer.now }
     {
         state.hold_ready(self.alloc);
-        self.take_timed(rt, state, &buffer[..entered.count], entered.source);
+        let bytes = &buffer[..entered.count];
+        let (port, watch) = (&mut state.port, &mut state.watch);
+        self.take_timed(rt, port, watch, bytes, entered.source);
         self.take_waiting(rt, state, entered.group);
     }
 
@@ -116,7 +122,7 @@ impl Proxy {
         self.idle.leave();
     }
 
-    /// What this worker is to handle next; nothing where there is none, or where another worker received until this one was woken.
+    /// The next datagram that this worker is to handle; None where there is none, or where another worker received until this one was woken.
     ///
     /// # Errors
     ///
@@ -127,8 +133,8 @@ impl Proxy {
         socket: &Socket,
         watch: &mut Watch,
         buffer: &mut [u8],
-    ) -> Result<Work, DaemonFault>
-        ensures fits { IfOk result (FitsIn (length buffer.new)) }
+    ) -> Result<Option<Entered>, DaemonFault>
+        ensures fits { IfOk result (λ came. IfSome came (λ entered. entered.count ≤ length buffer.new)) }
         ensures fault { IfErr result IsSystemFault }
     {
         for _ in 0..LOOKS {
@@ -138,38 +144,14 @@ impl Proxy {
             pause();
         }
         self.wait_idle(rt);
-        Ok(Work::Nothing)
+        Ok(None)
     }
 
-    /// Wakes an idle worker, as this one is about to handle something while nobody receives: where a datagram waits, and where no other one
+    /// Wakes an idle worker, as this one is about to handle a datagram while nobody receives: where a datagram waits, and where no other one
     /// watches.
     fn hand_receiving_over(&self, socket: &Socket) {
         if self.idle.has_any() && (!self.idle.is_watched() || socket.has_waiting()) {
             self.idle.wake_one();
-        }
-    }
-
-    /// Handles what this worker came by.
-    fn handle<R: Wait + Clock>(
-        &self,
-        rt: &R,
-        socket: &Socket,
-        state: &mut WorkerState<'_>,
-        buffer: &mut [u8],
-        work: Work,
-    )
-        requires { FitsIn (length buffer.old) work }
-    {
-        match work {
-            Work::Datagram(entered) => {
-                self.hand_receiving_over(socket);
-                self.take_entered(rt, state, buffer, entered);
-            }
-            Work::Undelivered => {
-                self.hand_receiving_over(socket);
-                self.take_undelivered(rt, socket, &mut state.port, &mut state.watch, buffer);
-            }
-            Work::Nothing => {}
         }
     }
 
@@ -178,10 +160,10 @@ impl Proxy {
     /// # Errors
     ///
     /// `Socket` where a receive failed.
-    fn work_until_end<R: Wait + Clock>(
-        &self,
+    fn work_until_end<'a, R: Wait + Clock>(
+        &'a self,
         rt: &R,
-        socket: &Socket,
+        socket: &'a Socket,
         buffer: &mut [u8],
     ) -> Result<(), DaemonFault>
         ensures { IfErr result IsSystemFault }
@@ -196,8 +178,11 @@ impl Proxy {
             if self.service.is_in(State::Ended) {
                 return Ok(());
             }
-            let work = self.receive_or_wait(rt, socket, &mut state.watch, buffer)?;
-            self.handle(rt, socket, &mut state, buffer, work);
+            let came = self.receive_or_wait(rt, socket, &mut state.watch, buffer)?;
+            if let Some(entered) = came {
+                self.hand_receiving_over(socket);
+                self.take_entered(rt, &mut state, buffer, entered);
+            }
         }
         unreachable!()
     }

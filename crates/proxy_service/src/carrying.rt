@@ -1,5 +1,8 @@
 //! What a service does with one call: it carries it, and forgets one that is over.
-ghost use Rattle.std.specs.Prelude.{◌≡◌};
+ghost use Rattle.std.specs.Prelude.{◌≡◌, ◌≤◌, ◌↔◌, IsTrue};
+ghost use Rattle.std.specs.Bool.{OnTrue};
+ghost use Rattle.call_model.specs.Due.{IsOver};
+ghost use Rattle.call_over.specs.Quiet.{IsQuietWithoutOwed};
 
 use crate::answers::AnswerPort;
 use crate::journal::append_block;
@@ -59,7 +62,9 @@ fn next_of(call: &Call<Global>) -> Next {
 
 /// Whether a call may be forgotten: it is over, so whatever it is given it stays so, and sends nothing but 200s to CANCELs.
 fn may_be_forgotten(call: &mut Call<Global>) -> bool
-    ensures { call.new.opened.number ≡ call.old.opened.number }
+    ensures over { IsTrue result ↔ IsOver call.old }
+    ensures quiet { OnTrue result (IsQuietWithoutOwed call.new) }
+    ensures same { call.new ≡ call.old }
 {
     calls_that_are_over_are_quiet();
     call.over()
@@ -214,17 +219,21 @@ impl Service {
         }
     }
 
-    /// Has a block written to the journal as the service ends. Where too many wait it waits for the thread that writes, a second at most for
-    /// all of them together.
-    fn write_down_last<R: Wait + Clock>(&self, rt: &R, block: &[u8], rests: &mut u32) {
-        while *rests > 0 && !self.journal.has_room(rt, block.len()) {
+    /// Rests, so many times at most, until there is room for a block of so many bytes, and answers how often it may rest from then on.
+    fn await_room<R: Wait + Clock>(&self, rt: &R, bytes: usize, rests: u32) -> u32
+        ensures { result ≤ rests }
+    {
+        for rested in 0..rests {
+            if self.journal.has_room(rt, bytes) {
+                return rests - rested;
+            }
             thread::sleep(rt, Duration::from_millis(REST));
-            *rests -= 1;
         }
-        self.write_down(rt, block);
+        0
     }
 
-    /// Has all calls that are left written down, as the service ends, if there is a journal.
+    /// Has all calls that are left written down, as the service ends, if there is a journal. Where too many blocks wait it waits for the
+    /// thread that writes them, a second at most in all.
     pub fn write_down_left<R: Wait + Clock>(&self, rt: &R) {
         if !self.terms.has_journal {
             return;
@@ -242,7 +251,8 @@ impl Service {
                 .shelf
                 .with(rt, number, |call| write_block(call, time, &mut block));
             if listed.is_some() {
-                self.write_down_last(rt, block.as_slice(), &mut rests);
+                rests = self.await_room(rt, block.len(), rests);
+                self.write_down(rt, block.as_slice());
             }
             from = number.saturating_add(1);
         }

@@ -15,12 +15,12 @@ mod lifetime;
 mod opening;
 mod queue;
 mod refusals;
+mod room;
 mod service;
 mod setup;
 mod taking;
 mod terms;
 mod timing;
-mod undelivered;
 mod walk;
 
 pub use answers::AnswerPort;
