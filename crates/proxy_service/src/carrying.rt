@@ -3,6 +3,8 @@ ghost use Rattle.std.specs.Prelude.{◌≡◌, ◌≤◌, ◌↔◌, IsTrue};
 ghost use Rattle.std.specs.Bool.{OnTrue};
 ghost use Rattle.call_model.specs.Due.{IsOver};
 ghost use Rattle.call_over.specs.Quiet.{IsQuietWithoutOwed};
+ghost use Rattle.fork_model.specs.Log.{core_of};
+ghost use Rattle.proxy_service.specs.Next.{EndsBy, IsNext};
 
 use crate::answers::AnswerPort;
 use crate::journal::append_block;
@@ -44,7 +46,9 @@ fn seconds<R: Clock>(rt: &R) -> u64 {
 }
 
 /// The status with which a call that is over failed; None where it was answered with a 2xx.
-fn failure_of(call: &Call<Global>) -> Option<u16> {
+fn failure_of(call: &Call<Global>) -> Option<u16>
+    ensures { EndsBy (core_of call.now.log) result }
+{
     match call.book().context().choice_with_status() {
         Some((_, status)) => Some(status),
         None => None,
@@ -52,7 +56,9 @@ fn failure_of(call: &Call<Global>) -> Option<u16> {
 }
 
 /// What is to be done next with a call that was carried.
-fn next_of(call: &Call<Global>) -> Next {
+fn next_of(call: &Call<Global>) -> Next
+    ensures { IsNext call.now result }
+{
     match call.due() {
         Some(due) => Next::At(due),
         None if call.over() => Next::Over(failure_of(call)),
@@ -101,7 +107,9 @@ impl Service {
 
     /// What is to be done next with a call that was carried. Of one that is over the block for the journal is appended, if there is a
     /// journal, or nothing for want of memory.
-    fn left<R: Clock>(&self, rt: &R, call: &Call<Global>, block: &mut Vec<u8>) -> Next {
+    fn left<R: Clock>(&self, rt: &R, call: &Call<Global>, block: &mut Vec<u8>) -> Next
+        ensures { IsNext call.now result }
+    {
         let next = next_of(call);
         if !matches!(next, Next::Over(_)) {
             self.count_finished(call);
