@@ -235,17 +235,15 @@ fn a_call_is_marked_once(rt: HostRuntime) {
     holds(&rt, are_marked(rt.alloc()), "the marks");
 }
 
-/// Whether two places are kept, and a third only once one is given back, or behind one that was taken beyond them only once two are.
+/// Whether two places are kept, a third for a request within a dialog alone, and one more only once two are given back.
 fn are_kept() -> bool {
     let mut places = Places::new(2);
     let kept = places.keep() && places.keep() && !places.keep();
+    let beyond = places.keep_within_dialog() && !places.keep_within_dialog();
     places.give_back();
-    let again = places.keep() && !places.keep();
-    places.take();
+    let full = !places.keep();
     places.give_back();
-    let beyond = !places.keep();
-    places.give_back();
-    kept && again && beyond && places.keep()
+    kept && beyond && full && places.keep() && !places.keep()
 }
 
 #[test]
