@@ -391,7 +391,9 @@ impl Proxy {
         let mut block = Vec::new(self.alloc);
         let next = self.calls.with(rt, number, |call| self.carried(call, port, now, &mut block));
         match next {
-            Some(Next::At(due)) => self.schedule.add(rt, number, due),
+            Some(Next::At(due)) => {
+                let _ = self.schedule.add(rt, number, due);
+            }
             Some(Next::Over(failure)) => self.forget(rt, number, failure, block.as_slice()),
             Some(Next::Nothing) | None => {}
         }
