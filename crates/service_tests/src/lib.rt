@@ -6,6 +6,8 @@ mod by_call;
 #[cfg(test)]
 mod capable;
 #[cfg(test)]
+mod clients;
+#[cfg(test)]
 mod clock;
 #[cfg(test)]
 mod commands;
