@@ -4,3 +4,4 @@ pub mod Matching
 pub mod SeenMatchedTransaction
 pub mod Destinations
 pub mod Opening
+pub mod Quoting

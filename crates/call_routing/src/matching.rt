@@ -72,7 +72,7 @@ fn is_to_method<A: Allocator>(message: &Message<A>, method: &[u8]) -> bool
 }
 
 /// The method of the request that the call was opened with.
-fn opening_method<A: Allocator + Clone>(state: &CallState<A>) -> &[u8]
+pub(crate) fn opening_method<A: Allocator + Clone>(state: &CallState<A>) -> &[u8]
     ensures { result.now ≡ method_of state.now.opened.request.start }
 {
     match state.opened().request().start() {

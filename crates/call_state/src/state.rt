@@ -204,7 +204,7 @@ impl<A: Allocator + Clone> CallState<A> {
     }
 
     /// Where the request of branch n goes, which was sent.
-    pub(crate) fn destination(&self, n: u16) -> &Destination<A>
+    pub fn destination(&self, n: u16) -> &Destination<A>
         requires { is_sent self.now n ≡ true }
         ensures { slice_get self.now.destinations n ≡ Some result.now }
     {

@@ -32,7 +32,8 @@ fn each_fault_has_its_status(rt: HostRuntime) {
 
 /// What a message is admitted as, if it is.
 fn admitted(alloc: Global, message: Message<Global>) -> Option<Message<Global>> {
-    match validate_request(alloc, OWN, message, SOURCE) {
+    let setup = setup_of(alloc, SETUP)?;
+    match validate_request(alloc, &setup, message, SOURCE) {
         Ok(request) => Some(request),
         Err(_) => None,
     }

@@ -9,6 +9,7 @@ ghost use Rattle.call_model.specs.SeenTaken.{seen_taken};
 ghost use Rattle.call_model.specs.Take as take;
 ghost use Rattle.call_routing.specs.Matching.{BelongsToNone};
 ghost use Rattle.call_routing.specs.Opening.{IsOpenable, Opens, Refuses};
+ghost use Rattle.call_routing.specs.Quoting.{quoted_cause};
 ghost use Rattle.fork_call.specs.inner.SeenAction.{seen_action};
 ghost use Rattle.fork_call.specs.Takes.{Takes};
 ghost use Rattle.fork_call.specs.inner.Ending.{AreOver};
@@ -24,7 +25,7 @@ use crate::timing::time_step;
 use call_branch::status_of;
 use call_laws::{calls_send_right, what_is_sent_is_right};
 use call_model::{Cause, Step, Taken, calls_stay_sound};
-use call_routing::match_transaction;
+use call_routing::{QuotedRequest, match_transaction, quoted_cause};
 use call_state::CallState;
 use call_table::Numbered;
 use fork_book::Book;
@@ -233,6 +234,15 @@ impl<A: Allocator + Clone> Call<A> {
         self.state.failed(cause, now)?;
         time_step(&mut self.schedule, &self.state, row_of(cause), at);
         Ok(())
+    }
+
+    /// The datagram of the call whose front is quoted, as ICMP quotes it, and which was sent to `to` but could not be delivered
+    /// (RFC 3261 sections 16.9, 17.1.4 and 18.4): the request of a branch, its CANCEL or its ACK, for `failed` to be told. `None`
+    /// where the call sent no such datagram: its branch, method and hop are all compared, since a quote may be forged.
+    pub fn quoted_cause(&self, quoted: &QuotedRequest<'_>, to: Hop) -> Option<Cause>
+        ensures { result ≡ quoted_cause self.now quoted.now.method.now quoted.now.branch to }
+    {
+        quoted_cause(&self.state, quoted, to)
     }
 
     /// The earliest moment at which something is to be done: 0 where an answer is owed, as that is to be done at any

@@ -16,6 +16,7 @@ mod timing;
 
 pub use call::Call;
 pub use call_model::{Cause, Datagram, Step, Taken};
+pub use call_routing::{QuotedRequest, read_quoted};
 pub use fault::TakeFault;
 pub use fork_book::Book;
 pub use law::{

@@ -27,7 +27,8 @@ pub(crate) fn hop_of(value: &[u8]) -> Option<Hop>
     read_hop(bracketed(value)?)
 }
 
-fn is_own(own: Own, hop: Option<Hop>) -> bool
+/// Whether a hop is the proxy itself.
+pub(crate) fn is_own(own: Own, hop: Option<Hop>) -> bool
     ensures { result ≡ is_own own hop }
 {
     match hop {

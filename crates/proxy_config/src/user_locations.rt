@@ -1,0 +1,52 @@
+//! The locations of a user, one by one.
+ghost use Rattle.std.specs.Prelude.{◌≡◌, ◌∷◌, [], List, IfNone, IfSome};
+ghost use Rattle.proxy_config.specs.Setup as spec;
+ghost use Rattle.proxy_config.specs.inner.UserPlaces.{AreAt};
+
+use crate::location::Location;
+use std::alloc::{Allocator, Global};
+use std::marker::Model;
+
+/// The locations of a user that are left, in the order of the text (RFC 3261 section 16.5).
+#[derive(Drop)]
+pub struct UserLocations<'a, A: Allocator = Global> {
+    places: &'a [usize],
+    locations: &'a [Location<A>],
+}
+
+impl<'a, A: Allocator> Model for UserLocations<'a, A> {
+    ghost use Rattle.std.specs.Prelude.{List};
+    ghost use Rattle.proxy_config.specs.Setup as spec;
+    ghost use Rattle.proxy_config.specs.inner.UserPlaces.{AreAt, located};
+
+    ghost Value = { List spec.Location };
+
+    ghost view = { λ l. located l.locations.now l.places.now };
+
+    // none of the places is empty
+    ghost invariant = { λ l. AreAt l.locations.now l.places.now (located l.locations.now l.places.now) };
+}
+
+impl<'a, A: Allocator> UserLocations<'a, A> {
+    /// The locations at these places.
+    pub(crate) fn at(places: &'a [usize], locations: &'a [Location<A>]) -> UserLocations<'a, A>
+        requires { (found : List spec.Location) × AreAt locations.now places.now found }
+        ensures { (found : List spec.Location) → AreAt locations.now places.now found → result ≡ found }
+    {
+        UserLocations { places, locations }
+    }
+
+    /// The first of those that are left, which then is not.
+    pub fn next(&mut self) -> Option<&'a Location<A>>
+        ensures some { IfSome result (λ location. self.old ≡ location.now ∷ self.new) }
+        ensures none { IfNone result (self.old ≡ []) }
+    {
+        match self.places {
+            [] => None,
+            [place, rest @ ..] => {
+                self.places = rest;
+                self.locations.get(*place)
+            }
+        }
+    }
+}
