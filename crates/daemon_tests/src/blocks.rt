@@ -7,8 +7,9 @@ use call_table::Shelf;
 use daemon_answers::turn_away;
 use daemon_parts::{DaemonFault, Options};
 use fork_call::{Call, Setup};
-use fork_daemon::{append_block, check_config, serve_text};
+use fork_daemon::{check_config, serve_text};
 use proxy_dispatch::{Handled, Memory, Received, handle};
+use proxy_service::append_block;
 use sip_uri::Hop;
 use std::alloc::Global;
 use std::fs;
@@ -153,7 +154,7 @@ fn a_configuration_is_checked(rt: HostRuntime) {
         config: FILE,
         control: "forkproxyd_test_unused",
         journal: None,
-        most_calls: 1,
+        most_calls: Some(1),
         workers: 1,
         records: false,
         own_port: false,
