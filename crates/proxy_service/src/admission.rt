@@ -1,0 +1,108 @@
+//! Which datagrams may open a call now.
+use crate::opening::{PlaceChange, place_change};
+use daemon_parts::Places;
+use std::sync::atomic::{AtomicU64, Ordering};
+use std::sync::{Mutex, Wait};
+
+/// For how long no call is opened behind a refusal of memory, in milliseconds.
+const CLOSED: u64 = 1_000;
+
+/// The places for calls, and how many calls are kept that have none.
+#[derive(Drop)]
+struct Room {
+    places: Places,
+    without: u64,
+}
+
+impl Room {
+    /// Settles the place of a datagram that was handled.
+    fn settle(&mut self, change: PlaceChange) {
+        match change {
+            PlaceChange::Stays => {}
+            PlaceChange::GivenBack => self.places.give_back(),
+            PlaceChange::Missing => self.without = self.without.saturating_add(1),
+        }
+    }
+
+    /// Settles the place of a call that is forgotten: while calls are kept that have none, it is theirs.
+    fn forget(&mut self) {
+        if self.without > 0 {
+            self.without -= 1;
+        } else {
+            self.places.give_back();
+        }
+    }
+}
+
+/// The places for calls, and who may have one. A place is kept for a datagram before it is handled, and stays with the call that it opens.
+#[derive(Drop)]
+pub(crate) struct Admission {
+    room: Mutex<Room>,
+    /// How many datagrams are in work that may open a call.
+    in_work: AtomicU64,
+    /// Until when no call is opened, in milliseconds, since memory was refused.
+    closed_until: AtomicU64,
+}
+
+impl Admission {
+    /// All places are free.
+    pub(crate) fn new(most_calls: u64) -> Admission {
+        Admission {
+            room: Mutex::new(Room {
+                places: Places::new(most_calls),
+                without: 0,
+            }),
+            in_work: AtomicU64::new(0),
+            closed_until: AtomicU64::new(0),
+        }
+    }
+
+    /// Counts a datagram that may open a call. It is counted before it is asked whether the service still opens any, so that who has told it
+    /// to stop sees the datagram, or the datagram sees that.
+    pub(crate) fn begin_work(&self) {
+        self.in_work.fetch_add(1, Ordering::SeqCst);
+    }
+
+    /// Counts a datagram no more: it opened no call, or the call has its number.
+    pub(crate) fn end_work(&self) {
+        self.in_work.fetch_sub(1, Ordering::SeqCst);
+    }
+
+    /// Whether a datagram is in work that may open a call.
+    pub(crate) fn is_busy(&self) -> bool {
+        self.in_work.load(Ordering::SeqCst) > 0
+    }
+
+    /// Whether calls may be opened at this moment, in milliseconds: memory was not refused within the second before.
+    fn is_open(&self, now: u64) -> bool {
+        self.closed_until.load(Ordering::SeqCst) <= now
+    }
+
+    /// Opens no calls for a second, since memory was refused.
+    pub(crate) fn close(&self, now: u64) {
+        self.closed_until
+            .fetch_max(now.saturating_add(CLOSED), Ordering::SeqCst);
+    }
+
+    /// Keeps a place for what a request outside of dialogs may open, and says whether there is one.
+    pub(crate) fn keep<R: Wait>(&self, rt: &R, now: u64) -> bool {
+        self.is_open(now) && self.room.lock(rt).places.keep()
+    }
+
+    /// Keeps a place for what a request within a dialog may open, and says whether there is one.
+    pub(crate) fn keep_within_dialog<R: Wait>(&self, rt: &R, now: u64) -> bool {
+        self.is_open(now) && self.room.lock(rt).places.keep_within_dialog()
+    }
+
+    /// Settles the place of a datagram that was handled.
+    pub(crate) fn settle<R: Wait>(&self, rt: &R, has_place: bool, is_opened: bool) {
+        self.room
+            .lock(rt)
+            .settle(place_change(has_place, is_opened));
+    }
+
+    /// Settles the place of a call that is forgotten.
+    pub(crate) fn forget<R: Wait>(&self, rt: &R) {
+        self.room.lock(rt).forget();
+    }
+}

@@ -1,0 +1,141 @@
+//! Blocks that wait to be written to the journal.
+use std::alloc::Global;
+use std::mem;
+use std::sync::{Mutex, Wait};
+use std::thread::Parker;
+
+/// How many blocks may wait.
+const MOST_BLOCKS: u64 = 65_536;
+
+/// How many bytes the blocks that wait may have together.
+const MOST_BYTES: usize = 16_777_216;
+
+/// Why a block does not wait.
+#[derive(Clone, Copy, PartialEq, Eq, Debug)]
+pub enum Unqueued {
+    /// As many wait as may.
+    Full,
+    /// A growth was refused.
+    NoMemory,
+}
+
+/// Blocks in the order in which they came, joined.
+#[derive(Drop)]
+pub struct Batch {
+    pub text: Vec<u8>,
+    /// How many there are.
+    pub blocks: u64,
+}
+
+/// Blocks that wait, at most 65,536 of them, of at most 16,777,216 bytes together.
+#[derive(Drop)]
+pub struct Queue {
+    waiting: Batch,
+}
+
+impl Queue {
+    /// No block waits.
+    pub fn new(alloc: Global) -> Queue {
+        Queue {
+            waiting: Batch {
+                text: Vec::new(alloc),
+                blocks: 0,
+            },
+        }
+    }
+
+    /// Whether a block of so many bytes may wait.
+    pub fn has_room(&self, bytes: usize) -> bool {
+        self.waiting.blocks < MOST_BLOCKS
+            && self.waiting.text.len() <= MOST_BYTES
+            && bytes <= MOST_BYTES - self.waiting.text.len()
+    }
+
+    /// Puts a block behind those that wait.
+    ///
+    /// # Errors
+    ///
+    /// `Full` where there is no room for it, `NoMemory` only where the allocator refuses; the queue is then as it was.
+    pub fn push(&mut self, block: &[u8]) -> Result<(), Unqueued> {
+        if !self.has_room(block.len()) {
+            return Err(Unqueued::Full);
+        }
+        if self.waiting.text.extend_from_slice(block).is_err() {
+            return Err(Unqueued::NoMemory);
+        }
+        self.waiting.blocks += 1;
+        Ok(())
+    }
+
+    /// Whether no block waits.
+    pub fn is_empty(&self) -> bool {
+        self.waiting.blocks == 0
+    }
+
+    /// Takes all blocks that wait.
+    pub fn take(&mut self, alloc: Global) -> Batch {
+        let empty = Batch {
+            text: Vec::new(alloc),
+            blocks: 0,
+        };
+        mem::replace(&mut self.waiting, empty)
+    }
+}
+
+/// Blocks that wait, as all threads know them, and what the one thread that writes them sleeps on.
+#[derive(Drop)]
+pub struct JournalQueue {
+    alloc: Global,
+    queue: Mutex<Queue>,
+    parker: Parker,
+}
+
+impl JournalQueue {
+    /// No block waits.
+    pub fn new(alloc: Global) -> JournalQueue {
+        JournalQueue {
+            alloc,
+            queue: Mutex::new(Queue::new(alloc)),
+            parker: Parker::new(),
+        }
+    }
+
+    /// Puts a block behind those that wait, and wakes who writes.
+    ///
+    /// # Errors
+    ///
+    /// Those of [`Queue::push`].
+    pub fn push<R: Wait>(&self, rt: &R, block: &[u8]) -> Result<(), Unqueued> {
+        let (pushed, was_empty) = {
+            let mut queue = self.queue.lock(rt);
+            let was_empty = queue.is_empty();
+            (queue.push(block), was_empty)
+        };
+        if was_empty {
+            self.parker.unpark();
+        }
+        pushed
+    }
+
+    /// Whether a block of so many bytes may wait at this moment.
+    pub fn has_room<R: Wait>(&self, rt: &R, bytes: usize) -> bool {
+        self.queue.lock(rt).has_room(bytes)
+    }
+
+    /// Takes all blocks that wait. Who writes them counts each as written or unwritten.
+    pub fn take<R: Wait>(&self, rt: &R) -> Batch {
+        self.queue.lock(rt).take(self.alloc)
+    }
+
+    /// Sleeps until a block waits, or `wake` is called. One thread alone may sleep. It may also end for no reason.
+    pub fn wait<R: Wait>(&self, rt: &R) {
+        if self.queue.lock(rt).is_empty() {
+            self.parker.park(rt);
+        }
+    }
+
+    /// Wakes the thread that sleeps, or that will sleep next.
+    pub fn wake(&self) {
+        self.parker.unpark();
+    }
+}
