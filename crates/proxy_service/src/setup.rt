@@ -4,8 +4,10 @@ use daemon_parts::{DaemonFault, Identity, read_text};
 use fork_call::Setup;
 use std::alloc::Global;
 
-/// A setup as a service goes by it: the own address counts as the domain with the own port alone, if that is asked for.
+/// A setup as a service goes by it: all Route values at the front of a request that lead to the proxy are taken away; and the own address
+/// counts as the domain with the own port alone, if that is asked for.
 pub(crate) fn service_setup(setup: Setup<Global>, own_port: bool) -> Setup<Global> {
+    let setup = setup.for_a_service();
     if own_port {
         setup.with_own_port()
     } else {
