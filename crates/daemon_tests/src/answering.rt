@@ -224,3 +224,36 @@ fn a_telephone_at_the_own_address_is_reached_by_its_port(rt: HostRuntime) {
     plays(&rt, alloc, OWN_PORT, BY_OWN_PORT, "with the own port");
     plays(&rt, alloc, PLAIN, BY_ANY_PORT, "with any port");
 }
+
+// ---- own Route values
+
+/// A request by the proxy, three times over.
+const ROUTED: Request = Request {
+    lines: "Route: <sip:192.0.2.9:5060;lr>, <sip:192.0.2.9;lr>\r\nRoute: <sip:192.0.2.9:5060;lr>\r\n",
+    ..OPTIONS
+};
+
+const ROUTED_ANEW: Request = Request {
+    call: "anew",
+    ..ROUTED
+};
+
+/// It opens one call, which is sent to bob.
+const ROUTES: &[Moment] = &[
+    (0, Turn::Asks(ROUTED)),
+    (0, Turn::Sends(BOB, "OPTIONS sip:bob@192.0.2.4 ", "one")),
+    (0, Turn::Lacks("\r\nRoute:")),
+    (0, Turn::SendsNothing),
+    (0, Turn::Keeps(1, 1)),
+    (10, Turn::Reloads(CONFIGURATION, Ok(()))),
+    (20, Turn::Asks(ROUTED_ANEW)),
+    (20, Turn::Sends(BOB, "OPTIONS sip:bob@192.0.2.4 ", "anew")),
+    (20, Turn::Lacks("\r\nRoute:")),
+    (20, Turn::SendsNothing),
+    (20, Turn::Keeps(2, 2)),
+];
+
+#[test]
+fn a_request_by_the_proxy_itself_opens_one_call(rt: HostRuntime) {
+    plays(&rt, rt.alloc(), PLAIN, ROUTES, "own Route values");
+}
