@@ -49,14 +49,14 @@ const TO_CAROL_AGAIN: Request = Request {
 const TAKING: &[Moment] = &[
     (0, Turn::Reloads(MALFORMED, Err(DaemonFault::Line(4)))),
     (0, Turn::Reloads(EMPTY, Err(DaemonFault::Line(1)))),
-    (
-        0,
-        Turn::Reloads(OTHER_INSTANCE, Err(DaemonFault::Identity)),
-    ),
+    (0, Turn::Reloads(OTHER_INSTANCE, Err(DaemonFault::Identity))),
     (0, Turn::Reloads(OTHER_PORT, Err(DaemonFault::Identity))),
     (0, Turn::Reloads(NO_INSTANCE, Err(DaemonFault::Identity))),
     (10, Turn::Asks(TO_CAROL)),
-    (10, Turn::Sends(CAROL, "OPTIONS sip:carol@192.0.2.5 ", "carol")),
+    (
+        10,
+        Turn::Sends(CAROL, "OPTIONS sip:carol@192.0.2.5 ", "carol"),
+    ),
     (20, Turn::Reloads(MOVED, Ok(()))),
     (
         30,
@@ -90,7 +90,10 @@ const LIMITS: &[Moment] = &[
     (10, Turn::Asks(INVITE)),
     (10, Turn::Sends(CALLER, "SIP/2.0 100 ", "one")),
     (10, Turn::Sends(BOB, "INVITE ", "one")),
-    (10, Turn::Has("\r\nRecord-Route: <sip:192.0.2.9:5060;lr>\r\n")),
+    (
+        10,
+        Turn::Has("\r\nRecord-Route: <sip:192.0.2.9:5060;lr>\r\n"),
+    ),
     (20, Turn::Asks(TO_BESIDE)),
     (20, Turn::Sends(BESIDE, "OPTIONS ", "beside")),
     (30, Turn::Reloads(CONFIGURATION, Ok(()))),
@@ -120,10 +123,7 @@ const NUMBERED: &[Moment] = &[
     (10, Turn::Asks(OPTIONS)),
     (10, Turn::Sends(CAROL, "OPTIONS sip:bob@192.0.2.5 ", "one")),
     (10, Turn::Reloads(CONFIGURATION, Err(DaemonFault::Identity))),
-    (
-        10,
-        Turn::Answers(CAROL, "OPTIONS", "one", "SIP/2.0 200 OK"),
-    ),
+    (10, Turn::Answers(CAROL, "OPTIONS", "one", "SIP/2.0 200 OK")),
     (10, Turn::Sends(CALLER, "SIP/2.0 200 ", "one")),
 ];
 
@@ -131,7 +131,14 @@ const NUMBERED: &[Moment] = &[
 fn a_configuration_is_read_anew_by_whole_ones_alone(rt: HostRuntime) {
     let alloc = rt.alloc();
     plays(&rt, alloc, PLAIN, TAKING, "what is taken");
-    plays_by(&rt, alloc, NO_INSTANCE, PLAIN, NUMBERED, "without an instance");
+    plays_by(
+        &rt,
+        alloc,
+        NO_INSTANCE,
+        PLAIN,
+        NUMBERED,
+        "without an instance",
+    );
 }
 
 #[test]

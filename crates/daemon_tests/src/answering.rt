@@ -44,12 +44,7 @@ const RECORDING: &[Moment] = &[
     (20, Turn::Asks(RECORDED_BEFORE)),
     (20, Turn::Sends(CALLER, "SIP/2.0 100 ", "before")),
     (20, Turn::Sends(BOB, "INVITE ", "before")),
-    (
-        20,
-        Turn::Has(
-            "Record-Route: <sip:192.0.2.9:5060;lr>\r\n",
-        ),
-    ),
+    (20, Turn::Has("Record-Route: <sip:192.0.2.9:5060;lr>\r\n")),
     (30, Turn::Asks(REINVITE)),
     (30, Turn::Sends(CALLER, "SIP/2.0 100 ", "again")),
     (30, Turn::Sends(BOB, "INVITE ", "again")),
@@ -142,7 +137,10 @@ const ASKED_IN_DIALOG: Request = Request {
 const ASKING: &[Moment] = &[
     (0, Turn::Asks(ASKED)),
     (0, Turn::Sends(CALLER, "SIP/2.0 200 OK\r\n", "asked")),
-    (0, Turn::Has("\r\nAllow: INVITE, ACK, CANCEL, OPTIONS, BYE\r\n")),
+    (
+        0,
+        Turn::Has("\r\nAllow: INVITE, ACK, CANCEL, OPTIONS, BYE\r\n"),
+    ),
     (0, Turn::Has("\r\nAccept: application/sdp\r\n")),
     (10, Turn::Asks(ASKED_AT_ADDRESS)),
     (10, Turn::Sends(CALLER, "SIP/2.0 200 OK\r\n", "address")),
@@ -151,8 +149,14 @@ const ASKING: &[Moment] = &[
     (30, Turn::Asks(ASKED)),
     (30, Turn::Sends(CALLER, "SIP/2.0 200 OK\r\n", "asked")),
     (30, Turn::SendsNothing),
-    (30, Turn::Counts("forkproxy_answered_total{status=\"200\"} 3")),
-    (30, Turn::Counts("forkproxy_answered_total{status=\"480\"} 1")),
+    (
+        30,
+        Turn::Counts("forkproxy_answered_total{status=\"200\"} 3"),
+    ),
+    (
+        30,
+        Turn::Counts("forkproxy_answered_total{status=\"480\"} 1"),
+    ),
     (30, Turn::Counts("forkproxy_turned_away_total 0")),
     (30, Turn::Keeps(0, 0)),
     (40, Turn::Asks(INVITE)),
@@ -160,7 +164,10 @@ const ASKING: &[Moment] = &[
     (40, Turn::Sends(BOB, "INVITE ", "one")),
     (50, Turn::Asks(ASKED)),
     (50, Turn::Sends(CALLER, "SIP/2.0 503 ", "asked")),
-    (50, Turn::Counts("forkproxy_answered_total{status=\"200\"} 3")),
+    (
+        50,
+        Turn::Counts("forkproxy_answered_total{status=\"200\"} 3"),
+    ),
     (50, Turn::Counts("forkproxy_turned_away_total 1")),
 ];
 
@@ -188,7 +195,11 @@ const BY_OWN_PORT: &[Moment] = &[
     (0, Turn::Asks(TO_BESIDE)),
     (
         0,
-        Turn::Sends(BESIDE, "OPTIONS sip:bob@192.0.2.9:5081 SIP/2.0\r\n", "beside"),
+        Turn::Sends(
+            BESIDE,
+            "OPTIONS sip:bob@192.0.2.9:5081 SIP/2.0\r\n",
+            "beside",
+        ),
     ),
     (0, Turn::SendsNothing),
     (

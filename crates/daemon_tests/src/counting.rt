@@ -96,15 +96,42 @@ const STATUSES: &[Moment] = &[
     (5_400, Turn::Counts("forkproxy_uptime_seconds 5")),
     (5_400, Turn::Has("\nprocess_resident_memory_bytes 4096\n")),
     (5_400, Turn::Has("\nforkproxy_calls 2\n")),
-    (5_400, Turn::Has("\nforkproxy_answered_total{status=\"200\"} 1\n")),
-    (5_400, Turn::Has("\nforkproxy_answered_total{status=\"400\"} 1\n")),
-    (5_400, Turn::Has("\nforkproxy_answered_total{status=\"416\"} 1\n")),
-    (5_400, Turn::Has("\nforkproxy_answered_total{status=\"420\"} 1\n")),
-    (5_400, Turn::Has("\nforkproxy_answered_total{status=\"480\"} 1\n")),
-    (5_400, Turn::Has("\nforkproxy_answered_total{status=\"481\"} 1\n")),
-    (5_400, Turn::Has("\nforkproxy_answered_total{status=\"482\"} 1\n")),
-    (5_400, Turn::Has("\nforkproxy_answered_total{status=\"483\"} 1\n")),
-    (5_400, Turn::Has("\nforkproxy_answered_total{status=\"500\"} 1\n")),
+    (
+        5_400,
+        Turn::Has("\nforkproxy_answered_total{status=\"200\"} 1\n"),
+    ),
+    (
+        5_400,
+        Turn::Has("\nforkproxy_answered_total{status=\"400\"} 1\n"),
+    ),
+    (
+        5_400,
+        Turn::Has("\nforkproxy_answered_total{status=\"416\"} 1\n"),
+    ),
+    (
+        5_400,
+        Turn::Has("\nforkproxy_answered_total{status=\"420\"} 1\n"),
+    ),
+    (
+        5_400,
+        Turn::Has("\nforkproxy_answered_total{status=\"480\"} 1\n"),
+    ),
+    (
+        5_400,
+        Turn::Has("\nforkproxy_answered_total{status=\"481\"} 1\n"),
+    ),
+    (
+        5_400,
+        Turn::Has("\nforkproxy_answered_total{status=\"482\"} 1\n"),
+    ),
+    (
+        5_400,
+        Turn::Has("\nforkproxy_answered_total{status=\"483\"} 1\n"),
+    ),
+    (
+        5_400,
+        Turn::Has("\nforkproxy_answered_total{status=\"500\"} 1\n"),
+    ),
     (
         5_400,
         Turn::Has("\nforkproxy_answered_total{status=\"other\"} 0\n"),
@@ -123,10 +150,7 @@ const FATES: &[Moment] = &[
         Turn::Answers(BOB, "INVITE", "one", "SIP/2.0 180 Ringing"),
     ),
     (20, Turn::Asks(CANCEL)),
-    (
-        30,
-        Turn::Answers(BOB, "CANCEL", "one", "SIP/2.0 200 OK"),
-    ),
+    (30, Turn::Answers(BOB, "CANCEL", "one", "SIP/2.0 200 OK")),
     (
         40,
         Turn::Answers(BOB, "INVITE", "one", "SIP/2.0 487 Request Terminated"),

@@ -51,10 +51,7 @@ const DRAINING: &[Moment] = &[
     (170, Turn::Sends(BOB, "CANCEL ", "one")),
     (170, Turn::SendsNothing),
     (170, Turn::Counts("forkproxy_turned_away_total 2")),
-    (
-        180,
-        Turn::Answers(BOB, "CANCEL", "one", "SIP/2.0 200 OK"),
-    ),
+    (180, Turn::Answers(BOB, "CANCEL", "one", "SIP/2.0 200 OK")),
     (
         190,
         Turn::Answers(BOB, "INVITE", "one", "SIP/2.0 487 Request Terminated"),
@@ -261,10 +258,7 @@ const SUCCESS_ACK: Request = Request {
 /// A 200 has gone up: the proxy stays on the path of its ACK for 32 seconds.
 const RECORDED: &[Moment] = &[
     (0, Turn::Asks(INVITE)),
-    (
-        1_000,
-        Turn::Answers(BOB, "INVITE", "one", "SIP/2.0 200 OK"),
-    ),
+    (1_000, Turn::Answers(BOB, "INVITE", "one", "SIP/2.0 200 OK")),
     (2_000, Turn::Stops(60)),
     (32_999, Turn::Passes(2_000)),
     (32_999, Turn::Is(State::Draining)),
@@ -281,10 +275,7 @@ const RECORDED: &[Moment] = &[
 /// Within SECONDS.
 const RECORDED_SHORTLY: &[Moment] = &[
     (0, Turn::Asks(INVITE)),
-    (
-        1_000,
-        Turn::Answers(BOB, "INVITE", "one", "SIP/2.0 200 OK"),
-    ),
+    (1_000, Turn::Answers(BOB, "INVITE", "one", "SIP/2.0 200 OK")),
     (2_000, Turn::Stops(5)),
     (6_999, Turn::Passes(2_000)),
     (6_999, Turn::Is(State::Draining)),
@@ -308,10 +299,7 @@ const FAILED: &[Moment] = &[
 
 const NOT_RECORDED: &[Moment] = &[
     (0, Turn::Asks(INVITE)),
-    (
-        1_000,
-        Turn::Answers(BOB, "INVITE", "one", "SIP/2.0 200 OK"),
-    ),
+    (1_000, Turn::Answers(BOB, "INVITE", "one", "SIP/2.0 200 OK")),
     (2_000, Turn::Stops(60)),
     (3_999, Turn::Passes(2_000)),
     (3_999, Turn::Is(State::Draining)),

@@ -42,10 +42,7 @@ const SUCCESS: &[Moment] = &[
         Turn::Answers(BOB, "INVITE", "one", "SIP/2.0 180 Ringing"),
     ),
     (20, Turn::Counts("forkproxy_calls_open 1")),
-    (
-        100,
-        Turn::Answers(BOB, "INVITE", "one", "SIP/2.0 200 OK"),
-    ),
+    (100, Turn::Answers(BOB, "INVITE", "one", "SIP/2.0 200 OK")),
     (100, Turn::Counts("forkproxy_calls_open 0")),
     (100, Turn::Counts("forkproxy_calls 1")),
     (32_099, Turn::Passes(100)),
@@ -102,7 +99,10 @@ const FAILURE: &[Moment] = &[
             "0 INVITE sip:bob@example.com from <sip:alice@example.com>;tag=1 call-id one failed 486 from sip:bob@192.0.2.4, the only answer\nfork 3 1\n",
         ),
     ),
-    (32_020, Turn::Has("\ntarget 0 - 1000 stored 486 0 received\n")),
+    (
+        32_020,
+        Turn::Has("\ntarget 0 - 1000 stored 486 0 received\n"),
+    ),
     (32_020, Turn::Has("\nfinal 486 0\n")),
     (32_020, Turn::WritesNothing),
     (32_100, Turn::Asks(INVITE)),
@@ -248,12 +248,7 @@ const WHYS: &[Moment] = &[
     ),
     (
         20,
-        Turn::Answers(
-            CAROL_AFTERWARDS,
-            "OPTIONS",
-            "two",
-            "SIP/2.0 486 Busy Here",
-        ),
+        Turn::Answers(CAROL_AFTERWARDS, "OPTIONS", "two", "SIP/2.0 486 Busy Here"),
     ),
     (
         20,
@@ -307,4 +302,3 @@ fn a_call_that_is_over_is_forgotten_and_written_down(rt: HostRuntime) {
     plays(&rt, alloc, PLAIN, WHYS, "two whys");
     plays(&rt, alloc, UNWRITTEN, NO_JOURNAL, "no journal");
 }
-

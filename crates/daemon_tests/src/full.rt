@@ -73,8 +73,14 @@ const FULL: &[Moment] = &[
     (100, Turn::Counts("forkproxy_calls 2")),
     (100, Turn::Counts("forkproxy_calls_opened_total 2")),
     (100, Turn::Counts("forkproxy_forwarded_total 2")),
-    (100, Turn::Counts("forkproxy_answered_total{status=\"481\"} 1")),
-    (100, Turn::Counts("forkproxy_answered_total{status=\"other\"} 0")),
+    (
+        100,
+        Turn::Counts("forkproxy_answered_total{status=\"481\"} 1"),
+    ),
+    (
+        100,
+        Turn::Counts("forkproxy_answered_total{status=\"other\"} 0"),
+    ),
 ];
 
 /// An OPTIONS request that is answered 404.
@@ -143,9 +149,18 @@ const NO_CALL: &[Moment] = &[
     (80, Turn::Sends(CALLER, "SIP/2.0 503 ", "new")),
     (80, Turn::Counts("forkproxy_dropped_total 1")),
     (80, Turn::Counts("forkproxy_keepalives_total 1")),
-    (80, Turn::Counts("forkproxy_answered_total{status=\"416\"} 1")),
-    (80, Turn::Counts("forkproxy_answered_total{status=\"480\"} 1")),
-    (80, Turn::Counts("forkproxy_answered_total{status=\"200\"} 1")),
+    (
+        80,
+        Turn::Counts("forkproxy_answered_total{status=\"416\"} 1"),
+    ),
+    (
+        80,
+        Turn::Counts("forkproxy_answered_total{status=\"480\"} 1"),
+    ),
+    (
+        80,
+        Turn::Counts("forkproxy_answered_total{status=\"200\"} 1"),
+    ),
     (80, Turn::Counts("forkproxy_delivered_total 1")),
     (80, Turn::Counts("forkproxy_turned_away_total 1")),
     (80, Turn::Keeps(1, 1)),

@@ -23,7 +23,13 @@ const CLOSED: &[Moment] = &[
     (10, Turn::Bounces(CAROL_AFTERWARDS, "INVITE", "carol")),
     (10, Turn::Sends(CALLER, "SIP/2.0 500 ", "carol")),
     (10, Turn::SendsNothing),
-    (20, Turn::Asks(Request { call: "carol", ..ACK })),
+    (
+        20,
+        Turn::Asks(Request {
+            call: "carol",
+            ..ACK
+        }),
+    ),
     (10_000, Turn::Passes(20)),
     (10_000, Turn::SendsNothing),
     (10_000, Turn::Keeps(0, 1)),
@@ -40,7 +46,10 @@ const ELSEWHERE: &[Moment] = &[
     (0, Turn::Asks(TO_CAROL)),
     (0, Turn::Sends(CALLER, "SIP/2.0 100 ", "carol")),
     (0, Turn::Sends(CAROL, "INVITE ", "carol")),
-    (10, Turn::BouncesText(CAROL, "INVITE sip:carol@192.0.2.5 SIP/2.0\r\n")),
+    (
+        10,
+        Turn::BouncesText(CAROL, "INVITE sip:carol@192.0.2.5 SIP/2.0\r\n"),
+    ),
     (10, Turn::BouncesText(CAROL, "")),
     (
         10,

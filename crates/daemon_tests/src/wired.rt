@@ -58,9 +58,10 @@ fn is_recorded(agents: &Agents, call: &str) -> bool {
         lines: "Timestamp: 54\r\n",
         ..asked("INVITE", "sip:bob@example.com", call)
     });
-    let (Some(trying), Some(request)) =
-        (agents.answer("SIP/2.0 100 ", call), agents.gets("INVITE", call))
-    else {
+    let (Some(trying), Some(request)) = (
+        agents.answer("SIP/2.0 100 ", call),
+        agents.gets("INVITE", call),
+    ) else {
         return false;
     };
     has_line(trying.as_slice(), "\r\nTimestamp: 54\r\n")
