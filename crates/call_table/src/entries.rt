@@ -1,4 +1,6 @@
 //! Values behind locks, by number: the late ones in places, the early ones, which are few, in a map.
+ghost use Rattle.std.specs.Prelude.{◌≡◌, ◌+◌, ◌^◌, ◌<◌, is_some, IfNone, IfSome};
+ghost use Rattle.call_table.specs.inner.Entries.{is_early, is_placed, is_there, IsNext};
 
 use std::alloc::{AllocError, Allocator};
 use std::collections::{BTreeMap, VecDeque};
@@ -59,12 +61,17 @@ impl<T: Drop, A: Allocator + Clone> Entries<T, A> {
     }
 
     /// The place of a number that is not below `base`.
-    fn place_of(&self, no: u64) -> Option<usize> {
+    fn place_of(&self, no: u64) -> Option<usize>
+        ensures some { IfSome result (λ at. no ≡ self.now.base + at) }
+        ensures none { IfNone result (no < self.now.base) }
+    {
         usize::try_from(no.checked_sub(self.base)?).ok()
     }
 
     /// The entry of a number, where it was put and not taken away.
-    pub(crate) fn get(&self, no: u64) -> Option<&Entry<T, A>> {
+    pub(crate) fn get(&self, no: u64) -> Option<&Entry<T, A>>
+        ensures { is_some result ≡ is_there self.now no }
+    {
         let Some(at) = self.place_of(no) else {
             return self.early.get(&no);
         };
@@ -127,20 +134,38 @@ impl<T: Drop, A: Allocator + Clone> Entries<T, A> {
     }
 
     /// The least number from this one on whose entry is there.
-    pub(crate) fn next_from(&self, from: u64) -> Option<u64> {
-        if from < self.base {
-            if let Some((no, _)) = self.early.range(from..self.base).next() {
-                return Some(*no);
-            }
+    pub(crate) fn next_from(&self, from: u64) -> Option<u64>
+        ensures { IsNext (is_there self.now) from (2 ^ 64) result }
+    {
+        if let Some(no) = self.next_early(from) {
+            return Some(no);
         }
-        self.next_placed(self.place_of(from).unwrap_or(0))
+        match self.next_place(from.saturating_sub(self.base) as usize) {
+            Some(at) => self.base.checked_add(at as u64),
+            None => None,
+        }
     }
 
-    /// The number of the first place from this one on that has an entry.
-    fn next_placed(&self, from: usize) -> Option<u64> {
-        for at in from..self.places.len() {
+    /// The least number from this one on, and below `base`, whose entry is there.
+    fn next_early(&self, from: u64) -> Option<u64>
+        ensures { IsNext (is_early self.now) from self.now.base result }
+    {
+        if self.base <= from {
+            return None;
+        }
+        match self.early.range(from..self.base).next() {
+            Some((no, _)) => Some(*no),
+            None => None,
+        }
+    }
+
+    /// The first place from this one on that has an entry.
+    fn next_place(&self, first: usize) -> Option<usize>
+        ensures { IsNext (is_placed self.now) first (2 ^ 64) result }
+    {
+        for at in first..self.places.len() {
             if matches!(self.places.get(at), Some(Some(_))) {
-                return self.base.checked_add(at as u64);
+                return Some(at);
             }
         }
         None

@@ -1,5 +1,5 @@
 //! Values under numbers and keys, each behind a lock of its own.
-ghost use Rattle.std.specs.Prelude.{◌≡◌, ◌+◌, ℕ, true, List, Ok, Err, Some, IfErr, IfNone, IfOk, IfSome, OnOk, OnErr};
+ghost use Rattle.std.specs.Prelude.{◌≡◌, ◌+◌, ◌≤◌, ℕ, true, List, Ok, Err, Some, IfErr, IfNone, IfOk, IfSome, OnOk, OnErr};
 ghost use Rattle.std.specs.Fn.{FnOnceReturnsAtMut};
 ghost use Rattle.call_table.specs.inner.KeyTable.{number_of, IsListed, IsSame, IsUnlisted};
 ghost use Rattle.call_table.specs.Faults.{IfMade};
@@ -243,7 +243,9 @@ impl<T: Numbered + Drop, A: Allocator + Clone> Shelf<T, A> {
     }
 
     /// The least number from this one on whose value is there. The time does not grow with how many numbers were given before.
-    pub fn next_from<R: Wait>(&self, rt: &R, from: u64) -> Option<u64> {
+    pub fn next_from<R: Wait>(&self, rt: &R, from: u64) -> Option<u64>
+        ensures { IfSome result (λ no. from ≤ no) }
+    {
         self.entries.lock(rt).next_from(from)
     }
 

@@ -1,4 +1,6 @@
 //! The file at which a proxy is spoken to.
+ghost use Rattle.std.specs.Prelude.{◌≤◌, IfOk};
+
 use libc::net;
 use std::fs::Files;
 use std::io::ErrorKind;
@@ -31,7 +33,9 @@ fn has_socket<R: Files>(rt: &R, path: &str) -> bool {
 }
 
 /// The address of a socket at this path, as the system reads it, and its length.
-fn address_of(path: &[u8]) -> io::Result<([u8; ADDRESS_SIZE], u32)> {
+fn address_of(path: &[u8]) -> io::Result<([u8; ADDRESS_SIZE], u32)>
+    ensures fits { IfOk result (λ address. address.1 ≤ 128) }
+{
     let mut address = [0u8; ADDRESS_SIZE];
     if path.len() >= PATH_SIZE {
         return Err(io::Error::from(ErrorKind::InvalidInput));

@@ -1,8 +1,11 @@
 //! The files of a proxy, as its threads reach them.
+ghost use Rattle.std.specs.Prelude.{◌≤◌, ◌+◌, IfOk, length};
+
+use crate::reading::read_up_to;
 use crate::{control_file, journal};
 use std::alloc::Global;
 use std::fs::{File, Files};
-use std::io::{ErrorKind, Read};
+use std::io::ErrorKind;
 use std::net::Net;
 use std::os::unix::net::UnixListener;
 use std::{fs, io};
@@ -14,7 +17,8 @@ pub trait ProxyFiles {
     /// # Errors
     ///
     /// What the system says, and want of memory; `InvalidInput` where there is no regular file, as a pipe, for which a read would wait.
-    fn read_file(&self, alloc: Global, path: &str, most: usize) -> Result<Vec<u8>, io::Error>;
+    fn read_file(&self, alloc: Global, path: &str, most: usize) -> Result<Vec<u8>, io::Error>
+        ensures bound { IfOk result (λ bytes. length bytes.items ≤ most + 1) };
 
     /// Whether the file to which each call is written can be written to; where there is none it is made. It waits for no reader of a
     /// pipe.
@@ -57,10 +61,8 @@ impl<R: Files<File = File> + Net> ProxyFiles for R {
         if !fs::metadata(self, path)?.is_file() {
             return Err(io::Error::from(ErrorKind::InvalidInput));
         }
-        let mut file = File::open(self, path)?.take((most as u64).saturating_add(1));
-        let mut bytes = Vec::new(alloc);
-        file.read_to_end(&mut bytes)?;
-        Ok(bytes)
+        let mut file = File::open(self, path)?;
+        read_up_to(alloc, &mut file, most.saturating_add(1))
     }
 
     fn open_journal(&self, path: &str) -> Result<(), io::Error> {

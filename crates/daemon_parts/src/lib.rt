@@ -17,6 +17,7 @@ mod marks;
 mod memory;
 mod options;
 mod places;
+mod reading;
 mod setup;
 mod socket;
 

@@ -1,23 +1,45 @@
 //! What is left to be written to a client of the control socket.
-use std::alloc::Global;
+ghost use Rattle.std.specs.Prelude.{◌≡◌, ◌↔◌, ◌++◌, List, ℕ, [], IsTrue, drop};
 
-/// What is left to be written to a client: a text that is always the same, and one that was made for it.
+use std::alloc::Global;
+use std::marker::Model;
+
+/// What is left to be written to a client: of a text that is always the same, and behind it of one that was made for it.
 #[derive(Drop)]
 pub struct Answer {
     front: &'static [u8],
     text: Vec<u8>,
-    /// How many bytes of the text are written.
+    /// How many bytes of both are written.
     written: usize,
+}
+
+impl Model for Answer {
+    ghost use Rattle.std.specs.Prelude.{ℕ, ◌++◌, List, drop};
+
+    ghost Value = { List ℕ };
+
+    ghost view = { λ a. drop a.written (a.front.now ++ a.text.items) };
+}
+
+/// The bytes behind the first ones, so many of them.
+fn behind_first(bytes: &[u8], count: usize) -> &[u8]
+    ensures { result.now ≡ drop count bytes.now }
+{
+    bytes.get(count..).unwrap_or(b"")
 }
 
 impl Answer {
     /// An answer that is always the same.
-    pub fn fixed(alloc: Global, front: &'static [u8]) -> Answer {
+    pub fn fixed(alloc: Global, front: &'static [u8]) -> Answer
+        ensures { result ≡ front.now }
+    {
         Answer::new(front, Vec::new(alloc))
     }
 
     /// An answer that begins with a text that is always the same.
-    pub fn new(front: &'static [u8], text: Vec<u8>) -> Answer {
+    pub fn new(front: &'static [u8], text: Vec<u8>) -> Answer
+        ensures { result ≡ front.now ++ text.items }
+    {
         Answer {
             front,
             text,
@@ -26,25 +48,30 @@ impl Answer {
     }
 
     /// The next bytes to be written; none where all are written.
-    pub fn next(&self) -> &[u8] {
-        if self.front.is_empty() {
-            self.text.get(self.written..).unwrap_or(b"")
+    pub fn next(&self) -> &[u8]
+        ensures front { (rest : List ℕ) × (self.now ≡ result.now ++ rest) }
+        ensures last { result.now ≡ [] → self.now ≡ [] }
+    {
+        if self.written < self.front.len() {
+            behind_first(self.front, self.written)
         } else {
-            self.front
+            behind_first(self.text.as_slice(), self.written - self.front.len())
         }
     }
 
-    /// So many of the next bytes were written.
-    pub fn advance(&mut self, count: usize) {
-        if self.front.is_empty() {
-            self.written += count;
-        } else {
-            self.front = &self.front[count..];
-        }
+    /// So many bytes were written of what was left.
+    #[tactic(auto, using(crate::proofs::Parts::drop_capped))]
+    pub fn advance(&mut self, count: usize)
+        ensures { self.new ≡ drop count self.old }
+    {
+        let all = self.front.len() + self.text.len();
+        self.written = self.written.saturating_add(count).min(all);
     }
 
     /// Whether all is written.
-    pub fn is_written(&self) -> bool {
+    pub fn is_written(&self) -> bool
+        ensures { IsTrue result ↔ (self.now ≡ []) }
+    {
         self.next().is_empty()
     }
 }

@@ -2,7 +2,7 @@
 use crate::answer::Answer;
 use crate::client::{Client, Turn};
 use libc::net;
-use libc::types::pollfd;
+use socket_poll::Polled;
 use std::io;
 use std::io::{ErrorKind, Read, Write};
 use std::net::Shutdown;
@@ -43,20 +43,6 @@ impl Connection {
         &self.client
     }
 
-    /// What is to be waited for at its connection.
-    pub(crate) fn polled(&self) -> pollfd {
-        let events = match self.client.turn(0) {
-            Turn::Read => net::POLLIN,
-            Turn::Write => net::POLLOUT,
-            Turn::Obey(_) | Turn::Wait | Turn::Close => 0,
-        };
-        pollfd {
-            fd: self.stream.as_raw_fd(),
-            events,
-            revents: 0,
-        }
-    }
-
     /// Answers it, with this moment as the end of its time, if it does not wait for the end.
     pub(crate) fn reply(&mut self, answer: Answer, deadline: Option<u64>) {
         self.client.reply(answer, deadline);
@@ -80,16 +66,35 @@ impl Connection {
 
     /// Writes once of its answer, and says whether its connection stands. Behind all of the answer the client reads that there is no more.
     pub(crate) fn write(&mut self) -> bool {
-        let Some(answer) = self.client.answer_mut() else {
-            return true;
-        };
-        match self.stream.write(answer.next()) {
-            Ok(count) => answer.advance(count),
+        match self.stream.write(self.client.next()) {
+            Ok(count) => self.client.advance(count),
             Err(error) => return is_passing(&error),
         }
         if self.client.deadline().is_some() && self.client.is_answered() {
             return self.stream.shutdown(Shutdown::Write).is_ok();
         }
         true
+    }
+}
+
+impl Polled for Connection {
+    fn descriptor(&self) -> i32 {
+        self.stream.as_raw_fd()
+    }
+
+    fn events(&self) -> i16 {
+        match self.client.turn(0) {
+            Turn::Read => net::POLLIN,
+            Turn::Write => net::POLLOUT,
+            Turn::Obey(_) | Turn::Wait | Turn::Close => 0,
+        }
+    }
+
+    fn rest(&self, now: u64) -> Option<u64> {
+        self.client.rest(now)
+    }
+
+    fn deadline(&self) -> Option<u64> {
+        self.client.deadline()
     }
 }

@@ -4,23 +4,14 @@ use crate::client::Turn;
 use crate::command::Command;
 use crate::connection::Connection;
 use crate::control::Controlled;
-use libc::net;
-use libc::types::pollfd;
+use socket_poll::{Came, MOST_CLIENTS, Polled, is_gone, place_of_first, wait_for};
 use std::alloc::Global;
-use std::io::ErrorKind;
-use std::os::fd::AsRawFd;
 use std::os::unix::net::UnixListener;
 use std::time::{Clock, Duration, Instant};
 use std::{io, thread};
 
 /// How many milliseconds a client has to write its line, and as many to read its answer.
 const LONGEST: u64 = 1_000;
-
-/// How many clients are answered at a time.
-const MOST_CLIENTS: usize = 64;
-
-/// How many sockets are waited for at a time: that of each client, and the one by which they come.
-const MOST_POLLED: usize = 65;
 
 /// How many that asked for the end wait for it.
 const MOST_WAITING: usize = 16;
@@ -31,13 +22,6 @@ const REST: u64 = 100;
 /// What stands in front of the counters in an answer of HTTP.
 const HEAD: &[u8] =
     b"HTTP/1.0 200 OK\r\nContent-Type: text/plain; version=0.0.4\r\nConnection: close\r\n\r\n";
-
-/// Nothing is waited for.
-const NOTHING: pollfd = pollfd {
-    fd: -1,
-    events: 0,
-    revents: 0,
-};
 
 /// What answers a command, and whether its client then waits for the end.
 #[derive(Drop)]
@@ -59,63 +43,8 @@ struct Desk<'a, R, C> {
 fn waiting(connections: &[Connection]) -> usize {
     connections
         .iter()
-        .filter(|connection| connection.client().deadline().is_none())
+        .filter(|connection| connection.deadline().is_none())
         .count()
-}
-
-/// The place of the client whose time is over first.
-fn place_of_first(connections: &[Connection]) -> usize {
-    let mut first = 0;
-    let mut earliest = u64::MAX;
-    for (place, connection) in connections.iter().enumerate() {
-        let deadline = connection.client().deadline().unwrap_or(u64::MAX);
-        if deadline < earliest {
-            first = place;
-            earliest = deadline;
-        }
-    }
-    first
-}
-
-/// For how many milliseconds there is nothing to be done, if nothing comes; without limit where this is negative.
-fn longest_wait(connections: &[Connection], now: u64) -> i32 {
-    let mut longest = None;
-    for connection in connections {
-        if let Some(rest) = connection.client().rest(now) {
-            longest = Some(longest.unwrap_or(rest).min(rest));
-        }
-    }
-    match longest {
-        Some(rest) => i32::try_from(rest).unwrap_or(i32::MAX),
-        None => -1,
-    }
-}
-
-/// Waits until something comes, or there is something to be done, and answers what came of the listener, and behind that of each client.
-/// None where the system cannot wait.
-fn poll(
-    listener: &UnixListener,
-    connections: &[Connection],
-    now: u64,
-) -> Option<[pollfd; MOST_POLLED]> {
-    let mut polled = [NOTHING; MOST_POLLED];
-    polled[0] = pollfd {
-        fd: listener.as_raw_fd(),
-        events: net::POLLIN,
-        revents: 0,
-    };
-    for (place, connection) in connections.iter().enumerate() {
-        if let Some(entry) = polled.get_mut(place + 1) {
-            *entry = connection.polled();
-        }
-    }
-    let count = net::poll(&mut polled, longest_wait(connections, now));
-    if count < 0 { None } else { Some(polled) }
-}
-
-/// Whether a socket has no other end any more.
-fn is_gone(came: i16) -> bool {
-    came & (net::POLLHUP | net::POLLERR | net::POLLNVAL) != 0
 }
 
 impl<'a, R: Clock, C: Controlled> Desk<'a, R, C> {
@@ -196,13 +125,14 @@ impl<'a, R: Clock, C: Controlled> Desk<'a, R, C> {
     }
 
     /// Does what is to be done for each client.
-    fn advance_all(&self, connections: &mut Vec<Connection>, polled: &[pollfd; MOST_POLLED]) {
+    fn advance_all(&self, connections: &mut Vec<Connection>, came: &Came) {
         let now = self.now();
         for place in (0..connections.len()).rev() {
             let has_room = waiting(connections.as_slice()) < MOST_WAITING;
-            let came = polled.get(place + 1).map_or(0, |entry| entry.revents);
             let stands = match connections.get_mut(place) {
-                Some(connection) => self.advance(connection, came, now, has_room),
+                Some(connection) => {
+                    self.advance(connection, came.of_client(place), now, has_room)
+                }
                 None => true,
             };
             if !stands && place < connections.len() {
@@ -223,11 +153,10 @@ impl<'a, R: Clock, C: Controlled> Desk<'a, R, C> {
         let Ok(connection) = Connection::new(stream, self.deadline()) else {
             return;
         };
-        if connections.len() >= MOST_CLIENTS {
-            let place = place_of_first(connections.as_slice());
-            if place < connections.len() {
-                connections.swap_remove(place);
-            }
+        if connections.len() >= MOST_CLIENTS
+            && let Some(place) = place_of_first(connections.as_slice())
+        {
+            connections.swap_remove(place);
         }
         let _ = connections.push(connection);
     }
@@ -256,16 +185,15 @@ pub fn listen<R: Clock, C: Controlled>(
     };
     let mut connections = Vec::new(alloc);
     for _ in 0..u64::MAX {
-        let Some(polled) = poll(listener, connections.as_slice(), desk.now()) else {
+        let Some(came) = wait_for(listener, connections.as_slice(), desk.now()) else {
             desk.rest();
             continue;
         };
-        let came = polled[0].revents;
-        if is_gone(came) && controlled.has_ended() {
+        if is_gone(came.of_listener()) && controlled.has_ended() {
             return;
         }
-        desk.advance_all(&mut connections, &polled);
-        if came != 0 {
+        desk.advance_all(&mut connections, &came);
+        if came.of_listener() != 0 {
             desk.take_in(&mut connections, listener);
         }
     }

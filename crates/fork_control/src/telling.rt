@@ -1,4 +1,6 @@
 //! The other end of a control socket: who tells a program what to do.
+ghost use Rattle.std.specs.Prelude.{◌<◌, IfSome, length};
+
 use libc::net;
 use std::io;
 use std::io::{ErrorKind, Read, Write};
@@ -15,7 +17,9 @@ const MOST_PATH: usize = 108;
 
 /// The address of a Unix socket with this path, as the system takes it: the family, the path and a zero. None where it has no room for the
 /// path, or the path has a zero itself.
-fn address_of(path: &str) -> Option<[u8; net::_SS_SIZE]> {
+fn address_of(path: &str) -> Option<[u8; net::_SS_SIZE]>
+    ensures { IfSome result (λ _. length path.now < MOST_PATH) }
+{
     let path = path.as_bytes();
     if path.len() >= MOST_PATH || path.contains(&0) {
         return None;

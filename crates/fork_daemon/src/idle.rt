@@ -3,13 +3,19 @@ use std::sync::Wait;
 use std::sync::atomic::{AtomicBool, AtomicU64, Ordering};
 use std::time::Duration;
 
-/// How long a worker is idle at most, in milliseconds: half of T1, so that a datagram is received before it is sent again (RFC 3261 section
-/// 17.1.1.1) where the worker that received last is held up by what it handles.
-const LONGEST: u64 = 250;
+/// How long the worker that watches sleeps, in milliseconds: then it looks whether nobody receives, as where the worker that received last is
+/// held up by what it handles.
+const WATCH: u64 = 30;
+
+/// How long any other worker is idle at most, in milliseconds.
+const LONGEST: u64 = 1_000;
 
 /// Workers that are idle until one is woken. Who enters, then finds another worker receiving, and then sleeps, is woken by whoever has let
 /// the receiving go and wakes one behind that: none is missed. One at a time is being woken: it looks itself whether more waits, and a wake
 /// is a call of the system each.
+///
+/// One of them watches: it sleeps for a short time only, since a worker is not woken for each datagram so that another one receives while
+/// it is handled. Who is about to handle a datagram wakes one where workers are idle and none watches; that one receives, or watches.
 #[derive(Drop)]
 pub(crate) struct IdleWorkers {
     /// How often workers were woken.
@@ -18,6 +24,8 @@ pub(crate) struct IdleWorkers {
     count: AtomicU64,
     /// Whether one was woken that does not run yet.
     is_waking: AtomicBool,
+    /// Whether one watches.
+    is_watched: AtomicBool,
 }
 
 impl IdleWorkers {
@@ -27,6 +35,7 @@ impl IdleWorkers {
             wakes: AtomicU64::new(0),
             count: AtomicU64::new(0),
             is_waking: AtomicBool::new(false),
+            is_watched: AtomicBool::new(false),
         }
     }
 
@@ -39,12 +48,16 @@ impl IdleWorkers {
         woken
     }
 
-    /// Sleeps until a worker is woken, a quarter of a second at most, unless one was woken since workers had been woken so often. It may
-    /// also end for no reason.
+    /// Sleeps until a worker is woken, a second at most, unless one was woken since workers had been woken so often. It may also end for no
+    /// reason. Where no worker watches this one does, and sleeps for 30 milliseconds at most.
     pub(crate) fn sleep<R: Wait>(&self, rt: &R, woken: u64) {
-        let longest = Duration::from_millis(LONGEST);
+        let watches = !self.is_watched.swap(true, Ordering::SeqCst);
+        let longest = Duration::from_millis(if watches { WATCH } else { LONGEST });
         self.wakes
             .park_timeout(rt, (woken % (1 << 32)) as u32, longest);
+        if watches {
+            self.is_watched.store(false, Ordering::SeqCst);
+        }
     }
 
     /// Counts a worker that is idle no more.
@@ -56,6 +69,11 @@ impl IdleWorkers {
     /// Whether a worker is idle, or about to be, and none is being woken.
     pub(crate) fn has_any(&self) -> bool {
         self.count.load(Ordering::SeqCst) > 0 && !self.is_waking.load(Ordering::SeqCst)
+    }
+
+    /// Whether one watches.
+    pub(crate) fn is_watched(&self) -> bool {
+        self.is_watched.load(Ordering::SeqCst)
     }
 
     /// Wakes a worker, if one is idle and none is being woken.

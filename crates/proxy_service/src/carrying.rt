@@ -49,10 +49,10 @@ fn failure_of(call: &Call<Global>) -> Option<u16> {
 }
 
 /// What is to be done next with a call that was carried.
-fn next_of(due: Option<u64>, is_over: bool, failure: Option<u16>) -> Next {
-    match due {
+fn next_of(call: &Call<Global>) -> Next {
+    match call.due() {
         Some(due) => Next::At(due),
-        None if is_over => Next::Over(failure),
+        None if call.over() => Next::Over(failure_of(call)),
         None => Next::Nothing,
     }
 }
@@ -97,7 +97,7 @@ impl Service {
     /// What is to be done next with a call that was carried. Of one that is over the block for the journal is appended, if there is a
     /// journal, or nothing for want of memory.
     fn left<R: Clock>(&self, rt: &R, call: &Call<Global>, block: &mut Vec<u8>) -> Next {
-        let next = next_of(call.due(), call.over(), failure_of(call));
+        let next = next_of(call);
         if !matches!(next, Next::Over(_)) {
             self.count_finished(call);
         } else if self.terms.has_journal {

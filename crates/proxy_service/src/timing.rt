@@ -12,10 +12,13 @@ const MOST_CARRIED: u32 = 4_096;
 impl Service {
     /// Where a deadline was missed, goes on with the walk over all calls: each is carried, at most 4,096 at a time.
     fn walk_on<R: Wait + Clock, P: Port>(&self, rt: &R, port: &mut P, now: u64) {
-        if self.calls.schedule.take_missed() {
-            self.calls.walk.lock(rt).miss(now);
-        }
-        let Some(mut from) = self.calls.walk.lock(rt).due(now) else {
+        let is_missed = self.calls.schedule.take_missed();
+        let due = {
+            let mut walk = self.calls.walk.lock(rt);
+            walk.note(is_missed, now);
+            walk.due(now)
+        };
+        let Some(mut from) = due else {
             return;
         };
         for _ in 0..MOST_CARRIED {

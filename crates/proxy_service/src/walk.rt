@@ -25,15 +25,22 @@ impl Walk {
         }
     }
 
-    /// Notes that a deadline was missed: a walk begins now, or another one behind the one that is under way.
-    pub(crate) fn miss(&mut self, now: u64) {
-        if self.from.is_some() {
-            self.again = true;
-        } else {
-            self.from = Some(0);
-            self.at = now;
-            self.wait = 0;
+    /// Notes whether a deadline was missed since the last look. A walk begins behind a wait then, longer each time until none is missed; where
+    /// one is under way another one follows it.
+    pub(crate) fn note(&mut self, is_missed: bool, now: u64) {
+        match self.from {
+            Some(from) => self.again = self.again || (is_missed && from > 0),
+            None if is_missed => self.begin(now),
+            None => self.wait = 0,
         }
+    }
+
+    /// Begins a walk behind a wait.
+    fn begin(&mut self, now: u64) {
+        self.wait = wait_behind(self.wait);
+        self.from = Some(0);
+        self.at = now.saturating_add(self.wait);
+        self.again = false;
     }
 
     /// Notes that the calls before this number were looked at.
@@ -41,13 +48,10 @@ impl Walk {
         self.from = Some(number);
     }
 
-    /// Notes that all calls were looked at. Where a deadline was missed meanwhile the next walk begins behind a wait, longer each time.
+    /// Notes that all calls were looked at. Where a deadline was missed meanwhile the next walk begins behind a wait.
     pub(crate) fn finish(&mut self, now: u64) {
         if self.again {
-            self.wait = wait_behind(self.wait);
-            self.from = Some(0);
-            self.at = now.saturating_add(self.wait);
-            self.again = false;
+            self.begin(now);
         } else {
             self.from = None;
         }

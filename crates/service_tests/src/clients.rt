@@ -101,9 +101,7 @@ fn turn_of(
 ) -> (Turn, Option<u64>) {
     let mut client = client(b"stop 3\n");
     client.reply(Answer::fixed(alloc, b"stopping\n"), deadline);
-    if let Some(answer) = client.answer_mut() {
-        answer.advance(written);
-    }
+    client.advance(written);
     if is_closed {
         client.close();
     }

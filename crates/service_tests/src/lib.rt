@@ -2,6 +2,8 @@
 #![tactic(auto)]
 
 #[cfg(test)]
+mod appending;
+#[cfg(test)]
 mod by_call;
 #[cfg(test)]
 mod capable;
@@ -15,6 +17,8 @@ mod commands;
 mod control;
 #[cfg(test)]
 mod deadlines;
+#[cfg(test)]
+mod files;
 #[cfg(test)]
 mod forgetting;
 #[cfg(test)]
