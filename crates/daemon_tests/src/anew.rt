@@ -21,6 +21,9 @@ const MOVED: &[u8] =
 /// Another line is malformed, and another one is missing.
 const MALFORMED: &[u8] = b"own 192.0.2.9 5060\ninstance 7\ndomain example.com\nlocation bob\n";
 
+/// The same without a line of an instance: the malformed line is told by its number in the file.
+const MALFORMED_TOO: &[u8] = b"own 192.0.2.9 5060\ndomain example.com\nlocation bob\n";
+
 const EMPTY: &[u8] = b"";
 
 /// Another instance, another port, no line of an instance, and no line of the own address.
@@ -123,6 +126,7 @@ const NUMBERED: &[Moment] = &[
     (10, Turn::Asks(OPTIONS)),
     (10, Turn::Sends(CAROL, "OPTIONS sip:bob@192.0.2.5 ", "one")),
     (10, Turn::Reloads(CONFIGURATION, Err(DaemonFault::Identity))),
+    (10, Turn::Reloads(MALFORMED_TOO, Err(DaemonFault::Line(3)))),
     (10, Turn::Answers(CAROL, "OPTIONS", "one", "SIP/2.0 200 OK")),
     (10, Turn::Sends(CALLER, "SIP/2.0 200 ", "one")),
 ];

@@ -166,12 +166,6 @@ const NO_CALL: &[Moment] = &[
     (80, Turn::Keeps(1, 1)),
 ];
 
-/// A tenth of 20 more are kept within dialogs.
-const TWENTY: Served = Served {
-    most_calls: 20,
-    ..PLAIN
-};
-
 #[test]
 fn a_full_service_turns_away_what_begins_something_new(rt: HostRuntime) {
     plays(&rt, rt.alloc(), ONE, FULL, "a full service");

@@ -27,7 +27,9 @@ pub enum Turn {
     Brings(Hop, &'static str),
     /// The system tells that the datagram of this method and call that was sent there last could not be delivered.
     Bounces(Hop, &'static str, &'static str),
-    /// The system tells so of a datagram of this text.
+    /// Somebody makes that up of a datagram that was sent.
+    Forges(Forged),
+    /// Somebody makes it up of this text.
     BouncesText(Hop, &'static str),
     /// Nothing can be sent there from now on.
     Refuses(Option<Hop>),
@@ -50,6 +52,9 @@ pub enum Turn {
     Writes(&'static str),
     /// Nothing waits for the journal.
     WritesNothing,
+    /// As many bytes wait for the journal as may, and are taken by nobody; or all that waits is taken.
+    Fills,
+    Empties,
     /// The control socket asks for the end, within so many seconds.
     Stops(u64),
     /// What is left is written down, as at the end.
@@ -62,6 +67,20 @@ pub enum Turn {
     Reloads(&'static [u8], Result<(), DaemonFault>),
     /// So many calls are kept, of so many that were opened.
     Keeps(u64, u64),
+}
+
+/// What somebody makes up of a datagram that could not be delivered.
+#[derive(Clone, Copy)]
+pub struct Forged {
+    /// Where a datagram of this method and call was sent to.
+    pub sent_to: Hop,
+    pub method: &'static str,
+    pub call: &'static str,
+    /// Where it is said to have been sent to.
+    pub told_of: Hop,
+    /// What stands in it, and what is told in place of that.
+    pub old: &'static str,
+    pub new: &'static str,
 }
 
 /// A moment in milliseconds, and what happens then.
@@ -86,6 +105,9 @@ pub const PLAIN: Served = Served {
 
 /// The number of its run.
 const NUMBER: u32 = 99;
+
+/// How many bytes may wait for the journal.
+const MOST_BYTES: usize = 16_777_216;
 
 /// How many seconds the clock may go on while a history is played.
 const SLACK: u64 = 30;
@@ -114,6 +136,21 @@ fn last_sent<'a>(outgoing: &'a Outgoing, to: Hop, method: &str, call: &str) -> O
         }
     }
     found
+}
+
+/// A text with another part in place of the first such one.
+fn replaced(alloc: Global, text: &[u8], old: &str, new: &str) -> Option<Vec<u8>> {
+    let old = old.as_bytes();
+    let len = old.len();
+    if len == 0 {
+        return None;
+    }
+    let place = text.windows(len).position(|part| part == old)?;
+    let mut made = Vec::from_slice(alloc, text.get(..place)?).ok()?;
+    made.extend_from_slice(new.as_bytes()).ok()?;
+    made.extend_from_slice(text.get(place.saturating_add(len)..)?)
+        .ok()?;
+    Some(made)
 }
 
 /// Whether a datagram of a call begins so.
@@ -254,6 +291,17 @@ impl Played {
         }
     }
 
+    /// Somebody makes up that a datagram could not be delivered.
+    fn forges<R: Wait + Clock>(&mut self, rt: &R, now: u64, forged: &Forged) -> bool {
+        let Some(text) = self.copy_of(forged.sent_to, forged.method, forged.call) else {
+            return false;
+        };
+        match replaced(self.alloc, text.as_slice(), forged.old, forged.new) {
+            Some(text) => self.bounces(rt, now, forged.told_of, text.as_slice()),
+            None => false,
+        }
+    }
+
     /// What is due is done, as the timer's thread does it.
     fn ticks<R: Wait + Clock>(&mut self, rt: &R, now: u64) -> bool {
         self.service.tick(rt, &mut self.outgoing, now);
@@ -292,6 +340,20 @@ impl Played {
     fn leaves<R: Wait + Clock>(&mut self, rt: &R) -> bool {
         self.service.write_down_left(rt);
         true
+    }
+
+    /// So many bytes wait for the journal as may.
+    fn fills<R: Wait>(&mut self, rt: &R) -> bool {
+        match vec![in self.alloc; b'\n'; MOST_BYTES] {
+            Ok(block) => self.service.journal().push(rt, block.as_slice()).is_ok(),
+            Err(_) => false,
+        }
+    }
+
+    /// Who writes the journal takes all that waits.
+    fn empties<R: Wait>(&mut self, rt: &R) -> bool {
+        let batch = self.service.journal().take(rt);
+        batch.blocks > 0
     }
 
     // ---- what is seen
@@ -379,6 +441,7 @@ impl Played {
             Turn::Returns(from, method, call) => self.returns(rt, now, from, method, call),
             Turn::Brings(from, text) => self.takes(rt, now, from, text.as_bytes()),
             Turn::Bounces(to, method, call) => self.bounces_last(rt, now, to, method, call),
+            Turn::Forges(forged) => self.forges(rt, now, &forged),
             Turn::BouncesText(to, text) => self.bounces(rt, now, to, text.as_bytes()),
             Turn::Refuses(hop) => self.refuses(hop),
             Turn::Ticks => self.ticks(rt, now),
@@ -386,6 +449,8 @@ impl Played {
             Turn::Skips => self.skips(),
             Turn::Stops(seconds) => self.stops(now, seconds),
             Turn::Leaves => self.leaves(rt),
+            Turn::Fills => self.fills(rt),
+            Turn::Empties => self.empties(rt),
             _ => return None,
         };
         Some(can)

@@ -1,5 +1,5 @@
 //! Datagrams of the proxy's own that could not be delivered, as the system tells.
-use crate::played::{Moment, PLAIN, Turn, plays};
+use crate::played::{Forged, Moment, PLAIN, Turn, plays};
 use crate::texts::{ACK, BOB, CALLER, CAROL, CAROL_AFTERWARDS, INVITE, Request};
 
 /// An INVITE to carol, whose telephones are tried one after the other.
@@ -80,6 +80,104 @@ const ELSEWHERE: &[Moment] = &[
     (70, Turn::Sends(CALLER, "SIP/2.0 180 ", "carol")),
     (70, Turn::SendsNothing),
 ];
+
+/// What somebody makes up who has not seen the INVITE, or tells of another telephone.
+const FORGED: Forged = Forged {
+    sent_to: CAROL,
+    method: "INVITE",
+    call: "carol",
+    told_of: CAROL,
+    old: "",
+    new: "",
+};
+
+/// Another instance, call, target, key, method and address, and another hop: none ends the branch; the datagram itself then does.
+const MADE_UP: &[Moment] = &[
+    (0, Turn::Asks(TO_CAROL)),
+    (0, Turn::Sends(CALLER, "SIP/2.0 100 ", "carol")),
+    (0, Turn::Sends(CAROL, "INVITE ", "carol")),
+    (
+        10,
+        Turn::Forges(Forged {
+            old: ".7.0.0\r\n",
+            new: ".8.0.0\r\n",
+            ..FORGED
+        }),
+    ),
+    (
+        10,
+        Turn::Forges(Forged {
+            old: ".7.0.0\r\n",
+            new: ".7.1.0\r\n",
+            ..FORGED
+        }),
+    ),
+    (
+        10,
+        Turn::Forges(Forged {
+            old: ".7.0.0\r\n",
+            new: ".7.0.1\r\n",
+            ..FORGED
+        }),
+    ),
+    (
+        10,
+        Turn::Forges(Forged {
+            old: ".7.0.0\r\n",
+            new: "0.7.0.0\r\n",
+            ..FORGED
+        }),
+    ),
+    (
+        10,
+        Turn::Forges(Forged {
+            old: "INVITE ",
+            new: "CANCEL ",
+            ..FORGED
+        }),
+    ),
+    (
+        10,
+        Turn::Forges(Forged {
+            old: "INVITE ",
+            new: "ACK ",
+            ..FORGED
+        }),
+    ),
+    (
+        10,
+        Turn::Forges(Forged {
+            old: "UDP 192.0.2.9:5060",
+            new: "UDP 192.0.2.8:5060",
+            ..FORGED
+        }),
+    ),
+    (
+        10,
+        Turn::Forges(Forged {
+            told_of: CAROL_AFTERWARDS,
+            old: "INVITE ",
+            new: "INVITE ",
+            ..FORGED
+        }),
+    ),
+    (10, Turn::SendsNothing),
+    (
+        20,
+        Turn::Forges(Forged {
+            old: "INVITE ",
+            new: "INVITE ",
+            ..FORGED
+        }),
+    ),
+    (20, Turn::Sends(CAROL_AFTERWARDS, "INVITE ", "carol")),
+    (20, Turn::SendsNothing),
+];
+
+#[test]
+fn what_is_made_up_changes_nothing(rt: HostRuntime) {
+    plays(&rt, rt.alloc(), PLAIN, MADE_UP, "what is made up");
+}
 
 #[test]
 fn a_closed_port_ends_its_branch_at_once(rt: HostRuntime) {

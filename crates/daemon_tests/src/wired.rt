@@ -1,7 +1,7 @@
 //! What each option and each line at the control socket of a proxy comes to, over its sockets; before and behind a reload.
 use crate::agents::{Agents, Asked};
 use crate::holds::holds;
-use crate::telling::{counts, has_line, tells, told};
+use crate::telling::{counts, has_line, tells, told, value_in};
 use daemon_parts::{DaemonFault, Options};
 use fork_daemon::serve;
 use std::alloc::Global;
@@ -149,6 +149,23 @@ fn goes_on<R: Net + Clock>(rt: &R, alloc: Global, agents: &Agents) -> bool {
     }
 }
 
+/// Whether what was sent is counted: an ACK for each of three failures; no CANCEL; what is sent again apart from all else.
+fn counts_what_is_sent<R: Net + Clock>(rt: &R, alloc: Global) -> bool {
+    let Some(text) = told(rt, alloc, CONTROL, "stats") else {
+        return false;
+    };
+    let text = text.as_slice();
+    let again = value_in(text, "\nforkproxy_timer_sent_total{message=\"request\"} ");
+    let handled = value_in(text, "\nforkproxy_handling_micros_count ");
+    has_line(text, "\nforkproxy_sent_total{message=\"ack\"} 3\n")
+        && has_line(text, "\nforkproxy_sent_total{message=\"cancel\"} 0\n")
+        && has_line(text, "\nforkproxy_timer_sent_total{message=\"ack\"} 0\n")
+        && again >= Some(3)
+        && handled >= Some(12)
+        && value_in(text, "\nprocess_resident_memory_bytes ") > Some(0)
+        && value_in(text, "\nforkproxy_received_total ") >= handled
+}
+
 /// A connection to the control socket, once this line of it was obeyed.
 fn connected<R: Net>(rt: &R, line: &str) -> io::Result<UnixStream> {
     let mut stream = UnixStream::connect(rt, CONTROL)?;
@@ -205,6 +222,9 @@ fn served<R: Net + Files + Clock>(rt: &R, alloc: Global, agents: &Agents) -> &'s
     }
     if !goes_on(rt, alloc, agents) {
         return "the next telephone is called where nobody listens at the first";
+    }
+    if !counts_what_is_sent(rt, alloc) {
+        return "what is sent is counted by what it is, and by why it is sent";
     }
     "nothing"
 }
