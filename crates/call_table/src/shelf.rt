@@ -171,14 +171,6 @@ impl<T: Numbered + Drop, A: Allocator + Clone> Shelf<T, A> {
         self.key_table.lock(rt).keyed(key)
     }
 
-    /// Takes the value of a number away, with its key, and says whether it was there. The key may be put anew and gets a new
-    /// number then; the number is never given again. Who looks at the value meanwhile goes on looking, and it goes with the last
-    /// look. It takes no memory.
-    pub fn remove<R: Wait>(&self, rt: &R, no: u64) -> bool {
-        let unlisted = self.unlist(rt, &mut self.key_table.lock(rt), no);
-        unlisted.is_some()
-    }
-
     /// Takes the value of a number away, with its key, where `f` says so of it. The value is locked while `f` looks at it, and
     /// nobody looks at it between then and its end; `f` must not look at the shelf. The key may be put anew and gets a new
     /// number then; the number is never given again. It waits for no look at the value, takes no memory, and frees the value
