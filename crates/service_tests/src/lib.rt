@@ -42,6 +42,8 @@ mod recording;
 #[cfg(test)]
 mod schedule;
 #[cfg(test)]
+mod scrapers;
+#[cfg(test)]
 mod stamping;
 #[cfg(test)]
 mod turning;
