@@ -60,6 +60,8 @@ const FULL: &[Moment] = &[
     (70, Turn::Sends(CALLER, "SIP/2.0 503 ", "second")),
     (80, Turn::Asks(DIALOG_ACK)),
     (80, Turn::Sends(BOB, "ACK ", "acknowledged")),
+    (85, Turn::Asks(BYE)),
+    (85, Turn::SendsNothing),
     (
         90,
         Turn::Answers(BOB, "INVITE", "one", "SIP/2.0 180 Ringing"),
