@@ -1,1 +1,7 @@
+pub mod Draining
+pub mod Handling
 pub mod Journal
+pub mod Queue
+pub mod Room
+pub mod Setups
+pub mod Waits

@@ -1,38 +1,11 @@
 //! Which datagrams may open a call now.
-use crate::opening::{PlaceChange, place_change};
-use daemon_parts::Places;
+use crate::opening::Opener;
+use crate::room::Room;
 use std::sync::atomic::{AtomicU64, Ordering};
 use std::sync::{Mutex, Wait};
 
 /// For how long no call is opened behind a refusal of memory, in milliseconds.
 const CLOSED: u64 = 1_000;
-
-/// The places for calls, and how many calls are kept that have none.
-#[derive(Drop)]
-struct Room {
-    places: Places,
-    without: u64,
-}
-
-impl Room {
-    /// Settles the place of a datagram that was handled.
-    fn settle(&mut self, change: PlaceChange) {
-        match change {
-            PlaceChange::Stays => {}
-            PlaceChange::GivenBack => self.places.give_back(),
-            PlaceChange::Missing => self.without = self.without.saturating_add(1),
-        }
-    }
-
-    /// Settles the place of a call that is forgotten: while calls are kept that have none, it is theirs.
-    fn forget(&mut self) {
-        if self.without > 0 {
-            self.without -= 1;
-        } else {
-            self.places.give_back();
-        }
-    }
-}
 
 /// The places for calls, and who may have one. A place is kept for a datagram before it is handled, and stays with the call that it opens.
 #[derive(Drop)]
@@ -48,10 +21,7 @@ impl Admission {
     /// All places are free.
     pub(crate) fn new(most_calls: u64) -> Admission {
         Admission {
-            room: Mutex::new(Room {
-                places: Places::new(most_calls),
-                without: 0,
-            }),
+            room: Mutex::new(Room::new(most_calls)),
             in_work: AtomicU64::new(0),
             closed_until: AtomicU64::new(0),
         }
@@ -84,21 +54,16 @@ impl Admission {
             .fetch_max(now.saturating_add(CLOSED), Ordering::SeqCst);
     }
 
-    /// Keeps a place for what a request outside of dialogs may open, and says whether there is one.
-    pub(crate) fn keep<R: Wait>(&self, rt: &R, now: u64) -> bool {
-        self.is_open(now) && self.room.lock(rt).places.keep()
-    }
-
-    /// Keeps a place for what a request within a dialog may open, and says whether there is one.
-    pub(crate) fn keep_within_dialog<R: Wait>(&self, rt: &R, now: u64) -> bool {
-        self.is_open(now) && self.room.lock(rt).places.keep_within_dialog()
+    /// Keeps a place for what such a request may open, and says whether there is one.
+    pub(crate) fn keep<R: Wait>(&self, rt: &R, opener: Opener, now: u64) -> bool {
+        self.is_open(now) && self.room.lock(rt).keep(opener)
     }
 
     /// Settles the place of a datagram that was handled.
     pub(crate) fn settle<R: Wait>(&self, rt: &R, has_place: bool, is_opened: bool) {
-        self.room
-            .lock(rt)
-            .settle(place_change(has_place, is_opened));
+        if has_place != is_opened {
+            self.room.lock(rt).settle(has_place, is_opened);
+        }
     }
 
     /// Settles the place of a call that is forgotten.

@@ -1,4 +1,7 @@
 //! Datagrams that go out while a call is carried, and whether an answer to its caller is among them.
+ghost use Rattle.std.specs.Prelude.{◌≡◌};
+ghost use Rattle.proxy_service.specs.Handling.{SendsNoting, is_answer};
+
 use fork_call::{Cause, Datagram, Port};
 use std::alloc::Allocator;
 
@@ -12,7 +15,9 @@ pub struct AnswerPort<'a, P> {
 }
 
 /// Whether a datagram with this cause is an answer to the request that opened a call.
-fn is_answer(cause: Cause) -> bool {
+fn is_answer(cause: Cause) -> bool
+    ensures { result ≡ is_answer cause }
+{
     match cause {
         Cause::Answer => true,
         Cause::CancelOk | Cause::Request(_) | Cause::Cancel(_) | Cause::Ack(_) => false,
@@ -21,6 +26,8 @@ fn is_answer(cause: Cause) -> bool {
 
 impl<P: Port> Port for AnswerPort<'_, P> {
     ghost count = { λ answers. P.count answers.port.now };
+
+    ghost sends = { λ old datagram went new. SendsNoting P.sends old.port.now old.has_answered datagram went new.port.now new.has_answered };
 
     fn send<A: Allocator>(&mut self, datagram: &Datagram<A>) -> bool {
         let went = self.port.send(datagram);

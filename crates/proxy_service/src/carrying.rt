@@ -1,5 +1,8 @@
 //! What a service does with one call: it carries it, and forgets one that is over.
-ghost use Rattle.std.specs.Prelude.{◌≡◌};
+ghost use Rattle.std.specs.Prelude.{◌≡◌, ◌↔◌, IsTrue};
+ghost use Rattle.std.specs.Bool.{OnTrue};
+ghost use Rattle.call_model.specs.Due.{IsOver};
+ghost use Rattle.call_over.specs.Quiet.{IsQuietWithoutOwed};
 
 use crate::answers::AnswerPort;
 use crate::journal::append_block;
@@ -59,7 +62,9 @@ fn next_of(call: &Call<Global>) -> Next {
 
 /// Whether a call may be forgotten: it is over, so whatever it is given it stays so, and sends nothing but 200s to CANCELs.
 fn may_be_forgotten(call: &mut Call<Global>) -> bool
-    ensures { call.new.opened.number ≡ call.old.opened.number }
+    ensures over { IsTrue result ↔ IsOver call.old }
+    ensures quiet { OnTrue result (IsQuietWithoutOwed call.new) }
+    ensures same { call.new ≡ call.old }
 {
     calls_that_are_over_are_quiet();
     call.over()

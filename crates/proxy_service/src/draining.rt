@@ -1,4 +1,6 @@
 //! When a service that is told to stop ends.
+ghost use Rattle.std.specs.Prelude.{◌≡◌, ◌↔◌, ◌+◌, ◌^◌, ◌-◌, min, IsTrue};
+ghost use Rattle.proxy_service.specs.Draining.{Ends, IsAcknowledged, MayEnd};
 
 /// For how long it answers that it stops, in milliseconds.
 const SHORTEST: u64 = 2_000;
@@ -31,29 +33,39 @@ pub struct Seen {
     pub last_success: Option<u64>,
 }
 
-/// Whether the ACK of a 2xx that went up may still come.
-fn awaits_ack(last_success: Option<u64>, now: u64) -> bool {
+/// Whether the ACK of the last 2xx that went up has come, or comes no more.
+fn is_acknowledged(last_success: Option<u64>, now: u64) -> bool
+    ensures { IsTrue result ↔ IsAcknowledged last_success now }
+{
     match last_success {
-        Some(last) => now < last.saturating_add(ACK_TIME),
-        None => false,
+        Some(last) => now.saturating_sub(last) >= ACK_TIME,
+        None => true,
     }
 }
 
 impl Draining {
+    /// Whether it may end before its time is over.
+    fn may_end(self, seen: Seen, now: u64) -> bool
+        ensures { IsTrue result ↔ MayEnd self seen now }
+    {
+        !seen.is_busy
+            && !seen.has_open
+            && now.saturating_sub(self.since) >= SHORTEST
+            && (!self.records || is_acknowledged(seen.last_success, now))
+    }
+
     /// Whether it ends: its time is over; or nothing is open and no datagram is in work that may open a call, it has answered for two
     /// seconds that it stops, and, where it stays on the path of dialogs, no ACK of a 2xx may still come.
-    pub fn ends(self, seen: Seen, now: u64) -> bool {
-        if self.until <= now {
-            return true;
-        }
-        if seen.is_busy || seen.has_open || now < self.since.saturating_add(SHORTEST) {
-            return false;
-        }
-        !(self.records && awaits_ack(seen.last_success, now))
+    pub fn ends(self, seen: Seen, now: u64) -> bool
+        ensures { IsTrue result ↔ Ends self seen now }
+    {
+        self.until <= now || self.may_end(seen, now)
     }
 
     /// When it is looked at next, where it does not end now.
-    pub fn next_look(self, now: u64) -> u64 {
+    pub fn next_look(self, now: u64) -> u64
+        ensures { result ≡ min self.until (min (now + 100) (2 ^ 64 - 1)) }
+    {
         self.until.min(now.saturating_add(LOOKS))
     }
 }

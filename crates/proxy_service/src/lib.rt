@@ -15,6 +15,7 @@ mod lifetime;
 mod opening;
 mod queue;
 mod refusals;
+mod room;
 mod service;
 mod setup;
 mod taking;

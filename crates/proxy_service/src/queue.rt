@@ -1,5 +1,10 @@
 //! Blocks that wait to be written to the journal.
+ghost use Rattle.std.specs.Prelude.{◌≡◌, ◌↔◌, length, IsErrOf, IsTrue, OnErr, OnOk};
+ghost use Rattle.std.specs.Bool.{OnTrue};
+ghost use Rattle.proxy_service.specs.Queue.{HasRoom, nothing, with_block};
+
 use std::alloc::Global;
+use std::marker::Model;
 use std::mem;
 use std::sync::{Mutex, Wait};
 use std::thread::Parker;
@@ -33,9 +38,19 @@ pub struct Queue {
     waiting: Batch,
 }
 
+impl Model for Queue {
+    ghost use Rattle.proxy_service.specs.Queue.{Waiting};
+
+    ghost Value = { Waiting };
+
+    ghost view = { λ q. record { text = q.waiting.text.items; blocks = q.waiting.blocks } };
+}
+
 impl Queue {
     /// No block waits.
-    pub fn new(alloc: Global) -> Queue {
+    pub fn new(alloc: Global) -> Queue
+        ensures { result ≡ nothing }
+    {
         Queue {
             waiting: Batch {
                 text: Vec::new(alloc),
@@ -45,7 +60,9 @@ impl Queue {
     }
 
     /// Whether a block of so many bytes may wait.
-    pub fn has_room(&self, bytes: usize) -> bool {
+    pub fn has_room(&self, bytes: usize) -> bool
+        ensures { IsTrue result ↔ HasRoom self.now bytes }
+    {
         self.waiting.blocks < MOST_BLOCKS
             && self.waiting.text.len() <= MOST_BYTES
             && bytes <= MOST_BYTES - self.waiting.text.len()
@@ -56,7 +73,12 @@ impl Queue {
     /// # Errors
     ///
     /// `Full` where there is no room for it, `NoMemory` only where the allocator refuses; the queue is then as it was.
-    pub fn push(&mut self, block: &[u8]) -> Result<(), Unqueued> {
+    pub fn push(&mut self, block: &[u8]) -> Result<(), Unqueued>
+        ensures ok { OnOk result (self.new ≡ with_block self.old block.now) }
+        ensures fits { OnOk result (HasRoom self.old (length block.now)) }
+        ensures full { IsErrOf result Unqueued.Full → HasRoom self.old (length block.now) → ⊥ }
+        ensures err { OnErr result (self.new ≡ self.old) }
+    {
         if !self.has_room(block.len()) {
             return Err(Unqueued::Full);
         }
@@ -68,12 +90,18 @@ impl Queue {
     }
 
     /// Whether no block waits.
-    pub fn is_empty(&self) -> bool {
+    pub fn is_empty(&self) -> bool
+        ensures { IsTrue result ↔ (self.now.blocks ≡ 0) }
+    {
         self.waiting.blocks == 0
     }
 
     /// Takes all blocks that wait.
-    pub fn take(&mut self, alloc: Global) -> Batch {
+    pub fn take(&mut self, alloc: Global) -> Batch
+        ensures text { result.text.items ≡ self.old.text }
+        ensures blocks { result.blocks ≡ self.old.blocks }
+        ensures left { self.new ≡ nothing }
+    {
         let empty = Batch {
             text: Vec::new(alloc),
             blocks: 0,

@@ -1,4 +1,7 @@
 //! Calls that lacked memory, and how long each waits until it is carried again.
+ghost use Rattle.std.specs.Prelude.{◌≡◌, ◌≤◌};
+ghost use Rattle.proxy_service.specs.Waits.{wait_behind};
+
 use std::alloc::{AllocError, Global};
 use std::sync::atomic::{AtomicU64, Ordering};
 use std::sync::{Mutex, Wait};
@@ -13,7 +16,9 @@ const LONGEST: u64 = 5_000;
 const MOST_CALLS: usize = 4_096;
 
 /// The wait behind one of so many milliseconds: 10, 20, 40 and so on, up to 5,000. No wait before is one of 0.
-pub(crate) fn wait_behind(before: u64) -> u64 {
+pub(crate) fn wait_behind(before: u64) -> u64
+    ensures { result ≡ wait_behind before }
+{
     before.saturating_mul(2).max(FIRST).min(LONGEST)
 }
 
@@ -32,7 +37,10 @@ struct RefusedCalls {
 
 impl RefusedCalls {
     /// How long the call of this number waits, which lacked memory once more.
-    fn refuse(&mut self, number: u64) -> u64 {
+    fn refuse(&mut self, number: u64) -> u64
+        ensures least { 10 ≤ result }
+        ensures most { result ≤ 5000 }
+    {
         for refused in self.calls.iter_mut() {
             if refused.number == number {
                 refused.wait = wait_behind(refused.wait);

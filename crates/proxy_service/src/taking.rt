@@ -1,13 +1,22 @@
 //! What a service does with a datagram.
+ghost use Rattle.std.specs.Prelude.{◌≡◌, IfOk, OnErr, Option, unwrap_or};
+ghost use Rattle.std.specs.Option.{option_map};
+ghost use Rattle.call_model.specs.Built as built;
+ghost use Rattle.proxy_dispatch.specs.Becomes.{Becomes};
+ghost use Rattle.proxy_dispatch.specs.Sent.{IsHanded};
+ghost use Rattle.proxy_service.specs.Handling.{recorded_text};
+
 use crate::lifetime::State;
-use crate::opening::opens_no_call;
+use crate::opening::{Opener, opens_no_call};
 use crate::service::Service;
+use crate::terms::Terms;
+use call_table::Shelf;
 use daemon_answers::{StampedPort, TurnedRequests, answer_options, may_ask_proxy, turn_away};
 use daemon_parts::is_keep_alive;
-use fork_call::Port;
+use fork_call::{Call, Port, Setup};
 use proxy_dispatch::{Handled, Memory, Received, handle};
 use sip_service::record_text;
-use std::alloc::AllocError;
+use std::alloc::{AllocError, Global};
 use std::sync::Wait;
 use std::time::Clock;
 
@@ -21,16 +30,53 @@ enum Admitted {
     TurnedAway,
 }
 
-impl Service {
-    /// The text of a datagram with a Record-Route line, where it opens a dialog on whose path the proxy stays.
-    fn recorded(&self, bytes: &[u8]) -> Result<Option<Vec<u8>>, AllocError> {
-        if self.terms.records {
-            record_text(self.alloc, bytes, self.terms.identity.own)
-        } else {
-            Ok(None)
-        }
+/// The text of a datagram with a Record-Route line, where it opens a dialog on whose path the proxy stays; None where it stays as it is.
+fn recorded(alloc: Global, terms: &Terms, bytes: &[u8]) -> Result<Option<Vec<u8>>, AllocError>
+    ensures { IfOk result (λ made. unwrap_or (option_map (λ text. text.items) made) bytes.now ≡ recorded_text terms.now.records terms.now.identity.own bytes.now) }
+{
+    if terms.records {
+        record_text(alloc, bytes, terms.identity.own)
+    } else {
+        Ok(None)
     }
+}
 
+/// The text, or else these bytes.
+fn text_or<'a>(text: &'a Option<Vec<u8>>, bytes: &'a [u8]) -> &'a [u8]
+    ensures { result.now ≡ unwrap_or (option_map (λ text. text.items) text.now) bytes.now }
+{
+    match text {
+        Some(text) => text.as_slice(),
+        None => bytes,
+    }
+}
+
+/// Handles a datagram by this setup, as this text if there is one.
+fn handle_as<R: Wait, P: Port>(
+    rt: &R,
+    alloc: Global,
+    shelf: &Shelf<Call<Global>, Global>,
+    setup: &Setup<Global>,
+    text: &Option<Vec<u8>>,
+    received: Received<'_>,
+    port: &mut P,
+) -> Result<Handled, AllocError>
+    ensures became { IfOk result (λ handled.
+        (sent : Option built.Datagram)
+        × Becomes setup.now (unwrap_or (option_map (λ text. text.items) text.now) received.entry.bytes.now) received.entry.source received.entry.now handled sent
+        × IsHanded P.sends port.old sent port.new) }
+    ensures err { OnErr result (port.new ≡ port.old) }
+{
+    let memory = Memory { alloc, heap: alloc };
+    let received = Received {
+        bytes: text_or(text, received.bytes),
+        source: received.source,
+        now: received.now,
+    };
+    handle(rt, memory, shelf, setup, received, port)
+}
+
+impl Service {
     /// Handles a datagram as the configuration says that stands now.
     fn handled<R: Wait, P: Port>(
         &self,
@@ -38,26 +84,15 @@ impl Service {
         port: &mut P,
         received: Received<'_>,
     ) -> Result<Handled, AllocError> {
-        let recorded = self.recorded(received.bytes)?;
-        let bytes = match &recorded {
-            Some(text) => text.as_slice(),
-            None => received.bytes,
-        };
-        let memory = Memory {
-            alloc: self.alloc,
-            heap: self.alloc,
-        };
+        let recorded = recorded(self.alloc, &self.terms, received.bytes)?;
         let setup = self.setup.read(rt);
-        handle(
+        handle_as(
             rt,
-            memory,
+            self.alloc,
             &self.calls.shelf,
             &*setup,
-            Received {
-                bytes,
-                source: received.source,
-                now: received.now,
-            },
+            &recorded,
+            received,
             port,
         )
     }
@@ -171,13 +206,15 @@ impl Service {
         received: Received<'_>,
     ) -> Result<Admitted, AllocError> {
         let now = received.now;
-        if self.lifetime.is_in(State::Serving) && self.admission.keep(rt, now) {
+        if self.lifetime.is_in(State::Serving)
+            && self.admission.keep(rt, Opener::OutsideDialog, now)
+        {
             return Ok(Admitted::WithPlace);
         }
         if self.turns_away(rt, port, received, TurnedRequests::OutsideDialogs)? {
             return Ok(Admitted::TurnedAway);
         }
-        if self.admission.keep_within_dialog(rt, now) {
+        if self.admission.keep(rt, Opener::WithinDialog, now) {
             return Ok(Admitted::WithPlace);
         }
         if self.turns_away(rt, port, received, TurnedRequests::All)? {

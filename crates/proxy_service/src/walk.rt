@@ -1,4 +1,6 @@
 //! The walk over all calls that is due where the deadline of one could not be added.
+ghost use Rattle.std.specs.Prelude.{◌≡◌, ◌⊎◌, Some, true};
+
 use crate::refusals::wait_behind;
 
 /// Where the walk over all calls stands. Moments are in milliseconds.
@@ -27,7 +29,10 @@ impl Walk {
 
     /// Notes whether a deadline was missed since the last look. A walk begins behind a wait then, longer each time until none is missed; where
     /// one is under way another one follows it.
-    pub(crate) fn note(&mut self, is_missed: bool, now: u64) {
+    pub(crate) fn note(&mut self, is_missed: bool, now: u64)
+        ensures missed { is_missed ≡ true → (self.new.from ≡ Some 0) ⊎ (self.new.again ≡ true) }
+        ensures again { self.old.again ≡ true → self.new.again ≡ true }
+    {
         match self.from {
             Some(from) => self.again = self.again || (is_missed && from > 0),
             None if is_missed => self.begin(now),
@@ -36,7 +41,9 @@ impl Walk {
     }
 
     /// Begins a walk behind a wait.
-    fn begin(&mut self, now: u64) {
+    fn begin(&mut self, now: u64)
+        ensures { self.new.from ≡ Some 0 }
+    {
         self.wait = wait_behind(self.wait);
         self.from = Some(0);
         self.at = now.saturating_add(self.wait);
@@ -49,7 +56,9 @@ impl Walk {
     }
 
     /// Notes that all calls were looked at. Where a deadline was missed meanwhile the next walk begins behind a wait.
-    pub(crate) fn finish(&mut self, now: u64) {
+    pub(crate) fn finish(&mut self, now: u64)
+        ensures { self.old.again ≡ true → self.new.from ≡ Some 0 }
+    {
         if self.again {
             self.begin(now);
         } else {
