@@ -126,13 +126,7 @@ fn work_beside<
     S: Sync + Drop,
     C: Crew<S> + Sync,
     R: Threads + Wait + ProxyFiles + PageSockets + Clock + Sync,
->(
-    rt: &R,
-    alloc: Global,
-    crew: &C,
-    socket: S,
-    buffers: Vec<Vec<u8>>,
-) -> Result<(), DaemonFault>
+>(rt: &R, alloc: Global, crew: &C, socket: S, buffers: Vec<Vec<u8>>) -> Result<(), DaemonFault>
     ensures { IfErr result IsSystemFault }
 {
     thread::scope(
@@ -161,13 +155,7 @@ pub(crate) fn run<
     S: Sync + Drop,
     C: Crew<S> + Sync,
     R: Threads + Wait + ProxyFiles + PageSockets + Clock + Print + Sync,
->(
-    rt: &R,
-    alloc: Global,
-    crew: &C,
-    socket: S,
-    buffers: Vec<Vec<u8>>,
-) -> Result<(), DaemonFault>
+>(rt: &R, alloc: Global, crew: &C, socket: S, buffers: Vec<Vec<u8>>) -> Result<(), DaemonFault>
     ensures { IfErr result IsSystemFault }
 {
     thread::scope(

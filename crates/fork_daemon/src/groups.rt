@@ -131,7 +131,9 @@ impl Groups {
     pub(crate) fn next<R: Wait>(&self, rt: &R, number: Option<u8>) -> Option<Packet> {
         let next = self.group(number).lock(rt).next();
         if let Some(packet) = &next {
-            self.room.lock(rt).give_back(weight(packet.bytes.as_slice()));
+            self.room
+                .lock(rt)
+                .give_back(weight(packet.bytes.as_slice()));
         }
         next
     }

@@ -8,12 +8,12 @@ mod groups;
 mod idle;
 mod opening;
 mod packet;
+mod pieces;
 mod port;
 mod proxy;
 mod receiving;
 mod serving;
 mod timer;
-mod undelivered;
 mod worker;
 mod writer;
 

@@ -1,14 +1,13 @@
 //! How a worker comes by a datagram. One worker at a time receives. Before it lets the next one receive, it enters the datagram's group of
 //! calls, or hands the datagram over to the worker that is on that group; so what comes of one call is handled in the order in which it came.
 //! It lets the next one receive where one more datagram waits.
-ghost use Rattle.std.specs.Prelude.{◌≡◌, ◌≤◌, length, IfErr, IfOk};
+ghost use Rattle.std.specs.Prelude.{◌≤◌, length, IfErr, IfOk, IfSome};
 ghost use Rattle.fork_daemon.specs.Faults.{IsSystemFault};
-ghost use Rattle.fork_daemon.specs.Receiving.{FitsIn};
 
 use crate::admission::admits;
 use crate::groups::Handover;
 use crate::proxy::Proxy;
-use daemon_parts::{Came, DaemonFault, Socket};
+use daemon_parts::{DaemonFault, Socket};
 use fork_clock::Watch;
 use proxy_service::State;
 use sip_uri::Hop;
@@ -26,15 +25,6 @@ pub(crate) struct Entered {
     pub(crate) source: Hop,
     /// The number of its group; None where it has no Call-ID.
     pub(crate) group: Option<u8>,
-}
-
-/// What a worker is to handle.
-#[derive(Clone, Copy)]
-pub(crate) enum Work {
-    Datagram(Entered),
-    /// The system tells of datagrams of the proxy's own that were not delivered.
-    Undelivered,
-    Nothing,
 }
 
 impl Proxy {
@@ -71,7 +61,7 @@ impl Proxy {
         }
     }
 
-    /// The next datagram that this worker is to handle, while no other worker receives. Nothing where none comes within a second, or it is
+    /// The next datagram that this worker is to handle, while no other worker receives. None where none comes within a second, or it is
     /// for another worker, or is dropped, or the proxy has ended.
     ///
     /// # Errors
@@ -85,28 +75,26 @@ impl Proxy {
         limits: &mut Option<SourceLimits<Global>>,
         watch: &mut Watch,
         buffer: &mut [u8],
-    ) -> Result<Work, DaemonFault>
-        ensures fits { IfOk result (FitsIn (length buffer.new)) }
+    ) -> Result<Option<Entered>, DaemonFault>
+        ensures fits { IfOk result (λ came. IfSome came (λ entered. entered.count ≤ length buffer.new)) }
         ensures fault { IfErr result IsSystemFault }
     {
         let came = socket.receive(buffer)?;
         if self.service.is_in(State::Ended) {
-            return Ok(Work::Nothing);
+            return Ok(None);
         }
-        let (count, source) = match came {
-            Came::Datagram(count, source) => (count, source),
-            Came::Undelivered => return Ok(Work::Undelivered),
-            Came::Nothing => return Ok(Work::Nothing),
+        let Some((count, source)) = came else {
+            return Ok(None);
         };
         if !self.admits(rt, limits, watch, source) {
-            return Ok(Work::Nothing);
+            return Ok(None);
         }
         let bytes = &buffer[..count];
         let group = group_of(bytes);
         if !self.enters(rt, group, bytes, source) {
-            return Ok(Work::Nothing);
+            return Ok(None);
         }
-        Ok(Work::Datagram(Entered {
+        Ok(Some(Entered {
             count,
             source,
             group,

@@ -3,7 +3,7 @@ ghost use denote.Param.Send.{IsSync};
 ghost use Rattle.daemon_parts.specs.contracts.socket.Socket.{the_row as socket_row};
 ghost use Rattle.fork_daemon.specs.contracts.serving.Server.{the_row as server_row};
 ghost use Rattle.std.specs.Prelude.{◌≡◌, ◌/◌, ◌%◌, ◌^◌, ◌↔◌, ◌<◌, length, IfErr, OnOk, IsErrOf};
-ghost use Rattle.core.specs.Duration.{as_nanos};
+ghost use Rattle.std.specs.Duration.{as_nanos};
 ghost use Rattle.daemon_parts.specs.Completion.{completed};
 ghost use Rattle.daemon_parts.specs.declared.fault.DaemonFault.TheVariants as faults;
 ghost use Rattle.daemon_parts.specs.Faults.{most_text, IsConfigurationFault};

@@ -1,11 +1,10 @@
 //! What a worker does with the datagrams that it receives, and with those that are handed over to it.
-ghost use Rattle.std.specs.Prelude.{◌≤◌, length, IfErr, IfOk};
+ghost use Rattle.std.specs.Prelude.{◌≤◌, length, IfErr, IfOk, IfSome};
 ghost use Rattle.fork_daemon.specs.Faults.{IsSystemFault};
-ghost use Rattle.fork_daemon.specs.Receiving.{FitsIn};
 
 use crate::port::SocketPort;
 use crate::proxy::Proxy;
-use crate::receiving::{Entered, Work};
+use crate::receiving::Entered;
 use daemon_parts::{DaemonFault, Socket};
 use fork_clock::Watch;
 use proxy_dispatch::Received;
@@ -116,7 +115,7 @@ impl Proxy {
         self.idle.leave();
     }
 
-    /// What this worker is to handle next; nothing where there is none, or where another worker received until this one was woken.
+    /// The next datagram that this worker is to handle; None where there is none, or where another worker received until this one was woken.
     ///
     /// # Errors
     ///
@@ -127,8 +126,8 @@ impl Proxy {
         socket: &Socket,
         watch: &mut Watch,
         buffer: &mut [u8],
-    ) -> Result<Work, DaemonFault>
-        ensures fits { IfOk result (FitsIn (length buffer.new)) }
+    ) -> Result<Option<Entered>, DaemonFault>
+        ensures fits { IfOk result (λ came. IfSome came (λ entered. entered.count ≤ length buffer.new)) }
         ensures fault { IfErr result IsSystemFault }
     {
         for _ in 0..LOOKS {
@@ -138,38 +137,14 @@ impl Proxy {
             pause();
         }
         self.wait_idle(rt);
-        Ok(Work::Nothing)
+        Ok(None)
     }
 
-    /// Wakes an idle worker, as this one is about to handle something while nobody receives: where a datagram waits, and where no other one
+    /// Wakes an idle worker, as this one is about to handle a datagram while nobody receives: where a datagram waits, and where no other one
     /// watches.
     fn hand_receiving_over(&self, socket: &Socket) {
         if self.idle.has_any() && (!self.idle.is_watched() || socket.has_waiting()) {
             self.idle.wake_one();
-        }
-    }
-
-    /// Handles what this worker came by.
-    fn handle<R: Wait + Clock>(
-        &self,
-        rt: &R,
-        socket: &Socket,
-        state: &mut WorkerState<'_>,
-        buffer: &mut [u8],
-        work: Work,
-    )
-        requires { FitsIn (length buffer.old) work }
-    {
-        match work {
-            Work::Datagram(entered) => {
-                self.hand_receiving_over(socket);
-                self.take_entered(rt, state, buffer, entered);
-            }
-            Work::Undelivered => {
-                self.hand_receiving_over(socket);
-                self.take_undelivered(rt, socket, &mut state.port, &mut state.watch, buffer);
-            }
-            Work::Nothing => {}
         }
     }
 
@@ -196,8 +171,11 @@ impl Proxy {
             if self.service.is_in(State::Ended) {
                 return Ok(());
             }
-            let work = self.receive_or_wait(rt, socket, &mut state.watch, buffer)?;
-            self.handle(rt, socket, &mut state, buffer, work);
+            let came = self.receive_or_wait(rt, socket, &mut state.watch, buffer)?;
+            if let Some(entered) = came {
+                self.hand_receiving_over(socket);
+                self.take_entered(rt, &mut state, buffer, entered);
+            }
         }
         unreachable!()
     }
