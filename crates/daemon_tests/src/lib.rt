@@ -43,6 +43,4 @@ mod telling;
 #[cfg(test)]
 mod texts;
 #[cfg(test)]
-mod undelivered;
-#[cfg(test)]
 mod wired;

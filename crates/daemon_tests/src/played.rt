@@ -25,12 +25,6 @@ pub enum Turn {
     Returns(Hop, &'static str, &'static str),
     /// This text comes from there.
     Brings(Hop, &'static str),
-    /// The system tells that the datagram of this method and call that was sent there last could not be delivered.
-    Bounces(Hop, &'static str, &'static str),
-    /// Somebody makes that up of a datagram that was sent.
-    Forges(Forged),
-    /// Somebody makes it up of this text.
-    BouncesText(Hop, &'static str),
     /// Nothing can be sent there from now on.
     Refuses(Option<Hop>),
     /// What is due is done.
@@ -67,20 +61,6 @@ pub enum Turn {
     Reloads(&'static [u8], Result<(), DaemonFault>),
     /// So many calls are kept, of so many that were opened.
     Keeps(u64, u64),
-}
-
-/// What somebody makes up of a datagram that could not be delivered.
-#[derive(Clone, Copy)]
-pub struct Forged {
-    /// Where a datagram of this method and call was sent to.
-    pub sent_to: Hop,
-    pub method: &'static str,
-    pub call: &'static str,
-    /// Where it is said to have been sent to.
-    pub told_of: Hop,
-    /// What stands in it, and what is told in place of that.
-    pub old: &'static str,
-    pub new: &'static str,
 }
 
 /// A moment in milliseconds, and what happens then.
@@ -136,21 +116,6 @@ fn last_sent<'a>(outgoing: &'a Outgoing, to: Hop, method: &str, call: &str) -> O
         }
     }
     found
-}
-
-/// A text with another part in place of the first such one.
-fn replaced(alloc: Global, text: &[u8], old: &str, new: &str) -> Option<Vec<u8>> {
-    let old = old.as_bytes();
-    let len = old.len();
-    if len == 0 {
-        return None;
-    }
-    let place = text.windows(len).position(|part| part == old)?;
-    let mut made = Vec::from_slice(alloc, text.get(..place)?).ok()?;
-    made.extend_from_slice(new.as_bytes()).ok()?;
-    made.extend_from_slice(text.get(place.saturating_add(len)..)?)
-        .ok()?;
-    Some(made)
 }
 
 /// Whether a datagram of a call begins so.
@@ -265,39 +230,6 @@ impl Played {
     ) -> bool {
         match self.copy_of(from, method, call) {
             Some(text) => self.takes(rt, now, from, text.as_slice()),
-            None => false,
-        }
-    }
-
-    /// The system tells that a datagram could not be delivered.
-    fn bounces<R: Wait + Clock>(&mut self, rt: &R, now: u64, to: Hop, quoted: &[u8]) -> bool {
-        self.service
-            .take_undelivered(rt, &mut self.outgoing, quoted, to, now);
-        true
-    }
-
-    /// The system tells that the datagram of this method and call that was sent there last could not be delivered.
-    fn bounces_last<R: Wait + Clock>(
-        &mut self,
-        rt: &R,
-        now: u64,
-        to: Hop,
-        method: &str,
-        call: &str,
-    ) -> bool {
-        match self.copy_of(to, method, call) {
-            Some(quoted) => self.bounces(rt, now, to, quoted.as_slice()),
-            None => false,
-        }
-    }
-
-    /// Somebody makes up that a datagram could not be delivered.
-    fn forges<R: Wait + Clock>(&mut self, rt: &R, now: u64, forged: &Forged) -> bool {
-        let Some(text) = self.copy_of(forged.sent_to, forged.method, forged.call) else {
-            return false;
-        };
-        match replaced(self.alloc, text.as_slice(), forged.old, forged.new) {
-            Some(text) => self.bounces(rt, now, forged.told_of, text.as_slice()),
             None => false,
         }
     }
@@ -440,9 +372,6 @@ impl Played {
             }
             Turn::Returns(from, method, call) => self.returns(rt, now, from, method, call),
             Turn::Brings(from, text) => self.takes(rt, now, from, text.as_bytes()),
-            Turn::Bounces(to, method, call) => self.bounces_last(rt, now, to, method, call),
-            Turn::Forges(forged) => self.forges(rt, now, &forged),
-            Turn::BouncesText(to, text) => self.bounces(rt, now, to, text.as_bytes()),
             Turn::Refuses(hop) => self.refuses(hop),
             Turn::Ticks => self.ticks(rt, now),
             Turn::Passes(from) => self.passes(rt, from, now),
