@@ -1,6 +1,7 @@
 //! The file at which a proxy is spoken to.
 ghost use Rattle.std.specs.Prelude.{◌≤◌, IfOk};
 
+use crate::system::last_error;
 use libc::net;
 use std::fs::Files;
 use std::io::ErrorKind;
@@ -52,7 +53,7 @@ fn connect<R: Net>(rt: &R, path: &str) -> io::Result<()> {
     let socket = rt.unix_socket()?;
     let fd = socket.as_raw_fd();
     if os::set_nonblocking(fd, true) < 0 || unsafe { net::connect(fd, &address, len) } < 0 {
-        return Err(io::Error::from_raw_os_error(os::errno()));
+        return Err(last_error());
     }
     Ok(())
 }
@@ -81,11 +82,11 @@ pub(crate) fn listen<R: Files + Net>(rt: &R, path: &str) -> io::Result<UnixListe
     let address = SocketAddr::from_pathname(path)?;
     let socket = rt.unix_socket()?;
     if libc::fchmod(socket.as_raw_fd(), OWNER_ALONE) < 0 {
-        return Err(io::Error::from_raw_os_error(os::errno()));
+        return Err(last_error());
     }
     rt.bind_unix(socket.as_fd(), &address)?;
     if net::listen(socket.as_raw_fd(), BACKLOG) < 0 {
-        let error = io::Error::from_raw_os_error(os::errno());
+        let error = last_error();
         let _ = fs::remove_file(rt, path);
         return Err(error);
     }

@@ -1,4 +1,5 @@
 //! The file to which each call is written at its end.
+use crate::system::last_error;
 use libc::net;
 use libc::types::pollfd;
 use std::fs::{File, Files, OpenOptions};
@@ -43,7 +44,7 @@ fn wait_for_room(file: &File) {
 fn write_all(file: &mut File, bytes: &[u8], written: &mut u64) -> io::Result<()> {
     let mut rest = bytes;
     let mut waits = 0;
-    for _ in 0..bytes.len().saturating_add(MOST_WAITS) {
+    for _ in 0..=bytes.len().saturating_add(MOST_WAITS) {
         if rest.is_empty() {
             return Ok(());
         }
@@ -107,7 +108,7 @@ pub(crate) fn append_to_regular(file: &mut File, blocks: &[u8]) -> io::Result<()
 /// at its end.
 pub(crate) fn append_to_other(file: &mut File, blocks: &[u8], torn: &mut bool) -> io::Result<()> {
     if os::set_nonblocking(file.as_raw_fd(), true) < 0 {
-        return Err(io::Error::from_raw_os_error(os::errno()));
+        return Err(last_error());
     }
     let mut written = 0;
     write_all(file, front_of(*torn), &mut written)?;

@@ -4,6 +4,7 @@
 
 mod call_counts;
 mod completion;
+mod connected;
 mod control_file;
 mod count;
 mod counts;
@@ -20,8 +21,10 @@ mod places;
 mod reading;
 mod setup;
 mod socket;
+mod system;
 
 pub use call_counts::{CallCounts, FailedCounts};
+pub use connected::{ConnectedSockets, Heard};
 pub use count::Count;
 pub use counts::{Counts, Gauges};
 pub use datagram_counts::{AnsweredCounts, DatagramCounts, SentCounts};

@@ -1,6 +1,7 @@
 pub mod Draining
 pub mod Handling
 pub mod Journal
+pub mod Next
 pub mod Queue
 pub mod Room
 pub mod Setups

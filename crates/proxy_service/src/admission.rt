@@ -1,4 +1,5 @@
 //! Which datagrams may open a call now.
+use crate::lifetime::Lifetime;
 use crate::opening::Opener;
 use crate::room::Room;
 use std::sync::atomic::{AtomicU64, Ordering};
@@ -11,7 +12,7 @@ const CLOSED: u64 = 1_000;
 #[derive(Drop)]
 pub(crate) struct Admission {
     room: Mutex<Room>,
-    /// How many datagrams are in work that may open a call.
+    /// How many datagrams are in work that have a place, and whose calls, if they open any, have no number yet.
     in_work: AtomicU64,
     /// Until when no call is opened, in milliseconds, since memory was refused.
     closed_until: AtomicU64,
@@ -25,17 +26,6 @@ impl Admission {
             in_work: AtomicU64::new(0),
             closed_until: AtomicU64::new(0),
         }
-    }
-
-    /// Counts a datagram that may open a call. It is counted before it is asked whether the service still opens any, so that who has told it
-    /// to stop sees the datagram, or the datagram sees that.
-    pub(crate) fn begin_work(&self) {
-        self.in_work.fetch_add(1, Ordering::SeqCst);
-    }
-
-    /// Counts a datagram no more: it opened no call, or the call has its number.
-    pub(crate) fn end_work(&self) {
-        self.in_work.fetch_sub(1, Ordering::SeqCst);
     }
 
     /// Whether a datagram is in work that may open a call.
@@ -54,15 +44,32 @@ impl Admission {
             .fetch_max(now.saturating_add(CLOSED), Ordering::SeqCst);
     }
 
-    /// Keeps a place for what such a request may open, and says whether there is one.
-    pub(crate) fn keep<R: Wait>(&self, rt: &R, opener: Opener, now: u64) -> bool {
-        self.is_open(now) && self.room.lock(rt).keep(opener)
+    /// Keeps a place for what such a request may open, and says whether there is one. The datagram is counted before it is asked whether the
+    /// service still opens calls, so that who has told it to stop sees the datagram, or the datagram sees that.
+    pub(crate) fn keep<R: Wait>(
+        &self,
+        rt: &R,
+        lifetime: &Lifetime,
+        opener: Opener,
+        now: u64,
+    ) -> bool {
+        self.in_work.fetch_add(1, Ordering::SeqCst);
+        let is_kept = lifetime.opens(opener)
+            && self.is_open(now)
+            && self.room.lock(rt).keep(opener);
+        if !is_kept {
+            self.in_work.fetch_sub(1, Ordering::SeqCst);
+        }
+        is_kept
     }
 
-    /// Settles the place of a datagram that was handled.
+    /// Settles the place of a datagram that was handled: it opened no call, or the call has its number.
     pub(crate) fn settle<R: Wait>(&self, rt: &R, has_place: bool, is_opened: bool) {
         if has_place != is_opened {
             self.room.lock(rt).settle(has_place, is_opened);
+        }
+        if has_place {
+            self.in_work.fetch_sub(1, Ordering::SeqCst);
         }
     }
 

@@ -1,5 +1,8 @@
 //! The calls that are kept, and when each is looked at.
-ghost use Rattle.std.specs.Prelude.{◌≡◌};
+ghost use Rattle.std.specs.Prelude.{◌≡◌, true};
+ghost use Rattle.std.specs.Bool.{OnFalse};
+ghost use Rattle.fork_model.specs.Log.{core_of};
+ghost use Rattle.fork_model.specs.Table.{is_finished};
 
 use crate::refusals::Refusals;
 use crate::walk::Walk;
@@ -39,7 +42,8 @@ pub(crate) struct Calls {
 
 /// Whether a call is open: a branch has not ended, or something is owed.
 fn is_open(call: &mut Call<Global>) -> bool
-    ensures { call.new.opened.number ≡ call.old.opened.number }
+    ensures closed { OnFalse result (is_finished (core_of call.old.log).table.rows ≡ true) }
+    ensures same { call.new ≡ call.old }
 {
     !call.book().context().finished() || call.due() == Some(0)
 }

@@ -1,8 +1,10 @@
 //! What a service does with one call: it carries it, and forgets one that is over.
-ghost use Rattle.std.specs.Prelude.{◌≡◌, ◌↔◌, IsTrue};
+ghost use Rattle.std.specs.Prelude.{◌≡◌, ◌≤◌, ◌↔◌, IsTrue};
 ghost use Rattle.std.specs.Bool.{OnTrue};
 ghost use Rattle.call_model.specs.Due.{IsOver};
 ghost use Rattle.call_over.specs.Quiet.{IsQuietWithoutOwed};
+ghost use Rattle.fork_model.specs.Log.{core_of};
+ghost use Rattle.proxy_service.specs.Next.{EndsBy, IsNext};
 
 use crate::answers::AnswerPort;
 use crate::journal::append_block;
@@ -44,7 +46,9 @@ fn seconds<R: Clock>(rt: &R) -> u64 {
 }
 
 /// The status with which a call that is over failed; None where it was answered with a 2xx.
-fn failure_of(call: &Call<Global>) -> Option<u16> {
+fn failure_of(call: &Call<Global>) -> Option<u16>
+    ensures { EndsBy (core_of call.now.log) result }
+{
     match call.book().context().choice_with_status() {
         Some((_, status)) => Some(status),
         None => None,
@@ -52,7 +56,9 @@ fn failure_of(call: &Call<Global>) -> Option<u16> {
 }
 
 /// What is to be done next with a call that was carried.
-fn next_of(call: &Call<Global>) -> Next {
+fn next_of(call: &Call<Global>) -> Next
+    ensures { IsNext call.now result }
+{
     match call.due() {
         Some(due) => Next::At(due),
         None if call.over() => Next::Over(failure_of(call)),
@@ -101,7 +107,9 @@ impl Service {
 
     /// What is to be done next with a call that was carried. Of one that is over the block for the journal is appended, if there is a
     /// journal, or nothing for want of memory.
-    fn left<R: Clock>(&self, rt: &R, call: &Call<Global>, block: &mut Vec<u8>) -> Next {
+    fn left<R: Clock>(&self, rt: &R, call: &Call<Global>, block: &mut Vec<u8>) -> Next
+        ensures { IsNext call.now result }
+    {
         let next = next_of(call);
         if !matches!(next, Next::Over(_)) {
             self.count_finished(call);
@@ -219,17 +227,21 @@ impl Service {
         }
     }
 
-    /// Has a block written to the journal as the service ends. Where too many wait it waits for the thread that writes, a second at most for
-    /// all of them together.
-    fn write_down_last<R: Wait + Clock>(&self, rt: &R, block: &[u8], rests: &mut u32) {
-        while *rests > 0 && !self.journal.has_room(rt, block.len()) {
+    /// Rests, so many times at most, until there is room for a block of so many bytes, and answers how often it may rest from then on.
+    fn await_room<R: Wait + Clock>(&self, rt: &R, bytes: usize, rests: u32) -> u32
+        ensures { result ≤ rests }
+    {
+        for rested in 0..rests {
+            if self.journal.has_room(rt, bytes) {
+                return rests - rested;
+            }
             thread::sleep(rt, Duration::from_millis(REST));
-            *rests -= 1;
         }
-        self.write_down(rt, block);
+        0
     }
 
-    /// Has all calls that are left written down, as the service ends, if there is a journal.
+    /// Has all calls that are left written down, as the service ends, if there is a journal. Where too many blocks wait it waits for the
+    /// thread that writes them, a second at most in all.
     pub fn write_down_left<R: Wait + Clock>(&self, rt: &R) {
         if !self.terms.has_journal {
             return;
@@ -247,7 +259,8 @@ impl Service {
                 .shelf
                 .with(rt, number, |call| write_block(call, time, &mut block));
             if listed.is_some() {
-                self.write_down_last(rt, block.as_slice(), &mut rests);
+                rests = self.await_room(rt, block.len(), rests);
+                self.write_down(rt, block.as_slice());
             }
             from = number.saturating_add(1);
         }

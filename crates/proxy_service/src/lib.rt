@@ -21,7 +21,6 @@ mod setup;
 mod taking;
 mod terms;
 mod timing;
-mod undelivered;
 mod walk;
 
 pub use answers::AnswerPort;

@@ -1,5 +1,6 @@
 //! Where a service stands, and since when.
 use crate::draining::Draining;
+use crate::opening::Opener;
 use std::sync::atomic::{AtomicU64, Ordering};
 
 /// What `since` and `last_success` hold where there is no such moment.
@@ -58,6 +59,14 @@ impl Lifetime {
 
     pub(crate) fn is_in(&self, state: State) -> bool {
         self.state.load(Ordering::SeqCst) == state.code()
+    }
+
+    /// Whether it opens calls for such requests: those within dialogs go on until the end.
+    pub(crate) fn opens(&self, opener: Opener) -> bool {
+        match opener {
+            Opener::OutsideDialog => self.is_in(State::Serving),
+            Opener::WithinDialog => !self.is_in(State::Ended),
+        }
     }
 
     /// Begins the end, so many seconds before it comes at the latest. Where it has begun before, it comes by what is said now.

@@ -6,7 +6,6 @@ ghost use Rattle.proxy_dispatch.specs.Becomes.{Becomes};
 ghost use Rattle.proxy_dispatch.specs.Sent.{IsHanded};
 ghost use Rattle.proxy_service.specs.Handling.{recorded_text};
 
-use crate::lifetime::State;
 use crate::opening::{Opener, opens_no_call};
 use crate::service::Service;
 use crate::terms::Terms;
@@ -197,6 +196,11 @@ impl Service {
         )
     }
 
+    /// Keeps a place for what such a request may open, and says whether there is one.
+    fn keeps<R: Wait>(&self, rt: &R, opener: Opener, now: u64) -> bool {
+        self.admission.keep(rt, &self.lifetime, opener, now)
+    }
+
     /// Whether a datagram that may open a call is handled, and has a place then. A request outside of dialogs needs one of the first
     /// places, while the service opens calls; one within a dialog may have one of the others, also while the service drains.
     fn admitted<R: Wait, P: Port>(
@@ -206,15 +210,13 @@ impl Service {
         received: Received<'_>,
     ) -> Result<Admitted, AllocError> {
         let now = received.now;
-        if self.lifetime.is_in(State::Serving)
-            && self.admission.keep(rt, Opener::OutsideDialog, now)
-        {
+        if self.keeps(rt, Opener::OutsideDialog, now) {
             return Ok(Admitted::WithPlace);
         }
         if self.turns_away(rt, port, received, TurnedRequests::OutsideDialogs)? {
             return Ok(Admitted::TurnedAway);
         }
-        if self.admission.keep(rt, Opener::WithinDialog, now) {
+        if self.keeps(rt, Opener::WithinDialog, now) {
             return Ok(Admitted::WithPlace);
         }
         if self.turns_away(rt, port, received, TurnedRequests::All)? {
@@ -257,10 +259,7 @@ impl Service {
         if opens_no_call(received.bytes) {
             return self.handle_stamped(rt, port, received, false);
         }
-        self.admission.begin_work();
-        let done = self.take_request(rt, port, received);
-        self.admission.end_work();
-        done
+        self.take_request(rt, port, received)
     }
 
     /// Takes a datagram that came at `received.now`, in milliseconds: the call that it belongs to takes it, or it opens one, or it is

@@ -1,5 +1,5 @@
 //! The walk over all calls that is due where the deadline of one could not be added.
-ghost use Rattle.std.specs.Prelude.{◌≡◌, ◌⊎◌, Some, true};
+ghost use Rattle.std.specs.Prelude.{◌≡◌, ◌⊎◌, ℕ, Some, true};
 
 use crate::refusals::wait_behind;
 
@@ -31,7 +31,7 @@ impl Walk {
     /// one is under way another one follows it.
     pub(crate) fn note(&mut self, is_missed: bool, now: u64)
         ensures missed { is_missed ≡ true → (self.new.from ≡ Some 0) ⊎ (self.new.again ≡ true) }
-        ensures again { self.old.again ≡ true → self.new.again ≡ true }
+        ensures again { (from : ℕ) → self.old.from ≡ Some from → self.old.again ≡ true → self.new.again ≡ true }
     {
         match self.from {
             Some(from) => self.again = self.again || (is_missed && from > 0),

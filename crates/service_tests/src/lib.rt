@@ -14,6 +14,8 @@ mod clock;
 #[cfg(test)]
 mod commands;
 #[cfg(test)]
+mod connected;
+#[cfg(test)]
 mod control;
 #[cfg(test)]
 mod deadlines;
