@@ -45,14 +45,6 @@ pub enum Heard {
     Undelivered(usize, Hop),
 }
 
-/// What there is at one of these sockets.
-enum Look {
-    Heard(Heard),
-    Nothing,
-    /// It was closed.
-    Closed,
-}
-
 /// Sockets of the proxy's own address, each connected to one hop, for some tenths of a second. To a socket that is not connected the
 /// system does not tell that nobody receives at a port, unless it is asked by what is not within a program's reach here. What comes from
 /// that hop meanwhile comes to this socket, and not to the proxy's other one.
@@ -154,39 +146,37 @@ impl ConnectedSockets {
     }
 
     /// What there is at a socket. It is closed where nobody receives, and once it was listened to for long enough.
-    fn look_at(&mut self, place: usize, buffer: &mut [u8], now: u64) -> Look {
-        let Some(connected) = self.sockets.get(place) else {
-            return Look::Nothing;
-        };
+    fn look_at(&mut self, place: usize, buffer: &mut [u8], now: u64) -> Option<Heard>
+        ensures fits { IfSome result (λ heard. heard_count heard ≤ length buffer.new) }
+    {
+        let connected = self.sockets.get(place)?;
         let to = connected.to;
         match connected.udp.recv(buffer) {
-            Ok(count) => return Look::Heard(Heard::Datagram(count, to)),
+            Ok(count) => return Some(Heard::Datagram(count, to)),
             Err(error) => match error.kind() {
                 ErrorKind::ConnectionRefused => {
                     let count = copy_front(connected.front.as_slice(), buffer);
                     self.sockets.swap_remove(place);
-                    return Look::Heard(Heard::Undelivered(count, to));
+                    return Some(Heard::Undelivered(count, to));
                 }
                 _ => {}
             },
         }
-        if now < connected.until {
-            return Look::Nothing;
+        if connected.until <= now {
+            self.sockets.swap_remove(place);
         }
-        self.sockets.swap_remove(place);
-        Look::Closed
+        None
     }
 
     /// The next thing that there is at these sockets at this moment, in `buffer`; None where there is nothing more.
     pub fn hear(&mut self, buffer: &mut [u8], now: u64) -> Option<Heard>
         ensures fits { IfSome result (λ heard. heard_count heard ≤ length buffer.new) }
     {
-        let mut place = 0;
-        for _ in 0..MOST_SOCKETS {
-            match self.look_at(place, buffer, now) {
-                Look::Heard(heard) => return Some(heard),
-                Look::Nothing => place += 1,
-                Look::Closed => {}
+        // From the last one, since that one takes the place of one that is closed.
+        for place in (0..self.sockets.len()).rev() {
+            let heard = self.look_at(place, buffer, now);
+            if heard.is_some() {
+                return heard;
             }
         }
         None

@@ -7,6 +7,7 @@ use Rattle.std.proofs.option.Option.TheSendSync as option
 use Rattle.std.specs.contracts.alloc.Global.{the_row as heap_row}
 use Rattle.std.specs.contracts.impls.GlobalAllocator.TheImpl.{ghosts}
 use Rattle.call_groups.proofs.laws.Crossing as group
+use Rattle.call_groups.proofs.room.Room.TheSendSync as room
 use Rattle.call_groups.specs.contracts.group.Group.{the_row as group_row}
 use Rattle.daemon_parts.proofs.laws.Crossing as parts
 use Rattle.daemon_parts.specs.contracts.socket.Socket as socket
@@ -31,7 +32,7 @@ group_send = group.group_send packet_row heap_row ghosts packet.the_send send fr
 
 groups_sync : IsSync groups.the_field.row
 groups_sync = struct_sync (shape groups.the_type)
-    (search (crosses, group_send), (search (crosses, group_send), (search (crosses, sendable), tt)))
+    (search (crosses, group_send), (search (crosses, group_send), (search (crosses, room.the_send), tt)))
 
 proxy_sync : IsSync proxy.the_field.row
 proxy_sync = struct_sync (shape proxy.the_type) (

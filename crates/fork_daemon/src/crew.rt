@@ -138,7 +138,7 @@ fn work_beside<
             let shows = scope.spawn(move || crew.show(rt)).is_ok();
             let writes = scope.spawn(move || crew.write(rt)).is_ok();
             let ran = if shows && writes {
-                work_and_close(rt, alloc, crew, socket, buffers)
+                work_and_close(&*rt, alloc, &*crew, socket, buffers)
             } else {
                 Err(DaemonFault::NoMemory)
             };
@@ -165,7 +165,7 @@ pub(crate) fn run<
             ensures { IfErr result IsSystemFault }
         {
             let ran = if scope.spawn(move || crew.answer(rt)).is_ok() {
-                work_beside(rt, alloc, crew, socket, buffers)
+                work_beside(&*rt, alloc, &*crew, socket, buffers)
             } else {
                 Err(DaemonFault::NoMemory)
             };

@@ -1,5 +1,6 @@
 //! The groups of calls, by which what comes of one call is handled in the order in which it came.
-ghost use Rattle.std.specs.Prelude.{◌≡◌, true};
+ghost use Rattle.std.specs.Prelude.{◌≡◌, true, OnErr, OnOk};
+ghost use Rattle.fork_daemon.specs.Handover.{HasLast, IsHandedOver};
 
 use crate::packet::{Packet, weight};
 use call_groups::{Group, Room};
@@ -41,7 +42,7 @@ pub(crate) enum Handover {
 ///
 /// # Errors
 ///
-/// Where as many wait as may, or the allocator refuses.
+/// Where as many wait as may, or the allocator refuses; then the group is as it was.
 fn hand_over(
     alloc: Global,
     group: &mut Group<Packet>,
@@ -49,6 +50,8 @@ fn hand_over(
     source: Hop,
 ) -> Result<(), AllocError>
     requires { group.old.busy ≡ true }
+    ensures ok { OnOk result (HasLast group.old bytes.now source group.new) }
+    ensures err { OnErr result (group.new ≡ group.old) }
 {
     let bytes = Vec::from_slice(alloc, bytes)?;
     match group.hand_over(Packet { bytes, source }) {
@@ -97,7 +100,9 @@ impl Groups {
         group: &mut Group<Packet>,
         bytes: &[u8],
         source: Hop,
-    ) -> Handover {
+    ) -> Handover
+        ensures { IsHandedOver group.old bytes.now source result group.new }
+    {
         if group.enter() {
             return Handover::Entered;
         }

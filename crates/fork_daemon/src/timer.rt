@@ -9,7 +9,7 @@ use std::time::Clock;
 
 impl Proxy {
     /// Does what is due, when it is, until the end.
-    fn keep_time_until_end<R: Wait + Clock>(&self, rt: &R, socket: &Socket) {
+    fn keep_time_until_end<'a, R: Wait + Clock>(&'a self, rt: &R, socket: &'a Socket) {
         let service = &self.service;
         let counts = &service.counts().datagrams;
         let mut port = SocketPort::new(socket, counts, &counts.timed);

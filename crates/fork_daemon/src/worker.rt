@@ -6,6 +6,7 @@ use crate::port::SocketPort;
 use crate::proxy::Proxy;
 use crate::receiving::Entered;
 use daemon_parts::{DaemonFault, Socket};
+use fork_call::Port;
 use fork_clock::Watch;
 use proxy_dispatch::Received;
 use proxy_service::State;
@@ -56,21 +57,22 @@ impl WorkerState<'_> {
 
 impl Proxy {
     /// Handles a datagram, and notes how long that took. The moment is read as it begins.
-    fn take_timed<R: Wait + Clock>(
+    pub(crate) fn take_timed<R: Wait + Clock, P: Port>(
         &self,
         rt: &R,
-        state: &mut WorkerState<'_>,
+        port: &mut P,
+        watch: &mut Watch,
         bytes: &[u8],
         source: Hop,
     ) {
-        let began = state.watch.micros(rt);
+        let began = watch.micros(rt);
         let received = Received {
             bytes,
             source,
             now: began / 1_000,
         };
-        self.service.take(rt, &mut state.port, received);
-        let took = state.watch.micros(rt).saturating_sub(began);
+        self.service.take(rt, port, received);
+        let took = watch.micros(rt).saturating_sub(began);
         self.service.counts().latencies.add(took);
     }
 
@@ -83,7 +85,10 @@ impl Proxy {
     ) {
         for _ in rt.forever() {
             match self.groups.next(rt, group) {
-                Some(packet) => self.take_timed(rt, state, packet.bytes.as_slice(), packet.source),
+                Some(packet) => {
+                    let (port, watch) = (&mut state.port, &mut state.watch);
+                    self.take_timed(rt, port, watch, packet.bytes.as_slice(), packet.source);
+                }
                 None => return,
             }
         }
@@ -101,7 +106,9 @@ impl Proxy {
         requires { entered.count ≤ length buffer.now }
     {
         state.hold_ready(self.alloc);
-        self.take_timed(rt, state, &buffer[..entered.count], entered.source);
+        let bytes = &buffer[..entered.count];
+        let (port, watch) = (&mut state.port, &mut state.watch);
+        self.take_timed(rt, port, watch, bytes, entered.source);
         self.take_waiting(rt, state, entered.group);
     }
 
@@ -153,10 +160,10 @@ impl Proxy {
     /// # Errors
     ///
     /// `Socket` where a receive failed.
-    fn work_until_end<R: Wait + Clock>(
-        &self,
+    fn work_until_end<'a, R: Wait + Clock>(
+        &'a self,
         rt: &R,
-        socket: &Socket,
+        socket: &'a Socket,
         buffer: &mut [u8],
     ) -> Result<(), DaemonFault>
         ensures { IfErr result IsSystemFault }
