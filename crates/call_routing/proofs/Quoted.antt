@@ -52,6 +52,13 @@ via_is (Some (line, behind)) value e = (behind, ap (λ (x : List ℕ). Some (x, 
 via_there : (o : Option (List ℕ × List ℕ)) (value behind : List ℕ) → o ≡ Some (codes "Via: " ++ value, behind) → via_of_line o ≡ Some value
 via_there o value behind e = ap via_of_line e
 
+abbrev said : List ℕ → BranchName → Option (List ℕ × BranchName)
+said method branch = Some (method, branch)
+
+none_some : {X : Type 0} (o : Option X) (x : X) → None ≡ o → o ≡ Some x → ⊥
+none_some None x a b = absurd cc
+none_some (Some y) x a b = absurd cc
+
 module _ (own : Own) (text start headers : List ℕ) (first : Some (start, headers) ≡ line_at text) where
   method_of : (method : List ℕ) (branch : BranchName) → IsQuoted own text method branch → method_in start ≡ Some method
   method_of method branch q =
@@ -64,14 +71,10 @@ module _ (own : Own) (text start headers : List ℕ) (first : Some (start, heade
       ap via_in same ∙ via_there (line_at q.headers) q.value q.behind q.via_line
 
   pub no_method : None ≡ method_in start → (method : List ℕ) (branch : BranchName) → IsQuoted own text method branch → ⊥
-  no_method none method branch q =
-      let both : None ≡ Some method = none ∙ method_of method branch q in
-      absurd cc
+  no_method none method branch q = none_some (method_in start) method none (method_of method branch q)
 
   pub no_via : None ≡ via_in headers → (method : List ℕ) (branch : BranchName) → IsQuoted own text method branch → ⊥
-  no_via none method branch q =
-      let both : None ≡ Some q.value = none ∙ value_of method branch q in
-      absurd cc
+  no_via none method branch q = none_some (via_in headers) q.value none (value_of method branch q)
 
   module _ (value : List ℕ) (via : Some value ≡ via_in headers) where
     put : (method : List ℕ) (branch : BranchName) → IsQuoted own text method branch → IsOwnBranch own value branch
@@ -101,13 +104,11 @@ module _ (own : Own) (text start headers : List ℕ) (first : Some (start, heade
           }
 
       pub only_quoted : ((b : BranchName) → IsBranch b → IsOwnBranch own value b → Some branch ≡ Some b) → (other : List ℕ) (b : BranchName) → IsBranch b → IsQuoted own text other b
-          → Some (method, branch) ≡ Some (other, b)
-      only_quoted only other b is q =
+          → said method branch ≡ said other b
+      only_quoted only other b sound q =
           let methods : method ≡ other = same_Some _ _ (named ∙ method_of other b q) in
-          let branches : branch ≡ b = same_Some _ _ (only b is (put other b q)) in
-          ap (λ (x : List ℕ). Some (x, branch)) methods ∙ ap (λ (x : BranchName). Some (other, x)) branches
+          let branches : branch ≡ b = same_Some _ _ (only b sound (put other b q)) in
+          ap (λ (x : List ℕ). said x branch) methods ∙ ap (λ (x : BranchName). said other x) branches
 
 pub no_lines : (own : Own) (text : List ℕ) → None ≡ line_at text → (method : List ℕ) (branch : BranchName) → IsQuoted own text method branch → ⊥
-no_lines own text none method branch q =
-    let both : None ≡ Some (q.start, q.headers) = none ∙ q.start_line in
-    absurd cc
+no_lines own text none method branch q = none_some (line_at text) (q.start, q.headers) none q.start_line

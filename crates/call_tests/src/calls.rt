@@ -5,9 +5,7 @@ use crate::recipients::{
 };
 use crate::requests::{OWN, SOURCE, setup_of, text_of};
 use call_routing::is_openable;
-use fork_call::{
-    Call, Cause, Datagram, PendingCall, Setup, Step, TakeFault, Taken, read_quoted,
-};
+use fork_call::{Call, Cause, Datagram, PendingCall, Setup, Step, TakeFault, Taken, read_quoted};
 use sip_uri::Hop;
 use std::alloc::Global;
 use std::process::Abort;
@@ -400,8 +398,16 @@ const FINDING: &[Moment] = &[
         ),
         "the caller cancels",
     ),
-    (600, Turn::Sends(&[Cause::CancelOk]), "the 200 to the CANCEL"),
-    (600, Turn::Finds(Cause::Cancel(0)), "the CANCEL of the first"),
+    (
+        600,
+        Turn::Sends(&[Cause::CancelOk]),
+        "the 200 to the CANCEL",
+    ),
+    (
+        600,
+        Turn::Finds(Cause::Cancel(0)),
+        "the CANCEL of the first",
+    ),
     (
         600,
         Turn::Quotes(SENT_CANCEL, FIRST, FIRST_HOP, Some(Cause::Cancel(0))),
@@ -483,12 +489,7 @@ const FORGED: &[Moment] = &[
     ),
     (
         0,
-        Turn::Quotes(
-            b"OPTIONS sip:bob@192.0.2.4 SIP/2.0",
-            FIRST,
-            FIRST_HOP,
-            None,
-        ),
+        Turn::Quotes(b"OPTIONS sip:bob@192.0.2.4 SIP/2.0", FIRST, FIRST_HOP, None),
         "another method",
     ),
     (

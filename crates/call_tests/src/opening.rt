@@ -502,7 +502,10 @@ fn a_service_sends_itself_nothing_by_a_route(rt: HostRuntime) {
 fn add_routes(text: &mut Vec<u8>, count: u32) -> bool {
     let mut well = true;
     for _ in 0..count {
-        well = well && text.extend_from_slice(b"Route: <sip:192.0.2.9;lr>\r\n").is_ok();
+        well = well
+            && text
+                .extend_from_slice(b"Route: <sip:192.0.2.9;lr>\r\n")
+                .is_ok();
     }
     well
 }

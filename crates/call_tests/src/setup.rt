@@ -570,7 +570,11 @@ fn a_setup_is_for_a_service_where_that_is_said(rt: HostRuntime) {
     match setup_of_lines(rt.alloc()) {
         Some(setup) => {
             holds(&rt, !setup.is_for_a_service(), "as it is read");
-            holds(&rt, setup.for_a_service().is_for_a_service(), "as it is said");
+            holds(
+                &rt,
+                setup.for_a_service().is_for_a_service(),
+                "as it is said",
+            );
         }
         None => holds(&rt, false, "four lines are a setup"),
     }

@@ -103,8 +103,7 @@ still_at locations places found e = subst (λ (ls : List Location). AreAt locati
 pub first_located : (locations : List Location) (place : ℕ) (places : List ℕ) → AreAt locations (place ∷ places) (located locations (place ∷ places))
     → (first : Location) × (slice_get locations place ≡ Some first) × (located locations (place ∷ places) ≡ first ∷ located locations places) × AreAt locations places (located locations places)
 first_located locations place places e =
-    let s = some_only locations (slice_get locations place) (map (slice_get locations) places) (located locations (place ∷ places)) e in
-    (
+    let s = some_only locations (slice_get locations place) (map (slice_get locations) places) (located locations (place ∷ places)) e in (
       s.0,
       s.3,
       ap (λ (o : Option Location). cons_option o (located locations places)) s.3,

@@ -1,6 +1,6 @@
 -- The Route values that lead to the proxy itself, taken away one by one.
-use Rattle.proxy_routing.proofs.Common.{◌≡◌, ◌∙◌, Bool, true, false, List, ℕ, zero, suc, Option, Some, None, refl, sym, subst, arith, ap, MessageText, Own, ◌&&◌}
-use Rattle.std.proofs.Common.{◌+◌, ◌≤◌, [], ◌∷◌, ◌++◌, cond, drop, eqb, length, map, option_map}
+use Rattle.proxy_routing.proofs.Common.{◌≡◌, ◌∙◌, Bool, true, false, List, ℕ, zero, suc, Option, Some, refl, sym, subst, arith, ap, MessageText, Own, ◌&&◌}
+use Rattle.std.proofs.Common.{None, ◌+◌, ◌≤◌, [], ◌∷◌, ◌++◌, cond, drop, eqb, length, map, option_map}
 use Rattle.std.proofs.lemmas.Bool.{cond-false, cond-true, false≢true}
 use Rattle.std.proofs.lemmas.List.{drop-drop, length-map}
 use Rattle.std.specs.List.{flat_map, onto_first}
@@ -104,7 +104,7 @@ kept_all f h m own = kept_times f h (length (route_values m)) m own
 
 pub kept : {X : Type 0} (f : MessageText → X) → ((m : MessageText) (own : Own) → f (stripped m own) ≡ f m) → (setup : Setup) (m : MessageText) → f (without_own_routes setup m) ≡ f m
 kept f h setup m =
-    elim setup.for_service as (λ b. f (cond b (stripped_all m setup.own) (stripped m setup.own)) ≡ f m) [
+    elim (setup.for_service) as (λ b. f (cond b (stripped_all m setup.own) (stripped m setup.own)) ≡ f m) [
       | true ↦ kept_all f h m setup.own
       | false ↦ h m setup.own
     ]
@@ -114,7 +114,7 @@ kept f h setup m =
 without_drop : (own : Own) (values : List (List ℕ)) → (n : ℕ) × (map trim (without_own own values) ≡ drop n (map trim values))
 without_drop own [] = (0, refl)
 without_drop own (v ∷ vs) =
-    elim names_own own v as (λ b. (n : ℕ) × (map trim (cond b vs (v ∷ vs)) ≡ drop n (map trim (v ∷ vs)))) [
+    elim (names_own own v) as (λ b. (n : ℕ) × (map trim (cond b vs (v ∷ vs)) ≡ drop n (map trim (v ∷ vs)))) [
       | true ↦ (1, refl)
       | false ↦ (0, refl)
     ]
@@ -128,8 +128,7 @@ routes_times : RoutesLeft → (k : ℕ) (m : MessageText) (own : Own) → (n : �
 routes_times left zero m own = (0, refl)
 routes_times left (suc k) m own =
     let once = routes_once left m own in
-    let more = routes_times left k (stripped m own) own in
-    (
+    let more = routes_times left k (stripped m own) own in (
       once.0 + more.0,
       more.1 ∙ ap (λ (vs : List (List ℕ)). drop more.0 vs) once.1 ∙ drop-drop more.0 once.0 (map trim (route_values m)),
     )
@@ -140,7 +139,7 @@ routes_all left m own = routes_times left (length (route_values m)) m own
 
 pub routes_left : RoutesLeft → (setup : Setup) (m : MessageText) → (n : ℕ) × (map trim (route_values (without_own_routes setup m)) ≡ drop n (map trim (route_values m)))
 routes_left left setup m =
-    elim setup.for_service as (λ b. (n : ℕ) × (map trim (route_values (cond b (stripped_all m setup.own) (stripped m setup.own))) ≡ drop n (map trim (route_values m)))) [
+    elim (setup.for_service) as (λ b. (n : ℕ) × (map trim (route_values (cond b (stripped_all m setup.own) (stripped m setup.own))) ≡ drop n (map trim (route_values m)))) [
       | true ↦ routes_all left m setup.own
       | false ↦ routes_once left m setup.own
     ]
@@ -153,14 +152,15 @@ none_left own (v ∷ vs) few = absurd (omega arith)
 
 first_times : RoutesLeft → (n : ℕ) (m : MessageText) (own : Own) → length (route_values m) ≤ n → leads_home own (first_route (stripped_times n m own)) ≡ false
 first_times left zero m own few = none_left own (route_values m) few
-first_times left (suc n) m own few = one (leads_home own (first_route m)) refl
+first_times left (suc n) m own few = one (leads_home own (first_route m)) refl (λ within. first_times left n (stripped m own) own within)
   where
-    one : (b : Bool) → leads_home own (first_route m) ≡ b → leads_home own (first_route (stripped_times n (stripped m own) own)) ≡ false
-    one true e =
-        let less = one_less left m own e in
-        let within : length (route_values (stripped m own)) ≤ n = omega (arith, less, few) in
-        first_times left n (stripped m own) own within
-    one false e = ap (λ (x : MessageText). leads_home own (first_route x)) (ap (λ (x : MessageText). stripped_times n x own) (stays m own e) ∙ stays_times n m own e) ∙ e
+    one : (b : Bool) → leads_home own (first_route m) ≡ b
+        → (length (route_values (stripped m own)) ≤ n → leads_home own (first_route (stripped_times n (stripped m own) own)) ≡ false)
+        → leads_home own (first_route (stripped_times n (stripped m own) own)) ≡ false
+    one true e again =
+        let less : length (route_values m) ≡ suc (length (route_values (stripped m own))) = one_less left m own e in
+        again (omega (arith, less, few))
+    one false e again = ap (λ (x : MessageText). leads_home own (first_route x)) (ap (λ (x : MessageText). stripped_times n x own) (stays m own e) ∙ stays_times n m own e) ∙ e
 
 first_all : RoutesLeft → (m : MessageText) (own : Own) → leads_home own (first_route (stripped_all m own)) ≡ false
 unfolding stripped_all

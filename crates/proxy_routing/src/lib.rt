@@ -17,7 +17,6 @@ pub use admission::validate_request;
 pub use checks::asks_extension;
 pub use fault::RequestRejection;
 pub use law::taking_own_routes_keeps_the_rest;
-pub use own_routes::without_own_routes;
 pub use targets::{
     CandidateTarget, candidates, have_hops, hop_by, hop_if_any, is_domain, targets_of,
 };

@@ -35,7 +35,7 @@ fn strip_all<A: Allocator>(message: Message<A>, own: Own) -> Message<A>
 /// The request without the Route values at its front that the proxy takes away before it sends the request on (RFC 3261
 /// section 16.4): a service takes away all that lead to it, so that none of them makes it send the request to itself, and
 /// any other proxy the first alone. It takes no memory.
-pub fn without_own_routes<A: Allocator>(setup: &Setup<A>, message: Message<A>) -> Message<A>
+pub(crate) fn without_own_routes<A: Allocator>(setup: &Setup<A>, message: Message<A>) -> Message<A>
     ensures { result ≡ without_own_routes setup.now message }
 {
     if setup.is_for_a_service() {
