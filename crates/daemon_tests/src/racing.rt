@@ -1,4 +1,7 @@
 //! A service that is told to end while another thread hands it a datagram.
+ghost use denote.Param.Send.{IsSync};
+ghost use Rattle.proxy_service.specs.contracts.service.Service.{the_row as service_row};
+
 use crate::holds::holds;
 use crate::outgoing::Outgoing;
 use crate::played::{PLAIN, service_of};
@@ -26,24 +29,57 @@ const COMES: u64 = 1_000;
 
 const LOOKED: u64 = 5_000;
 
+/// What two threads do with a service.
+trait Raced {
+    /// Hands it a datagram that comes from there.
+    fn hands<R: Wait + Clock, P: Port>(&self, rt: &R, port: &mut P, source: Hop, bytes: &[u8]);
+
+    /// Tells it to end within a minute.
+    fn begins_end(&self);
+
+    /// Looks as the thread that keeps the time does.
+    fn looks<R: Wait>(&self, rt: &R);
+
+    fn has_ended(&self) -> bool;
+}
+
+impl Raced for Service {
+    fn hands<R: Wait + Clock, P: Port>(&self, rt: &R, port: &mut P, source: Hop, bytes: &[u8]) {
+        let received = Received {
+            bytes,
+            source,
+            now: COMES,
+        };
+        self.take(rt, port, received);
+    }
+
+    fn begins_end(&self) {
+        self.drain(COMES, 60);
+    }
+
+    fn looks<R: Wait>(&self, rt: &R) {
+        self.next_look(rt, LOOKED);
+    }
+
+    fn has_ended(&self) -> bool {
+        self.is_in(State::Ended)
+    }
+}
+
 /// A port that notes whether the service had ended before a datagram was sent.
 #[derive(Drop)]
-struct Noting<'a> {
-    service: &'a Service,
-    /// How many datagrams of the call were sent, and how many of them behind the end.
-    sent: u32,
+struct Noting<'a, S> {
+    service: &'a S,
+    /// How many datagrams were sent behind the end, but for a 503.
     late: u32,
 }
 
-impl Port for Noting<'_> {
+impl<S: Raced> Port for Noting<'_, S> {
     ghost count = { λ _. 0 };
 
     fn send<A: Allocator>(&mut self, datagram: &Datagram<A>) -> bool {
-        if !datagram.bytes.starts_with(b"SIP/2.0 503 ") {
-            self.sent = self.sent.saturating_add(1);
-            if self.service.is_in(State::Ended) {
-                self.late = self.late.saturating_add(1);
-            }
+        if self.service.has_ended() && !datagram.bytes.starts_with(b"SIP/2.0 503 ") {
+            self.late = self.late.saturating_add(1);
         }
         true
     }
@@ -54,36 +90,56 @@ impl Port for Noting<'_> {
 }
 
 /// Hands a datagram to a service, says so once that is done, and answers how many datagrams were sent behind the end.
-fn late_sends<R: Wait + Clock>(
+fn late_sends<S: Raced, R: Wait + Clock>(
     rt: &R,
-    service: &Service,
+    service: &S,
     source: Hop,
     bytes: &[u8],
     is_done: &AtomicBool,
 ) -> u32 {
-    let mut port = Noting {
-        service,
-        sent: 0,
-        late: 0,
-    };
-    let received = Received {
-        bytes,
-        source,
-        now: COMES,
-    };
-    service.take(rt, &mut port, received);
+    let mut port = Noting { service, late: 0 };
+    service.hands(rt, &mut port, source, bytes);
     is_done.store(true, Ordering::SeqCst);
     port.late
 }
 
-/// Looks as the thread that keeps the time does, until the service has ended or all is done.
-fn looks<R: Wait>(rt: &R, service: &Service, is_done: &AtomicBool) {
+/// Tells a service to end, and looks as the thread that keeps the time does, until it has ended or all is done.
+fn ends<S: Raced, R: Wait>(rt: &R, service: &S, is_done: &AtomicBool) {
+    service.begins_end();
     for _ in 0..LOOKS {
-        service.next_look(rt, LOOKED);
-        if is_done.load(Ordering::SeqCst) || service.is_in(State::Ended) {
+        service.looks(rt);
+        if is_done.load(Ordering::SeqCst) || service.has_ended() {
             return;
         }
     }
+}
+
+/// How many datagrams are sent behind the end of a service that is told to end while a datagram comes.
+fn late_at_once<S: Raced + Sync, R: Threads + Wait + Clock + Sync>(
+    rt: &R,
+    service: &S,
+    source: Hop,
+    bytes: &[u8],
+) -> u32 {
+    let is_done = AtomicBool::new(false);
+    let (late, ()) = join(
+        rt,
+        || late_sends(rt, service, source, bytes, &is_done),
+        || ends(rt, service, &is_done),
+    );
+    late
+}
+
+/// That threads may share this.
+fn is_shared<T: Sync>(_: &T)
+    ensures { IsSync T.row }
+{}
+
+/// That threads may share a service.
+fn service_is_shared(service: &Service)
+    ensures { IsSync service_row }
+{
+    is_shared(service);
 }
 
 /// The answer of bob's telephone to the INVITE that it was sent.
@@ -109,37 +165,20 @@ fn opened<R: Wait + Clock>(rt: &R, alloc: Global, service: &Service) -> Option<V
     answer_of(alloc, &outgoing)
 }
 
-/// How many datagrams are sent behind the end of a service that drains, where its last call is answered while it looks.
+/// How many datagrams are sent behind the end of a service that is told to end while its last call is answered.
 fn late_answers<R: Threads + Wait + Clock + Sync>(rt: &R, alloc: Global) -> Option<u32> {
     let service = service_of(alloc, CONFIGURATION, PLAIN)?;
     let answer = opened(rt, alloc, &service)?;
-    service.drain(0, 60);
-    let is_done = AtomicBool::new(false);
-    let (late, ()) = join(
-        rt,
-        || late_sends(rt, &service, BOB, answer.as_slice(), &is_done),
-        || looks(rt, &service, &is_done),
-    );
-    Some(late)
+    service_is_shared(&service);
+    Some(late_at_once(rt, &service, BOB, answer.as_slice()))
 }
 
-/// Tells a service to end, and looks as the thread that keeps the time does.
-fn drains<R: Wait>(rt: &R, service: &Service, is_done: &AtomicBool) {
-    service.drain(COMES, 60);
-    looks(rt, service, is_done);
-}
-
-/// How many datagrams are sent behind the end of a service that is told to end while an INVITE comes.
+/// The same while an INVITE comes.
 fn late_requests<R: Threads + Wait + Clock + Sync>(rt: &R, alloc: Global) -> Option<u32> {
     let service = service_of(alloc, CONFIGURATION, PLAIN)?;
     let request = request_text(alloc, &INVITE, "").ok()?;
-    let is_done = AtomicBool::new(false);
-    let (late, ()) = join(
-        rt,
-        || late_sends(rt, &service, CALLER, request.as_bytes(), &is_done),
-        || drains(rt, &service, &is_done),
-    );
-    Some(late)
+    service_is_shared(&service);
+    Some(late_at_once(rt, &service, CALLER, request.as_bytes()))
 }
 
 #[test]
