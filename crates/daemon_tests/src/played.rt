@@ -437,10 +437,7 @@ fn number_at(text: &[u8]) -> Option<(u64, &[u8])> {
 
 /// Where the second block of these begins.
 fn block_end(blocks: &[u8]) -> usize {
-    match blocks
-        .windows(6)
-        .position(|part| part == b"\ncall ".as_slice())
-    {
+    match place_of(blocks, b"\ncall ") {
         Some(place) => place.saturating_add(1).min(blocks.len()),
         None => blocks.len(),
     }

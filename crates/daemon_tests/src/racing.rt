@@ -154,8 +154,8 @@ fn answer_of(alloc: Global, outgoing: &Outgoing) -> Option<Vec<u8>> {
 
 /// Opens a call to bob, and answers what his telephone would answer.
 fn opened<R: Wait + Clock>(rt: &R, alloc: Global, service: &Service) -> Option<Vec<u8>> {
-    let mut outgoing = Outgoing::new(alloc);
     let request = request_text(alloc, &INVITE, "").ok()?;
+    let mut outgoing = Outgoing::new(alloc);
     let received = Received {
         bytes: request.as_bytes(),
         source: CALLER,

@@ -1,4 +1,5 @@
 //! What a proxy is told at its control socket, and what its counters are.
+use crate::texts::{behind, has};
 use fork_control::tell;
 use std::alloc::Global;
 use std::net::Net;
@@ -37,9 +38,7 @@ pub fn tells<R: Net + Clock>(
 
 /// Whether a line stands in a text.
 pub fn has_line(text: &[u8], line: &str) -> bool {
-    let line = line.as_bytes();
-    let len = line.len();
-    len > 0 && text.windows(len).any(|part| part == line)
+    has(text, line.as_bytes())
 }
 
 /// Whether the counters come to have this line.
@@ -74,11 +73,5 @@ fn number_in(text: &[u8]) -> Option<u64> {
 
 /// The value behind this name in a text of counters.
 pub fn value_in(text: &[u8], name: &str) -> Option<u64> {
-    let name = name.as_bytes();
-    let len = name.len();
-    if len == 0 {
-        return None;
-    }
-    let place = text.windows(len).position(|part| part == name)?;
-    number_in(text.get(place.saturating_add(len)..)?)
+    number_in(behind(text, name.as_bytes())?)
 }

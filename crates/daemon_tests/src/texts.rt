@@ -114,19 +114,28 @@ pub fn answer_text(alloc: Global, line: &str, request: &[u8]) -> Option<Vec<u8>>
     Some(answer)
 }
 
-/// What stands behind the URI of To in an answer.
-pub fn tag_of(alloc: Global, answer: &[u8]) -> Option<String> {
-    let to = b"\r\nTo: <sip:bob@example.com>";
-    let place = answer
-        .windows(to.len())
-        .position(|part| part == to.as_slice())?;
-    let behind = answer.get(place.saturating_add(to.len())..)?;
-    let (tag, _) = cut_at(behind, b'\r');
-    String::from_utf8(Vec::from_slice(alloc, tag).ok()?).ok()
+/// Where a text stands first in another one.
+pub fn place_of(text: &[u8], part: &[u8]) -> Option<usize> {
+    let len = part.len();
+    if len == 0 {
+        return None;
+    }
+    text.windows(len).position(|window| window == part)
 }
 
 /// Whether a text stands in another one.
 pub fn has(text: &[u8], part: &[u8]) -> bool {
-    let len = part.len();
-    len > 0 && text.windows(len).any(|window| window == part)
+    place_of(text, part).is_some()
+}
+
+/// What stands behind a text in another one.
+pub fn behind<'a>(text: &'a [u8], part: &[u8]) -> Option<&'a [u8]> {
+    let place = place_of(text, part)?;
+    text.get(place.saturating_add(part.len())..)
+}
+
+/// What stands behind the URI of To in an answer.
+pub fn tag_of(alloc: Global, answer: &[u8]) -> Option<String> {
+    let (tag, _) = cut_at(behind(answer, b"\r\nTo: <sip:bob@example.com>")?, b'\r');
+    String::from_utf8(Vec::from_slice(alloc, tag).ok()?).ok()
 }
