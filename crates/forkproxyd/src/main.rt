@@ -101,8 +101,9 @@ fn with_limits<'a>(alloc: Global, command: Command<'a>) -> Result<Command<'a>, A
         .long("most-calls")
         .value_name("N")
         .value_parser(value_parser!(u64))
-        .default_value("1000000")
-        .help("how many calls are kept at most");
+        .help(
+            "how many calls are kept at most, and a tenth more for requests within dialogs: as many as half of the memory holds, if left out",
+        );
     let workers = Arg::new(alloc, "workers")
         .long("workers")
         .value_name("N")
@@ -240,7 +241,6 @@ fn served<R: Threads + Wait + Net + ProxyFiles + PageSockets + Clock + Print + S
         let _ = rt.eprintln("--config FILE and --control PATH are needed; --help tells more");
         return USAGE;
     };
-    let most_calls = matches.get_one::<u64>("most-calls").unwrap_or(1_000_000);
     let workers = match matches.get_one::<u16>("workers") {
         Some(workers) => usize::from(workers),
         None => workers_here(handle),
@@ -249,7 +249,7 @@ fn served<R: Threads + Wait + Net + ProxyFiles + PageSockets + Clock + Print + S
         config,
         control,
         journal: matches.get_str("journal"),
-        most_calls,
+        most_calls: matches.get_one::<u64>("most-calls"),
         workers,
         records: matches.get_flag("record-route"),
         own_port: matches.get_flag("own-port"),
