@@ -124,16 +124,18 @@ fn pause_of<R: Clock>(rt: &R, agents: &Agents, call: &str) -> Option<u64> {
     )
 }
 
-/// Whether an INVITE is sent again half a second behind the first, whichever part of a second has passed then.
+/// Whether an INVITE is sent again half a second behind the first, whichever part of a second has passed then: never before, and not each
+/// time much later.
 fn keeps_milliseconds<R: Clock>(rt: &R, agents: &Agents) -> bool {
+    let mut is_prompt = false;
     for call in ["silent", "mute", "quiet"] {
         match pause_of(rt, agents, call) {
-            Some(pause) if pause >= 400 && pause < 2_400 => {}
+            Some(pause) if pause >= 400 => is_prompt = is_prompt || pause < 800,
             _ => return false,
         }
         thread::sleep(rt, Duration::from_millis(150));
     }
-    true
+    is_prompt
 }
 
 /// Whether what was sent is counted: an ACK for each of two failures; no CANCEL; what is sent again apart from all else.
