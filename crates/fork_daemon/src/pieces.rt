@@ -1,4 +1,5 @@
 //! What is written to the journal at once.
+ghost use Rattle.std.specs.Prelude.{◌≡◌, ◌++◌};
 
 /// How many bytes a pipe takes whole or not at all (`PIPE_BUF` of Linux, pipe(7)).
 const MOST_BYTES: usize = 4_096;
@@ -15,7 +16,9 @@ pub(crate) struct Piece<'a> {
 }
 
 /// The block that a text begins with, and what is behind it.
-fn cut_block(text: &[u8]) -> (&[u8], &[u8]) {
+fn cut_block(text: &[u8]) -> (&[u8], &[u8])
+    ensures { text.now ≡ result.0.now ++ result.1.now }
+{
     let between = text
         .windows(BETWEEN.len())
         .position(|bytes| bytes == BETWEEN);
@@ -28,7 +31,9 @@ fn cut_block(text: &[u8]) -> (&[u8], &[u8]) {
 }
 
 /// The first blocks of a text that a pipe takes whole or not at all: as many as have 4,096 bytes together, and one at least.
-pub(crate) fn first_piece(text: &[u8]) -> Piece<'_> {
+pub(crate) fn first_piece(text: &[u8]) -> Piece<'_>
+    ensures { text.now ≡ result.text.now ++ result.rest.now }
+{
     let (first, mut rest) = cut_block(text);
     let mut len = first.len();
     let mut blocks = 1u64;
