@@ -68,7 +68,9 @@ static int bound(int port)
 {
     int room = 4 << 20, made = socket(AF_INET, SOCK_DGRAM, 0);
     struct sockaddr_in own = at(port);
-    setsockopt(made, SOL_SOCKET, SO_RCVBUF, &room, sizeof room);
+    // (beyond what rmem_max gives, where the program may)
+    if (setsockopt(made, SOL_SOCKET, SO_RCVBUFFORCE, &room, sizeof room))
+        setsockopt(made, SOL_SOCKET, SO_RCVBUF, &room, sizeof room);
     if (bind(made, (struct sockaddr *)&own, sizeof own)) {
         perror("bind");
         exit(5);

@@ -18,6 +18,8 @@ HERE = os.path.dirname(os.path.abspath(__file__))
 TOP = os.path.dirname(os.path.dirname(HERE))
 PROXY = ("127.0.0.1", 5060)
 LANES = 4
+# SO_RCVBUFFORCE, which Python has no name for
+RCVBUFFORCE = 33
 FOLDER = None
 failures = 0
 children = []
@@ -138,30 +140,39 @@ def configuration(instance, others=()):
     return "\n".join([*lines, *others]) + "\n"
 
 
-class Proxy:
-    """A forkproxyd that serves."""
+class NotListening(SystemExit):
+    """A proxy that was started does not listen: it ends the script, unless that expects it."""
 
-    def __init__(self, program, *words, instance=None, others=(), text=None):
-        self.program, self.control, self.journal = program, os.path.join(FOLDER, "control"), os.path.join(FOLDER, "journal")
-        config = os.path.join(FOLDER, "configuration")
+
+class Proxy:
+    """A forkproxyd that serves. Where several serve at once each has a name. `how` goes on to the start of the process."""
+
+    def __init__(self, program, *words, instance=None, others=(), text=None, name="", **how):
+        self.program, self.control, self.journal = program, os.path.join(FOLDER, "control" + name), os.path.join(FOLDER, "journal" + name)
+        self.config = config = os.path.join(FOLDER, "configuration" + name)
         with open(config, "w") as file:
             file.write(text or configuration(instance or int(time.time()) % 2**31, others))
         # (the journal of a proxy before is not this one's)
         if os.path.exists(self.journal):
             os.remove(self.journal)
         words = [self.journal if word == "JOURNAL" else str(word) for word in words]
-        self.child = started([program, "--config", config, "--control", self.control, *words], stdout=subprocess.PIPE, stderr=subprocess.STDOUT, text=True)
+        self.child = started([program, "--config", config, "--control", self.control, *words], **{"stdout": subprocess.PIPE, "stderr": subprocess.STDOUT, "text": True, **how})
         self.pid = self.child.pid
-        if not select.select([self.child.stdout], [], [], 10)[0]:
-            sys.exit("the proxy does not listen")
-        first = self.child.stdout.readline()
-        if not first.startswith("listening"):
-            sys.exit("the proxy does not listen: " + first + self.child.stdout.read())
+        if self.child.stdout:
+            self.hear_listening(self.child.stdout)
 
-    def tell(self, line):
-        """What comes back for a line over the control socket."""
+    def hear_listening(self, printed):
+        """Waits until it says that it listens."""
+        if not select.select([printed], [], [], 10)[0]:
+            raise NotListening("the proxy does not listen")
+        first = printed.readline()
+        if not first.startswith("listening"):
+            raise NotListening("the proxy does not listen: " + first + printed.read())
+
+    def tell(self, line, limit=60):
+        """What comes back for a line over the control socket, each part of it within so many seconds."""
         with socket.socket(socket.AF_UNIX) as way:
-            way.settimeout(60)
+            way.settimeout(limit)
             way.connect(self.control)
             way.sendall(line.encode() + b"\n")
             parts = []
@@ -215,6 +226,35 @@ class Relay:
     def stop(self):
         self.child.kill()
         self.child.wait()
+
+
+# ---- messages
+
+def opened(port, host=PROXY[0]):
+    """A socket of a caller's or of a telephone's, with room for what comes while the script does other things."""
+    made = socket.socket(socket.AF_INET, socket.SOCK_DGRAM)
+    with_room(made)
+    made.bind((host, port))
+    return made
+
+
+def with_room(way):
+    """Asks for 4 MB of room, beyond what `rmem_max` gives where the script may."""
+    try:
+        way.setsockopt(socket.SOL_SOCKET, RCVBUFFORCE, 4 << 20)
+    except OSError:
+        way.setsockopt(socket.SOL_SOCKET, socket.SO_RCVBUF, 4 << 20)
+
+
+def lines(text, name):
+    return [line for line in text.split("\r\n") if line.startswith(name + ":")]
+
+
+def answer(text, status, reason, tag, contact="sip:t@127.0.0.1"):
+    """The answer to a request, with these bytes and no body."""
+    to = lines(text, "To")[0]
+    kept = [*lines(text, "Via"), *lines(text, "Record-Route"), *lines(text, "From"), to if ";tag=" in to else f"{to};tag={tag}", *lines(text, "Call-ID"), *lines(text, "CSeq")]
+    return "\r\n".join([f"SIP/2.0 {status} {reason}", *kept, f"Contact: <{contact}>", "Content-Length: 0", "", ""]).encode()
 
 
 # ---- calls
