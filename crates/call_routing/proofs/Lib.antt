@@ -4,3 +4,4 @@ pub mod Placed
 pub mod Opened
 pub mod Distinct
 pub mod laws
+pub mod Quoted

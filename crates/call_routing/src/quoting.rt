@@ -1,10 +1,9 @@
 //! Requests of a call that could not be delivered.
-ghost use Rattle.std.specs.Prelude.{◌≡◌, ◌≢◌, ◌++◌, ℕ, codes, List, None, Some, IfNone, IfSome, if◌then◌else◌};
-ghost use Rattle.std.specs.Option.{option_map};
-ghost use Rattle.sip_lex.specs.Cut.{cut, is};
-ghost use Rattle.sip_lex.specs.Line.{line_at};
+ghost use Rattle.std.specs.Prelude.{◌≡◌, ℕ, List, None, Some, IfSome, if◌then◌else◌};
+ghost use Rattle.std.specs.Option.{option_copied, option_map};
 ghost use Rattle.sip_via.specs.declared.branch.BranchName.{BranchName};
 ghost use Rattle.sip_via.specs.BranchText.{IsBranch};
+ghost use Rattle.call_routing.specs.inner.Quoting.{behind_front, method_in, via_in};
 ghost use Rattle.call_routing.specs.Quoting.{IsQuoted, cause_by, is_branch_of, is_past_ack, is_sent_to, quoted_cause, seen_quoted};
 
 use crate::matching::opening_method;
@@ -26,8 +25,7 @@ pub struct QuotedRequest<'a> {
 
 /// The method that a start line begins with, where a space stands behind it.
 fn method_in(start: &[u8]) -> Option<&[u8]>
-    ensures some { IfSome result (λ method. (target : List ℕ) × (cut (is 32) start.now ≡ (method.now, Some target))) }
-    ensures none { IfNone result ((method target : List ℕ) → cut (is 32) start.now ≢ (method, Some target)) }
+    ensures { option_copied result ≡ method_in start.now }
 {
     match cut_at(start, b' ') {
         (_, None) => None,
@@ -36,22 +34,20 @@ fn method_in(start: &[u8]) -> Option<&[u8]>
 }
 
 /// What stands behind a text at the front of a line.
-fn behind<'a>(line: &'a [u8], front: &[u8]) -> Option<&'a [u8]>
-    ensures some { IfSome result (λ rest. line.now ≡ front.now ++ rest.now) }
-    ensures none { IfNone result ((rest : List ℕ) → line.now ≢ front.now ++ rest) }
+fn behind_front<'a>(line: &'a [u8], front: &[u8]) -> Option<&'a [u8]>
+    ensures { option_copied result ≡ behind_front front.now line.now }
 {
     line.strip_prefix(front)
 }
 
 /// The value of the Via line that a text begins with.
 fn via_in(text: &[u8]) -> Option<&[u8]>
-    ensures some { IfSome result
-        (λ value. (rest : List ℕ) × (line_at text.now ≡ Some (codes "Via: " ++ value.now, rest))) }
-    ensures none { IfNone result
-        ((value rest : List ℕ) → line_at text.now ≢ Some (codes "Via: " ++ value, rest)) }
+    ensures { option_copied result ≡ via_in text.now }
 {
-    let (line, _) = first_line(text)?;
-    behind(line, b"Via: ")
+    match first_line(text) {
+        None => None,
+        Some((line, _)) => behind_front(line, b"Via: "),
+    }
 }
 
 /// The request that a text is the front of, as ICMP quotes it of a datagram that could not be delivered (RFC 3261 section
@@ -67,9 +63,10 @@ pub fn read_quoted(text: &[u8], own: Own) -> Option<QuotedRequest<'_>>
     ensures only { (method : List ℕ) (branch : BranchName) → IsBranch branch → IsQuoted own text.now method branch
         → option_map seen_quoted result ≡ Some (method, branch) }
 {
-    let (start, rest) = first_line(text)?;
-    let method = method_in(start)?;
-    let branch = own_branch_of(via_in(rest)?, own)?;
+    let lines = first_line(text)?;
+    let method = method_in(lines.0)?;
+    let value = via_in(lines.1)?;
+    let branch = own_branch_of(value, own)?;
     Some(QuotedRequest { method, branch })
 }
 

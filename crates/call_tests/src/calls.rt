@@ -3,9 +3,10 @@ use crate::holds::holds;
 use crate::recipients::{
     CALLER, CANCELLING, FIRST, INVITE, INVITING, NO_VIA, OKAY, RINGING, SECOND, SETUP, message_of,
 };
-use crate::requests::{SOURCE, setup_of};
+use crate::requests::{OWN, SOURCE, setup_of, text_of};
 use call_routing::is_openable;
-use fork_call::{Call, Cause, Datagram, PendingCall, Setup, Step, TakeFault, Taken};
+use fork_call::{Call, Cause, Datagram, PendingCall, Setup, Step, TakeFault, Taken, read_quoted};
+use sip_uri::Hop;
 use std::alloc::Global;
 use std::process::Abort;
 
@@ -88,6 +89,44 @@ fn is_idle(call: &mut Call, now: u64) -> bool {
     }
 }
 
+// ---- which of them could not be delivered
+
+/// How much of a datagram is quoted: its first two lines, and not its third.
+const QUOTED: usize = 150;
+
+/// The front of a datagram.
+fn front_of(bytes: &[u8]) -> &[u8] {
+    if bytes.len() > QUOTED {
+        &bytes[..QUOTED]
+    } else {
+        bytes
+    }
+}
+
+/// The cause of the datagram of a call whose front this is, and which went there.
+fn quoted(call: &Call, text: &[u8], to: Hop) -> Option<Cause> {
+    let request = read_quoted(text, OWN)?;
+    call.quoted_cause(&request, to)
+}
+
+/// Whether the next datagram has this cause, and its front tells it.
+fn is_found(call: &mut Call, now: u64, cause: Cause) -> bool {
+    match next_sent(call, now) {
+        Some(sent) => {
+            sent.cause == cause && quoted(call, front_of(&sent.bytes), sent.to) == Some(cause)
+        }
+        None => false,
+    }
+}
+
+/// The cause of the datagram of a call that begins with these two lines, and which went there.
+fn quoted_by(alloc: Global, call: &Call, start: &[u8], via: &[u8], to: Hop) -> Option<Cause> {
+    match text_of(alloc, &[start, via]) {
+        Some(text) => quoted(call, &text, to),
+        None => None,
+    }
+}
+
 // ---- a history
 
 /// What a call does, or what happens to it, and what comes of it.
@@ -105,6 +144,10 @@ enum Turn {
     Takes(&'static [u8], (&'static [u8], &'static [u8]), &'static [u8], Result<Taken, TakeFault>),
     /// A datagram of this cause could not be sent.
     Fails(Cause),
+    /// It sends for this cause, and the front of the datagram tells which it is.
+    Finds(Cause),
+    /// A start line and a Via line, quoted of a datagram that went there, are those of this cause.
+    Quotes(&'static [u8], &'static [u8], Hop, Option<Cause>),
     /// So many events were posted.
     HasPosted(usize),
     /// It is not over.
@@ -141,6 +184,8 @@ fn goes(alloc: Global, call: &mut Call, now: u64, turn: Turn) -> bool {
             takes(alloc, call, now, start, vias, cseq, wanted)
         }
         Turn::Fails(cause) => call.failed(cause, now).is_ok(),
+        Turn::Finds(cause) => is_found(call, now, cause),
+        Turn::Quotes(start, via, to, wanted) => quoted_by(alloc, call, start, via, to) == wanted,
         Turn::HasPosted(count) => call.book().history().len() == count,
         Turn::GoesOn => !call.over(),
     }
@@ -294,5 +339,221 @@ fn a_prepared_call_is_the_one_that_opens(rt: HostRuntime) {
             );
         }
         None => holds(&rt, false, "both open"),
+    }
+}
+
+// ---- datagrams that could not be delivered
+
+/// Where the first location is.
+const FIRST_HOP: Hop = Hop {
+    addr: [192, 0, 2, 4],
+    port: 5060,
+};
+
+/// Where the second is.
+const SECOND_HOP: Hop = Hop {
+    addr: [192, 0, 2, 5],
+    port: 5060,
+};
+
+/// Another port of the first.
+const OTHER_PORT: Hop = Hop {
+    addr: [192, 0, 2, 4],
+    port: 5061,
+};
+
+const BUSY: &[u8] = b"SIP/2.0 486 Busy Here";
+
+/// The INVITE as it goes to the first location.
+const SENT_INVITE: &[u8] = b"INVITE sip:bob@192.0.2.4 SIP/2.0";
+
+const SENT_CANCEL: &[u8] = b"CANCEL sip:bob@192.0.2.4 SIP/2.0";
+
+const SENT_ACK: &[u8] = b"ACK sip:bob@192.0.2.4 SIP/2.0";
+
+const FINDING: &[Moment] = &[
+    (0, Turn::Sends(&[Cause::Answer]), "the 100"),
+    (0, Turn::Finds(Cause::Request(0)), "the first request"),
+    (0, Turn::Finds(Cause::Request(1)), "the second request"),
+    (500, Turn::Finds(Cause::Request(0)), "the first one again"),
+    (
+        600,
+        Turn::Takes(RINGING, (FIRST, CALLER), INVITING, Ok(Taken::Posted(0))),
+        "the first rings",
+    ),
+    (600, Turn::Sends(&[Cause::Answer]), "that goes up"),
+    (
+        600,
+        Turn::Takes(BUSY, (SECOND, CALLER), INVITING, Ok(Taken::Posted(1))),
+        "the second is busy",
+    ),
+    (600, Turn::Finds(Cause::Ack(1)), "the ACK for that"),
+    (
+        600,
+        Turn::Takes(
+            b"CANCEL sip:bob@example.com SIP/2.0",
+            (CALLER, NO_VIA),
+            CANCELLING,
+            Ok(Taken::Posted(2)),
+        ),
+        "the caller cancels",
+    ),
+    (
+        600,
+        Turn::Sends(&[Cause::CancelOk]),
+        "the 200 to the CANCEL",
+    ),
+    (
+        600,
+        Turn::Finds(Cause::Cancel(0)),
+        "the CANCEL of the first",
+    ),
+    (
+        600,
+        Turn::Quotes(SENT_CANCEL, FIRST, FIRST_HOP, Some(Cause::Cancel(0))),
+        "the CANCEL by its lines",
+    ),
+];
+
+#[test]
+fn what_could_not_be_delivered_is_found_by_its_front(rt: HostRuntime) {
+    check(&rt, rt.alloc(), FINDING);
+}
+
+const FORGED: &[Moment] = &[
+    (
+        0,
+        Turn::Quotes(SENT_INVITE, FIRST, FIRST_HOP, None),
+        "nothing was sent",
+    ),
+    (0, Turn::Sends(FIRST_SENT), "the 100 and the requests"),
+    (
+        0,
+        Turn::Quotes(SENT_INVITE, FIRST, FIRST_HOP, Some(Cause::Request(0))),
+        "the first request",
+    ),
+    (
+        0,
+        Turn::Quotes(SENT_INVITE, SECOND, SECOND_HOP, Some(Cause::Request(1))),
+        "the second request",
+    ),
+    (
+        0,
+        Turn::Quotes(SENT_INVITE, FIRST, SECOND_HOP, None),
+        "the hop of another target",
+    ),
+    (
+        0,
+        Turn::Quotes(SENT_INVITE, FIRST, OTHER_PORT, None),
+        "another port",
+    ),
+    (
+        0,
+        Turn::Quotes(
+            SENT_INVITE,
+            b"Via: SIP/2.0/UDP 192.0.2.9:5060;branch=z9hG4bK8c31e71e0ddbf1a0e56f5f0279990858.7.3.0",
+            FIRST_HOP,
+            None,
+        ),
+        "another loop key",
+    ),
+    (
+        0,
+        Turn::Quotes(
+            SENT_INVITE,
+            b"Via: SIP/2.0/UDP 192.0.2.9:5060;branch=z9hG4bK8c31e71e0ddbf1a0e56f5f0279990857.8.3.0",
+            FIRST_HOP,
+            None,
+        ),
+        "another run of the proxy",
+    ),
+    (
+        0,
+        Turn::Quotes(SENT_INVITE, OTHER, FIRST_HOP, None),
+        "another call",
+    ),
+    (
+        0,
+        Turn::Quotes(
+            SENT_INVITE,
+            b"Via: SIP/2.0/UDP 192.0.2.9:5060;branch=z9hG4bK8c31e71e0ddbf1a0e56f5f0279990857.7.3.2",
+            FIRST_HOP,
+            None,
+        ),
+        "a target that there is not",
+    ),
+    (
+        0,
+        Turn::Quotes(SENT_INVITE, CALLER, FIRST_HOP, None),
+        "the Via line of the caller",
+    ),
+    (
+        0,
+        Turn::Quotes(b"OPTIONS sip:bob@192.0.2.4 SIP/2.0", FIRST, FIRST_HOP, None),
+        "another method",
+    ),
+    (
+        0,
+        Turn::Quotes(SENT_CANCEL, FIRST, FIRST_HOP, None),
+        "no CANCEL was sent",
+    ),
+    (
+        0,
+        Turn::Quotes(SENT_ACK, FIRST, FIRST_HOP, None),
+        "no ACK was sent",
+    ),
+];
+
+#[test]
+fn what_was_not_sent_is_not_found(rt: HostRuntime) {
+    check(&rt, rt.alloc(), FORGED);
+}
+
+/// Texts, and whether the two lines of a request of the proxy stand at their front.
+const FRONTS: [(&[u8], bool); 8] = [
+    (
+        b"BYE sip:a@h SIP/2.0\r\nVia: SIP/2.0/UDP 192.0.2.9:5060;branch=z9hG4bK8c31e71e0ddbf1a0e56f5f0279990857.7.3.0\r\n",
+        true,
+    ),
+    (
+        b"BYE sip:a@h SIP/2.0\r\nVia: SIP/2.0/UDP 192.0.2.9:5060;branch=z9hG4bK8c31e71e0ddbf1a0e56f5f0279990857.7.3.0\r\nv: x",
+        true,
+    ),
+    // the Via line is cut short
+    (
+        b"BYE sip:a@h SIP/2.0\r\nVia: SIP/2.0/UDP 192.0.2.9:5060;branch=z9hG4bK8c31e71e0ddbf1a0e56f5f0279990857.7.3.0",
+        false,
+    ),
+    (b"BYE sip:a@h SIP/2.0\r\n", false),
+    (b"BYE sip:a@h SI", false),
+    (b"", false),
+    // the proxy does not write it so
+    (
+        b"BYE sip:a@h SIP/2.0\r\nv: SIP/2.0/UDP 192.0.2.9:5060;branch=z9hG4bK8c31e71e0ddbf1a0e56f5f0279990857.7.3.0\r\n",
+        false,
+    ),
+    (
+        b"BYE\r\nVia: SIP/2.0/UDP 192.0.2.9:5060;branch=z9hG4bK8c31e71e0ddbf1a0e56f5f0279990857.7.3.0\r\n",
+        false,
+    ),
+];
+
+/// Whether a text is read as the front of a BYE on branch 0 of call 3.
+fn is_read(text: &[u8]) -> bool {
+    match read_quoted(text, OWN) {
+        Some(request) => {
+            request.method == b"BYE".as_slice()
+                && request.branch.instance == 7
+                && request.branch.context == 3
+                && request.branch.target == 0
+        }
+        None => false,
+    }
+}
+
+#[test]
+fn both_lines_have_to_be_there(rt: HostRuntime) {
+    for (text, well) in FRONTS {
+        holds(&rt, is_read(text) == well, "the front of a request");
     }
 }

@@ -1,10 +1,12 @@
 //! Which transaction of a call a message is for.
 use crate::holds::holds;
-use crate::requests::{opened, sent_to, setup_of, text_of};
-use call_routing::{MatchedTransaction, match_transaction};
+use crate::requests::{OWN, opened, sent_to, setup_of, text_of};
+use call_model::Cause;
+use call_routing::{MatchedTransaction, match_transaction, quoted_cause, read_quoted};
 use call_state::CallState;
 use proxy_config::Setup;
 use sip_text::Message;
+use sip_uri::Hop;
 use std::alloc::Global;
 use std::process::Abort;
 
@@ -323,5 +325,52 @@ fn a_stray_response_is_for_no_branch(rt: HostRuntime) {
             "a response that is for no branch",
         ),
         None => holds(&rt, false, "an INVITE opens a call"),
+    }
+}
+
+// ---- requests that could not be delivered
+
+/// The hop of the first branch, whose request was sent.
+fn first_hop(state: &CallState) -> Option<Hop> {
+    if state.is_sent(0) {
+        Some(state.destination(0).hop())
+    } else {
+        None
+    }
+}
+
+/// The cause of the datagram of a call that is quoted so, and went to the first branch.
+fn cause_of(alloc: Global, state: &CallState, start: &[u8], via: &[u8]) -> Option<Cause> {
+    let text = text_of(alloc, &[start, via])?;
+    let quoted = read_quoted(&text, OWN)?;
+    quoted_cause(state, &quoted, first_hop(state)?)
+}
+
+/// Checks what is told of the request, the CANCEL and another call's request.
+fn check_quotes(rt: &impl Abort, alloc: Global, state: &CallState) {
+    holds(
+        rt,
+        cause_of(alloc, state, INVITE, FIRST) == Some(Cause::Request(0)),
+        "the request of the first branch",
+    );
+    holds(
+        rt,
+        cause_of(alloc, state, b"CANCEL sip:bob@192.0.2.4 SIP/2.0", FIRST)
+            == Some(Cause::Cancel(0)),
+        "its CANCEL",
+    );
+    holds(
+        rt,
+        cause_of(alloc, state, INVITE, SECOND).is_none(),
+        "a branch that was not sent",
+    );
+}
+
+#[test]
+fn a_quote_is_of_what_was_sent(rt: HostRuntime) {
+    let alloc = rt.alloc();
+    match cancelled(alloc) {
+        Some(state) => check_quotes(&rt, alloc, &state),
+        None => holds(&rt, false, "a CANCEL is sent"),
     }
 }

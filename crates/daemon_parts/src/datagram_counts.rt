@@ -143,8 +143,6 @@ pub struct DatagramCounts {
     /// Those that the system had no room for, and that it refused to send.
     pub lost: Count,
     pub unsent: Count,
-    /// Those of which the system told that nobody receives them where they were sent to.
-    pub undelivered: Count,
 }
 
 impl DatagramCounts {
@@ -165,7 +163,6 @@ impl DatagramCounts {
             timed: SentCounts::new(),
             lost: Count::new(),
             unsent: Count::new(),
-            undelivered: Count::new(),
         }
     }
 
@@ -192,7 +189,6 @@ impl DatagramCounts {
         let metrics = [
             counter(b"forkproxy_lost_total", &self.lost),
             counter(b"forkproxy_unsent_total", &self.unsent),
-            counter(b"forkproxy_undelivered_total", &self.undelivered),
         ];
         append_metrics(text, &metrics)?;
         self.sent.append(text, b"forkproxy_sent_total")?;

@@ -4,7 +4,6 @@
 
 mod call_counts;
 mod completion;
-mod connected;
 mod control_file;
 mod count;
 mod counts;
@@ -24,7 +23,6 @@ mod socket;
 mod system;
 
 pub use call_counts::{CallCounts, FailedCounts};
-pub use connected::{ConnectedSockets, Heard};
 pub use count::Count;
 pub use counts::{Counts, Gauges};
 pub use datagram_counts::{AnsweredCounts, DatagramCounts, SentCounts};

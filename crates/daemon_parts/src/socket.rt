@@ -2,7 +2,6 @@
 ghost use Rattle.std.specs.Prelude.{◌≤◌, IfErr, IfOk, IfSome, length};
 ghost use Rattle.daemon_parts.specs.Faults.{IsSocketFault};
 
-use crate::connected::share_address;
 use crate::fault::{DaemonFault, socket_fault};
 use libc::net;
 use libc::types::pollfd;
@@ -40,7 +39,7 @@ pub struct Socket {
     udp: UdpSocket,
 }
 
-pub(crate) fn address(hop: Hop) -> SocketAddr {
+fn address(hop: Hop) -> SocketAddr {
     let [a, b, c, d] = hop.addr;
     SocketAddr::V4(SocketAddrV4::new(Ipv4Addr::new(a, b, c, d), hop.port))
 }
@@ -73,8 +72,7 @@ fn set_limits(udp: &UdpSocket) -> io::Result<()> {
 
 impl Socket {
     /// A socket that receives at this address. Each of its calls waits by itself, in one call of the system, and none for longer than a
-    /// second. Another socket of the same user may be bound to the address from then on if it asks for that (see
-    /// [`crate::ConnectedSockets`]); where there is one already this is refused.
+    /// second.
     ///
     /// # Errors
     ///
@@ -90,7 +88,6 @@ impl Socket {
             return Err(socket_fault(error));
         }
         ask_for_room(&udp);
-        let _ = share_address(&udp);
         Ok(Socket { udp })
     }
 

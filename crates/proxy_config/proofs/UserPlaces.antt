@@ -1,19 +1,22 @@
--- The targets of each user, where one more location or key is added.
-use Rattle.proxy_config.proofs.Common.{◌≡◌, ℕ, Bool, true, false, cond, List, [], ◌∷◌, ◌++◌, map, length, Some, None, refl, sym, ap, subst, ◌∙◌, append-nil, list_any, bytes_eq-Decides}
+-- The places of each user's locations, where one more location or place is added.
+use Rattle.proxy_config.proofs.Common.{◌≡◌, ℕ, ◌+◌, Bool, true, false, cond, List, [], ◌∷◌, ◌++◌, map, length, Option, Some, None, refl, sym, ap, subst, ◌∙◌, append-nil, list_any, bytes_eq-Decides, same_Some}
 use Rattle.proxy_config.proofs.Common.{Location, hop_of, is_same, is_some, locations_of, most_targets, not}
-use Rattle.std.proofs.Common.{◌≢◌, Ordering, Vec}
+use Rattle.std.proofs.Common.{◌≢◌, Ordering, Vec, zero, suc}
 use Rattle.std.specs.BTreeMap.{BTreeMap, get_by, is_at}
 use Rattle.std.specs.Cmp.Lexicographic.{slice_cmp}
+use Rattle.std.specs.List.{cons_option, filter_map}
 use Rattle.std.specs.Map.{lookup, IsKeyTest, AreApart, KeepsOthers}
 use Rattle.std.specs.Ordering.{nat_cmp, is_eq, eq_by_cmp}
-use Rattle.std.specs.Prelude.{bytes_eq, nat_lt, ◌&&◌, ◌||◌}
+use Rattle.std.specs.Borrow.{Bor}
+use Rattle.std.specs.Option.{option_copied}
+use Rattle.std.specs.Prelude.{bytes_eq, nat_lt, slice_get, ◌&&◌, ◌||◌, IfNone, IfSome}
 use Rattle.std.proofs.lemmas.List.{length-map, map-append}
 use Rattle.std.proofs.lemmas.List.Elements.{filter-append}
 use Rattle.std.proofs.lemmas.Map.Text.{is_eq-slice_cmp}
 use Rattle.proxy_config.specs.Setup.{is_of_user, location_key}
 use Rattle.proxy_config.specs.inner.Reading.{may_follow}
-use Rattle.proxy_config.specs.inner.UserTargets.{keys_if, keys_among, targets_of, AreOf, IsAdded, IsSame}
-use Rattle.proxy_config.specs.declared.user_targets.UserTargets.{UserTargets}
+use Rattle.proxy_config.specs.inner.UserPlaces.{places_if, places_among, places_of, AreAt, AreOf, IsAdded, IsSame, has_key, located}
+use Rattle.proxy_config.specs.declared.user_places.UserPlaces.{UserPlaces}
 
 -- ---- a map in which the value of one user changes
 
@@ -44,134 +47,197 @@ module _ {A : Type 0} where
   are_apart : (user other : List ℕ) → other ≢ user → AreApart (is_at (at user)) (is_at (at other))
   are_apart user other apart key e = not_equal other key.items (λ same. apart (same ∙ sym (equal user key.items e)))
 
-  pub others_stay : (old new : BTreeMap (Vec ℕ A) (Vec (Vec ℕ A) A)) (user : List ℕ) → KeepsOthers (eq_by_cmp order) (is_at (at user)) old.entries new.entries
-      → (other : List ℕ) → other ≢ user → keys_among new other ≡ keys_among old other
+  pub others_stay : (old new : BTreeMap (Vec ℕ A) (Vec ℕ A)) (user : List ℕ) → KeepsOthers (eq_by_cmp order) (is_at (at user)) old.entries new.entries
+      → (other : List ℕ) → other ≢ user → places_among new other ≡ places_among old other
   unfolding KeepsOthers
-  others_stay old new user keeps other apart = ap keys_if (keeps (is_at (at other)) (is_test other) (are_apart user other apart))
+  others_stay old new user keeps other apart = ap places_if (keeps (is_at (at other)) (is_test other) (are_apart user other apart))
 
-  abbrev items_of : Vec ℕ A → List ℕ
-  items_of key = key.items
-
-  pub any_items : (keys : List (Vec ℕ A)) (key : List ℕ) → list_any (λ (other : Vec ℕ A). bytes_eq other.items key) keys ≡ list_any (λ other. bytes_eq other key) (map items_of keys)
-  any_items [] key = refl
-  any_items (k ∷ ks) key = ap (λ t. bytes_eq k.items key || t) (any_items ks key)
-
-  -- what one may add is told by the keys of the user's targets
-  pub may_add_by_keys : (targets : UserTargets A) (user key : List ℕ) (keys : Vec (Vec ℕ A) A) → get_by (at user) targets.keys ≡ Some keys
-      → (has : Bool) → has ≡ list_any (λ (other : Vec ℕ A). bytes_eq other.items key) keys.items → (n : ℕ) → n ≡ length keys.items
-      → (not has && nat_lt n most_targets) ≡ (not (list_any (λ other. bytes_eq other key) (targets_of targets user)) && nat_lt (length (targets_of targets user)) most_targets)
-  may_add_by_keys targets user key keys was has has_is n n_is =
-      ap (λ b. not b && nat_lt n most_targets) (has_is ∙ any_items keys.items key)
-      ∙ ap (λ (m : ℕ). not (list_any (λ other. bytes_eq other key) (map items_of keys.items)) && nat_lt m most_targets) (n_is ∙ sym (length-map keys.items items_of))
-      ∙ ap (λ (texts : List (List ℕ)). not (list_any (λ other. bytes_eq other key) texts) && nat_lt (length texts) most_targets) (sym (ap keys_if was))
-
-  -- a user who has targets gets one more
-  pub key_added : (old new : UserTargets A) (user : List ℕ) (keys more : Vec (Vec ℕ A) A) (key : Vec ℕ A) → get_by (at user) old.keys ≡ Some keys → get_by (at user) new.keys ≡ Some more
-      → more.items ≡ keys.items ++ key ∷ [] → KeepsOthers (eq_by_cmp order) (is_at (at user)) old.keys.entries new.keys.entries → IsAdded user key.items old new
-  key_added old new user keys more key was is grown keeps = (
-    ap keys_if is
-        ∙ ap (map items_of) grown
-        ∙ map-append items_of keys.items (key ∷ [])
-        ∙ ap (λ (texts : List (List ℕ)). texts ++ key.items ∷ []) (sym (ap keys_if was)),
-    others_stay old.keys new.keys user keeps,
+  -- a user who has places gets one more
+  pub place_added : (old new : UserPlaces A) (user : List ℕ) (places more : Vec ℕ A) (place : ℕ) → get_by (at user) old.places ≡ Some places → get_by (at user) new.places ≡ Some more
+      → more.items ≡ places.items ++ place ∷ [] → KeepsOthers (eq_by_cmp order) (is_at (at user)) old.places.entries new.places.entries → IsAdded user place old new
+  place_added old new user places more place was is grown keeps = (
+    ap places_if is ∙ grown ∙ ap (λ (ns : List ℕ). ns ++ place ∷ []) (sym (ap places_if was)),
+    others_stay old.places new.places user keeps,
   )
 
   -- a user gets his first
-  pub user_added : (old new : UserTargets A) (user : List ℕ) (more : Vec (Vec ℕ A) A) (key : Vec ℕ A) → get_by (at user) old.keys ≡ None → get_by (at user) new.keys ≡ Some more
-      → more.items ≡ key ∷ [] → KeepsOthers (eq_by_cmp order) (is_at (at user)) old.keys.entries new.keys.entries → IsAdded user key.items old new
-  user_added old new user more key was is grown keeps = (
-    ap keys_if is ∙ ap (map items_of) grown ∙ ap (λ (texts : List (List ℕ)). texts ++ key.items ∷ []) (sym (ap keys_if was)),
-    others_stay old.keys new.keys user keeps,
+  pub user_added : (old new : UserPlaces A) (user : List ℕ) (more : Vec ℕ A) (place : ℕ) → get_by (at user) old.places ≡ None → get_by (at user) new.places ≡ Some more
+      → more.items ≡ place ∷ [] → KeepsOthers (eq_by_cmp order) (is_at (at user)) old.places.entries new.places.entries → IsAdded user place old new
+  user_added old new user more place was is grown keeps = (
+    ap places_if is ∙ grown ∙ ap (λ (ns : List ℕ). ns ++ place ∷ []) (sym (ap places_if was)),
+    others_stay old.places new.places user keeps,
   )
 
-  -- a user's targets are written over with the same
-  pub keys_same : (old new : UserTargets A) (user : List ℕ) (keys more : Vec (Vec ℕ A) A) → get_by (at user) old.keys ≡ Some keys → get_by (at user) new.keys ≡ Some more
-      → more.items ≡ keys.items → KeepsOthers (eq_by_cmp order) (is_at (at user)) old.keys.entries new.keys.entries → IsSame old new
-  keys_same old new user keys more was is same keeps other = one (bytes_eq other user) refl
+  -- a user's places are written over with the same
+  pub places_same : (old new : UserPlaces A) (user : List ℕ) (places more : Vec ℕ A) → get_by (at user) old.places ≡ Some places → get_by (at user) new.places ≡ Some more
+      → more.items ≡ places.items → KeepsOthers (eq_by_cmp order) (is_at (at user)) old.places.entries new.places.entries → IsSame old new
+  places_same old new user places more was is same keeps other = one (bytes_eq other user) refl
     where
-      one : (b : Bool) → bytes_eq other user ≡ b → targets_of new other ≡ targets_of old other
+      one : (b : Bool) → bytes_eq other user ≡ b → places_of new other ≡ places_of old other
       one true e =
-          subst (λ (text : List ℕ). targets_of new text ≡ targets_of old text) (sym ((bytes_eq-Decides other user).0 e))
-          (ap keys_if is ∙ ap (map items_of) same ∙ sym (ap keys_if was))
-      one false e = others_stay old.keys new.keys user keeps other (λ same_text. true_false (sym ((bytes_eq-Decides other user).1 same_text) ∙ e))
+          subst (λ (text : List ℕ). places_of new text ≡ places_of old text) (sym ((bytes_eq-Decides other user).0 e))
+          (ap places_if is ∙ same ∙ sym (ap places_if was))
+      one false e = others_stay old.places new.places user keeps other (λ same_text. true_false (sym ((bytes_eq-Decides other user).1 same_text) ∙ e))
 
--- ---- locations, of which one more is added
+-- ---- locations at places
 
-abbrev keys_of : List ℕ → List Location → List (List ℕ)
-keys_of user locations = map location_key (locations_of user locations)
+some_only : (locations : List Location) (o : Option Location) (later : List (Option Location)) (found : List Location) → o ∷ later ≡ map Some found
+    → (first : Location) × (rest : List Location) × (found ≡ first ∷ rest) × (o ≡ Some first) × (later ≡ map Some rest)
+some_only locations o later [] e = absurd cc
+some_only locations o later (first ∷ rest) e = (first, rest, refl, cc, cc)
+
+-- what stands at places is told by them
+pub located_is : (locations : List Location) (places : List ℕ) (found : List Location) → AreAt locations places found → located locations places ≡ found
+located_is locations [] [] e = refl
+located_is locations [] (first ∷ rest) e = absurd cc
+located_is locations (place ∷ places) found e =
+    let s = some_only locations (slice_get locations place) (map (slice_get locations) places) found e in
+    ap (λ (o : Option Location). cons_option o (located locations places)) s.3
+    ∙ ap (λ (ls : List Location). s.0 ∷ ls) (located_is locations places s.1 s.4)
+    ∙ sym s.2
+
+pub still_at : (locations : List Location) (places : List ℕ) (found : List Location) → AreAt locations places found → AreAt locations places (located locations places)
+still_at locations places found e = subst (λ (ls : List Location). AreAt locations places ls) (sym (located_is locations places found e)) e
+
+-- the first, and the others
+pub first_located : (locations : List Location) (place : ℕ) (places : List ℕ) → AreAt locations (place ∷ places) (located locations (place ∷ places))
+    → (first : Location) × (slice_get locations place ≡ Some first) × (located locations (place ∷ places) ≡ first ∷ located locations places) × AreAt locations places (located locations places)
+first_located locations place places e =
+    let s = some_only locations (slice_get locations place) (map (slice_get locations) places) (located locations (place ∷ places)) e in (
+      s.0,
+      s.3,
+      ap (λ (o : Option Location). cons_option o (located locations places)) s.3,
+      still_at locations places s.1 s.4,
+    )
+
+-- one by one
+pub next_some : (locations : List Location) (places rest : List ℕ) (place : ℕ) (left : List Location) → places ≡ place ∷ rest → AreAt locations places (located locations places)
+    → located locations places ≡ left → (o : Option (Bor Location)) → option_copied o ≡ slice_get locations place → IfSome o (λ location. left ≡ location.now ∷ located locations rest)
+next_some locations places rest place left split at view None e = tt
+next_some locations places rest place left split at view (Some location) e =
+    let P : List ℕ → Type 0 = λ ns. AreAt locations ns (located locations ns) in
+    let s = first_located locations place rest (subst P split at) in
+    let same : s.0 ≡ location.now = same_Some _ _ (sym s.1 ∙ sym e) in
+    sym view ∙ ap (λ (ns : List ℕ). located locations ns) split ∙ s.2 ∙ ap (λ (l : Location). l ∷ located locations rest) same
+
+pub next_none : (locations : List Location) (places rest : List ℕ) (place : ℕ) (left : List Location) → places ≡ place ∷ rest → AreAt locations places (located locations places)
+    → (o : Option (Bor Location)) → option_copied o ≡ slice_get locations place → IfNone o (left ≡ [])
+next_none locations places rest place left split at None e =
+    let P : List ℕ → Type 0 = λ ns. AreAt locations ns (located locations ns) in
+    let s = first_located locations place rest (subst P split at) in
+    let both : None ≡ Some s.0 = e ∙ s.1 in
+    absurd cc
+next_none locations places rest place left split at (Some location) e = tt
+
+pub next_at : (locations : List Location) (places rest : List ℕ) (place : ℕ) → places ≡ place ∷ rest → AreAt locations places (located locations places)
+    → AreAt locations rest (located locations rest)
+next_at locations places rest place split at =
+    let P : List ℕ → Type 0 = λ ns. AreAt locations ns (located locations ns) in
+    (first_located locations place rest (subst P split at)).3
+
+get_front : (locations behind : List Location) (place : ℕ) (location : Location) → slice_get locations place ≡ Some location → slice_get (locations ++ behind) place ≡ Some location
+get_front [] behind place location e = absurd cc
+get_front (l ∷ ls) behind zero location e = e
+get_front (l ∷ ls) behind (suc n) location e = get_front ls behind n location e
+
+get_end : (locations : List Location) (location : Location) → slice_get (locations ++ location ∷ []) (length locations) ≡ Some location
+get_end [] location = refl
+get_end (l ∷ ls) location = get_end ls location
+
+-- they stand there also where more stands behind
+at_front : (locations behind : List Location) (places : List ℕ) (found : List Location) → AreAt locations places found → AreAt (locations ++ behind) places found
+at_front locations behind [] found e = e
+at_front locations behind (place ∷ places) found e =
+    let s = some_only locations (slice_get locations place) (map (slice_get locations) places) found e in
+    subst (λ (ls : List Location). AreAt (locations ++ behind) (place ∷ places) ls) (sym s.2)
+    (ap (λ (o : Option Location). o ∷ map (slice_get (locations ++ behind)) places) (get_front locations behind place s.0 s.3)
+    ∙ ap (λ (os : List (Option Location)). Some s.0 ∷ os) (at_front locations behind places s.1 s.4))
+
+at_end : (locations : List Location) (location : Location) (places : List ℕ) (found : List Location) → AreAt locations places found
+    → AreAt (locations ++ location ∷ []) (places ++ length locations ∷ []) (found ++ location ∷ [])
+at_end locations location places found e =
+    map-append (slice_get (locations ++ location ∷ [])) places (length locations ∷ [])
+    ∙ ap (λ (os : List (Option Location)). os ++ slice_get (locations ++ location ∷ []) (length locations) ∷ []) (at_front locations (location ∷ []) places found e)
+    ∙ ap (λ (o : Option Location). map Some found ++ o ∷ []) (get_end locations location)
+    ∙ sym (map-append Some found (location ∷ []))
+
+-- ---- what may follow
+
+any_at : (locations : List Location) (key : List ℕ) (places : List ℕ) (found : List Location) → AreAt locations places found
+    → list_any (λ place. has_key key (slice_get locations place)) places ≡ list_any (λ location. bytes_eq (location_key location) key) found
+any_at locations key [] [] e = refl
+any_at locations key [] (first ∷ rest) e = absurd cc
+any_at locations key (place ∷ places) found e =
+    let s = some_only locations (slice_get locations place) (map (slice_get locations) places) found e in
+    ap (λ (o : Option Location). has_key key o || list_any (λ place. has_key key (slice_get locations place)) places) s.3
+    ∙ ap (λ b. bytes_eq (location_key s.0) key || b) (any_at locations key places s.1 s.4)
+    ∙ ap (λ (ls : List Location). list_any (λ location. bytes_eq (location_key location) key) ls) (sym s.2)
+
+as_many_at : (locations : List Location) (places : List ℕ) (found : List Location) → AreAt locations places found → length places ≡ length found
+as_many_at locations places found e =
+    sym (length-map places (slice_get locations)) ∙ ap (λ (os : List (Option Location)). length os) e ∙ length-map found Some
 
 pub any_same : (location : Location) (locations : List Location)
-    → list_any (λ other. bytes_eq other (location_key location)) (keys_of location.user locations) ≡ list_any (is_same location) locations
+    → list_any (λ other. bytes_eq (location_key other) (location_key location)) (locations_of location.user locations) ≡ list_any (is_same location) locations
 any_same location [] = refl
 any_same location (other ∷ locations) = one (is_of_user location.user other) (any_same location locations)
   where
-    has : Location → Bool
-    has l = bytes_eq (location_key l) (location_key location)
-
-    one : (b : Bool) → list_any (λ key. bytes_eq key (location_key location)) (keys_of location.user locations) ≡ list_any (is_same location) locations
-        → list_any (λ key. bytes_eq key (location_key location)) (map location_key (cond b (other ∷ locations_of location.user locations) (locations_of location.user locations)))
-        ≡ ((b && has other) || list_any (is_same location) locations)
-    one true rest = ap (λ t. has other || t) rest
+    one : (b : Bool) → list_any (λ l. bytes_eq (location_key l) (location_key location)) (locations_of location.user locations) ≡ list_any (is_same location) locations
+        → list_any (λ l. bytes_eq (location_key l) (location_key location)) (cond b (other ∷ locations_of location.user locations) (locations_of location.user locations))
+        ≡ ((b && bytes_eq (location_key other) (location_key location)) || list_any (is_same location) locations)
+    one true rest = ap (λ t. bytes_eq (location_key other) (location_key location) || t) rest
     one false rest = rest
 
-pub as_many : (user : List ℕ) (locations : List Location) → length (keys_of user locations) ≡ length (locations_of user locations)
-as_many user locations = length-map (locations_of user locations) location_key
+abbrev may_get : Bool → ℕ → Bool
+may_get is_there count = not is_there && nat_lt count most_targets
 
-and_assoc : (a b c : Bool) → (a && (b && c)) ≡ ((a && b) && c)
-and_assoc true b c = refl
-and_assoc false b c = refl
-
--- what may follow is told by the keys of the user's targets
-pub may_follow_by_keys : {A : Type 0} (locations : List Location) (location : Location) (targets : UserTargets A) → AreOf locations targets
-    → (is_some (hop_of location.uri) && (not (list_any (λ other. bytes_eq other (location_key location)) (targets_of targets location.user)) && nat_lt (length (targets_of targets location.user)) most_targets))
-    ≡ may_follow locations location
-may_follow_by_keys locations location targets are =
-    ap (λ (keys : List (List ℕ)). hop && (not (list_any (λ other. bytes_eq other (location_key location)) keys) && nat_lt (length keys) most_targets)) (are location.user)
-    ∙ ap (λ b. hop && (not b && nat_lt (length (keys_of location.user locations)) most_targets)) (any_same location locations)
-    ∙ ap (λ (n : ℕ). hop && (not (list_any (is_same location) locations) && nat_lt n most_targets)) (as_many location.user locations)
-    ∙ and_assoc hop (not (list_any (is_same location) locations)) (nat_lt (length (locations_of location.user locations)) most_targets)
-  where
-    hop : Bool
-    hop = is_some (hop_of location.uri)
-
-abbrev may_add : {A : Type 0} → UserTargets A → List ℕ → List ℕ → Bool
-may_add targets user key = not (list_any (λ other. bytes_eq other key) (targets_of targets user)) && nat_lt (length (targets_of targets user)) most_targets
-
-pub may_follow_then : {A : Type 0} (locations : List Location) (location : Location) (targets : UserTargets A) → AreOf locations targets → (user key : List ℕ) → user ≡ location.user
-    → key ≡ location_key location → is_some (hop_of location.uri) ≡ true → (may : Bool)
-    → may ≡ (not (list_any (λ other. bytes_eq other key) (targets_of targets user)) && nat_lt (length (targets_of targets user)) most_targets) → may ≡ may_follow locations location
-may_follow_then locations location targets are user key user_is key_is hop may is =
+-- what may follow is told by the places of the user's locations
+pub may_follow_by : {A : Type 0} (locations : List Location) (location : Location) (index : UserPlaces A) → AreOf locations index → is_some (hop_of location.uri) ≡ true
+    → (user key : List ℕ) → user ≡ location.user → key ≡ location_key location → (places : List ℕ) → places ≡ places_of index user
+    → (has : Bool) → has ≡ list_any (λ place. has_key key (slice_get locations place)) places → (count : ℕ) → count ≡ length places
+    → (may : Bool) → may ≡ (not has && nat_lt count most_targets) → may ≡ may_follow locations location
+may_follow_by locations location index are hop user key user_is key_is places places_are has has_is count count_is may is =
+    let found : AreAt locations places (locations_of location.user locations) =
+    subst (λ (ns : List ℕ). AreAt locations ns (locations_of location.user locations)) (sym (places_are ∙ ap (λ (text : List ℕ). places_of index text) user_is)) (are location.user) in
     is
-    ∙ ap (λ (text : List ℕ). may_add targets text key) user_is
-    ∙ ap (λ (text : List ℕ). may_add targets location.user text) key_is
-    ∙ sym (ap (λ b. b && may_add targets location.user (location_key location)) hop)
-    ∙ may_follow_by_keys locations location targets are
+    ∙ ap (λ b. may_get b count)
+    (has_is
+    ∙ any_at locations key places (locations_of location.user locations) found
+    ∙ ap (λ (text : List ℕ). list_any (λ other. bytes_eq (location_key other) text) (locations_of location.user locations)) key_is
+    ∙ any_same location locations)
+    ∙ ap (λ (n : ℕ). may_get (list_any (is_same location) locations) n) (count_is ∙ as_many_at locations places (locations_of location.user locations) found)
+    ∙ sym (ap (λ b. b && not (list_any (is_same location) locations) && nat_lt (length (locations_of location.user locations)) most_targets) hop)
 
-mine_added : (location : Location) (locations : List Location) → keys_of location.user (locations ++ location ∷ []) ≡ keys_of location.user locations ++ location_key location ∷ []
+-- ---- one more location
+
+mine_added : (location : Location) (locations : List Location) → locations_of location.user (locations ++ location ∷ []) ≡ locations_of location.user locations ++ location ∷ []
 mine_added location locations =
-    ap (map location_key) (filter-append (is_of_user location.user) locations (location ∷ []) ∙ ap (λ b. locations_of location.user locations ++ cond b (location ∷ []) []) ((bytes_eq-Decides location.user location.user).1 refl))
-    ∙ map-append location_key (locations_of location.user locations) (location ∷ [])
+    filter-append (is_of_user location.user) locations (location ∷ []) ∙ ap (λ b. locations_of location.user locations ++ cond b (location ∷ []) []) ((bytes_eq-Decides location.user location.user).1 refl)
 
-others_added : (user : List ℕ) (location : Location) (locations : List Location) → is_of_user user location ≡ false → keys_of user (locations ++ location ∷ []) ≡ keys_of user locations
+others_added : (user : List ℕ) (location : Location) (locations : List Location) → is_of_user user location ≡ false → locations_of user (locations ++ location ∷ []) ≡ locations_of user locations
 others_added user location locations apart =
-    ap (map location_key) (filter-append (is_of_user user) locations (location ∷ []) ∙ ap (λ b. locations_of user locations ++ cond b (location ∷ []) []) apart ∙ append-nil (locations_of user locations))
+    filter-append (is_of_user user) locations (location ∷ []) ∙ ap (λ b. locations_of user locations ++ cond b (location ∷ []) []) apart ∙ append-nil (locations_of user locations)
 
-pub one_listed : {A : Type 0} (locations : List Location) (location : Location) (old new : UserTargets A) → AreOf locations old → IsAdded location.user (location_key location) old new
+pub one_listed : {A : Type 0} (locations : List Location) (location : Location) (old new : UserPlaces A) → AreOf locations old → IsAdded location.user (length locations) old new
     → AreOf (locations ++ location ∷ []) new
 one_listed locations location old new are added user = one (is_of_user user location) refl
   where
-    one : (b : Bool) → is_of_user user location ≡ b → targets_of new user ≡ keys_of user (locations ++ location ∷ [])
+    one : (b : Bool) → is_of_user user location ≡ b → AreAt (locations ++ location ∷ []) (places_of new user) (locations_of user (locations ++ location ∷ []))
     one true is =
         let same : location.user ≡ user = (bytes_eq-Decides location.user user).0 is in
-        subst (λ (text : List ℕ). targets_of new text ≡ keys_of text (locations ++ location ∷ [])) same
-        (added.0 ∙ ap (λ (keys : List (List ℕ)). keys ++ location_key location ∷ []) (are location.user) ∙ sym (mine_added location locations))
+        subst (λ (text : List ℕ). AreAt (locations ++ location ∷ []) (places_of new text) (locations_of text (locations ++ location ∷ []))) same
+        (ap (map (slice_get (locations ++ location ∷ []))) added.0
+        ∙ at_end locations location (places_of old location.user) (locations_of location.user locations) (are location.user)
+        ∙ ap (map Some) (sym (mine_added location locations)))
     one false is =
         let apart : user ≢ location.user = λ e. true_false (sym ((bytes_eq-Decides location.user user).1 (sym e)) ∙ is) in
-        added.1 user apart ∙ are user ∙ sym (others_added user location locations is)
+        ap (map (slice_get (locations ++ location ∷ []))) (added.1 user apart)
+        ∙ at_front locations (location ∷ []) (places_of old user) (locations_of user locations) (are user)
+        ∙ ap (map Some) (sym (others_added user location locations is))
 
-pub one_listed_by : {A : Type 0} (locations : List Location) (location : Location) (old new : UserTargets A) → AreOf locations old → (user key : List ℕ) → user ≡ location.user
-    → key ≡ location_key location → IsAdded user key old new → (listed : List Location) → listed ≡ locations ++ location ∷ [] → AreOf listed new
-one_listed_by locations location old new are user key user_is key_is added listed is =
-    let P : List ℕ → Type 0 = λ text. IsAdded text key old new in
-    let Q : List ℕ → Type 0 = λ text. IsAdded location.user text old new in
-    subst (λ (ls : List Location). AreOf ls new) (sym is) (one_listed locations location old new are (subst Q key_is (subst P user_is added)))
+pub one_listed_by : {A : Type 0} (locations : List Location) (location : Location) (old new : UserPlaces A) → AreOf locations old → (user : List ℕ) → user ≡ location.user
+    → (place : ℕ) → place ≡ length locations → IsAdded user place old new → (listed : List Location) → listed ≡ locations ++ location ∷ [] → AreOf listed new
+one_listed_by locations location old new are user user_is place place_is added listed is =
+    let P : List ℕ → Type 0 = λ text. IsAdded text place old new in
+    let Q : ℕ → Type 0 = λ n. IsAdded location.user n old new in
+    subst (λ (ls : List Location). AreOf ls new) (sym is) (one_listed locations location old new are (subst Q place_is (subst P user_is added)))

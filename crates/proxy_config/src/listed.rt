@@ -1,6 +1,7 @@
 //! Locations, with the places of each user's.
-ghost use Rattle.std.specs.Prelude.{◌≡◌, [], IfOk, Some, None, if◌then◌else◌, slice_get};
+ghost use Rattle.std.specs.Prelude.{◌≡◌, ◌&&◌, [], not, nat_lt, IfOk, Some, None, if◌then◌else◌, slice_get};
 ghost use Rattle.std.specs.List.{list_any};
+ghost use Rattle.fork_model.specs.Table.{most_targets};
 ghost use Rattle.proxy_config.specs.Setup.{locations_of};
 ghost use Rattle.proxy_config.specs.inner.Reading.{added, may_follow};
 ghost use Rattle.proxy_config.specs.inner.UserPlaces.{has_key};
@@ -50,6 +51,13 @@ fn has_key<A: Allocator + Clone>(locations: &[Location<A>], places: &[usize], ke
         .any(|&place| has_key_at(locations, place, key))
 }
 
+/// Whether a user with so many targets may get one more: the user has not got it yet, nor as many as may be tried.
+fn may_get(is_there: bool, count: usize) -> bool
+    ensures { result ≡ (not is_there && nat_lt count most_targets) }
+{
+    !is_there && count < usize::from(MOST_TARGETS)
+}
+
 impl<A: Allocator> Listed<A> {
     pub(crate) fn as_slice(&self) -> &[Location<A>]
         ensures { result.now ≡ self.now }
@@ -73,10 +81,12 @@ impl<A: Allocator + Clone> Listed<A> {
     fn may_follow(&self, location: &Location<A>) -> bool
         ensures { result ≡ may_follow self.now location.now }
     {
+        if location.uri().next_hop().is_none() {
+            return false;
+        }
         let places = self.places.of(location.user());
-        location.uri().next_hop().is_some()
-            && !has_key(self.locations.as_slice(), places, location.uri().key())
-            && places.len() < usize::from(MOST_TARGETS)
+        let is_there = has_key(self.locations.as_slice(), places, location.uri().key());
+        may_get(is_there, places.len())
     }
 
     /// Adds a location, and answers whether it may stand here.

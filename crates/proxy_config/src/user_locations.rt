@@ -1,5 +1,6 @@
 //! The locations of a user, one by one.
-ghost use Rattle.std.specs.Prelude.{◌≡◌, ◌∷◌, [], List, IfNone, IfSome};
+ghost use Rattle.std.specs.Prelude.{◌≡◌, ◌∷◌, [], List, IfNone, IfSome, slice_get};
+ghost use Rattle.std.specs.Option.{option_copied};
 ghost use Rattle.proxy_config.specs.Setup as spec;
 ghost use Rattle.proxy_config.specs.inner.UserPlaces.{AreAt};
 
@@ -27,6 +28,13 @@ impl<'a, A: Allocator> Model for UserLocations<'a, A> {
     ghost invariant = { λ l. AreAt l.locations.now l.places.now (located l.locations.now l.places.now) };
 }
 
+/// The location at a place.
+fn location_at<A: Allocator>(locations: &[Location<A>], place: usize) -> Option<&Location<A>>
+    ensures { option_copied result ≡ slice_get locations.now place }
+{
+    locations.get(place)
+}
+
 impl<'a, A: Allocator> UserLocations<'a, A> {
     /// The locations at these places.
     pub(crate) fn at(places: &'a [usize], locations: &'a [Location<A>]) -> UserLocations<'a, A>
@@ -41,12 +49,10 @@ impl<'a, A: Allocator> UserLocations<'a, A> {
         ensures some { IfSome result (λ location. self.old ≡ location.now ∷ self.new) }
         ensures none { IfNone result (self.old ≡ []) }
     {
-        match self.places {
-            [] => None,
-            [place, rest @ ..] => {
-                self.places = rest;
-                self.locations.get(*place)
-            }
-        }
+        let Some((place, rest)) = self.places.split_first() else {
+            return None;
+        };
+        self.places = rest;
+        location_at(self.locations, *place)
     }
 }

@@ -1,5 +1,5 @@
 -- What a proxy asks of a request before it routes it (RFC 3261 section 16.3).
-use Rattle.std.specs.Prelude.{◌≡◌, ◌≢◌, ℕ, ◌&&◌, ◌==◌, Bool, true, false, List, length, take, Result, Ok, Err, is_some, codes, if◌then◌else◌}
+use Rattle.std.specs.Prelude.{◌≡◌, ◌≢◌, ℕ, ◌&&◌, ◌==◌, Bool, true, false, List, length, take, Result, Ok, Err, is_some, codes}
 use Rattle.std.specs.List.{list_all}
 use Rattle.std.specs.Str.{bytes_eq}
 use Rattle.sip_text.specs.Name.{first_value}
@@ -19,9 +19,9 @@ use Rattle.sip_route.specs.declared.hops.Hops.TheVariants.{Unsaid, Said, Wrong}
 use Rattle.sip_route.specs.Hops.{hops_of}
 use Rattle.sip_route.specs.Loop.{request_uri}
 use Rattle.sip_route.specs.LoopTest.{IsLoop}
-use Rattle.sip_route.specs.RouteValues.{is_route, route_values, stripped_all}
-use Rattle.sip_route.specs.Routes.{stripped}
+use Rattle.sip_route.specs.RouteValues.{is_route, route_values}
 use Rattle.proxy_config.specs.Setup.{Setup}
+use Rattle.proxy_routing.specs.OwnRoutes.{without_own_routes}
 
 -- ---- is it well formed (section 16.3 step 1)
 
@@ -71,12 +71,7 @@ is_at_its_end m = is_spent (hops_of m)
 abbrev pub asks_extension : MessageText → Bool
 asks_extension m = is_some (first_value (codes "proxy-require") m.headers)
 
--- without the Route values at the front that lead to the proxy (section 16.4): a service takes them all away, any other
--- proxy the first alone
-abbrev pub without_own_routes : Setup → MessageText → MessageText
-without_own_routes setup m = if setup.for_service then stripped_all m setup.own else stripped m setup.own
-
--- the request with its source (section 18.2.1), and without those Route values
+-- the request with its source (section 18.2.1), and without the Route values that the proxy takes away (section 16.4)
 abbrev pub IsPrepared : Setup → MessageText → Hop → MessageText → Type 0
 IsPrepared setup m source request =
     (with_source : MessageText) × (marked m source ≡ Ok with_source) × (request ≡ without_own_routes setup with_source)

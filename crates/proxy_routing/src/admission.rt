@@ -3,17 +3,16 @@ ghost use Rattle.std.specs.Prelude.{◌≡◌, IfErr, IfOk, IfSome, Ok, true};
 ghost use Rattle.sip_text.specs.Name.{first_value};
 ghost use Rattle.sip_route.specs.Hops.{IsHops, hops_name};
 ghost use Rattle.sip_via.specs.Received.{marked};
-ghost use Rattle.proxy_routing.specs.Admission.{IsAdmitted, IsPrepared, IsRoutable, is_well_formed, without_own_routes};
+ghost use Rattle.proxy_routing.specs.Admission.{IsAdmitted, IsPrepared, IsRoutable, is_well_formed};
 ghost use Rattle.proxy_routing.specs.Refusing.{IsTurnedAway, IsUnroutable};
 ghost use Rattle.proxy_routing.specs.inner.Admission.{is_formed};
 
 use crate::checks::{is_formed, is_of_another_scheme, is_spent};
 use crate::fault::RequestRejection;
+use crate::law::taking_own_routes_keeps_the_rest;
+use crate::own_routes::without_own_routes;
 use proxy_config::Setup;
-use sip_route::{
-    hops_of, is_loop, request_uri, strip, strip_all, stripping_all_keeps_the_rest,
-    stripping_keeps_the_rest,
-};
+use sip_route::{hops_of, is_loop, request_uri};
 use sip_text::Message;
 use sip_uri::{Hop, uri_fault};
 use sip_via::{ViaFault, add_received, marking_keeps_the_rest, readable_is_marked};
@@ -66,18 +65,6 @@ fn routable<A: Allocator + Clone>(
     Ok(marked)
 }
 
-/// The request without the Route values that the proxy takes away: a service takes all at the front that lead to it, any other
-/// proxy the first alone.
-fn without_own_routes<A: Allocator>(setup: &Setup<A>, message: Message<A>) -> Message<A>
-    ensures { result ≡ without_own_routes setup.now message }
-{
-    if setup.is_for_a_service() {
-        strip_all(message, setup.own())
-    } else {
-        strip(message, setup.own())
-    }
-}
-
 /// The request with its source, and without the Route values that the proxy takes away, where it can be routed.
 fn prepared<A: Allocator + Clone>(
     alloc: A,
@@ -92,8 +79,7 @@ fn prepared<A: Allocator + Clone>(
     ensures refused { IfErr result (IsUnroutable message) }
 {
     marking_keeps_the_rest();
-    stripping_keeps_the_rest();
-    stripping_all_keeps_the_rest();
+    taking_own_routes_keeps_the_rest();
     let marked = routable(alloc, message, source)?;
     Ok(without_own_routes(setup, marked))
 }

@@ -14,8 +14,6 @@ mod clock;
 #[cfg(test)]
 mod commands;
 #[cfg(test)]
-mod connected;
-#[cfg(test)]
 mod control;
 #[cfg(test)]
 mod deadlines;

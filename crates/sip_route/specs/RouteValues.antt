@@ -1,5 +1,5 @@
 -- The Route values of a request (RFC 3261 sections 7.3.1, 16.6 steps 6 and 7, and 20.34).
-use Rattle.std.specs.Prelude.{ℕ, zero, suc, Bool, true, false, List, [], ◌∷◌, length, Option, Some, None, Result, Ok, Err, if◌then◌else◌}
+use Rattle.std.specs.Prelude.{ℕ, Bool, true, false, List, [], ◌∷◌, Option, Some, None, Result, Ok, Err, if◌then◌else◌}
 use Rattle.std.specs.List.{flat_map}
 use Rattle.sip_lex.specs.declared.sheltered.Shelter.TheVariants.{QuotesAndAngles}
 use Rattle.sip_lex.specs.Outside.{pieces_outside}
@@ -12,7 +12,7 @@ use Rattle.sip_uri.specs.Uri.{Uri}
 use Rattle.sip_via.specs.declared.own.Own.{Own}
 use Rattle.sip_route.specs.declared.route_values.FirstRoute.{FirstRoute}
 use Rattle.sip_route.specs.declared.route_values.FirstRoute.TheVariants.{Absent, NoHop, To}
-use Rattle.sip_route.specs.Routes.{bracketed, hop_at_text, is_own, names_own, route_name, stripped}
+use Rattle.sip_route.specs.Routes.{bracketed, hop_at_text, names_own, route_name}
 
 -- the values of one line: what stands between its commas outside quotes and angle brackets
 abbrev pub values_in : List ℕ → List (List ℕ)
@@ -53,19 +53,3 @@ first_route m = first_of (route_values m)
 abbrev pub without_own : Own → List (List ℕ) → List (List ℕ)
 without_own own [] = []
 without_own own (value ∷ values) = if names_own own value then values else value ∷ values
-
--- ---- without those at the front that lead to the proxy
-
-abbrev pub leads_home : Own → FirstRoute → Bool
-leads_home own Absent = false
-leads_home own NoHop = false
-leads_home own (To hop) = is_own own (Some hop)
-
--- the first Route value taken so many times where it leads to the proxy
-abbrev pub stripped_times : ℕ → MessageText → Own → MessageText
-stripped_times zero m own = m
-stripped_times (suc n) m own = stripped_times n (stripped m own) own
-
--- as often as there are values
-unfoldable pub stripped_all : MessageText → Own → MessageText
-stripped_all m own = stripped_times (length (route_values m)) m own

@@ -1,10 +1,10 @@
-//! Laws of taking the proxy's own Route values away, and of the keys of requests.
+//! Laws of taking the proxy's own Route value away, and of the keys of requests.
 
-ghost use Rattle.std.specs.Prelude.{◌≡◌, ◌≢◌, ℕ, drop, false, List, None, map};
+ghost use Rattle.std.specs.Prelude.{◌≡◌, ◌≢◌, ℕ, false, List, None, map};
 ghost use Rattle.sip_lex.specs.Bytes.{trim};
 ghost use Rattle.sip_route.specs.Hops.{hops_name};
 ghost use Rattle.sip_route.specs.RequestKey.{IsSameSender, via_key};
-ghost use Rattle.sip_route.specs.RouteValues.{first_route, leads_home, route_values, stripped_all, without_own};
+ghost use Rattle.sip_route.specs.RouteValues.{route_values, without_own};
 ghost use Rattle.sip_route.specs.Routes.{route_name, stripped};
 ghost use Rattle.sip_text.specs.Name.{first_value, same_name, values_of};
 ghost use Rattle.sip_text.specs.Text.{MessageText};
@@ -25,22 +25,6 @@ pub fn stripping_keeps_the_rest()
         → first_value hops_name (stripped m own).headers ≡ first_value hops_name m.headers }
     ensures routes { (m : MessageText) (own : Own)
         → map trim (route_values (stripped m own)) ≡ map trim (without_own own (route_values m)) }
-{}
-
-/// What a request is without the Route values at its front that lead to the proxy (RFC 3261 section 16.4): start line and body
-/// are as before, and so are the values of each other header field, Max-Forwards among them; of the Route values, in all its
-/// lines, some at the front are gone, and no other; and the first that is left does not lead to the proxy. Space round a
-/// value does not count.
-pub fn stripping_all_keeps_the_rest()
-    ensures start { (m : MessageText) (own : Own) → (stripped_all m own).start ≡ m.start }
-    ensures body { (m : MessageText) (own : Own) → (stripped_all m own).body ≡ m.body }
-    ensures others { (m : MessageText) (own : Own) (name : List ℕ) → same_name route_name name ≡ false
-        → values_of name (stripped_all m own).headers ≡ values_of name m.headers }
-    ensures hops { (m : MessageText) (own : Own)
-        → first_value hops_name (stripped_all m own).headers ≡ first_value hops_name m.headers }
-    ensures routes { (m : MessageText) (own : Own)
-        → (n : ℕ) × (map trim (route_values (stripped_all m own)) ≡ drop n (map trim (route_values m))) }
-    ensures first { (m : MessageText) (own : Own) → leads_home own (first_route (stripped_all m own)) ≡ false }
 {}
 
 /// The key of a request tells who sent it and its branch (RFC 3261 section 17.2.3): two Via values have

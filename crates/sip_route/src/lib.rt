@@ -1,5 +1,5 @@
 //! How a request is routed (RFC 3261 sections 16.3, 16.4, 16.6 and 17.2.3): how many more proxies may forward it by
-//! Max-Forwards, where its first Route value leads, the values that name this proxy taken off, whether the request passed
+//! Max-Forwards, where its first Route value leads, the value that names this proxy taken off, whether the request passed
 //! before (loop detection), and the key by which its retransmission, its ACK and its CANCEL find its server transaction.
 #![tactic(auto)]
 
@@ -15,10 +15,10 @@ mod stripping;
 
 pub use fields::{add_field, add_number, add_optional};
 pub use hops::{Hops, hops_of};
-pub use law::{keys_tell_senders, stripping_all_keeps_the_rest, stripping_keeps_the_rest};
+pub use law::{keys_tell_senders, stripping_keeps_the_rest};
 pub use loop_test::is_loop;
 pub use loops::{loop_key, request_uri};
 pub use request_key::{append_request_key, has_same_key};
 pub use route_values::{FirstRoute, first_route, routes_are_readable};
 pub use routes::names_own;
-pub use stripping::{strip, strip_all};
+pub use stripping::strip;

@@ -27,8 +27,7 @@ pub(crate) fn hop_of(value: &[u8]) -> Option<Hop>
     read_hop(bracketed(value)?)
 }
 
-/// Whether a hop is the proxy itself.
-pub(crate) fn is_own(own: Own, hop: Option<Hop>) -> bool
+fn is_own(own: Own, hop: Option<Hop>) -> bool
     ensures { result ≡ is_own own hop }
 {
     match hop {

@@ -1,4 +1,4 @@
-//! Route values that lead to the proxy, taken away in place.
+//! The first Route value taken away in place.
 
 ghost use Rattle.std.specs.Prelude.{◌≡◌, ◌++◌, ◌∷◌, ◌≤◌, List, ℕ, Some, length, slice_get, slice_set};
 ghost use Rattle.std.specs.Option.{option_copied};
@@ -10,11 +10,9 @@ ghost use Rattle.sip_text.specs.Seen.{views};
 ghost use Rattle.sip_text.specs.Text.{HeaderText};
 ghost use Rattle.sip_via.specs.Edits.{line, place_of};
 ghost use Rattle.sip_route.specs.Routes.{route_name, stripped, stripped_headers};
-ghost use Rattle.sip_route.specs.RouteValues.{leads_home, stripped_all};
 ghost use Rattle.sip_route.specs.inner.Stripping.{IsPart, Leaves, LineLeaves, part};
 
-use crate::route_values::{FirstRoute, first_route};
-use crate::routes::{ROUTE, is_own, names_own};
+use crate::routes::{ROUTE, names_own};
 use sip_lex::{Shelter, cut_outside, trim_end, trim_start};
 use sip_text::{Header, Message};
 use sip_via::{Own, place_of};
@@ -107,27 +105,4 @@ pub fn strip<A: Allocator>(message: Message<A>, own: Own) -> Message<A>
     let (start, mut headers, body) = message.into_parts();
     strip_lines(&mut headers, own);
     Message::from_parts(start, headers, body)
-}
-
-/// Whether a Route value that leads there leads to the proxy itself.
-fn leads_home(own: Own, route: FirstRoute) -> bool
-    ensures { result ≡ leads_home own route }
-{
-    match route {
-        FirstRoute::Absent | FirstRoute::NoHop => false,
-        FirstRoute::To(hop) => is_own(own, Some(hop)),
-    }
-}
-
-/// The request without the Route values at its front that lead to the proxy itself, as many as there are (RFC 3261 section
-/// 16.4), by changing the message itself: as if the request had come back for each of them. The value that is then the first,
-/// if there is one, does not lead to the proxy. It takes no memory.
-pub fn strip_all<A: Allocator>(message: Message<A>, own: Own) -> Message<A>
-    ensures { result ≡ stripped_all message own }
-{
-    let mut message = message;
-    while leads_home(own, first_route(&message)) {
-        message = strip(message, own);
-    }
-    message
 }

@@ -1,7 +1,7 @@
 use Rattle.std.proofs.Common.{sym}
 use Rattle.std.specs.Prelude.{OnErr, Result, Ok, Err}
-use Rattle.proxy_config.proofs.UserTargets.{key_added, keys_same}
-use Rattle.proxy_config.proofs.user_targets.UserTargets.add_key.Goals as goal
+use Rattle.proxy_config.proofs.UserPlaces.{place_added, places_same}
+use Rattle.proxy_config.proofs.user_places.UserPlaces.add_place.Goals as goal
 
 on_err : {X Y : Type 0} (r : Result X Y) (P : Type 0) → P → OnErr r P
 on_err (Ok x) P p = tt
@@ -11,10 +11,10 @@ pub returns-in_err-push-clause-err : goal.returns-in_err-push-clause-err
 returns-in_err-push-clause-err g c =
     let map = c.get_mut.follows.lender c.push.new.self in
     let written = (c.get_mut.follows.holds c.push.new.self).3 c.requires in
-    on_err c.from_residual.result _ (keys_same c.args.self.now (record { keys = map }) c.args.user.now c.in-Some.keys.now c.push.new.self (sym c.in-Some.ensures.value) written.1 c.in_err-push.ensures.items written.3)
+    on_err c.from_residual.result _ (places_same c.args.self.now (record { places = map }) c.args.user.now c.in-Some.places.now c.push.new.self (sym c.in-Some.ensures.value) written.1 c.in_err-push.ensures.items written.3)
 
 pub returns-clause-ok : goal.returns-clause-ok
 returns-clause-ok g c =
     let map = c.get_mut.follows.lender c.push.new.self in
     let written = (c.get_mut.follows.holds c.push.new.self).3 c.requires in
-    key_added c.args.self.now (record { keys = map }) c.args.user.now c.in-Some.keys.now c.push.new.self c.args.key (sym c.in-Some.ensures.value) written.1 c.in_ok-push.ensures.items written.3
+    place_added c.args.self.now (record { places = map }) c.args.user.now c.in-Some.places.now c.push.new.self c.args.place (sym c.in-Some.ensures.value) written.1 c.in_ok-push.ensures.items written.3
