@@ -1,3 +1,3 @@
 pub mod Common
 pub mod Admitting
-pub mod OwnRoutes
+pub mod laws

@@ -1,6 +1,6 @@
 use Rattle.proxy_routing.proofs.Common.{MessageText, hops_name}
 use Rattle.sip_text.specs.Name.{first_value, values_of}
-use Rattle.proxy_routing.proofs.OwnRoutes.{first_left, kept, routes_left}
+use Rattle.proxy_routing.proofs.laws.OwnRoutes.{first_left, kept, routes_left}
 use Rattle.proxy_routing.proofs.law.taking_own_routes_keeps_the_rest.Goals as goal
 
 pub returns-clause-start : goal.returns-clause-start

@@ -4,7 +4,7 @@ use Rattle.sip_route.specs.declared.route_values.FirstRoute.{FirstRoute}
 use Rattle.sip_route.specs.RouteValues.{first_route, route_values}
 use Rattle.sip_route.specs.Routes.{stripped}
 use Rattle.proxy_routing.specs.OwnRoutes.{leads_home, stripped_all}
-use Rattle.proxy_routing.proofs.OwnRoutes.{RoutesLeft, all_again, all_done, one_less}
+use Rattle.proxy_routing.proofs.laws.OwnRoutes.{RoutesLeft, all_again, all_done, one_less}
 use Rattle.proxy_routing.proofs.own_routes.strip_all.Goals as goal
 
 told : (m : MessageText) (own : Own) (route : FirstRoute) (b : Bool) → route ≡ first_route m → b ≡ leads_home own route → leads_home own (first_route m) ≡ b
