@@ -3,7 +3,7 @@ use Rattle.std.specs.Prelude.{◌≡◌, ◌≤◌, ℕ, Bool, false, List, [], 
 
 -- no more jobs wait in a group
 abbrev pub most_waiting : ℕ
-most_waiting = 64
+most_waiting = 1024
 
 pub record GroupState (T : Type 0) : Type 0 where
   -- whether a worker is on the group

@@ -7,10 +7,10 @@ use std::collections::VecDeque;
 use std::marker::Model;
 
 /// No more jobs wait in a group.
-pub const MOST_WAITING: usize = 64;
+pub const MOST_WAITING: usize = 1_024;
 
 /// A group of calls: whether a worker is on it, and what was handed over to that worker and waits, in the order in which it was handed
-/// over. Where no worker is on it nothing waits, and never do more than 64 jobs.
+/// over. Where no worker is on it nothing waits, and never do more than 1,024 jobs.
 ///
 /// Who receives a job enters the group, or hands the job over where another worker is on the group. Who has entered does its job, and
 /// then each [`next`](Group::next) until there is none.
@@ -63,7 +63,7 @@ impl<T, A: Allocator> Group<T, A> {
     ///
     /// # Errors
     ///
-    /// The job, where 64 wait, or the allocator refuses; then nothing has changed.
+    /// The job, where 1,024 wait, or the allocator refuses; then nothing has changed.
     pub fn hand_over(&mut self, job: T) -> Result<(), T>
         requires { self.old.busy ≡ true }
         ensures ok { OnOk result (self.new ≡ with_last self.old job) }

@@ -4,6 +4,8 @@
 
 mod group;
 mod law;
+mod room;
 
 pub use group::{Group, MOST_WAITING};
 pub use law::jobs_come_in_order;
+pub use room::Room;

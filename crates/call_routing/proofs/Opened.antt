@@ -20,7 +20,7 @@ pub openable : (start other : StartText) → start ≡ other → IsOpenable othe
 openable start (texts.Request method uri) e h = ap is_request e
 openable start (texts.Response status reason) e h = absurd cc
 
-pub turned_away : (setup : Setup) (m : MessageText) (source : Hop) (fault : RequestRejection) → IsTurnedAway setup.own m source fault → Refuses setup m source fault
+pub turned_away : (setup : Setup) (m : MessageText) (source : Hop) (fault : RequestRejection) → IsTurnedAway setup m source fault → Refuses setup m source fault
 turned_away setup m source BadRequest h = h
 turned_away setup m source Scheme h = h
 turned_away setup m source Hops h = h
@@ -30,7 +30,7 @@ turned_away setup m source NoTarget h = absurd h
 turned_away setup m source NoHop h = absurd h
 turned_away setup m source NoMemory h = tt
 
-behind : (setup : Setup) (m : MessageText) (source : Hop) (request : MessageText) → IsAdmitted setup.own m source request
+behind : (setup : Setup) (m : MessageText) (source : Hop) (request : MessageText) → IsAdmitted setup m source request
     → (fault : RequestRejection) → IsRefused setup request fault → Refuses setup m source fault
 behind setup m source request a BadRequest h = absurd h
 behind setup m source request a Scheme h = absurd h
@@ -53,12 +53,12 @@ asked setup request uri a t NoHop h = (a, uri, t, h)
 asked setup request uri a t NoMemory h = tt
 
 -- of what is answered for a request that was admitted
-pub opens_if : (setup : Setup) (number : ℕ) (m : MessageText) (source : Hop) (request : MessageText) → IsAdmitted setup.own m source request
+pub opens_if : (setup : Setup) (number : ℕ) (m : MessageText) (source : Hop) (request : MessageText) → IsAdmitted setup m source request
     → (r : Result Call RequestRejection) → IfOk r (λ call. Asks request (λ uri. Reaches setup number request source uri call)) → IfOk r (Opens setup number m source)
 opens_if setup number m source request a (Ok call) h = (request, a, h)
 opens_if setup number m source request a (Err fault) h = tt
 
-pub refuses_if : (setup : Setup) (m : MessageText) (source : Hop) (request : MessageText) → IsAdmitted setup.own m source request
+pub refuses_if : (setup : Setup) (m : MessageText) (source : Hop) (request : MessageText) → IsAdmitted setup m source request
     → (r : Result Call RequestRejection) → IfErr r (IsRefused setup request) → IfErr r (Refuses setup m source)
 refuses_if setup m source request a (Ok call) h = tt
 refuses_if setup m source request a (Err fault) h = behind setup m source request a fault h

@@ -83,14 +83,14 @@ IsRefused setup request _ = ⊥
 
 -- for the request as it was prepared behind these four
 abbrev pub Admitted : Setup → MessageText → Hop → (MessageText → Type 0) → Type 0
-Admitted setup m source P = (request : MessageText) × IsAdmitted setup.own m source request × P request
+Admitted setup m source P = (request : MessageText) × IsAdmitted setup m source request × P request
 
 -- each fault, where none before it holds
 abbrev pub Refuses : Setup → MessageText → Hop → RequestRejection → Type 0
-Refuses setup m source BadRequest = IsTurnedAway setup.own m source BadRequest
-Refuses setup m source Scheme = IsTurnedAway setup.own m source Scheme
-Refuses setup m source Hops = IsTurnedAway setup.own m source Hops
-Refuses setup m source Loop = IsTurnedAway setup.own m source Loop
+Refuses setup m source BadRequest = IsTurnedAway setup m source BadRequest
+Refuses setup m source Scheme = IsTurnedAway setup m source Scheme
+Refuses setup m source Hops = IsTurnedAway setup m source Hops
+Refuses setup m source Loop = IsTurnedAway setup m source Loop
 Refuses setup m source Extension = Admitted setup m source (λ request. IsRefused setup request Extension)
 Refuses setup m source NoTarget = Admitted setup m source (λ request. IsRefused setup request NoTarget)
 Refuses setup m source NoHop = Admitted setup m source (λ request. IsRefused setup request NoHop)

@@ -265,7 +265,7 @@ pub fn open<A: Allocator + Clone>(
     ensures opened { IfOk result (Opens setup.now number request source) }
     ensures refused { IfErr result (Refuses setup.now request source) }
 {
-    match validate_request(alloc.clone()?, setup.own(), request, source) {
+    match validate_request(alloc.clone()?, setup, request, source) {
         Ok(request) => open_prepared(alloc, heap, setup, number, request, source, now),
         Err(fault) => Err(fault),
     }

@@ -1,3 +1,4 @@
 mod InOrder
 pub mod Listing
+pub mod Walking
 pub mod laws

@@ -1,3 +1,4 @@
 pub mod inner
 pub mod Inbox
 pub mod Faults
+pub mod Removals

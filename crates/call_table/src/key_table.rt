@@ -134,7 +134,7 @@ impl<A: Allocator + Clone> KeyTable<A> {
     }
 
     /// Takes a key away from those that are the first of their digest.
-    fn unlist_first(&mut self, key: &[u8])
+    fn unlist_first(&mut self, key: &[u8]) -> Option<Vec<u8, A>>
         ensures next { self.new.next ≡ self.old.next }
         ensures others { self.new.others ≡ self.old.others }
         ensures gone { number_where key.now (get nat_cmp self.new.firsts (digest_of key.now)) ≡ None }
@@ -145,26 +145,35 @@ impl<A: Allocator + Clone> KeyTable<A> {
             Some(first) => first.key.as_slice() == key,
             None => false,
         };
-        if is_first {
-            self.firsts.remove(&digest);
+        if !is_first {
+            return None;
+        }
+        match self.firsts.remove(&digest) {
+            Some(first) => Some(first.key),
+            None => None,
         }
     }
 
     /// Takes a key away from those whose digest an earlier key has.
-    fn unlist_other(&mut self, key: &[u8])
+    fn unlist_other(&mut self, key: &[u8]) -> Option<Vec<u8, A>>
         ensures next { self.new.next ≡ self.old.next }
         ensures firsts { self.new.firsts ≡ self.old.firsts }
         ensures gone { number_among self.new.others key.now ≡ None }
         ensures kept { (other : _) → other ≢ key.now → number_among self.new.others other ≡ number_among self.old.others other }
     {
-        self.others.remove(key);
+        match self.others.remove_entry(key) {
+            Some((other, _)) => Some(other),
+            None => None,
+        }
     }
 
-    /// Takes a key away; each other keeps the number that it has, and the same number comes next.
-    pub(crate) fn unlist(&mut self, key: &[u8])
+    /// Takes a key away; each other keeps the number that it has, and the same number comes next. The answer is the memory of
+    /// the key, which is to be freed where no lock is held.
+    pub(crate) fn unlist(&mut self, key: &[u8]) -> Option<Vec<u8, A>>
         ensures { IsUnlisted key.now self.old self.new }
     {
-        self.unlist_other(key);
-        self.unlist_first(key);
+        let other = self.unlist_other(key);
+        let first = self.unlist_first(key);
+        other.or(first)
     }
 }

@@ -2,9 +2,10 @@
 //! a lock for each call, and queues of jobs for its workers. Of a call no more is known here than its number.
 #![tactic(auto)]
 
+mod entries;
 pub mod inbox;
 mod key_table;
 mod shelf;
 
 pub use inbox::{Inbox, InboxIn, InboxOut, MOST_JOBS};
-pub use shelf::{Numbered, Shelf, ShelfFault};
+pub use shelf::{Numbered, Removal, Shelf, ShelfFault};

@@ -1,13 +1,13 @@
 //! Values under numbers and keys, each behind a lock of its own.
-ghost use Rattle.std.specs.Prelude.{◌≡◌, ◌+◌, ℕ, List, Ok, Err, Some, IfErr, IfOk, IfSome, OnOk, OnErr};
-ghost use Rattle.std.specs.Bool.{OnTrue, OnFalse};
+ghost use Rattle.std.specs.Prelude.{◌≡◌, ◌+◌, ◌≤◌, ℕ, true, List, Ok, Err, Some, IfErr, IfNone, IfOk, IfSome, OnOk, OnErr};
 ghost use Rattle.std.specs.Fn.{FnOnceReturnsAtMut};
 ghost use Rattle.call_table.specs.inner.KeyTable.{number_of, IsListed, IsSame, IsUnlisted};
 ghost use Rattle.call_table.specs.Faults.{IfMade};
+ghost use Rattle.call_table.specs.Removals.{said};
 
+use crate::entries::{Entries, Entry};
 use crate::key_table::{KeyTable, Taken};
 use std::alloc::{AllocError, Allocator, Global};
-use std::collections::VecDeque;
 use std::mem;
 use std::sync::{Arc, Mutex, Wait};
 use thiserror::Error;
@@ -39,61 +39,24 @@ pub enum ShelfFault<E> {
     NoMemory,
 }
 
-/// A value behind its lock, and the key that it was put under.
-#[derive(Drop)]
-struct Entry<T, A: Allocator> {
-    key: Vec<u8, A>,
-    value: Arc<Mutex<T>, A>,
+/// What became of a value that was to be taken away.
+#[derive(Clone, Copy, PartialEq, Eq, Debug)]
+pub enum Removal {
+    /// It was taken away.
+    Removed,
+    /// It is there: it was not to go.
+    Kept,
+    /// It is there, and another one looks at it now, or is about to.
+    Busy,
+    /// It is not there.
+    Absent,
 }
 
-/// The values by number. Each number below `base` was given, and its value was taken away; the place of a number from there on
-/// is how far it is behind `base`, and is empty where its value was taken away.
+/// What stood under a number and a key, to be freed where no lock is held.
 #[derive(Drop)]
-struct Entries<T, A: Allocator> {
-    base: u64,
-    places: VecDeque<Option<Entry<T, A>>, A>,
-    /// How many places have a value.
-    held: u64,
-}
-
-impl<T: Drop, A: Allocator> Entries<T, A> {
-    /// No value, and no number given.
-    fn new(alloc: A) -> Entries<T, A> {
-        Entries {
-            base: 0,
-            places: VecDeque::new(alloc),
-            held: 0,
-        }
-    }
-
-    /// The place of a number that is not below `base`.
-    fn place_of(&self, no: u64) -> Option<usize> {
-        usize::try_from(no.checked_sub(self.base)?).ok()
-    }
-
-    /// The entry of a number, where its value was put and not taken away.
-    fn get(&self, no: u64) -> Option<&Entry<T, A>> {
-        match self.places.get(self.place_of(no)?) {
-            Some(Some(entry)) => Some(entry),
-            _ => None,
-        }
-    }
-
-    /// Takes the entry of a number away. Empty places in front go, too, so that the list is no longer than from the oldest value
-    /// to the newest.
-    fn take(&mut self, no: u64) -> Option<Entry<T, A>> {
-        let at = self.place_of(no)?;
-        let taken = mem::take(self.places.get_mut(at)?)?;
-        self.held = self.held.wrapping_sub(1);
-        for _ in 0..self.places.len() {
-            if !matches!(self.places.front(), Some(None)) {
-                break;
-            }
-            let _ = self.places.pop_front();
-            self.base = self.base.wrapping_add(1);
-        }
-        Some(taken)
-    }
+struct Unlisted<T, A: Allocator> {
+    entry: Entry<T, A>,
+    key: Option<Vec<u8, A>>,
 }
 
 /// Values under numbers and keys. The keys have a lock, the list of entries another, which is held for a moment only, and
@@ -110,11 +73,12 @@ impl<T: Numbered + Drop, A: Allocator + Clone> Shelf<T, A> {
     pub fn new(alloc: A) -> Result<Shelf<T, A>, AllocError> {
         let firsts = alloc.clone()?;
         let others = alloc.clone()?;
-        let entries = alloc.clone()?;
+        let early = alloc.clone()?;
+        let places = alloc.clone()?;
         Ok(Shelf {
             alloc,
             key_table: Mutex::new(KeyTable::new(firsts, others)),
-            entries: Mutex::new(Entries::new(entries)),
+            entries: Mutex::new(Entries::new(early, places)),
         })
     }
 
@@ -167,18 +131,17 @@ impl<T: Numbered + Drop, A: Allocator + Clone> Shelf<T, A> {
         let Ok(name) = self.name(key) else {
             return Err(ShelfFault::NoMemory);
         };
-        let Ok(entry) = self.behind_lock(value) else {
+        let Ok(value) = self.behind_lock(value) else {
             return Err(ShelfFault::NoMemory);
         };
         let Ok(key) = self.name(key) else {
             return Err(ShelfFault::NoMemory);
         };
         let mut entries = self.entries.lock(rt);
-        if entries.places.reserve(1).is_err() || key_table.list(name).is_err() {
+        if entries.reserve().is_err() || key_table.list(name).is_err() {
             return Err(ShelfFault::NoMemory);
         }
-        let _ = entries.places.push_back(Some(Entry { key, value: entry }));
-        entries.held = entries.held.wrapping_add(1);
+        entries.push(Entry { key, value });
         Ok(no)
     }
 
@@ -190,9 +153,9 @@ impl<T: Numbered + Drop, A: Allocator + Clone> Shelf<T, A> {
     }
 
     /// A value behind a lock.
-    fn behind_lock(&self, value: T) -> Result<Arc<Mutex<T>, A>, AllocError> {
+    fn behind_lock(&self, value: T) -> Result<Arc<Mutex<Option<T>>, A>, AllocError> {
         let alloc = self.alloc.clone()?;
-        match Arc::new(alloc, Mutex::new(value)) {
+        match Arc::new(alloc, Mutex::new(Some(value))) {
             Ok(entry) => Ok(entry),
             Err(_) => Err(AllocError),
         }
@@ -208,53 +171,133 @@ impl<T: Numbered + Drop, A: Allocator + Clone> Shelf<T, A> {
         self.key_table.lock(rt).keyed(key)
     }
 
-    /// Takes the value of a number away, with its key, and says whether it was there. The key may be put anew and gets a new
-    /// number then; the number is never given again. Who looks at the value meanwhile goes on looking, and it goes with the last
-    /// look. It takes no memory.
-    pub fn remove<R: Wait>(&self, rt: &R, no: u64) -> bool {
-        self.remove_at(rt, &mut self.key_table.lock(rt), no)
+    /// Takes the value of a number away, with its key, where `f` says so of it. The value is locked while `f` looks at it, and
+    /// nobody looks at it between then and its end; `f` must not look at the shelf. The key may be put anew and gets a new
+    /// number then; the number is never given again. It waits for no look at the value, takes no memory, and frees the value
+    /// where no lock is held.
+    pub fn remove_if<R: Wait, F: FnOnce(&mut T) -> bool>(&self, rt: &R, no: u64, f: F) -> Removal
+        requires callable { (x : _) → T.number_of x.now ≡ no → F.pre f x }
+        requires keeps { (old new : T) (r : _) → T.number_of old ≡ no → FnOnceReturnsAtMut F.FnOnce f old r new → T.number_of new ≡ no }
+        ensures { IfSome (said result) (λ r. (old : T) × (new : T) × (T.number_of old ≡ no) × FnOnceReturnsAtMut F.FnOnce f old r new) }
+    {
+        let removed = self.remove_at(rt, &mut self.key_table.lock(rt), no, f);
+        match removed {
+            Ok(_) => Removal::Removed,
+            Err(removal) => removal,
+        }
     }
 
-    /// Takes away as `remove` does, with the keys locked.
-    fn remove_at<R: Wait>(&self, rt: &R, key_table: &mut KeyTable<A>, no: u64) -> bool
-        ensures gone { OnTrue result ((key : List ℕ) × (number_of key_table.old key ≡ Some no) × IsUnlisted key key_table.old key_table.new) }
-        ensures same { OnFalse result (key_table.new ≡ key_table.old) }
+    /// Takes away as `remove_if` does, with the keys locked, and answers what is to be freed.
+    fn remove_at<R: Wait, F: FnOnce(&mut T) -> bool>(
+        &self,
+        rt: &R,
+        key_table: &mut KeyTable<A>,
+        no: u64,
+        f: F,
+    ) -> Result<(T, Unlisted<T, A>), Removal>
+        requires callable { (x : _) → T.number_of x.now ≡ no → F.pre f x }
+        ensures taken { IfOk result (λ taken. (old : T) × (T.number_of old ≡ no) × FnOnceReturnsAtMut F.FnOnce f old true taken.0) }
+        ensures left { IfErr result (λ why. IfSome (said why) (λ r. (old : T) × (new : T) × (T.number_of old ≡ no) × FnOnceReturnsAtMut F.FnOnce f old r new)) }
+        ensures gone { OnOk result ((key : List ℕ) × (number_of key_table.old key ≡ Some no) × IsUnlisted key key_table.old key_table.new) }
+        ensures same { OnErr result (key_table.new ≡ key_table.old) }
     {
-        let Some(entry) = self.entries.lock(rt).take(no) else {
-            return false;
+        let Some(entry) = self.entry(rt, no) else {
+            return Err(Removal::Absent);
         };
-        if key_table.keyed(&entry.key) != Some(no) {
-            return false;
+        let value = take_if(&entry, no, f)?;
+        match self.unlist(rt, key_table, no) {
+            Some(unlisted) => Ok((value, unlisted)),
+            None => Err(Removal::Absent),
         }
-        key_table.unlist(&entry.key);
-        true
+    }
+
+    /// Takes the entry of a number away, with its key, with the keys locked.
+    fn unlist<R: Wait>(
+        &self,
+        rt: &R,
+        key_table: &mut KeyTable<A>,
+        no: u64,
+    ) -> Option<Unlisted<T, A>>
+        ensures gone { IfSome result (λ _. (key : List ℕ) × (number_of key_table.old key ≡ Some no) × IsUnlisted key key_table.old key_table.new) }
+        ensures same { IfNone result (key_table.new ≡ key_table.old) }
+    {
+        let entry = self.entries.lock(rt).take(no)?;
+        if key_table.keyed(&entry.key) != Some(no) {
+            return None;
+        }
+        let key = key_table.unlist(&entry.key);
+        Some(Unlisted { entry, key })
     }
 
     /// How many values are there: those that were put and not taken away.
     pub fn held<R: Wait>(&self, rt: &R) -> u64 {
-        self.entries.lock(rt).held
+        self.entries.lock(rt).held()
+    }
+
+    /// The least number from this one on whose value is there. The time does not grow with how many numbers were given before.
+    pub fn next_from<R: Wait>(&self, rt: &R, from: u64) -> Option<u64>
+        ensures { IfSome result (λ no. from ≤ no) }
+    {
+        self.entries.lock(rt).next_from(from)
     }
 
     /// The entry of a number, with no lock held.
-    fn entry<R: Wait>(&self, rt: &R, no: u64) -> Option<Arc<Mutex<T>, A>> {
+    fn entry<R: Wait>(&self, rt: &R, no: u64) -> Option<Arc<Mutex<Option<T>>, A>> {
         let entries = self.entries.lock(rt);
         Arc::try_clone(&entries.get(no)?.value).ok()
     }
 
     /// Calls `f` at the value of a number, with that value locked, and answers what it returns. None where there is no such
-    /// number, or no further owner of the entry could be made.
+    /// value, or no further owner of the entry could be made.
     pub fn with<R: Wait, U, F: FnOnce(&mut T) -> U>(&self, rt: &R, no: u64, f: F) -> Option<U>
         requires callable { (x : _) → T.number_of x.now ≡ no → F.pre f x }
         requires keeps { (old new : T) (r : U) → T.number_of old ≡ no → FnOnceReturnsAtMut F.FnOnce f old r new → T.number_of new ≡ no }
         ensures { IfSome result (λ r. (old : T) × (new : T) × (T.number_of old ≡ no) × FnOnceReturnsAtMut F.FnOnce f old r new) }
     {
         let entry = self.entry(rt, no)?;
-        let mut value = entry.lock(rt);
-        if value.number() != no {
-            return None;
-        }
-        Some(called(f, &mut *value))
+        let mut guard = entry.lock(rt);
+        called_at(&mut *guard, no, f)
     }
+}
+
+/// Takes a value from behind its lock, where it has this number and `f` says so of it, without waiting for the lock.
+fn take_if<T: Numbered + Drop, F: FnOnce(&mut T) -> bool>(
+    lock: &Mutex<Option<T>>,
+    no: u64,
+    f: F,
+) -> Result<T, Removal>
+    requires callable { (x : _) → T.number_of x.now ≡ no → F.pre f x }
+    ensures taken { IfOk result (λ new. (old : T) × (T.number_of old ≡ no) × FnOnceReturnsAtMut F.FnOnce f old true new) }
+    ensures left { IfErr result (λ why. IfSome (said why) (λ r. (old : T) × (new : T) × (T.number_of old ≡ no) × FnOnceReturnsAtMut F.FnOnce f old r new)) }
+{
+    let Some(mut guard) = lock.try_lock() else {
+        return Err(Removal::Busy);
+    };
+    match called_at(&mut *guard, no, f) {
+        None => return Err(Removal::Absent),
+        Some(false) => return Err(Removal::Kept),
+        Some(true) => {}
+    }
+    match mem::take(&mut *guard) {
+        Some(value) => Ok(value),
+        None => Err(Removal::Absent),
+    }
+}
+
+/// What a call of `f` at a value returns, where the value is there and has this number.
+fn called_at<T: Numbered, U, F: FnOnce(&mut T) -> U>(
+    value: &mut Option<T>,
+    no: u64,
+    f: F,
+) -> Option<U>
+    requires callable { (x : _) → T.number_of x.now ≡ no → F.pre f x }
+    ensures { IfSome result (λ r. (old : T) × (new : T) × (value.old ≡ Some old) × (value.new ≡ Some new) × (T.number_of old ≡ no) × FnOnceReturnsAtMut F.FnOnce f old r new) }
+{
+    let value = value.as_mut()?;
+    if value.number() != no {
+        return None;
+    }
+    Some(called(f, value))
 }
 
 /// What a call of `f` at a value returns.

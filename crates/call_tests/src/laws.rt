@@ -4,6 +4,7 @@ use call_model::{
     repeats_are_the_same,
 };
 use fork_call::{calls_are_runs, each_success_goes_up};
+use proxy_routing::taking_own_routes_keeps_the_rest;
 
 #[test]
 fn laws_can_be_called() {
@@ -13,4 +14,5 @@ fn laws_can_be_called() {
     own_events_are_taken();
     calls_are_runs();
     each_success_goes_up();
+    taking_own_routes_keeps_the_rest();
 }

@@ -1,7 +1,8 @@
 //! Which requests are admitted and open a call, and how each fault is answered.
 use crate::holds::holds;
 use crate::requests::{
-    Change, OWN, SETUP, SOURCE, opened_by, request_with, sent_to, setup_of, text_of,
+    Change, OWN, REQUEST, SETUP, SOURCE, opened, opened_by, read_message, request_with, sent_to,
+    setup_of, text_of,
 };
 use call_model::{Cause, Datagram};
 use call_routing::is_openable;
@@ -32,7 +33,8 @@ fn each_fault_has_its_status(rt: HostRuntime) {
 
 /// What a message is admitted as, if it is.
 fn admitted(alloc: Global, message: Message<Global>) -> Option<Message<Global>> {
-    match validate_request(alloc, OWN, message, SOURCE) {
+    let setup = setup_of(alloc, SETUP)?;
+    match validate_request(alloc, &setup, message, SOURCE) {
         Ok(request) => Some(request),
         Err(_) => None,
     }
@@ -421,4 +423,152 @@ fn the_first_fault_is_told(rt: HostRuntime) {
             "which of two faults is told",
         );
     }
+}
+
+// ---- Route values that lead to the proxy itself
+
+/// The proxy itself.
+const HOME: Hop = Hop {
+    addr: [192, 0, 2, 9],
+    port: 5060,
+};
+
+/// The hop of the location of bob.
+const BOBS: Hop = Hop {
+    addr: [192, 0, 2, 4],
+    port: 5060,
+};
+
+/// Another proxy.
+const BEYOND: Hop = Hop {
+    addr: [192, 0, 2, 8],
+    port: 5062,
+};
+
+/// Where the request of the first branch goes in the call that the request with this change opens for a service.
+fn hop_by_service(alloc: Global, change: Change) -> Option<Hop> {
+    let setup = setup_of(alloc, SETUP)?.for_a_service();
+    match opened_by(alloc, &setup, &[change]) {
+        Some(Ok(mut state)) => hop_of(&mut state),
+        Some(Err(_)) | None => None,
+    }
+}
+
+/// Route lines, and where the request goes from a service, and from any other proxy.
+const ROUTES: [(&[u8], Hop, Hop); 7] = [
+    (b"Route: <sip:192.0.2.9;lr>", BOBS, BOBS),
+    (b"Route: <sip:192.0.2.9;lr>, <sip:192.0.2.9;lr>", BOBS, HOME),
+    (
+        b"Route: \"a, b\" <sip:192.0.2.9:05060;transport=udp;lr>,<sip:p@192.0.2.9> , <sip:192.0.2.9:5060>",
+        BOBS,
+        HOME,
+    ),
+    (
+        b"Route: <sip:192.0.2.9;lr>, <sip:192.0.2.9;lr>, <sip:192.0.2.8:5062;lr>",
+        BEYOND,
+        HOME,
+    ),
+    // one that stands behind another is not at the front
+    (
+        b"Route: <sip:192.0.2.8:5062;lr>, <sip:192.0.2.9;lr>",
+        BEYOND,
+        BEYOND,
+    ),
+    (
+        b"Route: <sip:192.0.2.9;lr>, <sip:192.0.2.8:5062;lr>, <sip:192.0.2.9;lr>",
+        BEYOND,
+        BEYOND,
+    ),
+    (b"Subject: x", BOBS, BOBS),
+];
+
+#[test]
+fn a_service_sends_itself_nothing_by_a_route(rt: HostRuntime) {
+    for (line, by_service, by_another) in ROUTES {
+        holds(
+            &rt,
+            hop_by_service(rt.alloc(), (7, line)) == Some(by_service),
+            "where a service sends a request",
+        );
+        holds(
+            &rt,
+            hop_with(rt.alloc(), &[(7, line)]) == Some(by_another),
+            "where another proxy sends it",
+        );
+    }
+}
+
+/// Appends so many Route lines that lead to the proxy.
+fn add_routes(text: &mut Vec<u8>, count: u32) -> bool {
+    let mut well = true;
+    for _ in 0..count {
+        well = well
+            && text
+                .extend_from_slice(b"Route: <sip:192.0.2.9;lr>\r\n")
+                .is_ok();
+    }
+    well
+}
+
+/// The text of the request with so many Route lines that lead to the proxy.
+fn routed_text(alloc: Global, count: u32) -> Option<Vec<u8>> {
+    let mut text = text_of(alloc, &REQUEST[..8])?;
+    if add_routes(&mut text, count) && text.extend_from_slice(b"\r\n").is_ok() {
+        Some(text)
+    } else {
+        None
+    }
+}
+
+/// The request with so many of them.
+fn routed(alloc: Global, count: u32) -> Option<Message<Global>> {
+    match routed_text(alloc, count) {
+        Some(text) => read_message(alloc, &text),
+        None => None,
+    }
+}
+
+/// The call that the request with 100 of them opens for a service.
+fn call_of_routed(alloc: Global) -> Option<CallState> {
+    let setup = setup_of(alloc, SETUP)?.for_a_service();
+    let request = routed(alloc, 100)?;
+    match opened(alloc, &setup, request) {
+        Some(Ok(state)) => Some(state),
+        Some(Err(_)) | None => None,
+    }
+}
+
+#[test]
+fn a_hundred_own_routes_open_one_call(rt: HostRuntime) {
+    let alloc = rt.alloc();
+    match call_of_routed(alloc) {
+        Some(mut state) => holds(
+            &rt,
+            sends(alloc, &mut state, BOBS, &FORWARDED),
+            "the request goes on without a Route value",
+        ),
+        None => holds(&rt, false, "the request opens a call"),
+    }
+}
+
+/// What a setup whose one location is at the proxy's own address sends first.
+fn hop_of_spiral(alloc: Global) -> Option<Hop> {
+    let setup = setup_of(
+        alloc,
+        b"own 192.0.2.9 5060\ninstance 7\ndomain example.com\nlocation bob 1000 sip:carol@192.0.2.9\n",
+    )?
+    .for_a_service();
+    match opened_by(alloc, &setup, &[]) {
+        Some(Ok(mut state)) => hop_of(&mut state),
+        Some(Err(_)) | None => None,
+    }
+}
+
+#[test]
+fn a_location_at_the_own_address_is_reached(rt: HostRuntime) {
+    holds(
+        &rt,
+        hop_of_spiral(rt.alloc()) == Some(HOME),
+        "a target of the domain at the own address",
+    );
 }

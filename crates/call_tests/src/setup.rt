@@ -473,3 +473,109 @@ fn a_user_has_no_more_locations_than_may_be_tried(rt: HostRuntime) {
         "the 257th of one",
     );
 }
+
+// ---- the locations of a user
+
+/// How many users the crowded setup has, each with three locations.
+const USERS: u64 = 9000;
+
+/// Appends the line of a location: the user has this number, and the location this port.
+fn add_location_of(text: &mut Vec<u8>, user: u64, port: u64) -> bool {
+    text.extend_from_slice(b"location u").is_ok()
+        && append_decimal(text, user).is_ok()
+        && text.extend_from_slice(b" 1000 sip:x@192.0.2.4:").is_ok()
+        && append_decimal(text, port).is_ok()
+        && text.push(b'\n').is_ok()
+}
+
+/// Appends a location of each user at this port.
+fn add_locations_at(text: &mut Vec<u8>, port: u64) -> bool {
+    let mut well = true;
+    for user in 0..USERS {
+        well = well && add_location_of(text, user, port);
+    }
+    well
+}
+
+/// The text of 27,000 locations, those of a user apart from one another.
+fn crowded_text(alloc: Global) -> Option<Vec<u8>> {
+    let mut text = joined(alloc, HEAD, b"")?;
+    let well = add_locations_at(&mut text, 7)
+        && add_locations_at(&mut text, 5)
+        && add_locations_at(&mut text, 9);
+    if well { Some(text) } else { None }
+}
+
+/// The setup of them.
+fn crowded(alloc: Global) -> Option<Setup<Global>> {
+    match crowded_text(alloc) {
+        Some(text) => setup_of(alloc, &text),
+        None => None,
+    }
+}
+
+/// The port of a location; 0 where there is none.
+fn port_of(location: Option<&Location>) -> u16 {
+    match location {
+        Some(location) => match location.uri().next_hop() {
+            Some(hop) => hop.port,
+            None => 0,
+        },
+        None => 0,
+    }
+}
+
+/// The ports of the first four locations of a user.
+fn ports_of(setup: &Setup<Global>, user: &[u8]) -> [u16; 4] {
+    let mut locations = setup.locations_of(user);
+    let first = port_of(locations.next());
+    let second = port_of(locations.next());
+    let third = port_of(locations.next());
+    [first, second, third, port_of(locations.next())]
+}
+
+/// Users, and the ports of their locations, in the order of the text.
+const PORTS: [(&[u8], [u16; 4]); 7] = [
+    (b"u0", [7, 5, 9, 0]),
+    (b"u1", [7, 5, 9, 0]),
+    (b"u4999", [7, 5, 9, 0]),
+    (b"u8999", [7, 5, 9, 0]),
+    (b"u9000", [0, 0, 0, 0]),
+    (b"U1", [0, 0, 0, 0]),
+    (b"", [0, 0, 0, 0]),
+];
+
+/// Checks the locations of each user.
+fn check_ports(rt: &impl Abort, setup: &Setup<Global>) {
+    holds(rt, setup.locations().len() == 27_000, "all locations");
+    for (user, ports) in PORTS {
+        holds(
+            rt,
+            ports_of(setup, user) == ports,
+            "the locations of a user",
+        );
+    }
+}
+
+#[test]
+fn the_locations_of_a_user_are_looked_up(rt: HostRuntime) {
+    match crowded(rt.alloc()) {
+        Some(setup) => check_ports(&rt, &setup),
+        None => holds(&rt, false, "27,000 locations are a setup"),
+    }
+}
+
+#[test]
+fn a_setup_is_for_a_service_where_that_is_said(rt: HostRuntime) {
+    match setup_of_lines(rt.alloc()) {
+        Some(setup) => {
+            holds(&rt, !setup.is_for_a_service(), "as it is read");
+            holds(
+                &rt,
+                setup.for_a_service().is_for_a_service(),
+                "as it is said",
+            );
+        }
+        None => holds(&rt, false, "four lines are a setup"),
+    }
+}

@@ -11,4 +11,4 @@ mod turning;
 
 pub use options::{answer_options, may_ask_proxy};
 pub use stamping::StampedPort;
-pub use turning::{CallKeys, turn_away};
+pub use turning::{CallKeys, TurnedRequests, turn_away};

@@ -1,7 +1,6 @@
 //! Requests that are turned away: the proxy opens no more calls.
 ghost use Rattle.std.specs.Prelude.{◌≡◌, ℕ, Bool, List, true, IfOk, OnErr};
-ghost use Rattle.sip_service.specs.Outside.{is_outside_dialog};
-ghost use Rattle.daemon_answers.specs.Turning.{Begins, IsNew, IsTurned};
+ghost use Rattle.daemon_answers.specs.Turning.{Begins, IsNew, IsTurned, is_among};
 
 use call_table::Shelf;
 use fork_call::{Call, Cause, Datagram, Port};
@@ -14,6 +13,15 @@ use std::sync::Wait;
 
 /// After how many seconds a request that was turned away may come again.
 const RETRY: u32 = 10;
+
+/// Which requests are turned away, where no call has their key.
+#[derive(Clone, Copy, PartialEq, Eq, Debug)]
+pub enum TurnedRequests {
+    /// Those outside of dialogs.
+    OutsideDialogs,
+    /// All that may open a call: all but ACKs and CANCELs.
+    All,
+}
 
 /// Calls by the keys of their requests, as they stand at the moment of a look.
 pub trait CallKeys {
@@ -47,24 +55,35 @@ fn is_new<A: Allocator + Clone, K: CallKeys, R: Wait>(
     Ok(!calls.has_key(rt, &key))
 }
 
-/// Whether a message is a request that would begin something new: it stands outside of a dialog, and no call has its key.
+/// Whether a message is one of these requests.
+fn is_among<A: Allocator>(turned: TurnedRequests, message: &Message<A>) -> bool
+    ensures { result ≡ is_among turned message.now }
+{
+    match turned {
+        TurnedRequests::OutsideDialogs => is_outside_dialog(message),
+        TurnedRequests::All => message.stands_alone(),
+    }
+}
+
+/// Whether a message is one of these requests, and would begin something new: no call has its key.
 fn begins<A: Allocator + Clone, K: CallKeys, R: Wait>(
     rt: &R,
     alloc: A,
+    turned: TurnedRequests,
     calls: &K,
     message: &Message<A>,
 ) -> Result<bool, AllocError>
-    ensures begins { IfOk result (λ begins. Begins K.keyed calls.now message.now begins) }
-    ensures outside { IfOk result (λ begins. begins ≡ true → is_outside_dialog message.now ≡ true) }
+    ensures begins { IfOk result (λ begins. Begins turned K.keyed calls.now message.now begins) }
+    ensures among { IfOk result (λ begins. begins ≡ true → is_among turned message.now ≡ true) }
 {
-    if !is_outside_dialog(message) {
+    if !is_among(turned, message) {
         return Ok(false);
     }
     is_new(rt, alloc, calls, message)
 }
 
-/// Answers 503 with Retry-After to a request that would begin something new, and says whether it was one: it stands outside of a
-/// dialog, and no call has its key. All else, such as a request of a dialog or a repeat, is for `handle`.
+/// Answers 503 with Retry-After to a request that would begin something new, and says whether it was one: it is one of these requests, and
+/// no call has its key. All else, such as a repeat, an ACK or a CANCEL, is for `handle`.
 ///
 /// # Errors
 ///
@@ -72,18 +91,19 @@ fn begins<A: Allocator + Clone, K: CallKeys, R: Wait>(
 pub fn turn_away<A: Allocator + Clone, K: CallKeys, P: Port, R: Wait>(
     rt: &R,
     alloc: A,
+    turned: TurnedRequests,
     calls: &K,
     packet: &[u8],
     source: Hop,
     port: &mut P,
 ) -> Result<bool, AllocError>
-    ensures turned { IfOk result (λ turned. IsTurned K.keyed P.sends packet.now source calls.now port.old turned port.new) }
+    ensures turned { IfOk result (λ is_turned. IsTurned turned K.keyed P.sends packet.now source calls.now port.old is_turned port.new) }
     ensures err { OnErr result (port.new ≡ port.old) }
 {
     let Some(message) = message_in(alloc.clone()?, packet)? else {
         return Ok(false);
     };
-    if !begins(rt, alloc.clone()?, calls, &message)? {
+    if !begins(rt, alloc.clone()?, turned, calls, &message)? {
         return Ok(false);
     }
     let answer = sip_service::turn_away(alloc, message, source, RETRY)?;

@@ -16,3 +16,4 @@ in_is_of text whole seconds fault.Clock same fits is = absurd is
 in_is_of text whole seconds fault.Socket same fits is = absurd is
 in_is_of text whole seconds fault.Control same fits is = absurd is
 in_is_of text whole seconds fault.Metrics same fits is = absurd is
+in_is_of text whole seconds fault.Journal same fits is = absurd is

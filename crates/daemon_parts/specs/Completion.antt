@@ -1,5 +1,5 @@
 -- A configuration whose text leaves the line of its instance out: the number of the run is put in.
-use Rattle.std.specs.Prelude.{◌≡◌, ◌-◌, ℕ, Bool, false, ◌&&◌, not, List, ◌++◌, ◌∷◌, Option, Some, None, codes, nat_eq, nat_le, if◌then◌else◌}
+use Rattle.std.specs.Prelude.{◌≡◌, ◌-◌, ℕ, Bool, false, ◌&&◌, not, List, ◌++◌, Option, Some, None, codes, nat_eq, nat_le, if◌then◌else◌}
 use Rattle.std.specs.Fmt.{decimal}
 use Rattle.std.specs.List.{starts_with}
 use Rattle.sip_lex.specs.Cut.{behind, cut, is}

@@ -14,6 +14,7 @@ exit_status fault.Clock = 5
 exit_status fault.Socket = 5
 exit_status fault.Control = 5
 exit_status fault.Metrics = 5
+exit_status fault.Journal = 5
 
 -- a configuration has at most so many bytes
 abbrev pub most_text : ℕ
@@ -57,3 +58,9 @@ abbrev pub IsMetricsFault : DaemonFault → Type 0
 IsMetricsFault fault.Metrics = Unit {0}
 IsMetricsFault fault.NoMemory = Unit {0}
 IsMetricsFault _ = ⊥
+
+-- why the file to which each call is written cannot be opened
+abbrev pub IsJournalFault : DaemonFault → Type 0
+IsJournalFault fault.Journal = Unit {0}
+IsJournalFault fault.NoMemory = Unit {0}
+IsJournalFault _ = ⊥

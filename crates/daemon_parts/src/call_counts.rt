@@ -63,6 +63,8 @@ pub struct CallCounts {
     pub unwritten: Count,
     /// Calls that were looked at since they were due.
     pub timers: Count,
+    /// Deadlines that were not kept for want of memory: the call is looked at with the next one that is due.
+    pub missed: Count,
 }
 
 impl CallCounts {
@@ -76,6 +78,7 @@ impl CallCounts {
             journaled: Count::new(),
             unwritten: Count::new(),
             timers: Count::new(),
+            missed: Count::new(),
         }
     }
 
@@ -93,6 +96,7 @@ impl CallCounts {
             counter(b"forkproxy_calls_journaled_total", &self.journaled),
             counter(b"forkproxy_calls_unwritten_total", &self.unwritten),
             counter(b"forkproxy_timers_total", &self.timers),
+            counter(b"forkproxy_deadlines_missed_total", &self.missed),
         ];
         append_metrics(text, &metrics)?;
         self.failed.append(text)

@@ -125,6 +125,8 @@ pub struct DatagramCounts {
     pub forwarded: Count,
     /// Those that cannot be read, or that no call takes.
     pub dropped: Count,
+    /// Those that only keep a path open (see [`crate::is_keep_alive`]).
+    pub keep_alives: Count,
     /// ACKs for answers of the proxy's own.
     pub absorbed: Count,
     /// Requests that were answered 503.
@@ -151,6 +153,7 @@ impl DatagramCounts {
             answered: AnsweredCounts::new(),
             forwarded: Count::new(),
             dropped: Count::new(),
+            keep_alives: Count::new(),
             absorbed: Count::new(),
             turned_away: Count::new(),
             limited: Count::new(),
@@ -170,6 +173,7 @@ impl DatagramCounts {
             counter(b"forkproxy_delivered_total", &self.delivered),
             counter(b"forkproxy_forwarded_total", &self.forwarded),
             counter(b"forkproxy_dropped_total", &self.dropped),
+            counter(b"forkproxy_keepalives_total", &self.keep_alives),
             counter(b"forkproxy_absorbed_total", &self.absorbed),
             counter(b"forkproxy_turned_away_total", &self.turned_away),
             counter(b"forkproxy_limited_total", &self.limited),

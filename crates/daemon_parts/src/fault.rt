@@ -1,7 +1,7 @@
 //! Why a proxy does not serve, or serves no longer.
 ghost use Rattle.std.specs.Prelude.{◌≡◌};
 ghost use Rattle.daemon_parts.specs.declared.fault.DaemonFault.TheVariants as faults;
-ghost use Rattle.daemon_parts.specs.Faults.{exit_status, IsConfigurationFault, IsControlFault, IsMetricsFault, IsSocketFault};
+ghost use Rattle.daemon_parts.specs.Faults.{exit_status, IsConfigurationFault, IsControlFault, IsJournalFault, IsMetricsFault, IsSocketFault};
 
 use std::alloc::AllocError;
 use std::io;
@@ -39,6 +39,9 @@ pub enum DaemonFault {
     /// The address for those who scrape the counters could not be bound.
     #[error("the metrics address cannot be bound")]
     Metrics,
+    /// The file to which each call is written at its end could not be opened.
+    #[error("the journal cannot be opened")]
+    Journal,
 }
 
 impl DaemonFault {
@@ -55,7 +58,8 @@ impl DaemonFault {
             DaemonFault::Clock
             | DaemonFault::Socket
             | DaemonFault::Control
-            | DaemonFault::Metrics => 5,
+            | DaemonFault::Metrics
+            | DaemonFault::Journal => 5,
         }
     }
 }
@@ -105,5 +109,15 @@ pub fn metrics_fault(error: io::Error) -> DaemonFault
     match error.kind() {
         ErrorKind::OutOfMemory => DaemonFault::NoMemory,
         _ => DaemonFault::Metrics,
+    }
+}
+
+/// Why the file to which each call is written cannot be opened: the system refuses, or has no memory.
+pub fn journal_fault(error: io::Error) -> DaemonFault
+    ensures { IsJournalFault result }
+{
+    match error.kind() {
+        ErrorKind::OutOfMemory => DaemonFault::NoMemory,
+        _ => DaemonFault::Journal,
     }
 }

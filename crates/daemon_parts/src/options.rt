@@ -9,8 +9,9 @@ pub struct Options<'a> {
     pub control: &'a str,
     /// The file to which each call is written at its end.
     pub journal: Option<&'a str>,
-    /// How many calls it keeps at most; while it has so many it opens no more.
-    pub most_calls: u64,
+    /// How many calls it keeps at most; while it has so many it opens no more, but for a tenth of them for requests within dialogs. Left
+    /// out, it follows the memory of the machine (see [`crate::most_calls_here`]).
+    pub most_calls: Option<u64>,
     /// How many threads receive and handle datagrams.
     pub workers: usize,
     /// Whether it stays on the path of the dialogs that pass it.

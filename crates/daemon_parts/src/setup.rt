@@ -89,7 +89,7 @@ pub fn read_setup<R: ProxyFiles>(
 ) -> Result<Setup<Global>, DaemonFault>
     ensures { IfErr result IsConfigurationFault }
 {
-    let text = match rt.read_file(alloc, config) {
+    let text = match rt.read_file(alloc, config, MOST_TEXT) {
         Ok(text) => text,
         Err(error) => return Err(configuration_fault(error)),
     };

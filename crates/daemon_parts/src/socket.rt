@@ -19,7 +19,7 @@ const LONGEST_RECEIVE: u64 = 1_000;
 /// has 250 a second, this may take 12.
 const LONGEST_SEND: u64 = 5;
 
-/// How many bytes of room are asked of the system for datagrams that wait to be received.
+/// How many bytes of room are asked of the system for datagrams that wait to be received, and for those that wait to be sent.
 const ROOM: i32 = 4_194_304;
 
 /// What became of a send.
@@ -54,11 +54,14 @@ fn hop_of(address: SocketAddr) -> Option<Hop> {
     }
 }
 
-/// Asks for room for datagrams that wait. The system may give less; then more of them are lost in a burst.
+/// Asks for room for datagrams that wait. The system may give less; then more of them are lost in a burst, and those that wait for hosts
+/// that cannot be found sooner fill the room of all that are sent.
 fn ask_for_room(udp: &UdpSocket) {
     let mut value = [0u8; 16];
     value[..4].copy_from_slice(&ROOM.to_ne_bytes());
-    let _ = unsafe { net::setsockopt(udp.as_raw_fd(), net::SOL_SOCKET, net::SO_RCVBUF, &value, 4) };
+    let fd = udp.as_raw_fd();
+    let _ = unsafe { net::setsockopt(fd, net::SOL_SOCKET, net::SO_RCVBUF, &value, 4) };
+    let _ = unsafe { net::setsockopt(fd, net::SOL_SOCKET, net::SO_SNDBUF, &value, 4) };
 }
 
 /// Says how long the calls of the system wait at most.

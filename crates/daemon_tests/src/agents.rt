@@ -21,16 +21,29 @@ fn socket_at<R: Net>(rt: &R, port: u16) -> Option<UdpSocket> {
     Some(socket)
 }
 
-/// A request of the caller at this port. The branch and the Call-ID are the call's name.
-fn request_of(
-    alloc: Global,
-    port: u16,
-    method: &str,
-    call: &str,
-    tag: &str,
-) -> Result<String, AllocError> {
+/// A request of a caller. The branch and the Call-ID are the call's name.
+#[derive(Clone, Copy)]
+pub struct Asked<'a> {
+    pub method: &'a str,
+    pub uri: &'a str,
+    pub call: &'a str,
+    /// What stands behind the URI of To.
+    pub tag: &'a str,
+    /// Header lines beside those of each request.
+    pub lines: &'a str,
+}
+
+/// The text of a request of the caller at this port.
+fn request_of(alloc: Global, port: u16, asked: Asked<'_>) -> Result<String, AllocError> {
+    let Asked {
+        method,
+        uri,
+        call,
+        tag,
+        lines,
+    } = asked;
     format!(in alloc;
-        "{method} sip:bob@example.com SIP/2.0\r\nVia: SIP/2.0/UDP 127.0.0.1:{port};branch=z9hG4bK{call}\r\nMax-Forwards: 70\r\nFrom: <sip:alice@example.com>;tag=1\r\nTo: <sip:bob@example.com>{tag}\r\nCall-ID: {call}\r\nCSeq: 1 {method}\r\nContact: <sip:alice@127.0.0.1:{port}>\r\nContent-Length: 0\r\n\r\n"
+        "{method} {uri} SIP/2.0\r\nVia: SIP/2.0/UDP 127.0.0.1:{port};branch=z9hG4bK{call}\r\nMax-Forwards: 70\r\nFrom: <sip:alice@example.com>;tag=1\r\nTo: <sip:bob@example.com>{tag}\r\nCall-ID: {call}\r\nCSeq: 1 {method}\r\nContact: <sip:alice@127.0.0.1:{port}>\r\n{lines}Content-Length: 0\r\n\r\n"
     )
 }
 
@@ -91,17 +104,42 @@ impl Agents {
         })
     }
 
-    /// Sends a request of the caller.
-    pub fn asks(&self, method: &str, call: &str, tag: &str) {
-        let port = self.proxy.saturating_add(1);
-        if let Ok(text) = request_of(self.alloc, port, method, call, tag) {
-            let _ = self.caller.send_to(text.as_bytes(), at(self.proxy));
+    /// Sends a request from a socket.
+    fn sends(&self, socket: &UdpSocket, port: u16, asked: Asked<'_>) {
+        if let Ok(text) = request_of(self.alloc, port, asked) {
+            let _ = socket.send_to(text.as_bytes(), at(self.proxy));
         }
+    }
+
+    /// Sends a request of the caller.
+    pub fn sends_for_caller(&self, asked: Asked<'_>) {
+        self.sends(&self.caller, self.proxy.saturating_add(1), asked);
+    }
+
+    /// Sends a request of the target's own.
+    pub fn sends_for_target(&self, asked: Asked<'_>) {
+        self.sends(&self.target, self.proxy.saturating_add(2), asked);
+    }
+
+    /// Sends a request of the caller to bob.
+    pub fn asks(&self, method: &str, call: &str, tag: &str) {
+        self.sends_for_caller(Asked {
+            method,
+            uri: "sip:bob@example.com",
+            call,
+            tag,
+            lines: "",
+        });
+    }
+
+    /// The answer of a call that the caller hears and that begins so.
+    pub fn answer(&self, front: &str, call: &str) -> Option<Vec<u8>> {
+        heard(self.alloc, &self.caller, front, call)
     }
 
     /// Whether the caller hears an answer of a call that begins so.
     pub fn hears(&self, front: &str, call: &str) -> bool {
-        heard(self.alloc, &self.caller, front, call).is_some()
+        self.answer(front, call).is_some()
     }
 
     /// The request of a call that comes to the target.

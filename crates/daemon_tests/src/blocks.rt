@@ -4,11 +4,12 @@ ghost use Rattle.std.specs.Prelude.{◌≡◌};
 use crate::holds::holds;
 use crate::outbox::Outbox;
 use call_table::Shelf;
-use daemon_answers::turn_away;
+use daemon_answers::{TurnedRequests, turn_away};
 use daemon_parts::{DaemonFault, Options};
 use fork_call::{Call, Setup};
-use fork_daemon::{append_block, check_config, serve_text};
+use fork_daemon::{check_config, serve_text};
 use proxy_dispatch::{Handled, Memory, Received, handle};
+use proxy_service::append_block;
 use sip_uri::Hop;
 use std::alloc::Global;
 use std::fs;
@@ -23,6 +24,10 @@ const REQUEST: &[u8] =
 /// The same in a dialog.
 const INSIDE: &[u8] =
     b"OPTIONS sip:bob@example.com SIP/2.0\r\nVia: SIP/2.0/UDP 192.0.2.1;branch=z9hG4bKb\r\nMax-Forwards: 70\r\nFrom: <sip:alice@example.com>;tag=1\r\nTo: <sip:bob@example.com>;tag=2\r\nCall-ID: one\r\nCSeq: 2 OPTIONS\r\nContent-Length: 0\r\n\r\n";
+
+/// An ACK in a dialog.
+const INSIDE_ACK: &[u8] =
+    b"ACK sip:bob@example.com SIP/2.0\r\nVia: SIP/2.0/UDP 192.0.2.1;branch=z9hG4bKc\r\nMax-Forwards: 70\r\nFrom: <sip:alice@example.com>;tag=1\r\nTo: <sip:bob@example.com>;tag=2\r\nCall-ID: one\r\nCSeq: 2 ACK\r\nContent-Length: 0\r\n\r\n";
 
 const SOURCE: Hop = Hop {
     addr: [192, 0, 2, 1],
@@ -82,9 +87,15 @@ impl Scene {
         handle(rt, memory, &self.calls, &self.setup, received, outbox) == Ok(Handled::Opened(0))
     }
 
-    /// Whether a text is turned away.
+    /// Whether a text is turned away where these requests are.
+    fn turns_any_away<R: Wait>(&mut self, rt: &R, turned: TurnedRequests, text: &[u8]) -> bool {
+        let outbox = &mut self.outbox;
+        turn_away(rt, self.alloc, turned, &self.calls, text, SOURCE, outbox) == Ok(true)
+    }
+
+    /// Whether a text is turned away where those outside of dialogs are.
     fn turns_away<R: Wait>(&mut self, rt: &R, text: &[u8]) -> bool {
-        turn_away(rt, self.alloc, &self.calls, text, SOURCE, &mut self.outbox) == Ok(true)
+        self.turns_any_away(rt, TurnedRequests::OutsideDialogs, text)
     }
 
     /// The block of the call 0.
@@ -116,7 +127,15 @@ fn turns_away<R: Wait>(rt: &R, alloc: Global) -> &'static str {
     {
         return "it is answered 503 with Retry-After";
     }
-    if !scene.opens(rt) || scene.turns_away(rt, REQUEST) {
+    if !scene.turns_any_away(rt, TurnedRequests::All, INSIDE)
+        || scene.turns_any_away(rt, TurnedRequests::All, INSIDE_ACK)
+    {
+        return "within a dialog all but an ACK is turned away where that is asked for";
+    }
+    if !scene.opens(rt)
+        || scene.turns_away(rt, REQUEST)
+        || scene.turns_any_away(rt, TurnedRequests::All, REQUEST)
+    {
         return "the repeat of a request is not turned away";
     }
     "nothing"
@@ -153,7 +172,7 @@ fn a_configuration_is_checked(rt: HostRuntime) {
         config: FILE,
         control: "forkproxyd_test_unused",
         journal: None,
-        most_calls: 1,
+        most_calls: Some(1),
         workers: 1,
         records: false,
         own_port: false,

@@ -1,12 +1,27 @@
-//! Tests of the public calls of `daemon_answers` and `fork_daemon`.
+//! Tests of the public calls of `daemon_answers`, `proxy_service` and `fork_daemon`. What a service does is played without sockets, by tables of
+//! moments (`played`); what its sockets, threads and files add, by whole proxies (`living`, `wired`, `limited`, `ordering`).
 #![tactic(auto)]
 
 #[cfg(test)]
 mod agents;
 #[cfg(test)]
+mod anew;
+#[cfg(test)]
+mod answering;
+#[cfg(test)]
 mod blocks;
 #[cfg(test)]
+mod counting;
+#[cfg(test)]
+mod ending;
+#[cfg(test)]
+mod forgetting;
+#[cfg(test)]
+mod full;
+#[cfg(test)]
 mod holds;
+#[cfg(test)]
+mod limited;
 #[cfg(test)]
 mod living;
 #[cfg(test)]
@@ -16,4 +31,16 @@ mod ordering;
 #[cfg(test)]
 mod outbox;
 #[cfg(test)]
+mod outgoing;
+#[cfg(test)]
+mod played;
+#[cfg(test)]
+mod racing;
+#[cfg(test)]
 mod stamping;
+#[cfg(test)]
+mod telling;
+#[cfg(test)]
+mod texts;
+#[cfg(test)]
+mod wired;

@@ -2,8 +2,8 @@
 //! comes again, a stop.
 use crate::agents::Agents;
 use crate::holds::holds;
+use crate::telling::{counts, has_line, tells, told};
 use daemon_parts::{DaemonFault, Options};
-use fork_control::tell;
 use fork_daemon::serve;
 use std::alloc::Global;
 use std::fs::Files;
@@ -12,8 +12,8 @@ use std::net::{Net, TcpStream};
 use std::os::unix::net::UnixStream;
 use std::test::Fail;
 use std::thread::join;
-use std::time::{Clock, Duration};
-use std::{fs, io, thread};
+use std::time::Clock;
+use std::{fs, io};
 
 /// Where the proxy listens.
 const PROXY: u16 = 47_420;
@@ -41,7 +41,7 @@ const OPTIONS: Options<'static> = Options {
     config: CONFIG,
     control: CONTROL,
     journal: Some(JOURNAL),
-    most_calls: 2,
+    most_calls: Some(2),
     workers: 2,
     records: true,
     own_port: true,
@@ -55,46 +55,6 @@ const METRICS: &str = "127.0.0.1:47424";
 /// How the line of the call that failed ends, and its listing begins.
 const FAILED: &str =
     " call-id two failed 486 from sip:bob@127.0.0.1:47422, the only answer\nfork 3 1\n";
-
-/// How often the proxy is asked whether something has come about, a tenth of a second apart.
-const LOOKS: u32 = 400;
-
-/// What is answered to a line at the control socket.
-fn told<R: Net>(rt: &R, alloc: Global, line: &str) -> Option<Vec<u8>> {
-    let mut answer = Vec::new(alloc);
-    match tell(rt, CONTROL, line.as_bytes(), &mut answer) {
-        Ok(()) => Some(answer),
-        Err(_) => None,
-    }
-}
-
-/// Whether this is answered to a line.
-fn tells<R: Net>(rt: &R, alloc: Global, line: &str, expected: &str) -> bool {
-    match told(rt, alloc, line) {
-        Some(answer) => answer.as_slice() == expected.as_bytes(),
-        None => false,
-    }
-}
-
-/// Whether a line stands in a text.
-fn has_line(text: &[u8], line: &str) -> bool {
-    let line = line.as_bytes();
-    let len = line.len();
-    len > 0 && text.windows(len).any(|part| part == line)
-}
-
-/// Whether the counters come to have this line.
-fn counts<R: Net + Clock>(rt: &R, alloc: Global, line: &str) -> bool {
-    for _ in 0..LOOKS {
-        if let Some(text) = told(rt, alloc, "stats") {
-            if has_line(text.as_slice(), line) {
-                return true;
-            }
-        }
-        thread::sleep(rt, Duration::from_millis(100));
-    }
-    false
-}
 
 /// What a scraper gets.
 fn scraped<R: Net>(rt: &R, alloc: Global) -> io::Result<Vec<u8>> {
@@ -118,12 +78,12 @@ fn is_scraped<R: Net>(rt: &R, alloc: Global) -> bool {
 }
 
 /// Whether this is answered to a reload of this text.
-fn reloads<R: Net + Files>(rt: &R, alloc: Global, text: &[u8], expected: &str) -> bool {
-    fs::write(rt, CONFIG, text).is_ok() && tells(rt, alloc, "reload", expected)
+fn reloads<R: Net + Files + Clock>(rt: &R, alloc: Global, text: &[u8], expected: &str) -> bool {
+    fs::write(rt, CONFIG, text).is_ok() && tells(rt, alloc, CONTROL, "reload", expected)
 }
 
 /// Whether what is wanted of a configuration that is read anew comes about.
-fn takes_configurations<R: Net + Files>(rt: &R, alloc: Global) -> bool {
+fn takes_configurations<R: Net + Files + Clock>(rt: &R, alloc: Global) -> bool {
     reloads(
         rt,
         alloc,
@@ -146,7 +106,7 @@ fn filled<R: Net + Files + Clock>(rt: &R, alloc: Global, agents: &Agents) -> &'s
     if !takes_configurations(rt, alloc) {
         return "a configuration is read anew";
     }
-    if !counts(rt, alloc, "forkproxy_calls_forgotten_total 1\n") {
+    if !counts(rt, alloc, CONTROL, "forkproxy_calls_forgotten_total 1\n") {
         return "a call that is over is forgotten";
     }
     if !agents.passes("OPTIONS", "one", "SIP/2.0 200 OK\r\n") {
@@ -179,7 +139,7 @@ fn stopped<R: Net>(rt: &R, agents: &Agents, ringing: &[u8]) -> io::Result<&'stat
 
 /// Plays all, and says what did not hold.
 fn played<R: Net + Files + Clock>(rt: &R, alloc: Global, agents: &Agents) -> &'static str {
-    if !counts(rt, alloc, "forkproxy_calls 0\n") {
+    if !counts(rt, alloc, CONTROL, "forkproxy_calls 0\n") {
         return "the proxy answers at its control socket";
     }
     if !agents.passes("OPTIONS", "one", "SIP/2.0 200 OK\r\n") {
@@ -207,7 +167,7 @@ fn plays<R: Net + Files + Clock>(rt: &R, alloc: Global) -> &'static str {
         Some(agents) => played(rt, alloc, &agents),
         None => "there are two agents",
     };
-    let _ = told(rt, alloc, "stop 0");
+    let _ = told(rt, alloc, CONTROL, "stop 0");
     missed
 }
 

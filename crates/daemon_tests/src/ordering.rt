@@ -2,15 +2,14 @@
 //! and a target that rings and accepts at once.
 use crate::agents::Agents;
 use crate::holds::holds;
+use crate::telling::{counts, told};
 use daemon_parts::{DaemonFault, Options};
-use fork_control::tell;
 use fork_daemon::serve_text;
 use std::alloc::Global;
 use std::net::Net;
 use std::test::Fail;
-use std::thread;
 use std::thread::join;
-use std::time::{Clock, Duration};
+use std::time::Clock;
 
 /// Where the proxy listens.
 const PROXY: u16 = 47_440;
@@ -26,7 +25,7 @@ const OPTIONS: Options<'static> = Options {
     config: "forkproxyd_test_unused",
     control: CONTROL,
     journal: None,
-    most_calls: 1_000,
+    most_calls: Some(1_000),
     workers: 4,
     records: false,
     own_port: true,
@@ -36,26 +35,6 @@ const OPTIONS: Options<'static> = Options {
 
 /// How many calls are cancelled, and how many are accepted.
 const CALLS: u32 = 50;
-
-/// How often the proxy is looked for, a tenth of a second apart.
-const LOOKS: u32 = 100;
-
-/// Whether the proxy does what a line at its control socket asks for.
-fn obeys<R: Net>(rt: &R, alloc: Global, line: &str) -> bool {
-    let mut answer = Vec::new(alloc);
-    tell(rt, CONTROL, line.as_bytes(), &mut answer).is_ok()
-}
-
-/// Whether the proxy comes to serve.
-fn serves<R: Net + Clock>(rt: &R, alloc: Global) -> bool {
-    for _ in 0..LOOKS {
-        if obeys(rt, alloc, "stats") {
-            return true;
-        }
-        thread::sleep(rt, Duration::from_millis(100));
-    }
-    false
-}
 
 /// Whether a CANCEL right behind its INVITE finds the call; else it is answered 481.
 fn is_cancelled(agents: &Agents, call: &str) -> bool {
@@ -81,7 +60,7 @@ fn rings_first(agents: &Agents, call: &str) -> bool {
 /// Plays the calls once the proxy serves, and says what did not hold. Those that are accepted come first: the target is sent the INVITEs of the
 /// others again and again.
 fn played<R: Net + Clock>(rt: &R, alloc: Global, agents: &Agents) -> &'static str {
-    if !serves(rt, alloc) {
+    if !counts(rt, alloc, CONTROL, "forkproxy_calls 0\n") {
         return "the proxy serves";
     }
     for number in 0..CALLS {
@@ -109,7 +88,7 @@ fn plays<R: Net + Clock>(rt: &R, alloc: Global) -> &'static str {
         Some(agents) => played(rt, alloc, &agents),
         None => "there are two agents",
     };
-    let _ = obeys(rt, alloc, "stop 0");
+    let _ = told(rt, alloc, CONTROL, "stop 0");
     missed
 }
 

@@ -23,6 +23,8 @@ mod outbox;
 #[cfg(test)]
 mod own_port;
 #[cfg(test)]
+mod own_routes;
+#[cfg(test)]
 mod strays;
 #[cfg(test)]
 mod texts;

@@ -11,6 +11,7 @@ use Rattle.sip_build.specs.declared.responses.OwnStatus.{OwnStatus}
 use Rattle.sip_build.specs.Forwarding.{to_target}
 use Rattle.sip_build.specs.Generated.{generated_of}
 use Rattle.call_model.specs.Built.{generated}
+use Rattle.proxy_routing.proofs.laws.OwnRoutes.{kept}
 use Rattle.fork_call.specs.Naming.{OwnAnswersAreToTheRequest, RequestsNameTheirTargets}
 
 filter_twice : (f : List ℕ → Bool) (xs : List (List ℕ)) → filter f (filter f xs) ≡ filter f xs
@@ -47,5 +48,5 @@ own_answers law setup number m source call status opens =
       pending_call.1,
       ap (λ (x : Call). generated x.opened status) begins.2
           ∙ ap (λ (r : MessageText). generated_of r status) pending_call.2
-          ∙ law pending_call.0 setup.own status,
+          ∙ kept (λ (r : MessageText). generated_of r status) (λ x own. law x own status) setup pending_call.0,
     )

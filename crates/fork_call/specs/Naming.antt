@@ -14,8 +14,8 @@ use Rattle.call_model.specs.OpenedRequest.{OpenedRequest, Destination}
 use Rattle.proxy_config.specs.Setup.{Setup}
 use Rattle.call_routing.specs.Opening.{Opens}
 
--- each answer of the proxy's own is that to the request as it was marked with its source, though the call keeps it without a
--- Route value that names the proxy
+-- each answer of the proxy's own is that to the request as it was marked with its source, though the call keeps it without the
+-- Route values that the proxy takes away
 abbrev pub OwnAnswersAreToTheRequest : Type 0
 OwnAnswersAreToTheRequest =
     (setup : Setup) (number : ℕ) (m : MessageText) (source : Hop) (call : Call) (status : OwnStatus) → Opens setup number m source call

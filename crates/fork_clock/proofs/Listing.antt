@@ -52,18 +52,6 @@ listed_popped_stale entries rest entry deadlines number due permutation is stale
     (λ there. (old.0, there, old.2))
     (contains_cons entry rest old.0 (Contains-permutation _ _ old.0 permutation old.1))
 
--- an entry may go with its number's deadline
-pub listed_popped : (entries rest : List Entry) (entry : Entry) (old new : List (ℕ × ℕ)) (number due : ℕ)
-    → IsPermutation entries (entry ∷ rest) → entry.0 ≡ (due, number) → IsWithout old number new
-    → AreListed entries old → AreListed rest new
-listed_popped entries rest entry old new number due permutation is without listed n other at = dite (ℕ_discrete n number)
-    (λ (same : n ≡ number). absurd (none-some other (sym without.0 ∙ ap (λ m. deadline_of new m) (sym same) ∙ at)))
-    (λ (apart : n ≢ number).
-    let was = listed n other (sym (without.1 n apart) ∙ at) in ⊎_elim
-    (λ (same : entry ≡ was.0). absurd (apart (ap (λ p. p.1) (sym was.2 ∙ ap (λ e. e.0) (sym same) ∙ is))))
-    (λ there. (was.0, there, was.2))
-    (contains_cons entry rest was.0 (Contains-permutation _ _ was.0 permutation was.1)))
-
 none_below : (a b : ℕ) (o : Ordering) → is_lt (ordering_then (nat_cmp b a) o) ≡ false → a ≤ b
 none_below a b o not_less = search rules
 

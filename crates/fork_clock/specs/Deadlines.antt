@@ -36,6 +36,10 @@ IsAdded deadlines number deadline new =
 abbrev pub IsWithout : List (ℕ × ℕ) → ℕ → List (ℕ × ℕ) → Type 0
 IsWithout deadlines number new = (deadline_of new number ≡ None) × AreSameBut number deadlines new
 
+-- this is the deadline of some number
+abbrev pub IsDeadline : List (ℕ × ℕ) → ℕ → Type 0
+IsDeadline deadlines deadline = (n : ℕ) × (deadline_of deadlines n ≡ Some deadline)
+
 -- no deadline is before this moment
 abbrev pub IsEarliest : List (ℕ × ℕ) → ℕ → Type 0
 IsEarliest deadlines moment = (n deadline : ℕ) → deadline_of deadlines n ≡ Some deadline → moment ≤ deadline

@@ -2,7 +2,7 @@
 ghost use Rattle.std.specs.Prelude.{◌≡◌, ◌≢◌, ◌<◌, ◌⊎◌, ℕ, Some, None, IfSome, IfNone, OnOk, OnErr};
 ghost use Rattle.std.specs.Bool.{OnTrue, OnFalse};
 ghost use Rattle.std.specs.BinaryHeap.{heap_items, IsHeap};
-ghost use Rattle.fork_clock.specs.Deadlines.{deadline_of, entry_order, AreLater, AreListed, AreSame, IsAdded, IsEarliest, IsEarliestDue, IsSet, IsWithout};
+ghost use Rattle.fork_clock.specs.Deadlines.{deadline_of, entry_order, AreLater, AreListed, AreSame, IsAdded, IsDeadline, IsEarliest, IsEarliestDue, IsSet, IsWithout};
 
 use std::alloc::{AllocError, Allocator};
 use std::cmp::Reverse;
@@ -32,17 +32,35 @@ impl<A: Allocator> Model for DeadlineHeap<A> {
     ghost invariant = { λ h. IsHeap entry_order (heap_items h.heap) × AreListed (heap_items h.heap) h.deadlines.entries };
 }
 
-/// Takes a number's deadline away where it is this one, and says whether it was.
-fn forget<A: Allocator>(deadlines: &mut BTreeMap<u64, u64, A>, number: u64, deadline: u64) -> bool
-    ensures was { OnTrue result ((deadline_of deadlines.old.entries number ≡ Some deadline) × IsWithout deadlines.old.entries number deadlines.new.entries) }
-    ensures other { OnFalse result ((deadlines.new.entries ≡ deadlines.old.entries) × (deadline_of deadlines.old.entries number ≢ Some deadline)) }
+/// Whether this is the deadline of this number.
+fn counts<A: Allocator>(deadlines: &BTreeMap<u64, u64, A>, number: u64, deadline: u64) -> bool
+    ensures is { OnTrue result (deadline_of deadlines.now.entries number ≡ Some deadline) }
+    ensures other { OnFalse result (deadline_of deadlines.now.entries number ≢ Some deadline) }
 {
-    if deadlines.get(&number) == Some(&deadline) {
-        deadlines.remove(&number);
-        true
-    } else {
-        false
+    deadlines.get(&number) == Some(&deadline)
+}
+
+/// The earliest deadline of all, with a number whose it is; entries that count no longer and stand before it go.
+fn first<A: Allocator>(
+    heap: &mut BinaryHeap<Entry, A>,
+    deadlines: &BTreeMap<u64, u64, A>,
+) -> Option<(u64, u64)>
+    requires heap { IsHeap entry_order (heap_items heap.old) }
+    requires listed { AreListed (heap_items heap.old) deadlines.now.entries }
+    ensures heap { IsHeap entry_order (heap_items heap.new) }
+    ensures listed { AreListed (heap_items heap.new) deadlines.now.entries }
+    ensures some { IfSome result (λ first. (deadline_of deadlines.now.entries first.1 ≡ Some first.0) × IsEarliest deadlines.now.entries first.0) }
+    ensures none { IfNone result ((n : ℕ) → deadline_of deadlines.now.entries n ≡ None) }
+{
+    while let Some(Reverse((deadline, number))) = heap.peek().copied() {
+        if counts(deadlines, number, deadline) {
+            return Some((deadline, number));
+        }
+        let Some(_late) = heap.pop() else {
+            return None;
+        };
     }
+    None
 }
 
 /// Takes a number whose deadline has come, the earliest of all; entries that count no longer go with it.
@@ -58,18 +76,12 @@ fn take_first_due<A: Allocator>(
     ensures some { IfSome result (λ number. IsEarliestDue deadlines.old.entries now number × IsWithout deadlines.old.entries number deadlines.new.entries) }
     ensures none { IfNone result (AreLater now deadlines.old.entries × (deadlines.new.entries ≡ deadlines.old.entries)) }
 {
-    while let Some(Reverse((first, _))) = heap.peek().copied() {
-        if first > now {
-            return None;
-        }
-        let Some(Reverse((deadline, number))) = heap.pop() else {
-            return None;
-        };
-        if forget(deadlines, number, deadline) {
-            return Some(number);
-        }
+    let (deadline, number) = first(heap, deadlines)?;
+    if deadline > now {
+        return None;
     }
-    None
+    deadlines.remove(&number);
+    Some(number)
 }
 
 /// Gives a number this deadline, whatever it had.
@@ -144,13 +156,14 @@ impl<A: Allocator + Clone> DeadlineHeap<A> {
         take_first_due(&mut self.heap, &mut self.deadlines, now)
     }
 
-    /// A moment that no deadline is before; none where no number has a deadline.
-    pub(crate) fn earliest(&self) -> Option<u64>
-        ensures some { IfSome result (IsEarliest self.now) }
-        ensures none { IfNone result ((n : ℕ) → deadline_of self.now n ≡ None) }
+    /// The earliest deadline of all; none where no number has a deadline. No deadline changes.
+    pub(crate) fn earliest(&mut self) -> Option<u64>
+        ensures some { IfSome result (λ deadline. IsDeadline self.old deadline × IsEarliest self.old deadline) }
+        ensures none { IfNone result ((n : ℕ) → deadline_of self.old n ≡ None) }
+        ensures same { self.new ≡ self.old }
     {
-        match self.heap.peek() {
-            Some(Reverse((deadline, _))) => Some(*deadline),
+        match first(&mut self.heap, &self.deadlines) {
+            Some((deadline, _)) => Some(deadline),
             None => None,
         }
     }

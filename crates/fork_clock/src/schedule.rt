@@ -1,5 +1,5 @@
 //! When each call is next due, as all threads know it, and the sleep until the first is.
-ghost use Rattle.std.specs.Prelude.{◌≡◌, ◌*◌, ◌-◌, ◌^◌, min};
+ghost use Rattle.std.specs.Prelude.{◌≡◌, ◌*◌, ◌-◌, ◌^◌, min, if◌then◌else◌};
 
 use crate::deadlines::DeadlineHeap;
 use std::alloc::{AllocError, Allocator, Global};
@@ -17,15 +17,19 @@ const MICROS: u64 = 1_000;
 /// No sleep is longer, in microseconds: ten seconds.
 const LONGEST: u64 = 10_000_000;
 
+/// No sleep is longer where a deadline was missed, in microseconds: ten milliseconds.
+const LONGEST_MISSED: u64 = 10_000;
+
 /// How long to sleep from `now`, in microseconds, until a deadline in milliseconds: not at all where it has come, and ten
-/// seconds at most.
-fn pause(deadline: u64, now: u64) -> u64
-    ensures { result ≡ min (min (deadline * 1000) (2 ^ 64 - 1) - now) 10000000 }
+/// seconds at most; ten milliseconds where a deadline was missed, which may be any.
+fn pause(deadline: u64, now: u64, is_missed: bool) -> u64
+    ensures { result ≡ min (min (deadline * 1000) (2 ^ 64 - 1) - now) (if is_missed then 10000 else 10000000) }
 {
+    let longest = if is_missed { LONGEST_MISSED } else { LONGEST };
     deadline
         .saturating_mul(MICROS)
         .saturating_sub(now)
-        .min(LONGEST)
+        .min(longest)
 }
 
 /// When each call is next due, by its number, and what the one thread that keeps the time sleeps on. Deadlines are in
@@ -59,20 +63,27 @@ impl<A: Allocator + Clone> Schedule<A> {
 
     /// Adds the deadline of a call, in milliseconds; of two of one call the earlier stays. Where it is the earliest of all now,
     /// the thread that sleeps wakes.
-    pub fn add<R: Wait>(&self, rt: &R, number: u64, deadline: u64) {
-        let is_earliest = {
+    ///
+    /// # Errors
+    ///
+    /// Only where the allocator refuses. Then the deadline counts as missed, and the thread that sleeps wakes.
+    pub fn add<R: Wait>(&self, rt: &R, number: u64, deadline: u64) -> Result<(), AllocError> {
+        let (added, is_earliest) = {
             let mut deadlines = self.deadlines.lock(rt);
             let before = deadlines.earliest().unwrap_or(NEVER);
-            if deadlines.add(number, deadline).is_err() {
-                self.missed.store(true, Ordering::SeqCst);
-            }
+            let added = deadlines.add(number, deadline);
             let earliest = deadlines.earliest().unwrap_or(NEVER);
             self.earliest.store(earliest, Ordering::SeqCst);
-            earliest < before
+            (added, earliest < before)
         };
-        if is_earliest {
+        let is_missed = added.is_err();
+        if is_missed {
+            self.missed.store(true, Ordering::SeqCst);
+        }
+        if is_missed || is_earliest {
             self.parker.unpark();
         }
+        added
     }
 
     /// Whether some call may be due at `now`, in milliseconds. The look takes no lock.
@@ -96,14 +107,20 @@ impl<A: Allocator + Clone> Schedule<A> {
     }
 
     /// Sleeps until the earliest deadline comes, or this moment in milliseconds, or `wake` is called, or an earlier deadline is
-    /// added, and ten seconds at most; `now` is in microseconds. One thread alone may sleep. What wakes it between its last look
-    /// and the sleep is not lost: then it does not sleep.
+    /// added or missed, and ten seconds at most; ten milliseconds where one was missed that nobody asked for yet. `now` is in
+    /// microseconds. One thread alone may sleep. What wakes it between its last look and the sleep is not lost: then it does not
+    /// sleep, but where a deadline was missed: who missed it may be the thread that sleeps, and would then never rest.
     pub fn sleep_until<R: Wait>(&self, rt: &R, now: u64, until: u64) {
+        let is_missed = self.missed.load(Ordering::SeqCst);
         let deadline = self.earliest.load(Ordering::SeqCst).min(until);
-        let wait = pause(deadline, now);
-        if wait > 0 {
-            self.parker.park_timeout(rt, Duration::from_micros(wait));
+        let wait = pause(deadline, now, is_missed);
+        if wait == 0 {
+            return;
         }
+        if is_missed {
+            self.parker.park_timeout(rt, Duration::from_micros(0));
+        }
+        self.parker.park_timeout(rt, Duration::from_micros(wait));
     }
 
     /// Wakes the thread that sleeps, or that will sleep next.

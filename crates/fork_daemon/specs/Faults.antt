@@ -14,6 +14,7 @@ IsSystemFault fault.Clock = Unit {0}
 IsSystemFault fault.Socket = Unit {0}
 IsSystemFault fault.Control = Unit {0}
 IsSystemFault fault.Metrics = Unit {0}
+IsSystemFault fault.Journal = Unit {0}
 IsSystemFault _ = ⊥
 
 abbrev pub Spells : List ℕ → Type 0
@@ -21,18 +22,19 @@ Spells text = (setup : Setup) × IsConfiguration text setup
 
 -- the text is not too long, and spells a setup where it is completed by this number
 abbrev pub IsRead : List ℕ → ℕ → Type 0
-IsRead text seconds = (length text ≤ most_text) × Spells (completed text seconds)
+IsRead text number = (length text ≤ most_text) × Spells (completed text number)
 
 -- what each fault says of the text of the configuration: it is too long; it is not, and this is its first malformed line; it was read
 abbrev pub IsServeFaultOf : List ℕ → ℕ → DaemonFault → Type 0
-IsServeFaultOf text seconds fault.TooLong = most_text < length text
-IsServeFaultOf text seconds (fault.Line n) = (length text ≤ most_text) × IsMalformedLine text seconds n
-IsServeFaultOf text seconds fault.NoMemory = length text ≤ most_text
-IsServeFaultOf text seconds fault.Clock = IsRead text seconds
-IsServeFaultOf text seconds fault.Socket = IsRead text seconds
-IsServeFaultOf text seconds fault.Control = IsRead text seconds
-IsServeFaultOf text seconds fault.Metrics = IsRead text seconds
-IsServeFaultOf text seconds _ = ⊥
+IsServeFaultOf text number fault.TooLong = most_text < length text
+IsServeFaultOf text number (fault.Line n) = (length text ≤ most_text) × IsMalformedLine text number n
+IsServeFaultOf text number fault.NoMemory = length text ≤ most_text
+IsServeFaultOf text number fault.Clock = IsRead text number
+IsServeFaultOf text number fault.Socket = IsRead text number
+IsServeFaultOf text number fault.Control = IsRead text number
+IsServeFaultOf text number fault.Metrics = IsRead text number
+IsServeFaultOf text number fault.Journal = IsRead text number
+IsServeFaultOf text number _ = ⊥
 
 -- only a configuration that is read anew has another identity
 abbrev pub IsServeFault : DaemonFault → Type 0

@@ -1,2 +1,3 @@
+pub mod Admission
 pub mod Faults
-pub mod Journal
+pub mod Handover

@@ -1,14 +1,20 @@
 //! What the control socket asks of a proxy.
-use crate::proxy::{Proxy, State, by_own_port};
-use daemon_parts::{DaemonFault, Gauges, ProxyFiles, read_again, resident_bytes};
-use fork_clock::Watch;
+ghost use Rattle.std.specs.Prelude.{IfErr};
+ghost use Rattle.daemon_parts.specs.Faults.{IsConfigurationFault};
+
+use crate::proxy::Proxy;
+use daemon_parts::{DaemonFault, ProxyFiles, configuration_fault, resident_bytes};
 use fork_control::Controlled;
 use metrics_page::Counted;
+use proxy_service::State;
 use std::alloc::Global;
 use std::io;
 use std::io::ErrorKind;
 use std::sync::Wait;
 use std::time::Clock;
+
+/// How many bytes a configuration has at most; of a longer file one more is read.
+const MOST_TEXT: usize = 1_048_576;
 
 /// A proxy under control.
 #[derive(Drop)]
@@ -17,13 +23,25 @@ pub(crate) struct Control<'a, R> {
     pub(crate) proxy: &'a Proxy,
 }
 
-impl<'a, R: Wait + Clock + ProxyFiles> Control<'a, R> {
-    /// Microseconds since the beginning.
-    fn micros(&self) -> u64 {
-        let mut watch = Watch::new(self.proxy.epoch);
-        watch.micros(self.rt)
+/// The text of a configuration's file; of one that is too long as much as tells so.
+///
+/// # Errors
+///
+/// `Unreadable` where the system refuses, and `NoMemory`.
+pub(crate) fn read_config<R: ProxyFiles>(
+    rt: &R,
+    alloc: Global,
+    path: &str,
+) -> Result<Vec<u8>, DaemonFault>
+    ensures { IfErr result IsConfigurationFault }
+{
+    match rt.read_file(alloc, path, MOST_TEXT) {
+        Ok(text) => Ok(text),
+        Err(error) => Err(configuration_fault(error)),
     }
+}
 
+impl<'a, R: Wait + Clock + ProxyFiles> Control<'a, R> {
     /// Reads the configuration anew; calls keep what they were opened with.
     ///
     /// # Errors
@@ -31,15 +49,8 @@ impl<'a, R: Wait + Clock + ProxyFiles> Control<'a, R> {
     /// Where it is not taken; then the one before stays.
     fn take_setup(&self) -> Result<(), DaemonFault> {
         let proxy = self.proxy;
-        let setup = read_again(
-            self.rt,
-            proxy.alloc,
-            proxy.paths.config.as_str(),
-            proxy.limits.seconds,
-            proxy.limits.identity,
-        )?;
-        *proxy.setup.write(self.rt) = by_own_port(setup, proxy.limits.own_port);
-        Ok(())
+        let text = read_config(self.rt, proxy.alloc, proxy.paths.config.as_str())?;
+        proxy.service.reload(self.rt, text.as_slice())
     }
 
     /// The counters as they stand now, in the text form of Prometheus.
@@ -49,20 +60,17 @@ impl<'a, R: Wait + Clock + ProxyFiles> Control<'a, R> {
     /// Want of memory for the text.
     fn text(&self) -> io::Result<Vec<u8>> {
         let proxy = self.proxy;
-        let gauges = Gauges {
-            seconds: self.micros() / 1_000_000,
-            held: proxy.calls.held(self.rt),
-            resident: resident_bytes(self.rt, proxy.alloc),
-        };
-        Ok(proxy.counts.text(proxy.alloc, gauges)?)
+        let resident = resident_bytes(self.rt, proxy.alloc);
+        let now = proxy.millis(self.rt);
+        Ok(proxy.service.stats(self.rt, now, resident)?)
     }
 }
 
 impl<'a, R: Wait + Clock + ProxyFiles> Controlled for Control<'a, R> {
     fn stop(&self, seconds: u64) {
-        let now = self.micros() / 1_000;
         self.proxy
-            .drain(now.saturating_add(seconds.saturating_mul(1_000)));
+            .service
+            .drain(self.proxy.millis(self.rt), seconds);
     }
 
     fn reload(&self) -> Result<String<Global>, io::Error> {
@@ -81,7 +89,7 @@ impl<'a, R: Wait + Clock + ProxyFiles> Controlled for Control<'a, R> {
     }
 
     fn has_ended(&self) -> bool {
-        self.proxy.is_in(State::Ended)
+        self.proxy.service.is_in(State::Ended)
     }
 }
 
@@ -91,6 +99,6 @@ impl<'a, R: Wait + Clock + ProxyFiles> Counted for Control<'a, R> {
     }
 
     fn has_ended(&self) -> bool {
-        self.proxy.is_in(State::Ended)
+        self.proxy.service.is_in(State::Ended)
     }
 }

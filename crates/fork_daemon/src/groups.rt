@@ -1,11 +1,18 @@
 //! The groups of calls, by which what comes of one call is handled in the order in which it came.
-use crate::packet::Packet;
-use call_groups::Group;
+ghost use Rattle.std.specs.Prelude.{◌≡◌, true, OnErr, OnOk};
+ghost use Rattle.fork_daemon.specs.Handover.{HasLast, IsHandedOver};
+
+use crate::packet::{Packet, weight};
+use call_groups::{Group, Room};
+use sip_uri::Hop;
 use std::alloc::{AllocError, Global};
 use std::sync::{Mutex, Wait};
 
 /// How many numbers of groups there are.
 const NUMBERS: u16 = 256;
+
+/// How many bytes may wait in all groups together.
+const MOST_BYTES: u64 = 67_108_864;
 
 /// The groups of calls, each behind its lock.
 #[derive(Drop)]
@@ -14,6 +21,43 @@ pub(crate) struct Groups {
     numbered: Vec<Mutex<Group<Packet>>>,
     /// What comes without a Call-ID.
     other: Mutex<Group<Packet>>,
+    /// The room for all that waits.
+    room: Mutex<Room>,
+}
+
+/// Whose a datagram is that came.
+#[derive(Clone, Copy, Debug, PartialEq, Eq)]
+pub(crate) enum Handover {
+    /// No worker was on its group: that of who received it, who is on the group now.
+    Entered,
+    /// That of the worker that is on its group.
+    HandedOver,
+    /// Nobody's: as much waits as may.
+    CrowdedOut,
+    /// Nobody's, for want of memory.
+    NoMemory,
+}
+
+/// Hands a copy of a datagram over to the worker that is on its group.
+///
+/// # Errors
+///
+/// Where as many wait as may, or the allocator refuses; then the group is as it was.
+fn hand_over(
+    alloc: Global,
+    group: &mut Group<Packet>,
+    bytes: &[u8],
+    source: Hop,
+) -> Result<(), AllocError>
+    requires { group.old.busy ≡ true }
+    ensures ok { OnOk result (HasLast group.old bytes.now source group.new) }
+    ensures err { OnErr result (group.new ≡ group.old) }
+{
+    let bytes = Vec::from_slice(alloc, bytes)?;
+    match group.hand_over(Packet { bytes, source }) {
+        Ok(()) => Ok(()),
+        Err(_) => Err(AllocError),
+    }
 }
 
 impl Groups {
@@ -32,11 +76,12 @@ impl Groups {
         Ok(Groups {
             numbered,
             other: Mutex::new(Group::new(alloc)),
+            room: Mutex::new(Room::new(MOST_BYTES)),
         })
     }
 
     /// The group of this number, or that of what comes without a Call-ID.
-    pub(crate) fn group(&self, number: Option<u8>) -> &Mutex<Group<Packet>> {
+    fn group(&self, number: Option<u8>) -> &Mutex<Group<Packet>> {
         match number {
             Some(number) => self
                 .numbered
@@ -46,8 +91,55 @@ impl Groups {
         }
     }
 
+    /// Enters a group with a datagram of it, where no worker is on it; else the datagram is handed over to the worker that is, where there
+    /// is room.
+    fn enter_or_hand_over<R: Wait>(
+        &self,
+        rt: &R,
+        alloc: Global,
+        group: &mut Group<Packet>,
+        bytes: &[u8],
+        source: Hop,
+    ) -> Handover
+        ensures { IsHandedOver group.old bytes.now source result group.new }
+    {
+        if group.enter() {
+            return Handover::Entered;
+        }
+        let bytes_taken = weight(bytes);
+        if group.is_full() || !self.room.lock(rt).take(bytes_taken) {
+            return Handover::CrowdedOut;
+        }
+        match hand_over(alloc, group, bytes, source) {
+            Ok(()) => Handover::HandedOver,
+            Err(AllocError) => {
+                self.room.lock(rt).give_back(bytes_taken);
+                Handover::NoMemory
+            }
+        }
+    }
+
+    /// Enters the group of this number with a datagram of it, or hands the datagram over.
+    pub(crate) fn enter<R: Wait>(
+        &self,
+        rt: &R,
+        alloc: Global,
+        number: Option<u8>,
+        bytes: &[u8],
+        source: Hop,
+    ) -> Handover {
+        let mut group = self.group(number).lock(rt);
+        self.enter_or_hand_over(rt, alloc, &mut *group, bytes, source)
+    }
+
     /// Takes what waits first in a group. Where nothing does, no worker is on the group any more.
     pub(crate) fn next<R: Wait>(&self, rt: &R, number: Option<u8>) -> Option<Packet> {
-        self.group(number).lock(rt).next()
+        let next = self.group(number).lock(rt).next();
+        if let Some(packet) = &next {
+            self.room
+                .lock(rt)
+                .give_back(weight(packet.bytes.as_slice()));
+        }
+        next
     }
 }

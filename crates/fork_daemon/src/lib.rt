@@ -1,18 +1,21 @@
-//! A proxy that serves until it is told to stop: the system's clock, calls that are forgotten once they are over, a control socket, a
-//! journal, and counters.
+//! A proxy that serves until it is told to stop: the sockets, threads and files by which a service (`proxy_service`) is reached.
 #![tactic(auto)]
 
+mod admission;
 mod control;
+mod crew;
 mod groups;
 mod idle;
-mod journal;
+mod opening;
 mod packet;
+mod pieces;
 mod port;
 mod proxy;
 mod receiving;
 mod serving;
 mod timer;
 mod worker;
+mod writer;
 
-pub use journal::append_block;
+pub use admission::admits;
 pub use serving::{check_config, serve, serve_text};

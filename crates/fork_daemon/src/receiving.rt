@@ -1,17 +1,18 @@
 //! How a worker comes by a datagram. One worker at a time receives. Before it lets the next one receive, it enters the datagram's group of
 //! calls, or hands the datagram over to the worker that is on that group; so what comes of one call is handled in the order in which it came.
 //! It lets the next one receive where one more datagram waits.
-ghost use Rattle.std.specs.Prelude.{◌≡◌, ◌≤◌, true, length, IfErr, IfOk, IfSome};
+ghost use Rattle.std.specs.Prelude.{◌≤◌, length, IfErr, IfOk, IfSome};
 ghost use Rattle.fork_daemon.specs.Faults.{IsSystemFault};
 
-use crate::packet::Packet;
-use crate::proxy::{Proxy, State};
-use call_groups::Group;
-use daemon_parts::DaemonFault;
+use crate::admission::admits;
+use crate::groups::Handover;
+use crate::proxy::Proxy;
+use daemon_parts::{DaemonFault, Socket};
 use fork_clock::Watch;
+use proxy_service::State;
 use sip_uri::Hop;
 use source_limit::SourceLimits;
-use std::alloc::{AllocError, Global};
+use std::alloc::Global;
 use std::sync::Wait;
 use std::time::Clock;
 use worker_jobs::group_of;
@@ -26,28 +27,8 @@ pub(crate) struct Entered {
     pub(crate) group: Option<u8>,
 }
 
-/// Hands a copy of a datagram over to the worker that is on its group.
-///
-/// # Errors
-///
-/// Where as many wait as may, or the allocator refuses.
-fn hand_over(
-    alloc: Global,
-    group: &mut Group<Packet>,
-    bytes: &[u8],
-    source: Hop,
-) -> Result<(), AllocError>
-    requires { group.old.busy ≡ true }
-{
-    let bytes = Vec::from_slice(alloc, bytes)?;
-    match group.hand_over(Packet { bytes, source }) {
-        Ok(()) => Ok(()),
-        Err(_) => Err(AllocError),
-    }
-}
-
 impl Proxy {
-    /// Counts a datagram that came, and says whether its source may send it now. One that there is no memory to count may.
+    /// Counts a datagram that came, and says whether its source may send it now.
     fn admits<R: Clock>(
         &self,
         rt: &R,
@@ -55,41 +36,33 @@ impl Proxy {
         watch: &mut Watch,
         source: Hop,
     ) -> bool {
-        self.counts.datagrams.received.add(1);
-        let Some(limits) = limits else {
-            return true;
+        let now = match limits {
+            Some(_) => watch.micros(rt) / 1_000,
+            None => 0,
         };
-        let now = watch.micros(rt) / 1_000;
-        if matches!(limits.admits(source.addr, now), Ok(false)) {
-            self.counts.datagrams.limited.add(1);
-            return false;
-        }
-        true
+        let counts = &self.service.counts().datagrams;
+        admits(counts, limits, source.addr, now)
     }
 
-    /// Enters a group with a datagram of it, and says whether no worker was on it. Where one was, the datagram is handed over to that
-    /// worker, or dropped and counted where as many wait as may.
-    fn enter_or_hand_over(&self, group: &mut Group<Packet>, bytes: &[u8], source: Hop) -> bool {
-        if group.enter() {
-            return true;
-        }
-        let counts = &self.counts.datagrams;
-        if group.is_full() {
-            counts.crowded_out.add(1);
-        } else if hand_over(self.alloc, group, bytes, source).is_err() {
-            counts.no_memory.add(1);
-        }
-        false
-    }
-
-    /// Whether the group of this number is entered with a datagram; else it is another worker's.
+    /// Whether the group of this number is entered with a datagram; else it is another worker's, or is dropped and counted.
     fn enters<R: Wait>(&self, rt: &R, number: Option<u8>, bytes: &[u8], source: Hop) -> bool {
-        let mut group = self.groups.group(number).lock(rt);
-        self.enter_or_hand_over(&mut *group, bytes, source)
+        let counts = &self.service.counts().datagrams;
+        match self.groups.enter(rt, self.alloc, number, bytes, source) {
+            Handover::Entered => true,
+            Handover::HandedOver => false,
+            Handover::CrowdedOut => {
+                counts.crowded_out.add(1);
+                false
+            }
+            Handover::NoMemory => {
+                counts.no_memory.add(1);
+                false
+            }
+        }
     }
 
-    /// The next datagram that this worker is to handle, while no other worker receives. None where none comes within a second, or it is for
-    /// another worker, or is dropped, or the proxy has ended.
+    /// The next datagram that this worker is to handle, while no other worker receives. None where none comes within a second, or it is
+    /// for another worker, or is dropped, or the proxy has ended.
     ///
     /// # Errors
     ///
@@ -98,6 +71,7 @@ impl Proxy {
     pub(crate) fn receive<R: Wait + Clock>(
         &self,
         rt: &R,
+        socket: &Socket,
         limits: &mut Option<SourceLimits<Global>>,
         watch: &mut Watch,
         buffer: &mut [u8],
@@ -105,8 +79,8 @@ impl Proxy {
         ensures fits { IfOk result (λ came. IfSome came (λ entered. entered.count ≤ length buffer.new)) }
         ensures fault { IfErr result IsSystemFault }
     {
-        let came = self.socket.receive(buffer)?;
-        if self.is_in(State::Ended) {
+        let came = socket.receive(buffer)?;
+        if self.service.is_in(State::Ended) {
             return Ok(None);
         }
         let Some((count, source)) = came else {

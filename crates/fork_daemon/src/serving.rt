@@ -1,87 +1,66 @@
 //! A proxy serves until it is told to stop.
 ghost use denote.Param.Send.{IsSync};
+ghost use Rattle.daemon_parts.specs.contracts.socket.Socket.{the_row as socket_row};
 ghost use Rattle.fork_daemon.specs.contracts.serving.Server.{the_row as server_row};
-ghost use Rattle.std.specs.Prelude.{◌↔◌, ◌<◌, length, IfErr, OnOk, IsErrOf};
+ghost use Rattle.std.specs.Prelude.{◌≡◌, ◌/◌, ◌%◌, ◌^◌, ◌↔◌, ◌<◌, length, IfErr, OnOk, IsErrOf};
+ghost use Rattle.std.specs.Duration.{as_nanos};
 ghost use Rattle.daemon_parts.specs.Completion.{completed};
 ghost use Rattle.daemon_parts.specs.declared.fault.DaemonFault.TheVariants as faults;
 ghost use Rattle.daemon_parts.specs.Faults.{most_text, IsConfigurationFault};
 ghost use Rattle.fork_daemon.specs.Faults.{IsServeFault, IsServeFaultOf, IsSystemFault, Spells};
 
-use crate::control::Control;
-use crate::proxy::{Proxy, Start, by_own_port, seconds};
-use daemon_parts::{
-    DaemonFault, Options, ProxyFiles, Socket, configuration_fault, control_fault, metrics_fault,
-    read_setup, read_text,
-};
+use crate::control::{Control, read_config};
+use crate::crew::{Crew, run};
+use crate::opening::{Listeners, bound, buffers_of, open_all};
+use crate::proxy::{Proxy, Start};
+use daemon_parts::{DaemonFault, Options, ProxyFiles, Socket, read_setup, read_text};
 use fork_call::Setup;
-use fork_clock::{Epoch, Watch};
+use fork_clock::Epoch;
 use fork_control::listen;
 use libc::net;
+use libc::types::pollfd;
 use metrics_page::{PageSockets, answer_scrapers};
 use sip_uri::Hop;
-use std::alloc::{AllocError, Global};
+use std::alloc::Global;
 use std::io::Print;
-use std::net::{Net, TcpListener};
+use std::net::Net;
 use std::os::fd::AsRawFd;
-use std::os::unix::net::UnixListener;
 use std::sync::Wait;
-use std::thread;
-use std::thread::{Promise, PromisedHandle, Threads};
-use std::time::Clock;
+use std::thread::Threads;
+use std::time::{Clock, Duration, SystemTime};
 
-/// How many bytes of a datagram are received.
-const MOST_BYTES: usize = 65_535;
+/// The descriptor of the standard output.
+const STANDARD_OUTPUT: i32 = 1;
 
-/// What the threads of a proxy do.
-trait Crew {
-    /// Receives datagrams in this buffer and handles them, until the end. Where a receive failed the proxy ends.
-    fn work<R: Wait + ProxyFiles + Clock>(&self, rt: &R, buffer: Vec<u8>) -> Result<(), DaemonFault>
-        ensures { IfErr result IsSystemFault };
-
-    /// Does what is due, when it is, until the end.
-    fn keep_time<R: Wait + ProxyFiles + Clock>(&self, rt: &R);
-
-    /// Answers at the control socket until it is closed.
-    fn answer<R: Wait + ProxyFiles + Clock>(&self, rt: &R);
-
-    /// Answers those who scrape the counters, if there is an address for them, until it is closed.
-    fn show<R: Wait + ProxyFiles + Clock + PageSockets>(&self, rt: &R);
-
-    /// Ends: the threads that work return.
-    fn end(&self);
-
-    /// Writes down what is left, once no thread works any more, and tells so.
-    fn leave<R: Wait + ProxyFiles + Clock + Print>(&self, rt: &R);
-
-    /// Closes the control socket and the one for scrapers. Whoever waits for the end at the control socket knows then that it has come.
-    fn close(&self);
-}
-
-/// The socket for those who scrape the counters, if there is an address for them.
-#[derive(Drop)]
-pub(crate) struct Scraped {
-    listener: Option<TcpListener>,
-}
-
-/// A proxy, its control socket, and the socket for those who scrape its counters.
+/// A proxy, and the sockets at which it tells of itself.
 #[derive(Drop)]
 struct Server {
     proxy: Proxy,
-    listener: UnixListener,
-    scraped: Scraped,
+    listeners: Listeners,
 }
 
-impl Crew for Server {
-    fn work<R: Wait + ProxyFiles + Clock>(
+/// Whether the standard output takes a line at this moment: a pipe that nobody reads may be full, and would keep the end.
+fn can_print() -> bool {
+    let mut asked = [pollfd {
+        fd: STANDARD_OUTPUT,
+        events: net::POLLOUT,
+        revents: 0,
+    }];
+    net::poll(&mut asked, 0) > 0
+}
+
+impl Crew<Socket> for Server {
+    fn work<R: Wait + Clock>(
         &self,
         rt: &R,
+        socket: &Socket,
         mut buffer: Vec<u8>,
     ) -> Result<(), DaemonFault> {
-        self.proxy.work(rt, buffer.as_mut_slice())
+        self.proxy.work(rt, socket, buffer.as_mut_slice())
     }
 
-    fn keep_time<R: Wait + ProxyFiles + Clock>(&self, rt: &R) {
-        self.proxy.keep_time(rt);
+    fn keep_time<R: Wait + Clock>(&self, rt: &R, socket: &Socket) {
+        self.proxy.keep_time(rt, socket);
     }
 
     fn answer<R: Wait + ProxyFiles + Clock>(&self, rt: &R) {
@@ -89,7 +68,7 @@ impl Crew for Server {
             rt,
             proxy: &self.proxy,
         };
-        listen(self.proxy.alloc, &control, &self.listener);
+        listen(rt, self.proxy.alloc, &control, &self.listeners.control);
     }
 
     fn show<R: Wait + ProxyFiles + Clock + PageSockets>(&self, rt: &R) {
@@ -97,124 +76,40 @@ impl Crew for Server {
             rt,
             proxy: &self.proxy,
         };
-        if let Some(listener) = &self.scraped.listener {
+        if let Some(listener) = &self.listeners.metrics {
             answer_scrapers(rt, self.proxy.alloc, &control, listener);
         }
     }
 
+    fn write<R: Wait + ProxyFiles + Clock>(&self, rt: &R) {
+        self.proxy.write_journal(rt);
+    }
+
     fn end(&self) {
-        self.proxy.end();
+        self.proxy.service.end();
     }
 
-    fn leave<R: Wait + ProxyFiles + Clock + Print>(&self, rt: &R) {
-        let proxy = &self.proxy;
-        let mut watch = Watch::new(proxy.epoch);
-        proxy.write_all_left(rt, watch.micros(rt) / 1_000);
-        rt.take_file_away(proxy.paths.control.as_str());
-        let opened = proxy.calls.count(rt);
-        let left = proxy.calls.held(rt);
-        let _ = rt.println(format_args!("ended, {opened} calls, {left} left"));
-    }
-
-    fn close(&self) {
-        let _ = net::shutdown(self.listener.as_raw_fd(), net::SHUT_RDWR);
-        if let Some(listener) = &self.scraped.listener {
+    fn finish<R: Wait + Clock>(&self, rt: &R) {
+        self.proxy.service.write_down_left(rt);
+        self.proxy.end_journal();
+        if let Some(listener) = &self.listeners.metrics {
             let _ = net::shutdown(listener.as_raw_fd(), net::SHUT_RDWR);
         }
     }
-}
 
-/// What a worker's thread ends with, if it is a fault: one of the system's.
-#[derive(Clone, Copy)]
-struct SystemFaults;
-
-impl Promise<Result<(), DaemonFault>> for SystemFaults {
-    ghost kept_by = { λ _ ended. IfErr ended IsSystemFault };
-}
-
-/// The thread of a worker.
-type Worker = PromisedHandle<Result<(), DaemonFault>, SystemFaults>;
-
-/// Waits until the workers have ended, and answers the first fault that one ended with.
-fn join_all<R: Threads>(rt: &R, workers: Vec<Worker>) -> Result<(), DaemonFault>
-    ensures { IfErr result IsSystemFault }
-{
-    let mut all = Ok(());
-    for worker in workers {
-        let ended = worker.join(rt);
-        if all.is_ok() {
-            all = ended;
+    fn leave<R: Wait + ProxyFiles + Print>(&self, rt: &R) {
+        rt.take_file_away(self.proxy.paths.control.as_str());
+        let service = &self.proxy.service;
+        let opened = service.opened(rt);
+        let left = service.held(rt);
+        if can_print() {
+            let _ = rt.println(format_args!("ended, {opened} calls, {left} left"));
         }
     }
-    all
-}
 
-/// Starts the threads that work, a worker for each buffer, and waits until they have ended. Where one could not be made all end.
-fn work_all<C: Crew + Sync, R: Threads + Wait + ProxyFiles + Clock + Sync>(
-    rt: &R,
-    alloc: Global,
-    crew: &C,
-    buffers: Vec<Vec<u8>>,
-) -> Result<(), DaemonFault>
-    ensures { IfErr result IsSystemFault }
-{
-    thread::scope(
-        thread::scope_env(),
-        rt,
-        |scope| -> Result<(), DaemonFault>
-            ensures { IfErr result IsSystemFault }
-        {
-            let mut are_running = scope.spawn(move || crew.keep_time(rt)).is_ok();
-            let mut workers: Vec<Worker> = Vec::new(alloc);
-            for buffer in buffers {
-                match scope.spawn_with(SystemFaults, move || crew.work(rt, buffer)) {
-                    Ok(worker) => are_running = workers.push(worker).is_ok() && are_running,
-                    Err(_) => are_running = false,
-                }
-            }
-            if !are_running {
-                crew.end();
-            }
-            let ended = join_all(rt, workers);
-            crew.end();
-            if are_running {
-                ended
-            } else {
-                Err(DaemonFault::NoMemory)
-            }
-        },
-    )
-}
-
-/// Answers at the control socket and scrapers while the proxy works, and ends in good order: who waits for the end at the control socket
-/// hears of it last.
-fn run<C: Crew + Sync, R: Threads + Wait + ProxyFiles + PageSockets + Clock + Print + Sync>(
-    rt: &R,
-    alloc: Global,
-    crew: &C,
-    buffers: Vec<Vec<u8>>,
-) -> Result<(), DaemonFault>
-    ensures { IfErr result IsSystemFault }
-{
-    thread::scope(
-        thread::scope_env(),
-        rt,
-        |scope| -> Result<(), DaemonFault>
-            ensures { IfErr result IsSystemFault }
-        {
-            let listens = scope.spawn(move || crew.answer(rt)).is_ok();
-            let shows = scope.spawn(move || crew.show(rt)).is_ok();
-            let ran = if listens && shows {
-                work_all(rt, alloc, crew, buffers)
-            } else {
-                Err(DaemonFault::NoMemory)
-            };
-            crew.end();
-            crew.leave(rt);
-            crew.close();
-            ran
-        },
-    )
+    fn close(&self) {
+        let _ = net::shutdown(self.listeners.control.as_raw_fd(), net::SHUT_RDWR);
+    }
 }
 
 /// Shows that threads may share this value.
@@ -229,102 +124,11 @@ fn server_is_shared(server: &Server)
     is_shared(server);
 }
 
-/// Listens at the control socket's file. The address is bound by now, so a socket that was left there is no other proxy's.
-#[tactic(auto, using(crate::proofs::Faults::control_is_system))]
-fn open_control<R: ProxyFiles>(rt: &R, path: &str) -> Result<UnixListener, DaemonFault>
-    ensures { IfErr result IsSystemFault }
+/// Shows that threads may share a socket.
+fn socket_is_shared(socket: &Socket)
+    ensures { IsSync socket_row }
 {
-    match rt.listen_at(path) {
-        Ok(listener) => Ok(listener),
-        Err(error) => Err(control_fault(error)),
-    }
-}
-
-/// Listens at the address for those who scrape the counters, if there is one.
-#[tactic(auto, using(crate::proofs::Faults::metrics_is_system))]
-fn open_metrics<R: PageSockets>(rt: &R, address: Option<&str>) -> Result<Scraped, DaemonFault>
-    ensures { IfErr result IsSystemFault }
-{
-    let Some(address) = address else {
-        return Ok(Scraped { listener: None });
-    };
-    match rt.listen_on(address) {
-        Ok(listener) => Ok(Scraped {
-            listener: Some(listener),
-        }),
-        Err(error) => Err(metrics_fault(error)),
-    }
-}
-
-/// Listens at the control socket's file and at the address for scrapers. Where the address cannot be bound, the file goes, too.
-fn open_sockets<R: ProxyFiles + PageSockets>(
-    rt: &R,
-    options: Options<'_>,
-) -> Result<(UnixListener, Scraped), DaemonFault>
-    ensures { IfErr result IsSystemFault }
-{
-    let listener = open_control(rt, options.control)?;
-    match open_metrics(rt, options.metrics) {
-        Ok(scraped) => Ok((listener, scraped)),
-        Err(fault) => {
-            rt.take_file_away(options.control);
-            Err(fault)
-        }
-    }
-}
-
-/// Binds the address of a setup.
-#[tactic(auto, using(crate::proofs::Faults::socket_is_system))]
-fn bound<R: Net>(rt: &R, setup: &Setup<Global>) -> Result<Socket, DaemonFault>
-    ensures { IfErr result IsSystemFault }
-{
-    let own = setup.own();
-    let addr = own.addr;
-    let hop = Hop {
-        addr,
-        port: own.port,
-    };
-    Socket::bind(rt, hop)
-}
-
-/// Binds the address of a setup, the control socket and the address for scrapers, and makes a proxy without a call. Where there is no
-/// memory for it, the control socket's file goes, too.
-fn server_of<R: Net + Clock + ProxyFiles + PageSockets>(
-    rt: &R,
-    alloc: Global,
-    setup: Setup<Global>,
-    start: Start<'_>,
-) -> Result<Server, DaemonFault>
-    ensures { IfErr result IsSystemFault }
-{
-    let socket = bound(rt, &setup)?;
-    let Some(epoch) = Epoch::now(rt) else {
-        return Err(DaemonFault::Clock);
-    };
-    let (listener, scraped) = open_sockets(rt, start.options)?;
-    match Proxy::new(rt, alloc, start, setup, socket, epoch) {
-        Ok(proxy) => Ok(Server {
-            proxy,
-            listener,
-            scraped,
-        }),
-        Err(AllocError) => {
-            rt.take_file_away(start.options.control);
-            Err(DaemonFault::NoMemory)
-        }
-    }
-}
-
-/// A buffer for each of so many workers.
-fn buffers_of(alloc: Global, workers: usize) -> Result<Vec<Vec<u8>>, AllocError> {
-    let mut buffers = Vec::new(alloc);
-    for _ in 0..workers {
-        let buffer = vec![in alloc; 0u8; MOST_BYTES]?;
-        if buffers.push(buffer).is_err() {
-            return Err(AllocError);
-        }
-    }
-    Ok(buffers)
+    is_shared(socket);
 }
 
 /// Tells where a proxy listens.
@@ -334,19 +138,50 @@ fn print_listening<P: Print>(out: &P, own: Hop) {
     let _ = out.println(format_args!("listening {a}.{b}.{c}.{d} {port}"));
 }
 
-/// Makes the buffers of the workers, tells where the proxy listens, and lets it run until the end.
-fn run_workers<R: Threads + Wait + ProxyFiles + PageSockets + Clock + Print + Sync>(
+/// Tells where the proxy listens, and lets it run until the end.
+fn run_server<R: Threads + Wait + ProxyFiles + PageSockets + Clock + Print + Sync>(
     rt: &R,
-    alloc: Global,
     server: &Server,
-    workers: usize,
+    socket: Socket,
+    buffers: Vec<Vec<u8>>,
 ) -> Result<(), DaemonFault>
     ensures { IfErr result IsSystemFault }
 {
-    let buffers = buffers_of(alloc, workers.max(1))?;
     server_is_shared(server);
-    print_listening(rt, server.proxy.own());
-    run(rt, alloc, server, buffers)
+    socket_is_shared(&socket);
+    print_listening(rt, server.proxy.own);
+    run(rt, server.proxy.alloc, server, socket, buffers)
+}
+
+/// The address that a setup names.
+fn own_of(setup: &Setup<Global>) -> Hop {
+    let own = setup.own();
+    let addr = own.addr;
+    Hop {
+        addr,
+        port: own.port,
+    }
+}
+
+/// Serves as a setup says. Its address is taken first, the control socket last, behind all that may be refused.
+fn serve_setup<R: Threads + Wait + Net + ProxyFiles + PageSockets + Clock + Print + Sync>(
+    rt: &R,
+    alloc: Global,
+    setup: Setup<Global>,
+    start: Start<'_>,
+) -> Result<(), DaemonFault>
+    ensures { IfErr result IsSystemFault }
+{
+    let own = own_of(&setup);
+    let socket = bound(rt, own)?;
+    let Some(epoch) = Epoch::now(rt) else {
+        return Err(DaemonFault::Clock);
+    };
+    let proxy = Proxy::new(rt, alloc, start, setup, own, epoch)?;
+    let buffers = buffers_of(alloc, start.options.workers.max(1))?;
+    let listeners = open_all(rt, start.options)?;
+    let server = Server { proxy, listeners };
+    run_server(rt, &server, socket, buffers)
 }
 
 /// Reads a configuration's file, and answers whether a proxy would serve by it. Where it has no line of an instance, none is missing:
@@ -363,20 +198,6 @@ pub fn check_config<R: ProxyFiles>(rt: &R, alloc: Global, config: &str) -> Resul
     Ok(())
 }
 
-/// Serves as a setup says.
-fn serve_setup<R: Threads + Wait + Net + ProxyFiles + PageSockets + Clock + Print + Sync>(
-    rt: &R,
-    alloc: Global,
-    setup: Setup<Global>,
-    start: Start<'_>,
-) -> Result<(), DaemonFault>
-    ensures { IfErr result IsSystemFault }
-{
-    let setup = by_own_port(setup, start.options.own_port);
-    let server = server_of(rt, alloc, setup, start)?;
-    run_workers(rt, alloc, &server, start.options.workers)
-}
-
 /// Serves as [`serve`] does, by this text of a configuration; `reload` reads the configuration's file. Where a text has no line of an
 /// instance, this number of the run is its instance.
 ///
@@ -388,32 +209,44 @@ pub fn serve_text<R: Threads + Wait + Net + ProxyFiles + PageSockets + Clock + P
     rt: &R,
     alloc: Global,
     text: &[u8],
-    seconds: u32,
+    number: u32,
     options: Options<'_>,
 ) -> Result<(), DaemonFault>
-    ensures served { OnOk result (Spells (completed text.now seconds)) }
+    ensures served { OnOk result (Spells (completed text.now number)) }
     ensures too_long { IsErrOf result faults.TooLong ↔ (most_text < length text.now) }
-    ensures fault { IfErr result (IsServeFaultOf text.now seconds) }
+    ensures fault { IfErr result (IsServeFaultOf text.now number) }
 {
-    let setup = read_text(alloc, text, seconds)?;
-    serve_setup(rt, alloc, setup, Start { options, seconds })
+    let setup = read_text(alloc, text, number)?;
+    serve_setup(rt, alloc, setup, Start { options, number })
 }
 
-/// The number of a run that begins now: the seconds since 1970, 4,294,967,295 at most.
+/// The number of a run that begins so long after the beginning of 1970: the milliseconds, without what is beyond 32 bits. Two runs have the
+/// same where they begin 49.7 days apart, to the millisecond.
+fn number_at(passed: Duration) -> u32
+    ensures { result ≡ (as_nanos passed / 1_000_000) % 2 ^ 32 }
+{
+    (passed.as_millis() % 4_294_967_296) as u32
+}
+
+/// The number of a run that begins now; 0 where the clock cannot be read.
 fn number_of_run<R: Clock>(rt: &R) -> u32 {
-    u32::try_from(seconds(rt)).unwrap_or(u32::MAX)
+    match SystemTime::UNIX_EPOCH.elapsed(rt) {
+        Ok(passed) => number_at(passed),
+        Err(_) => 0,
+    }
 }
 
 /// Serves until it is told to stop, at the control socket. It tells where it listens, and at the end how many calls it had and how
-/// many were left. Where the configuration has no line of an instance, that is the time of the start, in seconds since 1970. What its
-/// threads do is proved call by call (`proxy_dispatch::handle`, `fork_call::carry`); no clause says what they
-/// do together.
+/// many were left. Where the configuration has no line of an instance, that is the time of the start, in milliseconds since 1970, without
+/// what is beyond 32 bits. What its threads do is proved call by call (`proxy_service`, `proxy_dispatch::handle`, `fork_call::carry`); no
+/// clause says what they do together.
 ///
 /// # Errors
 ///
 /// The configuration's faults as [`check_config`] finds them; `Socket` where the address cannot be bound or a receive failed; `Clock`
-/// where the clock cannot be read; `Metrics` where the address for scrapers cannot be bound; `Control` where the control socket cannot be
-/// made; `NoMemory` where the allocator refuses or a thread could not be made.
+/// where the clock cannot be read; `Journal` where the journal cannot be opened; `Metrics` where the address for scrapers cannot be bound;
+/// `Control` where the control socket cannot be made, or another proxy has it; `NoMemory` where the allocator refuses or a thread could not
+/// be made. A proxy that is refused has taken nothing of another one.
 #[tactic(auto, using(crate::proofs::Faults::configuration_is_serve, crate::proofs::Faults::text_is_serve))]
 pub fn serve<R: Threads + Wait + Net + ProxyFiles + PageSockets + Clock + Print + Sync>(
     rt: &R,
@@ -422,10 +255,7 @@ pub fn serve<R: Threads + Wait + Net + ProxyFiles + PageSockets + Clock + Print 
 ) -> Result<(), DaemonFault>
     ensures { IfErr result IsServeFault }
 {
-    let seconds = number_of_run(rt);
-    let text = match rt.read_file(alloc, options.config) {
-        Ok(text) => text,
-        Err(error) => return Err(configuration_fault(error)),
-    };
-    serve_text(rt, alloc, text.as_slice(), seconds, options)
+    let number = number_of_run(rt);
+    let text = read_config(rt, alloc, options.config)?;
+    serve_text(rt, alloc, text.as_slice(), number, options)
 }

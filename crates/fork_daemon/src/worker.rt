@@ -3,14 +3,13 @@ ghost use Rattle.std.specs.Prelude.{◌≤◌, length, IfErr, IfOk, IfSome};
 ghost use Rattle.fork_daemon.specs.Faults.{IsSystemFault};
 
 use crate::port::SocketPort;
-use crate::proxy::{Proxy, State};
+use crate::proxy::Proxy;
 use crate::receiving::Entered;
-use daemon_answers::{StampedPort, answer_options, may_ask_proxy, turn_away};
-use daemon_parts::{DaemonFault, ProxyFiles};
+use daemon_parts::{DaemonFault, Socket};
 use fork_call::Port;
 use fork_clock::Watch;
-use proxy_dispatch::{Handled, Memory, Received, handle};
-use sip_service::record_text;
+use proxy_dispatch::Received;
+use proxy_service::State;
 use sip_uri::Hop;
 use std::alloc::{AllocError, Global};
 use std::hint::spin_loop;
@@ -32,11 +31,6 @@ fn pause() {
     for _ in 0..10u32 {
         spin_loop();
     }
-}
-
-/// Whether a datagram begins as a response does (RFC 3261 section 7.2): no such one opens a call.
-fn begins_as_response(bytes: &[u8]) -> bool {
-    bytes.starts_with(b"SIP/")
 }
 
 /// What a worker keeps from one datagram to the next.
@@ -62,160 +56,8 @@ impl WorkerState<'_> {
 }
 
 impl Proxy {
-    /// The text of a datagram with a Record-Route line, where it opens a dialog on whose path the proxy stays.
-    fn recorded(&self, bytes: &[u8]) -> Result<Option<Vec<u8>>, AllocError> {
-        if self.limits.records {
-            record_text(self.alloc, bytes, self.limits.identity.own)
-        } else {
-            Ok(None)
-        }
-    }
-
-    /// Handles a datagram as the configuration says that stands now.
-    fn handled<R: Wait, P: Port>(
-        &self,
-        rt: &R,
-        port: &mut P,
-        received: Received<'_>,
-    ) -> Result<Handled, AllocError> {
-        let recorded = self.recorded(received.bytes)?;
-        let bytes = match &recorded {
-            Some(text) => text.as_slice(),
-            None => received.bytes,
-        };
-        let memory = Memory {
-            alloc: self.alloc,
-            heap: self.alloc,
-        };
-        let setup = self.setup.read(rt);
-        handle(
-            rt,
-            memory,
-            &self.calls,
-            &*setup,
-            Received {
-                bytes,
-                source: received.source,
-                now: received.now,
-            },
-            port,
-        )
-    }
-
-    /// Counts what became of a datagram, and carries the call that it opened or that took it. Its place is given back where it
-    /// opened none.
-    fn settle<R: Wait + ProxyFiles, P: Port>(
-        &self,
-        rt: &R,
-        port: &mut P,
-        handled: Handled,
-        has_place: bool,
-        now: u64,
-    ) {
-        let is_opened = matches!(handled, Handled::Opened(_));
-        if has_place && !is_opened {
-            self.give_place_back(rt);
-        }
-        if is_opened && !has_place {
-            self.take_place(rt);
-        }
-        match handled {
-            Handled::Opened(number) => {
-                self.counts.calls.opened.add(1);
-                self.carry(rt, port, number, now);
-            }
-            Handled::Delivered(number) => {
-                self.counts.datagrams.delivered.add(1);
-                self.carry(rt, port, number, now);
-            }
-            Handled::Answered(status) => self.counts.datagrams.answered.add(status),
-            Handled::Forwarded => self.counts.datagrams.forwarded.add(1),
-            Handled::Dropped => self.counts.datagrams.dropped.add(1),
-            Handled::Absorbed => self.counts.datagrams.absorbed.add(1),
-        }
-    }
-
-    /// Answers an OPTIONS request to the proxy itself, and says whether the datagram was one.
-    fn answers_options<R: Wait, P: Port>(
-        &self,
-        rt: &R,
-        port: &mut P,
-        received: Received<'_>,
-    ) -> Result<bool, AllocError> {
-        if !may_ask_proxy(received.bytes) {
-            return Ok(false);
-        }
-        let setup = self.setup.read(rt);
-        answer_options(self.alloc, &*setup, received.bytes, received.source, port)
-    }
-
-    /// Handles a datagram, and what is to be done behind that; a 100 has the Timestamp of the request.
-    fn handle_stamped<R: Wait + ProxyFiles, P: Port>(
-        &self,
-        rt: &R,
-        port: &mut P,
-        received: Received<'_>,
-        has_place: bool,
-    ) -> Result<(), AllocError> {
-        let mut stamped = StampedPort {
-            port,
-            request: received.bytes,
-            alloc: self.alloc,
-            lacks_memory: false,
-        };
-        let handled = self.handled(rt, &mut stamped, received)?;
-        self.settle(rt, &mut stamped, handled, has_place, received.now);
-        if stamped.lacks_memory {
-            self.counts.datagrams.no_memory.add(1);
-        }
-        Ok(())
-    }
-
-    /// Does what is to be done for a datagram that is not turned away.
-    fn take_in_place<R: Wait + ProxyFiles, P: Port>(
-        &self,
-        rt: &R,
-        port: &mut P,
-        received: Received<'_>,
-        has_place: bool,
-    ) -> Result<(), AllocError> {
-        if !self.answers_options(rt, port, received)? {
-            return self.handle_stamped(rt, port, received, has_place);
-        }
-        self.counts.datagrams.answered.add(200);
-        if has_place {
-            self.give_place_back(rt);
-        }
-        Ok(())
-    }
-
-    /// Does what is to be done for a datagram that was received.
-    fn take<R: Wait + ProxyFiles, P: Port>(
-        &self,
-        rt: &R,
-        port: &mut P,
-        received: Received<'_>,
-    ) -> Result<(), AllocError> {
-        if begins_as_response(received.bytes) {
-            return self.handle_stamped(rt, port, received, false);
-        }
-        let has_place = self.keep_place(rt);
-        if !has_place {
-            let (bytes, source) = (received.bytes, received.source);
-            if turn_away(rt, self.alloc, &self.calls, bytes, source, port)? {
-                self.counts.datagrams.turned_away.add(1);
-                return Ok(());
-            }
-        }
-        let done = self.take_in_place(rt, port, received, has_place);
-        if done.is_err() && has_place {
-            self.give_place_back(rt);
-        }
-        done
-    }
-
     /// Handles a datagram, and notes how long that took. The moment is read as it begins.
-    fn take_timed<R: Wait + ProxyFiles + Clock, P: Port>(
+    pub(crate) fn take_timed<R: Wait + Clock, P: Port>(
         &self,
         rt: &R,
         port: &mut P,
@@ -229,25 +71,22 @@ impl Proxy {
             source,
             now: began / 1_000,
         };
-        let taken = self.take(rt, port, received);
-        if taken.is_err() {
-            self.counts.datagrams.no_memory.add(1);
-        }
+        self.service.take(rt, port, received);
         let took = watch.micros(rt).saturating_sub(began);
-        self.counts.latencies.add(took);
+        self.service.counts().latencies.add(took);
     }
 
     /// Handles what was handed over meanwhile in a group that this worker is on, and leaves the group.
-    fn take_waiting<R: Wait + ProxyFiles + Clock, P: Port>(
+    fn take_waiting<R: Wait + Clock>(
         &self,
         rt: &R,
-        port: &mut P,
-        watch: &mut Watch,
+        state: &mut WorkerState<'_>,
         group: Option<u8>,
     ) {
         for _ in rt.forever() {
             match self.groups.next(rt, group) {
                 Some(packet) => {
+                    let (port, watch) = (&mut state.port, &mut state.watch);
                     self.take_timed(rt, port, watch, packet.bytes.as_slice(), packet.source);
                 }
                 None => return,
@@ -257,7 +96,7 @@ impl Proxy {
     }
 
     /// Handles a datagram whose group of calls this worker has entered, and those that are handed over to it meanwhile.
-    fn take_entered<R: Wait + ProxyFiles + Clock>(
+    fn take_entered<R: Wait + Clock>(
         &self,
         rt: &R,
         state: &mut WorkerState<'_>,
@@ -268,9 +107,9 @@ impl Proxy {
     {
         state.hold_ready(self.alloc);
         let bytes = &buffer[..entered.count];
-        let source = entered.source;
-        self.take_timed(rt, &mut state.port, &mut state.watch, bytes, source);
-        self.take_waiting(rt, &mut state.port, &mut state.watch, entered.group);
+        let (port, watch) = (&mut state.port, &mut state.watch);
+        self.take_timed(rt, port, watch, bytes, entered.source);
+        self.take_waiting(rt, state, entered.group);
     }
 
     /// Is idle until a worker is woken, while another one receives.
@@ -291,6 +130,7 @@ impl Proxy {
     fn receive_or_wait<R: Wait + Clock>(
         &self,
         rt: &R,
+        socket: &Socket,
         watch: &mut Watch,
         buffer: &mut [u8],
     ) -> Result<Option<Entered>, DaemonFault>
@@ -299,7 +139,7 @@ impl Proxy {
     {
         for _ in 0..LOOKS {
             if let Some(mut limits) = self.receiving.try_lock() {
-                return self.receive(rt, &mut *limits, watch, buffer);
+                return self.receive(rt, socket, &mut *limits, watch, buffer);
             }
             pause();
         }
@@ -307,32 +147,40 @@ impl Proxy {
         Ok(None)
     }
 
+    /// Wakes an idle worker, as this one is about to handle a datagram while nobody receives: where a datagram waits, and where no other one
+    /// watches.
+    fn hand_receiving_over(&self, socket: &Socket) {
+        if self.idle.has_any() && (!self.idle.is_watched() || socket.has_waiting()) {
+            self.idle.wake_one();
+        }
+    }
+
     /// Receives and handles datagrams until the end.
     ///
     /// # Errors
     ///
     /// `Socket` where a receive failed.
-    fn work_until_end<R: Wait + ProxyFiles + Clock>(
-        &self,
+    fn work_until_end<'a, R: Wait + Clock>(
+        &'a self,
         rt: &R,
+        socket: &'a Socket,
         buffer: &mut [u8],
     ) -> Result<(), DaemonFault>
         ensures { IfErr result IsSystemFault }
     {
-        let counts = &self.counts.datagrams;
+        let counts = &self.service.counts().datagrams;
         let mut state = WorkerState {
-            port: SocketPort::new(&self.socket, counts, &counts.sent),
+            port: SocketPort::new(socket, counts, &counts.sent),
             watch: Watch::new(self.epoch),
             left: 0,
         };
         for _ in rt.forever() {
-            if self.is_in(State::Ended) {
+            if self.service.is_in(State::Ended) {
                 return Ok(());
             }
-            if let Some(entered) = self.receive_or_wait(rt, &mut state.watch, buffer)? {
-                if self.idle.has_any() && self.socket.has_waiting() {
-                    self.idle.wake_one();
-                }
+            let came = self.receive_or_wait(rt, socket, &mut state.watch, buffer)?;
+            if let Some(entered) = came {
+                self.hand_receiving_over(socket);
                 self.take_entered(rt, &mut state, buffer, entered);
             }
         }
@@ -344,16 +192,17 @@ impl Proxy {
     /// # Errors
     ///
     /// `Socket` where a receive failed.
-    pub(crate) fn work<R: Wait + ProxyFiles + Clock>(
+    pub(crate) fn work<R: Wait + Clock>(
         &self,
         rt: &R,
+        socket: &Socket,
         buffer: &mut [u8],
     ) -> Result<(), DaemonFault>
         ensures { IfErr result IsSystemFault }
     {
-        let ended = self.work_until_end(rt, buffer);
+        let ended = self.work_until_end(rt, socket, buffer);
         if ended.is_err() {
-            self.end();
+            self.service.end();
         }
         self.idle.wake_all();
         ended

@@ -12,17 +12,26 @@ use std::net::Net;
 use std::process::ExitCode;
 use std::sync::Wait;
 use std::thread::Threads;
-use std::time::Clock;
+use std::time::{Clock, Duration};
 use std::{env, thread};
 
 /// The exit status where the words ask for nothing.
 const USAGE: u8 = 2;
 
-/// The exit status where the other end of the control socket is not there.
+/// The exit status where a proxy that runs had no memory for its answer.
+const NO_ANSWER: u8 = 3;
+
+/// The exit status where the other end of the control socket is not there, or does not answer in time.
 const NOT_TOLD: u8 = 5;
 
 /// For how many seconds calls may go on where `stop` does not say.
 const SECONDS: &str = "30";
+
+/// For how many seconds an answer is waited for, where it does not wait for the end of the proxy.
+const LONGEST_ANSWER: u64 = 10;
+
+/// For how many seconds the end of a proxy is waited for beyond those for which calls may go on.
+const LONGEST_END: u64 = 40;
 
 /// How many threads handle datagrams at least, and at most, where the words do not say how many.
 const FEWEST_WORKERS: usize = 2;
@@ -60,8 +69,18 @@ fn file_arg<'a>(alloc: Global, name: &'a str, value: &'a str, help: &'a str) -> 
 /// The arguments that name files.
 fn with_files<'a>(alloc: Global, command: Command<'a>) -> Result<Command<'a>, AllocError> {
     command
-        .arg(file_arg(alloc, "config", "FILE", "the configuration"))?
-        .arg(file_arg(alloc, "control", "PATH", "the control socket's file"))?
+        .arg(file_arg(
+            alloc,
+            "config",
+            "FILE",
+            "the configuration; needed to serve",
+        ))?
+        .arg(file_arg(
+            alloc,
+            "control",
+            "PATH",
+            "the control socket's file; needed to serve",
+        ))?
         .arg(file_arg(
             alloc,
             "journal",
@@ -82,8 +101,9 @@ fn with_limits<'a>(alloc: Global, command: Command<'a>) -> Result<Command<'a>, A
         .long("most-calls")
         .value_name("N")
         .value_parser(value_parser!(u64))
-        .default_value("1000000")
-        .help("how many calls are kept at most");
+        .help(
+            "how many calls are kept at most, and a tenth more for requests within dialogs: as many as half of the memory holds, if left out",
+        );
     let workers = Arg::new(alloc, "workers")
         .long("workers")
         .value_name("N")
@@ -148,6 +168,38 @@ fn ended(rt: &HostRuntime, ran: Result<(), DaemonFault>) -> u8 {
     }
 }
 
+/// The line that tells a proxy this, and how long its answer is waited for: to end, that is as long as calls may go on, and 40 seconds more.
+fn line_of(
+    alloc: Global,
+    what: &str,
+    seconds: &str,
+) -> Result<(String<Global>, Duration), AllocError> {
+    if what != "stop" {
+        let line = String::from_str(alloc, what)?;
+        return Ok((line, Duration::from_secs(LONGEST_ANSWER)));
+    }
+    let line = format!(in alloc; "stop {seconds}")?;
+    let longest = seconds
+        .parse::<u64>()
+        .unwrap_or(0)
+        .saturating_add(LONGEST_END);
+    Ok((line, Duration::from_secs(longest)))
+}
+
+/// How the program ends after this answer of a proxy: 1 where it says that it did not do what it was told, or does not wait for the end.
+fn status_of(answer: &[u8]) -> u8 {
+    if answer.is_empty() {
+        return NO_ANSWER;
+    }
+    let fronts: [&[u8]; 3] = [b"refused", b"unknown", b"busy"];
+    for front in fronts {
+        if answer.starts_with(front) {
+            return 1;
+        }
+    }
+    0
+}
+
 /// Tells a proxy that runs, and prints what it answers.
 fn told(rt: &HostRuntime, matches: &ArgMatches<'_>) -> u8 {
     let (Some(path), Some(what), Some(seconds)) = (
@@ -157,28 +209,22 @@ fn told(rt: &HostRuntime, matches: &ArgMatches<'_>) -> u8 {
     ) else {
         return USAGE;
     };
-    let mut line = Vec::new(rt.alloc());
-    let mut answer = Vec::new(rt.alloc());
-    let spelled = match what {
-        "stop" => line.extend_from_slice(b"stop "),
-        _ => line.extend_from_slice(what.as_bytes()),
-    };
-    let spelled = match (spelled, what) {
-        (Ok(()), "stop") => line.extend_from_slice(seconds.as_bytes()),
-        (spelled, _) => spelled,
-    };
-    if spelled.is_err() {
+    let Ok((line, limit)) = line_of(rt.alloc(), what, seconds) else {
         return DaemonFault::NoMemory.status();
-    }
-    if let Err(error) = tell(rt, path, line.as_slice(), &mut answer) {
+    };
+    let mut answer = Vec::new(rt.alloc());
+    let told = tell(rt, path, line.as_bytes(), limit, &mut answer);
+    let _ = rt.write_all(answer.as_slice());
+    if let Err(error) = told {
         let _ = rt.eprintln(error);
         return NOT_TOLD;
     }
-    let _ = rt.write_all(answer.as_slice());
-    if answer.starts_with(b"refused") || answer.starts_with(b"unknown") {
-        return 1;
+    if answer.is_empty() {
+        let _ = rt.eprintln(
+            "no answer: the proxy has no memory for it, or has closed the connection",
+        );
     }
-    0
+    status_of(answer.as_slice())
 }
 
 /// Serves as the words say.
@@ -195,7 +241,6 @@ fn served<R: Threads + Wait + Net + ProxyFiles + PageSockets + Clock + Print + S
         let _ = rt.eprintln("--config FILE and --control PATH are needed; --help tells more");
         return USAGE;
     };
-    let most_calls = matches.get_one::<u64>("most-calls").unwrap_or(1_000_000);
     let workers = match matches.get_one::<u16>("workers") {
         Some(workers) => usize::from(workers),
         None => workers_here(handle),
@@ -204,7 +249,7 @@ fn served<R: Threads + Wait + Net + ProxyFiles + PageSockets + Clock + Print + S
         config,
         control,
         journal: matches.get_str("journal"),
-        most_calls,
+        most_calls: matches.get_one::<u64>("most-calls"),
         workers,
         records: matches.get_flag("record-route"),
         own_port: matches.get_flag("own-port"),

@@ -1,16 +1,14 @@
-//! Answering scrapers, one after another.
-use crate::page::Page;
+//! Answering scrapers, many at a time.
+use crate::scraper::Scraper;
 use crate::sockets::PageSockets;
-use http_server::{Config, Connection};
+use socket_poll::{Came, MOST_CLIENTS, is_gone, place_of_first, wait_for};
 use std::alloc::Global;
-use std::net::{TcpListener, TcpStream};
+use std::net::TcpListener;
 use std::time::{Clock, Duration, Instant};
 use std::{io, thread};
 
-/// How long a scraper is waited for at most, in milliseconds, between two of its reads or writes, and in all.
-const LONGEST_WAIT: u64 = 500;
-
-const LONGEST: u64 = 1_000;
+/// How many milliseconds a scraper has for all of its request and its answer.
+const LONGEST: u64 = 1_500;
 
 /// How long the thread rests where the system gives it no connection, in milliseconds.
 const REST: u64 = 100;
@@ -28,90 +26,114 @@ pub trait Counted {
     fn has_ended(&self) -> bool;
 }
 
-/// Lets no read and no write wait longer.
-fn limit_waits(stream: &TcpStream) -> io::Result<()> {
-    let longest = Some(Duration::from_millis(LONGEST_WAIT));
-    stream.set_read_timeout(longest)?;
-    stream.set_write_timeout(longest)
+/// What scrapers are answered by.
+#[derive(Drop)]
+struct Desk<'a, R, C> {
+    rt: &'a R,
+    alloc: Global,
+    counted: &'a C,
+    began: Instant,
 }
 
-/// Answers what came, reads or writes once, and says whether the connection is done.
-fn take_turn(
-    connection: &mut Connection,
-    page: &mut Page<'_>,
-    stream: &mut TcpStream,
-) -> io::Result<bool> {
-    connection.advance(page);
-    if connection.is_done() {
-        return Ok(true);
-    }
-    if connection.wants_write() {
-        let count = connection.write_to(stream)?;
-        return Ok(count == 0);
-    }
-    connection.read_from(stream)?;
-    Ok(false)
-}
-
-/// Answers until the connection is done, or has had its time.
-fn take_turns<R: Clock>(
-    rt: &R,
-    connection: &mut Connection,
-    page: &mut Page<'_>,
-    stream: &mut TcpStream,
-) -> io::Result<()> {
-    let began = Instant::now(rt)?;
-    for _ in 0..u64::MAX {
-        let is_done = take_turn(connection, page, stream)?;
-        if is_done || began.elapsed(rt)? >= Duration::from_millis(LONGEST) {
-            return Ok(());
+impl<'a, R: Clock + PageSockets, C: Counted> Desk<'a, R, C> {
+    /// The time since the beginning, in milliseconds. Where the clock cannot be read, the time of every scraper is over.
+    fn now(&self) -> u64 {
+        match self.began.elapsed(self.rt) {
+            Ok(passed) => u64::try_from(passed.as_millis()).unwrap_or(u64::MAX),
+            Err(_) => u64::MAX,
         }
     }
-    Ok(())
+
+    /// Rests.
+    fn rest(&self) {
+        thread::sleep(self.rt, Duration::from_millis(REST));
+    }
+
+    /// Does what came of a scraper's connection asks for, and says whether it stands. The counters are those of the moment at which its
+    /// request begins to come.
+    fn advance(&self, scraper: &mut Scraper, came: i16, now: u64) -> bool {
+        if came == 0 {
+            return !scraper.is_late(now);
+        }
+        if scraper.needs_text() {
+            let Ok(text) = self.counted.counters() else {
+                return false;
+            };
+            scraper.set_text(text);
+        }
+        scraper.take_turn() && !scraper.is_late(now)
+    }
+
+    /// Does what came of each scraper's connection asks for.
+    fn advance_all(&self, scrapers: &mut Vec<Scraper>, came: &Came) {
+        let now = self.now();
+        for place in (0..scrapers.len()).rev() {
+            let stands = match scrapers.get_mut(place) {
+                Some(scraper) => self.advance(scraper, came.of_client(place), now),
+                None => true,
+            };
+            if !stands && place < scrapers.len() {
+                scrapers.swap_remove(place);
+            }
+        }
+    }
+
+    /// The scraper that comes next.
+    ///
+    /// # Errors
+    ///
+    /// What the system says.
+    fn accept(&self, listener: &TcpListener) -> io::Result<Scraper> {
+        let (stream, _) = listener.accept()?;
+        let deadline = self.now().saturating_add(LONGEST);
+        Scraper::new(self.alloc, self.rt.keys()?, stream, deadline)
+    }
+
+    /// Takes the scraper in that comes next. Where there are as many as may be, the one whose time is over first is closed.
+    fn take_in(&self, scrapers: &mut Vec<Scraper>, listener: &TcpListener) {
+        let Ok(scraper) = self.accept(listener) else {
+            self.rest();
+            return;
+        };
+        if scrapers.len() >= MOST_CLIENTS
+            && let Some(place) = place_of_first(scrapers.as_slice())
+        {
+            scrapers.swap_remove(place);
+        }
+        let _ = scrapers.push(scraper);
+    }
 }
 
-/// Answers one scraper: its connection ends with the answer, or a second and a half after it began at the latest.
-fn answer<R: Clock + PageSockets>(
-    rt: &R,
-    alloc: Global,
-    text: &[u8],
-    stream: &mut TcpStream,
-) -> io::Result<()> {
-    limit_waits(stream)?;
-    let keys = rt.keys()?;
-    let mut connection = Connection::new(alloc, keys, Config::default());
-    let mut page = Page { text };
-    take_turns(rt, &mut connection, &mut page, stream)
-}
-
-/// Answers one scraper by the counters as they stand when it comes.
-fn show<R: Clock + PageSockets, C: Counted>(
-    rt: &R,
-    alloc: Global,
-    counted: &C,
-    stream: &mut TcpStream,
-) -> io::Result<()> {
-    let text = counted.counters()?;
-    answer(rt, alloc, text.as_slice(), stream)
-}
-
-/// Answers scrapers by [`Page`], one after another, until the end. It returns at the first connection that comes after the end, or as
-/// the listener is shut down then; a scraper that is slow or silent holds it for a second and a half at most.
+/// Answers scrapers by [`Page`](crate::Page), as many as 64 at a time, until the end: it returns at once as the listener is shut down, once
+/// the end has come. A scraper has a second and a half for all of its request and its answer, whatever others do; where one more comes, the
+/// one whose time is over first is closed.
 pub fn answer_scrapers<R: Clock + PageSockets, C: Counted>(
     rt: &R,
     alloc: Global,
     counted: &C,
     listener: &TcpListener,
 ) {
-    for came in listener.incoming() {
-        if counted.has_ended() {
+    let Ok(began) = Instant::now(rt) else {
+        return;
+    };
+    let desk = Desk {
+        rt,
+        alloc,
+        counted,
+        began,
+    };
+    let mut scrapers = Vec::new(alloc);
+    for _ in 0..u64::MAX {
+        let Some(came) = wait_for(listener, scrapers.as_slice(), desk.now()) else {
+            desk.rest();
+            continue;
+        };
+        if is_gone(came.of_listener()) && counted.has_ended() {
             return;
         }
-        match came {
-            Ok(mut stream) => {
-                let _ = show(rt, alloc, counted, &mut stream);
-            }
-            Err(_) => thread::sleep(rt, Duration::from_millis(REST)),
+        desk.advance_all(&mut scrapers, &came);
+        if came.of_listener() != 0 {
+            desk.take_in(&mut scrapers, listener);
         }
     }
 }

@@ -3,6 +3,7 @@
 
 mod answering;
 mod page;
+mod scraper;
 mod sockets;
 
 pub use answering::{Counted, answer_scrapers};

@@ -75,11 +75,11 @@ locations_drafted phase setup (location ∷ locations) takes whole kept all =
 
 -- before its first location
 abbrev head : Own → ℕ → List ℕ → Rules → Setup
-head own instance domain rules = record { own = own; instance = instance; domain = domain; rules = rules; locations = []; by_port = false }
+head own instance domain rules = record { own = own; instance = instance; domain = domain; rules = rules; locations = []; by_port = false; for_service = false }
 
 -- as lines spell it: none says that the port counts
 abbrev spelled_as : Setup → Setup
-spelled_as s = record s { by_port = false }
+spelled_as s = record s { by_port = false; for_service = false }
 
 setup_drafted_as : (prefer depth : Bool) (s : Setup) → IsSetup (record { prefer = prefer; depth = depth }) s → Reached no_draft (lines_of (record { prefer = prefer; depth = depth }) s) (spelled_as s)
 setup_drafted_as true true s h =
@@ -111,7 +111,8 @@ setup_drafted_as false false s h =
 
 pub setup_drafted : (shown : Shown) (s : Setup) → IsSetup shown s → Reached no_draft (lines_of shown s) s
 setup_drafted shown s h =
-    subst (λ (b : Bool). Reached no_draft (lines_of shown s) (record s { by_port = b })) (sym h.by_port) (setup_drafted_as shown.prefer shown.depth s h)
+    subst (λ (b : Bool). Reached no_draft (lines_of shown s) (record s { for_service = b })) (sym h.for_service)
+    (subst (λ (b : Bool). Reached no_draft (lines_of shown s) (record s { by_port = b; for_service = false })) (sym h.by_port) (setup_drafted_as shown.prefer shown.depth s h))
 
 -- ---- what may stand in the lines of a setup
 
@@ -250,7 +251,7 @@ close shown own instance domain rules lines next h are b =
     let P : Setup → Type 0 = LinesFound (head_lines own instance domain (line_if shown.prefer (PreferLine rules.preferred) ++ (line_if shown.depth (DepthLine rules.depth) ++ lines))) in
     subst P b.same (record {
       shown = shown;
-      is = record { own = h.own_is; instance = h.within; domain = h.host; rules = are; locations = b.right; kept = b.kept; by_port = refl };
+      is = record { own = h.own_is; instance = h.within; domain = h.host; rules = are; locations = b.right; kept = b.kept; by_port = refl; for_service = refl };
       spelled = ap (λ (ls : List Line). head_lines own instance domain (line_if shown.prefer (PreferLine rules.preferred) ++ (line_if shown.depth (DepthLine rules.depth) ++ ls))) b.spelled;
     })
 

@@ -5,4 +5,4 @@ pub mod SpelledLines
 pub mod DraftedLines
 pub mod Texts
 pub mod Targets
-pub mod UserTargets
+pub mod UserPlaces

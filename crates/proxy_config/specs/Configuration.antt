@@ -65,8 +65,9 @@ pub record IsSetup (shown : Shown) (setup : Setup) : Type 0 where
   pub rules : AreRules shown setup.rules
   pub locations : AllByRecursion IsLocation setup.locations
   pub kept : KeepsRules setup.locations
-  -- no line says that the port counts
+  -- no line says that the port counts, or that it is for a service
   pub by_port : setup.by_port ≡ false
+  pub for_service : setup.for_service ≡ false
 
 -- ---- the text
 

@@ -24,6 +24,8 @@ pub record Setup : Type 0 where
   pub locations : List Location
   -- whether the own address counts as the domain with the own port alone, or else with any port (section 16.5)
   pub by_port : Bool
+  -- whether each Route value at the front that leads to the proxy is taken away, or else the first alone (section 16.4)
+  pub for_service : Bool
 
 abbrev pub is_of_user : List ℕ → Location → Bool
 is_of_user user location = bytes_eq location.user user

@@ -2,4 +2,4 @@ pub mod Line
 pub mod LineReading
 pub mod LineView
 pub mod Reading
-pub mod UserTargets
+pub mod UserPlaces

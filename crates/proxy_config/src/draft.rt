@@ -98,6 +98,7 @@ impl<A: Allocator> Model for Parts<A> {
       rules = p.rules;
       locations = p.locations;
       by_port = false;
+      for_service = false;
     } };
 }
 
@@ -235,8 +236,9 @@ impl<A: Allocator + Clone> Draft<A> {
             instance: self.parts.instance,
             domain: self.parts.domain,
             rules: self.parts.rules,
-            locations: self.parts.locations.into_locations(),
+            locations: self.parts.locations,
             by_port: false,
+            for_service: false,
         })
     }
 }

@@ -12,9 +12,11 @@ mod line;
 mod listed;
 mod location;
 mod setup;
-mod user_targets;
+mod user_locations;
+mod user_places;
 
 pub use fault::SetupFault;
 pub use law::locations_are_targets;
 pub use location::Location;
 pub use setup::Setup;
+pub use user_locations::UserLocations;

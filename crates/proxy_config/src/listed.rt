@@ -1,29 +1,69 @@
-//! The locations read so far.
-ghost use Rattle.std.specs.Prelude.{◌≡◌, [], IfOk, Some, None, if◌then◌else◌};
+//! Locations, with the places of each user's.
+ghost use Rattle.std.specs.Prelude.{◌≡◌, ◌&&◌, [], not, nat_lt, IfOk, Some, None, if◌then◌else◌, slice_get};
+ghost use Rattle.std.specs.List.{list_any};
+ghost use Rattle.fork_model.specs.Table.{most_targets};
+ghost use Rattle.proxy_config.specs.Setup.{locations_of};
 ghost use Rattle.proxy_config.specs.inner.Reading.{added, may_follow};
+ghost use Rattle.proxy_config.specs.inner.UserPlaces.{has_key};
 
 use crate::location::Location;
-use crate::user_targets::UserTargets;
+use crate::user_locations::UserLocations;
+use crate::user_places::UserPlaces;
+use fork_rank::MOST_TARGETS;
 use std::alloc::{AllocError, Allocator};
 use std::marker::Model;
 
-/// The locations read so far, in the order of the text, and the targets of each user among them.
+/// Locations in the order of the text, and for each user where the user's stand among them.
 #[derive(Drop)]
 pub(crate) struct Listed<A: Allocator> {
     locations: Vec<Location<A>, A>,
-    targets: UserTargets<A>,
+    places: UserPlaces<A>,
 }
 
 impl<A: Allocator> Model for Listed<A> {
     ghost use Rattle.std.specs.Prelude.{List};
-    ghost use Rattle.proxy_config.specs.inner.UserTargets.{AreOf};
+    ghost use Rattle.proxy_config.specs.inner.UserPlaces.{AreOf};
     ghost use Rattle.proxy_config.specs.Setup as spec;
 
     ghost Value = { List spec.Location };
 
     ghost view = { λ l. l.locations.items };
 
-    ghost invariant = { λ l. AreOf l.locations.items l.targets };
+    ghost invariant = { λ l. AreOf l.locations.items l.places };
+}
+
+/// Whether the location at a place is one with this key.
+fn has_key_at<A: Allocator + Clone>(locations: &[Location<A>], place: usize, key: &[u8]) -> bool
+    ensures { result ≡ has_key key.now (slice_get locations.now place) }
+{
+    match locations.get(place) {
+        None => false,
+        Some(location) => location.uri().key() == key,
+    }
+}
+
+/// Whether one of the locations at these places has this key.
+fn has_key<A: Allocator + Clone>(locations: &[Location<A>], places: &[usize], key: &[u8]) -> bool
+    ensures { result ≡ list_any (λ place. has_key key.now (slice_get locations.now place)) places.now }
+{
+    places
+        .iter()
+        .any(|&place| has_key_at(locations, place, key))
+}
+
+/// Whether a user with so many targets may get one more: the user has not got it yet, nor as many as may be tried.
+fn may_get(is_there: bool, count: usize) -> bool
+    ensures { result ≡ (not is_there && nat_lt count most_targets) }
+{
+    !is_there && count < usize::from(MOST_TARGETS)
+}
+
+impl<A: Allocator> Listed<A> {
+    pub(crate) fn as_slice(&self) -> &[Location<A>]
+        ensures { result.now ≡ self.now }
+    {
+        self.locations.as_slice()
+    }
 }
 
 impl<A: Allocator + Clone> Listed<A> {
@@ -32,7 +72,7 @@ impl<A: Allocator + Clone> Listed<A> {
     {
         Ok(Listed {
             locations: Vec::new(alloc.clone()?),
-            targets: UserTargets::new(alloc.clone()?),
+            places: UserPlaces::new(alloc.clone()?),
         })
     }
 
@@ -41,8 +81,12 @@ impl<A: Allocator + Clone> Listed<A> {
     fn may_follow(&self, location: &Location<A>) -> bool
         ensures { result ≡ may_follow self.now location.now }
     {
-        location.uri().next_hop().is_some()
-            && self.targets.may_add(location.user(), location.uri().key())
+        if location.uri().next_hop().is_none() {
+            return false;
+        }
+        let places = self.places.of(location.user());
+        let is_there = has_key(self.locations.as_slice(), places, location.uri().key());
+        may_get(is_there, places.len())
     }
 
     /// Adds a location, and answers whether it may stand here.
@@ -53,15 +97,16 @@ impl<A: Allocator + Clone> Listed<A> {
             return Ok(false);
         }
         self.locations.reserve(1)?;
-        self.targets
-            .add(alloc, location.user(), location.uri().key())?;
+        let place = self.locations.len();
+        self.places.add(alloc, location.user(), place)?;
         self.locations.push_reserved(location);
         Ok(true)
     }
 
-    pub(crate) fn into_locations(self) -> Vec<Location<A>, A>
-        ensures { result.items ≡ self }
+    /// Those of a user.
+    pub(crate) fn of(&self, user: &[u8]) -> UserLocations<'_, A>
+        ensures { result ≡ locations_of user.now self.now }
     {
-        self.locations
+        UserLocations::at(self.places.of(user), self.locations.as_slice())
     }
 }

@@ -4,25 +4,28 @@ ghost use Rattle.sip_uri.specs.Host.{is_host};
 ghost use Rattle.proxy_config.specs.Configuration.{IsConfiguration};
 ghost use Rattle.proxy_config.specs.ReadView.{GivesSetup, IsFaultOf};
 ghost use Rattle.proxy_config.specs.Setup as spec;
-ghost use Rattle.proxy_config.specs.Setup.{KeepsRules};
+ghost use Rattle.proxy_config.specs.Setup.{KeepsRules, locations_of};
 
 use crate::draft::read_all;
 use crate::fault::SetupFault;
+use crate::listed::Listed;
 use crate::location::Location;
+use crate::user_locations::UserLocations;
 use fork_rank::Rules;
 use sip_via::Own;
 use std::alloc::{Allocator, Global};
 use std::marker::Model;
 
-/// What a proxy is set up with. `read` makes one, and `with_own_port` another of it.
+/// What a proxy is set up with. `read` makes one, `with_own_port` and `for_a_service` others of it.
 #[derive(Drop)]
 pub struct Setup<A: Allocator = Global> {
     pub(crate) own: Own,
     pub(crate) instance: u32,
     pub(crate) domain: Vec<u8, A>,
     pub(crate) rules: Rules,
-    pub(crate) locations: Vec<Location<A>, A>,
+    pub(crate) locations: Listed<A>,
     pub(crate) by_port: bool,
+    pub(crate) for_service: bool,
 }
 
 impl<A: Allocator> Model for Setup<A> {
@@ -36,11 +39,12 @@ impl<A: Allocator> Model for Setup<A> {
       instance = s.instance;
       domain = s.domain.items;
       rules = s.rules;
-      locations = s.locations.items;
+      locations = s.locations;
       by_port = s.by_port;
+      for_service = s.for_service;
     } };
 
-    ghost invariant = { λ s. IsKept s.own s.domain.items s.locations.items };
+    ghost invariant = { λ s. IsKept s.own s.domain.items s.locations };
 }
 
 impl<A: Allocator> Setup<A> {
@@ -80,7 +84,7 @@ impl<A: Allocator> Setup<A> {
         // A request can be sent to each location; no user has one target twice, or more than may be tried.
         ensures rules { KeepsRules self.now.locations }
     {
-        &self.locations
+        self.locations.as_slice()
     }
 
     /// Whether the own address counts as the domain with the own port alone, or else with any port (RFC 3261 section 16.5).
@@ -98,9 +102,35 @@ impl<A: Allocator> Setup<A> {
         self.by_port = true;
         self
     }
+
+    /// Whether the proxy is a service, which takes every Route value at the front away that leads to it, and not the first
+    /// alone (RFC 3261 section 16.4).
+    pub fn is_for_a_service(&self) -> bool
+        ensures { result ≡ self.now.for_service }
+    {
+        self.for_service
+    }
+
+    /// The same setup, but of a service: every Route value at the front of a request that leads to the proxy is taken away
+    /// before the request is sent on, and not the first alone (RFC 3261 section 16.4). So no request goes from the proxy to the
+    /// proxy itself by a Route value, however many of them a sender writes.
+    pub fn for_a_service(mut self) -> Setup<A>
+        ensures { result ≡ record self { for_service = true } }
+    {
+        self.for_service = true;
+        self
+    }
 }
 
 impl<A: Allocator + Clone> Setup<A> {
+    /// Where a user of the domain may be reached, in the order of the text (RFC 3261 section 16.5). The user is looked up in an
+    /// index by user, so that the locations of others are not gone through.
+    pub fn locations_of(&self, user: &[u8]) -> UserLocations<'_, A>
+        ensures { result ≡ locations_of user.now self.now.locations }
+    {
+        self.locations.of(user)
+    }
+
     /// The setup that a text spells. Its lines, each ended by LF: `own ADDRESS PORT`; `instance NUMBER`; `domain HOST`;
     /// `prefer LIST` and `depth STEPS`, each of which may be left out, and then the usual rule holds; and any number of
     /// `location USER Q URI`. An own address 0.0.0.0 is malformed, for no answer could come back to it. So is a location that

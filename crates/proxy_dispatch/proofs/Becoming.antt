@@ -28,7 +28,7 @@ use Rattle.proxy_dispatch.proofs.Purposes.{keyed_dropped, keyed_for}
 
 -- ---- ACKs
 
-pub passes_if : (setup : Setup) (m : MessageText) (source : Hop) (request : MessageText) → IsAdmitted setup.own m source request
+pub passes_if : (setup : Setup) (m : MessageText) (source : Hop) (request : MessageText) → IsAdmitted setup m source request
     → (sent : Option Datagram) → GoesOn setup request sent → Passes setup m source sent
 passes_if setup m source request a None h = inr (request, a, h)
 passes_if setup m source request a (Some datagram) h = (request, a, h)

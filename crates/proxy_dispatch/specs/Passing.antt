@@ -37,7 +37,7 @@ GoesOn setup request (Some datagram) =
 -- what is sent on of an ACK: nothing where one of the first four steps of section 16.3 stops it
 abbrev pub Passes : Setup → MessageText → Hop → Option Datagram → Type 0
 Passes setup m source None =
-    ((fault : RequestRejection) × (status : ℕ) × IsTurnedAway setup.own m source fault × (status_of_fault fault ≡ Some status))
-    ⊎ ((request : MessageText) × IsAdmitted setup.own m source request × GoesOn setup request None)
+    ((fault : RequestRejection) × (status : ℕ) × IsTurnedAway setup m source fault × (status_of_fault fault ≡ Some status))
+    ⊎ ((request : MessageText) × IsAdmitted setup m source request × GoesOn setup request None)
 Passes setup m source (Some datagram) =
-    (request : MessageText) × IsAdmitted setup.own m source request × GoesOn setup request (Some datagram)
+    (request : MessageText) × IsAdmitted setup m source request × GoesOn setup request (Some datagram)

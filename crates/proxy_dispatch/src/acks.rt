@@ -121,7 +121,7 @@ fn passing<A: Allocator + Clone>(
     requires { is_request ack.start ≡ true }
     ensures { IfOk result (λ sent. Passes setup.now ack source (seen_sent sent)) }
 {
-    match validate_request(alloc.clone()?, setup.own(), ack, source) {
+    match validate_request(alloc.clone()?, setup, ack, source) {
         Ok(request) => going_on(alloc, setup, &request),
         Err(fault) => match fault.status() {
             Some(_) => Ok(None),

@@ -1,5 +1,5 @@
 -- A request that is well formed can be marked with its source.
-use Rattle.proxy_routing.proofs.Common.{◌≡◌, Bool, true, false, List, ℕ, zero, suc, Option, Some, Result, Ok, Err, refl, sym, subst, arith, ap, ◌∙◌, codes, ◌&&◌, list_all, MessageText, Own, top_value, via_of, Hops, MayPass, hops_name}
+use Rattle.proxy_routing.proofs.Common.{◌≡◌, Bool, true, false, List, ℕ, zero, suc, Option, Some, Result, Ok, Err, refl, sym, subst, arith, ap, ◌∙◌, codes, ◌&&◌, list_all, MessageText, top_value, via_of, Hops, MayPass, hops_name}
 use Rattle.proxy_routing.proofs.Common.{is_at_its_end, is_spent, is_well_formed, target_uri}
 use Rattle.std.specs.Prelude.{IfSome, IsOk, if◌then◌else◌}
 use Rattle.std.proofs.lemmas.Bool.{and_parts}
@@ -17,7 +17,8 @@ use Rattle.sip_via.specs.ViaFaults.{refusal}
 use Rattle.sip_via.specs.ViaParts.{is_via}
 use Rattle.sip_route.specs.declared.hops.Hops.TheVariants.{Unsaid, Said, Wrong}
 use Rattle.sip_route.specs.Hops.{IsHops, hops_of}
-use Rattle.sip_route.specs.Routes.{stripped}
+use Rattle.proxy_config.specs.Setup.{Setup}
+use Rattle.proxy_routing.specs.OwnRoutes.{without_own_routes}
 use Rattle.sip_route.specs.RouteValues.{is_route, route_values}
 use Rattle.proxy_routing.specs.Admission.{are_hops, has_cookie, has_via, is_uri_or_other}
 use Rattle.proxy_routing.specs.inner.Admission.{is_formed}
@@ -87,18 +88,18 @@ pub may_pass : (m : MessageText) → is_well_formed m ≡ true → is_at_its_end
 may_pass m e f = passed (hops_of m) (and_parts (has_via m) (are_hops (hops_of m)) (has_hops m e)).1 f
 
 -- marking and stripping leave the start line and the first Max-Forwards value
-pub same_start : (m n r : MessageText) (own : Own) → r ≡ stripped n own → (stripped n own).start ≡ n.start → n.start ≡ m.start → r.start ≡ m.start
-same_start m n r own e s t = ap (λ (x : MessageText). x.start) e ∙ s ∙ t
+pub same_start : (m n r : MessageText) (setup : Setup) → r ≡ without_own_routes setup n → (without_own_routes setup n).start ≡ n.start → n.start ≡ m.start → r.start ≡ m.start
+same_start m n r setup e s t = ap (λ (x : MessageText). x.start) e ∙ s ∙ t
 
 pub not_via : same_name (codes "via") hops_name ≡ false
 unfolding full_name
 not_via = refl
 
-pub still_passes : (m n r : MessageText) (own : Own) → IfSome (first_value hops_name m.headers) IsHops
+pub still_passes : (m n r : MessageText) (setup : Setup) → IfSome (first_value hops_name m.headers) IsHops
     → values_of hops_name n.headers ≡ values_of hops_name m.headers
-    → first_value hops_name (stripped n own).headers ≡ first_value hops_name n.headers → r ≡ stripped n own
+    → first_value hops_name (without_own_routes setup n).headers ≡ first_value hops_name n.headers → r ≡ without_own_routes setup n
     → IfSome (first_value hops_name r.headers) IsHops
-still_passes m n r own h e f g =
+still_passes m n r setup h e f g =
     let P : Option (List ℕ) → Type 0 = λ value. IfSome value IsHops in
     let same : first_value hops_name r.headers ≡ first_value hops_name m.headers =
     ap (λ (x : MessageText). first_value hops_name x.headers) g ∙ f ∙ ap first_of e in

@@ -9,7 +9,6 @@ use Rattle.sip_uri.specs.declared.fault.UriFault.TheVariants as uris
 use Rattle.sip_uri.specs.declared.hop.Hop.{Hop}
 use Rattle.sip_uri.specs.Reading.{read_uri}
 use Rattle.sip_uri.specs.Uri.{Uri}
-use Rattle.sip_via.specs.declared.own.Own.{Own}
 use Rattle.sip_via.specs.declared.own.ViaFault.{ViaFault}
 use Rattle.sip_via.specs.BranchText.{cookie}
 use Rattle.sip_via.specs.Received.{marked}
@@ -21,7 +20,8 @@ use Rattle.sip_route.specs.Hops.{hops_of}
 use Rattle.sip_route.specs.Loop.{request_uri}
 use Rattle.sip_route.specs.LoopTest.{IsLoop}
 use Rattle.sip_route.specs.RouteValues.{is_route, route_values}
-use Rattle.sip_route.specs.Routes.{stripped}
+use Rattle.proxy_config.specs.Setup.{Setup}
+use Rattle.proxy_routing.specs.OwnRoutes.{without_own_routes}
 
 -- ---- is it well formed (section 16.3 step 1)
 
@@ -71,10 +71,10 @@ is_at_its_end m = is_spent (hops_of m)
 abbrev pub asks_extension : MessageText → Bool
 asks_extension m = is_some (first_value (codes "proxy-require") m.headers)
 
--- the request with its source (section 18.2.1), and without a Route value that names the proxy (section 16.4)
-abbrev pub IsPrepared : Own → MessageText → Hop → MessageText → Type 0
-IsPrepared own m source request =
-    (with_source : MessageText) × (marked m source ≡ Ok with_source) × (request ≡ stripped with_source own)
+-- the request with its source (section 18.2.1), and without the Route values that the proxy takes away (section 16.4)
+abbrev pub IsPrepared : Setup → MessageText → Hop → MessageText → Type 0
+IsPrepared setup m source request =
+    (with_source : MessageText) × (marked m source ≡ Ok with_source) × (request ≡ without_own_routes setup with_source)
 
 -- what holds of a request behind the first three steps
 pub record IsRoutable (m : MessageText) : Type 0 where
@@ -83,7 +83,7 @@ pub record IsRoutable (m : MessageText) : Type 0 where
   pub hops : is_at_its_end m ≡ false
 
 -- what holds of a request behind the first four steps, and what it is prepared as
-pub record IsAdmitted (own : Own) (m : MessageText) (source : Hop) (request : MessageText) : Type 0 where
+pub record IsAdmitted (setup : Setup) (m : MessageText) (source : Hop) (request : MessageText) : Type 0 where
   pub routable : IsRoutable m
-  pub prepared : IsPrepared own m source request
-  pub new_here : IsLoop request own → ⊥
+  pub prepared : IsPrepared setup m source request
+  pub new_here : IsLoop request setup.own → ⊥

@@ -1,4 +1,5 @@
 pub mod inner
 pub mod Admission
+pub mod OwnRoutes
 pub mod Refusing
 pub mod Targets

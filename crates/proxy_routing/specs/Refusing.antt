@@ -3,8 +3,8 @@ use Rattle.std.specs.Prelude.{◌≡◌, ◌≢◌, ℕ, true, false, Option, So
 use Rattle.sip_text.specs.Text.{MessageText}
 use Rattle.sip_uri.specs.declared.fault.UriFault.TheVariants as uris
 use Rattle.sip_uri.specs.declared.hop.Hop.{Hop}
-use Rattle.sip_via.specs.declared.own.Own.{Own}
 use Rattle.sip_route.specs.LoopTest.{IsLoop}
+use Rattle.proxy_config.specs.Setup.{Setup}
 use Rattle.proxy_routing.specs.declared.fault.RequestRejection.{RequestRejection}
 use Rattle.proxy_routing.specs.declared.fault.RequestRejection.TheVariants.{BadRequest, Scheme, Hops, Loop, Extension, NoTarget, NoHop, NoMemory}
 use Rattle.proxy_routing.specs.Admission.{IsPrepared, IsRoutable, is_at_its_end, is_well_formed, target_uri}
@@ -34,13 +34,13 @@ IsUnroutable m NoTarget = ⊥
 IsUnroutable m NoHop = ⊥
 
 -- the first of the first four that it fails
-abbrev pub IsTurnedAway : Own → MessageText → Hop → RequestRejection → Type 0
-IsTurnedAway own m source BadRequest = IsUnroutable m BadRequest
-IsTurnedAway own m source Scheme = IsUnroutable m Scheme
-IsTurnedAway own m source Hops = IsUnroutable m Hops
-IsTurnedAway own m source Loop =
-    IsRoutable m × (request : MessageText) × IsPrepared own m source request × IsLoop request own
-IsTurnedAway own m source NoMemory = Unit {0}
-IsTurnedAway own m source Extension = ⊥
-IsTurnedAway own m source NoTarget = ⊥
-IsTurnedAway own m source NoHop = ⊥
+abbrev pub IsTurnedAway : Setup → MessageText → Hop → RequestRejection → Type 0
+IsTurnedAway setup m source BadRequest = IsUnroutable m BadRequest
+IsTurnedAway setup m source Scheme = IsUnroutable m Scheme
+IsTurnedAway setup m source Hops = IsUnroutable m Hops
+IsTurnedAway setup m source Loop =
+    IsRoutable m × (request : MessageText) × IsPrepared setup m source request × IsLoop request setup.own
+IsTurnedAway setup m source NoMemory = Unit {0}
+IsTurnedAway setup m source Extension = ⊥
+IsTurnedAway setup m source NoTarget = ⊥
+IsTurnedAway setup m source NoHop = ⊥

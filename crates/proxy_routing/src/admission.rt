@@ -9,10 +9,13 @@ ghost use Rattle.proxy_routing.specs.inner.Admission.{is_formed};
 
 use crate::checks::{is_formed, is_of_another_scheme, is_spent};
 use crate::fault::RequestRejection;
-use sip_route::{hops_of, is_loop, request_uri, strip, stripping_keeps_the_rest};
+use crate::law::taking_own_routes_keeps_the_rest;
+use crate::own_routes::without_own_routes;
+use proxy_config::Setup;
+use sip_route::{hops_of, is_loop, request_uri};
 use sip_text::Message;
 use sip_uri::{Hop, uri_fault};
-use sip_via::{Own, ViaFault, add_received, marking_keeps_the_rest, readable_is_marked};
+use sip_via::{ViaFault, add_received, marking_keeps_the_rest, readable_is_marked};
 use std::alloc::Allocator;
 
 /// The request with its source. Marking reads the top Via value, so what cannot be read is refused here.
@@ -62,44 +65,45 @@ fn routable<A: Allocator + Clone>(
     Ok(marked)
 }
 
-/// The request with its source, and without a Route value that names the proxy, where it can be routed.
+/// The request with its source, and without the Route values that the proxy takes away, where it can be routed.
 fn prepared<A: Allocator + Clone>(
     alloc: A,
-    own: Own,
+    setup: &Setup<A>,
     message: Message<A>,
     source: Hop,
 ) -> Result<Message<A>, RequestRejection>
     ensures routable { IfOk result (λ _. IsRoutable message) }
-    ensures prepared { IfOk result (IsPrepared own message source) }
+    ensures prepared { IfOk result (IsPrepared setup.now message source) }
     ensures start { IfOk result (λ request. request.start ≡ message.start) }
     ensures hops { IfOk result (λ request. IfSome (first_value hops_name request.headers) IsHops) }
     ensures refused { IfErr result (IsUnroutable message) }
 {
     marking_keeps_the_rest();
-    stripping_keeps_the_rest();
+    taking_own_routes_keeps_the_rest();
     let marked = routable(alloc, message, source)?;
-    Ok(strip(marked, own))
+    Ok(without_own_routes(setup, marked))
 }
 
-/// The request as a proxy with this address routes it that came from `source`: with its source, and without a Route
-/// value that names the proxy (RFC 3261 sections 16.3 steps 1 to 4, 16.4 and 18.2.1). It may be forwarded.
+/// The request as a proxy that is set up so routes it, which came from `source`: with its source, and without a Route value
+/// at the front that leads to the proxy, or, where the proxy is a service, without any there (RFC 3261 sections 16.3 steps 1
+/// to 4, 16.4 and 18.2.1). It may be forwarded.
 ///
 /// # Errors
 ///
 /// The first that holds of: `BadRequest`, `Scheme`, `Hops`, `Loop`; and `NoMemory` wherever the allocator refuses.
 pub fn validate_request<A: Allocator + Clone>(
     alloc: A,
-    own: Own,
+    setup: &Setup<A>,
     message: Message<A>,
     source: Hop,
 ) -> Result<Message<A>, RequestRejection>
-    ensures admitted { IfOk result (IsAdmitted own message source) }
+    ensures admitted { IfOk result (IsAdmitted setup.now message source) }
     ensures start { IfOk result (λ request. request.start ≡ message.start) }
     ensures hops { IfOk result (λ request. IfSome (first_value hops_name request.headers) IsHops) }
-    ensures refused { IfErr result (IsTurnedAway own message source) }
+    ensures refused { IfErr result (IsTurnedAway setup.now message source) }
 {
-    let request = prepared(alloc, own, message, source)?;
-    if is_loop(&request, own) {
+    let request = prepared(alloc, setup, message, source)?;
+    if is_loop(&request, setup.own()) {
         return Err(RequestRejection::Loop);
     }
     Ok(request)

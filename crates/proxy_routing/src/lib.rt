@@ -1,6 +1,7 @@
 //! What a proxy asks of a request before it opens a call for it, and where it then sends it: the validation of the
-//! request and the status by which it is refused, the target set, which is the locations of a user of the domain or the
-//! Request-URI, and the next hop that leads to each target (RFC 3261 sections 16.3 to 16.6).
+//! request and the status by which it is refused, the Route values that lead to the proxy itself, the target set, which is
+//! the locations of a user of the domain or the Request-URI, and the next hop that leads to each target (RFC 3261 sections
+//! 16.3 to 16.6).
 //!
 //! Nothing is known of calls here.
 #![tactic(auto)]
@@ -8,11 +9,14 @@
 mod admission;
 mod checks;
 mod fault;
+mod law;
+mod own_routes;
 mod targets;
 
 pub use admission::validate_request;
 pub use checks::asks_extension;
 pub use fault::RequestRejection;
+pub use law::taking_own_routes_keeps_the_rest;
 pub use targets::{
     CandidateTarget, candidates, have_hops, hop_by, hop_if_any, is_domain, targets_of,
 };

@@ -7,7 +7,7 @@ ghost use Rattle.proxy_config.specs.Setup.{locations_of};
 ghost use Rattle.proxy_routing.specs.Targets.{candidate_at, candidates_by, candidates_of, has_hop, hop_by, hop_if_any, is_domain, is_own, is_own_port, target_of, targets_of};
 
 use fork_context::Target;
-use proxy_config::{Location, Setup};
+use proxy_config::Setup;
 use sip_route::FirstRoute;
 use sip_uri::{Hop, SipUri};
 use sip_via::{Own, is_address};
@@ -104,33 +104,19 @@ pub fn is_domain<A: Allocator + Clone>(setup: &Setup<A>, uri: &SipUri<A>) -> boo
     uri.host().eq_ignore_ascii_case(setup.domain()) || is_own(setup, uri)
 }
 
-/// Adds a location, where it is the user's.
-fn add_if_of<'a, A: Allocator + Clone>(
-    candidates: &mut Vec<CandidateTarget<'a, A>, A>,
-    route: FirstRoute,
-    location: &'a Location<A>,
-    user: &[u8],
-) -> Result<(), AllocError>
-    ensures { OnOk result (candidates.new.items ≡ candidates.old.items ++ map (candidate_at route) (locations_of user.now (location.now ∷ []))) }
-{
-    if location.is_of(user) {
-        candidates.push(CandidateTarget::new(route, location.q(), location.uri()))?;
-    }
-    Ok(())
-}
-
 /// The locations of a user.
 fn located<'a, A: Allocator + Clone>(
     alloc: A,
+    setup: &'a Setup<A>,
     route: FirstRoute,
-    locations: &'a [Location<A>],
     user: &[u8],
 ) -> Result<Vec<CandidateTarget<'a, A>, A>, AllocError>
-    ensures { IfOk result (λ candidates. candidates.items ≡ map (candidate_at route) (locations_of user.now locations.now)) }
+    ensures { IfOk result (λ candidates. candidates.items ≡ map (candidate_at route) (locations_of user.now setup.now.locations)) }
 {
     let mut candidates = Vec::new(alloc);
-    for location in locations {
-        add_if_of(&mut candidates, route, location, user)?;
+    let mut locations = setup.locations_of(user);
+    while let Some(location) = locations.next() {
+        candidates.push(CandidateTarget::new(route, location.q(), location.uri()))?;
     }
     Ok(candidates)
 }
@@ -138,15 +124,15 @@ fn located<'a, A: Allocator + Clone>(
 /// The locations of a user, if there is one.
 fn located_if_any<'a, A: Allocator + Clone>(
     alloc: A,
+    setup: &'a Setup<A>,
     route: FirstRoute,
-    locations: &'a [Location<A>],
     user: Option<&[u8]>,
 ) -> Result<Vec<CandidateTarget<'a, A>, A>, AllocError>
-    ensures { IfOk result (λ candidates. candidates.items ≡ candidates_of route locations.now (option_copied user.entry)) }
+    ensures { IfOk result (λ candidates. candidates.items ≡ candidates_of route setup.now.locations (option_copied user.entry)) }
 {
     match user {
         None => Ok(Vec::new(alloc)),
-        Some(user) => located(alloc, route, locations, user),
+        Some(user) => located(alloc, setup, route, user),
     }
 }
 
@@ -175,7 +161,7 @@ pub fn candidates<'a, A: Allocator + Clone>(
     ensures { IfOk result (λ found. found.items ≡ candidates_by inside setup.now route uri.now) }
 {
     if inside {
-        located_if_any(alloc, route, setup.locations(), uri.user())
+        located_if_any(alloc, setup, route, uri.user())
     } else {
         alone(alloc, route, uri)
     }

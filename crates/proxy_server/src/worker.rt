@@ -81,7 +81,7 @@ impl<A: Allocator + Clone> Proxy<A> {
     fn carry<R: Wait, P: Port>(&self, rt: &R, port: &mut P, number: u64, now: u64) {
         let due = self.calls.with(rt, number, |call| carried(call, port, now));
         if let Some(Some(due)) = due {
-            self.schedule.add(rt, number, due);
+            let _ = self.schedule.add(rt, number, due);
         }
     }
 

@@ -13,10 +13,10 @@ const NUMBERS: u64 = 200;
 fn each_number_that_is_due_comes_once(rt: HostRuntime) -> Result<(), Fail> {
     let schedule = Schedule::new(rt.alloc())?;
     holds(&rt, !schedule.is_due(1_000), "no call has a deadline");
-    schedule.add(&rt, 3, 500);
-    schedule.add(&rt, 1, 200);
-    schedule.add(&rt, 3, 700);
-    schedule.add(&rt, 1, 100);
+    let _ = schedule.add(&rt, 3, 500);
+    let _ = schedule.add(&rt, 1, 200);
+    let _ = schedule.add(&rt, 3, 700);
+    let _ = schedule.add(&rt, 1, 100);
     holds(&rt, !schedule.is_due(99), "nothing is due before 100");
     holds(&rt, schedule.is_due(100), "at 100 something is");
     let early = schedule.take_due(&rt, 99);
@@ -35,10 +35,10 @@ fn each_number_that_is_due_comes_once(rt: HostRuntime) -> Result<(), Fail> {
 #[test]
 fn a_number_can_be_added_again(rt: HostRuntime) -> Result<(), Fail> {
     let schedule = Schedule::new(rt.alloc())?;
-    schedule.add(&rt, 7, 10);
+    let _ = schedule.add(&rt, 7, 10);
     let once = schedule.take_due(&rt, 10);
     holds(&rt, once == Some(7), "it is due");
-    schedule.add(&rt, 7, 30);
+    let _ = schedule.add(&rt, 7, 30);
     holds(&rt, !schedule.is_due(29), "it is due later");
     let twice = schedule.take_due(&rt, 30);
     holds(&rt, twice == Some(7), "it is due again");
@@ -49,7 +49,7 @@ fn a_number_can_be_added_again(rt: HostRuntime) -> Result<(), Fail> {
 fn add_half<R: Wait>(rt: &R, schedule: &Schedule, odd: bool) {
     for number in 0..NUMBERS {
         if (number & 1 == 1) == odd {
-            schedule.add(rt, number, NUMBERS - number);
+            let _ = schedule.add(rt, number, NUMBERS - number);
         }
     }
 }

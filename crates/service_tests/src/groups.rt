@@ -1,6 +1,6 @@
 //! Jobs of a group of calls wait for the worker that is on it, and come in order.
 use crate::holds::holds;
-use call_groups::{Group, MOST_WAITING, jobs_come_in_order};
+use call_groups::{Group, MOST_WAITING, Room, jobs_come_in_order};
 
 /// What becomes of a job that a worker receives.
 #[derive(Clone, Copy, PartialEq, Eq)]
@@ -73,12 +73,12 @@ fn one_worker_at_a_time_is_on_a_group(rt: HostRuntime) {
 }
 
 #[test]
-fn no_more_than_64_jobs_wait(rt: HostRuntime) {
+fn no_more_than_1_024_jobs_wait(rt: HostRuntime) {
     let mut group = Group::new(rt.alloc());
     let entered = receive(&mut group, 0) == Fate::Enters;
     holds(&rt, entered && !group.is_full(), "nothing waits at first");
     let mut waiting = 0usize;
-    for job in 1..100u32 {
+    for job in 1..2_000u32 {
         if receive(&mut group, job) == Fate::Waits {
             waiting = waiting.saturating_add(1);
         }
@@ -86,16 +86,59 @@ fn no_more_than_64_jobs_wait(rt: HostRuntime) {
     holds(
         &rt,
         waiting == MOST_WAITING && group.is_full(),
-        "64 jobs wait",
+        "1,024 jobs wait",
     );
     let first = group.next() == Some(1);
     holds(&rt, first && !group.is_full(), "the first made room");
     let well = plays(
         &mut group,
         &[
-            Act::Receive(100, Fate::Waits),
-            Act::Receive(101, Fate::Refused),
+            Act::Receive(2_000, Fate::Waits),
+            Act::Receive(2_001, Fate::Refused),
         ],
     );
     holds(&rt, well, "for one");
+}
+
+/// What is done with a room.
+#[derive(Clone, Copy)]
+enum Use {
+    /// So many bytes are taken, or are not left.
+    Take(u64, bool),
+    /// So many bytes are given back.
+    GiveBack(u64),
+}
+
+/// Whether a room answers so.
+fn answers(room: &mut Room, done: Use) -> bool {
+    match done {
+        Use::Take(bytes, expected) => room.take(bytes) == expected,
+        Use::GiveBack(bytes) => {
+            room.give_back(bytes);
+            true
+        }
+    }
+}
+
+#[test]
+fn a_room_gives_what_it_has(rt: HostRuntime) {
+    let mut room = Room::new(10);
+    let mut is_well = true;
+    for done in [
+        Use::Take(11, false),
+        Use::Take(7, true),
+        Use::Take(4, false),
+        Use::Take(3, true),
+        Use::Take(1, false),
+        Use::Take(0, true),
+        Use::GiveBack(4),
+        Use::Take(5, false),
+        Use::Take(4, true),
+        Use::GiveBack(100),
+        Use::Take(11, false),
+        Use::Take(10, true),
+    ] {
+        is_well = answers(&mut room, done) && is_well;
+    }
+    holds(&rt, is_well, "as many bytes as are left");
 }

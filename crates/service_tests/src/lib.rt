@@ -2,9 +2,13 @@
 #![tactic(auto)]
 
 #[cfg(test)]
+mod appending;
+#[cfg(test)]
 mod by_call;
 #[cfg(test)]
 mod capable;
+#[cfg(test)]
+mod clients;
 #[cfg(test)]
 mod clock;
 #[cfg(test)]
@@ -13,6 +17,8 @@ mod commands;
 mod control;
 #[cfg(test)]
 mod deadlines;
+#[cfg(test)]
+mod files;
 #[cfg(test)]
 mod forgetting;
 #[cfg(test)]
@@ -35,6 +41,8 @@ mod parts;
 mod recording;
 #[cfg(test)]
 mod schedule;
+#[cfg(test)]
+mod scrapers;
 #[cfg(test)]
 mod stamping;
 #[cfg(test)]

@@ -1,9 +1,10 @@
 //! What a service is made of below its threads.
 use crate::holds::holds;
 use daemon_parts::{
-    Counts, DaemonFault, Gauges, Identity, Marks, Places, ProxyFiles, Sent, Socket,
-    configuration_fault, control_fault, metrics_fault, read_again, read_setup, read_text,
-    resident_bytes, resident_pages, socket_fault,
+    Counts, DaemonFault, Gauges, Identity, Marks, Places, ProxyFiles, Sent, Socket, calls_within,
+    configuration_fault, control_fault, group_limit, is_keep_alive, journal_fault, memory_total,
+    metrics_fault, most_calls_here, read_again, read_setup, read_text, resident_bytes,
+    resident_pages, socket_fault,
 };
 use sip_uri::Hop;
 use sip_via::Own;
@@ -91,6 +92,7 @@ fn a_fault_has_a_status(rt: HostRuntime) {
         (DaemonFault::NoMemory, 3),
         (DaemonFault::Socket, 5),
         (DaemonFault::Metrics, 5),
+        (DaemonFault::Journal, 5),
     ] {
         holds(&rt, fault.status() == status, "the status of a fault");
     }
@@ -106,6 +108,8 @@ fn a_fault_of_the_system_is_told(rt: HostRuntime) {
     holds(&rt, refused == DaemonFault::Control, "no control socket");
     let refused = metrics_fault(io::Error::from(ErrorKind::AddrInUse));
     holds(&rt, refused == DaemonFault::Metrics, "no metrics address");
+    let refused = journal_fault(io::Error::from(ErrorKind::NotFound));
+    holds(&rt, refused == DaemonFault::Journal, "no journal");
 }
 
 /// A file in the folder in which the test runs.
@@ -187,6 +191,8 @@ fn what_is_counted_is_written(rt: HostRuntime) {
     counts.calls.finished.add(3);
     counts.calls.failed.add(486);
     counts.calls.failed.add(603);
+    counts.calls.missed.add(4);
+    counts.datagrams.keep_alives.add(6);
     counts.datagrams.answered.add(416);
     counts.datagrams.answered.add(501);
     counts.datagrams.timed.requests.add(8);
@@ -199,6 +205,8 @@ fn what_is_counted_is_written(rt: HostRuntime) {
         "\nforkproxy_calls_opened_total 5\n",
         "# TYPE forkproxy_calls_failed_total counter\nforkproxy_calls_failed_total{class=\"3xx\"} 0\nforkproxy_calls_failed_total{class=\"4xx\"} 1\n",
         "\nforkproxy_calls_failed_total{class=\"6xx\"} 1\n",
+        "\nforkproxy_deadlines_missed_total 4\n",
+        "\nforkproxy_keepalives_total 6\n",
         "\nforkproxy_answered_total{status=\"416\"} 1\n",
         "\nforkproxy_answered_total{status=\"other\"} 1\n",
         "\nforkproxy_timer_sent_total{message=\"request\"} 8\n",
@@ -215,6 +223,39 @@ fn memory_is_told_by_the_system(rt: HostRuntime) {
     holds(&rt, resident_pages(b"765").is_none(), "no second number");
     let bytes = resident_bytes(&rt, rt.alloc()).unwrap_or(0);
     holds(&rt, bytes > 4_096, "this process has memory");
+}
+
+#[test]
+fn what_is_kept_follows_the_memory(rt: HostRuntime) {
+    let total = memory_total(b"MemTotal:       16384256 kB\nMemFree:          123 kB\n");
+    holds(&rt, total == Some(16_777_478_144), "units of 1,024 bytes");
+    let free = memory_total(b"MemFree:          123 kB\n");
+    holds(&rt, free.is_none(), "another line");
+    holds(&rt, group_limit(b"max\n").is_none(), "no limit");
+    let limit = group_limit(b"536870912\n");
+    holds(&rt, limit == Some(536_870_912), "a limit");
+    for (bytes, calls) in [
+        (0, 1_000),
+        (24_000_000, 1_000),
+        (16_777_478_144, 699_061),
+        (24_000_000_000, 1_000_000),
+        (u64::MAX, 1_000_000),
+    ] {
+        holds(&rt, calls_within(bytes) == calls, "half of the memory");
+    }
+    let here = most_calls_here(&rt, rt.alloc());
+    let is_bounded = 1_000 <= here && here <= 1_000_000;
+    holds(&rt, is_bounded, "what this machine has");
+}
+
+#[test]
+fn line_ends_alone_keep_a_path_open(rt: HostRuntime) {
+    for text in ["", "\r\n", "\r\n\r\n", "\0\0\0\0"] {
+        holds(&rt, is_keep_alive(text.as_bytes()), "it is one");
+    }
+    for text in ["\0\0\0", "\0\0\0\0\0", "\r\n\r\nACK", " "] {
+        holds(&rt, !is_keep_alive(text.as_bytes()), "it is none");
+    }
 }
 
 /// Whether marks are set once, and cleared once.
@@ -235,17 +276,15 @@ fn a_call_is_marked_once(rt: HostRuntime) {
     holds(&rt, are_marked(rt.alloc()), "the marks");
 }
 
-/// Whether two places are kept, and a third only once one is given back, or behind one that was taken beyond them only once two are.
+/// Whether two places are kept, a third for a request within a dialog alone, and one more only once two are given back.
 fn are_kept() -> bool {
     let mut places = Places::new(2);
     let kept = places.keep() && places.keep() && !places.keep();
+    let beyond = places.keep_within_dialog() && !places.keep_within_dialog();
     places.give_back();
-    let again = places.keep() && !places.keep();
-    places.take();
+    let full = !places.keep();
     places.give_back();
-    let beyond = !places.keep();
-    places.give_back();
-    kept && again && beyond && places.keep()
+    kept && beyond && full && places.keep() && !places.keep()
 }
 
 #[test]

@@ -15,7 +15,7 @@ const LATE: u64 = 1_000_000;
 fn what_is_due_comes_first_and_once(rt: HostRuntime) -> Result<(), Fail> {
     let schedule = Schedule::new(rt.alloc())?;
     for (number, deadline) in [(3, 500), (1, 200), (3, 700), (1, 100)] {
-        schedule.add(&rt, number, deadline);
+        let _ = schedule.add(&rt, number, deadline);
     }
     for (now, due) in [
         (99, None),
@@ -27,7 +27,7 @@ fn what_is_due_comes_first_and_once(rt: HostRuntime) -> Result<(), Fail> {
         let taken = schedule.take_due(&rt, now);
         holds(&rt, taken == due, "the earliest, once its time has come");
     }
-    schedule.add(&rt, 3, 900);
+    let _ = schedule.add(&rt, 3, 900);
     let again = schedule.take_due(&rt, 900);
     holds(&rt, again == Some(3), "a number may have a deadline again");
     holds(&rt, !schedule.take_missed(), "none was missed");
@@ -51,7 +51,7 @@ fn a_sleep_ends_where_it_must(rt: HostRuntime) -> Result<(), Fail> {
     schedule.wake();
     let woken = wakes(&rt, &schedule, &mut watch);
     holds(&rt, woken, "it ends where it was woken before it began");
-    schedule.add(&rt, 1, 5);
+    let _ = schedule.add(&rt, 1, 5);
     let past = wakes(&rt, &schedule, &mut watch);
     holds(&rt, past, "a deadline that has come ends it at once");
     Ok(())
@@ -60,7 +60,7 @@ fn a_sleep_ends_where_it_must(rt: HostRuntime) -> Result<(), Fail> {
 /// Adds a deadline a little later.
 fn adds<R: Wait + Clock>(rt: &R, schedule: &Schedule<Global>) -> bool {
     thread::sleep(rt, Duration::from_millis(20));
-    schedule.add(rt, 1, 5);
+    let _ = schedule.add(rt, 1, 5);
     true
 }
 
@@ -69,7 +69,7 @@ fn an_earlier_deadline_ends_the_sleep(rt: HostRuntime) -> Result<(), Fail> {
     let epoch = Epoch::now(&rt).ok_or("no clock")?;
     let schedule = Schedule::new(rt.alloc())?;
     let mut watch = Watch::new(epoch);
-    schedule.add(&rt, 2, LATE);
+    let _ = schedule.add(&rt, 2, LATE);
     let both = join(
         &rt,
         || wakes(&rt, &schedule, &mut watch),

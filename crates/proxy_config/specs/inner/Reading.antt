@@ -68,6 +68,7 @@ no_setup = record {
   rules = usual_rules;
   locations = [];
   by_port = false;
+  for_service = false;
 }
 
 -- the lines read so far

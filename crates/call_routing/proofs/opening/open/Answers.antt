@@ -1,4 +1,3 @@
-use Rattle.call_routing.proofs.Common.{subst, Own, IsAdmitted, IsTurnedAway}
 use Rattle.call_routing.proofs.Opened.{openable, opens_if, refuses_if, turned_away}
 use Rattle.call_routing.proofs.laws.Readable.{admitted_reads}
 use Rattle.call_routing.proofs.opening.open.Goals as goal
@@ -9,21 +8,16 @@ open_prepared-requires-clause-request g c =
 
 pub open_prepared-requires-clause-readable : goal.open_prepared-requires-clause-readable
 open_prepared-requires-clause-readable g c =
-    admitted_reads c.own.result c.args.request c.in-Ok.request c.args.source c.in-Ok.ensures.admitted c.in-Ok.ensures.start
+    admitted_reads c.args.setup.now c.args.request c.in-Ok.request c.args.source c.in-Ok.ensures.admitted c.in-Ok.ensures.start
 
 pub returns-in-Ok-clause-opened : goal.returns-in-Ok-clause-opened
 returns-in-Ok-clause-opened g c =
-    let P : Own → Type 0 = λ own. IsAdmitted own c.args.request c.args.source c.in-Ok.request in
-    opens_if c.args.setup.now c.args.number c.args.request c.args.source c.in-Ok.request (subst P c.own.ensures.value c.in-Ok.ensures.admitted)
-    c.open_prepared.result c.open_prepared.ensures.opened
+    opens_if c.args.setup.now c.args.number c.args.request c.args.source c.in-Ok.request c.in-Ok.ensures.admitted c.open_prepared.result c.open_prepared.ensures.opened
 
 pub returns-in-Ok-clause-refused : goal.returns-in-Ok-clause-refused
 returns-in-Ok-clause-refused g c =
-    let P : Own → Type 0 = λ own. IsAdmitted own c.args.request c.args.source c.in-Ok.request in
-    refuses_if c.args.setup.now c.args.request c.args.source c.in-Ok.request (subst P c.own.ensures.value c.in-Ok.ensures.admitted)
-    c.open_prepared.result c.open_prepared.ensures.refused
+    refuses_if c.args.setup.now c.args.request c.args.source c.in-Ok.request c.in-Ok.ensures.admitted c.open_prepared.result c.open_prepared.ensures.refused
 
 pub returns-in-Err-clause-refused : goal.returns-in-Err-clause-refused
 returns-in-Err-clause-refused g c =
-    let P : Own → Type 0 = λ own. IsTurnedAway own c.args.request c.args.source c.in-Err.fault in
-    turned_away c.args.setup.now c.args.request c.args.source c.in-Err.fault (subst P c.own.ensures.value c.in-Err.ensures.refused)
+    turned_away c.args.setup.now c.args.request c.args.source c.in-Err.fault c.in-Err.ensures.refused

@@ -1,14 +1,21 @@
-use Rattle.proxy_config.proofs.Common.{◌≡◌, ◌∙◌, List, Location, ap, hop_of, is_some, true}
+use Rattle.proxy_config.proofs.Common.{◌≡◌, ◌∙◌, List, Location, ap, hop_of, is_some, length, list_any, refl, true}
 use Rattle.std.proofs.Common.{rules}
+use Rattle.std.specs.Prelude.{slice_get}
 use Rattle.proxy_config.specs.Setup.{location_key}
 use Rattle.proxy_config.specs.inner.Reading.{may_follow}
-use Rattle.proxy_config.proofs.UserTargets.{may_follow_then}
+use Rattle.proxy_config.specs.inner.UserPlaces.{has_key}
+use Rattle.proxy_config.proofs.UserPlaces.{may_follow_by}
 use Rattle.proxy_config.proofs.listed.Listed.may_follow.Goals as goal
 
-pub returns-then-is_some : goal.returns-then-is_some
-returns-then-is_some g c =
+pub returns : goal.returns
+returns g c =
+    let locations = c.self.inside.locations.items in
+    let location = c.args.location.now in
+    let hop : is_some (hop_of c.args.location.now.uri) ≡ true = search rules in
     let user : c.user.result.now ≡ c.args.location.now.user = search rules in
     let key : c.key.result.now ≡ location_key c.args.location.now = search rules in
-    let hop : is_some (hop_of c.args.location.now.uri) ≡ true = search rules in
-    may_follow_then c.self.inside.locations.items c.args.location.now c.self.inside.targets c.self.invariant c.user.result.now c.key.result.now user key hop c.may_add.result c.may_add.ensures
-    ∙ ap (λ (ls : List Location). may_follow ls c.args.location.now) c.self.view_is
+    let has : c.has_key-is_there.result ≡ list_any (λ place. has_key c.key.result.now (slice_get c.self.inside.locations.items place)) c.of-places.result.now = search rules in
+    may_follow_by locations location c.self.inside.places c.self.invariant hop c.user.result.now c.key.result.now user key c.of-places.result.now
+    c.of-places.ensures
+    c.has_key-is_there.result has (length c.of-places.result.now) refl c.may_get.result c.may_get.ensures
+    ∙ ap (λ (ls : List Location). may_follow ls location) c.self.view_is

@@ -1,0 +1,200 @@
+//! A service that is told to end while another thread hands it a datagram.
+ghost use denote.Param.Send.{IsSync};
+ghost use Rattle.proxy_service.specs.contracts.service.Service.{the_row as service_row};
+
+use crate::holds::holds;
+use crate::outgoing::Outgoing;
+use crate::played::{PLAIN, service_of};
+use crate::texts::{BOB, CALLER, CONFIGURATION, INVITE, answer_text, request_text};
+use fork_call::{Datagram, Port};
+use proxy_dispatch::Received;
+use proxy_service::{Service, State};
+use sip_uri::Hop;
+use std::alloc::{Allocator, Global};
+use std::sync::Wait;
+use std::sync::atomic::{AtomicBool, Ordering};
+use std::test::Fail;
+use std::thread::{Threads, join};
+use std::time::Clock;
+
+/// How often each is tried.
+const TRIES: u32 = 200;
+
+/// How often the thread that keeps the time looks at most.
+const LOOKS: u32 = 10_000_000;
+
+/// When the datagram comes, and when the thread that keeps the time looks, in milliseconds: the two seconds in which a service answers that
+/// it ends are over by then.
+const COMES: u64 = 1_000;
+
+const LOOKED: u64 = 5_000;
+
+/// What two threads do with a service.
+trait Raced {
+    /// Hands it a datagram that comes from there.
+    fn hands<R: Wait + Clock, P: Port>(&self, rt: &R, port: &mut P, source: Hop, bytes: &[u8]);
+
+    /// Tells it to end within a minute.
+    fn begins_end(&self);
+
+    /// Looks as the thread that keeps the time does.
+    fn looks<R: Wait>(&self, rt: &R);
+
+    fn has_ended(&self) -> bool;
+}
+
+impl Raced for Service {
+    fn hands<R: Wait + Clock, P: Port>(&self, rt: &R, port: &mut P, source: Hop, bytes: &[u8]) {
+        let received = Received {
+            bytes,
+            source,
+            now: COMES,
+        };
+        self.take(rt, port, received);
+    }
+
+    fn begins_end(&self) {
+        self.drain(COMES, 60);
+    }
+
+    fn looks<R: Wait>(&self, rt: &R) {
+        self.next_look(rt, LOOKED);
+    }
+
+    fn has_ended(&self) -> bool {
+        self.is_in(State::Ended)
+    }
+}
+
+/// A port that notes whether the service had ended before a datagram was sent.
+#[derive(Drop)]
+struct Noting<'a, S> {
+    service: &'a S,
+    /// How many datagrams were sent behind the end, but for a 503.
+    late: u32,
+}
+
+impl<S: Raced> Port for Noting<'_, S> {
+    ghost count = { λ _. 0 };
+
+    fn send<A: Allocator>(&mut self, datagram: &Datagram<A>) -> bool {
+        if self.service.has_ended() && !datagram.bytes.starts_with(b"SIP/2.0 503 ") {
+            self.late = self.late.saturating_add(1);
+        }
+        true
+    }
+
+    fn failures(&self) -> u64 {
+        0
+    }
+}
+
+/// Hands a datagram to a service, says so once that is done, and answers how many datagrams were sent behind the end.
+fn late_sends<S: Raced, R: Wait + Clock>(
+    rt: &R,
+    service: &S,
+    source: Hop,
+    bytes: &[u8],
+    is_done: &AtomicBool,
+) -> u32 {
+    let mut port = Noting { service, late: 0 };
+    service.hands(rt, &mut port, source, bytes);
+    is_done.store(true, Ordering::SeqCst);
+    port.late
+}
+
+/// Tells a service to end, and looks as the thread that keeps the time does, until it has ended or all is done.
+fn ends<S: Raced, R: Wait>(rt: &R, service: &S, is_done: &AtomicBool) {
+    service.begins_end();
+    for _ in 0..LOOKS {
+        service.looks(rt);
+        if is_done.load(Ordering::SeqCst) || service.has_ended() {
+            return;
+        }
+    }
+}
+
+/// How many datagrams are sent behind the end of a service that is told to end while a datagram comes.
+fn late_at_once<S: Raced + Sync, R: Threads + Wait + Clock + Sync>(
+    rt: &R,
+    service: &S,
+    source: Hop,
+    bytes: &[u8],
+) -> u32 {
+    let is_done = AtomicBool::new(false);
+    let (late, ()) = join(
+        rt,
+        || late_sends(rt, service, source, bytes, &is_done),
+        || ends(rt, service, &is_done),
+    );
+    late
+}
+
+/// That threads may share this.
+fn is_shared<T: Sync>(_: &T)
+    ensures { IsSync T.row }
+{}
+
+/// That threads may share a service.
+fn service_is_shared(service: &Service)
+    ensures { IsSync service_row }
+{
+    is_shared(service);
+}
+
+/// The answer of bob's telephone to the INVITE that it was sent.
+fn answer_of(alloc: Global, outgoing: &Outgoing) -> Option<Vec<u8>> {
+    for sent in outgoing.sent() {
+        if sent.to == BOB {
+            return answer_text(alloc, "SIP/2.0 486 Busy Here", sent.bytes.as_slice());
+        }
+    }
+    None
+}
+
+/// Opens a call to bob, and answers what his telephone would answer.
+fn opened<R: Wait + Clock>(rt: &R, alloc: Global, service: &Service) -> Option<Vec<u8>> {
+    let request = request_text(alloc, &INVITE, "").ok()?;
+    let mut outgoing = Outgoing::new(alloc);
+    let received = Received {
+        bytes: request.as_bytes(),
+        source: CALLER,
+        now: 0,
+    };
+    service.take(rt, &mut outgoing, received);
+    answer_of(alloc, &outgoing)
+}
+
+/// How many datagrams are sent behind the end of a service that is told to end while its last call is answered.
+fn late_answers<R: Threads + Wait + Clock + Sync>(rt: &R, alloc: Global) -> Option<u32> {
+    let service = service_of(alloc, CONFIGURATION, PLAIN)?;
+    let answer = opened(rt, alloc, &service)?;
+    service_is_shared(&service);
+    Some(late_at_once(rt, &service, BOB, answer.as_slice()))
+}
+
+/// The same while an INVITE comes.
+fn late_requests<R: Threads + Wait + Clock + Sync>(rt: &R, alloc: Global) -> Option<u32> {
+    let service = service_of(alloc, CONFIGURATION, PLAIN)?;
+    let request = request_text(alloc, &INVITE, "").ok()?;
+    service_is_shared(&service);
+    Some(late_at_once(rt, &service, CALLER, request.as_bytes()))
+}
+
+#[test]
+fn a_service_ends_behind_the_answer_that_it_owes(rt: HostRuntime) -> Result<(), Fail> {
+    for _ in 0..TRIES {
+        let late = late_answers(&rt, rt.alloc());
+        holds(&rt, late == Some(0), "no answer goes up behind the end");
+    }
+    Ok(())
+}
+
+#[test]
+fn a_service_ends_behind_the_call_that_it_opens(rt: HostRuntime) -> Result<(), Fail> {
+    for _ in 0..TRIES {
+        let late = late_requests(&rt, rt.alloc());
+        holds(&rt, late == Some(0), "no call is opened behind the end");
+    }
+    Ok(())
+}

@@ -1,0 +1,33 @@
+//! Laws of taking the proxy's own Route values away.
+ghost use Rattle.std.specs.Prelude.{◌≡◌, ℕ, drop, false, List, map, true};
+ghost use Rattle.sip_lex.specs.Bytes.{trim};
+ghost use Rattle.sip_text.specs.Name.{first_value, same_name, values_of};
+ghost use Rattle.sip_text.specs.Text.{MessageText};
+ghost use Rattle.sip_route.specs.Hops.{hops_name};
+ghost use Rattle.sip_route.specs.Routes.{route_name};
+ghost use Rattle.sip_route.specs.RouteValues.{first_route, route_values};
+ghost use Rattle.proxy_config.specs.Setup.{Setup};
+ghost use Rattle.proxy_routing.specs.OwnRoutes.{leads_home, without_own_routes};
+
+use sip_route::stripping_keeps_the_rest;
+
+/// What a request is without the Route values at its front that the proxy takes away (RFC 3261 section 16.4): start line and
+/// body are as before, and so are the values of each other header field, Max-Forwards among them; of the Route values, in
+/// all its lines, some at the front are gone, and no other, where space round a value does not count. Where the proxy is a
+/// service the first Route value that is left does not lead to the proxy, so no request goes to the proxy itself by one.
+///
+/// A law over the definitions, with nothing to run.
+pub fn taking_own_routes_keeps_the_rest()
+    ensures start { (setup : Setup) (m : MessageText) → (without_own_routes setup m).start ≡ m.start }
+    ensures body { (setup : Setup) (m : MessageText) → (without_own_routes setup m).body ≡ m.body }
+    ensures others { (setup : Setup) (m : MessageText) (name : List ℕ) → same_name route_name name ≡ false
+        → values_of name (without_own_routes setup m).headers ≡ values_of name m.headers }
+    ensures hops { (setup : Setup) (m : MessageText)
+        → first_value hops_name (without_own_routes setup m).headers ≡ first_value hops_name m.headers }
+    ensures routes { (setup : Setup) (m : MessageText)
+        → (n : ℕ) × (map trim (route_values (without_own_routes setup m)) ≡ drop n (map trim (route_values m))) }
+    ensures first { (setup : Setup) (m : MessageText) → setup.for_service ≡ true
+        → leads_home setup.own (first_route (without_own_routes setup m)) ≡ false }
+{
+    stripping_keeps_the_rest();
+}

@@ -1,0 +1,46 @@
+//! The Route values of a request that lead to the proxy itself.
+ghost use Rattle.std.specs.Prelude.{◌≡◌, ◌&&◌, ◌==◌};
+ghost use Rattle.std.specs.Str.{bytes_eq};
+ghost use Rattle.sip_route.specs.Routes.{stripped};
+ghost use Rattle.proxy_routing.specs.OwnRoutes.{leads_home, stripped_all, without_own_routes};
+
+use proxy_config::Setup;
+use sip_route::{FirstRoute, first_route, strip, stripping_keeps_the_rest};
+use sip_text::Message;
+use sip_via::Own;
+use std::alloc::Allocator;
+
+/// Whether a Route value that leads there leads to the proxy itself.
+fn leads_home(own: Own, route: FirstRoute) -> bool
+    ensures { result ≡ leads_home own route }
+{
+    match route {
+        FirstRoute::Absent | FirstRoute::NoHop => false,
+        FirstRoute::To(hop) => hop.addr == own.addr && hop.port == own.port,
+    }
+}
+
+/// The request without the Route values at its front that lead to the proxy, as many as there are.
+fn strip_all<A: Allocator>(message: Message<A>, own: Own) -> Message<A>
+    ensures { result ≡ stripped_all message own }
+{
+    stripping_keeps_the_rest();
+    let mut message = message;
+    while leads_home(own, first_route(&message)) {
+        message = strip(message, own);
+    }
+    message
+}
+
+/// The request without the Route values at its front that the proxy takes away before it sends the request on (RFC 3261
+/// section 16.4): a service takes away all that lead to it, so that none of them makes it send the request to itself, and
+/// any other proxy the first alone. It takes no memory.
+pub(crate) fn without_own_routes<A: Allocator>(setup: &Setup<A>, message: Message<A>) -> Message<A>
+    ensures { result ≡ without_own_routes setup.now message }
+{
+    if setup.is_for_a_service() {
+        strip_all(message, setup.own())
+    } else {
+        strip(message, setup.own())
+    }
+}

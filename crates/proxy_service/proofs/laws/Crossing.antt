@@ -1,0 +1,53 @@
+-- Threads may share a service.
+use denote.Struct.Declared.{shape}
+use denote.Param.Send.{IsSend, IsSync, sendable, struct_sync}
+use Rattle.std.proofs.Crossing.{crosses, frees, send, sync}
+use Rattle.std.proofs.alloc.Global.TheSendSync as heap
+use Rattle.std.proofs.sync.RwLock.TheSendSync as lock
+use Rattle.std.specs.declared.clone.Clone as clone
+use Rattle.std.specs.contracts.alloc.Global.{the_row as heap_row}
+use Rattle.std.specs.contracts.impls.GlobalAllocator.TheImpl.{ghosts}
+use Rattle.fork_call.proofs.laws.Crossing.{call_send}
+use Rattle.fork_call.specs.contracts.call.Call.{the_row as call_row}
+use Rattle.call_table.proofs.laws.Crossing.{shelf_sync}
+use Rattle.call_table.specs.contracts.shelf.Shelf as shelf
+use Rattle.daemon_parts.proofs.laws.Crossing.{counts_sync, marks_sync}
+use Rattle.fork_clock.proofs.laws.Crossing.{schedule_sync}
+use Rattle.proxy_config.proofs.laws.Crossing as setup
+use Rattle.proxy_config.specs.contracts.setup.Setup.{the_row as setup_row}
+use Rattle.proxy_service.proofs.terms.Terms.TheSendSync as terms
+use Rattle.proxy_service.proofs.lifetime.Lifetime.TheSendSync as lifetime
+use Rattle.proxy_service.proofs.queue.JournalQueue.TheSendSync as queue
+use Rattle.proxy_service.proofs.refusals.Refusals.TheSendSync as refusals
+use Rattle.proxy_service.proofs.room.Room.TheSendSync as room
+use Rattle.proxy_service.proofs.walk.Walk.TheSendSync as walk
+use Rattle.proxy_service.specs.contracts.admission.Admission as admission
+use Rattle.proxy_service.specs.contracts.calls.Calls as calls
+use Rattle.proxy_service.specs.contracts.service.Service as service
+
+shelf_shared : (h : clone.Ghosts heap_row.Denot) → IsSync (shelf.the_field (call_row heap_row ghosts h) heap_row ghosts).row
+shelf_shared h = shelf_sync (call_row heap_row ghosts h) heap_row ghosts (call_send h) send sync frees
+
+setup_shared : IsSync (setup_row heap_row ghosts)
+setup_shared = setup.setup_sync heap_row ghosts sync
+
+setup_sent : IsSend (setup_row heap_row ghosts)
+setup_sent = setup.setup_send heap_row ghosts send frees
+
+admission_sync : IsSync admission.the_field.row
+admission_sync = struct_sync (shape admission.the_type) (search (crosses, room.the_send), (search (crosses, sendable), (search (crosses, sendable), tt)))
+
+calls_sync : IsSync calls.the_field.row
+calls_sync = struct_sync (shape calls.the_type) (
+  search shelf_shared,
+  (schedule_sync heap_row ghosts send frees, (marks_sync, (refusals.the_field_sync, (search (crosses, walk.the_send), (search (crosses, sendable), tt))))),
+)
+
+pub service_sync : IsSync service.the_field.row
+service_sync = struct_sync (shape service.the_type) (
+  heap.the_field_sync,
+  (
+    search (lock.the_field_sync, setup_shared, setup_sent),
+    (terms.the_field_sync, (calls_sync, (admission_sync, (lifetime.the_field_sync, (queue.the_field_sync, (counts_sync, tt)))))),
+  ),
+)

@@ -1,0 +1,8 @@
+pub mod Draining
+pub mod Handling
+pub mod Journal
+pub mod Next
+pub mod Queue
+pub mod Room
+pub mod Setups
+pub mod Waits

@@ -1,0 +1,91 @@
+//! The calls that are kept, and when each is looked at.
+ghost use Rattle.std.specs.Prelude.{◌≡◌, true};
+ghost use Rattle.std.specs.Bool.{OnFalse};
+ghost use Rattle.fork_model.specs.Log.{core_of};
+ghost use Rattle.fork_model.specs.Table.{is_finished};
+
+use crate::refusals::Refusals;
+use crate::walk::Walk;
+use call_table::Shelf;
+use daemon_parts::Marks;
+use fork_call::Call;
+use fork_clock::Schedule;
+use std::alloc::{AllocError, Global};
+use std::sync::atomic::{AtomicU64, Ordering};
+use std::sync::{Mutex, Wait};
+
+/// How many calls are looked at before the time is read anew.
+const MOST_LOOKED: u32 = 4_096;
+
+/// What a look for calls that are open came to.
+#[derive(Clone, Copy, PartialEq, Eq, Debug)]
+pub(crate) enum Search {
+    Open,
+    Nothing,
+    /// There are calls that were not looked at yet.
+    Unfinished,
+}
+
+/// The calls that are kept, and when each is looked at.
+#[derive(Drop)]
+pub(crate) struct Calls {
+    pub(crate) shelf: Shelf<Call<Global>, Global>,
+    pub(crate) schedule: Schedule<Global>,
+    /// The calls that were counted as finished.
+    pub(crate) finished: Marks,
+    /// The calls that lack memory.
+    pub(crate) refusals: Refusals,
+    pub(crate) walk: Mutex<Walk>,
+    /// No call below this number is open.
+    unopened: AtomicU64,
+}
+
+/// Whether a call is open: a branch has not ended, or something is owed.
+fn is_open(call: &mut Call<Global>) -> bool
+    ensures closed { OnFalse result (is_finished (core_of call.old.log).table.rows ≡ true) }
+    ensures same { call.new ≡ call.old }
+{
+    !call.book().context().finished() || call.due() == Some(0)
+}
+
+impl Calls {
+    /// No call is kept.
+    ///
+    /// # Errors
+    ///
+    /// Only where the allocator refuses.
+    pub(crate) fn new(alloc: Global) -> Result<Calls, AllocError> {
+        let shelf = Shelf::new(alloc)?;
+        let schedule = Schedule::new(alloc)?;
+        let finished = Marks::new(alloc)?;
+        Ok(Calls {
+            shelf,
+            schedule,
+            finished,
+            refusals: Refusals::new(alloc)?,
+            walk: Mutex::new(Walk::new()),
+            unopened: AtomicU64::new(0),
+        })
+    }
+
+    /// Looks for a call that is open, from where the last look came to an end; at most 4,096 of them. A call that is not open stays so, but
+    /// for what a datagram that is in work makes it owe.
+    pub(crate) fn search_open<R: Wait>(&self, rt: &R) -> Search {
+        let mut from = self.unopened.load(Ordering::SeqCst);
+        let mut found = Search::Unfinished;
+        for _ in 0..MOST_LOOKED {
+            let Some(number) = self.shelf.next_from(rt, from) else {
+                found = Search::Nothing;
+                break;
+            };
+            from = number;
+            if self.shelf.with(rt, number, is_open) == Some(true) {
+                found = Search::Open;
+                break;
+            }
+            from = number.saturating_add(1);
+        }
+        self.unopened.store(from, Ordering::SeqCst);
+        found
+    }
+}

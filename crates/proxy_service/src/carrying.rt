@@ -1,0 +1,269 @@
+//! What a service does with one call: it carries it, and forgets one that is over.
+ghost use Rattle.std.specs.Prelude.{◌≡◌, ◌≤◌, ◌↔◌, IsTrue};
+ghost use Rattle.std.specs.Bool.{OnTrue};
+ghost use Rattle.call_model.specs.Due.{IsOver};
+ghost use Rattle.call_over.specs.Quiet.{IsQuietWithoutOwed};
+ghost use Rattle.fork_model.specs.Log.{core_of};
+ghost use Rattle.proxy_service.specs.Next.{EndsBy, IsNext};
+
+use crate::answers::AnswerPort;
+use crate::journal::append_block;
+use crate::service::Service;
+use call_over::calls_that_are_over_are_quiet;
+use call_table::Removal;
+use fork_call::{Call, Port, carry};
+use std::alloc::{AllocError, Global};
+use std::sync::Wait;
+use std::thread;
+use std::time::{Clock, Duration, SystemTime};
+
+/// How many milliseconds pass until a call is looked at again that another thread looked at.
+const AGAIN: u64 = 1;
+
+/// How often the last blocks wait for room, and for how many milliseconds each time.
+const MOST_RESTS: u32 = 200;
+
+const REST: u64 = 5;
+
+/// What is to be done with a call next.
+#[derive(Clone, Copy, PartialEq, Eq, Debug)]
+pub(crate) enum Next {
+    /// It is carried at this moment, in milliseconds.
+    At(u64),
+    Nothing,
+    /// It is over: the status with which it failed; None where it was answered with a 2xx.
+    Over(Option<u16>),
+    /// It lacked memory.
+    Refused,
+}
+
+/// Seconds since 1970; 0 where the clock cannot be read.
+fn seconds<R: Clock>(rt: &R) -> u64 {
+    match SystemTime::UNIX_EPOCH.elapsed(rt) {
+        Ok(passed) => passed.as_secs(),
+        Err(_) => 0,
+    }
+}
+
+/// The status with which a call that is over failed; None where it was answered with a 2xx.
+fn failure_of(call: &Call<Global>) -> Option<u16>
+    ensures { EndsBy (core_of call.now.log) result }
+{
+    match call.book().context().choice_with_status() {
+        Some((_, status)) => Some(status),
+        None => None,
+    }
+}
+
+/// What is to be done next with a call that was carried.
+fn next_of(call: &Call<Global>) -> Next
+    ensures { IsNext call.now result }
+{
+    match call.due() {
+        Some(due) => Next::At(due),
+        None if call.over() => Next::Over(failure_of(call)),
+        None => Next::Nothing,
+    }
+}
+
+/// Whether a call may be forgotten: it is over, so whatever it is given it stays so, and sends nothing but 200s to CANCELs.
+fn may_be_forgotten(call: &mut Call<Global>) -> bool
+    ensures over { IsTrue result ↔ IsOver call.old }
+    ensures quiet { OnTrue result (IsQuietWithoutOwed call.new) }
+    ensures same { call.new ≡ call.old }
+{
+    calls_that_are_over_are_quiet();
+    call.over()
+}
+
+/// Appends the block of a call, or nothing for want of memory.
+fn write_block(call: &mut Call<Global>, time: u64, block: &mut Vec<u8>)
+    ensures { call.new.opened.number ≡ call.old.opened.number }
+{
+    let _ = append_block(call, time, block);
+}
+
+impl Service {
+    /// Notes that memory was refused: no call is opened for a second.
+    pub(crate) fn note_refusal(&self, now: u64) {
+        self.admission.close(now);
+    }
+
+    /// Carries the call of this number at a later moment, in milliseconds.
+    fn carry_at<R: Wait>(&self, rt: &R, number: u64, due: u64, now: u64) {
+        if self.calls.schedule.add(rt, number, due).is_err() {
+            self.counts.calls.missed.add(1);
+            self.note_refusal(now);
+        }
+    }
+
+    /// Counts a call as finished, once, where each of its branches has ended and it is not over. One that is over is counted as it is
+    /// forgotten, so that its mark is not set anew behind that.
+    fn count_finished(&self, call: &Call<Global>) {
+        if call.book().context().finished() && self.calls.finished.set(call.number()) {
+            self.counts.calls.finished.add(1);
+        }
+    }
+
+    /// What is to be done next with a call that was carried. Of one that is over the block for the journal is appended, if there is a
+    /// journal, or nothing for want of memory.
+    fn left<R: Clock>(&self, rt: &R, call: &Call<Global>, block: &mut Vec<u8>) -> Next
+        ensures { IsNext call.now result }
+    {
+        let next = next_of(call);
+        if !matches!(next, Next::Over(_)) {
+            self.count_finished(call);
+        } else if self.terms.has_journal {
+            let _ = append_block(call, seconds(rt), block);
+        }
+        next
+    }
+
+    /// Notes it where a 2xx went up to an INVITE.
+    fn note_answer(&self, call: &Call<Global>, has_answered: bool, now: u64) {
+        if has_answered && call.request().is_invite() && call.book().context().succeeded() {
+            self.lifetime.note_success(now);
+        }
+    }
+
+    /// Carries a call, and answers what is to be done next.
+    fn carried<R: Clock, P: Port>(
+        &self,
+        rt: &R,
+        call: &mut Call<Global>,
+        port: &mut P,
+        now: u64,
+        block: &mut Vec<u8>,
+    ) -> Next
+        ensures { call.new.opened.number ≡ call.old.opened.number }
+    {
+        let mut answers = AnswerPort {
+            port,
+            has_answered: false,
+        };
+        let carried = carry(call, &mut answers, now);
+        self.note_answer(call, answers.has_answered, now);
+        match carried {
+            Ok(carried) if !carried.more => self.left(rt, call, block),
+            Ok(_) => Next::At(now),
+            Err(AllocError) => Next::Refused,
+        }
+    }
+
+    /// Counts a call that was forgotten, and how it ended.
+    fn count_forgotten(&self, number: u64, failure: Option<u16>) {
+        self.counts.calls.forgotten.add(1);
+        if !self.calls.finished.clear(number) {
+            self.counts.calls.finished.add(1);
+        }
+        match failure {
+            Some(status) => self.counts.calls.failed.add(status),
+            None => self.counts.calls.answered.add(1),
+        }
+    }
+
+    /// Has a block written to the journal, if there is one. An empty block is one for which there was no memory.
+    fn write_down<R: Wait>(&self, rt: &R, block: &[u8]) {
+        if !self.terms.has_journal {
+            return;
+        }
+        if block.is_empty() || self.journal.push(rt, block).is_err() {
+            self.counts.calls.unwritten.add(1);
+        }
+    }
+
+    /// Forgets a call that is over, counts how it ended, and writes it down. Where another thread looks at it meanwhile, or has given it
+    /// something, it is looked at again. Who comes second to it does nothing.
+    fn forget<R: Wait>(&self, rt: &R, number: u64, failure: Option<u16>, block: &[u8], now: u64) {
+        match self.calls.shelf.remove_if(rt, number, may_be_forgotten) {
+            Removal::Removed => {
+                self.admission.forget(rt);
+                self.count_forgotten(number, failure);
+                self.write_down(rt, block);
+            }
+            Removal::Busy | Removal::Kept => {
+                self.carry_at(rt, number, now.saturating_add(AGAIN), now);
+            }
+            Removal::Absent => {}
+        }
+    }
+
+    /// Carries the call of this number again behind a wait: it lacked memory.
+    fn carry_later<R: Wait>(&self, rt: &R, number: u64, now: u64) {
+        self.note_refusal(now);
+        let wait = self.calls.refusals.refuse(rt, number);
+        self.carry_at(rt, number, now.saturating_add(wait), now);
+    }
+
+    /// Does what is to be done next with the call of this number.
+    fn follow<R: Wait>(&self, rt: &R, number: u64, next: Next, block: &[u8], now: u64) {
+        if !matches!(next, Next::Refused) {
+            self.calls.refusals.clear(rt, number);
+        }
+        match next {
+            Next::At(due) => self.carry_at(rt, number, due, now),
+            Next::Over(failure) => self.forget(rt, number, failure, block, now),
+            Next::Refused => self.carry_later(rt, number, now),
+            Next::Nothing => {}
+        }
+    }
+
+    /// Carries the call of this number at this moment, in milliseconds; one that is over is written down and forgotten.
+    pub(crate) fn carry<R: Wait + Clock, P: Port>(
+        &self,
+        rt: &R,
+        port: &mut P,
+        number: u64,
+        now: u64,
+    ) {
+        let mut block = Vec::new(self.alloc);
+        let next = self.calls.shelf.with(
+            rt,
+            number,
+            |call| self.carried(rt, call, port, now, &mut block),
+        );
+        if let Some(next) = next {
+            self.follow(rt, number, next, block.as_slice(), now);
+        }
+    }
+
+    /// Rests, so many times at most, until there is room for a block of so many bytes, and answers how often it may rest from then on.
+    fn await_room<R: Wait + Clock>(&self, rt: &R, bytes: usize, rests: u32) -> u32
+        ensures { result ≤ rests }
+    {
+        for rested in 0..rests {
+            if self.journal.has_room(rt, bytes) {
+                return rests - rested;
+            }
+            thread::sleep(rt, Duration::from_millis(REST));
+        }
+        0
+    }
+
+    /// Has all calls that are left written down, as the service ends, if there is a journal. Where too many blocks wait it waits for the
+    /// thread that writes them, a second at most in all.
+    pub fn write_down_left<R: Wait + Clock>(&self, rt: &R) {
+        if !self.terms.has_journal {
+            return;
+        }
+        let time = seconds(rt);
+        let mut rests = MOST_RESTS;
+        let mut from = 0;
+        for _ in rt.forever() {
+            let Some(number) = self.calls.shelf.next_from(rt, from) else {
+                return;
+            };
+            let mut block = Vec::new(self.alloc);
+            let listed = self
+                .calls
+                .shelf
+                .with(rt, number, |call| write_block(call, time, &mut block));
+            if listed.is_some() {
+                rests = self.await_room(rt, block.len(), rests);
+                self.write_down(rt, block.as_slice());
+            }
+            from = number.saturating_add(1);
+        }
+        unreachable!()
+    }
+}

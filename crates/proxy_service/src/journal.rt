@@ -1,0 +1,43 @@
+//! What is written of a call at its end.
+ghost use Rattle.std.specs.Prelude.{◌≡◌, OnErr, OnOk, codes, unwrap_or};
+ghost use Rattle.sip_text.specs.Text.{method_in};
+ghost use Rattle.proxy_service.specs.Journal.{WritesDown};
+
+use call_journal::{Head, append_call};
+use fork_call::Call;
+use sip_route::request_uri;
+use sip_text::Message;
+use sip_via::first_value;
+use std::alloc::{AllocError, Allocator};
+
+/// The method of a request.
+fn method_of<A: Allocator>(request: &Message<A>) -> &[u8]
+    ensures { result.now ≡ unwrap_or (method_in request.now.start) (codes "-") }
+{
+    request.method().unwrap_or(b"-")
+}
+
+/// Appends the block of a call that ends at this time, in seconds since 1970 (see [`append_call`]).
+///
+/// # Errors
+///
+/// Only where the allocator refuses; `block` is then as it was.
+pub fn append_block<A: Allocator + Clone>(
+    call: &Call<A>,
+    time: u64,
+    block: &mut Vec<u8, A>,
+) -> Result<(), AllocError>
+    ensures ok { OnOk result (WritesDown call.now time block.old.items block.new.items) }
+    ensures err { OnErr result (block.new.items ≡ block.old.items) }
+{
+    let request = call.request();
+    let head = Head {
+        time,
+        number: call.number(),
+        method: method_of(request),
+        uri: request_uri(request),
+        caller: first_value(request, b"from"),
+        call_id: request.call_id(),
+    };
+    append_call(block, &head, call.book().context())
+}

@@ -1,0 +1,32 @@
+//! What a proxy that runs as a service does with a datagram, at a moment, and with what its control socket asks: which datagrams may open a
+//! call, what is due behind each, which calls are forgotten and written down, and when a service that is told to stop ends. It sends by
+//! whichever port it is handed; there is no socket, no thread and no file here.
+//!
+//! Begin with `Service::take` and `Service::tick`.
+#![tactic(auto)]
+
+mod admission;
+mod answers;
+mod calls;
+mod carrying;
+mod draining;
+mod journal;
+mod lifetime;
+mod opening;
+mod queue;
+mod refusals;
+mod room;
+mod service;
+mod setup;
+mod taking;
+mod terms;
+mod timing;
+mod walk;
+
+pub use answers::AnswerPort;
+pub use draining::{Draining, Seen};
+pub use journal::append_block;
+pub use lifetime::State;
+pub use queue::{Batch, JournalQueue, Queue, Unqueued};
+pub use service::Service;
+pub use terms::Terms;

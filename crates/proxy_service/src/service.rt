@@ -1,0 +1,125 @@
+//! What the threads of a service share.
+use crate::admission::Admission;
+use crate::calls::Calls;
+use crate::lifetime::{Lifetime, State};
+use crate::queue::JournalQueue;
+use crate::setup::{service_setup, setup_of};
+use crate::terms::Terms;
+use daemon_parts::{Counts, DaemonFault, Gauges};
+use fork_call::Setup;
+use fork_clock::Schedule;
+use std::alloc::{AllocError, Global};
+use std::mem;
+use std::sync::{RwLock, Wait};
+
+/// How many milliseconds a second has.
+const MILLIS: u64 = 1_000;
+
+/// A service: what its threads share. Each of its methods may be called by any thread at any time, but for `tick` and `next_look`, which are
+/// for the one thread that keeps the time.
+#[derive(Drop)]
+pub struct Service {
+    pub(crate) alloc: Global,
+    pub(crate) setup: RwLock<Setup<Global>>,
+    pub(crate) terms: Terms,
+    pub(crate) calls: Calls,
+    pub(crate) admission: Admission,
+    pub(crate) lifetime: Lifetime,
+    pub(crate) journal: JournalQueue,
+    pub(crate) counts: Counts,
+}
+
+impl Service {
+    /// A service without a call, by this setup.
+    ///
+    /// # Errors
+    ///
+    /// Only where the allocator refuses.
+    pub fn new(alloc: Global, setup: Setup<Global>, terms: Terms) -> Result<Service, AllocError> {
+        let calls = Calls::new(alloc)?;
+        Ok(Service {
+            alloc,
+            setup: RwLock::new(service_setup(setup, terms.own_port)),
+            terms,
+            calls,
+            admission: Admission::new(terms.most_calls),
+            lifetime: Lifetime::new(),
+            journal: JournalQueue::new(alloc),
+            counts: Counts::new(),
+        })
+    }
+
+    /// When calls are due, to sleep on and to wake.
+    pub fn schedule(&self) -> &Schedule<Global> {
+        &self.calls.schedule
+    }
+
+    pub fn counts(&self) -> &Counts {
+        &self.counts
+    }
+
+    /// The blocks that wait to be written.
+    pub fn journal(&self) -> &JournalQueue {
+        &self.journal
+    }
+
+    /// Begins the end, which comes within so many seconds of `now`, in milliseconds: from now on OPTIONS and requests outside of dialogs are
+    /// answered 503. Where it has begun before, it comes within the seconds that are said now.
+    pub fn drain(&self, now: u64, seconds: u64) {
+        self.lifetime.drain(now, seconds);
+        self.calls.schedule.wake();
+    }
+
+    /// Ends, and wakes the thread that keeps the time.
+    pub fn end(&self) {
+        self.lifetime.end();
+        self.calls.schedule.wake();
+    }
+
+    pub fn is_in(&self, state: State) -> bool {
+        self.lifetime.is_in(state)
+    }
+
+    /// Goes by the configuration that a text spells; calls keep what they were opened with.
+    ///
+    /// # Errors
+    ///
+    /// `TooLong` over 1,048,576 bytes; `Line` with the first malformed line; `Identity` where it has another address or instance; `NoMemory`
+    /// where the allocator refuses. Then the configuration before stays.
+    pub fn reload<R: Wait>(&self, rt: &R, text: &[u8]) -> Result<(), DaemonFault> {
+        let setup = setup_of(self.alloc, text, &self.terms)?;
+        let old = mem::replace(&mut *self.setup.write(rt), setup);
+        // Its memory is given back here, where no lock is held.
+        drop(old);
+        Ok(())
+    }
+
+    /// The counters at this moment, in milliseconds, in the text form of Prometheus, with how many bytes of memory the process has.
+    ///
+    /// # Errors
+    ///
+    /// Only where the allocator refuses.
+    pub fn stats<R: Wait>(
+        &self,
+        rt: &R,
+        now: u64,
+        resident: Option<u64>,
+    ) -> Result<Vec<u8>, AllocError> {
+        let gauges = Gauges {
+            seconds: now / MILLIS,
+            held: self.held(rt),
+            resident,
+        };
+        self.counts.text(self.alloc, gauges)
+    }
+
+    /// How many calls it keeps.
+    pub fn held<R: Wait>(&self, rt: &R) -> u64 {
+        self.calls.shelf.held(rt)
+    }
+
+    /// How many calls it has opened.
+    pub fn opened<R: Wait>(&self, rt: &R) -> u64 {
+        self.calls.shelf.count(rt)
+    }
+}

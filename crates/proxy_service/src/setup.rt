@@ -1,0 +1,48 @@
+//! The configuration of a service.
+ghost use Rattle.std.specs.Prelude.{◌≡◌, ◌↔◌, IfErr, IfOk, IsTrue};
+ghost use Rattle.proxy_service.specs.Setups.{IsOf, IsReloadFault, IsServiceSetup, service_setup};
+
+use crate::terms::Terms;
+use daemon_parts::{DaemonFault, Identity, read_text};
+use fork_call::Setup;
+use std::alloc::Global;
+
+/// A setup as a service goes by it: all Route values at the front of a request that lead to the proxy are taken away; and the own address
+/// counts as the domain with the own port alone, if that is asked for.
+pub(crate) fn service_setup(setup: Setup<Global>, own_port: bool) -> Setup<Global>
+    ensures { result ≡ service_setup own_port setup }
+{
+    let setup = setup.for_a_service();
+    if own_port {
+        setup.with_own_port()
+    } else {
+        setup
+    }
+}
+
+/// Whether a setup has this identity.
+fn is_of(setup: &Setup<Global>, identity: Identity) -> bool
+    ensures { IsTrue result ↔ IsOf identity setup.now }
+{
+    setup.own() == identity.own && setup.instance() == identity.instance
+}
+
+/// The setup that a text spells, for a service that keeps to these terms.
+///
+/// # Errors
+///
+/// Those of [`read_text`]; else `Identity` where it has another address or another instance.
+pub(crate) fn setup_of(
+    alloc: Global,
+    text: &[u8],
+    terms: &Terms,
+) -> Result<Setup<Global>, DaemonFault>
+    ensures ok { IfOk result (IsServiceSetup terms.now text.now) }
+    ensures fault { IfErr result (IsReloadFault terms.now text.now) }
+{
+    let setup = read_text(alloc, text, terms.number)?;
+    if !is_of(&setup, terms.identity) {
+        return Err(DaemonFault::Identity);
+    }
+    Ok(service_setup(setup, terms.own_port))
+}

@@ -1,0 +1,18 @@
+//! What a service keeps to.
+use daemon_parts::Identity;
+
+/// What a service keeps to as long as it runs, whichever configuration it reads meanwhile.
+#[derive(Clone, Copy)]
+pub struct Terms {
+    pub identity: Identity,
+    /// The number of the run, for a configuration that has no line of an instance.
+    pub number: u32,
+    /// Whether it stays on the path of the dialogs that pass it.
+    pub records: bool,
+    /// Whether its own address counts as its domain with its own port alone.
+    pub own_port: bool,
+    /// How many calls it keeps that requests outside of dialogs opened, at most.
+    pub most_calls: u64,
+    /// Whether calls are written down at their end.
+    pub has_journal: bool,
+}

@@ -1,0 +1,70 @@
+//! What a service does at a moment.
+use crate::calls::Search;
+use crate::draining::Seen;
+use crate::service::Service;
+use fork_call::Port;
+use std::sync::Wait;
+use std::time::Clock;
+
+/// How many calls are carried before the time is read anew.
+const MOST_CARRIED: u32 = 4_096;
+
+impl Service {
+    /// Where a deadline was missed, goes on with the walk over all calls: each is carried, at most 4,096 at a time.
+    fn walk_on<R: Wait + Clock, P: Port>(&self, rt: &R, port: &mut P, now: u64) {
+        let is_missed = self.calls.schedule.take_missed();
+        let due = {
+            let mut walk = self.calls.walk.lock(rt);
+            walk.note(is_missed, now);
+            walk.due(now)
+        };
+        let Some(mut from) = due else {
+            return;
+        };
+        for _ in 0..MOST_CARRIED {
+            let Some(number) = self.calls.shelf.next_from(rt, from) else {
+                return self.calls.walk.lock(rt).finish(now);
+            };
+            self.carry(rt, port, number, now);
+            from = number.saturating_add(1);
+        }
+        self.calls.walk.lock(rt).pass(from);
+    }
+
+    /// Carries the calls that are due by now, in milliseconds, at most 4,096 of them; the others wait until the time is read anew.
+    pub fn tick<R: Wait + Clock, P: Port>(&self, rt: &R, port: &mut P, now: u64) {
+        self.walk_on(rt, port, now);
+        for _ in 0..MOST_CARRIED {
+            let Some(number) = self.calls.schedule.take_due(rt, now) else {
+                return;
+            };
+            self.counts.calls.timers.add(1);
+            self.carry(rt, port, number, now);
+        }
+    }
+
+    /// Ends a service that drains where its time has come, and answers until when the thread that keeps the time may sleep where nothing is
+    /// due before, in milliseconds: 18,446,744,073,709,551,615 where there is no limit.
+    pub fn next_look<R: Wait>(&self, rt: &R, now: u64) -> u64 {
+        let walk = self.calls.walk.lock(rt).next();
+        let Some(draining) = self.lifetime.draining(self.terms.records) else {
+            return walk;
+        };
+        // It is looked for datagrams first: the call of one that is in work no more stands among the calls then.
+        let is_busy = self.admission.is_busy();
+        let search = self.calls.search_open(rt);
+        let seen = Seen {
+            is_busy,
+            has_open: search != Search::Nothing,
+            last_success: self.lifetime.last_success(),
+        };
+        if draining.ends(seen, now) {
+            self.end();
+            return now;
+        }
+        match search {
+            Search::Unfinished => now,
+            Search::Open | Search::Nothing => draining.next_look(now).min(walk),
+        }
+    }
+}
