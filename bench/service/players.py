@@ -43,12 +43,12 @@ class Agent:
     def send(self, data):
         self.way.sendto(data, self.proxy)
 
-    def ask(self, method, uri, call=None, to_tag="", more=()):
-        """Sends a request, and answers its Call-ID."""
+    def ask(self, method, uri, call=None, to_tag="", more=(), branch=None):
+        """Sends a request, and answers its Call-ID; its branch is of the same text where none is given, as that of the ACK of a failure is."""
         if call is None:
             Agent.made += 1
             call = f"{Agent.made}-{os.getpid()}"
-        text = [f"{method} {uri} SIP/2.0", f"Via: SIP/2.0/UDP {self.host}:{self.port};branch=z9hG4bK-{call}", *more, "Max-Forwards: 70",
+        text = [f"{method} {uri} SIP/2.0", f"Via: SIP/2.0/UDP {self.host}:{self.port};branch=z9hG4bK-{branch or call}", *more, "Max-Forwards: 70",
                 f"From: <sip:caller@example.com>;tag=c{call}", f"To: <{uri}>{to_tag}", f"Call-ID: {call}", f"CSeq: 1 {method}",
                 f"Contact: <sip:caller@{self.host}:{self.port}>", "Content-Length: 0", "", ""]
         self.send("\r\n".join(text).encode())
