@@ -47,6 +47,13 @@ fn waiting(connections: &[Connection]) -> usize {
         .count()
 }
 
+/// Writes once what is left of each answer: who asked for an end that has come already hears that it was asked for.
+fn write_left(connections: &mut [Connection]) {
+    for connection in connections.iter_mut() {
+        let _ = connection.write();
+    }
+}
+
 impl<'a, R: Clock, C: Controlled> Desk<'a, R, C> {
     /// The time since the beginning, in milliseconds. Where the clock cannot be read, the time of every client is over.
     fn now(&self) -> u64 {
@@ -193,6 +200,7 @@ pub fn listen<R: Clock, C: Controlled>(
             continue;
         };
         if is_gone(came.of_listener()) && controlled.has_ended() {
+            write_left(connections.as_mut_slice());
             return;
         }
         desk.advance_all(&mut connections, &came);

@@ -7,7 +7,7 @@ use std::os::fd::AsRawFd;
 /// How many clients are waited for at a time.
 pub const MOST_CLIENTS: usize = 64;
 
-/// How many sockets are waited for at a time: those of the clients, and behind them the one by which they come.
+/// How many sockets are waited for at a time: the one by which clients come, and behind it those of the clients.
 const MOST_SOCKETS: usize = 65;
 
 /// No socket.
@@ -26,14 +26,14 @@ pub struct Came {
 impl Came {
     /// What came of the socket by which clients come, as the events of `poll`.
     pub fn of_listener(&self) -> i16 {
-        self.entries[MOST_CLIENTS].revents
+        self.entries[0].revents
     }
 
     /// What came of the client at this place.
     pub fn of_client(&self, place: usize) -> i16 {
-        match self.entries.get(place) {
-            Some(entry) if place < MOST_CLIENTS => entry.revents,
-            _ => 0,
+        match self.entries.get(place.saturating_add(1)) {
+            Some(entry) => entry.revents,
+            None => 0,
         }
     }
 }
@@ -69,18 +69,22 @@ fn longest_wait<C: Polled>(clients: &[C], now: u64) -> i32 {
 /// waited for at most. None where the system cannot wait, as where a signal ends it.
 pub fn wait_for<L: AsRawFd, C: Polled>(listener: &L, clients: &[C], now: u64) -> Option<Came> {
     let mut entries = [NOTHING; MOST_SOCKETS];
-    for (place, client) in clients.iter().enumerate() {
-        if let Some(entry) = entries.get_mut(place) {
-            *entry = entry_of(client);
-        }
-    }
-    entries[MOST_CLIENTS] = pollfd {
+    entries[0] = pollfd {
         fd: listener.as_raw_fd(),
         events: net::POLLIN,
         revents: 0,
     };
-    let count = net::poll(&mut entries, longest_wait(clients, now));
-    if count < 0 {
+    for (place, client) in clients.iter().enumerate() {
+        if let Some(entry) = entries.get_mut(place.saturating_add(1)) {
+            *entry = entry_of(client);
+        }
+    }
+    // (the system refuses to wait for more sockets than a process may open files)
+    let count = clients.len().min(MOST_CLIENTS) + 1;
+    let Some(asked) = entries.get_mut(..count) else {
+        return None;
+    };
+    if net::poll(asked, longest_wait(clients, now)) < 0 {
         None
     } else {
         Some(Came { entries })
