@@ -7,11 +7,11 @@ use std::alloc::Allocator;
 
 /// A port that notes whether an answer went out to a caller; its other sends are those of the port behind it.
 #[derive(Drop)]
-pub struct AnswerPort<'a, P> {
+pub(crate) struct AnswerPort<'a, P> {
     /// Where the datagrams go.
-    pub port: &'a mut P,
+    pub(crate) port: &'a mut P,
     /// Whether an answer went out: a 200 to a CANCEL is none.
-    pub has_answered: bool,
+    pub(crate) has_answered: bool,
 }
 
 /// Whether a datagram with this cause is an answer to the request that opened a call.

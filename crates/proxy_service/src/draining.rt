@@ -13,24 +13,24 @@ const LOOKS: u64 = 100;
 
 /// A service that drains, and when it has to end. Moments are in milliseconds.
 #[derive(Clone, Copy, PartialEq, Eq, Debug)]
-pub struct Draining {
+pub(crate) struct Draining {
     /// When it was first told to stop.
-    pub since: u64,
+    pub(crate) since: u64,
     /// When it ends at the latest.
-    pub until: u64,
+    pub(crate) until: u64,
     /// Whether it stays on the path of dialogs.
-    pub records: bool,
+    pub(crate) records: bool,
 }
 
 /// What was seen of a service that drains.
 #[derive(Clone, Copy, PartialEq, Eq, Debug)]
-pub struct Seen {
+pub(crate) struct Seen {
     /// Whether a datagram is in work that may open a call.
-    pub is_busy: bool,
+    pub(crate) is_busy: bool,
     /// Whether a call may be open.
-    pub has_open: bool,
+    pub(crate) has_open: bool,
     /// When the last 2xx to an INVITE went up.
-    pub last_success: Option<u64>,
+    pub(crate) last_success: Option<u64>,
 }
 
 /// Whether the ACK of the last 2xx that went up has come, or comes no more.
@@ -56,14 +56,14 @@ impl Draining {
 
     /// Whether it ends: its time is over; or nothing is open and no datagram is in work that may open a call, it has answered for two
     /// seconds that it stops, and, where it stays on the path of dialogs, no ACK of a 2xx may still come.
-    pub fn ends(self, seen: Seen, now: u64) -> bool
+    pub(crate) fn ends(self, seen: Seen, now: u64) -> bool
         ensures { IsTrue result ↔ Ends self seen now }
     {
         self.until <= now || self.may_end(seen, now)
     }
 
     /// When it is looked at next, where it does not end now.
-    pub fn next_look(self, now: u64) -> u64
+    pub(crate) fn next_look(self, now: u64) -> u64
         ensures { result ≡ min self.until (min (now + 100) (2 ^ 64 - 1)) }
     {
         self.until.min(now.saturating_add(LOOKS))

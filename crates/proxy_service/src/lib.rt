@@ -23,10 +23,8 @@ mod terms;
 mod timing;
 mod walk;
 
-pub use answers::AnswerPort;
-pub use draining::{Draining, Seen};
 pub use journal::append_block;
 pub use lifetime::State;
-pub use queue::{Batch, JournalQueue, Queue, Unqueued};
+pub use queue::{Batch, JournalQueue};
 pub use service::Service;
 pub use terms::Terms;

@@ -17,7 +17,7 @@ const MOST_BYTES: usize = 16_777_216;
 
 /// Why a block does not wait.
 #[derive(Clone, Copy, PartialEq, Eq, Debug)]
-pub enum Unqueued {
+pub(crate) enum Unqueued {
     /// As many wait as may.
     Full,
     /// A growth was refused.
@@ -34,7 +34,7 @@ pub struct Batch {
 
 /// Blocks that wait, at most 65,536 of them, of at most 16,777,216 bytes together.
 #[derive(Drop)]
-pub struct Queue {
+pub(crate) struct Queue {
     waiting: Batch,
 }
 
@@ -48,7 +48,7 @@ impl Model for Queue {
 
 impl Queue {
     /// No block waits.
-    pub fn new(alloc: Global) -> Queue
+    pub(crate) fn new(alloc: Global) -> Queue
         ensures { result ≡ nothing }
     {
         Queue {
@@ -60,7 +60,7 @@ impl Queue {
     }
 
     /// Whether a block of so many bytes may wait.
-    pub fn has_room(&self, bytes: usize) -> bool
+    pub(crate) fn has_room(&self, bytes: usize) -> bool
         ensures { IsTrue result ↔ HasRoom self.now bytes }
     {
         self.waiting.blocks < MOST_BLOCKS
@@ -73,7 +73,7 @@ impl Queue {
     /// # Errors
     ///
     /// `Full` where there is no room for it, `NoMemory` only where the allocator refuses; the queue is then as it was.
-    pub fn push(&mut self, block: &[u8]) -> Result<(), Unqueued>
+    pub(crate) fn push(&mut self, block: &[u8]) -> Result<(), Unqueued>
         ensures ok { OnOk result (self.new ≡ with_block self.old block.now) }
         ensures fits { OnOk result (HasRoom self.old (length block.now)) }
         ensures full { IsErrOf result Unqueued.Full → HasRoom self.old (length block.now) → ⊥ }
@@ -90,14 +90,14 @@ impl Queue {
     }
 
     /// Whether no block waits.
-    pub fn is_empty(&self) -> bool
+    pub(crate) fn is_empty(&self) -> bool
         ensures { IsTrue result ↔ (self.now.blocks ≡ 0) }
     {
         self.waiting.blocks == 0
     }
 
     /// Takes all blocks that wait.
-    pub fn take(&mut self, alloc: Global) -> Batch
+    pub(crate) fn take(&mut self, alloc: Global) -> Batch
         ensures text { result.text.items ≡ self.old.text }
         ensures blocks { result.blocks ≡ self.old.blocks }
         ensures left { self.new ≡ nothing }
@@ -120,7 +120,7 @@ pub struct JournalQueue {
 
 impl JournalQueue {
     /// No block waits.
-    pub fn new(alloc: Global) -> JournalQueue {
+    pub(crate) fn new(alloc: Global) -> JournalQueue {
         JournalQueue {
             alloc,
             queue: Mutex::new(Queue::new(alloc)),
@@ -133,7 +133,7 @@ impl JournalQueue {
     /// # Errors
     ///
     /// Those of [`Queue::push`].
-    pub fn push<R: Wait>(&self, rt: &R, block: &[u8]) -> Result<(), Unqueued> {
+    pub(crate) fn push<R: Wait>(&self, rt: &R, block: &[u8]) -> Result<(), Unqueued> {
         let (pushed, was_empty) = {
             let mut queue = self.queue.lock(rt);
             let was_empty = queue.is_empty();
@@ -146,7 +146,7 @@ impl JournalQueue {
     }
 
     /// Whether a block of so many bytes may wait at this moment.
-    pub fn has_room<R: Wait>(&self, rt: &R, bytes: usize) -> bool {
+    pub(crate) fn has_room<R: Wait>(&self, rt: &R, bytes: usize) -> bool {
         self.queue.lock(rt).has_room(bytes)
     }
 
