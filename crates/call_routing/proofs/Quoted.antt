@@ -1,5 +1,5 @@
 -- What the front of a request says, as it is read.
-use Rattle.call_routing.proofs.Common.{◌≡◌, ◌∙◌, Bool, true, false, ℕ, List, Option, Some, None, refl, sym, ap, subst, codes, same_Some, Own}
+use Rattle.call_routing.proofs.Common.{◌≡◌, ◌∙◌, true, false, ℕ, List, Option, Some, None, sym, ap, subst, codes, same_Some, Own}
 use Rattle.std.proofs.Common.{◌+◌, ◌++◌, drop, inl, inr, length, take, Bor}
 use Rattle.std.proofs.lemmas.Bool.{cases_Bool, cond-false, cond-true}
 use Rattle.std.proofs.lemmas.List.{take-append-drop}

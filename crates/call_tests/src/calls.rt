@@ -96,10 +96,9 @@ const QUOTED: usize = 150;
 
 /// The front of a datagram.
 fn front_of(bytes: &[u8]) -> &[u8] {
-    if bytes.len() > QUOTED {
-        &bytes[..QUOTED]
-    } else {
-        bytes
+    match bytes.split_at_checked(QUOTED) {
+        Some((front, _)) => front,
+        None => bytes,
     }
 }
 

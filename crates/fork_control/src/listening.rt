@@ -127,14 +127,17 @@ impl<'a, R: Clock, C: Controlled> Desk<'a, R, C> {
     /// Does what is to be done for each client.
     fn advance_all(&self, connections: &mut Vec<Connection>, came: &Came) {
         let now = self.now();
+        let mut waiting = waiting(connections.as_slice());
         for place in (0..connections.len()).rev() {
-            let has_room = waiting(connections.as_slice()) < MOST_WAITING;
-            let stands = match connections.get_mut(place) {
-                Some(connection) => {
-                    self.advance(connection, came.of_client(place), now, has_room)
-                }
-                None => true,
+            let Some(connection) = connections.get_mut(place) else {
+                continue;
             };
+            let has_waited = connection.deadline().is_none();
+            let has_room = waiting < MOST_WAITING;
+            let stands = self.advance(connection, came.of_client(place), now, has_room);
+            if !has_waited && connection.deadline().is_none() {
+                waiting = waiting.saturating_add(1);
+            }
             if !stands && place < connections.len() {
                 connections.swap_remove(place);
             }

@@ -1,3 +1,2 @@
 pub mod Admission
 pub mod Faults
-pub mod Handover

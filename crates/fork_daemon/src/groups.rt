@@ -1,6 +1,5 @@
 //! The groups of calls, by which what comes of one call is handled in the order in which it came.
-ghost use Rattle.std.specs.Prelude.{◌≡◌, true, OnErr, OnOk};
-ghost use Rattle.fork_daemon.specs.Handover.{HasLast, IsHandedOver};
+ghost use Rattle.std.specs.Prelude.{◌≡◌, true};
 
 use crate::packet::{Packet, weight};
 use call_groups::{Group, Room};
@@ -50,8 +49,6 @@ fn hand_over(
     source: Hop,
 ) -> Result<(), AllocError>
     requires { group.old.busy ≡ true }
-    ensures ok { OnOk result (HasLast group.old bytes.now source group.new) }
-    ensures err { OnErr result (group.new ≡ group.old) }
 {
     let bytes = Vec::from_slice(alloc, bytes)?;
     match group.hand_over(Packet { bytes, source }) {
@@ -100,9 +97,7 @@ impl Groups {
         group: &mut Group<Packet>,
         bytes: &[u8],
         source: Hop,
-    ) -> Handover
-        ensures { IsHandedOver group.old bytes.now source result group.new }
-    {
+    ) -> Handover {
         if group.enter() {
             return Handover::Entered;
         }

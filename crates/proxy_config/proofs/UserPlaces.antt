@@ -1,11 +1,11 @@
 -- The places of each user's locations, where one more location or place is added.
-use Rattle.proxy_config.proofs.Common.{◌≡◌, ℕ, ◌+◌, Bool, true, false, cond, List, [], ◌∷◌, ◌++◌, map, length, Option, Some, None, refl, sym, ap, subst, ◌∙◌, append-nil, list_any, bytes_eq-Decides, same_Some}
+use Rattle.proxy_config.proofs.Common.{◌≡◌, ℕ, Bool, true, false, cond, List, [], ◌∷◌, ◌++◌, map, length, Option, Some, None, refl, sym, ap, subst, ◌∙◌, append-nil, list_any, bytes_eq-Decides, same_Some}
 use Rattle.proxy_config.proofs.Common.{Location, hop_of, is_same, is_some, locations_of, most_targets, not}
 use Rattle.std.proofs.Common.{◌≢◌, Ordering, Vec, zero, suc}
 use Rattle.std.specs.BTreeMap.{BTreeMap, get_by, is_at}
 use Rattle.std.specs.Cmp.Lexicographic.{slice_cmp}
-use Rattle.std.specs.List.{cons_option, filter_map}
-use Rattle.std.specs.Map.{lookup, IsKeyTest, AreApart, KeepsOthers}
+use Rattle.std.specs.List.{cons_option}
+use Rattle.std.specs.Map.{IsKeyTest, AreApart, KeepsOthers}
 use Rattle.std.specs.Ordering.{nat_cmp, is_eq, eq_by_cmp}
 use Rattle.std.specs.Borrow.{Bor}
 use Rattle.std.specs.Option.{option_copied}

@@ -1,4 +1,3 @@
-use Rattle.call_routing.proofs.Common.{◌∙◌, sym}
 use Rattle.call_routing.proofs.Quoted.{is_quoted, no_branch, no_lines, no_method, no_via, only_quoted}
 use Rattle.call_routing.proofs.quoting.read_quoted.Goals as goal
 
