@@ -1,8 +1,10 @@
 //! The threads of a proxy, how they begin, and in which order they end.
+ghost use denote.Param.Send.{IsSync};
+ghost use Rattle.daemon_parts.specs.contracts.socket.Socket.{the_row as socket_row};
 ghost use Rattle.std.specs.Prelude.{IfErr};
 ghost use Rattle.fork_daemon.specs.Faults.{IsSystemFault};
 
-use daemon_parts::{DaemonFault, ProxyFiles};
+use daemon_parts::{DaemonFault, ProxyFiles, Socket};
 use metrics_page::PageSockets;
 use std::alloc::Global;
 use std::io::Print;
@@ -106,27 +108,42 @@ fn work_all<S: Sync, C: Crew<S> + Sync, R: Threads + Wait + Clock + Sync>(
     )
 }
 
+/// Shows that threads may share this value.
+pub(crate) fn is_shared<T: Sync>(_: &T)
+    ensures { IsSync T.row }
+{}
+
+/// Shows that threads may share a socket.
+fn socket_is_shared(socket: &Socket)
+    ensures { IsSync socket_row }
+{
+    is_shared(socket);
+}
+
 /// Works until the end, and closes the socket, so that another proxy may have its address.
-fn work_and_close<S: Sync + Drop, C: Crew<S> + Sync, R: Threads + Wait + Clock + Sync>(
+fn work_and_close<C: Crew<Socket> + Sync, R: Threads + Wait + Clock + Sync>(
     rt: &R,
     alloc: Global,
     crew: &C,
-    socket: S,
+    socket: Socket,
     buffers: Vec<Vec<u8>>,
 ) -> Result<(), DaemonFault>
     ensures { IfErr result IsSystemFault }
 {
+    socket_is_shared(&socket);
     let ran = work_all(rt, alloc, crew, &socket, buffers);
     drop(socket);
     ran
 }
 
 /// Works until the end, while others show the counters and write the journal; it returns once they have ended, too.
-fn work_beside<
-    S: Sync + Drop,
-    C: Crew<S> + Sync,
-    R: Threads + Wait + ProxyFiles + PageSockets + Clock + Sync,
->(rt: &R, alloc: Global, crew: &C, socket: S, buffers: Vec<Vec<u8>>) -> Result<(), DaemonFault>
+fn work_beside<C: Crew<Socket> + Sync, R: Threads + Wait + ProxyFiles + PageSockets + Clock + Sync>(
+    rt: &R,
+    alloc: Global,
+    crew: &C,
+    socket: Socket,
+    buffers: Vec<Vec<u8>>,
+) -> Result<(), DaemonFault>
     ensures { IfErr result IsSystemFault }
 {
     thread::scope(
@@ -138,7 +155,7 @@ fn work_beside<
             let shows = scope.spawn(move || crew.show(rt)).is_ok();
             let writes = scope.spawn(move || crew.write(rt)).is_ok();
             let ran = if shows && writes {
-                work_and_close(&*rt, alloc, &*crew, socket, buffers)
+                work_and_close(rt, alloc, crew, socket, buffers)
             } else {
                 Err(DaemonFault::NoMemory)
             };
@@ -152,10 +169,9 @@ fn work_beside<
 /// Answers at the control socket while the proxy works, and ends in good order: who waits for the end there hears of it last, when all is
 /// closed and written.
 pub(crate) fn run<
-    S: Sync + Drop,
-    C: Crew<S> + Sync,
+    C: Crew<Socket> + Sync,
     R: Threads + Wait + ProxyFiles + PageSockets + Clock + Print + Sync,
->(rt: &R, alloc: Global, crew: &C, socket: S, buffers: Vec<Vec<u8>>) -> Result<(), DaemonFault>
+>(rt: &R, alloc: Global, crew: &C, socket: Socket, buffers: Vec<Vec<u8>>) -> Result<(), DaemonFault>
     ensures { IfErr result IsSystemFault }
 {
     thread::scope(
@@ -165,7 +181,7 @@ pub(crate) fn run<
             ensures { IfErr result IsSystemFault }
         {
             let ran = if scope.spawn(move || crew.answer(rt)).is_ok() {
-                work_beside(&*rt, alloc, &*crew, socket, buffers)
+                work_beside(rt, alloc, crew, socket, buffers)
             } else {
                 Err(DaemonFault::NoMemory)
             };

@@ -1,6 +1,5 @@
 //! A proxy serves until it is told to stop.
 ghost use denote.Param.Send.{IsSync};
-ghost use Rattle.daemon_parts.specs.contracts.socket.Socket.{the_row as socket_row};
 ghost use Rattle.fork_daemon.specs.contracts.serving.Server.{the_row as server_row};
 ghost use Rattle.std.specs.Prelude.{◌≡◌, ◌/◌, ◌%◌, ◌^◌, ◌↔◌, ◌<◌, length, IfErr, OnOk, IsErrOf};
 ghost use Rattle.std.specs.Duration.{as_nanos};
@@ -10,7 +9,7 @@ ghost use Rattle.daemon_parts.specs.Faults.{most_text, IsConfigurationFault};
 ghost use Rattle.fork_daemon.specs.Faults.{IsServeFault, IsServeFaultOf, IsSystemFault, Spells};
 
 use crate::control::{Control, read_config};
-use crate::crew::{Crew, run};
+use crate::crew::{Crew, is_shared, run};
 use crate::opening::{Listeners, bound, buffers_of, open_all};
 use crate::proxy::{Proxy, Start};
 use daemon_parts::{DaemonFault, Options, ProxyFiles, Socket, read_setup, read_text};
@@ -112,23 +111,11 @@ impl Crew<Socket> for Server {
     }
 }
 
-/// Shows that threads may share this value.
-fn is_shared<T: Sync>(_: &T)
-    ensures { IsSync T.row }
-{}
-
 /// Shows that threads may share a server.
 fn server_is_shared(server: &Server)
     ensures { IsSync server_row }
 {
     is_shared(server);
-}
-
-/// Shows that threads may share a socket.
-fn socket_is_shared(socket: &Socket)
-    ensures { IsSync socket_row }
-{
-    is_shared(socket);
 }
 
 /// Tells where a proxy listens.
@@ -148,7 +135,6 @@ fn run_server<R: Threads + Wait + ProxyFiles + PageSockets + Clock + Print + Syn
     ensures { IfErr result IsSystemFault }
 {
     server_is_shared(server);
-    socket_is_shared(&socket);
     print_listening(rt, server.proxy.own);
     run(rt, server.proxy.alloc, server, socket, buffers)
 }
