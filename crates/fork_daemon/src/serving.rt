@@ -149,7 +149,30 @@ fn own_of(setup: &Setup<Global>) -> Hop {
     }
 }
 
-/// Serves as a setup says. Its address is taken first, the control socket last, behind all that may be refused.
+/// A proxy without a call at this address, with its control socket, the address for scrapers and the journal: what options name is opened last,
+/// and the control socket behind all that may be refused.
+fn server_of<R: Clock + ProxyFiles + PageSockets>(
+    rt: &R,
+    alloc: Global,
+    setup: Setup<Global>,
+    start: Start<'_>,
+    own: Hop,
+) -> Result<Server, DaemonFault>
+    ensures { IfErr result IsSystemFault }
+{
+    let Some(epoch) = Epoch::now(rt) else {
+        return Err(DaemonFault::Clock);
+    };
+    let Ok(proxy) = Proxy::new(rt, alloc, start, setup, own, epoch) else {
+        return Err(DaemonFault::NoMemory);
+    };
+    match open_all(rt, start.options) {
+        Ok(listeners) => Ok(Server { proxy, listeners }),
+        Err(fault) => Err(fault),
+    }
+}
+
+/// Serves as a setup says, at its address, which is taken first.
 fn serve_setup<R: Threads + Wait + Net + ProxyFiles + PageSockets + Clock + Print + Sync>(
     rt: &R,
     alloc: Global,
@@ -160,14 +183,13 @@ fn serve_setup<R: Threads + Wait + Net + ProxyFiles + PageSockets + Clock + Prin
 {
     let own = own_of(&setup);
     let socket = bound(rt, own)?;
-    let Some(epoch) = Epoch::now(rt) else {
-        return Err(DaemonFault::Clock);
+    let Ok(buffers) = buffers_of(alloc, start.options.workers.max(1)) else {
+        return Err(DaemonFault::NoMemory);
     };
-    let proxy = Proxy::new(rt, alloc, start, setup, own, epoch)?;
-    let buffers = buffers_of(alloc, start.options.workers.max(1))?;
-    let listeners = open_all(rt, start.options)?;
-    let server = Server { proxy, listeners };
-    run_server(rt, &server, socket, buffers)
+    match server_of(rt, alloc, setup, start, own) {
+        Ok(server) => run_server(rt, &server, socket, buffers),
+        Err(fault) => Err(fault),
+    }
 }
 
 /// Reads a configuration's file, and answers whether a proxy would serve by it. Where it has no line of an instance, none is missing:
