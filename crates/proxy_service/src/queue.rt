@@ -1,6 +1,5 @@
 //! Blocks that wait to be written to the journal.
 ghost use Rattle.std.specs.Prelude.{◌≡◌, ◌↔◌, length, IsErrOf, IsTrue, OnErr, OnOk};
-ghost use Rattle.std.specs.Bool.{OnTrue};
 ghost use Rattle.proxy_service.specs.Queue.{HasRoom, nothing, with_block};
 
 use std::alloc::Global;

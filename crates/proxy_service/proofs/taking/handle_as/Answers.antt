@@ -1,4 +1,4 @@
-use Rattle.std.proofs.Common.{◌≡◌, IfOk, Option, ℕ, List, subst}
+use Rattle.std.proofs.Common.{IfOk, Option, ℕ, List, subst}
 use Rattle.call_model.specs.Built as built
 use Rattle.proxy_dispatch.specs.Becomes.{Becomes}
 use Rattle.proxy_dispatch.specs.Sent.{IsHanded}
