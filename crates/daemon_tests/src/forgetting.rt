@@ -292,34 +292,6 @@ const NO_JOURNAL: &[Moment] = &[
     (32_020, Turn::Counts("forkproxy_calls_unwritten_total 0")),
 ];
 
-/// As much waits for the journal as may: the call is forgotten, and counted as one that could not be written. The next one is written.
-const CROWDED: &[Moment] = &[
-    (0, Turn::Asks(OPTIONS)),
-    (
-        20,
-        Turn::Answers(BOB, "OPTIONS", "one", "SIP/2.0 404 Not Found"),
-    ),
-    (1_000, Turn::Asks(SECOND)),
-    (
-        1_020,
-        Turn::Answers(BOB, "OPTIONS", "two", "SIP/2.0 404 Not Found"),
-    ),
-    (32_019, Turn::Passes(1_020)),
-    (32_019, Turn::Fills),
-    (32_020, Turn::Ticks),
-    (32_020, Turn::Keeps(1, 2)),
-    (32_020, Turn::Counts("forkproxy_calls_unwritten_total 1")),
-    (32_020, Turn::Counts("forkproxy_calls_forgotten_total 1")),
-    (33_000, Turn::Empties),
-    (33_019, Turn::Ticks),
-    (33_019, Turn::WritesNothing),
-    (33_020, Turn::Ticks),
-    (33_020, Turn::Keeps(0, 2)),
-    (33_020, Turn::Writes("1 OPTIONS ")),
-    (33_020, Turn::WritesNothing),
-    (33_020, Turn::Counts("forkproxy_calls_unwritten_total 1")),
-];
-
 #[test]
 fn a_call_that_is_over_is_forgotten_and_written_down(rt: HostRuntime) {
     let alloc = rt.alloc();
@@ -329,5 +301,4 @@ fn a_call_that_is_over_is_forgotten_and_written_down(rt: HostRuntime) {
     plays(&rt, alloc, PLAIN, CLASSES, "each class");
     plays(&rt, alloc, PLAIN, WHYS, "two whys");
     plays(&rt, alloc, UNWRITTEN, NO_JOURNAL, "no journal");
-    plays(&rt, alloc, PLAIN, CROWDED, "a full queue");
 }

@@ -1,7 +1,9 @@
 //! A service without sockets: requests, answers and moments are handed to it, and what it sends, counts and writes down is read.
 //! A history is a table of moments.
 use crate::outgoing::Outgoing;
-use crate::texts::{CALLER, CONFIGURATION, Request, answer_text, has, request_text, tag_of};
+use crate::texts::{
+    CALLER, CONFIGURATION, Request, answer_text, has, place_of, request_text, tag_of,
+};
 use daemon_parts::{DaemonFault, Identity, read_text};
 use proxy_dispatch::Received;
 use proxy_service::{Service, State, Terms};
@@ -46,9 +48,6 @@ pub enum Turn {
     Writes(&'static str),
     /// Nothing waits for the journal.
     WritesNothing,
-    /// As many bytes wait for the journal as may, and are taken by nobody; or all that waits is taken.
-    Fills,
-    Empties,
     /// The control socket asks for the end, within so many seconds.
     Stops(u64),
     /// What is left is written down, as at the end.
@@ -85,9 +84,6 @@ pub const PLAIN: Served = Served {
 
 /// The number of its run.
 const NUMBER: u32 = 99;
-
-/// How many bytes may wait for the journal.
-const MOST_BYTES: usize = 16_777_216;
 
 /// How many seconds the clock may go on while a history is played.
 const SLACK: u64 = 30;
@@ -274,20 +270,6 @@ impl Played {
         true
     }
 
-    /// So many bytes wait for the journal as may.
-    fn fills<R: Wait>(&mut self, rt: &R) -> bool {
-        match vec![in self.alloc; b'\n'; MOST_BYTES] {
-            Ok(block) => self.service.journal().push(rt, block.as_slice()).is_ok(),
-            Err(_) => false,
-        }
-    }
-
-    /// Who writes the journal takes all that waits.
-    fn empties<R: Wait>(&mut self, rt: &R) -> bool {
-        let batch = self.service.journal().take(rt);
-        batch.blocks > 0
-    }
-
     // ---- what is seen
 
     /// Looks at a text, and says whether there was memory for it.
@@ -378,8 +360,6 @@ impl Played {
             Turn::Skips => self.skips(),
             Turn::Stops(seconds) => self.stops(now, seconds),
             Turn::Leaves => self.leaves(rt),
-            Turn::Fills => self.fills(rt),
-            Turn::Empties => self.empties(rt),
             _ => return None,
         };
         Some(can)
