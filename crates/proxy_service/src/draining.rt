@@ -1,5 +1,5 @@
 //! When a service that is told to stop ends.
-ghost use Rattle.std.specs.Prelude.{◌≡◌, ◌↔◌, ◌+◌, ◌^◌, min, IsTrue};
+ghost use Rattle.std.specs.Prelude.{◌≡◌, ◌↔◌, ◌+◌, ◌^◌, ◌-◌, min, IsTrue};
 ghost use Rattle.proxy_service.specs.Draining.{Ends, IsAcknowledged, MayEnd};
 
 /// For how long it answers that it stops, in milliseconds.
