@@ -109,19 +109,21 @@ fn obeys(agents: &Agents, calls: [&str; 3]) -> &'static str {
     "nothing"
 }
 
+/// A time in milliseconds, without what is left of the last one.
+fn millis_of(passed: Duration) -> u64 {
+    passed
+        .as_secs()
+        .saturating_mul(1_000)
+        .saturating_add(u64::from(passed.subsec_millis()))
+}
+
 /// How many milliseconds pass until the target gets the INVITE of a call again.
 fn pause_of<R: Clock>(rt: &R, agents: &Agents, call: &str) -> Option<u64> {
     agents.asks("INVITE", call, "");
     agents.gets("INVITE", call)?;
     let began = Instant::now(rt).ok()?;
     agents.gets("INVITE", call)?;
-    let passed = began.elapsed(rt).ok()?;
-    Some(
-        passed
-            .as_secs()
-            .saturating_mul(1_000)
-            .saturating_add(u64::from(passed.subsec_millis())),
-    )
+    Some(millis_of(began.elapsed(rt).ok()?))
 }
 
 /// Whether an INVITE is sent again half a second behind the first, whichever part of a second has passed then: never before, and not each
@@ -183,8 +185,9 @@ fn stopped<R: Net + Clock>(rt: &R, agents: &Agents) -> io::Result<&'static str> 
     if !closes(&mut second) || !closes(&mut first) {
         return Ok("the connections close at the end");
     }
-    let passed = began.elapsed(rt)?;
-    if passed.as_secs() < 1 || passed.as_secs() > 20 {
+    // (the proxy counts in whole milliseconds, so its second may be one short)
+    let passed = millis_of(began.elapsed(rt)?);
+    if passed < 990 || passed > 20_000 {
         return Ok("a second stop ends a proxy in a second while a call rings");
     }
     Ok("nothing")
