@@ -44,6 +44,8 @@ mod schedule;
 #[cfg(test)]
 mod scrapers;
 #[cfg(test)]
+mod sockets;
+#[cfg(test)]
 mod stamping;
 #[cfg(test)]
 mod turning;
