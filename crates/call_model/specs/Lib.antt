@@ -1,7 +1,9 @@
 pub mod OpenedRequest
+pub mod Reliability
 pub mod Client
 pub mod Branch
 pub mod Server
+pub mod Closing
 pub mod Call
 pub mod Built
 pub mod Response
