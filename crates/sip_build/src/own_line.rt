@@ -24,7 +24,7 @@ fn place_number(out: &mut [u8], at: usize, n: u32) -> usize
 
 /// Writes a port in decimal from that place on, which is ten digits at most.
 #[inline(always)]
-fn place_port(out: &mut [u8], at: usize, n: u16) -> usize
+pub(crate) fn place_port(out: &mut [u8], at: usize, n: u16) -> usize
     requires { at + 10 ≤ length out.old }
     ensures placed { Placed out.old out.new at (decimal n) result }
     ensures short { result ≤ at + 10 }
@@ -73,7 +73,7 @@ fn place_dotted(out: &mut [u8], at: usize, n: u8) -> usize
 }
 
 /// Writes an address in dotted decimal from that place on.
-fn place_address(out: &mut [u8], at: usize, addr: [u8; 4]) -> usize
+pub(crate) fn place_address(out: &mut [u8], at: usize, addr: [u8; 4]) -> usize
     requires { at + 15 ≤ length out.old }
     ensures placed { Placed out.old out.new at (address_text addr) result }
     ensures short { result ≤ at + 15 }
