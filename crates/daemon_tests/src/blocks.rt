@@ -10,7 +10,7 @@ use fork_call::{Call, Setup};
 use fork_daemon::{check_config, serve_text};
 use proxy_dispatch::{Handled, Memory, Received, handle};
 use proxy_service::append_block;
-use sip_uri::Hop;
+use sip_uri::{Hop, Transport};
 use std::alloc::Global;
 use std::fs;
 use std::sync::Wait;
@@ -32,6 +32,7 @@ const INSIDE_ACK: &[u8] =
 const SOURCE: Hop = Hop {
     addr: [192, 0, 2, 1],
     port: 5060,
+    transport: Transport::Udp,
 };
 
 /// The second of which a block tells.

@@ -3,7 +3,7 @@ use crate::holds::holds;
 use crate::outbox::Outbox;
 use daemon_answers::{answer_options, may_ask_proxy};
 use fork_call::Setup;
-use sip_uri::Hop;
+use sip_uri::{Hop, Transport};
 use std::alloc::Global;
 
 const CONFIGURATION: &[u8] =
@@ -32,6 +32,7 @@ const NOTHING: &[u8] = b"";
 const SOURCE: Hop = Hop {
     addr: [192, 0, 2, 1],
     port: 5060,
+    transport: Transport::Udp,
 };
 
 /// Whether a text is answered so, and with a text that begins so; what is answered looks like an OPTIONS request to the proxy.

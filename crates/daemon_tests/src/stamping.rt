@@ -3,7 +3,7 @@ use crate::holds::holds;
 use crate::outbox::Outbox;
 use daemon_answers::StampedPort;
 use fork_call::{Cause, Datagram, Port};
-use sip_uri::Hop;
+use sip_uri::{Hop, Transport};
 use std::alloc::Global;
 
 const REQUEST: &[u8] =
@@ -24,6 +24,7 @@ const NOISE: &[u8] = b"SIP/2.0 100 noise";
 const TO: Hop = Hop {
     addr: [192, 0, 2, 1],
     port: 5060,
+    transport: Transport::Udp,
 };
 
 /// Whether a datagram of this text goes out as that one.

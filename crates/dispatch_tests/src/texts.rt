@@ -3,7 +3,7 @@ use crate::outbox::Outbox;
 use call_table::Shelf;
 use fork_call::{Call, Setup};
 use proxy_dispatch::{Handled, Memory, Received, handle};
-use sip_uri::Hop;
+use sip_uri::{Hop, Transport};
 use std::alloc::Global;
 use std::sync::Wait;
 
@@ -11,6 +11,7 @@ use std::sync::Wait;
 pub const SOURCE: Hop = Hop {
     addr: [192, 0, 2, 1],
     port: 40_000,
+    transport: Transport::Udp,
 };
 
 /// What the proxy is set up with.

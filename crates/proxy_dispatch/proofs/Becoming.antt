@@ -2,6 +2,7 @@
 use Rattle.proxy_dispatch.proofs.Common.{◌≡◌, ◌∙◌, ℕ, List, Option, Some, None, Result, Ok, Err, refl, sym, subst, ap, MessageText, Hop, Own, ViaFault, request_key, Setup, IsAdmitted, Purpose, Ack, Opening, IsDropped, IsFor, Passes}
 use Rattle.std.proofs.Common.{[], ◌++◌, inr}
 use Rattle.std.specs.Prelude.{IfOk, option_map}
+use Rattle.sip_via.specs.OwnVia.{over}
 use Rattle.sip_text.specs.Fault.{FailsAs}
 use Rattle.sip_text.specs.Refusal.{IsRefused}
 use Rattle.sip_text.specs.Message.{read_at}
@@ -94,11 +95,11 @@ unread_becomes setup text source now handled sent law (Some f) h b = inr (f, law
 
 -- ---- what is sent
 
-pub passed_text_so : (setup : Setup) (request : MessageText) (uri : Uri) (own : Own) (branch : BranchName) (old text : List ℕ)
-    → text ≡ old ++ spelling (forwarded request uri own branch) → old ≡ [] → own ≡ setup.own → branch ≡ passing_branch setup request
-    → text ≡ passed_text setup request uri
-passed_text_so setup request uri own branch old text e f p q =
-    e ∙ ap (λ (x : List ℕ). x ++ spelling (forwarded request uri own branch)) f ∙ (λ k. spelling (forwarded request uri (p k) (q k)))
+pub passed_text_so : (setup : Setup) (request : MessageText) (uri : Uri) (hop : Hop) (own : Own) (branch : BranchName) (old text : List ℕ)
+    → text ≡ old ++ spelling (forwarded request uri own branch None) → old ≡ [] → own ≡ over setup.own hop.transport → branch ≡ passing_branch setup request
+    → text ≡ passed_text setup request uri hop
+passed_text_so setup request uri hop own branch old text e f p q =
+    e ∙ ap (λ (x : List ℕ). x ++ spelling (forwarded request uri own branch None)) f ∙ (λ k. spelling (forwarded request uri (p k) (q k) None))
 
 pub unmarked_answer : (source : Hop) (status : OwnStatus) (m n : MessageText) (r : Result MessageText ViaFault) → refusal r ≡ BadVia → n ≡ m
     → answer_to n status source ≡ answer_made source status m r

@@ -1,5 +1,5 @@
 //! Requests that the proxy answers without a call.
-ghost use Rattle.std.specs.Prelude.{◌≡◌, IfOk, Some};
+ghost use Rattle.std.specs.Prelude.{◌≡◌, [], IfOk, Some};
 ghost use Rattle.std.specs.Option.{option_map};
 ghost use Rattle.sip_text.specs.Text.{spelling};
 ghost use Rattle.sip_build.specs.Generated.{code_of, generated_of};
@@ -24,10 +24,10 @@ fn answer_text<A: Allocator>(
     request: &Message<A>,
     status: OwnStatus,
 ) -> Result<Vec<u8, A>, AllocError>
-    ensures { IfOk result (λ text. text.items ≡ spelling (generated_of request.now status)) }
+    ensures { IfOk result (λ text. text.items ≡ spelling (generated_of request.now status [])) }
 {
     let mut text = Vec::new(alloc);
-    write_generated(request, status, &mut text)?;
+    write_generated(request, status, &[], &mut text)?;
     Ok(text)
 }
 

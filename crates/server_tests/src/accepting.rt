@@ -10,7 +10,7 @@ use call_table::Shelf;
 use fork_call::{Call, Cause, Datagram, Port, Setup, carry};
 use fork_context::State;
 use proxy_dispatch::{Handled, Memory, Received, handle};
-use sip_uri::Hop;
+use sip_uri::{Hop, Transport};
 use std::alloc::{Allocator, Global};
 use std::process::Abort;
 use std::sync::Wait;
@@ -31,6 +31,7 @@ const LOOKS: u32 = 1_000;
 const SOURCE: Hop = Hop {
     addr: [192, 0, 2, 1],
     port: 5060,
+    transport: Transport::Udp,
 };
 
 /// What the proxy is set up with: four locations of one user, all tried at once.

@@ -2,7 +2,7 @@
 use crate::holds::holds;
 use crate::messages::message_of;
 use sip_service::{Answer, capabilities, capabilities_is_message};
-use sip_uri::Hop;
+use sip_uri::{Hop, Transport};
 use std::alloc::Global;
 
 /// An OPTIONS request to a proxy itself, whose To has a tag, so that the 200 has no tag of the proxy's own.
@@ -17,12 +17,14 @@ const OKAY: &[u8] =
 const SOURCE: Hop = Hop {
     addr: [192, 0, 2, 9],
     port: 40_000,
+    transport: Transport::Udp,
 };
 
 /// Where the answer goes: to the port that the Via names.
 const SENDER: Hop = Hop {
     addr: [192, 0, 2, 9],
     port: 5062,
+    transport: Transport::Udp,
 };
 
 /// How the request is answered.

@@ -5,12 +5,14 @@ use sip_service::{
     opens_dialog, record, record_text, recording_keeps_the_key, recording_keeps_the_rest,
 };
 use sip_text::Message;
+use sip_uri::Transport;
 use sip_via::Own;
 use std::alloc::Global;
 
 const OWN: Own = Own {
     addr: [192, 0, 2, 1],
     port: 5060,
+    transport: Transport::Udp,
 };
 
 const RECORDED: &[u8] =

@@ -3,13 +3,14 @@ use crate::holds::holds;
 use crate::messages::{BYE, INVITE, is_spelled, message_of};
 use sip_service::{Answer, is_outside_dialog, turn_away, unavailable, unavailable_is_message};
 use sip_text::Message;
-use sip_uri::Hop;
+use sip_uri::{Hop, Transport};
 use std::alloc::Global;
 
 /// Where the requests come from.
 const SOURCE: Hop = Hop {
     addr: [192, 0, 2, 9],
     port: 40_000,
+    transport: Transport::Udp,
 };
 
 /// The 503 to the BYE, whose To has a tag.
@@ -75,6 +76,7 @@ fn a_503_says_when_to_ask_again(rt: HostRuntime) {
     let to = Hop {
         addr: [192, 0, 2, 9],
         port: 5062,
+        transport: Transport::Udp,
     };
     let well = is_turned(alloc, BYE, to, UNAVAILABLE);
     holds(&rt, well, "it goes where the Via says");
