@@ -3,7 +3,7 @@ use Rattle.call_model.proofs.Common.{◌≡◌, ◌∙◌, ◌⊎◌, ℕ, zero,
 use Rattle.call_model.proofs.Common.{and_parts, cond-false, cond-true, Event, FinalAnswer, Reply, HasStored, StoredAnswersCame, RowsKeepTheirNumbers, Effect, answers, change_at, closed_state, effect, next, settled, settled_row, with_effect}
 use Rattle.call_model.proofs.Common.{with_state, Kind, Row, State, StoredAnswer, Table, is_open, is_row, stored_of, may_start, HasFirst, Log, added, event_posted, events_of, table_of, MessageText, ContactText, Hop, TxEvent}
 use Rattle.call_model.proofs.Common.{InviteClientState, OtherClientState, invite_client, other_client, row_out, Cause, answer_in, answer_of, status_of, Call, found, nth_branch, row_passes, set_branch, with_branch, ClientTransaction, InviteClient, OtherClient}
-use Rattle.call_model.proofs.Common.{client_out, Action, is_due_at, Fails, FaultsBy, FaultsClient, cancel_faulted, faulted_cancel, Destination, kind_of, CancelTransaction, Branch, Posts, call_tag, no_branch, Pumped, Send, Did, Does, Pumps, SendsAnswer, AnswersBy}
+use Rattle.call_model.proofs.Common.{client_out, Action, is_due_at, Fails, FaultsBy, FaultsClient, cancel_faulted, faulted_cancel, Destination, kind_of, CancelTransaction, Branch, Posts, call_tag, Pumped, Send, Did, Does, Pumps, SendsAnswer, AnswersBy}
 use Rattle.call_model.proofs.Common.{AnswersWith, TicksClientBy, FiresTimerC, challenges_by, contacts_for, event_by, offer_of, OpenedRequest, Owed, Passed, Final, Again, CancelOk, IsSound, awaits, invite_awaits, other_awaits, CancelledBy, Responds, Taken}
 use Rattle.call_model.proofs.Common.{TakesAs, is_passed, branch_after, branch_posted, response_event}
 use Rattle.std.specs.Prelude.{is_none}

@@ -1,6 +1,6 @@
 -- By which events a table is closed, and that a call knows what closed its table.
 use Rattle.call_model.proofs.Common.{◌≡◌, ◌∙◌, ◌⊎◌, ◌||◌, ◌&&◌, ℕ, ap, refl, sym, subst, inl, inr, true, false, not, Bool, List, [], ◌∷◌, length, Option, Some, None, slice_get, cond, nat_lt, unwrap_or, option_map, and_parts, cond-false, cond-true}
-use Rattle.call_model.proofs.Common.{Event, FinalAnswer, Reply, RowsKeepTheirNumbers, Effect, answers, change_at, effect, next, settled, with_effect, Row, State, Table, is_invite, table_of, added, MessageText, ContactText, Hop, Cause, answer_of, status_of}
+use Rattle.call_model.proofs.Common.{Event, FinalAnswer, Reply, RowsKeepTheirNumbers, Effect, answers, change_at, effect, next, settled, with_effect, Row, State, Table, is_invite, table_of, MessageText, ContactText, Hop, Cause, answer_of, status_of}
 use Rattle.call_model.proofs.Common.{Call, nth_branch, set_branch, Action, Fails, FaultsBy, FaultsClient, cancel_faulted, Destination, Branch, Posts, call_tag, Pumped, Send, Did, Does, Pumps, SendsAnswer, AnswersBy, AnswersWith, TicksClientBy, FiresTimerC}
 use Rattle.call_model.proofs.Common.{Owed, Passed, Final, Again, CancelOk, CancelledBy, Responds, Taken, TakesAs, IsSound, challenges_by, contacts_for, event_by, offer_of, map}
 use Rattle.std.specs.Prelude.{nat_le, ◌≤◌, Ok}
@@ -105,14 +105,14 @@ or_other true b e h = absurd cc
 or_other false b e h = h
 
 answered_closes : (t : Table) (n at : ℕ) (answer : FinalAnswer) → t.closed ≡ false → (next t (fork.Answer n answer) at).closed ≡ true → Closes answer.status
-answered_closes t n at answer open closed = by (slice_get t.rows n) closed
+answered_closes t n at answer before behind = by (slice_get t.rows n) behind
   where
     so : (row : Row) → (t.closed || (answers t n row at answer).closes) ≡ true → Closes answer.status
     so row h =
-        closes_so answer.status (nat_lt answer.status 300) (nat_lt answer.status 400) refl (sym (answer_closes t n row at answer) ∙ or_other t.closed _ open h)
+        closes_so answer.status (nat_lt answer.status 300) (nat_lt answer.status 400) refl (sym (answer_closes t n row at answer) ∙ or_other t.closed _ before h)
 
     open_still : t.closed ≡ true → Closes answer.status
-    open_still h = absurd (let e : true ≡ false = sym h ∙ open in cc)
+    open_still h = absurd (let e : true ≡ false = sym h ∙ before in cc)
 
     by_state : (row : Row) (s : State) → (unwrap_or (option_map settled (option_map (with_effect t n) (effect t row at (fork.Answer n answer) s))) t).closed ≡ true → Closes answer.status
     by_state row table.Idle h = open_still h
@@ -279,19 +279,19 @@ module _ (grows : RowsKeepTheirNumbers) where
 
       -- a provisional response closes nothing
       closes : (b : Bool) → nat_lt (status_of m) 200 ≡ b → (table_of call.log).closed ≡ false → (table_of new.log).closed ≡ true → (nat_lt (status_of m) 200 ≡ false) × Closes (status_of m)
-      closes true e open closed =
+      closes true e before after =
           let t = table_of call.log in
           let place = length call.log.history in
           let is : event_by call.opened.is_responsible n (status_of m) m ≡ fork.Ring n (status_of m) = cond-true _ _ _ e in
           let quiet = at_row t place n (fork.Ring n (status_of m)) (slice_get t.rows n) (λ row. ring t row place n (status_of m) row.state) in
           let stays : (table_of new.log).closed ≡ t.closed = ap (λ (x : Table). x.closed) behind ∙ ap (λ (v : Event). (next t v place).closed) is ∙ quiet in
-          absurd (let h : true ≡ false = sym closed ∙ stays ∙ open in cc)
-      closes false e open closed =
+          absurd (let h : true ≡ false = sym after ∙ stays ∙ before in cc)
+      closes false e before after =
           let t = table_of call.log in
           let place = length call.log.history in
           let is : event_by call.opened.is_responsible n (status_of m) m ≡ fork.Answer n answer_by = cond-false _ _ _ e in
-          let there : (next t (fork.Answer n answer_by) place).closed ≡ true = ap (λ (v : Event). (next t v place).closed) (sym is) ∙ ap (λ (x : Table). x.closed) (sym behind) ∙ closed in
-          (e, answered_closes t n place answer_by open there)
+          let there : (next t (fork.Answer n answer_by) place).closed ≡ true = ap (λ (v : Event). (next t v place).closed) (sym is) ∙ ap (λ (x : Table). x.closed) (sym behind) ∙ after in
+          (e, answered_closes t n place answer_by before there)
 
       by : (c o : Bool) → (table_of new.log).closed ≡ c → (table_of call.log).closed ≡ o → Goes (turn_by now (to.Client n) m source (to.Posted at)) call new
       by false false e f = inl (record { closing = closing false e; closed = e ∙ sym f })

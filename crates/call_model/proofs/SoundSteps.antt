@@ -296,7 +296,7 @@ module _ (passes : StoredAnswersPass) (grows : RowsKeepTheirNumbers) (stay : Row
 
   posted : (call : Call) (n : ℕ) (branch : Branch) (destination : Destination) (now : ℕ) (m : MessageText) (reply : Reply) (first : Bool) (closing : Closing) (new : Call) → IsSound call → nth_branch call n ≡ Some branch → IsMessage m → IsForward m
       → Posts (closed_by closing (set_branch call n (branch_posted first destination.longest (branch_after call n branch destination now m) now (status_of m) m)))
-          (event_by call.opened.is_responsible n (status_of m) m) (contacts_for call.opened.is_responsible (status_of m) m) (going_up (status_of m) m) reply new
+      (event_by call.opened.is_responsible n (status_of m) m) (contacts_for call.opened.is_responsible (status_of m) m) (going_up (status_of m) m) reply new
       → IsSound new
   posted call n branch destination now m reply first closing new is there message forward posts =
       let l = branch_posted first destination.longest (branch_after call n branch destination now m) now (status_of m) m in
