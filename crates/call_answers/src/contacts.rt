@@ -112,7 +112,7 @@ fn contacts_by<A: Allocator + Clone>(
 // ---- offering
 
 /// Where the request to a URI goes: by the first Route value, if there is one, else by the URI (RFC 3261 section 16.6
-/// steps 6 and 7).
+/// steps 6 and 7); and how long its branch may take.
 fn destination_of<A: Allocator + Clone>(
     opened: &OpenedRequest<A>,
     uri: Option<SipUri<A>>,
@@ -124,7 +124,7 @@ fn destination_of<A: Allocator + Clone>(
         Some(hop) => hop,
         None => uri.next_hop()?,
     };
-    Some(Destination::new(uri, hop))
+    Some(Destination::new(uri, hop, opened.ring()))
 }
 
 /// The key of a contact that may be tried.

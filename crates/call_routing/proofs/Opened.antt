@@ -13,7 +13,7 @@ use Rattle.proxy_config.specs.Setup.{Setup}
 use Rattle.proxy_routing.specs.declared.fault.RequestRejection.{RequestRejection}
 use Rattle.proxy_routing.specs.declared.fault.RequestRejection.TheVariants.{BadRequest, Scheme, Hops, Loop, Extension, NoTarget, NoHop, NoMemory}
 use Rattle.proxy_routing.specs.Admission.{asks_extension}
-use Rattle.call_routing.specs.Opening.{Asks, IsOpenable, IsRefused, IsUnreachable, Opens, Reaches, Refuses, candidates_for, opened_of}
+use Rattle.call_routing.specs.Opening.{Asks, IsOpenable, IsRefused, IsUnreachable, Opens, Reaches, Refuses, candidates_for, opened_of, record_route_of}
 use Rattle.proxy_routing.specs.Targets.{candidates, candidates_by, hop_if_any, is_domain}
 
 pub openable : (start other : StartText) → start ≡ other → IsOpenable other → is_request start ≡ true
@@ -76,13 +76,26 @@ asked_if setup request uri a t (Err fault) h = asked setup request uri a t fault
 
 -- ---- the call that opens for a request to a URI
 
-pub fixed_so : (setup : Setup) (number : ℕ) (request : MessageText) (source : Hop) (uri : Uri) (own : Own) (instance : ℕ) (caller : Hop) (route : Option Hop) (inside : Bool) (first : FirstRoute) (opened : OpenedRequest)
-    → opened ≡ record { number = number; own = own; instance = instance; request = request; caller = caller; route = route; is_responsible = inside }
+pub fixed_so : (setup : Setup) (number : ℕ) (request : MessageText) (source : Hop) (uri : Uri) (own : Own) (instance : ℕ) (caller : Hop) (route : Option Hop) (inside : Bool) (recorded : Option (List ℕ))
+    (stamps : Bool) (ring : ℕ) (first : FirstRoute) (opened : OpenedRequest)
+    → opened ≡ record { number = number; own = own; instance = instance; request = request; caller = caller; route = route; is_responsible = inside; record_route = recorded; stamps = stamps; ring = ring }
     → own ≡ setup.own → instance ≡ setup.instance → caller ≡ reply_of (via_of (top_value request)) source
-    → route ≡ hop_if_any first → first ≡ first_route request → inside ≡ is_domain setup uri → opened ≡ opened_of setup number request source uri
-fixed_so setup number request source uri own instance caller route inside first opened e p q r s t u =
+    → route ≡ hop_if_any first → first ≡ first_route request → inside ≡ is_domain setup uri
+    → recorded ≡ record_route_of setup request → stamps ≡ setup.stamps → ring ≡ setup.ring → opened ≡ opened_of setup number request source uri
+fixed_so setup number request source uri own instance caller route inside recorded stamps ring first opened e p q r s t u v w x =
     let destination : route ≡ hop_if_any (first_route request) = s ∙ ap hop_if_any t in
-    e ∙ (λ k. record { number = number; own = p k; instance = q k; request = request; caller = r k; route = destination k; is_responsible = u k })
+    e ∙ (λ k. record {
+      number = number;
+      own = p k;
+      instance = q k;
+      request = request;
+      caller = r k;
+      route = destination k;
+      is_responsible = u k;
+      record_route = v k;
+      stamps = w k;
+      ring = x k;
+    })
 
 pub reaches : (setup : Setup) (number : ℕ) (request : MessageText) (source : Hop) (uri : Uri) (rules : Rules) (inside : Bool) (route : FirstRoute) (opened : OpenedRequest) (cs : List CandidateTarget) (call : Call)
     → cs ≡ candidates_by inside setup route uri → inside ≡ is_domain setup uri → (cs ≡ [] → ⊥) → list_all has_hop cs ≡ true → rules ≡ setup.rules → route ≡ first_route request

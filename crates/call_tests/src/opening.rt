@@ -11,7 +11,7 @@ use fork_context::Kind;
 use proxy_config::Setup;
 use proxy_routing::{RequestRejection, is_domain, validate_request};
 use sip_text::Message;
-use sip_uri::{Hop, SipUri};
+use sip_uri::{Hop, SipUri, Transport};
 use std::alloc::Global;
 
 #[test]
@@ -81,7 +81,7 @@ const ELSEWHERE: &[u8] = b"own 192.0.2.9 5062\ninstance 7\ndomain example.com\n"
 
 /// Setups and URIs, and whether the proxy is responsible: where the own address counts with any port, and with the own
 /// port alone.
-const NAMED: [(&[u8], &[u8], bool, bool); 13] = [
+const NAMED: [(&[u8], &[u8], bool, bool); 14] = [
     (SETUP, b"sip:bob@example.com", true, true),
     (SETUP, b"sip:Example.COM", true, true),
     (SETUP, b"sip:bob@example.com:5081", true, true),
@@ -89,8 +89,9 @@ const NAMED: [(&[u8], &[u8], bool, bool); 13] = [
     (SETUP, b"sip:192.0.2.9:05060", true, true),
     (SETUP, b"sip:bob@192.0.2.9:5081", true, false),
     (SETUP, b"sip:bob@192.0.2.9:5081;ob", true, false),
+    (SETUP, b"sip:bob@192.0.2.9:5081;transport=tcp", true, false),
     // it leads to no hop
-    (SETUP, b"sip:bob@192.0.2.9:5081;transport=tcp", true, true),
+    (SETUP, b"sip:bob@192.0.2.9:5081;transport=sctp", true, true),
     (SETUP, b"sip:bob@192.0.02.9", false, false),
     (SETUP, b"sip:bob@example.org", false, false),
     // 5060 is the port where none is named
@@ -207,10 +208,7 @@ fn a_request_opens_a_call(rt: HostRuntime) {
     holds(&rt, state.opened().kind() == Kind::Other, "its kind");
     holds(&rt, state.book().context().count() == 1, "one branch");
     holds(&rt, state.owed().is_empty(), "nothing is owed");
-    let to = Hop {
-        addr: [192, 0, 2, 4],
-        port: 5060,
-    };
+    let to = Hop::over_udp([192, 0, 2, 4], 5060);
     holds(
         &rt,
         sends(alloc, &mut state, to, &FORWARDED),
@@ -271,10 +269,7 @@ const WAYS: [(Change, u8, u16); 9] = [
 #[test]
 fn each_request_goes_its_way(rt: HostRuntime) {
     for (change, last, port) in WAYS {
-        let to = Hop {
-            addr: [192, 0, 2, last],
-            port,
-        };
+        let to = Hop::over_udp([192, 0, 2, last], port);
         holds(
             &rt,
             hop_with(rt.alloc(), &[change]) == Some(to),
@@ -431,18 +426,21 @@ fn the_first_fault_is_told(rt: HostRuntime) {
 const HOME: Hop = Hop {
     addr: [192, 0, 2, 9],
     port: 5060,
+    transport: Transport::Udp,
 };
 
 /// The hop of the location of bob.
 const BOBS: Hop = Hop {
     addr: [192, 0, 2, 4],
     port: 5060,
+    transport: Transport::Udp,
 };
 
 /// Another proxy.
 const BEYOND: Hop = Hop {
     addr: [192, 0, 2, 8],
     port: 5062,
+    transport: Transport::Udp,
 };
 
 /// Where the request of the first branch goes in the call that the request with this change opens for a service.
