@@ -18,6 +18,8 @@ use Rattle.sip_txn.specs.declared.invite_client.InviteClientState.TheVariants as
 use Rattle.sip_txn.specs.declared.other_client.OtherClientState.TheVariants as other
 use Rattle.call_model.specs.declared.cause.Cause.TheVariants as cause
 use Rattle.call_model.specs.Behind.{BegunKeepsAnswers, ComesFirst, FirstsStayOrCome, KeepsEvent, StaysFirst, StepsKeepAnswers}
+use Rattle.call_model.specs.Call.{closed_by}
+use Rattle.call_model.specs.Closing.{closing_after}
 use Rattle.call_model.specs.Due as due
 use Rattle.call_model.specs.Pump.{Idle}
 use Rattle.call_model.specs.Server.{Trying}
@@ -25,6 +27,7 @@ use Rattle.call_model.specs.Step as step
 use Rattle.call_model.specs.Step.{Turn}
 use Rattle.call_model.specs.Take as to
 use Rattle.call_model.proofs.FirstStays.{first_before}
+use Rattle.call_model.proofs.KeptBuilt.{at_or, branch_more, here_with}
 use Rattle.call_model.proofs.laws.SoundTables.{table_added}
 
 -- ---- parts
@@ -40,18 +43,6 @@ same_with (x ∷ branches) zero zero branch e = sym e
 same_with (x ∷ branches) zero (suc k) branch e = refl
 same_with (x ∷ branches) (suc n) zero branch e = refl
 same_with (x ∷ branches) (suc n) (suc k) branch e = same_with branches n k branch e
-
-here_with : (branches : List (Option Branch)) (n : ℕ) (old branch : Branch) → found (slice_get branches n) ≡ Some old → found (slice_get (with_branch branches n branch) n) ≡ Some branch
-here_with [] n old branch e = absurd cc
-here_with (x ∷ branches) zero old branch e = refl
-here_with (x ∷ branches) (suc n) old branch e = here_with branches n old branch e
-
-branch_more : (branches : List (Option Branch)) (rows : List Row) (k : ℕ) → found (slice_get (branches ++ map no_branch rows) k) ≡ found (slice_get branches k)
-branch_more [] [] k = refl
-branch_more [] (row ∷ rows) zero = refl
-branch_more [] (row ∷ rows) (suc k) = branch_more [] rows k
-branch_more (x ∷ branches) rows zero = refl
-branch_more (x ∷ branches) rows (suc k) = branch_more branches rows k
 
 -- the part of a branch with the same answer
 same_branch : (call : Call) (n : ℕ) (old branch : Branch) → nth_branch call n ≡ Some old → branch.answer ≡ old.answer → SameAnswers call (set_branch call n branch)
@@ -205,7 +196,7 @@ module _ (stores : EventsStoreAnswers) (goes_on : BranchesGoOn) (grows : RowsKee
 
   fired : (call : Call) (now n : ℕ) (branch : Branch) (b : Bool) (p : Pumped) (new : Call) → nth_branch call n ≡ Some branch → FiresTimerC call now n branch b p new → FirstsStay call new
   fired call now n branch true p new there (out, reply, posts) = assumed call _ new _ _ _ reply refl (same_branch call n branch _ there refl) (no_timer_c n) posts
-  fired call now n branch false p new there (out, reply, posts) = assumed call call new _ _ _ reply refl (λ k. refl) (no_timer_c n) posts
+  fired call now n branch false p new there (out, reply, posts) = assumed call _ new _ _ _ reply refl (same_branch call n branch _ there refl) (no_timer_c n) posts
 
   -- a branch that is sent its request keeps nothing before
   unsent : (o : Option Branch) → is_none o ≡ true → answer_in o ≡ None
@@ -330,17 +321,6 @@ module _ (stores : EventsStoreAnswers) (goes_on : BranchesGoOn) (grows : RowsKee
 
   -- ---- a response that is posted
 
-  at_or : (branches : List (Option Branch)) (n k : ℕ) (branch : Branch) → (k ≡ n) ⊎ (found (slice_get (with_branch branches n branch) k) ≡ found (slice_get branches k))
-  at_or [] n k branch = inr refl
-  at_or (x ∷ branches) zero zero branch = inl refl
-  at_or (x ∷ branches) zero (suc k) branch = inr refl
-  at_or (x ∷ branches) (suc n) zero branch = inr refl
-  at_or (x ∷ branches) (suc n) (suc k) branch = up (at_or branches n k branch)
-    where
-      up : (k ≡ n) ⊎ (found (slice_get (with_branch branches n branch) k) ≡ found (slice_get branches k)) → (suc k ≡ suc n) ⊎ (found (slice_get (with_branch branches n branch) k) ≡ found (slice_get branches k))
-      up (inl e) = inl (ap suc e)
-      up (inr e) = inr e
-
   module _ (call new : Call) (n : ℕ) (branch : Branch) (destination : Destination) (now : ℕ) (m : MessageText) (reply : Reply) (first : Bool) (leads : IsTrue first ↔ HasFirst (table_of new.log) n)
       (sound : IsSound call) (there : nth_branch call n ≡ Some branch)
       (passes : is_passed (client_out (response_event (status_of m)) now branch.client).pass ≡ true) (source : Hop) (at : ℕ) (placed : reply.at ≡ at) where
@@ -352,10 +332,10 @@ module _ (stores : EventsStoreAnswers) (goes_on : BranchesGoOn) (grows : RowsKee
     Comes k stored = ComesFirst this_turn new k stored
 
     abbrev posted_part : Branch
-    posted_part = branch_posted first (branch_after call n branch destination now m) now (status_of m) m
+    posted_part = branch_posted first destination.longest (branch_after call n branch destination now m) now (status_of m) m
 
     abbrev posted_mid : Call
-    posted_mid = set_branch call n posted_part
+    posted_mid = closed_by (closing_after (table_of new.log).closed (status_of m) call.closing) (set_branch call n posted_part)
 
     -- a branch with something stored keeps what it kept
     same_stored : (k : ℕ) (stored : StoredAnswer) → HasStored (table_of call.log) k stored → answer_in (nth_branch posted_mid k) ≡ answer_in (nth_branch call k)

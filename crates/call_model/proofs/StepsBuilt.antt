@@ -5,7 +5,7 @@ use Rattle.call_model.specs.declared.cause.Cause.TheVariants as cause
 use Rattle.call_model.specs.Server.{Trying}
 use Rattle.call_model.specs.Datagrams.{IsCancel, StepsKeepBuilt, BegunIsBuilt}
 use Rattle.call_model.specs.Take as to
-use Rattle.call_model.specs.Pump.{Idle}
+use Rattle.call_model.specs.Pump.{Idle, reasons_of}
 use Rattle.call_model.specs.Step as step
 use Rattle.call_model.proofs.KeptBuilt.{built_branch, built_posts, at_more}
 use Rattle.call_model.proofs.laws.RightDatagrams.{built_by, some_as}
@@ -56,7 +56,7 @@ done : (call : Call) (now : ℕ) (action : Action) (p : Pumped) (new : Call) →
 done call now (SendRequest n) p new built (destination, goes, out) = same_as new _ out.1 (built_branch call n _ built destination goes (record { request = refl; cancel = tt }))
 done call now (SendCancel n) p new built (destination, branch, goes, there, out) =
     let b = built_by call n destination branch built goes there in
-    same_as new _ out.1 (built_branch call n _ built destination goes (record { request = b.request; cancel = refl }))
+    same_as new _ out.1 (built_branch call n _ built destination goes (record { request = b.request; cancel = (reasons_of call n, refl) }))
 done call now (SendAck n) p new built (destination, branch, goes, there, (ack, owed, out, same)) =
     let b = built_by call n destination branch built goes there in
     same_as new _ same (built_branch call n _ built destination goes (record { request = b.request; cancel = b.cancel }))

@@ -29,7 +29,7 @@ pub record Datagram : Type 0 where
 -- the request as it goes to target n, over the transport of its hop (section 16.6)
 abbrev pub request_to : OpenedRequest → Destination → ℕ → MessageText
 request_to opened destination n =
-    forwarded opened.request destination.uri (over opened.own destination.hop.transport) (branch_at opened n) opened.recorded
+    forwarded opened.request destination.uri (over opened.own destination.hop.transport) (branch_at opened n) opened.record_route
 
 -- the ACK for a failure of branch n (section 17.1.1.3)
 abbrev pub ack_to : OpenedRequest → Destination → ℕ → MessageText → MessageText

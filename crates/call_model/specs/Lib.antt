@@ -17,6 +17,8 @@ pub mod Step
 pub mod Datagrams
 pub mod Again
 pub mod Sound
+pub mod ClosedBy
+pub mod Longest
 pub mod Behind
 pub mod Fitting
 pub mod SeenDatagram

@@ -23,7 +23,7 @@ pub record OpenedRequest : Type 0 where
   -- its Request-URI is one that the proxy is responsible for; for any other the contacts of a 3xx are not tried (section 16.5)
   pub is_responsible : Bool
   -- the value of the Record-Route line that its requests take, if they take one (section 16.6 step 4)
-  pub recorded : Option (List ℕ)
+  pub record_route : Option (List ℕ)
   -- its 100 takes its Timestamp line (section 8.2.6.1)
   pub stamps : Bool
   -- the longest time of the branches to contacts of a 3xx, in milliseconds

@@ -10,7 +10,9 @@ use std::alloc::Allocator;
 fn is_dialog_method(method: &[u8]) -> bool
     ensures { result ≡ is_dialog_method method.now }
 {
-    method == b"INVITE" || method == b"SUBSCRIBE" || method == b"REFER"
+    method == b"INVITE".as_slice()
+        || method == b"SUBSCRIBE".as_slice()
+        || method == b"REFER".as_slice()
 }
 
 /// Whether a message is a request that opens a dialog, and so takes a Record-Route line of a proxy that stays on the path: an
