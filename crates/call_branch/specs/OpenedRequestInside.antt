@@ -18,9 +18,10 @@ opened_with o = record {
   request = o.request;
   caller = o.caller;
   route = o.route;
-  is_responsible = o.is_responsible;
+  tried = o.tried;
   record_route = option_map (λ v. v.items) o.record_route;
   stamps = o.stamps;
+  reasons = o.reasons;
   ring = o.ring;
 }
 

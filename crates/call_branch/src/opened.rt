@@ -16,6 +16,7 @@ ghost use Rattle.call_branch.specs.BranchInside.{ack_made};
 ghost use Rattle.call_branch.specs.OpenedRequestInside.{opened_with};
 
 use crate::destination::Destination;
+use call_model::TriedContacts;
 use fork_rank::Kind;
 use sip_build::{FurtherLine, write_forwarded, write_forwarded_ack, write_forwarded_cancel};
 use sip_route::loop_key;
@@ -42,14 +43,16 @@ pub struct Opening<A: Allocator = Global> {
     pub caller: Hop,
     /// The hop of the request's first Route value, if it has one (RFC 3261 section 16.6 step 6).
     pub route: Option<Hop>,
-    /// Whether the proxy is responsible for the Request-URI of the request; for any other it tries no contact of a 3xx (RFC
-    /// 3261 section 16.5).
-    pub is_responsible: bool,
+    /// Which contacts of a 3xx are tried: none where the proxy is not responsible for the Request-URI of the request (RFC 3261
+    /// section 16.5).
+    pub tried: TriedContacts,
     /// The value of the Record-Route line that the request gets on its way to each target, where it gets one (RFC 3261 section
     /// 16.6 step 4).
     pub record_route: Option<Vec<u8, A>>,
     /// Whether the 100 to the request takes its Timestamp line (RFC 3261 section 8.2.6.1).
     pub stamps: bool,
+    /// Whether the CANCELs of its branches say why they are sent (RFC 3326).
+    pub reasons: bool,
     /// The longest time of the branches to contacts of a 3xx, in milliseconds.
     pub ring: u64,
 }
@@ -133,12 +136,11 @@ impl<A: Allocator> OpenedRequest<A> {
         self.opening.route
     }
 
-    /// Whether the proxy is responsible for the Request-URI of the request; for any other it tries no contact of a 3xx (RFC
-    /// 3261 section 16.5).
-    pub fn is_responsible(&self) -> bool
-        ensures { result ≡ self.now.is_responsible }
+    /// Which contacts of a 3xx are tried (RFC 3261 section 16.5).
+    pub fn tried(&self) -> TriedContacts
+        ensures { result ≡ self.now.tried }
     {
-        self.opening.is_responsible
+        self.opening.tried
     }
 
     /// Whether the 100 to the request takes its Timestamp line (RFC 3261 section 8.2.6.1).
@@ -146,6 +148,13 @@ impl<A: Allocator> OpenedRequest<A> {
         ensures { result ≡ self.now.stamps }
     {
         self.opening.stamps
+    }
+
+    /// Whether the CANCELs of the branches say why they are sent (RFC 3326).
+    pub fn reasons(&self) -> bool
+        ensures { result ≡ self.now.reasons }
+    {
+        self.opening.reasons
     }
 
     /// The longest time of the branches to contacts of a 3xx, in milliseconds.

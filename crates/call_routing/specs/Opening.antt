@@ -1,5 +1,5 @@
 -- How a call opens, and why it does not (RFC 3261 sections 16.2 to 16.6).
-use Rattle.std.specs.Prelude.{◌≡◌, ◌≢◌, ℕ, ◌&&◌, true, false, List, [], Option, Some, None, Ok, if◌then◌else◌}
+use Rattle.std.specs.Prelude.{◌≡◌, ◌≢◌, ℕ, Bool, ◌&&◌, true, false, List, [], Option, Some, None, Ok, if◌then◌else◌}
 use Rattle.std.specs.List.{list_all}
 use Rattle.fork_model.specs.History.{opening_rows}
 use Rattle.fork_model.specs.Table.{Rules}
@@ -15,6 +15,8 @@ use Rattle.sip_route.specs.RouteValues.{first_route}
 use Rattle.sip_build.specs.Dialogs.{opens_dialog}
 use Rattle.sip_build.specs.OwnRoute.{own_route}
 use Rattle.proxy_config.specs.Setup.{Setup}
+use Rattle.call_model.specs.declared.tried_contacts.TriedContacts.{TriedContacts}
+use Rattle.call_model.specs.declared.tried_contacts.TriedContacts.TheVariants.{Every, NoContacts, OverUdp}
 use Rattle.call_model.specs.Begun.{begun}
 use Rattle.call_model.specs.Call.{Call}
 use Rattle.call_model.specs.OpenedRequest.{OpenedRequest, Destination, kind_of}
@@ -34,6 +36,13 @@ IsOpenable start = stands_alone (known_method start) ≡ true
 abbrev pub record_route_of : Setup → MessageText → Option (List ℕ)
 record_route_of setup request = if setup.records && opens_dialog request then Some (own_route setup.own) else None
 
+-- which contacts of a 3xx are tried: none where the proxy is not responsible for the Request-URI (section 16.5), and those over
+-- UDP alone where it has no streams
+abbrev pub tried_by : (responsible streams : Bool) → TriedContacts
+tried_by false streams = NoContacts
+tried_by true false = OverUdp
+tried_by true true = Every
+
 -- what the request to this URI, as it was prepared, opens with; its answers go where its top Via value says (section
 -- 18.2.2), and the proxy is responsible for a URI of its domain (section 16.5)
 abbrev pub opened_of : Setup → ℕ → MessageText → Hop → Uri → OpenedRequest
@@ -44,9 +53,10 @@ opened_of setup number request source uri = record {
   request = request;
   caller = reply_of (via_of (top_value request)) source;
   route = hop_if_any (first_route request);
-  is_responsible = is_domain setup uri;
+  tried = tried_by (is_domain setup uri) setup.streams;
   record_route = record_route_of setup request;
   stamps = setup.stamps;
+  reasons = setup.reasons;
   ring = setup.ring;
 }
 

@@ -10,7 +10,7 @@ ghost use Rattle.sip_build.specs.Forwarding.{is_request};
 ghost use Rattle.fork_rank.specs.KindView as kinds;
 ghost use Rattle.fork_model.specs.Log.{opening_log, table_of};
 ghost use Rattle.proxy_routing.specs.Admission.{target_uri};
-ghost use Rattle.call_routing.specs.Opening.{Asks, IsBegun, IsOpenable, IsRefused, IsUnreachable, Opens, Reaches, Refuses, record_route_of};
+ghost use Rattle.call_routing.specs.Opening.{Asks, IsBegun, IsOpenable, IsRefused, IsUnreachable, Opens, Reaches, Refuses, record_route_of, tried_by};
 ghost use Rattle.call_routing.specs.Destinations.{AreDestinations, destination_to};
 ghost use Rattle.call_routing.specs.inner.Distinct.{AreDistinct};
 ghost use Rattle.sip_uri.specs.Fault.{Gives, refusal};
@@ -18,6 +18,7 @@ ghost use Rattle.proxy_routing.specs.Targets.{has_hop, targets_of};
 
 use call_answers::place_of;
 use call_branch::{Destination, OpenedRequest, Opening};
+use call_model::TriedContacts;
 use call_state::CallState;
 use fork_book::Book;
 use fork_context::{Kind, NewFault};
@@ -172,6 +173,18 @@ fn begin<A: Allocator + Clone>(
     CallState::begin(alloc, heap, opened, book, destinations, now)
 }
 
+/// Which contacts of a 3xx a call tries, by whether the proxy is responsible for the Request-URI of its request, and whether it
+/// has streams (RFC 3261 section 16.5).
+fn tried_by(responsible: bool, streams: bool) -> TriedContacts
+    ensures { result ≡ tried_by responsible streams }
+{
+    match (responsible, streams) {
+        (false, _) => TriedContacts::NoContacts,
+        (true, false) => TriedContacts::OverUdp,
+        (true, true) => TriedContacts::Every,
+    }
+}
+
 /// The value of the Record-Route line by which the proxy stays on the path of the dialog that the request opens, where it is to
 /// (RFC 3261 section 16.6 step 4). It takes memory only there.
 fn record_route_of<A: Allocator>(
@@ -224,9 +237,10 @@ fn open_to<A: Allocator + Clone>(
         request,
         caller,
         route: hop_if_any(route),
-        is_responsible: inside,
+        tried: tried_by(inside, setup.streams()),
         record_route,
         stamps: setup.stamps(),
+        reasons: setup.reasons(),
         ring: setup.ring(),
     });
     locations_are_targets();

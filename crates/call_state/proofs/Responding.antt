@@ -58,8 +58,8 @@ module _ (call : Call) (n now status : ℕ) (m : MessageText) (branch : Branch) 
       made ∙ all ∙ rw status_is refl
 
   pub posted : (event : Event) (at : ℕ) (first : Bool) (mid new kept_on last : Call)
-      → PostsSaid call event (contacts_for call.opened.is_responsible status m) (going_up status m) at mid
-      → event ≡ event_by call.opened.is_responsible n status m
+      → PostsSaid call event (contacts_for call.opened.tried status m) (going_up status m) at mid
+      → event ≡ event_by call.opened.tried n status m
       → is_passed out.pass ≡ true
       → new ≡ record mid { branches = changed_branch (responded client ack) mid.branches n }
       → (IsTrue first ↔ HasFirst (table_of mid.log) n)
@@ -70,7 +70,7 @@ module _ (call : Call) (n now status : ℕ) (m : MessageText) (branch : Branch) 
       let f = kept (timer_c_again now status destination.longest branch.timer_c_at) (kept_if first (answer_if status m)) in
       let part = branch_last first in
       let l = responded client ack branch in
-      let cs = contacts_for call.opened.is_responsible status m in
+      let cs = contacts_for call.opened.tried status m in
       let later : nth_branch mid n ≡ Some branch = still_there call mid event cs (going_up status m) reply posts n branch there in
       let once : new ≡ set_branch mid n l = went ∙ changed_part (responded client ack) mid n branch later in
       let P : Call → Type 0 = λ x. nth_branch x n ≡ Some l in
@@ -88,12 +88,12 @@ module _ (call : Call) (n now status : ℕ) (m : MessageText) (branch : Branch) 
       let all : Posts (set_branch call n part) event cs (going_up status m) reply (set_branch mid n part) = posts_part call mid event cs (going_up status m) reply posts n branch part there in
       let closes : Posts before event cs (going_up status m) reply behind = posts_closed (set_branch call n part) (set_branch mid n part) event cs (going_up status m) reply all (by (status_of m) call.closing) in
       let E : Event → Type 0 = λ e. Posts before e cs (going_up status m) reply behind in
-      let S : ℕ → Type 0 = λ s. Posts before (event_by call.opened.is_responsible n s m) (contacts_for call.opened.is_responsible s m) (going_up s m) reply behind in
-      let N : Call → Type 0 = λ x. Posts (closed_by (closing_after (table_of x.log).closed (status_of m) call.closing) (set_branch call n part)) (event_by call.opened.is_responsible n (status_of m) m) (contacts_for call.opened.is_responsible (status_of m) m) (going_up (status_of m) m) reply x in
+      let S : ℕ → Type 0 = λ s. Posts before (event_by call.opened.tried n s m) (contacts_for call.opened.tried s m) (going_up s m) reply behind in
+      let N : Call → Type 0 = λ x. Posts (closed_by (closing_after (table_of x.log).closed (status_of m) call.closing) (set_branch call n part)) (event_by call.opened.tried n (status_of m) m) (contacts_for call.opened.tried (status_of m) m) (going_up (status_of m) m) reply x in
       let L : Call → Type 0 = λ x. IsTrue first ↔ HasFirst (table_of x.log) n in
       (branch, destination, there, goes, (passes_by ∙ passed_on, reply, at_is, first, subst L (sym whole) leads, subst N (sym whole) (subst S status_is (subst E event_is closes))))
 
-  pub refused : (event : Event) → event ≡ event_by call.opened.is_responsible n status m → is_full (core_of call.log) event ≡ true → is_passed out.pass ≡ true → RespondsOn call n now m Full call
+  pub refused : (event : Event) → event ≡ event_by call.opened.tried n status m → is_full (core_of call.log) event ≡ true → is_passed out.pass ≡ true → RespondsOn call n now m Full call
   refused event event_is full passed_on =
-      let full_by : is_full (core_of call.log) (event_by call.opened.is_responsible n (status_of m) m) ≡ true = sym (ap (λ (s : ℕ). is_full (core_of call.log) (event_by call.opened.is_responsible n s m)) status_is) ∙ sym (ap (is_full (core_of call.log)) event_is) ∙ full in
+      let full_by : is_full (core_of call.log) (event_by call.opened.tried n (status_of m) m) ≡ true = sym (ap (λ (s : ℕ). is_full (core_of call.log) (event_by call.opened.tried n s m)) status_is) ∙ sym (ap (is_full (core_of call.log)) event_is) ∙ full in
       (branch, destination, there, goes, (passes_by ∙ passed_on, full_by, refl))

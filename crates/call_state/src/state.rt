@@ -337,12 +337,12 @@ impl<A: Allocator + Clone> CallState<A> {
         })
     }
 
-    /// The CANCEL of branch n as it is sent: its Reason lines say what closed the table, and there are none where timer C has
-    /// fired for the branch (RFC 3261 section 16.8 and RFC 3326).
+    /// The CANCEL of branch n as it is sent. Where the call says why, its Reason lines say what closed the table, and there are
+    /// none where timer C has fired for the branch (RFC 3261 section 16.8 and RFC 3326).
     fn cancel_bytes(&self, destination: &Destination<A>, n: u16) -> Result<Vec<u8, A>, AllocError>
         ensures { IfOk result (λ bytes. bytes.items ≡ cancel_bytes self.now n destination.now) }
     {
-        if timer_c_at(self.branch(n)).is_none() {
+        if !self.opened.reasons() || timer_c_at(self.branch(n)).is_none() {
             self.opened.cancel_bytes(&self.alloc, destination, n, &[])
         } else {
             self.closing
@@ -568,8 +568,8 @@ impl<A: Allocator + Clone> CallState<A> {
     ) -> Result<ResponseEvent<A>, AllocError>
         requires least { 100 ≤ status }
         requires most { status ≤ 699 }
-        ensures event { IfOk result (λ new_event. event_of new_event.event ≡ event_by self.now.opened.is_responsible n status message.now) }
-        ensures destinations { IfOk result (λ new_event. new_event.destinations.items ≡ map (destination_of_contact self.now.opened) (contacts_for self.now.opened.is_responsible status message.now)) }
+        ensures event { IfOk result (λ new_event. event_of new_event.event ≡ event_by self.now.opened.tried n status message.now) }
+        ensures destinations { IfOk result (λ new_event. new_event.destinations.items ≡ map (destination_of_contact self.now.opened) (contacts_for self.now.opened.tried status message.now)) }
         ensures gives { IfOk result (λ new_event. GivesDestinations (event_of new_event.event) new_event.destinations.items) }
     {
         ResponseEvent::of(&self.alloc, &self.opened, n, status, message)

@@ -5,7 +5,7 @@ use call_routing::{admitted_target, read_target};
 use proxy_routing::hop_by;
 use sip_route::FirstRoute;
 use sip_text::Message;
-use sip_uri::{Hop, SipUri, Transport};
+use sip_uri::{Hop, SipUri};
 use std::alloc::Global;
 
 // ---- the URI
@@ -98,33 +98,19 @@ fn a_uri_that_cannot_be_read_is_no_target(rt: HostRuntime) {
 const BY_ROUTE: Hop = Hop {
     addr: [192, 0, 2, 8],
     port: 5062,
-    transport: Transport::Udp,
 };
 
 /// A hop that a URI leads to.
 const BY_URI: Hop = Hop {
     addr: [192, 0, 2, 4],
     port: 5060,
-    transport: Transport::Udp,
-};
-
-/// One that a URI leads to which asks for TCP.
-const BY_URI_OVER_TCP: Hop = Hop {
-    addr: [192, 0, 2, 4],
-    port: 5060,
-    transport: Transport::Tcp,
 };
 
 /// Where the first Route value leads, the URI of a target, and the hop that its request goes by.
-const HOPS: [(FirstRoute, &[u8], Option<Hop>); 8] = [
+const HOPS: [(FirstRoute, &[u8], Option<Hop>); 7] = [
     (FirstRoute::Absent, b"sip:bob@192.0.2.4", Some(BY_URI)),
     (FirstRoute::Absent, b"sip:bob@example.com", None),
-    (
-        FirstRoute::Absent,
-        b"sip:bob@192.0.2.4;transport=tcp",
-        Some(BY_URI_OVER_TCP),
-    ),
-    (FirstRoute::Absent, b"sip:bob@192.0.2.4;transport=sctp", None),
+    (FirstRoute::Absent, b"sip:bob@192.0.2.4;transport=tcp", None),
     (FirstRoute::NoHop, b"sip:bob@192.0.2.4", None),
     (
         FirstRoute::To(BY_ROUTE),

@@ -4,7 +4,7 @@ use crate::requests::{
     Change, OWN, REQUEST, SETUP, SOURCE, opened, opened_by, read_message, request_with, sent_to,
     setup_of, text_of,
 };
-use call_model::{Cause, Datagram};
+use call_model::{Cause, Datagram, TriedContacts};
 use call_routing::is_openable;
 use call_state::CallState;
 use fork_context::Kind;
@@ -81,7 +81,7 @@ const ELSEWHERE: &[u8] = b"own 192.0.2.9 5062\ninstance 7\ndomain example.com\n"
 
 /// Setups and URIs, and whether the proxy is responsible: where the own address counts with any port, and with the own
 /// port alone.
-const NAMED: [(&[u8], &[u8], bool, bool); 14] = [
+const NAMED: [(&[u8], &[u8], bool, bool); 13] = [
     (SETUP, b"sip:bob@example.com", true, true),
     (SETUP, b"sip:Example.COM", true, true),
     (SETUP, b"sip:bob@example.com:5081", true, true),
@@ -89,9 +89,8 @@ const NAMED: [(&[u8], &[u8], bool, bool); 14] = [
     (SETUP, b"sip:192.0.2.9:05060", true, true),
     (SETUP, b"sip:bob@192.0.2.9:5081", true, false),
     (SETUP, b"sip:bob@192.0.2.9:5081;ob", true, false),
-    (SETUP, b"sip:bob@192.0.2.9:5081;transport=tcp", true, false),
     // it leads to no hop
-    (SETUP, b"sip:bob@192.0.2.9:5081;transport=sctp", true, true),
+    (SETUP, b"sip:bob@192.0.2.9:5081;transport=tcp", true, true),
     (SETUP, b"sip:bob@192.0.02.9", false, false),
     (SETUP, b"sip:bob@example.org", false, false),
     // 5060 is the port where none is named
@@ -278,29 +277,41 @@ fn each_request_goes_its_way(rt: HostRuntime) {
     }
 }
 
-/// Changes of the request, and whether the proxy is responsible for its Request-URI.
-const URIS: [(Change, bool); 6] = [
-    ((2, b"Subject: x"), true),
-    ((0, b"OPTIONS sip:bob@EXAMPLE.com SIP/2.0"), true),
-    ((0, b"OPTIONS sip:bob@192.0.2.9 SIP/2.0"), true),
-    ((7, b"Route: <sip:192.0.2.8;lr>"), true),
-    ((0, b"OPTIONS sip:bob@192.0.2.7:5061 SIP/2.0"), false),
-    ((0, b"OPTIONS sip:192.0.2.7 SIP/2.0"), false),
+/// Changes of the request, and which contacts of a 3xx its call tries, as the proxy has no streams.
+const URIS: [(Change, TriedContacts); 6] = [
+    ((2, b"Subject: x"), TriedContacts::OverUdp),
+    (
+        (0, b"OPTIONS sip:bob@EXAMPLE.com SIP/2.0"),
+        TriedContacts::OverUdp,
+    ),
+    (
+        (0, b"OPTIONS sip:bob@192.0.2.9 SIP/2.0"),
+        TriedContacts::OverUdp,
+    ),
+    ((7, b"Route: <sip:192.0.2.8;lr>"), TriedContacts::OverUdp),
+    (
+        (0, b"OPTIONS sip:bob@192.0.2.7:5061 SIP/2.0"),
+        TriedContacts::NoContacts,
+    ),
+    (
+        (0, b"OPTIONS sip:192.0.2.7 SIP/2.0"),
+        TriedContacts::NoContacts,
+    ),
 ];
 
-/// Whether the proxy is responsible for the URI of the call that the request with this change opens.
-fn is_responsible_with(alloc: Global, change: Change) -> Option<bool> {
+/// Which contacts of a 3xx the call tries that the request with this change opens.
+fn tried_with(alloc: Global, change: Change) -> Option<TriedContacts> {
     let state = call_with(alloc, &[change])?;
-    Some(state.opened().is_responsible())
+    Some(state.opened().tried())
 }
 
 #[test]
 fn the_proxy_is_responsible_for_the_domain_alone(rt: HostRuntime) {
-    for (change, well) in URIS {
+    for (change, tried) in URIS {
         holds(
             &rt,
-            is_responsible_with(rt.alloc(), change) == Some(well),
-            "whether the proxy is responsible for a URI",
+            tried_with(rt.alloc(), change) == Some(tried),
+            "which contacts are tried",
         );
     }
 }

@@ -104,7 +104,10 @@ fn is_location(location: &Location, user: &[u8], q: u16, hop: Hop) -> bool {
 
 /// Checks all that the lines of one setup say.
 fn check(rt: &impl Abort, setup: &Setup<Global>) {
-    let own = Own::over_udp([192, 0, 2, 9], 5060);
+    let own = Own {
+        addr: [192, 0, 2, 9],
+        port: 5060,
+    };
     holds(rt, setup.own() == own, "the own address");
     holds(rt, setup.instance() == 7, "the instance");
     holds(
@@ -113,7 +116,10 @@ fn check(rt: &impl Abort, setup: &Setup<Global>) {
         "the domain",
     );
     holds(rt, setup.rules() == Rules::usual(), "the usual rules");
-    let hop = Hop::over_udp([192, 0, 2, 4], 5060);
+    let hop = Hop {
+        addr: [192, 0, 2, 4],
+        port: 5060,
+    };
     match setup.locations() {
         [location] => holds(rt, is_location(location, b"bob", 1000, hop), "the location"),
         _ => holds(rt, false, "one location"),
@@ -185,7 +191,7 @@ fn each_line_has_its_place(rt: HostRuntime) {
 }
 
 /// Lines in the place of that of a number, each of which says something else.
-const OTHERS: [(usize, &[u8]); 10] = [
+const OTHERS: [(usize, &[u8]); 9] = [
     (1, b"own 0.0.0.1 1"),
     (1, b"own 255.255.255.255 65535"),
     (2, b"instance 0"),
@@ -193,7 +199,6 @@ const OTHERS: [(usize, &[u8]); 10] = [
     (3, b"domain [2001:db8::1]"),
     (3, b"domain 192.0.2.9"),
     (4, b"location ~ 0 SIP:192.0.2.4:5062;transport=UDP"),
-    (4, b"location ~ 0 SIP:192.0.2.4:5062;transport=Tcp"),
     (4, b"location <\"> 7 sip:a@192.0.2.4"),
     (4, b"depth 0"),
 ];
@@ -228,7 +233,7 @@ const WRONG: [(usize, &[u8]); 31] = [
     (4, b"location b\x7fb 1000 sip:bob@192.0.2.4"),
     (4, b"location bob 1000 tel:1"),
     (4, b"location bob 1000 sip:bob@example.com"),
-    (4, b"location bob 1000 sip:bob@192.0.2.4;transport=sctp"),
+    (4, b"location bob 1000 sip:bob@192.0.2.4;transport=tcp"),
     (4, b"location bob 1000 sip:bob@192.0.2.4 "),
     (4, b"location bob 1000"),
 ];

@@ -8,7 +8,9 @@ ghost use Rattle.call_model.specs.Sound.{IsSound};
 use crate::holds::holds;
 use call_answers::PendingResponse;
 use call_branch::{Destination, OpenedRequest, Opening, is_redirection, status_of};
-use call_model::{Cause, Datagram, Step, Taken, branches_keep_their_answers, calls_stay_sound};
+use call_model::{
+    Cause, Datagram, Step, Taken, TriedContacts, branches_keep_their_answers, calls_stay_sound,
+};
 use call_state::CallState;
 use fork_book::Book;
 use fork_context::{Kind, Target};
@@ -263,9 +265,10 @@ fn fixed_by(request: Message<Global>) -> Option<OpenedRequest> {
             request,
             caller: CALLER,
             route: None,
-            is_responsible: true,
+            tried: TriedContacts::OverUdp,
             record_route: None,
             stamps: false,
+            reasons: true,
             ring: 181_000,
         })),
         Start::Response { .. } => None,
@@ -303,7 +306,9 @@ fn add_destination(
     hop: Hop,
 ) -> bool {
     match SipUri::read(alloc, uri) {
-        Ok(uri) => destinations.push(Destination::new(uri, hop, 181_000)).is_ok(),
+        Ok(uri) => destinations
+            .push(Destination::new(uri, hop, 181_000))
+            .is_ok(),
         Err(_) => false,
     }
 }

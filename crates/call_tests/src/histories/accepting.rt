@@ -114,7 +114,7 @@ l: 0\r\n\
 \r\n",
 };
 
-/// Its CANCEL, which says that the first answered.
+/// Its CANCEL.
 const SECOND_CANCEL: Sent = Sent {
     cause: Cause::Cancel(1),
     to: SECOND,
@@ -125,7 +125,6 @@ From: <sip:alice@example.com>;tag=1\r\n\
 To: <sip:bob@example.com>\r\n\
 Call-ID: c1\r\n\
 CSeq: 1 CANCEL\r\n\
-Reason: SIP;cause=200;text=\"Call completed elsewhere\"\r\n\
 Content-Length: 0\r\n\
 \r\n",
 };

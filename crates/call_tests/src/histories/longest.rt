@@ -108,7 +108,11 @@ const HISTORIES: [(u64, &[Moment], &str); 4] = [
     (15_000, SHORT, "a target that rings is cancelled in time"),
     (15_000, SILENT, "a target that is silent ends in time"),
     (181_000, USUAL, "the usual longest time"),
-    (180_999, &[(0, Turn::Sends(&TRYING))], "the longest one that is short"),
+    (
+        180_999,
+        &[(0, Turn::Sends(&TRYING))],
+        "the longest one that is short",
+    ),
 ];
 
 #[test]

@@ -135,6 +135,21 @@ const ACCEPTED: &[Moment] = &[
     (520, Turn::Sends(&CANCEL_SINCE_ACCEPTED)),
 ];
 
+/// The same of a proxy that gives no reasons.
+const ACCEPTED_UNSAID: &[Moment] = &[
+    (0, Turn::Sends(&TRYING)),
+    (0, Turn::SendsFor(Cause::Request(0))),
+    (0, Turn::SendsFor(Cause::Request(1))),
+    (10, Turn::Takes(TARGET, RINGING, Ok(Taken::Posted(0)))),
+    (10, Turn::Sends(&RINGING_UP)),
+    (
+        20,
+        Turn::Takes(SECOND, SECOND_ACCEPTS, Ok(Taken::Posted(1))),
+    ),
+    (20, Turn::SendsFor(Cause::Answer)),
+    (20, Turn::Sends(&CANCEL_SENT)),
+];
+
 /// The second accepts before the first rings: the first is cancelled once it does, for the same reason.
 const ACCEPTED_BEFORE: &[Moment] = &[
     (0, Turn::Sends(&TRYING)),
@@ -214,31 +229,59 @@ const CANCELLED: &[Moment] = &[
     (20, Turn::Waits(Some(520))),
 ];
 
-/// Whether the call that the INVITE opens by the setup of that text goes so.
+/// Whether the call that the INVITE opens by the setup of that text goes so, where CANCELs say why they are sent.
 fn goes(alloc: Global, setup: &[u8], history: &[Moment]) -> bool {
+    match setup_of(alloc, setup) {
+        Some(setup) => goes_by(alloc, &setup.giving_reasons(), INVITE, history),
+        None => false,
+    }
+}
+
+/// The same where they do not.
+fn goes_unsaid(alloc: Global, setup: &[u8], history: &[Moment]) -> bool {
     match setup_of(alloc, setup) {
         Some(setup) => goes_by(alloc, &setup, INVITE, history),
         None => false,
     }
 }
 
-/// Setups, histories, and what they show.
-const HISTORIES: [(&[u8], &[Moment], &str); 6] = [
-    (ONE_GROUP, ACCEPTED, "the call was completed elsewhere"),
-    (
-        ONE_GROUP,
-        ACCEPTED_BEFORE,
-        "it was, before the branch rang",
-    ),
-    (ONE_GROUP, FAILED, "another target declined for all"),
-    (ONE_GROUP, TOO_LONG, "timer C fired first"),
-    (SETUP, CANCELLED_WITH_REASONS, "the caller said why"),
-    (SETUP, CANCELLED, "the caller said nothing"),
-];
-
 #[test]
 fn a_cancel_says_what_closed_the_table(rt: HostRuntime) {
-    for (setup, history, what) in HISTORIES {
-        holds(&rt, goes(rt.alloc(), setup, history), what);
-    }
+    let alloc = rt.alloc();
+    holds(
+        &rt,
+        goes(alloc, ONE_GROUP, ACCEPTED),
+        "the call was completed elsewhere",
+    );
+    holds(
+        &rt,
+        goes(alloc, ONE_GROUP, ACCEPTED_BEFORE),
+        "it was, before the branch rang",
+    );
+    holds(
+        &rt,
+        goes(alloc, ONE_GROUP, FAILED),
+        "another target declined for all",
+    );
+    holds(
+        &rt,
+        goes(alloc, SETUP, CANCELLED_WITH_REASONS),
+        "the caller said why",
+    );
+}
+
+#[test]
+fn a_cancel_says_nothing_where_nothing_is_said(rt: HostRuntime) {
+    let alloc = rt.alloc();
+    holds(&rt, goes(alloc, ONE_GROUP, TOO_LONG), "timer C fired first");
+    holds(
+        &rt,
+        goes(alloc, SETUP, CANCELLED),
+        "the caller said nothing",
+    );
+    holds(
+        &rt,
+        goes_unsaid(alloc, ONE_GROUP, ACCEPTED_UNSAID),
+        "the proxy gives no reasons",
+    );
 }

@@ -53,9 +53,9 @@ returns-clause-ok g c =
     c.fed-client.ensures.out ∙ ap (λ (e : TxEvent). client_out e c.args.now c.part-branch.result.now.client) c.response_event.ensures in
     let ack = option_map (λ v. v.items) c.in_ok-ack.ack in
     let passed_on : is_passed c.fed-client.result.1.pass ≡ true = let a = c.is_passed.ensures in let b = c.if-not-is_passed.false in cc in
-    let post : PostsSaid c.args.self.now (event_of c.in_ok-new_event.new_event.event) (contacts_for c.args.self.now.opened.is_responsible c.args.status c.args.message) (going_up c.args.status c.args.message) c.in-Ok.at c.post_response.new.self =
-    let U : Option MessageText → Type 0 = λ up. PostsSaid c.args.self.now (event_of c.in_ok-new_event.new_event.event) (contacts_for c.args.self.now.opened.is_responsible c.args.status c.args.message) up c.in-Ok.at c.post_response.new.self in
-    subst U c.parted-up.ensures.up (c.in-Ok.ensures.ok (contacts_for c.args.self.now.opened.is_responsible c.args.status c.args.message) c.in_ok-new_event.ensures.destinations) in
+    let post : PostsSaid c.args.self.now (event_of c.in_ok-new_event.new_event.event) (contacts_for c.args.self.now.opened.tried c.args.status c.args.message) (going_up c.args.status c.args.message) c.in-Ok.at c.post_response.new.self =
+    let U : Option MessageText → Type 0 = λ up. PostsSaid c.args.self.now (event_of c.in_ok-new_event.new_event.event) (contacts_for c.args.self.now.opened.tried c.args.status c.args.message) up c.in-Ok.at c.post_response.new.self in
+    subst U c.parted-up.ensures.up (c.in-Ok.ensures.ok (contacts_for c.args.self.now.opened.tried c.args.status c.args.message) c.in_ok-new_event.ensures.destinations) in
     let mid = c.respond_part-2.new.self in
     let first = c.is_first-first.result in
     let B : Core → Type 0 = λ core. IsTrue first ↔ HasFirst core.table c.args.n in
