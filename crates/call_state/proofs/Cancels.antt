@@ -1,6 +1,6 @@
 -- The caller's CANCEL is posted.
 use Rattle.call_state.proofs.Common.{◌≡◌, ◌∙◌, ℕ, ap, sym, true, List, [], ◌∷◌, ◌++◌, drop, length, Option, None, append-nil, ◌&&◌, map, not, Cancel, Reply, next, IsAdded, Log, added, core_of, table_of, MessageText}
-use Rattle.call_state.proofs.Common.{Hop, Call, Destination, Branch, call_tag, gone_on, no_branch, owed_by, owes, rows_more, destinations_of, Owed, CancelOk, IsSound, CancelledBy, Posted, cancels}
+use Rattle.call_state.proofs.Common.{Hop, Call, Destination, Branch, call_tag, gone_on, no_branch, owed_by, owes, rows_more, destinations_of, Owed, CancelOk, IsSound, CancelledBy, Posted, cancels, closed_by, ByCancel, reason_lines}
 use Rattle.std.proofs.Math.Seq.{drop-length}
 use Rattle.fork_model.specs.Table as table
 use Rattle.fork_model.specs.OpenBranches.{FittingEventsAreTaken}
@@ -13,11 +13,11 @@ pub cancel_posts : FittingEventsAreTaken → (call new : Call) (cancel : Message
     → IsAdded call.log call_tag Cancel reply log
     → length (next (table_of call.log) Cancel (length call.log.history)).rows ≡ length (table_of call.log).rows
     → at ≡ length call.log.history
-    → new ≡ record call { log = log; server = record call.server { owed = (call.server.owed ++ CancelOk cancel to ∷ []) ++ owed_by reply.up None } }
+    → new ≡ record call { log = log; closing = ByCancel (reason_lines cancel); server = record call.server { owed = (call.server.owed ++ CancelOk cancel to ∷ []) ++ owed_by reply.up None } }
     → CancelledBy call cancel to (Posted at) new
 cancel_posts taken call new cancel to reply log at closes sound is none at_is new_is =
     let more = added call.log call_tag Cancel reply in
-    let mid = owes_cancel_ok call cancel to in
+    let mid = closed_by (ByCancel (reason_lines cancel)) (owes_cancel_ok call cancel to) in
     let same : length (table_of more).rows ≡ length (table_of call.log).rows =
     ap (λ (l : Log). length (table_of l).rows) (sym is.whole) ∙ ap (λ (t : table.Table). length t.rows) is.goes_on ∙ none in
     let nothing : rows_more call.log more ≡ [] =

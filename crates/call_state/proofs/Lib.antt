@@ -9,5 +9,6 @@ pub mod StateRows
 pub mod Paying
 pub mod Actions
 pub mod Beginning
+pub mod Causes
 pub mod NewRows
 pub mod laws

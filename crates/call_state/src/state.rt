@@ -13,8 +13,9 @@ ghost use Rattle.fork_model.specs.Log.{core_of, table_of};
 ghost use Rattle.sip_text.specs.Text.{MessageText, spelling};
 ghost use Rattle.sip_uri.specs.Contact.{ContactText};
 ghost use Rattle.call_model.specs.Begun.{begun};
-ghost use Rattle.call_model.specs.Built.{ack_to, answer_in, cancel_to, status_of};
-ghost use Rattle.call_model.specs.Call.{is_cancel_sent, is_sent, nth_branch, numbered, owes_ack, row_passes, rows_of, set_branch};
+ghost use Rattle.call_model.specs.Built.{ack_to, answer_in, status_of};
+ghost use Rattle.call_model.specs.Call.{closed_by, is_cancel_sent, is_sent, nth_branch, numbered, owes_ack, row_passes, rows_of, set_branch};
+ghost use Rattle.call_model.specs.Closing.{closing_after};
 ghost use Rattle.call_branch.specs.AckOwed.{ack_owed};
 ghost use Rattle.call_model.specs.Due.{FireTimerC, is_due_at};
 ghost use Rattle.call_model.specs.OpenedRequest as opened;
@@ -23,7 +24,7 @@ ghost use Rattle.call_state.specs.CallStateInside.{IsSized};
 ghost use Rattle.call_state.specs.inner.CallStateInside.{IsCancelAgain, IsRequestAgain, answer_to};
 ghost use Rattle.call_state.specs.inner.Plain.{PostsBare};
 ghost use Rattle.call_model.specs.Pump as pump;
-ghost use Rattle.call_model.specs.Pump.{AnswersWith, FiresTimerC, GivesUp, OnBranch, OnPart, SendsAck, SendsCancel, SendsRequest, TicksCancel, TicksClient, TicksServer};
+ghost use Rattle.call_model.specs.Pump.{AnswersWith, FiresTimerC, GivesUp, OnBranch, OnPart, SendsAck, SendsCancel, SendsRequest, TicksCancel, TicksClient, TicksServer, cancel_bytes};
 ghost use Rattle.call_answers.specs.NewDestinations.{GivesDestinations, PostsSaid};
 ghost use Rattle.call_model.specs.Posting.{destination_of_contact};
 ghost use Rattle.call_model.specs.Response.{contacts_for, event_by};
@@ -36,7 +37,10 @@ ghost use Rattle.call_model.specs.Take.{CancelledBy, cancels, requested_again, s
 ghost use Rattle.call_model.specs.Sound.{IsSound};
 ghost use Rattle.call_state.specs.inner.StatesShown.{state_shown};
 
+use crate::closing::Closing;
 use crate::fault::PostFault;
+use crate::look::timer_c_at;
+use crate::reasons::ReasonLines;
 use call_answers::{
     NewAnswer, PendingResponses, Queue, ResponseEvent, add_rows, again_if, count_of, first_owed,
     owed_by,
@@ -59,12 +63,13 @@ use std::marker::Model;
 /// A call posts its events under this tag.
 const CALL_TAG: u8 = 0;
 
-/// The state of a call: what it was opened with, its book, for each row of the table where its request goes and the
-/// branch once that request was sent, and the side of its caller.
+/// The state of a call: what it was opened with, its book and what closed the table, for each row of the table where its
+/// request goes and the branch once that request was sent, and the side of its caller.
 #[derive(Drop)]
 pub struct CallState<A: Allocator + Clone = Global> {
     opened: OpenedRequest<A>,
     book: Book<A>,
+    closing: Closing<A>,
     destinations: Vec<Destination<A>, A>,
     branches: Vec<Option<Branch<A>>, A>,
     served: ServerTransaction,
@@ -75,11 +80,11 @@ pub struct CallState<A: Allocator + Clone = Global> {
 
 impl<A: Allocator + Clone> Model for CallState<A> {
     ghost use Rattle.call_model.specs.Call as spec;
-    ghost use Rattle.call_state.specs.CallStateInside.{IsSized};
+    ghost use Rattle.call_state.specs.CallStateInside.{IsSized, closing_of};
 
     ghost Value = { spec.Call };
 
-    ghost view = { λ p. record { opened = p.opened; log = p.book; destinations = p.destinations.items; branches = p.branches.items; server = record { machine = p.served; owed = p.owed.items; last = p.last.items } } };
+    ghost view = { λ p. record { opened = p.opened; log = p.book; closing = closing_of p.closing; destinations = p.destinations.items; branches = p.branches.items; server = record { machine = p.served; owed = p.owed.items; last = p.last.items } } };
 
     ghost invariant = { λ p. IsSized p.book p.destinations.items p.branches.items };
 }
@@ -123,10 +128,11 @@ impl<A: Allocator + Clone> CallState<A> {
         let branches = no_branches(alloc.clone()?, book.context().count())?;
         let owed = first_owed(alloc.clone()?, heap, opened.kind());
         let last = Vec::new(alloc.clone()?);
-        let served = ServerTransaction::start(opened.kind(), now);
+        let served = ServerTransaction::start(opened.kind(), now, opened.caller().transport);
         Ok(CallState {
             opened,
             book,
+            closing: Closing::NotClosed,
             destinations,
             branches,
             served,
@@ -251,6 +257,13 @@ impl<A: Allocator + Clone> CallState<A> {
         }
     }
 
+    /// Notes what closed the table, where the answer with this status did that was posted last.
+    pub(crate) fn note_closing(&mut self, status: u16)
+        ensures { self.new ≡ closed_by (closing_after (table_of self.old.log).closed status self.old.closing) self.old }
+    {
+        self.closing.note(self.book.context().closed(), status);
+    }
+
     /// Notes that the CANCEL of branch n was sent.
     fn cancel_part(&mut self, n: u16, cancelling: CancelTransaction<A>)
         requires there { n < length self.old.branches }
@@ -315,7 +328,7 @@ impl<A: Allocator + Clone> CallState<A> {
         let bytes = self.opened.request_bytes(&self.alloc, destination, n)?;
         let sent = Vec::from_slice(self.alloc.clone()?, &bytes)?;
         let to = destination.hop();
-        let branch = Branch::start(self.opened.kind(), now, sent);
+        let branch = Branch::start(self.opened.kind(), now, destination, sent);
         put_branch(&mut self.branches, n, branch);
         Ok(Datagram {
             to,
@@ -324,14 +337,21 @@ impl<A: Allocator + Clone> CallState<A> {
         })
     }
 
-    /// The CANCEL of branch n as it is sent.
+    /// The CANCEL of branch n as it is sent. Where the call says why, its Reason lines say what closed the table, and there are
+    /// none where timer C has fired for the branch (RFC 3261 section 16.8 and RFC 3326).
     fn cancel_bytes(&self, destination: &Destination<A>, n: u16) -> Result<Vec<u8, A>, AllocError>
-        ensures { IfOk result (λ bytes. bytes.items ≡ spelling (cancel_to self.now.opened destination.now n)) }
+        ensures { IfOk result (λ bytes. bytes.items ≡ cancel_bytes self.now n destination.now) }
     {
-        self.opened.cancel_bytes(&self.alloc, destination, n)
+        if !self.opened.reasons() || timer_c_at(self.branch(n)).is_none() {
+            self.opened.cancel_bytes(&self.alloc, destination, n, &[])
+        } else {
+            self.closing
+                .cancel_bytes(&self.alloc, &self.opened, destination, n)
+        }
     }
 
-    /// Sends the CANCEL of branch n, which has a client transaction of its own (RFC 3261 section 9.1).
+    /// Sends the CANCEL of branch n, which has a client transaction of its own and says what closed the table (RFC 3261 section
+    /// 9.1 and RFC 3326).
     ///
     /// # Errors
     ///
@@ -345,7 +365,7 @@ impl<A: Allocator + Clone> CallState<A> {
         let to = self.destination(n).hop();
         let sent = self.cancel_bytes(self.destination(n), n)?;
         let bytes = Vec::from_slice(self.alloc.clone()?, &sent)?;
-        self.cancel_part(n, CancelTransaction::start(now, sent));
+        self.cancel_part(n, CancelTransaction::start(now, sent, to.transport));
         Ok(Datagram {
             to,
             bytes,
@@ -453,7 +473,7 @@ impl<A: Allocator + Clone> CallState<A> {
     }
 
     /// Timer C of branch n fires: a branch that has not rung ends, and its transaction is stopped; one that has rung is
-    /// cancelled (RFC 3261 section 16.8).
+    /// cancelled, and its CANCEL says no reason (RFC 3261 section 16.8).
     ///
     /// # Errors
     ///
@@ -467,6 +487,7 @@ impl<A: Allocator + Clone> CallState<A> {
         let (client, _out) = self.part(n).fed(TxEvent::Stop, now);
         if !self.is_trying(n) {
             self.post_bare(Event::TimerC(n))?;
+            self.keep_part(n, None, None);
             return Ok(());
         }
         self.end_part(n, client, Event::TimerC(n))?;
@@ -547,8 +568,8 @@ impl<A: Allocator + Clone> CallState<A> {
     ) -> Result<ResponseEvent<A>, AllocError>
         requires least { 100 ≤ status }
         requires most { status ≤ 699 }
-        ensures event { IfOk result (λ new_event. event_of new_event.event ≡ event_by self.now.opened.is_responsible n status message.now) }
-        ensures destinations { IfOk result (λ new_event. new_event.destinations.items ≡ map (destination_of_contact self.now.opened) (contacts_for self.now.opened.is_responsible status message.now)) }
+        ensures event { IfOk result (λ new_event. event_of new_event.event ≡ event_by self.now.opened.tried n status message.now) }
+        ensures destinations { IfOk result (λ new_event. new_event.destinations.items ≡ map (destination_of_contact self.now.opened) (contacts_for self.now.opened.tried status message.now)) }
         ensures gives { IfOk result (λ new_event. GivesDestinations (event_of new_event.event) new_event.destinations.items) }
     {
         ResponseEvent::of(&self.alloc, &self.opened, n, status, message)
@@ -681,18 +702,19 @@ impl<A: Allocator + Clone> CallState<A> {
         if self.owed.reserve(2, 1).is_err() {
             return Err(AllocError);
         }
-        let okay = NewAnswer::CancelOk(cancel, to);
         if !self.cancels() {
-            self.owed.owe(okay);
+            self.owed.owe(NewAnswer::CancelOk(cancel, to));
             return Ok(Taken::Absorbed);
         }
+        let reasons = ReasonLines::of(&self.alloc, &cancel)?;
         let at = match self.book.post(CALL_TAG, Event::Cancel) {
             Ok(at) => at,
             Err(PostError::NoMemory(_)) => return Err(AllocError),
             Err(PostError::Full(_)) => unreachable!(),
         };
         let up = up_at(&self.book, at);
-        self.owed.owe(okay);
+        self.closing = Closing::ByCancel(reasons);
+        self.owed.owe(NewAnswer::CancelOk(cancel, to));
         self.owed.owe_if(owed_by(up, None));
         Ok(Taken::Posted(at))
     }

@@ -1,4 +1,4 @@
-use Rattle.call_routing.proofs.Common.{◌≡◌, ◌∙◌, [], true, List, subst, sym, list_all, CandidateTarget, has_hop, IsBegun}
+use Rattle.call_routing.proofs.Common.{◌≡◌, ◌∙◌, [], true, List, subst, sym, list_all, option_map, CandidateTarget, has_hop, IsBegun}
 use Rattle.std.proofs.Common.{rules}
 use Rattle.call_routing.proofs.Opened.{fixed_so, reaches}
 use Rattle.proxy_routing.specs.Targets.{is_domain}
@@ -19,8 +19,8 @@ returns-in-Ok-clause-opened g c =
     let hops : list_all has_hop c.deref.result.now ≡ true = search rules in
     let inside : c.is_domain-inside.result ≡ is_domain c.args.setup.now c.args.uri.now = c.is_domain-inside.ensures in
     let opened = fixed_so c.args.setup.now c.args.number request c.args.source c.args.uri.now c.own.result c.instance.result c.reply_hop_of-caller.result
-    c.hop_if_any.result c.is_domain-inside.result c.first_route-route.result c.new-opened.result c.new-opened.ensures c.own.ensures.value c.instance.ensures c.reply_hop_of-caller.ensures
-    c.hop_if_any.ensures c.first_route-route.ensures inside in
+    c.hop_if_any.result c.is_domain-inside.result c.streams.result (option_map (λ v. v.items) c.in_ok-record_route.record_route) c.tried_by.result c.stamps.result c.reasons.result c.ring.result c.first_route-route.result c.new-opened.result c.new-opened.ensures c.own.ensures.value c.instance.ensures c.reply_hop_of-caller.ensures
+    c.hop_if_any.ensures c.first_route-route.ensures inside c.tried_by.ensures c.streams.ensures c.in_ok-record_route.ensures c.stamps.ensures c.reasons.ensures c.ring.ensures in
     let P : List CandidateTarget → Type 0 = λ cs. list_all has_hop cs ≡ true in
     let B : List CandidateTarget → Type 0 = λ cs. IsBegun c.rules.result c.new-opened.result cs c.in-Ok.state in
     reaches c.args.setup.now c.args.number request c.args.source c.args.uri.now c.rules.result c.is_domain-inside.result c.first_route-route.result c.new-opened.result

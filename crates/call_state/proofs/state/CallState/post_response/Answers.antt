@@ -1,5 +1,5 @@
 use Rattle.call_state.proofs.Common.{◌≡◌, ◌≤◌, ◌∙◌, ℕ, ◌++◌, ap, drop, false, length, map, slice_get, subst, sym, List, Option, filter_map, Core, is_full, Up, Table, core_of, table_of, event_of, up_of, Call, HaveDestinations, PostsSaid, destination_for}
-use Rattle.call_state.proofs.Common.{no_branch, owed_by, destination_of_contact, Destination, Branch, Owed}
+use Rattle.call_state.proofs.Common.{closing_of, no_branch, owed_by, destination_of_contact, Destination, Branch, Owed}
 use Rattle.call_answers.specs.Queue.{news_of}
 use Rattle.call_state.proofs.NewRows.{said_posts, sized_more}
 use Rattle.call_state.proofs.state.CallState.post_response.Goals as goal
@@ -28,6 +28,7 @@ returns-clause-ok g c = λ contacts made.
     let call : Call = record {
       opened = c.self.inside.opened;
       log = old;
+      closing = closing_of c.self.inside.closing;
       destinations = c.self.inside.destinations.items;
       branches = c.self.inside.branches.items;
       server = record { machine = c.self.inside.served; owed = c.self.inside.owed.items; last = c.self.inside.last.items };

@@ -14,11 +14,16 @@ returns-clause-ok g c =
     let call : Call = record {
       opened = c.self.inside.opened;
       log = c.self.inside.book;
+      closing = closing_of c.self.inside.closing;
       destinations = c.self.inside.destinations.items;
       branches = c.self.inside.branches.items;
       server = record { machine = c.self.inside.served; owed = c.self.inside.owed.items; last = c.self.inside.last.items };
     } in
-    let new : Call = record call { log = c.post.new.self; server = record call.server { owed = c.owe_if.new.self.items } } in
+    let new : Call = record call {
+      log = c.post.new.self;
+      closing = ByCancel c.in_ok-reasons.reasons;
+      server = record call.server { owed = c.owe_if.new.self.items };
+    } in
     let is = c.in-Ok.ensures.added in
     let up : up_of c.up_at-up.result ≡ is.0.up =
     c.up_at-up.ensures is.0 (ap (slice_get c.post.new.self.replies) c.in-Ok.ensures.at ∙ is.1.placed) in
@@ -30,4 +35,4 @@ returns-clause-ok g c =
     let none = c.new_rows_are_contacts.ensures.none (table_of c.self.inside.book) Cancel (length c.self.inside.book.history) refl in
     let P : Call → Type 0 = λ x. CancelledBy x c.args.cancel c.args.to (Posted c.in-Ok.at) new in
     subst P c.self.view_is
-    (cancel_posts c.open_branches_take_events.ensures.never_refused call new c.args.cancel c.args.to is.0 c.post.new.self c.in-Ok.at closes sound is.1 none c.in-Ok.ensures.at (ap (λ (os : List Owed). record call { log = c.post.new.self; server = record call.server { owed = os } }) owed))
+    (cancel_posts c.open_branches_take_events.ensures.never_refused call new c.args.cancel c.args.to is.0 c.post.new.self c.in-Ok.at closes sound is.1 none c.in-Ok.ensures.at (rw (owed, c.in_ok-reasons.ensures) refl))
