@@ -1,5 +1,5 @@
-//! Tests of the public calls of `sip_lex`, `sip_uri`, `sip_text`, `sip_via`, `sip_route`, `sip_build`, `sip_message` and `sip_txn`, in
-//! files and folders named for what is tested. They stand apart from these crates so that none of them is proved twice.
+//! Tests of the public calls of `sip_lex`, `sip_uri`, `sip_text`, `sip_via`, `sip_route`, `sip_build`, `sip_message`, `sip_txn` and
+//! `sip_framing`, in files and folders named for what is tested. They stand apart from these crates so that none of them is proved twice.
 #![tactic(auto)]
 
 #[cfg(test)]
@@ -10,6 +10,8 @@ mod build;
 mod bytes;
 #[cfg(test)]
 mod fault_words;
+#[cfg(test)]
+mod framing;
 #[cfg(test)]
 mod holds;
 #[cfg(test)]
