@@ -13,6 +13,7 @@ mod datagram;
 mod law;
 mod step;
 mod taken;
+mod tried_contacts;
 
 pub use cause::Cause;
 pub use datagram::Datagram;
@@ -22,3 +23,4 @@ pub use law::{
 };
 pub use step::Step;
 pub use taken::Taken;
+pub use tried_contacts::TriedContacts;
