@@ -166,8 +166,8 @@ impl<A: Allocator> OpenedRequest<A> {
 
     /// The value of the Record-Route line that the requests to the targets get, where they get one (RFC 3261 section 16.6 step 4).
     fn record_route(&self) -> Option<&[u8]>
-        ensures value { option_copied result.entry ≡ self.now.record_route }
-        ensures good { IfSome (option_copied result.entry) (λ value. IsTrue (is_value value)) }
+        ensures value { option_copied result ≡ self.now.record_route }
+        ensures good { IfSome (option_copied result) (λ value. IsTrue (is_value value)) }
     {
         match &self.opening.record_route {
             Some(value) => Some(value),

@@ -55,7 +55,7 @@ fn own_answer<A: Allocator>(
 
 /// The Timestamp line of the request, where the 100 takes it.
 fn stamp_of<A: Allocator>(opened: &OpenedRequest<A>) -> Option<FurtherLine<'_>>
-    ensures exact { further_if_any result.entry ≡ further_lines opened.now own.Trying }
+    ensures exact { further_if_any result ≡ further_lines opened.now own.Trying }
     ensures good { list_all is_header (further_lines opened.now own.Trying) ≡ true }
 {
     if opened.stamps() {
