@@ -52,11 +52,11 @@ fn forwards<'a>(
     }
     match request.start() {
         Start::Request { .. } => match what {
-            Written::Forwarded => write_forwarded(request, target, OWN, &BRANCH, out).is_ok(),
+            Written::Forwarded => write_forwarded(request, target, OWN, &BRANCH, None, out).is_ok(),
             Written::ForwardedAck => {
                 write_forwarded_ack(request, target, OWN, &BRANCH, response, out).is_ok()
             }
-            _ => write_forwarded_cancel(request, target, OWN, &BRANCH, out).is_ok(),
+            _ => write_forwarded_cancel(request, target, OWN, &BRANCH, &[], out).is_ok(),
         },
         Start::Response { .. } => false,
     }
@@ -83,7 +83,7 @@ fn appends<'a>(
         Written::RequestUri | Written::TargetKey | Written::Branch => spells(target, what, out),
         Written::RequestKey => append_request_key(out, request).is_ok(),
         Written::Message => response.write(out).is_ok(),
-        Written::Generated => write_generated(request, OwnStatus::BadRequest, out).is_ok(),
+        Written::Generated => write_generated(request, OwnStatus::BadRequest, &[], out).is_ok(),
         Written::Upward => write_upward(response, None, &[], out).is_ok(),
         _ => forwards(request, response, target, what, out),
     }

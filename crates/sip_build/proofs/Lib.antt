@@ -3,6 +3,7 @@ pub mod laws
 pub mod TagLaws
 pub mod Pieces
 pub mod OwnRoutes
+pub mod NamedGood
 pub mod StrippedSame
 pub mod Grown
 pub mod HeaderRunTexts

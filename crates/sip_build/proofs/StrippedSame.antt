@@ -1,6 +1,8 @@
 -- A response of the proxy's own is the same once the first Route value is gone.
-use Rattle.sip_build.proofs.Common.{◌≡◌, ℕ, false, List, [], ◌∷◌, ◌++◌, take, Option, refl, codes, option_map, cond_both, trim, first_value, same_name, values_of, HeaderText, MessageText, Response, Own, line, replaced, with_headers, lines_among}
-use Rattle.sip_build.proofs.Common.{apart, values-replaced, OwnStatus, code_of, generated_of, reason_of, timestamp_lines, to_lines, arith}
+use Rattle.sip_build.proofs.Common.{◌≡◌, ℕ, false, List, [], ◌∷◌, take, Option, Some, None, refl, ap, codes, Plain, option_map, cond_both, trim, first_value, same_name, values_of, HeaderText, MessageText, Own, replaced, with_headers, lines_among}
+use Rattle.sip_build.proofs.Common.{apart, values-replaced, OwnStatus, generated_of, timestamp_lines, to_lines, arith}
+use Rattle.sip_lex.specs.Sheltered.{cut_outside}
+use Rattle.sip_lex.specs.declared.sheltered.Shelter.TheVariants.{QuotesAndAngles}
 use Rattle.sip_text.specs.Name.{full_name}
 use Rattle.sip_route.specs.Routes.{names_own, route_name, stripped, stripped_at, without_first}
 use Rattle.sip_build.specs.OwnTag.{own_tag}
@@ -47,22 +49,24 @@ timestamps-same m hs same = ap (λ (ls : List HeaderText). take 1 ls) same.stamp
 
 -- ---- without the Route value
 
--- what depends on these lines alone
-abbrev Depends : {X : Type 0} → (MessageText → X) → MessageText → Type 0
-Depends made m = (hs : List HeaderText) → Same hs m.headers → made (with_headers m hs) ≡ made m
+-- what is made of these lines alone
+abbrev Depends : {X : Type 0} → (List HeaderText → X) → List HeaderText → Type 0
+Depends made hs = (ks : List HeaderText) → Same ks hs → made ks ≡ made hs
 
-by_cut : {X : Type 0} (made : MessageText → X) (m : MessageText) (proxy : Own) (c : List ℕ × Option (List ℕ)) → Depends made m → made (with_headers m (without_first proxy m.headers c)) ≡ made m
-by_cut made m proxy (value, others) kept =
-    cond_both (names_own proxy value) (replaced route_name (option_map trim others) m.headers) m.headers (λ hs. made (with_headers m hs) ≡ made m)
-    (λ e. kept (replaced route_name (option_map trim others) m.headers) (routes-same (option_map trim others) m.headers))
+by_cut : {X : Type 0} (made : List HeaderText → X) (hs : List HeaderText) (proxy : Own) (c : List ℕ × Option (List ℕ)) → Depends made hs → made (without_first proxy hs c) ≡ made hs
+by_cut made hs proxy (value, others) kept =
+    cond_both (names_own proxy value) (replaced route_name (option_map trim others) hs) hs (λ (ks : List HeaderText). made ks ≡ made hs)
+    (λ e. kept (replaced route_name (option_map trim others) hs) (routes-same (option_map trim others) hs))
     (λ e. refl)
 
-by_first : {X : Type 0} (made : MessageText → X) (m : MessageText) (proxy : Own) (first : Option (List ℕ)) → Depends made m → made (with_headers m (stripped_at proxy m.headers first)) ≡ made m
-by_first made m proxy None kept = refl
-by_first made m proxy (Some value) kept = by_cut made m proxy _ kept
+by_first : {X : Type 0} (made : List HeaderText → X) (hs : List HeaderText) (proxy : Own) (first : Option (List ℕ)) → Depends made hs → made (stripped_at proxy hs first) ≡ made hs
+by_first made hs proxy None kept = refl
+by_first made hs proxy (Some value) kept = by_cut made hs proxy (cut_outside QuotesAndAngles 44 Plain value) kept
 
 pub stripped-same : (m : MessageText) (proxy : Own) (status : OwnStatus) (further : List HeaderText) → generated_of (stripped m proxy) status further ≡ generated_of m status further
-stripped-same m proxy status further = by_first (λ x. generated_of x status further) m proxy (first_value route_name m.headers) (response-same status m further)
+stripped-same m proxy status further =
+    by_first (λ (hs : List HeaderText). generated_of (with_headers m hs) status further) m.headers proxy (first_value route_name m.headers) (λ hs same. response-same status m further hs same)
 
 pub stripped-timestamps : (m : MessageText) (proxy : Own) → timestamp_lines (stripped m proxy) ≡ timestamp_lines m
-stripped-timestamps m proxy = by_first timestamp_lines m proxy (first_value route_name m.headers) (timestamps-same m)
+stripped-timestamps m proxy =
+    by_first (λ (hs : List HeaderText). timestamp_lines (with_headers m hs)) m.headers proxy (first_value route_name m.headers) (λ hs same. timestamps-same m hs same)

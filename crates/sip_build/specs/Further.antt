@@ -4,12 +4,12 @@ use Rattle.sip_text.specs.Text.{HeaderText}
 use Rattle.sip_via.specs.Edits.{line}
 use Rattle.sip_build.specs.declared.further.FurtherLine.{FurtherLine}
 
-abbrev pub further_line : FurtherLine → HeaderText
-further_line f = line f.name.now f.value.now
+abbrev pub view_line : FurtherLine → HeaderText
+view_line f = line f.name.now f.value.now
 
-abbrev pub further_lines : List FurtherLine → List HeaderText
-further_lines fs = map further_line fs
+abbrev pub view_lines : List FurtherLine → List HeaderText
+view_lines fs = map view_line fs
 
-abbrev pub further_if_any : Option FurtherLine → List HeaderText
-further_if_any None = []
-further_if_any (Some f) = further_line f ∷ []
+abbrev pub view_if_any : Option FurtherLine → List HeaderText
+view_if_any None = []
+view_if_any (Some f) = view_line f ∷ []

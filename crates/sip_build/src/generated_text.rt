@@ -5,7 +5,7 @@ ghost use Rattle.std.specs.List.{list_all};
 ghost use Rattle.sip_text.specs.Message.{is_header};
 ghost use Rattle.sip_text.specs.Text.{spelling};
 ghost use Rattle.sip_via.specs.Lines.{first_line};
-ghost use Rattle.sip_build.specs.Further.{further_lines};
+ghost use Rattle.sip_build.specs.Further.{view_lines};
 ghost use Rattle.sip_build.specs.Generated.{generated_of, gets_tag, tagged, to_lines, unsupported_lines};
 ghost use Rattle.sip_build.specs.inner.HeaderRuns.{all_lines, lines_of};
 ghost use Rattle.sip_build.specs.OwnTag.{own_tag};
@@ -87,7 +87,7 @@ fn generated_runs<'a, A: Allocator>(
     further: &'a [FurtherLine<'a>],
 ) -> [HeaderRun<'a, A>; 8]
     requires { gets_tag status message.now ≡ true → tag.now ≡ own_tag message.now }
-    ensures { all_lines result ≡ (generated_of message.now status (further_lines further.now)).headers }
+    ensures { all_lines result ≡ (generated_of message.now status (view_lines further.now)).headers }
 {
     [
         HeaderRun::Picked(message.headers(), Pick::Named(b"via")),
@@ -116,11 +116,11 @@ pub fn write_generated<A: Allocator, B: Allocator>(
     further: &[FurtherLine<'_>],
     out: &mut Vec<u8, B>,
 ) -> Result<(), AllocError>
-    requires { list_all is_header (further_lines further.now) ≡ true }
+    requires { list_all is_header (view_lines further.now) ≡ true }
     ensures ok { OnOk result
-        (out.new.items ≡ out.old.items ++ spelling (generated_of message.now status (further_lines further.now))) }
+        (out.new.items ≡ out.old.items ++ spelling (generated_of message.now status (view_lines further.now))) }
     ensures err { OnErr result (out.new.items ≡ out.old.items) }
-    ensures room { vec_len out.old + length (spelling (generated_of message.now status (further_lines further.now))) ≤ vec_capacity out.old
+    ensures room { vec_len out.old + length (spelling (generated_of message.now status (view_lines further.now))) ≤ vec_capacity out.old
         → IsOk result }
 {
     let tag = tag_if_added(message, status);

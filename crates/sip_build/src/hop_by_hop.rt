@@ -16,7 +16,7 @@ ghost use Rattle.sip_via.specs.Edits.{line};
 ghost use Rattle.sip_via.specs.OwnVia.{IsOwn, own_via};
 ghost use Rattle.sip_route.specs.Loop.{cseq_number};
 ghost use Rattle.sip_build.specs.Forwarding.{forwarded, is_request};
-ghost use Rattle.sip_build.specs.Further.{further_lines};
+ghost use Rattle.sip_build.specs.Further.{view_lines};
 ghost use Rattle.sip_build.specs.inner.HeaderRuns.{all_lines};
 ghost use Rattle.sip_build.specs.Requests.{ack_of, along_to, cancel_of};
 
@@ -102,7 +102,7 @@ fn runs_behind_via<'a, A: Allocator>(
     requires { number.now ≡ cseq_number message.now }
     ensures { (target : Uri) (own : Own) (branch : BranchName)
         → line (codes "Via") (own_via own branch) ∷ all_lines result
-        ≡ (along_to method.now message.now target own branch to.now (further_lines more.now)).headers }
+        ≡ (along_to method.now message.now target own branch to.now (view_lines more.now)).headers }
 {
     [
         HeaderRun::SeventyHops,
@@ -128,9 +128,9 @@ fn append_to_same_hop<A: Allocator + Clone, B: Allocator>(
     more: &[FurtherLine<'_>],
 ) -> Result<(), AllocError>
     ensures ok { OnOk result
-        (out.new.items ≡ out.old.items ++ spelling (along_to method.now message.now target.now own branch.now to.now (further_lines more.now))) }
+        (out.new.items ≡ out.old.items ++ spelling (along_to method.now message.now target.now own branch.now to.now (view_lines more.now))) }
     ensures err { OnErr result (out.new.items ≡ out.old.items) }
-    ensures room { vec_len out.old + length (spelling (along_to method.now message.now target.now own branch.now to.now (further_lines more.now))) ≤ vec_capacity out.old
+    ensures room { vec_len out.old + length (spelling (along_to method.now message.now target.now own branch.now to.now (view_lines more.now))) ≤ vec_capacity out.old
         → IsOk result }
 {
     let mut buffer = Buffer::new();
@@ -185,12 +185,12 @@ pub fn write_forwarded_cancel<A: Allocator + Clone, B: Allocator>(
     out: &mut Vec<u8, B>,
 ) -> Result<(), AllocError>
     requires request { is_request message.now.start ≡ true }
-    requires reasons { list_all is_header (further_lines reasons.now) ≡ true }
+    requires reasons { list_all is_header (view_lines reasons.now) ≡ true }
     ensures ok { OnOk result ((recorded : Option (List ℕ))
-        → out.new.items ≡ out.old.items ++ spelling (cancel_of (forwarded message.now target.now own branch.now recorded) (further_lines reasons.now))) }
+        → out.new.items ≡ out.old.items ++ spelling (cancel_of (forwarded message.now target.now own branch.now recorded) (view_lines reasons.now))) }
     ensures err { OnErr result (out.new.items ≡ out.old.items) }
     ensures room { (recorded : Option (List ℕ))
-        → vec_len out.old + length (spelling (cancel_of (forwarded message.now target.now own branch.now recorded) (further_lines reasons.now))) ≤ vec_capacity out.old
+        → vec_len out.old + length (spelling (cancel_of (forwarded message.now target.now own branch.now recorded) (view_lines reasons.now))) ≤ vec_capacity out.old
         → IsOk result }
 {
     is_own(own);

@@ -7,7 +7,7 @@ ghost use Rattle.std.specs.Option.{option_copied};
 ghost use Rattle.sip_text.specs.Seen.{view, views};
 ghost use Rattle.sip_text.specs.Text.{header_text, pieces_text, saturated};
 ghost use Rattle.sip_via.specs.Edits.{line};
-ghost use Rattle.sip_build.specs.Further.{further_line};
+ghost use Rattle.sip_build.specs.Further.{view_line};
 ghost use Rattle.sip_build.specs.inner.HeaderRuns.{lines_of, picked, under};
 ghost use Rattle.sip_build.specs.inner.Texts.{lines_text};
 ghost use Rattle.sip_build.specs.Upward.{challenge_line};
@@ -98,7 +98,7 @@ fn challenges_len<A: Allocator>(challenges: &[Challenge<A>]) -> usize
 /// How many bytes the caller's header lines are.
 fn further_len(lines: &[FurtherLine<'_>]) -> usize
     ensures { result
-        ≡ saturated (length (flat_map (λ f. header_text (further_line f)) lines.now)) }
+        ≡ saturated (length (flat_map (λ f. header_text (view_line f)) lines.now)) }
 {
     let mut len = 0usize;
     for line in lines {

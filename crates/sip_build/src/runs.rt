@@ -7,7 +7,7 @@ ghost use Rattle.std.specs.Option.{option_copied};
 ghost use Rattle.sip_text.specs.Seen.{view, views};
 ghost use Rattle.sip_text.specs.Text.{header_text, saturated};
 ghost use Rattle.sip_via.specs.Edits.{line, line_if_any};
-ghost use Rattle.sip_build.specs.Further.{further_line};
+ghost use Rattle.sip_build.specs.Further.{view_line};
 ghost use Rattle.sip_build.specs.inner.HeaderRuns.{lines_of, picked, picked_name, tail_text, under};
 ghost use Rattle.sip_build.specs.inner.Placed.{Placed};
 ghost use Rattle.sip_build.specs.inner.Texts.{lines_text};
@@ -160,8 +160,8 @@ fn place_challenges<A: Allocator>(out: &mut [u8], at: usize, challenges: &[Chall
 
 /// Writes the caller's header lines.
 fn place_further(out: &mut [u8], at: usize, lines: &[FurtherLine<'_>]) -> usize
-    requires { at + length (flat_map (λ f. header_text (further_line f)) lines.now) ≤ length out.old }
-    ensures { Placed out.old out.new at (flat_map (λ f. header_text (further_line f)) lines.now) result }
+    requires { at + length (flat_map (λ f. header_text (view_line f)) lines.now) ≤ length out.old }
+    ensures { Placed out.old out.new at (flat_map (λ f. header_text (view_line f)) lines.now) result }
 {
     let mut end = at;
     for line in lines {

@@ -6,7 +6,7 @@ use Rattle.sip_text.specs.Name.{full_name}
 use Rattle.sip_text.specs.Text.{spelling, status_in}
 use Rattle.sip_build.specs.Generated.{generated_of}
 use Rattle.sip_build.specs.declared.responses.OwnStatus.TheVariants as own
-use Rattle.sip_message.proofs.laws.GeneratedGood.{generated_good}
+use Rattle.sip_message.proofs.laws.GeneratedGood.{generated_good, no_length}
 use Rattle.sip_service.specs.Capabilities.{accept_line, allow_line, capabilities_of}
 use Rattle.sip_service.specs.Stamping.{is_trying, stamped, trying_with}
 use Rattle.sip_service.proofs.Added.{IsOther, added-good}
@@ -30,7 +30,7 @@ taking-good m good =
     (added-good m (codes "Allow") (codes "INVITE, ACK, CANCEL, OPTIONS, BYE") allow_other refl refl good)
 
 pub capabilities-good : (m : MessageText) → IsMessage m → IsMessage (capabilities_of m)
-capabilities-good m good = taking-good (generated_of m own.Okay) (generated_good m own.Okay good)
+capabilities-good m good = taking-good (generated_of m own.Okay []) (generated_good m own.Okay [] good refl no_length)
 
 pub stamped-good : (m : MessageText) (value : List ℕ) → IsMessage m → is_value value ≡ true → IsMessage (stamped m value)
 stamped-good m value good is = added-good m (codes "Timestamp") value timestamp_other refl is good

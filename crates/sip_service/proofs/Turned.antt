@@ -3,7 +3,7 @@ use Rattle.sip_service.proofs.Common.{◌≡◌, ◌<◌, ◌^◌, ℕ, true, Li
 use Rattle.sip_text.specs.Name.{full_name, values_of}
 use Rattle.sip_build.specs.Generated.{generated_of}
 use Rattle.sip_build.specs.declared.responses.OwnStatus.TheVariants as own
-use Rattle.sip_message.proofs.laws.GeneratedGood.{generated_good}
+use Rattle.sip_message.proofs.laws.GeneratedGood.{generated_good, no_length}
 use Rattle.sip_service.specs.Unavailable.{retry_line, unavailable_of}
 use Rattle.sip_service.proofs.Added.{IsOther, headers-good, others, via_there}
 
@@ -18,8 +18,8 @@ fits-again old new o n hs ks same fits = grind arith
 
 pub unavailable-good : (m : MessageText) (seconds : ℕ) → seconds < 2 ^ 64 → IsMessage m → IsMessage (unavailable_of m seconds)
 unavailable-good m seconds small is =
-    let answer = generated_of m own.TemporarilyUnavailable in
-    let good = generated_good m own.TemporarilyUnavailable is in
+    let answer = generated_of m own.TemporarilyUnavailable [] in
+    let good = generated_good m own.TemporarilyUnavailable [] is refl no_length in
     let v = decimal seconds in
     let same = others (codes "Retry-After") v answer.headers retry_other in
     record {

@@ -18,7 +18,7 @@ accept_line = line (codes "Accept") (codes "application/sdp")
 -- the 200 of the proxy's own, and these lines behind its others
 abbrev pub capabilities_of : MessageText → MessageText
 capabilities_of m =
-    let okay = generated_of m own.Okay in
+    let okay = generated_of m own.Okay [] in
     with_headers okay (okay.headers ++ allow_line ∷ [] ++ accept_line ∷ [])
 
 abbrev pub IsCapabilities : MessageText → Hop → Hop → List ℕ → Type 0

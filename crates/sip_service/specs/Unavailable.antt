@@ -16,7 +16,7 @@ retry_line seconds = line (codes "Retry-After") (decimal seconds)
 abbrev pub unavailable_of : MessageText → ℕ → MessageText
 unavailable_of m seconds = record {
   start = Response 503 (codes "Service Unavailable");
-  headers = (generated_of m own.TemporarilyUnavailable).headers ++ retry_line seconds ∷ [];
+  headers = (generated_of m own.TemporarilyUnavailable []).headers ++ retry_line seconds ∷ [];
   body = [];
 }
 

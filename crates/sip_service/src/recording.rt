@@ -1,36 +1,15 @@
 //! The Record-Route line by which a proxy stays on the path of a dialog.
-ghost use Rattle.std.specs.Prelude.{◌≡◌, ℕ, List, codes, false, IfOk, string_bytes, true};
-ghost use Rattle.sip_text.specs.Message.{is_value};
+ghost use Rattle.std.specs.Prelude.{◌≡◌, ℕ, List, codes, false, IfOk};
 ghost use Rattle.sip_text.specs.Name.{same_name, values_of};
 ghost use Rattle.sip_text.specs.Text.{MessageText};
 ghost use Rattle.sip_via.specs.declared.own.Own.{Own};
-ghost use Rattle.sip_via.specs.OwnVia.{IsOwn};
 ghost use Rattle.sip_route.specs.RequestKey.{request_key};
-ghost use Rattle.sip_service.specs.Recording.{own_route, recorded};
+ghost use Rattle.sip_service.specs.Recording.{recorded};
 
+use sip_build::write_own_route;
 use sip_text::{Header, Message};
 use sip_via::Own;
 use std::alloc::{AllocError, Allocator};
-
-/// Shows that the numbers of an address are bounded.
-fn is_bounded(own: Own)
-    ensures { IsOwn own }
-{}
-
-/// The value of that line: the address and the port that the proxy receives at, as a URI with `lr`.
-fn own_route<A: Allocator>(alloc: A, own: Own) -> Result<String<A>, AllocError>
-    ensures text { IfOk result (λ text. string_bytes text ≡ own_route own) }
-    ensures good { is_value (own_route own) ≡ true }
-{
-    is_bounded(own);
-    let addr = own.addr;
-    let a = addr[0];
-    let b = addr[1];
-    let c = addr[2];
-    let d = addr[3];
-    let port = own.port;
-    format!(in alloc; "<sip:{a}.{b}.{c}.{d}:{port};lr>")
-}
 
 /// The request with a Record-Route line of the proxy's own before all others (RFC 3261 section 16.6 step 4): later requests of the
 /// dialog that it opens come by the proxy, too.
@@ -45,8 +24,9 @@ pub fn record<A: Allocator + Clone>(
 ) -> Result<Message<A>, AllocError>
     ensures { IfOk result (λ request. request ≡ recorded message own) }
 {
-    let value = own_route(alloc.clone()?, own)?;
-    let line = Header::new(alloc, b"Record-Route", value.as_bytes())?;
+    let mut value = Vec::new(alloc.clone()?);
+    write_own_route(own, &mut value)?;
+    let line = Header::new(alloc, b"Record-Route", &value)?;
     let (start, mut headers, body) = message.into_parts();
     match headers.insert(0, line) {
         Ok(()) => Ok(Message::from_parts(start, headers, body)),

@@ -1,5 +1,5 @@
 -- The header lines of a request that goes to a target, but for its Via, its Record-Route and its hops.
-use Rattle.sip_build.proofs.Common.{◌≡◌, ℕ, List, ◌∷◌, ◌++◌, length, Option, Some, None, refl, arith, codes, HeaderText, line, hops_lowered, record_route_lines, SameOthers, values-replaced}
+use Rattle.sip_build.proofs.Common.{◌≡◌, ℕ, List, ◌∷◌, ◌++◌, Option, Some, None, refl, arith, codes, HeaderText, line, hops_lowered, record_route_lines, SameOthers, values-replaced}
 use Rattle.sip_text.specs.Name.{full_name, values_of}
 
 pub hops-others : (hs : List HeaderText) (o : Option (List ℕ)) → SameOthers (hops_lowered hs o) hs

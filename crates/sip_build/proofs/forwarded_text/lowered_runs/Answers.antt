@@ -1,4 +1,4 @@
-use Rattle.sip_build.proofs.Common.{◌∷◌, ◌∙◌, [], ◌++◌, List, ℕ, Option, ap, sym, Some, codes, decimal, append-nil, view, views, HeaderText, line, option_copied, hops_name, replaced-split, hops_lowered, record_route_lines, common_steps, arith}
+use Rattle.sip_build.proofs.Common.{◌∷◌, ◌∙◌, [], ◌++◌, List, ℕ, Option, ap, sym, Some, codes, decimal, append-nil, view, views, HeaderText, line, hops_name, replaced-split, hops_lowered, common_steps, arith}
 use Rattle.sip_build.specs.inner.Forwarding.{hops_left}
 use Rattle.sip_build.proofs.laws.Exchanged.{none-left}
 use Rattle.sip_build.proofs.FirstHops.{first-nowhere, first-there, seventy-text}

@@ -1,4 +1,4 @@
-use Rattle.sip_service.specs.Recording.{own_route}
+use Rattle.sip_build.specs.OwnRoute.{own_route}
 use Rattle.sip_service.proofs.Recorded.{others_kept}
 use Rattle.sip_service.proofs.recording.recording_keeps_the_rest.Goals as goal
 
