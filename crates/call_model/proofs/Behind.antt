@@ -3,7 +3,7 @@ use Rattle.call_model.proofs.Common.{◌≡◌, ◌∙◌, ◌⊎◌, ℕ, zero,
 use Rattle.call_model.proofs.Common.{and_parts, cond-false, cond-true, Event, FinalAnswer, Reply, HasStored, StoredAnswersCame, RowsKeepTheirNumbers, Effect, answers, change_at, closed_state, effect, next, settled, settled_row, with_effect}
 use Rattle.call_model.proofs.Common.{with_state, Kind, Row, State, StoredAnswer, Table, is_open, is_row, stored_of, may_start, HasFirst, Log, added, event_posted, events_of, table_of, MessageText, ContactText, Hop, TxEvent}
 use Rattle.call_model.proofs.Common.{InviteClientState, OtherClientState, invite_client, other_client, row_out, Cause, answer_in, answer_of, status_of, Call, found, nth_branch, row_passes, set_branch, with_branch, ClientTransaction, InviteClient, OtherClient}
-use Rattle.call_model.proofs.Common.{client_out, Action, is_due_at, Fails, FaultsBy, FaultsClient, cancel_faulted, faulted_cancel, Destination, kind_of, CancelTransaction, Branch, Posts, call_tag, no_branch, Pumped, Send, Did, Does, Pumps, SendsAnswer, AnswersBy}
+use Rattle.call_model.proofs.Common.{client_out, Action, is_due_at, Fails, FaultsBy, FaultsClient, cancel_faulted, faulted_cancel, Destination, kind_of, CancelTransaction, Branch, Posts, call_tag, Pumped, Send, Did, Does, Pumps, SendsAnswer, AnswersBy}
 use Rattle.call_model.proofs.Common.{AnswersWith, TicksClientBy, FiresTimerC, challenges_by, contacts_for, event_by, offer_of, OpenedRequest, Owed, Passed, Final, Again, CancelOk, IsSound, awaits, invite_awaits, other_awaits, CancelledBy, Responds, Taken}
 use Rattle.call_model.proofs.Common.{TakesAs, is_passed, branch_after, branch_posted, response_event}
 use Rattle.std.specs.Prelude.{is_none}
@@ -71,7 +71,7 @@ base_of call = (call.opened, call.log)
 
 -- the event that a response of branch n is to a call that was opened so
 abbrev said_by : (n : ℕ) → MessageText → OpenedRequest → Option Event
-said_by n m opened = Some (event_by opened.is_responsible n (status_of m) m)
+said_by n m opened = Some (event_by opened.tried n (status_of m) m)
 
 -- a branch that is first with an answer that came was so before
 abbrev pub FirstsStay : Call → Call → Type 0
@@ -353,8 +353,8 @@ module _ (stores : EventsStoreAnswers) (goes_on : BranchesGoOn) (grows : RowsKee
         by (inl at) = here (nat_lt (status_of m) 300) refl at
         by (inr e) = ap answer_in e
 
-    kept_here : (ev : Event) → Posts posted_mid ev (contacts_for call.opened.is_responsible (status_of m) m) (to.going_up (status_of m) m) reply new → nat_lt (status_of m) 300 ≡ false
-        → ev ≡ event_by call.opened.is_responsible n (status_of m) m
+    kept_here : (ev : Event) → Posts posted_mid ev (contacts_for call.opened.tried (status_of m) m) (to.going_up (status_of m) m) reply new → nat_lt (status_of m) 300 ≡ false
+        → ev ≡ event_by call.opened.tried n (status_of m) m
         → (k : ℕ) (stored : StoredAnswer) → k ≡ n → stored.arrival ≡ length call.log.history → HasFirst (table_of new.log) k → Comes k stored
     kept_here ev posts e is k stored k_is at_is led =
         let log : new.log ≡ added call.log call_tag ev reply = ap (λ (x : Call). x.log) posts.follows in
@@ -363,7 +363,7 @@ module _ (stores : EventsStoreAnswers) (goes_on : BranchesGoOn) (grows : RowsKee
         let branches : answer_in (nth_branch new n) ≡ Some m =
         ap (λ (x : Call). answer_in (nth_branch x n)) posts.follows ∙ ap answer_in (branch_more posted_mid.branches _ n ∙ here_with call.branches n branch posted_part there) ∙ part_is in
         let f : new.opened ≡ call.opened = ap (λ (x : Call). x.opened) posts.follows in
-        let last : slice_get (events_of new.log.history) (length call.log.history) ≡ Some (event_by call.opened.is_responsible n (status_of m) m) =
+        let last : slice_get (events_of new.log.history) (length call.log.history) ≡ Some (event_by call.opened.tried n (status_of m) m) =
         ap (λ (l : Log). slice_get (events_of l.history) (length call.log.history)) log ∙ last_event call.log.history (record { tag = call_tag; event = ev }) ∙ ap (λ (x : Event). Some x) is in (
           m,
           (source, ap (λ (i : ℕ). step.Take (to.Client i) m source) (sym k_is), ap (λ (i : ℕ). step.Took (to.Posted i)) (sym placed ∙ posts.reply_is.position ∙ sym at_is)),
@@ -372,15 +372,15 @@ module _ (stores : EventsStoreAnswers) (goes_on : BranchesGoOn) (grows : RowsKee
         )
 
     abbrev answer_by : FinalAnswer
-    answer_by = record { status = status_of m; offers = map offer_of (contacts_for call.opened.is_responsible (status_of m) m); challenges = challenges_by (status_of m) m }
+    answer_by = record { status = status_of m; offers = map offer_of (contacts_for call.opened.tried (status_of m) m); challenges = challenges_by (status_of m) m }
 
-    keeps_posted : Posts posted_mid (event_by call.opened.is_responsible n (status_of m) m) (contacts_for call.opened.is_responsible (status_of m) m) (to.going_up (status_of m) m) reply new
+    keeps_posted : Posts posted_mid (event_by call.opened.tried n (status_of m) m) (contacts_for call.opened.tried (status_of m) m) (to.going_up (status_of m) m) reply new
         → (k : ℕ) (stored : StoredAnswer) → HasStored (table_of new.log) k stored → stored.received ≡ true → HasFirst (table_of new.log) k
         → StaysFirst call new k stored ⊎ Comes k stored
     keeps_posted posts k stored has received leads_now = by (nat_lt (status_of m) 200) refl
       where
-        at_answer : (b : Bool) → nat_lt (status_of m) 300 ≡ b → fork.Answer n answer_by ≡ event_by call.opened.is_responsible n (status_of m) m
-            → Posts posted_mid (fork.Answer n answer_by) (contacts_for call.opened.is_responsible (status_of m) m) (to.going_up (status_of m) m) reply new
+        at_answer : (b : Bool) → nat_lt (status_of m) 300 ≡ b → fork.Answer n answer_by ≡ event_by call.opened.tried n (status_of m) m
+            → Posts posted_mid (fork.Answer n answer_by) (contacts_for call.opened.tried (status_of m) m) (to.going_up (status_of m) m) reply new
             → StoresAs Comes call (fork.Answer n answer_by) new
         at_answer true e is posts k s h now came led =
             let H : ℕ → Type 0 = λ i. HasStored (next (table_of call.log) (fork.Answer n answer_by) (length call.log.history)) i s in
@@ -390,12 +390,12 @@ module _ (stores : EventsStoreAnswers) (goes_on : BranchesGoOn) (grows : RowsKee
 
         by : (b : Bool) → nat_lt (status_of m) 200 ≡ b → StaysFirst call new k stored ⊎ Comes k stored
         by true e =
-            let is : event_by call.opened.is_responsible n (status_of m) m ≡ fork.Ring n (status_of m) = cond-true _ _ _ e in
-            let P : Event → Type 0 = λ v. Posts posted_mid v (contacts_for call.opened.is_responsible (status_of m) m) (to.going_up (status_of m) m) reply new in
+            let is : event_by call.opened.tried n (status_of m) m ≡ fork.Ring n (status_of m) = cond-true _ _ _ e in
+            let P : Event → Type 0 = λ v. Posts posted_mid v (contacts_for call.opened.tried (status_of m) m) (to.going_up (status_of m) m) reply new in
             posted Comes call posted_mid new (fork.Ring n (status_of m)) _ _ reply refl same_stored (subst P is posts) (λ i s h now came led. absurd now) k stored has received leads_now
         by false e =
-            let is : event_by call.opened.is_responsible n (status_of m) m ≡ fork.Answer n answer_by = cond-false _ _ _ e in
-            let P : Event → Type 0 = λ v. Posts posted_mid v (contacts_for call.opened.is_responsible (status_of m) m) (to.going_up (status_of m) m) reply new in
+            let is : event_by call.opened.tried n (status_of m) m ≡ fork.Answer n answer_by = cond-false _ _ _ e in
+            let P : Event → Type 0 = λ v. Posts posted_mid v (contacts_for call.opened.tried (status_of m) m) (to.going_up (status_of m) m) reply new in
             let posts-2 = subst P is posts in
             posted Comes call posted_mid new (fork.Answer n answer_by) _ _ reply refl same_stored posts-2 (at_answer (nat_lt (status_of m) 300) refl (sym is) posts-2) k stored has received leads_now
 

@@ -1,6 +1,6 @@
 -- By which events a table is closed, and that a call knows what closed its table.
 use Rattle.call_model.proofs.Common.{◌≡◌, ◌∙◌, ◌⊎◌, ◌||◌, ◌&&◌, ℕ, ap, refl, sym, subst, inl, inr, true, false, not, Bool, List, [], ◌∷◌, length, Option, Some, None, slice_get, cond, nat_lt, unwrap_or, option_map, and_parts, cond-false, cond-true}
-use Rattle.call_model.proofs.Common.{Event, FinalAnswer, Reply, RowsKeepTheirNumbers, Effect, answers, change_at, effect, next, settled, with_effect, Row, State, Table, is_invite, table_of, added, MessageText, ContactText, Hop, Cause, answer_of, status_of}
+use Rattle.call_model.proofs.Common.{Event, FinalAnswer, Reply, RowsKeepTheirNumbers, Effect, answers, change_at, effect, next, settled, with_effect, Row, State, Table, is_invite, table_of, MessageText, ContactText, Hop, Cause, answer_of, status_of}
 use Rattle.call_model.proofs.Common.{Call, nth_branch, set_branch, Action, Fails, FaultsBy, FaultsClient, cancel_faulted, Destination, Branch, Posts, call_tag, Pumped, Send, Did, Does, Pumps, SendsAnswer, AnswersBy, AnswersWith, TicksClientBy, FiresTimerC}
 use Rattle.call_model.proofs.Common.{Owed, Passed, Final, Again, CancelOk, CancelledBy, Responds, Taken, TakesAs, IsSound, challenges_by, contacts_for, event_by, offer_of, map}
 use Rattle.std.specs.Prelude.{nat_le, ◌≤◌, Ok}
@@ -105,14 +105,14 @@ or_other true b e h = absurd cc
 or_other false b e h = h
 
 answered_closes : (t : Table) (n at : ℕ) (answer : FinalAnswer) → t.closed ≡ false → (next t (fork.Answer n answer) at).closed ≡ true → Closes answer.status
-answered_closes t n at answer open closed = by (slice_get t.rows n) closed
+answered_closes t n at answer before behind = by (slice_get t.rows n) behind
   where
     so : (row : Row) → (t.closed || (answers t n row at answer).closes) ≡ true → Closes answer.status
     so row h =
-        closes_so answer.status (nat_lt answer.status 300) (nat_lt answer.status 400) refl (sym (answer_closes t n row at answer) ∙ or_other t.closed _ open h)
+        closes_so answer.status (nat_lt answer.status 300) (nat_lt answer.status 400) refl (sym (answer_closes t n row at answer) ∙ or_other t.closed _ before h)
 
     open_still : t.closed ≡ true → Closes answer.status
-    open_still h = absurd (let e : true ≡ false = sym h ∙ open in cc)
+    open_still h = absurd (let e : true ≡ false = sym h ∙ before in cc)
 
     by_state : (row : Row) (s : State) → (unwrap_or (option_map settled (option_map (with_effect t n) (effect t row at (fork.Answer n answer) s))) t).closed ≡ true → Closes answer.status
     by_state row table.Idle h = open_still h
@@ -264,39 +264,39 @@ module _ (grows : RowsKeepTheirNumbers) where
   by_status turn status posts final (inr e) = subst (IsClosedBy turn) (sym (cond-false _ _ _ e.0)) (posts, e.1)
 
   responses : (call new : Call) (now n : ℕ) (l : Branch) (m : MessageText) (source : Hop) (at : ℕ) (reply : Reply) (contacts : List ContactText) (response : Option MessageText) → KnowsClosing call
-      → Posts (closed_by (closing_after (table_of new.log).closed (status_of m) call.closing) (set_branch call n l)) (event_by call.opened.is_responsible n (status_of m) m) contacts response reply new
+      → Posts (closed_by (closing_after (table_of new.log).closed (status_of m) call.closing) (set_branch call n l)) (event_by call.opened.tried n (status_of m) m) contacts response reply new
       → Goes (turn_by now (to.Client n) m source (to.Posted at)) call new
   responses call new now n l m source at reply contacts response knows it = by (table_of new.log).closed (table_of call.log).closed refl refl
     where
-      behind : table_of new.log ≡ next (table_of call.log) (event_by call.opened.is_responsible n (status_of m) m) (length call.log.history)
+      behind : table_of new.log ≡ next (table_of call.log) (event_by call.opened.tried n (status_of m) m) (length call.log.history)
       behind = table_behind _ new _ contacts response reply it
 
       closing : (c : Bool) → (table_of new.log).closed ≡ c → new.closing ≡ closing_after c (status_of m) call.closing
       closing c e = ap (λ (x : Call). x.closing) it.follows ∙ ap (λ (b : Bool). closing_after b (status_of m) call.closing) e
 
       answer_by : FinalAnswer
-      answer_by = record { status = status_of m; offers = map offer_of (contacts_for call.opened.is_responsible (status_of m) m); challenges = challenges_by (status_of m) m }
+      answer_by = record { status = status_of m; offers = map offer_of (contacts_for call.opened.tried (status_of m) m); challenges = challenges_by (status_of m) m }
 
       -- a provisional response closes nothing
       closes : (b : Bool) → nat_lt (status_of m) 200 ≡ b → (table_of call.log).closed ≡ false → (table_of new.log).closed ≡ true → (nat_lt (status_of m) 200 ≡ false) × Closes (status_of m)
-      closes true e open closed =
+      closes true e before after =
           let t = table_of call.log in
           let place = length call.log.history in
-          let is : event_by call.opened.is_responsible n (status_of m) m ≡ fork.Ring n (status_of m) = cond-true _ _ _ e in
+          let is : event_by call.opened.tried n (status_of m) m ≡ fork.Ring n (status_of m) = cond-true _ _ _ e in
           let quiet = at_row t place n (fork.Ring n (status_of m)) (slice_get t.rows n) (λ row. ring t row place n (status_of m) row.state) in
           let stays : (table_of new.log).closed ≡ t.closed = ap (λ (x : Table). x.closed) behind ∙ ap (λ (v : Event). (next t v place).closed) is ∙ quiet in
-          absurd (let h : true ≡ false = sym closed ∙ stays ∙ open in cc)
-      closes false e open closed =
+          absurd (let h : true ≡ false = sym after ∙ stays ∙ before in cc)
+      closes false e before after =
           let t = table_of call.log in
           let place = length call.log.history in
-          let is : event_by call.opened.is_responsible n (status_of m) m ≡ fork.Answer n answer_by = cond-false _ _ _ e in
-          let there : (next t (fork.Answer n answer_by) place).closed ≡ true = ap (λ (v : Event). (next t v place).closed) (sym is) ∙ ap (λ (x : Table). x.closed) (sym behind) ∙ closed in
-          (e, answered_closes t n place answer_by open there)
+          let is : event_by call.opened.tried n (status_of m) m ≡ fork.Answer n answer_by = cond-false _ _ _ e in
+          let there : (next t (fork.Answer n answer_by) place).closed ≡ true = ap (λ (v : Event). (next t v place).closed) (sym is) ∙ ap (λ (x : Table). x.closed) (sym behind) ∙ after in
+          (e, answered_closes t n place answer_by before there)
 
       by : (c o : Bool) → (table_of new.log).closed ≡ c → (table_of call.log).closed ≡ o → Goes (turn_by now (to.Client n) m source (to.Posted at)) call new
       by false false e f = inl (record { closing = closing false e; closed = e ∙ sym f })
       by false true e f =
-          let later = (grows (table_of call.log) (event_by call.opened.is_responsible n (status_of m) m) (length call.log.history)).closed f in
+          let later = (grows (table_of call.log) (event_by call.opened.tried n (status_of m) m) (length call.log.history)).closed f in
           absurd (let h : true ≡ false = sym later ∙ ap (λ (x : Table). x.closed) (sym behind) ∙ e in cc)
       by true true e f = inl (record { closing = closing true e ∙ kept_closing (status_of m) call.closing (knows ∙ f); closed = e ∙ sym f })
       by true false e f =

@@ -1,4 +1,4 @@
-use Rattle.call_model.proofs.Common.{◌≡◌, ◌⊎◌, ℕ, zero, suc, inl, inr, ap, refl, sym, subst, List, [], ◌∷◌, ◌++◌, map, Option, Some, slice_get, IfSome, Event, Reply, Row, added, MessageText, ContactText, Destination, Branch, Call}
+use Rattle.call_model.proofs.Common.{◌≡◌, ◌⊎◌, ℕ, zero, suc, inl, inr, ap, refl, sym, subst, List, [], ◌∷◌, ◌++◌, map, Option, Some, slice_get, Event, Reply, Row, added, MessageText, ContactText, Destination, Branch, Call}
 use Rattle.call_model.proofs.Common.{found, nth_branch, set_branch, with_branch, IsBuilt, IsBuiltBranch, Posts, gone_on, owes, owed_by, no_branch, call_tag}
 
 -- ---- the part at a place

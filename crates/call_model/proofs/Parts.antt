@@ -1,5 +1,5 @@
 -- What each step leaves of the part of a branch: its CANCEL, once that was sent, and timer C, where its time is shorter.
-use Rattle.call_model.proofs.Common.{◌≡◌, ◌∙◌, ◌⊎◌, ℕ, zero, suc, ap, refl, sym, subst, inl, inr, true, false, Bool, List, [], ◌∷◌, Option, Some, None, slice_get, cond, nat_lt, and_parts, Event, Reply, MessageText, ContactText, Hop, Cause, answer_of, status_of}
+use Rattle.call_model.proofs.Common.{◌≡◌, ◌∙◌, ◌⊎◌, ℕ, ap, refl, sym, subst, inl, inr, true, false, Bool, List, [], ◌∷◌, Option, Some, None, slice_get, cond, nat_lt, and_parts, Event, Reply, MessageText, ContactText, Hop, Cause, answer_of, status_of}
 use Rattle.call_model.proofs.Common.{Call, found, nth_branch, row_passes, set_branch, with_branch, Action, is_due_at, Fails, FaultsBy, FaultsClient, cancel_faulted, faulted_cancel, Destination, CancelTransaction, Branch, Posts, Pumped, Send, Did, Does, Pumps}
 use Rattle.call_model.proofs.Common.{SendsAnswer, AnswersBy, AnswersWith, TicksClientBy, FiresTimerC, Owed, Passed, Final, Again, CancelOk, CancelledBy, Responds, Taken, TakesAs, timer_c_again}
 use Rattle.std.specs.Prelude.{is_none}
@@ -8,8 +8,8 @@ use Rattle.call_model.specs.declared.cause.Cause.TheVariants as cause
 use Rattle.call_model.specs.Branch.{timer_c}
 use Rattle.call_model.specs.Call.{lacks_cancel}
 use Rattle.call_model.specs.Due as due
-use Rattle.call_model.specs.Longest.{ShorterTimesStay}
-use Rattle.call_model.specs.Pump.{Idle}
+use Rattle.call_model.specs.Longest.{ShorterTimesStay, UsualTimesStart, UsualTimesStartAgain}
+use Rattle.call_model.specs.Pump.{Idle, cancel_started}
 use Rattle.call_model.specs.Server.{Trying}
 use Rattle.call_model.specs.Step as step
 use Rattle.call_model.specs.Take as to
@@ -54,6 +54,10 @@ unchanged : (call new : Call) → new.branches ≡ call.branches → PartsGoOn c
 unchanged call new e n destination branch goes there =
     (branch, ap (λ (bs : List (Option Branch)). found (slice_get bs n)) e ∙ there, same_part destination.longest branch branch refl refl)
 
+-- a call with the same parts
+kept : (call new x : Call) → new ≡ x → x.branches ≡ call.branches → PartsGoOn call new
+kept call new x e b = unchanged call new (ap (λ (c : Call). c.branches) e ∙ b)
+
 as_parts : (call new x : Call) → new ≡ x → PartsGoOn call x → PartsGoOn call new
 as_parts call new x e parts = let P : Call → Type 0 = λ c. PartsGoOn call c in subst P (sym e) parts
 
@@ -78,11 +82,15 @@ posts call mid new event contacts response reply parts it n destination branch g
     let p = parts n destination branch goes there in
     (p.0, ap (λ (c : Call). nth_branch c n) it.follows ∙ branch_more mid.branches _ n ∙ p.1, p.2)
 
+posts_same : (call mid new : Call) (event : Event) (contacts : List ContactText) (response : Option MessageText) (reply : Reply)
+    → Posts mid event contacts response reply new → mid.branches ≡ call.branches → PartsGoOn call new
+posts_same call mid new event contacts response reply it b = posts call mid new event contacts response reply (unchanged call mid b) it
+
 -- ---- an action of the pump
 
 answered : (call : Call) (now : ℕ) (rest : List Owed) (m : MessageText) (b : Bool) (p : Pumped) (new : Call) → AnswersBy call now rest m b p new → PartsGoOn call new
-answered call now rest m true p new (out, e) = as_parts call new _ e (unchanged call _ refl)
-answered call now rest m false p new (out, e) = as_parts call new _ e (unchanged call _ refl)
+answered call now rest m true p new (out, e) = kept call new _ e refl
+answered call now rest m false p new (out, e) = kept call new _ e refl
 
 answered_with : (call : Call) (now : ℕ) (rest : List Owed) (o : Option MessageText) (p : Pumped) (new : Call) → AnswersWith call now rest o p new → PartsGoOn call new
 answered_with call now rest None p new h = absurd h
@@ -90,8 +98,8 @@ answered_with call now rest (Some m) p new h = answered call now rest m _ p new 
 
 paid : (call : Call) (now : ℕ) (owed : List Owed) (p : Pumped) (new : Call) → SendsAnswer call now owed p new → PartsGoOn call new
 paid call now [] p new h = absurd h
-paid call now (Again ∷ rest) p new (out, e) = as_parts call new _ e (unchanged call _ refl)
-paid call now (CancelOk cancel hop ∷ rest) p new (out, e) = as_parts call new _ e (unchanged call _ refl)
+paid call now (Again ∷ rest) p new (out, e) = kept call new _ e refl
+paid call now (CancelOk cancel hop ∷ rest) p new (out, e) = kept call new _ e refl
 paid call now (Trying ∷ rest) p new h = answered_with call now rest (answer_of call Trying) p new h
 paid call now (Passed m ∷ rest) p new h = answered_with call now rest (answer_of call (Passed m)) p new h
 paid call now (Final choice ∷ rest) p new h = answered_with call now rest (answer_of call (Final choice)) p new h
@@ -137,10 +145,11 @@ done call now (due.SendRequest n) p new is (destination, goes, (out, e)) =
     as_parts call new _ e (unsent call n _ (and_parts (row_passes table.is_trying call n) _ is).1)
 done call now (due.SendCancel n) p new is (destination, branch, goes, there, (out, e)) =
     let lacks = (and_parts (row_passes table.is_cancelled call n) _ is).1 in
-    as_parts call new _ e (set_part call n branch _ there (λ w at. cancel_part w.longest branch _ (first_cancel (nth_branch call n) branch _ lacks there) refl))
+    let later = record branch { cancelling = Some (cancel_started call now n destination) } in
+    as_parts call new _ e (set_part call n branch later there (λ w at. cancel_part w.longest branch later (first_cancel (nth_branch call n) branch later lacks there) refl))
 done call now (due.SendAck n) p new is (destination, branch, goes, there, (ack, owed, out, e)) = as_parts call new _ e (same_set call n branch _ there refl refl)
 done call now due.SendAnswer p new is h = paid call now call.server.owed p new h
-done call now due.TickServer p new is (out, e) = as_parts call new _ e (unchanged call _ refl)
+done call now due.TickServer p new is (out, e) = kept call new _ e refl
 done call now (due.TickClient n) p new is (destination, branch, goes, there, h) = ticks call now n destination branch _ p new there h
 done call now (due.TickCancel n) p new is (destination, branch, goes, there, (cancelling, has, out, e)) =
     as_parts call new _ e (set_part call n branch _ there (λ w at. cancel_part w.longest branch _ (cancel_on branch.cancelling cancelling _ has refl) refl))
@@ -148,7 +157,7 @@ done call now (due.FireTimerC n) p new is (branch, there, h) = fires call now n 
 done call now (due.GiveUp n) p new is (branch, there, (out, reply, it)) = posts call _ new _ _ _ reply (same_set call n branch _ there refl refl) it
 
 pumped : (call : Call) (now : ℕ) (p : Pumped) (new : Call) → Pumps call now p new → PartsGoOn call new
-pumped call now Idle new (idle, e) = as_parts call new _ e (unchanged call call refl)
+pumped call now Idle new (idle, e) = kept call new call e refl
 pumped call now (Send d) new (action, is, h) = done call now action (Send d) new is h
 pumped call now Did new (action, is, h) = done call now action Did new is h
 
@@ -172,18 +181,18 @@ responded call n branch destination now m (to.Posted at) new there goes (p, repl
           let same : w ≡ destination = some_same w destination (sym at ∙ goes) in
           inl (not_again now (status_of m) destination.longest branch.timer_c_at (ap (λ (x : Destination). nat_lt x.longest timer_c) (sym same) ∙ h));
     }
-responded call n branch destination now m to.Full new there goes (p, f, e) = as_parts call new _ e (unchanged call call refl)
+responded call n branch destination now m to.Full new there goes (p, f, e) = kept call new call e refl
 
 cancelled : (call new : Call) (cancel : MessageText) (hop : Hop) (t : Taken) → CancelledBy call cancel hop t new → PartsGoOn call new
-cancelled call new cancel hop to.Absorbed (c, e) = as_parts call new _ e (unchanged call _ refl)
-cancelled call new cancel hop (to.Posted at) (c, reply, placed, it) = posts call _ new _ _ _ reply (unchanged call _ refl) it
+cancelled call new cancel hop to.Absorbed (c, e) = kept call new _ e refl
+cancelled call new cancel hop (to.Posted at) (c, reply, placed, it) = posts_same call _ new _ _ _ reply it refl
 cancelled call new cancel hop to.Full h = absurd h
 
 took : (call : Call) (now : ℕ) (m : MessageText) (source : Hop) (r : to.MatchedTransaction) (t : Taken) (new : Call) → TakesAs call now m source r t new → PartsGoOn call new
-took call now m source to.Server to.Absorbed new e = as_parts call new _ e (unchanged call _ refl)
+took call now m source to.Server to.Absorbed new e = kept call new _ e refl
 took call now m source to.Server (to.Posted at) new h = absurd h
 took call now m source to.Server to.Full new h = absurd h
-took call now m source to.ServerAck to.Absorbed new e = as_parts call new _ e (unchanged call _ refl)
+took call now m source to.ServerAck to.Absorbed new e = kept call new _ e refl
 took call now m source to.ServerAck (to.Posted at) new h = absurd h
 took call now m source to.ServerAck to.Full new h = absurd h
 took call now m source to.ServerCancel t new (cancel, marked, by) = cancelled call new cancel _ t by
@@ -200,11 +209,11 @@ faults call now n branch true new there (reply, it) = posts call _ new _ _ _ rep
 faults call now n branch false new there e = as_parts call new _ e (same_set call n branch _ there refl refl)
 
 faults_client : (call : Call) (now n : ℕ) (l : Option Branch) (new : Call) → nth_branch call n ≡ l → FaultsClient call now n l new → PartsGoOn call new
-faults_client call now n None new there e = as_parts call new _ e (unchanged call call refl)
+faults_client call now n None new there e = kept call new call e refl
 faults_client call now n (Some branch) new there h = faults call now n branch _ new there h
 
 faults_cancel : (call : Call) (now n : ℕ) (l : Option Branch) (new : Call) → nth_branch call n ≡ l → new ≡ cancel_faulted call now n l → PartsGoOn call new
-faults_cancel call now n None new there e = as_parts call new _ e (unchanged call call refl)
+faults_cancel call now n None new there e = kept call new call e refl
 faults_cancel call now n (Some branch) new there e = as_parts call new _ e (set_part call n branch _ there (λ w at. by w branch.cancelling refl))
   where
     by : (w : Destination) (c : Option CancelTransaction) → branch.cancelling ≡ c → GoesOn w.longest branch (faulted_cancel branch now c)
@@ -215,8 +224,8 @@ failed : (call : Call) (now : ℕ) (c : Cause) (new : Call) → Fails call now c
 failed call now (cause.Request n) new h = faults_client call now n (nth_branch call n) new refl h
 failed call now (cause.Ack n) new h = faults_client call now n (nth_branch call n) new refl h
 failed call now (cause.Cancel n) new e = faults_cancel call now n (nth_branch call n) new refl e
-failed call now cause.Answer new e = as_parts call new _ e (unchanged call _ refl)
-failed call now cause.CancelOk new e = as_parts call new _ e (unchanged call call refl)
+failed call now cause.Answer new e = kept call new _ e refl
+failed call now cause.CancelOk new e = kept call new call e refl
 
 -- ---- a step
 
@@ -235,3 +244,13 @@ pub shorter_stay : ShorterTimesStay
 shorter_stay turn call new n destination branch goes short there h =
     let p = stepped turn.now call turn.input new turn.output h n destination branch goes there in
     (p.0, p.1, p.2.timer_c short)
+
+-- ---- as long as timer C
+
+pub usual_start : UsualTimesStart
+usual_start table.Invite now = refl
+usual_start table.Other now = refl
+
+pub usual_start_again : UsualTimesStartAgain
+usual_start_again now status None = refl
+usual_start_again now status (Some at) = refl

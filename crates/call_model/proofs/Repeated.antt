@@ -99,7 +99,7 @@ ticked call now n destination branch false p new (out, e) =
 
 fired : (call : Call) (now n : ℕ) (branch : Branch) (b : Bool) (p : Pumped) (new : Call) → FiresTimerC call now n branch b p new → Keeps call new (step.Did p)
 fired call now n branch true p new (out, reply, posts) = posted call _ new _ _ _ reply (step.Did p) refl refl (as_out p Did call.server.last out refl) posts
-fired call now n branch false p new (out, reply, posts) = posted call call new _ _ _ reply (step.Did p) refl refl (as_out p Did call.server.last out refl) posts
+fired call now n branch false p new (out, reply, posts) = posted call _ new _ _ _ reply (step.Did p) refl refl (as_out p Did call.server.last out refl) posts
 
 done : (call : Call) (now : ℕ) (action : Action) (p : Pumped) (new : Call) → Does call now action p new → Keeps call new (step.Did p)
 done call now (due.SendRequest n) p new (destination, goes, (out, e)) = keeps call new _ e (step.Did p) refl refl (as_out p _ call.server.last out refl)
@@ -235,8 +235,8 @@ sent_same false d e h = absurd cc
 
 -- what is no request and no CANCEL
 other_cause : (new : Call) (d e : Datagram) → d ≡ e → is_repeated e.cause ≡ false → is_repeated d.cause ≡ true → WasSent new d d.cause
-other_cause new d e same no yes =
-    absurd (let h : true ≡ false = sym yes ∙ ap (λ (x : Datagram). is_repeated x.cause) same ∙ no in cc)
+other_cause new d e same never repeats =
+    absurd (let h : true ≡ false = sym repeats ∙ ap (λ (x : Datagram). is_repeated x.cause) same ∙ never in cc)
 
 answer_sent : (call : Call) (now : ℕ) (d : Datagram) (new : Call) (rest : List Owed) (m : MessageText) (b : Bool) → is_repeated d.cause ≡ true → AnswersBy call now rest m b (Send d) new → WasSent new d d.cause
 answer_sent call now d new rest m true e (out, same) = other_cause new d _ (the_same d _ out) refl e
@@ -272,13 +272,13 @@ cancel_sent call new n d destination bytes branch l cancelling goes there is sen
 
 ticked_sent : (call : Call) (now n : ℕ) (destination : Destination) (branch : Branch) (b : Bool) (d : Datagram) (new : Call) → IsBuilt call → Stays call new → slice_get call.destinations n ≡ Some destination → nth_branch call n ≡ Some branch
     → TicksClientBy call now n destination branch b (Send d) new → WasSent new d d.cause
-ticked_sent call now n destination branch true d new built s goes there (out, h) = absurd (let e = out in cc)
+ticked_sent call now n destination branch true d new built s goes there (out, reply, h) = absurd (let e = out in cc)
 ticked_sent call now n destination branch false d new built s goes there (out, e) =
     request_sent call new n d destination branch.sent s goes (sent_same _ d _ out) (built_by call n destination branch built goes there).request
 
 fired_sent : (call : Call) (now n : ℕ) (branch : Branch) (b : Bool) (d : Datagram) (new : Call) → FiresTimerC call now n branch b (Send d) new → WasSent new d d.cause
-fired_sent call now n branch true d new (out, h) = absurd (let e = out in cc)
-fired_sent call now n branch false d new (out, h) = absurd (let e = out in cc)
+fired_sent call now n branch true d new (out, reply, h) = absurd (let e = out in cc)
+fired_sent call now n branch false d new (out, reply, h) = absurd (let e = out in cc)
 
 done_sent : (call : Call) (now : ℕ) (action : Action) (d : Datagram) (new : Call) → IsBuilt call → Stays call new → is_repeated d.cause ≡ true → Does call now action (Send d) new → WasSent new d d.cause
 done_sent call now (due.SendRequest n) d new built s e (destination, goes, (out, same)) = request_sent call new n d destination _ s goes (the_same d _ out) refl
@@ -291,7 +291,7 @@ done_sent call now (due.TickClient n) d new built s e (destination, branch, goes
 done_sent call now (due.TickCancel n) d new built s e (destination, branch, goes, there, (cancelling, is, out, same)) =
     cancel_sent call new n d destination cancelling.sent branch _ _ goes there refl refl (sent_same _ d _ out) same
 done_sent call now (due.FireTimerC n) d new built s e (branch, there, h) = fired_sent call now n branch _ d new h
-done_sent call now (due.GiveUp n) d new built s e (branch, there, (out, h)) = absurd (let is = out in cc)
+done_sent call now (due.GiveUp n) d new built s e (branch, there, (out, reply, h)) = absurd (let is = out in cc)
 
 -- a turn that sends a datagram is a pump
 step_sent : (now : ℕ) (call : Call) (input : step.Input) (new : Call) (d : Datagram) → IsBuilt call → Stays call new → is_repeated d.cause ≡ true → step.Step now call input new (step.Did (Send d)) → WasSent new d d.cause

@@ -296,31 +296,31 @@ module _ (passes : StoredAnswersPass) (grows : RowsKeepTheirNumbers) (stay : Row
 
   posted : (call : Call) (n : ℕ) (branch : Branch) (destination : Destination) (now : ℕ) (m : MessageText) (reply : Reply) (first : Bool) (closing : Closing) (new : Call) → IsSound call → nth_branch call n ≡ Some branch → IsMessage m → IsForward m
       → Posts (closed_by closing (set_branch call n (branch_posted first destination.longest (branch_after call n branch destination now m) now (status_of m) m)))
-          (event_by call.opened.is_responsible n (status_of m) m) (contacts_for call.opened.is_responsible (status_of m) m) (going_up (status_of m) m) reply new
+      (event_by call.opened.tried n (status_of m) m) (contacts_for call.opened.tried (status_of m) m) (going_up (status_of m) m) reply new
       → IsSound new
   posted call n branch destination now m reply first closing new is there message forward posts =
       let l = branch_posted first destination.longest (branch_after call n branch destination now m) now (status_of m) m in
-      let ev = event_by call.opened.is_responsible n (status_of m) m in
-      let values = event_values values_are call.opened.is_responsible n (status_of m) m message in
+      let ev = event_by call.opened.tried n (status_of m) m in
+      let values = event_values values_are call.opened.tried n (status_of m) m message in
       let part = is.branches n branch there in
       let answer = kept_forward (nat_lt (status_of m) 300) first m branch.answer forward part.answer in
-      posts_sound call (closed_by closing (set_branch call n l)) new ev (contacts_for call.opened.is_responsible (status_of m) m) (going_up (status_of m) m) reply is refl refl is.owed
+      posts_sound call (closed_by closing (set_branch call n l)) new ev (contacts_for call.opened.tried (status_of m) m) (going_up (status_of m) m) reply is refl refl is.owed
       (by (nat_lt (status_of m) 200) refl answer) values.0 values.1 (up_forward (nat_lt (status_of m) 300) m forward) posts
     where
       by : (b : Bool) → nat_lt (status_of m) 200 ≡ b → IfSome (answer_kept first (status_of m) m branch.answer) IsForward
-          → IsSoundAll (after_event call (event_by call.opened.is_responsible n (status_of m) m)) (set_branch call n (branch_posted first destination.longest (branch_after call n branch destination now m) now (status_of m) m))
+          → IsSoundAll (after_event call (event_by call.opened.tried n (status_of m) m)) (set_branch call n (branch_posted first destination.longest (branch_after call n branch destination now m) now (status_of m) m))
       by true e answer =
           let l = branch_posted first destination.longest (branch_after call n branch destination now m) now (status_of m) m in
           let t = table_of call.log in
-          let ring : event_by call.opened.is_responsible n (status_of m) m ≡ fork.Ring n (status_of m) = cond-true _ _ _ e in
+          let ring : event_by call.opened.tried n (status_of m) m ≡ fork.Ring n (status_of m) = cond-true _ _ _ e in
           let here : IsSoundBranch t n l = next_sound t n branch l (is.branches n branch there) (waiting.waited (response_event (status_of m)) now branch.client) (timer_kept now (status_of m) destination.longest branch.timer_c_at) answer in
           let P : Event → Type 0 = λ v. IsSoundAll (after_event call v) (set_branch call n l) in
           subst P (sym ring) (open_all call (set_branch call n l) (fork.Ring n (status_of m)) (set_sound t call n l here (λ k x d h. is.branches k x h))
           (λ k. ring_stays t (length call.log.history) n k (status_of m)))
       by false e answer =
           let l = branch_posted first destination.longest (branch_after call n branch destination now m) now (status_of m) m in
-          let named : row_named (event_by call.opened.is_responsible n (status_of m) m) ≡ Some n = ap row_named (cond-false _ _ _ e) in
-          ended_all call n l (event_by call.opened.is_responsible n (status_of m) m) is named (awaits_after now (status_of m) branch.client e)
+          let named : row_named (event_by call.opened.tried n (status_of m) m) ≡ Some n = ap row_named (cond-false _ _ _ e) in
+          ended_all call n l (event_by call.opened.tried n (status_of m) m) is named (awaits_after now (status_of m) branch.client e)
           (λ h. (is.branches n branch there).timer_c (timer_kept now (status_of m) destination.longest branch.timer_c_at h)) answer
 
   responded : (call : Call) (n : ℕ) (branch : Branch) (destination : Destination) (now : ℕ) (m : MessageText) (k : Taken) (new : Call) → IsSound call → nth_branch call n ≡ Some branch → IsMessage m → IsForward m → Responds call n branch destination now m k new → IsSound new

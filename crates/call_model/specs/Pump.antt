@@ -1,5 +1,5 @@
 -- One thing that a call has to do is done (RFC 3261 sections 9.1, 16.6 to 16.8 and 17).
-use Rattle.std.specs.Prelude.{◌≡◌, ℕ, Bool, true, false, List, [], ◌∷◌, Option, Some, None, slice_get}
+use Rattle.std.specs.Prelude.{◌≡◌, ℕ, Bool, true, false, List, [], ◌∷◌, Option, Some, None, slice_get, if◌then◌else◌}
 use Rattle.fork_model.specs.Table.{is_trying}
 use Rattle.fork_model.specs.Event as fork
 use Rattle.fork_model.specs.Reply.{Reply}
@@ -43,10 +43,10 @@ SendsRequest call now n destination pumped new =
     (pumped ≡ Send (record { to = destination.hop; bytes = request_bytes call n destination; cause = cause.Request n }))
     × (new ≡ set_branch call n (branch_start (kind_of call.opened) now destination (request_bytes call n destination)))
 
--- the Reason lines of its CANCEL: what closed the table says why it is sent; where timer C has fired for the branch, nothing
--- does (RFC 3326)
+-- the Reason lines of its CANCEL, if the call gives reasons: what closed the table says why it is sent; where timer C has fired
+-- for the branch, nothing does (RFC 3326)
 abbrev pub reasons_of : Call → ℕ → List HeaderText
-reasons_of call n = reasons_if (timer_c_at (nth_branch call n)) call.closing
+reasons_of call n = if call.opened.reasons then reasons_if (timer_c_at (nth_branch call n)) call.closing else []
 
 -- its CANCEL goes out, with a client transaction of its own
 abbrev pub cancel_bytes : Call → ℕ → Destination → List ℕ

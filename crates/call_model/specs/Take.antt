@@ -158,15 +158,15 @@ Responds call n branch destination now m (Posted at) new =
     (closed_by
     (closing_after (table_of new.log).closed (status_of m) call.closing)
     (set_branch call n (branch_posted first destination.longest (branch_after call n branch destination now m) now (status_of m) m)))
-    (event_by call.opened.is_responsible n (status_of m) m)
-    (contacts_for call.opened.is_responsible (status_of m) m)
+    (event_by call.opened.tried n (status_of m) m)
+    (contacts_for call.opened.tried (status_of m) m)
     (going_up (status_of m) m)
     reply
     new
 -- it would hand it up, and the book does not take it
 Responds call n branch destination now m Full new =
     (is_passed (client_out (response_event (status_of m)) now branch.client).pass ≡ true)
-    × (is_full (core_of call.log) (event_by call.opened.is_responsible n (status_of m) m) ≡ true)
+    × (is_full (core_of call.log) (event_by call.opened.tried n (status_of m) m) ≡ true)
     × (new ≡ call)
 
 -- the response comes to branch n, whose part and destination there are
