@@ -1,12 +1,12 @@
 use Rattle.call_branch.proofs.Common.{◌∙◌, ◌++◌, ap, List, ℕ, Own, Uri, spelling, BranchName, forwarded, over, OpenedRequest, branch_at}
-use Rattle.sip_build.specs.Further.{further_lines}
+use Rattle.sip_build.specs.Further.{view_lines}
 use Rattle.sip_build.specs.Requests.{cancel_of}
 use Rattle.call_branch.proofs.opened.OpenedRequest.cancel_bytes.Goals as goal
 
 pub returns : goal.returns
 returns g c =
     let opened = c.args.self.now in
-    let reasons = further_lines c.args.reasons.now in
+    let reasons = view_lines c.args.reasons.now in
     let own = over opened.own c.args.destination.now.hop.transport in
     let text = spelling (cancel_of (forwarded c.self.inside.opening.request c.uri.result.now c.own_to.result c.branch-branch.result opened.record_route) reasons) in
     c.in_ok-write_forwarded_cancel.ensures.ok opened.record_route
