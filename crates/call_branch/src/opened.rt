@@ -8,7 +8,7 @@ ghost use Rattle.sip_text.specs.Text.{spelling};
 ghost use Rattle.sip_via.specs.OwnVia.{over};
 ghost use Rattle.sip_route.specs.Hops.{IsHops, hops_name};
 ghost use Rattle.sip_build.specs.Forwarding.{is_request};
-ghost use Rattle.sip_build.specs.Further.{further_lines};
+ghost use Rattle.sip_build.specs.Further.{view_lines};
 ghost use Rattle.fork_rank.specs.KindView as kinds;
 ghost use Rattle.call_model.specs.Built.{ack_to, cancel_to, request_to};
 ghost use Rattle.call_model.specs.OpenedRequest.{branch_at, is_invite, kind_of};
@@ -166,8 +166,8 @@ impl<A: Allocator> OpenedRequest<A> {
 
     /// The value of the Record-Route line that the requests to the targets get, where they get one (RFC 3261 section 16.6 step 4).
     fn record_route(&self) -> Option<&[u8]>
-        ensures value { option_copied result.entry ≡ self.now.record_route }
-        ensures good { IfSome (option_copied result.entry) (λ value. IsTrue (is_value value)) }
+        ensures value { option_copied result ≡ self.now.record_route }
+        ensures good { IfSome (option_copied result) (λ value. IsTrue (is_value value)) }
     {
         match &self.opening.record_route {
             Some(value) => Some(value),
@@ -285,8 +285,8 @@ impl<A: Allocator + Clone> OpenedRequest<A> {
         n: u16,
         reasons: &[FurtherLine<'_>],
     ) -> Result<Vec<u8, A>, AllocError>
-        requires reasons { list_all is_header (further_lines reasons.now) ≡ true }
-        ensures { IfOk result (λ bytes. bytes.items ≡ spelling (cancel_to self.now destination.now n (further_lines reasons.now))) }
+        requires reasons { list_all is_header (view_lines reasons.now) ≡ true }
+        ensures { IfOk result (λ bytes. bytes.items ≡ spelling (cancel_to self.now destination.now n (view_lines reasons.now))) }
     {
         let branch = self.branch(n);
         let mut bytes = Vec::new(alloc.clone()?);

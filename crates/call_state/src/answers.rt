@@ -7,7 +7,7 @@ ghost use Rattle.context_values.specs.ReplyView.{choice_of};
 ghost use Rattle.fork_model.specs.Choice as choice;
 ghost use Rattle.sip_text.specs.Message.{is_header};
 ghost use Rattle.sip_build.specs.declared.responses.OwnStatus.TheVariants as own;
-ghost use Rattle.sip_build.specs.Further.{further_if_any};
+ghost use Rattle.sip_build.specs.Further.{view_if_any};
 ghost use Rattle.sip_build.specs.SeenKept.{seen_kept, texts};
 ghost use Rattle.sip_build.specs.Upward.{AreKept, is_challenge, upward_of};
 ghost use Rattle.sip_via.specs.TopVia.{has_second, via_values};
@@ -55,7 +55,7 @@ fn own_answer<A: Allocator>(
 
 /// The Timestamp line of the request, where the 100 takes it.
 fn stamp_of<A: Allocator>(opened: &OpenedRequest<A>) -> Option<FurtherLine<'_>>
-    ensures exact { further_if_any result.entry ≡ further_lines opened.now own.Trying }
+    ensures exact { view_if_any result ≡ further_lines opened.now own.Trying }
     ensures good { list_all is_header (further_lines opened.now own.Trying) ≡ true }
 {
     if opened.stamps() {

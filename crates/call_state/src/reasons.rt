@@ -4,7 +4,7 @@ ghost use Rattle.std.specs.List.{list_all};
 ghost use Rattle.sip_text.specs.Message.{is_header};
 ghost use Rattle.sip_text.specs.Seen.{view, views};
 ghost use Rattle.sip_via.specs.Lines.{lines_among};
-ghost use Rattle.sip_build.specs.Further.{further_lines};
+ghost use Rattle.sip_build.specs.Further.{view_lines};
 ghost use Rattle.sip_build.specs.Requests.{reason_lines};
 
 use sip_build::FurtherLine;
@@ -79,7 +79,7 @@ impl<A: Allocator + Clone> ReasonLines<A> {
     ///
     /// Only where the allocator refuses.
     pub(crate) fn further(&self, alloc: A) -> Result<Vec<FurtherLine<'_>, A>, AllocError>
-        ensures lines { IfOk result (λ made. further_lines made.items ≡ self.now) }
+        ensures lines { IfOk result (λ made. view_lines made.items ≡ self.now) }
         ensures good { list_all is_header self.now ≡ true }
     {
         let mut made = Vec::with_capacity(alloc, self.lines.len())?;
