@@ -1,5 +1,5 @@
 //! Tests of the public calls of `daemon_answers`, `proxy_service` and `fork_daemon`. What a service does is played without sockets, by tables of
-//! moments (`played`); what its sockets, threads and files add, by whole proxies (`living`, `wired`, `limited`, `ordering`).
+//! moments (`played`), and refused memory (`refused`); what its sockets, threads and files add, by whole proxies (`living`, `wired`, `limited`, `ordering`).
 #![tactic(auto)]
 
 #[cfg(test)]
@@ -36,6 +36,8 @@ mod outgoing;
 mod played;
 #[cfg(test)]
 mod racing;
+#[cfg(test)]
+mod refused;
 #[cfg(test)]
 mod stamping;
 #[cfg(test)]

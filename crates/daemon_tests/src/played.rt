@@ -5,10 +5,10 @@ use crate::texts::{
     CALLER, CONFIGURATION, Request, answer_text, has, place_of, request_text, tag_of,
 };
 use daemon_parts::{DaemonFault, Identity, read_text};
-use proxy_dispatch::Received;
+use proxy_dispatch::{Memory, Received};
 use proxy_service::{Service, State, Terms};
 use sip_uri::Hop;
-use std::alloc::Global;
+use std::alloc::{Allocator, Global};
 use std::process::Abort;
 use std::sync::Wait;
 use std::time::{Clock, SystemTime};
@@ -88,9 +88,13 @@ const NUMBER: u32 = 99;
 /// How many seconds the clock may go on while a history is played.
 const SLACK: u64 = 30;
 
-/// A service that reads this configuration.
-pub fn service_of(alloc: Global, text: &[u8], served: Served) -> Option<Service> {
-    let setup = read_text(alloc, text, NUMBER).ok()?;
+/// A service that reads this configuration, and has its memory from there.
+pub fn service_over<A: Allocator + Copy>(
+    memory: Memory<A>,
+    text: &[u8],
+    served: Served,
+) -> Option<Service<A>> {
+    let setup = read_text(memory.alloc, text, NUMBER).ok()?;
     let terms = Terms {
         identity: Identity::of(&setup),
         number: NUMBER,
@@ -99,7 +103,12 @@ pub fn service_of(alloc: Global, text: &[u8], served: Served) -> Option<Service>
         most_calls: served.most_calls,
         has_journal: served.has_journal,
     };
-    Service::new(alloc, setup, terms).ok()
+    Service::new(memory, setup, terms).ok()
+}
+
+/// A service that reads this configuration.
+pub fn service_of(alloc: Global, text: &[u8], served: Served) -> Option<Service> {
+    service_over(Memory { alloc, heap: alloc }, text, served)
 }
 
 /// The last datagram of this method and call that was sent to an address.
@@ -129,9 +138,9 @@ fn seconds<R: Clock>(rt: &R) -> u64 {
 
 /// A service without sockets, what it sent, and what was looked at last.
 #[derive(Drop)]
-pub struct Played {
+pub struct Played<A: Allocator + Copy = Global> {
     alloc: Global,
-    service: Service,
+    service: Service<A>,
     outgoing: Outgoing,
     /// How many of the datagrams that were sent were looked at.
     seen: usize,
@@ -142,12 +151,13 @@ pub struct Played {
     blocks: Vec<u8>,
 }
 
-impl Played {
-    /// A service that reads this configuration, to which nothing has come.
-    pub fn new(alloc: Global, text: &[u8], served: Served) -> Option<Played> {
+impl<A: Allocator + Copy> Played<A> {
+    /// A service that reads this configuration and has its memory from there, to which nothing has come.
+    pub fn new(memory: Memory<A>, text: &[u8], served: Served) -> Option<Played<A>> {
+        let alloc = memory.heap;
         Some(Played {
             alloc,
-            service: service_of(alloc, text, served)?,
+            service: service_over(memory, text, served)?,
             outgoing: Outgoing::new(alloc),
             seen: 0,
             looked_at: Vec::new(alloc),
@@ -389,7 +399,7 @@ impl Played {
     }
 
     /// How many turns of a history go as they are told, before one that does not.
-    fn played<R: Wait + Clock>(&mut self, rt: &R, history: &[Moment]) -> usize {
+    pub fn played<R: Wait + Clock>(&mut self, rt: &R, history: &[Moment]) -> usize {
         for (place, (now, turn)) in history.iter().enumerate() {
             if !self.goes(rt, *now, *turn) {
                 return place;
@@ -452,7 +462,8 @@ pub fn plays_by<R: Abort + Wait + Clock>(
     history: &[Moment],
     what: &str,
 ) {
-    let played = match Played::new(alloc, text, served) {
+    let memory = Memory { alloc, heap: alloc };
+    let played = match Played::new(memory, text, served) {
         Some(mut played) => played.played(rt, history),
         None => usize::MAX,
     };

@@ -1,6 +1,6 @@
 //! A service that is told to end while another thread hands it a datagram.
 ghost use denote.Param.Send.{IsSync};
-ghost use Rattle.proxy_service.specs.contracts.service.Service.{the_row as service_row};
+ghost use Rattle.daemon_tests.specs.contracts.racing.Shared.{the_row as shared_row};
 
 use crate::holds::holds;
 use crate::outgoing::Outgoing;
@@ -43,26 +43,32 @@ trait Raced {
     fn has_ended(&self) -> bool;
 }
 
-impl Raced for Service {
+/// A service that two threads have.
+#[derive(Drop)]
+struct Shared {
+    service: Service,
+}
+
+impl Raced for Shared {
     fn hands<R: Wait + Clock, P: Port>(&self, rt: &R, port: &mut P, source: Hop, bytes: &[u8]) {
         let received = Received {
             bytes,
             source,
             now: COMES,
         };
-        self.take(rt, port, received);
+        self.service.take(rt, port, received);
     }
 
     fn begins_end(&self) {
-        self.drain(COMES, 60);
+        self.service.drain(COMES, 60);
     }
 
     fn looks<R: Wait>(&self, rt: &R) {
-        self.next_look(rt, LOOKED);
+        self.service.next_look(rt, LOOKED);
     }
 
     fn has_ended(&self) -> bool {
-        self.is_in(State::Ended)
+        self.service.is_in(State::Ended)
     }
 }
 
@@ -136,10 +142,16 @@ fn is_shared<T: Sync>(_: &T)
 {}
 
 /// That threads may share a service.
-fn service_is_shared(service: &Service)
-    ensures { IsSync service_row }
+fn service_is_shared(shared: &Shared)
+    ensures { IsSync shared_row }
 {
-    is_shared(service);
+    is_shared(shared);
+}
+
+/// A service to which nothing has come.
+fn new_service(alloc: Global) -> Option<Shared> {
+    let service = service_of(alloc, CONFIGURATION, PLAIN)?;
+    Some(Shared { service })
 }
 
 /// The answer of bob's telephone to the INVITE that it was sent.
@@ -167,18 +179,18 @@ fn opened<R: Wait + Clock>(rt: &R, alloc: Global, service: &Service) -> Option<V
 
 /// How many datagrams are sent behind the end of a service that is told to end while its last call is answered.
 fn late_answers<R: Threads + Wait + Clock + Sync>(rt: &R, alloc: Global) -> Option<u32> {
-    let service = service_of(alloc, CONFIGURATION, PLAIN)?;
-    let answer = opened(rt, alloc, &service)?;
-    service_is_shared(&service);
-    Some(late_at_once(rt, &service, BOB, answer.as_slice()))
+    let shared = new_service(alloc)?;
+    let answer = opened(rt, alloc, &shared.service)?;
+    service_is_shared(&shared);
+    Some(late_at_once(rt, &shared, BOB, answer.as_slice()))
 }
 
 /// The same while an INVITE comes.
 fn late_requests<R: Threads + Wait + Clock + Sync>(rt: &R, alloc: Global) -> Option<u32> {
-    let service = service_of(alloc, CONFIGURATION, PLAIN)?;
+    let shared = new_service(alloc)?;
     let request = request_text(alloc, &INVITE, "").ok()?;
-    service_is_shared(&service);
-    Some(late_at_once(rt, &service, CALLER, request.as_bytes()))
+    service_is_shared(&shared);
+    Some(late_at_once(rt, &shared, CALLER, request.as_bytes()))
 }
 
 #[test]

@@ -38,7 +38,7 @@ proxy_sync : IsSync proxy.the_field.row
 proxy_sync = struct_sync (shape proxy.the_type) (
   heap.the_field_sync,
   (
-    service_sync,
+    search service_sync,
     (
       search (crosses, sendable),
       (

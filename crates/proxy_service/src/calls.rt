@@ -10,7 +10,7 @@ use call_table::Shelf;
 use daemon_parts::Marks;
 use fork_call::Call;
 use fork_clock::Schedule;
-use std::alloc::{AllocError, Global};
+use std::alloc::{AllocError, Allocator, Global};
 use std::sync::atomic::{AtomicU64, Ordering};
 use std::sync::{Mutex, Wait};
 
@@ -28,9 +28,9 @@ pub(crate) enum Search {
 
 /// The calls that are kept, and when each is looked at.
 #[derive(Drop)]
-pub(crate) struct Calls {
-    pub(crate) shelf: Shelf<Call<Global>, Global>,
-    pub(crate) schedule: Schedule<Global>,
+pub(crate) struct Calls<A: Allocator + Copy> {
+    pub(crate) shelf: Shelf<Call<A>, A>,
+    pub(crate) schedule: Schedule<A>,
     /// The calls that were counted as finished.
     pub(crate) finished: Marks,
     /// The calls that lack memory.
@@ -41,28 +41,28 @@ pub(crate) struct Calls {
 }
 
 /// Whether a call is open: a branch has not ended, or something is owed.
-fn is_open(call: &mut Call<Global>) -> bool
+fn is_open<A: Allocator + Clone>(call: &mut Call<A>) -> bool
     ensures closed { OnFalse result (is_finished (core_of call.old.log).table.rows ≡ true) }
     ensures same { call.new ≡ call.old }
 {
     !call.book().context().finished() || call.due() == Some(0)
 }
 
-impl Calls {
-    /// No call is kept.
+impl<A: Allocator + Copy> Calls<A> {
+    /// No call is kept. Calls and their deadlines have their memory from `alloc`; what is noted of them, which is taken here, from `heap`.
     ///
     /// # Errors
     ///
     /// Only where the allocator refuses.
-    pub(crate) fn new(alloc: Global) -> Result<Calls, AllocError> {
+    pub(crate) fn new(alloc: A, heap: Global) -> Result<Calls<A>, AllocError> {
         let shelf = Shelf::new(alloc)?;
         let schedule = Schedule::new(alloc)?;
-        let finished = Marks::new(alloc)?;
+        let finished = Marks::new(heap)?;
         Ok(Calls {
             shelf,
             schedule,
             finished,
-            refusals: Refusals::new(alloc)?,
+            refusals: Refusals::new(heap)?,
             walk: Mutex::new(Walk::new()),
             unopened: AtomicU64::new(0),
         })

@@ -12,7 +12,7 @@ use crate::service::Service;
 use call_over::calls_that_are_over_are_quiet;
 use call_table::Removal;
 use fork_call::{Call, Port, carry};
-use std::alloc::{AllocError, Global};
+use std::alloc::{AllocError, Allocator};
 use std::sync::Wait;
 use std::thread;
 use std::time::{Clock, Duration, SystemTime};
@@ -46,7 +46,7 @@ fn seconds<R: Clock>(rt: &R) -> u64 {
 }
 
 /// The status with which a call that is over failed; None where it was answered with a 2xx.
-fn failure_of(call: &Call<Global>) -> Option<u16>
+fn failure_of<A: Allocator + Clone>(call: &Call<A>) -> Option<u16>
     ensures { EndsBy (core_of call.now.log) result }
 {
     match call.book().context().choice_with_status() {
@@ -56,7 +56,7 @@ fn failure_of(call: &Call<Global>) -> Option<u16>
 }
 
 /// What is to be done next with a call that was carried.
-fn next_of(call: &Call<Global>) -> Next
+fn next_of<A: Allocator + Clone>(call: &Call<A>) -> Next
     ensures { IsNext call.now result }
 {
     match call.due() {
@@ -67,7 +67,7 @@ fn next_of(call: &Call<Global>) -> Next
 }
 
 /// Whether a call may be forgotten: it is over, so whatever it is given it stays so, and sends nothing but 200s to CANCELs.
-fn may_be_forgotten(call: &mut Call<Global>) -> bool
+fn may_be_forgotten<A: Allocator + Clone>(call: &mut Call<A>) -> bool
     ensures over { IsTrue result ↔ IsOver call.old }
     ensures quiet { OnTrue result (IsQuietWithoutOwed call.new) }
     ensures same { call.new ≡ call.old }
@@ -77,13 +77,13 @@ fn may_be_forgotten(call: &mut Call<Global>) -> bool
 }
 
 /// Appends the block of a call, or nothing for want of memory.
-fn write_block(call: &mut Call<Global>, time: u64, block: &mut Vec<u8>)
+fn write_block<A: Allocator + Clone>(call: &mut Call<A>, time: u64, block: &mut Vec<u8, A>)
     ensures { call.new.opened.number ≡ call.old.opened.number }
 {
     let _ = append_block(call, time, block);
 }
 
-impl Service {
+impl<A: Allocator + Copy> Service<A> {
     /// Notes that memory was refused: no call is opened for a second.
     pub(crate) fn note_refusal(&self, now: u64) {
         self.admission.close(now);
@@ -99,7 +99,7 @@ impl Service {
 
     /// Counts a call as finished, once, where each of its branches has ended and it is not over. One that is over is counted as it is
     /// forgotten, so that its mark is not set anew behind that.
-    fn count_finished(&self, call: &Call<Global>) {
+    fn count_finished(&self, call: &Call<A>) {
         if call.book().context().finished() && self.calls.finished.set(call.number()) {
             self.counts.calls.finished.add(1);
         }
@@ -107,7 +107,7 @@ impl Service {
 
     /// What is to be done next with a call that was carried. Of one that is over the block for the journal is appended, if there is a
     /// journal, or nothing for want of memory.
-    fn left<R: Clock>(&self, rt: &R, call: &Call<Global>, block: &mut Vec<u8>) -> Next
+    fn left<R: Clock>(&self, rt: &R, call: &Call<A>, block: &mut Vec<u8, A>) -> Next
         ensures { IsNext call.now result }
     {
         let next = next_of(call);
@@ -120,7 +120,7 @@ impl Service {
     }
 
     /// Notes it where a 2xx went up to an INVITE.
-    fn note_answer(&self, call: &Call<Global>, has_answered: bool, now: u64) {
+    fn note_answer(&self, call: &Call<A>, has_answered: bool, now: u64) {
         if has_answered && call.request().is_invite() && call.book().context().succeeded() {
             self.lifetime.note_success(now);
         }
@@ -130,10 +130,10 @@ impl Service {
     fn carried<R: Clock, P: Port>(
         &self,
         rt: &R,
-        call: &mut Call<Global>,
+        call: &mut Call<A>,
         port: &mut P,
         now: u64,
-        block: &mut Vec<u8>,
+        block: &mut Vec<u8, A>,
     ) -> Next
         ensures { call.new.opened.number ≡ call.old.opened.number }
     {

@@ -8,7 +8,8 @@ use crate::terms::Terms;
 use daemon_parts::{Counts, DaemonFault, Gauges};
 use fork_call::Setup;
 use fork_clock::Schedule;
-use std::alloc::{AllocError, Global};
+use proxy_dispatch::Memory;
+use std::alloc::{AllocError, Allocator, Global};
 use std::mem;
 use std::sync::{RwLock, Wait};
 
@@ -18,42 +19,48 @@ const MILLIS: u64 = 1_000;
 /// A service: what its threads share. Each of its methods may be called by any thread at any time, but for `tick` and `next_look`, which are
 /// for the one thread that keeps the time.
 #[derive(Drop)]
-pub struct Service {
-    pub(crate) alloc: Global,
-    pub(crate) setup: RwLock<Setup<Global>>,
+pub struct Service<A: Allocator + Copy = Global> {
+    /// The allocator of calls and their deadlines, of the configuration, and of what is made while a datagram is handled.
+    pub(crate) alloc: A,
+    /// The allocator of all else.
+    pub(crate) heap: Global,
+    pub(crate) setup: RwLock<Setup<A>>,
     pub(crate) terms: Terms,
-    pub(crate) calls: Calls,
+    pub(crate) calls: Calls<A>,
     pub(crate) admission: Admission,
     pub(crate) lifetime: Lifetime,
     pub(crate) journal: JournalQueue,
     pub(crate) counts: Counts,
 }
 
-impl Service {
+impl<A: Allocator + Copy> Service<A> {
     /// A service without a call, by this setup.
     ///
     /// # Errors
     ///
     /// Only where the allocator refuses.
-    pub fn new(alloc: Global, setup: Setup<Global>, terms: Terms) -> Result<Service, AllocError> {
-        let calls = Calls::new(alloc)?;
+    pub fn new(memory: Memory<A>, setup: Setup<A>, terms: Terms) -> Result<Service<A>, AllocError> {
+        let Memory { alloc, heap } = memory;
+        let calls = Calls::new(alloc, heap)?;
         Ok(Service {
             alloc,
+            heap,
             setup: RwLock::new(service_setup(setup, terms.own_port)),
             terms,
             calls,
             admission: Admission::new(terms.most_calls),
             lifetime: Lifetime::new(),
-            journal: JournalQueue::new(alloc),
+            journal: JournalQueue::new(heap),
             counts: Counts::new(),
         })
     }
 
     /// When calls are due, to sleep on and to wake.
-    pub fn schedule(&self) -> &Schedule<Global> {
+    pub fn schedule(&self) -> &Schedule<A> {
         &self.calls.schedule
     }
 
+    /// What it has counted since its start, to count on and to read: each counter may be added to by any thread.
     pub fn counts(&self) -> &Counts {
         &self.counts
     }
@@ -76,6 +83,8 @@ impl Service {
         self.calls.schedule.wake();
     }
 
+    /// Whether it stands so at this moment: it serves until `drain` or `end` is called, drains until `next_look` or `end` ends it, and has
+    /// ended from then on.
     pub fn is_in(&self, state: State) -> bool {
         self.lifetime.is_in(state)
     }
@@ -110,7 +119,7 @@ impl Service {
             held: self.held(rt),
             resident,
         };
-        self.counts.text(self.alloc, gauges)
+        self.counts.text(self.heap, gauges)
     }
 
     /// How many calls it keeps.

@@ -5,11 +5,11 @@ ghost use Rattle.proxy_service.specs.Setups.{IsOf, IsReloadFault, IsServiceSetup
 use crate::terms::Terms;
 use daemon_parts::{DaemonFault, Identity, read_text};
 use fork_call::Setup;
-use std::alloc::Global;
+use std::alloc::Allocator;
 
 /// A setup as a service goes by it: all Route values at the front of a request that lead to the proxy are taken away; and the own address
 /// counts as the domain with the own port alone, if that is asked for.
-pub(crate) fn service_setup(setup: Setup<Global>, own_port: bool) -> Setup<Global>
+pub(crate) fn service_setup<A: Allocator + Clone>(setup: Setup<A>, own_port: bool) -> Setup<A>
     ensures { result ≡ service_setup own_port setup }
 {
     let setup = setup.for_a_service();
@@ -21,7 +21,7 @@ pub(crate) fn service_setup(setup: Setup<Global>, own_port: bool) -> Setup<Globa
 }
 
 /// Whether a setup has this identity.
-fn is_of(setup: &Setup<Global>, identity: Identity) -> bool
+fn is_of<A: Allocator + Clone>(setup: &Setup<A>, identity: Identity) -> bool
     ensures { IsTrue result ↔ IsOf identity setup.now }
 {
     setup.own() == identity.own && setup.instance() == identity.instance
@@ -32,11 +32,11 @@ fn is_of(setup: &Setup<Global>, identity: Identity) -> bool
 /// # Errors
 ///
 /// Those of [`read_text`]; else `Identity` where it has another address or another instance.
-pub(crate) fn setup_of(
-    alloc: Global,
+pub(crate) fn setup_of<A: Allocator + Clone>(
+    alloc: A,
     text: &[u8],
     terms: &Terms,
-) -> Result<Setup<Global>, DaemonFault>
+) -> Result<Setup<A>, DaemonFault>
     ensures ok { IfOk result (IsServiceSetup terms.now text.now) }
     ensures fault { IfErr result (IsReloadFault terms.now text.now) }
 {

@@ -15,7 +15,7 @@ use daemon_parts::is_keep_alive;
 use fork_call::{Call, Port, Setup};
 use proxy_dispatch::{Handled, Memory, Received, handle};
 use sip_service::record_text;
-use std::alloc::{AllocError, Global};
+use std::alloc::{AllocError, Allocator};
 use std::sync::Wait;
 use std::time::Clock;
 
@@ -30,7 +30,11 @@ enum Admitted {
 }
 
 /// The text of a datagram with a Record-Route line, where it opens a dialog on whose path the proxy stays; None where it stays as it is.
-fn recorded(alloc: Global, terms: &Terms, bytes: &[u8]) -> Result<Option<Vec<u8>>, AllocError>
+fn recorded<A: Allocator + Clone>(
+    alloc: A,
+    terms: &Terms,
+    bytes: &[u8],
+) -> Result<Option<Vec<u8, A>>, AllocError>
     ensures { IfOk result (λ made. unwrap_or (option_map (λ text. text.items) made) bytes.now ≡ recorded_text terms.now.records terms.now.identity.own bytes.now) }
 {
     if terms.records {
@@ -41,7 +45,7 @@ fn recorded(alloc: Global, terms: &Terms, bytes: &[u8]) -> Result<Option<Vec<u8>
 }
 
 /// The text, or else these bytes.
-fn text_or<'a>(text: &'a Option<Vec<u8>>, bytes: &'a [u8]) -> &'a [u8]
+fn text_or<'a, A: Allocator>(text: &'a Option<Vec<u8, A>>, bytes: &'a [u8]) -> &'a [u8]
     ensures { result.now ≡ unwrap_or (option_map (λ text. text.items) text.now) bytes.now }
 {
     match text {
@@ -51,12 +55,12 @@ fn text_or<'a>(text: &'a Option<Vec<u8>>, bytes: &'a [u8]) -> &'a [u8]
 }
 
 /// Handles a datagram by this setup, as this text if there is one.
-fn handle_as<R: Wait, P: Port>(
+fn handle_as<A: Allocator + Clone, R: Wait, P: Port>(
     rt: &R,
-    alloc: Global,
-    shelf: &Shelf<Call<Global>, Global>,
-    setup: &Setup<Global>,
-    text: &Option<Vec<u8>>,
+    memory: Memory<A>,
+    shelf: &Shelf<Call<A>, A>,
+    setup: &Setup<A>,
+    text: &Option<Vec<u8, A>>,
     received: Received<'_>,
     port: &mut P,
 ) -> Result<Handled, AllocError>
@@ -66,7 +70,6 @@ fn handle_as<R: Wait, P: Port>(
         × IsHanded P.sends port.old sent port.new) }
     ensures err { OnErr result (port.new ≡ port.old) }
 {
-    let memory = Memory { alloc, heap: alloc };
     let received = Received {
         bytes: text_or(text, received.bytes),
         source: received.source,
@@ -75,7 +78,7 @@ fn handle_as<R: Wait, P: Port>(
     handle(rt, memory, shelf, setup, received, port)
 }
 
-impl Service {
+impl<A: Allocator + Copy> Service<A> {
     /// Handles a datagram as the configuration says that stands now.
     fn handled<R: Wait, P: Port>(
         &self,
@@ -84,10 +87,14 @@ impl Service {
         received: Received<'_>,
     ) -> Result<Handled, AllocError> {
         let recorded = recorded(self.alloc, &self.terms, received.bytes)?;
+        let memory = Memory {
+            alloc: self.alloc,
+            heap: self.heap,
+        };
         let setup = self.setup.read(rt);
         handle_as(
             rt,
-            self.alloc,
+            memory,
             &self.calls.shelf,
             &*setup,
             &recorded,

@@ -3,13 +3,14 @@ use crate::calls::Search;
 use crate::draining::Seen;
 use crate::service::Service;
 use fork_call::Port;
+use std::alloc::Allocator;
 use std::sync::Wait;
 use std::time::Clock;
 
 /// How many calls are carried before the time is read anew.
 const MOST_CARRIED: u32 = 4_096;
 
-impl Service {
+impl<A: Allocator + Copy> Service<A> {
     /// Where a deadline was missed, goes on with the walk over all calls: each is carried, at most 4,096 at a time.
     fn walk_on<R: Wait + Clock, P: Port>(&self, rt: &R, port: &mut P, now: u64) {
         let is_missed = self.calls.schedule.take_missed();

@@ -2,10 +2,11 @@
 ghost use Rattle.std.specs.Prelude.{◌≡◌};
 
 use crate::answers::discard;
-use crate::plays::{calls, plays};
+use crate::plays::{calls, holds, plays};
 use crate::sources::Alloc;
-use call_table::{Inbox, InboxIn, InboxOut, Numbered, Shelf, ShelfFault};
-use refusing::{Answer, Heap, Play, Repeated, Stateless};
+use call_table::{Inbox, InboxIn, InboxOut, Numbered, Removal, Shelf, ShelfFault};
+use refusing::{Answer, Heap, Play, Refusing, Repeated, Stateless, refused_once};
+use std::alloc::Global;
 use std::sync::Wait;
 
 /// A value that knows its number.
@@ -100,6 +101,95 @@ impl<R: Wait> Play for Keys<'_, R> {
 #[test]
 fn values_are_put(rt: HostRuntime) {
     plays(&rt, &Keys { rt: &rt }, 0, "values on a shelf");
+}
+
+/// How many values are put, and which of them stay: those whose numbers this divides.
+const COUNT: u64 = 400;
+
+const STEP: u64 = 50;
+
+/// Whether the value of this number is one that stays.
+fn stays(number: u64) -> bool {
+    number.checked_rem(STEP) == Some(0)
+}
+
+/// Whether all values are put.
+fn fills<R: Wait>(rt: &R, shelf: &Shelf<Slot, Alloc<'_>>) -> bool {
+    let mut well = true;
+    for number in 0..COUNT {
+        let key = number.to_be_bytes();
+        let put: Result<u64, ShelfFault<u8>> = shelf.put(
+            rt,
+            key.as_slice(),
+            |number| Ok(slot_of(number)),
+        );
+        well = well && put.ok() == Some(number);
+    }
+    well
+}
+
+/// Whether those are taken away that do not stay.
+fn empties<R: Wait>(rt: &R, shelf: &Shelf<Slot, Alloc<'_>>) -> bool {
+    let mut well = true;
+    for number in 0..COUNT {
+        if !stays(number) {
+            well = well && shelf.remove_if(rt, number, |_| true) == Removal::Removed;
+        }
+    }
+    well
+}
+
+/// Whether exactly those are there that stay, with their keys.
+fn are_left<R: Wait>(rt: &R, shelf: &Shelf<Slot, Alloc<'_>>) -> bool {
+    let mut well = shelf.held(rt) == COUNT / STEP;
+    for number in 0..COUNT {
+        let is_there = shelf.with(rt, number, |_| 1u8).is_some();
+        let keyed = shelf.keyed(rt, number.to_be_bytes().as_slice());
+        let is_keyed = keyed == Some(number);
+        well = well && is_there == stays(number) && is_keyed == is_there;
+    }
+    well
+}
+
+/// Values of which a few stay. They move aside as the others are taken away; where there is no memory for that they stay where they are.
+#[derive(Drop)]
+struct Aside<'r, R> {
+    rt: &'r R,
+}
+
+impl<R: Wait> Aside<'_, R> {
+    /// Whether the others go and those that stay are left, on this shelf.
+    fn goes(&self, heap: &Refusing<Global>, shelf: &Shelf<Slot, Alloc<'_>>) -> bool {
+        heap.pause();
+        let well = fills(self.rt, shelf);
+        heap.go_on();
+        well && empties(self.rt, shelf) && are_left(self.rt, shelf)
+    }
+
+    /// Whether it is so over this memory.
+    fn goes_over(&self, heap: &Refusing<Global>) -> bool {
+        match Shelf::new(heap) {
+            Ok(shelf) => self.goes(heap, &shelf),
+            Err(_) => false,
+        }
+    }
+}
+
+impl<R: Wait> Play for Aside<'_, R> {
+    fn play(&self, heap: Heap<'_>) -> bool {
+        self.goes_over(heap.scarce)
+    }
+}
+
+#[test]
+fn what_is_old_moves_aside_or_stays(rt: HostRuntime) {
+    let aside = Aside { rt: &rt };
+    let without = refused_once(rt.alloc(), &aside);
+    holds(&rt, without.is_some(), "each growth alone is done without");
+    let heap = Refusing::new(rt.alloc());
+    heap.refuse_from(1);
+    let goes = aside.goes_over(&heap);
+    holds(&rt, goes && heap.refused() > 1, "so are all");
 }
 
 /// Both ends of an inbox of numbers.

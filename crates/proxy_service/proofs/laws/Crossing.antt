@@ -37,17 +37,20 @@ setup_sent = setup.setup_send heap_row ghosts send frees
 admission_sync : IsSync admission.the_field.row
 admission_sync = struct_sync (shape admission.the_type) (search (crosses, room.the_send), (search (crosses, sendable), (search (crosses, sendable), tt)))
 
-calls_sync : IsSync calls.the_field.row
-calls_sync = struct_sync (shape calls.the_type) (
-  search shelf_shared,
+calls_sync : (h : clone.Ghosts heap_row.Denot) → IsSync (calls.the_field heap_row ghosts h).row
+calls_sync h = struct_sync (shape (calls.the_type heap_row ghosts h)) (
+  shelf_shared h,
   (schedule_sync heap_row ghosts send frees, (marks_sync, (refusals.the_field_sync, (search (crosses, walk.the_send), (search (crosses, sendable), tt))))),
 )
 
-pub service_sync : IsSync service.the_field.row
-service_sync = struct_sync (shape service.the_type) (
-  heap.the_field_sync,
+pub service_sync : (h : clone.Ghosts heap_row.Denot) → IsSync (service.the_field heap_row ghosts h).row
+service_sync h = struct_sync (shape (service.the_type heap_row ghosts h)) (
+  sync,
   (
-    search (lock.the_field_sync, setup_shared, setup_sent),
-    (terms.the_field_sync, (calls_sync, (admission_sync, (lifetime.the_field_sync, (queue.the_field_sync, (counts_sync, tt)))))),
+    heap.the_field_sync,
+    (
+      search (lock.the_field_sync, setup_shared, setup_sent),
+      (terms.the_field_sync, (calls_sync h, (admission_sync, (lifetime.the_field_sync, (queue.the_field_sync, (counts_sync, tt)))))),
+    ),
   ),
 )
