@@ -18,8 +18,8 @@ pub struct Row<S> {
 #[derive(Clone, Copy, Debug, PartialEq, Eq)]
 pub struct Machine<S> {
     pub state: S,
-    pub timers: Timers,
     pub reliability: Reliability,
+    pub timers: Timers,
 }
 
 /// A row of a table, by its parts.
