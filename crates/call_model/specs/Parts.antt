@@ -5,11 +5,13 @@ use Rattle.std.specs.Option.{option_map}
 use Rattle.fork_model.specs.Event.{TimerC}
 use Rattle.fork_model.specs.Log.{added}
 use Rattle.fork_model.specs.Reply.{Reply}
+use Rattle.fork_model.specs.Table.{is_ended}
 use Rattle.call_model.specs.Branch.{Branch, CancelTransaction, timer_c}
-use Rattle.call_model.specs.Call.{Call, nth_branch, owes_cancel}
+use Rattle.call_model.specs.Call.{Call, nth_branch, owes_cancel, row_passes}
 use Rattle.call_model.specs.OpenedRequest.{Destination, is_invite}
 use Rattle.call_model.specs.Posting.{call_tag}
 use Rattle.call_model.specs.Pump.{cancel_bytes}
+use Rattle.call_model.specs.Sound.{IsSound}
 use Rattle.call_model.specs.Step.{Turn, Step}
 
 abbrev pub cancel_sent : CancelTransaction → List ℕ
@@ -52,3 +54,9 @@ pub record PartsGoOn (fires : ℕ → Type 0) (call new : Call) : Type 0 where
 abbrev pub StepsKeepParts : Type 0
 StepsKeepParts =
     (turn : Turn) (call new : Call) → Step turn.now call turn.input new turn.output → PartsGoOn (FiresTimer call new) call new
+
+-- timer C that fires ends its branch, or the branch has none any more
+abbrev pub FiringsEndOrCancel : Type 0
+FiringsEndOrCancel =
+    (turn : Turn) (call new : Call) (n : ℕ) → IsSound call → Step turn.now call turn.input new turn.output → FiresTimer call new n
+    → (row_passes is_ended new n ≡ true) ⊎ ((branch : Branch) × (nth_branch new n ≡ Some branch) × (branch.timer_c_at ≡ None))
