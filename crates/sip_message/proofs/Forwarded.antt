@@ -1,5 +1,5 @@
 -- A request as it goes to a target is a message.
-use Rattle.sip_message.proofs.Common.{◌≡◌, ℕ, true, false, not, eqb, map, List, [], ◌∷◌, ◌++◌, length, Option, refl, ap, ◌∙◌, arith, ◌&&◌, codes, IfSome, is_none, list_all, and_parts, is_token, CSeqText, cseq_in, fits_start, said_by, IsMessage, fits_body}
+use Rattle.sip_message.proofs.Common.{◌≡◌, ℕ, true, false, not, eqb, map, None, List, [], ◌∷◌, ◌++◌, length, Option, refl, ap, ◌∙◌, arith, ◌&&◌, codes, IfSome, is_none, list_all, and_parts, is_token, CSeqText, cseq_in, fits_start, said_by, IsMessage, fits_body}
 use Rattle.sip_message.proofs.Common.{is_header, is_start, is_value, first_of, first_value, is_uri, HeaderText, MessageText, StartText, and_both, Uri, request_uri, Own, BranchName, line, own_via, forwarded, hops_lowered, is_request, to_target, IsHops, hops_name}
 use Rattle.sip_message.proofs.Common.{all-replaced, common_steps}
 use Rattle.std.proofs.Common.{ltb}
