@@ -110,7 +110,7 @@ module _ (one : ExactlyOneFinal) (before : NoFinalBefore) (beside : NoFinalBesid
       by : (machine : ServerTransaction) → call.server.machine ≡ machine → Awaits turns machine → (is_invite call.opened ≡ false) × CouldNotSend turns
       by (InviteServer m) is w = absurd (never (ap waits is ∙ w))
       by (OtherServer m) is (inl w) = absurd (never (ap waits is ∙ w))
-      by (OtherServer m) is (inr failed) = (sym holds.stands.finals.side ∙ ap is_for_invite is, failed)
+      by (OtherServer m) is (inr (ended, failed)) = (sym holds.stands.finals.side ∙ ap is_for_invite is, failed)
 
   gives_sent : (choice : Choice) (rest : List Owed) (m : MessageText) (output : step.Output) → call.server.owed ≡ server.Final choice ∷ rest
       → answer_of call (server.Final choice) ≡ Some m → output ≡ sent_to call (spelling m) → GivesFinal (payment_at turns call (server.Final choice) output) choice

@@ -1,18 +1,18 @@
 -- What each step leaves of what a call sends again.
-use Rattle.call_model.proofs.Common.{◌≡◌, ◌∙◌, ℕ, zero, suc, ap, refl, sym, subst, true, false, Bool, List, [], ◌∷◌, Option, Some, None, slice_get, Event, Reply, MessageText, spelling, ContactText, Hop, Cause, Datagram, answer_of}
-use Rattle.call_model.proofs.Common.{request_to, Call, set_branch, nth_branch, IsBuilt, Action, Fails, FaultsBy, FaultsClient, cancel_faulted, OpenedRequest, Destination, Branch, CancelTransaction, Posts, Pumped, Send, Did, Does, Pumps, SendsAnswer, AnswersBy, AnswersWith}
+use Rattle.call_model.proofs.Common.{◌≡◌, ◌∙◌, ◌⊎◌, inl, inr, ℕ, zero, suc, ap, refl, sym, subst, true, false, Bool, List, [], ◌∷◌, Option, Some, None, slice_get, Event, Reply, MessageText, spelling, ContactText, Hop, Cause, Datagram, answer_of}
+use Rattle.call_model.proofs.Common.{request_to, Call, set_branch, nth_branch, IsBuilt, Action, Fails, FaultsBy, FaultsClient, cancel_faulted, OpenedRequest, Destination, Branch, Posts, Pumped, Send, Did, Does, Pumps, SendsAnswer, AnswersBy, AnswersWith}
 use Rattle.call_model.proofs.Common.{TicksClientBy, FiresTimerC, sent_if, Owed, Passed, Final, Again, CancelOk, CancelledBy, Responds, Taken, TakesAs}
 use Rattle.call_model.specs.declared.cause.Cause.TheVariants as cause
 use Rattle.call_model.specs.Again.{LastAnswerIsKept, RepeatsAreTheSame, is_repeated, last_after}
 use Rattle.call_model.specs.Due as due
 use Rattle.call_model.specs.Datagrams.{ToBranch}
-use Rattle.call_model.specs.Pump.{Idle, cancel_started}
+use Rattle.call_model.specs.Parts.{FiresTimer, PartsGoOn, SendsCancelTo, cancel_kept}
+use Rattle.call_model.specs.Pump.{Idle}
 use Rattle.call_model.specs.Server.{Trying}
 use Rattle.call_model.specs.Step as step
 use Rattle.call_model.specs.Step.{Run, Turn}
 use Rattle.call_model.specs.Take as to
 use Rattle.call_model.proofs.KeptBuilt.{destination_more, here_with}
-use Rattle.call_model.proofs.Parts.{KeepsCancel, PartsGoOn}
 use Rattle.call_model.proofs.Parts as parts
 use Rattle.call_model.proofs.laws.RightDatagrams.{built_by}
 use Rattle.call_model.proofs.StepsBuilt.{steps_keep}
@@ -184,8 +184,7 @@ last_is_kept turn call new h = (stepped turn.now call turn.input new turn.output
 
 -- branch n has sent its CANCEL, and keeps it
 abbrev HoldsCancel : Call → ℕ → List ℕ → Type 0
-HoldsCancel call n bytes =
-    (branch : Branch) × (nth_branch call n ≡ Some branch) × (cancelling : CancelTransaction) × (branch.cancelling ≡ Some cancelling) × (cancelling.sent ≡ bytes)
+HoldsCancel call n bytes = (branch : Branch) × (nth_branch call n ≡ Some branch) × (cancel_kept branch ≡ Some bytes)
 
 -- what was sent once, of the call as it is now: the request is as it is made, and the CANCEL is the one that is kept
 abbrev WasSent : Call → Datagram → Cause → Type 0
@@ -195,18 +194,16 @@ WasSent call d (cause.Ack n) = Unit {0}
 WasSent call d cause.Answer = Unit {0}
 WasSent call d cause.CancelOk = Unit {0}
 
-kept_cancel : (c d : Option CancelTransaction) (k : CancelTransaction) (bytes : List ℕ) → KeepsCancel c d → c ≡ Some k → k.sent ≡ bytes → (l : CancelTransaction) × (d ≡ Some l) × (l.sent ≡ bytes)
-kept_cancel None d k bytes keeps e is = absurd cc
-kept_cancel (Some c) None k bytes keeps e is = absurd keeps
-kept_cancel (Some c) (Some l) k bytes keeps e is = let same : c ≡ k = cc in (l, refl, keeps ∙ ap (λ (x : CancelTransaction). x.sent) same ∙ is)
+still_holds : (call new : Call) (n : ℕ) (bytes : List ℕ) (destination : Destination) → slice_get call.destinations n ≡ Some destination → PartsGoOn (FiresTimer call new) call new → HoldsCancel call n bytes → HoldsCancel new n bytes
+still_holds call new n bytes destination goes on (branch, there, kept) =
+    let p = on.kept n destination branch goes there in
+    (p.0, p.1, by p.0 p.2.cancel)
+  where
+    by : (later : Branch) → (cancel_kept later ≡ cancel_kept branch) ⊎ SendsCancelTo call n destination branch later → cancel_kept later ≡ Some bytes
+    by later (inl same) = same ∙ kept
+    by later (inr sends) = absurd (let e : None ≡ Some bytes = sym sends.first ∙ kept in cc)
 
-still_holds : (call new : Call) (n : ℕ) (bytes : List ℕ) (destination : Destination) → slice_get call.destinations n ≡ Some destination → PartsGoOn call new → HoldsCancel call n bytes → HoldsCancel new n bytes
-still_holds call new n bytes destination goes on (branch, there, cancelling, is, sent) =
-    let p = on n destination branch goes there in
-    let k = kept_cancel branch.cancelling p.0.cancelling cancelling bytes p.2.cancel is sent in
-    (p.0, p.1, k.0, k.1, k.2)
-
-still_sent : (call new : Call) (d : Datagram) → Stays call new → PartsGoOn call new → (c : Cause) → is_repeated c ≡ true → WasSent call d c → WasSent new d c
+still_sent : (call new : Call) (d : Datagram) → Stays call new → PartsGoOn (FiresTimer call new) call new → (c : Cause) → is_repeated c ≡ true → WasSent call d c → WasSent new d c
 still_sent call new d s on (cause.Request n) e (destination, there, hop, text) =
     (destination, s.destinations n destination there, hop, text ∙ ap (λ (f : OpenedRequest). spelling (request_to f destination n)) (sym s.opened))
 still_sent call new d s on (cause.Cancel n) e (destination, there, hop, holds) =
@@ -262,13 +259,13 @@ request_sent call new n d destination bytes s goes same text =
     subst P (sym same) (destination, s.destinations n destination goes, refl, text ∙ ap (λ (f : OpenedRequest). spelling (request_to f destination n)) (sym s.opened))
 
 -- a CANCEL, which its branch keeps
-cancel_sent : (call new : Call) (n : ℕ) (d : Datagram) (destination : Destination) (bytes : List ℕ) (branch l : Branch) (cancelling : CancelTransaction) → slice_get call.destinations n ≡ Some destination
-    → nth_branch call n ≡ Some branch → l.cancelling ≡ Some cancelling → cancelling.sent ≡ bytes
+cancel_sent : (call new : Call) (n : ℕ) (d : Datagram) (destination : Destination) (bytes : List ℕ) (branch l : Branch) → slice_get call.destinations n ≡ Some destination
+    → nth_branch call n ≡ Some branch → cancel_kept l ≡ Some bytes
     → d ≡ datagram destination.hop bytes (cause.Cancel n) → new ≡ set_branch call n l → WasSent new d d.cause
-cancel_sent call new n d destination bytes branch l cancelling goes there is sent same e =
+cancel_sent call new n d destination bytes branch l goes there is same e =
     let P : Datagram → Type 0 = λ x. WasSent new x x.cause in
     let Q : Call → Type 0 = λ c. WasSent c (datagram destination.hop bytes (cause.Cancel n)) (cause.Cancel n) in
-    subst P (sym same) (subst Q (sym e) (destination, goes, refl, (l, here_with call.branches n branch l there, cancelling, is, sent)))
+    subst P (sym same) (subst Q (sym e) (destination, goes, refl, (l, here_with call.branches n branch l there, is)))
 
 ticked_sent : (call : Call) (now n : ℕ) (destination : Destination) (branch : Branch) (b : Bool) (d : Datagram) (new : Call) → IsBuilt call → Stays call new → slice_get call.destinations n ≡ Some destination → nth_branch call n ≡ Some branch
     → TicksClientBy call now n destination branch b (Send d) new → WasSent new d d.cause
@@ -283,13 +280,13 @@ fired_sent call now n branch false d new (out, reply, h) = absurd (let e = out i
 done_sent : (call : Call) (now : ℕ) (action : Action) (d : Datagram) (new : Call) → IsBuilt call → Stays call new → is_repeated d.cause ≡ true → Does call now action (Send d) new → WasSent new d d.cause
 done_sent call now (due.SendRequest n) d new built s e (destination, goes, (out, same)) = request_sent call new n d destination _ s goes (the_same d _ out) refl
 done_sent call now (due.SendCancel n) d new built s e (destination, branch, goes, there, (out, same)) =
-    cancel_sent call new n d destination _ branch _ (cancel_started call now n destination) goes there refl refl (the_same d _ out) same
+    cancel_sent call new n d destination _ branch _ goes there refl (the_same d _ out) same
 done_sent call now (due.SendAck n) d new built s e (destination, branch, goes, there, (ack, owed, out, same)) = other_cause new d _ (the_same d _ out) refl e
 done_sent call now due.SendAnswer d new built s e h = paid_sent call now d new call.server.owed e h
 done_sent call now due.TickServer d new built s e (out, same) = other_cause new d _ (sent_same _ d _ out) refl e
 done_sent call now (due.TickClient n) d new built s e (destination, branch, goes, there, h) = ticked_sent call now n destination branch _ d new built s goes there h
 done_sent call now (due.TickCancel n) d new built s e (destination, branch, goes, there, (cancelling, is, out, same)) =
-    cancel_sent call new n d destination cancelling.sent branch _ _ goes there refl refl (sent_same _ d _ out) same
+    cancel_sent call new n d destination cancelling.sent branch _ goes there refl (sent_same _ d _ out) same
 done_sent call now (due.FireTimerC n) d new built s e (branch, there, h) = fired_sent call now n branch _ d new h
 done_sent call now (due.GiveUp n) d new built s e (branch, there, (out, reply, h)) = absurd (let is = out in cc)
 
@@ -324,10 +321,9 @@ some_same o v w a b = let e : Some w ≡ Some v = sym b ∙ a in cc
 
 -- a branch keeps one CANCEL
 same_cancel : (call : Call) (n : ℕ) (a b : List ℕ) → HoldsCancel call n a → HoldsCancel call n b → b ≡ a
-same_cancel call n a b (v, there, c, is, sent) (w, also, k, is-2, sent-2) =
+same_cancel call n a b (v, there, kept) (w, also, kept_too) =
     let part : w ≡ v = some_same (nth_branch call n) v w there also in
-    let one : k ≡ c = some_same v.cancelling c k is (ap (λ (x : Branch). x.cancelling) (sym part) ∙ is-2) in
-    sym sent-2 ∙ ap (λ (x : CancelTransaction). x.sent) one ∙ sent
+    some_same (cancel_kept v) a b kept (ap cancel_kept (sym part) ∙ kept_too)
 
 same_sent : (call : Call) (d e : Datagram) (c : Cause) → is_repeated c ≡ true → e.cause ≡ d.cause → WasSent call d c → WasSent call e c → e ≡ d
 same_sent call d e (cause.Request n) r why (v, there, hop, text) (w, also, hop-2, text-2) =

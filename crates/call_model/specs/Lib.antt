@@ -19,6 +19,7 @@ pub mod Again
 pub mod Sound
 pub mod ClosedBy
 pub mod Longest
+pub mod Parts
 pub mod Behind
 pub mod Fitting
 pub mod SeenDatagram

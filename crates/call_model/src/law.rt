@@ -5,6 +5,7 @@ ghost use Rattle.call_model.specs.ClosedBy.{BegunKnowsClosing, ClosingStaysOrCom
 ghost use Rattle.call_model.specs.Datagrams.{BegunIsBuilt, StepsKeepBuilt};
 ghost use Rattle.call_model.specs.Fitting.{CancelsAreTaken, FaultsAreTaken, GivingsUpAreTaken, TimeoutsAreTaken, TimerCsAreTaken};
 ghost use Rattle.call_model.specs.Longest.{ShorterTimesStay, UsualTimesStart, UsualTimesStartAgain};
+ghost use Rattle.call_model.specs.Parts.{StepsKeepParts};
 ghost use Rattle.call_model.specs.Sound.{BegunIsSound, StepsKeepSound};
 
 use fork_model::{
@@ -105,4 +106,13 @@ pub fn shorter_times_stay()
     ensures usual { UsualTimesStart }
     ensures again { UsualTimesStartAgain }
     ensures stay { ShorterTimesStay }
+{}
+
+/// What a step leaves of each branch: a CANCEL that was sent is kept, and one is sent where it is owed, once; timer C that has
+/// fired does not run again; and a branch whose request is sent has no CANCEL yet, and timer C where it is an INVITE (RFC 3261
+/// sections 9.1 and 16.6 to 16.8).
+///
+/// A law over the definitions, with nothing to run.
+pub fn parts_go_on()
+    ensures { StepsKeepParts }
 {}

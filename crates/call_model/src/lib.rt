@@ -19,7 +19,7 @@ pub use cause::Cause;
 pub use datagram::Datagram;
 pub use law::{
     branches_keep_their_answers, branches_keep_what_they_send, calls_know_what_closed_them,
-    calls_stay_sound, own_events_are_taken, repeats_are_the_same, shorter_times_stay,
+    calls_stay_sound, own_events_are_taken, parts_go_on, repeats_are_the_same, shorter_times_stay,
 };
 pub use step::Step;
 pub use taken::Taken;
