@@ -99,11 +99,11 @@ hop_at (x ∷ cs) (suc place) c h e = hop_at cs place c (and_parts (has_hop x) (
 goes_by : (opened : OpenedRequest) (uri : Uri) → is_some (hop_of uri) ≡ true → is_some (destination_to opened uri) ≡ true
 goes_by opened uri h = by opened.route
   where
-    at : (hop : Option Hop) → is_some hop ≡ true → is_some (destination_by uri hop) ≡ true
+    at : (hop : Option Hop) → is_some hop ≡ true → is_some (destination_by uri hop opened.ring) ≡ true
     at None e = absurd cc
     at (Some hop) e = refl
 
-    by : (route : Option Hop) → is_some (destination_by uri (next_hop route uri)) ≡ true
+    by : (route : Option Hop) → is_some (destination_by uri (next_hop route uri) opened.ring) ≡ true
     by (Some hop) = refl
     by None = at (hop_of uri) h
 

@@ -113,7 +113,7 @@ fn contacts_by<A: Allocator + Clone>(
 // ---- offering
 
 /// Whether a URI leads to a hop over UDP.
-fn is_over_udp<A: Allocator>(uri: &SipUri<A>) -> bool
+fn is_over_udp<A: Allocator + Clone>(uri: &SipUri<A>) -> bool
     ensures { result ≡ is_over_udp uri.now }
 {
     match uri.next_hop() {
@@ -123,7 +123,10 @@ fn is_over_udp<A: Allocator>(uri: &SipUri<A>) -> bool
 }
 
 /// The URI of a contact, where it may be tried.
-fn tried_uri<A: Allocator>(tried: TriedContacts, uri: Option<SipUri<A>>) -> Option<SipUri<A>>
+fn tried_uri<A: Allocator + Clone>(
+    tried: TriedContacts,
+    uri: Option<SipUri<A>>,
+) -> Option<SipUri<A>>
     ensures { result ≡ tried_uri tried uri }
 {
     match tried {

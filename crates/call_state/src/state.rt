@@ -1,5 +1,5 @@
 //! The state of a call.
-ghost use Rattle.std.specs.Prelude.{◌≡◌, ◌<◌, ◌≤◌, [], true, length, drop, map, slice_get, List, None, Some, IfOk, OnOk, OnErr, IsErrOf};
+ghost use Rattle.std.specs.Prelude.{◌≡◌, ◌<◌, ◌&&◌, ◌≤◌, [], true, length, drop, map, slice_get, is_some, List, None, Some, IfOk, OnOk, OnErr, IsErrOf};
 ghost use Rattle.std.specs.Option.{option_copied, option_map};
 ghost use Rattle.fork_model.specs.Core.{is_full};
 ghost use Rattle.fork_model.specs.Event as event;
@@ -17,7 +17,7 @@ ghost use Rattle.call_model.specs.Built.{ack_to, answer_in, status_of};
 ghost use Rattle.call_model.specs.Call.{closed_by, is_cancel_sent, is_sent, nth_branch, numbered, owes_ack, row_passes, rows_of, set_branch};
 ghost use Rattle.call_model.specs.Closing.{closing_after};
 ghost use Rattle.call_branch.specs.AckOwed.{ack_owed};
-ghost use Rattle.call_model.specs.Due.{FireTimerC, is_due_at};
+ghost use Rattle.call_model.specs.Due.{FireTimerC, is_due_at, timer_c_at};
 ghost use Rattle.call_model.specs.OpenedRequest as opened;
 ghost use Rattle.call_branch.specs.BranchInside.{ack_made, cancel_on, cancelled, changed_branch, kept, no_branches, responded, without_ack};
 ghost use Rattle.call_state.specs.CallStateInside.{IsSized};
@@ -337,16 +337,23 @@ impl<A: Allocator + Clone> CallState<A> {
         })
     }
 
-    /// The CANCEL of branch n as it is sent. Where the call says why, its Reason lines say what closed the table, and there are
-    /// none where timer C has fired for the branch (RFC 3261 section 16.8 and RFC 3326).
+    /// Whether the CANCEL of branch n says why it is sent: the call does, and timer C has not fired for the branch.
+    fn says_why(&self, n: u16) -> bool
+        ensures { result ≡ (self.now.opened.reasons && is_some (timer_c_at (nth_branch self.now n))) }
+    {
+        self.opened.reasons() && timer_c_at(self.branch(n)).is_some()
+    }
+
+    /// The CANCEL of branch n as it is sent; its Reason lines, where it has any, say what closed the table (RFC 3261 section 9.1
+    /// and RFC 3326).
     fn cancel_bytes(&self, destination: &Destination<A>, n: u16) -> Result<Vec<u8, A>, AllocError>
         ensures { IfOk result (λ bytes. bytes.items ≡ cancel_bytes self.now n destination.now) }
     {
-        if !self.opened.reasons() || timer_c_at(self.branch(n)).is_none() {
-            self.opened.cancel_bytes(&self.alloc, destination, n, &[])
-        } else {
+        if self.says_why(n) {
             self.closing
                 .cancel_bytes(&self.alloc, &self.opened, destination, n)
+        } else {
+            self.opened.cancel_bytes(&self.alloc, destination, n, &[])
         }
     }
 
