@@ -106,7 +106,7 @@ fn going_on<A: Allocator + Clone>(
     if is_domain(setup, &uri) {
         return Ok(None);
     }
-    match hop_by(first_route(request), &uri) {
+    match hop_by(setup.has_streams(), first_route(request), &uri) {
         None => Ok(None),
         Some(hop) => Ok(Some(passed_on(alloc, setup, request, &uri, hop)?)),
     }
