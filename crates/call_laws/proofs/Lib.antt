@@ -13,3 +13,6 @@ pub mod Content
 pub mod Running
 pub mod Accepted
 pub mod Successes
+pub mod Cancelled
+pub mod InRun
+pub mod EachDatagram
