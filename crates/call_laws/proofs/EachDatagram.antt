@@ -36,7 +36,7 @@ use Rattle.call_laws.specs.EachDatagram.{EachDatagramIsRight, Final, IsAckOf, Is
 use Rattle.call_laws.specs.Right.{BegunStands, StepsStand}
 use Rattle.call_laws.specs.Sending.{IsAnswerOf, IsSentFor, WhatIsSentIsRight}
 use Rattle.call_laws.specs.Stages.{Leads, Stage, end_of}
-use Rattle.call_laws.specs.WhyCancelled.{IsCancelOf, TimerCFired}
+use Rattle.call_laws.specs.WhyCancelled.{IsCancelAfter, MadeNow, SentAgain, TimerCFired, WasSentBefore}
 use Rattle.call_laws.proofs.Content.{final_content}
 use Rattle.call_laws.proofs.InRun.{HasCome, InRun, after_step, says_why, turns_added}
 use Rattle.call_laws.proofs.Cancelled.{opening_none}
@@ -173,7 +173,7 @@ module _ (what : WhatIsSentIsRight) (begin call : Call) (stages : List Stage) (s
 
   abbrev AtEnd : Call → Cause → Type 0
   AtEnd c (cause.Request n) = ToBranch c n d (λ destination. d.bytes ≡ spelling (request_to begin.opened destination n))
-  AtEnd c (cause.Cancel n) = ToBranch c n d (λ destination. IsCancelOf begin stages n destination d.bytes)
+  AtEnd c (cause.Cancel n) = ToBranch c n d (λ destination. IsCancelAfter begin stages n destination d.bytes)
   AtEnd c (cause.Ack n) = ToBranch c n d (λ destination. IsAckOf (turns_of stages) begin.opened n destination d.bytes)
   AtEnd c cause.Answer = (d.to ≡ begin.opened.caller) × IsAnswerAfter (turns_of stages) c d.bytes
   AtEnd c cause.CancelOk = IsOkayAfter (turns_of stages) d
@@ -191,21 +191,18 @@ module _ (what : WhatIsSentIsRight) (begin call : Call) (stages : List Stage) (s
       same : destination ≡ w
       same = some_same destination w (sym goes ∙ at)
 
-      by : ((owes_cancel call n ≡ true) × (d.bytes ≡ cancel_bytes call n destination)) ⊎ (cancel_kept branch ≡ Some d.bytes) → IsCancelOf begin stages n w d.bytes
-      by (inl (owed, bytes)) = record {
-        first = stages;
-        later = [];
-        front = sym (append-nil stages);
+      by : ((owes_cancel call n ≡ true) × (d.bytes ≡ cancel_bytes call n destination)) ⊎ (cancel_kept branch ≡ Some d.bytes) → IsCancelAfter begin stages n w d.bytes
+      by (inl (owed, bytes)) = MadeNow (record {
         reasons = reasons_of call n;
         why = says_why begin call stages n branch run there owed;
         made = bytes ∙ ap (λ (x : Destination). cancel_bytes call n x) same
             ∙ ap (λ (o : OpenedRequest). spelling (cancel_to o w n (reasons_of call n))) run.opened;
-      }
+      })
       by (inr kept) =
           let c = run.cancels n branch d.bytes there kept in
           let one : c.0 ≡ w = some_same c.0 w (sym c.1 ∙ at) in
-          let P : Destination → Type 0 = λ x. IsCancelOf begin stages n x d.bytes in
-          subst P one c.2
+          let P : Destination → Type 0 = λ x. WasSentBefore begin stages n x d.bytes in
+          SentAgain (subst P one c.2)
 
   by_cause : (c : Cause) → IsSentFor (turns_of stages) call d c → ((n : ℕ) → c ≡ cause.Cancel n → IsOwedOrKept call n d) → AtEnd call c
   by_cause (cause.Request n) (w, at, hop, text) cancels = (w, at, hop, text ∙ ap (λ (o : OpenedRequest). spelling (request_to o w n)) run.opened)

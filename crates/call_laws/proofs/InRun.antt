@@ -20,7 +20,7 @@ use Rattle.call_model.specs.ClosedBy.{ClosesTable, ClosingStaysOrComes, KnowsClo
 use Rattle.call_model.specs.Closing.{Closing, has_closed, reasons_if}
 use Rattle.call_model.specs.Due.{timer_c_at}
 use Rattle.call_model.specs.OpenedRequest.{OpenedRequest, Destination, is_invite}
-use Rattle.call_model.specs.Parts.{FiresTimer, FiringsEndOrCancel, GoesOn, PartsGoOn, SendsCancelTo, StepsKeepParts, cancel_kept}
+use Rattle.call_model.specs.Parts.{FiresTimer, FiringsEndOrCancel, GoesOn, PartsGoOn, SendsAsCancel, SendsCancelTo, StepsKeepParts, cancel_kept}
 use Rattle.call_model.specs.Posting.{call_tag, owed_by, passed}
 use Rattle.call_model.specs.Pump.{cancel_bytes, reasons_of}
 use Rattle.call_model.specs.Server as server
@@ -33,7 +33,7 @@ use Rattle.call_model.proofs.laws.Logs.{table_added}
 use Rattle.call_laws.specs.Came.{CamePosted}
 use Rattle.call_laws.specs.EachDatagram.{last_sent, turns_of}
 use Rattle.call_laws.specs.Stages.{Stage, end_of}
-use Rattle.call_laws.specs.WhyCancelled.{GivesNone, IsCancelOf, SaysWhy, TableClosed, TimerCFired, TimerFired, WasClosedBy}
+use Rattle.call_laws.specs.WhyCancelled.{GivesNone, SaysWhy, TableClosed, TimerCFired, TimerFired, WasClosedBy, WasSentBefore}
 use Rattle.call_laws.proofs.Branches.{state}
 use Rattle.call_laws.proofs.Cancelled.{MayCancel, cancelled_by}
 use Rattle.call_laws.proofs.Origins.{Later, one_of, this_one}
@@ -264,7 +264,7 @@ pub record InRun (begin : Call) (stages : List Stage) (call : Call) : Type 0 whe
   pub firings : (n : ℕ) → TimerCFired call n → EndsOrGone call n
   pub cancelled : (n : ℕ) → row_passes is_cancelled call n ≡ true → IsWhy begin call n
   pub cancels : (n : ℕ) (branch : Branch) (bytes : List ℕ) → nth_branch call n ≡ Some branch → cancel_kept branch ≡ Some bytes
-      → (destination : Destination) × (slice_get call.destinations n ≡ Some destination) × IsCancelOf begin stages n destination bytes
+      → (destination : Destination) × (slice_get call.destinations n ≡ Some destination) × WasSentBefore begin stages n destination bytes
   pub last : call.server.last ≡ last_sent [] (turns_of stages)
   pub come : AllByRecursion (HasCome (turns_of stages)) call.server.owed
 
@@ -314,7 +314,7 @@ module _ (know : StepsKnowClosing) (comes : ClosingStaysOrComes) (last_kept : La
   abbrev After : List Stage
   After = stages ++ stage ∷ []
 
-  parts : PartsGoOn (FiresTimer call new) call new
+  parts : PartsGoOn (FiresTimer call new) stage.turn.output call new
   parts = keep stage.turn call new goes
 
   grown : Grows call new
@@ -428,11 +428,11 @@ module _ (know : StepsKnowClosing) (comes : ClosingStaysOrComes) (last_kept : La
   -- ---- the CANCELs that are kept
 
   cancels_now : (n : ℕ) (branch : Branch) (bytes : List ℕ) → nth_branch new n ≡ Some branch → cancel_kept branch ≡ Some bytes
-      → (destination : Destination) × (slice_get new.destinations n ≡ Some destination) × IsCancelOf begin After n destination bytes
+      → (destination : Destination) × (slice_get new.destinations n ≡ Some destination) × WasSentBefore begin After n destination bytes
   cancels_now n branch bytes there kept = by (nth_branch call n) refl
     where
       Found : Type 0
-      Found = (destination : Destination) × (slice_get new.destinations n ≡ Some destination) × IsCancelOf begin After n destination bytes
+      Found = (destination : Destination) × (slice_get new.destinations n ≡ Some destination) × WasSentBefore begin After n destination bytes
 
       still : (old : Branch) → nth_branch call n ≡ Some old → cancel_kept old ≡ Some bytes → Found
       still old before same =
@@ -440,29 +440,33 @@ module _ (know : StepsKnowClosing) (comes : ClosingStaysOrComes) (last_kept : La
             c.0,
             destination_there n c.0 c.1,
             record {
-              first = c.2.first;
+              before = c.2.before;
+              stage = c.2.stage;
               later = c.2.later ++ stage ∷ [];
-              front = ap (λ (ss : List Stage). ss ++ stage ∷ []) c.2.front ∙ append_assoc c.2.first c.2.later (stage ∷ []);
-              reasons = c.2.reasons;
-              why = c.2.why;
+              one_of = ap (λ (ss : List Stage). ss ++ stage ∷ []) c.2.one_of ∙ append_assoc c.2.before (c.2.stage ∷ c.2.later) (stage ∷ []);
+              sends = c.2.sends;
               made = c.2.made;
             },
           )
 
       either : (old : Branch) (destination : Destination) → nth_branch call n ≡ Some old → slice_get call.destinations n ≡ Some destination
-          → (cancel_kept branch ≡ cancel_kept old) ⊎ SendsCancelTo call n destination old branch → Found
+          → (cancel_kept branch ≡ cancel_kept old) ⊎ SendsCancelTo stage.turn.output call n destination old branch → Found
       either old destination before at (inl same) = still old before (sym same ∙ kept)
       either old destination before at (inr sends) =
-          let bytes_are : bytes ≡ cancel_bytes call n destination = some_same bytes (cancel_bytes call n destination) (sym kept ∙ sends.sent) in (
+          let bytes_are : bytes ≡ cancel_bytes call n destination = some_same bytes (cancel_bytes call n destination) (sym kept ∙ sends.kept) in (
             destination,
             destination_there n destination at,
             record {
-              first = stages;
-              later = stage ∷ [];
-              front = refl;
-              reasons = reasons_of call n;
-              why = says_why begin call stages n old is before sends.owed;
-              made = bytes_are ∙ ap (λ (o : OpenedRequest). spelling (cancel_to o destination n (reasons_of call n))) is.opened;
+              before = stages;
+              stage = stage;
+              later = [];
+              one_of = refl;
+              sends = let S : List ℕ → Type 0 = λ x. SendsAsCancel stage.turn.output n x in subst S (sym bytes_are) sends.sends;
+              made = record {
+                reasons = reasons_of call n;
+                why = says_why begin call stages n old is before sends.owed;
+                made = bytes_are ∙ ap (λ (o : OpenedRequest). spelling (cancel_to o destination n (reasons_of call n))) is.opened;
+              };
             },
           )
 
@@ -472,7 +476,7 @@ module _ (know : StepsKnowClosing) (comes : ClosingStaysOrComes) (last_kept : La
           let w = destination_of n old before in
           let p = parts.kept n w.0 old w.1 before in
           let same : p.0 ≡ branch = some_same p.0 branch (sym p.1 ∙ there) in
-          let G : Branch → Type 0 = λ x. GoesOn (FiresTimer call new) call n w.0 old x in
+          let G : Branch → Type 0 = λ x. GoesOn (FiresTimer call new) stage.turn.output call n w.0 old x in
           either old w.0 before w.1 (subst G same p.2).cancel
 
   -- ---- so it holds after the step

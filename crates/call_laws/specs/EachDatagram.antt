@@ -22,7 +22,7 @@ use Rattle.call_model.specs.Step.{Did, Turn}
 use Rattle.call_laws.specs.Answers.{AreGiven, Begins, IsFinalAnswer}
 use Rattle.call_laws.specs.Came.{Came, CameCancel, CamePosted}
 use Rattle.call_laws.specs.Stages.{Leads, Stage, end_of, turn_of}
-use Rattle.call_laws.specs.WhyCancelled.{IsCancelOf}
+use Rattle.call_laws.specs.WhyCancelled.{IsCancelAfter}
 
 abbrev pub turns_of : List Stage → List Turn
 turns_of stages = map turn_of stages
@@ -62,7 +62,7 @@ IsOkayAfter turns d = (cancel : MessageText) × CameCancel turns cancel d.to × 
 
 abbrev pub IsSentAfter : Call → List Stage → Datagram → Cause → Type 0
 IsSentAfter call stages d (cause.Request n) = ToBranch (end_of call stages) n d (λ destination. d.bytes ≡ spelling (request_to call.opened destination n))
-IsSentAfter call stages d (cause.Cancel n) = ToBranch (end_of call stages) n d (λ destination. IsCancelOf call stages n destination d.bytes)
+IsSentAfter call stages d (cause.Cancel n) = ToBranch (end_of call stages) n d (λ destination. IsCancelAfter call stages n destination d.bytes)
 IsSentAfter call stages d (cause.Ack n) = ToBranch (end_of call stages) n d (λ destination. IsAckOf (turns_of stages) call.opened n destination d.bytes)
 IsSentAfter call stages d cause.Answer = (d.to ≡ call.opened.caller) × IsAnswerAfter (turns_of stages) (end_of call stages) d.bytes
 IsSentAfter call stages d cause.CancelOk = IsOkayAfter (turns_of stages) d

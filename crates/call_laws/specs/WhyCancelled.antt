@@ -9,6 +9,7 @@ use Rattle.call_model.specs.Call.{Call}
 use Rattle.call_model.specs.ClosedBy.{IsClosedBy}
 use Rattle.call_model.specs.Closing.{Closing, reasons_by}
 use Rattle.call_model.specs.OpenedRequest.{Destination}
+use Rattle.call_model.specs.Parts.{SendsAsCancel}
 use Rattle.call_laws.specs.Stages.{Stage, end_of}
 
 -- timer C of branch n has fired: the event stands in the log
@@ -35,11 +36,22 @@ pub data SaysWhy (call : Call) (stages : List Stage) (n : ℕ) (reasons : List H
   TableClosed : (closing : Closing) → (TimerCFired (end_of call stages) n → ⊥) → WasClosedBy call stages closing → reasons ≡ reasons_by closing
       → SaysWhy call stages n reasons
 
--- these bytes are the CANCEL of branch n, as it was made after the first of these stages
-pub record IsCancelOf (call : Call) (stages : List Stage) (n : ℕ) (destination : Destination) (bytes : List ℕ) : Type 0 where
-  pub first : List Stage
-  pub later : List Stage
-  pub front : stages ≡ first ++ later
+-- these bytes are the CANCEL of branch n that is made after these stages
+pub record IsMadeAfter (call : Call) (stages : List Stage) (n : ℕ) (destination : Destination) (bytes : List ℕ) : Type 0 where
   pub reasons : List HeaderText
-  pub why : SaysWhy call first n reasons
+  pub why : SaysWhy call stages n reasons
   pub made : bytes ≡ spelling (cancel_to call.opened destination n reasons)
+
+-- one of these stages sent it, as it was made then
+pub record WasSentBefore (call : Call) (stages : List Stage) (n : ℕ) (destination : Destination) (bytes : List ℕ) : Type 0 where
+  pub before : List Stage
+  pub stage : Stage
+  pub later : List Stage
+  pub one_of : stages ≡ before ++ stage ∷ later
+  pub sends : SendsAsCancel stage.turn.output n bytes
+  pub made : IsMadeAfter call before n destination bytes
+
+-- what is sent as the CANCEL of branch n after these stages: it is made now, or was sent before
+pub data IsCancelAfter (call : Call) (stages : List Stage) (n : ℕ) (destination : Destination) (bytes : List ℕ) : Type 0 where
+  MadeNow : IsMadeAfter call stages n destination bytes → IsCancelAfter call stages n destination bytes
+  SentAgain : WasSentBefore call stages n destination bytes → IsCancelAfter call stages n destination bytes
