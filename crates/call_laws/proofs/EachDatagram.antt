@@ -14,7 +14,7 @@ use Rattle.call_model.specs.declared.cause.Cause.{Cause}
 use Rattle.call_model.specs.declared.cause.Cause.TheVariants as cause
 use Rattle.call_model.specs.Again.{LastAnswerIsKept, RepeatsAreTheSame, Sends, is_repeated}
 use Rattle.call_model.specs.Branch.{Branch, CancelTransaction}
-use Rattle.call_model.specs.Built.{Datagram, ack_to, answer_of, cancel_to, final_of, request_to}
+use Rattle.call_model.specs.Built.{Datagram, answer_of, cancel_to, final_of, request_to}
 use Rattle.call_model.specs.Call.{Call, found, nth_branch, owes_cancel}
 use Rattle.call_model.specs.ClosedBy.{BegunKnowsClosing, ClosingStaysOrComes, StepsKnowClosing}
 use Rattle.call_model.specs.Datagrams.{BegunIsBuilt, ToBranch}
@@ -32,11 +32,12 @@ use Rattle.call_model.specs.Step as step
 use Rattle.call_model.specs.Step.{Run, Step, Turn}
 use Rattle.std.specs.Option.{option_map}
 use Rattle.call_laws.specs.Answers.{AreGiven, Begins}
-use Rattle.call_laws.specs.EachDatagram.{EachDatagramIsRight, Final, IsAckOf, IsAnswerAfter, IsOkayAfter, IsSentAfter, Passed, Repeated, Trying, turns_of}
+use Rattle.call_laws.specs.EachDatagram.{EachDatagramIsRight, Final, IsAckAfter, IsAnswerAfter, IsOkayAfter, IsSentAfter, Passed, Repeated, Trying, turns_of}
 use Rattle.call_laws.specs.Right.{BegunStands, StepsStand}
 use Rattle.call_laws.specs.Sending.{IsAnswerOf, IsSentFor, WhatIsSentIsRight}
 use Rattle.call_laws.specs.Stages.{Leads, Stage, end_of}
 use Rattle.call_laws.specs.WhyCancelled.{IsCancelAfter, MadeNow, SentAgain, TimerCFired, WasSentBefore}
+use Rattle.call_laws.proofs.Acks.{PaysAck, pays_ack}
 use Rattle.call_laws.proofs.Content.{final_content}
 use Rattle.call_laws.proofs.InRun.{HasCome, InRun, after_step, says_why, turns_added}
 use Rattle.call_laws.proofs.Cancelled.{opening_none}
@@ -174,7 +175,7 @@ module _ (what : WhatIsSentIsRight) (begin call : Call) (stages : List Stage) (s
   abbrev AtEnd : Call → Cause → Type 0
   AtEnd c (cause.Request n) = ToBranch c n d (λ destination. d.bytes ≡ spelling (request_to begin.opened destination n))
   AtEnd c (cause.Cancel n) = ToBranch c n d (λ destination. IsCancelAfter begin stages n destination d.bytes)
-  AtEnd c (cause.Ack n) = ToBranch c n d (λ destination. IsAckOf (turns_of stages) begin.opened n destination d.bytes)
+  AtEnd c (cause.Ack n) = ToBranch c n d (λ destination. IsAckAfter begin stages n destination d.bytes)
   AtEnd c cause.Answer = (d.to ≡ begin.opened.caller) × IsAnswerAfter (turns_of stages) c d.bytes
   AtEnd c cause.CancelOk = IsOkayAfter (turns_of stages) d
 
@@ -204,14 +205,17 @@ module _ (what : WhatIsSentIsRight) (begin call : Call) (stages : List Stage) (s
           let P : Destination → Type 0 = λ x. WasSentBefore begin stages n x d.bytes in
           SentAgain (subst P one c.2)
 
-  by_cause : (c : Cause) → IsSentFor (turns_of stages) call d c → ((n : ℕ) → c ≡ cause.Cancel n → IsOwedOrKept call n d) → AtEnd call c
-  by_cause (cause.Request n) (w, at, hop, text) cancels = (w, at, hop, text ∙ ap (λ (o : OpenedRequest). spelling (request_to o w n)) run.opened)
-  by_cause (cause.Cancel n) right cancels = cancel_right n right (cancels n refl)
-  by_cause (cause.Ack n) (w, at, hop, (m, came, failure, v, also, text)) cancels =
-      let same : v ≡ w = some_same v w (sym also ∙ at) in
-      (w, at, hop, (m, came, failure, text ∙ ap (λ (x : Destination). spelling (ack_to call.opened x n m)) same ∙ ap (λ (o : OpenedRequest). spelling (ack_to o w n m)) run.opened))
-  by_cause cause.Answer (to, answer) cancels = (to ∙ ap (λ (o : OpenedRequest). o.caller) run.opened, answer_right answer)
-  by_cause cause.CancelOk (cancel, rest, owed, came, text) cancels = (cancel, came, text)
+  by_cause : (c : Cause) → IsSentFor (turns_of stages) call d c → ((n : ℕ) → c ≡ cause.Cancel n → IsOwedOrKept call n d) → ((n : ℕ) → c ≡ cause.Ack n → PaysAck call stage.call n d) → AtEnd call c
+  by_cause (cause.Request n) (w, at, hop, text) cancels acks = (w, at, hop, text ∙ ap (λ (o : OpenedRequest). spelling (request_to o w n)) run.opened)
+  by_cause (cause.Cancel n) right cancels acks = cancel_right n right (cancels n refl)
+  by_cause (cause.Ack n) (w, at, hop, answers) cancels acks =
+      let paid = acks n refl in
+      let a = run.acks n paid.0 d.bytes paid.1 paid.2 in
+      let same : a.0 ≡ w = some_same a.0 w (sym a.1 ∙ at) in
+      let P : Destination → Type 0 = λ x. IsAckAfter begin stages n x d.bytes in
+      (w, at, hop, subst P same a.2)
+  by_cause cause.Answer (to, answer) cancels acks = (to ∙ ap (λ (o : OpenedRequest). o.caller) run.opened, answer_right answer)
+  by_cause cause.CancelOk (cancel, rest, owed, came, text) cancels acks = (cancel, came, text)
 
   -- a turn that sends a datagram is a pump
   pumps : (now : ℕ) (input : step.Input) (new : Call) → Step now call input new (step.Did (pump.Send d)) → Step now call step.Pump new (step.Did (pump.Send d))
@@ -224,7 +228,7 @@ module _ (what : WhatIsSentIsRight) (begin call : Call) (stages : List Stage) (s
       let p = pumps stage.turn.now stage.turn.input stage.call h in
       let right = what (turns_of stages) run.handed stage.turn.now call stage.call (pump.Send d) run.holds.stands p in
       let C : Call → Type 0 = λ c. AtEnd c d.cause in
-      at_end d.cause (subst C (sym run.ends) (by_cause d.cause right (λ n is. done call stage.call stage.turn.now n d is p.0 p.1 p.2)))
+      at_end d.cause (subst C (sym run.ends) (by_cause d.cause right (λ n is. done call stage.call stage.turn.now n d is p.0 p.1 p.2) (λ n is. pays_ack stage.turn.now call step.Pump stage.call n d is p)))
 
 -- ---- over a run
 
@@ -274,6 +278,7 @@ begins knows opened rules targets destinations holds = record {
   firings = λ n fired. absurd (none_fired opened rules targets destinations n fired);
   cancelled = λ n e. absurd (never_true (sym (opening_none targets n) ∙ e));
   cancels = λ n branch bytes there kept. absurd (no_part _ n branch there);
+  acks = λ n branch bytes there owed. absurd (no_part _ n branch there);
   last = refl;
   come = first_come (kind_of opened);
 }

@@ -14,7 +14,7 @@ use Rattle.fork_model.specs.Table as table
 use Rattle.sip_text.specs.Text.{MessageText, spelling}
 use Rattle.call_model.specs.Again.{LastAnswerIsKept, last_after}
 use Rattle.call_model.specs.Branch.{Branch}
-use Rattle.call_model.specs.Built.{cancel_to, status_of}
+use Rattle.call_model.specs.Built.{ack_to, cancel_to, status_of}
 use Rattle.call_model.specs.Call.{Call, nth_branch, owes_cancel, row_passes, rows_of}
 use Rattle.call_model.specs.ClosedBy.{ClosesTable, ClosingStaysOrComes, KnowsClosing, StepsKnowClosing}
 use Rattle.call_model.specs.Closing.{Closing, has_closed, reasons_if}
@@ -31,10 +31,11 @@ use Rattle.call_model.specs.Take.{again_if}
 use Rattle.call_model.proofs.laws.Fitting.{kind_is}
 use Rattle.call_model.proofs.laws.Logs.{table_added}
 use Rattle.call_laws.specs.Came.{CamePosted}
-use Rattle.call_laws.specs.EachDatagram.{last_sent, turns_of}
+use Rattle.call_laws.specs.EachDatagram.{IsAckAfter, SendsAsAck, last_sent, turns_of}
 use Rattle.call_laws.specs.Stages.{Stage, end_of}
 use Rattle.call_laws.specs.WhyCancelled.{GivesNone, SaysWhy, TableClosed, TimerCFired, TimerFired, WasClosedBy, WasSentBefore}
-use Rattle.call_laws.proofs.Branches.{state}
+use Rattle.call_laws.proofs.Acks.{pays_ack}
+use Rattle.call_laws.proofs.Branches.{OwesAckNow, ack_in, state}
 use Rattle.call_laws.proofs.Cancelled.{MayCancel, cancelled_by}
 use Rattle.call_laws.proofs.Origins.{Later, one_of, this_one}
 use Rattle.call_laws.proofs.Running.{Holds}
@@ -265,6 +266,8 @@ pub record InRun (begin : Call) (stages : List Stage) (call : Call) : Type 0 whe
   pub cancelled : (n : ℕ) → row_passes is_cancelled call n ≡ true → IsWhy begin call n
   pub cancels : (n : ℕ) (branch : Branch) (bytes : List ℕ) → nth_branch call n ≡ Some branch → cancel_kept branch ≡ Some bytes
       → (destination : Destination) × (slice_get call.destinations n ≡ Some destination) × WasSentBefore begin stages n destination bytes
+  pub acks : (n : ℕ) (branch : Branch) (bytes : List ℕ) → nth_branch call n ≡ Some branch → branch.ack ≡ Some bytes
+      → (destination : Destination) × (slice_get call.destinations n ≡ Some destination) × IsAckAfter begin stages n destination bytes
   pub last : call.server.last ≡ last_sent [] (turns_of stages)
   pub come : AllByRecursion (HasCome (turns_of stages)) call.server.owed
 
@@ -479,6 +482,66 @@ module _ (know : StepsKnowClosing) (comes : ClosingStaysOrComes) (last_kept : La
           let G : Branch → Type 0 = λ x. GoesOn (FiresTimer call new) stage.turn.output call n w.0 old x in
           either old w.0 before w.1 (subst G same p.2).cancel
 
+  -- ---- the ACKs that are owed
+
+  -- where one is still owed to the branch, none is sent
+  no_ack_now : (n : ℕ) (branch : Branch) (bytes : List ℕ) → nth_branch new n ≡ Some branch → branch.ack ≡ Some bytes → SendsAsAck stage.turn.output n → ⊥
+  no_ack_now n branch bytes there owed (to, sent, out) =
+      let S : step.Output → Type 0 = λ o. Step stage.turn.now call stage.turn.input new o in
+      let paid = pays_ack stage.turn.now call stage.turn.input new n _ refl (subst S out goes) in
+      none_some bytes (sym (paid.3 branch there) ∙ owed)
+
+  all_stages : (P : Stage → Type 0) (xs : List Stage) (x : Stage) → AllByRecursion P xs → P x → AllByRecursion P (xs ++ x ∷ [])
+  all_stages P [] x h k = (k, tt)
+  all_stages P (y ∷ xs) x h k = (h.0, all_stages P xs x h.1 k)
+
+  acks_now : (n : ℕ) (branch : Branch) (bytes : List ℕ) → nth_branch new n ≡ Some branch → branch.ack ≡ Some bytes
+      → (destination : Destination) × (slice_get new.destinations n ≡ Some destination) × IsAckAfter begin After n destination bytes
+  acks_now n branch bytes there owed = by (((state stage.turn.now call stage.turn.input new stage.turn.output goes).each n branch there).ack bytes owed)
+    where
+      Found : Type 0
+      Found = (destination : Destination) × (slice_get new.destinations n ≡ Some destination) × IsAckAfter begin After n destination bytes
+
+      old_part : (o : Option Branch) → nth_branch call n ≡ o → ack_in o ≡ Some bytes → (old : Branch) × (nth_branch call n ≡ Some old) × (old.ack ≡ Some bytes)
+      old_part None at e = absurd cc
+      old_part (Some old) at e = (old, at, e)
+
+      still : (old : Branch) × (nth_branch call n ≡ Some old) × (old.ack ≡ Some bytes) → Found
+      still (old, at, e) =
+          let a = is.acks n old bytes at e in (
+            a.0,
+            destination_there n a.0 a.1,
+            record {
+              before = a.2.before;
+              stage = a.2.stage;
+              later = a.2.later ++ stage ∷ [];
+              one_of = ap (λ (ss : List Stage). ss ++ stage ∷ []) a.2.one_of ∙ append_assoc a.2.before (a.2.stage ∷ a.2.later) (stage ∷ []);
+              failure = a.2.failure;
+              came = a.2.came;
+              is_failure = a.2.is_failure;
+              none_since = all_stages (λ (x : Stage). SendsAsAck x.turn.output n → ⊥) a.2.later stage a.2.none_since (no_ack_now n branch bytes there owed);
+              made = a.2.made;
+            },
+          )
+
+      by : (ack_in (nth_branch call n) ≡ Some bytes) ⊎ OwesAckNow stage.turn.now call stage.turn.input new n bytes → Found
+      by (inl before) = still (old_part (nth_branch call n) refl before)
+      by (inr (m, destination, (source, input, failure), at, made)) = (
+        destination,
+        destination_there n destination at,
+        record {
+          before = stages;
+          stage = stage;
+          later = [];
+          one_of = refl;
+          failure = m;
+          came = (source, input);
+          is_failure = failure;
+          none_since = tt;
+          made = made ∙ ap (λ (o : OpenedRequest). spelling (ack_to o destination n m)) is.opened;
+        },
+      )
+
   -- ---- so it holds after the step
 
   pub after_step : (handed : List Choice) → Holds (turns_of stages ++ stage.turn ∷ []) handed new → InRun begin After new
@@ -493,6 +556,7 @@ module _ (know : StepsKnowClosing) (comes : ClosingStaysOrComes) (last_kept : La
     firings = firings_now;
     cancelled = cancelled_now;
     cancels = cancels_now;
+    acks = acks_now;
     last = last_kept stage.turn call new goes ∙ ap (λ (x : List ℕ). last_after stage.turn.output x) is.last
         ∙ sym (ap (last_sent []) (turns_added stages stage) ∙ last_added [] (turns_of stages) stage.turn);
     come = let C : List Turn → Type 0 = λ ts. AllByRecursion (HasCome ts) new.server.owed in

@@ -1,12 +1,14 @@
 -- Each datagram that a run of a call sends is what its cause says, of that very run: what it answers came before, and what is
 -- sent again was sent before (RFC 3261 sections 8.2.6, 9.1, 16.6, 16.7, 17.1.1.3 and 17.2).
 use Rattle.std.specs.Prelude.{◌≡◌, ◌≢◌, ℕ, nat_lt, true, false, List, [], ◌∷◌, ◌++◌, map, None, Some}
+use Rattle.std.specs.List.{AllByRecursion}
 use Rattle.fork_model.specs.Choice.{Choice}
 use Rattle.fork_model.specs.Chosen.{IsChosen}
 use Rattle.fork_model.specs.History.{Target}
 use Rattle.fork_model.specs.Log.{table_of}
 use Rattle.fork_model.specs.Table.{Rules}
 use Rattle.sip_text.specs.Text.{MessageText, spelling}
+use Rattle.sip_uri.specs.declared.hop.Hop.{Hop}
 use Rattle.sip_build.specs.declared.responses.OwnStatus.TheVariants as own
 use Rattle.sip_build.specs.Generated.{generated_of}
 use Rattle.sip_build.specs.Upward.{upward_of}
@@ -18,9 +20,10 @@ use Rattle.call_model.specs.Call.{Call}
 use Rattle.call_model.specs.Datagrams.{ToBranch}
 use Rattle.call_model.specs.OpenedRequest.{OpenedRequest, Destination}
 use Rattle.call_model.specs.Pump.{Send}
-use Rattle.call_model.specs.Step.{Did, Turn}
+use Rattle.call_model.specs.Step.{Did, Output, Take, Turn}
+use Rattle.call_model.specs.Take.{Client}
 use Rattle.call_laws.specs.Answers.{AreGiven, Begins, IsFinalAnswer}
-use Rattle.call_laws.specs.Came.{Came, CameCancel, CamePosted}
+use Rattle.call_laws.specs.Came.{CameCancel, CamePosted}
 use Rattle.call_laws.specs.Stages.{Leads, Stage, end_of, turn_of}
 use Rattle.call_laws.specs.WhyCancelled.{IsCancelAfter}
 
@@ -29,10 +32,20 @@ turns_of stages = map turn_of stages
 
 -- ---- to a branch
 
--- the ACK for a failure that came to branch n by one of these turns
-abbrev pub IsAckOf : List Turn → OpenedRequest → (n : ℕ) → Destination → List ℕ → Type 0
-IsAckOf turns opened n destination bytes =
-    (m : MessageText) × Came turns n m × (nat_lt (status_of m) 300 ≡ false) × (bytes ≡ spelling (ack_to opened destination n m))
+abbrev pub SendsAsAck : Output → (n : ℕ) → Type 0
+SendsAsAck output n = (to : Hop) × (bytes : List ℕ) × (output ≡ Did (Send (record { to = to; bytes = bytes; cause = cause.Ack n })))
+
+-- the ACK for a failure that came to branch n by one of these stages; none was sent to the branch since
+pub record IsAckAfter (call : Call) (stages : List Stage) (n : ℕ) (destination : Destination) (bytes : List ℕ) : Type 0 where
+  pub before : List Stage
+  pub stage : Stage
+  pub later : List Stage
+  pub one_of : stages ≡ before ++ stage ∷ later
+  pub failure : MessageText
+  pub came : (source : Hop) × (stage.turn.input ≡ Take (Client n) failure source)
+  pub is_failure : nat_lt (status_of failure) 300 ≡ false
+  pub none_since : AllByRecursion (λ (x : Stage). SendsAsAck x.turn.output n → ⊥) later
+  pub made : bytes ≡ spelling (ack_to call.opened destination n failure)
 
 -- ---- to the caller
 
@@ -63,7 +76,7 @@ IsOkayAfter turns d = (cancel : MessageText) × CameCancel turns cancel d.to × 
 abbrev pub IsSentAfter : Call → List Stage → Datagram → Cause → Type 0
 IsSentAfter call stages d (cause.Request n) = ToBranch (end_of call stages) n d (λ destination. d.bytes ≡ spelling (request_to call.opened destination n))
 IsSentAfter call stages d (cause.Cancel n) = ToBranch (end_of call stages) n d (λ destination. IsCancelAfter call stages n destination d.bytes)
-IsSentAfter call stages d (cause.Ack n) = ToBranch (end_of call stages) n d (λ destination. IsAckOf (turns_of stages) call.opened n destination d.bytes)
+IsSentAfter call stages d (cause.Ack n) = ToBranch (end_of call stages) n d (λ destination. IsAckAfter call stages n destination d.bytes)
 IsSentAfter call stages d cause.Answer = (d.to ≡ call.opened.caller) × IsAnswerAfter (turns_of stages) (end_of call stages) d.bytes
 IsSentAfter call stages d cause.CancelOk = IsOkayAfter (turns_of stages) d
 

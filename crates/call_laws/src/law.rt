@@ -88,9 +88,9 @@ pub fn each_success_goes_up()
 /// Each datagram that a run of a call sends, from the beginning of the call on, is what its cause says, of that very run. The
 /// request to a branch and its CANCEL are those that were sent before, where one was; the CANCEL has the Reason lines of what
 /// closed the table in this run, and none where timer C had fired for the branch when it was made. An ACK answers a failure that
-/// came from the branch, and a 200 to a CANCEL a CANCEL that came. What the caller is answered is the answer that was sent
-/// last, the 100 of the proxy, a response that came from a branch and was posted, or the final answer by the choice of the fork
-/// (RFC 3261 sections 8.2.6, 9.1, 16.6, 16.7, 17.1.1.3 and 17.2, RFC 3326).
+/// came from the branch and was not answered by one before, and a 200 to a CANCEL a CANCEL that came. What the caller is answered
+/// is the answer that was sent last, the 100 of the proxy, a response that came from a branch and was posted, or the final
+/// answer by the choice of the fork (RFC 3261 sections 8.2.6, 9.1, 16.6, 16.7, 17.1.1.3 and 17.2, RFC 3326).
 ///
 /// A law over the definitions, with nothing to run.
 pub fn each_datagram_is_right()
