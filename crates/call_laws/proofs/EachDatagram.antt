@@ -272,6 +272,7 @@ begins knows opened rules targets destinations holds = record {
   handed = [];
   holds = holds;
   opened = refl;
+  targets = λ n destination at. at;
   knows = knows opened rules targets destinations;
   closed = λ e. absurd (never_true e);
   fired = λ invite n branch there none. absurd (no_part _ n branch there);
@@ -291,7 +292,11 @@ module _ (one : ExactlyOneFinal) (before_it : NoFinalBefore) (beside : NoFinalBe
   steps_hold turns handed call stage holds goes given = (_, one_step one before_it beside sound stand turns handed call stage holds goes given)
 
   pub each_right : EachDatagramIsRight
-  each_right opened rules targets destinations before stage later d some given leads out = record { is = is; repeats = repeats }
+  each_right opened rules targets destinations before stage later d some given leads out = record {
+    is = is;
+    targets = λ n destination at. ap (λ (c : Call). slice_get c.destinations n) run.0.ends ∙ run.0.targets n destination at;
+    repeats = repeats;
+  }
     where
       begin : Call
       begin = Begins opened rules targets destinations

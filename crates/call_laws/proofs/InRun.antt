@@ -259,6 +259,7 @@ pub record InRun (begin : Call) (stages : List Stage) (call : Call) : Type 0 whe
   pub handed : List Choice
   pub holds : Holds (turns_of stages) handed call
   pub opened : call.opened ≡ begin.opened
+  pub targets : (n : ℕ) (destination : Destination) → slice_get begin.destinations n ≡ Some destination → slice_get call.destinations n ≡ Some destination
   pub knows : KnowsClosing call
   pub closed : (table_of call.log).closed ≡ true → WasClosedBy begin stages call.closing
   pub fired : is_invite begin.opened ≡ true → (n : ℕ) (branch : Branch) → nth_branch call n ≡ Some branch → branch.timer_c_at ≡ None → TimerCFired call n
@@ -550,6 +551,7 @@ module _ (know : StepsKnowClosing) (comes : ClosingStaysOrComes) (last_kept : La
     handed = handed;
     holds = let H : List Turn → Type 0 = λ ts. Holds ts handed new in subst H (sym (turns_added stages stage)) holds;
     opened = opened_now;
+    targets = λ n destination at. destination_there n destination (is.targets n destination at);
     knows = knows_now;
     closed = closed_now;
     fired = fired_now;

@@ -1,6 +1,6 @@
 -- Each datagram that a run of a call sends is what its cause says, of that very run: what it answers came before, and what is
 -- sent again was sent before (RFC 3261 sections 8.2.6, 9.1, 16.6, 16.7, 17.1.1.3 and 17.2).
-use Rattle.std.specs.Prelude.{◌≡◌, ◌≢◌, ℕ, nat_lt, true, false, List, [], ◌∷◌, ◌++◌, map, None, Some}
+use Rattle.std.specs.Prelude.{◌≡◌, ◌≢◌, ℕ, nat_lt, true, false, List, [], ◌∷◌, ◌++◌, map, None, Some, slice_get}
 use Rattle.std.specs.List.{AllByRecursion}
 use Rattle.fork_model.specs.Choice.{Choice}
 use Rattle.fork_model.specs.Chosen.{IsChosen}
@@ -80,10 +80,12 @@ IsSentAfter call stages d (cause.Ack n) = ToBranch (end_of call stages) n d (λ 
 IsSentAfter call stages d cause.Answer = (d.to ≡ call.opened.caller) × IsAnswerAfter (turns_of stages) (end_of call stages) d.bytes
 IsSentAfter call stages d cause.CancelOk = IsOkayAfter (turns_of stages) d
 
--- it is what its cause says; a request to a branch and its CANCEL are those that were sent before, byte for byte and to the same
--- hop, where one was
 pub record IsRightAfter (call : Call) (stages : List Stage) (d : Datagram) : Type 0 where
+  -- it is what its cause says
   pub is : IsSentAfter call stages d d.cause
+  -- where the branch to a target goes is what the call began with
+  pub targets : (n : ℕ) (destination : Destination) → slice_get call.destinations n ≡ Some destination → slice_get (end_of call stages).destinations n ≡ Some destination
+  -- a request to a branch and its CANCEL are those that were sent before, byte for byte and to the same hop, where one was
   pub repeats : (earlier : Datagram) → Sends (turns_of stages) earlier → is_repeated d.cause ≡ true → earlier.cause ≡ d.cause → d ≡ earlier
 
 -- ---- law
