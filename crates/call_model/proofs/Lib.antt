@@ -6,6 +6,7 @@ pub mod KeptBuilt
 pub mod StepsBuilt
 pub mod Closes
 pub mod Parts
+pub mod Fired
 pub mod Repeated
 pub mod Behind
 pub mod FirstStays

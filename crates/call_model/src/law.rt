@@ -5,7 +5,7 @@ ghost use Rattle.call_model.specs.ClosedBy.{BegunKnowsClosing, ClosingStaysOrCom
 ghost use Rattle.call_model.specs.Datagrams.{BegunIsBuilt, StepsKeepBuilt};
 ghost use Rattle.call_model.specs.Fitting.{CancelsAreTaken, FaultsAreTaken, GivingsUpAreTaken, TimeoutsAreTaken, TimerCsAreTaken};
 ghost use Rattle.call_model.specs.Longest.{ShorterTimesStay, UsualTimesStart, UsualTimesStartAgain};
-ghost use Rattle.call_model.specs.Parts.{StepsKeepParts};
+ghost use Rattle.call_model.specs.Parts.{FiringsEndOrCancel, StepsKeepParts};
 ghost use Rattle.call_model.specs.Sound.{BegunIsSound, StepsKeepSound};
 
 use fork_model::{
@@ -109,10 +109,12 @@ pub fn shorter_times_stay()
 {}
 
 /// What a step leaves of each branch: a CANCEL that was sent is kept, and one is sent where it is owed, once; timer C that has
-/// fired does not run again; and a branch whose request is sent has no CANCEL yet, and timer C where it is an INVITE (RFC 3261
-/// sections 9.1 and 16.6 to 16.8).
+/// fired does not run again; and a branch whose request is sent has no CANCEL yet, and timer C where it is an INVITE. Timer C
+/// that fires for a branch of a sound call ends the branch, or leaves it without timer C (RFC 3261 sections 9.1 and 16.6 to
+/// 16.8).
 ///
 /// A law over the definitions, with nothing to run.
 pub fn parts_go_on()
-    ensures { StepsKeepParts }
+    ensures kept { StepsKeepParts }
+    ensures fired { FiringsEndOrCancel }
 {}
