@@ -21,26 +21,18 @@ mod messages;
 #[cfg(test)]
 mod route_keys;
 #[cfg(test)]
-mod route_more;
+mod routing;
 #[cfg(test)]
 mod rows;
 #[cfg(test)]
 mod text;
 #[cfg(test)]
-mod text_more;
-#[cfg(test)]
 mod txn;
 #[cfg(test)]
-mod txn_more;
-#[cfg(test)]
 mod uri;
-#[cfg(test)]
-mod uri_more;
 #[cfg(test)]
 mod via;
 #[cfg(test)]
 mod via_lines;
-#[cfg(test)]
-mod via_more;
 #[cfg(test)]
 mod write_tests;

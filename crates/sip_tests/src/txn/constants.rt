@@ -8,22 +8,22 @@ use sip_txn::{
 fn sizes(rt: HostRuntime) {
     holds(
         &rt,
-        size_of::<InviteClient>() <= 48,
+        size_of::<InviteClient>() <= 56,
         "the client of an INVITE is small",
     );
     holds(
         &rt,
-        size_of::<OtherClient>() <= 48,
+        size_of::<OtherClient>() <= 56,
         "the client of another request is small",
     );
     holds(
         &rt,
-        size_of::<InviteServer>() <= 48,
+        size_of::<InviteServer>() <= 56,
         "the server of an INVITE is small",
     );
     holds(
         &rt,
-        size_of::<OtherServer>() <= 48,
+        size_of::<OtherServer>() <= 56,
         "the server of another request is small",
     );
 }

@@ -1,13 +1,14 @@
 //! Questions about how a request is routed, and the proxy's own Route value taken away where it stands.
 use crate::bytes::holds_of;
 use crate::messages::{OWN, REQUEST, message_of, spells};
+use crate::rows::holds_in_row;
 use sip_message::strip_route;
 use sip_route::{
-    FirstRoute, Hops, first_route, hops_of, keys_tell_senders, routes_are_readable, strip,
+    FirstRoute, Hops, first_route, hops_of, is_own, keys_tell_senders, routes_are_readable, strip,
     stripping_keeps_the_rest,
 };
 use sip_text::Message;
-use sip_uri::Hop;
+use sip_uri::{Hop, Transport};
 use std::alloc::Global;
 
 /// The request with these lines for its Max-Forwards.
@@ -60,10 +61,18 @@ fn says_its_hops(rt: HostRuntime) {
 const HOP: Hop = Hop {
     addr: [192, 0, 2, 10],
     port: 5060,
+    transport: Transport::Udp,
+};
+
+/// The same over TCP.
+const OVER_TCP: Hop = Hop {
+    addr: [192, 0, 2, 10],
+    port: 5060,
+    transport: Transport::Tcp,
 };
 
 /// Lines, and where the first Route value leads.
-const FIRST_ROUTES: [(&[u8], FirstRoute); 16] = [
+const FIRST_ROUTES: [(&[u8], FirstRoute); 17] = [
     (b"Subject: x", FirstRoute::Absent),
     (b"Routes: <sip:192.0.2.10>", FirstRoute::Absent),
     (b"Route: <sip:192.0.2.10;lr>", FirstRoute::To(HOP)),
@@ -85,7 +94,11 @@ const FIRST_ROUTES: [(&[u8], FirstRoute); 16] = [
     (b"Route: <sips:192.0.2.10>", FirstRoute::NoHop),
     (b"Route: < sip:192.0.2.10>", FirstRoute::NoHop),
     (b"Route: <sip:192.0.2.10;maddr=h>", FirstRoute::NoHop),
-    (b"Route: <sip:192.0.2.10;transport=tcp>", FirstRoute::NoHop),
+    (
+        b"Route: <sip:192.0.2.10;transport=tcp;lr>",
+        FirstRoute::To(OVER_TCP),
+    ),
+    (b"Route: <sip:192.0.2.10;transport=tls>", FirstRoute::NoHop),
     (b"Route: \"<sip:192.0.2.10>\"", FirstRoute::NoHop),
     (b"Route: ,<sip:192.0.2.10>", FirstRoute::NoHop),
     (b"Route:", FirstRoute::NoHop),
@@ -183,6 +196,53 @@ const KEPT: [&[u8]; 9] = [
     b"Route: ,<sip:192.0.2.9>",
     b"Route: <sip:b>\r\nRoute: <sip:192.0.2.9>",
 ];
+
+/// The proxy itself.
+const ITSELF: Hop = Hop {
+    addr: [192, 0, 2, 9],
+    port: 5060,
+    transport: Transport::Udp,
+};
+
+/// Hops, and whether each leads to the proxy itself, which is reached over UDP.
+const LED: [(Option<Hop>, bool); 6] = [
+    (None, false),
+    (Some(ITSELF), true),
+    (Some(HOP), false),
+    (
+        Some(Hop {
+            port: 5061,
+            ..ITSELF
+        }),
+        false,
+    ),
+    (
+        Some(Hop {
+            transport: Transport::Tcp,
+            ..ITSELF
+        }),
+        false,
+    ),
+    (
+        Some(Hop {
+            transport: Transport::Back(5060),
+            ..ITSELF
+        }),
+        false,
+    ),
+];
+
+#[test]
+fn knows_itself(rt: HostRuntime) {
+    for (row, (hop, own)) in LED.iter().enumerate() {
+        holds_in_row(
+            &rt,
+            is_own(OWN, *hop) == *own,
+            "whether a hop leads to the proxy",
+            row,
+        );
+    }
+}
 
 /// Whether a request is changed to these lines in a copy.
 fn is_copied_as(alloc: Global, request: &Message<Global>, lines: &[&[u8]]) -> bool {
