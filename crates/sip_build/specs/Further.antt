@@ -1,4 +1,4 @@
--- Header lines that the caller gives for a message that is written (RFC 3261 section 7.3).
+-- Header lines that a message gets beside those that are always in it (RFC 3261 section 7.3).
 use Rattle.std.specs.Prelude.{List, [], ◌∷◌, map, Option, Some, None}
 use Rattle.sip_text.specs.Text.{HeaderText}
 use Rattle.sip_via.specs.Edits.{line}

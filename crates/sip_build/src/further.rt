@@ -1,4 +1,4 @@
-//! Header lines that the caller gives for a message that is written.
+//! Header lines that a message gets beside those that are always in it.
 
 ghost use Rattle.std.specs.Prelude.{◌≡◌, true, IfOk};
 ghost use Rattle.std.specs.List.{list_all};
@@ -12,7 +12,8 @@ use sip_text::{Header, Message};
 use sip_via::{first_named, split_named};
 use std::alloc::{AllocError, Allocator};
 
-/// A header line that a message gets beside those that are always in it (RFC 3261 section 7.3).
+/// A header line for a message that is written (RFC 3261 section 7.3): of another message, as a Timestamp or a Reason, or made for
+/// it, as a challenge or a Retry-After.
 #[derive(Clone, Copy)]
 pub struct FurtherLine<'a> {
     /// The name of the field.

@@ -103,7 +103,7 @@ fn generated_runs<'a, A: Allocator>(
 
 /// Appends the proxy's own response of that status to a request (RFC 3261 section 8.2.6): the Via lines and the first
 /// From, To, Call-ID and CSeq lines as they stand in the request, with the own tag added to a To without a tag, but for a
-/// 100; for a 420 one Unsupported line for each Proxy-Require line; and the caller's lines before the Content-Length, as the
+/// 100; for a 420 one Unsupported line for each Proxy-Require line; and the further lines before the Content-Length, as the
 /// Timestamp of a 100, the challenges of a 401 or a 407, or the Retry-After of a 503.
 ///
 /// # Errors

@@ -91,7 +91,7 @@ fn number_of<'a, A: Allocator>(message: &'a Message<A>, buffer: &'a mut Buffer) 
 }
 
 /// The header lines behind the Via line of a request of that method on the way of one that went to a
-/// target, whose CSeq has that number, with the caller's lines before the Content-Length.
+/// target, whose CSeq has that number, with more lines before the Content-Length.
 fn runs_behind_via<'a, A: Allocator>(
     method: &'a [u8],
     message: &'a Message<A>,
@@ -116,7 +116,7 @@ fn runs_behind_via<'a, A: Allocator>(
     ]
 }
 
-/// Appends a request of that method on the way of one that went to a target, with the caller's lines, or nothing.
+/// Appends a request of that method on the way of one that went to a target, with more lines, or nothing.
 fn append_to_same_hop<A: Allocator + Clone, B: Allocator>(
     out: &mut Vec<u8, B>,
     method: &[u8],
@@ -170,8 +170,8 @@ pub fn write_forwarded_ack<A: Allocator + Clone, B: Allocator>(
 }
 
 /// Appends the CANCEL of a request that went to a target (RFC 3261 section 9.1): on the way of the request as it went, with
-/// its top Via value alone, its Route values, its From, its To, its Call-ID and the number of its CSeq, and with the caller's
-/// lines before the Content-Length, which say why it is sent (RFC 3326).
+/// its top Via value alone, its Route values, its From, its To, its Call-ID and the number of its CSeq, and, before the
+/// Content-Length, lines that say why it is sent (RFC 3326).
 ///
 /// # Errors
 ///

@@ -95,7 +95,7 @@ fn challenges_len<A: Allocator>(challenges: &[Challenge<A>]) -> usize
     len
 }
 
-/// How many bytes the caller's header lines are.
+/// How many bytes the further lines are.
 fn further_len(lines: &[FurtherLine<'_>]) -> usize
     ensures { result
         ≡ saturated (length (flat_map (λ f. header_text (view_line f)) lines.now)) }

@@ -47,7 +47,7 @@ pub(crate) enum HeaderRun<'a, A: Allocator> {
     Contacts(&'a [&'a [u8]]),
     /// A line for each challenge.
     Challenges(&'a [Challenge<A>]),
-    /// Lines that the caller gives.
+    /// Lines beside those that are always there.
     Further(&'a [FurtherLine<'a>]),
     /// A Max-Forwards line of seventy hops.
     SeventyHops,
@@ -158,7 +158,7 @@ fn place_challenges<A: Allocator>(out: &mut [u8], at: usize, challenges: &[Chall
     end
 }
 
-/// Writes the caller's header lines.
+/// Writes the further lines.
 fn place_further(out: &mut [u8], at: usize, lines: &[FurtherLine<'_>]) -> usize
     requires { at + length (flat_map (λ f. header_text (view_line f)) lines.now) ≤ length out.old }
     ensures { Placed out.old out.new at (flat_map (λ f. header_text (view_line f)) lines.now) result }

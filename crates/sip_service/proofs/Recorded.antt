@@ -1,5 +1,5 @@
 -- A message with a Record-Route line of the proxy's is one.
-use Rattle.sip_service.proofs.Common.{◌≡◌, ℕ, true, false, not, List, ◌∷◌, ◌++◌, ◌<◌, ◌^◌, reverse, slice_index, decimal, None, is_none, codes, refl, sym, ap, subst, ◌∙◌, arith, common_steps, flat_map, list_all, is_token, and_both, missing, IsMessage, is_header, is_line, is_trimmed, is_value, first_value, same_name, begins_with_space, HeaderText, MessageText, StartText, IsEnd, end-behind, SameOthers, edited-good, line, with_headers, IsOwn, first_or_empty, values_in, read_via, Own, has_all}
+use Rattle.sip_service.proofs.Common.{◌≡◌, ℕ, true, false, List, ◌∷◌, None, is_none, codes, refl, sym, ap, subst, ◌∙◌, arith, flat_map, list_all, is_token, and_both, missing, IsMessage, is_header, is_value, first_value, same_name, HeaderText, MessageText, StartText, SameOthers, edited-good, line, first_or_empty, values_in, read_via, Own, has_all}
 use Rattle.sip_text.specs.Name.{full_name, values_of}
 use Rattle.sip_route.specs.RequestKey.{key_if_read, request_key}
 use Rattle.sip_build.specs.OwnRoute.{own_route}

@@ -1,6 +1,6 @@
 -- Messages in texts, and the text of a request that opens a dialog, recorded.
 use Rattle.sip_service.proofs.Common.{◌≡◌, ℕ, true, List, Option, Some, None, sym, ap, ◌∙◌, MessageText, Own}
-use Rattle.std.proofs.Common.{Result, Ok, Err, is_some}
+use Rattle.std.proofs.Common.{Result, Ok, is_some}
 use Rattle.std.proofs.lemmas.Bool.{cond-true}
 use Rattle.std.specs.Result.{result_ok}
 use Rattle.sip_text.proofs.laws.Whole.{text_read}

@@ -1,11 +1,11 @@
 -- Where a request has a Timestamp, a line of its text begins with that name.
-use Rattle.sip_service.proofs.Common.{◌≡◌, ℕ, Bool, true, false, List, [], ◌∷◌, ◌++◌, Option, Some, None, codes, refl, sym, ap, subst, ◌∙◌, arith, common_steps, flat_map, list_all, is_header, is_value, same_name, first_of, first_value, HeaderText, MessageText, Response, StartText}
+use Rattle.sip_service.proofs.Common.{◌≡◌, ℕ, true, false, List, [], ◌∷◌, ◌++◌, Option, Some, None, codes, refl, sym, ap, subst, ◌∙◌, arith, common_steps, flat_map, list_all, is_header, is_value, same_name, first_of, first_value, HeaderText, MessageText, Response, StartText}
 use Rattle.std.proofs.Common.{◌-◌, ◌+◌, ◌≤◌, ◌⊎◌, inl, inr, length, take, drop, is_some, append_assoc, length-append, take-append-drop, unwrap_or, option_and_then, Result, Ok, Err}
 use Rattle.std.proofs.lemmas.Bool.{cases_Bool, cond-false, cond-true}
 use Rattle.std.proofs.lemmas.List.{take_at}
 use Rattle.std.proofs.lemmas.List.Concat.{flat_map-append}
 use Rattle.std.proofs.lemmas.Slice.Eq.{bytes_eq-Decides}
-use Rattle.std.specs.Str.{bytes_eq, str_to_ascii_lowercase}
+use Rattle.std.specs.Str.{str_to_ascii_lowercase}
 use Rattle.std.specs.Char.{to_ascii_lowercase}
 use Rattle.std.specs.Borrow.{Bor}
 use Rattle.std.specs.Option.{option_copied}

@@ -1,5 +1,5 @@
-//! The lines that the caller gives: a Record-Route line of a request, further lines of the proxy's own answers, and Reason lines
-//! of a CANCEL; byte for byte.
+//! Lines that a message gets where they are asked for: a Record-Route line of a request, further lines of the proxy's own answers,
+//! and Reason lines of a CANCEL; byte for byte.
 ghost use Rattle.std.specs.Prelude.{◌≡◌, true};
 ghost use Rattle.std.specs.List.{list_all};
 ghost use Rattle.sip_text.specs.Message.{is_header};
@@ -8,7 +8,7 @@ ghost use Rattle.sip_build.specs.Further.{view_lines};
 use crate::build::forwarding::VIA_LINE;
 use crate::bytes::is;
 use crate::holds::holds;
-use crate::messages::{OWN, REQUEST, may_pass, message_of, text_of};
+use crate::messages::{OWN, may_pass, message_of, text_of};
 use sip_build::{
     FurtherLine, OwnStatus, first_timestamp, reason_lines, stripping_keeps_answers,
     stripping_keeps_timestamps, write_forwarded, write_forwarded_cancel, write_generated,
@@ -30,14 +30,14 @@ const TARGET: &[u8] = b"sip:bob@192.0.2.4";
 /// An INVITE with a Timestamp.
 const INVITE: [&[u8]; 10] = [
     b"INVITE sip:bob@example.com SIP/2.0",
-    REQUEST[1],
-    REQUEST[2],
-    REQUEST[3],
-    REQUEST[4],
-    REQUEST[5],
+    b"v: SIP/2.0/UDP 192.0.2.1:5060;branch=z9hG4bKa;rport",
+    b"Max-Forwards: 70",
+    b"f: <sip:alice@example.com>;tag=1",
+    b"t: <sip:bob@example.com>",
+    b"i: c1",
     b"CSeq: 1 INVITE",
     b"TIMESTAMP: 54.2",
-    REQUEST[7],
+    b"l: 0",
     b"",
 ];
 
@@ -84,14 +84,14 @@ fn a_record_route_stands_behind_the_own_via(rt: HostRuntime) {
         b"INVITE sip:bob@192.0.2.4 SIP/2.0",
         VIA_LINE,
         b"Record-Route: <sip:192.0.2.9:5060;lr>",
-        REQUEST[1],
+        INVITE[1],
         b"Max-Forwards: 69",
-        REQUEST[3],
-        REQUEST[4],
-        REQUEST[5],
+        INVITE[3],
+        INVITE[4],
+        INVITE[5],
         INVITE[6],
         INVITE[7],
-        REQUEST[7],
+        INVITE[8],
         b"",
     ];
     holds(
@@ -102,11 +102,11 @@ fn a_record_route_stands_behind_the_own_via(rt: HostRuntime) {
     let mut lines = INVITE;
     lines[2] = b"Record-Route: <sip:192.0.2.8;lr>";
     expected[3] = b"Max-Forwards: 70";
-    expected[4] = REQUEST[1];
+    expected[4] = INVITE[1];
     expected[5] = lines[2];
-    expected[6] = REQUEST[3];
-    expected[7] = REQUEST[4];
-    expected[8] = REQUEST[5];
+    expected[6] = INVITE[3];
+    expected[7] = INVITE[4];
+    expected[8] = INVITE[5];
     expected[9] = INVITE[6];
     expected[10] = b"TIMESTAMP: 54.2\r\nl: 0";
     holds(
@@ -161,10 +161,10 @@ fn a_100_has_the_first_timestamp(rt: HostRuntime) {
     lines[7] = b"TIMESTAMP: 54.2\r\nTimestamp: 55";
     let expected: [&[u8]; 9] = [
         b"SIP/2.0 100 Trying",
-        REQUEST[1],
-        REQUEST[3],
-        REQUEST[4],
-        REQUEST[5],
+        INVITE[1],
+        INVITE[3],
+        INVITE[4],
+        INVITE[5],
         INVITE[6],
         b"TIMESTAMP: 54.2",
         b"Content-Length: 0",
@@ -178,10 +178,10 @@ fn a_100_has_the_first_timestamp(rt: HostRuntime) {
     lines[7] = b"Subject: x";
     let none: [&[u8]; 8] = [
         expected[0],
-        REQUEST[1],
-        REQUEST[3],
-        REQUEST[4],
-        REQUEST[5],
+        INVITE[1],
+        INVITE[3],
+        INVITE[4],
+        INVITE[5],
         INVITE[6],
         b"Content-Length: 0",
         b"",
@@ -205,10 +205,10 @@ fn is_answered_as(
 {
     let expected: [&[u8]; 9] = [
         start,
-        REQUEST[1],
-        REQUEST[3],
+        INVITE[1],
+        INVITE[3],
         b"t: <sip:bob@example.com>;tag=fpa54465d48fc852fc",
-        REQUEST[5],
+        INVITE[5],
         INVITE[6],
         lines,
         b"Content-Length: 0",
