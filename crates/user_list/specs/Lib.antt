@@ -1,0 +1,4 @@
+pub mod inner
+pub mod User
+pub mod Users
+pub mod UserView

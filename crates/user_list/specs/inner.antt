@@ -1,0 +1,4 @@
+pub mod Added
+pub mod Reading
+pub mod SoFar
+pub mod UserIndex
