@@ -1,8 +1,8 @@
 //! Lists of users.
-use crate::holds::{holds, holds_of};
+use crate::holds::{holds, holds_of, is};
 use sip_digest::{Algorithms, Secrets};
 use std::alloc::{AllocError, Global};
-use user_list::{UserFault, UserList};
+use user_list::{UserFault, UserList, append_user as append_line, is_user_name};
 
 /// A text, with comments and empty lines.
 const USERS: &[u8] =
@@ -165,4 +165,26 @@ fn found_of_many(alloc: Global) -> usize {
 #[test]
 fn a_thousand_users_are_read(rt: HostRuntime) {
     holds(&rt, found_of_many(rt.alloc()) == 3, "three of five");
+}
+
+/// The line of bob, whose password is `secret`.
+const BOB: &[u8] =
+    b"bob 2664cba6663a734ef3a6fefc0c0d0821 baf9ceb3dcf070665c835868f20bd230ca09393a0c44efca3690ee35eaebee0b\n";
+
+/// Whether the line of a user is this, and it is read.
+fn is_line(alloc: Global, wanted: &[u8]) -> bool {
+    let mut out = Vec::new(alloc);
+    let made = append_line(&mut out, b"bob", b"example.com", b"secret");
+    made.is_ok()
+        && is(out.as_slice(), wanted)
+        && are_bobs(found(alloc, out.as_slice(), Algorithms::Sha256AndMd5, b"bob"))
+}
+
+#[test]
+fn the_line_of_a_user_is_read(rt: HostRuntime) {
+    holds(&rt, is_line(rt.alloc(), BOB), "the line");
+    holds(&rt, is_user_name(b"b@c#"), "a name");
+    for name in [b"".as_slice(), b"#b", b"b c", b"b:c", b"b\\c", b"b\x7f"] {
+        holds_of(&rt, !is_user_name(name), "no name", name);
+    }
 }

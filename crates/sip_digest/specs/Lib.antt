@@ -5,5 +5,6 @@ pub mod Challenge
 pub mod Credentials
 pub mod Response
 pub mod Right
+pub mod Secrets
 pub mod SeenCredentials
 pub mod Stamp

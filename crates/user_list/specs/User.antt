@@ -72,3 +72,6 @@ is_named name user = bytes_eq user.name name
 abbrev pub secrets_named : List ℕ → List User → Option Secrets
 secrets_named name [] = None
 secrets_named name (user ∷ users) = if is_named name user then Some user.secrets else secrets_named name users
+
+abbrev pub user_of : List ℕ → Secrets → User
+user_of name secrets = record { name = name; secrets = secrets }

@@ -4,7 +4,10 @@
 
 mod fault;
 mod line;
+mod user_line;
 mod users;
 
 pub use fault::UserFault;
+pub use line::is_user_name;
+pub use user_line::append_user;
 pub use users::UserList;

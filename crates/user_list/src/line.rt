@@ -37,7 +37,8 @@ fn begins_with_hash(text: &[u8]) -> bool
     matches!(text, [b'#', ..])
 }
 
-fn is_name(name: &[u8]) -> bool
+/// Whether a text may be the name of a user: 1 to 64 visible bytes without `:`, `"` and `\`, of which the first is no `#`.
+pub fn is_user_name(name: &[u8]) -> bool
     ensures { result ≡ is_name name.now }
 {
     1 <= name.len() && name.len() <= 64 && are_name_bytes(name) && !begins_with_hash(name)
@@ -127,7 +128,7 @@ fn read_user(algorithms: Algorithms, text: &[u8]) -> Option<NamedSecrets<'_>>
     match cut_at(text, b' ') {
         (_, None) => None,
         (name, Some(digests)) => {
-            if is_name(name) {
+            if is_user_name(name) {
                 digests_cut(algorithms, name, digests)
             } else {
                 None
