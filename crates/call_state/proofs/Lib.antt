@@ -11,4 +11,5 @@ pub mod Actions
 pub mod Beginning
 pub mod Causes
 pub mod NewRows
+pub mod KeptReasons
 pub mod laws

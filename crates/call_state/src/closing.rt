@@ -1,10 +1,10 @@
 //! What closed the table of a call, and what a CANCEL says of that.
-ghost use Rattle.std.specs.Prelude.{◌≡◌, ◌++◌, codes, true, IfOk};
+ghost use Rattle.std.specs.Prelude.{◌≡◌, ◌++◌, ◌∷◌, [], codes, true, IfOk};
 ghost use Rattle.std.specs.Fmt.{decimal};
 ghost use Rattle.sip_text.specs.Message.{is_value};
 ghost use Rattle.sip_text.specs.Text.{spelling};
 ghost use Rattle.call_model.specs.Built.{cancel_to};
-ghost use Rattle.call_model.specs.Closing.{closing_after, closing_by, reasons_by};
+ghost use Rattle.call_model.specs.Closing.{closing_after, closing_by, reason_line, reasons_by};
 ghost use Rattle.call_state.specs.CallStateInside.{closing_of};
 
 use crate::reasons::ReasonLines;
@@ -12,9 +12,6 @@ use call_branch::{Destination, OpenedRequest};
 use sip_build::FurtherLine;
 use sip_lex::append_decimal;
 use std::alloc::{AllocError, Allocator};
-
-/// The name of the field that says why a CANCEL is sent (RFC 3326).
-const REASON: &[u8] = b"Reason";
 
 /// What it says where another branch accepted the call.
 const ELSEWHERE: &[u8] = b"SIP;cause=200;text=\"Call completed elsewhere\"";
@@ -54,6 +51,24 @@ fn cause_of<A: Allocator>(alloc: A, status: u16) -> Result<Vec<u8, A>, AllocErro
     Ok(text)
 }
 
+/// The CANCEL of branch n as it is sent, with one Reason line, of this value (RFC 3326).
+fn cancel_for<A: Allocator + Clone>(
+    alloc: &A,
+    opened: &OpenedRequest<A>,
+    destination: &Destination<A>,
+    n: u16,
+    value: &[u8],
+) -> Result<Vec<u8, A>, AllocError>
+    requires value { is_value value.now ≡ true }
+    ensures { IfOk result (λ bytes. bytes.items ≡ spelling (cancel_to opened.now destination.now n (reason_line value.now ∷ []))) }
+{
+    let reason = FurtherLine {
+        name: b"Reason",
+        value,
+    };
+    opened.cancel_bytes(alloc, destination, n, &[reason])
+}
+
 impl<A: Allocator + Clone> Closing<A> {
     /// Notes an answer with this status that was posted, by whether the table is closed now: the answer closed it, where nothing
     /// had before.
@@ -82,20 +97,10 @@ impl<A: Allocator + Clone> Closing<A> {
     {
         match self {
             Closing::NotClosed => opened.cancel_bytes(alloc, destination, n, &[]),
-            Closing::BySuccess => {
-                let reason = FurtherLine {
-                    name: REASON,
-                    value: ELSEWHERE,
-                };
-                opened.cancel_bytes(alloc, destination, n, &[reason])
-            }
+            Closing::BySuccess => cancel_for(alloc, opened, destination, n, ELSEWHERE),
             Closing::ByGlobalFailure(status) => {
                 let value = cause_of(alloc.clone()?, *status)?;
-                let reason = FurtherLine {
-                    name: REASON,
-                    value: &value,
-                };
-                opened.cancel_bytes(alloc, destination, n, &[reason])
+                cancel_for(alloc, opened, destination, n, &value)
             }
             Closing::ByCancel(reasons) => {
                 let lines = reasons.further(alloc.clone()?)?;

@@ -1,9 +1,9 @@
 //! The Reason lines of a message.
-ghost use Rattle.std.specs.Prelude.{◌≡◌, ◌++◌, ◌∷◌, [], codes, true, IfOk, OnOk};
-ghost use Rattle.std.specs.List.{list_all};
+ghost use Rattle.std.specs.Prelude.{◌≡◌, ◌++◌, true, IfOk, OnOk};
+ghost use Rattle.std.specs.List.{flat_map, list_all};
 ghost use Rattle.sip_text.specs.Message.{is_header};
 ghost use Rattle.sip_text.specs.Seen.{view, views};
-ghost use Rattle.sip_via.specs.Lines.{lines_among};
+ghost use Rattle.call_state.specs.inner.Reasons.{reason_in};
 ghost use Rattle.sip_build.specs.Further.{view_lines};
 ghost use Rattle.sip_build.specs.Requests.{reason_lines};
 
@@ -37,7 +37,7 @@ fn add_line<A: Allocator + Clone>(
     alloc: &A,
     header: &Header<A>,
 ) -> Result<(), AllocError>
-    ensures { OnOk result (lines.new.items ≡ lines.old.items ++ lines_among (codes "reason") (views (header.now ∷ []))) }
+    ensures { OnOk result (lines.new.items ≡ lines.old.items ++ reason_in (view header.now)) }
 {
     if header.is_named(b"reason") {
         lines.push(Header::new(alloc.clone()?, header.name(), header.value())?)?;
@@ -46,11 +46,11 @@ fn add_line<A: Allocator + Clone>(
 }
 
 /// The Reason lines among some header lines.
-fn lines_among<A: Allocator + Clone>(
+fn reasons_among<A: Allocator + Clone>(
     alloc: &A,
     headers: &[Header<A>],
 ) -> Result<Vec<Header<A>, A>, AllocError>
-    ensures { IfOk result (λ lines. lines.items ≡ lines_among (codes "reason") (views headers.now)) }
+    ensures { IfOk result (λ lines. lines.items ≡ flat_map reason_in (views headers.now)) }
 {
     let mut lines = Vec::new(alloc.clone()?);
     for header in headers {
@@ -69,7 +69,7 @@ impl<A: Allocator + Clone> ReasonLines<A> {
         ensures { IfOk result (λ reasons. reasons ≡ reason_lines message.now) }
     {
         message.is_message();
-        let lines = lines_among(alloc, message.headers())?;
+        let lines = reasons_among(alloc, message.headers())?;
         Ok(ReasonLines { lines })
     }
 
