@@ -7,14 +7,20 @@ use daemon_parts::{DaemonFault, Identity, read_text};
 use fork_call::Setup;
 use std::alloc::Allocator;
 
-/// A setup as a service goes by it: all Route values at the front of a request that lead to the proxy are taken away; and the own address
-/// counts as the domain with the own port alone, if that is asked for.
-pub(crate) fn service_setup<A: Allocator + Clone>(setup: Setup<A>, own_port: bool) -> Setup<A>
-    ensures { result ≡ service_setup own_port setup }
+/// A setup as a service goes by it: all Route values at the front of a request that lead to the proxy are taken away; a 100 has the
+/// Timestamp of its request, and a CANCEL says why; the own address counts as the domain with the own port alone, and a request that
+/// opens a dialog has a Record-Route line, where the terms say so.
+pub(crate) fn service_setup<A: Allocator + Clone>(setup: Setup<A>, terms: &Terms) -> Setup<A>
+    ensures { result ≡ service_setup terms.now setup }
 {
-    let setup = setup.for_a_service();
-    if own_port {
+    let setup = setup.for_a_service().stamping().giving_reasons();
+    let setup = if terms.own_port {
         setup.with_own_port()
+    } else {
+        setup
+    };
+    if terms.records {
+        setup.recording()
     } else {
         setup
     }
@@ -44,5 +50,5 @@ pub(crate) fn setup_of<A: Allocator + Clone>(
     if !is_of(&setup, terms.identity) {
         return Err(DaemonFault::Identity);
     }
-    Ok(service_setup(setup, terms.own_port))
+    Ok(service_setup(setup, terms))
 }
