@@ -86,16 +86,16 @@ const STAMPED: Request = Request {
     ..INVITE
 };
 
-/// A 100 has the first Timestamp line of its request behind its other lines, and so has the 100 to a repeat; a 180 is as it came.
+/// A 100 has the first Timestamp line of its request, and so has the 100 to a repeat; a 100 to a request without one has none.
 const STAMPING: &[Moment] = &[
     (0, Turn::Asks(STAMPED)),
     (0, Turn::Sends(CALLER, "SIP/2.0 100 ", "one")),
-    (0, Turn::Has("\r\nTimestamp: 54.1\r\n\r\n")),
+    (0, Turn::Has("\r\nTimestamp: 54.1\r\nContent-Length: 0\r\n\r\n")),
     (0, Turn::Lacks("Timestamp: 7")),
     (0, Turn::Sends(BOB, "INVITE ", "one")),
     (20, Turn::Asks(STAMPED)),
     (20, Turn::Sends(CALLER, "SIP/2.0 100 ", "one")),
-    (20, Turn::Has("\r\nTimestamp: 54.1\r\n\r\n")),
+    (20, Turn::Has("\r\nTimestamp: 54.1\r\nContent-Length: 0\r\n\r\n")),
     (
         30,
         Turn::Asks(Request {

@@ -1,5 +1,5 @@
 -- OPTIONS requests to the proxy itself (RFC 3261 sections 11 and 11.2).
-use Rattle.std.specs.Prelude.{ℕ, Bool, true, false, ◌&&◌, Option, Some, None, Result, Ok, Err, is_none}
+use Rattle.std.specs.Prelude.{Bool, true, false, ◌&&◌, Option, Some, Result, Ok, Err, is_none}
 use Rattle.sip_text.specs.declared.method.Method.{Method}
 use Rattle.sip_text.specs.declared.method.Method.TheVariants as methods
 use Rattle.sip_text.specs.declared.needed.Needed.TheVariants.{To}

@@ -7,7 +7,6 @@ ghost use Rattle.sip_build.specs.Forwarding.{is_request};
 ghost use Rattle.proxy_routing.specs.Admission.{target_uri};
 ghost use Rattle.call_model.specs.SeenDatagram.{seen};
 ghost use Rattle.proxy_dispatch.specs.declared.purpose.Purpose.TheVariants as purposes;
-ghost use Rattle.proxy_dispatch.specs.Admitting.{Admits};
 ghost use Rattle.proxy_dispatch.specs.Becomes.{MessageBecomes};
 ghost use Rattle.proxy_dispatch.specs.Passing.{GoesOn, HasOwnTag, Passes};
 ghost use Rattle.proxy_dispatch.specs.Purpose.{purpose_of};
@@ -142,8 +141,8 @@ pub(crate) fn acknowledged<A: Allocator + Clone>(
     received: Received<'_>,
 ) -> Result<Outcome<A>, AllocError>
     requires { purpose_of ack.start ≡ Some purposes.Ack }
-    ensures { IfOk result (λ outcome. (admits : Admits) →
-        MessageBecomes admits setup.now ack received.entry.source received.entry.now outcome.handled (seen_sent outcome.datagram)) }
+    ensures { IfOk result (λ outcome.
+        MessageBecomes setup.now ack received.entry.source received.entry.now outcome.handled (seen_sent outcome.datagram)) }
 {
     if has_own_tag(&ack) {
         return Ok(Outcome::silent(Handled::Absorbed));

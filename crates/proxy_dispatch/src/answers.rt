@@ -135,7 +135,13 @@ pub(crate) fn turned_away<A: Allocator + Clone>(
         name: b"Retry-After",
         value: b"10",
     }];
-    let datagram = answer_of(alloc, request, source, OwnStatus::ServiceUnavailable, &retry)?;
+    let datagram = answer_of(
+        alloc,
+        request,
+        source,
+        OwnStatus::ServiceUnavailable,
+        &retry,
+    )?;
     Ok(Outcome::sends(Handled::TurnedAway, datagram))
 }
 

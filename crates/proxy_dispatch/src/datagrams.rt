@@ -4,7 +4,7 @@ ghost use Rattle.sip_text.specs.Message.{read_at};
 ghost use Rattle.call_model.specs.Built as built;
 ghost use Rattle.sip_text.specs.Fault.{fault_seen};
 ghost use Rattle.sip_text.specs.Reading.{Short};
-ghost use Rattle.proxy_dispatch.specs.Becomes.{Becomes, FaultBecomes, MessageBecomes};
+ghost use Rattle.proxy_dispatch.specs.Becomes.{AdmittedBecomes, Becomes, FaultBecomes};
 ghost use Rattle.proxy_dispatch.specs.inner.Becomes.{ToldBecomes};
 ghost use Rattle.proxy_dispatch.specs.Sent.{IsHanded};
 ghost use Rattle.proxy_dispatch.specs.inner.Sent.{seen_sent};
@@ -56,7 +56,7 @@ fn of_message<A: Allocator + Clone, N: Admission, R: Wait>(
 ) -> Result<Outcome<A>, AllocError>
     requires { read_at received.bytes.now ≡ Ok message }
     ensures { IfOk result (λ outcome.
-        MessageBecomes (N.admitted admission.now) setup.now message received.entry.source received.entry.now outcome.handled (seen_sent outcome.datagram)) }
+        AdmittedBecomes (N.admitted admission.now) setup.now message received.entry.source received.entry.now outcome.handled (seen_sent outcome.datagram)) }
 {
     match purpose_of(&message) {
         None => responded(rt, shelf, setup, message, received),

@@ -1,5 +1,5 @@
 //! Requests: known by their keys, or new.
-ghost use Rattle.std.specs.Prelude.{◌≡◌, ◌≢◌, IfOk, IsErrOf, None, Ok, Some, true};
+ghost use Rattle.std.specs.Prelude.{◌≡◌, ◌≢◌, IfOk, IsErrOf, None, Ok, Some};
 ghost use Rattle.std.specs.Option.{option_map};
 ghost use Rattle.sip_text.specs.Message.{read_at};
 ghost use Rattle.sip_route.specs.RequestKey.{request_key};
@@ -8,9 +8,9 @@ ghost use Rattle.call_table.specs.declared.shelf.ShelfFault.TheVariants as shelf
 ghost use Rattle.proxy_routing.specs.declared.fault.RequestRejection.{RequestRejection};
 ghost use Rattle.call_routing.specs.Opening.{Opens, Refuses};
 ghost use Rattle.proxy_dispatch.specs.declared.purpose.Purpose.TheVariants as purposes;
-ghost use Rattle.proxy_dispatch.specs.Admitting.{Admits};
-ghost use Rattle.proxy_dispatch.specs.Becomes.{IsAsked, MayOpen, MessageBecomes};
+ghost use Rattle.proxy_dispatch.specs.Becomes.{AdmittedBecomes, MessageBecomes};
 ghost use Rattle.proxy_dispatch.specs.Purpose.{purpose_of};
+ghost use Rattle.proxy_dispatch.specs.inner.Becomes.{LetInBecomes};
 ghost use Rattle.proxy_dispatch.specs.inner.Sent.{seen_sent};
 
 use crate::acks::acknowledged;
@@ -97,8 +97,8 @@ fn refused<A: Allocator + Clone>(
 ) -> Result<Outcome<A>, AllocError>
     requires opening { purpose_of request.start ≡ Some purposes.Opening }
     requires refused { Refuses setup.now request received.source fault }
-    ensures { IfOk result (λ outcome. (admits : Admits) → MayOpen admits setup.now request →
-        MessageBecomes admits setup.now request received.entry.source received.entry.now outcome.handled (seen_sent outcome.datagram)) }
+    ensures { IfOk result (λ outcome.
+        MessageBecomes setup.now request received.entry.source received.entry.now outcome.handled (seen_sent outcome.datagram)) }
 {
     match status_of(fault) {
         Some(status) => answered(alloc, request, received.source, status),
@@ -120,8 +120,8 @@ fn opened<A: Allocator + Clone, R: Wait>(
     requires opening { purpose_of request.start ≡ Some purposes.Opening }
     requires key { request_key request ≢ None }
     requires read { read_at received.bytes.now ≡ Ok request }
-    ensures { IfOk result (λ outcome. (admits : Admits) → MayOpen admits setup.now request →
-        MessageBecomes admits setup.now request received.entry.source received.entry.now outcome.handled (seen_sent outcome.datagram)) }
+    ensures { IfOk result (λ outcome.
+        MessageBecomes setup.now request received.entry.source received.entry.now outcome.handled (seen_sent outcome.datagram)) }
 {
     let alloc = memory.alloc.clone()?;
     match open_call(rt, memory, shelf, setup, key, request, received) {
@@ -157,8 +157,8 @@ fn admitted<A: Allocator + Clone, R: Wait>(
     requires opening { purpose_of request.start ≡ Some purposes.Opening }
     requires key { request_key request ≢ None }
     requires read { read_at received.bytes.now ≡ Ok request }
-    ensures { IfOk result (λ outcome. (admits : Admits) → IsAsked admits request true →
-        MessageBecomes admits setup.now request received.entry.source received.entry.now outcome.handled (seen_sent outcome.datagram)) }
+    ensures { IfOk result (λ outcome.
+        LetInBecomes setup.now request received.entry.source received.entry.now outcome.handled (seen_sent outcome.datagram)) }
 {
     if asks_service(memory.alloc.clone()?, setup, &request)? {
         return told(memory.alloc, request, received.source);
@@ -190,7 +190,7 @@ fn asked<A: Allocator + Clone, N: Admission, R: Wait>(
     requires key { request_key request ≢ None }
     requires read { read_at received.bytes.now ≡ Ok request }
     ensures { IfOk result (λ outcome.
-        MessageBecomes (N.admitted admission.now) setup.now request received.entry.source received.entry.now outcome.handled (seen_sent outcome.datagram)) }
+        AdmittedBecomes (N.admitted admission.now) setup.now request received.entry.source received.entry.now outcome.handled (seen_sent outcome.datagram)) }
 {
     if !admission.admits(rt, opener_of(&request)) {
         return turned_away(memory.alloc, request, received.source);
@@ -222,7 +222,7 @@ pub(crate) fn requested<A: Allocator + Clone, N: Admission, R: Wait>(
     requires purpose { purpose_of request.start ≡ Some purpose }
     requires read { read_at received.bytes.now ≡ Ok request }
     ensures { IfOk result (λ outcome.
-        MessageBecomes (N.admitted admission.now) setup.now request received.entry.source received.entry.now outcome.handled (seen_sent outcome.datagram)) }
+        AdmittedBecomes (N.admitted admission.now) setup.now request received.entry.source received.entry.now outcome.handled (seen_sent outcome.datagram)) }
 {
     let key = key_of(memory.alloc.clone()?, &request)?;
     if let Some(key) = &key {

@@ -1,6 +1,5 @@
 //! Responses: for the call that their top Via value names.
 ghost use Rattle.std.specs.Prelude.{◌≡◌, ℕ, IfOk, IfSome, None, Some};
-ghost use Rattle.proxy_dispatch.specs.Admitting.{Admits};
 ghost use Rattle.proxy_dispatch.specs.Becomes.{IsHome, MessageBecomes};
 ghost use Rattle.proxy_dispatch.specs.Purpose.{purpose_of};
 ghost use Rattle.proxy_dispatch.specs.inner.Sent.{seen_sent};
@@ -43,8 +42,8 @@ pub(crate) fn responded<A: Allocator + Clone, R: Wait>(
     received: Received<'_>,
 ) -> Result<Outcome<A>, AllocError>
     requires { purpose_of response.start ≡ None }
-    ensures { IfOk result (λ outcome. (admits : Admits) →
-        MessageBecomes admits setup.now response received.entry.source received.entry.now outcome.handled (seen_sent outcome.datagram)) }
+    ensures { IfOk result (λ outcome.
+        MessageBecomes setup.now response received.entry.source received.entry.now outcome.handled (seen_sent outcome.datagram)) }
 {
     match call_of(setup, &response) {
         Some(no) => deliver(rt, shelf, no, response, received),

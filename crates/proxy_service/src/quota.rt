@@ -92,6 +92,7 @@ impl Quota {
 }
 
 /// The places for calls, as a datagram finds them that came at a moment.
+#[derive(Clone, Copy)]
 pub(crate) struct QuotaAt<'a> {
     pub(crate) quota: &'a Quota,
     pub(crate) lifetime: &'a Lifetime,
