@@ -27,14 +27,14 @@ none_some x e = absurd cc
 some_same : {A : Type 0} (a b : A) → Some a ≡ Some b → a ≡ b
 some_same a b e = cc
 
-module _ (fires : ℕ → Type 0) where
-  same_part : (call : Call) (n : ℕ) (destination : Destination) (branch later : Branch) → cancel_kept later ≡ cancel_kept branch → later.timer_c_at ≡ branch.timer_c_at → GoesOn fires call n destination branch later
+module _ (fires : ℕ → Type 0) (output : step.Output) where
+  same_part : (call : Call) (n : ℕ) (destination : Destination) (branch later : Branch) → cancel_kept later ≡ cancel_kept branch → later.timer_c_at ≡ branch.timer_c_at → GoesOn fires output call n destination branch later
   same_part call n destination branch later c t = record { cancel = inl c; fired = λ e. t ∙ e; fires_now = λ e. inl (sym t ∙ e); shorter = λ h. inl t }
 
   -- ---- all parts
 
   -- a call with the same parts
-  unchanged : (call new : Call) → new.branches ≡ call.branches → PartsGoOn fires call new
+  unchanged : (call new : Call) → new.branches ≡ call.branches → PartsGoOn fires output call new
   unchanged call new e = record {
     kept = λ n destination branch goes there.
         (branch, ap (λ (bs : List (Option Branch)). found (slice_get bs n)) e ∙ there, same_part call n destination branch branch refl refl);
@@ -42,14 +42,14 @@ module _ (fires : ℕ → Type 0) where
         absurd (none_some branch (sym there ∙ ap (λ (bs : List (Option Branch)). found (slice_get bs n)) e ∙ none));
   }
 
-  kept : (call new x : Call) → new ≡ x → x.branches ≡ call.branches → PartsGoOn fires call new
+  kept : (call new x : Call) → new ≡ x → x.branches ≡ call.branches → PartsGoOn fires output call new
   kept call new x e b = unchanged call new (ap (λ (c : Call). c.branches) e ∙ b)
 
-  as_parts : (call new x : Call) → new ≡ x → PartsGoOn fires call x → PartsGoOn fires call new
-  as_parts call new x e parts = let P : Call → Type 0 = λ c. PartsGoOn fires call c in subst P (sym e) parts
+  as_parts : (call new x : Call) → new ≡ x → PartsGoOn fires output call x → PartsGoOn fires output call new
+  as_parts call new x e parts = let P : Call → Type 0 = λ c. PartsGoOn fires output call c in subst P (sym e) parts
 
   set_part : (call : Call) (n : ℕ) (branch l : Branch) → nth_branch call n ≡ Some branch
-      → ((destination : Destination) → slice_get call.destinations n ≡ Some destination → GoesOn fires call n destination branch l) → PartsGoOn fires call (set_branch call n l)
+      → ((destination : Destination) → slice_get call.destinations n ≡ Some destination → GoesOn fires output call n destination branch l) → PartsGoOn fires output call (set_branch call n l)
   set_part call n branch l there on = record {
     kept = λ m destination b goes at. by m destination b goes at (at_or call.branches n m l);
     made = λ m b none at. absurd (never m b none at (at_or call.branches n m l));
@@ -57,11 +57,11 @@ module _ (fires : ℕ → Type 0) where
     where
       by : (m : ℕ) (destination : Destination) (b : Branch) → slice_get call.destinations m ≡ Some destination → nth_branch call m ≡ Some b
           → (m ≡ n) ⊎ (found (slice_get (with_branch call.branches n l) m) ≡ found (slice_get call.branches m))
-          → (later : Branch) × (nth_branch (set_branch call n l) m ≡ Some later) × GoesOn fires call m destination b later
+          → (later : Branch) × (nth_branch (set_branch call n l) m ≡ Some later) × GoesOn fires output call m destination b later
       by m destination b goes at (inl e) =
           let same : b ≡ branch = some_same b branch (sym at ∙ ap (nth_branch call) e ∙ there) in
-          let P : Branch → Type 0 = λ x. GoesOn fires call n destination x l in
-          let Q : ℕ → Type 0 = λ k. GoesOn fires call k destination b l in (
+          let P : Branch → Type 0 = λ x. GoesOn fires output call n destination x l in
+          let Q : ℕ → Type 0 = λ k. GoesOn fires output call k destination b l in (
             l,
             ap (nth_branch (set_branch call n l)) e ∙ here_with call.branches n branch l there,
             subst Q (sym e) (subst P (sym same) (on destination (ap (slice_get call.destinations) (sym e) ∙ goes))),
@@ -73,11 +73,11 @@ module _ (fires : ℕ → Type 0) where
       never m b none at (inl e) = none_some branch (sym there ∙ ap (nth_branch call) (sym e) ∙ none)
       never m b none at (inr e) = none_some b (sym at ∙ e ∙ none)
 
-  same_set : (call : Call) (n : ℕ) (branch l : Branch) → nth_branch call n ≡ Some branch → cancel_kept l ≡ cancel_kept branch → l.timer_c_at ≡ branch.timer_c_at → PartsGoOn fires call (set_branch call n l)
+  same_set : (call : Call) (n : ℕ) (branch l : Branch) → nth_branch call n ≡ Some branch → cancel_kept l ≡ cancel_kept branch → l.timer_c_at ≡ branch.timer_c_at → PartsGoOn fires output call (set_branch call n l)
   same_set call n branch l there c t = set_part call n branch l there (λ destination goes. same_part call n destination branch l c t)
 
   -- a branch is sent its request once
-  new_part : (call : Call) (n : ℕ) (l : Branch) → is_none (nth_branch call n) ≡ true → IsNew call l → PartsGoOn fires call (set_branch call n l)
+  new_part : (call : Call) (n : ℕ) (l : Branch) → is_none (nth_branch call n) ≡ true → IsNew call l → PartsGoOn fires output call (set_branch call n l)
   new_part call n l none is = record {
     kept = λ m destination b goes at. by m destination b goes at (at_or call.branches n m l);
     made = λ m b before at. made m b before at (at_or call.branches n m l);
@@ -89,7 +89,7 @@ module _ (fires : ℕ → Type 0) where
 
       by : (m : ℕ) (destination : Destination) (b : Branch) → slice_get call.destinations m ≡ Some destination → nth_branch call m ≡ Some b
           → (m ≡ n) ⊎ (found (slice_get (with_branch call.branches n l) m) ≡ found (slice_get call.branches m))
-          → (later : Branch) × (nth_branch (set_branch call n l) m ≡ Some later) × GoesOn fires call m destination b later
+          → (later : Branch) × (nth_branch (set_branch call n l) m ≡ Some later) × GoesOn fires output call m destination b later
       by m destination b goes at (inl e) = absurd (nothing (nth_branch call n) b none (ap (nth_branch call) (sym e) ∙ at))
       by m destination b goes at (inr e) = (b, e ∙ at, same_part call m destination b b refl refl)
 
@@ -108,7 +108,7 @@ module _ (fires : ℕ → Type 0) where
       made m b before at (inr e) = absurd (none_some b (sym at ∙ e ∙ before))
 
   posts : (call mid new : Call) (event : Event) (contacts : List ContactText) (response : Option MessageText) (reply : Reply)
-      → PartsGoOn fires call mid → Posts mid event contacts response reply new → PartsGoOn fires call new
+      → PartsGoOn fires output call mid → Posts mid event contacts response reply new → PartsGoOn fires output call new
   posts call mid new event contacts response reply parts it = record {
     kept = λ n destination branch goes there.
         let p = parts.kept n destination branch goes there in
@@ -120,7 +120,7 @@ module _ (fires : ℕ → Type 0) where
       same n = ap (λ (c : Call). nth_branch c n) it.follows ∙ branch_more mid.branches _ n
 
   posts_same : (call mid new : Call) (event : Event) (contacts : List ContactText) (response : Option MessageText) (reply : Reply)
-      → Posts mid event contacts response reply new → mid.branches ≡ call.branches → PartsGoOn fires call new
+      → Posts mid event contacts response reply new → mid.branches ≡ call.branches → PartsGoOn fires output call new
   posts_same call mid new event contacts response reply it b = posts call mid new event contacts response reply (unchanged call mid b) it
 
 -- ---- a step
@@ -165,23 +165,23 @@ was_fired : (now status longest : ℕ) (at : Option ℕ) → timer_c_again now s
 was_fired now status longest None e = refl
 was_fired now status longest (Some at) e = absurd (cond_some (nat_lt longest timer_c) (nat_lt 100 status && nat_lt status 200) at _ at e)
 
-module _ (now : ℕ) (call new : Call) where
+module _ (now : ℕ) (call new : Call) (output : step.Output) where
   abbrev Fires : ℕ → Type 0
   Fires n = FiresTimer call new n
 
   abbrev Goes : Type 0
-  Goes = PartsGoOn Fires call new
+  Goes = PartsGoOn Fires output call new
 
   keeps : (x : Call) → new ≡ x → x.branches ≡ call.branches → Goes
-  keeps x e b = kept Fires call new x e b
+  keeps x e b = kept Fires output call new x e b
 
   sets : (n : ℕ) (branch l : Branch) → nth_branch call n ≡ Some branch → cancel_kept l ≡ cancel_kept branch → l.timer_c_at ≡ branch.timer_c_at → new ≡ set_branch call n l → Goes
-  sets n branch l there c t e = as_parts Fires call new (set_branch call n l) e (same_set Fires call n branch l there c t)
+  sets n branch l there c t e = as_parts Fires output call new (set_branch call n l) e (same_set Fires output call n branch l there c t)
 
   sets_posted : (n : ℕ) (branch l : Branch) → nth_branch call n ≡ Some branch → cancel_kept l ≡ cancel_kept branch → l.timer_c_at ≡ branch.timer_c_at
       → (event : Event) (contacts : List ContactText) (response : Option MessageText) (reply : Reply) → Posts (set_branch call n l) event contacts response reply new → Goes
   sets_posted n branch l there c t event contacts response reply it =
-      posts Fires call (set_branch call n l) new event contacts response reply (same_set Fires call n branch l there c t) it
+      posts Fires output call (set_branch call n l) new event contacts response reply (same_set Fires output call n branch l there c t) it
 
   -- ---- an action of the pump
 
@@ -209,41 +209,41 @@ module _ (now : ℕ) (call new : Call) where
   fired n branch true p there (out, reply, it) = sets_posted n branch _ there refl refl _ _ _ reply it
   fired n branch false p there (out, reply, it) =
       let l = without_timer_c branch in
-      posts Fires call (set_branch call n l) new _ _ _ reply
-      (set_part Fires call n branch l there (λ w at. record {
+      posts Fires output call (set_branch call n l) new _ _ _ reply
+      (set_part Fires output call n branch l there (λ w at. record {
         cancel = inl refl;
         fired = λ e. refl;
         fires_now = λ e. inr (reply, ap (λ (c : Call). c.log) it.follows);
         shorter = λ h. inr refl;
       })) it
 
-  done : (action : Action) (p : Pumped) → is_due_at call now action ≡ true → Does call now action p new → Goes
-  done (due.SendRequest n) p is (destination, goes, (out, e)) =
-      as_parts Fires call new _ e (new_part Fires call n _ (and_parts (row_passes table.is_trying call n) _ is).1 (started call now destination _))
-  done (due.SendCancel n) p is (destination, branch, goes, there, (out, e)) =
+  done : (action : Action) (p : Pumped) → output ≡ step.Did p → is_due_at call now action ≡ true → Does call now action p new → Goes
+  done (due.SendRequest n) p puts is (destination, goes, (out, e)) =
+      as_parts Fires output call new _ e (new_part Fires output call n _ (and_parts (row_passes table.is_trying call n) _ is).1 (started call now destination _))
+  done (due.SendCancel n) p puts is (destination, branch, goes, there, (out, e)) =
       let later = record branch { cancelling = Some (cancel_started call now n destination) } in
-      as_parts Fires call new _ e (set_part Fires call n branch later there (λ w at.
+      as_parts Fires output call new _ e (set_part Fires output call n branch later there (λ w at.
       let same : w ≡ destination = some_same w destination (sym at ∙ goes) in
-      let P : Destination → Type 0 = λ x. GoesOn Fires call n x branch later in
+      let P : Destination → Type 0 = λ x. GoesOn Fires output call n x branch later in
       subst P (sym same) (record {
-        cancel = inr (record { owed = is; first = none_kept (nth_branch call n) branch (and_parts (row_passes table.is_cancelled call n) _ is).1 there; sent = refl });
+        cancel = inr (record { owed = is; first = none_kept (nth_branch call n) branch (and_parts (row_passes table.is_cancelled call n) _ is).1 there; sends = (destination.hop, puts ∙ ap step.Did out); kept = refl });
         fired = λ f. f;
         fires_now = λ f. inl f;
         shorter = λ h. inl refl;
       })))
-  done (due.SendAck n) p is (destination, branch, goes, there, (ack, owed, out, e)) = sets n branch _ there refl refl e
-  done due.SendAnswer p is h = paid call.server.owed p h
-  done due.TickServer p is (out, e) = keeps _ e refl
-  done (due.TickClient n) p is (destination, branch, goes, there, h) = ticks n destination branch _ p there h
-  done (due.TickCancel n) p is (destination, branch, goes, there, (cancelling, has, out, e)) =
+  done (due.SendAck n) p puts is (destination, branch, goes, there, (ack, owed, out, e)) = sets n branch _ there refl refl e
+  done due.SendAnswer p puts is h = paid call.server.owed p h
+  done due.TickServer p puts is (out, e) = keeps _ e refl
+  done (due.TickClient n) p puts is (destination, branch, goes, there, h) = ticks n destination branch _ p there h
+  done (due.TickCancel n) p puts is (destination, branch, goes, there, (cancelling, has, out, e)) =
       sets n branch _ there (cancel_on branch.cancelling cancelling has) refl e
-  done (due.FireTimerC n) p is (branch, there, h) = fired n branch _ p there h
-  done (due.GiveUp n) p is (branch, there, (out, reply, it)) = sets_posted n branch _ there refl refl _ _ _ reply it
+  done (due.FireTimerC n) p puts is (branch, there, h) = fired n branch _ p there h
+  done (due.GiveUp n) p puts is (branch, there, (out, reply, it)) = sets_posted n branch _ there refl refl _ _ _ reply it
 
-  pumped : (p : Pumped) → Pumps call now p new → Goes
-  pumped Idle (idle, e) = keeps call e refl
-  pumped (Send d) (action, is, h) = done action (Send d) is h
-  pumped Did (action, is, h) = done action Did is h
+  pumped : (p : Pumped) → output ≡ step.Did p → Pumps call now p new → Goes
+  pumped Idle puts (idle, e) = keeps call e refl
+  pumped (Send d) puts (action, is, h) = done action (Send d) puts is h
+  pumped Did puts (action, is, h) = done action Did puts is h
 
   -- ---- a message
 
@@ -251,12 +251,12 @@ module _ (now : ℕ) (call new : Call) where
       → Responds call n branch destination now m t new → Goes
   responded n branch destination m to.Absorbed there goes (p, e) = sets n branch _ there refl refl e
   responded n branch destination m (to.Posted at) there goes (p, reply, placed, first, leads, it) =
-      posts Fires call _ new _ _ _ reply (closes (set_part Fires call n branch later there on)) it
+      posts Fires output call _ new _ _ _ reply (closes (set_part Fires output call n branch later there on)) it
     where
       later : Branch
       later = to.branch_posted first destination.longest (to.branch_after call n branch destination now m) now (status_of m) m
 
-      on : (w : Destination) → slice_get call.destinations n ≡ Some w → GoesOn Fires call n w branch later
+      on : (w : Destination) → slice_get call.destinations n ≡ Some w → GoesOn Fires output call n w branch later
       on w at =
           let same : w ≡ destination = some_same w destination (sym at ∙ goes) in
           record {
@@ -266,13 +266,13 @@ module _ (now : ℕ) (call new : Call) where
             shorter = λ h. inl (not_again now (status_of m) destination.longest branch.timer_c_at (ap (λ (x : Destination). nat_lt x.longest timer_c) (sym same) ∙ h));
           }
 
-      closes : PartsGoOn Fires call (set_branch call n later) → PartsGoOn Fires call (closed_by (closing_after (table_of new.log).closed (status_of m) call.closing) (set_branch call n later))
+      closes : PartsGoOn Fires output call (set_branch call n later) → PartsGoOn Fires output call (closed_by (closing_after (table_of new.log).closed (status_of m) call.closing) (set_branch call n later))
       closes parts = record { kept = λ k w b at is. parts.kept k w b at is; made = λ k b none is. parts.made k b none is }
   responded n branch destination m to.Full there goes (p, f, e) = keeps call e refl
 
   cancelled : (cancel : MessageText) (hop : Hop) (t : Taken) → CancelledBy call cancel hop t new → Goes
   cancelled cancel hop to.Absorbed (c, e) = keeps _ e refl
-  cancelled cancel hop (to.Posted at) (c, reply, placed, it) = posts_same Fires call _ new _ _ _ reply it refl
+  cancelled cancel hop (to.Posted at) (c, reply, placed, it) = posts_same Fires output call _ new _ _ _ reply it refl
   cancelled cancel hop to.Full h = absurd h
 
   took : (m : MessageText) (source : Hop) (r : to.MatchedTransaction) (t : Taken) → TakesAs call now m source r t new → Goes
@@ -320,16 +320,16 @@ module _ (now : ℕ) (call new : Call) where
 
 -- ---- the whole
 
-pub stepped : (now : ℕ) (call : Call) (input : step.Input) (new : Call) (output : step.Output) → step.Step now call input new output → PartsGoOn (FiresTimer call new) call new
-stepped now call (step.Take r m source) new (step.Took t) h = took now call new m source r t h
+pub stepped : (now : ℕ) (call : Call) (input : step.Input) (new : Call) (output : step.Output) → step.Step now call input new output → PartsGoOn (FiresTimer call new) output call new
+stepped now call (step.Take r m source) new (step.Took t) h = took now call new (step.Took t) m source r t h
 stepped now call (step.Take r m source) new (step.Did p) h = absurd h
 stepped now call (step.Take r m source) new step.Told h = absurd h
 stepped now call step.Pump new (step.Took t) h = absurd h
-stepped now call step.Pump new (step.Did p) h = pumped now call new p h
+stepped now call step.Pump new (step.Did p) h = pumped now call new (step.Did p) p refl h
 stepped now call step.Pump new step.Told h = absurd h
 stepped now call (step.Failed c) new (step.Took t) h = absurd h
 stepped now call (step.Failed c) new (step.Did p) h = absurd h
-stepped now call (step.Failed c) new step.Told h = failed now call new c h
+stepped now call (step.Failed c) new step.Told h = failed now call new step.Told c h
 
 pub steps_keep_parts : StepsKeepParts
 steps_keep_parts turn call new h = stepped turn.now call turn.input new turn.output h

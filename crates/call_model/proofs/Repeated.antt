@@ -194,29 +194,29 @@ WasSent call d (cause.Ack n) = Unit {0}
 WasSent call d cause.Answer = Unit {0}
 WasSent call d cause.CancelOk = Unit {0}
 
-still_holds : (call new : Call) (n : ℕ) (bytes : List ℕ) (destination : Destination) → slice_get call.destinations n ≡ Some destination → PartsGoOn (FiresTimer call new) call new → HoldsCancel call n bytes → HoldsCancel new n bytes
-still_holds call new n bytes destination goes on (branch, there, kept) =
+still_holds : (call new : Call) (output : step.Output) (n : ℕ) (bytes : List ℕ) (destination : Destination) → slice_get call.destinations n ≡ Some destination → PartsGoOn (FiresTimer call new) output call new → HoldsCancel call n bytes → HoldsCancel new n bytes
+still_holds call new output n bytes destination goes on (branch, there, kept) =
     let p = on.kept n destination branch goes there in
     (p.0, p.1, by p.0 p.2.cancel)
   where
-    by : (later : Branch) → (cancel_kept later ≡ cancel_kept branch) ⊎ SendsCancelTo call n destination branch later → cancel_kept later ≡ Some bytes
+    by : (later : Branch) → (cancel_kept later ≡ cancel_kept branch) ⊎ SendsCancelTo output call n destination branch later → cancel_kept later ≡ Some bytes
     by later (inl same) = same ∙ kept
     by later (inr sends) = absurd (let e : None ≡ Some bytes = sym sends.first ∙ kept in cc)
 
-still_sent : (call new : Call) (d : Datagram) → Stays call new → PartsGoOn (FiresTimer call new) call new → (c : Cause) → is_repeated c ≡ true → WasSent call d c → WasSent new d c
-still_sent call new d s on (cause.Request n) e (destination, there, hop, text) =
+still_sent : (call new : Call) (output : step.Output) (d : Datagram) → Stays call new → PartsGoOn (FiresTimer call new) output call new → (c : Cause) → is_repeated c ≡ true → WasSent call d c → WasSent new d c
+still_sent call new output d s on (cause.Request n) e (destination, there, hop, text) =
     (destination, s.destinations n destination there, hop, text ∙ ap (λ (f : OpenedRequest). spelling (request_to f destination n)) (sym s.opened))
-still_sent call new d s on (cause.Cancel n) e (destination, there, hop, holds) =
-    (destination, s.destinations n destination there, hop, still_holds call new n d.bytes destination there on holds)
-still_sent call new d s on (cause.Ack n) e right = absurd cc
-still_sent call new d s on cause.Answer e right = absurd cc
-still_sent call new d s on cause.CancelOk e right = absurd cc
+still_sent call new output d s on (cause.Cancel n) e (destination, there, hop, holds) =
+    (destination, s.destinations n destination there, hop, still_holds call new output n d.bytes destination there on holds)
+still_sent call new output d s on (cause.Ack n) e right = absurd cc
+still_sent call new output d s on cause.Answer e right = absurd cc
+still_sent call new output d s on cause.CancelOk e right = absurd cc
 
 over_run : (turns : List Turn) (call new : Call) (d : Datagram) → is_repeated d.cause ≡ true → WasSent call d d.cause → Run call turns new → WasSent new d d.cause
 over_run [] call new d e was same = let P : Call → Type 0 = λ c. WasSent c d d.cause in subst P (sym same) was
 over_run (turn ∷ turns) call new d e was (mid, first, rest) =
     let kept = stepped turn.now call turn.input mid turn.output first in
-    over_run turns mid new d e (still_sent call mid d kept.stays (parts.stepped turn.now call turn.input mid turn.output first) d.cause e was) rest
+    over_run turns mid new d e (still_sent call mid turn.output d kept.stays (parts.stepped turn.now call turn.input mid turn.output first) d.cause e was) rest
 
 -- ---- the step that sends it
 

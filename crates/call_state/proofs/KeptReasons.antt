@@ -3,20 +3,19 @@ use Rattle.call_state.proofs.Common.{◌≡◌, ◌∙◌, ◌++◌, Bool, true,
 use Rattle.std.proofs.Common.{codes}
 use Rattle.sip_text.specs.Message.{is_header}
 use Rattle.sip_text.specs.Name.{same_name}
-use Rattle.sip_text.specs.Seen.{view, views}
 use Rattle.sip_text.specs.Text.{HeaderText}
 use Rattle.sip_via.specs.Lines.{has_name, lines_among}
 use Rattle.call_state.specs.inner.Reasons.{reason_in}
 
-among : (hs : List HeaderText) → flat_map reason_in (views hs) ≡ lines_among (codes "reason") hs
+among : (hs : List HeaderText) → flat_map reason_in hs ≡ lines_among (codes "reason") hs
 among [] = refl
 among (h ∷ hs) = by (same_name (codes "reason") h.name) (among hs)
   where
-    by : (b : Bool) → flat_map reason_in (views hs) ≡ lines_among (codes "reason") hs → cond {A = List HeaderText} b (h ∷ []) [] ++ flat_map reason_in (views hs) ≡ cond {A = List HeaderText} b (h ∷ lines_among (codes "reason") hs) (lines_among (codes "reason") hs)
+    by : (b : Bool) → flat_map reason_in hs ≡ lines_among (codes "reason") hs → cond {A = List HeaderText} b (h ∷ []) [] ++ flat_map reason_in hs ≡ cond {A = List HeaderText} b (h ∷ lines_among (codes "reason") hs) (lines_among (codes "reason") hs)
     by true rest = ap (λ (xs : List HeaderText). h ∷ xs) rest
     by false rest = rest
 
-pub reasons_are : (m : MessageText) → flat_map reason_in (views m.headers) ≡ reason_lines m
+pub reasons_are : (m : MessageText) → flat_map reason_in m.headers ≡ reason_lines m
 reasons_are m = among m.headers
 
 lines_pass : (hs : List HeaderText) → list_all is_header hs ≡ true → list_all is_header (lines_among (codes "reason") hs) ≡ true

@@ -40,10 +40,11 @@ impl<A: Allocator + Clone> CallState<A> {
         ensures full { IsErrOf result PostFault.Full → RespondsOn self.old n now message take.Full self.new }
         ensures err { OnErr result (self.new ≡ self.old) }
     {
+        let destination = self.destination(n);
         let branch = self.part(n);
         let (client, out) = branch.fed(response_event(status), now);
-        let timer_c_at = branch.timer_c_again(status, self.destination(n).longest(), now);
-        let ack = self.ack_if(self.destination(n), n, out.send, &message)?;
+        let timer_c_at = branch.timer_c_again(status, destination.longest(), now);
+        let ack = self.ack_if(destination, n, out.send, &message)?;
         if !is_passed(out.pass) {
             self.respond_part(n, client, ack);
             return Ok(Taken::Absorbed);

@@ -16,6 +16,7 @@ mod look;
 mod reasons;
 mod state;
 mod states;
+mod timers;
 
 pub use fault::PostFault;
 pub use look::BranchView;
