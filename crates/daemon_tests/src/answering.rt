@@ -1,6 +1,6 @@
 //! What a service answers by itself, what it adds to requests and to a 100, and for which addresses it is the domain.
 use crate::played::{Moment, PLAIN, Served, Turn, plays};
-use crate::texts::{ASKED, BESIDE, BOB, BYE, CALLER, CONFIGURATION, INVITE, OPTIONS, Request};
+use crate::texts::{ASKED, BESIDE, BOB, BYE, CALLER, CANCEL, CONFIGURATION, INVITE, OPTIONS, Request};
 
 // ---- Record-Route
 
@@ -27,7 +27,7 @@ const REINVITE: Request = Request {
     ..INVITE
 };
 
-/// With Record-Route: an INVITE outside of a dialog has the line before all others, and no other request has it.
+/// With Record-Route: an INVITE outside of a dialog has the line, and no request within a dialog or of another method has it.
 const RECORDING: &[Moment] = &[
     (0, Turn::Asks(INVITE)),
     (0, Turn::Sends(CALLER, "SIP/2.0 100 ", "one")),
@@ -110,6 +110,37 @@ const STAMPING: &[Moment] = &[
 #[test]
 fn a_100_has_the_timestamp_of_its_request(rt: HostRuntime) {
     plays(&rt, rt.alloc(), PLAIN, STAMPING, "a Timestamp");
+}
+
+// ---- Reason
+
+const REASON: &str = "\r\nReason: SIP;cause=487;text=\"hung up\"\r\n";
+
+/// A CANCEL that says why.
+const REASONED: Request = Request {
+    lines: "Reason: SIP;cause=487;text=\"hung up\"\r\n",
+    ..CANCEL
+};
+
+/// The CANCEL of a branch says what the caller's has said.
+const GIVING_REASONS: &[Moment] = &[
+    (0, Turn::Asks(INVITE)),
+    (0, Turn::Sends(CALLER, "SIP/2.0 100 ", "one")),
+    (0, Turn::Sends(BOB, "INVITE ", "one")),
+    (
+        10,
+        Turn::Answers(BOB, "INVITE", "one", "SIP/2.0 180 Ringing"),
+    ),
+    (10, Turn::Sends(CALLER, "SIP/2.0 180 ", "one")),
+    (20, Turn::Asks(REASONED)),
+    (20, Turn::Sends(CALLER, "SIP/2.0 200 ", "one")),
+    (20, Turn::Sends(BOB, "CANCEL ", "one")),
+    (20, Turn::Has(REASON)),
+];
+
+#[test]
+fn a_cancel_says_why(rt: HostRuntime) {
+    plays(&rt, rt.alloc(), PLAIN, GIVING_REASONS, "a Reason");
 }
 
 // ---- OPTIONS
