@@ -1,11 +1,12 @@
 //! How a call opens.
-ghost use Rattle.std.specs.Prelude.{◌≡◌, ◌≢◌, ◌<◌, ◌↔◌, [], ℕ, length, slice_get, true, IfErr, IfOk, IfSome, IsOk, IsTrue, Ok, Some};
+ghost use Rattle.std.specs.Prelude.{◌≡◌, ◌≢◌, ◌<◌, ◌↔◌, ◌&&◌, [], ℕ, length, slice_get, true, IfErr, IfOk, IfSome, IsOk, IsTrue, Ok, Some};
 ghost use Rattle.std.specs.List.{list_all};
 ghost use Rattle.std.specs.Option.{option_and_then, option_map};
 ghost use Rattle.fork_model.specs.Table.{Row};
 ghost use Rattle.sip_text.specs.Message.{is_value};
 ghost use Rattle.sip_text.specs.Name.{first_value};
 ghost use Rattle.sip_route.specs.Hops.{IsHops, hops_name};
+ghost use Rattle.sip_build.specs.Dialogs.{opens_dialog};
 ghost use Rattle.sip_build.specs.Forwarding.{is_request};
 ghost use Rattle.fork_rank.specs.KindView as kinds;
 ghost use Rattle.fork_model.specs.Log.{opening_log, table_of};
@@ -185,6 +186,13 @@ fn tried_by(responsible: bool, streams: bool) -> TriedContacts
     }
 }
 
+/// Whether the proxy is to stay on the path of the dialog that the request opens.
+fn is_recorded<A: Allocator>(setup: &Setup<A>, request: &Message<A>) -> bool
+    ensures { result ≡ (setup.now.records && opens_dialog request.now) }
+{
+    setup.records() && opens_dialog(request)
+}
+
 /// The value of the Record-Route line by which the proxy stays on the path of the dialog that the request opens, where it is to
 /// (RFC 3261 section 16.6 step 4). It takes memory only there.
 fn record_route_of<A: Allocator>(
@@ -195,7 +203,7 @@ fn record_route_of<A: Allocator>(
     ensures value { IfOk result (λ made. option_map (λ v. v.items) made ≡ record_route_of setup.now request.now) }
     ensures good { IfSome (record_route_of setup.now request.now) (λ value. IsTrue (is_value value)) }
 {
-    if !setup.records() || !opens_dialog(request) {
+    if !is_recorded(setup, request) {
         return Ok(None);
     }
     let mut value = Vec::new(alloc);
@@ -228,6 +236,7 @@ fn open_to<A: Allocator + Clone>(
     if !have_hops(&candidates) {
         return Err(RequestRejection::NoHop);
     }
+    let streams = setup.has_streams();
     let record_route = record_route_of(alloc.clone()?, setup, &request)?;
     let caller = reply_hop_of(&request, source);
     let opened = OpenedRequest::new(Opening {
@@ -236,11 +245,11 @@ fn open_to<A: Allocator + Clone>(
         instance: setup.instance(),
         request,
         caller,
-        route: hop_if_any(route),
-        tried: tried_by(inside, setup.streams()),
+        route: hop_if_any(streams, route),
+        tried: tried_by(inside, streams),
         record_route,
         stamps: setup.stamps(),
-        reasons: setup.reasons(),
+        reasons: setup.gives_reasons(),
         ring: setup.ring(),
     });
     locations_are_targets();
