@@ -1,11 +1,29 @@
 //! The configuration of a service.
 ghost use Rattle.std.specs.Prelude.{◌≡◌, ◌↔◌, IfErr, IfOk, IsTrue};
-ghost use Rattle.proxy_service.specs.Setups.{IsOf, IsReloadFault, IsServiceSetup, service_setup};
+ghost use Rattle.proxy_service.specs.Setups.{IsOf, IsReloadFault, IsServiceSetup, by_port_if, recording_if, service_setup};
 
 use crate::terms::Terms;
 use daemon_parts::{DaemonFault, Identity, read_text};
 use fork_call::Setup;
 use std::alloc::Allocator;
+
+/// The setup with its own address counting as the domain with the own port alone, if that is asked for.
+fn by_port_if<A: Allocator + Clone>(setup: Setup<A>, own_port: bool) -> Setup<A>
+    ensures { result ≡ by_port_if own_port setup }
+{
+    if own_port {
+        setup.with_own_port()
+    } else {
+        setup
+    }
+}
+
+/// The setup with a Record-Route line in each request that opens a dialog, if that is asked for.
+fn recording_if<A: Allocator + Clone>(setup: Setup<A>, records: bool) -> Setup<A>
+    ensures { result ≡ recording_if records setup }
+{
+    if records { setup.recording() } else { setup }
+}
 
 /// A setup as a service goes by it: all Route values at the front of a request that lead to the proxy are taken away; a 100 has the
 /// Timestamp of its request, and a CANCEL says why; the own address counts as the domain with the own port alone, and a request that
@@ -14,16 +32,7 @@ pub(crate) fn service_setup<A: Allocator + Clone>(setup: Setup<A>, terms: &Terms
     ensures { result ≡ service_setup terms.now setup }
 {
     let setup = setup.for_a_service().stamping().giving_reasons();
-    let setup = if terms.own_port {
-        setup.with_own_port()
-    } else {
-        setup
-    };
-    if terms.records {
-        setup.recording()
-    } else {
-        setup
-    }
+    recording_if(by_port_if(setup, terms.own_port), terms.records)
 }
 
 /// Whether a setup has this identity.
