@@ -2,7 +2,7 @@
 use crate::outbox::Outbox;
 use call_table::Shelf;
 use fork_call::{Call, Setup};
-use proxy_dispatch::{Handled, Memory, Received, handle};
+use proxy_dispatch::{Handled, Memory, Received, Unlimited, handle};
 use sip_uri::{Hop, Transport};
 use std::alloc::Global;
 use std::sync::Wait;
@@ -139,7 +139,7 @@ pub fn text_becomes<R: Wait>(
         source: SOURCE,
         now: 0,
     };
-    match handle(rt, memory_of(alloc), shelf, setup, received, outbox) {
+    match handle(rt, memory_of(alloc), shelf, setup, &Unlimited, received, outbox) {
         Ok(handled) => Some(handled),
         Err(_) => None,
     }
