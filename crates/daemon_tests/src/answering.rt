@@ -1,6 +1,8 @@
 //! What a service answers by itself, what it adds to requests and to a 100, and for which addresses it is the domain.
 use crate::played::{Moment, PLAIN, Served, Turn, plays};
-use crate::texts::{ASKED, BESIDE, BOB, BYE, CALLER, CANCEL, CONFIGURATION, INVITE, OPTIONS, Request};
+use crate::texts::{
+    ASKED, BESIDE, BOB, BYE, CALLER, CANCEL, CONFIGURATION, INVITE, OPTIONS, Request,
+};
 
 // ---- Record-Route
 
@@ -90,12 +92,18 @@ const STAMPED: Request = Request {
 const STAMPING: &[Moment] = &[
     (0, Turn::Asks(STAMPED)),
     (0, Turn::Sends(CALLER, "SIP/2.0 100 ", "one")),
-    (0, Turn::Has("\r\nTimestamp: 54.1\r\nContent-Length: 0\r\n\r\n")),
+    (
+        0,
+        Turn::Has("\r\nTimestamp: 54.1\r\nContent-Length: 0\r\n\r\n"),
+    ),
     (0, Turn::Lacks("Timestamp: 7")),
     (0, Turn::Sends(BOB, "INVITE ", "one")),
     (20, Turn::Asks(STAMPED)),
     (20, Turn::Sends(CALLER, "SIP/2.0 100 ", "one")),
-    (20, Turn::Has("\r\nTimestamp: 54.1\r\nContent-Length: 0\r\n\r\n")),
+    (
+        20,
+        Turn::Has("\r\nTimestamp: 54.1\r\nContent-Length: 0\r\n\r\n"),
+    ),
     (
         30,
         Turn::Asks(Request {

@@ -154,15 +154,7 @@ const ACK: [&[u8]; 8] = [
     b"",
 ];
 
-const RINGING: [&[u8]; 7] = [
-    b"SIP/2.0 180 Ringing",
-    VIA,
-    FROM,
-    TO,
-    CALL_ID,
-    CSEQ,
-    b"",
-];
+const RINGING: [&[u8]; 7] = [b"SIP/2.0 180 Ringing", VIA, FROM, TO, CALL_ID, CSEQ, b""];
 
 const NOISE: [&[u8]; 2] = [b"noise", b""];
 
@@ -246,13 +238,7 @@ impl Scene {
     }
 
     /// Whether a request is answered so by a service, where requests are admitted or not.
-    fn answers<R: Wait>(
-        &mut self,
-        rt: &R,
-        open: u64,
-        request: &[&[u8]],
-        answer: &[&[u8]],
-    ) -> bool {
+    fn answers<R: Wait>(&mut self, rt: &R, open: u64, request: &[&[u8]], answer: &[&[u8]]) -> bool {
         self.gate.open.store(open, Ordering::SeqCst);
         match setup_of(self.alloc) {
             Some(setup) => {
@@ -332,7 +318,11 @@ fn a_service_says_what_it_takes(rt: HostRuntime) {
 fn is_any_request<R: Wait>(rt: &R, alloc: Global) -> bool {
     match (Scene::new(alloc), setup_of(alloc)) {
         (Some(mut scene), Some(setup)) => {
-            scene.plays(rt, &setup, &[(1, &TO_PROXY, Handled::Answered(480), (1, 0, 1))])
+            scene.plays(
+                rt,
+                &setup,
+                &[(1, &TO_PROXY, Handled::Answered(480), (1, 0, 1))],
+            )
         }
         _ => false,
     }

@@ -46,7 +46,16 @@ pub fn serves<R: Abort + Wait, P: Port>(
         source: SOURCE,
         now,
     };
-    let handled = handle(rt, memory_of(alloc), shelf, setup, &Unlimited, received, port).ok()?;
+    let handled = handle(
+        rt,
+        memory_of(alloc),
+        shelf,
+        setup,
+        &Unlimited,
+        received,
+        port,
+    )
+    .ok()?;
     match handled {
         Handled::Opened(number) | Handled::Delivered(number) => {
             if carries(rt, shelf, number, port, now) {

@@ -139,7 +139,15 @@ pub fn text_becomes<R: Wait>(
         source: SOURCE,
         now: 0,
     };
-    match handle(rt, memory_of(alloc), shelf, setup, &Unlimited, received, outbox) {
+    match handle(
+        rt,
+        memory_of(alloc),
+        shelf,
+        setup,
+        &Unlimited,
+        received,
+        outbox,
+    ) {
         Ok(handled) => Some(handled),
         Err(_) => None,
     }
