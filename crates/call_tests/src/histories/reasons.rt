@@ -162,7 +162,6 @@ const ACCEPTED_BEFORE: &[Moment] = &[
     (20, Turn::SendsFor(Cause::Answer)),
     (20, Turn::Waits(Some(500))),
     (30, Turn::Takes(TARGET, RINGING, Ok(Taken::Posted(1)))),
-    (30, Turn::Sends(&RINGING_UP)),
     (30, Turn::Sends(&CANCEL_SINCE_ACCEPTED)),
 ];
 
