@@ -37,3 +37,5 @@ mod parts;
 mod schedule;
 #[cfg(test)]
 mod scrapers;
+#[cfg(test)]
+mod sockets;
