@@ -64,6 +64,15 @@ impl Marks {
         }
     }
 
+    /// Whether a call has its mark.
+    pub fn has(&self, number: u64) -> bool {
+        let place = (number / BITS % WORDS) as usize;
+        match self.words.get(place) {
+            Some(word) => word.load(Ordering::SeqCst) & (1 << (number % BITS)) != 0,
+            None => false,
+        }
+    }
+
     /// Marks a call, and says whether it had no mark.
     pub fn set(&self, number: u64) -> bool {
         self.change(number, true)

@@ -70,11 +70,13 @@ impl<A: Allocator + Clone> Schedule<A> {
     pub fn add<R: Wait>(&self, rt: &R, number: u64, deadline: u64) -> Result<(), AllocError> {
         let (added, is_earliest) = {
             let mut deadlines = self.deadlines.lock(rt);
-            let before = deadlines.earliest().unwrap_or(NEVER);
             let added = deadlines.add(number, deadline);
-            let earliest = deadlines.earliest().unwrap_or(NEVER);
-            self.earliest.store(earliest, Ordering::SeqCst);
-            (added, earliest < before)
+            // (it is changed where the lock is held alone)
+            let is_earliest = added.is_ok() && deadline < self.earliest.load(Ordering::SeqCst);
+            if is_earliest {
+                self.earliest.store(deadline, Ordering::SeqCst);
+            }
+            (added, is_earliest)
         };
         let is_missed = added.is_err();
         if is_missed {

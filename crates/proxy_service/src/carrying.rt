@@ -1,5 +1,5 @@
 //! What a service does with one call: it carries it, and forgets one that is over.
-ghost use Rattle.std.specs.Prelude.{◌≡◌, ◌≤◌, ◌↔◌, IsTrue};
+ghost use Rattle.std.specs.Prelude.{◌≡◌, ◌≤◌, ◌↔◌, ◌+◌, ◌-◌, ◌*◌, ◌/◌, ◌^◌, min, IsTrue};
 ghost use Rattle.std.specs.Bool.{OnTrue};
 ghost use Rattle.call_model.specs.Due.{IsOver};
 ghost use Rattle.call_over.specs.Quiet.{IsQuietWithoutOwed};
@@ -20,10 +20,20 @@ use std::time::{Clock, Duration, SystemTime};
 /// How many milliseconds pass until a call is looked at again that another thread looked at.
 const AGAIN: u64 = 1;
 
+/// In steps of how many milliseconds calls are looked at of which each branch has ended.
+const STEP: u64 = 20;
+
 /// How often the last blocks wait for room, and for how many milliseconds each time.
 const MOST_RESTS: u32 = 200;
 
 const REST: u64 = 5;
+
+/// The first step at this moment or behind it, in milliseconds.
+fn step_from(moment: u64) -> u64
+    ensures { result ≡ min ((moment + 19) / 20 * 20) (2 ^ 64 - 1) }
+{
+    moment.div_ceil(STEP).saturating_mul(STEP)
+}
 
 /// What is to be done with a call next.
 #[derive(Clone, Copy, PartialEq, Eq, Debug)]
@@ -94,6 +104,16 @@ impl<A: Allocator + Copy> Service<A> {
         if self.calls.schedule.add(rt, number, due).is_err() {
             self.counts.calls.missed.add(1);
             self.note_refusal(now);
+        }
+    }
+
+    /// The moment at which a call is looked at that is due later, in milliseconds. Those of which each branch has ended wait for their last
+    /// timers, and perhaps for an ACK, of which nothing is awaited to the millisecond: many of them are looked at together.
+    fn look_for(&self, number: u64, due: u64) -> u64 {
+        if self.calls.finished.has(number) {
+            step_from(due)
+        } else {
+            due
         }
     }
 
@@ -201,6 +221,9 @@ impl<A: Allocator + Copy> Service<A> {
             self.calls.refusals.clear(rt, number);
         }
         match next {
+            Next::At(due) if due > now => {
+                self.carry_at(rt, number, self.look_for(number, due), now);
+            }
             Next::At(due) => self.carry_at(rt, number, due, now),
             Next::Over(failure) => self.forget(rt, number, failure, block, now),
             Next::Refused => self.carry_later(rt, number, now),
