@@ -10,7 +10,7 @@ use Rattle.std.proofs.lemmas.Map.Text.{is_eq-slice_cmp}
 use Rattle.user_list.specs.declared.users.UserList.{UserList}
 use Rattle.user_list.specs.UserView.{Has}
 use Rattle.user_list.specs.inner.Added.{IsAdded, IsWith, IsWithText, IsWithUser}
-use Rattle.user_list.specs.inner.UserIndex.{secrets_at}
+use Rattle.user_list.specs.UserIndex.{secrets_at}
 use Rattle.user_list.proofs.Named.{any_named, named_apart, named_new}
 
 -- ---- a map in which the value of one name changes

@@ -6,7 +6,7 @@ use Rattle.user_list.specs.declared.fault.UserFault.TheVariants as fault
 use Rattle.user_list.specs.declared.users.UserList.{UserList}
 use Rattle.user_list.specs.User.{User, secrets_named}
 use Rattle.user_list.specs.Users.{IsMalformedAt, ListsUsers}
-use Rattle.user_list.specs.inner.UserIndex.{secrets_at}
+use Rattle.user_list.specs.UserIndex.{secrets_at}
 
 module _ {A : Type 0} where
   -- each name is found with what its user has, and no other name

@@ -10,7 +10,7 @@ ghost use Rattle.user_list.specs.User.{User, secrets_named};
 ghost use Rattle.user_list.specs.Users.{ListsUsers};
 ghost use Rattle.user_list.specs.UserView.{GivesUsers, Has, HasListed, IsFaultOf};
 ghost use Rattle.user_list.specs.inner.Reading.{read_users, seen_user, with_text, with_user};
-ghost use Rattle.user_list.specs.inner.UserIndex.{secrets_at};
+ghost use Rattle.user_list.specs.UserIndex.{secrets_at};
 ghost use Rattle.user_list.specs.inner.Added.{GivesRead, IsAdded, IsWithText, IsWithUser};
 
 use crate::fault::UserFault;

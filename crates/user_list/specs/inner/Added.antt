@@ -7,7 +7,7 @@ use Rattle.user_list.specs.declared.users.UserList.{UserList}
 use Rattle.user_list.specs.User.{User}
 use Rattle.user_list.specs.UserView.{Has}
 use Rattle.user_list.specs.inner.Reading.{with_text, with_user}
-use Rattle.user_list.specs.inner.UserIndex.{secrets_at}
+use Rattle.user_list.specs.UserIndex.{secrets_at}
 
 module _ {A : Type 0} where
   -- a user has come, and each other is as it was

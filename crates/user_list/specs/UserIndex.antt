@@ -1,4 +1,4 @@
--- What users have, by their names.
+-- What users have, by their names, as a list in memory has it.
 use Rattle.std.specs.Prelude.{ℕ, List, Option, Vec}
 use Rattle.std.specs.BTreeMap.{get_by}
 use Rattle.std.specs.Cmp.Lexicographic.{slice_cmp}
