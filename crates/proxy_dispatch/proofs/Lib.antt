@@ -3,3 +3,4 @@ pub mod Keyless
 pub mod Purposes
 pub mod Becoming
 pub mod Admitted
+pub mod Unmade
