@@ -113,7 +113,8 @@ fn is_own<A: Allocator + Clone>(setup: &Setup<A>, uri: &SipUri<A>) -> bool
     ensures { result ≡ is_own setup.now uri.now }
 {
     is_address(uri.host(), setup.own().addr)
-        && (!setup.by_port() || is_own_port(setup.own(), reachable(setup.has_streams(), uri.next_hop())))
+        && (!setup.by_port()
+            || is_own_port(setup.own(), reachable(setup.has_streams(), uri.next_hop())))
 }
 
 /// Whether the proxy is responsible for this URI (RFC 3261 section 16.5): its host is the proxy's domain, in upper or lower
