@@ -132,6 +132,20 @@ const TIMEOUT: &[Moment] = &[
     ),
 ];
 
+/// A call of which each branch has ended is looked at in steps of 20 milliseconds.
+const STEPS: &[Moment] = &[
+    (0, Turn::Asks(OPTIONS)),
+    (
+        25,
+        Turn::Answers(BOB, "OPTIONS", "one", "SIP/2.0 404 Not Found"),
+    ),
+    (32_025, Turn::Passes(25)),
+    (32_039, Turn::Ticks),
+    (32_039, Turn::Keeps(1, 1)),
+    (32_040, Turn::Ticks),
+    (32_040, Turn::Keeps(0, 1)),
+];
+
 /// Requests to bob, each of a call of its own.
 const SECOND: Request = Request {
     call: "two",
@@ -298,6 +312,7 @@ fn a_call_that_is_over_is_forgotten_and_written_down(rt: HostRuntime) {
     plays(&rt, alloc, PLAIN, SUCCESS, "a call that was answered");
     plays(&rt, alloc, PLAIN, FAILURE, "a call that failed");
     plays(&rt, alloc, PLAIN, TIMEOUT, "a call that timed out");
+    plays(&rt, alloc, PLAIN, STEPS, "a call between two steps");
     plays(&rt, alloc, PLAIN, CLASSES, "each class");
     plays(&rt, alloc, PLAIN, WHYS, "two whys");
     plays(&rt, alloc, UNWRITTEN, NO_JOURNAL, "no journal");
