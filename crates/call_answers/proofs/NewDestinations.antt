@@ -4,6 +4,9 @@ use Rattle.call_answers.proofs.Common.{nat_lt, Result, Ok, Err, codes, AllByRecu
 use Rattle.call_answers.proofs.Common.{MessageText, ContactText, Form, are_items, contact_of, contact_of_form, contact_params, form_of, is_contact_param, items_behind, q_of, takeable, read_uri, Uri, Hop, UriFault, BadText, is_closed}
 use Rattle.call_answers.proofs.Common.{QuotesAndAngles, OpenedRequest, Destination, HaveDestinations, IsNone, count_in, place_of, destination_for, without, Branch, no_branch, destination_of_contact, destinations_of, challenges_by, contacts_at, contacts_by, contacts_in, contacts_or, event_by}
 use Rattle.call_answers.proofs.Common.{contact_for, contacts_for, is_redirection, offer_of, ◌&&◌}
+use Rattle.call_model.specs.declared.tried_contacts.TriedContacts.{TriedContacts}
+use Rattle.call_model.specs.declared.tried_contacts.TriedContacts.TheVariants.{Every, NoContacts, OverUdp}
+use Rattle.call_model.specs.Response.{is_over_udp, tried_uri}
 use Rattle.std.proofs.Common.{option_map, append_assoc, ltb-true, ltb-false}
 use Rattle.fork_model.specs.Sources.{AddsNoRow, IsRowOf, NewRowsAreContacts}
 use Rattle.sip_uri.specs.Contact.{contacts_of}
@@ -65,15 +68,24 @@ contacts_hop status m = by (is_redirection status)
     by false = refl
 
 -- one that is not tried needs none
-hop_for : (responsible : Bool) (contact : ContactText) → has_hop contact ≡ true → has_hop (contact_for responsible contact) ≡ true
-hop_for true contact h = h
-hop_for false contact h = refl
+hop_for : (tried : TriedContacts) (contact : ContactText) → has_hop contact ≡ true → has_hop (contact_for tried contact) ≡ true
+hop_for NoContacts contact h = refl
+hop_for Every contact h = h
+hop_for OverUdp contact h = over contact.uri h
+  where
+    over : (uri : Option Uri) → uri_has_hop uri ≡ true → uri_has_hop (tried_uri OverUdp uri) ≡ true
+    over None e = refl
+    over (Some uri) e = go (is_over_udp uri)
+      where
+        go : (b : Bool) → uri_has_hop (cond {A = Option Uri} b (Some uri) None) ≡ true
+        go true = e
+        go false = refl
 
-hops_for : (responsible : Bool) (cs : List ContactText) → list_all has_hop cs ≡ true → list_all has_hop (map (contact_for responsible) cs) ≡ true
-hops_for responsible [] h = refl
-hops_for responsible (c ∷ cs) h =
+hops_for : (tried : TriedContacts) (cs : List ContactText) → list_all has_hop cs ≡ true → list_all has_hop (map (contact_for tried) cs) ≡ true
+hops_for tried [] h = refl
+hops_for tried (c ∷ cs) h =
     let each = and_parts (has_hop c) (list_all has_hop cs) h in
-    and_from (has_hop (contact_for responsible c)) (list_all has_hop (map (contact_for responsible) cs)) (hop_for responsible c each.0) (hops_for responsible cs each.1)
+    and_from (has_hop (contact_for tried c)) (list_all has_hop (map (contact_for tried) cs)) (hop_for tried c each.0) (hops_for tried cs each.1)
 
 hop_at : (cs : List ContactText) (place : ℕ) (c : ContactText) → list_all has_hop cs ≡ true → slice_get cs place ≡ Some c → has_hop c ≡ true
 hop_at [] place c h e = absurd cc
@@ -87,11 +99,11 @@ hop_at (x ∷ cs) (suc place) c h e = hop_at cs place c (and_parts (has_hop x) (
 goes_by : (opened : OpenedRequest) (uri : Uri) → is_some (hop_of uri) ≡ true → is_some (destination_to opened uri) ≡ true
 goes_by opened uri h = by opened.route
   where
-    at : (hop : Option Hop) → is_some hop ≡ true → is_some (destination_by uri hop) ≡ true
+    at : (hop : Option Hop) → is_some hop ≡ true → is_some (destination_by uri hop opened.ring) ≡ true
     at None e = absurd cc
     at (Some hop) e = refl
 
-    by : (route : Option Hop) → is_some (destination_by uri (next_hop route uri)) ≡ true
+    by : (route : Option Hop) → is_some (destination_by uri (next_hop route uri) opened.ring) ≡ true
     by (Some hop) = refl
     by None = at (hop_of uri) h
 
@@ -152,32 +164,32 @@ module _ (each : NewRowsAreContacts) (none : AddsNoRow) where
         apart = added_apart t n at answer;
       }
 
-  pub gives_destinations : (opened : OpenedRequest) (responsible : Bool) (n status : ℕ) (m : MessageText) → GivesDestinations (event_by responsible n status m) (map (destination_of_contact opened) (contacts_for responsible status m))
-  gives_destinations opened responsible n status m = by (nat_lt status 200)
+  pub gives_destinations : (opened : OpenedRequest) (tried : TriedContacts) (n status : ℕ) (m : MessageText) → GivesDestinations (event_by tried n status m) (map (destination_of_contact opened) (contacts_for tried status m))
+  gives_destinations opened tried n status m = by (nat_lt status 200)
     where
-      by : (b : Bool) → GivesDestinations (cond {A = Event} b (Ring n status) (Answer n (record { status = status; offers = map offer_of (contacts_for responsible status m); challenges = challenges_by status m }))) (map (destination_of_contact opened) (contacts_for responsible status m))
-      by true = no_rows n status (map (destination_of_contact opened) (contacts_for responsible status m))
+      by : (b : Bool) → GivesDestinations (cond {A = Event} b (Ring n status) (Answer n (record { status = status; offers = map offer_of (contacts_for tried status m); challenges = challenges_by status m }))) (map (destination_of_contact opened) (contacts_for tried status m))
+      by true = no_rows n status (map (destination_of_contact opened) (contacts_for tried status m))
       by false =
-          let answer : FinalAnswer = record { status = status; offers = map offer_of (contacts_for responsible status m); challenges = challenges_by status m } in
-          some_rows opened n (contacts_for responsible status m) answer (hops_for responsible (contacts_by status m) (contacts_hop status m)) refl
+          let answer : FinalAnswer = record { status = status; offers = map offer_of (contacts_for tried status m); challenges = challenges_by status m } in
+          some_rows opened n (contacts_for tried status m) answer (hops_for tried (contacts_by status m) (contacts_hop status m)) refl
 
-  pub event_gives : (opened : OpenedRequest) (responsible : Bool) (n status : ℕ) (m : MessageText) (event : Event) (destinations : List (Option Destination)) → event ≡ event_by responsible n status m
-      → destinations ≡ map (destination_of_contact opened) (contacts_for responsible status m) → GivesDestinations event destinations
-  event_gives opened responsible n status m event destinations e w =
-      subst (λ (v : Event). GivesDestinations v destinations) (sym e) (subst (GivesDestinations (event_by responsible n status m)) (sym w) (gives_destinations opened responsible n status m))
+  pub event_gives : (opened : OpenedRequest) (tried : TriedContacts) (n status : ℕ) (m : MessageText) (event : Event) (destinations : List (Option Destination)) → event ≡ event_by tried n status m
+      → destinations ≡ map (destination_of_contact opened) (contacts_for tried status m) → GivesDestinations event destinations
+  event_gives opened tried n status m event destinations e w =
+      subst (λ (v : Event). GivesDestinations v destinations) (sym e) (subst (GivesDestinations (event_by tried n status m)) (sym w) (gives_destinations opened tried n status m))
 
-pub rings : (responsible : Bool) (n status ring : ℕ) (m : MessageText) → ring ≡ status → status < 200 → Ring n ring ≡ event_by responsible n status m
-rings responsible n status ring m e lt = by (nat_lt status 200) refl
+pub rings : (tried : TriedContacts) (n status ring : ℕ) (m : MessageText) → ring ≡ status → status < 200 → Ring n ring ≡ event_by tried n status m
+rings tried n status ring m e lt = by (nat_lt status 200) refl
   where
-    by : (b : Bool) → nat_lt status 200 ≡ b → Ring n ring ≡ cond {A = Event} b (Ring n status) (Answer n (record { status = status; offers = map offer_of (contacts_for responsible status m); challenges = challenges_by status m }))
+    by : (b : Bool) → nat_lt status 200 ≡ b → Ring n ring ≡ cond {A = Event} b (Ring n status) (Answer n (record { status = status; offers = map offer_of (contacts_for tried status m); challenges = challenges_by status m }))
     by true is = ap (Ring n) e
     by false is = absurd (omega (arith, ltb-false status 200 is))
 
-pub answers_with : (responsible : Bool) (n status : ℕ) (m : MessageText) (answer : FinalAnswer) → 200 ≤ status
-    → answer ≡ record { status = status; offers = map offer_of (contacts_for responsible status m); challenges = challenges_by status m } → Answer n answer ≡ event_by responsible n status m
-answers_with responsible n status m answer le e = by (nat_lt status 200) refl
+pub answers_with : (tried : TriedContacts) (n status : ℕ) (m : MessageText) (answer : FinalAnswer) → 200 ≤ status
+    → answer ≡ record { status = status; offers = map offer_of (contacts_for tried status m); challenges = challenges_by status m } → Answer n answer ≡ event_by tried n status m
+answers_with tried n status m answer le e = by (nat_lt status 200) refl
   where
-    by : (b : Bool) → nat_lt status 200 ≡ b → Answer n answer ≡ cond {A = Event} b (Ring n status) (Answer n (record { status = status; offers = map offer_of (contacts_for responsible status m); challenges = challenges_by status m }))
+    by : (b : Bool) → nat_lt status 200 ≡ b → Answer n answer ≡ cond {A = Event} b (Ring n status) (Answer n (record { status = status; offers = map offer_of (contacts_for tried status m); challenges = challenges_by status m }))
     by true is = absurd (omega (arith, ltb-true status 200 is))
     by false is = ap (Answer n) e
 

@@ -7,12 +7,13 @@ ghost use Rattle.sip_uri.specs.Key.{key_of};
 ghost use Rattle.sip_uri.specs.SeenContact.{view_contact, view_contacts};
 ghost use Rattle.call_model.specs.OpenedRequest.{destination_to};
 ghost use Rattle.call_model.specs.Posting.{destination_of_contact};
-ghost use Rattle.call_model.specs.Response.{contact_for, contacts_at, contacts_by, contacts_for, contacts_in, offer_of};
+ghost use Rattle.call_model.specs.Response.{contact_for, contacts_at, contacts_by, contacts_for, contacts_in, is_over_udp, offer_of, tried_uri};
 
 use call_branch::{Destination, OpenedRequest, is_redirection};
+use call_model::TriedContacts;
 use fork_context::Offer;
 use sip_text::{Message, Values};
-use sip_uri::{Contact, SipUri, UriFault, read_contacts};
+use sip_uri::{Contact, SipUri, Transport, UriFault, read_contacts};
 use std::alloc::{AllocError, Allocator};
 
 /// The q of a contact that cannot be read.
@@ -111,8 +112,35 @@ fn contacts_by<A: Allocator + Clone>(
 
 // ---- offering
 
+/// Whether a URI leads to a hop over UDP.
+fn is_over_udp<A: Allocator + Clone>(uri: &SipUri<A>) -> bool
+    ensures { result ≡ is_over_udp uri.now }
+{
+    match uri.next_hop() {
+        Some(hop) => hop.transport == Transport::Udp,
+        None => false,
+    }
+}
+
+/// The URI of a contact, where it may be tried.
+fn tried_uri<A: Allocator + Clone>(
+    tried: TriedContacts,
+    uri: Option<SipUri<A>>,
+) -> Option<SipUri<A>>
+    ensures { result ≡ tried_uri tried uri }
+{
+    match tried {
+        TriedContacts::NoContacts => None,
+        TriedContacts::OverUdp => {
+            let uri = uri?;
+            if is_over_udp(&uri) { Some(uri) } else { None }
+        }
+        TriedContacts::Every => uri,
+    }
+}
+
 /// Where the request to a URI goes: by the first Route value, if there is one, else by the URI (RFC 3261 section 16.6
-/// steps 6 and 7).
+/// steps 6 and 7); and how long its branch may take.
 fn destination_of<A: Allocator + Clone>(
     opened: &OpenedRequest<A>,
     uri: Option<SipUri<A>>,
@@ -124,7 +152,7 @@ fn destination_of<A: Allocator + Clone>(
         Some(hop) => hop,
         None => uri.next_hop()?,
     };
-    Some(Destination::new(uri, hop))
+    Some(Destination::new(uri, hop, opened.ring()))
 }
 
 /// The key of a contact that may be tried.
@@ -141,8 +169,7 @@ fn key_of<A: Allocator + Clone>(
 }
 
 impl<A: Allocator + Clone> Offered<A> {
-    /// Adds a contact, which may be tried only where the proxy is responsible for the Request-URI of the call (RFC 3261
-    /// section 16.5).
+    /// Adds a contact, which may be tried only where the call tries such (RFC 3261 section 16.5).
     fn push(
         &mut self,
         alloc: &A,
@@ -150,11 +177,11 @@ impl<A: Allocator + Clone> Offered<A> {
         contact: Contact<A>,
     ) -> Result<(), AllocError>
         requires { contact.q ≤ most_q }
-        ensures offers { OnOk result (self.new.offers.items ≡ self.old.offers.items ++ offer_of (contact_for opened.now.is_responsible (view_contact contact)) ∷ []) }
-        ensures destinations { OnOk result (self.new.destinations.items ≡ self.old.destinations.items ++ destination_of_contact opened.now (contact_for opened.now.is_responsible (view_contact contact)) ∷ []) }
+        ensures offers { OnOk result (self.new.offers.items ≡ self.old.offers.items ++ offer_of (contact_for opened.now.tried (view_contact contact)) ∷ []) }
+        ensures destinations { OnOk result (self.new.destinations.items ≡ self.old.destinations.items ++ destination_of_contact opened.now (contact_for opened.now.tried (view_contact contact)) ∷ []) }
     {
         let Contact { text, q, uri } = contact;
-        let uri = if opened.is_responsible() { uri } else { None };
+        let uri = tried_uri(opened.tried(), uri);
         let key = key_of(alloc, uri.as_ref())?;
         self.offers.push(Offer::new(text, q, key))?;
         self.destinations.push(destination_of(opened, uri))?;
@@ -169,8 +196,8 @@ fn offers_of<A: Allocator + Clone>(
     contacts: Vec<Contact<A>, A>,
 ) -> Result<Offered<A>, AllocError>
     requires { AllByRecursion (λ c. c.q ≤ most_q) (view_contacts contacts.items) }
-    ensures offers { IfOk result (λ o. o.offers.items ≡ map offer_of (map (contact_for opened.now.is_responsible) (view_contacts contacts.items))) }
-    ensures destinations { IfOk result (λ o. o.destinations.items ≡ map (destination_of_contact opened.now) (map (contact_for opened.now.is_responsible) (view_contacts contacts.items))) }
+    ensures offers { IfOk result (λ o. o.offers.items ≡ map offer_of (map (contact_for opened.now.tried) (view_contacts contacts.items))) }
+    ensures destinations { IfOk result (λ o. o.destinations.items ≡ map (destination_of_contact opened.now) (map (contact_for opened.now.tried) (view_contacts contacts.items))) }
 {
     let mut made = Offered {
         offers: Vec::with_capacity(alloc.clone()?, contacts.len())?,
@@ -191,8 +218,8 @@ pub(crate) fn offered_by<A: Allocator + Clone>(
     status: u16,
     message: &Message<A>,
 ) -> Result<Offered<A>, AllocError>
-    ensures offers { IfOk result (λ o. o.offers.items ≡ map offer_of (contacts_for opened.now.is_responsible status message.now)) }
-    ensures destinations { IfOk result (λ o. o.destinations.items ≡ map (destination_of_contact opened.now) (contacts_for opened.now.is_responsible status message.now)) }
+    ensures offers { IfOk result (λ o. o.offers.items ≡ map offer_of (contacts_for opened.now.tried status message.now)) }
+    ensures destinations { IfOk result (λ o. o.destinations.items ≡ map (destination_of_contact opened.now) (contacts_for opened.now.tried status message.now)) }
 {
     let contacts = contacts_by(alloc, status, message)?;
     offers_of(alloc, opened, contacts)

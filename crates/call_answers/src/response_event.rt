@@ -87,8 +87,7 @@ fn challenges_by<A: Allocator + Clone>(
 
 impl<A: Allocator + Clone> ResponseEvent<A> {
     /// What a response with this status says to the fork as one of branch n: the contacts of a 3xx and the challenges of a
-    /// 401 or a 407 count; the contacts may be tried only where the proxy is responsible for the Request-URI of the call
-    /// (RFC 3261 sections 16.5 and 16.7).
+    /// 401 or a 407 count; which contacts may be tried is what the call was opened with (RFC 3261 sections 16.5 and 16.7).
     ///
     /// # Errors
     ///
@@ -102,8 +101,8 @@ impl<A: Allocator + Clone> ResponseEvent<A> {
     ) -> Result<Self, AllocError>
         requires least { 100 ≤ status }
         requires most { status ≤ 699 }
-        ensures event { IfOk result (λ response_event. event_of response_event.event ≡ event_by opened.now.is_responsible n status message.now) }
-        ensures destinations { IfOk result (λ response_event. response_event.destinations.items ≡ map (destination_of_contact opened.now) (contacts_for opened.now.is_responsible status message.now)) }
+        ensures event { IfOk result (λ response_event. event_of response_event.event ≡ event_by opened.now.tried n status message.now) }
+        ensures destinations { IfOk result (λ response_event. response_event.destinations.items ≡ map (destination_of_contact opened.now) (contacts_for opened.now.tried status message.now)) }
         ensures gives { IfOk result (λ response_event. GivesDestinations (event_of response_event.event) response_event.destinations.items) }
     {
         new_rows_are_contacts();

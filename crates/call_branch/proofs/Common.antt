@@ -10,4 +10,6 @@ pub use Rattle.call_branch.specs.BranchInside.{changed_branch, no_branches}
 pub use Rattle.sip_build.specs.Forwarding.{forwarded}
 pub use Rattle.sip_text.specs.Text.{spelling}
 pub use Rattle.sip_uri.specs.Uri.{Uri}
+pub use Rattle.sip_via.specs.OwnVia.{over}
 pub use Rattle.sip_via.specs.declared.branch.BranchName.{BranchName}
+pub use Rattle.sip_via.specs.declared.own.Own.{Own}

@@ -1,4 +1,3 @@
-pub mod inner
 pub mod OpenedRequestInside
 pub mod BranchInside
 pub mod AckOwed

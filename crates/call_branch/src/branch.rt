@@ -8,17 +8,22 @@ ghost use Rattle.call_model.specs.Call.{owes_ack_on};
 ghost use Rattle.call_model.specs.Client.{client_after, client_due, client_out};
 ghost use Rattle.call_model.specs.Due.{IsOverCancelTransaction, IsOverBranch, cancel_client_due};
 ghost use Rattle.call_model.specs.Branch.{cancel_start, branch_start, timer_c_from};
+ghost use Rattle.call_model.specs.Reliability.{reliability_of};
 ghost use Rattle.call_branch.specs.BranchInside.{cancel_on, cancelled, kept, responded, without_ack};
 ghost use Rattle.call_model.specs.Take.{timer_c_again};
 
 use crate::client::ClientTransaction;
+use crate::destination::Destination;
+use crate::reliability::reliability_of;
 use fork_rank::Kind;
 use sip_text::Message;
 use sip_txn::{OtherClient, OtherClientState, T1_TIMES_64, TxEvent, TxOut};
+use sip_uri::Transport;
 use std::alloc::Allocator;
 use std::marker::Model;
 
-/// How long timer C runs, in milliseconds: more than three minutes (RFC 3261 section 16.6 step 11).
+/// How long timer C runs where the branch has no shorter longest time, in milliseconds: more than three minutes (RFC 3261
+/// section 16.6 step 11).
 const TIMER_C: u64 = 181_000;
 
 /// The CANCEL of a branch once it was sent, with the client transaction of the CANCEL (RFC 3261 section 9.1).
@@ -38,12 +43,12 @@ impl<A: Allocator> Model for CancelTransaction<A> {
 }
 
 impl<A: Allocator> CancelTransaction<A> {
-    /// A CANCEL that is sent at this moment, with these bytes.
-    pub fn start(now: u64, sent: Vec<u8, A>) -> Self
-        ensures { result ≡ cancel_start now sent.items }
+    /// A CANCEL that is sent at this moment, with these bytes, over this transport.
+    pub fn start(now: u64, sent: Vec<u8, A>, transport: Transport) -> Self
+        ensures { result ≡ cancel_start now sent.items (reliability_of transport) }
     {
         CancelTransaction {
-            client: OtherClient::start(now),
+            client: OtherClient::start(now, reliability_of(transport)),
             sent,
             give_up_at: now.saturating_add(T1_TIMES_64),
         }
@@ -116,26 +121,28 @@ impl<A: Allocator> Model for Branch<A> {
     ghost view = { λ l. record { client = l.client; sent = l.sent.items; ack = option_map (λ v. v.items) l.ack; timer_c_at = l.timer_c_at; cancelling = l.cancelling; answer = l.answer } };
 }
 
-/// When a timer C fires that starts at this moment: the branch of an INVITE has one, any other has none.
-pub(crate) fn timer_c_from(kind: Kind, now: u64) -> Option<u64>
-    ensures { result ≡ timer_c_from (kind_of kind) now }
+/// When a timer C fires that starts at this moment, of a branch with this longest time: the branch of an INVITE has one, any
+/// other has none.
+pub(crate) fn timer_c_from(kind: Kind, now: u64, longest: u64) -> Option<u64>
+    ensures { result ≡ timer_c_from (kind_of kind) now longest }
 {
     match kind {
-        Kind::Invite => Some(now.saturating_add(TIMER_C)),
+        Kind::Invite => Some(now.saturating_add(longest)),
         Kind::Other => None,
     }
 }
 
 impl<A: Allocator> Branch<A> {
-    /// A branch whose request is sent at this moment, with these bytes.
-    pub fn start(kind: Kind, now: u64, sent: Vec<u8, A>) -> Self
-        ensures { result ≡ branch_start (kind_of kind) now sent.items }
+    /// A branch whose request is sent there at this moment, with these bytes.
+    pub fn start(kind: Kind, now: u64, destination: &Destination<A>, sent: Vec<u8, A>) -> Self
+        ensures { result ≡ branch_start (kind_of kind) now destination.now sent.items }
     {
+        let reliability = reliability_of(destination.hop().transport);
         Branch {
-            client: ClientTransaction::start(kind, now),
+            client: ClientTransaction::start(kind, now, reliability),
             sent,
             ack: None,
-            timer_c_at: timer_c_from(kind, now),
+            timer_c_at: timer_c_from(kind, now, destination.longest()),
             cancelling: None,
             answer: None,
         }
@@ -202,13 +209,14 @@ impl<A: Allocator> Branch<A> {
         self.client.is_over() && cancelling
     }
 
-    /// When timer C of the branch fires once a response with this status has come, where it has one: a provisional response
-    /// sets it again, but for a 100.
-    pub fn timer_c_again(&self, status: u16, now: u64) -> Option<u64>
-        ensures { result ≡ timer_c_again now status self.now.timer_c_at }
+    /// When timer C of the branch, which has this longest time, fires once a response with this status has come, where it has
+    /// one: a provisional response sets it again, but for a 100, unless the longest time is a shorter one than timer C's (RFC
+    /// 3261 section 16.7 step 2).
+    pub fn timer_c_again(&self, status: u16, longest: u64, now: u64) -> Option<u64>
+        ensures { result ≡ timer_c_again now status longest self.now.timer_c_at }
     {
         let at = self.timer_c_at?;
-        if status > 100 && status < 200 {
+        if longest >= TIMER_C && status > 100 && status < 200 {
             Some(now.saturating_add(TIMER_C))
         } else {
             Some(at)

@@ -4,7 +4,9 @@ ghost use Rattle.fork_rank.specs.KindView.{kind_of};
 ghost use Rattle.call_model.specs.Client.{client_start, client_after, client_out, client_due, is_over};
 
 use fork_rank::Kind;
-use sip_txn::{InviteClient, InviteClientState, OtherClient, OtherClientState, TxEvent, TxOut};
+use sip_txn::{
+    InviteClient, InviteClientState, OtherClient, OtherClientState, Reliability, TxEvent, TxOut,
+};
 use std::marker::Model;
 
 /// The client transaction of an INVITE, or of another request.
@@ -30,13 +32,13 @@ impl Model for ClientTransaction {
 }
 
 impl ClientTransaction {
-    /// A client transaction whose request is sent at this moment.
-    pub(crate) fn start(kind: Kind, now: u64) -> Self
-        ensures { result ≡ client_start (kind_of kind) now }
+    /// A client transaction whose request is sent at this moment, over a transport that is so reliable.
+    pub(crate) fn start(kind: Kind, now: u64, reliability: Reliability) -> Self
+        ensures { result ≡ client_start (kind_of kind) now reliability }
     {
         let machine = match kind {
-            Kind::Invite => ClientMachine::Invite(InviteClient::start(now)),
-            Kind::Other => ClientMachine::Other(OtherClient::start(now)),
+            Kind::Invite => ClientMachine::Invite(InviteClient::start(now, reliability)),
+            Kind::Other => ClientMachine::Other(OtherClient::start(now, reliability)),
         };
         ClientTransaction { machine }
     }

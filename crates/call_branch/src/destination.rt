@@ -5,11 +5,13 @@ use sip_uri::{Hop, SipUri};
 use std::alloc::{Allocator, Global};
 use std::marker::Model;
 
-/// Where the request to a target goes: its URI, and the hop that leads there (RFC 3261 section 16.6).
+/// Where the request to a target goes: its URI, and the hop that leads there (RFC 3261 section 16.6); and how long its branch
+/// may take.
 #[derive(Drop)]
 pub struct Destination<A: Allocator = Global> {
     uri: SipUri<A>,
     hop: Hop,
+    longest: u64,
 }
 
 impl<A: Allocator> Model for Destination<A> {
@@ -17,17 +19,17 @@ impl<A: Allocator> Model for Destination<A> {
 
     ghost Value = { spec.Destination };
 
-    ghost view = { λ w. record { uri = w.uri; hop = w.hop } };
+    ghost view = { λ w. record { uri = w.uri; hop = w.hop; longest = w.longest } };
 }
 
 impl<A: Allocator> Destination<A> {
-    /// The destination of a target with this URI by this hop.
+    /// The destination of a target with this URI by this hop, and the longest time of its branch in milliseconds.
     ///
-    /// The hop is that of the first Route value where the request has one, else the hop of the URI.
-    pub fn new(uri: SipUri<A>, hop: Hop) -> Self
-        ensures { result ≡ record { uri = uri; hop = hop } }
+    /// The hop is that of the first Route value where the request has one, else that of the target.
+    pub fn new(uri: SipUri<A>, hop: Hop, longest: u64) -> Self
+        ensures { result ≡ record { uri = uri; hop = hop; longest = longest } }
     {
-        Destination { uri, hop }
+        Destination { uri, hop, longest }
     }
 
     pub(crate) fn uri(&self) -> &SipUri<A>
@@ -41,5 +43,12 @@ impl<A: Allocator> Destination<A> {
         ensures { result ≡ self.now.hop }
     {
         self.hop
+    }
+
+    /// The longest time of the branch to the target, in milliseconds (RFC 3261 section 16.6 step 11).
+    pub fn longest(&self) -> u64
+        ensures { result ≡ self.now.longest }
+    {
+        self.longest
     }
 }

@@ -11,6 +11,7 @@ mod branches;
 mod client;
 mod destination;
 mod opened;
+mod reliability;
 mod responses;
 mod served;
 
@@ -18,7 +19,7 @@ pub use branch::{Branch, CancelTransaction};
 pub use branches::{branch_in, destination_at, no_branches, put_branch};
 pub use client::ClientTransaction;
 pub use destination::Destination;
-pub use opened::OpenedRequest;
+pub use opened::{OpenedRequest, Opening};
 pub use responses::{
     answer_event, is_fault, is_passed, is_redirection, is_request, is_response, is_timeout,
     kept_if, parted, response_event, status_of,

@@ -1,18 +1,24 @@
 //! What a call is opened with, and no step changes.
-ghost use Rattle.std.specs.Prelude.{◌≡◌, IfOk, IfSome, true};
-ghost use Rattle.std.specs.Option.{option_map};
+ghost use Rattle.std.specs.Prelude.{◌≡◌, IfOk, IfSome, IsTrue, true};
+ghost use Rattle.std.specs.List.{list_all};
+ghost use Rattle.std.specs.Option.{option_copied, option_map};
+ghost use Rattle.sip_text.specs.Message.{is_header, is_value};
 ghost use Rattle.sip_text.specs.Name.{first_value};
 ghost use Rattle.sip_text.specs.Text.{spelling};
+ghost use Rattle.sip_via.specs.OwnVia.{over};
 ghost use Rattle.sip_route.specs.Hops.{IsHops, hops_name};
 ghost use Rattle.sip_build.specs.Forwarding.{is_request};
+ghost use Rattle.sip_build.specs.Further.{view_lines};
 ghost use Rattle.fork_rank.specs.KindView as kinds;
 ghost use Rattle.call_model.specs.Built.{ack_to, cancel_to, request_to};
 ghost use Rattle.call_model.specs.OpenedRequest.{branch_at, is_invite, kind_of};
 ghost use Rattle.call_branch.specs.BranchInside.{ack_made};
+ghost use Rattle.call_branch.specs.OpenedRequestInside.{opened_with};
 
 use crate::destination::Destination;
+use call_model::TriedContacts;
 use fork_rank::Kind;
-use sip_build::{write_forwarded, write_forwarded_ack, write_forwarded_cancel};
+use sip_build::{FurtherLine, write_forwarded, write_forwarded_ack, write_forwarded_cancel};
 use sip_route::loop_key;
 use sip_text::Message;
 use sip_txn::TxSend;
@@ -21,59 +27,68 @@ use sip_via::{BranchName, Own};
 use std::alloc::{AllocError, Allocator, Global};
 use std::marker::Model;
 
-/// What a call is opened with, and no step changes: its request, the numbers that name its branches, and where its
-/// answers go.
+/// What a call is opened with, each part under its name.
+#[derive(Drop)]
+pub struct Opening<A: Allocator = Global> {
+    /// The number of the call, by which its branches are named.
+    pub number: u64,
+    /// The address that the proxy receives at.
+    pub own: Own,
+    /// The number of the proxy, by which its branches are named, too.
+    pub instance: u32,
+    /// The request as it was marked with its source, and stripped of the proxy's own Route value (RFC 3261 sections 16.4 and
+    /// 18.2.1).
+    pub request: Message<A>,
+    /// Where the answers to the caller go (RFC 3261 section 18.2.2).
+    pub caller: Hop,
+    /// The hop of the request's first Route value, if it has one (RFC 3261 section 16.6 step 6).
+    pub route: Option<Hop>,
+    /// Which contacts of a 3xx are tried: none where the proxy is not responsible for the Request-URI of the request (RFC 3261
+    /// section 16.5).
+    pub tried: TriedContacts,
+    /// The value of the Record-Route line that the request gets on its way to each target, where it gets one (RFC 3261 section
+    /// 16.6 step 4).
+    pub record_route: Option<Vec<u8, A>>,
+    /// Whether the 100 to the request takes its Timestamp line (RFC 3261 section 8.2.6.1).
+    pub stamps: bool,
+    /// Whether the CANCELs of its branches say why they are sent (RFC 3326).
+    pub reasons: bool,
+    /// The longest time of the branches to contacts of a 3xx, in milliseconds.
+    pub ring: u64,
+}
+
+/// What a call is opened with, and no step changes: its request, the numbers that name its branches, where its answers go, and
+/// what its requests and its 100 take beside.
 #[derive(Drop)]
 pub struct OpenedRequest<A: Allocator = Global> {
-    number: u64,
-    own: Own,
-    instance: u32,
-    request: Message<A>,
-    caller: Hop,
-    route: Option<Hop>,
-    is_responsible: bool,
+    opening: Opening<A>,
     key: [u8; 16],
     invite: bool,
 }
 
 impl<A: Allocator> Model for OpenedRequest<A> {
     ghost use Rattle.call_model.specs.OpenedRequest as spec;
-    ghost use Rattle.call_branch.specs.OpenedRequestInside.{IsOpenedRequest};
+    ghost use Rattle.call_branch.specs.OpenedRequestInside.{IsOpenedRequest, opened_with};
 
     ghost Value = { spec.OpenedRequest };
 
-    ghost view = { λ f. record { number = f.number; own = f.own; instance = f.instance; request = f.request; caller = f.caller; route = f.route; is_responsible = f.is_responsible } };
+    ghost view = { λ f. opened_with f.opening };
 
-    ghost invariant = { λ f. IsOpenedRequest (record { number = f.number; own = f.own; instance = f.instance; request = f.request; caller = f.caller; route = f.route; is_responsible = f.is_responsible }) f.key f.invite };
+    ghost invariant = { λ f. IsOpenedRequest (opened_with f.opening) f.key f.invite };
 }
 
 impl<A: Allocator> OpenedRequest<A> {
-    /// What a call of this number is opened with: the request as it was marked with its source and stripped of the
-    /// proxy's own Route value, where its answers go, the hop of its first Route value, if it has one, and whether the
-    /// proxy is responsible for its Request-URI (RFC 3261 sections 16.3 to 16.5 and 18.2.2).
-    pub fn new(
-        number: u64,
-        own: Own,
-        instance: u32,
-        request: Message<A>,
-        caller: Hop,
-        route: Option<Hop>,
-        is_responsible: bool,
-    ) -> Self
-        requires request { is_request request.start ≡ true }
-        requires hops { IfSome (first_value hops_name request.headers) IsHops }
-        ensures { result ≡ record { number = number; own = own; instance = instance; request = request; caller = caller; route = route; is_responsible = is_responsible } }
+    /// What a call is opened with, by all its parts.
+    pub fn new(opening: Opening<A>) -> Self
+        requires request { is_request opening.request.start ≡ true }
+        requires hops { IfSome (first_value hops_name opening.request.headers) IsHops }
+        requires record_route { IfSome (option_map (λ v. v.items) opening.record_route) (λ value. IsTrue (is_value value)) }
+        ensures { result ≡ opened_with opening }
     {
-        let key = loop_key(&request);
-        let invite = request.is_invite();
+        let key = loop_key(&opening.request);
+        let invite = opening.request.is_invite();
         OpenedRequest {
-            number,
-            own,
-            instance,
-            request,
-            caller,
-            route,
-            is_responsible,
+            opening,
             key,
             invite,
         }
@@ -83,50 +98,88 @@ impl<A: Allocator> OpenedRequest<A> {
     pub fn set_number(&mut self, number: u64)
         ensures { self.new ≡ record self.old { number = number } }
     {
-        self.number = number;
+        self.opening.number = number;
     }
 
     /// The number that the call was opened with.
     pub fn number(&self) -> u64
         ensures { result ≡ self.now.number }
     {
-        self.number
+        self.opening.number
     }
 
     /// The address of the proxy that the call was opened at.
     pub fn own(&self) -> Own
         ensures { result ≡ self.now.own }
     {
-        self.own
+        self.opening.own
     }
 
     /// The request that the call was opened with.
     pub fn request(&self) -> &Message<A>
         ensures { result.now ≡ self.now.request }
     {
-        &self.request
+        &self.opening.request
     }
 
     /// Where the answers to the caller go.
     pub fn caller(&self) -> Hop
         ensures { result ≡ self.now.caller }
     {
-        self.caller
+        self.opening.caller
     }
 
     /// The hop of the first Route value of the request, if it has one.
     pub fn route(&self) -> Option<Hop>
         ensures { result ≡ self.now.route }
     {
-        self.route
+        self.opening.route
     }
 
-    /// Whether the proxy is responsible for the Request-URI of the request; for any other it tries no contact of a 3xx (RFC
-    /// 3261 section 16.5).
-    pub fn is_responsible(&self) -> bool
-        ensures { result ≡ self.now.is_responsible }
+    /// Which contacts of a 3xx are tried (RFC 3261 section 16.5).
+    pub fn tried(&self) -> TriedContacts
+        ensures { result ≡ self.now.tried }
     {
-        self.is_responsible
+        self.opening.tried
+    }
+
+    /// Whether the 100 to the request takes its Timestamp line (RFC 3261 section 8.2.6.1).
+    pub fn stamps(&self) -> bool
+        ensures { result ≡ self.now.stamps }
+    {
+        self.opening.stamps
+    }
+
+    /// Whether the CANCELs of the branches say why they are sent (RFC 3326).
+    pub fn reasons(&self) -> bool
+        ensures { result ≡ self.now.reasons }
+    {
+        self.opening.reasons
+    }
+
+    /// The longest time of the branches to contacts of a 3xx, in milliseconds.
+    pub fn ring(&self) -> u64
+        ensures { result ≡ self.now.ring }
+    {
+        self.opening.ring
+    }
+
+    /// The value of the Record-Route line that the requests to the targets get, where they get one (RFC 3261 section 16.6 step 4).
+    fn record_route(&self) -> Option<&[u8]>
+        ensures value { option_copied result ≡ self.now.record_route }
+        ensures good { IfSome (option_copied result) (λ value. IsTrue (is_value value)) }
+    {
+        match &self.opening.record_route {
+            Some(value) => Some(value),
+            None => None,
+        }
+    }
+
+    /// The own address as the Via value of what is sent there has it (RFC 3261 section 18.1.1).
+    fn own_to(&self, destination: &Destination<A>) -> Own
+        ensures { result ≡ over self.now.own destination.now.hop.transport }
+    {
+        self.own().over(destination.hop().transport)
     }
 
     /// Whether the request is an INVITE.
@@ -153,8 +206,8 @@ impl<A: Allocator> OpenedRequest<A> {
     {
         BranchName {
             key: self.key,
-            instance: self.instance,
-            context: self.number,
+            instance: self.opening.instance,
+            context: self.opening.number,
             target: n,
         }
     }
@@ -173,10 +226,11 @@ impl<A: Allocator + Clone> OpenedRequest<A> {
         let branch = self.branch(n);
         let mut bytes = Vec::new(alloc.clone()?);
         write_forwarded(
-            &self.request,
+            &self.opening.request,
             destination.uri(),
-            self.own,
+            self.own_to(destination),
             &branch,
+            self.record_route(),
             &mut bytes,
         )?;
         Ok(bytes)
@@ -194,11 +248,11 @@ impl<A: Allocator + Clone> OpenedRequest<A> {
     {
         let branch = self.branch(n);
         let mut bytes = Vec::new(alloc.clone()?);
-        let request = &self.request;
+        let request = &self.opening.request;
         write_forwarded_ack(
             request,
             destination.uri(),
-            self.own,
+            self.own_to(destination),
             &branch,
             response,
             &mut bytes,
@@ -223,22 +277,25 @@ impl<A: Allocator + Clone> OpenedRequest<A> {
         }
     }
 
-    /// The CANCEL of branch n, as it is sent (RFC 3261 section 9.1).
+    /// The CANCEL of branch n, as it is sent, with these lines, which say why (RFC 3261 section 9.1 and RFC 3326).
     pub fn cancel_bytes(
         &self,
         alloc: &A,
         destination: &Destination<A>,
         n: u16,
+        reasons: &[FurtherLine<'_>],
     ) -> Result<Vec<u8, A>, AllocError>
-        ensures { IfOk result (λ bytes. bytes.items ≡ spelling (cancel_to self.now destination.now n)) }
+        requires reasons { list_all is_header (view_lines reasons.now) ≡ true }
+        ensures { IfOk result (λ bytes. bytes.items ≡ spelling (cancel_to self.now destination.now n (view_lines reasons.now))) }
     {
         let branch = self.branch(n);
         let mut bytes = Vec::new(alloc.clone()?);
         write_forwarded_cancel(
-            &self.request,
+            &self.opening.request,
             destination.uri(),
-            self.own,
+            self.own_to(destination),
             &branch,
+            reasons,
             &mut bytes,
         )?;
         Ok(bytes)

@@ -4,38 +4,14 @@ ghost use Rattle.call_model.specs.Built.{status_of};
 ghost use Rattle.call_model.specs.Failed.{is_fault};
 ghost use Rattle.call_model.specs.Response.{is_redirection};
 ghost use Rattle.call_branch.specs.BranchInside.{answer_if, kept_if};
-ghost use Rattle.call_branch.specs.inner.Classes.{IsOfClass};
 ghost use Rattle.call_model.specs.Pump as pump;
 ghost use Rattle.call_model.specs.Server as server;
 ghost use Rattle.call_model.specs.Take as take;
 
+use fork_rank::StatusClass;
 use sip_text::Message;
 use sip_txn::{TxEvent, TxPass, TxSend};
 use std::alloc::Allocator;
-
-/// The class of a response, as transactions tell it (RFC 3261 sections 7.2 and 17).
-#[derive(Clone, Copy)]
-pub(crate) enum ResponseClass {
-    /// 1xx
-    Provisional,
-    /// 2xx
-    Success,
-    /// 3xx to 6xx
-    Failure,
-}
-
-/// The class of a response with this status.
-fn class_of(status: u16) -> ResponseClass
-    ensures { IsOfClass result status }
-{
-    if status < 200 {
-        ResponseClass::Provisional
-    } else if status < 300 {
-        ResponseClass::Success
-    } else {
-        ResponseClass::Failure
-    }
-}
 
 /// The status of a response (RFC 3261 section 7.2); 0 of a request.
 pub fn status_of<A: Allocator>(message: &Message<A>) -> u16
@@ -52,17 +28,27 @@ pub fn status_of<A: Allocator>(message: &Message<A>) -> u16
 pub fn is_redirection(status: u16) -> bool
     ensures { result ≡ is_redirection status }
 {
-    status >= 300 && status < 400
+    match StatusClass::of(status) {
+        StatusClass::Redirection => true,
+        StatusClass::Provisional
+        | StatusClass::Success
+        | StatusClass::ClientError
+        | StatusClass::ServerError
+        | StatusClass::GlobalFailure => false,
+    }
 }
 
 /// The class of a response, as a client transaction is fed it: provisional, success or failure.
 pub fn response_event(status: u16) -> TxEvent
     ensures { result ≡ take.response_event status }
 {
-    match class_of(status) {
-        ResponseClass::Provisional => TxEvent::Provisional,
-        ResponseClass::Success => TxEvent::Success,
-        ResponseClass::Failure => TxEvent::Failure,
+    match StatusClass::of(status) {
+        StatusClass::Provisional => TxEvent::Provisional,
+        StatusClass::Success => TxEvent::Success,
+        StatusClass::Redirection
+        | StatusClass::ClientError
+        | StatusClass::ServerError
+        | StatusClass::GlobalFailure => TxEvent::Failure,
     }
 }
 
@@ -70,10 +56,13 @@ pub fn response_event(status: u16) -> TxEvent
 pub fn answer_event(status: u16) -> TxEvent
     ensures { result ≡ server.answer_event status }
 {
-    match class_of(status) {
-        ResponseClass::Provisional => TxEvent::AnswerProvisional,
-        ResponseClass::Success => TxEvent::AnswerSuccess,
-        ResponseClass::Failure => TxEvent::AnswerFailure,
+    match StatusClass::of(status) {
+        StatusClass::Provisional => TxEvent::AnswerProvisional,
+        StatusClass::Success => TxEvent::AnswerSuccess,
+        StatusClass::Redirection
+        | StatusClass::ClientError
+        | StatusClass::ServerError
+        | StatusClass::GlobalFailure => TxEvent::AnswerFailure,
     }
 }
 
@@ -136,9 +125,12 @@ pub fn parted<A: Allocator>(
     ensures up { result.0 ≡ take.going_up status message }
     ensures kept { result.1 ≡ answer_if status message }
 {
-    match class_of(status) {
-        ResponseClass::Provisional | ResponseClass::Success => (Some(message), None),
-        ResponseClass::Failure => (None, Some(message)),
+    match StatusClass::of(status) {
+        StatusClass::Provisional | StatusClass::Success => (Some(message), None),
+        StatusClass::Redirection
+        | StatusClass::ClientError
+        | StatusClass::ServerError
+        | StatusClass::GlobalFailure => (None, Some(message)),
     }
 }
 

@@ -1,10 +1,13 @@
 //! The server transaction of a call.
 ghost use Rattle.std.specs.Prelude.{◌≡◌, ◌↔◌, IsTrue};
 ghost use Rattle.fork_rank.specs.KindView.{kind_of};
+ghost use Rattle.call_model.specs.Reliability.{reliability_of};
 ghost use Rattle.call_model.specs.Server.{is_over, served_start, served_after, served_out, served_due};
 
+use crate::reliability::reliability_of;
 use fork_rank::Kind;
 use sip_txn::{InviteServer, InviteServerState, OtherServer, OtherServerState, TxEvent, TxOut};
+use sip_uri::Transport;
 use std::marker::Model;
 
 /// The server transaction of an INVITE, or of another request.
@@ -30,13 +33,14 @@ impl Model for ServerTransaction {
 }
 
 impl ServerTransaction {
-    /// A server transaction whose request came at this moment.
-    pub fn start(kind: Kind, now: u64) -> Self
-        ensures { result ≡ served_start (kind_of kind) }
+    /// A server transaction whose request came at this moment, and whose answers go over this transport.
+    pub fn start(kind: Kind, now: u64, transport: Transport) -> Self
+        ensures { result ≡ served_start (kind_of kind) (reliability_of transport) }
     {
+        let reliability = reliability_of(transport);
         let machine = match kind {
-            Kind::Invite => ServerMachine::Invite(InviteServer::start(now)),
-            Kind::Other => ServerMachine::Other(OtherServer::start(now)),
+            Kind::Invite => ServerMachine::Invite(InviteServer::start(now, reliability)),
+            Kind::Other => ServerMachine::Other(OtherServer::start(now, reliability)),
         };
         ServerTransaction { machine }
     }

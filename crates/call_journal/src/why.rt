@@ -1,52 +1,22 @@
 //! Why the answer that went up did, in words.
 ghost use Rattle.std.specs.Prelude.{◌≡◌, ◌++◌, codes, length, slice_get, IfOk, OnOk};
 ghost use Rattle.std.specs.Option.{option_and_then, option_to_list};
-ghost use Rattle.fork_model.specs.Rank.{class_of, is_preferred, part_of};
 ghost use Rattle.context_values.specs.ReplyView.{choice_of};
 ghost use Rattle.call_journal.specs.Why.{answer_text, arrival_words, class_words, is_alike, is_assumed, others_text, part_words, ranked_alike, reason, same_class, several_text, source_text, source_words, stored_status, stored_statuses, target_at, why_text};
 
 use crate::head::append_shown;
 use fork_context::{Choice, Context, End, State};
 use fork_listing::status_at;
-use fork_rank::Rules;
+use fork_rank::{Rules, StatusClass, rank_class, rank_part};
 use fork_text::append;
 use sip_lex::append_decimal;
 use std::alloc::{AllocError, Allocator};
-
-/// 6xx go first, then 3xx, then 4xx, then 5xx (RFC 3261 section 16.7 step 6).
-fn class_of(status: u16) -> u8
-    ensures { result ≡ class_of status }
-{
-    match status {
-        600.. => 0,
-        500.. => 3,
-        400.. => 2,
-        _ => 1,
-    }
-}
-
-fn is_preferred(rules: &Rules, status: u16) -> bool
-    ensures { result ≡ is_preferred rules.now status }
-{
-    rules.preferred().statuses().contains(&status)
-}
-
-/// Within 4xx the preferred statuses go first, and within 5xx a 503 goes last.
-fn part_of(rules: &Rules, status: u16) -> u8
-    ensures { result ≡ part_of rules.now status }
-{
-    match status {
-        503 => 1,
-        400..=499 if !is_preferred(rules, status) => 1,
-        _ => 0,
-    }
-}
 
 /// Whether two statuses rank alike, but for their arrivals.
 fn is_alike(rules: &Rules, other: u16, status: u16) -> bool
     ensures { result ≡ is_alike rules.now other status }
 {
-    class_of(other) == class_of(status) && part_of(rules, other) == part_of(rules, status)
+    rank_class(other) == rank_class(status) && rank_part(rules, other) == rank_part(rules, status)
 }
 
 /// How many are of the class of a status.
@@ -55,7 +25,7 @@ fn same_class(statuses: &[u16], status: u16) -> usize
 {
     statuses
         .iter()
-        .filter(|other| class_of(**other) == class_of(status))
+        .filter(|other| rank_class(**other) == rank_class(status))
         .count()
 }
 
@@ -73,10 +43,9 @@ fn ranked_alike(rules: &Rules, statuses: &[u16], status: u16) -> usize
 fn class_words(status: u16) -> &'static [u8]
     ensures { result.now ≡ class_words status }
 {
-    if status >= 600 {
-        b"6xx before all others"
-    } else {
-        b"lowest class"
+    match StatusClass::of(status) {
+        StatusClass::GlobalFailure => b"6xx before all others",
+        _ => b"lowest class",
     }
 }
 
@@ -84,10 +53,9 @@ fn class_words(status: u16) -> &'static [u8]
 fn part_words(status: u16) -> &'static [u8]
     ensures { result.now ≡ part_words status }
 {
-    if status >= 500 {
-        b"before 503 among 5xx"
-    } else {
-        b"preferred among 4xx"
+    match StatusClass::of(status) {
+        StatusClass::ServerError | StatusClass::GlobalFailure => b"before 503 among 5xx",
+        _ => b"preferred among 4xx",
     }
 }
 
@@ -95,12 +63,12 @@ fn part_words(status: u16) -> &'static [u8]
 fn arrival_words(rules: &Rules, status: u16) -> &'static [u8]
     ensures { result.now ≡ arrival_words rules.now status }
 {
-    match status {
-        600.. => b"earliest among 6xx",
-        503 => b"earliest among 503",
-        500.. => b"earliest among 5xx other than 503",
-        400.. if is_preferred(rules, status) => b"earliest among preferred 4xx",
-        400.. => b"earliest among 4xx",
+    match StatusClass::of(status) {
+        StatusClass::GlobalFailure => b"earliest among 6xx",
+        StatusClass::ServerError if status == 503 => b"earliest among 503",
+        StatusClass::ServerError => b"earliest among 5xx other than 503",
+        StatusClass::ClientError if rules.prefers(status) => b"earliest among preferred 4xx",
+        StatusClass::ClientError => b"earliest among 4xx",
         _ => b"earliest among 3xx",
     }
 }

@@ -118,11 +118,11 @@ success_owed now call new n at m source sound keeps invited success_is (branch, 
     answer : FinalAnswer
     answer = record {
       status = status_of m;
-      offers = map offer_of (contacts_for call.opened.is_responsible (status_of m) m);
+      offers = map offer_of (contacts_for call.opened.tried (status_of m) m);
       challenges = challenges_by (status_of m) m;
     }
 
-    said : event_by call.opened.is_responsible n (status_of m) m ≡ fork.Answer n answer
+    said : event_by call.opened.tried n (status_of m) m ≡ fork.Answer n answer
     said = cond-false _ _ _ status.0
 
     stands : (is_row is_open (slice_get (rows_of call) n) ≡ true) ⊎ (is_row is_accepted (slice_get (rows_of call) n) ≡ true)

@@ -14,6 +14,7 @@ use Rattle.sip_txn.specs.declared.event.TxEvent.TheVariants as event
 use Rattle.sip_txn.specs.declared.event.TxSend.{TxSend}
 use Rattle.sip_txn.specs.declared.event.TxSend.TheVariants as send
 use Rattle.sip_txn.specs.declared.timers.Input.{Input as TimerInput}
+use Rattle.sip_txn.specs.declared.timers.Reliability.{Reliability}
 use Rattle.sip_txn.specs.declared.timers.Input.TheVariants as input
 use Rattle.sip_txn.specs.declared.invite_client.InviteClientState.{InviteClientState}
 use Rattle.sip_txn.specs.declared.invite_client.InviteClientState.TheVariants as invite
@@ -191,9 +192,9 @@ by_failures now (InviteClient m) e =
     (sym (ap invite_accepted (state_after (invite_client m.state (input.Event event.Failure)) now m)) ∙ e)
 by_failures now (OtherClient m) e = absurd cc
 
-none_starts : (kind : Kind) (now : ℕ) → has_accepted (client_start kind now) ≡ false
-none_starts table.Invite now = refl
-none_starts table.Other now = refl
+none_starts : (kind : Kind) (now : ℕ) (r : Reliability) → has_accepted (client_start kind now r) ≡ false
+none_starts table.Invite now r = refl
+none_starts table.Other now r = refl
 
 -- a 2xx that is handed up comes to one that waited, or had accepted one
 pub success_passed : (now : ℕ) (c : ClientTransaction) → is_passed (client_out event.Success now c).pass ≡ true → (awaits c ≡ true) ⊎ (has_accepted c ≡ true)
@@ -376,7 +377,7 @@ module _ (now : ℕ) (call : Call) (input : Input) (new : Call) where
 
   fired : (n : ℕ) (branch : Branch) (b : Bool) (p : Pumped) → nth_branch call n ≡ Some branch → FiresTimerC call now n branch b p new → CallState
   fired n branch true p there (out, reply, posts) = sets_grown n branch _ there refl refl (by_stops now branch.client) _ _ _ reply posts
-  fired n branch false p there (out, reply, posts) = grown call _ _ _ reply posts refl refl old
+  fired n branch false p there (out, reply, posts) = sets_grown n branch _ there refl refl (λ is. is) _ _ _ reply posts
 
   fresh : (k : ℕ) (l : Branch) → l.answer ≡ None → l.ack ≡ None → has_accepted l.client ≡ false → Comes k l
   fresh k l a b c = record {
@@ -393,7 +394,7 @@ module _ (now : ℕ) (call : Call) (input : Input) (new : Call) where
   }
 
   done : (action : Action) (p : Pumped) → Does call now action p new → CallState
-  done (due.SendRequest n) p (destination, goes, (out, e)) = stays _ e refl refl (one n _ (fresh n _ refl refl (none_starts (kind_of call.opened) now)))
+  done (due.SendRequest n) p (destination, goes, (out, e)) = stays _ e refl refl (one n _ (fresh n _ refl refl (none_starts (kind_of call.opened) now _)))
   done (due.SendCancel n) p (destination, branch, goes, there, (out, e)) = sets n branch _ there refl refl (λ is. is) e
   done (due.SendAck n) p (destination, branch, goes, there, (ack, owes, out, e)) = stays _ e refl refl (one n _ (without_ack n branch _ there refl refl (λ is. is)))
   done due.SendAnswer p h = paid call.server.owed p h
@@ -454,7 +455,7 @@ module _ (now : ℕ) (call : Call) (input : Input) (new : Call) where
           | inr made ↦
               let a : FinalAnswer = record {
                 status = status_of m;
-                offers = map offer_of (contacts_for call.opened.is_responsible (status_of m) m);
+                offers = map offer_of (contacts_for call.opened.tried (status_of m) m);
                 challenges = challenges_by (status_of m) m;
               } in
               inr (branch, a, reply, there, made.0, made.2, ap (λ (x : Call). x.log) posts.follows ∙ ap (λ (ev : Event). added call.log call_tag ev reply) (cond-false _ _ _ made.1))

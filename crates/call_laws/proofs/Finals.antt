@@ -168,7 +168,7 @@ module _ (goes_on : BranchesGoOn) (turns : List Turn) (turn : Turn) (call new : 
   awaits_later : (machine : ServerTransaction) → Awaits turns machine → Awaits (Later turns turn) machine
   awaits_later (InviteServer m) e = e
   awaits_later (OtherServer m) (inl e) = inl e
-  awaits_later (OtherServer m) (inr (t, is, failed)) = inr (t, one_of turns turn t is, failed)
+  awaits_later (OtherServer m) (inr (ended, (t, is, failed))) = inr (ended, (t, one_of turns turn t is, failed))
 
   -- the transaction went on
   moved : (machine : ServerTransaction) → new.server.machine ≡ machine → Awaits turns machine → Awaits (Later turns turn) new.server.machine

@@ -13,3 +13,7 @@ pub mod Content
 pub mod Running
 pub mod Accepted
 pub mod Successes
+pub mod Acks
+pub mod Cancelled
+pub mod InRun
+pub mod EachDatagram

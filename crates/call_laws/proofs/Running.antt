@@ -110,7 +110,7 @@ module _ (one : ExactlyOneFinal) (before : NoFinalBefore) (beside : NoFinalBesid
       by : (machine : ServerTransaction) → call.server.machine ≡ machine → Awaits turns machine → (is_invite call.opened ≡ false) × CouldNotSend turns
       by (InviteServer m) is w = absurd (never (ap waits is ∙ w))
       by (OtherServer m) is (inl w) = absurd (never (ap waits is ∙ w))
-      by (OtherServer m) is (inr failed) = (sym holds.stands.finals.side ∙ ap is_for_invite is, failed)
+      by (OtherServer m) is (inr (ended, failed)) = (sym holds.stands.finals.side ∙ ap is_for_invite is, failed)
 
   gives_sent : (choice : Choice) (rest : List Owed) (m : MessageText) (output : step.Output) → call.server.owed ≡ server.Final choice ∷ rest
       → answer_of call (server.Final choice) ≡ Some m → output ≡ sent_to call (spelling m) → GivesFinal (payment_at turns call (server.Final choice) output) choice
@@ -240,7 +240,7 @@ module _ (one : ExactlyOneFinal) (before : NoFinalBefore) (beside : NoFinalBesid
       append_assoc handed (finals_paid ps) (finals_paid qs)
       ∙ ap (λ (cs : List Choice). handed ++ cs) (sym (ap finals_owed (owed_joined ps qs) ∙ owed_more (map owed_of ps) (map owed_of qs)))
 
-  one_step : (turns : List Turn) (handed : List Choice) (call : Call) (stage : Stage) → Holds turns handed call → step.Step stage.turn.now call stage.turn.input stage.call stage.turn.output
+  pub one_step : (turns : List Turn) (handed : List Choice) (call : Call) (stage : Stage) → Holds turns handed call → step.Step stage.turn.now call stage.turn.input stage.call stage.turn.output
       → IsGiven stage.turn.input → Holds (turns ++ stage.turn ∷ []) (handed ++ finals_paid (paid_at turns call stage)) stage.call
   one_step turns handed call stage holds goes given = record {
     sound = sound stage.turn call stage.call holds.sound given goes;
@@ -278,7 +278,7 @@ module _ (one : ExactlyOneFinal) (before : NoFinalBefore) (beside : NoFinalBesid
   -- ---- from its beginning
 
   module _ (begun_sound : BegunIsSound) (begun_stand : BegunStands) (opened : OpenedRequest) (rules : Rules) (targets : List Target) (destinations : List Destination) (some : targets ≢ []) where
-    first : Holds [] [] (Begins opened rules targets destinations)
+    pub first : Holds [] [] (Begins opened rules targets destinations)
     first = record {
       sound = begun_sound opened rules targets destinations;
       log = opening_logged (kind_of opened) rules targets some;

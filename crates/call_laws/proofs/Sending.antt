@@ -85,7 +85,7 @@ module _ (turns : List Turn) (handed : List Choice) (now : ℕ) (call new : Call
 
   done : (action : Action) (p : Pumped) → Does call now action p new → Right p
   done (due.SendRequest n) p (destination, goes, (out, e)) = right_as p _ out (destination, goes, refl, refl)
-  done (due.SendCancel n) p (destination, branch, goes, there, (out, e)) = right_as p _ out (destination, goes, refl, refl)
+  done (due.SendCancel n) p (destination, branch, goes, there, (out, e)) = right_as p _ out (destination, goes, refl, (pump.reasons_of call n, refl))
   done (due.SendAck n) p (destination, branch, goes, there, (ack, owes, out, e)) = right_as p _ out (destination, goes, refl, stands.origins.acks n branch ack there owes)
   done due.SendAnswer p h = paid call.server.owed p refl h
   done due.TickServer p (out, e) = as_if _ p _ out (λ sends. (refl, inl (refl, some_ticked sends)))

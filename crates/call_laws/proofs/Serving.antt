@@ -42,7 +42,7 @@ GoesUp opened input output ev at m =
     × (source : Hop)
     × (input ≡ step.Take (to.Client n) m source)
     × (output ≡ step.Took (to.Posted at))
-    × (ev ≡ event_by opened.is_responsible n (status_of m) m)
+    × (ev ≡ event_by opened.tried n (status_of m) m)
     × (nat_lt (status_of m) 300 ≡ true)
 
 -- a CANCEL that came just now from this hop, as it was marked, and where it is answered
@@ -58,7 +58,7 @@ abbrev pub sent_to : Call → List ℕ → Output
 sent_to call bytes = step.Did (pump.Send (record { to = call.opened.caller; bytes = bytes; cause = cause.Answer }))
 
 abbrev pub okay_to : MessageText → Hop → Output
-okay_to cancel hop = step.Did (pump.Send (record { to = hop; bytes = spelling (generated_of cancel Okay); cause = cause.CancelOk }))
+okay_to cancel hop = step.Did (pump.Send (record { to = hop; bytes = spelling (generated_of cancel Okay []); cause = cause.CancelOk }))
 
 -- what an event leaves of the caller's side
 abbrev pub with_owed : Server → List Owed → Server
@@ -167,7 +167,7 @@ ticked now call new input p n destination branch false (out, e) = Beside (ap log
 fired : (now : ℕ) (call new : Call) (input : Input) (p : Pumped) (n : ℕ) (branch : Branch) (b : Bool) → FiresTimerC call now n branch b p new
     → Serves now call input (step.Did p) new
 fired now call new input p n branch true (out, reply, posts) = posted now call _ new input (step.Did p) _ [] None reply refl refl tt posts
-fired now call new input p n branch false (out, reply, posts) = posted now call call new input (step.Did p) _ [] None reply refl refl tt posts
+fired now call new input p n branch false (out, reply, posts) = posted now call _ new input (step.Did p) _ [] None reply refl refl tt posts
 
 done : (now : ℕ) (call new : Call) (input : Input) (action : Action) (p : Pumped) → Does call now action p new → Serves now call input (step.Did p) new
 done now call new input (due.SendRequest n) p (destination, goes, (out, e)) = Beside (ap log_of e) (ap server_of e)
@@ -194,14 +194,14 @@ responded now call new n branch destination m source (to.Posted at) (p, reply, p
     posted now call _ new _ _ _ _ _ reply refl refl (goes (nat_lt (status_of m) 300) refl) posts
   where
     goes : (b : Bool) → nat_lt (status_of m) 300 ≡ b
-        → IfSome (to.going_up (status_of m) m) (GoesUp call.opened (step.Take (to.Client n) m source) (step.Took (to.Posted at)) (event_by call.opened.is_responsible n (status_of m) m) reply.at)
+        → IfSome (to.going_up (status_of m) m) (GoesUp call.opened (step.Take (to.Client n) m source) (step.Took (to.Posted at)) (event_by call.opened.tried n (status_of m) m) reply.at)
     goes true e =
         let P : Option MessageText → Type 0 =
-        λ o. IfSome o (GoesUp call.opened (step.Take (to.Client n) m source) (step.Took (to.Posted at)) (event_by call.opened.is_responsible n (status_of m) m) reply.at) in
+        λ o. IfSome o (GoesUp call.opened (step.Take (to.Client n) m source) (step.Took (to.Posted at)) (event_by call.opened.tried n (status_of m) m) reply.at) in
         subst P (sym (cond-true _ _ _ e)) (n, source, refl, ap (λ (k : ℕ). step.Took (to.Posted k)) (sym placed), refl, e)
     goes false e =
         let P : Option MessageText → Type 0 =
-        λ o. IfSome o (GoesUp call.opened (step.Take (to.Client n) m source) (step.Took (to.Posted at)) (event_by call.opened.is_responsible n (status_of m) m) reply.at) in
+        λ o. IfSome o (GoesUp call.opened (step.Take (to.Client n) m source) (step.Took (to.Posted at)) (event_by call.opened.tried n (status_of m) m) reply.at) in
         subst P (sym (cond-false _ _ _ e)) tt
 responded now call new n branch destination m source to.Full (p, f, e) = Beside (ap log_of e) (ap server_of e)
 

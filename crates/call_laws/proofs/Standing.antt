@@ -15,6 +15,8 @@ use Rattle.call_model.specs.Datagrams.{BegunIsBuilt, StepsKeepBuilt}
 use Rattle.call_model.specs.OpenedRequest.{OpenedRequest, Destination, is_invite, kind_of}
 use Rattle.call_model.specs.Branch.{Branch}
 use Rattle.call_model.specs.Posting.{no_branch}
+use Rattle.call_model.specs.Reliability.{reliability_of}
+use Rattle.sip_txn.specs.declared.timers.Reliability.{Reliability}
 use Rattle.call_model.specs.Server.{Owed, first_owed, served_start}
 use Rattle.call_laws.specs.Finals.{Awaits, FinalsStand, MayBeOwed, finals_owed, has_failed, is_for_invite}
 use Rattle.call_laws.specs.Last.{IsUnsent}
@@ -53,22 +55,22 @@ first_okays : (kind : Kind) → AllByRecursion (IsOkayOf []) (first_owed kind)
 first_okays table.Invite = (tt, tt)
 first_okays table.Other = tt
 
-first_waits : (kind : Kind) → Awaits [] (served_start kind)
-first_waits table.Invite = refl
-first_waits table.Other = inl refl
+first_waits : (kind : Kind) (r : Reliability) → Awaits [] (served_start kind r)
+first_waits table.Invite r = refl
+first_waits table.Other r = inl refl
 
-first_unfailed : (kind : Kind) → has_failed (served_start kind) ≡ false
-first_unfailed table.Invite = refl
-first_unfailed table.Other = refl
+first_unfailed : (kind : Kind) (r : Reliability) → has_failed (served_start kind r) ≡ false
+first_unfailed table.Invite r = refl
+first_unfailed table.Other r = refl
 
-first_unsent : (kind : Kind) → IsUnsent (served_start kind) (first_owed kind)
-first_unsent table.Invite = (refl, [], refl)
-first_unsent table.Other = (refl, tt)
+first_unsent : (kind : Kind) (r : Reliability) → IsUnsent (served_start kind r) (first_owed kind)
+first_unsent table.Invite r = (refl, [], refl)
+first_unsent table.Other r = (refl, tt)
 
-first_side : (opened : OpenedRequest) → is_for_invite (served_start (kind_of opened)) ≡ is_invite opened
-first_side opened = by (is_invite opened)
+first_side : (opened : OpenedRequest) (r : Reliability) → is_for_invite (served_start (kind_of opened) r) ≡ is_invite opened
+first_side opened r = by (is_invite opened)
   where
-    by : (b : Bool) → is_for_invite (served_start (cond {A = Kind} b table.Invite table.Other)) ≡ b
+    by : (b : Bool) → is_for_invite (served_start (cond {A = Kind} b table.Invite table.Other) r) ≡ b
     by true = refl
     by false = refl
 
@@ -76,6 +78,7 @@ pub begun_stands : BegunIsBuilt → BegunKeepsAnswers → BegunStands
 begun_stands built answers opened rules targets destinations =
     let log = opening_log (kind_of opened) rules targets in
     let call = begun opened log destinations in
+    let r = reliability_of opened.caller.transport in
     record {
       built = built opened log destinations;
       answers = answers opened rules targets destinations;
@@ -87,13 +90,13 @@ begun_stands built answers opened rules targets destinations =
       };
       owed = first_responses call (kind_of opened);
       finals = record {
-        side = first_side opened;
+        side = first_side opened r;
         all = sym (first_finals (kind_of opened));
-        waiting = λ none not_yet. first_waits (kind_of opened);
+        waiting = λ none not_yet. first_waits (kind_of opened) r;
         answered = λ some. absurd (some refl);
-        unfailed = λ none. first_unfailed (kind_of opened);
+        unfailed = λ none. first_unfailed (kind_of opened) r;
       };
-      last = λ none. first_unsent (kind_of opened);
+      last = λ none. first_unsent (kind_of opened) r;
     }
 
 -- no branch has accepted a 2xx

@@ -12,7 +12,7 @@ use Rattle.sip_txn.specs.declared.machine.Machine.{Machine}
 use Rattle.sip_txn.specs.declared.machine.Row.{Row}
 use Rattle.sip_txn.specs.declared.timers.Input.{Input}
 use Rattle.sip_txn.specs.declared.timers.Input.TheVariants as input
-use Rattle.sip_txn.specs.Machine.{row_machine, row_out}
+use Rattle.sip_txn.specs.Machine.{machine_after, row_machine, row_out}
 use Rattle.sip_txn.specs.Timers.{input_of, is_due, moment_of}
 use Rattle.sip_txn.specs.InviteServer.{invite_server}
 use Rattle.sip_txn.specs.OtherServer.{other_server}
@@ -106,6 +106,17 @@ other_fails other.Proceeding = refl
 other_fails other.Completed = refl
 other_fails other.Terminated = refl
 
+-- one that has ended stays so
+other_ended : (i : Input) → after (other_server other.Terminated i) other.Terminated ≡ other.Terminated
+    → (m : Machine OtherServerState) (now : ℕ) → m.state ≡ other.Terminated → (row_machine (other_server m.state i) now m).state ≡ other.Terminated
+other_ended i stays m now is =
+    state_after (other_server m.state i) now m ∙ ap (λ (s : OtherServerState). after (other_server s i) s) is ∙ stays
+
+ended_ticks : (end repeat : Bool) → after (other_server other.Terminated (by_tick end repeat)) other.Terminated ≡ other.Terminated
+ended_ticks true repeat = refl
+ended_ticks false true = refl
+ended_ticks false false = refl
+
 -- ---- both
 
 abbrev pub Goes : TxEvent → Type 0
@@ -119,21 +130,21 @@ request_goes turns now (InviteServer m) e =
     ap invite_waits (state_after (invite_server m.state (input.Event event.Request)) now m) ∙ invite_goes_on (input.Event event.Request) refl m.state e
 request_goes turns now (OtherServer m) (inl e) =
     inl (ap other_waits (state_after (other_server m.state (input.Event event.Request)) now m) ∙ other_goes_on (input.Event event.Request) refl refl m.state e)
-request_goes turns now (OtherServer m) (inr failed) = inr failed
+request_goes turns now (OtherServer m) (inr (is, failed)) = inr (other_ended (input.Event event.Request) refl m now is, failed)
 
 pub ack_goes : Goes event.Ack
 ack_goes turns now (InviteServer m) e =
     ap invite_waits (state_after (invite_server m.state (input.Event event.Ack)) now m) ∙ invite_goes_on (input.Event event.Ack) refl m.state e
 ack_goes turns now (OtherServer m) (inl e) =
     inl (ap other_waits (state_after (other_server m.state (input.Event event.Ack)) now m) ∙ other_goes_on (input.Event event.Ack) refl refl m.state e)
-ack_goes turns now (OtherServer m) (inr failed) = inr failed
+ack_goes turns now (OtherServer m) (inr (is, failed)) = inr (other_ended (input.Event event.Ack) refl m now is, failed)
 
 provisional_goes : Goes event.AnswerProvisional
 provisional_goes turns now (InviteServer m) e =
     ap invite_waits (state_after (invite_server m.state (input.Event event.AnswerProvisional)) now m) ∙ invite_goes_on (input.Event event.AnswerProvisional) refl m.state e
 provisional_goes turns now (OtherServer m) (inl e) =
     inl (ap other_waits (state_after (other_server m.state (input.Event event.AnswerProvisional)) now m) ∙ other_goes_on (input.Event event.AnswerProvisional) refl refl m.state e)
-provisional_goes turns now (OtherServer m) (inr failed) = inr failed
+provisional_goes turns now (OtherServer m) (inr (is, failed)) = inr (other_ended (input.Event event.AnswerProvisional) refl m now is, failed)
 
 pub tick_goes : Goes event.Tick
 tick_goes turns now (InviteServer m) e =
@@ -142,13 +153,26 @@ tick_goes turns now (InviteServer m) e =
 tick_goes turns now (OtherServer m) (inl e) =
     inl (ap other_waits (state_after (other_server m.state (input_of event.Tick now m.timers)) now m)
     ∙ other_ticks m.state (is_due now m.timers.end) (is_due now (moment_of m.timers.repeat)) e)
-tick_goes turns now (OtherServer m) (inr failed) = inr failed
+tick_goes turns now (OtherServer m) (inr (is, failed)) =
+    inr (other_ended (input_of event.Tick now m.timers) (ended_ticks (is_due now m.timers.end) (is_due now (moment_of m.timers.repeat))) m now is, failed)
 
 -- an answer that could not be sent may end the transaction of a request other than INVITE
 pub error_goes : (turns : List Turn) (now : ℕ) (machine : ServerTransaction) → CouldNotSend turns → Awaits turns machine → Awaits turns (served_after event.TransportError now machine)
 error_goes turns now (InviteServer m) failed e =
     ap invite_waits (state_after (invite_server m.state (input.Event event.TransportError)) now m) ∙ invite_goes_on (input.Event event.TransportError) refl m.state e
-error_goes turns now (OtherServer m) failed e = inr failed
+error_goes turns now (OtherServer m) failed (inl e) = by m.state refl e
+  where
+    at : (s : OtherServerState) → m.state ≡ s → (machine_after other_server event.TransportError now m).state ≡ after (other_server s (input.Event event.TransportError)) s
+    at s is =
+        state_after (other_server m.state (input.Event event.TransportError)) now m
+        ∙ ap (λ (x : OtherServerState). after (other_server x (input.Event event.TransportError)) x) is
+
+    by : (s : OtherServerState) → m.state ≡ s → other_waits s ≡ true → Awaits turns (served_after event.TransportError now (OtherServer m))
+    by other.Trying is w = inl (ap other_waits (at other.Trying is))
+    by other.Proceeding is w = inr (at other.Proceeding is, failed)
+    by other.Completed is w = absurd cc
+    by other.Terminated is w = absurd cc
+error_goes turns now (OtherServer m) failed (inr (is, before)) = inr (other_ended (input.Event event.TransportError) refl m now is, before)
 
 -- the transaction stays that of an INVITE, or of another request
 pub same_side : (ev : TxEvent) (now : ℕ) (machine : ServerTransaction) → is_for_invite (served_after ev now machine) ≡ is_for_invite machine

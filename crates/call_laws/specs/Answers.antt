@@ -39,7 +39,7 @@ IsBestAnswer turns call n stored answer =
     ((stored.received ≡ true)
     × (response : MessageText)
     × CamePosted turns n stored.arrival response
-    × (slice_get (events_of call.log.history) stored.arrival ≡ Some (event_by call.opened.is_responsible n (status_of response) response))
+    × (slice_get (events_of call.log.history) stored.arrival ≡ Some (event_by call.opened.tried n (status_of response) response))
     × (answer ≡ upward_of response (kept_of stored) (challenge_list (rows_of call) (Best n))))
     ⊎ ((stored.received ≡ false) × (answer ≡ generated call.opened own.RequestTimeout))
 
@@ -90,7 +90,7 @@ IsPaidAs payment server.Again =
     payment.output ≡ Did (Send (record { to = payment.call.opened.caller; bytes = payment.call.server.last; cause = cause.Answer }))
 IsPaidAs payment (server.CancelOk cancel to) =
     CameCancel payment.before cancel to
-    × (payment.output ≡ Did (Send (record { to = to; bytes = spelling (generated_of cancel own.Okay); cause = cause.CancelOk })))
+    × (payment.output ≡ Did (Send (record { to = to; bytes = spelling (generated_of cancel own.Okay []); cause = cause.CancelOk })))
 
 abbrev pub IsPaidRight : Payment → Type 0
 IsPaidRight payment = IsPaidAs payment payment.owed

@@ -68,10 +68,10 @@ has_failed (OtherServer m) = false
 abbrev pub CouldNotSend : List Turn → Type 0
 CouldNotSend turns = (turn : Turn) × IsTurnOf turns turn × (turn.input ≡ Failed cause.Answer)
 
--- it waits; that of a request other than INVITE may have ended where a provisional answer could not be sent (section 17.2.4)
+-- it waits; that of a request other than INVITE may have ended, where a provisional answer could not be sent (section 17.2.4)
 abbrev pub Awaits : List Turn → ServerTransaction → Type 0
 Awaits turns (InviteServer m) = invite_waits m.state ≡ true
-Awaits turns (OtherServer m) = (other_waits m.state ≡ true) ⊎ CouldNotSend turns
+Awaits turns (OtherServer m) = (other_waits m.state ≡ true) ⊎ ((m.state ≡ other.Terminated) × CouldNotSend turns)
 
 -- whose it is
 abbrev pub is_for_invite : ServerTransaction → Bool

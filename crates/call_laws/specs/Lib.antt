@@ -7,3 +7,5 @@ pub mod Right
 pub mod Sending
 pub mod Answers
 pub mod Successes
+pub mod WhyCancelled
+pub mod EachDatagram

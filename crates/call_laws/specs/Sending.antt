@@ -6,9 +6,9 @@ use Rattle.sip_build.specs.declared.responses.OwnStatus.TheVariants as own
 use Rattle.sip_build.specs.Generated.{generated_of}
 use Rattle.call_model.specs.declared.cause.Cause.{Cause}
 use Rattle.call_model.specs.declared.cause.Cause.TheVariants as cause
-use Rattle.call_model.specs.Built.{Datagram, answer_of, cancel_to, request_to}
+use Rattle.call_model.specs.Built.{Datagram, answer_of, request_to}
 use Rattle.call_model.specs.Call.{Call}
-use Rattle.call_model.specs.Datagrams.{ToBranch}
+use Rattle.call_model.specs.Datagrams.{IsCancel, ToBranch}
 use Rattle.call_model.specs.Pump.{Pumped, Send, Idle}
 use Rattle.call_model.specs.Pump as pump
 use Rattle.call_model.specs.Server.{Owed, CancelOk}
@@ -33,13 +33,13 @@ IsOkayTo turns call d =
     × (rest : List Owed)
     × (call.server.owed ≡ CancelOk cancel d.to ∷ rest)
     × CameCancel turns cancel d.to
-    × (d.bytes ≡ spelling (generated_of cancel own.Okay))
+    × (d.bytes ≡ spelling (generated_of cancel own.Okay []))
 
 -- after these turns, by its cause: the request and the CANCEL of a branch go to its hop, and so does its ACK, which answers a
 -- failure that came from the branch
 abbrev pub IsSentFor : List Turn → Call → Datagram → Cause → Type 0
 IsSentFor turns call d (cause.Request n) = ToBranch call n d (λ destination. d.bytes ≡ spelling (request_to call.opened destination n))
-IsSentFor turns call d (cause.Cancel n) = ToBranch call n d (λ destination. d.bytes ≡ spelling (cancel_to call.opened destination n))
+IsSentFor turns call d (cause.Cancel n) = ToBranch call n d (λ destination. IsCancel call n destination d.bytes)
 IsSentFor turns call d (cause.Ack n) = ToBranch call n d (λ destination. AnswersFailure turns call n d.bytes)
 IsSentFor turns call d cause.Answer = (d.to ≡ call.opened.caller) × IsAnswerOf call d.bytes
 IsSentFor turns call d cause.CancelOk = IsOkayTo turns call d

@@ -1,11 +1,15 @@
 //! What holds of every call over whole runs.
 ghost use Rattle.call_laws.specs.Answers.{CallsPayInOrder, OneFinalAnswerGoesUp};
+ghost use Rattle.call_laws.specs.EachDatagram.{EachDatagramIsRight};
 ghost use Rattle.call_laws.specs.Right.{BegunStands, StepsStand};
 ghost use Rattle.call_laws.specs.Sending.{WhatIsSentIsRight};
 ghost use Rattle.call_laws.specs.Successes.{EachSuccessGoesUp};
 
-use call_model::{branches_keep_their_answers, branches_keep_what_they_send, calls_stay_sound};
-use fork_model::{branches_go_on, exactly_one_final};
+use call_model::{
+    branches_keep_their_answers, branches_keep_what_they_send, calls_know_what_closed_them,
+    calls_stay_sound, parts_go_on, repeats_are_the_same,
+};
+use fork_model::{branches_go_on, exactly_one_final, rows_keep_their_numbers};
 
 /// What a call keeps to be sent is right as it begins to its targets, and each step of a sound call keeps it so: what
 /// each branch sends again is as it was made, the branch with the best stored answer keeps the response that was posted
@@ -78,5 +82,28 @@ pub fn each_success_goes_up()
 {
     calls_pay_in_order();
     calls_stay_sound();
+    branches_go_on();
+}
+
+/// Each datagram that a run of a call sends, from the beginning of the call on, is what its cause says, of that very run. The
+/// request to a branch and its CANCEL are those that were sent before, where one was; the CANCEL has the Reason lines of what
+/// closed the table in this run, and none where timer C had fired for the branch when it was made. An ACK answers a failure that
+/// came from the branch and was not answered by one before, and a 200 to a CANCEL a CANCEL that came. What the caller is answered
+/// is the answer that was sent last, the 100 of the proxy, a response that came from a branch and was posted, or the final
+/// answer by the choice of the fork (RFC 3261 sections 8.2.6, 9.1, 16.6, 16.7, 17.1.1.3 and 17.2, RFC 3326).
+///
+/// A law over the definitions, with nothing to run.
+pub fn each_datagram_is_right()
+    ensures { EachDatagramIsRight }
+{
+    calls_send_right();
+    what_is_sent_is_right();
+    calls_stay_sound();
+    calls_know_what_closed_them();
+    branches_keep_what_they_send();
+    repeats_are_the_same();
+    parts_go_on();
+    exactly_one_final();
+    rows_keep_their_numbers();
     branches_go_on();
 }

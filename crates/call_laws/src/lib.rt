@@ -7,6 +7,6 @@
 mod law;
 
 pub use law::{
-    calls_pay_in_order, calls_send_right, each_success_goes_up, one_final_answer_goes_up,
-    what_is_sent_is_right,
+    calls_pay_in_order, calls_send_right, each_datagram_is_right, each_success_goes_up,
+    one_final_answer_goes_up, what_is_sent_is_right,
 };

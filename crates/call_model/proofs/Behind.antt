@@ -3,7 +3,7 @@ use Rattle.call_model.proofs.Common.{◌≡◌, ◌∙◌, ◌⊎◌, ℕ, zero,
 use Rattle.call_model.proofs.Common.{and_parts, cond-false, cond-true, Event, FinalAnswer, Reply, HasStored, StoredAnswersCame, RowsKeepTheirNumbers, Effect, answers, change_at, closed_state, effect, next, settled, settled_row, with_effect}
 use Rattle.call_model.proofs.Common.{with_state, Kind, Row, State, StoredAnswer, Table, is_open, is_row, stored_of, may_start, HasFirst, Log, added, event_posted, events_of, table_of, MessageText, ContactText, Hop, TxEvent}
 use Rattle.call_model.proofs.Common.{InviteClientState, OtherClientState, invite_client, other_client, row_out, Cause, answer_in, answer_of, status_of, Call, found, nth_branch, row_passes, set_branch, with_branch, ClientTransaction, InviteClient, OtherClient}
-use Rattle.call_model.proofs.Common.{client_out, Action, is_due_at, Fails, FaultsBy, FaultsClient, cancel_faulted, faulted_cancel, Destination, kind_of, CancelTransaction, Branch, Posts, call_tag, no_branch, Pumped, Send, Did, Does, Pumps, SendsAnswer, AnswersBy}
+use Rattle.call_model.proofs.Common.{client_out, Action, is_due_at, Fails, FaultsBy, FaultsClient, cancel_faulted, faulted_cancel, Destination, kind_of, CancelTransaction, Branch, Posts, call_tag, Pumped, Send, Did, Does, Pumps, SendsAnswer, AnswersBy}
 use Rattle.call_model.proofs.Common.{AnswersWith, TicksClientBy, FiresTimerC, challenges_by, contacts_for, event_by, offer_of, OpenedRequest, Owed, Passed, Final, Again, CancelOk, IsSound, awaits, invite_awaits, other_awaits, CancelledBy, Responds, Taken}
 use Rattle.call_model.proofs.Common.{TakesAs, is_passed, branch_after, branch_posted, response_event}
 use Rattle.std.specs.Prelude.{is_none}
@@ -18,6 +18,8 @@ use Rattle.sip_txn.specs.declared.invite_client.InviteClientState.TheVariants as
 use Rattle.sip_txn.specs.declared.other_client.OtherClientState.TheVariants as other
 use Rattle.call_model.specs.declared.cause.Cause.TheVariants as cause
 use Rattle.call_model.specs.Behind.{BegunKeepsAnswers, ComesFirst, FirstsStayOrCome, KeepsEvent, StaysFirst, StepsKeepAnswers}
+use Rattle.call_model.specs.Call.{closed_by}
+use Rattle.call_model.specs.Closing.{closing_after}
 use Rattle.call_model.specs.Due as due
 use Rattle.call_model.specs.Pump.{Idle}
 use Rattle.call_model.specs.Server.{Trying}
@@ -25,6 +27,7 @@ use Rattle.call_model.specs.Step as step
 use Rattle.call_model.specs.Step.{Turn}
 use Rattle.call_model.specs.Take as to
 use Rattle.call_model.proofs.FirstStays.{first_before}
+use Rattle.call_model.proofs.KeptBuilt.{at_or, branch_more, here_with}
 use Rattle.call_model.proofs.laws.SoundTables.{table_added}
 
 -- ---- parts
@@ -40,18 +43,6 @@ same_with (x ∷ branches) zero zero branch e = sym e
 same_with (x ∷ branches) zero (suc k) branch e = refl
 same_with (x ∷ branches) (suc n) zero branch e = refl
 same_with (x ∷ branches) (suc n) (suc k) branch e = same_with branches n k branch e
-
-here_with : (branches : List (Option Branch)) (n : ℕ) (old branch : Branch) → found (slice_get branches n) ≡ Some old → found (slice_get (with_branch branches n branch) n) ≡ Some branch
-here_with [] n old branch e = absurd cc
-here_with (x ∷ branches) zero old branch e = refl
-here_with (x ∷ branches) (suc n) old branch e = here_with branches n old branch e
-
-branch_more : (branches : List (Option Branch)) (rows : List Row) (k : ℕ) → found (slice_get (branches ++ map no_branch rows) k) ≡ found (slice_get branches k)
-branch_more [] [] k = refl
-branch_more [] (row ∷ rows) zero = refl
-branch_more [] (row ∷ rows) (suc k) = branch_more [] rows k
-branch_more (x ∷ branches) rows zero = refl
-branch_more (x ∷ branches) rows (suc k) = branch_more branches rows k
 
 -- the part of a branch with the same answer
 same_branch : (call : Call) (n : ℕ) (old branch : Branch) → nth_branch call n ≡ Some old → branch.answer ≡ old.answer → SameAnswers call (set_branch call n branch)
@@ -80,7 +71,7 @@ base_of call = (call.opened, call.log)
 
 -- the event that a response of branch n is to a call that was opened so
 abbrev said_by : (n : ℕ) → MessageText → OpenedRequest → Option Event
-said_by n m opened = Some (event_by opened.is_responsible n (status_of m) m)
+said_by n m opened = Some (event_by opened.tried n (status_of m) m)
 
 -- a branch that is first with an answer that came was so before
 abbrev pub FirstsStay : Call → Call → Type 0
@@ -205,7 +196,7 @@ module _ (stores : EventsStoreAnswers) (goes_on : BranchesGoOn) (grows : RowsKee
 
   fired : (call : Call) (now n : ℕ) (branch : Branch) (b : Bool) (p : Pumped) (new : Call) → nth_branch call n ≡ Some branch → FiresTimerC call now n branch b p new → FirstsStay call new
   fired call now n branch true p new there (out, reply, posts) = assumed call _ new _ _ _ reply refl (same_branch call n branch _ there refl) (no_timer_c n) posts
-  fired call now n branch false p new there (out, reply, posts) = assumed call call new _ _ _ reply refl (λ k. refl) (no_timer_c n) posts
+  fired call now n branch false p new there (out, reply, posts) = assumed call _ new _ _ _ reply refl (same_branch call n branch _ there refl) (no_timer_c n) posts
 
   -- a branch that is sent its request keeps nothing before
   unsent : (o : Option Branch) → is_none o ≡ true → answer_in o ≡ None
@@ -330,17 +321,6 @@ module _ (stores : EventsStoreAnswers) (goes_on : BranchesGoOn) (grows : RowsKee
 
   -- ---- a response that is posted
 
-  at_or : (branches : List (Option Branch)) (n k : ℕ) (branch : Branch) → (k ≡ n) ⊎ (found (slice_get (with_branch branches n branch) k) ≡ found (slice_get branches k))
-  at_or [] n k branch = inr refl
-  at_or (x ∷ branches) zero zero branch = inl refl
-  at_or (x ∷ branches) zero (suc k) branch = inr refl
-  at_or (x ∷ branches) (suc n) zero branch = inr refl
-  at_or (x ∷ branches) (suc n) (suc k) branch = up (at_or branches n k branch)
-    where
-      up : (k ≡ n) ⊎ (found (slice_get (with_branch branches n branch) k) ≡ found (slice_get branches k)) → (suc k ≡ suc n) ⊎ (found (slice_get (with_branch branches n branch) k) ≡ found (slice_get branches k))
-      up (inl e) = inl (ap suc e)
-      up (inr e) = inr e
-
   module _ (call new : Call) (n : ℕ) (branch : Branch) (destination : Destination) (now : ℕ) (m : MessageText) (reply : Reply) (first : Bool) (leads : IsTrue first ↔ HasFirst (table_of new.log) n)
       (sound : IsSound call) (there : nth_branch call n ≡ Some branch)
       (passes : is_passed (client_out (response_event (status_of m)) now branch.client).pass ≡ true) (source : Hop) (at : ℕ) (placed : reply.at ≡ at) where
@@ -352,10 +332,10 @@ module _ (stores : EventsStoreAnswers) (goes_on : BranchesGoOn) (grows : RowsKee
     Comes k stored = ComesFirst this_turn new k stored
 
     abbrev posted_part : Branch
-    posted_part = branch_posted first (branch_after call n branch destination now m) now (status_of m) m
+    posted_part = branch_posted first destination.longest (branch_after call n branch destination now m) now (status_of m) m
 
     abbrev posted_mid : Call
-    posted_mid = set_branch call n posted_part
+    posted_mid = closed_by (closing_after (table_of new.log).closed (status_of m) call.closing) (set_branch call n posted_part)
 
     -- a branch with something stored keeps what it kept
     same_stored : (k : ℕ) (stored : StoredAnswer) → HasStored (table_of call.log) k stored → answer_in (nth_branch posted_mid k) ≡ answer_in (nth_branch call k)
@@ -373,8 +353,8 @@ module _ (stores : EventsStoreAnswers) (goes_on : BranchesGoOn) (grows : RowsKee
         by (inl at) = here (nat_lt (status_of m) 300) refl at
         by (inr e) = ap answer_in e
 
-    kept_here : (ev : Event) → Posts posted_mid ev (contacts_for call.opened.is_responsible (status_of m) m) (to.going_up (status_of m) m) reply new → nat_lt (status_of m) 300 ≡ false
-        → ev ≡ event_by call.opened.is_responsible n (status_of m) m
+    kept_here : (ev : Event) → Posts posted_mid ev (contacts_for call.opened.tried (status_of m) m) (to.going_up (status_of m) m) reply new → nat_lt (status_of m) 300 ≡ false
+        → ev ≡ event_by call.opened.tried n (status_of m) m
         → (k : ℕ) (stored : StoredAnswer) → k ≡ n → stored.arrival ≡ length call.log.history → HasFirst (table_of new.log) k → Comes k stored
     kept_here ev posts e is k stored k_is at_is led =
         let log : new.log ≡ added call.log call_tag ev reply = ap (λ (x : Call). x.log) posts.follows in
@@ -383,7 +363,7 @@ module _ (stores : EventsStoreAnswers) (goes_on : BranchesGoOn) (grows : RowsKee
         let branches : answer_in (nth_branch new n) ≡ Some m =
         ap (λ (x : Call). answer_in (nth_branch x n)) posts.follows ∙ ap answer_in (branch_more posted_mid.branches _ n ∙ here_with call.branches n branch posted_part there) ∙ part_is in
         let f : new.opened ≡ call.opened = ap (λ (x : Call). x.opened) posts.follows in
-        let last : slice_get (events_of new.log.history) (length call.log.history) ≡ Some (event_by call.opened.is_responsible n (status_of m) m) =
+        let last : slice_get (events_of new.log.history) (length call.log.history) ≡ Some (event_by call.opened.tried n (status_of m) m) =
         ap (λ (l : Log). slice_get (events_of l.history) (length call.log.history)) log ∙ last_event call.log.history (record { tag = call_tag; event = ev }) ∙ ap (λ (x : Event). Some x) is in (
           m,
           (source, ap (λ (i : ℕ). step.Take (to.Client i) m source) (sym k_is), ap (λ (i : ℕ). step.Took (to.Posted i)) (sym placed ∙ posts.reply_is.position ∙ sym at_is)),
@@ -392,15 +372,15 @@ module _ (stores : EventsStoreAnswers) (goes_on : BranchesGoOn) (grows : RowsKee
         )
 
     abbrev answer_by : FinalAnswer
-    answer_by = record { status = status_of m; offers = map offer_of (contacts_for call.opened.is_responsible (status_of m) m); challenges = challenges_by (status_of m) m }
+    answer_by = record { status = status_of m; offers = map offer_of (contacts_for call.opened.tried (status_of m) m); challenges = challenges_by (status_of m) m }
 
-    keeps_posted : Posts posted_mid (event_by call.opened.is_responsible n (status_of m) m) (contacts_for call.opened.is_responsible (status_of m) m) (to.going_up (status_of m) m) reply new
+    keeps_posted : Posts posted_mid (event_by call.opened.tried n (status_of m) m) (contacts_for call.opened.tried (status_of m) m) (to.going_up (status_of m) m) reply new
         → (k : ℕ) (stored : StoredAnswer) → HasStored (table_of new.log) k stored → stored.received ≡ true → HasFirst (table_of new.log) k
         → StaysFirst call new k stored ⊎ Comes k stored
     keeps_posted posts k stored has received leads_now = by (nat_lt (status_of m) 200) refl
       where
-        at_answer : (b : Bool) → nat_lt (status_of m) 300 ≡ b → fork.Answer n answer_by ≡ event_by call.opened.is_responsible n (status_of m) m
-            → Posts posted_mid (fork.Answer n answer_by) (contacts_for call.opened.is_responsible (status_of m) m) (to.going_up (status_of m) m) reply new
+        at_answer : (b : Bool) → nat_lt (status_of m) 300 ≡ b → fork.Answer n answer_by ≡ event_by call.opened.tried n (status_of m) m
+            → Posts posted_mid (fork.Answer n answer_by) (contacts_for call.opened.tried (status_of m) m) (to.going_up (status_of m) m) reply new
             → StoresAs Comes call (fork.Answer n answer_by) new
         at_answer true e is posts k s h now came led =
             let H : ℕ → Type 0 = λ i. HasStored (next (table_of call.log) (fork.Answer n answer_by) (length call.log.history)) i s in
@@ -410,12 +390,12 @@ module _ (stores : EventsStoreAnswers) (goes_on : BranchesGoOn) (grows : RowsKee
 
         by : (b : Bool) → nat_lt (status_of m) 200 ≡ b → StaysFirst call new k stored ⊎ Comes k stored
         by true e =
-            let is : event_by call.opened.is_responsible n (status_of m) m ≡ fork.Ring n (status_of m) = cond-true _ _ _ e in
-            let P : Event → Type 0 = λ v. Posts posted_mid v (contacts_for call.opened.is_responsible (status_of m) m) (to.going_up (status_of m) m) reply new in
+            let is : event_by call.opened.tried n (status_of m) m ≡ fork.Ring n (status_of m) = cond-true _ _ _ e in
+            let P : Event → Type 0 = λ v. Posts posted_mid v (contacts_for call.opened.tried (status_of m) m) (to.going_up (status_of m) m) reply new in
             posted Comes call posted_mid new (fork.Ring n (status_of m)) _ _ reply refl same_stored (subst P is posts) (λ i s h now came led. absurd now) k stored has received leads_now
         by false e =
-            let is : event_by call.opened.is_responsible n (status_of m) m ≡ fork.Answer n answer_by = cond-false _ _ _ e in
-            let P : Event → Type 0 = λ v. Posts posted_mid v (contacts_for call.opened.is_responsible (status_of m) m) (to.going_up (status_of m) m) reply new in
+            let is : event_by call.opened.tried n (status_of m) m ≡ fork.Answer n answer_by = cond-false _ _ _ e in
+            let P : Event → Type 0 = λ v. Posts posted_mid v (contacts_for call.opened.tried (status_of m) m) (to.going_up (status_of m) m) reply new in
             let posts-2 = subst P is posts in
             posted Comes call posted_mid new (fork.Answer n answer_by) _ _ reply refl same_stored posts-2 (at_answer (nat_lt (status_of m) 300) refl (sym is) posts-2) k stored has received leads_now
 

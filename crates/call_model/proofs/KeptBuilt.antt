@@ -1,4 +1,4 @@
-use Rattle.call_model.proofs.Common.{◌≡◌, ◌⊎◌, ℕ, zero, suc, inl, inr, ap, refl, sym, subst, List, [], ◌∷◌, ◌++◌, map, Option, Some, slice_get, IfSome, Event, Reply, Row, added, MessageText, ContactText, Destination, Branch, Call}
+use Rattle.call_model.proofs.Common.{◌≡◌, ◌⊎◌, ℕ, zero, suc, inl, inr, ap, refl, sym, subst, List, [], ◌∷◌, ◌++◌, map, Option, Some, slice_get, Event, Reply, Row, added, MessageText, ContactText, Destination, Branch, Call}
 use Rattle.call_model.proofs.Common.{found, nth_branch, set_branch, with_branch, IsBuilt, IsBuiltBranch, Posts, gone_on, owes, owed_by, no_branch, call_tag}
 
 -- ---- the part at a place
@@ -26,6 +26,29 @@ pub destination_more : (destinations more : List Destination) (m : ℕ) (destina
 destination_more [] more m destination e = absurd cc
 destination_more (w ∷ destinations) more zero destination e = e
 destination_more (w ∷ destinations) more (suc m) destination e = destination_more destinations more m destination e
+
+pub at_or : (branches : List (Option Branch)) (n k : ℕ) (branch : Branch) → (k ≡ n) ⊎ (found (slice_get (with_branch branches n branch) k) ≡ found (slice_get branches k))
+at_or [] n k branch = inr refl
+at_or (x ∷ branches) zero zero branch = inl refl
+at_or (x ∷ branches) zero (suc k) branch = inr refl
+at_or (x ∷ branches) (suc n) zero branch = inr refl
+at_or (x ∷ branches) (suc n) (suc k) branch = up (at_or branches n k branch)
+  where
+    up : (k ≡ n) ⊎ (found (slice_get (with_branch branches n branch) k) ≡ found (slice_get branches k)) → (suc k ≡ suc n) ⊎ (found (slice_get (with_branch branches n branch) k) ≡ found (slice_get branches k))
+    up (inl e) = inl (ap suc e)
+    up (inr e) = inr e
+
+pub here_with : (branches : List (Option Branch)) (n : ℕ) (old branch : Branch) → found (slice_get branches n) ≡ Some old → found (slice_get (with_branch branches n branch) n) ≡ Some branch
+here_with [] n old branch e = absurd cc
+here_with (x ∷ branches) zero old branch e = refl
+here_with (x ∷ branches) (suc n) old branch e = here_with branches n old branch e
+
+pub branch_more : (branches : List (Option Branch)) (rows : List Row) (k : ℕ) → found (slice_get (branches ++ map no_branch rows) k) ≡ found (slice_get branches k)
+branch_more [] [] k = refl
+branch_more [] (row ∷ rows) zero = refl
+branch_more [] (row ∷ rows) (suc k) = branch_more [] rows k
+branch_more (x ∷ branches) rows zero = refl
+branch_more (x ∷ branches) rows (suc k) = branch_more branches rows k
 
 -- ---- the whole
 

@@ -4,6 +4,9 @@ pub mod SoundSteps
 pub mod SoundBegun
 pub mod KeptBuilt
 pub mod StepsBuilt
+pub mod Closes
+pub mod Parts
+pub mod Fired
 pub mod Repeated
 pub mod Behind
 pub mod FirstStays

@@ -11,11 +11,13 @@ use Rattle.fork_model.specs.Event.{row_named}
 use Rattle.fork_model.specs.OpenBranches.{OthersStayOpen}
 use Rattle.fork_model.specs.Sources.{StoredAnswersPass}
 use Rattle.fork_model.specs.Table as table
+use Rattle.sip_build.specs.Requests.{reason_lines}
 use Rattle.sip_txn.specs.declared.event.TxEvent.TheVariants as event
 use Rattle.call_model.specs.declared.cause.Cause.TheVariants as cause
-use Rattle.call_model.specs.Call.{owes_request}
+use Rattle.call_model.specs.Call.{closed_by, owes_request}
+use Rattle.call_model.specs.Closing.{ByCancel, Closing, closing_after}
 use Rattle.call_model.specs.Branch.{timer_c_from}
-use Rattle.call_model.specs.Pump.{Idle}
+use Rattle.call_model.specs.Pump.{Idle, without_timer_c}
 use Rattle.call_model.specs.Server.{Trying}
 use Rattle.call_model.specs.Sound.{IsGiven, IsGivenTo, IsSoundBranch, StepsKeepSound}
 use Rattle.call_model.specs.Step as step
@@ -190,8 +192,12 @@ module _ (passes : StoredAnswersPass) (grows : RowsKeepTheirNumbers) (stay : Row
   fires call now n branch true p new is there e (did, reply, posts) =
       ends_sound call new n branch (stopped branch now) (fork.TimerC n) reply is there refl refl refl (waiting.stopped_waits now branch.client) refl refl posts
   fires call now n branch false p new is there e (did, reply, posts) =
-      posts_sound call call new (fork.TimerC n) [] None reply is refl refl is.owed
-      (open_all call call (fork.TimerC n) is.branches (λ m. timer_c_stays (table_of call.log) (length call.log.history) n m e)) refl refl tt posts
+      let l = without_timer_c branch in
+      let part = is.branches n branch there in
+      let here : IsSoundBranch (table_of call.log) n l = next_sound (table_of call.log) n branch l part (λ h. h) (λ h. absurd cc) part.answer in
+      posts_sound call (set_branch call n l) new (fork.TimerC n) [] None reply is refl refl is.owed
+      (open_all call (set_branch call n l) (fork.TimerC n) (set_sound (table_of call.log) call n l here (λ k x d h. is.branches k x h))
+      (λ m. timer_c_stays (table_of call.log) (length call.log.history) n m e)) refl refl tt posts
 
   trying_open : (o : Option Row) → is_row is_trying o ≡ true → is_row is_open o ≡ true
   trying_open None e = absurd cc
@@ -204,19 +210,20 @@ module _ (passes : StoredAnswersPass) (grows : RowsKeepTheirNumbers) (stay : Row
       by (table.Ended end) h = absurd cc
 
   -- a branch that is sent to is tried, and has timer C in an INVITE
-  started : (call : Call) (n now : ℕ) (sent : List ℕ) → IsSound call → owes_request call n ≡ true → IsSoundBranch (table_of call.log) n (branch_start (kind_of call.opened) now sent)
-  started call n now sent is owes_it = record {
+  started : (call : Call) (n now : ℕ) (destination : Destination) (sent : List ℕ) → IsSound call → owes_request call n ≡ true
+      → IsSoundBranch (table_of call.log) n (branch_start (kind_of call.opened) now destination sent)
+  started call n now destination sent is owes_it = record {
     open_yet = λ e. trying_open (slice_get (table_of call.log).rows n) (and_parts (row_passes is_trying call n) _ owes_it).0;
     timer_c = λ e. ap table.is_invite is.kind ∙ by (kind_of call.opened) e;
     answer = tt;
   }
     where
-      by : (k : table.Kind) → is_some (timer_c_from k now) ≡ true → table.is_invite k ≡ true
+      by : (k : table.Kind) → is_some (timer_c_from k now destination.longest) ≡ true → table.is_invite k ≡ true
       by table.Invite e = refl
       by table.Other e = absurd cc
 
   done : (call : Call) (now : ℕ) (action : Action) (p : Pumped) (new : Call) → IsSound call → is_due_at call now action ≡ true → Does call now action p new → IsSound new
-  done call now (SendRequest n) p new is due (destination, goes, out) = same_sound new _ out.1 (branch_sound call n _ is (started call n now _ is due))
+  done call now (SendRequest n) p new is due (destination, goes, out) = same_sound new _ out.1 (branch_sound call n _ is (started call n now destination _ is due))
   done call now (SendCancel n) p new is due (destination, branch, goes, there, out) =
       same_sound new _ out.1 (branch_sound call n _ is (next_sound _ n branch _ (is.branches n branch there) (λ h. h) (λ h. h) (is.branches n branch there).answer))
   done call now (SendAck n) p new is due (destination, branch, goes, there, (ack, owed, out, same)) =
@@ -273,9 +280,9 @@ module _ (passes : StoredAnswersPass) (grows : RowsKeepTheirNumbers) (stay : Row
       by true = waiting.success_waits now c
       by false = waiting.failure_waits now c
 
-  timer_kept : (now status : ℕ) (at : Option ℕ) → is_some (timer_c_again now status at) ≡ true → is_some at ≡ true
-  timer_kept now status None e = e
-  timer_kept now status (Some at) e = refl
+  timer_kept : (now status longest : ℕ) (at : Option ℕ) → is_some (timer_c_again now status longest at) ≡ true → is_some at ≡ true
+  timer_kept now status longest None e = e
+  timer_kept now status longest (Some at) e = refl
 
   kept_forward : (b first : Bool) (m : MessageText) (kept : Option MessageText) → IsForward m → IfSome kept IsForward
       → IfSome (cond {A = Option MessageText} b kept (cond first (Some m) kept)) IsForward
@@ -287,39 +294,40 @@ module _ (passes : StoredAnswersPass) (grows : RowsKeepTheirNumbers) (stay : Row
   up_forward true m h = h
   up_forward false m h = tt
 
-  posted : (call : Call) (n : ℕ) (branch : Branch) (destination : Destination) (now : ℕ) (m : MessageText) (reply : Reply) (first : Bool) (new : Call) → IsSound call → nth_branch call n ≡ Some branch → IsMessage m → IsForward m
-      → Posts (set_branch call n (branch_posted first (branch_after call n branch destination now m) now (status_of m) m)) (event_by call.opened.is_responsible n (status_of m) m) (contacts_for call.opened.is_responsible (status_of m) m) (going_up (status_of m) m) reply new
+  posted : (call : Call) (n : ℕ) (branch : Branch) (destination : Destination) (now : ℕ) (m : MessageText) (reply : Reply) (first : Bool) (closing : Closing) (new : Call) → IsSound call → nth_branch call n ≡ Some branch → IsMessage m → IsForward m
+      → Posts (closed_by closing (set_branch call n (branch_posted first destination.longest (branch_after call n branch destination now m) now (status_of m) m)))
+      (event_by call.opened.tried n (status_of m) m) (contacts_for call.opened.tried (status_of m) m) (going_up (status_of m) m) reply new
       → IsSound new
-  posted call n branch destination now m reply first new is there message forward posts =
-      let l = branch_posted first (branch_after call n branch destination now m) now (status_of m) m in
-      let ev = event_by call.opened.is_responsible n (status_of m) m in
-      let values = event_values values_are call.opened.is_responsible n (status_of m) m message in
+  posted call n branch destination now m reply first closing new is there message forward posts =
+      let l = branch_posted first destination.longest (branch_after call n branch destination now m) now (status_of m) m in
+      let ev = event_by call.opened.tried n (status_of m) m in
+      let values = event_values values_are call.opened.tried n (status_of m) m message in
       let part = is.branches n branch there in
       let answer = kept_forward (nat_lt (status_of m) 300) first m branch.answer forward part.answer in
-      let timer = timer_kept now (status_of m) branch.timer_c_at in
-      posts_sound call (set_branch call n l) new ev (contacts_for call.opened.is_responsible (status_of m) m) (going_up (status_of m) m) reply is refl refl is.owed
+      posts_sound call (closed_by closing (set_branch call n l)) new ev (contacts_for call.opened.tried (status_of m) m) (going_up (status_of m) m) reply is refl refl is.owed
       (by (nat_lt (status_of m) 200) refl answer) values.0 values.1 (up_forward (nat_lt (status_of m) 300) m forward) posts
     where
       by : (b : Bool) → nat_lt (status_of m) 200 ≡ b → IfSome (answer_kept first (status_of m) m branch.answer) IsForward
-          → IsSoundAll (after_event call (event_by call.opened.is_responsible n (status_of m) m)) (set_branch call n (branch_posted first (branch_after call n branch destination now m) now (status_of m) m))
+          → IsSoundAll (after_event call (event_by call.opened.tried n (status_of m) m)) (set_branch call n (branch_posted first destination.longest (branch_after call n branch destination now m) now (status_of m) m))
       by true e answer =
-          let l = branch_posted first (branch_after call n branch destination now m) now (status_of m) m in
+          let l = branch_posted first destination.longest (branch_after call n branch destination now m) now (status_of m) m in
           let t = table_of call.log in
-          let ring : event_by call.opened.is_responsible n (status_of m) m ≡ fork.Ring n (status_of m) = cond-true _ _ _ e in
-          let here : IsSoundBranch t n l = next_sound t n branch l (is.branches n branch there) (waiting.waited (response_event (status_of m)) now branch.client) (timer_kept now (status_of m) branch.timer_c_at) answer in
+          let ring : event_by call.opened.tried n (status_of m) m ≡ fork.Ring n (status_of m) = cond-true _ _ _ e in
+          let here : IsSoundBranch t n l = next_sound t n branch l (is.branches n branch there) (waiting.waited (response_event (status_of m)) now branch.client) (timer_kept now (status_of m) destination.longest branch.timer_c_at) answer in
           let P : Event → Type 0 = λ v. IsSoundAll (after_event call v) (set_branch call n l) in
           subst P (sym ring) (open_all call (set_branch call n l) (fork.Ring n (status_of m)) (set_sound t call n l here (λ k x d h. is.branches k x h))
           (λ k. ring_stays t (length call.log.history) n k (status_of m)))
       by false e answer =
-          let l = branch_posted first (branch_after call n branch destination now m) now (status_of m) m in
-          let named : row_named (event_by call.opened.is_responsible n (status_of m) m) ≡ Some n = ap row_named (cond-false _ _ _ e) in
-          ended_all call n l (event_by call.opened.is_responsible n (status_of m) m) is named (awaits_after now (status_of m) branch.client e)
-          (λ h. (is.branches n branch there).timer_c (timer_kept now (status_of m) branch.timer_c_at h)) answer
+          let l = branch_posted first destination.longest (branch_after call n branch destination now m) now (status_of m) m in
+          let named : row_named (event_by call.opened.tried n (status_of m) m) ≡ Some n = ap row_named (cond-false _ _ _ e) in
+          ended_all call n l (event_by call.opened.tried n (status_of m) m) is named (awaits_after now (status_of m) branch.client e)
+          (λ h. (is.branches n branch there).timer_c (timer_kept now (status_of m) destination.longest branch.timer_c_at h)) answer
 
   responded : (call : Call) (n : ℕ) (branch : Branch) (destination : Destination) (now : ℕ) (m : MessageText) (k : Taken) (new : Call) → IsSound call → nth_branch call n ≡ Some branch → IsMessage m → IsForward m → Responds call n branch destination now m k new → IsSound new
   responded call n branch destination now m Absorbed new is there message forward out =
       same_sound new _ out.1 (branch_sound call n _ is (next_sound _ n branch _ (is.branches n branch there) (waiting.waited (response_event (status_of m)) now branch.client) (λ h. h) (is.branches n branch there).answer))
-  responded call n branch destination now m (Posted at) new is there message forward (passed, reply, at_is, first, leads, posts) = posted call n branch destination now m reply first new is there message forward posts
+  responded call n branch destination now m (Posted at) new is there message forward (passed, reply, at_is, first, leads, posts) =
+      posted call n branch destination now m reply first (closing_after (table_of new.log).closed (status_of m) call.closing) new is there message forward posts
   responded call n branch destination now m Full new is there message forward (passed, full, same) = same_sound new _ same is
 
   -- ---- a message
@@ -335,9 +343,10 @@ module _ (passes : StoredAnswersPass) (grows : RowsKeepTheirNumbers) (stay : Row
   cancelled call cancel hop Absorbed new is out = same_sound new _ out.1 (okay_sound call cancel hop is)
   cancelled call cancel hop (Posted at) new is (closes, reply, at_is, posts) =
       let mid = to.owes_cancel_ok call cancel hop in
+      let closed = closed_by (ByCancel (reason_lines cancel)) mid in
       let ok = okay_sound call cancel hop is in
-      posts_sound mid mid new fork.Cancel [] None reply ok refl refl ok.owed
-      (open_all mid mid fork.Cancel ok.branches (λ m. others (table_of mid.log) fork.Cancel (length mid.log.history) m (λ h. absurd cc))) refl refl tt posts
+      posts_sound mid closed new fork.Cancel [] None reply ok refl refl ok.owed
+      (open_all mid closed fork.Cancel ok.branches (λ m. others (table_of mid.log) fork.Cancel (length mid.log.history) m (λ h. absurd cc))) refl refl tt posts
   cancelled call cancel hop Full new is out = absurd out
 
   took_as : (call : Call) (now : ℕ) (m : MessageText) (source : Hop) (r : to.MatchedTransaction) (k : Taken) (new : Call) → IsSound call → IsGivenTo r m → TakesAs call now m source r k new → IsSound new

@@ -3,6 +3,7 @@ use Rattle.call_model.proofs.Common.{◌≡◌, ◌∙◌, ℕ, ap, refl, subst,
 use Rattle.call_model.proofs.Common.{Event, Ring, Answer, challenges_of, offers_of, Challenge, is_closed, QuotesAndAngles, IsMessage, is_value, values_of, MessageText, ContactText, Form, are_items, contact_of, contact_of_form}
 use Rattle.call_model.proofs.Common.{contact_params, form_of, is_contact_param, items_behind, UriFault, BadText, is_challenge, challenge_in, challenges_by, contacts_at, contacts_by, contacts_in, contacts_or, event_by, is_redirection}
 use Rattle.call_model.proofs.Common.{contact_for, contacts_for, offer_of, is_text}
+use Rattle.call_model.specs.declared.tried_contacts.TriedContacts.{TriedContacts}
 use Rattle.sip_lex.specs.Bytes.{is_token}
 use Rattle.sip_text.specs.Message.{is_header, is_line, is_trimmed}
 use Rattle.sip_text.specs.Name.{same_name}
@@ -53,11 +54,11 @@ in_values (v ∷ vs) h =
     let each = and_parts (is_value v) (list_all is_value vs) h in
     list_all-append has_value (contacts_at v) (flat_map contacts_at vs) ∙ and_from (list_all has_value (contacts_at v)) (list_all has_value (flat_map contacts_at vs)) (at_values v each.0) (in_values vs each.1)
 
-values_for : (responsible : Bool) (cs : List ContactText) → list_all has_value cs ≡ true → list_all has_value (map (contact_for responsible) cs) ≡ true
-values_for responsible [] h = refl
-values_for responsible (c ∷ cs) h =
+values_for : (tried : TriedContacts) (cs : List ContactText) → list_all has_value cs ≡ true → list_all has_value (map (contact_for tried) cs) ≡ true
+values_for tried [] h = refl
+values_for tried (c ∷ cs) h =
     let each = and_parts (has_value c) (list_all has_value cs) h in
-    and_from (has_value c) (list_all has_value (map (contact_for responsible) cs)) each.0 (values_for responsible cs each.1)
+    and_from (has_value c) (list_all has_value (map (contact_for tried) cs)) each.0 (values_for tried cs each.1)
 
 offers_pass : (cs : List ContactText) → list_all has_value cs ≡ true → list_all is_text (map offer_of cs) ≡ true
 offers_pass [] h = refl
@@ -90,8 +91,8 @@ headers_pass (h ∷ hs) e =
 -- ---- the event
 
 module _ (values_are : (m : MessageText) (name : List ℕ) → IsMessage m → list_all is_value (values_of name m.headers) ≡ true) where
-  contacts_pass : (responsible : Bool) (status : ℕ) (m : MessageText) → IsMessage m → list_all is_text (map offer_of (contacts_for responsible status m)) ≡ true
-  contacts_pass responsible status m is = offers_pass (contacts_for responsible status m) (values_for responsible (contacts_by status m) (by (is_redirection status)))
+  contacts_pass : (tried : TriedContacts) (status : ℕ) (m : MessageText) → IsMessage m → list_all is_text (map offer_of (contacts_for tried status m)) ≡ true
+  contacts_pass tried status m is = offers_pass (contacts_for tried status m) (values_for tried (contacts_by status m) (by (is_redirection status)))
     where
       by : (b : Bool) → list_all has_value (cond {A = List ContactText} b (contacts_in m) []) ≡ true
       by true = in_values (values_of (codes "contact") m.headers) (values_are m (codes "contact") is)
@@ -104,11 +105,11 @@ module _ (values_are : (m : MessageText) (name : List ℕ) → IsMessage m → l
       by true = headers_pass m.headers is.head.headers
       by false = refl
 
-  pub event_values : (responsible : Bool) (n status : ℕ) (m : MessageText) → IsMessage m
-      → (list_all is_text (offers_of (event_by responsible n status m)) ≡ true) × (list_all is_challenge (challenges_of (event_by responsible n status m)) ≡ true)
-  event_values responsible n status m is = by (nat_lt status 200)
+  pub event_values : (tried : TriedContacts) (n status : ℕ) (m : MessageText) → IsMessage m
+      → (list_all is_text (offers_of (event_by tried n status m)) ≡ true) × (list_all is_challenge (challenges_of (event_by tried n status m)) ≡ true)
+  event_values tried n status m is = by (nat_lt status 200)
     where
-      by : (b : Bool) → (list_all is_text (offers_of (cond {A = Event} b (Ring n status) (Answer n (record { status = status; offers = map offer_of (contacts_for responsible status m); challenges = challenges_by status m })))) ≡ true)
-          × (list_all is_challenge (challenges_of (cond {A = Event} b (Ring n status) (Answer n (record { status = status; offers = map offer_of (contacts_for responsible status m); challenges = challenges_by status m })))) ≡ true)
+      by : (b : Bool) → (list_all is_text (offers_of (cond {A = Event} b (Ring n status) (Answer n (record { status = status; offers = map offer_of (contacts_for tried status m); challenges = challenges_by status m })))) ≡ true)
+          × (list_all is_challenge (challenges_of (cond {A = Event} b (Ring n status) (Answer n (record { status = status; offers = map offer_of (contacts_for tried status m); challenges = challenges_by status m })))) ≡ true)
       by true = (refl, refl)
-      by false = (contacts_pass responsible status m is, challenges_pass status m is)
+      by false = (contacts_pass tried status m is, challenges_pass status m is)

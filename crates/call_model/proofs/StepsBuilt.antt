@@ -2,16 +2,21 @@ use Rattle.call_model.proofs.Common.{◌≡◌, ◌∙◌, ℕ, refl, sym, subst
 use Rattle.call_model.proofs.Common.{answer_of, Call, nth_branch, IsBuilt, IsBuiltBranch, Action, SendRequest, SendCancel, SendAck, SendAnswer, TickServer, TickClient, TickCancel, FireTimerC, GiveUp, Fails, FaultsBy, FaultsClient}
 use Rattle.call_model.proofs.Common.{cancel_faulted, faulted_cancel, Pumped, Send, Did, Does, Pumps, SendsAnswer, AnswersBy, AnswersWith, TicksClientBy, FiresTimerC, Taken, Absorbed, Posted, Full, TakesAs, Responds}
 use Rattle.call_model.specs.declared.cause.Cause.TheVariants as cause
+use Rattle.call_model.specs.Call.{closed_by}
+use Rattle.call_model.specs.Closing.{Closing}
 use Rattle.call_model.specs.Server.{Trying}
 use Rattle.call_model.specs.Datagrams.{IsCancel, StepsKeepBuilt, BegunIsBuilt}
 use Rattle.call_model.specs.Take as to
-use Rattle.call_model.specs.Pump.{Idle}
+use Rattle.call_model.specs.Pump.{Idle, reasons_of}
 use Rattle.call_model.specs.Step as step
 use Rattle.call_model.proofs.KeptBuilt.{built_branch, built_posts, at_more}
 use Rattle.call_model.proofs.laws.RightDatagrams.{built_by, some_as}
 
 built_server : (call : Call) (s : Server) → IsBuilt call → IsBuilt (record call { server = s })
 built_server call s built = record { branches = λ n l e. let f = built.branches n l e in (f.0, f.1, record { request = f.2.request; cancel = f.2.cancel }) }
+
+built_closed : (call : Call) (closing : Closing) → IsBuilt call → IsBuilt (closed_by closing call)
+built_closed call closing built = record { branches = λ n l e. let f = built.branches n l e in (f.0, f.1, record { request = f.2.request; cancel = f.2.cancel }) }
 
 same_as : (new call : Call) → new ≡ call → IsBuilt call → IsBuilt new
 same_as new call e built = subst IsBuilt (sym e) built
@@ -50,13 +55,13 @@ ticked call now n destination branch false p new built goes b step = same_as new
 fired : (call : Call) (now n : ℕ) (destination : Destination) (branch : Branch) (x : Bool) (p : Pumped) (new : Call) → IsBuilt call → slice_get call.destinations n ≡ Some destination → IsBuiltBranch call n destination branch
     → FiresTimerC call now n branch x p new → IsBuilt new
 fired call now n destination branch true p new built goes b (did, reply, posts) = built_posts _ new _ _ _ reply (built_branch call n _ built destination goes (kept call n destination branch _ b refl refl)) posts
-fired call now n destination branch false p new built goes b (did, reply, posts) = built_posts _ new _ _ _ reply built posts
+fired call now n destination branch false p new built goes b (did, reply, posts) = built_posts _ new _ _ _ reply (built_branch call n _ built destination goes (kept call n destination branch _ b refl refl)) posts
 
 done : (call : Call) (now : ℕ) (action : Action) (p : Pumped) (new : Call) → IsBuilt call → Does call now action p new → IsBuilt new
 done call now (SendRequest n) p new built (destination, goes, out) = same_as new _ out.1 (built_branch call n _ built destination goes (record { request = refl; cancel = tt }))
 done call now (SendCancel n) p new built (destination, branch, goes, there, out) =
     let b = built_by call n destination branch built goes there in
-    same_as new _ out.1 (built_branch call n _ built destination goes (record { request = b.request; cancel = refl }))
+    same_as new _ out.1 (built_branch call n _ built destination goes (record { request = b.request; cancel = (reasons_of call n, refl) }))
 done call now (SendAck n) p new built (destination, branch, goes, there, (ack, owed, out, same)) =
     let b = built_by call n destination branch built goes there in
     same_as new _ same (built_branch call n _ built destination goes (record { request = b.request; cancel = b.cancel }))
@@ -83,7 +88,7 @@ responded : (call : Call) (n : ℕ) (branch : Branch) (destination : Destination
 responded call n branch destination now m Absorbed new built goes b out =
     same_as new _ out.1 (built_branch call n _ built destination goes (record { request = b.request; cancel = b.cancel }))
 responded call n branch destination now m (Posted at) new built goes b (passed, reply, at_is, first, leads, posts) =
-    built_posts _ new _ _ _ reply (built_branch call n _ built destination goes (record { request = b.request; cancel = b.cancel })) posts
+    built_posts _ new _ _ _ reply (built_closed _ _ (built_branch call n _ built destination goes (record { request = b.request; cancel = b.cancel }))) posts
 responded call n branch destination now m Full new built goes b (passed, full, same) = same_as new _ same built
 
 took_as : (call : Call) (now : ℕ) (m : MessageText) (source : Hop) (r : to.MatchedTransaction) (t : Taken) (new : Call) → IsBuilt call → TakesAs call now m source r t new → IsBuilt new
@@ -95,7 +100,7 @@ took_as call now m source to.ServerAck (Posted at) new built out = absurd out
 took_as call now m source to.ServerAck Full new built out = absurd out
 took_as call now m source to.ServerCancel Absorbed new built (cancel, marked, (kept_open, same)) = same_as new _ same (built_server call _ built)
 took_as call now m source to.ServerCancel (Posted at) new built (cancel, marked, (open_yet, reply, at_is, posts)) =
-    built_posts _ new _ _ _ reply (built_server call _ built) posts
+    built_posts _ new _ _ _ reply (built_closed _ _ (built_server call _ built)) posts
 took_as call now m source to.ServerCancel Full new built (cancel, marked, out) = absurd out
 took_as call now m source (to.Client n) t new built (branch, destination, there, goes, out) = responded call n branch destination now m t new built goes (built_by call n destination branch built goes there) out
 took_as call now m source (to.CancelClient n) Absorbed new built (branch, cancelling, there, is, same) =

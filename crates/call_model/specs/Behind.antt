@@ -20,7 +20,7 @@ abbrev pub KeepsEvent : Call → (n at : ℕ) → Type 0
 KeepsEvent call n at =
     (m : MessageText)
     × (answer_in (nth_branch call n) ≡ Some m)
-    × (slice_get (events_of call.log.history) at ≡ Some (event_by call.opened.is_responsible n (status_of m) m))
+    × (slice_get (events_of call.log.history) at ≡ Some (event_by call.opened.tried n (status_of m) m))
 
 -- a branch with a stored answer that came, and that no stored answer ranks before, keeps the response that it was
 abbrev pub KeepsAnswers : Call → Type 0
@@ -54,7 +54,7 @@ ComesFirst turn new n stored =
     (m : MessageText)
     × IsPostedBy turn n stored.arrival m
     × (answer_in (nth_branch new n) ≡ Some m)
-    × (slice_get (events_of new.log.history) stored.arrival ≡ Some (event_by new.opened.is_responsible n (status_of m) m))
+    × (slice_get (events_of new.log.history) stored.arrival ≡ Some (event_by new.opened.tried n (status_of m) m))
 
 abbrev pub FirstsStayOrCome : Type 0
 FirstsStayOrCome =

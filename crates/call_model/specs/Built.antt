@@ -4,14 +4,15 @@ use Rattle.std.specs.Prelude.{ℕ, nat_lt, Bool, false, List, [], Option, Some, 
 use Rattle.fork_model.specs.Table.{Offer, StoredAnswer}
 use Rattle.fork_model.specs.Choice.{Choice, Best, Only503, NoAnswer408, stored_at}
 use Rattle.fork_model.specs.Challenges.{challenge_list}
-use Rattle.sip_text.specs.Text.{MessageText, StartText, Request, Response}
+use Rattle.sip_text.specs.Text.{HeaderText, MessageText, StartText, Request, Response}
 use Rattle.sip_uri.specs.declared.hop.Hop.{Hop}
 use Rattle.sip_build.specs.declared.responses.OwnStatus.{OwnStatus}
 use Rattle.sip_build.specs.declared.responses.OwnStatus.TheVariants as own
 use Rattle.sip_build.specs.Forwarding.{forwarded}
-use Rattle.sip_build.specs.Generated.{generated_of}
+use Rattle.sip_build.specs.Generated.{generated_of, timestamp_lines}
 use Rattle.sip_build.specs.Requests.{ack_of, cancel_of}
 use Rattle.sip_build.specs.Upward.{upward_of}
+use Rattle.sip_via.specs.OwnVia.{over}
 use Rattle.call_model.specs.declared.cause.Cause.{Cause}
 use Rattle.call_model.specs.OpenedRequest.{OpenedRequest, Destination, branch_at}
 use Rattle.call_model.specs.Branch.{Branch}
@@ -25,22 +26,28 @@ pub record Datagram : Type 0 where
 
 -- ---- to a branch
 
--- the request as it goes to target n (section 16.6)
+-- the request as it goes to target n, over the transport of its hop (section 16.6)
 abbrev pub request_to : OpenedRequest → Destination → ℕ → MessageText
-request_to opened destination n = forwarded opened.request destination.uri opened.own (branch_at opened n)
+request_to opened destination n =
+    forwarded opened.request destination.uri (over opened.own destination.hop.transport) (branch_at opened n) opened.record_route
 
 -- the ACK for a failure of branch n (section 17.1.1.3)
 abbrev pub ack_to : OpenedRequest → Destination → ℕ → MessageText → MessageText
 ack_to opened destination n response = ack_of (request_to opened destination n) response
 
--- the CANCEL of branch n (section 9.1)
-abbrev pub cancel_to : OpenedRequest → Destination → ℕ → MessageText
-cancel_to opened destination n = cancel_of (request_to opened destination n)
+-- the CANCEL of branch n, with these Reason lines (section 9.1, RFC 3326)
+abbrev pub cancel_to : OpenedRequest → Destination → ℕ → (reasons : List HeaderText) → MessageText
+cancel_to opened destination n reasons = cancel_of (request_to opened destination n) reasons
 
 -- ---- to the caller
 
+-- the 100 may take the Timestamp line of the request (section 8.2.6.1)
+abbrev pub further_lines : OpenedRequest → OwnStatus → List HeaderText
+further_lines opened own.Trying = if opened.stamps then timestamp_lines opened.request else []
+further_lines opened _ = []
+
 abbrev pub generated : OpenedRequest → OwnStatus → MessageText
-generated opened status = generated_of opened.request status
+generated opened status = generated_of opened.request status (further_lines opened status)
 
 abbrev pub text_of : Offer → List ℕ
 text_of offer = offer.text

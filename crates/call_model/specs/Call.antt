@@ -4,12 +4,15 @@ use Rattle.fork_model.specs.Table.{Row, State, Idle, Trying, Rung, Ended, is_row
 use Rattle.fork_model.specs.Log.{Log, table_of}
 use Rattle.call_model.specs.OpenedRequest.{OpenedRequest, Destination}
 use Rattle.call_model.specs.Branch.{Branch, CancelTransaction}
+use Rattle.call_model.specs.Closing.{Closing}
 use Rattle.call_model.specs.Server.{Server}
 
 pub record Call : Type 0 where
   pub opened : OpenedRequest
   -- the events that were posted, and the table that they lead to
   pub log : Log
+  -- what closed the table
+  pub closing : Closing
   -- for each row of the table, by its number, where its request goes; and its part, once that was sent
   pub destinations : List Destination
   pub branches : List (Option Branch)
@@ -39,6 +42,10 @@ with_branch (l ∷ branches) (suc n) branch = l ∷ with_branch branches n branc
 -- the call with another part for branch n
 abbrev pub set_branch : Call → ℕ → Branch → Call
 set_branch call n branch = record call { branches = with_branch call.branches n branch }
+
+-- the call with its table closed by this
+abbrev pub closed_by : Closing → Call → Call
+closed_by closing call = record call { closing = closing }
 
 abbrev pub row_passes : (State → Bool) → Call → ℕ → Bool
 row_passes test call n = is_row test (slice_get (rows_of call) n)

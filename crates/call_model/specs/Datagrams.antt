@@ -1,6 +1,6 @@
 -- What a branch keeps to be sent is as it was made, over whole runs (RFC 3261 sections 9.1, 16.6 and 17.1.1.2).
 use Rattle.std.specs.Prelude.{◌≡◌, ℕ, List, Some, IfSome, slice_get}
-use Rattle.sip_text.specs.Text.{spelling}
+use Rattle.sip_text.specs.Text.{HeaderText, spelling}
 use Rattle.fork_model.specs.Log.{Log}
 use Rattle.call_model.specs.OpenedRequest.{OpenedRequest, Destination}
 use Rattle.call_model.specs.Branch.{Branch}
@@ -11,8 +11,9 @@ use Rattle.call_model.specs.Step.{Turn, Step}
 
 -- ---- the part of a branch
 
+-- these bytes are a CANCEL of branch n, with some Reason lines
 abbrev pub IsCancel : Call → ℕ → Destination → List ℕ → Type 0
-IsCancel call n destination bytes = bytes ≡ spelling (cancel_to call.opened destination n)
+IsCancel call n destination bytes = (reasons : List HeaderText) × (bytes ≡ spelling (cancel_to call.opened destination n reasons))
 
 -- of branch n, which is sent to by this destination: the request and the CANCEL that its timers send again. The ACK that it owes rests
 -- on the response that came, and is no matter of this part alone

@@ -1,7 +1,9 @@
 pub mod OpenedRequest
+pub mod Reliability
 pub mod Client
 pub mod Branch
 pub mod Server
+pub mod Closing
 pub mod Call
 pub mod Built
 pub mod Response
@@ -15,6 +17,9 @@ pub mod Step
 pub mod Datagrams
 pub mod Again
 pub mod Sound
+pub mod ClosedBy
+pub mod Longest
+pub mod Parts
 pub mod Behind
 pub mod Fitting
 pub mod SeenDatagram

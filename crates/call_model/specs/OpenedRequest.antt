@@ -9,6 +9,7 @@ use Rattle.sip_uri.specs.Uri.{Uri}
 use Rattle.sip_via.specs.declared.branch.BranchName.{BranchName}
 use Rattle.sip_via.specs.declared.own.Own.{Own}
 use Rattle.sip_route.specs.Loop.{loop_key}
+use Rattle.call_model.specs.declared.tried_contacts.TriedContacts.{TriedContacts}
 
 pub record OpenedRequest : Type 0 where
   pub number : ℕ
@@ -20,8 +21,16 @@ pub record OpenedRequest : Type 0 where
   pub caller : Hop
   -- the hop of its first Route value, if it has one
   pub route : Option Hop
-  -- its Request-URI is one that the proxy is responsible for; for any other the contacts of a 3xx are not tried (section 16.5)
-  pub is_responsible : Bool
+  -- which contacts of a 3xx are tried: none where the proxy is not responsible for the Request-URI (section 16.5)
+  pub tried : TriedContacts
+  -- the value of the Record-Route line that its requests take, if they take one (section 16.6 step 4)
+  pub record_route : Option (List ℕ)
+  -- its 100 takes its Timestamp line (section 8.2.6.1)
+  pub stamps : Bool
+  -- its CANCELs say why they are sent (RFC 3326)
+  pub reasons : Bool
+  -- the longest time of the branches to contacts of a 3xx, in milliseconds
+  pub ring : ℕ
 
 abbrev pub method_of : StartText → List ℕ
 method_of (Request method uri) = method
@@ -42,15 +51,18 @@ branch_at opened n =
 pub record Destination : Type 0 where
   pub uri : Uri
   pub hop : Hop
+  -- how long an INVITE is waited for there at most, in milliseconds
+  pub longest : ℕ
 
 -- by the first Route value, if there is one, else by the URI
 abbrev pub next_hop : Option Hop → Uri → Option Hop
 next_hop (Some hop) uri = Some hop
 next_hop None uri = hop_of uri
 
-abbrev pub destination_by : Uri → Option Hop → Option Destination
-destination_by uri None = None
-destination_by uri (Some hop) = Some (record { uri = uri; hop = hop })
+abbrev pub destination_by : Uri → Option Hop → (longest : ℕ) → Option Destination
+destination_by uri None longest = None
+destination_by uri (Some hop) longest = Some (record { uri = uri; hop = hop; longest = longest })
 
+-- that of a contact of a 3xx
 abbrev pub destination_to : OpenedRequest → Uri → Option Destination
-destination_to opened uri = destination_by uri (next_hop opened.route uri)
+destination_to opened uri = destination_by uri (next_hop opened.route uri) opened.ring

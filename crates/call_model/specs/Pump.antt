@@ -1,9 +1,9 @@
 -- One thing that a call has to do is done (RFC 3261 sections 9.1, 16.6 to 16.8 and 17).
-use Rattle.std.specs.Prelude.{◌≡◌, ℕ, Bool, true, false, List, [], ◌∷◌, Option, Some, None, slice_get}
+use Rattle.std.specs.Prelude.{◌≡◌, ℕ, Bool, true, false, List, [], ◌∷◌, Option, Some, None, slice_get, if◌then◌else◌}
 use Rattle.fork_model.specs.Table.{is_trying}
 use Rattle.fork_model.specs.Event as fork
 use Rattle.fork_model.specs.Reply.{Reply}
-use Rattle.sip_text.specs.Text.{MessageText, spelling}
+use Rattle.sip_text.specs.Text.{HeaderText, MessageText, spelling}
 use Rattle.sip_build.specs.declared.responses.OwnStatus.TheVariants.{Okay}
 use Rattle.sip_build.specs.Generated.{generated_of}
 use Rattle.sip_txn.specs.declared.event.TxEvent.TheVariants as event
@@ -16,11 +16,13 @@ use Rattle.sip_txn.specs.OtherClient.{other_client}
 use Rattle.call_model.specs.declared.cause.Cause.TheVariants as cause
 use Rattle.call_model.specs.OpenedRequest.{Destination, kind_of}
 use Rattle.call_model.specs.Client.{client_after, client_out}
+use Rattle.call_model.specs.Reliability.{reliability_of}
 use Rattle.call_model.specs.Branch.{Branch, CancelTransaction, branch_start, cancel_start}
 use Rattle.call_model.specs.Server.{Owed, Again, CancelOk, served_after, served_out, answer_event}
 use Rattle.call_model.specs.Call.{Call, nth_branch, set_branch, row_passes}
 use Rattle.call_model.specs.Built.{Datagram, request_to, cancel_to, answer_of, status_of}
-use Rattle.call_model.specs.Due.{Action, SendRequest, SendCancel, SendAck, SendAnswer, TickServer, TickClient, TickCancel, FireTimerC, GiveUp, is_due_at, IsIdle}
+use Rattle.call_model.specs.Closing.{reasons_if}
+use Rattle.call_model.specs.Due.{Action, SendRequest, SendCancel, SendAck, SendAnswer, TickServer, TickClient, TickCancel, FireTimerC, GiveUp, is_due_at, timer_c_at, IsIdle}
 use Rattle.call_model.specs.Take.{is_response}
 use Rattle.call_model.specs.Posting.{Posts}
 
@@ -39,16 +41,24 @@ request_bytes call n destination = spelling (request_to call.opened destination 
 abbrev pub SendsRequest : Call → ℕ → ℕ → Destination → Pumped → Call → Type 0
 SendsRequest call now n destination pumped new =
     (pumped ≡ Send (record { to = destination.hop; bytes = request_bytes call n destination; cause = cause.Request n }))
-    × (new ≡ set_branch call n (branch_start (kind_of call.opened) now (request_bytes call n destination)))
+    × (new ≡ set_branch call n (branch_start (kind_of call.opened) now destination (request_bytes call n destination)))
+
+-- the Reason lines of its CANCEL, if the call gives reasons: what closed the table says why it is sent; where timer C has fired
+-- for the branch, nothing does (RFC 3326)
+abbrev pub reasons_of : Call → ℕ → List HeaderText
+reasons_of call n = if call.opened.reasons then reasons_if (timer_c_at (nth_branch call n)) call.closing else []
 
 -- its CANCEL goes out, with a client transaction of its own
 abbrev pub cancel_bytes : Call → ℕ → Destination → List ℕ
-cancel_bytes call n destination = spelling (cancel_to call.opened destination n)
+cancel_bytes call n destination = spelling (cancel_to call.opened destination n (reasons_of call n))
+
+abbrev pub cancel_started : Call → ℕ → ℕ → Destination → CancelTransaction
+cancel_started call now n destination = cancel_start now (cancel_bytes call n destination) (reliability_of destination.hop.transport)
 
 abbrev pub SendsCancel : Call → ℕ → ℕ → Destination → Branch → Pumped → Call → Type 0
 SendsCancel call now n destination branch pumped new =
     (pumped ≡ Send (record { to = destination.hop; bytes = cancel_bytes call n destination; cause = cause.Cancel n }))
-    × (new ≡ set_branch call n (record branch { cancelling = Some (cancel_start now (cancel_bytes call n destination)) }))
+    × (new ≡ set_branch call n (record branch { cancelling = Some (cancel_started call now n destination) }))
 
 abbrev pub SendsAck : Call → ℕ → Destination → Branch → Pumped → Call → Type 0
 SendsAck call n destination branch pumped new =
@@ -93,7 +103,7 @@ SendsAnswer call now (Again ∷ rest) pumped new =
     (pumped ≡ Send (record { to = call.opened.caller; bytes = call.server.last; cause = cause.Answer }))
     × (new ≡ record call { server = record call.server { owed = rest } })
 SendsAnswer call now (CancelOk cancel to ∷ rest) pumped new =
-    (pumped ≡ Send (record { to = to; bytes = spelling (generated_of cancel Okay); cause = cause.CancelOk }))
+    (pumped ≡ Send (record { to = to; bytes = spelling (generated_of cancel Okay []); cause = cause.CancelOk }))
     × (new ≡ record call { server = record call.server { owed = rest } })
 SendsAnswer call now (owed ∷ rest) pumped new = AnswersWith call now rest (answer_of call owed) pumped new
 
@@ -159,12 +169,16 @@ TicksCancel call now n destination branch pumped new =
 abbrev pub stopped : Branch → ℕ → Branch
 stopped branch now = record branch { client = client_after event.Stop now branch.client }
 
+-- it fired
+abbrev pub without_timer_c : Branch → Branch
+without_timer_c branch = record branch { timer_c_at = None }
+
 -- timer C ends a branch that has not rung, and stops its transaction; one that has rung is cancelled (section 16.8)
 abbrev pub FiresTimerC : Call → ℕ → ℕ → Branch → Bool → Pumped → Call → Type 0
 FiresTimerC call now n branch true pumped new =
     (pumped ≡ Did) × (reply : Reply) × Posts (set_branch call n (stopped branch now)) (fork.TimerC n) [] None reply new
 FiresTimerC call now n branch false pumped new =
-    (pumped ≡ Did) × (reply : Reply) × Posts call (fork.TimerC n) [] None reply new
+    (pumped ≡ Did) × (reply : Reply) × Posts (set_branch call n (without_timer_c branch)) (fork.TimerC n) [] None reply new
 
 -- a cancelled branch is given up, and its transaction stopped (section 9.1)
 abbrev pub GivesUp : Call → ℕ → ℕ → Branch → Pumped → Call → Type 0

@@ -5,6 +5,7 @@ use Rattle.fork_model.specs.Core.{is_full}
 use Rattle.fork_model.specs.Reply.{Reply}
 use Rattle.fork_model.specs.Chosen.{HasFirst}
 use Rattle.fork_model.specs.Log.{core_of, table_of}
+use Rattle.sip_build.specs.Requests.{reason_lines}
 use Rattle.sip_text.specs.Text.{MessageText, spelling}
 use Rattle.sip_uri.specs.declared.hop.Hop.{Hop}
 use Rattle.sip_via.specs.Received.{marked, reply_of}
@@ -22,9 +23,10 @@ use Rattle.sip_txn.specs.OtherClient.{other_client}
 use Rattle.call_model.specs.OpenedRequest.{Destination, is_invite}
 use Rattle.call_model.specs.Client.{client_after, client_out}
 use Rattle.call_model.specs.Branch.{Branch, CancelTransaction, timer_c}
+use Rattle.call_model.specs.Closing.{ByCancel, closing_after}
 use Rattle.call_model.specs.Server as server
 use Rattle.call_model.specs.Server.{served_after, served_out}
-use Rattle.call_model.specs.Call.{Call, nth_branch, set_branch}
+use Rattle.call_model.specs.Call.{Call, closed_by, nth_branch, set_branch}
 use Rattle.call_model.specs.Built.{ack_to, status_of}
 use Rattle.call_model.specs.Response.{contacts_for, event_by}
 use Rattle.call_model.specs.Posting.{Posts, owes}
@@ -72,11 +74,14 @@ cancels call = is_invite call.opened && not (table_of call.log).closed
 abbrev pub owes_cancel_ok : Call → MessageText → Hop → Call
 owes_cancel_ok call cancel to = owes call (server.CancelOk cancel to ∷ [])
 
--- what comes of a CANCEL as it was marked
+-- what comes of a CANCEL as it was marked; one that is posted closes the table
 abbrev pub CancelledBy : Call → MessageText → Hop → Taken → Call → Type 0
 CancelledBy call cancel to Absorbed new = (cancels call ≡ false) × (new ≡ owes_cancel_ok call cancel to)
 CancelledBy call cancel to (Posted at) new =
-    (cancels call ≡ true) × (reply : Reply) × (reply.at ≡ at) × Posts (owes_cancel_ok call cancel to) Cancel [] None reply new
+    (cancels call ≡ true)
+    × (reply : Reply)
+    × (reply.at ≡ at)
+    × Posts (closed_by (ByCancel (reason_lines cancel)) (owes_cancel_ok call cancel to)) Cancel [] None reply new
 CancelledBy call cancel to Full new = ⊥
 
 -- it is answered 200, as it was marked with its source (sections 9.2 and 18.2.1)
@@ -108,10 +113,14 @@ client_on branch now status ack = record branch {
   ack = ack_by (client_out (response_event status) now branch.client).send ack branch.ack;
 }
 
--- a provisional response sets timer C again, but for a 100 (section 16.7 step 2)
-abbrev pub timer_c_again : ℕ → ℕ → Option ℕ → Option ℕ
-timer_c_again now status None = None
-timer_c_again now status (Some at) = if nat_lt 100 status && nat_lt status 200 then Some (later now timer_c) else Some at
+-- a provisional response sets timer C again, but for a 100 (section 16.7 step 2); none does where the branch is waited for less
+-- long than timer C is to be
+abbrev pub timer_c_again : ℕ → ℕ → (longest : ℕ) → Option ℕ → Option ℕ
+timer_c_again now status longest None = None
+timer_c_again now status longest (Some at) =
+    if nat_lt longest timer_c then Some at
+    else (if nat_lt 100 status && nat_lt status 200 then Some (later now timer_c)
+    else Some at)
 
 -- a failure is kept where it is the first of all that is stored, for it may go up later; one that another ranks before
 -- never does. Any other response goes up at once, or never
@@ -122,9 +131,9 @@ abbrev pub going_up : ℕ → MessageText → Option MessageText
 going_up status m = if nat_lt status 300 then Some m else None
 
 -- what a response that was posted leaves in the branch's part
-abbrev pub branch_posted : (first : Bool) → Branch → ℕ → ℕ → MessageText → Branch
-branch_posted first branch now status m = record branch {
-  timer_c_at = timer_c_again now status branch.timer_c_at;
+abbrev pub branch_posted : (first : Bool) → (longest : ℕ) → Branch → ℕ → ℕ → MessageText → Branch
+branch_posted first longest branch now status m = record branch {
+  timer_c_at = timer_c_again now status longest branch.timer_c_at;
   answer = answer_kept first status m branch.answer;
 }
 
@@ -137,7 +146,8 @@ abbrev pub Responds : Call → ℕ → Branch → Destination → ℕ → Messag
 Responds call n branch destination now m Absorbed new =
     (is_passed (client_out (response_event (status_of m)) now branch.client).pass ≡ false)
     × (new ≡ set_branch call n (branch_after call n branch destination now m))
--- it hands it up, and it is posted; the branch may then be the first of those with a stored answer (section 16.7 step 6)
+-- it hands it up, and it is posted; it may close the table, and the branch may then be the first of those with a stored answer
+-- (section 16.7 steps 5 and 6)
 Responds call n branch destination now m (Posted at) new =
     (is_passed (client_out (response_event (status_of m)) now branch.client).pass ≡ true)
     × (reply : Reply)
@@ -145,16 +155,18 @@ Responds call n branch destination now m (Posted at) new =
     × (first : Bool)
     × (IsTrue first ↔ HasFirst (table_of new.log) n)
     × Posts
-    (set_branch call n (branch_posted first (branch_after call n branch destination now m) now (status_of m) m))
-    (event_by call.opened.is_responsible n (status_of m) m)
-    (contacts_for call.opened.is_responsible (status_of m) m)
+    (closed_by
+    (closing_after (table_of new.log).closed (status_of m) call.closing)
+    (set_branch call n (branch_posted first destination.longest (branch_after call n branch destination now m) now (status_of m) m)))
+    (event_by call.opened.tried n (status_of m) m)
+    (contacts_for call.opened.tried (status_of m) m)
     (going_up (status_of m) m)
     reply
     new
 -- it would hand it up, and the book does not take it
 Responds call n branch destination now m Full new =
     (is_passed (client_out (response_event (status_of m)) now branch.client).pass ≡ true)
-    × (is_full (core_of call.log) (event_by call.opened.is_responsible n (status_of m) m) ≡ true)
+    × (is_full (core_of call.log) (event_by call.opened.tried n (status_of m) m) ≡ true)
     × (new ≡ call)
 
 -- the response comes to branch n, whose part and destination there are

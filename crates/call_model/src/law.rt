@@ -1,8 +1,11 @@
 //! What holds of every call.
 ghost use Rattle.call_model.specs.Again.{LastAnswerIsKept, RepeatsAreTheSame};
 ghost use Rattle.call_model.specs.Behind.{BegunKeepsAnswers, FirstsStayOrCome, StepsKeepAnswers};
+ghost use Rattle.call_model.specs.ClosedBy.{BegunKnowsClosing, ClosingStaysOrComes, StepsKnowClosing};
 ghost use Rattle.call_model.specs.Datagrams.{BegunIsBuilt, StepsKeepBuilt};
 ghost use Rattle.call_model.specs.Fitting.{CancelsAreTaken, FaultsAreTaken, GivingsUpAreTaken, TimeoutsAreTaken, TimerCsAreTaken};
+ghost use Rattle.call_model.specs.Longest.{ShorterTimesStay, UsualTimesStart, UsualTimesStartAgain};
+ghost use Rattle.call_model.specs.Parts.{FiringsEndOrCancel, StepsKeepParts};
 ghost use Rattle.call_model.specs.Sound.{BegunIsSound, StepsKeepSound};
 
 use fork_model::{
@@ -79,3 +82,39 @@ pub fn own_events_are_taken()
 {
     open_branches_take_events();
 }
+
+/// A call knows what closed its table as soon as the table is closed, and not before: so it is as a call begins, and each
+/// step of a sound call keeps it so. A step leaves what closed the table, or by it the table is closed: by a 2xx that came to
+/// a branch and is posted, by a 6xx, with its status, or by the caller's CANCEL, with its Reason lines (RFC 3261 sections 16.7
+/// steps 5 and 10 and 16.10, RFC 3326).
+///
+/// A law over the definitions, with nothing to run.
+pub fn calls_know_what_closed_them()
+    ensures begun { BegunKnowsClosing }
+    ensures kept { StepsKnowClosing }
+    ensures by { ClosingStaysOrComes }
+{
+    rows_keep_their_numbers();
+}
+
+/// Where a branch is waited for as long as timer C is to run, timer C is that of RFC 3261: it starts when an INVITE is sent,
+/// and anew with each provisional response but a 100. Where it is waited for less long, nothing prolongs that: timer C stays as
+/// it was set when the request was sent, until it fires (sections 16.6 step 11, 16.7 step 2 and 16.8).
+///
+/// A law over the definitions, with nothing to run.
+pub fn shorter_times_stay()
+    ensures usual { UsualTimesStart }
+    ensures again { UsualTimesStartAgain }
+    ensures stay { ShorterTimesStay }
+{}
+
+/// What a step leaves of each branch: a CANCEL that was sent is kept, and one is sent where it is owed, once; timer C that has
+/// fired does not run again; and a branch whose request is sent has no CANCEL yet, and timer C where it is an INVITE. Timer C
+/// that fires for a branch of a sound call ends the branch, or leaves it without timer C (RFC 3261 sections 9.1 and 16.6 to
+/// 16.8).
+///
+/// A law over the definitions, with nothing to run.
+pub fn parts_go_on()
+    ensures kept { StepsKeepParts }
+    ensures fired { FiringsEndOrCancel }
+{}

@@ -20,13 +20,14 @@ use Rattle.call_model.specs.declared.cause.Cause.{Cause}
 use Rattle.call_model.specs.declared.cause.Cause.TheVariants as cause
 use Rattle.call_model.specs.Built.{ack_to, status_of}
 use Rattle.sip_text.specs.Text.{spelling}
-use Rattle.call_model.specs.Call.{Call, found, nth_branch, rows_of}
+use Rattle.call_model.specs.Call.{Call, closed_by, found, nth_branch, rows_of}
 use Rattle.call_model.specs.Client as client
 use Rattle.call_model.specs.Client.{ClientTransaction, client_after, client_out}
 use Rattle.call_model.specs.Due.{Action, SendRequest, SendCancel, SendAck, SendAnswer, TickServer, TickClient, TickCancel, FireTimerC, GiveUp, IsOverCancelTransaction, is_any, is_due_at}
 use Rattle.call_model.specs.Failed.{Fails, FaultsBy, FaultsClient, cancel_faulted, faulted, faulted_cancel, is_fault}
 use Rattle.call_model.specs.OpenedRequest.{Destination}
 use Rattle.call_model.specs.Branch.{Branch, CancelTransaction}
+use Rattle.call_model.specs.Closing.{Closing}
 use Rattle.call_model.specs.Posting.{Posts, call_tag, gone_on, no_branch, owed_by, owes, rows_more, destinations_of}
 use Rattle.call_model.specs.Pump as pump
 use Rattle.call_model.specs.Pump.{Pumped, Pumps, Does, SendsAnswer}
@@ -122,9 +123,9 @@ rows_kept stay log reply done =
     ap (λ (t : Table). t.rows) (table_added log call_tag Cancel reply)
     ∙ stay (table_of log) (length log.history) (Cancel ∷ []) done
 
-left_cancelled : RowsStay → (call new : Call) (m cancel : MessageText) (source hop : Hop) (reply : Reply) → IsQuiet call
-    → Posts (owes_cancel_ok call cancel hop) Cancel [] None reply new → IsLeft call new (step.Take to.ServerCancel m source)
-left_cancelled stay call new m cancel source hop reply q posts =
+left_cancelled : RowsStay → (call new : Call) (m cancel : MessageText) (source hop : Hop) (closing : Closing) (reply : Reply) → IsQuiet call
+    → Posts (closed_by closing (owes_cancel_ok call cancel hop)) Cancel [] None reply new → IsLeft call new (step.Take to.ServerCancel m source)
+left_cancelled stay call new m cancel source hop closing reply q posts =
     subst (λ (c : Call). IsLeft call c (step.Take to.ServerCancel m source)) (sym posts.follows) left
   where
     log : Log
@@ -143,7 +144,7 @@ left_cancelled stay call new m cancel source hop reply q posts =
     ok = call.server.owed ++ CancelOk cancel hop ∷ []
 
     after : Call
-    after = owes (gone_on (owes_cancel_ok call cancel hop) [] log) (owed_by reply.up None)
+    after = owes (gone_on (closed_by closing (owes_cancel_ok call cancel hop)) [] log) (owed_by reply.up None)
 
     branches : after.branches ≡ call.branches
     branches = ap (λ (rs : List Row). call.branches ++ map no_branch rs) none ∙ append-nil call.branches
@@ -169,7 +170,7 @@ takes_cancel : RowsStay → (call new : Call) (m cancel : MessageText) (source h
 takes_cancel stay call new m cancel source hop to.Absorbed q by =
     let input = step.Take to.ServerCancel m source in
     (tt, subst (λ (c : Call). IsLeft call c input) (sym by.1) (left_owing call input _ q (one_more call.server.owed cancel hop q.owed)))
-takes_cancel stay call new m cancel source hop (to.Posted at) q by = (tt, left_cancelled stay call new m cancel source hop by.1 q by.3)
+takes_cancel stay call new m cancel source hop (to.Posted at) q by = (tt, left_cancelled stay call new m cancel source hop _ by.1 q by.3)
 takes_cancel stay call new m cancel source hop to.Full q by = absurd by
 
 -- a response to a branch

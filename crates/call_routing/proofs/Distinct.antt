@@ -8,13 +8,13 @@ use Rattle.proxy_config.specs.Setup.{KeepsRules, Location, LocationsAreTargets, 
 use Rattle.proxy_routing.specs.Targets.{candidate_at, candidates_by, candidates_of}
 use Rattle.call_routing.specs.inner.Distinct.{AreDistinct}
 
-keys_same : (route : FirstRoute) (ls : List Location) → keys_of_targets (targets_of (map (candidate_at route) ls)) ≡ map location_key ls
-keys_same route [] = refl
-keys_same route (l ∷ ls) = ap (λ (ks : List (List ℕ)). location_key l ∷ ks) (keys_same route ls)
+keys_same : (streams : Bool) (route : FirstRoute) (ls : List Location) → keys_of_targets (targets_of (map (candidate_at streams route) ls)) ≡ map location_key ls
+keys_same streams route [] = refl
+keys_same streams route (l ∷ ls) = ap (λ (ks : List (List ℕ)). location_key l ∷ ks) (keys_same streams route ls)
 
-length_same : (route : FirstRoute) (ls : List Location) → length (targets_of (map (candidate_at route) ls)) ≡ length ls
-length_same route [] = refl
-length_same route (l ∷ ls) = ap suc (length_same route ls)
+length_same : (streams : Bool) (route : FirstRoute) (ls : List Location) → length (targets_of (map (candidate_at streams route) ls)) ≡ length ls
+length_same streams route [] = refl
+length_same streams route (l ∷ ls) = ap suc (length_same streams route ls)
 
 none_distinct : AreDistinct []
 none_distinct = record { few = omega arith; apart = λ (m, n, key, less, a, b). absurd cc }
@@ -30,15 +30,15 @@ pub distinct : LocationsAreTargets → (inside : Bool) (setup : Setup) (route : 
 distinct law false setup route uri keeps = one_distinct _
 distinct law true setup route uri keeps = by uri.user
   where
-    by : (user : Option (List ℕ)) → AreDistinct (candidates_of route setup.locations user)
+    by : (user : Option (List ℕ)) → AreDistinct (candidates_of setup.streams route setup.locations user)
     by None = none_distinct
     by (Some user) =
         let ls = locations_of user setup.locations in
         let are = law user setup.locations keeps in
         let few = are.few in
-        let long = length_same route ls in
-        let key_at : (k : ℕ) (key : List ℕ) → slice_get (keys_of_targets (targets_of (map (candidate_at route) ls))) k ≡ Some key → slice_get (map location_key ls) k ≡ Some key =
-        λ k key e. ap (λ (ks : List (List ℕ)). slice_get ks k) (sym (keys_same route ls)) ∙ e in
+        let long = length_same setup.streams route ls in
+        let key_at : (k : ℕ) (key : List ℕ) → slice_get (keys_of_targets (targets_of (map (candidate_at setup.streams route) ls))) k ≡ Some key → slice_get (map location_key ls) k ≡ Some key =
+        λ k key e. ap (λ (ks : List (List ℕ)). slice_get ks k) (sym (keys_same setup.streams route ls)) ∙ e in
         record {
           few = omega (arith, few, long);
           apart = λ (m, n, key, less, a, b). are.apart m n key less (key_at m key a) (key_at n key b);

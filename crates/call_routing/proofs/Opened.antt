@@ -1,7 +1,8 @@
 -- What is known where a request was admitted, and where it was not.
 use Rattle.call_routing.proofs.Common.{◌≡◌, ◌∙◌, true, false, Bool, ℕ, List, [], Option, Result, Ok, Err, ap, subst, IfOk, list_all, Rules, MessageText, StartText, Own, top_value, via_of, Call, OpenedRequest, IsAdmitted, target_uri, IsTurnedAway}
 use Rattle.call_routing.proofs.Common.{IsBegun, CandidateTarget, has_hop}
-use Rattle.std.specs.Prelude.{IfErr}
+use Rattle.std.specs.Prelude.{IfErr, length, ◌==◌}
+use Rattle.std.proofs.Common.{sym}
 use Rattle.sip_text.specs.Text as texts
 use Rattle.sip_uri.specs.declared.hop.Hop.{Hop}
 use Rattle.sip_uri.specs.Uri.{Uri}
@@ -13,7 +14,8 @@ use Rattle.proxy_config.specs.Setup.{Setup}
 use Rattle.proxy_routing.specs.declared.fault.RequestRejection.{RequestRejection}
 use Rattle.proxy_routing.specs.declared.fault.RequestRejection.TheVariants.{BadRequest, Scheme, Hops, Loop, Extension, NoTarget, NoHop, NoMemory}
 use Rattle.proxy_routing.specs.Admission.{asks_extension}
-use Rattle.call_routing.specs.Opening.{Asks, IsOpenable, IsRefused, IsUnreachable, Opens, Reaches, Refuses, candidates_for, opened_of}
+use Rattle.call_routing.specs.Opening.{Asks, IsOpenable, IsRefused, IsUnreachable, Opens, Reaches, Refuses, candidates_for, opened_of, record_route_of, tried_by}
+use Rattle.call_model.specs.declared.tried_contacts.TriedContacts.{TriedContacts}
 use Rattle.proxy_routing.specs.Targets.{candidates, candidates_by, hop_if_any, is_domain}
 
 pub openable : (start other : StartText) → start ≡ other → IsOpenable other → is_request start ≡ true
@@ -76,13 +78,37 @@ asked_if setup request uri a t (Err fault) h = asked setup request uri a t fault
 
 -- ---- the call that opens for a request to a URI
 
-pub fixed_so : (setup : Setup) (number : ℕ) (request : MessageText) (source : Hop) (uri : Uri) (own : Own) (instance : ℕ) (caller : Hop) (route : Option Hop) (inside : Bool) (first : FirstRoute) (opened : OpenedRequest)
-    → opened ≡ record { number = number; own = own; instance = instance; request = request; caller = caller; route = route; is_responsible = inside }
+-- a vector of that length, which is not 0
+pub some_if : (cs slice : List CandidateTarget) (len : ℕ) (none : Bool) → none ≡ (len == 0) → none ≡ false → slice ≡ cs → length slice ≡ len → cs ≡ [] → ⊥
+some_if cs slice len none test false_is same long e =
+    let zero_long : length slice ≡ 0 = ap (λ (xs : List CandidateTarget). length xs) (same ∙ e) in
+    let zero_len : len ≡ 0 = sym long ∙ zero_long in
+    let is_none : none ≡ true = test ∙ ap (λ (k : ℕ). k == 0) zero_len in
+    absurd (let a : true ≡ false = sym is_none ∙ false_is in cc)
+
+pub fixed_so : (setup : Setup) (number : ℕ) (request : MessageText) (source : Hop) (uri : Uri) (own : Own) (instance : ℕ) (caller : Hop) (route : Option Hop) (inside streams : Bool) (recorded : Option (List ℕ))
+    (tried : TriedContacts) (stamps reasons : Bool) (ring : ℕ) (first : FirstRoute) (opened : OpenedRequest)
+    → opened ≡ record { number = number; own = own; instance = instance; request = request; caller = caller; route = route; tried = tried; record_route = recorded; stamps = stamps; reasons = reasons; ring = ring }
     → own ≡ setup.own → instance ≡ setup.instance → caller ≡ reply_of (via_of (top_value request)) source
-    → route ≡ hop_if_any first → first ≡ first_route request → inside ≡ is_domain setup uri → opened ≡ opened_of setup number request source uri
-fixed_so setup number request source uri own instance caller route inside first opened e p q r s t u =
-    let destination : route ≡ hop_if_any (first_route request) = s ∙ ap hop_if_any t in
-    e ∙ (λ k. record { number = number; own = p k; instance = q k; request = request; caller = r k; route = destination k; is_responsible = u k })
+    → route ≡ hop_if_any streams first → first ≡ first_route request → inside ≡ is_domain setup uri → tried ≡ tried_by inside streams → streams ≡ setup.streams
+    → recorded ≡ record_route_of setup request → stamps ≡ setup.stamps → reasons ≡ setup.reasons → ring ≡ setup.ring → opened ≡ opened_of setup number request source uri
+fixed_so setup number request source uri own instance caller route inside streams recorded tried stamps reasons ring first opened e p q r s t u a b v w x y =
+    let destination : route ≡ hop_if_any setup.streams (first_route request) =
+    s ∙ ap (hop_if_any streams) t ∙ ap (λ (x : Bool). hop_if_any x (first_route request)) b in
+    let which : tried ≡ tried_by (is_domain setup uri) setup.streams = a ∙ ap (λ (x : Bool). tried_by x streams) u ∙ ap (tried_by (is_domain setup uri)) b in
+    e ∙ (λ k. record {
+      number = number;
+      own = p k;
+      instance = q k;
+      request = request;
+      caller = r k;
+      route = destination k;
+      tried = which k;
+      record_route = v k;
+      stamps = w k;
+      reasons = x k;
+      ring = y k;
+    })
 
 pub reaches : (setup : Setup) (number : ℕ) (request : MessageText) (source : Hop) (uri : Uri) (rules : Rules) (inside : Bool) (route : FirstRoute) (opened : OpenedRequest) (cs : List CandidateTarget) (call : Call)
     → cs ≡ candidates_by inside setup route uri → inside ≡ is_domain setup uri → (cs ≡ [] → ⊥) → list_all has_hop cs ≡ true → rules ≡ setup.rules → route ≡ first_route request

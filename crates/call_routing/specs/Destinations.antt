@@ -7,7 +7,7 @@ use Rattle.call_model.specs.OpenedRequest.{Destination, destination_by}
 use Rattle.proxy_routing.specs.Targets.{CandidateTarget}
 
 abbrev pub destination_to : CandidateTarget → Option Destination
-destination_to candidate = destination_by (requested candidate.uri) candidate.hop
+destination_to candidate = destination_by (requested candidate.uri) candidate.hop candidate.longest
 
 -- the destination of the target that a row is for
 abbrev pub destination_of_row : List CandidateTarget → Row → Option Destination

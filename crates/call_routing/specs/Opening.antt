@@ -1,5 +1,5 @@
 -- How a call opens, and why it does not (RFC 3261 sections 16.2 to 16.6).
-use Rattle.std.specs.Prelude.{◌≡◌, ◌≢◌, ℕ, true, false, List, [], Ok}
+use Rattle.std.specs.Prelude.{◌≡◌, ◌≢◌, ℕ, Bool, ◌&&◌, true, false, List, [], Option, Some, None, Ok, if◌then◌else◌}
 use Rattle.std.specs.List.{list_all}
 use Rattle.fork_model.specs.History.{opening_rows}
 use Rattle.fork_model.specs.Table.{Rules}
@@ -12,7 +12,11 @@ use Rattle.sip_via.specs.Received.{reply_of}
 use Rattle.sip_via.specs.TopVia.{top_value}
 use Rattle.sip_via.specs.ViaParts.{via_of}
 use Rattle.sip_route.specs.RouteValues.{first_route}
+use Rattle.sip_build.specs.Dialogs.{opens_dialog}
+use Rattle.sip_build.specs.OwnRoute.{own_route}
 use Rattle.proxy_config.specs.Setup.{Setup}
+use Rattle.call_model.specs.declared.tried_contacts.TriedContacts.{TriedContacts}
+use Rattle.call_model.specs.declared.tried_contacts.TriedContacts.TheVariants.{Every, NoContacts, OverUdp}
 use Rattle.call_model.specs.Begun.{begun}
 use Rattle.call_model.specs.Call.{Call}
 use Rattle.call_model.specs.OpenedRequest.{OpenedRequest, Destination, kind_of}
@@ -27,6 +31,18 @@ use Rattle.proxy_routing.specs.Targets.{CandidateTarget, candidates, has_hop, ho
 abbrev pub IsOpenable : StartText → Type 0
 IsOpenable start = stands_alone (known_method start) ≡ true
 
+-- the value of the Record-Route line by which the proxy stays on the path of the dialog that the request opens, where it is to
+-- (section 16.6 step 4)
+abbrev pub record_route_of : Setup → MessageText → Option (List ℕ)
+record_route_of setup request = if setup.records && opens_dialog request then Some (own_route setup.own) else None
+
+-- which contacts of a 3xx are tried: none where the proxy is not responsible for the Request-URI (section 16.5), and those over
+-- UDP alone where it has no streams
+abbrev pub tried_by : (responsible streams : Bool) → TriedContacts
+tried_by false streams = NoContacts
+tried_by true false = OverUdp
+tried_by true true = Every
+
 -- what the request to this URI, as it was prepared, opens with; its answers go where its top Via value says (section
 -- 18.2.2), and the proxy is responsible for a URI of its domain (section 16.5)
 abbrev pub opened_of : Setup → ℕ → MessageText → Hop → Uri → OpenedRequest
@@ -36,8 +52,12 @@ opened_of setup number request source uri = record {
   instance = setup.instance;
   request = request;
   caller = reply_of (via_of (top_value request)) source;
-  route = hop_if_any (first_route request);
-  is_responsible = is_domain setup uri;
+  route = hop_if_any setup.streams (first_route request);
+  tried = tried_by (is_domain setup uri) setup.streams;
+  record_route = record_route_of setup request;
+  stamps = setup.stamps;
+  reasons = setup.reasons;
+  ring = setup.ring;
 }
 
 -- a fork to these targets, of which nothing was sent yet

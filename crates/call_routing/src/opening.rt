@@ -1,22 +1,25 @@
 //! How a call opens.
-ghost use Rattle.std.specs.Prelude.{◌≡◌, ◌≢◌, ◌<◌, ◌↔◌, [], ℕ, length, slice_get, true, IfErr, IfOk, IfSome, IsOk, IsTrue, Ok, Some};
+ghost use Rattle.std.specs.Prelude.{◌≡◌, ◌≢◌, ◌<◌, ◌↔◌, ◌&&◌, [], ℕ, length, slice_get, true, IfErr, IfOk, IfSome, IsOk, IsTrue, Ok, Some};
 ghost use Rattle.std.specs.List.{list_all};
-ghost use Rattle.std.specs.Option.{option_and_then};
+ghost use Rattle.std.specs.Option.{option_and_then, option_map};
 ghost use Rattle.fork_model.specs.Table.{Row};
+ghost use Rattle.sip_text.specs.Message.{is_value};
 ghost use Rattle.sip_text.specs.Name.{first_value};
 ghost use Rattle.sip_route.specs.Hops.{IsHops, hops_name};
+ghost use Rattle.sip_build.specs.Dialogs.{opens_dialog};
 ghost use Rattle.sip_build.specs.Forwarding.{is_request};
 ghost use Rattle.fork_rank.specs.KindView as kinds;
 ghost use Rattle.fork_model.specs.Log.{opening_log, table_of};
 ghost use Rattle.proxy_routing.specs.Admission.{target_uri};
-ghost use Rattle.call_routing.specs.Opening.{Asks, IsBegun, IsOpenable, IsRefused, IsUnreachable, Opens, Reaches, Refuses};
+ghost use Rattle.call_routing.specs.Opening.{Asks, IsBegun, IsOpenable, IsRefused, IsUnreachable, Opens, Reaches, Refuses, record_route_of, tried_by};
 ghost use Rattle.call_routing.specs.Destinations.{AreDestinations, destination_to};
 ghost use Rattle.call_routing.specs.inner.Distinct.{AreDistinct};
 ghost use Rattle.sip_uri.specs.Fault.{Gives, refusal};
 ghost use Rattle.proxy_routing.specs.Targets.{has_hop, targets_of};
 
 use call_answers::place_of;
-use call_branch::{Destination, OpenedRequest};
+use call_branch::{Destination, OpenedRequest, Opening};
+use call_model::TriedContacts;
 use call_state::CallState;
 use fork_book::Book;
 use fork_context::{Kind, NewFault};
@@ -26,13 +29,14 @@ use proxy_routing::{
     CandidateTarget, RequestRejection, asks_extension, candidates, have_hops, hop_if_any,
     is_domain, targets_of, validate_request,
 };
+use sip_build::{opens_dialog, write_own_route};
 use sip_route::{first_route, request_uri};
 use sip_text::Message;
 use sip_uri::{Hop, SipUri, UriFault};
 use sip_via::reply_hop_of;
 use std::alloc::{AllocError, Allocator, Global};
 
-/// Where the request to a target that has a hop goes.
+/// Where the request to a target that has a hop goes, and how long its branch may take.
 fn destination_to<A: Allocator + Clone>(
     alloc: A,
     candidate: &CandidateTarget<'_, A>,
@@ -43,7 +47,8 @@ fn destination_to<A: Allocator + Clone>(
     let Some(hop) = candidate.hop() else {
         unreachable!()
     };
-    Ok(Destination::new(candidate.uri().requested(alloc)?, hop))
+    let uri = candidate.uri().requested(alloc)?;
+    Ok(Destination::new(uri, hop, candidate.longest()))
 }
 
 /// Where the request to the target at that place goes.
@@ -169,6 +174,43 @@ fn begin<A: Allocator + Clone>(
     CallState::begin(alloc, heap, opened, book, destinations, now)
 }
 
+/// Which contacts of a 3xx a call tries, by whether the proxy is responsible for the Request-URI of its request, and whether it
+/// has streams (RFC 3261 section 16.5).
+fn tried_by(responsible: bool, streams: bool) -> TriedContacts
+    ensures { result ≡ tried_by responsible streams }
+{
+    match (responsible, streams) {
+        (false, _) => TriedContacts::NoContacts,
+        (true, false) => TriedContacts::OverUdp,
+        (true, true) => TriedContacts::Every,
+    }
+}
+
+/// Whether the proxy is to stay on the path of the dialog that the request opens.
+fn is_recorded<A: Allocator>(setup: &Setup<A>, request: &Message<A>) -> bool
+    ensures { result ≡ (setup.now.records && opens_dialog request.now) }
+{
+    setup.records() && opens_dialog(request)
+}
+
+/// The value of the Record-Route line by which the proxy stays on the path of the dialog that the request opens, where it is to
+/// (RFC 3261 section 16.6 step 4). It takes memory only there.
+fn record_route_of<A: Allocator>(
+    alloc: A,
+    setup: &Setup<A>,
+    request: &Message<A>,
+) -> Result<Option<Vec<u8, A>>, AllocError>
+    ensures value { IfOk result (λ made. option_map (λ v. v.items) made ≡ record_route_of setup.now request.now) }
+    ensures good { IfSome (record_route_of setup.now request.now) (λ value. IsTrue (is_value value)) }
+{
+    if !is_recorded(setup, request) {
+        return Ok(None);
+    }
+    let mut value = Vec::new(alloc);
+    write_own_route(setup.own(), &mut value)?;
+    Ok(Some(value))
+}
+
 /// The state of the call that opens for a request to this URI, as it was prepared.
 fn open_to<A: Allocator + Clone>(
     alloc: A,
@@ -194,16 +236,22 @@ fn open_to<A: Allocator + Clone>(
     if !have_hops(&candidates) {
         return Err(RequestRejection::NoHop);
     }
+    let streams = setup.has_streams();
+    let record_route = record_route_of(alloc.clone()?, setup, &request)?;
     let caller = reply_hop_of(&request, source);
-    let opened = OpenedRequest::new(
+    let opened = OpenedRequest::new(Opening {
         number,
-        setup.own(),
-        setup.instance(),
+        own: setup.own(),
+        instance: setup.instance(),
         request,
         caller,
-        hop_if_any(route),
-        inside,
-    );
+        route: hop_if_any(streams, route),
+        tried: tried_by(inside, streams),
+        record_route,
+        stamps: setup.stamps(),
+        reasons: setup.gives_reasons(),
+        ring: setup.ring(),
+    });
     locations_are_targets();
     let _locations = setup.locations();
     match begin(alloc, heap, setup.rules(), opened, &candidates, now) {

@@ -1,5 +1,5 @@
-use Rattle.call_state.proofs.Common.{◌≡◌, ◌∙◌, ℕ, ap, refl, sym, subst, true, false, Bool, [], Option, Some, None, List, slice_get, is_trying, spelling, Hop, TxOut, Machine, OtherClientState, machine_after, out_of, other_client, Datagram}
-use Rattle.call_state.proofs.Common.{cancel_to, Call, nth_branch, row_passes, set_branch, ClientTransaction, client_after, client_out, ack_on, Destination, CancelTransaction, Branch, cancel_on, changed_branch, responded, with_client, PostsBare, Posts, Did, FiresTimerC, OnPart}
+use Rattle.call_state.proofs.Common.{◌≡◌, ◌∙◌, ℕ, ap, refl, sym, subst, true, false, Bool, [], Option, Some, None, List, slice_get, is_trying, Hop, TxOut, Machine, OtherClientState, machine_after, out_of, other_client, Datagram}
+use Rattle.call_state.proofs.Common.{Call, nth_branch, row_passes, set_branch, ClientTransaction, client_after, client_out, ack_on, Destination, CancelTransaction, Branch, cancel_on, changed_branch, responded, with_client, PostsBare, Posts, Did, FiresTimerC, OnPart, kept, reliability_of, without_timer_c}
 use Rattle.call_state.proofs.Common.{Pumped, Send, TicksClientBy, is_request, is_timeout, sent_if, stopped, ticked}
 use Rattle.std.proofs.Common.{option_map}
 use Rattle.fork_model.specs.Event as fork
@@ -8,8 +8,8 @@ use Rattle.call_model.specs.declared.cause.Cause.TheVariants as cause
 use Rattle.call_branch.specs.AckOwed.{ack_owed}
 use Rattle.call_model.specs.Branch.{cancel_start}
 use Rattle.call_branch.specs.BranchInside.{cancelled, without_ack}
-use Rattle.call_model.specs.Pump.{GivesUp, OnBranch, SendsAck, SendsCancel, TicksCancel, TicksClient}
-use Rattle.call_state.proofs.Changing.{changed_part}
+use Rattle.call_model.specs.Pump.{GivesUp, OnBranch, SendsAck, SendsCancel, TicksCancel, TicksClient, cancel_bytes, cancel_started}
+use Rattle.call_state.proofs.Changing.{changed_part, posts_part, still_there}
 
 pub same_branch : (o : Option Branch) (a b : Branch) → o ≡ Some a → o ≡ Some b → a ≡ b
 same_branch o a b e f = let h : Some a ≡ Some b = sym e ∙ f in cc
@@ -26,17 +26,17 @@ module _ (call new : Call) (n now : ℕ) (destination : Destination) (branch : B
   pub cancel_sent : (to : Hop) (bytes sent : List ℕ) (cancelling : CancelTransaction)
       → to ≡ destination.hop
       → bytes ≡ sent
-      → sent ≡ spelling (cancel_to call.opened destination n)
-      → cancelling ≡ cancel_start now sent
+      → sent ≡ cancel_bytes call n destination
+      → cancelling ≡ cancel_start now sent (reliability_of to.transport)
       → new ≡ record call { branches = changed_branch (cancelled cancelling) call.branches n }
       → OnBranch call n (λ w l. SendsCancel call now n w l (Send (record { to = to; bytes = bytes; cause = cause.Cancel n })) new)
   cancel_sent to bytes sent cancelling to_is same spelled starts changed =
-      let text = spelling (cancel_to call.opened destination n) in
-      let begins : cancelling ≡ cancel_start now text = starts ∙ ap (cancel_start now) spelled in
+      let text = cancel_bytes call n destination in
+      let begins : cancelling ≡ cancel_started call now n destination = starts ∙ (rw (spelled, to_is) refl) in
       let all : bytes ≡ text = same ∙ spelled in
       let out : Send (record { to = to; bytes = bytes; cause = cause.Cancel n }) ≡ Send (record { to = destination.hop; bytes = text; cause = cause.Cancel n }) =
       rw (to_is, all) refl in
-      let follows : new ≡ set_branch call n (cancelled (cancel_start now text) branch) =
+      let follows : new ≡ set_branch call n (cancelled (cancel_started call now n destination) branch) =
       changed ∙ changed_part (cancelled cancelling) call n branch there ∙ ap (λ (c : CancelTransaction). set_branch call n (cancelled c branch)) begins in
       (destination, branch, goes, there, (out, follows))
 
@@ -130,5 +130,10 @@ module _ (call new : Call) (n now : ℕ) (branch : Branch) (there : nth_branch c
       → OnPart call n (λ l. FiresTimerC call now n l (row_passes is_trying call n) Did new)
   timer_c_ends e ended = let p = posts_stopped (fork.TimerC n) ended in fires true e (refl, p.0, p.1)
 
-  pub timer_c_cancels : row_passes is_trying call n ≡ false → PostsBare call (fork.TimerC n) new → OnPart call n (λ l. FiresTimerC call now n l (row_passes is_trying call n) Did new)
-  timer_c_cancels e posts = fires false e (refl, posts.0, posts.1)
+  pub timer_c_cancels : (mid : Call) → row_passes is_trying call n ≡ false → PostsBare call (fork.TimerC n) mid → new ≡ record mid { branches = changed_branch (kept None None) mid.branches n }
+      → OnPart call n (λ l. FiresTimerC call now n l (row_passes is_trying call n) Did new)
+  timer_c_cancels mid e (reply, posts) changed =
+      let later : nth_branch mid n ≡ Some branch = still_there call mid (fork.TimerC n) [] None reply posts n branch there in
+      let set : new ≡ set_branch mid n (without_timer_c branch) = changed ∙ changed_part (kept None None) mid n branch later in
+      let P : Call → Type 0 = λ x. Posts (set_branch call n (without_timer_c branch)) (fork.TimerC n) [] None reply x in
+      fires false e (refl, reply, subst P (sym set) (posts_part call mid (fork.TimerC n) [] None reply posts n branch (without_timer_c branch) there))

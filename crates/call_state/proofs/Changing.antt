@@ -1,6 +1,6 @@
 use Rattle.call_state.proofs.Common.{◌≡◌, ◌∙◌, ℕ, ◌<◌, ap, sym, subst, List, [], ◌++◌, map, length, Option, Some, None, slice_get, Event, Reply, added, MessageText, ContactText, ClientTransaction, Branch, Call, found, nth_branch, set_branch, with_branch}
 use Rattle.call_state.proofs.Common.{changed_branch, responded, PostsBare, Posts, call_tag, gone_on, no_branch, owed_by, owes, rows_more, OnPart}
-use Rattle.call_state.proofs.Common.{Destination, Log, OpenedRequest, Server}
+use Rattle.call_state.proofs.Common.{Closing, Destination, Log, OpenedRequest, Server, closed_by}
 use Rattle.std.proofs.Common.{get_or, slice_set}
 use Rattle.call_branch.proofs.laws.BranchLists.{changed_is, changed_none, changed_some, found_is, get_below, get_is, get_more, get_with, with_more, with_twice}
 
@@ -19,18 +19,18 @@ module _ (f : Branch → Branch) (branches : List (Option Branch)) (n : ℕ) (pl
   unchanged_at none = ap (slice_set branches n) none ∙ changed_none f branches n (here ∙ ap Some none)
 
 -- a call of these parts
-abbrev pub call_of : OpenedRequest → Log → List Destination → List (Option Branch) → Server → Call
-call_of opened log destinations branches server =
-    record { opened = opened; log = log; destinations = destinations; branches = branches; server = server }
+abbrev pub call_of : OpenedRequest → Log → Closing → List Destination → List (Option Branch) → Server → Call
+call_of opened log closing destinations branches server =
+    record { opened = opened; log = log; closing = closing; destinations = destinations; branches = branches; server = server }
 
 -- of a call it is the branches that change
-pub branches_changed : (f : Branch → Branch) (opened : OpenedRequest) (log : Log) (destinations : List Destination) (branches after : List (Option Branch)) (server : Server) (call : Call) (n : ℕ)
-    → call_of opened log destinations branches server ≡ call
+pub branches_changed : (f : Branch → Branch) (opened : OpenedRequest) (log : Log) (closing : Closing) (destinations : List Destination) (branches after : List (Option Branch)) (server : Server) (call : Call) (n : ℕ)
+    → call_of opened log closing destinations branches server ≡ call
     → after ≡ changed_branch f branches n
-    → call_of opened log destinations after server ≡ record call { branches = changed_branch f call.branches n }
-branches_changed f opened log destinations branches after server call n is e =
-    let P : Call → Type 0 = λ x. call_of opened log destinations after server ≡ record x { branches = changed_branch f x.branches n } in
-    let make : List (Option Branch) → Call = λ ls. call_of opened log destinations ls server in
+    → call_of opened log closing destinations after server ≡ record call { branches = changed_branch f call.branches n }
+branches_changed f opened log closing destinations branches after server call n is e =
+    let P : Call → Type 0 = λ x. call_of opened log closing destinations after server ≡ record x { branches = changed_branch f x.branches n } in
+    let make : List (Option Branch) → Call = λ ls. call_of opened log closing destinations ls server in
     subst P is (ap make e)
 
 -- the part of a branch changed in its place is another part of it
@@ -70,6 +70,10 @@ module _ (call mid : Call) (event : Event) (contacts : List ContactText) (respon
         reply_is = posts.reply_is;
         follows = set ∙ ap (λ (ls : List (Option Branch)). record (owes (gone_on call contacts (added call.log call_tag event reply)) (owed_by reply.up response)) { branches = ls }) moved;
       }
+
+  -- what closed the table noted after it is noted before it
+  pub posts_closed : (closing : Closing) → Posts (closed_by closing call) event contacts response reply (closed_by closing mid)
+  posts_closed closing = record { taken = posts.taken; reply_is = posts.reply_is; follows = ap (closed_by closing) posts.follows }
 
 -- the transaction of a branch goes on with an event that is posted
 pub ended_part : (call mid last : Call) (n : ℕ) (branch : Branch) (client : ClientTransaction) (event : Event)

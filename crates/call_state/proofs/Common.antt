@@ -18,15 +18,17 @@ pub use Rattle.fork_model.specs.Reply.{Reply, Up}
 pub use Rattle.fork_model.specs.Step.{next}
 pub use Rattle.fork_model.specs.Table.{Challenge, Ended, Idle, Kind, Offer, Row, Rung, State, StoredAnswer, Table, Trying, is_invite, is_open, is_row, is_trying, stored_of}
 pub use Rattle.call_model.specs.Built.{Datagram, ack_to, answer_in, cancel_to, kept_at, request_to, status_of, text_of, was_received}
-pub use Rattle.call_model.specs.Call.{Call, found, nth_branch, row_passes, rows_of, set_branch, with_branch}
+pub use Rattle.call_model.specs.Call.{Call, closed_by, found, nth_branch, row_passes, rows_of, set_branch, with_branch}
 pub use Rattle.call_model.specs.Client.{ClientTransaction, client_after, client_out}
 pub use Rattle.call_model.specs.Due.{FireTimerC, is_due_at}
 pub use Rattle.call_model.specs.Failed.{FaultsBy, FaultsClient, cancel_faulted, faulted, faulted_cancel, is_fault}
 pub use Rattle.call_model.specs.OpenedRequest.{OpenedRequest, Destination, kind_of}
 pub use Rattle.call_model.specs.Branch.{CancelTransaction, Branch, branch_start}
-pub use Rattle.call_state.specs.CallStateInside.{IsSized}
+pub use Rattle.call_model.specs.Closing.{ByCancel, Closing, NotClosed, closing_after}
+pub use Rattle.call_model.specs.Reliability.{reliability_of}
+pub use Rattle.call_state.specs.CallStateInside.{IsSized, closing_of}
 pub use Rattle.call_model.specs.Posting.{Posts, call_tag, gone_on, no_branch, owed_by, owes, rows_more, destination_of_contact, destinations_of}
-pub use Rattle.call_model.specs.Pump.{AnswersBy, AnswersWith, Did, FiresTimerC, OnPart, Pumped, Send, SendsAnswer, TicksClientBy, is_request, is_timeout, sent_if, stopped, ticked}
+pub use Rattle.call_model.specs.Pump.{AnswersBy, AnswersWith, Did, FiresTimerC, OnPart, Pumped, Send, SendsAnswer, TicksClientBy, is_request, is_timeout, sent_if, stopped, ticked, without_timer_c}
 pub use Rattle.call_model.specs.Response.{contacts_for, event_by}
 pub use Rattle.call_model.specs.SeenDatagram.{seen}
 pub use Rattle.call_model.specs.Server.{CancelOk, Owed, ServerTransaction, Server, first_owed, served_start}
@@ -38,6 +40,7 @@ pub use Rattle.call_branch.specs.AckOwed.{ack_on}
 pub use Rattle.call_branch.specs.BranchInside.{ack_made, answer_if, cancel_on, changed_branch, kept, kept_if, no_branches, responded, with_client}
 pub use Rattle.call_answers.specs.NewDestinations.{HaveDestinations, PostsSaid, destination_for}
 pub use Rattle.call_state.specs.inner.Plain.{PostsBare}
+pub use Rattle.sip_build.specs.Requests.{reason_lines}
 pub use Rattle.sip_build.specs.SeenKept.{texts}
 pub use Rattle.sip_build.specs.Upward.{is_challenge}
 pub use Rattle.sip_text.specs.Message.{is_value}

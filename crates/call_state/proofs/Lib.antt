@@ -9,5 +9,7 @@ pub mod StateRows
 pub mod Paying
 pub mod Actions
 pub mod Beginning
+pub mod Causes
 pub mod NewRows
+pub mod KeptReasons
 pub mod laws

@@ -5,12 +5,15 @@ ghost use Rattle.fork_model.specs.Log.{table_of};
 ghost use Rattle.fork_model.specs.Chosen.{IsChosen};
 ghost use Rattle.context_values.specs.ReplyView.{choice_of};
 ghost use Rattle.fork_model.specs.Choice as choice;
+ghost use Rattle.sip_text.specs.Message.{is_header};
+ghost use Rattle.sip_build.specs.declared.responses.OwnStatus.TheVariants as own;
+ghost use Rattle.sip_build.specs.Further.{view_if_any};
 ghost use Rattle.sip_build.specs.SeenKept.{seen_kept, texts};
 ghost use Rattle.sip_build.specs.Upward.{AreKept, is_challenge, upward_of};
 ghost use Rattle.sip_via.specs.TopVia.{has_second, via_values};
 ghost use Rattle.call_state.specs.inner.AnswersInside.{IsPaid, IsPaidOk, IsText};
 ghost use Rattle.call_model.specs.Behind.{KeepsAnswers};
-ghost use Rattle.call_model.specs.Built.{final_of, generated, text_of};
+ghost use Rattle.call_model.specs.Built.{final_of, further_lines, generated, text_of};
 ghost use Rattle.call_model.specs.Due.{SendAnswer};
 ghost use Rattle.call_model.specs.Pump.{Does};
 ghost use Rattle.call_model.specs.SeenStep.{pumped};
@@ -22,7 +25,7 @@ use call_answers::PendingResponse;
 use call_branch::{OpenedRequest, status_of};
 use call_model::{Cause, Datagram, Step};
 use fork_context::{Challenge, Choice, Offer};
-use sip_build::{OwnStatus, write_generated, write_upward};
+use sip_build::{FurtherLine, OwnStatus, first_timestamp, write_generated, write_upward};
 use sip_text::Message;
 use sip_uri::Hop;
 use sip_via::BuildFault;
@@ -36,17 +39,46 @@ pub(crate) enum BuiltResponse<A: Allocator> {
     Answer(u16, Vec<u8, A>),
 }
 
-/// The proxy's own answer of this status.
+/// The proxy's own answer of this status, which takes no further lines.
 fn own_answer<A: Allocator>(
     alloc: A,
     opened: &OpenedRequest<A>,
     status: OwnStatus,
 ) -> Result<BuiltResponse<A>, AllocError>
+    requires plain { further_lines opened.now status ≡ [] }
     ensures { IfOk result (IsText (generated opened.now status)) }
 {
     let mut text = Vec::new(alloc);
-    write_generated(opened.request(), status, &mut text)?;
+    write_generated(opened.request(), status, &[], &mut text)?;
     Ok(BuiltResponse::Answer(status.code(), text))
+}
+
+/// The Timestamp line of the request, where the 100 takes it.
+fn stamp_of<A: Allocator>(opened: &OpenedRequest<A>) -> Option<FurtherLine<'_>>
+    ensures exact { view_if_any result ≡ further_lines opened.now own.Trying }
+    ensures good { list_all is_header (further_lines opened.now own.Trying) ≡ true }
+{
+    if opened.stamps() {
+        first_timestamp(opened.request())
+    } else {
+        None
+    }
+}
+
+/// The 100, with the Timestamp line of the request where it takes that (RFC 3261 section 8.2.6.1).
+fn trying_answer<A: Allocator>(
+    alloc: A,
+    opened: &OpenedRequest<A>,
+) -> Result<BuiltResponse<A>, AllocError>
+    ensures { IfOk result (IsText (generated opened.now own.Trying)) }
+{
+    let mut text = Vec::new(alloc);
+    let request = opened.request();
+    match stamp_of(opened) {
+        Some(stamp) => write_generated(request, OwnStatus::Trying, &[stamp], &mut text)?,
+        None => write_generated(request, OwnStatus::Trying, &[], &mut text)?,
+    }
+    Ok(BuiltResponse::Answer(OwnStatus::Trying.code(), text))
 }
 
 /// A response as it goes up.
@@ -90,7 +122,7 @@ fn cancel_ok<A: Allocator>(
     ensures { IfOk result (IsPaidOk cancel.now to) }
 {
     let mut bytes = Vec::new(alloc);
-    write_generated(cancel, OwnStatus::Okay, &mut bytes)?;
+    write_generated(cancel, OwnStatus::Okay, &[], &mut bytes)?;
     Ok(BuiltResponse::Sent(Datagram {
         to,
         bytes,
@@ -167,11 +199,7 @@ impl<A: Allocator + Clone> CallState<A> {
             unreachable!()
         };
         match first {
-            PendingResponse::Trying => own_answer(
-                self.allocator()?,
-                self.opened(),
-                OwnStatus::Trying,
-            ),
+            PendingResponse::Trying => trying_answer(self.allocator()?, self.opened()),
             PendingResponse::Passed(response) => passed_answer(self.allocator()?, response),
             PendingResponse::Final(choice) => self.final_answer(choice),
             PendingResponse::Again => Ok(BuiltResponse::Sent(self.last_again()?)),

@@ -16,7 +16,8 @@ use std::alloc::Allocator;
 impl<A: Allocator + Clone> CallState<A> {
     /// Takes a response to branch n: its client transaction absorbs it, or hands it up, and it is posted (RFC 3261
     /// sections 16.7 and 17.1). A failure is kept where no stored answer ranks before it, for it may go up later, and an
-    /// ACK is owed where the transaction says so; a provisional response sets timer C again. Where the proxy is
+    /// ACK is owed where the transaction says so; a provisional response sets timer C again, unless the branch has a shorter
+    /// longest time; a 2xx or a 6xx that closes the table is what the CANCELs of the others tell. Where the proxy is
     /// responsible for the Request-URI of the call, contacts of a 3xx may become further targets, whose requests are then
     /// to be sent (section 16.5); the challenges of a 401 or a 407 are stored with it.
     ///
@@ -39,10 +40,11 @@ impl<A: Allocator + Clone> CallState<A> {
         ensures full { IsErrOf result PostFault.Full → RespondsOn self.old n now message take.Full self.new }
         ensures err { OnErr result (self.new ≡ self.old) }
     {
+        let destination = self.destination(n);
         let branch = self.part(n);
         let (client, out) = branch.fed(response_event(status), now);
-        let timer_c_at = branch.timer_c_again(status, now);
-        let ack = self.ack_if(self.destination(n), n, out.send, &message)?;
+        let timer_c_at = branch.timer_c_again(status, destination.longest(), now);
+        let ack = self.ack_if(destination, n, out.send, &message)?;
         if !is_passed(out.pass) {
             self.respond_part(n, client, ack);
             return Ok(Taken::Absorbed);
@@ -58,6 +60,7 @@ impl<A: Allocator + Clone> CallState<A> {
         self.respond_part(n, client, ack);
         let first = self.book().context().is_first(n);
         self.keep_part(n, timer_c_at, kept_if(first, failure));
+        self.note_closing(status);
         Ok(Taken::Posted(at))
     }
 }

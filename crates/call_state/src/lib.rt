@@ -1,5 +1,5 @@
-//! The state of a call: what it was opened with, its response context with the log of events, each branch whose request
-//! was sent, with its client transactions, and the side of its caller, with the server transaction and the answers that
+//! The state of a call: what it was opened with, its response context with the log of events, what closed that, each branch
+//! whose request was sent, with its client transactions, and the side of its caller, with the server transaction and the answers that
 //! are owed (RFC 3261 sections 16 and 17).
 //!
 //! Each public call that changes the state makes one change: a branch is sent its request, its ACK or its CANCEL, one of its
@@ -9,11 +9,14 @@
 
 mod answers;
 mod branch;
+mod closing;
 mod failed;
 mod fault;
 mod look;
+mod reasons;
 mod state;
 mod states;
+mod timers;
 
 pub use fault::PostFault;
 pub use look::BranchView;

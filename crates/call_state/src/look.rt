@@ -79,7 +79,7 @@ fn cancel_at<A: Allocator>(branch: Option<&Branch<A>>) -> Option<u64>
 }
 
 /// When timer C of a branch fires, where it runs.
-fn timer_c_at<A: Allocator>(branch: Option<&Branch<A>>) -> Option<u64>
+pub(crate) fn timer_c_at<A: Allocator>(branch: Option<&Branch<A>>) -> Option<u64>
     ensures { result ≡ timer_c_at (option_copied branch.entry) }
 {
     branch?.timer_c_at()

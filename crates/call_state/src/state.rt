@@ -1,5 +1,5 @@
 //! The state of a call.
-ghost use Rattle.std.specs.Prelude.{◌≡◌, ◌<◌, ◌≤◌, [], true, length, drop, map, slice_get, List, None, Some, IfOk, OnOk, OnErr, IsErrOf};
+ghost use Rattle.std.specs.Prelude.{◌≡◌, ◌<◌, ◌&&◌, ◌≤◌, [], true, length, drop, map, slice_get, is_some, List, None, Some, IfOk, OnOk, OnErr, IsErrOf};
 ghost use Rattle.std.specs.Option.{option_copied, option_map};
 ghost use Rattle.fork_model.specs.Core.{is_full};
 ghost use Rattle.fork_model.specs.Event as event;
@@ -13,38 +13,42 @@ ghost use Rattle.fork_model.specs.Log.{core_of, table_of};
 ghost use Rattle.sip_text.specs.Text.{MessageText, spelling};
 ghost use Rattle.sip_uri.specs.Contact.{ContactText};
 ghost use Rattle.call_model.specs.Begun.{begun};
-ghost use Rattle.call_model.specs.Built.{ack_to, answer_in, cancel_to, status_of};
-ghost use Rattle.call_model.specs.Call.{is_cancel_sent, is_sent, nth_branch, numbered, owes_ack, row_passes, rows_of, set_branch};
+ghost use Rattle.call_model.specs.Built.{ack_to, answer_in, status_of};
+ghost use Rattle.call_model.specs.Call.{closed_by, is_cancel_sent, is_sent, nth_branch, numbered, owes_ack, row_passes, rows_of, set_branch};
+ghost use Rattle.call_model.specs.Closing.{closing_after};
 ghost use Rattle.call_branch.specs.AckOwed.{ack_owed};
-ghost use Rattle.call_model.specs.Due.{FireTimerC, is_due_at};
+ghost use Rattle.call_model.specs.Due.{timer_c_at};
 ghost use Rattle.call_model.specs.OpenedRequest as opened;
 ghost use Rattle.call_branch.specs.BranchInside.{ack_made, cancel_on, cancelled, changed_branch, kept, no_branches, responded, without_ack};
 ghost use Rattle.call_state.specs.CallStateInside.{IsSized};
-ghost use Rattle.call_state.specs.inner.CallStateInside.{IsCancelAgain, IsRequestAgain, answer_to};
+ghost use Rattle.call_state.specs.inner.CallStateInside.{answer_to};
 ghost use Rattle.call_state.specs.inner.Plain.{PostsBare};
 ghost use Rattle.call_model.specs.Pump as pump;
-ghost use Rattle.call_model.specs.Pump.{AnswersWith, FiresTimerC, GivesUp, OnBranch, OnPart, SendsAck, SendsCancel, SendsRequest, TicksCancel, TicksClient, TicksServer};
+ghost use Rattle.call_model.specs.Pump.{AnswersWith, OnBranch, OnPart, SendsAck, SendsCancel, SendsRequest, TicksServer, cancel_bytes};
 ghost use Rattle.call_answers.specs.NewDestinations.{GivesDestinations, PostsSaid};
 ghost use Rattle.call_model.specs.Posting.{destination_of_contact};
 ghost use Rattle.call_model.specs.Response.{contacts_for, event_by};
 ghost use Rattle.call_model.specs.SeenDatagram.{seen};
 ghost use Rattle.call_model.specs.SeenStep.{pumped};
 ghost use Rattle.call_model.specs.SeenTaken.{seen_taken};
+ghost use Rattle.sip_build.specs.Requests.{reason_lines};
 ghost use Rattle.call_model.specs.Server as server;
 ghost use Rattle.call_model.specs.Take as take;
 ghost use Rattle.call_model.specs.Take.{CancelledBy, cancels, requested_again, served_on};
 ghost use Rattle.call_model.specs.Sound.{IsSound};
 ghost use Rattle.call_state.specs.inner.StatesShown.{state_shown};
 
+use crate::closing::Closing;
 use crate::fault::PostFault;
+use crate::look::timer_c_at;
+use crate::reasons::ReasonLines;
 use call_answers::{
     NewAnswer, PendingResponses, Queue, ResponseEvent, add_rows, again_if, count_of, first_owed,
     owed_by,
 };
 use call_branch::{
     Branch, CancelTransaction, ClientTransaction, Destination, OpenedRequest, ServerTransaction,
-    answer_event, branch_in, destination_at, is_request, is_response, is_timeout, no_branches,
-    put_branch, response_event,
+    answer_event, branch_in, destination_at, is_response, no_branches, put_branch, response_event,
 };
 use call_model::{Cause, Datagram, Step, Taken};
 use fork_book::Book;
@@ -59,12 +63,13 @@ use std::marker::Model;
 /// A call posts its events under this tag.
 const CALL_TAG: u8 = 0;
 
-/// The state of a call: what it was opened with, its book, for each row of the table where its request goes and the
-/// branch once that request was sent, and the side of its caller.
+/// The state of a call: what it was opened with, its book and what closed the table, for each row of the table where its
+/// request goes and the branch once that request was sent, and the side of its caller.
 #[derive(Drop)]
 pub struct CallState<A: Allocator + Clone = Global> {
     opened: OpenedRequest<A>,
     book: Book<A>,
+    closing: Closing<A>,
     destinations: Vec<Destination<A>, A>,
     branches: Vec<Option<Branch<A>>, A>,
     served: ServerTransaction,
@@ -75,11 +80,11 @@ pub struct CallState<A: Allocator + Clone = Global> {
 
 impl<A: Allocator + Clone> Model for CallState<A> {
     ghost use Rattle.call_model.specs.Call as spec;
-    ghost use Rattle.call_state.specs.CallStateInside.{IsSized};
+    ghost use Rattle.call_state.specs.CallStateInside.{IsSized, closing_of};
 
     ghost Value = { spec.Call };
 
-    ghost view = { λ p. record { opened = p.opened; log = p.book; destinations = p.destinations.items; branches = p.branches.items; server = record { machine = p.served; owed = p.owed.items; last = p.last.items } } };
+    ghost view = { λ p. record { opened = p.opened; log = p.book; closing = closing_of p.closing; destinations = p.destinations.items; branches = p.branches.items; server = record { machine = p.served; owed = p.owed.items; last = p.last.items } } };
 
     ghost invariant = { λ p. IsSized p.book p.destinations.items p.branches.items };
 }
@@ -123,10 +128,11 @@ impl<A: Allocator + Clone> CallState<A> {
         let branches = no_branches(alloc.clone()?, book.context().count())?;
         let owed = first_owed(alloc.clone()?, heap, opened.kind());
         let last = Vec::new(alloc.clone()?);
-        let served = ServerTransaction::start(opened.kind(), now);
+        let served = ServerTransaction::start(opened.kind(), now, opened.caller().transport);
         Ok(CallState {
             opened,
             book,
+            closing: Closing::NotClosed,
             destinations,
             branches,
             served,
@@ -251,6 +257,13 @@ impl<A: Allocator + Clone> CallState<A> {
         }
     }
 
+    /// Notes what closed the table, where the answer with this status did that was posted last.
+    pub(crate) fn note_closing(&mut self, status: u16)
+        ensures { self.new ≡ closed_by (closing_after (table_of self.old.log).closed status self.old.closing) self.old }
+    {
+        self.closing.note(self.book.context().closed(), status);
+    }
+
     /// Notes that the CANCEL of branch n was sent.
     fn cancel_part(&mut self, n: u16, cancelling: CancelTransaction<A>)
         requires there { n < length self.old.branches }
@@ -315,7 +328,7 @@ impl<A: Allocator + Clone> CallState<A> {
         let bytes = self.opened.request_bytes(&self.alloc, destination, n)?;
         let sent = Vec::from_slice(self.alloc.clone()?, &bytes)?;
         let to = destination.hop();
-        let branch = Branch::start(self.opened.kind(), now, sent);
+        let branch = Branch::start(self.opened.kind(), now, destination, sent);
         put_branch(&mut self.branches, n, branch);
         Ok(Datagram {
             to,
@@ -324,14 +337,28 @@ impl<A: Allocator + Clone> CallState<A> {
         })
     }
 
-    /// The CANCEL of branch n as it is sent.
-    fn cancel_bytes(&self, destination: &Destination<A>, n: u16) -> Result<Vec<u8, A>, AllocError>
-        ensures { IfOk result (λ bytes. bytes.items ≡ spelling (cancel_to self.now.opened destination.now n)) }
+    /// Whether the CANCEL of branch n says why it is sent: the call does, and timer C has not fired for the branch.
+    fn says_why(&self, n: u16) -> bool
+        ensures { result ≡ (self.now.opened.reasons && is_some (timer_c_at (nth_branch self.now n))) }
     {
-        self.opened.cancel_bytes(&self.alloc, destination, n)
+        self.opened.reasons() && timer_c_at(self.branch(n)).is_some()
     }
 
-    /// Sends the CANCEL of branch n, which has a client transaction of its own (RFC 3261 section 9.1).
+    /// The CANCEL of branch n as it is sent; its Reason lines, where it has any, say what closed the table (RFC 3261 section 9.1
+    /// and RFC 3326).
+    fn cancel_bytes(&self, destination: &Destination<A>, n: u16) -> Result<Vec<u8, A>, AllocError>
+        ensures { IfOk result (λ bytes. bytes.items ≡ cancel_bytes self.now n destination.now) }
+    {
+        if self.says_why(n) {
+            self.closing
+                .cancel_bytes(&self.alloc, &self.opened, destination, n)
+        } else {
+            self.opened.cancel_bytes(&self.alloc, destination, n, &[])
+        }
+    }
+
+    /// Sends the CANCEL of branch n, which has a client transaction of its own and says what closed the table (RFC 3261 section
+    /// 9.1 and RFC 3326).
     ///
     /// # Errors
     ///
@@ -345,7 +372,7 @@ impl<A: Allocator + Clone> CallState<A> {
         let to = self.destination(n).hop();
         let sent = self.cancel_bytes(self.destination(n), n)?;
         let bytes = Vec::from_slice(self.alloc.clone()?, &sent)?;
-        self.cancel_part(n, CancelTransaction::start(now, sent));
+        self.cancel_part(n, CancelTransaction::start(now, sent, to.transport));
         Ok(Datagram {
             to,
             bytes,
@@ -370,131 +397,11 @@ impl<A: Allocator + Clone> CallState<A> {
         }
     }
 
-    // ---- timers of a branch
-
-    /// The request of branch n as it was sent, again.
-    fn request_again(&self, n: u16) -> Result<Datagram<A>, AllocError>
-        requires there { is_sent self.now n ≡ true }
-        ensures { IfOk result (λ d. OnBranch self.now n (λ destination branch. IsRequestAgain n destination branch (seen d))) }
-    {
-        let sent = self.part(n).sent();
-        Ok(Datagram {
-            to: self.destination(n).hop(),
-            bytes: Vec::from_slice(self.alloc.clone()?, sent)?,
-            cause: Cause::Request(n),
-        })
-    }
-
-    /// A tick of the client transaction of branch n: timers A and E send its request again, timers B and F end the
-    /// branch, the others end the transaction (RFC 3261 section 17.1).
-    ///
-    /// # Errors
-    ///
-    /// Only where the allocator refuses; then the state is as it was.
-    pub fn tick_client(&mut self, n: u16, now: u64) -> Result<Step<A>, AllocError>
-        requires there { is_sent self.old n ≡ true }
-        requires sound { IsSound self.old }
-        ensures ok { IfOk result (λ step. OnBranch self.old n (λ destination branch. TicksClient self.old now n destination branch (pumped step) self.new)) }
-        ensures err { OnErr result (self.new ≡ self.old) }
-    {
-        let _destination = self.destination(n);
-        let (client, out) = self.part(n).fed(TxEvent::Tick, now);
-        if is_timeout(out.pass) {
-            self.end_part(n, client, Event::Timeout(n))?;
-            return Ok(Step::Did);
-        }
-        if !is_request(out.send) {
-            self.respond_part(n, client, None);
-            return Ok(Step::Did);
-        }
-        let datagram = self.request_again(n)?;
-        self.respond_part(n, client, None);
-        Ok(Step::Send(datagram))
-    }
-
-    /// The CANCEL of branch n as it was sent, again.
-    fn cancel_again(&self, n: u16) -> Result<Datagram<A>, AllocError>
-        requires there { is_cancel_sent self.now n ≡ true }
-        ensures { IfOk result (λ d. OnBranch self.now n (λ destination branch. IsCancelAgain n destination branch (seen d))) }
-    {
-        let Some(cancelling) = self.part(n).cancelling() else {
-            unreachable!()
-        };
-        Ok(Datagram {
-            to: self.destination(n).hop(),
-            bytes: Vec::from_slice(self.alloc.clone()?, cancelling.sent())?,
-            cause: Cause::Cancel(n),
-        })
-    }
-
-    /// A tick of the client transaction of branch n's CANCEL, which sends the CANCEL again or ends; what it passes is
-    /// not posted (RFC 3261 sections 9.1 and 17.1.2).
-    ///
-    /// # Errors
-    ///
-    /// Only where the allocator refuses; then the state is as it was.
-    pub fn tick_cancel(&mut self, n: u16, now: u64) -> Result<Step<A>, AllocError>
-        requires there { is_cancel_sent self.old n ≡ true }
-        ensures ok { IfOk result (λ step. OnBranch self.old n (λ destination branch. TicksCancel self.old now n destination branch (pumped step) self.new)) }
-        ensures err { OnErr result (self.new ≡ self.old) }
-    {
-        let _destination = self.destination(n);
-        let Some(cancelling) = self.part(n).cancelling() else {
-            unreachable!()
-        };
-        let (client, out) = cancelling.fed(TxEvent::Tick, now);
-        if !is_request(out.send) {
-            self.cancel_on_part(n, client);
-            return Ok(Step::Did);
-        }
-        let datagram = self.cancel_again(n)?;
-        self.cancel_on_part(n, client);
-        Ok(Step::Send(datagram))
-    }
-
-    /// Timer C of branch n fires: a branch that has not rung ends, and its transaction is stopped; one that has rung is
-    /// cancelled (RFC 3261 section 16.8).
-    ///
-    /// # Errors
-    ///
-    /// Only where the allocator refuses; then the state is as it was.
-    pub fn fire_timer_c(&mut self, n: u16, now: u64) -> Result<(), AllocError>
-        requires due { is_due_at self.old now (FireTimerC n) ≡ true }
-        requires sound { IsSound self.old }
-        ensures ok { OnOk result (OnPart self.old n (λ branch. FiresTimerC self.old now n branch (row_passes table.is_trying self.old n) pump.Did self.new)) }
-        ensures err { OnErr result (self.new ≡ self.old) }
-    {
-        let (client, _out) = self.part(n).fed(TxEvent::Stop, now);
-        if !self.is_trying(n) {
-            self.post_bare(Event::TimerC(n))?;
-            return Ok(());
-        }
-        self.end_part(n, client, Event::TimerC(n))?;
-        Ok(())
-    }
-
-    /// Gives up branch n, which was cancelled and whose final response has not come: it ends, and its transaction is
-    /// stopped (RFC 3261 section 9.1).
-    ///
-    /// # Errors
-    ///
-    /// Only where the allocator refuses; then the state is as it was.
-    pub fn give_up(&mut self, n: u16, now: u64) -> Result<(), AllocError>
-        requires there { is_sent self.old n ≡ true }
-        requires cancelled { row_passes table.is_cancelled self.old n ≡ true }
-        ensures ok { OnOk result (OnPart self.old n (λ branch. GivesUp self.old now n branch pump.Did self.new)) }
-        ensures err { OnErr result (self.new ≡ self.old) }
-    {
-        let (client, _out) = self.part(n).fed(TxEvent::Stop, now);
-        self.end_part(n, client, Event::GiveUp(n))?;
-        Ok(())
-    }
-
     // ---- posting
 
     /// Posts an event that changes the table and adds no row, and that is no response of a branch; what goes up is owed to
     /// the caller.
-    fn post_bare(&mut self, event: Event<A>) -> Result<(), AllocError>
+    pub(crate) fn post_bare(&mut self, event: Event<A>) -> Result<(), AllocError>
         requires plain { offers_of (event_of event) ≡ [] }
         requires fits { fits (table_of self.old.log) (event_of event) ≡ true }
         ensures ok { OnOk result (PostsBare self.old (event_of event) self.new) }
@@ -547,8 +454,8 @@ impl<A: Allocator + Clone> CallState<A> {
     ) -> Result<ResponseEvent<A>, AllocError>
         requires least { 100 ≤ status }
         requires most { status ≤ 699 }
-        ensures event { IfOk result (λ new_event. event_of new_event.event ≡ event_by self.now.opened.is_responsible n status message.now) }
-        ensures destinations { IfOk result (λ new_event. new_event.destinations.items ≡ map (destination_of_contact self.now.opened) (contacts_for self.now.opened.is_responsible status message.now)) }
+        ensures event { IfOk result (λ new_event. event_of new_event.event ≡ event_by self.now.opened.tried n status message.now) }
+        ensures destinations { IfOk result (λ new_event. new_event.destinations.items ≡ map (destination_of_contact self.now.opened) (contacts_for self.now.opened.tried status message.now)) }
         ensures gives { IfOk result (λ new_event. GivesDestinations (event_of new_event.event) new_event.destinations.items) }
     {
         ResponseEvent::of(&self.alloc, &self.opened, n, status, message)
@@ -665,6 +572,38 @@ impl<A: Allocator + Clone> CallState<A> {
         self.opened.is_invite() && !self.book.context().closed()
     }
 
+    /// The Reason lines of the caller's CANCEL, in the memory of the call (RFC 3326).
+    fn reasons_in(&self, cancel: &Message<A>) -> Result<ReasonLines<A>, AllocError>
+        ensures { IfOk result (λ reasons. reasons ≡ reason_lines cancel.now) }
+    {
+        ReasonLines::of(&self.alloc, cancel)
+    }
+
+    /// Posts the caller's CANCEL, which closes the table; a 200 to it is owed (RFC 3261 sections 9.2 and 16.10).
+    fn post_cancel(&mut self, cancel: Message<A>, to: Hop) -> Result<Taken, AllocError>
+        requires sound { IsSound self.old }
+        requires cancels { cancels self.old ≡ true }
+        ensures ok { IfOk result (λ taken. CancelledBy self.old cancel to (seen_taken taken) self.new) }
+        ensures err { OnErr result (self.new ≡ self.old) }
+    {
+        new_rows_are_contacts();
+        open_branches_take_events();
+        let reasons = self.reasons_in(&cancel)?;
+        if self.owed.reserve(2, 1).is_err() {
+            return Err(AllocError);
+        }
+        let at = match self.book.post(CALL_TAG, Event::Cancel) {
+            Ok(at) => at,
+            Err(PostError::NoMemory(_)) => return Err(AllocError),
+            Err(PostError::Full(_)) => unreachable!(),
+        };
+        let up = up_at(&self.book, at);
+        self.closing = Closing::ByCancel(reasons);
+        self.owed.owe(NewAnswer::CancelOk(cancel, to));
+        self.owed.owe_if(owed_by(up, None));
+        Ok(Taken::Posted(at))
+    }
+
     /// Takes the caller's CANCEL as it was marked with its source, and where it is answered: a 200 to the CANCEL is owed,
     /// and it is posted where the call is an INVITE whose table is not closed (RFC 3261 sections 9.2 and 16.10).
     ///
@@ -676,25 +615,14 @@ impl<A: Allocator + Clone> CallState<A> {
         ensures ok { IfOk result (λ taken. CancelledBy self.old cancel to (seen_taken taken) self.new) }
         ensures err { OnErr result (self.new ≡ self.old) }
     {
-        new_rows_are_contacts();
-        open_branches_take_events();
-        if self.owed.reserve(2, 1).is_err() {
+        if self.cancels() {
+            return self.post_cancel(cancel, to);
+        }
+        if self.owed.reserve(1, 1).is_err() {
             return Err(AllocError);
         }
-        let okay = NewAnswer::CancelOk(cancel, to);
-        if !self.cancels() {
-            self.owed.owe(okay);
-            return Ok(Taken::Absorbed);
-        }
-        let at = match self.book.post(CALL_TAG, Event::Cancel) {
-            Ok(at) => at,
-            Err(PostError::NoMemory(_)) => return Err(AllocError),
-            Err(PostError::Full(_)) => unreachable!(),
-        };
-        let up = up_at(&self.book, at);
-        self.owed.owe(okay);
-        self.owed.owe_if(owed_by(up, None));
-        Ok(Taken::Posted(at))
+        self.owed.owe(NewAnswer::CancelOk(cancel, to));
+        Ok(Taken::Absorbed)
     }
 
     // ---- to the caller

@@ -12,7 +12,7 @@ use call_branch::status_of;
 use call_model::{Cause, Datagram, Step, Taken, branches_keep_their_answers, calls_stay_sound};
 use call_state::CallState;
 use sip_text::Message;
-use sip_uri::Hop;
+use sip_uri::{Hop, Transport};
 use sip_via::has_second_via;
 use std::alloc::Global;
 
@@ -23,12 +23,14 @@ const TO_TAGGED: &[u8] = b"t: <sip:bob@example.com>;tag=9";
 const THIRD: Hop = Hop {
     addr: [192, 0, 2, 6],
     port: 5060,
+    transport: Transport::Udp,
 };
 
 /// Where that to the second goes.
 const FOURTH: Hop = Hop {
     addr: [192, 0, 2, 7],
     port: 5070,
+    transport: Transport::Udp,
 };
 
 /// A 302 of the first branch with two contacts that may be tried, behind one that may not.

@@ -3,13 +3,14 @@ use crate::holds::holds;
 use crate::requests::{Change, SETUP, SOURCE, message_of, request_with, setup_of};
 use call_routing::is_openable;
 use fork_call::{Call, Carried, Datagram, Port, Setup, carry};
-use sip_uri::Hop;
+use sip_uri::{Hop, Transport};
 use std::alloc::{Allocator, Global};
 
 /// Where the request of the one branch goes.
 const TARGET: Hop = Hop {
     addr: [192, 0, 2, 4],
     port: 5060,
+    transport: Transport::Udp,
 };
 
 /// The request as it is, and as an INVITE.

@@ -1,11 +1,13 @@
-//! Which URI a request names, and by which hop it goes there (RFC 3261 sections 16.5 and 16.6 steps 6 and 7).
+//! Which URI a request names, by which hop it goes there, and how long it rings there at most (RFC 3261 sections 16.5 and
+//! 16.6 steps 6, 7 and 11).
 use crate::holds::holds;
-use crate::requests::request_with;
+use crate::requests::{SETUP, request_with, setup_of};
 use call_routing::{admitted_target, read_target};
-use proxy_routing::hop_by;
+use proxy_config::Setup;
+use proxy_routing::{candidates, hop_by, hop_if_any};
 use sip_route::FirstRoute;
 use sip_text::Message;
-use sip_uri::{Hop, SipUri};
+use sip_uri::{Hop, SipUri, Transport};
 use std::alloc::Global;
 
 // ---- the URI
@@ -98,19 +100,30 @@ fn a_uri_that_cannot_be_read_is_no_target(rt: HostRuntime) {
 const BY_ROUTE: Hop = Hop {
     addr: [192, 0, 2, 8],
     port: 5062,
+    transport: Transport::Udp,
 };
 
 /// A hop that a URI leads to.
 const BY_URI: Hop = Hop {
     addr: [192, 0, 2, 4],
     port: 5060,
+    transport: Transport::Udp,
 };
 
-/// Where the first Route value leads, the URI of a target, and the hop that its request goes by.
-const HOPS: [(FirstRoute, &[u8], Option<Hop>); 7] = [
+/// The same over TCP.
+const OVER_TCP: Hop = Hop {
+    addr: [192, 0, 2, 4],
+    port: 5060,
+    transport: Transport::Tcp,
+};
+
+/// Where the first Route value leads, the URI of a target, and the hop that its request goes by, where the proxy has no
+/// streams.
+const HOPS: [(FirstRoute, &[u8], Option<Hop>); 8] = [
     (FirstRoute::Absent, b"sip:bob@192.0.2.4", Some(BY_URI)),
     (FirstRoute::Absent, b"sip:bob@example.com", None),
     (FirstRoute::Absent, b"sip:bob@192.0.2.4;transport=tcp", None),
+    (FirstRoute::To(OVER_TCP), b"sip:bob@192.0.2.4", None),
     (FirstRoute::NoHop, b"sip:bob@192.0.2.4", None),
     (
         FirstRoute::To(BY_ROUTE),
@@ -129,10 +142,27 @@ const HOPS: [(FirstRoute, &[u8], Option<Hop>); 7] = [
     ),
 ];
 
+/// The same where it has streams.
+const STREAMED: [(FirstRoute, &[u8], Option<Hop>); 5] = [
+    (FirstRoute::Absent, b"sip:bob@192.0.2.4", Some(BY_URI)),
+    (
+        FirstRoute::Absent,
+        b"sip:bob@192.0.2.4;transport=tcp",
+        Some(OVER_TCP),
+    ),
+    (FirstRoute::Absent, b"sip:bob@192.0.2.4;transport=tls", None),
+    (FirstRoute::NoHop, b"sip:bob@192.0.2.4;transport=tcp", None),
+    (
+        FirstRoute::To(OVER_TCP),
+        b"sip:bob@192.0.2.7",
+        Some(OVER_TCP),
+    ),
+];
+
 /// Whether a request to the URI of this text goes by that hop.
-fn goes_by(alloc: Global, route: FirstRoute, text: &[u8], hop: Option<Hop>) -> bool {
+fn goes_by(alloc: Global, streams: bool, route: FirstRoute, text: &[u8], hop: Option<Hop>) -> bool {
     match SipUri::read(alloc, text) {
-        Ok(uri) => hop_by(route, &uri) == hop,
+        Ok(uri) => hop_by(streams, route, &uri) == hop,
         Err(_) => false,
     }
 }
@@ -142,8 +172,69 @@ fn a_route_value_goes_before_the_uri(rt: HostRuntime) {
     for (route, text, hop) in HOPS {
         holds(
             &rt,
-            goes_by(rt.alloc(), route, text, hop),
+            goes_by(rt.alloc(), false, route, text, hop),
             "the hop that a request goes by",
         );
     }
+    for (route, text, hop) in STREAMED {
+        holds(
+            &rt,
+            goes_by(rt.alloc(), true, route, text, hop),
+            "the hop that it goes by where there are streams",
+        );
+    }
+}
+
+#[test]
+fn a_route_over_tcp_leads_nowhere_without_streams(rt: HostRuntime) {
+    let route = FirstRoute::To(OVER_TCP);
+    holds(&rt, hop_if_any(false, route).is_none(), "without streams");
+    let hop = hop_if_any(true, route);
+    holds(&rt, hop == Some(OVER_TCP), "with streams");
+}
+
+// ---- how long it rings
+
+/// The longest time of the one target of a request to a URI.
+fn longest_to(
+    alloc: Global,
+    setup: &Setup<Global>,
+    inside: bool,
+    uri: &SipUri<Global>,
+) -> Option<u64> {
+    match candidates(alloc, setup, inside, FirstRoute::Absent, uri) {
+        Ok(found) => match found.as_slice() {
+            [candidate] => Some(candidate.longest()),
+            _ => None,
+        },
+        Err(_) => None,
+    }
+}
+
+/// The same of a request to the URI of this text, inside the domain or not.
+fn longest_of(alloc: Global, setup: &Setup<Global>, inside: bool, text: &[u8]) -> Option<u64> {
+    match SipUri::read(alloc, text) {
+        Ok(uri) => longest_to(alloc, setup, inside, &uri),
+        Err(_) => None,
+    }
+}
+
+/// Whether both a location and a URI that is none ring so long at most.
+fn ring(alloc: Global, setup: &Setup<Global>, longest: u64) -> bool {
+    longest_of(alloc, setup, true, b"sip:bob@example.com") == Some(longest)
+        && longest_of(alloc, setup, false, b"sip:eve@192.0.2.7") == Some(longest)
+}
+
+/// Whether they do as the setup is read, and as it is said.
+fn ring_as_said(alloc: Global) -> bool {
+    match setup_of(alloc, SETUP) {
+        Some(setup) => ring(alloc, &setup, 181_000) && ring(alloc, &setup.ringing(15_000), 15_000),
+        None => false,
+    }
+}
+
+#[test]
+fn a_target_rings_as_long_as_is_said(rt: HostRuntime) {
+    let well = ring_as_said(rt.alloc());
+    holds(&rt, well, "how long the targets of a request ring");
 }

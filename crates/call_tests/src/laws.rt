@@ -1,8 +1,13 @@
 //! The laws of calls can be called: they are the contracts of functions with nothing to run.
-use call_model::{
-    branches_keep_their_answers, branches_keep_what_they_send, own_events_are_taken,
-    repeats_are_the_same,
+use call_laws::{
+    calls_pay_in_order, calls_send_right, each_datagram_is_right, one_final_answer_goes_up,
+    what_is_sent_is_right,
 };
+use call_model::{
+    branches_keep_their_answers, branches_keep_what_they_send, calls_know_what_closed_them,
+    calls_stay_sound, own_events_are_taken, parts_go_on, repeats_are_the_same, shorter_times_stay,
+};
+use call_over::calls_that_are_over_are_quiet;
 use fork_call::{calls_are_runs, each_success_goes_up};
 use proxy_routing::taking_own_routes_keeps_the_rest;
 
@@ -11,7 +16,18 @@ fn laws_can_be_called() {
     branches_keep_what_they_send();
     repeats_are_the_same();
     branches_keep_their_answers();
+    calls_stay_sound();
     own_events_are_taken();
+    calls_know_what_closed_them();
+    shorter_times_stay();
+    parts_go_on();
+    calls_send_right();
+    what_is_sent_is_right();
+    calls_pay_in_order();
+    one_final_answer_goes_up();
+    call_laws::each_success_goes_up();
+    each_datagram_is_right();
+    calls_that_are_over_are_quiet();
     calls_are_runs();
     each_success_goes_up();
     taking_own_routes_keeps_the_rest();

@@ -4,14 +4,14 @@ use crate::requests::{
     Change, OWN, REQUEST, SETUP, SOURCE, opened, opened_by, read_message, request_with, sent_to,
     setup_of, text_of,
 };
-use call_model::{Cause, Datagram};
+use call_model::{Cause, Datagram, TriedContacts};
 use call_routing::is_openable;
 use call_state::CallState;
 use fork_context::Kind;
 use proxy_config::Setup;
 use proxy_routing::{RequestRejection, is_domain, validate_request};
 use sip_text::Message;
-use sip_uri::{Hop, SipUri};
+use sip_uri::{Hop, SipUri, Transport};
 use std::alloc::Global;
 
 #[test]
@@ -207,10 +207,7 @@ fn a_request_opens_a_call(rt: HostRuntime) {
     holds(&rt, state.opened().kind() == Kind::Other, "its kind");
     holds(&rt, state.book().context().count() == 1, "one branch");
     holds(&rt, state.owed().is_empty(), "nothing is owed");
-    let to = Hop {
-        addr: [192, 0, 2, 4],
-        port: 5060,
-    };
+    let to = Hop::over_udp([192, 0, 2, 4], 5060);
     holds(
         &rt,
         sends(alloc, &mut state, to, &FORWARDED),
@@ -271,10 +268,7 @@ const WAYS: [(Change, u8, u16); 9] = [
 #[test]
 fn each_request_goes_its_way(rt: HostRuntime) {
     for (change, last, port) in WAYS {
-        let to = Hop {
-            addr: [192, 0, 2, last],
-            port,
-        };
+        let to = Hop::over_udp([192, 0, 2, last], port);
         holds(
             &rt,
             hop_with(rt.alloc(), &[change]) == Some(to),
@@ -283,29 +277,41 @@ fn each_request_goes_its_way(rt: HostRuntime) {
     }
 }
 
-/// Changes of the request, and whether the proxy is responsible for its Request-URI.
-const URIS: [(Change, bool); 6] = [
-    ((2, b"Subject: x"), true),
-    ((0, b"OPTIONS sip:bob@EXAMPLE.com SIP/2.0"), true),
-    ((0, b"OPTIONS sip:bob@192.0.2.9 SIP/2.0"), true),
-    ((7, b"Route: <sip:192.0.2.8;lr>"), true),
-    ((0, b"OPTIONS sip:bob@192.0.2.7:5061 SIP/2.0"), false),
-    ((0, b"OPTIONS sip:192.0.2.7 SIP/2.0"), false),
+/// Changes of the request, and which contacts of a 3xx its call tries, as the proxy has no streams.
+const URIS: [(Change, TriedContacts); 6] = [
+    ((2, b"Subject: x"), TriedContacts::OverUdp),
+    (
+        (0, b"OPTIONS sip:bob@EXAMPLE.com SIP/2.0"),
+        TriedContacts::OverUdp,
+    ),
+    (
+        (0, b"OPTIONS sip:bob@192.0.2.9 SIP/2.0"),
+        TriedContacts::OverUdp,
+    ),
+    ((7, b"Route: <sip:192.0.2.8;lr>"), TriedContacts::OverUdp),
+    (
+        (0, b"OPTIONS sip:bob@192.0.2.7:5061 SIP/2.0"),
+        TriedContacts::NoContacts,
+    ),
+    (
+        (0, b"OPTIONS sip:192.0.2.7 SIP/2.0"),
+        TriedContacts::NoContacts,
+    ),
 ];
 
-/// Whether the proxy is responsible for the URI of the call that the request with this change opens.
-fn is_responsible_with(alloc: Global, change: Change) -> Option<bool> {
+/// Which contacts of a 3xx the call tries that the request with this change opens.
+fn tried_with(alloc: Global, change: Change) -> Option<TriedContacts> {
     let state = call_with(alloc, &[change])?;
-    Some(state.opened().is_responsible())
+    Some(state.opened().tried())
 }
 
 #[test]
 fn the_proxy_is_responsible_for_the_domain_alone(rt: HostRuntime) {
-    for (change, well) in URIS {
+    for (change, tried) in URIS {
         holds(
             &rt,
-            is_responsible_with(rt.alloc(), change) == Some(well),
-            "whether the proxy is responsible for a URI",
+            tried_with(rt.alloc(), change) == Some(tried),
+            "which contacts are tried",
         );
     }
 }
@@ -431,18 +437,21 @@ fn the_first_fault_is_told(rt: HostRuntime) {
 const HOME: Hop = Hop {
     addr: [192, 0, 2, 9],
     port: 5060,
+    transport: Transport::Udp,
 };
 
 /// The hop of the location of bob.
 const BOBS: Hop = Hop {
     addr: [192, 0, 2, 4],
     port: 5060,
+    transport: Transport::Udp,
 };
 
 /// Another proxy.
 const BEYOND: Hop = Hop {
     addr: [192, 0, 2, 8],
     port: 5062,
+    transport: Transport::Udp,
 };
 
 /// Where the request of the first branch goes in the call that the request with this change opens for a service.

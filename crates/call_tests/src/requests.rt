@@ -5,7 +5,7 @@ use call_state::CallState;
 use proxy_config::Setup;
 use proxy_routing::RequestRejection;
 use sip_text::Message;
-use sip_uri::Hop;
+use sip_uri::{Hop, Transport};
 use sip_via::Own;
 use std::alloc::Global;
 
@@ -13,12 +13,14 @@ use std::alloc::Global;
 pub const SOURCE: Hop = Hop {
     addr: [192, 0, 2, 1],
     port: 40_000,
+    transport: Transport::Udp,
 };
 
 /// The proxy's own address.
 pub const OWN: Own = Own {
     addr: [192, 0, 2, 9],
     port: 5060,
+    transport: Transport::Udp,
 };
 
 /// What the proxy is set up with.

@@ -100,14 +100,12 @@ fn is_location(location: &Location, user: &[u8], q: u16, hop: Hop) -> bool {
         && location.is_of(user)
         && location.q() == q
         && location.uri().next_hop() == Some(hop)
+        && location.next_hop() == Some(hop)
 }
 
 /// Checks all that the lines of one setup say.
 fn check(rt: &impl Abort, setup: &Setup<Global>) {
-    let own = Own {
-        addr: [192, 0, 2, 9],
-        port: 5060,
-    };
+    let own = Own::over_udp([192, 0, 2, 9], 5060);
     holds(rt, setup.own() == own, "the own address");
     holds(rt, setup.instance() == 7, "the instance");
     holds(
@@ -116,10 +114,7 @@ fn check(rt: &impl Abort, setup: &Setup<Global>) {
         "the domain",
     );
     holds(rt, setup.rules() == Rules::usual(), "the usual rules");
-    let hop = Hop {
-        addr: [192, 0, 2, 4],
-        port: 5060,
-    };
+    let hop = Hop::over_udp([192, 0, 2, 4], 5060);
     match setup.locations() {
         [location] => holds(rt, is_location(location, b"bob", 1000, hop), "the location"),
         _ => holds(rt, false, "one location"),
@@ -575,6 +570,60 @@ fn a_setup_is_for_a_service_where_that_is_said(rt: HostRuntime) {
                 setup.for_a_service().is_for_a_service(),
                 "as it is said",
             );
+        }
+        None => holds(&rt, false, "four lines are a setup"),
+    }
+}
+
+/// How long the one location rings at most, and any other target.
+fn times_of(setup: &Setup<Global>) -> Option<(u64, u64)> {
+    match setup.locations() {
+        [location] => Some((location.longest(), setup.ring())),
+        _ => None,
+    }
+}
+
+#[test]
+fn a_setup_rings_as_long_as_is_said(rt: HostRuntime) {
+    match setup_of_lines(rt.alloc()) {
+        Some(setup) => {
+            let read = times_of(&setup);
+            holds(&rt, read == Some((181_000, 181_000)), "as it is read");
+            let said = times_of(&setup.ringing(15_000));
+            holds(&rt, said == Some((15_000, 15_000)), "as it is said");
+        }
+        None => holds(&rt, false, "four lines are a setup"),
+    }
+}
+
+/// Whether a setup adds Record-Route lines, Timestamp lines and Reason lines, and whether it has streams.
+fn switches(setup: &Setup<Global>) -> [bool; 4] {
+    [
+        setup.records(),
+        setup.stamps(),
+        setup.gives_reasons(),
+        setup.has_streams(),
+    ]
+}
+
+#[test]
+fn a_setup_does_more_where_that_is_said(rt: HostRuntime) {
+    match setup_of_lines(rt.alloc()) {
+        Some(setup) => {
+            let none = [false, false, false, false];
+            holds(&rt, switches(&setup) == none, "as it is read");
+            let setup = setup.recording();
+            let one = [true, false, false, false];
+            holds(&rt, switches(&setup) == one, "Record-Route lines");
+            let setup = setup.stamping();
+            let two = [true, true, false, false];
+            holds(&rt, switches(&setup) == two, "Timestamp lines");
+            let setup = setup.giving_reasons();
+            let three = [true, true, true, false];
+            holds(&rt, switches(&setup) == three, "Reason lines");
+            let setup = setup.with_streams();
+            let four = [true, true, true, true];
+            holds(&rt, switches(&setup) == four, "streams");
         }
         None => holds(&rt, false, "four lines are a setup"),
     }

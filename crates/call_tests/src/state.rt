@@ -7,15 +7,17 @@ ghost use Rattle.call_model.specs.Sound.{IsSound};
 
 use crate::holds::holds;
 use call_answers::PendingResponse;
-use call_branch::{Destination, OpenedRequest, is_redirection, status_of};
-use call_model::{Cause, Datagram, Step, Taken, branches_keep_their_answers, calls_stay_sound};
+use call_branch::{Destination, OpenedRequest, Opening, is_redirection, status_of};
+use call_model::{
+    Cause, Datagram, Step, Taken, TriedContacts, branches_keep_their_answers, calls_stay_sound,
+};
 use call_state::CallState;
 use fork_book::Book;
 use fork_context::{Kind, Target};
 use fork_rank::Rules;
 use sip_lex::read_number;
 use sip_text::{Message, Start};
-use sip_uri::{Hop, SipUri};
+use sip_uri::{Hop, SipUri, Transport};
 use sip_via::Own;
 use std::alloc::{AllocError, Global};
 
@@ -23,24 +25,28 @@ use std::alloc::{AllocError, Global};
 const OWN: Own = Own {
     addr: [192, 0, 2, 9],
     port: 5060,
+    transport: Transport::Udp,
 };
 
 /// Where the answers go.
 pub(crate) const CALLER: Hop = Hop {
     addr: [192, 0, 2, 1],
     port: 40_000,
+    transport: Transport::Udp,
 };
 
 /// Where the request of the first branch goes.
 pub(crate) const FIRST: Hop = Hop {
     addr: [192, 0, 2, 4],
     port: 5060,
+    transport: Transport::Udp,
 };
 
 /// Where that of the second goes.
 pub(crate) const SECOND: Hop = Hop {
     addr: [192, 0, 2, 5],
     port: 5062,
+    transport: Transport::Udp,
 };
 
 // The lines of a request that was marked with its source.
@@ -252,7 +258,19 @@ fn fixed_by(request: Message<Global>) -> Option<OpenedRequest> {
         return None;
     }
     match request.start() {
-        Start::Request { .. } => Some(OpenedRequest::new(3, OWN, 7, request, CALLER, None, true)),
+        Start::Request { .. } => Some(OpenedRequest::new(Opening {
+            number: 3,
+            own: OWN,
+            instance: 7,
+            request,
+            caller: CALLER,
+            route: None,
+            tried: TriedContacts::OverUdp,
+            record_route: None,
+            stamps: false,
+            reasons: true,
+            ring: 181_000,
+        })),
         Start::Response { .. } => None,
     }
 }
@@ -288,7 +306,9 @@ fn add_destination(
     hop: Hop,
 ) -> bool {
     match SipUri::read(alloc, uri) {
-        Ok(uri) => destinations.push(Destination::new(uri, hop)).is_ok(),
+        Ok(uri) => destinations
+            .push(Destination::new(uri, hop, 181_000))
+            .is_ok(),
         Err(_) => false,
     }
 }

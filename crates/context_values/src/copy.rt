@@ -1,10 +1,36 @@
 //! Equal values in memory of their own. Each function's only error is want of memory.
 ghost use Rattle.std.specs.Prelude.{◌≡◌, ℕ, IfOk, IsErr};
 
-use crate::event::{Answer, Event};
+use crate::event::{Answer, Event, Target};
 use crate::offer::Offer;
 use fork_rank::Challenge;
 use std::alloc::{AllocError, Allocator};
+
+impl<A: Allocator + Clone> Target<A> {
+    /// An equal target; the only error is want of memory.
+    pub fn copy(&self, alloc: &A) -> Result<Self, AllocError>
+        ensures { IfOk result (λ target. target ≡ self.now) }
+    {
+        Ok(Target {
+            key: self.key.to_vec(alloc.clone()?)?,
+            q: self.q,
+        })
+    }
+}
+
+/// Equal targets, in their order.
+pub fn copied_targets<A: Allocator + Clone>(
+    alloc: &A,
+    targets: &[Target<A>],
+) -> Result<Vec<Target<A>, A>, AllocError>
+    ensures { IfOk result (λ copies. copies.items ≡ targets.now) }
+{
+    let mut copies = Vec::new(alloc.clone()?);
+    for target in targets {
+        copies.push(target.copy(alloc)?)?;
+    }
+    Ok(copies)
+}
 
 impl<A: Allocator + Clone> Offer<A> {
     /// An equal contact; the only error is want of memory.

@@ -13,7 +13,7 @@ mod reply;
 mod row_extras;
 mod target_rows;
 
-pub use copy::{copied_challenges, copied_offers};
+pub use copy::{copied_challenges, copied_offers, copied_targets};
 pub use event::{Answer, Event, Target};
 pub use extras_table::ExtrasTable;
 pub use new_target::{NewTarget, contact_qs, extras_at};

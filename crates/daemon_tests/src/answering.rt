@@ -1,6 +1,8 @@
 //! What a service answers by itself, what it adds to requests and to a 100, and for which addresses it is the domain.
 use crate::played::{Moment, PLAIN, Served, Turn, plays};
-use crate::texts::{ASKED, BESIDE, BOB, BYE, CALLER, CONFIGURATION, INVITE, OPTIONS, Request};
+use crate::texts::{
+    ASKED, BESIDE, BOB, BYE, CALLER, CANCEL, CONFIGURATION, INVITE, OPTIONS, Request,
+};
 
 // ---- Record-Route
 
@@ -27,7 +29,7 @@ const REINVITE: Request = Request {
     ..INVITE
 };
 
-/// With Record-Route: an INVITE outside of a dialog has the line before all others, and no other request has it.
+/// With Record-Route: an INVITE outside of a dialog has the line, and no request within a dialog or of another method has it.
 const RECORDING: &[Moment] = &[
     (0, Turn::Asks(INVITE)),
     (0, Turn::Sends(CALLER, "SIP/2.0 100 ", "one")),
@@ -86,16 +88,22 @@ const STAMPED: Request = Request {
     ..INVITE
 };
 
-/// A 100 has the first Timestamp line of its request behind its other lines, and so has the 100 to a repeat; a 180 is as it came.
+/// A 100 has the first Timestamp line of its request, and so has the 100 to a repeat; a 100 to a request without one has none.
 const STAMPING: &[Moment] = &[
     (0, Turn::Asks(STAMPED)),
     (0, Turn::Sends(CALLER, "SIP/2.0 100 ", "one")),
-    (0, Turn::Has("\r\nTimestamp: 54.1\r\n\r\n")),
+    (
+        0,
+        Turn::Has("\r\nTimestamp: 54.1\r\nContent-Length: 0\r\n\r\n"),
+    ),
     (0, Turn::Lacks("Timestamp: 7")),
     (0, Turn::Sends(BOB, "INVITE ", "one")),
     (20, Turn::Asks(STAMPED)),
     (20, Turn::Sends(CALLER, "SIP/2.0 100 ", "one")),
-    (20, Turn::Has("\r\nTimestamp: 54.1\r\n\r\n")),
+    (
+        20,
+        Turn::Has("\r\nTimestamp: 54.1\r\nContent-Length: 0\r\n\r\n"),
+    ),
     (
         30,
         Turn::Asks(Request {
@@ -110,6 +118,37 @@ const STAMPING: &[Moment] = &[
 #[test]
 fn a_100_has_the_timestamp_of_its_request(rt: HostRuntime) {
     plays(&rt, rt.alloc(), PLAIN, STAMPING, "a Timestamp");
+}
+
+// ---- Reason
+
+const REASON: &str = "\r\nReason: SIP;cause=487;text=\"hung up\"\r\n";
+
+/// A CANCEL that says why.
+const REASONED: Request = Request {
+    lines: "Reason: SIP;cause=487;text=\"hung up\"\r\n",
+    ..CANCEL
+};
+
+/// The CANCEL of a branch says what the caller's has said.
+const GIVING_REASONS: &[Moment] = &[
+    (0, Turn::Asks(INVITE)),
+    (0, Turn::Sends(CALLER, "SIP/2.0 100 ", "one")),
+    (0, Turn::Sends(BOB, "INVITE ", "one")),
+    (
+        10,
+        Turn::Answers(BOB, "INVITE", "one", "SIP/2.0 180 Ringing"),
+    ),
+    (10, Turn::Sends(CALLER, "SIP/2.0 180 ", "one")),
+    (20, Turn::Asks(REASONED)),
+    (20, Turn::Sends(CALLER, "SIP/2.0 200 ", "one")),
+    (20, Turn::Sends(BOB, "CANCEL ", "one")),
+    (20, Turn::Has(REASON)),
+];
+
+#[test]
+fn a_cancel_says_why(rt: HostRuntime) {
+    plays(&rt, rt.alloc(), PLAIN, GIVING_REASONS, "a Reason");
 }
 
 // ---- OPTIONS

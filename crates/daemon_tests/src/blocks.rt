@@ -1,16 +1,15 @@
-//! What is written of a call, who is turned away while no calls are opened, and which configurations are taken.
+//! What is written of a call, and which configurations are taken.
 ghost use Rattle.std.specs.Prelude.{◌≡◌};
 
 use crate::holds::holds;
 use crate::outbox::Outbox;
 use call_table::Shelf;
-use daemon_answers::{TurnedRequests, turn_away};
 use daemon_parts::{DaemonFault, Options};
 use fork_call::{Call, Setup};
 use fork_daemon::{check_config, serve_text};
-use proxy_dispatch::{Handled, Memory, Received, handle};
+use proxy_dispatch::{Handled, Memory, Received, Unlimited, handle};
 use proxy_service::append_block;
-use sip_uri::Hop;
+use sip_uri::{Hop, Transport};
 use std::alloc::Global;
 use std::fs;
 use std::sync::Wait;
@@ -21,17 +20,10 @@ const CONFIGURATION: &[u8] =
 const REQUEST: &[u8] =
     b"OPTIONS sip:bob@example.com SIP/2.0\r\nVia: SIP/2.0/UDP 192.0.2.1;branch=z9hG4bKa\r\nMax-Forwards: 70\r\nFrom: <sip:alice@example.com>;tag=1\r\nTo: <sip:bob@example.com>\r\nCall-ID: one\r\nCSeq: 1 OPTIONS\r\nContent-Length: 0\r\n\r\n";
 
-/// The same in a dialog.
-const INSIDE: &[u8] =
-    b"OPTIONS sip:bob@example.com SIP/2.0\r\nVia: SIP/2.0/UDP 192.0.2.1;branch=z9hG4bKb\r\nMax-Forwards: 70\r\nFrom: <sip:alice@example.com>;tag=1\r\nTo: <sip:bob@example.com>;tag=2\r\nCall-ID: one\r\nCSeq: 2 OPTIONS\r\nContent-Length: 0\r\n\r\n";
-
-/// An ACK in a dialog.
-const INSIDE_ACK: &[u8] =
-    b"ACK sip:bob@example.com SIP/2.0\r\nVia: SIP/2.0/UDP 192.0.2.1;branch=z9hG4bKc\r\nMax-Forwards: 70\r\nFrom: <sip:alice@example.com>;tag=1\r\nTo: <sip:bob@example.com>;tag=2\r\nCall-ID: one\r\nCSeq: 2 ACK\r\nContent-Length: 0\r\n\r\n";
-
 const SOURCE: Hop = Hop {
     addr: [192, 0, 2, 1],
     port: 5060,
+    transport: Transport::Udp,
 };
 
 /// The second of which a block tells.
@@ -83,19 +75,8 @@ impl Scene {
             source: SOURCE,
             now: 0,
         };
-        let outbox = &mut self.outbox;
-        handle(rt, memory, &self.calls, &self.setup, received, outbox) == Ok(Handled::Opened(0))
-    }
-
-    /// Whether a text is turned away where these requests are.
-    fn turns_any_away<R: Wait>(&mut self, rt: &R, turned: TurnedRequests, text: &[u8]) -> bool {
-        let outbox = &mut self.outbox;
-        turn_away(rt, self.alloc, turned, &self.calls, text, SOURCE, outbox) == Ok(true)
-    }
-
-    /// Whether a text is turned away where those outside of dialogs are.
-    fn turns_away<R: Wait>(&mut self, rt: &R, text: &[u8]) -> bool {
-        self.turns_any_away(rt, TurnedRequests::OutsideDialogs, text)
+        let (calls, setup, outbox) = (&self.calls, &self.setup, &mut self.outbox);
+        handle(rt, memory, calls, setup, &Unlimited, received, outbox) == Ok(Handled::Opened(0))
     }
 
     /// The block of the call 0.
@@ -108,39 +89,6 @@ impl Scene {
     }
 }
 
-/// Whether the request is turned away, as long as no call has it, and with which answer.
-fn turns_away<R: Wait>(rt: &R, alloc: Global) -> &'static str {
-    let Some(mut scene) = Scene::new(alloc) else {
-        return "there is a scene";
-    };
-    if scene.turns_away(rt, b"no message") || scene.turns_away(rt, INSIDE) {
-        return "a request of a dialog is not turned away";
-    }
-    if !scene.turns_away(rt, REQUEST) {
-        return "a request that begins something new is turned away";
-    }
-    let answer = scene.outbox.bytes();
-    if !answer.starts_with(b"SIP/2.0 503 ")
-        || !answer
-            .windows(15)
-            .any(|part| part == b"Retry-After: 10".as_slice())
-    {
-        return "it is answered 503 with Retry-After";
-    }
-    if !scene.turns_any_away(rt, TurnedRequests::All, INSIDE)
-        || scene.turns_any_away(rt, TurnedRequests::All, INSIDE_ACK)
-    {
-        return "within a dialog all but an ACK is turned away where that is asked for";
-    }
-    if !scene.opens(rt)
-        || scene.turns_away(rt, REQUEST)
-        || scene.turns_any_away(rt, TurnedRequests::All, REQUEST)
-    {
-        return "the repeat of a request is not turned away";
-    }
-    "nothing"
-}
-
 /// The block of a call that is still open.
 fn block_of<R: Wait>(rt: &R, alloc: Global) -> Option<Vec<u8>> {
     let mut scene = Scene::new(alloc)?;
@@ -149,12 +97,6 @@ fn block_of<R: Wait>(rt: &R, alloc: Global) -> Option<Vec<u8>> {
     } else {
         None
     }
-}
-
-#[test]
-fn what_begins_something_new_is_turned_away(rt: HostRuntime) {
-    let missed = turns_away(&rt, rt.alloc());
-    holds(&rt, missed == "nothing", missed);
 }
 
 #[test]

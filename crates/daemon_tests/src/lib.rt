@@ -1,4 +1,4 @@
-//! Tests of the public calls of `daemon_answers`, `proxy_service` and `fork_daemon`. What a service does is played without sockets, by tables of
+//! Tests of the public calls of `proxy_service` and `fork_daemon`. What a service does is played without sockets, by tables of
 //! moments (`played`), and refused memory (`refused`); what its sockets, threads and files add, by whole proxies (`living`, `wired`, `limited`, `ordering`).
 #![tactic(auto)]
 
@@ -25,8 +25,6 @@ mod limited;
 #[cfg(test)]
 mod living;
 #[cfg(test)]
-mod options;
-#[cfg(test)]
 mod ordering;
 #[cfg(test)]
 mod outbox;
@@ -38,8 +36,6 @@ mod played;
 mod racing;
 #[cfg(test)]
 mod refused;
-#[cfg(test)]
-mod stamping;
 #[cfg(test)]
 mod telling;
 #[cfg(test)]

@@ -1,35 +1,40 @@
 //! The requests of a caller, and the answers of telephones.
 use sip_lex::cut_at;
-use sip_uri::Hop;
+use sip_uri::{Hop, Transport};
 use std::alloc::{AllocError, Global};
 
 /// Where the caller is.
 pub const CALLER: Hop = Hop {
     addr: [192, 0, 2, 1],
     port: 5060,
+    transport: Transport::Udp,
 };
 
 /// Where bob's telephone is.
 pub const BOB: Hop = Hop {
     addr: [192, 0, 2, 4],
     port: 5060,
+    transport: Transport::Udp,
 };
 
 /// Where carol's telephones are: the first is tried before the second.
 pub const CAROL: Hop = Hop {
     addr: [192, 0, 2, 5],
     port: 5060,
+    transport: Transport::Udp,
 };
 
 pub const CAROL_AFTERWARDS: Hop = Hop {
     addr: [192, 0, 2, 6],
     port: 5060,
+    transport: Transport::Udp,
 };
 
 /// A telephone at the proxy's own address.
 pub const BESIDE: Hop = Hop {
     addr: [192, 0, 2, 9],
     port: 5081,
+    transport: Transport::Udp,
 };
 
 /// What the proxy is set up with.

@@ -3,7 +3,7 @@ use crate::holds::holds;
 use crate::outbox::Outbox;
 use crate::texts::{CALL_ID, FROM, MARKED, TAGGED, VIA, lines_become_alone, text_of};
 use proxy_dispatch::Handled;
-use sip_uri::Hop;
+use sip_uri::{Hop, Transport};
 use std::alloc::Global;
 use std::sync::Wait;
 
@@ -256,6 +256,7 @@ const GONE_ON: [&[u8]; 10] = [
 const FURTHER: Hop = Hop {
     addr: [192, 0, 2, 5],
     port: 5062,
+    transport: Transport::Udp,
 };
 
 /// Whether that was sent last.

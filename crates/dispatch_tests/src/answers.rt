@@ -5,7 +5,7 @@ use crate::texts::{
     CALL_ID, Edit, FROM, MARKED, SOURCE, TAGGED, becomes_alone, lines_become_alone, text_of,
 };
 use proxy_dispatch::Handled;
-use sip_uri::Hop;
+use sip_uri::{Hop, Transport};
 use std::alloc::Global;
 use std::sync::Wait;
 
@@ -220,6 +220,7 @@ fn an_answer_goes_back_by_the_top_via_value(rt: HostRuntime) {
             to: Hop {
                 addr: [192, 0, 2, 1],
                 port: 5060,
+                transport: Transport::Udp,
             },
         },
     ];

@@ -5,7 +5,7 @@ use crate::texts::{SOURCE, memory_of, text_of};
 use call_table::Shelf;
 use fork_call::{Call, Port, Setup, carry};
 use fork_context::Event;
-use proxy_dispatch::{Handled, Received, handle};
+use proxy_dispatch::{Handled, Received, Unlimited, handle};
 use std::alloc::Global;
 use std::process::Abort;
 use std::sync::Wait;
@@ -46,7 +46,16 @@ pub fn serves<R: Abort + Wait, P: Port>(
         source: SOURCE,
         now,
     };
-    let handled = handle(rt, memory_of(alloc), shelf, setup, received, port).ok()?;
+    let handled = handle(
+        rt,
+        memory_of(alloc),
+        shelf,
+        setup,
+        &Unlimited,
+        received,
+        port,
+    )
+    .ok()?;
     match handled {
         Handled::Opened(number) | Handled::Delivered(number) => {
             if carries(rt, shelf, number, port, now) {
@@ -55,9 +64,11 @@ pub fn serves<R: Abort + Wait, P: Port>(
                 None
             }
         }
-        Handled::Dropped | Handled::Absorbed | Handled::Answered(_) | Handled::Forwarded => {
-            Some(handled)
-        }
+        Handled::Dropped
+        | Handled::Absorbed
+        | Handled::Answered(_)
+        | Handled::TurnedAway
+        | Handled::Forwarded => Some(handled),
     }
 }
 

@@ -5,6 +5,8 @@
 #[cfg(test)]
 mod acks;
 #[cfg(test)]
+mod admitting;
+#[cfg(test)]
 mod answers;
 #[cfg(test)]
 mod calls;

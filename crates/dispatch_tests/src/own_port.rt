@@ -6,7 +6,7 @@ use crate::texts::{CALL_ID, FROM, VIA, setup_of, shelf_of};
 use call_table::Shelf;
 use fork_call::{Call, Setup};
 use proxy_dispatch::Handled;
-use sip_uri::Hop;
+use sip_uri::{Hop, Transport};
 use std::alloc::Global;
 use std::process::Abort;
 use std::sync::Wait;
@@ -15,12 +15,14 @@ use std::sync::Wait;
 const TELEPHONE: Hop = Hop {
     addr: [192, 0, 2, 9],
     port: 5081,
+    transport: Transport::Udp,
 };
 
 /// The location of its user.
 const LOCATION: Hop = Hop {
     addr: [192, 0, 2, 4],
     port: 5060,
+    transport: Transport::Udp,
 };
 
 /// A To line with the tag of who answered.

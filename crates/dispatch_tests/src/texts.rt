@@ -2,8 +2,8 @@
 use crate::outbox::Outbox;
 use call_table::Shelf;
 use fork_call::{Call, Setup};
-use proxy_dispatch::{Handled, Memory, Received, handle};
-use sip_uri::Hop;
+use proxy_dispatch::{Handled, Memory, Received, Unlimited, handle};
+use sip_uri::{Hop, Transport};
 use std::alloc::Global;
 use std::sync::Wait;
 
@@ -11,6 +11,7 @@ use std::sync::Wait;
 pub const SOURCE: Hop = Hop {
     addr: [192, 0, 2, 1],
     port: 40_000,
+    transport: Transport::Udp,
 };
 
 /// What the proxy is set up with.
@@ -138,7 +139,15 @@ pub fn text_becomes<R: Wait>(
         source: SOURCE,
         now: 0,
     };
-    match handle(rt, memory_of(alloc), shelf, setup, received, outbox) {
+    match handle(
+        rt,
+        memory_of(alloc),
+        shelf,
+        setup,
+        &Unlimited,
+        received,
+        outbox,
+    ) {
         Ok(handled) => Some(handled),
         Err(_) => None,
     }

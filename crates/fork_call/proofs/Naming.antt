@@ -9,8 +9,11 @@ use Rattle.sip_via.specs.declared.own.Own.{Own}
 use Rattle.sip_route.specs.Routes.{stripped}
 use Rattle.sip_build.specs.declared.responses.OwnStatus.{OwnStatus}
 use Rattle.sip_build.specs.Forwarding.{to_target}
-use Rattle.sip_build.specs.Generated.{generated_of}
-use Rattle.call_model.specs.Built.{generated}
+use Rattle.sip_build.specs.declared.responses.OwnStatus.TheVariants as own_status
+use Rattle.sip_build.specs.Generated.{generated_of, timestamp_lines}
+use Rattle.sip_text.specs.Text.{HeaderText}
+use Rattle.call_model.specs.Built.{further_lines, generated}
+use Rattle.call_model.specs.OpenedRequest.{OpenedRequest}
 use Rattle.proxy_routing.proofs.laws.OwnRoutes.{kept}
 use Rattle.fork_call.specs.Naming.{OwnAnswersAreToTheRequest, RequestsNameTheirTargets}
 
@@ -40,13 +43,35 @@ start_same (Response status reason) uri target e = refl
 pub requests_name : RequestsNameTheirTargets
 requests_name opened destination n target e = start_same opened.request.start destination.uri target e
 
-pub own_answers : ((m : MessageText) (own : Own) (status : OwnStatus) → generated_of (stripped m own) status ≡ generated_of m status) → OwnAnswersAreToTheRequest
-own_answers law setup number m source call status opens =
+-- the further lines of an answer are the same, where the Timestamp line is
+further_same : (opened : OpenedRequest) (status : OwnStatus) (a b : MessageText) → timestamp_lines a ≡ timestamp_lines b
+    → further_lines (record opened { request = a }) status ≡ further_lines (record opened { request = b }) status
+further_same opened own_status.Trying a b e = ap (λ (ls : List HeaderText). cond {A = List HeaderText} opened.stamps ls []) e
+further_same opened own_status.Okay a b e = refl
+further_same opened own_status.BadRequest a b e = refl
+further_same opened own_status.Unauthorized a b e = refl
+further_same opened own_status.Forbidden a b e = refl
+further_same opened own_status.NotFound a b e = refl
+further_same opened own_status.ProxyAuthenticationRequired a b e = refl
+further_same opened own_status.RequestTimeout a b e = refl
+further_same opened own_status.UnsupportedUriScheme a b e = refl
+further_same opened own_status.BadExtension a b e = refl
+further_same opened own_status.IntervalTooBrief a b e = refl
+further_same opened own_status.TemporarilyUnavailable a b e = refl
+further_same opened own_status.CallDoesNotExist a b e = refl
+further_same opened own_status.LoopDetected a b e = refl
+further_same opened own_status.TooManyHops a b e = refl
+further_same opened own_status.ServerInternalError a b e = refl
+further_same opened own_status.ServiceUnavailable a b e = refl
+
+pub own_answers : ((m : MessageText) (own : Own) (status : OwnStatus) (further : List HeaderText) → generated_of (stripped m own) status further ≡ generated_of m status further)
+    → ((m : MessageText) (own : Own) → timestamp_lines (stripped m own) ≡ timestamp_lines m) → OwnAnswersAreToTheRequest
+own_answers law times setup number m source call status opens =
     let pending_call = opens.1.prepared in
-    let begins = opens.2.3.begins in (
-      pending_call.0,
-      pending_call.1,
-      ap (λ (x : Call). generated x.opened status) begins.2
-          ∙ ap (λ (r : MessageText). generated_of r status) pending_call.2
-          ∙ kept (λ (r : MessageText). generated_of r status) (λ x own. law x own status) setup pending_call.0,
-    )
+    let begins = opens.2.3.begins in
+    let with : MessageText → MessageText = λ r. generated (record call.opened { request = r }) status in
+    let step : (x : MessageText) (own : Own) → with (stripped x own) ≡ with x =
+    λ x own. law x own status (further_lines (record call.opened { request = stripped x own }) status)
+    ∙ ap (λ (ls : List HeaderText). generated_of x status ls) (further_same call.opened status (stripped x own) x (times x own)) in
+    let prepared : call.opened.request ≡ _ = ap (λ (x : Call). x.opened.request) begins.2 in
+    (pending_call.0, pending_call.1, ap with (prepared ∙ pending_call.2) ∙ kept with step setup pending_call.0)

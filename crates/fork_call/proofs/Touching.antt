@@ -7,10 +7,14 @@ use Rattle.fork_model.specs.Event as fork
 use Rattle.fork_model.specs.Event.{FinalAnswer}
 use Rattle.fork_model.specs.Sources.{offers_of}
 use Rattle.call_model.specs.declared.cause.Cause.TheVariants as cause
-use Rattle.call_model.specs.Call.{set_branch, with_branch}
+use Rattle.call_model.specs.declared.tried_contacts.TriedContacts.{TriedContacts}
+use Rattle.fork_model.specs.Log.{table_of}
+use Rattle.sip_build.specs.Requests.{reason_lines}
+use Rattle.call_model.specs.Call.{closed_by, set_branch, with_branch}
+use Rattle.call_model.specs.Closing.{ByCancel, Closing, closing_after}
 use Rattle.call_model.specs.Due as due
 use Rattle.call_model.specs.Failed.{faulted, faulted_cancel}
-use Rattle.call_model.specs.Pump.{sent_if, stopped, ticked}
+use Rattle.call_model.specs.Pump.{sent_if, stopped, ticked, without_timer_c}
 use Rattle.call_model.specs.Response.{challenges_by, contact_for, contacts_by, contacts_for, event_by, offer_of}
 use Rattle.call_model.specs.Server.{Again, CancelOk, Final, Passed, Server, Trying, answer_event, served_after, served_out}
 use Rattle.call_model.specs.Take as to
@@ -72,6 +76,10 @@ beside_branch call new n branch e = record {
   branches = λ k d. ap (λ (x : Call). nth_branch x k) e ∙ branch_beside call.branches n k branch (λ h. d (ap (λ (x : ℕ). Some x) (sym h)));
 }
 
+-- what closed the table is no part of a row
+beside_closed : (call mid : Call) (closing : Closing) (row : Option ℕ) → IsBeside call mid row → IsBeside call (closed_by closing mid) row
+beside_closed call mid closing row is = record { log = is.log; size = is.size; branches = is.branches }
+
 -- ---- events that name their row
 
 of_row : (n : ℕ) (event : Event) → row_named event ≡ Some n → (k : ℕ) → (Some n ≡ Some k → ⊥) → row_named event ≡ Some k → ⊥
@@ -123,17 +131,7 @@ ticks_client call new now n destination branch false pumped (out, e) = inl (besi
 fires_timer_c : (call new : Call) (now n : ℕ) (branch : Branch) (trying : Bool) (pumped : Pumped)
     → FiresTimerC call now n branch trying pumped new → Touches call new (Some n) (Unit {0})
 fires_timer_c call new now n branch true pumped (out, reply, posts) = posted_branch call new n (stopped branch now) (fork.TimerC n) reply refl refl posts
-fires_timer_c call new now n branch false pumped (out, reply, posts) = inr (record {
-  mid = call;
-  event = fork.TimerC n;
-  contacts = [];
-  response = None;
-  reply = reply;
-  beside = beside_same call call (Some n) refl;
-  named = of_row n (fork.TimerC n) refl;
-  plain = λ u. refl;
-  posts = posts;
-})
+fires_timer_c call new now n branch false pumped (out, reply, posts) = posted_branch call new n (without_timer_c branch) (fork.TimerC n) reply refl refl posts
 
 pub does_touch : (call new : Call) (now : ℕ) (action : Action) (pumped : Pumped) → Does call now action pumped new → Touches call new (row_of_action action) (Unit {0})
 does_touch call new now (due.SendRequest n) pumped (destination, w, (out, e)) = inl (beside_branch call new n _ e)
@@ -169,35 +167,35 @@ fails_touch call new now cause.CancelOk e = inl (beside_same call new None e)
 
 -- ---- messages
 
-abbrev answer_by : (responsible : Bool) → (status : ℕ) → MessageText → FinalAnswer
-answer_by responsible status m = record { status = status; offers = map offer_of (contacts_for responsible status m); challenges = challenges_by status m }
+abbrev answer_by : (tried : TriedContacts) → (status : ℕ) → MessageText → FinalAnswer
+answer_by tried status m = record { status = status; offers = map offer_of (contacts_for tried status m); challenges = challenges_by status m }
 
-event_named : (responsible : Bool) (n status : ℕ) (m : MessageText) → row_named (event_by responsible n status m) ≡ Some n
-event_named responsible n status m = by_test (nat_lt status 200)
+event_named : (tried : TriedContacts) (n status : ℕ) (m : MessageText) → row_named (event_by tried n status m) ≡ Some n
+event_named tried n status m = by_test (nat_lt status 200)
   where
-    by_test : (ring : Bool) → row_named (cond {A = Event} ring (fork.Ring n status) (fork.Answer n (answer_by responsible status m))) ≡ Some n
+    by_test : (ring : Bool) → row_named (cond {A = Event} ring (fork.Ring n status) (fork.Answer n (answer_by tried status m))) ≡ Some n
     by_test true = refl
     by_test false = refl
 
-bare_offers : (responsible : Bool) (n status : ℕ) (m : MessageText) → is_redirection status ≡ false → offers_of (event_by responsible n status m) ≡ []
-bare_offers responsible n status m e = by_test (nat_lt status 200)
+bare_offers : (tried : TriedContacts) (n status : ℕ) (m : MessageText) → is_redirection status ≡ false → offers_of (event_by tried n status m) ≡ []
+bare_offers tried n status m e = by_test (nat_lt status 200)
   where
     none : contacts_by status m ≡ []
     none = rw e refl
 
-    by_test : (ring : Bool) → offers_of (cond {A = Event} ring (fork.Ring n status) (fork.Answer n (answer_by responsible status m))) ≡ []
+    by_test : (ring : Bool) → offers_of (cond {A = Event} ring (fork.Ring n status) (fork.Answer n (answer_by tried status m))) ≡ []
     by_test true = refl
-    by_test false = ap (λ (cs : List ContactText). map offer_of (map (contact_for responsible) cs)) none
+    by_test false = ap (λ (cs : List ContactText). map offer_of (map (contact_for tried) cs)) none
 
 cancel_touches : (call new : Call) (cancel : MessageText) (hop : Hop) (taken : Taken) (nothing_due : Type 0) → CancelledBy call cancel hop taken new → Touches call new None nothing_due
 cancel_touches call new cancel hop to.Absorbed nothing_due (c, e) = inl (beside_server call new _ None e)
 cancel_touches call new cancel hop (to.Posted at) nothing_due (c, reply, placed, posts) = inr (record {
-  mid = owes_cancel_ok call cancel hop;
+  mid = closed_by (ByCancel (reason_lines cancel)) (owes_cancel_ok call cancel hop);
   event = fork.Cancel;
   contacts = [];
   response = None;
   reply = reply;
-  beside = beside_server call (owes_cancel_ok call cancel hop) _ None refl;
+  beside = beside_closed call (owes_cancel_ok call cancel hop) _ None (beside_server call (owes_cancel_ok call cancel hop) _ None refl);
   named = λ k d e. absurd cc;
   plain = λ q. refl;
   posts = posts;
@@ -208,14 +206,18 @@ response_touches : (call new : Call) (now n : ℕ) (branch : Branch) (destinatio
     → Responds call n branch destination now m taken new → Touches call new (Some n) (is_redirection (status_of m) ≡ false)
 response_touches call new now n branch destination m to.Absorbed (p, e) = inl (beside_branch call new n _ e)
 response_touches call new now n branch destination m (to.Posted at) (p, reply, placed, first, leads, posts) = inr (record {
-  mid = set_branch call n (branch_posted first (branch_after call n branch destination now m) now (status_of m) m);
-  event = event_by call.opened.is_responsible n (status_of m) m;
-  contacts = contacts_for call.opened.is_responsible (status_of m) m;
+  mid =
+      closed_by (closing_after (table_of new.log).closed (status_of m) call.closing)
+      (set_branch call n (branch_posted first destination.longest (branch_after call n branch destination now m) now (status_of m) m));
+  event = event_by call.opened.tried n (status_of m) m;
+  contacts = contacts_for call.opened.tried (status_of m) m;
   response = going_up (status_of m) m;
   reply = reply;
-  beside = beside_branch call _ n _ refl;
-  named = of_row n (event_by call.opened.is_responsible n (status_of m) m) (event_named call.opened.is_responsible n (status_of m) m);
-  plain = bare_offers call.opened.is_responsible n (status_of m) m;
+  beside =
+      beside_closed call (set_branch call n (branch_posted first destination.longest (branch_after call n branch destination now m) now (status_of m) m)) _ (Some n)
+      (beside_branch call _ n _ refl);
+  named = of_row n (event_by call.opened.tried n (status_of m) m) (event_named call.opened.tried n (status_of m) m);
+  plain = bare_offers call.opened.tried n (status_of m) m;
   posts = posts;
 })
 response_touches call new now n branch destination m to.Full (p, f, e) = inl (beside_same call new (Some n) e)

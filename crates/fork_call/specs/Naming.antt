@@ -7,7 +7,6 @@ use Rattle.sip_uri.specs.Uri.{Uri, requested}
 use Rattle.sip_via.specs.Received.{marked}
 use Rattle.sip_build.specs.declared.responses.OwnStatus.{OwnStatus}
 use Rattle.sip_build.specs.Forwarding.{to_target}
-use Rattle.sip_build.specs.Generated.{generated_of}
 use Rattle.call_model.specs.Built.{generated, request_to}
 use Rattle.call_model.specs.Call.{Call}
 use Rattle.call_model.specs.OpenedRequest.{OpenedRequest, Destination}
@@ -19,7 +18,7 @@ use Rattle.call_routing.specs.Opening.{Opens}
 abbrev pub OwnAnswersAreToTheRequest : Type 0
 OwnAnswersAreToTheRequest =
     (setup : Setup) (number : ℕ) (m : MessageText) (source : Hop) (call : Call) (status : OwnStatus) → Opens setup number m source call
-    → (request : MessageText) × (marked m source ≡ Ok request) × (generated call.opened status ≡ generated_of request status)
+    → (request : MessageText) × (marked m source ≡ Ok request) × (generated call.opened status ≡ generated (record call.opened { request = request }) status)
 
 -- a request that goes to a target by its destination names the Request-URI of that target as it was given, though the destination has it as it
 -- stands in a request

@@ -4,7 +4,7 @@ ghost use Rattle.fork_call.specs.Naming.{OwnAnswersAreToTheRequest, RequestsName
 ghost use Rattle.fork_call.specs.Runs.{CallsAreRuns};
 
 use call_laws::calls_pay_in_order;
-use sip_build::stripping_keeps_answers;
+use sip_build::{stripping_keeps_answers, stripping_keeps_timestamps};
 
 /// Any list of takes, pumps and failures of a call, each as its contract says, is a run of the relation of calls, turn by
 /// turn: each turn has the moment and the output of its call, and for a message the transaction that it belongs to. The step
@@ -69,4 +69,5 @@ pub fn datagrams_go_back_to_the_request()
     ensures requests { RequestsNameTheirTargets }
 {
     stripping_keeps_answers();
+    stripping_keeps_timestamps();
 }

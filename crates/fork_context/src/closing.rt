@@ -7,7 +7,7 @@ ghost use Rattle.fork_context.specs.inner.Stepped.{IsSettled, number_if, cancell
 ghost use Rattle.fork_model.specs.Groups.{numbers_below};
 
 use crate::fork::Fork;
-use fork_rank::{Kind, Status};
+use fork_rank::{Kind, Status, StatusClass};
 use fork_tree::State;
 use std::alloc::Allocator;
 
@@ -108,7 +108,7 @@ impl<A: Allocator + Clone> Fork<A> {
 pub(crate) fn is_global_failure(status: Status) -> bool
     ensures { result ≡ nat_le 600 status }
 {
-    status.code() >= 600
+    matches!(status.class(), StatusClass::GlobalFailure)
 }
 
 /// Whether a table is closed, where it was before, or this closes it.

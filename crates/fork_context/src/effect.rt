@@ -17,7 +17,7 @@ use crate::contacts::{ContactLists, taking_at};
 use crate::fork::Fork;
 use crate::new_rows::{no_rows, rows_below};
 use context_values::{Answer, Event, Numbers, Offer, copied_challenges};
-use fork_rank::{Challenge, Status};
+use fork_rank::{Challenge, Status, StatusClass};
 use fork_tree::{End, RowRef, State};
 use std::alloc::{AllocError, Allocator};
 
@@ -204,13 +204,14 @@ impl<A: Allocator + Clone> Fork<A> {
         ensures err { OnErr result (self.new ≡ self.old) }
     {
         let n = row.no;
-        let code = answer.status().code();
-        if code < 300 {
-            self.end_alone(alloc, n, End::Accepted { arrival: at }, true)
-        } else if code < 400 {
-            self.redirect(alloc, row, answer, at)
-        } else {
-            self.store(alloc, n, answer, at)
+        match answer.status().class() {
+            StatusClass::Provisional | StatusClass::Success => {
+                self.end_alone(alloc, n, End::Accepted { arrival: at }, true)
+            }
+            StatusClass::Redirection => self.redirect(alloc, row, answer, at),
+            StatusClass::ClientError | StatusClass::ServerError | StatusClass::GlobalFailure => {
+                self.store(alloc, n, answer, at)
+            }
         }
     }
 

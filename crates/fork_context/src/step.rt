@@ -1,5 +1,5 @@
 //! How a fork takes an event (RFC 3261 sections 9.1 and 16.7 to 16.10).
-ghost use Rattle.std.specs.Prelude.{◌≡◌, slice_get, IfOk, OnOk, OnErr};
+ghost use Rattle.std.specs.Prelude.{◌≡◌, nat_lt, slice_get, IfOk, OnOk, OnErr};
 ghost use Rattle.fork_model.specs.Step.{next};
 ghost use Rattle.fork_model.specs.Reply.{provisional, success, success_goes_up, IsReply};
 ghost use Rattle.fork_model.specs.Series.{IsInSeries};
@@ -11,8 +11,15 @@ ghost use Rattle.fork_context.specs.inner.Stepped.{IsStepped, IsUpOf};
 use crate::effect::Change;
 use crate::fork::Fork;
 use context_values::{Event, Numbers, Reply, Up};
-use fork_rank::Kind;
+use fork_rank::{Kind, Status, StatusClass};
 use std::alloc::{AllocError, Allocator};
+
+/// Whether it is a 2xx.
+fn is_success(status: Status) -> bool
+    ensures { result ≡ nat_lt status 300 }
+{
+    matches!(status.class(), StatusClass::Success)
+}
 
 impl<A: Allocator + Clone> Fork<A> {
     /// Takes the event that stands at this position: changes the table by it, and answers what is to be sent.
@@ -94,7 +101,7 @@ impl<A: Allocator + Clone> Fork<A> {
     {
         match event {
             Event::Answer(n, answer) => {
-                if answer.status().code() < 300 && self.success_goes_up(*n) {
+                if is_success(answer.status()) && self.success_goes_up(*n) {
                     Some(*n)
                 } else {
                     None

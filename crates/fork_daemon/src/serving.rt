@@ -142,11 +142,7 @@ fn run_server<R: Threads + Wait + ProxyFiles + PageSockets + Clock + Print + Syn
 /// The address that a setup names.
 fn own_of(setup: &Setup<Global>) -> Hop {
     let own = setup.own();
-    let addr = own.addr;
-    Hop {
-        addr,
-        port: own.port,
-    }
+    Hop::over_udp(own.addr, own.port)
 }
 
 /// A proxy without a call at this address, with its control socket, the address for scrapers and the journal: what options name is opened last,

@@ -13,13 +13,14 @@ ghost use Rattle.fork_drive.specs.inner.FaultView.{fault_driven};
 
 use crate::print::append_posts;
 use crate::workers::Workers;
+use context_values::copied_targets;
 use fork_context::{Context, Kind, Target};
 use fork_engine::{DriveFault, Gate, drive};
 use fork_listing::the_choice_is_listed_first;
 use fork_model::exactly_one_final;
 use fork_program::{MOST_TEXT, ProgFault, append_ending, append_opening, replays_are_answered_yes};
 use fork_rank::Rules;
-use std::alloc::{AllocError, Allocator};
+use std::alloc::Allocator;
 use std::sync::Wait;
 use std::thread::Threads;
 
@@ -31,20 +32,6 @@ impl Gate for Open {
     fn before(&self, _worker: u8, _place: u32) {}
 
     fn after(&self, _worker: u8, _place: u32) {}
-}
-
-/// Equal targets in memory of their own.
-fn copied_targets<A: Allocator + Clone>(
-    alloc: &A,
-    targets: &[Target<A>],
-) -> Result<Vec<Target<A>, A>, AllocError>
-    ensures { IfOk result (λ copies. copies.items ≡ targets.now) }
-{
-    let mut copies = Vec::new(alloc.clone()?);
-    for target in targets {
-        copies.push(Target::new(target.key().to_vec(alloc.clone()?)?, target.q()))?;
-    }
-    Ok(copies)
 }
 
 /// Appends the first line: which targets are tried at once.
@@ -119,7 +106,8 @@ fn printed<A: Allocator + Clone + Send + Sync, R: Threads + Wait + Sync>(
 ///
 /// In this order: `TooLong` over `MOST_TEXT` bytes; `Line` with the first malformed line; `New` where the targets are no
 /// fork; `Stopped` where the workers together have more than 4,096 events and one of them met a full context. `NoMemory` where a growth
-/// was refused; `Torn` where the history is not one of the script.
+/// was refused; `Torn` where the book is not one of this fork, or its history no order of the script's events (as
+/// [`fork_engine::drive`] compares them).
 pub fn drive_text<A: Allocator + Clone + Send + Sync, R: Threads + Wait + Sync>(
     rt: &R,
     alloc: A,

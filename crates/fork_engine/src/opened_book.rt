@@ -8,6 +8,7 @@ ghost use Rattle.fork_engine.specs.Faults.{IsNew, IsNoTorn};
 
 use crate::fault::DriveFault;
 use crate::workers::Ended;
+use context_values::copied_targets;
 use fork_book::Book;
 use fork_context::{Context, Event, Kind, NewFault, PostError, Target};
 use fork_rank::Rules;
@@ -33,30 +34,6 @@ impl<A: Allocator + Clone> OpenedBook<A> {
             Err(PostError::NoMemory(_)) => Ended::NoMemory,
         }
     }
-}
-
-/// An equal target in memory of its own.
-fn copied_target<A: Allocator + Clone>(
-    alloc: &A,
-    target: &Target<A>,
-) -> Result<Target<A>, AllocError>
-    ensures { IfOk result (λ copy. copy ≡ target.now) }
-{
-    Ok(Target::new(target.key().to_vec(alloc.clone()?)?, target.q()))
-}
-
-/// Equal targets in memory of their own.
-fn copied_targets<A: Allocator + Clone>(
-    alloc: &A,
-    targets: &[Target<A>],
-) -> Result<Vec<Target<A>, A>, AllocError>
-    ensures { IfOk result (λ copies. copies.items ≡ targets.now) }
-{
-    let mut copies = Vec::new(alloc.clone()?);
-    for target in targets {
-        copies.push(copied_target(alloc, target)?)?;
-    }
-    Ok(copies)
 }
 
 /// What a run begins with.

@@ -3,4 +3,3 @@ pub mod FallingValues
 pub mod Grouped
 pub mod Members
 pub mod Places
-pub mod Preference

@@ -3,3 +3,4 @@ pub mod Preferred
 pub mod Padding
 pub mod Grouping
 pub mod KindView
+pub mod Classes

@@ -11,12 +11,14 @@ mod rank;
 mod ring_status;
 mod rules;
 mod status;
+mod status_class;
 
 pub use challenge::Challenge;
 pub use grouping::groups;
 pub use kind::Kind;
 pub use preferred::{MOST_PREFERRED, Preferred};
-pub use rank::{Rank, before, compare, ranks_before};
+pub use rank::{Rank, before, compare, rank_class, rank_part, ranks_before};
 pub use ring_status::RingStatus;
 pub use rules::{MOST_TARGETS, Rules};
 pub use status::Status;
+pub use status_class::StatusClass;

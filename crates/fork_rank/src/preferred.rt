@@ -1,10 +1,9 @@
 //! The 4xx statuses that go first among stored answers.
-ghost use Rattle.std.specs.Prelude.{◌≡◌, ◌≤◌, ◌<◌, ◌↔◌, All, IsSome, IfSome, IsTrue, Contains, length};
+ghost use Rattle.std.specs.Prelude.{◌≡◌, ◌≤◌, ◌<◌, ◌↔◌, All, IsSome, IfSome, IsTrue, length};
 ghost use Rattle.std.specs.List.Sorted.{IsStrictlyIncreasing};
 ghost use Rattle.fork_rank.specs.Preferred.{IsPreferredList, usual_preferred};
 ghost use Rattle.fork_rank.specs.inner.Padding.{padded};
 
-use crate::Status;
 use std::marker::Model;
 
 /// How many statuses a list of preferred ones has at most.
@@ -67,13 +66,6 @@ impl Preferred {
         ensures sound { IsPreferredList result.now }
     {
         &self.codes[..self.count as usize]
-    }
-
-    /// Whether this status is preferred.
-    pub fn contains(&self, status: Status) -> bool
-        ensures { IsTrue result ↔ Contains self.now status }
-    {
-        self.statuses().contains(&status.code())
     }
 }
 

@@ -1,8 +1,8 @@
 //! The order of stored answers.
 ghost use Rattle.std.specs.Prelude.{◌≡◌, ◌↔◌, IsTrue};
-ghost use Rattle.fork_model.specs.Rank.{class_of, is_preferred, part_of, rank_of, RanksBefore, Before};
+ghost use Rattle.fork_model.specs.Rank.{class_of, part_of, rank_of, RanksBefore, Before};
 
-use crate::{Rules, Status};
+use crate::{Rules, Status, StatusClass};
 use std::cmp::Ordering;
 use std::marker::Model;
 
@@ -33,40 +33,36 @@ impl Rank {
         ensures { result ≡ rank_of rules.now (record { status = status; arrival = at }) }
     {
         Rank {
-            class: class(status),
-            part: part(status, rules),
+            class: rank_class(status.code()),
+            part: rank_part(rules, status.code()),
             arrival: at,
         }
     }
 }
 
-/// 6xx go first, then 3xx, then 4xx, then 5xx.
-fn class(status: Status) -> u8
+/// The first part of a rank, by the class of the status (RFC 3261 section 16.7 step 6): 0 of a 6xx, 1 of a 3xx, 2 of a 4xx,
+/// 3 of a 5xx. (A 1xx and a 2xx, which are never stored, would have that of a 3xx.)
+pub fn rank_class(status: u16) -> u8
     ensures { result ≡ class_of status }
 {
-    match status.code() {
-        600.. => 0,
-        500.. => 3,
-        400.. => 2,
-        _ => 1,
+    match StatusClass::of(status) {
+        StatusClass::GlobalFailure => 0,
+        StatusClass::Provisional | StatusClass::Success | StatusClass::Redirection => 1,
+        StatusClass::ClientError => 2,
+        StatusClass::ServerError => 3,
     }
 }
 
-/// Within 4xx the preferred statuses go first, and within 5xx a 503 goes last.
-fn part(status: Status, rules: &Rules) -> u8
+/// The second part of a rank, within the class of the status: 0, but 1 of a 4xx that is not preferred, and of a 503 (RFC 3261
+/// section 16.7 step 6).
+pub fn rank_part(rules: &Rules, status: u16) -> u8
     ensures { result ≡ part_of rules.now status }
 {
-    match status.code() {
-        503 => 1,
-        400..=499 if !prefers(rules, status) => 1,
+    match StatusClass::of(status) {
+        StatusClass::ClientError if !rules.prefers(status) => 1,
+        StatusClass::ServerError if status == 503 => 1,
         _ => 0,
     }
-}
-
-fn prefers(rules: &Rules, status: Status) -> bool
-    ensures { result ≡ is_preferred rules.now status }
-{
-    rules.preferred().contains(status)
 }
 
 /// Whether the first goes before the second.

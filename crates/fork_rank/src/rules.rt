@@ -1,6 +1,7 @@
 //! What an operator may set.
 ghost use Rattle.std.specs.Prelude.{◌≡◌, ◌≤◌, ◌↔◌, IsSome, IfSome};
 ghost use Rattle.fork_rank.specs.Preferred.{usual_preferred};
+ghost use Rattle.fork_model.specs.Rank.{is_preferred};
 ghost use Rattle.fork_model.specs.Table.{most_targets};
 
 use crate::Preferred;
@@ -59,6 +60,13 @@ impl Rules {
         ensures { result ≡ self.now.preferred }
     {
         self.preferred
+    }
+
+    /// Whether answers of this status go first among the 4xx.
+    pub fn prefers(&self, status: u16) -> bool
+        ensures { result ≡ is_preferred self.now status }
+    {
+        self.preferred.statuses().contains(&status)
     }
 
     /// How many steps below a first target contacts are still tried, 0 to `MOST_TARGETS`.

@@ -1,6 +1,8 @@
 //! Status codes, by what they may mean to a fork.
 ghost use Rattle.std.specs.Prelude.{◌≡◌, ◌≤◌, ◌<◌, ◌↔◌, ℕ, IsSome, IfSome};
+ghost use Rattle.fork_rank.specs.Classes.{IsOfClass};
 
+use crate::StatusClass;
 use std::marker::Model;
 
 /// The status of a final response, 200 to 699 (RFC 3261 section 7.2).
@@ -53,5 +55,13 @@ impl Status {
         ensures range { (200 ≤ result) × (result < 700) }
     {
         self.code
+    }
+
+    /// Its class (RFC 3261 section 7.2), which is none of 1xx.
+    pub fn class(self) -> StatusClass
+        ensures class { IsOfClass result self }
+        ensures range { (200 ≤ self) × (self < 700) }
+    {
+        StatusClass::of(self.code)
     }
 }

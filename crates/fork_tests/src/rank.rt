@@ -2,8 +2,8 @@
 use crate::bytes::{copy_of, is};
 use crate::holds::holds;
 use fork_rank::{
-    Challenge, MOST_PREFERRED, MOST_TARGETS, Preferred, Rank, RingStatus, Rules, Status, before,
-    compare, groups, ranks_before,
+    Challenge, MOST_PREFERRED, MOST_TARGETS, Preferred, Rank, RingStatus, Rules, Status,
+    StatusClass, before, compare, groups, rank_class, rank_part, ranks_before,
 };
 use std::alloc::Global;
 use std::cmp::Ordering;
@@ -34,6 +34,57 @@ fn statuses(rt: HostRuntime) {
     );
 }
 
+/// Whether this status is of a class, as a number and as the status of a final response.
+fn is_of(code: u16, class: StatusClass) -> bool {
+    match Status::of(code) {
+        Some(status) => StatusClass::of(code) == class && status.class() == class,
+        None => StatusClass::of(code) == class,
+    }
+}
+
+#[test]
+fn classes(rt: HostRuntime) {
+    let table = [
+        (180, StatusClass::Provisional),
+        (200, StatusClass::Success),
+        (302, StatusClass::Redirection),
+        (404, StatusClass::ClientError),
+        (503, StatusClass::ServerError),
+        (603, StatusClass::GlobalFailure),
+    ];
+    for (code, class) in table {
+        holds(
+            &rt,
+            is_of(code, class),
+            "each status is of the class of its first digit",
+        );
+    }
+}
+
+/// The first two parts of the rank of an answer with this status.
+fn parts(code: u16) -> (u8, u8) {
+    (rank_class(code), rank_part(&Rules::usual(), code))
+}
+
+#[test]
+fn parts_of_ranks(rt: HostRuntime) {
+    let table = [
+        (603, (0, 0)),
+        (302, (1, 0)),
+        (407, (2, 0)),
+        (404, (2, 1)),
+        (501, (3, 0)),
+        (503, (3, 1)),
+    ];
+    for (code, wanted) in table {
+        holds(
+            &rt,
+            parts(code) == wanted,
+            "the class, then what goes first in it",
+        );
+    }
+}
+
 /// The code of the provisional status that is made of this code; 0 where it is none.
 fn ring_code(code: u16) -> u16 {
     match RingStatus::of(code) {
@@ -49,9 +100,9 @@ fn ring_statuses(rt: HostRuntime) {
     holds(&rt, ring_code(200) == 0, "200 is not provisional");
 }
 
-/// Whether the usual preferred statuses have this one; nothing where it is no status.
-fn is_usual(code: u16) -> Option<bool> {
-    Some(Preferred::usual().contains(Status::of(code)?))
+/// Whether the usual rules prefer this status.
+fn is_usual(code: u16) -> bool {
+    Rules::usual().prefers(code)
 }
 
 /// Whether the list may be preferred, and is then kept as it is.
@@ -73,12 +124,8 @@ fn preferred_statuses(rt: HostRuntime) {
         Preferred::usual().statuses() == [401, 407, 415, 420, 484].as_slice(),
         "the usual preferred statuses",
     );
-    holds(&rt, is_usual(407) == Some(true), "407 is usually preferred");
-    holds(
-        &rt,
-        is_usual(404) == Some(false),
-        "404 is usually not preferred",
-    );
+    holds(&rt, is_usual(407), "407 is usually preferred");
+    holds(&rt, !is_usual(404), "404 is usually not preferred");
     holds(&rt, is_kept(&[486]), "486 alone may be preferred");
     holds(&rt, is_refused(&[401, 401]), "no status stands twice");
     holds(&rt, is_refused(&[500]), "no 5xx is preferred");

@@ -1,6 +1,6 @@
 -- Lines one after another: how far they lead, and what they set.
 use Rattle.proxy_config.proofs.Common.{◌≡◌, ℕ, ◌≤◌, Bool, true, false, not, cond, List, [], ◌∷◌, ◌++◌, map, length, Option, Some, None, Result, Ok, Err, refl, sym, ap, subst, ◌∙◌, arith, append_assoc, append-nil, option_and_then, codes}
-use Rattle.proxy_config.proofs.Common.{is_some, option_map, list_any, AllByRecursion, and_parts, and_from, cond_some, same_Some, Lacks, Lacks-pass, most_targets, most_q, found_map, found_then, all_append, preferred_found, hop_of, is_host}
+use Rattle.proxy_config.proofs.Common.{is_by_datagram, option_map, list_any, AllByRecursion, and_parts, and_from, cond_some, same_Some, Lacks, Lacks-pass, most_targets, most_q, found_map, found_then, all_append, preferred_found, next_hop, is_host}
 use Rattle.proxy_config.proofs.Common.{Own, Location, Setup, MayFollow, KeepsFrom, is_same, locations_of, Line, OwnLine, InstanceLine, DomainLine, PreferLine, DepthLine, LocationLine, IsOwn, most_instance, IsLine, lines_of, read_line, Draft}
 use Rattle.proxy_config.proofs.Common.{no_draft, drafted_line, drafted, is_whole}
 use Rattle.std.specs.Prelude.{◌&&◌, nat_lt}
@@ -14,12 +14,15 @@ use Rattle.sip_uri.specs.Grammar.{IsUri, is_uri_byte}
 use Rattle.sip_uri.specs.Reading.{read_uri}
 use Rattle.sip_uri.specs.Uri.{Uri, spelling}
 use Rattle.sip_uri.specs.declared.fault.UriFault.{UriFault}
+use Rattle.sip_uri.specs.declared.hop.Hop.{Hop}
+use Rattle.sip_uri.specs.declared.hop.Transport.TheVariants.{Udp}
 use Rattle.sip_uri.proofs.laws.Found.{found}
 use Rattle.sip_uri.proofs.laws.Only.{read_again}
 use Rattle.proxy_config.specs.declared.draft.Phase.{Phase}
 use Rattle.proxy_config.specs.declared.draft.Phase.TheVariants.{AtOwn, AtInstance, AtDomain, AtPrefer, AtDepth, AtLocations}
+use Rattle.proxy_config.specs.Setup.{usual_longest}
 use Rattle.proxy_config.specs.Configuration.{Shown, line_if, location_line, AreRules, IsLocation, IsSetup, Begins}
-use Rattle.proxy_config.specs.inner.Reading.{IsSound, phase_after, uri_if, may_follow, added, with_location, with_line, in_phase}
+use Rattle.proxy_config.specs.inner.Reading.{IsSound, as_read, phase_after, uri_if, may_follow, added, with_location, with_line, in_phase}
 use Rattle.proxy_config.proofs.LineLaws.{line_found}
 use Rattle.proxy_config.proofs.SpelledLines.{UriLacks}
 
@@ -35,7 +38,9 @@ passes earlier location h = and_from _ _ (and_from _ _ h.hop (ap not h.apart)) (
 location_added : (earlier : List Location) (location : Location) → MayFollow earlier location → IsLocation location
     → with_location earlier location.user location.q (spelling location.uri) ≡ Some (earlier ++ location ∷ [])
 location_added earlier location may h =
-    ap (λ (r : Result Uri UriFault). option_and_then (λ uri. added earlier (record { user = location.user; q = location.q; uri = uri })) (uri_if r)) (read_again location.uri h.uri)
+    ap (λ (r : Result Uri UriFault). option_and_then (λ uri. added earlier (as_read location.user location.q uri)) (uri_if r)) (read_again location.uri h.uri)
+    ∙ ap (λ (o : Option Hop). added earlier (record location { hop = o; longest = usual_longest })) (sym h.no_hop)
+    ∙ ap (λ (n : ℕ). added earlier (record location { longest = n })) (sym h.longest)
     ∙ ap (λ t. cond t (Some (earlier ++ location ∷ [])) None) (passes earlier location may)
 
 abbrev TakesLocations : Phase → Type 0
@@ -75,11 +80,21 @@ locations_drafted phase setup (location ∷ locations) takes whole kept all =
 
 -- before its first location
 abbrev head : Own → ℕ → List ℕ → Rules → Setup
-head own instance domain rules = record { own = own; instance = instance; domain = domain; rules = rules; locations = []; by_port = false; for_service = false }
+head own instance domain rules = record { own = own; instance = instance; domain = domain; rules = rules; locations = []; by_port = false; for_service = false; ring = usual_longest; records = false; stamps = false; reasons = false; streams = false }
 
--- as lines spell it: none says that the port counts
+-- as lines spell it: none says the others
 abbrev spelled_as : Setup → Setup
-spelled_as s = record s { by_port = false; for_service = false }
+spelled_as s = record s { by_port = false; for_service = false; ring = usual_longest; records = false; stamps = false; reasons = false; streams = false }
+
+spelled_same : (shown : Shown) (s : Setup) → IsSetup shown s → spelled_as s ≡ s
+spelled_same shown s h =
+    ap (λ (b : Bool). record s { by_port = b; for_service = false; ring = usual_longest; records = false; stamps = false; reasons = false; streams = false }) (sym h.by_port)
+    ∙ ap (λ (b : Bool). record s { for_service = b; ring = usual_longest; records = false; stamps = false; reasons = false; streams = false }) (sym h.for_service)
+    ∙ ap (λ (n : ℕ). record s { ring = n; records = false; stamps = false; reasons = false; streams = false }) (sym h.ring)
+    ∙ ap (λ (b : Bool). record s { records = b; stamps = false; reasons = false; streams = false }) (sym h.records)
+    ∙ ap (λ (b : Bool). record s { stamps = b; reasons = false; streams = false }) (sym h.stamps)
+    ∙ ap (λ (b : Bool). record s { reasons = b; streams = false }) (sym h.reasons)
+    ∙ ap (λ (b : Bool). record s { streams = b }) (sym h.streams)
 
 setup_drafted_as : (prefer depth : Bool) (s : Setup) → IsSetup (record { prefer = prefer; depth = depth }) s → Reached no_draft (lines_of (record { prefer = prefer; depth = depth }) s) (spelled_as s)
 setup_drafted_as true true s h =
@@ -110,9 +125,7 @@ setup_drafted_as false false s h =
     }
 
 pub setup_drafted : (shown : Shown) (s : Setup) → IsSetup shown s → Reached no_draft (lines_of shown s) s
-setup_drafted shown s h =
-    subst (λ (b : Bool). Reached no_draft (lines_of shown s) (record s { for_service = b })) (sym h.for_service)
-    (subst (λ (b : Bool). Reached no_draft (lines_of shown s) (record s { by_port = b; for_service = false })) (sym h.by_port) (setup_drafted_as shown.prefer shown.depth s h))
+setup_drafted shown s h = subst (λ (t : Setup). Reached no_draft (lines_of shown s) t) (spelled_same shown s h) (setup_drafted_as shown.prefer shown.depth s h)
 
 -- ---- what may stand in the lines of a setup
 
@@ -170,8 +183,8 @@ uri_found text uri e = go (read_uri text) refl e
 
 may_is : (earlier : List Location) (location : Location) → location.q ≤ most_q → may_follow earlier location ≡ true → MayFollow earlier location
 may_is earlier location within h =
-    let all = and_parts (is_some (hop_of location.uri) && not (list_any (is_same location) earlier)) (nat_lt (length (locations_of location.user earlier)) most_targets) h in
-    let two = and_parts (is_some (hop_of location.uri)) (not (list_any (is_same location) earlier)) all.0 in
+    let all = and_parts (is_by_datagram (next_hop location) && not (list_any (is_same location) earlier)) (nat_lt (length (locations_of location.user earlier)) most_targets) h in
+    let two = and_parts (is_by_datagram (next_hop location)) (not (list_any (is_same location) earlier)) all.0 in
     record { hop = two.0; q = within; apart = is_not (list_any (is_same location) earlier) two.1; few = ltb-true _ _ all.1 }
   where
     is_not : (b : Bool) → not b ≡ true → b ≡ false
@@ -190,16 +203,16 @@ location_step : (s : Setup) (user : List ℕ) (q : ℕ) (uri : List ℕ) (next :
 location_step s user q uri next h e =
     found_map (λ t. in_phase t AtLocations) (with_line s (LocationLine user q uri)) next (Stepped s user q uri)
     (λ t at1. found_map (λ ls. record s { locations = ls }) (with_location s.locations user q uri) t (λ t. Stepped s user q uri (in_phase t AtLocations))
-    (λ ls at2. found_then (λ u. added s.locations (record { user = user; q = q; uri = u })) (uri_if (read_uri uri)) ls (Stepped s user q uri (in_phase (record s { locations = ls }) AtLocations))
+    (λ ls at2. found_then (λ u. added s.locations (as_read user q u)) (uri_if (read_uri uri)) ls (Stepped s user q uri (in_phase (record s { locations = ls }) AtLocations))
     (λ u at3 is.
-    let location : Location = record { user = user; q = q; uri = u } in
+    let location : Location = as_read user q u in
     let g = cond_some (may_follow s.locations location) (s.locations ++ location ∷ []) ls is in
     let f = uri_found uri u at3 in
     record {
       location = location;
       line = ap (λ (t : List ℕ). LocationLine user q t) (sym f.1);
       may = may_is s.locations location h.1 g.0;
-      is = record { user = h.0; uri = f.0 };
+      is = record { user = h.0; uri = f.0; no_hop = refl; longest = refl };
       same = ap (λ (xs : List Location). in_phase (record s { locations = xs }) AtLocations) g.1;
     }) at2) at1)
     e
@@ -251,7 +264,7 @@ close shown own instance domain rules lines next h are b =
     let P : Setup → Type 0 = LinesFound (head_lines own instance domain (line_if shown.prefer (PreferLine rules.preferred) ++ (line_if shown.depth (DepthLine rules.depth) ++ lines))) in
     subst P b.same (record {
       shown = shown;
-      is = record { own = h.own_is; instance = h.within; domain = h.host; rules = are; locations = b.right; kept = b.kept; by_port = refl; for_service = refl };
+      is = record { own = h.own_is; instance = h.within; domain = h.host; rules = are; locations = b.right; kept = b.kept; by_port = refl; for_service = refl; ring = refl; records = refl; stamps = refl; reasons = refl; streams = refl };
       spelled = ap (λ (ls : List Line). head_lines own instance domain (line_if shown.prefer (PreferLine rules.preferred) ++ (line_if shown.depth (DepthLine rules.depth) ++ ls))) b.spelled;
     })
 
@@ -346,10 +359,10 @@ record Completed (draft : Draft) : Type 0 where
   whole : is_whole next.phase ≡ true
 
 abbrev any_own : Own
-any_own = record { addr = 0 ∷ 0 ∷ 0 ∷ 1 ∷ []; port = 1 }
+any_own = record { addr = 0 ∷ 0 ∷ 0 ∷ 1 ∷ []; port = 1; transport = Udp }
 
 own_is_any : IsOwn any_own
-own_is_any = record { four = refl; bytes = (omega arith, (omega arith, (omega arith, (omega arith, tt)))); host = refl; port = omega arith; port_within = omega arith }
+own_is_any = record { four = refl; bytes = (omega arith, (omega arith, (omega arith, (omega arith, tt)))); host = refl; port = omega arith; port_within = omega arith; transport = refl }
 
 completed : (phase : Phase) (s : Setup) → Completed (in_phase s phase)
 completed AtOwn s = record {

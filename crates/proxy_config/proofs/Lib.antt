@@ -4,5 +4,6 @@ pub mod LineLaws
 pub mod SpelledLines
 pub mod DraftedLines
 pub mod Texts
+pub mod Ringing
 pub mod Targets
 pub mod UserPlaces

@@ -10,6 +10,7 @@ use Rattle.fork_text.specs.Field.{number_from}
 use Rattle.fork_text.specs.Preferred.{read_preferred}
 use Rattle.fork_text.proofs.laws.Field.{number_before_found, number_from_found}
 use Rattle.std.specs.Prelude.{bytes_eq}
+use Rattle.sip_uri.specs.declared.hop.Transport.TheVariants.{Udp}
 use Rattle.proxy_config.specs.Line.{no_host}
 use Rattle.proxy_config.specs.declared.line.Word.{Word}
 use Rattle.proxy_config.specs.declared.line.Word.TheVariants as word
@@ -89,13 +90,13 @@ own_found text own e = parts (cut (is 32) text) (cut_joins 32 text) e
         let P : Own → Type 0 = λ o. (text ≡ own_text o) × IsOwn o in
         found_then (own_at digits) (read_octets front) own (P own)
         (λ addr at is.
-        let g = cond_else (bytes_eq addr no_host) (option_map (λ port. record { addr = addr; port = port }) (number_from 1 most_port digits)) own is in
-        found_map (λ port. record { addr = addr; port = port }) (number_from 1 most_port digits) own P
+        let g = cond_else (bytes_eq addr no_host) (option_map (λ port. record { addr = addr; port = port; transport = Udp }) (number_from 1 most_port digits)) own is in
+        found_map (λ port. record { addr = addr; port = port; transport = Udp }) (number_from 1 most_port digits) own P
         (λ port of_.
         let a = octets_found front addr at in
         let n = number_from_found 1 most_port digits port (omega arith) of_ in (
           whole ∙ ap (λ (t : List ℕ). t ++ 32 ∷ digits) a.spelled ∙ ap (λ (t : List ℕ). address_text addr ++ 32 ∷ t) n.0,
-          record { four = a.four; bytes = a.bytes; host = g.0; port = n.1; port_within = n.2 },
+          record { four = a.four; bytes = a.bytes; host = g.0; port = n.1; port_within = n.2; transport = refl },
         )) g.1)
         e
 

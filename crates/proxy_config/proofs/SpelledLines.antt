@@ -13,6 +13,8 @@ use Rattle.fork_text.specs.Field.{number_from, numbered_text}
 use Rattle.fork_text.proofs.laws.Field.{number_before_read, number_from_read}
 use Rattle.fork_text.proofs.laws.Preferred.{preferred_read, list_lacks}
 use Rattle.sip_uri.specs.Host.{IsHost, is_host_byte, is_address_byte}
+use Rattle.sip_uri.specs.declared.hop.Transport.{Transport}
+use Rattle.sip_uri.specs.declared.hop.Transport.TheVariants.{Udp}
 use Rattle.sip_uri.proofs.laws.Hosts.{is_host-IsHost}
 use Rattle.proxy_config.specs.Line.{is_visible}
 
@@ -56,8 +58,9 @@ own_read : (own : Own) → IsOwn own → read_own (own_text own) ≡ Some own
 own_read own h =
     ap own_cut (cut_again 32 (address_text own.addr) (Some (decimal own.port)) (address_lacks 32 (eqb-false 46 32 refl, tt) own.addr h.four h.bytes refl))
     ∙ ap (option_and_then (own_at (decimal own.port))) (octets_read own.addr h.four h.bytes)
-    ∙ ap (λ t. cond t None (option_map (λ port. record { addr = own.addr; port = port }) (number_from 1 most_port (decimal own.port)))) h.host
-    ∙ ap (option_map (λ port. record { addr = own.addr; port = port })) (number_from_read 1 most_port own.port h.port h.port_within (omega (arith, h.port_within)))
+    ∙ ap (λ t. cond t None (option_map (λ port. record { addr = own.addr; port = port; transport = Udp }) (number_from 1 most_port (decimal own.port)))) h.host
+    ∙ ap (option_map (λ port. record { addr = own.addr; port = port; transport = Udp })) (number_from_read 1 most_port own.port h.port h.port_within (omega (arith, h.port_within)))
+    ∙ ap (λ (t : Transport). Some (record { addr = own.addr; port = own.port; transport = t })) (sym h.transport)
 
 user_lacks : (mark : ℕ) (user : List ℕ) → is_user user ≡ true → is_visible mark ≡ false → Lacks mark user
 user_lacks mark user h none = Lacks-pass is_visible mark user none (and_parts (nat_le 1 (length user)) (list_all is_visible user) h).1

@@ -1,6 +1,6 @@
 -- The locations of a user are targets of a request.
-use Rattle.proxy_config.proofs.Common.{◌≡◌, ℕ, ◌+◌, ◌<◌, ◌≤◌, Bool, true, false, cond, List, [], ◌∷◌, ◌++◌, map, length, Some, refl, sym, ap, subst, ◌∙◌, arith, append_assoc, append-nil, inl, inr, is_some, list_any, and_from, same_Some}
-use Rattle.proxy_config.proofs.Common.{bytes_eq-Decides, most_targets, most_q, hop_of, Location, locations_of, is_same, MayFollow, KeepsFrom, all_append}
+use Rattle.proxy_config.proofs.Common.{◌≡◌, ℕ, ◌+◌, ◌<◌, ◌≤◌, Bool, true, false, cond, List, [], ◌∷◌, ◌++◌, map, length, Some, refl, sym, ap, subst, ◌∙◌, arith, append_assoc, append-nil, inl, inr, is_by_datagram, list_any, and_from, same_Some}
+use Rattle.proxy_config.proofs.Common.{bytes_eq-Decides, most_targets, most_q, next_hop, Location, locations_of, is_same, MayFollow, KeepsFrom, all_append}
 use Rattle.std.proofs.Common.{zero, suc}
 use Rattle.std.specs.Prelude.{slice_get, ◌⊎◌, ◌||◌}
 use Rattle.std.proofs.lemmas.Bool.{false≢true}
@@ -19,7 +19,7 @@ get_last (z ∷ xs) x y (suc n) e = elim (get_last xs x y n e) [
 ]
 
 abbrev HasHop : Location → Type 0
-HasHop location = is_some (hop_of location.uri) ≡ true
+HasHop location = is_by_datagram (next_hop location) ≡ true
 
 abbrev HasWeight : Location → Type 0
 HasWeight location = location.q ≤ most_q

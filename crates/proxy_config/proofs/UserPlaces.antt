@@ -1,11 +1,11 @@
 -- The places of each user's locations, where one more location or place is added.
-use Rattle.proxy_config.proofs.Common.{◌≡◌, ℕ, ◌+◌, Bool, true, false, cond, List, [], ◌∷◌, ◌++◌, map, length, Option, Some, None, refl, sym, ap, subst, ◌∙◌, append-nil, list_any, bytes_eq-Decides, same_Some}
-use Rattle.proxy_config.proofs.Common.{Location, hop_of, is_same, is_some, locations_of, most_targets, not}
+use Rattle.proxy_config.proofs.Common.{◌≡◌, ℕ, Bool, true, false, cond, List, [], ◌∷◌, ◌++◌, map, length, Option, Some, None, refl, sym, ap, subst, ◌∙◌, append-nil, list_any, bytes_eq-Decides, same_Some}
+use Rattle.proxy_config.proofs.Common.{Location, next_hop, is_same, is_by_datagram, locations_of, most_targets, not}
 use Rattle.std.proofs.Common.{◌≢◌, Ordering, Vec, zero, suc}
 use Rattle.std.specs.BTreeMap.{BTreeMap, get_by, is_at}
 use Rattle.std.specs.Cmp.Lexicographic.{slice_cmp}
-use Rattle.std.specs.List.{cons_option, filter_map}
-use Rattle.std.specs.Map.{lookup, IsKeyTest, AreApart, KeepsOthers}
+use Rattle.std.specs.List.{cons_option}
+use Rattle.std.specs.Map.{IsKeyTest, AreApart, KeepsOthers}
 use Rattle.std.specs.Ordering.{nat_cmp, is_eq, eq_by_cmp}
 use Rattle.std.specs.Borrow.{Bor}
 use Rattle.std.specs.Option.{option_copied}
@@ -192,7 +192,7 @@ abbrev may_get : Bool → ℕ → Bool
 may_get is_there count = not is_there && nat_lt count most_targets
 
 -- what may follow is told by the places of the user's locations
-pub may_follow_by : {A : Type 0} (locations : List Location) (location : Location) (index : UserPlaces A) → AreOf locations index → is_some (hop_of location.uri) ≡ true
+pub may_follow_by : {A : Type 0} (locations : List Location) (location : Location) (index : UserPlaces A) → AreOf locations index → is_by_datagram (next_hop location) ≡ true
     → (user key : List ℕ) → user ≡ location.user → key ≡ location_key location → (places : List ℕ) → places ≡ places_of index user
     → (has : Bool) → has ≡ list_any (λ place. has_key key (slice_get locations place)) places → (count : ℕ) → count ≡ length places
     → (may : Bool) → may ≡ (not has && nat_lt count most_targets) → may ≡ may_follow locations location

@@ -8,7 +8,7 @@
 --     location bob 1000 sip:bob@192.0.2.4
 --
 -- Where `prefer` or `depth` is left out, the usual one holds. There may be any number of locations. The own address is not 0.0.0.0.
-use Rattle.std.specs.Prelude.{◌≡◌, ◌≤◌, ℕ, suc, Bool, true, false, IsTrue, List, [], ◌∷◌, ◌++◌, map, length}
+use Rattle.std.specs.Prelude.{◌≡◌, ◌≤◌, ℕ, suc, Bool, true, false, IsTrue, List, [], ◌∷◌, ◌++◌, map, length, None}
 use Rattle.std.specs.List.{AllByRecursion}
 use Rattle.fork_model.specs.Table.{Rules, most_targets}
 use Rattle.fork_rank.specs.Preferred.{IsPreferredList, usual_preferred}
@@ -18,7 +18,7 @@ use Rattle.sip_uri.specs.Grammar.{IsUri}
 use Rattle.sip_uri.specs.Host.{is_host}
 use Rattle.sip_uri.specs.Uri.{spelling}
 use Rattle.proxy_config.specs.Line.{Line, OwnLine, InstanceLine, DomainLine, PreferLine, DepthLine, LocationLine, IsOwn, is_user, line_text, most_instance}
-use Rattle.proxy_config.specs.Setup.{Setup, Location, KeepsRules}
+use Rattle.proxy_config.specs.Setup.{Setup, Location, KeepsRules, usual_longest}
 
 -- ---- the lines
 
@@ -57,6 +57,9 @@ pub record AreRules (shown : Shown) (rules : Rules) : Type 0 where
 pub record IsLocation (location : Location) : Type 0 where
   pub user : IsTrue (is_user location.user)
   pub uri : IsUri location.uri
+  -- no line says these
+  pub no_hop : location.hop ≡ None
+  pub longest : location.longest ≡ usual_longest
 
 pub record IsSetup (shown : Shown) (setup : Setup) : Type 0 where
   pub own : IsOwn setup.own
@@ -65,9 +68,14 @@ pub record IsSetup (shown : Shown) (setup : Setup) : Type 0 where
   pub rules : AreRules shown setup.rules
   pub locations : AllByRecursion IsLocation setup.locations
   pub kept : KeepsRules setup.locations
-  -- no line says that the port counts, or that it is for a service
+  -- no line says these
   pub by_port : setup.by_port ≡ false
   pub for_service : setup.for_service ≡ false
+  pub ring : setup.ring ≡ usual_longest
+  pub records : setup.records ≡ false
+  pub stamps : setup.stamps ≡ false
+  pub reasons : setup.reasons ≡ false
+  pub streams : setup.streams ≡ false
 
 -- ---- the text
 

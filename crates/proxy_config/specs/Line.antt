@@ -5,6 +5,7 @@ use Rattle.std.specs.Fmt.{decimal}
 pub use Rattle.fork_text.specs.Field.{is_visible}
 use Rattle.fork_text.specs.Field.{numbered_text}
 use Rattle.fork_text.specs.RuleLines.{prefer_text, depth_text}
+use Rattle.sip_uri.specs.declared.hop.Transport.TheVariants.{Udp}
 use Rattle.sip_via.specs.Address.{address_text}
 use Rattle.sip_via.specs.declared.own.Own.{Own}
 
@@ -40,13 +41,14 @@ most_instance = 4294967295
 abbrev pub no_host : List ℕ
 no_host = 0 ∷ 0 ∷ 0 ∷ 0 ∷ []
 
--- four bytes that name a host, and a port
+-- four bytes that name a host, and a port; no line says the transport
 pub record IsOwn (own : Own) : Type 0 where
   pub four : length own.addr ≡ 4
   pub bytes : AllByRecursion (λ byte. byte ≤ 255) own.addr
   pub host : bytes_eq own.addr no_host ≡ false
   pub port : 1 ≤ own.port
   pub port_within : own.port ≤ most_port
+  pub transport : own.transport ≡ Udp
 
 -- bytes that show, at least one
 abbrev pub is_user : List ℕ → Bool

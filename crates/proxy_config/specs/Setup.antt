@@ -1,20 +1,29 @@
 -- What a proxy is set up with: the address it receives at, the number of this run, the domain it answers for, the rules
 -- of its forks, and where the users of the domain may be reached (RFC 3261 sections 16.5 and 16.6).
-use Rattle.std.specs.Prelude.{◌≡◌, ◌<◌, ◌≤◌, ℕ, ◌&&◌, Bool, true, false, bytes_eq, List, [], ◌∷◌, ◌++◌, map, filter, length, is_some, slice_get, Some}
+use Rattle.std.specs.Prelude.{◌≡◌, ◌<◌, ◌≤◌, ℕ, ◌&&◌, ◌==◌, Bool, true, false, bytes_eq, List, [], ◌∷◌, ◌++◌, map, filter, length, Option, None, Some, slice_get, if◌then◌else◌}
 use Rattle.std.specs.List.{list_any, AllByRecursion}
 use Rattle.fork_model.specs.Table.{Rules, most_targets}
 use Rattle.fork_text.specs.Field.{most_q}
+use Rattle.sip_uri.specs.declared.hop.Hop.{Hop}
+use Rattle.sip_uri.specs.declared.hop.Transport.{Transport}
+use Rattle.sip_uri.specs.declared.hop.Transport.TheVariants.{Udp, Tcp, Back}
 use Rattle.sip_uri.specs.Hop.{hop_of}
 use Rattle.sip_uri.specs.Host.{is_host}
 use Rattle.sip_uri.specs.Key.{key_of}
 use Rattle.sip_uri.specs.Uri.{Uri}
 use Rattle.sip_via.specs.declared.own.Own.{Own}
 
--- q in thousandths
+-- how long a branch rings at most where nothing says less, in milliseconds (timer C, section 16.6 step 11)
+abbrev pub usual_longest : ℕ
+usual_longest = 181000
+
+-- q in thousandths; a hop where requests do not go by that of the URI; how long a branch rings at most, in milliseconds
 pub record Location : Type 0 where
   pub user : List ℕ
   pub q : ℕ
   pub uri : Uri
+  pub hop : Option Hop
+  pub longest : ℕ
 
 pub record Setup : Type 0 where
   pub own : Own
@@ -26,6 +35,42 @@ pub record Setup : Type 0 where
   pub by_port : Bool
   -- whether each Route value at the front that leads to the proxy is taken away, or else the first alone (section 16.4)
   pub for_service : Bool
+  -- how long a branch to a target that is no location rings at most, in milliseconds (section 16.6 step 11)
+  pub ring : ℕ
+  -- whether a request that opens a dialog gets a Record-Route line (section 16.6 step 4)
+  pub records : Bool
+  -- whether a 100 gets the Timestamp line of its request (section 8.2.6.1)
+  pub stamps : Bool
+  -- whether a CANCEL says why the branch is cancelled (RFC 3326)
+  pub reasons : Bool
+  -- whether the proxy has connections, so that requests may go over TCP (section 18)
+  pub streams : Bool
+
+-- by which hop a request goes to a location (section 16.6 step 7): by its own, or else by that of its URI
+abbrev pub hop_or_that_of : Option Hop → Uri → Option Hop
+hop_or_that_of None uri = hop_of uri
+hop_or_that_of (Some hop) uri = Some hop
+
+abbrev pub next_hop : Location → Option Hop
+next_hop location = hop_or_that_of location.hop location.uri
+
+-- over UDP
+abbrev pub is_datagram : Transport → Bool
+is_datagram Udp = true
+is_datagram Tcp = false
+is_datagram (Back sent_by) = false
+
+abbrev pub is_by_datagram : Option Hop → Bool
+is_by_datagram None = false
+is_by_datagram (Some hop) = is_datagram hop.transport
+
+-- a location that has the usual longest time has this one
+abbrev pub with_longest : ℕ → Location → Location
+with_longest longest location = record location { longest = if location.longest == usual_longest then longest else location.longest }
+
+-- so rings each location, and each other target
+abbrev pub with_ring : ℕ → Setup → Setup
+with_ring longest setup = record setup { locations = map (with_longest longest) setup.locations; ring = longest }
 
 abbrev pub is_of_user : List ℕ → Location → Bool
 is_of_user user location = bytes_eq location.user user
@@ -38,10 +83,10 @@ locations_of user locations = filter (is_of_user user) locations
 abbrev pub is_same : Location → Location → Bool
 is_same location other = is_of_user location.user other && bytes_eq (key_of other.uri) (key_of location.uri)
 
--- what a location has to be, behind those that stand before it: a request can be sent there, its user has not got this
+-- what a location has to be, behind those that stand before it: a request can be sent there over UDP, its user has not got this
 -- target yet, nor as many locations as may be tried
 pub record MayFollow (earlier : List Location) (location : Location) : Type 0 where
-  pub hop : is_some (hop_of location.uri) ≡ true
+  pub hop : is_by_datagram (next_hop location) ≡ true
   pub q : location.q ≤ most_q
   pub apart : list_any (is_same location) earlier ≡ false
   pub few : length (locations_of location.user earlier) < most_targets
@@ -64,12 +109,12 @@ pub record IsKept (own : Own) (domain : List ℕ) (locations : List Location) : 
 abbrev pub location_key : Location → List ℕ
 location_key location = key_of location.uri
 
--- the targets of a request to a user: no more than may be tried, none twice, each with an address to send to, at a q of
--- at most one
+-- the targets of a request to a user: no more than may be tried, none twice, each with an address to send to over UDP, at a
+-- q of at most one
 pub record AreTargets (locations : List Location) : Type 0 where
   pub few : length locations ≤ most_targets
   pub apart : (m n : ℕ) (key : List ℕ) → m < n → slice_get (map location_key locations) m ≡ Some key → slice_get (map location_key locations) n ≡ Some key → ⊥
-  pub hops : AllByRecursion (λ location. is_some (hop_of location.uri) ≡ true) locations
+  pub hops : AllByRecursion (λ location. is_by_datagram (next_hop location) ≡ true) locations
   pub weights : AllByRecursion (λ location. location.q ≤ most_q) locations
 
 -- so are the locations of each user, where each may follow those before it

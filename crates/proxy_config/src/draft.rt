@@ -11,7 +11,7 @@ ghost use Rattle.proxy_config.specs.ReadView.{GivesSetup};
 use crate::fault::SetupFault;
 use crate::line::{Line, read_line};
 use crate::listed::Listed;
-use crate::location::Location;
+use crate::location::{Location, USUAL_LONGEST};
 use crate::setup::Setup;
 use fork_rank::Rules;
 use fork_text::{with_depth, with_preferred};
@@ -88,6 +88,7 @@ struct Parts<A: Allocator> {
 impl<A: Allocator> Model for Parts<A> {
     ghost use Rattle.std.specs.Prelude.{false};
     ghost use Rattle.proxy_config.specs.Setup as spec;
+    ghost use Rattle.proxy_config.specs.Setup.{usual_longest};
 
     ghost Value = { spec.Setup };
 
@@ -99,6 +100,11 @@ impl<A: Allocator> Model for Parts<A> {
       locations = p.locations;
       by_port = false;
       for_service = false;
+      ring = usual_longest;
+      records = false;
+      stamps = false;
+      reasons = false;
+      streams = false;
     } };
 }
 
@@ -107,10 +113,7 @@ impl<A: Allocator + Clone> Parts<A> {
         ensures { IfOk result (λ parts. parts ≡ no_setup) }
     {
         Ok(Parts {
-            own: Own {
-                addr: [0, 0, 0, 0],
-                port: 0,
-            },
+            own: Own::over_udp([0, 0, 0, 0], 0),
             instance: 0,
             domain: Vec::new(alloc.clone()?),
             rules: Rules::usual(),
@@ -239,6 +242,11 @@ impl<A: Allocator + Clone> Draft<A> {
             locations: self.parts.locations,
             by_port: false,
             for_service: false,
+            ring: USUAL_LONGEST,
+            records: false,
+            stamps: false,
+            reasons: false,
+            streams: false,
         })
     }
 }

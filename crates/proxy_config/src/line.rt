@@ -111,7 +111,7 @@ fn read_own(text: &[u8]) -> Option<Own>
                 return None;
             }
             let port = read_port(port)?;
-            Some(Own { addr, port })
+            Some(Own::over_udp(addr, port))
         }
     }
 }

@@ -1,8 +1,8 @@
 //! Locations, with the places of each user's.
-ghost use Rattle.std.specs.Prelude.{◌≡◌, ◌&&◌, [], not, nat_lt, IfOk, Some, None, if◌then◌else◌, slice_get};
+ghost use Rattle.std.specs.Prelude.{◌≡◌, ◌&&◌, [], map, not, nat_lt, IfOk, Some, None, if◌then◌else◌, slice_get};
 ghost use Rattle.std.specs.List.{list_any};
 ghost use Rattle.fork_model.specs.Table.{most_targets};
-ghost use Rattle.proxy_config.specs.Setup.{locations_of};
+ghost use Rattle.proxy_config.specs.Setup.{is_by_datagram, locations_of, with_longest};
 ghost use Rattle.proxy_config.specs.inner.Reading.{added, may_follow};
 ghost use Rattle.proxy_config.specs.inner.UserPlaces.{has_key};
 
@@ -10,6 +10,7 @@ use crate::location::Location;
 use crate::user_locations::UserLocations;
 use crate::user_places::UserPlaces;
 use fork_rank::MOST_TARGETS;
+use sip_uri::{Hop, Transport};
 use std::alloc::{AllocError, Allocator};
 use std::marker::Model;
 
@@ -51,6 +52,19 @@ fn has_key<A: Allocator + Clone>(locations: &[Location<A>], places: &[usize], ke
         .any(|&place| has_key_at(locations, place, key))
 }
 
+/// Whether there is a hop, and it is over UDP.
+fn is_by_datagram(hop: Option<Hop>) -> bool
+    ensures { result ≡ is_by_datagram hop }
+{
+    match hop {
+        None => false,
+        Some(hop) => match hop.transport {
+            Transport::Udp => true,
+            Transport::Tcp | Transport::Back(_) => false,
+        },
+    }
+}
+
 /// Whether a user with so many targets may get one more: the user has not got it yet, nor as many as may be tried.
 fn may_get(is_there: bool, count: usize) -> bool
     ensures { result ≡ (not is_there && nat_lt count most_targets) }
@@ -58,11 +72,27 @@ fn may_get(is_there: bool, count: usize) -> bool
     !is_there && count < usize::from(MOST_TARGETS)
 }
 
+/// A branch to each of the locations rings so long at most where it has the usual longest time.
+fn ring_all<A: Allocator>(locations: &mut Vec<Location<A>, A>, longest: u64)
+    ensures { locations.new.items ≡ map (with_longest longest) locations.old.items }
+{
+    for location in locations.iter_mut() {
+        location.ring(longest);
+    }
+}
+
 impl<A: Allocator> Listed<A> {
     pub(crate) fn as_slice(&self) -> &[Location<A>]
         ensures { result.now ≡ self.now }
     {
         self.locations.as_slice()
+    }
+
+    /// A branch to each of the locations rings so long at most where it has the usual longest time.
+    pub(crate) fn ring(&mut self, longest: u64)
+        ensures { self.new ≡ map (with_longest longest) self.old }
+    {
+        ring_all(&mut self.locations, longest);
     }
 }
 
@@ -76,12 +106,12 @@ impl<A: Allocator + Clone> Listed<A> {
         })
     }
 
-    /// Whether a location may stand behind these: a request can be sent there, its user has not got this target yet, nor as
+    /// Whether a location may stand behind these: a request can be sent there over UDP, its user has not got this target yet, nor as
     /// many locations as may be tried.
     fn may_follow(&self, location: &Location<A>) -> bool
         ensures { result ≡ may_follow self.now location.now }
     {
-        if location.uri().next_hop().is_none() {
+        if !is_by_datagram(location.next_hop()) {
             return false;
         }
         let places = self.places.of(location.user());

@@ -1,11 +1,15 @@
 //! Where a user may be reached.
 ghost use Rattle.std.specs.Prelude.{◌≡◌, ◌≤◌};
 ghost use Rattle.fork_text.specs.Field.{most_q};
-ghost use Rattle.proxy_config.specs.Setup.{is_of_user};
+ghost use Rattle.proxy_config.specs.Setup.{is_of_user, next_hop, usual_longest, with_longest};
 
-use sip_uri::SipUri;
+use sip_uri::{Hop, SipUri};
 use std::alloc::{Allocator, Global};
 use std::marker::Model;
+
+/// How long a branch rings at most where nothing says less, in milliseconds: timer C, which has to run for more than 3
+/// minutes (RFC 3261 section 16.6 step 11).
+pub(crate) const USUAL_LONGEST: u64 = 181_000;
 
 /// Where a user of the domain may be reached (RFC 3261 section 16.5).
 #[derive(Drop)]
@@ -13,6 +17,8 @@ pub struct Location<A: Allocator = Global> {
     user: Vec<u8, A>,
     q: u16,
     uri: SipUri<A>,
+    hop: Option<Hop>,
+    longest: u64,
 }
 
 impl<A: Allocator> Model for Location<A> {
@@ -22,18 +28,33 @@ impl<A: Allocator> Model for Location<A> {
 
     ghost Value = { spec.Location };
 
-    ghost view = { λ l. record { user = l.user.items; q = l.q; uri = l.uri } };
+    ghost view = { λ l. record { user = l.user.items; q = l.q; uri = l.uri; hop = l.hop; longest = l.longest } };
 
     ghost invariant = { λ l. l.q ≤ most_q };
 }
 
 impl<A: Allocator> Location<A> {
-    /// Where this user may be reached, at a q of at most one.
+    /// Where this user may be reached, at a q of at most one: by the hop of the URI, for the usual longest time.
     pub(crate) fn new(user: Vec<u8, A>, q: u16, uri: SipUri<A>) -> Self
         requires { q ≤ most_q }
-        ensures { result ≡ record { user = user.items; q = q; uri = uri } }
+        ensures { result ≡ record { user = user.items; q = q; uri = uri; hop = None; longest = usual_longest } }
     {
-        Location { user, q, uri }
+        Location {
+            user,
+            q,
+            uri,
+            hop: None,
+            longest: USUAL_LONGEST,
+        }
+    }
+
+    /// A branch to the location rings so long at most where it has the usual longest time.
+    pub(crate) fn ring(&mut self, longest: u64)
+        ensures { self.new ≡ with_longest longest self.old }
+    {
+        if self.longest == USUAL_LONGEST {
+            self.longest = longest;
+        }
     }
 
     /// The user, as it stands before the `@` of a request's URI (RFC 3261 section 19.1.1).
@@ -63,5 +84,25 @@ impl<A: Allocator> Location<A> {
         ensures { result.now ≡ self.now.uri }
     {
         &self.uri
+    }
+
+    /// How long a branch to the location rings at most, in milliseconds: then timer C fires (RFC 3261 section 16.6 step 11).
+    pub fn longest(&self) -> u64
+        ensures { result ≡ self.now.longest }
+    {
+        self.longest
+    }
+}
+
+impl<A: Allocator + Clone> Location<A> {
+    /// The hop that a request to the location goes by: its own, if it has one, or else that of its URI (RFC 3261 section 16.6
+    /// step 7).
+    pub fn next_hop(&self) -> Option<Hop>
+        ensures { result ≡ next_hop self.now }
+    {
+        match self.hop {
+            Some(hop) => Some(hop),
+            None => self.uri.next_hop(),
+        }
     }
 }

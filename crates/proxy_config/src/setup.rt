@@ -4,7 +4,7 @@ ghost use Rattle.sip_uri.specs.Host.{is_host};
 ghost use Rattle.proxy_config.specs.Configuration.{IsConfiguration};
 ghost use Rattle.proxy_config.specs.ReadView.{GivesSetup, IsFaultOf};
 ghost use Rattle.proxy_config.specs.Setup as spec;
-ghost use Rattle.proxy_config.specs.Setup.{KeepsRules, locations_of};
+ghost use Rattle.proxy_config.specs.Setup.{KeepsRules, locations_of, with_ring};
 
 use crate::draft::read_all;
 use crate::fault::SetupFault;
@@ -16,7 +16,8 @@ use sip_via::Own;
 use std::alloc::{Allocator, Global};
 use std::marker::Model;
 
-/// What a proxy is set up with. `read` makes one, `with_own_port` and `for_a_service` others of it.
+/// What a proxy is set up with. `read` makes one, and `with_own_port`, `for_a_service`, `ringing`, `recording`, `stamping`,
+/// `giving_reasons` and `with_streams` others of it.
 #[derive(Drop)]
 pub struct Setup<A: Allocator = Global> {
     pub(crate) own: Own,
@@ -26,6 +27,11 @@ pub struct Setup<A: Allocator = Global> {
     pub(crate) locations: Listed<A>,
     pub(crate) by_port: bool,
     pub(crate) for_service: bool,
+    pub(crate) ring: u64,
+    pub(crate) records: bool,
+    pub(crate) stamps: bool,
+    pub(crate) reasons: bool,
+    pub(crate) streams: bool,
 }
 
 impl<A: Allocator> Model for Setup<A> {
@@ -42,6 +48,11 @@ impl<A: Allocator> Model for Setup<A> {
       locations = s.locations;
       by_port = s.by_port;
       for_service = s.for_service;
+      ring = s.ring;
+      records = s.records;
+      stamps = s.stamps;
+      reasons = s.reasons;
+      streams = s.streams;
     } };
 
     ghost invariant = { λ s. IsKept s.own s.domain.items s.locations };
@@ -81,7 +92,7 @@ impl<A: Allocator> Setup<A> {
     /// Where the users of the domain may be reached, in the order of the text.
     pub fn locations(&self) -> &[Location<A>]
         ensures value { result.now ≡ self.now.locations }
-        // A request can be sent to each location; no user has one target twice, or more than may be tried.
+        // A request can be sent to each location over UDP; no user has one target twice, or more than may be tried.
         ensures rules { KeepsRules self.now.locations }
     {
         self.locations.as_slice()
@@ -120,6 +131,85 @@ impl<A: Allocator> Setup<A> {
         self.for_service = true;
         self
     }
+
+    /// How long a branch to a target that is no location rings at most, in milliseconds: to the Request-URI itself, and to the
+    /// contacts of a 3xx (RFC 3261 section 16.6 step 11).
+    pub fn ring(&self) -> u64
+        ensures { result ≡ self.now.ring }
+    {
+        self.ring
+    }
+
+    /// The same setup, but a branch rings for so many milliseconds at most, then timer C fires (RFC 3261 section 16.6 step 11):
+    /// a branch to a location that has the usual longest time, 181,000 ms, and to any target that is no location.
+    pub fn ringing(mut self, longest: u64) -> Setup<A>
+        ensures { result ≡ with_ring longest self }
+    {
+        self.ring = longest;
+        self.locations.ring(longest);
+        self
+    }
+
+    /// Whether a request that opens a dialog gets a Record-Route line of the proxy, so that the requests within the dialog come
+    /// this way, too (RFC 3261 section 16.6 step 4).
+    pub fn records(&self) -> bool
+        ensures { result ≡ self.now.records }
+    {
+        self.records
+    }
+
+    /// The same setup, but with a Record-Route line in each request that opens a dialog (RFC 3261 section 16.6 step 4).
+    pub fn recording(mut self) -> Setup<A>
+        ensures { result ≡ record self { records = true } }
+    {
+        self.records = true;
+        self
+    }
+
+    /// Whether a 100 of the proxy gets the Timestamp line of its request (RFC 3261 section 8.2.6.1).
+    pub fn stamps(&self) -> bool
+        ensures { result ≡ self.now.stamps }
+    {
+        self.stamps
+    }
+
+    /// The same setup, but with the Timestamp line of its request in each 100 of the proxy (RFC 3261 section 8.2.6.1).
+    pub fn stamping(mut self) -> Setup<A>
+        ensures { result ≡ record self { stamps = true } }
+    {
+        self.stamps = true;
+        self
+    }
+
+    /// Whether a CANCEL says why its branch is cancelled, in Reason lines (RFC 3326).
+    pub fn gives_reasons(&self) -> bool
+        ensures { result ≡ self.now.reasons }
+    {
+        self.reasons
+    }
+
+    /// The same setup, but with Reason lines in CANCELs (RFC 3326).
+    pub fn giving_reasons(mut self) -> Setup<A>
+        ensures { result ≡ record self { reasons = true } }
+    {
+        self.reasons = true;
+        self
+    }
+
+    /// Whether the proxy has connections, so that requests may go over TCP (RFC 3261 section 18).
+    pub fn has_streams(&self) -> bool
+        ensures { result ≡ self.now.streams }
+    {
+        self.streams
+    }
+
+    /// The same setup, but of a proxy that has connections: so requests may go over TCP (RFC 3261 section 18).
+    pub fn with_streams(mut self) -> Setup<A>
+        ensures { result ≡ record self { streams = true } }
+    {
+        self.streams = true;
+        self
+    }
 }
 
 impl<A: Allocator + Clone> Setup<A> {
@@ -134,8 +224,9 @@ impl<A: Allocator + Clone> Setup<A> {
     /// The setup that a text spells. Its lines, each ended by LF: `own ADDRESS PORT`; `instance NUMBER`; `domain HOST`;
     /// `prefer LIST` and `depth STEPS`, each of which may be left out, and then the usual rule holds; and any number of
     /// `location USER Q URI`. An own address 0.0.0.0 is malformed, for no answer could come back to it. So is a location that
-    /// no request can be sent to, and one whose user has the same target already, or as many locations as may be tried.
-    /// The own address counts as the domain with any port.
+    /// no request can be sent to over UDP, and one whose user has the same target already, or as many locations as may be tried.
+    /// The own address counts as the domain with any port, and its Via values are of UDP. Each branch rings for 181,000 ms at
+    /// most, no Record-Route, Timestamp or Reason line is added, and nothing goes over TCP.
     ///
     /// # Errors
     ///

@@ -1,12 +1,13 @@
 -- What becomes of a message, put together.
-use Rattle.proxy_dispatch.proofs.Common.{◌≡◌, ◌∙◌, ℕ, List, Option, Some, None, Result, Ok, Err, refl, sym, subst, ap, MessageText, Hop, Own, ViaFault, request_key, Setup, IsAdmitted, Purpose, Ack, Opening, IsDropped, IsFor, Passes}
+use Rattle.proxy_dispatch.proofs.Common.{◌≡◌, ◌∙◌, ℕ, List, Option, Some, None, Result, Ok, Err, refl, sym, subst, ap, Admits, MessageText, Hop, Own, ViaFault, request_key, Setup, IsAdmitted, Purpose, Ack, Opening, IsDropped, IsFor, Passes}
 use Rattle.std.proofs.Common.{[], ◌++◌, inr}
 use Rattle.std.specs.Prelude.{IfOk, option_map}
+use Rattle.sip_via.specs.OwnVia.{over}
 use Rattle.sip_text.specs.Fault.{FailsAs}
 use Rattle.sip_text.specs.Refusal.{IsRefused}
 use Rattle.sip_text.specs.Message.{read_at}
 use Rattle.sip_text.specs.Reading.{Fault}
-use Rattle.sip_text.specs.Text.{spelling}
+use Rattle.sip_text.specs.Text.{HeaderText, spelling}
 use Rattle.sip_uri.specs.Uri.{Uri}
 use Rattle.sip_via.specs.declared.branch.BranchName.{BranchName}
 use Rattle.sip_via.specs.declared.own.ViaFault.TheVariants.{BadVia}
@@ -75,10 +76,10 @@ becomes_at setup m source now handled h sent s e f b =
 
 pub answered_so : {X Y : Type 0} (r : Result X Y) (handled : X → Handled) (sent : X → Option Datagram) (setup : Setup) (m : MessageText) (source : Hop) (now : ℕ) (own : OwnStatus)
     → IsAnswered setup m source (purpose_of m.start) (code_of own)
-    → IfOk r (λ x. handled x ≡ Answered (code_of own)) → IfOk r (λ x. sent x ≡ Some (answer_of m source own))
+    → IfOk r (λ x. handled x ≡ Answered (code_of own)) → IfOk r (λ x. sent x ≡ Some (answer_of m source own []))
     → IfOk r (λ x. MessageBecomes setup m source now (handled x) (sent x))
 answered_so (Ok x) handled sent setup m source now own a e f =
-    becomes_at setup m source now (handled x) (Answered (code_of own)) (sent x) (Some (answer_of m source own)) e f (a, (own, refl, refl))
+    becomes_at setup m source now (handled x) (Answered (code_of own)) (sent x) (Some (answer_of m source own [])) e f (a, (own, refl, refl))
 answered_so (Err y) handled sent setup m source now own a e f = tt
 
 pub none_key : {T : Type 0} (f : T → List ℕ) (key : Option T) (k : Option (List ℕ)) → option_map f key ≡ k → key ≡ None → k ≡ None
@@ -86,21 +87,21 @@ none_key f key k e n = sym e ∙ ap (option_map f) n
 
 -- ---- a text that is no message
 
-pub unread_becomes : (setup : Setup) (text : List ℕ) (source : Hop) (now : ℕ) (handled : Handled) (sent : Option Datagram)
+pub unread_becomes : (admits : Admits) (setup : Setup) (text : List ℕ) (source : Hop) (now : ℕ) (handled : Handled) (sent : Option Datagram)
     → ((t : List ℕ) (f : Fault) → read_at t ≡ Err f → IsRefused t f) → (seen : Option Fault) → FailsAs seen (read_at text)
-    → ToldBecomes seen source handled sent → Becomes setup text source now handled sent
-unread_becomes setup text source now handled sent law None h b = absurd b
-unread_becomes setup text source now handled sent law (Some f) h b = inr (f, law text f h, b)
+    → ToldBecomes seen source handled sent → Becomes admits setup text source now handled sent
+unread_becomes admits setup text source now handled sent law None h b = absurd b
+unread_becomes admits setup text source now handled sent law (Some f) h b = inr (f, law text f h, b)
 
 -- ---- what is sent
 
-pub passed_text_so : (setup : Setup) (request : MessageText) (uri : Uri) (own : Own) (branch : BranchName) (old text : List ℕ)
-    → text ≡ old ++ spelling (forwarded request uri own branch) → old ≡ [] → own ≡ setup.own → branch ≡ passing_branch setup request
-    → text ≡ passed_text setup request uri
-passed_text_so setup request uri own branch old text e f p q =
-    e ∙ ap (λ (x : List ℕ). x ++ spelling (forwarded request uri own branch)) f ∙ (λ k. spelling (forwarded request uri (p k) (q k)))
+pub passed_text_so : (setup : Setup) (request : MessageText) (uri : Uri) (hop : Hop) (own : Own) (branch : BranchName) (old text : List ℕ)
+    → text ≡ old ++ spelling (forwarded request uri own branch None) → old ≡ [] → own ≡ over setup.own hop.transport → branch ≡ passing_branch setup request
+    → text ≡ passed_text setup request uri hop
+passed_text_so setup request uri hop own branch old text e f p q =
+    e ∙ ap (λ (x : List ℕ). x ++ spelling (forwarded request uri own branch None)) f ∙ (λ k. spelling (forwarded request uri (p k) (q k) None))
 
-pub unmarked_answer : (source : Hop) (status : OwnStatus) (m n : MessageText) (r : Result MessageText ViaFault) → refusal r ≡ BadVia → n ≡ m
-    → answer_to n status source ≡ answer_made source status m r
-unmarked_answer source status m n (Ok x) e f = absurd cc
-unmarked_answer source status m n (Err fault) e f = ap (λ (x : MessageText). answer_to x status source) f
+pub unmarked_answer : (source : Hop) (status : OwnStatus) (further : List HeaderText) (m n : MessageText) (r : Result MessageText ViaFault) → refusal r ≡ BadVia → n ≡ m
+    → answer_to n status further source ≡ answer_made source status further m r
+unmarked_answer source status further m n (Ok x) e f = absurd cc
+unmarked_answer source status further m n (Err fault) e f = ap (λ (x : MessageText). answer_to x status further source) f

@@ -1,6 +1,7 @@
 -- The names that most proofs of this crate cite, passed on from one place. Declares nothing.
 pub use Rattle.std.proofs.Common.{Err, List, None, Ok, Option, Result, Some, ap, inl, refl, subst, sym, ℕ, ◌∙◌, ◌≡◌}
 pub use Rattle.std.proofs.lemmas.Result.{IfOk-weaker}
+pub use Rattle.proxy_dispatch.specs.Admitting.{Admits}
 pub use Rattle.proxy_dispatch.specs.Becomes.{IsDropped, IsFor}
 pub use Rattle.proxy_dispatch.specs.Passing.{Passes}
 pub use Rattle.proxy_dispatch.specs.declared.purpose.Purpose.{Purpose}

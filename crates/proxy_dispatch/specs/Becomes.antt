@@ -1,6 +1,6 @@
 -- What becomes of a datagram that a proxy receives, and what is sent for it at once (RFC 3261 sections 16.2, 16.7 step 1,
 -- 16.10, 16.11, 17.1.3, 17.2.3 and 18).
-use Rattle.std.specs.Prelude.{◌≡◌, ◌≢◌, ◌⊎◌, ℕ, true, false, List, Option, Some, None}
+use Rattle.std.specs.Prelude.{◌≡◌, ◌≢◌, ◌⊎◌, ℕ, Bool, true, false, List, [], Option, Some, None, IfSome}
 use Rattle.sip_text.specs.Grammar.{IsText}
 use Rattle.sip_text.specs.Reading.{Fault, Short}
 use Rattle.sip_text.specs.Refusal.{IsRefused}
@@ -24,12 +24,14 @@ use Rattle.call_routing.specs.Opening.{Opens, Refuses}
 use Rattle.proxy_routing.specs.Refusing.{status_of_fault}
 use Rattle.fork_call.specs.Takes.{Takes}
 use Rattle.proxy_dispatch.specs.declared.datagrams.Handled.{Handled}
-use Rattle.proxy_dispatch.specs.declared.datagrams.Handled.TheVariants.{Dropped, Absorbed, Answered, Forwarded, Opened, Delivered}
+use Rattle.proxy_dispatch.specs.declared.datagrams.Handled.TheVariants.{Dropped, Absorbed, Answered, TurnedAway, Forwarded, Opened, Delivered}
 use Rattle.proxy_dispatch.specs.declared.purpose.Purpose.{Purpose}
 use Rattle.proxy_dispatch.specs.declared.purpose.Purpose.TheVariants.{Ack, Cancel, Opening}
+use Rattle.proxy_dispatch.specs.Admitting.{Admits, opener_of}
+use Rattle.proxy_dispatch.specs.Asking.{asks_service}
 use Rattle.proxy_dispatch.specs.Purpose.{is_fault_answered, purpose_of}
 use Rattle.proxy_dispatch.specs.Passing.{HasOwnTag, Passes}
-use Rattle.proxy_dispatch.specs.Sent.{answer_of}
+use Rattle.proxy_dispatch.specs.Sent.{answer_of, capabilities_to, unavailable_to}
 
 -- ---- a call takes it
 
@@ -71,17 +73,18 @@ IsDropped setup m source None = Unit {0}
 IsDropped setup m source (Some Ack) = (request_key m ≢ None) ⊎ ((HasOwnTag m → ⊥) × Passes setup m source None)
 IsDropped setup m source (Some _) = request_key m ≢ None
 
--- ---- the whole
+-- ---- what becomes of it
 
 abbrev pub IsAnswer : MessageText → Hop → ℕ → Option Datagram → Type 0
-IsAnswer m source status sent = (own : OwnStatus) × (code_of own ≡ status) × (sent ≡ Some (answer_of m source own))
+IsAnswer m source status sent = (own : OwnStatus) × (code_of own ≡ status) × (sent ≡ Some (answer_of m source own []))
 
--- of a message, and what is sent
+-- of a message that does not ask the proxy itself and was not turned away, and what is sent
 abbrev pub MessageBecomes : Setup → MessageText → Hop → ℕ → Handled → Option Datagram → Type 0
 MessageBecomes setup m source now Dropped sent = IsDropped setup m source (purpose_of m.start) × (sent ≡ None)
 MessageBecomes setup m source now Absorbed sent = (purpose_of m.start ≡ Some Ack) × HasOwnTag m × (sent ≡ None)
 MessageBecomes setup m source now (Answered status) sent =
     IsAnswered setup m source (purpose_of m.start) status × IsAnswer m source status sent
+MessageBecomes setup m source now TurnedAway sent = ⊥
 MessageBecomes setup m source now Forwarded sent =
     (purpose_of m.start ≡ Some Ack)
     × (HasOwnTag m → ⊥)
@@ -93,6 +96,48 @@ MessageBecomes setup m source now (Opened number) sent =
 MessageBecomes setup m source now (Delivered number) sent =
     IsFor setup number m (purpose_of m.start) × IsTaken number m source now × (sent ≡ None)
 
+-- ---- a request that may open a call
+
+-- it is known by its key, and was admitted or turned away
+pub record IsAsked (admits : Admits) (m : MessageText) (admitted : Bool) : Type 0 where
+  pub keyed : request_key m ≢ None
+  pub said : admits (opener_of m) admitted
+
+-- it was admitted, and does not ask the proxy itself
+pub record MayOpen (admits : Admits) (setup : Setup) (m : MessageText) : Type 0 where
+  pub admitted : IsAsked admits m true
+  pub is_others : asks_service setup m ≡ false
+
+-- so it is of a request that opens a call, and of one that is answered by a reason for which it opens none; but one without a
+-- key is answered unasked
+abbrev pub WasAdmitted : Admits → Setup → MessageText → Option Purpose → Handled → Type 0
+WasAdmitted admits setup m (Some Opening) (Answered status) = IfSome (request_key m) (λ key. MayOpen admits setup m)
+WasAdmitted admits setup m (Some Opening) (Opened number) = MayOpen admits setup m
+WasAdmitted admits setup m _ _ = Unit {0}
+
+-- an OPTIONS to the proxy itself that was admitted is answered 200, with what the proxy takes (section 11.2)
+pub record IsTold (admits : Admits) (setup : Setup) (m : MessageText) (source : Hop) (handled : Handled) (sent : Option Datagram) : Type 0 where
+  pub opening : purpose_of m.start ≡ Some Opening
+  pub admitted : IsAsked admits m true
+  pub asks : asks_service setup m ≡ true
+  pub handled_is : handled ≡ Answered 200
+  pub sent_is : sent ≡ Some (capabilities_to m source)
+
+-- a request that was not admitted is answered 503, with when it may come again (section 21.5.4)
+pub record IsTurnedAway (admits : Admits) (m : MessageText) (source : Hop) (handled : Handled) (sent : Option Datagram) : Type 0 where
+  pub opening : purpose_of m.start ≡ Some Opening
+  pub refused : IsAsked admits m false
+  pub handled_is : handled ≡ TurnedAway
+  pub sent_is : sent ≡ Some (unavailable_to m source)
+
+-- of a message, where these answers were given of who may open a call
+abbrev pub AdmittedBecomes : Admits → Setup → MessageText → Hop → ℕ → Handled → Option Datagram → Type 0
+AdmittedBecomes admits setup m source now handled sent =
+    (MessageBecomes setup m source now handled sent × WasAdmitted admits setup m (purpose_of m.start) handled)
+    ⊎ (IsTold admits setup m source handled sent ⊎ IsTurnedAway admits m source handled sent)
+
+-- ---- the whole
+
 -- of a text that is no message: a request whose body is cut short is answered 400, made of what stands before the body
 abbrev pub FaultBecomes : Fault → Hop → Handled → Option Datagram → Type 0
 FaultBecomes fault source Dropped sent = (is_fault_answered fault ≡ false) × (sent ≡ None)
@@ -101,10 +146,10 @@ FaultBecomes fault source (Answered status) sent =
     × (is_fault_answered fault ≡ true)
     × (head : MessageText)
     × (fault ≡ Short head)
-    × (sent ≡ Some (answer_of head source own.BadRequest))
+    × (sent ≡ Some (answer_of head source own.BadRequest []))
 FaultBecomes fault source _ sent = ⊥
 
-abbrev pub Becomes : Setup → List ℕ → Hop → ℕ → Handled → Option Datagram → Type 0
-Becomes setup text source now handled sent =
-    ((m : MessageText) × IsText text m × MessageBecomes setup m source now handled sent)
+abbrev pub Becomes : Admits → Setup → List ℕ → Hop → ℕ → Handled → Option Datagram → Type 0
+Becomes admits setup text source now handled sent =
+    ((m : MessageText) × IsText text m × AdmittedBecomes admits setup m source now handled sent)
     ⊎ ((fault : Fault) × IsRefused text fault × FaultBecomes fault source handled sent)

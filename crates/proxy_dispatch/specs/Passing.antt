@@ -25,13 +25,13 @@ abbrev pub GoesOn : Setup → MessageText → Option Datagram → Type 0
 GoesOn setup request None =
     (uri : Uri)
     × (target_uri request ≡ Ok uri)
-    × ((is_domain setup uri ≡ true) ⊎ (hop_by (first_route request) uri ≡ None))
+    × ((is_domain setup uri ≡ true) ⊎ (hop_by setup.streams (first_route request) uri ≡ None))
 GoesOn setup request (Some datagram) =
     (uri : Uri)
     × (hop : Hop)
     × (target_uri request ≡ Ok uri)
     × (is_domain setup uri ≡ false)
-    × (hop_by (first_route request) uri ≡ Some hop)
+    × (hop_by setup.streams (first_route request) uri ≡ Some hop)
     × (datagram ≡ passed_on setup request uri hop)
 
 -- what is sent on of an ACK: nothing where one of the first four steps of section 16.3 stops it

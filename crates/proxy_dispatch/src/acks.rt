@@ -58,14 +58,16 @@ fn passed_text<A: Allocator + Clone>(
     setup: &Setup<A>,
     request: &Message<A>,
     uri: &SipUri<A>,
+    hop: Hop,
 ) -> Result<Vec<u8, A>, AllocError>
     requires request { is_request request.now.start ≡ true }
     requires hops { IfSome (first_value hops_name request.now.headers) IsHops }
-    ensures { IfOk result (λ text. text.items ≡ passed_text setup.now request.now uri.now) }
+    ensures { IfOk result (λ text. text.items ≡ passed_text setup.now request.now uri.now hop) }
 {
     let branch = passing_branch(setup, request);
     let mut text = Vec::new(alloc);
-    write_forwarded(request, uri, setup.own(), &branch, &mut text)?;
+    let own = setup.own().over(hop.transport);
+    write_forwarded(request, uri, own, &branch, None, &mut text)?;
     Ok(text)
 }
 
@@ -81,7 +83,7 @@ fn passed_on<A: Allocator + Clone>(
     requires hops { IfSome (first_value hops_name request.now.headers) IsHops }
     ensures { IfOk result (λ datagram. seen datagram ≡ passed_on setup.now request.now uri.now hop) }
 {
-    let bytes = passed_text(alloc, setup, request, uri)?;
+    let bytes = passed_text(alloc, setup, request, uri, hop)?;
     Ok(Datagram {
         to: hop,
         bytes,
@@ -104,7 +106,7 @@ fn going_on<A: Allocator + Clone>(
     if is_domain(setup, &uri) {
         return Ok(None);
     }
-    match hop_by(first_route(request), &uri) {
+    match hop_by(setup.has_streams(), first_route(request), &uri) {
         None => Ok(None),
         Some(hop) => Ok(Some(passed_on(alloc, setup, request, &uri, hop)?)),
     }

@@ -1,18 +1,21 @@
 //! Requests that the proxy answers without a call.
-ghost use Rattle.std.specs.Prelude.{◌≡◌, IfOk, Some};
+ghost use Rattle.std.specs.Prelude.{◌≡◌, [], IfOk, Some, true};
+ghost use Rattle.std.specs.List.{list_all};
 ghost use Rattle.std.specs.Option.{option_map};
+ghost use Rattle.sip_text.specs.Message.{is_header};
 ghost use Rattle.sip_text.specs.Text.{spelling};
+ghost use Rattle.sip_build.specs.Further.{view_lines};
 ghost use Rattle.sip_build.specs.Generated.{code_of, generated_of};
 ghost use Rattle.call_model.specs.SeenDatagram.{seen};
 ghost use Rattle.proxy_routing.specs.Refusing.{status_of_fault};
 ghost use Rattle.proxy_dispatch.specs.declared.datagrams.Handled.TheVariants as handled;
-ghost use Rattle.proxy_dispatch.specs.Sent.{answer_of, answer_to};
+ghost use Rattle.proxy_dispatch.specs.Sent.{answer_of, answer_to, capabilities_to, unavailable_to};
 ghost use Rattle.proxy_dispatch.specs.inner.Sent.{seen_sent};
 
 use crate::datagrams::Handled;
 use crate::outcome::Outcome;
 use fork_call::{Cause, Datagram, RequestRejection};
-use sip_build::{OwnStatus, write_generated};
+use sip_build::{FurtherLine, OwnStatus, write_generated};
 use sip_text::Message;
 use sip_uri::Hop;
 use sip_via::{ViaFault, add_received, reply_hop_of};
@@ -23,11 +26,13 @@ fn answer_text<A: Allocator>(
     alloc: A,
     request: &Message<A>,
     status: OwnStatus,
+    further: &[FurtherLine<'_>],
 ) -> Result<Vec<u8, A>, AllocError>
-    ensures { IfOk result (λ text. text.items ≡ spelling (generated_of request.now status)) }
+    requires { list_all is_header (view_lines further.now) ≡ true }
+    ensures { IfOk result (λ text. text.items ≡ spelling (generated_of request.now status (view_lines further.now))) }
 {
     let mut text = Vec::new(alloc);
-    write_generated(request, status, &mut text)?;
+    write_generated(request, status, further, &mut text)?;
     Ok(text)
 }
 
@@ -36,11 +41,13 @@ fn answer_to<A: Allocator>(
     alloc: A,
     request: &Message<A>,
     status: OwnStatus,
+    further: &[FurtherLine<'_>],
     to: Hop,
 ) -> Result<Datagram<A>, AllocError>
-    ensures { IfOk result (λ datagram. seen datagram ≡ answer_to request.now status to) }
+    requires { list_all is_header (view_lines further.now) ≡ true }
+    ensures { IfOk result (λ datagram. seen datagram ≡ answer_to request.now status (view_lines further.now) to) }
 {
-    let bytes = answer_text(alloc, request, status)?;
+    let bytes = answer_text(alloc, request, status, further)?;
     Ok(Datagram {
         to,
         bytes,
@@ -56,13 +63,21 @@ fn answer_of<A: Allocator + Clone>(
     request: Message<A>,
     source: Hop,
     status: OwnStatus,
+    further: &[FurtherLine<'_>],
 ) -> Result<Datagram<A>, AllocError>
-    ensures { IfOk result (λ datagram. seen datagram ≡ answer_of request source status) }
+    requires { list_all is_header (view_lines further.now) ≡ true }
+    ensures { IfOk result (λ datagram. seen datagram ≡ answer_of request source status (view_lines further.now)) }
 {
     match add_received(alloc.clone()?, request, source) {
-        Ok(marked) => answer_to(alloc, &marked, status, reply_hop_of(&marked, source)),
+        Ok(marked) => answer_to(
+            alloc,
+            &marked,
+            status,
+            further,
+            reply_hop_of(&marked, source),
+        ),
         Err(unmarked) => match unmarked.fault {
-            ViaFault::BadVia => answer_to(alloc, &unmarked.message, status, source),
+            ViaFault::BadVia => answer_to(alloc, &unmarked.message, status, further, source),
             ViaFault::NoMemory => Err(AllocError),
         },
     }
@@ -76,10 +91,58 @@ pub(crate) fn answered<A: Allocator + Clone>(
     status: OwnStatus,
 ) -> Result<Outcome<A>, AllocError>
     ensures handled { IfOk result (λ outcome. outcome.handled ≡ handled.Answered (code_of status)) }
-    ensures sent { IfOk result (λ outcome. seen_sent outcome.datagram ≡ Some (answer_of request source status)) }
+    ensures sent { IfOk result (λ outcome. seen_sent outcome.datagram ≡ Some (answer_of request source status [])) }
 {
-    let datagram = answer_of(alloc, request, source, status)?;
+    let datagram = answer_of(alloc, request, source, status, &[])?;
     Ok(Outcome::sends(Handled::Answered(status.code()), datagram))
+}
+
+/// What becomes of an OPTIONS request to the proxy itself that came from `source`: a 200 says what the proxy takes (RFC 3261
+/// section 11.2).
+pub(crate) fn told<A: Allocator + Clone>(
+    alloc: A,
+    request: Message<A>,
+    source: Hop,
+) -> Result<Outcome<A>, AllocError>
+    ensures handled { IfOk result (λ outcome. outcome.handled ≡ handled.Answered 200) }
+    ensures sent { IfOk result (λ outcome. seen_sent outcome.datagram ≡ Some (capabilities_to request source)) }
+{
+    let capabilities = [
+        FurtherLine {
+            name: b"Allow",
+            value: b"INVITE, ACK, CANCEL, OPTIONS, BYE",
+        },
+        FurtherLine {
+            name: b"Accept",
+            value: b"application/sdp",
+        },
+    ];
+    let datagram = answer_of(alloc, request, source, OwnStatus::Okay, &capabilities)?;
+    Ok(Outcome::sends(Handled::Answered(200), datagram))
+}
+
+/// What becomes of a request that came from `source` and is turned away: a 503 says after how many seconds it may come again
+/// (RFC 3261 sections 20.33 and 21.5.4).
+pub(crate) fn turned_away<A: Allocator + Clone>(
+    alloc: A,
+    request: Message<A>,
+    source: Hop,
+) -> Result<Outcome<A>, AllocError>
+    ensures handled { IfOk result (λ outcome. outcome.handled ≡ handled.TurnedAway) }
+    ensures sent { IfOk result (λ outcome. seen_sent outcome.datagram ≡ Some (unavailable_to request source)) }
+{
+    let retry = [FurtherLine {
+        name: b"Retry-After",
+        value: b"10",
+    }];
+    let datagram = answer_of(
+        alloc,
+        request,
+        source,
+        OwnStatus::ServiceUnavailable,
+        &retry,
+    )?;
+    Ok(Outcome::sends(Handled::TurnedAway, datagram))
 }
 
 /// The status that tells why no call was opened (RFC 3261 section 16.3); None for want of memory.

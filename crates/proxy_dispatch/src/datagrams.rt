@@ -4,11 +4,12 @@ ghost use Rattle.sip_text.specs.Message.{read_at};
 ghost use Rattle.call_model.specs.Built as built;
 ghost use Rattle.sip_text.specs.Fault.{fault_seen};
 ghost use Rattle.sip_text.specs.Reading.{Short};
-ghost use Rattle.proxy_dispatch.specs.Becomes.{Becomes, FaultBecomes, MessageBecomes};
+ghost use Rattle.proxy_dispatch.specs.Becomes.{AdmittedBecomes, Becomes, FaultBecomes};
 ghost use Rattle.proxy_dispatch.specs.inner.Becomes.{ToldBecomes};
 ghost use Rattle.proxy_dispatch.specs.Sent.{IsHanded};
 ghost use Rattle.proxy_dispatch.specs.inner.Sent.{seen_sent};
 
+use crate::admission::Admission;
 use crate::answers::answered;
 use crate::memory::Memory;
 use crate::outcome::Outcome;
@@ -33,6 +34,8 @@ pub enum Handled {
     Absorbed,
     /// The request was answered with this status, and no call was opened.
     Answered(u16),
+    /// The request would have opened a call, was not admitted, and was answered 503 with Retry-After.
+    TurnedAway,
     /// The datagram is an ACK for an answer that went up, and was sent on (RFC 3261 section 16.11).
     Forwarded,
     /// The request opened the call of this number.
@@ -42,21 +45,24 @@ pub enum Handled {
 }
 
 /// What becomes of a message.
-fn of_message<A: Allocator + Clone, R: Wait>(
+fn of_message<A: Allocator + Clone, N: Admission, R: Wait>(
     rt: &R,
     memory: Memory<A>,
     shelf: &Shelf<Call<A>, A>,
     setup: &Setup<A>,
+    admission: &N,
     message: Message<A>,
     received: Received<'_>,
 ) -> Result<Outcome<A>, AllocError>
     requires { read_at received.bytes.now ≡ Ok message }
     ensures { IfOk result (λ outcome.
-        MessageBecomes setup.now message received.entry.source received.entry.now outcome.handled (seen_sent outcome.datagram)) }
+        AdmittedBecomes (N.admitted admission.now) setup.now message received.entry.source received.entry.now outcome.handled (seen_sent outcome.datagram)) }
 {
     match purpose_of(&message) {
         None => responded(rt, shelf, setup, message, received),
-        Some(purpose) => requested(rt, memory, shelf, setup, message, purpose, received),
+        Some(purpose) => requested(
+            rt, memory, shelf, setup, admission, message, purpose, received,
+        ),
     }
 }
 
@@ -97,19 +103,20 @@ fn of_fault<A: Allocator + Clone>(
 }
 
 /// What becomes of a datagram.
-fn outcome_of<A: Allocator + Clone, R: Wait>(
+fn outcome_of<A: Allocator + Clone, N: Admission, R: Wait>(
     rt: &R,
     memory: Memory<A>,
     shelf: &Shelf<Call<A>, A>,
     setup: &Setup<A>,
+    admission: &N,
     received: Received<'_>,
 ) -> Result<Outcome<A>, AllocError>
     ensures { IfOk result (λ outcome.
-        Becomes setup.now received.entry.bytes.now received.entry.source received.entry.now outcome.handled (seen_sent outcome.datagram)) }
+        Becomes (N.admitted admission.now) setup.now received.entry.bytes.now received.entry.source received.entry.now outcome.handled (seen_sent outcome.datagram)) }
 {
     faults_are_of_the_text();
     match Message::read(memory.alloc.clone()?, received.bytes) {
-        Ok(message) => of_message(rt, memory, shelf, setup, message, received),
+        Ok(message) => of_message(rt, memory, shelf, setup, admission, message, received),
         Err(fault) => of_fault(memory.alloc, fault, received.source),
     }
 }
@@ -128,22 +135,30 @@ fn hand<A: Allocator, P: Port>(port: &mut P, sent: &Option<Datagram<A>>)
 /// lost, as on the way. Nothing else is handed to the port: what a call then has to send is for `carry`. A call that is opened
 /// has its memory from `memory`.
 ///
+/// `admission` is asked where a request would open a call, as no call has its key, and for nothing else. A request that it does
+/// not admit is answered 503 with Retry-After (section 21.5.4). One that it admits is answered 200 where the setup is that of a
+/// service and the request is an OPTIONS to the proxy itself (section 11.2). Where one that it admits opens no call, for
+/// whichever cause, want of memory too, it is told.
+///
 /// # Errors
 ///
 /// Only where the allocator refuses; no call has changed then, none was opened, and nothing was sent.
-pub fn handle<A: Allocator + Clone, P: Port, R: Wait>(
+pub fn handle<A: Allocator + Clone, N: Admission, P: Port, R: Wait>(
     rt: &R,
     memory: Memory<A>,
     shelf: &Shelf<Call<A>, A>,
     setup: &Setup<A>,
+    admission: &N,
     received: Received<'_>,
     port: &mut P,
 ) -> Result<Handled, AllocError>
     ensures became { IfOk result (λ handled.
-        (sent : Option built.Datagram) × Becomes setup.now received.entry.bytes.now received.entry.source received.entry.now handled sent × IsHanded P.sends port.old sent port.new) }
+        (sent : Option built.Datagram)
+        × Becomes (N.admitted admission.now) setup.now received.entry.bytes.now received.entry.source received.entry.now handled sent
+        × IsHanded P.sends port.old sent port.new) }
     ensures err { OnErr result (port.new ≡ port.old) }
 {
-    let outcome = outcome_of(rt, memory, shelf, setup, received)?;
+    let outcome = outcome_of(rt, memory, shelf, setup, admission, received)?;
     hand(port, &outcome.datagram);
     Ok(outcome.handled)
 }

@@ -3,6 +3,7 @@ ghost use Rattle.std.specs.Prelude.{◌≡◌, IfOk, true};
 ghost use Rattle.proxy_config.specs.Setup.{Setup};
 ghost use Rattle.proxy_dispatch.specs.Becomes.{IsDropped, IsFor, IsTaken, MessageBecomes};
 ghost use Rattle.proxy_dispatch.specs.Purpose.{purpose_of};
+ghost use Rattle.proxy_dispatch.specs.inner.Becomes.{IsFed};
 ghost use Rattle.proxy_dispatch.specs.inner.Sent.{seen_sent};
 
 use crate::datagrams::Handled;
@@ -51,7 +52,8 @@ pub(crate) fn deliver<A: Allocator + Clone, R: Wait>(
     message: Message<A>,
     received: Received<'_>,
 ) -> Result<Outcome<A>, AllocError>
-    ensures { IfOk result (λ outcome. (setup : Setup)
+    ensures fed { IfOk result (λ outcome. IsFed outcome.handled) }
+    ensures becomes { IfOk result (λ outcome. (setup : Setup)
         → IsFor setup no message (purpose_of message.start)
         → IsDropped setup message received.entry.source (purpose_of message.start)
         → MessageBecomes setup message received.entry.source received.entry.now outcome.handled (seen_sent outcome.datagram)) }

@@ -8,12 +8,15 @@ ghost use Rattle.call_table.specs.declared.shelf.ShelfFault.TheVariants as shelf
 ghost use Rattle.proxy_routing.specs.declared.fault.RequestRejection.{RequestRejection};
 ghost use Rattle.call_routing.specs.Opening.{Opens, Refuses};
 ghost use Rattle.proxy_dispatch.specs.declared.purpose.Purpose.TheVariants as purposes;
-ghost use Rattle.proxy_dispatch.specs.Becomes.{MessageBecomes};
+ghost use Rattle.proxy_dispatch.specs.Becomes.{AdmittedBecomes, MessageBecomes};
 ghost use Rattle.proxy_dispatch.specs.Purpose.{purpose_of};
+ghost use Rattle.proxy_dispatch.specs.inner.Becomes.{LetInBecomes};
 ghost use Rattle.proxy_dispatch.specs.inner.Sent.{seen_sent};
 
 use crate::acks::acknowledged;
-use crate::answers::{answered, status_of};
+use crate::admission::{Admission, opener_of};
+use crate::answers::{answered, status_of, told, turned_away};
+use crate::asking::asks_service;
 use crate::datagrams::Handled;
 use crate::delivery::deliver;
 use crate::memory::Memory;
@@ -103,7 +106,8 @@ fn refused<A: Allocator + Clone>(
     }
 }
 
-/// What becomes of a request whose key no call has: it opens a call, or is answered.
+/// What becomes of a request that was admitted and is not the proxy's own to answer: it opens a call, or is answered with the
+/// status that tells why not.
 fn opened<A: Allocator + Clone, R: Wait>(
     rt: &R,
     memory: Memory<A>,
@@ -139,18 +143,78 @@ fn opened<A: Allocator + Clone, R: Wait>(
     }
 }
 
-/// What becomes of a request: the call that is known by its key takes it; where no call is, an ACK is absorbed or goes
-/// on, a CANCEL is answered 481, and any other request opens a call (RFC 3261 sections 9.2, 16.2, 16.11 and 17.2.3). A
-/// request without a key is not well formed.
-///
-/// # Errors
-///
-/// Only where the allocator refuses; no call has changed then, and none was opened.
-pub(crate) fn requested<A: Allocator + Clone, R: Wait>(
+/// What becomes of a request that was admitted: the proxy answers an OPTIONS to itself, and any other request opens a call or is
+/// answered (RFC 3261 section 11).
+fn admitted<A: Allocator + Clone, R: Wait>(
     rt: &R,
     memory: Memory<A>,
     shelf: &Shelf<Call<A>, A>,
     setup: &Setup<A>,
+    key: &[u8],
+    request: Message<A>,
+    received: Received<'_>,
+) -> Result<Outcome<A>, AllocError>
+    requires opening { purpose_of request.start ≡ Some purposes.Opening }
+    requires key { request_key request ≢ None }
+    requires read { read_at received.bytes.now ≡ Ok request }
+    ensures { IfOk result (λ outcome.
+        LetInBecomes setup.now request received.entry.source received.entry.now outcome.handled (seen_sent outcome.datagram)) }
+{
+    if asks_service(memory.alloc.clone()?, setup, &request)? {
+        return told(memory.alloc, request, received.source);
+    }
+    opened(rt, memory, shelf, setup, key, request, received)
+}
+
+/// Whether a call was opened.
+fn has_opened<A: Allocator>(outcome: &Result<Outcome<A>, AllocError>) -> bool {
+    match outcome {
+        Ok(outcome) => matches!(outcome.handled, Handled::Opened(_)),
+        Err(_) => false,
+    }
+}
+
+/// What becomes of a request whose key no call has: it is turned away, or goes on as one that was admitted. Where it opens no call
+/// then, `admission` is told.
+fn asked<A: Allocator + Clone, N: Admission, R: Wait>(
+    rt: &R,
+    memory: Memory<A>,
+    shelf: &Shelf<Call<A>, A>,
+    setup: &Setup<A>,
+    admission: &N,
+    key: &[u8],
+    request: Message<A>,
+    received: Received<'_>,
+) -> Result<Outcome<A>, AllocError>
+    requires opening { purpose_of request.start ≡ Some purposes.Opening }
+    requires key { request_key request ≢ None }
+    requires read { read_at received.bytes.now ≡ Ok request }
+    ensures { IfOk result (λ outcome.
+        AdmittedBecomes (N.admitted admission.now) setup.now request received.entry.source received.entry.now outcome.handled (seen_sent outcome.datagram)) }
+{
+    if !admission.admits(rt, opener_of(&request)) {
+        return turned_away(memory.alloc, request, received.source);
+    }
+    let outcome = admitted(rt, memory, shelf, setup, key, request, received);
+    if !has_opened(&outcome) {
+        admission.release(rt);
+    }
+    outcome
+}
+
+/// What becomes of a request: the call that is known by its key takes it; where no call is, an ACK is absorbed or goes
+/// on, a CANCEL is answered 481, and any other request opens a call where it is admitted (RFC 3261 sections 9.2, 16.2, 16.11
+/// and 17.2.3). A request without a key is not well formed.
+///
+/// # Errors
+///
+/// Only where the allocator refuses; no call has changed then, and none was opened.
+pub(crate) fn requested<A: Allocator + Clone, N: Admission, R: Wait>(
+    rt: &R,
+    memory: Memory<A>,
+    shelf: &Shelf<Call<A>, A>,
+    setup: &Setup<A>,
+    admission: &N,
     request: Message<A>,
     purpose: Purpose,
     received: Received<'_>,
@@ -158,7 +222,7 @@ pub(crate) fn requested<A: Allocator + Clone, R: Wait>(
     requires purpose { purpose_of request.start ≡ Some purpose }
     requires read { read_at received.bytes.now ≡ Ok request }
     ensures { IfOk result (λ outcome.
-        MessageBecomes setup.now request received.entry.source received.entry.now outcome.handled (seen_sent outcome.datagram)) }
+        AdmittedBecomes (N.admitted admission.now) setup.now request received.entry.source received.entry.now outcome.handled (seen_sent outcome.datagram)) }
 {
     let key = key_of(memory.alloc.clone()?, &request)?;
     if let Some(key) = &key {
@@ -182,8 +246,8 @@ pub(crate) fn requested<A: Allocator + Clone, R: Wait>(
                 OwnStatus::BadRequest,
             )
         }
-        (Purpose::Opening, Some(key)) => {
-            opened(rt, memory, shelf, setup, &key, request, received)
-        }
+        (Purpose::Opening, Some(key)) => asked(
+            rt, memory, shelf, setup, admission, &key, request, received,
+        ),
     }
 }

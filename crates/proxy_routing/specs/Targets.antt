@@ -4,6 +4,8 @@ use Rattle.std.specs.Str.{bytes_eq, str_to_ascii_lowercase}
 use Rattle.fork_model.specs.History.{Target}
 use Rattle.fork_text.specs.Field.{most_q}
 use Rattle.sip_uri.specs.declared.hop.Hop.{Hop}
+use Rattle.sip_uri.specs.declared.hop.Transport.{Transport}
+use Rattle.sip_uri.specs.declared.hop.Transport.TheVariants.{Udp, Tcp, Back}
 use Rattle.sip_uri.specs.Hop.{hop_of}
 use Rattle.sip_uri.specs.Key.{key_of}
 use Rattle.sip_uri.specs.Uri.{Uri}
@@ -11,21 +13,38 @@ use Rattle.sip_via.specs.Address.{address_text}
 use Rattle.sip_via.specs.declared.own.Own.{Own}
 use Rattle.sip_route.specs.declared.route_values.FirstRoute.{FirstRoute}
 use Rattle.sip_route.specs.declared.route_values.FirstRoute.TheVariants.{Absent, NoHop, To}
-use Rattle.proxy_config.specs.Setup.{Location, Setup, locations_of}
+use Rattle.proxy_config.specs.Setup.{Location, Setup, locations_of, next_hop}
 
 -- ---- by which hop (section 16.6 steps 6 and 7)
 
--- by that of the first Route value, if there is one, else by that of the target's URI
-abbrev pub hop_by : FirstRoute → Uri → Option Hop
-hop_by Absent uri = hop_of uri
-hop_by NoHop uri = None
-hop_by (To hop) uri = Some hop
+-- over TCP only where the proxy has streams
+abbrev pub is_reached : (streams : Bool) → Transport → Bool
+is_reached streams Udp = true
+is_reached streams Tcp = streams
+is_reached streams (Back sent_by) = streams
 
--- a target, tried at this q, in thousandths, and the hop by which it is reached, if there is one
+-- a hop that cannot be reached is none
+abbrev pub reachable : (streams : Bool) → Option Hop → Option Hop
+reachable streams None = None
+reachable streams (Some hop) = if is_reached streams hop.transport then Some hop else None
+
+-- by that of the first Route value, if there is one, else by that of the target
+abbrev pub hop_over : (streams : Bool) → FirstRoute → Option Hop → Option Hop
+hop_over streams Absent hop = reachable streams hop
+hop_over streams NoHop hop = None
+hop_over streams (To first) hop = reachable streams (Some first)
+
+-- to a URI
+abbrev pub hop_by : (streams : Bool) → FirstRoute → Uri → Option Hop
+hop_by streams route uri = hop_over streams route (hop_of uri)
+
+-- a target, tried at this q, in thousandths, the hop by which it is reached, if there is one, and how long a branch there rings
+-- at most, in milliseconds
 pub record CandidateTarget : Type 0 where
   pub q : ℕ
   pub uri : Uri
   pub hop : Option Hop
+  pub longest : ℕ
 
 -- ---- which targets there are (section 16.5)
 
@@ -37,7 +56,7 @@ is_own_port own (Some hop) = hop.port == own.port
 -- the URI has the own address for its host, as it is written; where the setup counts the port, it leads to no other port of that
 -- address, and without a port it leads to 5060 (section 19.1.2)
 abbrev pub is_own : Setup → Uri → Bool
-is_own setup uri = bytes_eq uri.host (address_text setup.own.addr) && (not setup.by_port || is_own_port setup.own (hop_of uri))
+is_own setup uri = bytes_eq uri.host (address_text setup.own.addr) && (not setup.by_port || is_own_port setup.own (reachable setup.streams (hop_of uri)))
 
 -- the proxy is responsible for this URI: its host is the domain, in any case, or it names the proxy by its own address
 abbrev pub is_domain : Setup → Uri → Bool
@@ -45,18 +64,22 @@ is_domain setup uri =
     bytes_eq (str_to_ascii_lowercase uri.host) (str_to_ascii_lowercase setup.domain)
     || is_own setup uri
 
-abbrev pub candidate_at : FirstRoute → Location → CandidateTarget
-candidate_at route location = record { q = location.q; uri = location.uri; hop = hop_by route location.uri }
+abbrev pub candidate_at : (streams : Bool) → FirstRoute → Location → CandidateTarget
+candidate_at streams route location = record { q = location.q; uri = location.uri; hop = hop_over streams route (next_hop location); longest = location.longest }
 
-abbrev pub candidates_of : FirstRoute → List Location → Option (List ℕ) → List CandidateTarget
-candidates_of route locations None = []
-candidates_of route locations (Some user) = map (candidate_at route) (locations_of user locations)
+abbrev pub candidates_of : (streams : Bool) → FirstRoute → List Location → Option (List ℕ) → List CandidateTarget
+candidates_of streams route locations None = []
+candidates_of streams route locations (Some user) = map (candidate_at streams route) (locations_of user locations)
+
+-- a URI that no location names
+abbrev pub candidate_to : Setup → FirstRoute → Uri → CandidateTarget
+candidate_to setup route uri = record { q = most_q; uri = uri; hop = hop_by setup.streams route uri; longest = setup.ring }
 
 -- where the proxy is responsible for it the locations of the user, else the Request-URI alone
 abbrev pub candidates_by : (inside : Bool) → Setup → FirstRoute → Uri → List CandidateTarget
 candidates_by inside setup route uri =
-    if inside then candidates_of route setup.locations uri.user
-    else record { q = most_q; uri = uri; hop = hop_by route uri } ∷ []
+    if inside then candidates_of setup.streams route setup.locations uri.user
+    else candidate_to setup route uri ∷ []
 
 abbrev pub candidates : Setup → FirstRoute → Uri → List CandidateTarget
 candidates setup route uri = candidates_by (is_domain setup uri) setup route uri
@@ -70,7 +93,8 @@ targets_of cs = map target_of cs
 abbrev pub has_hop : CandidateTarget → Bool
 has_hop candidate = is_some candidate.hop
 
-abbrev pub hop_if_any : FirstRoute → Option Hop
-hop_if_any Absent = None
-hop_if_any NoHop = None
-hop_if_any (To hop) = Some hop
+-- that of the first Route value, if there is one
+abbrev pub hop_if_any : (streams : Bool) → FirstRoute → Option Hop
+hop_if_any streams Absent = None
+hop_if_any streams NoHop = None
+hop_if_any streams (To hop) = reachable streams (Some hop)

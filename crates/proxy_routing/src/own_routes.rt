@@ -1,11 +1,10 @@
 //! The Route values of a request that lead to the proxy itself.
-ghost use Rattle.std.specs.Prelude.{◌≡◌, ◌&&◌, ◌==◌};
-ghost use Rattle.std.specs.Str.{bytes_eq};
+ghost use Rattle.std.specs.Prelude.{◌≡◌};
 ghost use Rattle.sip_route.specs.Routes.{stripped};
 ghost use Rattle.proxy_routing.specs.OwnRoutes.{leads_home, stripped_all, without_own_routes};
 
 use proxy_config::Setup;
-use sip_route::{FirstRoute, first_route, strip, stripping_keeps_the_rest};
+use sip_route::{FirstRoute, first_route, is_own, strip, stripping_keeps_the_rest};
 use sip_text::Message;
 use sip_via::Own;
 use std::alloc::Allocator;
@@ -16,7 +15,7 @@ fn leads_home(own: Own, route: FirstRoute) -> bool
 {
     match route {
         FirstRoute::Absent | FirstRoute::NoHop => false,
-        FirstRoute::To(hop) => hop.addr == own.addr && hop.port == own.port,
+        FirstRoute::To(hop) => is_own(own, Some(hop)),
     }
 }
 

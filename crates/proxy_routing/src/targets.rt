@@ -4,12 +4,12 @@ ghost use Rattle.std.specs.List.{list_all};
 ghost use Rattle.std.specs.Option.{option_copied};
 ghost use Rattle.fork_text.specs.Field.{most_q};
 ghost use Rattle.proxy_config.specs.Setup.{locations_of};
-ghost use Rattle.proxy_routing.specs.Targets.{candidate_at, candidates_by, candidates_of, has_hop, hop_by, hop_if_any, is_domain, is_own, is_own_port, target_of, targets_of};
+ghost use Rattle.proxy_routing.specs.Targets.{candidate_at, candidate_to, candidates_by, candidates_of, has_hop, hop_by, hop_if_any, hop_over, is_domain, is_own, is_own_port, is_reached, reachable, target_of, targets_of};
 
 use fork_context::Target;
-use proxy_config::Setup;
+use proxy_config::{Location, Setup};
 use sip_route::FirstRoute;
-use sip_uri::{Hop, SipUri};
+use sip_uri::{Hop, SipUri, Transport};
 use sip_via::{Own, is_address};
 use std::alloc::{AllocError, Allocator};
 use std::marker::Model;
@@ -17,12 +17,14 @@ use std::marker::Model;
 /// The q of a target that no location names.
 const MOST_Q: u16 = 1000;
 
-/// A target, the q at which it is tried, and the hop by which it is reached, if there is one.
+/// A target, the q at which it is tried, the hop by which it is reached, if there is one, and how long a branch to it rings
+/// at most.
 #[derive(Drop)]
 pub struct CandidateTarget<'a, A: Allocator> {
     q: u16,
     uri: &'a SipUri<A>,
     hop: Option<Hop>,
+    longest: u64,
 }
 
 impl<'a, A: Allocator> Model for CandidateTarget<'a, A> {
@@ -32,7 +34,7 @@ impl<'a, A: Allocator> Model for CandidateTarget<'a, A> {
 
     ghost Value = { spec.CandidateTarget };
 
-    ghost view = { λ c. record { q = c.q; uri = c.uri.now; hop = c.hop } };
+    ghost view = { λ c. record { q = c.q; uri = c.uri.now; hop = c.hop; longest = c.longest } };
 
     ghost invariant = { λ c. c.q ≤ most_q };
 }
@@ -51,18 +53,37 @@ impl<'a, A: Allocator> CandidateTarget<'a, A> {
     {
         self.hop
     }
+
+    /// How long a branch to the target rings at most, in milliseconds: then timer C fires (RFC 3261 section 16.6 step 11).
+    pub fn longest(&self) -> u64
+        ensures { result ≡ self.now.longest }
+    {
+        self.longest
+    }
 }
 
 impl<'a, A: Allocator + Clone> CandidateTarget<'a, A> {
-    /// A target that is tried at this q, where the request has this first Route value.
-    fn new(route: FirstRoute, q: u16, uri: &'a SipUri<A>) -> CandidateTarget<'a, A>
-        requires { q ≤ most_q }
-        ensures { result ≡ record { q = q; uri = uri.now; hop = hop_by route uri.now } }
+    /// A location, where the request has this first Route value.
+    fn at(streams: bool, route: FirstRoute, location: &'a Location<A>) -> CandidateTarget<'a, A>
+        ensures { result ≡ candidate_at streams route location.now }
     {
         CandidateTarget {
-            q,
+            q: location.q(),
+            uri: location.uri(),
+            hop: hop_over(streams, route, location.next_hop()),
+            longest: location.longest(),
+        }
+    }
+
+    /// A URI that no location names, where the request has this first Route value.
+    fn to(setup: &Setup<A>, route: FirstRoute, uri: &'a SipUri<A>) -> CandidateTarget<'a, A>
+        ensures { result ≡ candidate_to setup.now route uri.now }
+    {
+        CandidateTarget {
+            q: MOST_Q,
             uri,
-            hop: hop_by(route, uri),
+            hop: hop_by(setup.has_streams(), route, uri),
+            longest: setup.ring(),
         }
     }
 
@@ -92,7 +113,8 @@ fn is_own<A: Allocator + Clone>(setup: &Setup<A>, uri: &SipUri<A>) -> bool
     ensures { result ≡ is_own setup.now uri.now }
 {
     is_address(uri.host(), setup.own().addr)
-        && (!setup.by_port() || is_own_port(setup.own(), uri.next_hop()))
+        && (!setup.by_port()
+            || is_own_port(setup.own(), reachable(setup.has_streams(), uri.next_hop())))
 }
 
 /// Whether the proxy is responsible for this URI (RFC 3261 section 16.5): its host is the proxy's domain, in upper or lower
@@ -111,12 +133,13 @@ fn located<'a, A: Allocator + Clone>(
     route: FirstRoute,
     user: &[u8],
 ) -> Result<Vec<CandidateTarget<'a, A>, A>, AllocError>
-    ensures { IfOk result (λ candidates. candidates.items ≡ map (candidate_at route) (locations_of user.now setup.now.locations)) }
+    ensures { IfOk result (λ candidates. candidates.items ≡ map (candidate_at setup.now.streams route) (locations_of user.now setup.now.locations)) }
 {
     let mut candidates = Vec::new(alloc);
+    let streams = setup.has_streams();
     let mut locations = setup.locations_of(user);
     while let Some(location) = locations.next() {
-        candidates.push(CandidateTarget::new(route, location.q(), location.uri()))?;
+        candidates.push(CandidateTarget::at(streams, route, location))?;
     }
     Ok(candidates)
 }
@@ -128,7 +151,7 @@ fn located_if_any<'a, A: Allocator + Clone>(
     route: FirstRoute,
     user: Option<&[u8]>,
 ) -> Result<Vec<CandidateTarget<'a, A>, A>, AllocError>
-    ensures { IfOk result (λ candidates. candidates.items ≡ candidates_of route setup.now.locations (option_copied user.entry)) }
+    ensures { IfOk result (λ candidates. candidates.items ≡ candidates_of setup.now.streams route setup.now.locations (option_copied user.entry)) }
 {
     match user {
         None => Ok(Vec::new(alloc)),
@@ -139,13 +162,14 @@ fn located_if_any<'a, A: Allocator + Clone>(
 /// The one target of a request to a URI that the proxy is not responsible for.
 fn alone<'a, A: Allocator + Clone>(
     alloc: A,
+    setup: &Setup<A>,
     route: FirstRoute,
     uri: &'a SipUri<A>,
 ) -> Result<Vec<CandidateTarget<'a, A>, A>, AllocError>
-    ensures { IfOk result (λ candidates. candidates.items ≡ record { q = most_q; uri = uri.now; hop = hop_by route uri.now } ∷ []) }
+    ensures { IfOk result (λ candidates. candidates.items ≡ candidate_to setup.now route uri.now ∷ []) }
 {
     let mut candidates = Vec::with_capacity(alloc, 1)?;
-    candidates.push(CandidateTarget::new(route, MOST_Q, uri))?;
+    candidates.push(CandidateTarget::to(setup, route, uri))?;
     Ok(candidates)
 }
 
@@ -163,7 +187,7 @@ pub fn candidates<'a, A: Allocator + Clone>(
     if inside {
         located_if_any(alloc, setup, route, uri.user())
     } else {
-        alone(alloc, route, uri)
+        alone(alloc, setup, route, uri)
     }
 }
 
@@ -183,25 +207,57 @@ pub fn targets_of<A: Allocator + Clone>(
 
 // ---- by which hop
 
-/// The hop that a request to this URI goes by: that of its first Route value, if there is one, else that of the URI; None
-/// where that leads to no hop (RFC 3261 section 16.6 steps 6 and 7).
-pub fn hop_by<A: Allocator + Clone>(route: FirstRoute, uri: &SipUri<A>) -> Option<Hop>
-    ensures { result ≡ hop_by route uri.now }
+/// Whether the proxy can send over this transport: over TCP where it has streams.
+fn is_reached(streams: bool, transport: Transport) -> bool
+    ensures { result ≡ is_reached streams transport }
 {
-    match route {
-        FirstRoute::Absent => uri.next_hop(),
-        FirstRoute::NoHop => None,
-        FirstRoute::To(hop) => Some(hop),
+    match transport {
+        Transport::Udp => true,
+        Transport::Tcp | Transport::Back(_) => streams,
     }
 }
 
-/// The hop of the first Route value, if there is one that leads to a hop.
-pub fn hop_if_any(route: FirstRoute) -> Option<Hop>
-    ensures { result ≡ hop_if_any route }
+/// The hop, where the proxy can send over its transport.
+fn reachable(streams: bool, hop: Option<Hop>) -> Option<Hop>
+    ensures { result ≡ reachable streams hop }
+{
+    match hop {
+        Some(hop) if is_reached(streams, hop.transport) => Some(hop),
+        Some(_) | None => None,
+    }
+}
+
+/// The hop that a request goes by to a target with this one: that of its first Route value, if there is one, else that of the
+/// target; None where that leads to no hop, or to one that cannot be reached (RFC 3261 section 16.6 steps 6 and 7).
+fn hop_over(streams: bool, route: FirstRoute, hop: Option<Hop>) -> Option<Hop>
+    ensures { result ≡ hop_over streams route hop }
+{
+    match route {
+        FirstRoute::Absent => reachable(streams, hop),
+        FirstRoute::NoHop => None,
+        FirstRoute::To(first) => reachable(streams, Some(first)),
+    }
+}
+
+/// The hop that a request to this URI goes by: that of its first Route value, if there is one, else that of the URI; None
+/// where that leads to no hop, or to one over TCP and the proxy has no `streams` (RFC 3261 section 16.6 steps 6 and 7).
+pub fn hop_by<A: Allocator + Clone>(
+    streams: bool,
+    route: FirstRoute,
+    uri: &SipUri<A>,
+) -> Option<Hop>
+    ensures { result ≡ hop_by streams route uri.now }
+{
+    hop_over(streams, route, uri.next_hop())
+}
+
+/// The hop of the first Route value, if there is one that leads to a hop; none over TCP where the proxy has no `streams`.
+pub fn hop_if_any(streams: bool, route: FirstRoute) -> Option<Hop>
+    ensures { result ≡ hop_if_any streams route }
 {
     match route {
         FirstRoute::Absent | FirstRoute::NoHop => None,
-        FirstRoute::To(hop) => Some(hop),
+        FirstRoute::To(hop) => reachable(streams, Some(hop)),
     }
 }
 

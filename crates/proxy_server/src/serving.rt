@@ -170,12 +170,7 @@ fn server_of<R: Net>(rt: &R, alloc: Global, setup: Setup) -> Result<Server, Serv
     ensures { IfErr result IsSystemFault }
 {
     let own = setup.own();
-    let addr = own.addr;
-    let hop = Hop {
-        addr,
-        port: own.port,
-    };
-    let socket = Socket::bind(rt, hop)?;
+    let socket = Socket::bind(rt, Hop::over_udp(own.addr, own.port))?;
     let proxy = Proxy::new(alloc, setup, socket)?;
     Ok(Server { proxy })
 }

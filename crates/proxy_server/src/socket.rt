@@ -52,10 +52,7 @@ fn address(hop: Hop) -> SocketAddr {
 
 fn hop_of(address: SocketAddr) -> Option<Hop> {
     match address {
-        SocketAddr::V4(v4) => Some(Hop {
-            addr: v4.ip().octets(),
-            port: v4.port(),
-        }),
+        SocketAddr::V4(v4) => Some(Hop::over_udp(v4.ip().octets(), v4.port())),
         SocketAddr::V6(_) => None,
     }
 }

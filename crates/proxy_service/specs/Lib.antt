@@ -3,6 +3,6 @@ pub mod Handling
 pub mod Journal
 pub mod Next
 pub mod Queue
-pub mod Room
+pub mod Quota
 pub mod Setups
 pub mod Waits

@@ -9,10 +9,20 @@ use Rattle.daemon_parts.specs.declared.fault.DaemonFault.TheVariants as fault
 use Rattle.daemon_parts.specs.declared.setup.Identity.{Identity}
 use Rattle.proxy_service.specs.declared.terms.Terms.{Terms}
 
--- by it all own Route values at the front of a request are taken away, and the own address is the domain with the own port alone, if that
--- is asked for
-abbrev pub service_setup : (own_port : Bool) → Setup → Setup
-service_setup own_port setup = if own_port then record setup { for_service = true; by_port = true } else record setup { for_service = true }
+-- by it all own Route values at the front of a request are taken away, a 100 has the Timestamp of its request, and a CANCEL says why
+abbrev pub of_service : Setup → Setup
+of_service setup = record setup { for_service = true; stamps = true; reasons = true }
+
+-- the own address is the domain with the own port alone
+abbrev pub by_port_if : (own_port : Bool) → Setup → Setup
+by_port_if own_port setup = if own_port then record setup { by_port = true } else setup
+
+-- a request that opens a dialog has a Record-Route line
+abbrev pub recording_if : (records : Bool) → Setup → Setup
+recording_if records setup = if records then record setup { records = true } else setup
+
+abbrev pub service_setup : Terms → Setup → Setup
+service_setup terms setup = recording_if terms.records (by_port_if terms.own_port (of_service setup))
 
 -- a setup has the identity of the service
 pub record IsOf (identity : Identity) (setup : Setup) : Type 0 where
@@ -24,7 +34,7 @@ pub record IsServiceSetup (terms : Terms) (text : List ℕ) (setup : Setup) : Ty
   pub read : Setup
   pub spelled : IsConfiguration (completed text terms.number) read
   pub is_of : IsOf terms.identity read
-  pub setup_is : setup ≡ service_setup terms.own_port read
+  pub setup_is : setup ≡ service_setup terms read
 
 -- it spells another service's
 pub record IsOthers (terms : Terms) (text : List ℕ) : Type 0 where

@@ -96,7 +96,7 @@ fn write_block<A: Allocator + Clone>(call: &mut Call<A>, time: u64, block: &mut 
 impl<A: Allocator + Copy> Service<A> {
     /// Notes that memory was refused: no call is opened for a second.
     pub(crate) fn note_refusal(&self, now: u64) {
-        self.admission.close(now);
+        self.quota.close(now);
     }
 
     /// Carries the call of this number at a later moment, in milliseconds.
@@ -197,7 +197,7 @@ impl<A: Allocator + Copy> Service<A> {
     fn forget<R: Wait>(&self, rt: &R, number: u64, failure: Option<u16>, block: &[u8], now: u64) {
         match self.calls.shelf.remove_if(rt, number, may_be_forgotten) {
             Removal::Removed => {
-                self.admission.forget(rt);
+                self.quota.forget(rt);
                 self.count_forgotten(number, failure);
                 self.write_down(rt, block);
             }

@@ -5,17 +5,15 @@
 //! Begin with `Service::take` and `Service::tick`.
 #![tactic(auto)]
 
-mod admission;
 mod answers;
 mod calls;
 mod carrying;
 mod draining;
 mod journal;
 mod lifetime;
-mod opening;
 mod queue;
+mod quota;
 mod refusals;
-mod room;
 mod service;
 mod setup;
 mod taking;

@@ -1,6 +1,6 @@
 //! Where a service stands, and since when.
 use crate::draining::Draining;
-use crate::opening::Opener;
+use proxy_dispatch::Opener;
 use std::sync::atomic::{AtomicU64, Ordering};
 
 /// What `since` and `last_success` hold where there is no such moment.

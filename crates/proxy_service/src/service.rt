@@ -1,8 +1,8 @@
 //! What the threads of a service share.
-use crate::admission::Admission;
 use crate::calls::Calls;
 use crate::lifetime::{Lifetime, State};
 use crate::queue::JournalQueue;
+use crate::quota::Quota;
 use crate::setup::{service_setup, setup_of};
 use crate::terms::Terms;
 use daemon_parts::{Counts, DaemonFault, Gauges};
@@ -27,7 +27,7 @@ pub struct Service<A: Allocator + Copy = Global> {
     pub(crate) setup: RwLock<Setup<A>>,
     pub(crate) terms: Terms,
     pub(crate) calls: Calls<A>,
-    pub(crate) admission: Admission,
+    pub(crate) quota: Quota,
     pub(crate) lifetime: Lifetime,
     pub(crate) journal: JournalQueue,
     pub(crate) counts: Counts,
@@ -45,10 +45,10 @@ impl<A: Allocator + Copy> Service<A> {
         Ok(Service {
             alloc,
             heap,
-            setup: RwLock::new(service_setup(setup, terms.own_port)),
+            setup: RwLock::new(service_setup(setup, &terms)),
             terms,
             calls,
-            admission: Admission::new(terms.most_calls),
+            quota: Quota::new(terms.most_calls),
             lifetime: Lifetime::new(),
             journal: JournalQueue::new(heap),
             counts: Counts::new(),

@@ -1,23 +1,38 @@
 //! The configuration of a service.
 ghost use Rattle.std.specs.Prelude.{◌≡◌, ◌↔◌, IfErr, IfOk, IsTrue};
-ghost use Rattle.proxy_service.specs.Setups.{IsOf, IsReloadFault, IsServiceSetup, service_setup};
+ghost use Rattle.proxy_service.specs.Setups.{IsOf, IsReloadFault, IsServiceSetup, by_port_if, recording_if, service_setup};
 
 use crate::terms::Terms;
 use daemon_parts::{DaemonFault, Identity, read_text};
 use fork_call::Setup;
 use std::alloc::Allocator;
 
-/// A setup as a service goes by it: all Route values at the front of a request that lead to the proxy are taken away; and the own address
-/// counts as the domain with the own port alone, if that is asked for.
-pub(crate) fn service_setup<A: Allocator + Clone>(setup: Setup<A>, own_port: bool) -> Setup<A>
-    ensures { result ≡ service_setup own_port setup }
+/// The setup with its own address counting as the domain with the own port alone, if that is asked for.
+fn by_port_if<A: Allocator + Clone>(setup: Setup<A>, own_port: bool) -> Setup<A>
+    ensures { result ≡ by_port_if own_port setup }
 {
-    let setup = setup.for_a_service();
     if own_port {
         setup.with_own_port()
     } else {
         setup
     }
+}
+
+/// The setup with a Record-Route line in each request that opens a dialog, if that is asked for.
+fn recording_if<A: Allocator + Clone>(setup: Setup<A>, records: bool) -> Setup<A>
+    ensures { result ≡ recording_if records setup }
+{
+    if records { setup.recording() } else { setup }
+}
+
+/// A setup as a service goes by it: all Route values at the front of a request that lead to the proxy are taken away; a 100 has the
+/// Timestamp of its request, and a CANCEL says why; the own address counts as the domain with the own port alone, and a request that
+/// opens a dialog has a Record-Route line, where the terms say so.
+pub(crate) fn service_setup<A: Allocator + Clone>(setup: Setup<A>, terms: &Terms) -> Setup<A>
+    ensures { result ≡ service_setup terms.now setup }
+{
+    let setup = setup.for_a_service().stamping().giving_reasons();
+    recording_if(by_port_if(setup, terms.own_port), terms.records)
 }
 
 /// Whether a setup has this identity.
@@ -44,5 +59,5 @@ pub(crate) fn setup_of<A: Allocator + Clone>(
     if !is_of(&setup, terms.identity) {
         return Err(DaemonFault::Identity);
     }
-    Ok(service_setup(setup, terms.own_port))
+    Ok(service_setup(setup, terms))
 }

@@ -52,7 +52,7 @@ impl<A: Allocator + Copy> Service<A> {
             return walk;
         };
         // It is looked for datagrams first: the call of one that is in work no more stands among the calls then.
-        let is_busy = self.admission.is_busy();
+        let is_busy = self.quota.is_busy();
         let search = self.calls.search_open(rt);
         let seen = Seen {
             is_busy,

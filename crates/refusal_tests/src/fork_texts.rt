@@ -2,7 +2,7 @@
 //! alone.
 use crate::call_texts::{CALLER, Sent};
 use fork_call::Cause;
-use sip_uri::Hop;
+use sip_uri::{Hop, Transport};
 
 /// What the proxy is set up with: five targets, all tried at once.
 pub const FORK_SETUP: &[u8] = b"own 192.0.2.9 5060\ninstance 7\ndomain example.com\n\
@@ -14,21 +14,25 @@ location bob 1000 sip:bob@192.0.2.8\n";
 pub const SECOND: Hop = Hop {
     addr: [192, 0, 2, 5],
     port: 5060,
+    transport: Transport::Udp,
 };
 
 pub const THIRD: Hop = Hop {
     addr: [192, 0, 2, 6],
     port: 5060,
+    transport: Transport::Udp,
 };
 
 pub const FOURTH: Hop = Hop {
     addr: [192, 0, 2, 7],
     port: 5060,
+    transport: Transport::Udp,
 };
 
 pub const FIFTH: Hop = Hop {
     addr: [192, 0, 2, 8],
     port: 5060,
+    transport: Transport::Udp,
 };
 
 // ---- the second target

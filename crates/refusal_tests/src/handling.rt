@@ -8,7 +8,7 @@ use crate::plays::plays;
 use crate::sources::Alloc;
 use call_table::Shelf;
 use fork_call::{Call, Datagram, Port, Setup, carry};
-use proxy_dispatch::{Handled, Memory, Received, handle};
+use proxy_dispatch::{Handled, Memory, Received, Unlimited, handle};
 use refusing::{Answer, Heap, Play, Repeated};
 use sip_uri::Hop;
 use std::alloc::{Allocator, Global};
@@ -236,6 +236,7 @@ impl<R: Wait> Proxy<'_, '_, R> {
             memory,
             self.shelf,
             self.setup,
+            &Unlimited,
             received,
             &mut self.port,
         )

@@ -64,5 +64,8 @@ pub const TARGET_KEY: &[u8] = b"bob@192.0.2.4:5062;transport=udp";
 /// The branch of the request as it goes to the target.
 pub const BRANCH_TEXT: &[u8] = b"z9hG4bK00000000000000000000000000000000.7.3.0";
 
+/// The value of the proxy's own Record-Route line (section 20.30).
+pub const OWN_ROUTE: &[u8] = b"<sip:192.0.2.9:5060;lr>";
+
 /// What tells the transaction of the request from others (section 17.2.3).
 pub const REQUEST_KEY: &[u8] = b"192.0.2.1:5060 z9hG4bKa";

@@ -2,7 +2,7 @@
 use crate::answers::{Judge, answered, discard};
 use refusing::{Answer, Heap, Refusing};
 use sip_text::{Message, ReadFault};
-use sip_uri::{Hop, SipUri, UriFault};
+use sip_uri::{Hop, SipUri, Transport, UriFault};
 use sip_via::{BranchName, Own};
 use std::alloc::Global;
 
@@ -12,12 +12,14 @@ pub type Alloc<'a> = &'a Refusing<Global>;
 pub const OWN: Own = Own {
     addr: [192, 0, 2, 9],
     port: 5060,
+    transport: Transport::Udp,
 };
 
 /// Where a request comes from.
 pub const SOURCE: Hop = Hop {
     addr: [192, 0, 2, 1],
     port: 40_000,
+    transport: Transport::Udp,
 };
 
 pub const BRANCH: BranchName = BranchName {

@@ -2,15 +2,15 @@
 use crate::answers::discard;
 use crate::hops::has_hops;
 use crate::made_texts::{
-    BAD_REQUEST, BRANCH_TEXT, FORWARDED, FORWARDED_ACK, FORWARDED_CANCEL, REQUEST_KEY, REQUEST_URI,
-    TARGET_KEY, UPWARD,
+    BAD_REQUEST, BRANCH_TEXT, FORWARDED, FORWARDED_ACK, FORWARDED_CANCEL, OWN_ROUTE, REQUEST_KEY,
+    REQUEST_URI, TARGET_KEY, UPWARD,
 };
 use crate::plays::plays;
 use crate::sources::{Alloc, BRANCH, MOVED, OWN, REQUEST, read, target};
 use refusing::{Answer, Heap, Play, Repeated};
 use sip_build::{
     OwnStatus, write_forwarded, write_forwarded_ack, write_forwarded_cancel, write_generated,
-    write_upward,
+    write_own_route, write_upward,
 };
 use sip_route::append_request_key;
 use sip_text::{Message, Start};
@@ -30,6 +30,7 @@ enum Written {
     Forwarded,
     ForwardedAck,
     ForwardedCancel,
+    OwnRoute,
 }
 
 /// What is appended, and its text.
@@ -52,11 +53,11 @@ fn forwards<'a>(
     }
     match request.start() {
         Start::Request { .. } => match what {
-            Written::Forwarded => write_forwarded(request, target, OWN, &BRANCH, out).is_ok(),
+            Written::Forwarded => write_forwarded(request, target, OWN, &BRANCH, None, out).is_ok(),
             Written::ForwardedAck => {
                 write_forwarded_ack(request, target, OWN, &BRANCH, response, out).is_ok()
             }
-            _ => write_forwarded_cancel(request, target, OWN, &BRANCH, out).is_ok(),
+            _ => write_forwarded_cancel(request, target, OWN, &BRANCH, &[], out).is_ok(),
         },
         Start::Response { .. } => false,
     }
@@ -83,8 +84,9 @@ fn appends<'a>(
         Written::RequestUri | Written::TargetKey | Written::Branch => spells(target, what, out),
         Written::RequestKey => append_request_key(out, request).is_ok(),
         Written::Message => response.write(out).is_ok(),
-        Written::Generated => write_generated(request, OwnStatus::BadRequest, out).is_ok(),
+        Written::Generated => write_generated(request, OwnStatus::BadRequest, &[], out).is_ok(),
         Written::Upward => write_upward(response, None, &[], out).is_ok(),
+        Written::OwnRoute => write_own_route(OWN, out).is_ok(),
         _ => forwards(request, response, target, what, out),
     }
 }
@@ -165,6 +167,7 @@ const ROWS: &[Row] = &[
         FORWARDED_CANCEL,
         "write_forwarded_cancel",
     ),
+    (Written::OwnRoute, OWN_ROUTE, "write_own_route"),
 ];
 
 #[test]

@@ -9,8 +9,8 @@ use crate::holds::holds;
 use call_table::Shelf;
 use fork_call::{Call, Cause, Datagram, Port, Setup, carry};
 use fork_context::State;
-use proxy_dispatch::{Handled, Memory, Received, handle};
-use sip_uri::Hop;
+use proxy_dispatch::{Handled, Memory, Received, Unlimited, handle};
+use sip_uri::{Hop, Transport};
 use std::alloc::{Allocator, Global};
 use std::process::Abort;
 use std::sync::Wait;
@@ -31,6 +31,7 @@ const LOOKS: u32 = 1_000;
 const SOURCE: Hop = Hop {
     addr: [192, 0, 2, 1],
     port: 5060,
+    transport: Transport::Udp,
 };
 
 /// What the proxy is set up with: four locations of one user, all tried at once.
@@ -197,7 +198,8 @@ impl Taking for Desk {
             source: SOURCE,
             now: 0,
         };
-        match handle(rt, memory, &self.calls, &self.setup, received, tally) {
+        let (calls, setup) = (&self.calls, &self.setup);
+        match handle(rt, memory, calls, setup, &Unlimited, received, tally) {
             Ok(Handled::Opened(number) | Handled::Delivered(number)) => {
                 self.calls
                     .with(rt, number, |call| is_carried(rt, call, tally))

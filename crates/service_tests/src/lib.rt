@@ -6,8 +6,6 @@ mod appending;
 #[cfg(test)]
 mod by_call;
 #[cfg(test)]
-mod capable;
-#[cfg(test)]
 mod clients;
 #[cfg(test)]
 mod clock;
@@ -32,20 +30,12 @@ mod journal;
 #[cfg(test)]
 mod limits;
 #[cfg(test)]
-mod messages;
-#[cfg(test)]
 mod metrics;
 #[cfg(test)]
 mod parts;
-#[cfg(test)]
-mod recording;
 #[cfg(test)]
 mod schedule;
 #[cfg(test)]
 mod scrapers;
 #[cfg(test)]
 mod sockets;
-#[cfg(test)]
-mod stamping;
-#[cfg(test)]
-mod turning;

@@ -6,7 +6,7 @@ use daemon_parts::{
     metrics_fault, most_calls_here, read_again, read_setup, read_text, resident_bytes,
     resident_pages, socket_fault,
 };
-use sip_uri::Hop;
+use sip_uri::{Hop, Transport};
 use sip_via::Own;
 use std::alloc::{AllocError, Global};
 use std::io::ErrorKind;
@@ -26,6 +26,7 @@ const RUN: u32 = 1_700_000_000;
 const OWN: Own = Own {
     addr: [127, 0, 0, 1],
     port: 47_430,
+    transport: Transport::Udp,
 };
 
 /// The identity of a proxy that this text sets up, or why it sets up none.
@@ -296,6 +297,7 @@ fn places_are_kept_while_there_are_some(rt: HostRuntime) {
 const AT: Hop = Hop {
     addr: [127, 0, 0, 1],
     port: 47_431,
+    transport: Transport::Udp,
 };
 
 /// Whether a datagram that a socket sends to itself comes.

@@ -42,8 +42,9 @@ pub use Rattle.sip_via.specs.ViaParts.{or_empty}
 pub use Rattle.sip_via.specs.declared.branch.BranchName.{BranchName}
 pub use Rattle.sip_via.specs.declared.own.Own.{Own}
 pub use Rattle.sip_build.specs.Exchanged.{exchanged, is_other}
-pub use Rattle.sip_build.specs.Forwarding.{forwarded, hops_lowered, is_request, to_target}
-pub use Rattle.sip_build.specs.Generated.{code_of, generated_of, reason_of, to_lines, unsupported_lines}
+pub use Rattle.sip_build.specs.Forwarding.{forwarded, hops_lowered, is_request, record_route_lines, to_target}
+pub use Rattle.sip_build.specs.Further.{view_line, view_lines}
+pub use Rattle.sip_build.specs.Generated.{code_of, generated_of, reason_of, timestamp_lines, to_lines, unsupported_lines}
 pub use Rattle.sip_build.specs.Requests.{along, along_to, to_value}
 pub use Rattle.sip_build.specs.SeenKept.{seen_kept, texts}
 pub use Rattle.sip_build.specs.Upward.{challenge_line, challenge_name, contact_lines, upward_of}

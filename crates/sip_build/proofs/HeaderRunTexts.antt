@@ -1,12 +1,13 @@
 -- Header lines in runs, as lines and as text.
 use Rattle.sip_build.proofs.Common.{◌≡◌, ◌+◌, ◌-◌, ◌^◌, ◌<◌, ◌≤◌, arith, Some, None, OnOk, length, subst, ℕ, List, [], ◌∷◌, ◌++◌, map, refl, sym, ap, ◌∙◌, append_assoc, Bor, filter, flat_map, flat_map-map, codes, if◌then◌else◌, cases_Bool}
-use Rattle.sip_build.proofs.Common.{cond-false, cond-true, ended, same_name, HeaderText, MessageText, Request, header_text, saturated, start_line, Uri, request_uri, BranchName, Own, lines_among, own_via, line, texts, lines_text, challenge_line}
+use Rattle.sip_build.proofs.Common.{cond-false, cond-true, ended, same_name, HeaderText, MessageText, Request, header_text, saturated, start_line, Uri, request_uri, BranchName, Own, lines_among, own_via, line, texts, lines_text, challenge_line, view_line, view_lines}
 use Rattle.sip_build.proofs.Common.{contact_lines, is_other, lines_of, start_of, tail_text, under, Result, OnErr, flat_map-append, common_steps}
 use Rattle.std.proofs.Common.{min}
 use Rattle.std.specs.Prelude.{IsOk}
 use Rattle.fork_model.specs.Table as table
 use Rattle.sip_text.specs.Name.{values_of}
 use Rattle.sip_text.specs.Text.{spelling}
+use Rattle.sip_build.specs.declared.further.FurtherLine.{FurtherLine}
 use Rattle.sip_build.specs.declared.runs.HeaderRun.{HeaderRun}
 use Rattle.sip_build.specs.declared.made_text.Front.{Front}
 use Rattle.sip_build.specs.inner.HeaderRuns.{all_lines, made_of}
@@ -23,6 +24,9 @@ contacts-text (t ∷ ts) = ap (λ (ys : List ℕ). header_text (line (codes "Con
 
 pub challenges-text : (cs : List table.Challenge) → flat_map (λ c. header_text (challenge_line c)) cs ≡ lines_text (map challenge_line cs)
 challenges-text cs = sym (flat_map-map header_text challenge_line cs)
+
+pub further-text : (fs : List FurtherLine) → flat_map (λ f. header_text (view_line f)) fs ≡ lines_text (view_lines fs)
+further-text fs = sym (flat_map-map header_text view_line fs)
 
 -- the spelling of a message whose header lines come in runs
 pub spelling_made : {A : Type 0} (front : Front) (runs : List (HeaderRun A)) (body : List ℕ) → spelling (made_of front runs body) ≡ ended (start_line (start_of front)) ++ (flat_map (λ g. lines_text (lines_of g)) runs ++ (ended [] ++ body))

@@ -2,6 +2,8 @@ pub mod Common
 pub mod laws
 pub mod TagLaws
 pub mod Pieces
+pub mod OwnRoutes
+pub mod NamedGood
 pub mod StrippedSame
 pub mod Grown
 pub mod HeaderRunTexts

@@ -1,5 +1,5 @@
 -- A request as it goes to a target (RFC 3261 section 16.6).
-use Rattle.std.specs.Prelude.{ℕ, ◌-◌, Bool, true, false, List, ◌∷◌, Option, Some, None, codes}
+use Rattle.std.specs.Prelude.{ℕ, ◌-◌, Bool, true, false, List, ◌∷◌, ◌++◌, Option, Some, None, codes}
 use Rattle.std.specs.Fmt.{decimal}
 use Rattle.sip_lex.specs.Number.{number}
 use Rattle.sip_text.specs.Name.{first_value}
@@ -8,7 +8,7 @@ use Rattle.sip_uri.specs.Uri.{Uri, request_uri}
 use Rattle.sip_route.specs.Hops.{hops_name}
 use Rattle.sip_via.specs.declared.own.Own.{Own}
 use Rattle.sip_via.specs.declared.branch.BranchName.{BranchName}
-use Rattle.sip_via.specs.Edits.{line, replaced}
+use Rattle.sip_via.specs.Edits.{line, line_if_any, replaced}
 use Rattle.sip_via.specs.OwnVia.{own_via}
 
 -- one hop fewer, or seventy
@@ -24,10 +24,17 @@ abbrev pub is_request : StartText → Bool
 is_request (Request method uri) = true
 is_request (Response status reason) = false
 
--- the target's URI, the proxy's own Via first, and one hop fewer
-abbrev pub forwarded : MessageText → Uri → Own → BranchName → MessageText
-forwarded m target own branch = record {
+-- a Record-Route line of that value, where the proxy stays on the path (section 20.30)
+abbrev pub record_route_lines : Option (List ℕ) → List HeaderText
+record_route_lines value = line_if_any (codes "Record-Route") value
+
+-- the target's URI, the proxy's own Via first, a Record-Route line behind it where one is asked for (step 4), and one hop fewer
+abbrev pub forwarded : MessageText → Uri → Own → BranchName → (recorded : Option (List ℕ)) → MessageText
+forwarded m target own branch recorded = record {
   start = to_target m.start target;
-  headers = line (codes "Via") (own_via own branch) ∷ hops_lowered m.headers (first_value hops_name m.headers);
+  headers =
+      line (codes "Via") (own_via own branch)
+      ∷ (record_route_lines recorded
+      ++ hops_lowered m.headers (first_value hops_name m.headers));
   body = m.body;
 }

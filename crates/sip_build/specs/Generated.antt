@@ -14,27 +14,39 @@ abbrev pub code_of : OwnStatus → ℕ
 code_of own.Trying = 100
 code_of own.Okay = 200
 code_of own.BadRequest = 400
+code_of own.Unauthorized = 401
+code_of own.Forbidden = 403
+code_of own.NotFound = 404
+code_of own.ProxyAuthenticationRequired = 407
 code_of own.RequestTimeout = 408
 code_of own.UnsupportedUriScheme = 416
 code_of own.BadExtension = 420
+code_of own.IntervalTooBrief = 423
 code_of own.TemporarilyUnavailable = 480
 code_of own.CallDoesNotExist = 481
 code_of own.LoopDetected = 482
 code_of own.TooManyHops = 483
 code_of own.ServerInternalError = 500
+code_of own.ServiceUnavailable = 503
 
 abbrev pub reason_of : OwnStatus → List ℕ
 reason_of own.Trying = codes "Trying"
 reason_of own.Okay = codes "OK"
 reason_of own.BadRequest = codes "Bad Request"
+reason_of own.Unauthorized = codes "Unauthorized"
+reason_of own.Forbidden = codes "Forbidden"
+reason_of own.NotFound = codes "Not Found"
+reason_of own.ProxyAuthenticationRequired = codes "Proxy Authentication Required"
 reason_of own.RequestTimeout = codes "Request Timeout"
 reason_of own.UnsupportedUriScheme = codes "Unsupported URI Scheme"
 reason_of own.BadExtension = codes "Bad Extension"
+reason_of own.IntervalTooBrief = codes "Interval Too Brief"
 reason_of own.TemporarilyUnavailable = codes "Temporarily Unavailable"
 reason_of own.CallDoesNotExist = codes "Call/Transaction Does Not Exist"
 reason_of own.LoopDetected = codes "Loop Detected"
 reason_of own.TooManyHops = codes "Too Many Hops"
 reason_of own.ServerInternalError = codes "Server Internal Error"
+reason_of own.ServiceUnavailable = codes "Service Unavailable"
 
 -- a 100 gets no tag, and neither does a To that has one
 abbrev pub gets_tag : OwnStatus → MessageText → Bool
@@ -55,9 +67,13 @@ abbrev pub unsupported_lines : OwnStatus → MessageText → List HeaderText
 unsupported_lines own.BadExtension m = lines_as (codes "Unsupported") (codes "proxy-require") m
 unsupported_lines _ m = []
 
--- the Via lines, the first From, To, Call-ID and CSeq lines as they stand, and what the status asks for
-abbrev pub generated_of : MessageText → OwnStatus → MessageText
-generated_of m status = record {
+-- the first Timestamp line, which a 100 takes as it stands (section 8.2.6.1)
+abbrev pub timestamp_lines : MessageText → List HeaderText
+timestamp_lines m = first_line (codes "timestamp") m
+
+-- the Via lines, the first From, To, Call-ID and CSeq lines as they stand, what the status asks for, and further lines
+abbrev pub generated_of : MessageText → OwnStatus → (further : List HeaderText) → MessageText
+generated_of m status further = record {
   start = Response (code_of status) (reason_of status);
   headers =
       lines_named (codes "via") m
@@ -66,6 +82,7 @@ generated_of m status = record {
       ++ (first_line (codes "call-id") m
       ++ (first_line (codes "cseq") m
       ++ (unsupported_lines status m
-      ++ line (codes "Content-Length") (codes "0") ∷ [])))));
+      ++ (further
+      ++ line (codes "Content-Length") (codes "0") ∷ []))))));
   body = [];
 }

@@ -1,5 +1,8 @@
 pub mod inner
 pub mod OwnTag
+pub mod Further
+pub mod Dialogs
+pub mod OwnRoute
 pub mod Generated
 pub mod Requests
 pub mod Forwarding

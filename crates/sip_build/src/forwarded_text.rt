@@ -1,20 +1,21 @@
 //! Requests as they go to a target, straight as text.
 
-ghost use Rattle.std.specs.Prelude.{◌≡◌, ◌+◌, ◌-◌, ◌≤◌, ◌++◌, IfSome, IsOk, OnErr, OnOk, length, true, vec_capacity, vec_len};
+ghost use Rattle.std.specs.Prelude.{◌≡◌, ◌+◌, ◌-◌, ◌≤◌, ◌++◌, IfSome, IsOk, IsTrue, OnErr, OnOk, length, true, vec_capacity, vec_len};
 ghost use Rattle.std.specs.Fmt.{decimal};
 ghost use Rattle.std.specs.Option.{option_copied};
 ghost use Rattle.sip_lex.specs.Number.{number};
+ghost use Rattle.sip_text.specs.Message.{is_value};
 ghost use Rattle.sip_text.specs.Name.{first_value};
 ghost use Rattle.sip_text.specs.Seen.{views};
 ghost use Rattle.sip_text.specs.Text.{Request, spelling};
 ghost use Rattle.sip_uri.specs.Uri.{Uri, request_uri};
 ghost use Rattle.sip_via.specs.Edits.{place_of};
-ghost use Rattle.sip_build.specs.Forwarding.{forwarded, hops_lowered, is_request, to_target};
+ghost use Rattle.sip_build.specs.Forwarding.{forwarded, hops_lowered, is_request, record_route_lines, to_target};
 ghost use Rattle.sip_build.specs.inner.Forwarding.{hops_left};
 ghost use Rattle.sip_build.specs.inner.HeaderRuns.{all_lines};
 ghost use Rattle.sip_route.specs.Hops.{IsHops, hops_name};
 
-use crate::runs::HeaderRun;
+use crate::runs::{HeaderRun, run_if_any};
 use crate::to_target::append_to_target;
 use itoa::Buffer;
 use sip_lex::read_number;
@@ -69,29 +70,36 @@ fn hops_left(first: Option<&[u8]>) -> u64
     }
 }
 
-/// The header lines with these hops in the first Max-Forwards line, or in a line before them where there is none.
+/// A Record-Route line of that value, if there is one, and the header lines with these hops in the first Max-Forwards line, or in
+/// a line before them where there is none.
 fn lowered_runs<'a, A: Allocator>(
     headers: &'a [Header<A>],
     place: usize,
     hops: &'a [u8],
-) -> [HeaderRun<'a, A>; 3]
+    recorded: Option<&'a [u8]>,
+) -> [HeaderRun<'a, A>; 4]
     requires place { place ≡ place_of hops_name (views headers.now) }
     requires within { place ≤ length headers.now }
     requires hops { hops.now ≡ decimal (hops_left (first_value hops_name (views headers.now))) }
-    ensures { all_lines result ≡ hops_lowered (views headers.now) (first_value hops_name (views headers.now)) }
+    ensures { all_lines result
+        ≡ record_route_lines (option_copied recorded.entry) ++ hops_lowered (views headers.now) (first_value hops_name (views headers.now)) }
 {
+    let record_route = run_if_any(b"Record-Route", recorded);
     let (front, back) = headers.split_at(place);
     let Some((header, after)) = back.split_first() else {
         let seventy = HeaderRun::Line(b"Max-Forwards", hops);
-        return [seventy, HeaderRun::Kept(headers), HeaderRun::Kept(&[])];
+        let headers = HeaderRun::Kept(headers);
+        return [record_route, seventy, headers, HeaderRun::Kept(&[])];
     };
     let lowered = HeaderRun::Line(header.name(), hops);
-    [HeaderRun::Kept(front), lowered, HeaderRun::Kept(after)]
+    let front = HeaderRun::Kept(front);
+    [record_route, front, lowered, HeaderRun::Kept(after)]
 }
 
 /// Appends the request as it goes to a target (RFC 3261 section 16.6): its Request-URI is the target's, the proxy's own
-/// Via stands first, with that branch, and the first Max-Forwards is lowered by one. A request without one gets
-/// `Max-Forwards: 70` behind the Via.
+/// Via stands first, with that branch, behind it a Record-Route line of the value `recorded`, if there is one, by which the
+/// proxy stays on the path of the dialog (step 4), and the first Max-Forwards is lowered by one. A request without one gets
+/// `Max-Forwards: 70` behind these.
 ///
 /// # Errors
 ///
@@ -101,14 +109,16 @@ pub fn write_forwarded<A: Allocator + Clone, B: Allocator>(
     target: &SipUri<A>,
     own: Own,
     branch: &BranchName,
+    recorded: Option<&[u8]>,
     out: &mut Vec<u8, B>,
 ) -> Result<(), AllocError>
     requires request { is_request message.now.start ≡ true }
     requires hops { IfSome (first_value hops_name message.now.headers) IsHops }
+    requires recorded { IfSome (option_copied recorded) (λ value. IsTrue (is_value value)) }
     ensures ok { OnOk result
-        (out.new.items ≡ out.old.items ++ spelling (forwarded message.now target.now own branch.now)) }
+        (out.new.items ≡ out.old.items ++ spelling (forwarded message.now target.now own branch.now (option_copied recorded.entry))) }
     ensures err { OnErr result (out.new.items ≡ out.old.items) }
-    ensures room { vec_len out.old + length (spelling (forwarded message.now target.now own branch.now)) ≤ vec_capacity out.old
+    ensures room { vec_len out.old + length (spelling (forwarded message.now target.now own branch.now (option_copied recorded.entry))) ≤ vec_capacity out.old
         → IsOk result }
 {
     let headers = message.headers();
@@ -117,7 +127,7 @@ pub fn write_forwarded<A: Allocator + Clone, B: Allocator>(
     let hops = buffer
         .format(hops_left(value_at(headers, place)))
         .as_bytes();
-    let runs = lowered_runs(headers, place, hops);
+    let runs = lowered_runs(headers, place, hops, recorded);
     let method = method_of(message);
     append_to_target(out, method, target, own, branch, &runs, message.body())
 }

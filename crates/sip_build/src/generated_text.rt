@@ -1,12 +1,16 @@
 //! The proxy's own responses, straight as text.
 
 ghost use Rattle.std.specs.Prelude.{◌≡◌, ◌+◌, ◌++◌, ◌≤◌, codes, length, map, true, IsOk, OnErr, OnOk, vec_capacity, vec_len};
+ghost use Rattle.std.specs.List.{list_all};
+ghost use Rattle.sip_text.specs.Message.{is_header};
 ghost use Rattle.sip_text.specs.Text.{spelling};
 ghost use Rattle.sip_via.specs.Lines.{first_line};
+ghost use Rattle.sip_build.specs.Further.{view_lines};
 ghost use Rattle.sip_build.specs.Generated.{generated_of, gets_tag, tagged, to_lines, unsupported_lines};
 ghost use Rattle.sip_build.specs.inner.HeaderRuns.{all_lines, lines_of};
 ghost use Rattle.sip_build.specs.OwnTag.{own_tag};
 
+use crate::further::FurtherLine;
 use crate::made_text::{Front, append_made};
 use crate::responses::{OwnStatus, gets_tag};
 use crate::runs::{HeaderRun, Pick};
@@ -80,9 +84,10 @@ fn generated_runs<'a, A: Allocator>(
     message: &'a Message<A>,
     status: OwnStatus,
     tag: &'a [u8],
-) -> [HeaderRun<'a, A>; 7]
+    further: &'a [FurtherLine<'a>],
+) -> [HeaderRun<'a, A>; 8]
     requires { gets_tag status message.now ≡ true → tag.now ≡ own_tag message.now }
-    ensures { all_lines result ≡ (generated_of message.now status).headers }
+    ensures { all_lines result ≡ (generated_of message.now status (view_lines further.now)).headers }
 {
     [
         HeaderRun::Picked(message.headers(), Pick::Named(b"via")),
@@ -91,13 +96,15 @@ fn generated_runs<'a, A: Allocator>(
         first_run(message, b"call-id"),
         first_run(message, b"cseq"),
         unsupported_run(message, status),
+        HeaderRun::Further(further),
         HeaderRun::Line(b"Content-Length", b"0"),
     ]
 }
 
 /// Appends the proxy's own response of that status to a request (RFC 3261 section 8.2.6): the Via lines and the first
 /// From, To, Call-ID and CSeq lines as they stand in the request, with the own tag added to a To without a tag, but for a
-/// 100; for a 420 one Unsupported line for each Proxy-Require line.
+/// 100; for a 420 one Unsupported line for each Proxy-Require line; and the further lines before the Content-Length, as the
+/// Timestamp of a 100, the challenges of a 401 or a 407, or the Retry-After of a 503.
 ///
 /// # Errors
 ///
@@ -106,16 +113,18 @@ fn generated_runs<'a, A: Allocator>(
 pub fn write_generated<A: Allocator, B: Allocator>(
     message: &Message<A>,
     status: OwnStatus,
+    further: &[FurtherLine<'_>],
     out: &mut Vec<u8, B>,
 ) -> Result<(), AllocError>
+    requires { list_all is_header (view_lines further.now) ≡ true }
     ensures ok { OnOk result
-        (out.new.items ≡ out.old.items ++ spelling (generated_of message.now status)) }
+        (out.new.items ≡ out.old.items ++ spelling (generated_of message.now status (view_lines further.now))) }
     ensures err { OnErr result (out.new.items ≡ out.old.items) }
-    ensures room { vec_len out.old + length (spelling (generated_of message.now status)) ≤ vec_capacity out.old
+    ensures room { vec_len out.old + length (spelling (generated_of message.now status (view_lines further.now))) ≤ vec_capacity out.old
         → IsOk result }
 {
     let tag = tag_if_added(message, status);
-    let runs = generated_runs(message, status, &tag);
+    let runs = generated_runs(message, status, &tag, further);
     append_made(
         out,
         Front::Response(status.code(), status.reason()),

@@ -1,8 +1,10 @@
 //! The ACK for a failure and the CANCEL of a request that was forwarded, straight as text.
 
-ghost use Rattle.std.specs.Prelude.{◌≡◌, ◌+◌, ◌++◌, ◌∷◌, ◌≤◌, codes, length, true, IsOk, OnErr, OnOk, vec_capacity, vec_len, IfSome};
+ghost use Rattle.std.specs.Prelude.{◌≡◌, ℕ, ◌+◌, ◌++◌, ◌∷◌, ◌≤◌, List, Option, codes, length, true, IsOk, OnErr, OnOk, vec_capacity, vec_len, IfSome};
+ghost use Rattle.std.specs.List.{list_all};
 ghost use Rattle.std.specs.Option.{option_copied};
 ghost use Rattle.sip_lex.specs.Number.{begins_with_zero};
+ghost use Rattle.sip_text.specs.Message.{is_header};
 ghost use Rattle.sip_text.specs.Name.{first_value, values_of};
 ghost use Rattle.sip_text.specs.Seen.{views};
 ghost use Rattle.sip_text.specs.Text.{spelling};
@@ -14,9 +16,11 @@ ghost use Rattle.sip_via.specs.Edits.{line};
 ghost use Rattle.sip_via.specs.OwnVia.{IsOwn, own_via};
 ghost use Rattle.sip_route.specs.Loop.{cseq_number};
 ghost use Rattle.sip_build.specs.Forwarding.{forwarded, is_request};
+ghost use Rattle.sip_build.specs.Further.{view_lines};
 ghost use Rattle.sip_build.specs.inner.HeaderRuns.{all_lines};
 ghost use Rattle.sip_build.specs.Requests.{ack_of, along_to, cancel_of};
 
+use crate::further::FurtherLine;
 use crate::law::{ack_of_a_forwarded_request, cancel_of_a_forwarded_request};
 use crate::runs::{HeaderRun, Pick};
 use crate::to_target::append_to_target;
@@ -87,17 +91,18 @@ fn number_of<'a, A: Allocator>(message: &'a Message<A>, buffer: &'a mut Buffer) 
 }
 
 /// The header lines behind the Via line of a request of that method on the way of one that went to a
-/// target, and whose CSeq has that number.
+/// target, whose CSeq has that number, with more lines before the Content-Length.
 fn runs_behind_via<'a, A: Allocator>(
     method: &'a [u8],
     message: &'a Message<A>,
     to: &'a [u8],
     number: &'a [u8],
-) -> [HeaderRun<'a, A>; 7]
+    more: &'a [FurtherLine<'a>],
+) -> [HeaderRun<'a, A>; 8]
     requires { number.now ≡ cseq_number message.now }
     ensures { (target : Uri) (own : Own) (branch : BranchName)
         → line (codes "Via") (own_via own branch) ∷ all_lines result
-        ≡ (along_to method.now message.now target own branch to.now).headers }
+        ≡ (along_to method.now message.now target own branch to.now (view_lines more.now)).headers }
 {
     [
         HeaderRun::SeventyHops,
@@ -106,11 +111,12 @@ fn runs_behind_via<'a, A: Allocator>(
         HeaderRun::To(to),
         HeaderRun::CallId(message.call_id()),
         HeaderRun::Joined(b"CSeq", number, b" ", method),
+        HeaderRun::Further(more),
         HeaderRun::NoBody,
     ]
 }
 
-/// Appends a request of that method on the way of one that went to a target, or nothing.
+/// Appends a request of that method on the way of one that went to a target, with more lines, or nothing.
 fn append_to_same_hop<A: Allocator + Clone, B: Allocator>(
     out: &mut Vec<u8, B>,
     method: &[u8],
@@ -119,16 +125,17 @@ fn append_to_same_hop<A: Allocator + Clone, B: Allocator>(
     own: Own,
     branch: &BranchName,
     to: &[u8],
+    more: &[FurtherLine<'_>],
 ) -> Result<(), AllocError>
     ensures ok { OnOk result
-        (out.new.items ≡ out.old.items ++ spelling (along_to method.now message.now target.now own branch.now to.now)) }
+        (out.new.items ≡ out.old.items ++ spelling (along_to method.now message.now target.now own branch.now to.now (view_lines more.now))) }
     ensures err { OnErr result (out.new.items ≡ out.old.items) }
-    ensures room { vec_len out.old + length (spelling (along_to method.now message.now target.now own branch.now to.now)) ≤ vec_capacity out.old
+    ensures room { vec_len out.old + length (spelling (along_to method.now message.now target.now own branch.now to.now (view_lines more.now))) ≤ vec_capacity out.old
         → IsOk result }
 {
     let mut buffer = Buffer::new();
     let number = number_of(message, &mut buffer);
-    let runs = runs_behind_via(method, message, to, number);
+    let runs = runs_behind_via(method, message, to, number, more);
     append_to_target(out, method, target, own, branch, &runs, b"")
 }
 
@@ -148,21 +155,23 @@ pub fn write_forwarded_ack<A: Allocator + Clone, B: Allocator>(
     out: &mut Vec<u8, B>,
 ) -> Result<(), AllocError>
     requires { is_request message.now.start ≡ true }
-    ensures ok { OnOk result
-        (out.new.items ≡ out.old.items ++ spelling (ack_of (forwarded message.now target.now own branch.now) response.now)) }
+    ensures ok { OnOk result ((recorded : Option (List ℕ))
+        → out.new.items ≡ out.old.items ++ spelling (ack_of (forwarded message.now target.now own branch.now recorded) response.now)) }
     ensures err { OnErr result (out.new.items ≡ out.old.items) }
-    ensures room { vec_len out.old + length (spelling (ack_of (forwarded message.now target.now own branch.now) response.now)) ≤ vec_capacity out.old
+    ensures room { (recorded : Option (List ℕ))
+        → vec_len out.old + length (spelling (ack_of (forwarded message.now target.now own branch.now recorded) response.now)) ≤ vec_capacity out.old
         → IsOk result }
 {
     is_own(own);
     is_branch(*branch);
     ack_of_a_forwarded_request();
     let to = first_value(response, b"to");
-    append_to_same_hop(out, b"ACK", message, target, own, branch, to)
+    append_to_same_hop(out, b"ACK", message, target, own, branch, to, &[])
 }
 
 /// Appends the CANCEL of a request that went to a target (RFC 3261 section 9.1): on the way of the request as it went, with
-/// its top Via value alone, its Route values, its From, its To, its Call-ID and the number of its CSeq.
+/// its top Via value alone, its Route values, its From, its To, its Call-ID and the number of its CSeq, and, before the
+/// Content-Length, lines that say why it is sent (RFC 3326).
 ///
 /// # Errors
 ///
@@ -172,18 +181,21 @@ pub fn write_forwarded_cancel<A: Allocator + Clone, B: Allocator>(
     target: &SipUri<A>,
     own: Own,
     branch: &BranchName,
+    reasons: &[FurtherLine<'_>],
     out: &mut Vec<u8, B>,
 ) -> Result<(), AllocError>
-    requires { is_request message.now.start ≡ true }
-    ensures ok { OnOk result
-        (out.new.items ≡ out.old.items ++ spelling (cancel_of (forwarded message.now target.now own branch.now))) }
+    requires request { is_request message.now.start ≡ true }
+    requires reasons { list_all is_header (view_lines reasons.now) ≡ true }
+    ensures ok { OnOk result ((recorded : Option (List ℕ))
+        → out.new.items ≡ out.old.items ++ spelling (cancel_of (forwarded message.now target.now own branch.now recorded) (view_lines reasons.now))) }
     ensures err { OnErr result (out.new.items ≡ out.old.items) }
-    ensures room { vec_len out.old + length (spelling (cancel_of (forwarded message.now target.now own branch.now))) ≤ vec_capacity out.old
+    ensures room { (recorded : Option (List ℕ))
+        → vec_len out.old + length (spelling (cancel_of (forwarded message.now target.now own branch.now recorded) (view_lines reasons.now))) ≤ vec_capacity out.old
         → IsOk result }
 {
     is_own(own);
     is_branch(*branch);
     cancel_of_a_forwarded_request();
     let to = first_value(message, b"to");
-    append_to_same_hop(out, b"CANCEL", message, target, own, branch, to)
+    append_to_same_hop(out, b"CANCEL", message, target, own, branch, to, reasons)
 }

@@ -6,12 +6,15 @@
 #![tactic(auto)]
 
 mod challenges;
+mod dialogs;
 mod forwarded_text;
+mod further;
 mod generated_text;
 mod hop_by_hop;
 mod law;
 mod made_text;
 mod own_line;
+mod own_route;
 mod parts;
 mod place;
 mod responses;
@@ -22,10 +25,16 @@ mod to_target;
 mod upward_text;
 
 pub use challenges::challenge_name;
+pub use dialogs::opens_dialog;
 pub use forwarded_text::write_forwarded;
+pub use further::{FurtherLine, first_timestamp, reason_lines};
 pub use generated_text::write_generated;
 pub use hop_by_hop::{write_forwarded_ack, write_forwarded_cancel};
-pub use law::{ack_of_a_forwarded_request, cancel_of_a_forwarded_request, stripping_keeps_answers};
+pub use law::{
+    ack_of_a_forwarded_request, cancel_of_a_forwarded_request, stripping_keeps_answers,
+    stripping_keeps_timestamps,
+};
+pub use own_route::write_own_route;
 pub use responses::{OwnStatus, gets_tag};
 pub use tag::own_tag;
 pub use upward_text::write_upward;

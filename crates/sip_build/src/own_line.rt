@@ -1,15 +1,16 @@
 //! The proxy's own Via line.
 
-ghost use Rattle.std.specs.Prelude.{◌≡◌, ◌∷◌, ◌+◌, ◌++◌, ◌≤◌, codes, length, IsOk, OnOk, take, vec_capacity, vec_len};
+ghost use Rattle.std.specs.Prelude.{◌≡◌, [], ◌∷◌, ◌+◌, ◌++◌, ◌≤◌, codes, length, IsOk, OnOk, take, vec_capacity, vec_len};
 ghost use Rattle.std.specs.Fmt.{decimal};
 ghost use Rattle.sip_text.specs.Text.{header_text};
 ghost use Rattle.sip_via.specs.Address.{address_text, dotted};
 ghost use Rattle.sip_via.specs.Edits.{line};
-ghost use Rattle.sip_via.specs.OwnVia.{own_via};
+ghost use Rattle.sip_via.specs.OwnVia.{own_via, word_of};
 ghost use Rattle.sip_build.specs.inner.Placed.{Placed};
 
 use crate::place::{place, place_one, place_two};
 use itoa::Buffer;
+use sip_uri::Transport;
 use sip_via::{BranchName, Own, write_branch};
 use std::alloc::{AllocError, Allocator};
 
@@ -24,7 +25,7 @@ fn place_number(out: &mut [u8], at: usize, n: u32) -> usize
 
 /// Writes a port in decimal from that place on, which is ten digits at most.
 #[inline(always)]
-fn place_port(out: &mut [u8], at: usize, n: u16) -> usize
+pub(crate) fn place_port(out: &mut [u8], at: usize, n: u16) -> usize
     requires { at + 10 ≤ length out.old }
     ensures placed { Placed out.old out.new at (decimal n) result }
     ensures short { result ≤ at + 10 }
@@ -73,7 +74,7 @@ fn place_dotted(out: &mut [u8], at: usize, n: u8) -> usize
 }
 
 /// Writes an address in dotted decimal from that place on.
-fn place_address(out: &mut [u8], at: usize, addr: [u8; 4]) -> usize
+pub(crate) fn place_address(out: &mut [u8], at: usize, addr: [u8; 4]) -> usize
     requires { at + 15 ≤ length out.old }
     ensures placed { Placed out.old out.new at (address_text addr) result }
     ensures short { result ≤ at + 15 }
@@ -84,14 +85,25 @@ fn place_address(out: &mut [u8], at: usize, addr: [u8; 4]) -> usize
     place_dotted(out, at, addr[3])
 }
 
+/// The line up to the address.
+fn before_address(transport: Transport) -> &'static [u8]
+    ensures text { result.now ≡ codes "Via: SIP/2.0/" ++ (word_of transport ++ 32 ∷ []) }
+    ensures len { length result.now ≡ 17 }
+{
+    match transport {
+        Transport::Udp => b"Via: SIP/2.0/UDP ",
+        Transport::Tcp | Transport::Back(_) => b"Via: SIP/2.0/TCP ",
+    }
+}
+
 /// Writes the line up to the branch to the front of `out`.
 fn place_front(out: &mut [u8], own: Own) -> usize
     requires { 51 ≤ length out.old }
     ensures text { take result out.new
-        ≡ codes "Via: SIP/2.0/UDP " ++ (address_text own.addr ++ (58 ∷ (decimal own.port ++ codes ";branch="))) }
+        ≡ codes "Via: SIP/2.0/" ++ (word_of own.transport ++ (32 ∷ (address_text own.addr ++ (58 ∷ (decimal own.port ++ codes ";branch="))))) }
     ensures within { result ≤ length out.new }
 {
-    let at = place(out, 0, b"Via: SIP/2.0/UDP ");
+    let at = place(out, 0, before_address(own.transport));
     let at = place_address(out, at, own.addr);
     let at = place_one(out, at, b':');
     let at = place_port(out, at, own.port);

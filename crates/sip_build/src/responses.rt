@@ -16,12 +16,22 @@ pub enum OwnStatus {
     Okay,
     /// 400
     BadRequest,
+    /// 401
+    Unauthorized,
+    /// 403
+    Forbidden,
+    /// 404
+    NotFound,
+    /// 407
+    ProxyAuthenticationRequired,
     /// 408
     RequestTimeout,
     /// 416
     UnsupportedUriScheme,
     /// 420
     BadExtension,
+    /// 423
+    IntervalTooBrief,
     /// 480
     TemporarilyUnavailable,
     /// 481
@@ -32,6 +42,8 @@ pub enum OwnStatus {
     TooManyHops,
     /// 500
     ServerInternalError,
+    /// 503
+    ServiceUnavailable,
 }
 
 impl OwnStatus {
@@ -43,14 +55,20 @@ impl OwnStatus {
             OwnStatus::Trying => 100,
             OwnStatus::Okay => 200,
             OwnStatus::BadRequest => 400,
+            OwnStatus::Unauthorized => 401,
+            OwnStatus::Forbidden => 403,
+            OwnStatus::NotFound => 404,
+            OwnStatus::ProxyAuthenticationRequired => 407,
             OwnStatus::RequestTimeout => 408,
             OwnStatus::UnsupportedUriScheme => 416,
             OwnStatus::BadExtension => 420,
+            OwnStatus::IntervalTooBrief => 423,
             OwnStatus::TemporarilyUnavailable => 480,
             OwnStatus::CallDoesNotExist => 481,
             OwnStatus::LoopDetected => 482,
             OwnStatus::TooManyHops => 483,
             OwnStatus::ServerInternalError => 500,
+            OwnStatus::ServiceUnavailable => 503,
         }
     }
 
@@ -62,14 +80,20 @@ impl OwnStatus {
             OwnStatus::Trying => b"Trying",
             OwnStatus::Okay => b"OK",
             OwnStatus::BadRequest => b"Bad Request",
+            OwnStatus::Unauthorized => b"Unauthorized",
+            OwnStatus::Forbidden => b"Forbidden",
+            OwnStatus::NotFound => b"Not Found",
+            OwnStatus::ProxyAuthenticationRequired => b"Proxy Authentication Required",
             OwnStatus::RequestTimeout => b"Request Timeout",
             OwnStatus::UnsupportedUriScheme => b"Unsupported URI Scheme",
             OwnStatus::BadExtension => b"Bad Extension",
+            OwnStatus::IntervalTooBrief => b"Interval Too Brief",
             OwnStatus::TemporarilyUnavailable => b"Temporarily Unavailable",
             OwnStatus::CallDoesNotExist => b"Call/Transaction Does Not Exist",
             OwnStatus::LoopDetected => b"Loop Detected",
             OwnStatus::TooManyHops => b"Too Many Hops",
             OwnStatus::ServerInternalError => b"Server Internal Error",
+            OwnStatus::ServiceUnavailable => b"Service Unavailable",
         }
     }
 }

@@ -7,11 +7,13 @@ ghost use Rattle.std.specs.Option.{option_copied};
 ghost use Rattle.sip_text.specs.Seen.{view, views};
 ghost use Rattle.sip_text.specs.Text.{header_text, pieces_text, saturated};
 ghost use Rattle.sip_via.specs.Edits.{line};
+ghost use Rattle.sip_build.specs.Further.{view_line};
 ghost use Rattle.sip_build.specs.inner.HeaderRuns.{lines_of, picked, under};
 ghost use Rattle.sip_build.specs.inner.Texts.{lines_text};
 ghost use Rattle.sip_build.specs.Upward.{challenge_line};
 
 use crate::challenges::challenge_name;
+use crate::further::FurtherLine;
 use crate::runs::{HeaderRun, Pick, picked_name};
 use fork_rank::Challenge;
 use sip_text::Header;
@@ -93,6 +95,18 @@ fn challenges_len<A: Allocator>(challenges: &[Challenge<A>]) -> usize
     len
 }
 
+/// How many bytes the further lines are.
+fn further_len(lines: &[FurtherLine<'_>]) -> usize
+    ensures { result
+        ≡ saturated (length (flat_map (λ f. header_text (view_line f)) lines.now)) }
+{
+    let mut len = 0usize;
+    for line in lines {
+        len = len.saturating_add(line_len(line.name, line.value));
+    }
+    len
+}
+
 /// How many bytes the header lines of a run are.
 fn run_len<A: Allocator>(run: &HeaderRun<'_, A>) -> usize
     ensures { result ≡ saturated (length (lines_text (lines_of run.now))) }
@@ -104,6 +118,7 @@ fn run_len<A: Allocator>(run: &HeaderRun<'_, A>) -> usize
         HeaderRun::Joined(name, a, b, c) => pieces_len(&[name, b": ", a, b, c, b"\r\n"]),
         HeaderRun::Contacts(kept) => contacts_len(kept),
         HeaderRun::Challenges(challenges) => challenges_len(challenges),
+        HeaderRun::Further(lines) => further_len(lines),
         HeaderRun::SeventyHops => 18,
         HeaderRun::NoBody => 19,
         HeaderRun::From(value) => line_len(b"From", value),

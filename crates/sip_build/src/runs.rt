@@ -6,13 +6,15 @@ ghost use Rattle.std.specs.List.{flat_map};
 ghost use Rattle.std.specs.Option.{option_copied};
 ghost use Rattle.sip_text.specs.Seen.{view, views};
 ghost use Rattle.sip_text.specs.Text.{header_text, saturated};
-ghost use Rattle.sip_via.specs.Edits.{line};
+ghost use Rattle.sip_via.specs.Edits.{line, line_if_any};
+ghost use Rattle.sip_build.specs.Further.{view_line};
 ghost use Rattle.sip_build.specs.inner.HeaderRuns.{lines_of, picked, picked_name, tail_text, under};
 ghost use Rattle.sip_build.specs.inner.Placed.{Placed};
 ghost use Rattle.sip_build.specs.inner.Texts.{lines_text};
 ghost use Rattle.sip_build.specs.Upward.{challenge_line};
 
 use crate::challenges::challenge_name;
+use crate::further::FurtherLine;
 use crate::place::{place, place_line, place_pieces};
 use crate::run_lens::{pieces_len, runs_len};
 use fork_rank::Challenge;
@@ -45,6 +47,8 @@ pub(crate) enum HeaderRun<'a, A: Allocator> {
     Contacts(&'a [&'a [u8]]),
     /// A line for each challenge.
     Challenges(&'a [Challenge<A>]),
+    /// Lines beside those that are always there.
+    Further(&'a [FurtherLine<'a>]),
     /// A Max-Forwards line of seventy hops.
     SeventyHops,
     /// A Content-Length line of a message that has no body.
@@ -55,6 +59,19 @@ pub(crate) enum HeaderRun<'a, A: Allocator> {
     To(&'a [u8]),
     /// A Call-ID line of that value.
     CallId(&'a [u8]),
+}
+
+/// A line of that name, if there is a value for it.
+pub(crate) fn run_if_any<'a, A: Allocator>(
+    name: &'a [u8],
+    value: Option<&'a [u8]>,
+) -> HeaderRun<'a, A>
+    ensures { lines_of result ≡ line_if_any name.now (option_copied value.entry) }
+{
+    match value {
+        None => HeaderRun::Kept(&[]),
+        Some(value) => HeaderRun::Line(name, value),
+    }
 }
 
 /// The name that a header line is written under, if it is written.
@@ -141,6 +158,18 @@ fn place_challenges<A: Allocator>(out: &mut [u8], at: usize, challenges: &[Chall
     end
 }
 
+/// Writes the further lines.
+fn place_further(out: &mut [u8], at: usize, lines: &[FurtherLine<'_>]) -> usize
+    requires { at + length (flat_map (λ f. header_text (view_line f)) lines.now) ≤ length out.old }
+    ensures { Placed out.old out.new at (flat_map (λ f. header_text (view_line f)) lines.now) result }
+{
+    let mut end = at;
+    for line in lines {
+        end = place_line(out, end, line.name, line.value);
+    }
+    end
+}
+
 /// Writes the header lines of a run.
 fn place_run<A: Allocator>(out: &mut [u8], at: usize, run: &HeaderRun<'_, A>) -> usize
     requires { at + length (lines_text (lines_of run.now)) ≤ length out.old }
@@ -153,6 +182,7 @@ fn place_run<A: Allocator>(out: &mut [u8], at: usize, run: &HeaderRun<'_, A>) ->
         HeaderRun::Joined(name, a, b, c) => place_pieces(out, at, &[name, b": ", a, b, c, b"\r\n"]),
         HeaderRun::Contacts(kept) => place_contacts(out, at, kept),
         HeaderRun::Challenges(challenges) => place_challenges(out, at, challenges),
+        HeaderRun::Further(lines) => place_further(out, at, lines),
         HeaderRun::SeventyHops => place(out, at, b"Max-Forwards: 70\r\n"),
         HeaderRun::NoBody => place(out, at, b"Content-Length: 0\r\n"),
         HeaderRun::From(value) => place_line(out, at, b"From", value),

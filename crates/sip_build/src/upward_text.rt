@@ -7,7 +7,7 @@ ghost use Rattle.sip_text.specs.Message.{is_start};
 ghost use Rattle.sip_text.specs.Name.{first_value};
 ghost use Rattle.sip_text.specs.Seen.{view_start, views};
 ghost use Rattle.sip_text.specs.Text.{spelling};
-ghost use Rattle.sip_via.specs.Edits.{line_if_any, replaced};
+ghost use Rattle.sip_via.specs.Edits.{replaced};
 ghost use Rattle.sip_via.specs.TopVia.{has_second, via_values};
 ghost use Rattle.sip_build.specs.Exchanged.{exchanged};
 ghost use Rattle.sip_build.specs.inner.HeaderRuns.{IsFront, all_lines, lines_of, start_of};
@@ -15,7 +15,7 @@ ghost use Rattle.sip_build.specs.SeenKept.{seen_kept, texts};
 ghost use Rattle.sip_build.specs.Upward.{AreKept, challenge_line, contact_lines, is_challenge, others_of, refusal, upward, upward_headers, upward_of};
 
 use crate::made_text::{Front, append_made};
-use crate::runs::{HeaderRun, Pick};
+use crate::runs::{HeaderRun, Pick, run_if_any};
 use fork_rank::Challenge;
 use sip_lex::{Shelter, cut_outside, trim};
 use sip_text::{Header, Message, Start};
@@ -36,16 +36,6 @@ fn others_of<A: Allocator>(message: &Message<A>) -> Option<&[u8]>
             None => None,
             Some(others) => Some(trim(others)),
         },
-    }
-}
-
-/// A line of that name, if there is a value for it.
-fn run_if_any<'a, A: Allocator>(name: &'a [u8], value: Option<&'a [u8]>) -> HeaderRun<'a, A>
-    ensures { lines_of result ≡ line_if_any name.now (option_copied value.entry) }
-{
-    match value {
-        None => HeaderRun::Kept(&[]),
-        Some(value) => HeaderRun::Line(name, value),
     }
 }
 

@@ -1,5 +1,5 @@
 -- A request as it goes to a target is a message.
-use Rattle.sip_message.proofs.Common.{◌≡◌, ℕ, true, false, not, eqb, map, List, [], ◌∷◌, ◌++◌, length, Option, refl, ap, ◌∙◌, arith, ◌&&◌, codes, IfSome, is_none, list_all, and_parts, is_token, CSeqText, cseq_in, fits_start, said_by, IsMessage, fits_body}
+use Rattle.sip_message.proofs.Common.{◌≡◌, ℕ, true, false, not, eqb, map, None, List, [], ◌∷◌, ◌++◌, length, Option, refl, ap, ◌∙◌, arith, ◌&&◌, codes, IfSome, is_none, list_all, and_parts, is_token, CSeqText, cseq_in, fits_start, said_by, IsMessage, fits_body}
 use Rattle.sip_message.proofs.Common.{is_header, is_start, is_value, first_of, first_value, is_uri, HeaderText, MessageText, StartText, and_both, Uri, request_uri, Own, BranchName, line, own_via, forwarded, hops_lowered, is_request, to_target, IsHops, hops_name}
 use Rattle.sip_message.proofs.Common.{all-replaced, common_steps}
 use Rattle.std.proofs.Common.{ltb}
@@ -43,7 +43,7 @@ via-first : (v : List ℕ) (hs : List HeaderText) → is_none (first_value (code
 unfolding full_name values_of
 via-first v hs = refl
 
-forwarded-good : (m : MessageText) (target : Uri) (proxy : Own) (b : BranchName) → IsMessage m → is_request m.start ≡ true → IfSome (first_value hops_name m.headers) IsHops → IsUri target → list_all is_uri_byte (request_uri target) ≡ true → is_value (own_via proxy b) ≡ true → IsMessage (forwarded m target proxy b)
+forwarded-good : (m : MessageText) (target : Uri) (proxy : Own) (b : BranchName) → IsMessage m → is_request m.start ≡ true → IfSome (first_value hops_name m.headers) IsHops → IsUri target → list_all is_uri_byte (request_uri target) ≡ true → is_value (own_via proxy b) ≡ true → IsMessage (forwarded m target proxy b None)
 forwarded-good m target proxy b good request hops uri bytes value =
     let lowered = hops_lowered m.headers (first_value hops_name m.headers) in
     let via = line (codes "Via") (own_via proxy b) in

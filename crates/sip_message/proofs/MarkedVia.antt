@@ -3,7 +3,7 @@ use Rattle.sip_message.proofs.Common.{◌≡◌, ◌≢◌, ℕ, ◌<◌, ◌^�
 use Rattle.sip_message.proofs.Common.{AllByRecursion, flat_map, list_all, bytes_eq, str_to_ascii_lowercase, and_parts, cases_Bool, cond-false, cond-true, false≢true, decimal_nonempty, digits_decimal, append-nil, drop_at, bytes_eq-Decides, Quotes, Plain}
 use Rattle.sip_message.proofs.Common.{is_token, trim, trim_end, is, cut_outside, cut_again, cut_outside_again, joined, joined-behind, trim_end-reverse, trim_start-none, trim_start-spaces, own, Hop, IsHost, IsPort, IsAddress, address_text, dotted, IsSource}
 use Rattle.sip_message.proofs.Common.{asks_port, filled, gets_received, marked_param, marked_parts, marked_value, received_text, AreParamGaps, AreViaGaps, IsSpace, IsValue, IsVia, IsViaParam, ParamGaps, ViaGaps, param_spelling, spaced, spelling, ViaText}
-use Rattle.sip_message.proofs.Common.{first_named, are_parts, is_named, is_value_byte, is_via, name_of, parts_of, via_of, ◌+◌, behind, common_steps}
+use Rattle.sip_message.proofs.Common.{first_named, are_parts, is_named, is_value_byte, is_via, name_of, parts_of, via_of, common_steps}
 use Rattle.sip_via.specs.ViaParts.{is_trimmed, value_of}
 use Rattle.sip_via.proofs.laws.Marked.{sip-begins, trim_end-back}
 use Rattle.sip_via.proofs.laws.ViaFound.{via_found}

@@ -6,58 +6,59 @@ use Rattle.std.proofs.lemmas.Fmt.{decimal_nonempty}
 use Rattle.sip_text.specs.Name.{full_name, values_of}
 use Rattle.sip_route.specs.Loop.{call_id, cseq_number, request_uri}
 use Rattle.sip_build.specs.Requests.{ack_of, cancel_of, from_value}
-use Rattle.sip_message.proofs.laws.Named.{AreNamed, cseq_there, named_lines, none_missing, skip}
+use Rattle.sip_message.proofs.laws.Named.{AreNamed, cseq_there, named_lines, none_in, none_missing, skip}
 use Rattle.sip_lex.proofs.laws.Numbers.{number_read_within}
 use Rattle.sip_message.proofs.CSeqAgain.{IsMethod, cseq_again}
 use Rattle.sip_message.proofs.HeaderValues.{ends, first_good, joined_good, lines_good, top_good, values_good}
 
 -- ---- the lines behind the Route lines
 
-abbrev tail_lines : List ℕ → MessageText → List ℕ → List HeaderText
-tail_lines method sent to =
+abbrev tail_lines : List ℕ → MessageText → List ℕ → List HeaderText → List HeaderText
+tail_lines method sent to more =
     line (codes "From") (from_value sent)
     ∷ line (codes "To") to
     ∷ line (codes "Call-ID") (call_id sent)
     ∷ line (codes "CSeq") (cseq_number sent ++ 32 ∷ method)
-    ∷ line (codes "Content-Length") (codes "0") ∷ []
+    ∷ (more
+    ++ line (codes "Content-Length") (codes "0") ∷ [])
 
-abbrev from_routes : List ℕ → MessageText → List ℕ → List HeaderText
-from_routes method sent to = lines_as (codes "Route") (codes "route") sent ++ tail_lines method sent to
+abbrev from_routes : List ℕ → MessageText → List ℕ → List HeaderText → List HeaderText
+from_routes method sent to more = lines_as (codes "Route") (codes "route") sent ++ tail_lines method sent to more
 
-abbrev all_lines : List ℕ → MessageText → List ℕ → List HeaderText
-all_lines method sent to = line (codes "Via") (top_value sent) ∷ line (codes "Max-Forwards") (codes "70") ∷ from_routes method sent to
+abbrev all_lines : List ℕ → MessageText → List ℕ → List HeaderText → List HeaderText
+all_lines method sent to more = line (codes "Via") (top_value sent) ∷ line (codes "Max-Forwards") (codes "70") ∷ from_routes method sent to more
 
 routes_named : (sent : MessageText) → AreNamed (codes "Route") (lines_as (codes "Route") (codes "route") sent)
 unfolding full_name
 routes_named sent = named_lines (codes "Route") (codes "Route") (values_of (codes "route") sent.headers) refl
 
 -- past the lines before it
-past : (name : List ℕ) (method : List ℕ) (sent : MessageText) (to : List ℕ) → same_name name (codes "Route") ≡ false → values_of name (from_routes method sent to) ≡ values_of name (tail_lines method sent to)
-past name method sent to other = skip name (codes "Route") (lines_as (codes "Route") (codes "route") sent) (tail_lines method sent to) other (routes_named sent)
+past : (name : List ℕ) (method : List ℕ) (sent : MessageText) (to : List ℕ) (more : List HeaderText) → same_name name (codes "Route") ≡ false → values_of name (from_routes method sent to more) ≡ values_of name (tail_lines method sent to more)
+past name method sent to more other = skip name (codes "Route") (lines_as (codes "Route") (codes "route") sent) (tail_lines method sent to more) other (routes_named sent)
 
-via_has : (method : List ℕ) (sent : MessageText) (to : List ℕ) → value_of Via (all_lines method sent to) ≡ Some (top_value sent)
+via_has : (method : List ℕ) (sent : MessageText) (to : List ℕ) (more : List HeaderText) → value_of Via (all_lines method sent to more) ≡ Some (top_value sent)
 unfolding values_of full_name
-via_has method sent to = refl
+via_has method sent to more = refl
 
-from_has : (method : List ℕ) (sent : MessageText) (to : List ℕ) → value_of From (all_lines method sent to) ≡ Some (from_value sent)
+from_has : (method : List ℕ) (sent : MessageText) (to : List ℕ) (more : List HeaderText) → value_of From (all_lines method sent to more) ≡ Some (from_value sent)
 unfolding values_of full_name
-from_has method sent to = ap first_of (past (codes "from") method sent to refl)
+from_has method sent to more = ap first_of (past (codes "from") method sent to more refl)
 
-to_has : (method : List ℕ) (sent : MessageText) (to : List ℕ) → value_of To (all_lines method sent to) ≡ Some to
+to_has : (method : List ℕ) (sent : MessageText) (to : List ℕ) (more : List HeaderText) → value_of To (all_lines method sent to more) ≡ Some to
 unfolding values_of full_name
-to_has method sent to = ap first_of (past (codes "to") method sent to refl)
+to_has method sent to more = ap first_of (past (codes "to") method sent to more refl)
 
-call_has : (method : List ℕ) (sent : MessageText) (to : List ℕ) → value_of CallId (all_lines method sent to) ≡ Some (call_id sent)
+call_has : (method : List ℕ) (sent : MessageText) (to : List ℕ) (more : List HeaderText) → value_of CallId (all_lines method sent to more) ≡ Some (call_id sent)
 unfolding values_of full_name
-call_has method sent to = ap first_of (past (codes "call-id") method sent to refl)
+call_has method sent to more = ap first_of (past (codes "call-id") method sent to more refl)
 
-cseq_has : (method : List ℕ) (sent : MessageText) (to : List ℕ) → value_of CSeq (all_lines method sent to) ≡ Some (cseq_number sent ++ 32 ∷ method)
+cseq_has : (method : List ℕ) (sent : MessageText) (to : List ℕ) (more : List HeaderText) → value_of CSeq (all_lines method sent to more) ≡ Some (cseq_number sent ++ 32 ∷ method)
 unfolding values_of full_name
-cseq_has method sent to = ap first_of (past (codes "cseq") method sent to refl)
+cseq_has method sent to more = ap first_of (past (codes "cseq") method sent to more refl)
 
-length_is : (method : List ℕ) (sent : MessageText) (to : List ℕ) → values_of length_name (all_lines method sent to) ≡ codes "0" ∷ []
+length_is : (method : List ℕ) (sent : MessageText) (to : List ℕ) (more : List HeaderText) → values_of length_name more ≡ [] → values_of length_name (all_lines method sent to more) ≡ codes "0" ∷ []
 unfolding values_of full_name
-length_is method sent to = past length_name method sent to refl
+length_is method sent to more none = past length_name method sent to more refl ∙ none_in length_name more (line (codes "Content-Length") (codes "0") ∷ []) none
 
 -- ---- the number of the CSeq
 
@@ -96,11 +97,13 @@ cancel = record { is_method = record { token = refl; trimmed = refl }; tail = re
 uri_good : (start : StartText) → is_request start ≡ true → is_start start ≡ true → is_uri (request_uri start) ≡ true
 uri_good start is good = grind arith
 
-tail_good : (method : List ℕ) (sent : MessageText) (to : List ℕ) → is_value (from_value sent) ≡ true → is_value to ≡ true → is_value (call_id sent) ≡ true → is_value (cseq_number sent ++ 32 ∷ method) ≡ true → list_all is_header (tail_lines method sent to) ≡ true
-tail_good method sent to from value call spoken = grind arith
+tail_good : (method : List ℕ) (sent : MessageText) (to : List ℕ) (more : List HeaderText) → is_value (from_value sent) ≡ true → is_value to ≡ true → is_value (call_id sent) ≡ true → is_value (cseq_number sent ++ 32 ∷ method) ≡ true → list_all is_header more ≡ true → list_all is_header (tail_lines method sent to more) ≡ true
+tail_good method sent to more from value call spoken good =
+    let end = joined_good more (line (codes "Content-Length") (codes "0") ∷ []) good refl in
+    grind (arith, end)
 
-along_good : (method : List ℕ) (sent : MessageText) (to : List ℕ) → IsOwnMethod method → is_request sent.start ≡ true → is_value to ≡ true → IsMessage sent → IsMessage (along method sent to)
-along_good method sent to own request value is =
+along_good : (method : List ℕ) (sent : MessageText) (to : List ℕ) (more : List HeaderText) → IsOwnMethod method → is_request sent.start ≡ true → is_value to ≡ true → list_all is_header more ≡ true → values_of length_name more ≡ [] → IsMessage sent → IsMessage (along method sent to more)
+along_good method sent to more own request value good none is =
     let hs = sent.headers in
     let headers = is.head.headers in
     let there = cseq_there sent.start (message_cseq hs) is.head.cseq in
@@ -110,35 +113,39 @@ along_good method sent to own request value is =
     let spoken : is_value (cseq_number sent ++ 32 ∷ method) ≡ true = ap is_value whole ∙ cseq_value there.0.number method number.small own.tail (own.last (reverse (decimal there.0.number))) in
     let from = first_good (values_of (codes "from") hs) (values_good (codes "from") hs headers) in
     let call = first_good (values_of (codes "call-id") hs) (values_good (codes "call-id") hs headers) in
-    let read : message_cseq (all_lines method sent to) ≡ Some (record { number = there.0.number; method = method }) = ap cseq_in (cseq_has method sent to) ∙ ap cseq_of whole ∙ cseq_again there.0.number method own.is_method number.small number.within in
+    let read : message_cseq (all_lines method sent to more) ≡ Some (record { number = there.0.number; method = method }) = ap cseq_in (cseq_has method sent to more) ∙ ap cseq_of whole ∙ cseq_again there.0.number method own.is_method number.small number.within in
     record {
       head = record {
         start = and_from (is_token method) (is_uri (request_uri sent.start)) own.is_method.token (uri_good sent.start request is.head.start);
         headers =
-            and_from (is_value (top_value sent)) (list_all is_header (from_routes method sent to)) (top_good sent headers)
-            (joined_good (lines_as (codes "Route") (codes "route") sent) (tail_lines method sent to) (lines_good (codes "Route") (values_of (codes "route") hs) refl (values_good (codes "route") hs headers))
-            (tail_good method sent to from value call spoken));
-        needed = none_missing (all_lines method sent to) (record {
-          via = (top_value sent, via_has method sent to);
-          from = (from_value sent, from_has method sent to);
-          to = (to, to_has method sent to);
-          call_id = (call_id sent, call_has method sent to);
-          cseq = (cseq_number sent ++ 32 ∷ method, cseq_has method sent to);
+            and_from (is_value (top_value sent)) (list_all is_header (from_routes method sent to more)) (top_good sent headers)
+            (joined_good (lines_as (codes "Route") (codes "route") sent) (tail_lines method sent to more) (lines_good (codes "Route") (values_of (codes "route") hs) refl (values_good (codes "route") hs headers))
+            (tail_good method sent to more from value call spoken good));
+        needed = none_missing (all_lines method sent to more) (record {
+          via = (top_value sent, via_has method sent to more);
+          from = (from_value sent, from_has method sent to more);
+          to = (to, to_has method sent to more);
+          call_id = (call_id sent, call_has method sent to more);
+          cseq = (cseq_number sent ++ 32 ∷ method, cseq_has method sent to more);
         });
         cseq = ap (λ (o : Option CSeqText). fits_start (Request method (request_uri sent.start)) o) read ∙ own.same;
       };
-      body = ap (λ (vs : List (List ℕ)). fits_body (said_by vs) 0) (length_is method sent to);
+      body = ap (λ (vs : List (List ℕ)). fits_body (said_by vs) 0) (length_is method sent to more none);
     }
+
+pub no_length : values_of length_name [] ≡ []
+unfolding values_of
+no_length = refl
 
 to_good : (m : MessageText) → IsMessage m → is_value (to_value m) ≡ true
 to_good m is = first_good (values_of (codes "to") m.headers) (values_good (codes "to") m.headers is.head.headers)
 
 pub ack_good : (sent response : MessageText) → is_request sent.start ≡ true → IsMessage sent → IsMessage response → IsMessage (ack_of sent response)
-ack_good sent response request is other = along_good (codes "ACK") sent (to_value response) ack request (to_good response other) is
+ack_good sent response request is other = along_good (codes "ACK") sent (to_value response) [] ack request (to_good response other) refl no_length is
 
-pub cancel_good : (sent : MessageText) → is_request sent.start ≡ true → IsMessage sent → IsMessage (cancel_of sent)
-cancel_good sent request is = along_good (codes "CANCEL") sent (to_value sent) cancel request (to_good sent is) is
+pub cancel_good : (sent : MessageText) (reasons : List HeaderText) → is_request sent.start ≡ true → IsMessage sent → list_all is_header reasons ≡ true → values_of length_name reasons ≡ [] → IsMessage (cancel_of sent reasons)
+cancel_good sent reasons request is good none = along_good (codes "CANCEL") sent (to_value sent) reasons cancel request (to_good sent is) good none is
 
 -- the same header lines with what was read of the messages
-pub along_lines : (method : List ℕ) (sent : MessageText) (to via from call seq : List ℕ) → via ≡ top_value sent → from ≡ from_value sent → call ≡ call_id sent → seq ≡ cseq_number sent ++ 32 ∷ method → line (codes "Via") via ∷ line (codes "Max-Forwards") (codes "70") ∷ (lines_as (codes "Route") (codes "route") sent ++ line (codes "From") from ∷ line (codes "To") to ∷ line (codes "Call-ID") call ∷ line (codes "CSeq") seq ∷ line (codes "Content-Length") (codes "0") ∷ []) ≡ (along method sent to).headers
+pub along_lines : (method : List ℕ) (sent : MessageText) (to via from call seq : List ℕ) → via ≡ top_value sent → from ≡ from_value sent → call ≡ call_id sent → seq ≡ cseq_number sent ++ 32 ∷ method → line (codes "Via") via ∷ line (codes "Max-Forwards") (codes "70") ∷ (lines_as (codes "Route") (codes "route") sent ++ line (codes "From") from ∷ line (codes "To") to ∷ line (codes "Call-ID") call ∷ line (codes "CSeq") seq ∷ line (codes "Content-Length") (codes "0") ∷ []) ≡ (along method sent to []).headers
 along_lines method sent to via from call seq v f i s = grind arith

@@ -120,7 +120,7 @@ pub fn forward<A: Allocator + Clone>(
 ) -> Result<Message<A>, BuildFault>
     requires request { is_request message.now.start ≡ true }
     requires hops { IfSome (first_value hops_name message.now.headers) IsHops }
-    ensures ok { IfOk result (λ made. made ≡ forwarded message.now target.now own branch.now) }
+    ensures ok { IfOk result (λ made. made ≡ forwarded message.now target.now own branch.now None) }
     ensures err { IfErr result (λ fault. fault ≡ NoMemory) }
 {
     message.is_message();

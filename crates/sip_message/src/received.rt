@@ -6,14 +6,14 @@ ghost use Rattle.sip_via.specs.ViaFaults.{Gives, refusal};
 
 use crate::edits::{add_replaced, with_headers};
 use sip_text::Message;
-use sip_uri::Hop;
+use sip_uri::{Hop, Transport};
 use sip_via::{Via, ViaFault, first_value, marked_line};
 use std::alloc::Allocator;
 
 /// The name of the field, in lower case.
 const VIA: &[u8] = b"via";
 
-/// The port of SIP over UDP where a Via value names none (RFC 3261 section 18.2.2).
+/// The port of SIP over UDP and TCP where a Via value names none (RFC 3261 section 18.2.2).
 const DEFAULT_PORT: u16 = 5060;
 
 /// Shows that the numbers of a hop are bounded.
@@ -22,18 +22,22 @@ fn is_source(source: Hop)
 {}
 
 /// Where a response to a request with that top value goes, which came from `source` (RFC 3261
-/// section 18.2.2, RFC 3581 section 4): to the source's address; to its port where `rport` now has
-/// it, else to the sender's or 5060.
+/// section 18.2.2, RFC 3581 section 4): over UDP to the source's address, and to its port where `rport` now
+/// has it, else to the sender's or 5060; over TCP back by the connection, with the sender's port.
 pub fn reply_hop<A: Allocator>(via: &Via<A>, source: Hop) -> Hop
     ensures { result ≡ reply_of via.now source }
 {
-    let port = if via.has_rport(source.port) {
-        source.port
-    } else {
-        via.port().unwrap_or(DEFAULT_PORT)
-    };
+    let sent_by = via.port().unwrap_or(DEFAULT_PORT);
     let addr = source.addr;
-    Hop { addr, port }
+    match source.transport {
+        Transport::Udp if via.has_rport(source.port) => Hop::over_udp(addr, source.port),
+        Transport::Udp => Hop::over_udp(addr, sent_by),
+        Transport::Tcp | Transport::Back(_) => Hop {
+            addr,
+            port: source.port,
+            transport: Transport::Back(sent_by),
+        },
+    }
 }
 
 /// The request with its source in the top Via value (RFC 3261 section 18.2.1, RFC 3581 section 4).

@@ -1,9 +1,12 @@
 //! The ACK for a failure, and the CANCEL of a request that was sent.
 
-ghost use Rattle.std.specs.Prelude.{◌≡◌, ◌++◌, ◌∷◌, IfErr, IfOk, true};
-ghost use Rattle.sip_text.specs.Message.{IsMessage};
+ghost use Rattle.std.specs.Prelude.{◌≡◌, [], ◌++◌, ◌∷◌, List, IfErr, IfOk, true};
+ghost use Rattle.std.specs.List.{list_all};
+ghost use Rattle.sip_text.specs.Fields.{length_name};
+ghost use Rattle.sip_text.specs.Message.{IsMessage, is_header};
+ghost use Rattle.sip_text.specs.Name.{values_of};
 ghost use Rattle.sip_text.specs.Seen.{view_start, views};
-ghost use Rattle.sip_text.specs.Text.{MessageText, Request};
+ghost use Rattle.sip_text.specs.Text.{HeaderText, MessageText, Request};
 ghost use Rattle.sip_via.specs.declared.own.BuildFault.TheVariants.{NoMemory};
 ghost use Rattle.sip_route.specs.Loop.{cseq_number, request_uri};
 ghost use Rattle.sip_build.specs.Forwarding.{is_request};
@@ -37,7 +40,7 @@ fn headers_along<A: Allocator + Clone>(
     sent: &Message<A>,
     to: &[u8],
 ) -> Result<Vec<Header<A>, A>, AllocError>
-    ensures { IfOk result (λ headers. views headers.items ≡ (along method.now sent.now to.now).headers) }
+    ensures { IfOk result (λ headers. views headers.items ≡ (along method.now sent.now to.now []).headers) }
 {
     let mut headers = Vec::new(alloc.clone()?);
     add_line(&mut headers, alloc, b"Via", top_via(sent))?;
@@ -73,8 +76,8 @@ fn along<A: Allocator + Clone>(
     sent: &Message<A>,
     to: &[u8],
 ) -> Result<Message<A>, BuildFault>
-    requires { IsMessage (along method.now sent.now to.now) }
-    ensures ok { IfOk result (λ made. made ≡ along method.now sent.now to.now) }
+    requires { IsMessage (along method.now sent.now to.now []) }
+    ensures ok { IfOk result (λ made. made ≡ along method.now sent.now to.now []) }
     ensures err { IfErr result (λ fault. fault ≡ NoMemory) }
 {
     let start = start_along(&alloc, method, sent)?;
@@ -114,7 +117,7 @@ pub fn cancel_of<A: Allocator + Clone>(
     sent: &Message<A>,
 ) -> Result<Message<A>, BuildFault>
     requires { is_request sent.now.start ≡ true }
-    ensures ok { IfOk result (λ made. made ≡ cancel_of sent.now) }
+    ensures ok { IfOk result (λ made. made ≡ cancel_of sent.now []) }
     ensures err { IfErr result (λ fault. fault ≡ NoMemory) }
 {
     sent.is_message();
@@ -126,7 +129,10 @@ pub fn ack_is_message()
     ensures { (sent response : MessageText) → is_request sent.start ≡ true → IsMessage sent → IsMessage response → IsMessage (ack_of sent response) }
 {}
 
-/// A CANCEL is in the grammar of messages, so it is read as it was written.
+/// A CANCEL is in the grammar of messages, so it is read as it was written; the lines in it that say why it is sent are header
+/// lines, and none is a Content-Length.
 pub fn cancel_is_message()
-    ensures { (sent : MessageText) → is_request sent.start ≡ true → IsMessage sent → IsMessage (cancel_of sent) }
+    ensures { (sent : MessageText) (reasons : List HeaderText) → is_request sent.start ≡ true → IsMessage sent
+        → list_all is_header reasons ≡ true → values_of length_name reasons ≡ []
+        → IsMessage (cancel_of sent reasons) }
 {}

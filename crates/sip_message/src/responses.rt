@@ -1,9 +1,12 @@
 //! The proxy's own responses.
 
-ghost use Rattle.std.specs.Prelude.{◌≡◌, ◌++◌, IfErr, IfOk, OnOk, codes, map};
-ghost use Rattle.sip_text.specs.Message.{IsMessage};
+ghost use Rattle.std.specs.Prelude.{◌≡◌, [], ◌++◌, List, IfErr, IfOk, OnOk, codes, map, true};
+ghost use Rattle.std.specs.List.{list_all};
+ghost use Rattle.sip_text.specs.Fields.{length_name};
+ghost use Rattle.sip_text.specs.Message.{IsMessage, is_header};
+ghost use Rattle.sip_text.specs.Name.{values_of};
 ghost use Rattle.sip_text.specs.Seen.{view_start, views};
-ghost use Rattle.sip_text.specs.Text.{MessageText, Response};
+ghost use Rattle.sip_text.specs.Text.{HeaderText, MessageText, Response};
 ghost use Rattle.sip_via.specs.declared.own.BuildFault.TheVariants.{NoMemory};
 ghost use Rattle.sip_via.specs.Lines.{first_line};
 ghost use Rattle.sip_build.specs.declared.responses.OwnStatus.{OwnStatus};
@@ -89,7 +92,7 @@ fn generated_headers<A: Allocator + Clone>(
     message: &Message<A>,
     status: OwnStatus,
 ) -> Result<Vec<Header<A>, A>, AllocError>
-    ensures { IfOk result (λ headers. views headers.items ≡ (generated_of message.now status).headers) }
+    ensures { IfOk result (λ headers. views headers.items ≡ (generated_of message.now status []).headers) }
 {
     let mut headers = Vec::new(alloc.clone()?);
     add_named(&mut headers, alloc, message, b"via")?;
@@ -124,7 +127,7 @@ pub fn generated<A: Allocator + Clone>(
     message: &Message<A>,
     status: OwnStatus,
 ) -> Result<Message<A>, BuildFault>
-    ensures ok { IfOk result (λ made. made ≡ generated_of message.now status) }
+    ensures ok { IfOk result (λ made. made ≡ generated_of message.now status []) }
     ensures err { IfErr result (λ fault. fault ≡ NoMemory) }
 {
     message.is_message();
@@ -133,7 +136,10 @@ pub fn generated<A: Allocator + Clone>(
     Ok(Message::from_parts(start, headers, Vec::new(alloc)))
 }
 
-/// A response of the proxy's own is in the grammar of messages, so it is read as it was written.
+/// A response of the proxy's own is in the grammar of messages, so it is read as it was written; the further lines in it are
+/// header lines, and none is a Content-Length.
 pub fn generated_is_message()
-    ensures { (m : MessageText) (status : OwnStatus) → IsMessage m → IsMessage (generated_of m status) }
+    ensures { (m : MessageText) (status : OwnStatus) (further : List HeaderText) → IsMessage m
+        → list_all is_header further ≡ true → values_of length_name further ≡ []
+        → IsMessage (generated_of m status further) }
 {}

@@ -23,8 +23,8 @@ pub fn upward_loses_the_top_via()
 /// The Via values of a request, in all its lines, stand behind the proxy's own where it goes to a target (RFC 3261
 /// section 16.6 step 8).
 pub fn forwarding_puts_the_own_via_first()
-    ensures { (m : MessageText) (target : Uri) (own : Own) (branch : BranchName) → IsOwn own → IsBranch branch
-        → via_values (forwarded m target own branch) ≡ own_via own branch ∷ via_values m }
+    ensures { (m : MessageText) (target : Uri) (own : Own) (branch : BranchName) (recorded : Option (List ℕ)) → IsOwn own → IsBranch branch
+        → via_values (forwarded m target own branch recorded) ≡ own_via own branch ∷ via_values m }
 {}
 
 /// The proxy's own Via value is read, and names the proxy's address, its port and the branch that was written, so a

@@ -1,6 +1,6 @@
 -- What taking the proxy's own Route value away leaves.
-use Rattle.sip_route.proofs.Common.{◌≡◌, ℕ, true, false, List, [], ◌∷◌, ◌++◌, map, Option, Some, None, refl, sym, ap, ◌∙◌, inl, inr, option_map, cases_Bool, cond-true, cond-false, trim, first_of, first_value, same_name, HeaderText, MessageText, Own}
-use Rattle.sip_route.proofs.Common.{replaced, hops_name, route_name, stripped, stripped_at, route_values, values_in, values_behind, common_steps, arith}
+use Rattle.sip_route.proofs.Common.{◌≡◌, ℕ, Bool, true, false, cond, List, [], ◌∷◌, ◌++◌, map, Option, Some, None, refl, sym, ap, ◌∙◌, inl, inr, option_map, cases_Bool, cond-true, cond-false, trim, first_of, first_value, same_name, HeaderText, MessageText, Own}
+use Rattle.sip_route.proofs.Common.{replaced, hops_name, names_own, route_name, stripped, stripped_at, route_values, values_in, values_behind, common_steps, arith, Plain, QuotesAndAngles, cut_outside}
 use Rattle.std.specs.List.{flat_map}
 use Rattle.sip_text.specs.Name.{full_name, values_of}
 use Rattle.sip_via.specs.Edits.{line_if_any}
@@ -56,8 +56,22 @@ first-replaced name o (h ∷ hs) v vs e =
 left-values : (o : Option (List ℕ)) (vs : List (List ℕ)) → map trim (flat_map values_in (values_if_any (option_map trim o) ++ vs)) ≡ map trim (values_behind o ++ flat_map values_in vs)
 left-values o vs = grind (arith, common_steps, values-trim)
 
+-- whether the first value names the proxy or not
+routes-by : (b : Bool) (hs : List HeaderText) (v w : List ℕ) (o : Option (List ℕ)) (vs : List (List ℕ)) → values_of route_name hs ≡ v ∷ vs → values_in v ≡ w ∷ values_behind o
+    → map trim (flat_map values_in (values_of route_name (cond b (replaced route_name (option_map trim o) hs) hs)))
+    ≡ map trim (cond b (values_behind o ++ flat_map values_in vs) (w ∷ (values_behind o ++ flat_map values_in vs)))
+routes-by true hs v w o vs e split =
+    ap (λ (xs : List (List ℕ)). map trim (flat_map values_in xs)) (first-replaced route_name (option_map trim o) hs v vs e) ∙ left-values o vs
+routes-by false hs v w o vs e split =
+    ap (λ (xs : List (List ℕ)). map trim (flat_map values_in xs)) e ∙ ap (λ (ps : List (List ℕ)). map trim (ps ++ flat_map values_in vs)) split
+
 routes-at : (own : Own) (hs : List HeaderText) (vs : List (List ℕ)) → values_of route_name hs ≡ vs → map trim (flat_map values_in (values_of route_name (stripped_at own hs (first_of vs)))) ≡ map trim (without_own own (flat_map values_in vs))
-routes-at own hs vs e = grind (arith, pieces_from-cut, first-replaced, left-values)
+routes-at own hs [] e = ap (λ (vs : List (List ℕ)). map trim (flat_map values_in vs)) e
+routes-at own hs (v ∷ vs) e =
+    let c = cut_outside QuotesAndAngles 44 Plain v in
+    let split : values_in v ≡ c.0 ∷ values_behind c.1 = pieces_from-cut QuotesAndAngles 44 Plain v in
+    routes-by (names_own own c.0) hs v c.0 c.1 vs e split
+    ∙ sym (ap (λ (ps : List (List ℕ)). map trim (without_own own (ps ++ flat_map values_in vs))) split)
 
 pub routes_left : (m : MessageText) (own : Own) → map trim (route_values (stripped m own)) ≡ map trim (without_own own (route_values m))
 routes_left m own = routes-at own m.headers (values_of route_name m.headers) refl

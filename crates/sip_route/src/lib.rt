@@ -20,5 +20,5 @@ pub use loop_test::is_loop;
 pub use loops::{loop_key, request_uri};
 pub use request_key::{append_request_key, has_same_key};
 pub use route_values::{FirstRoute, first_route, routes_are_readable};
-pub use routes::names_own;
+pub use routes::{is_own, names_own};
 pub use stripping::strip;

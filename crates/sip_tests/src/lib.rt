@@ -1,5 +1,5 @@
-//! Tests of the public calls of `sip_lex`, `sip_uri`, `sip_text`, `sip_via`, `sip_route`, `sip_build`, `sip_message` and `sip_txn`, in
-//! files and folders named for what is tested. They stand apart from these crates so that none of them is proved twice.
+//! Tests of the public calls of `sip_lex`, `sip_uri`, `sip_text`, `sip_via`, `sip_route`, `sip_build`, `sip_message`, `sip_txn` and
+//! `sip_framing`, in files and folders named for what is tested. They stand apart from these crates so that none of them is proved twice.
 #![tactic(auto)]
 
 #[cfg(test)]
@@ -11,6 +11,8 @@ mod bytes;
 #[cfg(test)]
 mod fault_words;
 #[cfg(test)]
+mod framing;
+#[cfg(test)]
 mod holds;
 #[cfg(test)]
 mod lex;
@@ -21,26 +23,18 @@ mod messages;
 #[cfg(test)]
 mod route_keys;
 #[cfg(test)]
-mod route_more;
+mod routing;
 #[cfg(test)]
 mod rows;
 #[cfg(test)]
 mod text;
 #[cfg(test)]
-mod text_more;
-#[cfg(test)]
 mod txn;
 #[cfg(test)]
-mod txn_more;
-#[cfg(test)]
 mod uri;
-#[cfg(test)]
-mod uri_more;
 #[cfg(test)]
 mod via;
 #[cfg(test)]
 mod via_lines;
-#[cfg(test)]
-mod via_more;
 #[cfg(test)]
 mod write_tests;

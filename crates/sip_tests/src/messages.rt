@@ -6,7 +6,7 @@ ghost use Rattle.sip_route.specs.Hops.{IsHops, MayPass, hops_name};
 use crate::bytes::is;
 use sip_route::{Hops, hops_of};
 use sip_text::Message;
-use sip_uri::Hop;
+use sip_uri::{Hop, Transport};
 use sip_via::Own;
 use std::alloc::Global;
 
@@ -14,12 +14,14 @@ use std::alloc::Global;
 pub const SOURCE: Hop = Hop {
     addr: [192, 0, 2, 1],
     port: 40_000,
+    transport: Transport::Udp,
 };
 
 /// The proxy's own address.
 pub const OWN: Own = Own {
     addr: [192, 0, 2, 9],
     port: 5060,
+    transport: Transport::Udp,
 };
 
 /// A request.
@@ -105,6 +107,13 @@ pub fn message_with(alloc: Global, lines: &[&[u8]], body: &[u8]) -> Option<Messa
 /// The message that these lines spell.
 pub fn message_of(alloc: Global, lines: &[&[u8]]) -> Option<Message<Global>> {
     message_with(alloc, lines, b"")
+}
+
+/// The request with this line in place of its Via line.
+pub fn request_with_via(alloc: Global, via: &[u8]) -> Option<Message<Global>> {
+    let mut lines = REQUEST;
+    lines[1] = via;
+    message_of(alloc, &lines)
 }
 
 /// What a message is written as.

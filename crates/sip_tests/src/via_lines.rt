@@ -5,6 +5,7 @@ use crate::messages::{copy_of, read, writes};
 use sip_message::{add_copies, add_line_if_any, add_replaced, copy_others, with_headers};
 use sip_route::request_uri;
 use sip_text::{Header, Message};
+use sip_uri::Transport;
 use sip_via::{
     BranchName, Own, begins_named, has_second_via, own_via, place_of, split_named, top_and_second,
     top_via,
@@ -145,12 +146,9 @@ fn is_there(text: Option<Vec<u8>>, wanted: &[u8]) -> bool {
     }
 }
 
-/// Whether the proxy's own Via value is that text.
-fn is_own_via(alloc: Global, text: &[u8]) -> bool {
-    let own = Own {
-        addr: [192, 0, 2, 9],
-        port: 5070,
-    };
+/// Whether the proxy's own Via value over this transport is that text.
+fn is_own_via(alloc: Global, transport: Transport, text: &[u8]) -> bool {
+    let own = Own::over_udp([192, 0, 2, 9], 5070).over(transport);
     let branch = BranchName {
         key: [171; 16],
         instance: 7,
@@ -230,10 +228,22 @@ fn messages_are_looked_at(rt: HostRuntime) {
         &rt,
         is_own_via(
             alloc,
+            Transport::Udp,
             b"SIP/2.0/UDP 192.0.2.9:5070;branch=z9hG4bKabababababababababababababababab.7.8.9",
         ),
         "the own Via value has the address, the port and the branch",
     );
+    for transport in [Transport::Tcp, Transport::Back(5080)] {
+        holds(
+            &rt,
+            is_own_via(
+                alloc,
+                transport,
+                b"SIP/2.0/TCP 192.0.2.9:5070;branch=z9hG4bKabababababababababababababababab.7.8.9",
+            ),
+            "the own Via value over TCP",
+        );
+    }
     holds(
         &rt,
         has_second(alloc, REQUEST) == Some(false),

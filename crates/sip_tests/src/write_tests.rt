@@ -31,7 +31,7 @@ fn goes_so(alloc: Global, request: &Message<Global>, target: &SipUri<Global>) ->
     };
     let mut out = Vec::new(alloc);
     begins(&mut out)
-        && write_forwarded(request, target, OWN, &BRANCH, &mut out).is_ok()
+        && write_forwarded(request, target, OWN, &BRANCH, None, &mut out).is_ok()
         && is_behind(
             alloc,
             &out,
@@ -74,7 +74,7 @@ fn are_written_along_to(
     let mut out = Vec::new(alloc);
     begins(&mut out)
         && write_forwarded_ack(request, target, OWN, &BRANCH, response, &mut out).is_ok()
-        && write_forwarded_cancel(request, target, OWN, &BRANCH, &mut out).is_ok()
+        && write_forwarded_cancel(request, target, OWN, &BRANCH, &[], &mut out).is_ok()
         && are_behind(
             alloc,
             &out,

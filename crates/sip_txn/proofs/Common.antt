@@ -8,7 +8,7 @@ pub use Rattle.sip_txn.specs.Machine.{Table, machine_after, out_of, passes, row_
 pub use Rattle.sip_txn.specs.OtherClient.{other_client}
 pub use Rattle.sip_txn.specs.OtherServer.{other_server}
 pub use Rattle.sip_txn.specs.Runs.{Answer, IsOver, answers, before, machine_after_all, moments}
-pub use Rattle.sip_txn.specs.Timers.{EndsOnly, RepeatsAndEnds, input_of, last_moment, later, least, no_timers, repeats_and_ends, set_again}
+pub use Rattle.sip_txn.specs.Timers.{EndsOnly, RepeatsAndEnds, input_of, last_moment, later, least, no_timers, repeats_and_ends, set_again, Waits, lingering, waits}
 pub use Rattle.sip_txn.specs.declared.event.TxEvent.{TxEvent}
 pub use Rattle.sip_txn.specs.declared.event.TxEvent.TheVariants.{Tick}
 pub use Rattle.sip_txn.specs.declared.invite_client.InviteClientState.{InviteClientState}
@@ -25,3 +25,5 @@ pub use Rattle.sip_txn.specs.declared.timers.Input.TheVariants.{EndDue, Event, R
 pub use Rattle.sip_txn.specs.declared.timers.Repeat.{Repeat}
 pub use Rattle.sip_txn.specs.declared.timers.TheConstants.{T1_TIMES_64, T2, T4}
 pub use Rattle.sip_txn.specs.declared.timers.Timers.{Timers}
+pub use Rattle.sip_txn.specs.declared.timers.Reliability.{Reliability}
+pub use Rattle.sip_txn.specs.declared.timers.Reliability.TheVariants.{Reliable, Unreliable}

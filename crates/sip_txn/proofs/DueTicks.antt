@@ -1,5 +1,5 @@
 -- A tick when a timer is due has a row.
-use Rattle.sip_txn.proofs.Common.{◌≡◌, ◌∙◌, ℕ, true, Option, Some, None, sym, ap, arith, Tick, Repeat, Timers, EndDue, RepeatDue, InviteClientState, InviteServerState, OtherClientState, OtherServerState, EndsOnly, input_of, least, no_timers, Table}
+use Rattle.sip_txn.proofs.Common.{Reliability, ◌≡◌, ◌∙◌, ℕ, true, Option, Some, None, sym, ap, arith, Tick, Repeat, Timers, EndDue, RepeatDue, InviteClientState, InviteServerState, OtherClientState, OtherServerState, EndsOnly, input_of, least, no_timers, Table}
 use Rattle.std.proofs.Common.{◌≢◌, IsSome, is_some}
 use Rattle.std.proofs.lemmas.Bool.{false≢true}
 use Rattle.sip_txn.specs.Timers.{is_due}
@@ -27,18 +27,18 @@ alone : {S : Type 0} (table : Table S) (s : S) (repeat : Option Repeat) (end : O
     is_due now (least (timers_of repeat end)) ≡ true → table s (input_of Tick now (timers_of repeat end)) ≢ None
 alone table s repeat end now runs ends h = acts table s repeat end now (λ some. absurd (false≢true (sym (ap (is_some {T = Repeat}) runs.0) ∙ some))) ends h
 
-pub invite_client_acts : (s : InviteClientState) (repeat : Option Repeat) (end : Option ℕ) (now : ℕ) → of_invite_client.RunsTimersOf s (timers_of repeat end) →
+pub invite_client_acts : (t : Reliability) (s : InviteClientState) (repeat : Option Repeat) (end : Option ℕ) (now : ℕ) → of_invite_client.RunsTimersOf t s (timers_of repeat end) →
     is_due now (least (timers_of repeat end)) ≡ true → of_invite_client.invite_client s (input_of Tick now (timers_of repeat end)) ≢ None
-invite_client_acts s repeat end now runs h = grind arith
+invite_client_acts t s repeat end now runs h = grind arith
 
-pub other_client_acts : (s : OtherClientState) (repeat : Option Repeat) (end : Option ℕ) (now : ℕ) → of_other_client.RunsTimersOf s (timers_of repeat end) →
+pub other_client_acts : (t : Reliability) (s : OtherClientState) (repeat : Option Repeat) (end : Option ℕ) (now : ℕ) → of_other_client.RunsTimersOf t s (timers_of repeat end) →
     is_due now (least (timers_of repeat end)) ≡ true → of_other_client.other_client s (input_of Tick now (timers_of repeat end)) ≢ None
-other_client_acts s repeat end now runs h = grind arith
+other_client_acts t s repeat end now runs h = grind arith
 
-pub invite_server_acts : (s : InviteServerState) (repeat : Option Repeat) (end : Option ℕ) (now : ℕ) → of_invite_server.RunsTimersOf s (timers_of repeat end) →
+pub invite_server_acts : (t : Reliability) (s : InviteServerState) (repeat : Option Repeat) (end : Option ℕ) (now : ℕ) → of_invite_server.RunsTimersOf t s (timers_of repeat end) →
     is_due now (least (timers_of repeat end)) ≡ true → of_invite_server.invite_server s (input_of Tick now (timers_of repeat end)) ≢ None
-invite_server_acts s repeat end now runs h = grind arith
+invite_server_acts t s repeat end now runs h = grind arith
 
-pub other_server_acts : (s : OtherServerState) (repeat : Option Repeat) (end : Option ℕ) (now : ℕ) → of_other_server.RunsTimersOf s (timers_of repeat end) →
+pub other_server_acts : (t : Reliability) (s : OtherServerState) (repeat : Option Repeat) (end : Option ℕ) (now : ℕ) → of_other_server.RunsTimersOf t s (timers_of repeat end) →
     is_due now (least (timers_of repeat end)) ≡ true → of_other_server.other_server s (input_of Tick now (timers_of repeat end)) ≢ None
-other_server_acts s repeat end now runs h = grind arith
+other_server_acts t s repeat end now runs h = grind arith

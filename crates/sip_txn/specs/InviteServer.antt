@@ -2,8 +2,9 @@
 use Rattle.std.specs.Prelude.{◌≡◌, ℕ, Bool, true, false, List, [], ◌∷◌, None}
 use Rattle.sip_txn.specs.declared.timers.TheConstants.{T1_TIMES_64, T2, T4}
 use Rattle.sip_txn.specs.declared.timers.Timers.{Timers}
+use Rattle.sip_txn.specs.declared.timers.Reliability.{Reliability}
 use Rattle.sip_txn.specs.declared.timers.Growth.TheVariants.{DoubledUpToT2}
-use Rattle.sip_txn.specs.declared.timers.Clock.TheVariants.{Keep, StopAll, EndIn, RepeatAndEnd, Again}
+use Rattle.sip_txn.specs.declared.timers.Clock.TheVariants.{Keep, StopAll, EndIn, Linger, RepeatAndEnd, Again}
 use Rattle.sip_txn.specs.declared.timers.Input.TheVariants.{Event, EndDue, RepeatDue}
 use Rattle.sip_txn.specs.declared.event.TxEvent.TheVariants as event
 use Rattle.sip_txn.specs.declared.event.TxSend.TheVariants as send
@@ -12,9 +13,9 @@ use Rattle.sip_txn.specs.declared.event.TxPass.TheVariants as pass
 use Rattle.sip_txn.specs.declared.invite_server.InviteServerState.{InviteServerState}
 use Rattle.sip_txn.specs.declared.invite_server.InviteServerState.TheVariants.{Proceeding, Completed, Confirmed, Accepted, Terminated}
 use Rattle.sip_txn.specs.declared.machine.Machine.{Machine}
-use Rattle.sip_txn.specs.Timers.{no_timers, EndsOnly, RepeatsAndEnds}
+use Rattle.sip_txn.specs.Timers.{no_timers, EndsOnly, Waits}
 use Rattle.sip_txn.specs.Machine.{Table, goes_to, silent, sends, passes, machine_after, out_of}
-use Rattle.sip_txn.specs.Runs.{EndsOnce, RunsOut, RetransmitsAndRunsOut, RetransmitsAt}
+use Rattle.sip_txn.specs.Runs.{EndsOnce, RunsOut, WaitsOut, RetransmitsAt, if_unreliable}
 
 -- Timer G repeats in Completed, first after T1 and then at intervals doubled up to T2, and timer H ends
 -- it after 64 times T1; timer I ends Confirmed after T4, timer L ends Accepted after 64 times T1.
@@ -30,7 +31,7 @@ invite_server Proceeding (Event event.AnswerFailure) = goes_to Completed RepeatA
 invite_server Completed (Event event.Request) = goes_to Completed Keep (sends send.Response)
 invite_server Completed RepeatDue = goes_to Completed (Again DoubledUpToT2) (sends send.Response)
 -- timers G and H stop, timer I starts
-invite_server Completed (Event event.Ack) = goes_to Confirmed (EndIn T4) silent
+invite_server Completed (Event event.Ack) = goes_to Confirmed (Linger T4) silent
 -- timer H: the ACK never came
 invite_server Completed EndDue = goes_to Terminated StopAll (passes pass.Timeout)
 -- timer I
@@ -43,12 +44,12 @@ invite_server Accepted EndDue = goes_to Terminated StopAll silent
 invite_server _ _ = None
 
 -- which timers run in each state: none, G and H, I, L, none
-abbrev pub RunsTimersOf : InviteServerState → Timers → Type 0
-RunsTimersOf Proceeding timers = timers ≡ no_timers
-RunsTimersOf Completed timers = RepeatsAndEnds T2 timers
-RunsTimersOf Confirmed timers = EndsOnly timers
-RunsTimersOf Accepted timers = EndsOnly timers
-RunsTimersOf Terminated timers = timers ≡ no_timers
+abbrev pub RunsTimersOf : Reliability → InviteServerState → Timers → Type 0
+RunsTimersOf reliability Proceeding timers = timers ≡ no_timers
+RunsTimersOf reliability Completed timers = Waits reliability T2 timers
+RunsTimersOf reliability Confirmed timers = EndsOnly timers
+RunsTimersOf reliability Accepted timers = EndsOnly timers
+RunsTimersOf reliability Terminated timers = timers ≡ no_timers
 
 -- ---- laws
 
@@ -63,19 +64,20 @@ HandsUpOneEnd m = EndsOnce invite_server (λ a. ends a.out.pass) m
 
 -- By ticks alone Completed retransmits the failure and times out (timers G and H); Confirmed and Accepted end
 -- silently (timers I and L).
-abbrev pub RunsOutByTicks : InviteServerState → Machine InviteServerState → Type 0
-RunsOutByTicks Proceeding m = Unit {0}
-RunsOutByTicks Completed m = RetransmitsAndRunsOut invite_server DoubledUpToT2 (sends send.Response) (passes pass.Timeout) Terminated m
-RunsOutByTicks Confirmed m = RunsOut invite_server silent Terminated m
-RunsOutByTicks Accepted m = RunsOut invite_server silent Terminated m
-RunsOutByTicks Terminated m = Unit {0}
+abbrev pub RunsOutByTicks : Reliability → InviteServerState → Machine InviteServerState → Type 0
+RunsOutByTicks reliability Proceeding m = Unit {0}
+RunsOutByTicks reliability Completed m = WaitsOut reliability invite_server DoubledUpToT2 (sends send.Response) (passes pass.Timeout) Terminated m
+RunsOutByTicks reliability Confirmed m = RunsOut invite_server silent Terminated m
+RunsOutByTicks reliability Accepted m = RunsOut invite_server silent Terminated m
+RunsOutByTicks reliability Terminated m = Unit {0}
 
 -- how many milliseconds after the failure timer G fires, while timer H runs
 abbrev pub retransmissions : List ℕ
 retransmissions = 500 ∷ 1500 ∷ 3500 ∷ 7500 ∷ 11500 ∷ 15500 ∷ 19500 ∷ 23500 ∷ 27500 ∷ 31500 ∷ []
 
 -- A failure is sent as it is answered; unacknowledged, it is sent again each time, and then the transaction times out.
-pub record RetransmitsFailure (m : Machine InviteServerState) : Type 0 where
+-- Over a reliable transport it times out, and the failure goes again to an INVITE that comes again alone.
+pub record RetransmitsFailure (reliability : Reliability) (m : Machine InviteServerState) : Type 0 where
   pub sent : (now : ℕ) → out_of invite_server event.AnswerFailure now m ≡ sends send.Response
   pub again : (now : ℕ) →
-      RetransmitsAt invite_server (sends send.Response) (passes pass.Timeout) Terminated now retransmissions (machine_after invite_server event.AnswerFailure now m)
+      RetransmitsAt invite_server (sends send.Response) (passes pass.Timeout) Terminated now (if_unreliable reliability retransmissions) (machine_after invite_server event.AnswerFailure now m)

@@ -35,7 +35,7 @@ goes_to next clock out = Some (record { next = next; clock = clock; out = out })
 
 abbrev pub row_machine : {S : Type 0} → Option (Row S) → ℕ → Machine S → Machine S
 row_machine None now m = m
-row_machine (Some r) now m = record { state = r.next; timers = run_clock r.clock now m.timers }
+row_machine (Some r) now m = record { state = r.next; timers = run_clock m.reliability r.clock now m.timers; reliability = m.reliability }
 
 abbrev pub row_out : {S : Type 0} → Option (Row S) → TxOut
 row_out None = silent

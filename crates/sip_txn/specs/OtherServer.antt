@@ -2,7 +2,8 @@
 use Rattle.std.specs.Prelude.{◌≡◌, Bool, true, false, None}
 use Rattle.sip_txn.specs.declared.timers.TheConstants.{T1_TIMES_64}
 use Rattle.sip_txn.specs.declared.timers.Timers.{Timers}
-use Rattle.sip_txn.specs.declared.timers.Clock.TheVariants.{Keep, StopAll, EndIn}
+use Rattle.sip_txn.specs.declared.timers.Reliability.{Reliability}
+use Rattle.sip_txn.specs.declared.timers.Clock.TheVariants.{Keep, StopAll, Linger}
 use Rattle.sip_txn.specs.declared.timers.Input.TheVariants.{Event, EndDue}
 use Rattle.sip_txn.specs.declared.event.TxEvent.TheVariants as event
 use Rattle.sip_txn.specs.declared.event.TxSend.TheVariants as send
@@ -21,10 +22,10 @@ abbrev pub other_server : Table OtherServerState
 other_server Trying (Event event.AnswerProvisional) = goes_to Proceeding Keep (sends send.Response)
 other_server Proceeding (Event event.AnswerProvisional) = goes_to Proceeding Keep (sends send.Response)
 -- a final response of the user; timer J starts
-other_server Trying (Event event.AnswerSuccess) = goes_to Completed (EndIn T1_TIMES_64) (sends send.Response)
-other_server Proceeding (Event event.AnswerSuccess) = goes_to Completed (EndIn T1_TIMES_64) (sends send.Response)
-other_server Trying (Event event.AnswerFailure) = goes_to Completed (EndIn T1_TIMES_64) (sends send.Response)
-other_server Proceeding (Event event.AnswerFailure) = goes_to Completed (EndIn T1_TIMES_64) (sends send.Response)
+other_server Trying (Event event.AnswerSuccess) = goes_to Completed (Linger T1_TIMES_64) (sends send.Response)
+other_server Proceeding (Event event.AnswerSuccess) = goes_to Completed (Linger T1_TIMES_64) (sends send.Response)
+other_server Trying (Event event.AnswerFailure) = goes_to Completed (Linger T1_TIMES_64) (sends send.Response)
+other_server Proceeding (Event event.AnswerFailure) = goes_to Completed (Linger T1_TIMES_64) (sends send.Response)
 -- the request again: the latest response again
 other_server Proceeding (Event event.Request) = goes_to Proceeding Keep (sends send.Response)
 other_server Completed (Event event.Request) = goes_to Completed Keep (sends send.Response)
@@ -36,11 +37,11 @@ other_server Completed EndDue = goes_to Terminated StopAll silent
 other_server _ _ = None
 
 -- which timers run in each state: none, none, J, none
-abbrev pub RunsTimersOf : OtherServerState → Timers → Type 0
-RunsTimersOf Trying timers = timers ≡ no_timers
-RunsTimersOf Proceeding timers = timers ≡ no_timers
-RunsTimersOf Completed timers = EndsOnly timers
-RunsTimersOf Terminated timers = timers ≡ no_timers
+abbrev pub RunsTimersOf : Reliability → OtherServerState → Timers → Type 0
+RunsTimersOf reliability Trying timers = timers ≡ no_timers
+RunsTimersOf reliability Proceeding timers = timers ≡ no_timers
+RunsTimersOf reliability Completed timers = EndsOnly timers
+RunsTimersOf reliability Terminated timers = timers ≡ no_timers
 
 -- ---- laws
 
@@ -54,6 +55,6 @@ abbrev pub HandsUpOneEnd : Machine OtherServerState → Type 0
 HandsUpOneEnd m = EndsOnce other_server (λ a. ends a.out.pass) m
 
 -- By ticks alone Completed ends silently (timer J).
-abbrev pub RunsOutByTicks : OtherServerState → Machine OtherServerState → Type 0
-RunsOutByTicks Completed m = RunsOut other_server silent Terminated m
-RunsOutByTicks _ m = Unit {0}
+abbrev pub RunsOutByTicks : Reliability → OtherServerState → Machine OtherServerState → Type 0
+RunsOutByTicks reliability Completed m = RunsOut other_server silent Terminated m
+RunsOutByTicks reliability _ m = Unit {0}

@@ -1,10 +1,13 @@
 -- What becomes of a machine over a list of events, and over ticks alone.
-use Rattle.std.specs.Prelude.{◌≡◌, ℕ, zero, suc, ◌+◌, ◌≤◌, Bool, List, [], ◌∷◌, ◌++◌, None, IfSome, All, map, filter, length, count_by, nat_lt}
+use Rattle.std.specs.Prelude.{◌≡◌, ◌≢◌, ℕ, zero, suc, ◌+◌, ◌≤◌, Bool, List, [], ◌∷◌, ◌++◌, None, IfSome, All, map, filter, length, count_by, nat_lt}
 use Rattle.std.specs.Option.{option_map_or}
 use Rattle.sip_txn.specs.declared.event.TxEvent.{TxEvent}
 use Rattle.sip_txn.specs.declared.event.TxEvent.TheVariants.{Tick}
 use Rattle.sip_txn.specs.declared.event.TxOut.{TxOut}
+use Rattle.sip_txn.specs.declared.event.TxSend.{TxSend}
 use Rattle.sip_txn.specs.declared.timers.TheConstants.{T1_TIMES_64}
+use Rattle.sip_txn.specs.declared.timers.Reliability.{Reliability}
+use Rattle.sip_txn.specs.declared.timers.Reliability.TheVariants.{Unreliable, Reliable}
 use Rattle.sip_txn.specs.declared.timers.Repeat.{Repeat}
 use Rattle.sip_txn.specs.declared.timers.Growth.{Growth}
 use Rattle.sip_txn.specs.declared.machine.Machine.{Machine}
@@ -43,6 +46,10 @@ pub record IsOver {S : Type 0} (table : Table S) (m : Machine S) : Type 0 where
   pub stays : (fed : List Fed) → machine_after_all table fed m ≡ m
   pub silent : (fed : List Fed) → All (λ a. a.out ≡ silent) (answers table fed m)
 
+-- Whatever it is fed, it never sends this.
+pub record NeverSends {S : Type 0} (table : Table S) (what : TxSend) (m : Machine S) : Type 0 where
+  pub never : (fed : List Fed) → All (λ a. a.out.send ≢ what) (answers table fed m)
+
 -- ---- ticks alone
 
 abbrev pub tick : ℕ → Fed
@@ -68,7 +75,7 @@ moments growth (suc n) r = r.at ∷ moments growth n (set_again growth r.at r)
 -- So many ticks bring these answers, and then the machine is over.
 pub record TicksBring {S : Type 0} (table : Table S) (over : S) (n : ℕ) (brought : List Answer) (m : Machine S) : Type 0 where
   pub answered : answers table (ticks table n m) m ≡ brought
-  pub ended : machine_after_all table (ticks table n m) m ≡ record { state = over; timers = no_timers }
+  pub ended : machine_after_all table (ticks table n m) m ≡ record { state = over; timers = no_timers; reliability = m.reliability }
 
 -- Where one timer alone runs, a tick or more bring its answer at its moment, and no other.
 abbrev pub RunsOut : {S : Type 0} → Table S → TxOut → S → Machine S → Type 0
@@ -81,6 +88,16 @@ abbrev pub RetransmitsAndRunsOut : {S : Type 0} → Table S → Growth → TxOut
 RetransmitsAndRunsOut table growth again last over m =
     IfSome m.timers.end (λ end. IfSome m.timers.repeat (λ r. (n : ℕ) → end ≤ r.at + n →
     TicksBring table over (suc n) (each again (before end (moments growth n r)) ++ each last (end ∷ [])) m))
+
+-- Over a reliable transport nothing is sent again: the timer that ends the state runs alone.
+abbrev pub WaitsOut : {S : Type 0} → Reliability → Table S → Growth → TxOut → TxOut → S → Machine S → Type 0
+WaitsOut Unreliable table growth again last over m = RetransmitsAndRunsOut table growth again last over m
+WaitsOut Reliable table growth again last over m = RunsOut table last over m
+
+-- these offsets over an unreliable transport, none over a reliable one
+abbrev pub if_unreliable : Reliability → List ℕ → List ℕ
+if_unreliable Unreliable offsets = offsets
+if_unreliable Reliable offsets = []
 
 -- From now on, ticks bring a retransmission at each of these offsets, and the end after 64 times T1; where moments
 -- reach the greatest, what would not come before the end does not come.

@@ -6,10 +6,12 @@ use Rattle.sip_txn.specs.declared.event.TxEvent.TheVariants.{Tick}
 use Rattle.sip_txn.specs.declared.timers.TheConstants.{T1, T2, T1_TIMES_64}
 use Rattle.sip_txn.specs.declared.timers.Repeat.{Repeat}
 use Rattle.sip_txn.specs.declared.timers.Timers.{Timers}
+use Rattle.sip_txn.specs.declared.timers.Reliability.{Reliability}
+use Rattle.sip_txn.specs.declared.timers.Reliability.TheVariants.{Unreliable, Reliable}
 use Rattle.sip_txn.specs.declared.timers.Growth.{Growth}
 use Rattle.sip_txn.specs.declared.timers.Growth.TheVariants.{Doubled, DoubledUpToT2, SetToT2}
 use Rattle.sip_txn.specs.declared.timers.Clock.{Clock}
-use Rattle.sip_txn.specs.declared.timers.Clock.TheVariants.{Keep, StopAll, EndIn, RepeatAndEnd, Again}
+use Rattle.sip_txn.specs.declared.timers.Clock.TheVariants.{Keep, StopAll, EndIn, Linger, RepeatAndEnd, Again}
 use Rattle.sip_txn.specs.declared.timers.Input.{Input}
 use Rattle.sip_txn.specs.declared.timers.Input.TheVariants.{Event, EndDue, RepeatDue, NothingDue}
 
@@ -34,6 +36,17 @@ ends_after interval now = record { repeat = None; end = Some (later now interval
 abbrev pub repeats_and_ends : ℕ → Timers
 repeats_and_ends now = record { repeat = Some (record { at = later now T1; interval = T1 }); end = Some (later now T1_TIMES_64) }
 
+-- one that ends the state after 64 times T1, and over an unreliable transport one that repeats (sections 17.1.1.2,
+-- 17.1.2.2 and 17.2.1: timers A, E and G)
+abbrev pub waits : Reliability → ℕ → Timers
+waits Unreliable now = repeats_and_ends now
+waits Reliable now = ends_after T1_TIMES_64 now
+
+-- how long a state lasts that absorbs what comes again: over a reliable transport no time at all (timers D, I, J and K)
+abbrev pub lingering : Reliability → ℕ → ℕ
+lingering Unreliable interval = interval
+lingering Reliable interval = 0
+
 -- the interval after this one
 abbrev pub grown_to : Growth → ℕ → ℕ
 grown_to Doubled interval = min (2 * interval) last_moment
@@ -45,12 +58,13 @@ abbrev pub set_again : Growth → ℕ → Repeat → Repeat
 set_again growth now r = record { at = later now (grown_to growth r.interval); interval = grown_to growth r.interval }
 
 -- what a row does to the timers
-abbrev pub run_clock : Clock → ℕ → Timers → Timers
-run_clock Keep now timers = timers
-run_clock StopAll now timers = no_timers
-run_clock (EndIn interval) now timers = ends_after interval now
-run_clock RepeatAndEnd now timers = repeats_and_ends now
-run_clock (Again growth) now timers = record timers { repeat = option_map (set_again growth now) timers.repeat }
+abbrev pub run_clock : Reliability → Clock → ℕ → Timers → Timers
+run_clock reliability Keep now timers = timers
+run_clock reliability StopAll now timers = no_timers
+run_clock reliability (EndIn interval) now timers = ends_after interval now
+run_clock reliability (Linger interval) now timers = ends_after (lingering reliability interval) now
+run_clock reliability RepeatAndEnd now timers = waits reliability now
+run_clock reliability (Again growth) now timers = record timers { repeat = option_map (set_again growth now) timers.repeat }
 
 -- ---- what is due
 
@@ -85,3 +99,8 @@ EndsOnly timers = (timers.repeat ≡ None) × IsSomeAnd timers.end (λ at. at �
 -- one that ends the state, and one that repeats at intervals from T1 up to this one
 abbrev pub RepeatsAndEnds : ℕ → Timers → Type 0
 RepeatsAndEnds most timers = IsSomeAnd timers.repeat (λ r. (T1 ≤ r.interval) × (r.interval ≤ most)) × IsSomeAnd timers.end (λ at. at ≤ last_moment)
+
+-- one that ends the state, and over an unreliable transport one that repeats
+abbrev pub Waits : Reliability → ℕ → Timers → Type 0
+Waits Unreliable most timers = RepeatsAndEnds most timers
+Waits Reliable most timers = EndsOnly timers

@@ -2,7 +2,7 @@
 
 use crate::event::{TxEvent, TxOut, TxPass, TxSend};
 use crate::machine::{Machine, Row, goes_to};
-use crate::timers::{Clock, Growth, Input, T1_TIMES_64, TIMER_D, Timers};
+use crate::timers::{Clock, Growth, Input, Reliability, T1_TIMES_64, TIMER_D, Timers};
 use std::marker::Model;
 
 /// The states of RFC 3261 figure 5, with Accepted of RFC 6026.
@@ -31,29 +31,31 @@ impl Model for InviteClient {
 
     ghost view = { λ m. m.machine };
 
-    ghost invariant = { λ m. RunsTimersOf m.machine.state m.machine.timers };
+    ghost invariant = { λ m. RunsTimersOf m.machine.reliability m.machine.state m.machine.timers };
 
     ghost inverse = { λ m. record { machine = m } };
 }
 
 impl InviteClient {
     ghost use Rattle.std.specs.Prelude.{◌≡◌};
-    ghost use Rattle.sip_txn.specs.Timers.{least, repeats_and_ends};
+    ghost use Rattle.sip_txn.specs.Timers.{least, waits};
     ghost use Rattle.sip_txn.specs.Machine.{machine_after, out_of};
     ghost use Rattle.sip_txn.specs.Runs.{IsOver};
     ghost use Rattle.sip_txn.specs.InviteClient.{invite_client, HandsUpOneEnd, RetransmitsUnanswered, RunsOutByTicks, RunsTimersOf};
 
     /// A transaction whose INVITE is sent at this moment, in milliseconds: it is in Calling, with
-    /// timers A and B (RFC 3261 section 17.1.1.2). Who starts it sends this first INVITE.
-    pub fn start(now: u64) -> InviteClient
-        ensures value { result ≡ record { state = InviteClientState.Calling; timers = repeats_and_ends now } }
+    /// timers A and B, or with B alone over a reliable transport (RFC 3261 section 17.1.1.2). Who
+    /// starts it sends this first INVITE.
+    pub fn start(now: u64, reliability: Reliability) -> InviteClient
+        ensures value { result ≡ record { state = InviteClientState.Calling; timers = waits reliability now; reliability = reliability } }
         ensures once { HandsUpOneEnd result }
-        ensures unanswered { RetransmitsUnanswered now result }
+        ensures unanswered { RetransmitsUnanswered reliability now result }
     {
         InviteClient {
             machine: Machine {
                 state: InviteClientState::Calling,
-                timers: Timers::repeating(now),
+                timers: Timers::waiting(reliability, now),
+                reliability,
             },
         }
     }
@@ -69,8 +71,8 @@ impl InviteClient {
     /// alone, each when it is due, lead to the end of a state in which a timer runs.
     pub fn due(&self) -> Option<u64>
         ensures value { result ≡ least self.now.timers }
-        ensures runs { RunsTimersOf self.now.state self.now.timers }
-        ensures runs_out { RunsOutByTicks self.now.state self.now }
+        ensures runs { RunsTimersOf self.now.reliability self.now.state self.now.timers }
+        ensures runs_out { RunsOutByTicks self.now.reliability self.now.state self.now }
         ensures over { self.now.state ≡ InviteClientState.Terminated → IsOver invite_client self.now }
     {
         self.machine.timers.due()
@@ -82,7 +84,7 @@ impl InviteClient {
         ensures next { self.new ≡ machine_after invite_client event now self.old }
         ensures out { result ≡ out_of invite_client event now self.old }
     {
-        let Machine { state, timers } = self.machine;
+        let Machine { state, timers, .. } = self.machine;
         let row = listed(state, timers.input(event, now));
         self.machine.follow(row, now)
     }
@@ -95,7 +97,7 @@ ghost use Rattle.sip_txn.specs.InviteClient.{invite_client};
 fn listed(state: InviteClientState, input: Input) -> Option<Row<InviteClientState>>
     ensures { result ≡ invite_client state input }
 {
-    use Clock::{Again, EndIn, Keep, StopAll};
+    use Clock::{Again, EndIn, Keep, Linger, StopAll};
     use Input::{EndDue, Event, RepeatDue};
     use InviteClientState::{Accepted, Calling, Completed, Proceeding, Terminated};
     use TxEvent::{Failure, Provisional, Stop, Success, TransportError};
@@ -120,7 +122,7 @@ fn listed(state: InviteClientState, input: Input) -> Option<Row<InviteClientStat
         // Timer M starts.
         (Calling | Proceeding, Event(Success)) => goes_to(Accepted, EndIn(T1_TIMES_64), response),
         // Timer D starts.
-        (Calling | Proceeding, Event(Failure)) => goes_to(Completed, EndIn(TIMER_D), acknowledged),
+        (Calling | Proceeding, Event(Failure)) => goes_to(Completed, Linger(TIMER_D), acknowledged),
         (Completed, Event(Failure)) => goes_to(Completed, Keep, ack),
         (Completed, Event(TransportError)) => goes_to(Terminated, StopAll, silent),
         (Accepted, Event(Success)) => goes_to(Accepted, Keep, response),

@@ -2,7 +2,7 @@
 
 use crate::event::{TxEvent, TxOut, TxPass, TxSend};
 use crate::machine::{Machine, Row, goes_to};
-use crate::timers::{Clock, Growth, Input, T1_TIMES_64, T4, Timers};
+use crate::timers::{Clock, Growth, Input, Reliability, T1_TIMES_64, T4, Timers};
 use std::marker::Model;
 
 /// The states of RFC 3261 figure 7, with Accepted of RFC 6026.
@@ -31,7 +31,7 @@ impl Model for InviteServer {
 
     ghost view = { λ m. m.machine };
 
-    ghost invariant = { λ m. RunsTimersOf m.machine.state m.machine.timers };
+    ghost invariant = { λ m. RunsTimersOf m.machine.reliability m.machine.state m.machine.timers };
 
     ghost inverse = { λ m. record { machine = m } };
 }
@@ -45,15 +45,16 @@ impl InviteServer {
 
     /// A transaction whose INVITE has come: it is in Proceeding, and no timer runs (RFC 3261 section
     /// 17.2.1). Who starts it sends the 100.
-    pub fn start(_now: u64) -> InviteServer
-        ensures value { result ≡ record { state = InviteServerState.Proceeding; timers = no_timers } }
+    pub fn start(_now: u64, reliability: Reliability) -> InviteServer
+        ensures value { result ≡ record { state = InviteServerState.Proceeding; timers = no_timers; reliability = reliability } }
         ensures once { HandsUpOneEnd result }
-        ensures unacknowledged { RetransmitsFailure result }
+        ensures unacknowledged { RetransmitsFailure reliability result }
     {
         InviteServer {
             machine: Machine {
                 state: InviteServerState::Proceeding,
                 timers: Timers::none(),
+                reliability,
             },
         }
     }
@@ -69,8 +70,8 @@ impl InviteServer {
     /// alone, each when it is due, lead to the end of a state in which a timer runs.
     pub fn due(&self) -> Option<u64>
         ensures value { result ≡ least self.now.timers }
-        ensures runs { RunsTimersOf self.now.state self.now.timers }
-        ensures runs_out { RunsOutByTicks self.now.state self.now }
+        ensures runs { RunsTimersOf self.now.reliability self.now.state self.now.timers }
+        ensures runs_out { RunsOutByTicks self.now.reliability self.now.state self.now }
         ensures over { self.now.state ≡ InviteServerState.Terminated → IsOver invite_server self.now }
     {
         self.machine.timers.due()
@@ -82,7 +83,7 @@ impl InviteServer {
         ensures next { self.new ≡ machine_after invite_server event now self.old }
         ensures out { result ≡ out_of invite_server event now self.old }
     {
-        let Machine { state, timers } = self.machine;
+        let Machine { state, timers, .. } = self.machine;
         let row = listed(state, timers.input(event, now));
         self.machine.follow(row, now)
     }
@@ -95,7 +96,7 @@ ghost use Rattle.sip_txn.specs.InviteServer.{invite_server};
 fn listed(state: InviteServerState, input: Input) -> Option<Row<InviteServerState>>
     ensures { result ≡ invite_server state input }
 {
-    use Clock::{Again, EndIn, Keep, RepeatAndEnd, StopAll};
+    use Clock::{Again, EndIn, Keep, Linger, RepeatAndEnd, StopAll};
     use Input::{EndDue, Event, RepeatDue};
     use InviteServerState::{Accepted, Completed, Confirmed, Proceeding, Terminated};
     use TxEvent::{Ack, AnswerFailure, AnswerProvisional, AnswerSuccess, Request};
@@ -115,7 +116,7 @@ fn listed(state: InviteServerState, input: Input) -> Option<Row<InviteServerStat
         (Completed, RepeatDue) => goes_to(Completed, Again(Growth::DoubledUpToT2), response),
         (Completed, EndDue) => goes_to(Terminated, StopAll, timeout),
         // Timer I starts.
-        (Completed, Event(Ack)) => goes_to(Confirmed, EndIn(T4), silent),
+        (Completed, Event(Ack)) => goes_to(Confirmed, Linger(T4), silent),
         (Accepted, Event(AnswerSuccess)) => goes_to(Accepted, Keep, response),
         (Accepted, Event(Ack)) => goes_to(Accepted, Keep, acknowledged),
         // Timer I fires, or timer L.

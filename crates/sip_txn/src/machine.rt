@@ -4,7 +4,7 @@ ghost use Rattle.std.specs.Prelude.{◌≡◌};
 ghost use Rattle.sip_txn.specs.Machine.{row_machine, row_out, goes_to};
 
 use crate::event::TxOut;
-use crate::timers::{Clock, Timers};
+use crate::timers::{Clock, Reliability, Timers};
 
 /// A row of a table: the next state, what happens to the timers, and what is sent and passed.
 #[derive(Clone, Copy)]
@@ -14,10 +14,11 @@ pub struct Row<S> {
     pub out: TxOut,
 }
 
-/// A state with its running timers.
+/// A state with its running timers, over a transport that is reliable or not.
 #[derive(Clone, Copy, Debug, PartialEq, Eq)]
 pub struct Machine<S> {
     pub state: S,
+    pub reliability: Reliability,
     pub timers: Timers,
 }
 
@@ -38,7 +39,7 @@ impl<S: Copy> Machine<S> {
             None => TxOut::silent(),
             Some(row) => {
                 self.state = row.next;
-                self.timers = self.timers.run(row.clock, now);
+                self.timers = self.timers.run(self.reliability, row.clock, now);
                 row.out
             }
         }

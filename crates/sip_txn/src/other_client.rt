@@ -2,7 +2,7 @@
 
 use crate::event::{TxEvent, TxOut, TxPass, TxSend};
 use crate::machine::{Machine, Row, goes_to};
-use crate::timers::{Clock, Growth, Input, T4, Timers};
+use crate::timers::{Clock, Growth, Input, Reliability, T4, Timers};
 use std::marker::Model;
 
 /// The states of RFC 3261 figure 6.
@@ -30,29 +30,31 @@ impl Model for OtherClient {
 
     ghost view = { λ m. m.machine };
 
-    ghost invariant = { λ m. RunsTimersOf m.machine.state m.machine.timers };
+    ghost invariant = { λ m. RunsTimersOf m.machine.reliability m.machine.state m.machine.timers };
 
     ghost inverse = { λ m. record { machine = m } };
 }
 
 impl OtherClient {
     ghost use Rattle.std.specs.Prelude.{◌≡◌};
-    ghost use Rattle.sip_txn.specs.Timers.{least, repeats_and_ends};
+    ghost use Rattle.sip_txn.specs.Timers.{least, waits};
     ghost use Rattle.sip_txn.specs.Machine.{machine_after, out_of};
     ghost use Rattle.sip_txn.specs.Runs.{IsOver};
     ghost use Rattle.sip_txn.specs.OtherClient.{other_client, HandsUpOneEnd, RetransmitsUnanswered, RunsOutByTicks, RunsTimersOf};
 
     /// A transaction whose request is sent at this moment, in milliseconds: it is in Trying, with
-    /// timers E and F (RFC 3261 section 17.1.2.2). Who starts it sends this first request.
-    pub fn start(now: u64) -> OtherClient
-        ensures value { result ≡ record { state = OtherClientState.Trying; timers = repeats_and_ends now } }
+    /// timers E and F, or with F alone over a reliable transport (RFC 3261 section 17.1.2.2). Who
+    /// starts it sends this first request.
+    pub fn start(now: u64, reliability: Reliability) -> OtherClient
+        ensures value { result ≡ record { state = OtherClientState.Trying; timers = waits reliability now; reliability = reliability } }
         ensures once { HandsUpOneEnd result }
-        ensures unanswered { RetransmitsUnanswered now result }
+        ensures unanswered { RetransmitsUnanswered reliability now result }
     {
         OtherClient {
             machine: Machine {
                 state: OtherClientState::Trying,
-                timers: Timers::repeating(now),
+                timers: Timers::waiting(reliability, now),
+                reliability,
             },
         }
     }
@@ -68,8 +70,8 @@ impl OtherClient {
     /// alone, each when it is due, lead to the end of a state in which a timer runs.
     pub fn due(&self) -> Option<u64>
         ensures value { result ≡ least self.now.timers }
-        ensures runs { RunsTimersOf self.now.state self.now.timers }
-        ensures runs_out { RunsOutByTicks self.now.state self.now }
+        ensures runs { RunsTimersOf self.now.reliability self.now.state self.now.timers }
+        ensures runs_out { RunsOutByTicks self.now.reliability self.now.state self.now }
         ensures over { self.now.state ≡ OtherClientState.Terminated → IsOver other_client self.now }
     {
         self.machine.timers.due()
@@ -81,7 +83,7 @@ impl OtherClient {
         ensures next { self.new ≡ machine_after other_client event now self.old }
         ensures out { result ≡ out_of other_client event now self.old }
     {
-        let Machine { state, timers } = self.machine;
+        let Machine { state, timers, .. } = self.machine;
         let row = listed(state, timers.input(event, now));
         self.machine.follow(row, now)
     }
@@ -94,7 +96,7 @@ ghost use Rattle.sip_txn.specs.OtherClient.{other_client};
 fn listed(state: OtherClientState, input: Input) -> Option<Row<OtherClientState>>
     ensures { result ≡ other_client state input }
 {
-    use Clock::{Again, EndIn, Keep, StopAll};
+    use Clock::{Again, Keep, Linger, StopAll};
     use Input::{EndDue, Event, RepeatDue};
     use OtherClientState::{Completed, Proceeding, Terminated, Trying};
     use TxEvent::{Failure, Provisional, Stop, Success, TransportError};
@@ -113,7 +115,7 @@ fn listed(state: OtherClientState, input: Input) -> Option<Row<OtherClientState>
         // Timers E and F run on.
         (Trying | Proceeding, Event(Provisional)) => goes_to(Proceeding, Keep, response),
         // Timer K starts.
-        (Trying | Proceeding, Event(Success | Failure)) => goes_to(Completed, EndIn(T4), response),
+        (Trying | Proceeding, Event(Success | Failure)) => goes_to(Completed, Linger(T4), response),
         // Timer K fires.
         (Completed, EndDue) => goes_to(Terminated, StopAll, silent),
         (_, Event(Stop)) => goes_to(Terminated, StopAll, silent),

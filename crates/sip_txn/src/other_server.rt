@@ -2,7 +2,7 @@
 
 use crate::event::{TxEvent, TxOut, TxPass, TxSend};
 use crate::machine::{Machine, Row, goes_to};
-use crate::timers::{Clock, Input, T1_TIMES_64, Timers};
+use crate::timers::{Clock, Input, Reliability, T1_TIMES_64, Timers};
 use std::marker::Model;
 
 /// The states of RFC 3261 figure 8.
@@ -30,7 +30,7 @@ impl Model for OtherServer {
 
     ghost view = { λ m. m.machine };
 
-    ghost invariant = { λ m. RunsTimersOf m.machine.state m.machine.timers };
+    ghost invariant = { λ m. RunsTimersOf m.machine.reliability m.machine.state m.machine.timers };
 
     ghost inverse = { λ m. record { machine = m } };
 }
@@ -44,14 +44,15 @@ impl OtherServer {
 
     /// A transaction whose request has come: it is in Trying, and no timer runs (RFC 3261 section
     /// 17.2.2).
-    pub fn start(_now: u64) -> OtherServer
-        ensures value { result ≡ record { state = OtherServerState.Trying; timers = no_timers } }
+    pub fn start(_now: u64, reliability: Reliability) -> OtherServer
+        ensures value { result ≡ record { state = OtherServerState.Trying; timers = no_timers; reliability = reliability } }
         ensures once { HandsUpOneEnd result }
     {
         OtherServer {
             machine: Machine {
                 state: OtherServerState::Trying,
                 timers: Timers::none(),
+                reliability,
             },
         }
     }
@@ -67,8 +68,8 @@ impl OtherServer {
     /// alone, each when it is due, lead to the end of a state in which a timer runs.
     pub fn due(&self) -> Option<u64>
         ensures value { result ≡ least self.now.timers }
-        ensures runs { RunsTimersOf self.now.state self.now.timers }
-        ensures runs_out { RunsOutByTicks self.now.state self.now }
+        ensures runs { RunsTimersOf self.now.reliability self.now.state self.now.timers }
+        ensures runs_out { RunsOutByTicks self.now.reliability self.now.state self.now }
         ensures over { self.now.state ≡ OtherServerState.Terminated → IsOver other_server self.now }
     {
         self.machine.timers.due()
@@ -80,7 +81,7 @@ impl OtherServer {
         ensures next { self.new ≡ machine_after other_server event now self.old }
         ensures out { result ≡ out_of other_server event now self.old }
     {
-        let Machine { state, timers } = self.machine;
+        let Machine { state, timers, .. } = self.machine;
         let row = listed(state, timers.input(event, now));
         self.machine.follow(row, now)
     }
@@ -93,7 +94,7 @@ ghost use Rattle.sip_txn.specs.OtherServer.{other_server};
 fn listed(state: OtherServerState, input: Input) -> Option<Row<OtherServerState>>
     ensures { result ≡ other_server state input }
 {
-    use Clock::{EndIn, Keep, StopAll};
+    use Clock::{Keep, Linger, StopAll};
     use Input::{EndDue, Event};
     use OtherServerState::{Completed, Proceeding, Terminated, Trying};
     use TxEvent::{AnswerFailure, AnswerProvisional, AnswerSuccess, Request, TransportError};
@@ -104,7 +105,7 @@ fn listed(state: OtherServerState, input: Input) -> Option<Row<OtherServerState>
         (Trying | Proceeding, Event(AnswerProvisional)) => goes_to(Proceeding, Keep, response),
         // Timer J starts.
         (Trying | Proceeding, Event(AnswerSuccess | AnswerFailure)) => {
-            goes_to(Completed, EndIn(T1_TIMES_64), response)
+            goes_to(Completed, Linger(T1_TIMES_64), response)
         }
         (Proceeding, Event(Request)) => goes_to(Proceeding, Keep, response),
         (Completed, Event(Request)) => goes_to(Completed, Keep, response),

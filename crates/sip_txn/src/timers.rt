@@ -1,7 +1,7 @@
 //! The timers of a transaction, in milliseconds (RFC 3261 section 17 and its table 4).
 
 ghost use Rattle.std.specs.Prelude.{◌≡◌};
-ghost use Rattle.sip_txn.specs.Timers.{later, grown_to, set_again, least, input_of, no_timers, ends_after, repeats_and_ends, run_clock};
+ghost use Rattle.sip_txn.specs.Timers.{later, grown_to, set_again, least, input_of, no_timers, ends_after, repeats_and_ends, lingering, waits, run_clock};
 
 use crate::event::TxEvent;
 
@@ -20,6 +20,17 @@ pub const T1_TIMES_64: u64 = 64 * T1;
 
 /// How long timer D runs, in milliseconds: over UDP at least 32 seconds (RFC 3261 section 17.1.1.2).
 pub const TIMER_D: u64 = 32_000;
+
+/// Whether the transport of a transaction's messages brings what it is given (RFC 3261 section 17).
+#[derive(Clone, Copy, Debug, PartialEq, Eq)]
+pub enum Reliability {
+    /// It may lose a message, as UDP does: what is not answered is sent again, by timers A, E and G,
+    /// and what comes again is absorbed, while timers D, I, J and K run.
+    Unreliable,
+    /// It loses none, as TCP does not: timers A, E and G never start, and D, I, J and K last no time
+    /// (sections 17.1.1.2, 17.1.2.2, 17.2.1 and 17.2.2).
+    Reliable,
+}
 
 /// A timer that is set again each time that it fires: its moment, and the interval up to it.
 #[derive(Clone, Copy, Debug, PartialEq, Eq)]
@@ -52,7 +63,11 @@ pub enum Clock {
     StopAll,
     /// One timer alone runs, and ends the state after this many milliseconds.
     EndIn(u64),
-    /// A timer starts that repeats, first after T1, and one that ends the state after 64 times T1.
+    /// One timer alone runs, and ends the state after this many milliseconds; at once over a reliable
+    /// transport, where nothing comes twice (timers D, I, J and K).
+    Linger(u64),
+    /// A timer starts that ends the state after 64 times T1, and, over an unreliable transport, one
+    /// that repeats, first after T1.
     RepeatAndEnd,
     /// The timer that repeats is set again.
     Again(Growth),
@@ -72,6 +87,17 @@ fn after(now: u64, interval: u64) -> u64
     ensures { result ≡ later now interval }
 {
     now.saturating_add(interval)
+}
+
+/// How long a state lasts that only absorbs what comes again, which nothing does over a reliable
+/// transport.
+fn lingers(reliability: Reliability, interval: u64) -> u64
+    ensures { result ≡ lingering reliability interval }
+{
+    match reliability {
+        Reliability::Unreliable => interval,
+        Reliability::Reliable => 0,
+    }
 }
 
 impl Growth {
@@ -134,15 +160,27 @@ impl Timers {
         }
     }
 
+    /// One timer, which ends the state after 64 times T1, and, over an unreliable transport, one that
+    /// repeats.
+    pub(crate) fn waiting(reliability: Reliability, now: u64) -> Timers
+        ensures { result ≡ waits reliability now }
+    {
+        match reliability {
+            Reliability::Unreliable => Timers::repeating(now),
+            Reliability::Reliable => Timers::ending(now, T1_TIMES_64),
+        }
+    }
+
     /// The timers after `clock`, what a row of a table does to them.
-    pub(crate) fn run(self, clock: Clock, now: u64) -> Timers
-        ensures { result ≡ run_clock clock now self }
+    pub(crate) fn run(self, reliability: Reliability, clock: Clock, now: u64) -> Timers
+        ensures { result ≡ run_clock reliability clock now self }
     {
         match clock {
             Clock::Keep => self,
             Clock::StopAll => Timers::none(),
             Clock::EndIn(interval) => Timers::ending(now, interval),
-            Clock::RepeatAndEnd => Timers::repeating(now),
+            Clock::Linger(interval) => Timers::ending(now, lingers(reliability, interval)),
+            Clock::RepeatAndEnd => Timers::waiting(reliability, now),
             Clock::Again(growth) => Timers {
                 repeat: self.repeat.map(|repeat| repeat.again(growth, now)),
                 end: self.end,

@@ -106,9 +106,9 @@ impl<A: Allocator + Clone> SipUri<A> {
         self.key.as_slice() == other.key.as_slice()
     }
 
-    /// Where a request to this URI is sent (RFC 3261 section 16.6, over UDP and IPv4): the host is an
-    /// IPv4 address, there is no parameter `maddr`, and each `transport` is `udp`. The port is the
-    /// URI's or 5060.
+    /// Where a request to this URI is sent (RFC 3261 section 16.6, over UDP or TCP and IPv4): the host
+    /// is an IPv4 address, there is no parameter `maddr`, and each `transport` is `udp`, or each is
+    /// `tcp`. Without a `transport` it is sent over UDP. The port is the URI's or 5060.
     pub fn next_hop(&self) -> Option<Hop>
         ensures { result ≡ hop_of self.now }
     {

@@ -12,6 +12,8 @@ use Rattle.sip_lex.specs.Sheltered.{cut_outside}
 use Rattle.sip_text.specs.Name.{first_of}
 use Rattle.sip_text.specs.Text.{MessageText}
 use Rattle.sip_uri.specs.declared.hop.Hop.{Hop}
+use Rattle.sip_uri.specs.declared.hop.Transport.{Transport}
+use Rattle.sip_uri.specs.declared.hop.Transport.TheVariants.{Udp, Tcp, Back}
 use Rattle.sip_via.specs.declared.own.ViaFault.{ViaFault}
 use Rattle.sip_via.specs.declared.own.ViaFault.TheVariants.{BadVia}
 use Rattle.sip_via.specs.Address.{IsAddress, address_text}
@@ -86,6 +88,18 @@ abbrev pub port_or_default : Option ℕ → ℕ
 port_or_default None = 5060
 port_or_default (Some port) = port
 
--- to the source; to its port where `rport` says so, else to that of the sender
+-- over UDP to the source; to its port where `rport` says so, else to that of the sender
+abbrev pub reply_by_datagram : ViaText → Hop → Hop
+reply_by_datagram via source = record { addr = source.addr; port = if list_any (is_rport source.port) via.params then source.port else port_or_default (port_if_any via.port); transport = Udp }
+
+-- over TCP by the connection that the request came by; where that is gone, by one to the port of the sender
+abbrev pub reply_by_connection : ViaText → Hop → Hop
+reply_by_connection via source = record source { transport = Back (port_or_default (port_if_any via.port)) }
+
+abbrev pub reply_over : Transport → ViaText → Hop → Hop
+reply_over Udp via source = reply_by_datagram via source
+reply_over Tcp via source = reply_by_connection via source
+reply_over (Back port) via source = reply_by_connection via source
+
 abbrev pub reply_of : ViaText → Hop → Hop
-reply_of via source = record { addr = source.addr; port = if list_any (is_rport source.port) via.params then source.port else port_or_default (port_if_any via.port) }
+reply_of via source = reply_over source.transport via source

@@ -1,14 +1,25 @@
 //! The proxy's own Via value.
 
-ghost use Rattle.std.specs.Prelude.{◌≡◌, IfOk, true};
+ghost use Rattle.std.specs.Prelude.{◌≡◌, ◌++◌, ◌∷◌, [], IfOk, codes, true};
 ghost use Rattle.sip_text.specs.Message.{is_value};
-ghost use Rattle.sip_via.specs.OwnVia.{IsOwn, own_via};
+ghost use Rattle.sip_via.specs.OwnVia.{IsOwn, own_via, word_of};
 
 use crate::address::append_address;
 use crate::branch::{BranchName, write_branch};
 use crate::own::Own;
 use sip_lex::append_decimal;
+use sip_uri::Transport;
 use std::alloc::{AllocError, Allocator};
+
+/// What stands before the address (RFC 3261 section 20.42).
+fn front_of(transport: Transport) -> &'static [u8]
+    ensures { result.now ≡ codes "SIP/2.0/" ++ (word_of transport ++ 32 ∷ []) }
+{
+    match transport {
+        Transport::Udp => b"SIP/2.0/UDP ",
+        Transport::Tcp | Transport::Back(_) => b"SIP/2.0/TCP ",
+    }
+}
 
 /// Shows that the numbers of the own address are bounded.
 pub(crate) fn is_own_address(own: Own)
@@ -31,7 +42,7 @@ pub fn own_via<A: Allocator>(
 {
     is_own_address(own);
     let mut text = Vec::new(alloc);
-    text.extend_from_slice(b"SIP/2.0/UDP ")?;
+    text.extend_from_slice(front_of(own.transport))?;
     append_address(&mut text, own.addr)?;
     text.push(b':')?;
     append_decimal(&mut text, u64::from(own.port))?;

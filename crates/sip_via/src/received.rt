@@ -25,27 +25,33 @@ use crate::params::{Params, has_rport};
 use crate::values::{VIA, top_via};
 use sip_lex::{Shelter, append_decimal, cut_at, cut_outside, trim, trim_end};
 use sip_text::{Header, Message};
-use sip_uri::Hop;
+use sip_uri::{Hop, Transport};
 use std::alloc::{AllocError, Allocator};
 
-/// The port of SIP over UDP where a Via value names none (RFC 3261 section 18.2.2).
+/// The port of SIP over UDP and TCP where a Via value names none (RFC 3261 section 18.2.2).
 pub(crate) const DEFAULT_PORT: u16 = 5060;
 
 /// Where a response goes to a request with a top value of these parts.
 fn reply_hop_of_parts(cut: &Cut<'_>, source: Hop) -> Hop
     ensures { result ≡ reply_of (via_of_parts (seen_parts cut.now)) source }
 {
-    let port = if has_rport(cut.params, source.port) {
-        source.port
-    } else {
-        port_if_any(cut.port).unwrap_or(DEFAULT_PORT)
-    };
+    let sent_by = port_if_any(cut.port).unwrap_or(DEFAULT_PORT);
     let addr = source.addr;
-    Hop { addr, port }
+    match source.transport {
+        Transport::Udp if has_rport(cut.params, source.port) => Hop::over_udp(addr, source.port),
+        Transport::Udp => Hop::over_udp(addr, sent_by),
+        Transport::Tcp | Transport::Back(_) => Hop {
+            addr,
+            port: source.port,
+            transport: Transport::Back(sent_by),
+        },
+    }
 }
 
-/// Where a response to a request goes, which came from `source`, by the request's top value: as
-/// that of a `Via` read of it, and without memory. A top value that is none is read as far as its parts can be
+/// Where a response to a request goes, which came from `source`, by the request's top value (RFC 3261
+/// section 18.2.2, RFC 3581 section 4): over UDP to the source's address, and to its port where
+/// `rport` names that, else to the sender's; over TCP back by the connection (`Transport::Back`), with the
+/// sender's port. As that of a `Via` read of the value, and without memory. A top value that is none is read as far as its parts can be
 /// told apart; `marked_value_is_read` shows that the top value of a marked request is one.
 pub fn reply_hop_of<A: Allocator>(message: &Message<A>, source: Hop) -> Hop
     ensures { result ≡ reply_of (via_of (top_value message.now)) source }

@@ -1,6 +1,6 @@
 -- The events that a call posts by itself fit its table.
 use Rattle.call_model.proofs.Common.{◌≡◌, ◌∙◌, ℕ, ap, refl, true, false, Bool, Option, Some, None, slice_get, is_some, and_from, and_parts, cond, not, ◌&&◌, TimerC, Event, Ended, Idle, Kind, Row, Rung, State, Trying, is_invite, is_row, is_open, table_of, Call, nth_branch}
-use Rattle.call_model.proofs.Common.{row_passes, FireTimerC, GiveUp, is_due_at, Branch, IsSound, is_timeout, is_fault, client_out}
+use Rattle.call_model.proofs.Common.{row_passes, FireTimerC, is_due_at, Branch, IsSound, is_timeout, is_fault, client_out}
 use Rattle.fork_model.specs.Event as fork
 use Rattle.fork_model.specs.Log.{core_of}
 use Rattle.fork_model.specs.OpenBranches.{FittingEventsAreTaken, fits, is_pending}

@@ -25,7 +25,7 @@ IsPaidAgain call (built_response.Answer status text) = ⊥
 
 -- the 200 to this CANCEL
 abbrev pub IsPaidOk : {A : Type 0} → MessageText → Hop → BuiltResponse A → Type 0
-IsPaidOk cancel to (built_response.Sent d) = seen d ≡ record { to = to; bytes = spelling (generated_of cancel Okay); cause = cause.CancelOk }
+IsPaidOk cancel to (built_response.Sent d) = seen d ≡ record { to = to; bytes = spelling (generated_of cancel Okay []); cause = cause.CancelOk }
 IsPaidOk cancel to (built_response.Answer status text) = ⊥
 
 abbrev pub IsAnswered : {A : Type 0} → Option MessageText → BuiltResponse A → Type 0

@@ -5,7 +5,7 @@ use crate::histories::texts::{CALLER, INVITE, TRYING};
 use crate::holds::holds;
 use fork_call::{Cause, TakeFault, Taken};
 use fork_context::Up;
-use sip_uri::Hop;
+use sip_uri::{Hop, Transport};
 
 /// The targets of bob, both tried at once.
 const ONE_GROUP: &[u8] = b"own 192.0.2.9 5060\ninstance 7\ndomain example.com\n\
@@ -15,11 +15,13 @@ location bob 1000 sip:bob@192.0.2.4\nlocation bob 1000 sip:bob@192.0.2.5\n";
 const FIRST: Hop = Hop {
     addr: [192, 0, 2, 4],
     port: 5060,
+    transport: Transport::Udp,
 };
 
 const SECOND: Hop = Hop {
     addr: [192, 0, 2, 5],
     port: 5060,
+    transport: Transport::Udp,
 };
 
 // ---- the first target

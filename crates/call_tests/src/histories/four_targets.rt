@@ -4,7 +4,7 @@ use crate::histories::texts::{CALLER, INVITE};
 use crate::holds::holds;
 use fork_call::{Cause, Taken};
 use fork_context::{Choice, Up};
-use sip_uri::Hop;
+use sip_uri::{Hop, Transport};
 
 /// The targets of bob, all tried at once.
 const FOUR: &[u8] = b"own 192.0.2.9 5060\ninstance 7\ndomain example.com\n\
@@ -15,21 +15,25 @@ location bob 1000 sip:bob@192.0.2.6\nlocation bob 1000 sip:bob@192.0.2.7\n";
 const FIRST: Hop = Hop {
     addr: [192, 0, 2, 4],
     port: 5060,
+    transport: Transport::Udp,
 };
 
 const SECOND: Hop = Hop {
     addr: [192, 0, 2, 5],
     port: 5060,
+    transport: Transport::Udp,
 };
 
 const THIRD: Hop = Hop {
     addr: [192, 0, 2, 6],
     port: 5060,
+    transport: Transport::Udp,
 };
 
 const FOURTH: Hop = Hop {
     addr: [192, 0, 2, 7],
     port: 5060,
+    transport: Transport::Udp,
 };
 
 /// What each answers.

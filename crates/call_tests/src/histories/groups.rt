@@ -5,7 +5,7 @@ use crate::histories::texts::{CALLER, INVITE, TRYING};
 use crate::holds::holds;
 use fork_call::{Cause, Taken};
 use fork_context::{Choice, Up};
-use sip_uri::Hop;
+use sip_uri::{Hop, Transport};
 
 /// The targets of bob, each tried after that before it.
 const THREE_GROUPS: &[u8] = b"own 192.0.2.9 5060\ninstance 7\ndomain example.com\n\
@@ -15,26 +15,31 @@ location bob 1000 sip:bob@192.0.2.4\nlocation bob 700 sip:bob@192.0.2.5:5062\nlo
 const FIRST: Hop = Hop {
     addr: [192, 0, 2, 4],
     port: 5060,
+    transport: Transport::Udp,
 };
 
 const SECOND: Hop = Hop {
     addr: [192, 0, 2, 5],
     port: 5062,
+    transport: Transport::Udp,
 };
 
 const THIRD: Hop = Hop {
     addr: [192, 0, 2, 6],
     port: 5060,
+    transport: Transport::Udp,
 };
 
 const CAROL: Hop = Hop {
     addr: [192, 0, 2, 8],
     port: 5070,
+    transport: Transport::Udp,
 };
 
 const DESK: Hop = Hop {
     addr: [192, 0, 2, 7],
     port: 5060,
+    transport: Transport::Udp,
 };
 
 // ---- the first target

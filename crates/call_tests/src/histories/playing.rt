@@ -141,6 +141,14 @@ pub fn plays(alloc: Global, call: &mut Call<Global>, history: &[Moment]) -> bool
     played(alloc, call, history) == history.len()
 }
 
+/// Whether the call that a request opens as number 3, by a setup, goes so.
+pub fn goes_by(alloc: Global, setup: &Setup<Global>, request: &[u8], history: &[Moment]) -> bool {
+    match opened_by(alloc, setup, 3, request) {
+        Some(mut call) => plays(alloc, &mut call, history),
+        None => false,
+    }
+}
+
 // ---- the book
 
 /// What an event of a history says, without the contacts and challenges of an answer.

@@ -6,7 +6,7 @@ use crate::holds::holds;
 use crate::requests::SETUP;
 use fork_call::{Cause, Taken};
 use fork_context::{Choice, Up};
-use sip_uri::Hop;
+use sip_uri::{Hop, Transport};
 
 // ---- an INVITE for the domain
 
@@ -29,6 +29,7 @@ const CONTACT_SENT: Sent = Sent {
     to: Hop {
         addr: [192, 0, 2, 8],
         port: 5070,
+        transport: Transport::Udp,
     },
     text: b"INVITE sip:dave@192.0.2.8:5070 SIP/2.0\r\n\
 Via: SIP/2.0/UDP 192.0.2.9:5060;branch=z9hG4bK8c31e71e0ddbf1a0e56f5f0279990857.7.3.1\r\n\
@@ -101,6 +102,7 @@ Content-Length: 0\r\n\
 const OTHER: Hop = Hop {
     addr: [198, 51, 100, 7],
     port: 5060,
+    transport: Transport::Udp,
 };
 
 /// The request as it goes there.

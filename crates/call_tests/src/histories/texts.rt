@@ -2,7 +2,7 @@
 use crate::histories::playing::Sent;
 use crate::requests::SOURCE;
 use fork_call::Cause;
-use sip_uri::Hop;
+use sip_uri::{Hop, Transport};
 
 /// Where the request comes from, and where the answers go.
 pub const CALLER: Hop = SOURCE;
@@ -11,6 +11,7 @@ pub const CALLER: Hop = SOURCE;
 pub const TARGET: Hop = Hop {
     addr: [192, 0, 2, 4],
     port: 5060,
+    transport: Transport::Udp,
 };
 
 // ---- an OPTIONS request

@@ -1,14 +1,43 @@
 //! The calls of `context_values` that a context alone makes.
 use crate::bytes::is;
-use crate::context::happening::{demand, key_of, redirection, text_of};
+use crate::context::happening::{demand, key_of, redirection, targets, text_of};
 use crate::holds::holds;
 use context_values::{
-    Answer, ExtrasTable, Numbers, Offer, Reply, RowExtras, Up, copied_challenges, copied_offers,
-    numbered,
+    Answer, ExtrasTable, Numbers, Offer, Reply, RowExtras, Target, Up, copied_challenges,
+    copied_offers, copied_targets, numbered,
 };
 use fork_rank::Challenge;
 use std::alloc::Global;
 use std::process::Abort;
+
+/// Whether it is the target of this number, tried at this q.
+fn is_target(target: &Target, number: u16, q: u16) -> bool {
+    is(target.key(), &key_of(number)) && target.q() == q
+}
+
+/// Whether these are the targets of the numbers 7 and 2.
+fn are_the_targets(targets: &[Target]) -> bool {
+    match targets {
+        [first, second] => is_target(first, 7, 300) && is_target(second, 2, 1000),
+        _ => false,
+    }
+}
+
+/// Whether the copies of targets are those of the numbers 7 and 2.
+fn copies_targets(alloc: Global, targets: &[Target]) -> bool {
+    match copied_targets(&alloc, targets) {
+        Ok(copies) => are_the_targets(&copies),
+        Err(_) => false,
+    }
+}
+
+/// Whether two targets are copied.
+fn targets_are_copied(alloc: Global) -> bool {
+    match targets(alloc, &[(7, 300), (2, 1000)]) {
+        Some(targets) => copies_targets(alloc, &targets),
+        None => false,
+    }
+}
 
 /// Whether these are the contacts of the numbers 7 and 2.
 fn are_the_contacts(offers: &[Offer]) -> bool {
@@ -60,6 +89,11 @@ fn challenges_are_copied(alloc: Global) -> bool {
 
 #[test]
 fn lists_are_copied_in_their_order(rt: HostRuntime) {
+    holds(
+        &rt,
+        targets_are_copied(rt.alloc()),
+        "two targets are copied",
+    );
     holds(
         &rt,
         contacts_are_copied(rt.alloc()),

@@ -7,6 +7,7 @@ use Rattle.fork_model.specs.Table.{most_targets}
 use Rattle.fork_text.specs.Field.{most_q, number_before, number_from}
 use Rattle.fork_text.specs.Preferred.{read_preferred}
 use Rattle.sip_uri.specs.Host.{is_host}
+use Rattle.sip_uri.specs.declared.hop.Transport.TheVariants.{Udp}
 use Rattle.sip_via.specs.declared.own.Own.{Own}
 use Rattle.proxy_config.specs.declared.line.Word.{Word}
 use Rattle.proxy_config.specs.declared.line.Word.TheVariants as word
@@ -35,7 +36,7 @@ abbrev pub read_octets : List ℕ → Option (List ℕ)
 read_octets text = option_and_then second (octet_before text)
 
 abbrev pub own_at : List ℕ → List ℕ → Option Own
-own_at digits addr = if bytes_eq addr no_host then None else option_map (λ port. record { addr = addr; port = port }) (number_from 1 most_port digits)
+own_at digits addr = if bytes_eq addr no_host then None else option_map (λ port. record { addr = addr; port = port; transport = Udp }) (number_from 1 most_port digits)
 
 abbrev pub own_cut : List ℕ × Option (List ℕ) → Option Own
 own_cut (addr, None) = None

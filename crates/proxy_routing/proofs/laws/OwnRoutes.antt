@@ -1,7 +1,7 @@
 -- The Route values that lead to the proxy itself, taken away one by one.
-use Rattle.proxy_routing.proofs.Common.{◌≡◌, ◌∙◌, Bool, true, false, List, ℕ, zero, suc, Option, Some, refl, sym, subst, arith, ap, MessageText, Own, ◌&&◌}
+use Rattle.proxy_routing.proofs.Common.{◌≡◌, ◌∙◌, Bool, true, false, List, ℕ, zero, suc, Option, Some, refl, sym, arith, ap, MessageText, Own, ◌&&◌}
 use Rattle.std.proofs.Common.{None, ◌+◌, ◌≤◌, [], ◌∷◌, ◌++◌, cond, drop, eqb, length, map, option_map}
-use Rattle.std.proofs.lemmas.Bool.{cond-false, cond-true, false≢true}
+use Rattle.std.proofs.lemmas.Bool.{cond-false, cond-true}
 use Rattle.std.proofs.lemmas.List.{drop-drop, length-map}
 use Rattle.std.specs.List.{flat_map, onto_first}
 use Rattle.sip_lex.specs.Bytes.{trim}
@@ -12,7 +12,7 @@ use Rattle.sip_lex.specs.declared.sheltered.Shelter.TheVariants.{QuotesAndAngles
 use Rattle.sip_lex.specs.Outside.{pieces_from, pieces_outside, pieces_outside_behind}
 use Rattle.sip_lex.specs.Sheltered.{cut_outside, is_plain, place_after}
 use Rattle.sip_lex.proofs.laws.OutsideSplits.{onto-cut}
-use Rattle.sip_text.specs.Name.{first_of, first_value, values_of}
+use Rattle.sip_text.specs.Name.{first_of, values_of}
 use Rattle.sip_text.specs.Text.{HeaderText}
 use Rattle.sip_uri.specs.declared.hop.Hop.{Hop}
 use Rattle.sip_via.specs.Edits.{replaced, with_headers}

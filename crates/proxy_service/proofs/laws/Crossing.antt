@@ -12,6 +12,7 @@ use Rattle.fork_call.specs.contracts.call.Call.{the_row as call_row}
 use Rattle.call_table.proofs.laws.Crossing.{shelf_sync}
 use Rattle.call_table.specs.contracts.shelf.Shelf as shelf
 use Rattle.daemon_parts.proofs.laws.Crossing.{counts_sync, marks_sync}
+use Rattle.daemon_parts.proofs.places.Places.TheSendSync as places
 use Rattle.fork_clock.proofs.laws.Crossing.{schedule_sync}
 use Rattle.proxy_config.proofs.laws.Crossing as setup
 use Rattle.proxy_config.specs.contracts.setup.Setup.{the_row as setup_row}
@@ -19,10 +20,9 @@ use Rattle.proxy_service.proofs.terms.Terms.TheSendSync as terms
 use Rattle.proxy_service.proofs.lifetime.Lifetime.TheSendSync as lifetime
 use Rattle.proxy_service.proofs.queue.JournalQueue.TheSendSync as queue
 use Rattle.proxy_service.proofs.refusals.Refusals.TheSendSync as refusals
-use Rattle.proxy_service.proofs.room.Room.TheSendSync as room
 use Rattle.proxy_service.proofs.walk.Walk.TheSendSync as walk
-use Rattle.proxy_service.specs.contracts.admission.Admission as admission
 use Rattle.proxy_service.specs.contracts.calls.Calls as calls
+use Rattle.proxy_service.specs.contracts.quota.Quota as quota
 use Rattle.proxy_service.specs.contracts.service.Service as service
 
 shelf_shared : (h : clone.Ghosts heap_row.Denot) → IsSync (shelf.the_field (call_row heap_row ghosts h) heap_row ghosts).row
@@ -34,8 +34,8 @@ setup_shared = setup.setup_sync heap_row ghosts sync
 setup_sent : IsSend (setup_row heap_row ghosts)
 setup_sent = setup.setup_send heap_row ghosts send frees
 
-admission_sync : IsSync admission.the_field.row
-admission_sync = struct_sync (shape admission.the_type) (search (crosses, room.the_send), (search (crosses, sendable), (search (crosses, sendable), tt)))
+quota_sync : IsSync quota.the_field.row
+quota_sync = struct_sync (shape quota.the_type) (search (crosses, places.the_send), (search (crosses, sendable), (search (crosses, sendable), tt)))
 
 calls_sync : (h : clone.Ghosts heap_row.Denot) → IsSync (calls.the_field heap_row ghosts h).row
 calls_sync h = struct_sync (shape (calls.the_type heap_row ghosts h)) (
@@ -50,7 +50,7 @@ service_sync h = struct_sync (shape (service.the_type heap_row ghosts h)) (
     heap.the_field_sync,
     (
       search (lock.the_field_sync, setup_shared, setup_sent),
-      (terms.the_field_sync, (calls_sync h, (admission_sync, (lifetime.the_field_sync, (queue.the_field_sync, (counts_sync, tt)))))),
+      (terms.the_field_sync, (calls_sync h, (quota_sync, (lifetime.the_field_sync, (queue.the_field_sync, (counts_sync, tt)))))),
     ),
   ),
 )

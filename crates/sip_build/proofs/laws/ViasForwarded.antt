@@ -1,6 +1,6 @@
 -- The Via values of a request that was forwarded, and what an ACK or a CANCEL takes of it.
 use Rattle.sip_build.proofs.Common.{◌≡◌, ℕ, ◌<◌, ◌^◌, true, List, [], ◌∷◌, ◌++◌, Option, refl, ap, ◌∙◌, codes, decimal, list_all, and_parts, list_all-append, trim_end, trim_start, trim_end-reverse, is_value, first_of, first_value, HeaderText}
-use Rattle.sip_build.proofs.Common.{MessageText, StartText, and_both, Uri, Own, BranchName, line, own_via, values_in, via_values, or_empty, values-replaced, all_pass, is-not, hops_name, forwarded, hops_lowered, is_request, to_target, along, along_to}
+use Rattle.sip_build.proofs.Common.{MessageText, StartText, and_both, Uri, Own, BranchName, line, own_via, values_in, via_values, or_empty, SameOthers, values-replaced, all_pass, is-not, hops_name, forwarded, hops_lowered, record_route_lines, is_request, to_target, along, along_to}
 use Rattle.sip_build.proofs.Common.{common_steps, arith}
 use Rattle.std.proofs.lemmas.List.{reverse-reverse}
 use Rattle.sip_lex.specs.Bytes.{is_token_byte}
@@ -12,7 +12,7 @@ use Rattle.sip_via.proofs.laws.OwnVia.{own_via-good}
 use Rattle.sip_via.proofs.laws.Tokens.{branch_token, dotted}
 use Rattle.sip_via.proofs.laws.PlainVia.{no-front}
 use Rattle.sip_route.specs.Loop.{request_uri}
-use Rattle.sip_build.proofs.laws.ForwardedOthers.{hops-others, via-others}
+use Rattle.sip_build.proofs.laws.ForwardedOthers.{hops-others, recorded-others, recorded-routes, recorded-vias, via-others}
 use Rattle.sip_build.proofs.laws.ViaPieces.{no_mark-class, is_no_mark, one-piece}
 
 abbrev Values : Type 0
@@ -51,23 +51,31 @@ via-line : (v : List ℕ) (hs : List HeaderText) → values_of (codes "via") (li
 unfolding full_name values_of
 via-line v hs = refl
 
-pub vias-forwarded : (m : MessageText) (target : Uri) (proxy : Own) (b : BranchName) → IsOwn proxy → IsBranch b → via_values (forwarded m target proxy b) ≡ own_via proxy b ∷ via_values m
-vias-forwarded m target proxy b is named = grind (arith, via-line, vias-lowered, own-value)
+pub vias-forwarded : (m : MessageText) (target : Uri) (proxy : Own) (b : BranchName) (recorded : Option (List ℕ)) → IsOwn proxy → IsBranch b → via_values (forwarded m target proxy b recorded) ≡ own_via proxy b ∷ via_values m
+vias-forwarded m target proxy b recorded is named = grind (arith, via-line, recorded-vias, vias-lowered, own-value)
 
 -- ---- the rest
 
-routes-lowered : (v : List ℕ) (hs : List HeaderText) (o : Option (List ℕ)) → values_of (codes "route") (line (codes "Via") v ∷ hops_lowered hs o) ≡ values_of (codes "route") hs
+routes-lowered : (hs : List HeaderText) (o : Option (List ℕ)) → values_of (codes "route") (hops_lowered hs o) ≡ values_of (codes "route") hs
 unfolding full_name values_of
-routes-lowered v hs o = grind (arith, values-replaced)
+routes-lowered hs o = grind (arith, values-replaced)
+
+via-route : (v : List ℕ) (hs : List HeaderText) → values_of (codes "route") (line (codes "Via") v ∷ hs) ≡ values_of (codes "route") hs
+unfolding full_name values_of
+via-route v hs = refl
+
+routes-forwarded : (v : List ℕ) (hs : List HeaderText) (o recorded : Option (List ℕ)) → values_of (codes "route") (line (codes "Via") v ∷ (record_route_lines recorded ++ hops_lowered hs o)) ≡ values_of (codes "route") hs
+routes-forwarded v hs o recorded = via-route v (record_route_lines recorded ++ hops_lowered hs o) ∙ recorded-routes recorded (hops_lowered hs o) ∙ routes-lowered hs o
+
+-- the lines that an ACK and a CANCEL take values of
+others-forwarded : (v : List ℕ) (hs : List HeaderText) (o recorded : Option (List ℕ)) → SameOthers (line (codes "Via") v ∷ (record_route_lines recorded ++ hops_lowered hs o)) hs
+others-forwarded v hs o recorded = via-others v (record_route_lines recorded ++ hops_lowered hs o) hs (recorded-others recorded (hops_lowered hs o) hs (hops-others hs o))
 
 uri-target : (s : StartText) (target : Uri) → is_request s ≡ true → request_uri (to_target s target) ≡ uri.request_uri target
 uri-target s target h = grind arith
 
-pub along-forwarded : (method : List ℕ) (m : MessageText) (target : Uri) (proxy : Own) (b : BranchName) (to : List ℕ) → is_request m.start ≡ true → IsOwn proxy → IsBranch b → along method (forwarded m target proxy b) to ≡ along_to method m target proxy b to
-along-forwarded method m target proxy b to request is named = grind (arith, common_steps, vias-forwarded m target proxy b is named, via-others, hops-others, uri-target, routes-lowered)
+pub along-forwarded : (method : List ℕ) (m : MessageText) (target : Uri) (proxy : Own) (b : BranchName) (recorded : Option (List ℕ)) (to : List ℕ) (more : List HeaderText) → is_request m.start ≡ true → IsOwn proxy → IsBranch b → along method (forwarded m target proxy b recorded) to more ≡ along_to method m target proxy b to more
+along-forwarded method m target proxy b recorded to more request is named = grind (arith, common_steps, vias-forwarded m target proxy b recorded is named, others-forwarded, uri-target, routes-forwarded)
 
-pub to-forwarded : (m : MessageText) (target : Uri) (proxy : Own) (b : BranchName) → or_empty (first_of (values_of (codes "to") (forwarded m target proxy b).headers)) ≡ or_empty (first_of (values_of (codes "to") m.headers))
-to-forwarded m target proxy b =
-    let o = first_value hops_name m.headers in
-    let same = via-others (own_via proxy b) (hops_lowered m.headers o) m.headers (hops-others m.headers o) in
-    ap (λ (vs : Values). or_empty (first_of vs)) same.to
+pub to-forwarded : (m : MessageText) (target : Uri) (proxy : Own) (b : BranchName) (recorded : Option (List ℕ)) → or_empty (first_of (values_of (codes "to") (forwarded m target proxy b recorded).headers)) ≡ or_empty (first_of (values_of (codes "to") m.headers))
+to-forwarded m target proxy b recorded = ap (λ (vs : Values). or_empty (first_of vs)) (others-forwarded (own_via proxy b) m.headers (first_value hops_name m.headers) recorded).to

@@ -9,9 +9,10 @@ use Rattle.sip_via.specs.Edits.{line}
 use Rattle.sip_build.specs.declared.runs.Pick.{Pick}
 use Rattle.sip_build.specs.declared.runs.Pick.TheVariants.{Named, Others, Renamed}
 use Rattle.sip_build.specs.declared.runs.HeaderRun.{HeaderRun}
-use Rattle.sip_build.specs.declared.runs.HeaderRun.TheVariants.{Kept, Picked, Line, Joined, Contacts, Challenges, SeventyHops, NoBody, From, To, CallId}
+use Rattle.sip_build.specs.declared.runs.HeaderRun.TheVariants.{Kept, Picked, Line, Joined, Contacts, Challenges, Further, SeventyHops, NoBody, From, To, CallId}
 use Rattle.sip_build.specs.declared.made_text.Front.{Front}
 use Rattle.sip_build.specs.declared.made_text.Front.TheVariants.{Request, Response}
+use Rattle.sip_build.specs.Further.{view_lines}
 use Rattle.sip_build.specs.SeenKept.{texts}
 use Rattle.sip_build.specs.inner.Texts.{lines_text}
 use Rattle.sip_lex.specs.Line.{ended}
@@ -37,6 +38,7 @@ lines_of (Line name value) = line name.now value.now ∷ []
 lines_of (Joined name a b d) = line name.now (a.now ++ (b.now ++ d.now)) ∷ []
 lines_of (Contacts kept) = contact_lines (texts kept.now)
 lines_of (Challenges challenges) = map challenge_line challenges.now
+lines_of (Further lines) = view_lines lines.now
 lines_of SeventyHops = line (codes "Max-Forwards") (codes "70") ∷ []
 lines_of NoBody = line (codes "Content-Length") (codes "0") ∷ []
 lines_of (From value) = line (codes "From") value.now ∷ []

@@ -5,9 +5,9 @@ use Rattle.sip_message.proofs.Common.{field_lines, all_pass, high_line, high_no_
 use Rattle.sip_text.specs.Fields.{cseq_fits}
 use Rattle.sip_text.specs.Name.{full_name, values_of}
 use Rattle.sip_build.specs.OwnTag.{own_tag, tag_fields}
-use Rattle.sip_message.proofs.laws.Named.{AreNamed, Has, all_keep, cseq_there, first_keeps, has_all, named_filter, named_first, named_lines, none_missing, skip, tagged_keeps}
+use Rattle.sip_message.proofs.laws.Named.{AreNamed, Has, all_keep, cseq_there, first_keeps, has_all, named_filter, named_first, named_lines, none_in, none_missing, skip, tagged_keeps}
 use Rattle.sip_via.proofs.laws.Tokens.{hex_text_high}
-use Rattle.sip_message.proofs.HeaderValues.{behind_good, filter_good, lines_good, one_good, values_good}
+use Rattle.sip_message.proofs.HeaderValues.{behind_good, filter_good, joined_good, lines_good, one_good, values_good}
 
 -- ---- each part of the header lines is of one name
 
@@ -26,91 +26,94 @@ first_named name m = named_first name (lines_named name m) (named_filter name m.
 
 -- ---- what stands behind each part
 
-abbrev end_lines : List HeaderText
-end_lines = line (codes "Content-Length") (codes "0") ∷ []
+abbrev end_lines : List HeaderText → List HeaderText
+end_lines further = further ++ line (codes "Content-Length") (codes "0") ∷ []
 
-abbrev from_unsupported : OwnStatus → MessageText → List HeaderText
-from_unsupported status m = unsupported_lines status m ++ end_lines
+abbrev from_unsupported : OwnStatus → MessageText → List HeaderText → List HeaderText
+from_unsupported status m further = unsupported_lines status m ++ end_lines further
 
-abbrev from_cseq : OwnStatus → MessageText → List HeaderText
-from_cseq status m = first_line (codes "cseq") m ++ from_unsupported status m
+abbrev from_cseq : OwnStatus → MessageText → List HeaderText → List HeaderText
+from_cseq status m further = first_line (codes "cseq") m ++ from_unsupported status m further
 
-abbrev from_call : OwnStatus → MessageText → List HeaderText
-from_call status m = first_line (codes "call-id") m ++ from_cseq status m
+abbrev from_call : OwnStatus → MessageText → List HeaderText → List HeaderText
+from_call status m further = first_line (codes "call-id") m ++ from_cseq status m further
 
-abbrev from_to : OwnStatus → MessageText → List HeaderText
-from_to status m = to_lines status m ++ from_call status m
+abbrev from_to : OwnStatus → MessageText → List HeaderText → List HeaderText
+from_to status m further = to_lines status m ++ from_call status m further
 
-abbrev from_from : OwnStatus → MessageText → List HeaderText
-from_from status m = first_line (codes "from") m ++ from_to status m
+abbrev from_from : OwnStatus → MessageText → List HeaderText → List HeaderText
+from_from status m further = first_line (codes "from") m ++ from_to status m further
 
-abbrev all_lines : OwnStatus → MessageText → List HeaderText
-all_lines status m = lines_named (codes "via") m ++ from_from status m
+abbrev all_lines : OwnStatus → MessageText → List HeaderText → List HeaderText
+all_lines status m further = lines_named (codes "via") m ++ from_from status m further
 
 -- ---- the five that a message needs
 
-via_has : (status : OwnStatus) (m : MessageText) → Has Via m.headers → Has Via (all_lines status m)
-via_has status m h = (h.0, all_keep (codes "via") m.headers (from_from status m) h.0 h.1)
+via_has : (status : OwnStatus) (m : MessageText) (further : List HeaderText) → Has Via m.headers → Has Via (all_lines status m further)
+via_has status m further h = (h.0, all_keep (codes "via") m.headers (from_from status m further) h.0 h.1)
 
-from_has : (status : OwnStatus) (m : MessageText) → Has From m.headers → Has From (all_lines status m)
+from_has : (status : OwnStatus) (m : MessageText) (further : List HeaderText) → Has From m.headers → Has From (all_lines status m further)
 unfolding full_name
-from_has status m h = (
+from_has status m further h = (
   h.0,
-  ap first_of (skip (codes "from") (codes "via") (lines_named (codes "via") m) (from_from status m) refl (via_named m))
-      ∙ first_keeps (codes "from") m.headers (from_to status m) h.0 h.1,
+  ap first_of (skip (codes "from") (codes "via") (lines_named (codes "via") m) (from_from status m further) refl (via_named m))
+      ∙ first_keeps (codes "from") m.headers (from_to status m further) h.0 h.1,
 )
 
-to_there : (status : OwnStatus) (m : MessageText) → Has To m.headers → Has To (from_to status m)
-to_there status m h =
-    cond_both (gets_tag status m) (map (tagged (own_tag m)) (first_line (codes "to") m)) (first_line (codes "to") m) (λ (b : List HeaderText). Has To (b ++ from_call status m))
-    (λ e. (with_tag (own_tag m) h.0, tagged_keeps (codes "to") (own_tag m) m.headers (from_call status m) h.0 h.1))
-    (λ e. (h.0, first_keeps (codes "to") m.headers (from_call status m) h.0 h.1))
+to_there : (status : OwnStatus) (m : MessageText) (further : List HeaderText) → Has To m.headers → Has To (from_to status m further)
+to_there status m further h =
+    cond_both (gets_tag status m) (map (tagged (own_tag m)) (first_line (codes "to") m)) (first_line (codes "to") m) (λ (b : List HeaderText). Has To (b ++ from_call status m further))
+    (λ e. (with_tag (own_tag m) h.0, tagged_keeps (codes "to") (own_tag m) m.headers (from_call status m further) h.0 h.1))
+    (λ e. (h.0, first_keeps (codes "to") m.headers (from_call status m further) h.0 h.1))
 
-to_has : (status : OwnStatus) (m : MessageText) → Has To m.headers → Has To (all_lines status m)
+to_has : (status : OwnStatus) (m : MessageText) (further : List HeaderText) → Has To m.headers → Has To (all_lines status m further)
 unfolding full_name
-to_has status m h =
-    let there = to_there status m h in (
+to_has status m further h =
+    let there = to_there status m further h in (
       there.0,
-      ap first_of (skip (codes "to") (codes "via") (lines_named (codes "via") m) (from_from status m) refl (via_named m)
-          ∙ skip (codes "to") (codes "from") (first_line (codes "from") m) (from_to status m) refl (first_named (codes "from") m))
+      ap first_of (skip (codes "to") (codes "via") (lines_named (codes "via") m) (from_from status m further) refl (via_named m)
+          ∙ skip (codes "to") (codes "from") (first_line (codes "from") m) (from_to status m further) refl (first_named (codes "from") m))
           ∙ there.1,
     )
 
-call_has : (status : OwnStatus) (m : MessageText) → Has CallId m.headers → Has CallId (all_lines status m)
+call_has : (status : OwnStatus) (m : MessageText) (further : List HeaderText) → Has CallId m.headers → Has CallId (all_lines status m further)
 unfolding full_name
-call_has status m h = (
+call_has status m further h = (
   h.0,
-  ap first_of (skip (codes "call-id") (codes "via") (lines_named (codes "via") m) (from_from status m) refl (via_named m)
-      ∙ skip (codes "call-id") (codes "from") (first_line (codes "from") m) (from_to status m) refl (first_named (codes "from") m)
-      ∙ skip (codes "call-id") (codes "to") (to_lines status m) (from_call status m) refl (to_named status m))
-      ∙ first_keeps (codes "call-id") m.headers (from_cseq status m) h.0 h.1,
+  ap first_of (skip (codes "call-id") (codes "via") (lines_named (codes "via") m) (from_from status m further) refl (via_named m)
+      ∙ skip (codes "call-id") (codes "from") (first_line (codes "from") m) (from_to status m further) refl (first_named (codes "from") m)
+      ∙ skip (codes "call-id") (codes "to") (to_lines status m) (from_call status m further) refl (to_named status m))
+      ∙ first_keeps (codes "call-id") m.headers (from_cseq status m further) h.0 h.1,
 )
 
-cseq_has : (status : OwnStatus) (m : MessageText) → (h : Has CSeq m.headers) → value_of CSeq (all_lines status m) ≡ Some h.0
+cseq_has : (status : OwnStatus) (m : MessageText) (further : List HeaderText) → (h : Has CSeq m.headers) → value_of CSeq (all_lines status m further) ≡ Some h.0
 unfolding full_name
-cseq_has status m h =
-    ap first_of (skip (codes "cseq") (codes "via") (lines_named (codes "via") m) (from_from status m) refl (via_named m)
-    ∙ skip (codes "cseq") (codes "from") (first_line (codes "from") m) (from_to status m) refl (first_named (codes "from") m)
-    ∙ skip (codes "cseq") (codes "to") (to_lines status m) (from_call status m) refl (to_named status m)
-    ∙ skip (codes "cseq") (codes "call-id") (first_line (codes "call-id") m) (from_cseq status m) refl (first_named (codes "call-id") m))
-    ∙ first_keeps (codes "cseq") m.headers (from_unsupported status m) h.0 h.1
+cseq_has status m further h =
+    ap first_of (skip (codes "cseq") (codes "via") (lines_named (codes "via") m) (from_from status m further) refl (via_named m)
+    ∙ skip (codes "cseq") (codes "from") (first_line (codes "from") m) (from_to status m further) refl (first_named (codes "from") m)
+    ∙ skip (codes "cseq") (codes "to") (to_lines status m) (from_call status m further) refl (to_named status m)
+    ∙ skip (codes "cseq") (codes "call-id") (first_line (codes "call-id") m) (from_cseq status m further) refl (first_named (codes "call-id") m))
+    ∙ first_keeps (codes "cseq") m.headers (from_unsupported status m further) h.0 h.1
 
 -- ---- its length
 
-end_length : values_of length_name end_lines ≡ codes "0" ∷ []
+own_length : values_of length_name (line (codes "Content-Length") (codes "0") ∷ []) ≡ codes "0" ∷ []
 unfolding values_of full_name
-end_length = refl
+own_length = refl
 
-length_is : (status : OwnStatus) (m : MessageText) → values_of length_name (all_lines status m) ≡ codes "0" ∷ []
+end_length : (further : List HeaderText) → values_of length_name further ≡ [] → values_of length_name (end_lines further) ≡ codes "0" ∷ []
+end_length further none = none_in length_name further (line (codes "Content-Length") (codes "0") ∷ []) none ∙ own_length
+
+length_is : (status : OwnStatus) (m : MessageText) (further : List HeaderText) → values_of length_name further ≡ [] → values_of length_name (all_lines status m further) ≡ codes "0" ∷ []
 unfolding full_name
-length_is status m =
-    skip length_name (codes "via") (lines_named (codes "via") m) (from_from status m) refl (via_named m)
-    ∙ skip length_name (codes "from") (first_line (codes "from") m) (from_to status m) refl (first_named (codes "from") m)
-    ∙ skip length_name (codes "to") (to_lines status m) (from_call status m) refl (to_named status m)
-    ∙ skip length_name (codes "call-id") (first_line (codes "call-id") m) (from_cseq status m) refl (first_named (codes "call-id") m)
-    ∙ skip length_name (codes "cseq") (first_line (codes "cseq") m) (from_unsupported status m) refl (first_named (codes "cseq") m)
-    ∙ skip length_name (codes "Unsupported") (unsupported_lines status m) end_lines refl (unsupported_named status m)
-    ∙ end_length
+length_is status m further none =
+    skip length_name (codes "via") (lines_named (codes "via") m) (from_from status m further) refl (via_named m)
+    ∙ skip length_name (codes "from") (first_line (codes "from") m) (from_to status m further) refl (first_named (codes "from") m)
+    ∙ skip length_name (codes "to") (to_lines status m) (from_call status m further) refl (to_named status m)
+    ∙ skip length_name (codes "call-id") (first_line (codes "call-id") m) (from_cseq status m further) refl (first_named (codes "call-id") m)
+    ∙ skip length_name (codes "cseq") (first_line (codes "cseq") m) (from_unsupported status m further) refl (first_named (codes "cseq") m)
+    ∙ skip length_name (codes "Unsupported") (unsupported_lines status m) (end_lines further) refl (unsupported_named status m)
+    ∙ end_length further none
 
 -- ---- its header lines are header lines
 
@@ -139,33 +142,46 @@ to_good status m h = grind (arith, tagged_good, first_line_good)
 unsupported_good : (status : OwnStatus) (m : MessageText) → list_all is_header m.headers ≡ true → list_all is_header (unsupported_lines status m) ≡ true
 unsupported_good status m h = grind (arith, lines_good, values_good)
 
-all_good : (status : OwnStatus) (m : MessageText) → list_all is_header m.headers ≡ true → list_all is_header (all_lines status m) ≡ true
-all_good status m h = grind (arith, common_steps, filter_good, first_line_good, to_good, unsupported_good)
+end_good : (further : List HeaderText) → list_all is_header further ≡ true → list_all is_header (end_lines further) ≡ true
+end_good further f = joined_good further (line (codes "Content-Length") (codes "0") ∷ []) f refl
+
+all_good : (status : OwnStatus) (m : MessageText) (further : List HeaderText) → list_all is_header m.headers ≡ true → list_all is_header further ≡ true → list_all is_header (all_lines status m further) ≡ true
+all_good status m further h f =
+    joined_good (lines_named (codes "via") m) (from_from status m further) (filter_good (codes "via") m.headers h)
+    (joined_good (first_line (codes "from") m) (from_to status m further) (first_line_good (codes "from") m h)
+    (joined_good (to_lines status m) (from_call status m further) (to_good status m h)
+    (joined_good (first_line (codes "call-id") m) (from_cseq status m further) (first_line_good (codes "call-id") m h)
+    (joined_good (first_line (codes "cseq") m) (from_unsupported status m further) (first_line_good (codes "cseq") m h)
+    (joined_good (unsupported_lines status m) (end_lines further) (unsupported_good status m h) (end_good further f))))))
 
 start_good : (status : OwnStatus) → is_start (Response (code_of status) (reason_of status)) ≡ true
 start_good status = grind arith
 
-fits_good : (status : OwnStatus) (m : MessageText) → (h : Has CSeq m.headers) → cseq_fits m.start m.headers ≡ true → cseq_fits (Response (code_of status) (reason_of status)) (all_lines status m) ≡ true
-fits_good status m h fits = grind (arith, common_steps, cseq_has status m h, cseq_there)
+fits_good : (status : OwnStatus) (m : MessageText) (further : List HeaderText) → (h : Has CSeq m.headers) → cseq_fits m.start m.headers ≡ true → cseq_fits (Response (code_of status) (reason_of status)) (all_lines status m further) ≡ true
+fits_good status m further h fits = grind (arith, common_steps, cseq_has status m further h, cseq_there)
 
-pub generated_good : (m : MessageText) (status : OwnStatus) → IsMessage m → IsMessage (generated_of m status)
-generated_good m status is =
+pub generated_good : (m : MessageText) (status : OwnStatus) (further : List HeaderText) → IsMessage m → list_all is_header further ≡ true → values_of length_name further ≡ [] → IsMessage (generated_of m status further)
+generated_good m status further is good none =
     let has = has_all m.headers is.head.needed in
     record {
       head = record {
         start = start_good status;
-        headers = all_good status m is.head.headers;
-        needed = none_missing (all_lines status m) (record {
-          via = via_has status m has.via;
-          from = from_has status m has.from;
-          to = to_has status m has.to;
-          call_id = call_has status m has.call_id;
-          cseq = (has.cseq.0, cseq_has status m has.cseq);
+        headers = all_good status m further is.head.headers good;
+        needed = none_missing (all_lines status m further) (record {
+          via = via_has status m further has.via;
+          from = from_has status m further has.from;
+          to = to_has status m further has.to;
+          call_id = call_has status m further has.call_id;
+          cseq = (has.cseq.0, cseq_has status m further has.cseq);
         });
-        cseq = fits_good status m has.cseq is.head.cseq;
+        cseq = fits_good status m further has.cseq is.head.cseq;
       };
-      body = ap (λ (vs : List (List ℕ)). fits_body (said_by vs) 0) (length_is status m);
+      body = ap (λ (vs : List (List ℕ)). fits_body (said_by vs) 0) (length_is status m further none);
     }
+
+pub no_length : values_of length_name [] ≡ []
+unfolding values_of
+no_length = refl
 
 -- what is made of parts like these
 pub made_so : (m : MessageText) (start : StartText) (hs : List HeaderText) (body : List ℕ) → IsMessage m → start ≡ m.start → hs ≡ m.headers → body ≡ m.body → IsMessage (record { start = start; headers = hs; body = body })

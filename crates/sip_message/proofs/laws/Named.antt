@@ -19,6 +19,12 @@ pub later : (name : List ℕ) (h : HeaderText) (hs : List HeaderText) → same_n
 unfolding values_of
 later name h hs other = cond-false (same_name name h.name) (h.value ∷ values_of name hs) (values_of name hs) other
 
+-- lines of which none has the name
+pub none_in : (name : List ℕ) (xs ys : List HeaderText) → values_of name xs ≡ [] → values_of name (xs ++ ys) ≡ values_of name ys
+unfolding values_of
+none_in name [] ys none = refl
+none_in name (x ∷ xs) ys none = grind (arith, cases_Bool (same_name name x.name), later, none_in name xs ys)
+
 -- ---- lines that all have one name
 
 abbrev pub AreNamed : List ℕ → List HeaderText → Type 0

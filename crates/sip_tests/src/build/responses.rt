@@ -81,10 +81,17 @@ fn trying_has_the_lines_of_the_request(rt: HostRuntime) {
 }
 
 /// The statuses of the proxy's own, each with the line that a response begins with.
-pub const STATUSES: [(OwnStatus, &[u8]); 11] = [
+pub const STATUSES: [(OwnStatus, &[u8]); 17] = [
     (OwnStatus::Trying, b"SIP/2.0 100 Trying\r\n"),
     (OwnStatus::Okay, b"SIP/2.0 200 OK\r\n"),
     (OwnStatus::BadRequest, b"SIP/2.0 400 Bad Request\r\n"),
+    (OwnStatus::Unauthorized, b"SIP/2.0 401 Unauthorized\r\n"),
+    (OwnStatus::Forbidden, b"SIP/2.0 403 Forbidden\r\n"),
+    (OwnStatus::NotFound, b"SIP/2.0 404 Not Found\r\n"),
+    (
+        OwnStatus::ProxyAuthenticationRequired,
+        b"SIP/2.0 407 Proxy Authentication Required\r\n",
+    ),
     (
         OwnStatus::RequestTimeout,
         b"SIP/2.0 408 Request Timeout\r\n",
@@ -94,6 +101,10 @@ pub const STATUSES: [(OwnStatus, &[u8]); 11] = [
         b"SIP/2.0 416 Unsupported URI Scheme\r\n",
     ),
     (OwnStatus::BadExtension, b"SIP/2.0 420 Bad Extension\r\n"),
+    (
+        OwnStatus::IntervalTooBrief,
+        b"SIP/2.0 423 Interval Too Brief\r\n",
+    ),
     (
         OwnStatus::TemporarilyUnavailable,
         b"SIP/2.0 480 Temporarily Unavailable\r\n",
@@ -107,6 +118,10 @@ pub const STATUSES: [(OwnStatus, &[u8]); 11] = [
     (
         OwnStatus::ServerInternalError,
         b"SIP/2.0 500 Server Internal Error\r\n",
+    ),
+    (
+        OwnStatus::ServiceUnavailable,
+        b"SIP/2.0 503 Service Unavailable\r\n",
     ),
 ];
 

@@ -28,7 +28,7 @@ use std::alloc::Global;
 fn is_answered_so(alloc: Global, request: &Message<Global>, status: OwnStatus) -> bool {
     let mut out = Vec::new(alloc);
     begins(&mut out)
-        && write_generated(request, status, &mut out).is_ok()
+        && write_generated(request, status, &[], &mut out).is_ok()
         && is_behind(alloc, &out, answer_to(alloc, request, status))
 }
 
@@ -179,7 +179,7 @@ fn are_refused(
     response: &Message<Global>,
     out: &mut Vec<u8, &Bump<Global>>,
 ) -> bool {
-    let answered = write_generated(request, OwnStatus::BadExtension, out).is_ok();
+    let answered = write_generated(request, OwnStatus::BadExtension, &[], out).is_ok();
     let upwards = write_upward(response, None, &[], out).is_ok();
     !answered && !upwards
 }

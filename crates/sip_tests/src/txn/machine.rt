@@ -1,7 +1,7 @@
 //! The four machines as one, so that one player feeds them all.
 use sip_txn::{
     InviteClient, InviteClientState, InviteServer, InviteServerState, OtherClient,
-    OtherClientState, OtherServer, OtherServerState, TxEvent, TxOut,
+    OtherClientState, OtherServer, OtherServerState, Reliability, TxEvent, TxOut,
 };
 
 /// The states of all four machines.
@@ -25,24 +25,24 @@ pub enum Machine {
     OtherServer(OtherServer),
 }
 
-/// A client of an INVITE that starts at this moment.
-pub fn invite_client(now: u64) -> Machine {
-    Machine::InviteClient(InviteClient::start(now))
+/// A client of an INVITE that starts at this moment, over such a transport.
+pub fn invite_client(now: u64, reliability: Reliability) -> Machine {
+    Machine::InviteClient(InviteClient::start(now, reliability))
 }
 
-/// A server of an INVITE that starts at this moment.
-pub fn invite_server(now: u64) -> Machine {
-    Machine::InviteServer(InviteServer::start(now))
+/// A server of an INVITE that starts at this moment, over such a transport.
+pub fn invite_server(now: u64, reliability: Reliability) -> Machine {
+    Machine::InviteServer(InviteServer::start(now, reliability))
 }
 
-/// A client of another request that starts at this moment.
-pub fn other_client(now: u64) -> Machine {
-    Machine::OtherClient(OtherClient::start(now))
+/// A client of another request that starts at this moment, over such a transport.
+pub fn other_client(now: u64, reliability: Reliability) -> Machine {
+    Machine::OtherClient(OtherClient::start(now, reliability))
 }
 
-/// A server of another request that starts at this moment.
-pub fn other_server(now: u64) -> Machine {
-    Machine::OtherServer(OtherServer::start(now))
+/// A server of another request that starts at this moment, over such a transport.
+pub fn other_server(now: u64, reliability: Reliability) -> Machine {
+    Machine::OtherServer(OtherServer::start(now, reliability))
 }
 
 /// Feeds a machine this event at this moment.

@@ -95,7 +95,9 @@ pub fn unlisted_change_nothing(rt: &impl Abort, start: &Machine, ways: &[Way], l
         let is_there = state_of(&machine) == *end;
         holds_at(rt, is_there, "the way leads here", *end, TxEvent::Tick, 0);
         unlisted_events_change_nothing(rt, &machine, *end, lines);
-        changes_nothing(rt, &machine, *end, TxEvent::Tick, too_early(&machine));
+        if let Some(now) = too_early(&machine) {
+            changes_nothing(rt, &machine, *end, TxEvent::Tick, now);
+        }
     }
 }
 
@@ -123,11 +125,11 @@ fn is_listed(lines: &[Line], state: State, event: TxEvent) -> bool {
     false
 }
 
-/// A moment at which nothing is due.
-fn too_early(machine: &Machine) -> u64 {
+/// A moment at which nothing is due, if there is one.
+fn too_early(machine: &Machine) -> Option<u64> {
     match due(machine) {
-        None => u64::MAX,
-        Some(due) => due.saturating_sub(1),
+        None => Some(u64::MAX),
+        Some(due) => due.checked_sub(1),
     }
 }
 

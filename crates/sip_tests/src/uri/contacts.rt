@@ -121,3 +121,26 @@ fn refuses_values_without_items(rt: HostRuntime) {
         holds_of(&rt, found == Err(UriFault::BadText), "no contacts", value);
     }
 }
+
+/// Values of one contact whose address is no URI, and its q.
+const NOT_TRIED: [(&[u8], u16); 10] = [
+    (b"<sip:a@1.2.3.4 >;q=0.125", 125),
+    (b"<>;q=0.5", 500),
+    (b"\x80;q=0.5", 500),
+    (b"<a, \"b?>;q=0.25", 250),
+    (b"\"a\";q=0.75", 750),
+    (b"sip:1.2.3.4 b;q=0.5", 1000),
+    (b"sip:1.2.3.4\tb;q=0.5", 1000),
+    (b"b?;q=0.5", 1000),
+    (b"\"a,b\";q=0.5", 1000),
+    (b";q=0.5", 1000),
+];
+
+#[test]
+fn weighs_contacts_without_a_uri(rt: HostRuntime) {
+    for (value, q) in NOT_TRIED {
+        let found = one_contact(rt.alloc(), value);
+        let wanted = Ok(Some((q, false)));
+        holds_of(&rt, found == wanted, "the q of what is not taken", value);
+    }
+}

@@ -1,6 +1,6 @@
 //! Texts that are no URIs, each with its fault.
 use crate::bytes::holds_of;
-use sip_uri::{SipUri, UriFault};
+use sip_uri::{SipUri, UriFault, uri_fault};
 use std::alloc::Global;
 use std::process::Abort;
 
@@ -108,4 +108,22 @@ fn names_the_fault_of_near_misses(rt: HostRuntime) {
 #[test]
 fn names_the_first_of_two_faults(rt: HostRuntime) {
     each_has_its_fault(&rt, rt.alloc(), "the first fault", &TWO_FAULTS);
+}
+
+/// Texts, and why each is no URI.
+const FAULTS: [(&[u8], Option<UriFault>); 7] = [
+    (b"sip:bob@h;x?y", None),
+    (b"tel:1", Some(UriFault::NotSip)),
+    (b"sip:", Some(UriFault::BadHost)),
+    (b"sip:h:0", Some(UriFault::BadPort)),
+    (b"sip:@h", Some(UriFault::BadText)),
+    (b"sip:h_1:0;", Some(UriFault::BadHost)),
+    (b"sip:h:0 ", Some(UriFault::BadText)),
+];
+
+#[test]
+fn names_faults_without_memory(rt: HostRuntime) {
+    for (text, fault) in FAULTS {
+        holds_of(&rt, uri_fault(text) == fault, "the fault", text);
+    }
 }

@@ -1,7 +1,7 @@
-//! URIs that are read: their parts, their keys and where requests to them go.
+//! URIs that are read: their parts and their keys.
 use crate::bytes::{has, holds_of, is};
 use crate::holds::holds;
-use sip_uri::{Hop, SipUri, cut_host, is_host, read_address, read_port};
+use sip_uri::{SipUri, cut_host, is_host, read_address, read_port};
 use std::alloc::Global;
 
 /// A URI with each part.
@@ -57,24 +57,11 @@ fn has_key(alloc: Global, text: &[u8], wanted: &[u8]) -> bool {
     }
 }
 
-/// Whether a text is read, and a request to it goes to this hop, or to none.
-fn has_hop(alloc: Global, text: &[u8], hop: Option<Hop>) -> bool {
-    match uri_of(alloc, text) {
-        Some(uri) => uri.next_hop() == hop,
-        None => false,
-    }
-}
-
 #[test]
 fn reads_a_whole_uri(rt: HostRuntime) {
     let alloc = rt.alloc();
     holds(&rt, has_user(alloc, WHOLE, b"bob"), "the user");
     holds(&rt, has_host(alloc, WHOLE, b"192.0.2.4"), "the host");
-    let hop = Hop {
-        addr: [192, 0, 2, 4],
-        port: 5062,
-    };
-    holds(&rt, has_hop(alloc, WHOLE, Some(hop)), "the next hop");
     let request = writes(alloc, WHOLE, b"> sip:bob@192.0.2.4:5062;transport=udp");
     holds(&rt, request, "the text in a request");
 }
@@ -118,34 +105,6 @@ fn tells_targets_apart(rt: HostRuntime) {
         let found = are_same(rt.alloc(), a, b);
         let well = found == Some(same);
         holds_of(&rt, well, "whether it is the same target", b);
-    }
-}
-
-/// Where a request to 10.0.0.255 goes.
-const HOP: Hop = Hop {
-    addr: [10, 0, 0, 255],
-    port: 5060,
-};
-
-/// URIs, and the next hop of each.
-const HOPS: [(&[u8], Option<Hop>); 11] = [
-    (b"sip:10.0.0.255", Some(HOP)),
-    (b"sip:10.000.0.255;Transport=UDP;x", Some(HOP)),
-    (b"sip:10.0.0.256", None),
-    (b"sip:10.0.0", None),
-    (b"sip:10.0.0.1.2", None),
-    (b"sip:10.0.0.0001", None),
-    (b"sip:h.example", None),
-    (b"sip:10.0.0.1;maddr=10.0.0.2", None),
-    (b"sip:10.0.0.1;transport=tcp", None),
-    (b"sip:10.0.0.1;transport=udp;transport=tcp", None),
-    (b"sip:10.0.0.1;transport", None),
-];
-
-#[test]
-fn finds_the_next_hop(rt: HostRuntime) {
-    for (text, hop) in HOPS {
-        holds_of(&rt, has_hop(rt.alloc(), text, hop), "the next hop", text);
     }
 }
 

@@ -99,7 +99,7 @@ fn finds_no_other_passes(rt: HostRuntime) {
         );
     }
     let addr = OWN.addr;
-    let other = Own { addr, port: 5070 };
+    let other = Own::over_udp(addr, 5070);
     holds(
         &rt,
         loops_with(alloc, PASSED[1], other) == Some(false),

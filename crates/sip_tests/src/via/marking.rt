@@ -1,19 +1,12 @@
 //! Requests that are marked with where they came from, and their first Via values.
 use crate::bytes::{has, is};
 use crate::holds::holds;
-use crate::messages::{REQUEST, SOURCE, is_written_as, message_of};
+use crate::messages::{REQUEST, SOURCE, is_written_as, message_of, request_with_via};
 use crate::rows::holds_in_row;
 use sip_message::mark_received;
 use sip_text::Message;
 use sip_via::{ViaFault, top_via};
 use std::alloc::Global;
-
-/// The request with this Via line.
-fn request_with(alloc: Global, via: &[u8]) -> Option<Message<Global>> {
-    let mut lines = REQUEST;
-    lines[1] = via;
-    message_of(alloc, &lines)
-}
 
 /// The marked copy of a request.
 fn marked_copy(alloc: Global, request: &Message<Global>) -> Option<Message<Global>> {
@@ -25,14 +18,14 @@ fn marked_copy(alloc: Global, request: &Message<Global>) -> Option<Message<Globa
 
 /// The request with this Via line, marked.
 fn marked(alloc: Global, via: &[u8]) -> Option<Message<Global>> {
-    match request_with(alloc, via) {
+    match request_with_via(alloc, via) {
         Some(request) => marked_copy(alloc, &request),
         None => None,
     }
 }
 
 fn has_top_value(alloc: Global, via: &[u8], value: &[u8]) -> bool {
-    match request_with(alloc, via) {
+    match request_with_via(alloc, via) {
         None => false,
         Some(request) => is(top_via(&request), value),
     }
@@ -112,7 +105,7 @@ fn marks_each_kind_of_value(rt: HostRuntime) {
 
 /// Whether the request with this Via line is read, but not marked, since the value is none.
 fn is_refused(alloc: Global, via: &[u8]) -> bool {
-    match request_with(alloc, via) {
+    match request_with_via(alloc, via) {
         None => false,
         Some(request) => matches!(
             mark_received(alloc, &request, SOURCE),

@@ -186,7 +186,7 @@ fn is_replied_at(alloc: Global, text: &[u8], port: u16) -> bool {
     let addr = SOURCE.addr;
     match value_of(alloc, text) {
         None => false,
-        Some(via) => reply_hop(&via, SOURCE) == Hop { addr, port },
+        Some(via) => reply_hop(&via, SOURCE) == Hop::over_udp(addr, port),
     }
 }
 

@@ -1,6 +1,9 @@
 -- The proxy's own Via value is a header value.
 use Rattle.sip_via.proofs.Common.{◌≡◌, ℕ, ◌<◌, ◌^◌, Bool, true, false, not, eqb, List, [], ◌∷◌, ◌++◌, length, reverse, refl, ap, subst, ◌∙◌, arith, ◌&&◌, decimal, list_all, and_parts, eqb-true, false_from_ne_true, false≢true, digits_decimal}
 use Rattle.sip_via.proofs.Common.{reverse-append, list_all-append, is_space, is_token_byte, token_byte-space, is_line, is_line_byte, is_trimmed, is_value, begins_with_space, and_both, Own, BranchName, branch_text, IsOwn, own_via, own, common_steps}
+use Rattle.sip_uri.specs.declared.hop.Transport.{Transport}
+use Rattle.sip_uri.specs.declared.hop.Transport.TheVariants.{Udp, Tcp, Back}
+use Rattle.sip_via.specs.OwnVia.{over}
 use Rattle.sip_via.proofs.laws.Marked.{address-line, decimal-line, line-append}
 
 -- ---- texts without space
@@ -57,5 +60,10 @@ IsToken b = list_all is_token_byte (branch_text b) ≡ true
 branch-end : (b : BranchName) → IsToken b → IsEnd (branch_text b)
 branch-end b is = record { some = omega arith; ends = passes-back is_token_byte token_byte-space (branch_text b) is }
 
+good-over : (t : Transport) (proxy : Own) (b : BranchName) → IsOwn proxy → IsToken b → is_value (own_via (over proxy t) b) ≡ true
+good-over Udp proxy b is named = grind (arith, common_steps, token-line (branch_text b) named, branch-end b named, line-append, decimal-line, address-line, end-behind, value-from)
+good-over Tcp proxy b is named = grind (arith, common_steps, token-line (branch_text b) named, branch-end b named, line-append, decimal-line, address-line, end-behind, value-from)
+good-over (Back sent_by) proxy b is named = grind (arith, common_steps, token-line (branch_text b) named, branch-end b named, line-append, decimal-line, address-line, end-behind, value-from)
+
 pub own_via-good : (proxy : Own) (b : BranchName) → IsOwn proxy → IsToken b → is_value (own_via proxy b) ≡ true
-own_via-good proxy b is named = grind (arith, common_steps, token-line (branch_text b) named, branch-end b named, line-append, decimal-line, address-line, end-behind, value-from)
+own_via-good proxy b is named = good-over proxy.transport proxy b is named

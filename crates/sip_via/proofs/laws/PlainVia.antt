@@ -2,6 +2,10 @@
 use Rattle.sip_via.proofs.Common.{◌≡◌, ◌≢◌, ℕ, ◌<◌, ◌≤◌, ◌^◌, Bool, true, false, not, cond, eqb, List, [], ◌∷◌, ◌++◌, length, take, drop, Option, Some, None, Result, Ok, refl, sym, ap, subst, ◌∙◌, arith, inl, codes, is_ascii_digit, decimal, list_all}
 use Rattle.sip_via.proofs.Common.{bytes_eq, and_parts, eqb-true, false_from_ne_true, false≢true, digits_decimal, length-decimal-le, append-nil, bytes_eq-Decides, is_token_byte, trim, trim_start, token_byte-space, number_read, own, is_value}
 use Rattle.sip_via.proofs.Common.{begins_with_space, IsHost, IsPort, is_host_byte, Own, ViaFault, BranchName, address_text, IsBranch, branch_text, IsOwn, own_via, IsVia, IsViaParam, ViaText, is_value_byte, IsOwnBranch, common_steps}
+use Rattle.sip_lex.specs.Bytes.{is_token}
+use Rattle.sip_uri.specs.declared.hop.Transport.{Transport}
+use Rattle.sip_uri.specs.declared.hop.Transport.TheVariants.{Udp, Tcp, Back}
+use Rattle.sip_via.specs.OwnVia.{over, word_of}
 use Rattle.std.proofs.lemmas.Fmt.{digits_value-decimal}
 use Rattle.sip_lex.specs.Number.{number}
 use Rattle.sip_lex.proofs.laws.Trims.{trim_end-token}
@@ -77,15 +81,20 @@ branch-is-param b named = record {
 -- ---- the whole
 
 abbrev own_parts : Own → BranchName → ViaText
-own_parts proxy b = record { transport = codes "UDP"; host = address_text proxy.addr; port = Some (decimal proxy.port); params = branch_param b ∷ [] }
+own_parts proxy b = record { transport = word_of proxy.transport; host = address_text proxy.addr; port = Some (decimal proxy.port); params = branch_param b ∷ [] }
+
+word-token : (t : Transport) → is_token (word_of t) ≡ true
+word-token Udp = refl
+word-token Tcp = refl
+word-token (Back sent_by) = refl
 
 own-is-via : (proxy : Own) (b : BranchName) → IsOwn proxy → IsBranch b → 0 < proxy.port → proxy.port ≤ 65535 → IsVia (own_via proxy b) (own_parts proxy b)
 own-is-via proxy b is named some within = record {
   gaps = record { name = codes "SIP"; before_version = ([], []); before_transport = ([], []); before_host = 32 ∷ []; before_port = ([], []); before_params = [] };
-  spelled = ap (λ (x : List ℕ). codes "SIP/2.0/UDP " ++ (address_text proxy.addr ++ (58 ∷ (decimal proxy.port ++ (codes ";branch=" ++ x))))) (sym (append-nil (branch_text b)));
+  spelled = ap (λ (x : List ℕ). codes "SIP/2.0/" ++ (word_of proxy.transport ++ (32 ∷ (address_text proxy.addr ++ (58 ∷ (decimal proxy.port ++ (codes ";branch=" ++ x))))))) (sym (append-nil (branch_text b)));
   spaces = record { sip = refl; before_version = (refl, refl); before_transport = (refl, refl); before_host = ((λ e. absurd cc), refl); before_port = (refl, refl); before_params = refl };
   trimmed = own-trimmed proxy b (own_via-good proxy b is (branch_token b named));
-  transport = refl;
+  transport = word-token proxy.transport;
   host = address-host proxy is;
   port = port-text proxy.port some within;
   params = (branch-is-param b named, tt);
@@ -110,9 +119,10 @@ begins front text rest same behind = grind (arith, common_steps, bytes_eq-Decide
 pub plain-read : (proxy : Own) (b : BranchName) (value sent_by rest text : List ℕ) → IsOwn proxy → IsBranch b → 0 < proxy.port → proxy.port ≤ 65535 → value ≡ codes "SIP/2.0/UDP " ++ sent_by → sent_by ≡ address_text proxy.addr ++ (58 ∷ (decimal proxy.port ++ rest)) → rest ≡ codes ";branch=" ++ text → text ≡ branch_text b → IsOwnBranch proxy value b
 plain-read proxy b value sent_by rest text is named some within e1 e2 e3 e4 =
     let address = address_text proxy.addr in
-    let whole : value ≡ own_via proxy b =
+    let r = own-read (over proxy Udp) b (record { address = is.address; port = is.port }) named some within in
+    let whole : value ≡ own_via (over proxy Udp) b =
     e1 ∙ ap (λ (x : List ℕ). codes "SIP/2.0/UDP " ++ x) (e2 ∙ ap (λ (x : List ℕ). address ++ (58 ∷ (decimal proxy.port ++ x))) (e3 ∙ ap (λ (x : List ℕ). codes ";branch=" ++ x) e4)) in
-    subst (λ (x : List ℕ). IsOwnBranch proxy x b) (sym whole) (own-read proxy b is named some within)
+    subst (λ (x : List ℕ). IsOwnBranch proxy x b) (sym whole) (r.0, r.1, record { host = r.2.host; port = r.2.port; branch = r.2.branch })
 
 -- ---- no value has two
 

@@ -24,6 +24,6 @@ returns g c =
     let at = c.loop-contact in
     let all : at.yielded ≡ c.args.contacts.items = all_yielded c.args.contacts.items at.yielded (into_iter_items at.contact-iterator) at.invariant.rest (sym c.in-None.ensures.steps.0 ∙ at.invariant.len) in
     record {
-      offers = at.invariant.offers ∙ ap (λ l. map offer_of (map (contact_for c.args.opened.now.is_responsible) (view_contacts l))) all;
-      destinations = at.invariant.destinations ∙ ap (λ l. map (destination_of_contact c.args.opened.now) (map (contact_for c.args.opened.now.is_responsible) (view_contacts l))) all;
+      offers = at.invariant.offers ∙ ap (λ l. map offer_of (map (contact_for c.args.opened.now.tried) (view_contacts l))) all;
+      destinations = at.invariant.destinations ∙ ap (λ l. map (destination_of_contact c.args.opened.now) (map (contact_for c.args.opened.now.tried) (view_contacts l))) all;
     }

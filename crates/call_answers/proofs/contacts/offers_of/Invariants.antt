@@ -4,8 +4,8 @@ use Rattle.call_answers.proofs.contacts.offers_of.Given as goal
 
 abbrev pub invariant-loop-contact : goal.invariant-loop-contact
 invariant-loop-contact g l = record {
-  offers : l.made.offers.items ≡ map offer_of (map (contact_for l.opened.is_responsible) (view_contacts l.yielded));
-  destinations : l.made.destinations.items ≡ map (destination_of_contact l.opened) (map (contact_for l.opened.is_responsible) (view_contacts l.yielded));
+  offers : l.made.offers.items ≡ map offer_of (map (contact_for l.opened.tried) (view_contacts l.yielded));
+  destinations : l.made.destinations.items ≡ map (destination_of_contact l.opened) (map (contact_for l.opened.tried) (view_contacts l.yielded));
   rest : l.fn.contacts.items ≡ l.yielded ++ into_iter_items l.contact-iterator;
   len : into_iter_len l.contact-iterator ≡ length (into_iter_items l.contact-iterator);
 }

@@ -7,6 +7,6 @@ pub returns-in-Err : goal.returns-in-Err
 returns-in-Err g c =
     let received = c.args.received in
     IfOk-weaker c.of_fault.result _ _
-    (λ outcome h. unread_becomes c.args.setup.now received.bytes.now received.source received.now outcome.handled (seen_sent outcome.datagram)
+    (λ outcome h. unread_becomes (g.N.Admission.admitted c.args.admission.now) c.args.setup.now received.bytes.now received.source received.now outcome.handled (seen_sent outcome.datagram)
     c.faults_are_of_the_text.ensures.found (fault_seen c.in-Err.fault) c.in-Err.ensures.exact h)
     c.of_fault.ensures

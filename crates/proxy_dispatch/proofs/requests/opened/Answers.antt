@@ -11,4 +11,4 @@ returns-in_ok-read_again-in-Err-Known g c =
     IfOk-weaker c.deliver.result _ _
     (λ outcome h. fed c.args.setup.now c.in-Err-Known.no again c.args.request source now outcome.handled (seen_sent outcome.datagram) Opening same
     c.requires.opening c.requires.key h)
-    c.deliver.ensures
+    c.deliver.ensures.becomes

@@ -1,4 +1,4 @@
-use Rattle.proxy_routing.proofs.Common.{◌≡◌, ◌∙◌, Bool, MessageText, Own, ap, arith, false, subst, suc, sym, true, ℕ}
+use Rattle.proxy_routing.proofs.Common.{◌≡◌, ◌∙◌, Bool, MessageText, Own, ap, arith, false, subst, suc, sym, true}
 use Rattle.std.proofs.Common.{◌<◌, length}
 use Rattle.sip_route.specs.declared.route_values.FirstRoute.{FirstRoute}
 use Rattle.sip_route.specs.RouteValues.{first_route, route_values}

@@ -9,9 +9,11 @@ returns-in_default g c =
     let hs = views c.args.headers.now in
     let none = first-nowhere hops_name c.args.headers.now c.args.place c.requires.place (sym (none-left c.split_at.result.1.now c.in_default.ensures.cases) ∙ c.split_at.ensures.back) in
     let seventy = c.requires.hops ∙ ap (λ (o : Option (List ℕ)). decimal (hops_left o)) none ∙ seventy-text in
+    let lines =
     ap (λ (v : List ℕ). line (codes "Max-Forwards") v ∷ (hs ++ [])) seventy
     ∙ ap (λ (xs : List HeaderText). line (codes "Max-Forwards") (codes "70") ∷ xs) (append-nil hs)
-    ∙ sym (ap (λ (o : Option (List ℕ)). hops_lowered hs o) none)
+    ∙ sym (ap (λ (o : Option (List ℕ)). hops_lowered hs o) none) in
+    λ i. c.run_if_any-record_route.ensures i ++ lines i
 
 pub returns : goal.returns
 returns g c =

@@ -1,5 +1,5 @@
 use Rattle.sip_build.proofs.Common.{◌∙◌, ap, length, sym, views, saturated, lines_of, picked, lines_text, arith}
-use Rattle.sip_build.proofs.HeaderRunTexts.{challenges-text, contacts-text, texts-of-lines}
+use Rattle.sip_build.proofs.HeaderRunTexts.{challenges-text, contacts-text, further-text, texts-of-lines}
 use Rattle.sip_build.proofs.run_lens.run_len.Goals as goal
 
 pub returns-in-Picked : goal.returns-in-Picked
@@ -11,3 +11,6 @@ returns-in-Contacts g c = grind (arith, contacts-text)
 
 pub returns-in-Challenges : goal.returns-in-Challenges
 returns-in-Challenges g c = grind (arith, challenges-text)
+
+pub returns-in-Further : goal.returns-in-Further
+returns-in-Further g c = grind (arith, further-text)

@@ -1,5 +1,5 @@
 use Rattle.sip_build.proofs.Common.{◌∙◌, ap, sym, views, lines_of, picked, lines_text, arith}
-use Rattle.sip_build.proofs.HeaderRunTexts.{challenges-text, contacts-text, texts-of-lines}
+use Rattle.sip_build.proofs.HeaderRunTexts.{challenges-text, contacts-text, further-text, texts-of-lines}
 use Rattle.sip_build.proofs.Placed.{fits-as, placed-as}
 use Rattle.sip_build.proofs.runs.place_run.Goals as goal
 
@@ -22,3 +22,9 @@ place_challenges-requires g c = grind (arith, challenges-text)
 
 pub returns-in-Challenges : goal.returns-in-Challenges
 returns-in-Challenges g c = grind (arith, placed-as, challenges-text)
+
+pub place_further-requires : goal.place_further-requires
+place_further-requires g c = grind (arith, further-text)
+
+pub returns-in-Further : goal.returns-in-Further
+returns-in-Further g c = grind (arith, placed-as, further-text)

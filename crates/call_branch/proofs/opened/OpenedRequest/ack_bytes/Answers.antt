@@ -1,12 +1,15 @@
-use Rattle.call_branch.proofs.Common.{◌∙◌, ◌++◌, ap, List, ℕ, Uri, spelling, BranchName, forwarded, OpenedRequest, branch_at}
+use Rattle.call_branch.proofs.Common.{◌∙◌, ◌++◌, ap, List, ℕ, Own, Uri, spelling, BranchName, forwarded, over, OpenedRequest, branch_at}
 use Rattle.sip_build.specs.Requests.{ack_of}
 use Rattle.call_branch.proofs.opened.OpenedRequest.ack_bytes.Goals as goal
 
 pub returns : goal.returns
 returns g c =
-    let text = spelling (ack_of (forwarded c.self.inside.request c.uri.result.now c.self.inside.own c.branch-branch.result) c.args.response.now) in
-    c.in_ok-write_forwarded_ack.ensures.ok
+    let opened = c.args.self.now in
+    let own = over opened.own c.args.destination.now.hop.transport in
+    let text = spelling (ack_of (forwarded c.self.inside.opening.request c.uri.result.now c.own_to.result c.branch-branch.result opened.record_route) c.args.response.now) in
+    c.in_ok-write_forwarded_ack.ensures.ok opened.record_route
     ∙ ap (λ (xs : List ℕ). xs ++ text) c.new-bytes.ensures.items
-    ∙ ap (λ (u : Uri). spelling (ack_of (forwarded c.self.inside.request u c.self.inside.own c.branch-branch.result) c.args.response.now)) c.uri.ensures
-    ∙ ap (λ (b : BranchName). spelling (ack_of (forwarded c.self.inside.request c.args.destination.now.uri c.self.inside.own b) c.args.response.now)) c.branch-branch.ensures
-    ∙ ap (λ (f : OpenedRequest). spelling (ack_of (forwarded f.request c.args.destination.now.uri f.own (branch_at c.args.self.now c.args.n)) c.args.response.now)) c.self.view_is
+    ∙ ap (λ (u : Uri). spelling (ack_of (forwarded c.self.inside.opening.request u c.own_to.result c.branch-branch.result opened.record_route) c.args.response.now)) c.uri.ensures
+    ∙ ap (λ (o : Own). spelling (ack_of (forwarded c.self.inside.opening.request c.args.destination.now.uri o c.branch-branch.result opened.record_route) c.args.response.now)) c.own_to.ensures
+    ∙ ap (λ (b : BranchName). spelling (ack_of (forwarded c.self.inside.opening.request c.args.destination.now.uri own b opened.record_route) c.args.response.now)) c.branch-branch.ensures
+    ∙ ap (λ (f : OpenedRequest). spelling (ack_of (forwarded f.request c.args.destination.now.uri own (branch_at opened c.args.n) opened.record_route) c.args.response.now)) c.self.view_is

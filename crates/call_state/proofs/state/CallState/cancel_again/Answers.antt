@@ -1,7 +1,12 @@
--- The prover finds these answers by itself: they stand here so that it need not search twice where an edit strikes the function.
-use Rattle.std.proofs.Common.{arith}
-use Rattle.std.proofs.lemmas.Grind.{common_steps}
+use Rattle.call_state.proofs.Common.{◌≡◌, ◌∙◌, ap, refl, sym, Some, option_copied}
 use Rattle.call_state.proofs.state.CallState.cancel_again.Goals as goal
 
 pub returns : goal.returns
-returns c = grind (arith, common_steps)
+returns g c =
+    let is : c.part.result.now.cancelling ≡ Some c.in-Some.cancelling.now = sym c.cancelling.ensures ∙ ap option_copied c.in-Some.is in (
+      c.destination.result.now,
+      c.part.result.now,
+      c.destination.ensures,
+      c.part.ensures,
+      (c.in-Some.cancelling.now, is, rw (c.hop.ensures, c.in_ok-from_slice.ensures.items, c.sent.ensures) refl),
+    )

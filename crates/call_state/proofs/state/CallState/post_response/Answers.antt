@@ -1,5 +1,5 @@
 use Rattle.call_state.proofs.Common.{◌≡◌, ◌≤◌, ◌∙◌, ℕ, ◌++◌, ap, drop, false, length, map, slice_get, subst, sym, List, Option, filter_map, Core, is_full, Up, Table, core_of, table_of, event_of, up_of, Call, HaveDestinations, PostsSaid, destination_for}
-use Rattle.call_state.proofs.Common.{no_branch, owed_by, destination_of_contact, Destination, Branch, Owed}
+use Rattle.call_state.proofs.Common.{closing_of, no_branch, owed_by, destination_of_contact, Destination, Branch, Owed}
 use Rattle.call_answers.specs.Queue.{news_of}
 use Rattle.call_state.proofs.NewRows.{said_posts, sized_more}
 use Rattle.call_state.proofs.state.CallState.post_response.Goals as goal
@@ -21,6 +21,14 @@ invariant_of-self-2 g c =
     (c.add_rows.ensures.destinations ∙ ap (λ (ws : List Destination). ws ++ filter_map (destination_for c.args.new_event.destinations.items) (drop c.count-first.result (table_of c.post.new.self).rows)) c.reserve-2.ensures.items)
     (c.add_rows.ensures.branches ∙ ap (λ (ls : List (Option Branch)). ls ++ map no_branch (drop c.count-first.result (table_of c.post.new.self).rows)) c.reserve-3.ensures.items)
 
+pub add_rows-requires-clause-there : goal.add_rows-requires-clause-there
+add_rows-requires-clause-there g c =
+    let t = table_of c.self.inside.book in
+    let is = c.in-Ok.ensures.added in
+    let first : c.count-first.result ≡ length t.rows = c.count-first.ensures.value ∙ ap (λ (x : Core). length x.table.rows) c.context-2.ensures.stands in
+    subst (λ (n : ℕ). HaveDestinations c.args.new_event.destinations.items (drop n (table_of c.post.new.self).rows)) (sym first)
+    (subst (λ (u : Table). HaveDestinations c.args.new_event.destinations.items (drop (length t.rows) u.rows)) (sym is.1.goes_on) (c.requires.gives t (length c.self.inside.book.history)))
+
 pub returns-clause-ok : goal.returns-clause-ok
 returns-clause-ok g c = λ contacts made.
     let old = c.self.inside.book in
@@ -28,6 +36,7 @@ returns-clause-ok g c = λ contacts made.
     let call : Call = record {
       opened = c.self.inside.opened;
       log = old;
+      closing = closing_of c.self.inside.closing;
       destinations = c.self.inside.destinations.items;
       branches = c.self.inside.branches.items;
       server = record { machine = c.self.inside.served; owed = c.self.inside.owed.items; last = c.self.inside.last.items };

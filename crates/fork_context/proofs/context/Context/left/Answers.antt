@@ -1,4 +1,3 @@
--- The prover finds these answers by itself: they stand here so that it need not search twice where an edit strikes the function.
 use Rattle.fork_context.proofs.Common.{rules, ◌∙◌, ap, slice_get, option_and_then, Core}
 use Rattle.fork_context.specs.LeftView.{left_of}
 use Rattle.fork_context.proofs.AnswersCame.{shown_came}

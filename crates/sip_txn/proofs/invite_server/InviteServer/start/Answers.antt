@@ -7,4 +7,4 @@ pub returns-clause-once : goal.returns-clause-once
 returns-clause-once c = hands_up_one _ (lit≤ tt)
 
 pub returns-clause-unacknowledged : goal.returns-clause-unacknowledged
-returns-clause-unacknowledged c = rw c.none.ensures (unacknowledged)
+returns-clause-unacknowledged c = rw c.none.ensures (unacknowledged c.args.reliability)

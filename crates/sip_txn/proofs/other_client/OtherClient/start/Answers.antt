@@ -7,4 +7,4 @@ pub returns-clause-once : goal.returns-clause-once
 returns-clause-once c = hands_up_one _ (lit≤ tt)
 
 pub returns-clause-unanswered : goal.returns-clause-unanswered
-returns-clause-unanswered c = rw c.repeating.ensures (unanswered c.args.now)
+returns-clause-unanswered c = rw c.waiting.ensures (unanswered c.args.reliability c.args.now)

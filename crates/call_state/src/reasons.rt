@@ -1,0 +1,94 @@
+//! The Reason lines of a message.
+ghost use Rattle.std.specs.Prelude.{◌≡◌, ◌++◌, true, IfOk, OnOk};
+ghost use Rattle.std.specs.List.{flat_map, list_all};
+ghost use Rattle.sip_text.specs.Message.{is_header};
+ghost use Rattle.sip_text.specs.Seen.{view, views};
+ghost use Rattle.call_state.specs.inner.Reasons.{reason_in};
+ghost use Rattle.sip_build.specs.Further.{view_lines};
+ghost use Rattle.sip_build.specs.Requests.{reason_lines};
+
+use sip_build::FurtherLine;
+use sip_text::{Header, Message};
+use std::alloc::{AllocError, Allocator};
+use std::marker::Model;
+
+/// The Reason lines of a message as they stand (RFC 3326), on their own: no memory is taken where there are none.
+#[derive(Drop)]
+pub(crate) struct ReasonLines<A: Allocator> {
+    lines: Vec<Header<A>, A>,
+}
+
+impl<A: Allocator> Model for ReasonLines<A> {
+    ghost use Rattle.std.specs.Prelude.{◌≡◌, List, true};
+    ghost use Rattle.std.specs.List.{list_all};
+    ghost use Rattle.sip_text.specs.Message.{is_header};
+    ghost use Rattle.sip_text.specs.Text.{HeaderText};
+
+    ghost Value = { List HeaderText };
+
+    ghost view = { λ r. r.lines.items };
+
+    ghost invariant = { λ r. list_all is_header r.lines.items ≡ true };
+}
+
+/// Adds a header line, if it is a Reason line.
+fn add_line<A: Allocator + Clone>(
+    lines: &mut Vec<Header<A>, A>,
+    alloc: &A,
+    header: &Header<A>,
+) -> Result<(), AllocError>
+    ensures { OnOk result (lines.new.items ≡ lines.old.items ++ reason_in (view header.now)) }
+{
+    if header.is_named(b"reason") {
+        lines.push(Header::new(alloc.clone()?, header.name(), header.value())?)?;
+    }
+    Ok(())
+}
+
+/// The Reason lines among some header lines.
+fn reasons_among<A: Allocator + Clone>(
+    alloc: &A,
+    headers: &[Header<A>],
+) -> Result<Vec<Header<A>, A>, AllocError>
+    ensures { IfOk result (λ lines. lines.items ≡ flat_map reason_in (views headers.now)) }
+{
+    let mut lines = Vec::new(alloc.clone()?);
+    for header in headers {
+        add_line(&mut lines, alloc, header)?;
+    }
+    Ok(lines)
+}
+
+impl<A: Allocator + Clone> ReasonLines<A> {
+    /// Those of a message.
+    ///
+    /// # Errors
+    ///
+    /// Only where the allocator refuses.
+    pub(crate) fn of(alloc: &A, message: &Message<A>) -> Result<Self, AllocError>
+        ensures { IfOk result (λ reasons. reasons ≡ reason_lines message.now) }
+    {
+        message.is_message();
+        let lines = reasons_among(alloc, message.headers())?;
+        Ok(ReasonLines { lines })
+    }
+
+    /// The lines as they are given to a message that is written.
+    ///
+    /// # Errors
+    ///
+    /// Only where the allocator refuses.
+    pub(crate) fn further(&self, alloc: A) -> Result<Vec<FurtherLine<'_>, A>, AllocError>
+        ensures lines { IfOk result (λ made. view_lines made.items ≡ self.now) }
+        ensures good { list_all is_header self.now ≡ true }
+    {
+        let mut made = Vec::with_capacity(alloc, self.lines.len())?;
+        for line in &self.lines {
+            made.push(FurtherLine {
+                name: line.name(),
+                value: line.value(),
+            })?;
+        }
+        Ok(made)
+    }
+}

@@ -1,0 +1,123 @@
+//! Calls whose branches have a longest time (RFC 3261 sections 16.6 step 11, 16.7 step 2 and 16.8).
+use crate::histories::playing::{Moment, Sent, Turn, goes_by};
+use crate::histories::texts::{
+    ACK_SENT, CANCEL_SENT, CANCEL_TAKEN, INVITE, INVITE_SENT, RINGING, RINGING_UP, TARGET,
+    TERMINATED, TRYING,
+};
+use crate::holds::holds;
+use crate::requests::setup_of;
+use fork_call::{Cause, Setup, Taken};
+use sip_uri::{Hop, Transport};
+use std::alloc::Global;
+
+/// Two targets of bob, one after the other.
+const TWO_GROUPS: &[u8] = b"own 192.0.2.9 5060\ninstance 7\ndomain example.com\n\
+location bob 1000 sip:bob@192.0.2.4\nlocation bob 500 sip:bob@192.0.2.5\n";
+
+/// Where the request to the second goes.
+const SECOND: Hop = Hop {
+    addr: [192, 0, 2, 5],
+    port: 5060,
+    transport: Transport::Udp,
+};
+
+/// The INVITE as it goes there.
+const SECOND_SENT: Sent = Sent {
+    cause: Cause::Request(1),
+    to: SECOND,
+    text: b"INVITE sip:bob@192.0.2.5 SIP/2.0\r\n\
+Via: SIP/2.0/UDP 192.0.2.9:5060;branch=z9hG4bK8c31e71e0ddbf1a0e56f5f0279990857.7.3.1\r\n\
+v: SIP/2.0/UDP 192.0.2.1:5060;branch=z9hG4bKa;rport=40000;received=192.0.2.1\r\n\
+Max-Forwards: 69\r\n\
+f: <sip:alice@example.com>;tag=1\r\n\
+t: <sip:bob@example.com>\r\n\
+i: c1\r\n\
+CSeq: 1 INVITE\r\n\
+l: 0\r\n\
+\r\n",
+};
+
+/// The first rings twice and is cancelled 15 s after it was called; then the second is called, and has its own 15 s.
+const SHORT: &[Moment] = &[
+    (0, Turn::Sends(&TRYING)),
+    (0, Turn::Sends(&INVITE_SENT)),
+    (0, Turn::Waits(Some(500))),
+    (500, Turn::Sends(&INVITE_SENT)),
+    (1_000, Turn::Takes(TARGET, RINGING, Ok(Taken::Posted(0)))),
+    (1_000, Turn::Sends(&RINGING_UP)),
+    (1_000, Turn::Waits(Some(15_000))),
+    (10_000, Turn::Takes(TARGET, RINGING, Ok(Taken::Posted(1)))),
+    (10_000, Turn::Sends(&RINGING_UP)),
+    (10_000, Turn::Waits(Some(15_000))),
+    (15_000, Turn::Does),
+    (15_000, Turn::Sends(&CANCEL_SENT)),
+    (15_000, Turn::Waits(Some(15_500))),
+    (
+        15_020,
+        Turn::Takes(TARGET, CANCEL_TAKEN, Ok(Taken::Absorbed)),
+    ),
+    (
+        15_020,
+        Turn::Takes(TARGET, TERMINATED, Ok(Taken::Posted(3))),
+    ),
+    (15_020, Turn::Sends(&ACK_SENT)),
+    (15_020, Turn::Sends(&SECOND_SENT)),
+    (15_020, Turn::Waits(Some(15_520))),
+];
+
+/// The first falls silent: it is not waited for as long as its transaction would.
+const SILENT: &[Moment] = &[
+    (0, Turn::Sends(&TRYING)),
+    (0, Turn::Sends(&INVITE_SENT)),
+    (500, Turn::Sends(&INVITE_SENT)),
+    (1_500, Turn::Sends(&INVITE_SENT)),
+    (3_500, Turn::Sends(&INVITE_SENT)),
+    (7_500, Turn::Sends(&INVITE_SENT)),
+    (7_500, Turn::Waits(Some(15_000))),
+    (15_000, Turn::Does),
+    (15_000, Turn::Sends(&SECOND_SENT)),
+];
+
+/// With the usual longest time each 180 starts timer C anew.
+const USUAL: &[Moment] = &[
+    (0, Turn::Sends(&TRYING)),
+    (0, Turn::Sends(&INVITE_SENT)),
+    (10, Turn::Takes(TARGET, RINGING, Ok(Taken::Posted(0)))),
+    (10, Turn::Sends(&RINGING_UP)),
+    (10, Turn::Waits(Some(181_010))),
+    (10_000, Turn::Takes(TARGET, RINGING, Ok(Taken::Posted(1)))),
+    (10_000, Turn::Sends(&RINGING_UP)),
+    (10_000, Turn::Waits(Some(191_000))),
+];
+
+/// The setup of both targets, each of which may ring so long.
+fn ringing(alloc: Global, longest: u64) -> Option<Setup<Global>> {
+    Some(setup_of(alloc, TWO_GROUPS)?.ringing(longest))
+}
+
+/// Whether the call that the INVITE opens by that setup goes so.
+fn goes(alloc: Global, longest: u64, history: &[Moment]) -> bool {
+    match ringing(alloc, longest) {
+        Some(setup) => goes_by(alloc, &setup, INVITE, history),
+        None => false,
+    }
+}
+
+/// Longest times, histories, and what they show.
+const HISTORIES: [(u64, &[Moment], &str); 4] = [
+    (15_000, SHORT, "a target that rings is cancelled in time"),
+    (15_000, SILENT, "a target that is silent ends in time"),
+    (181_000, USUAL, "the usual longest time"),
+    (
+        180_999,
+        &[(0, Turn::Sends(&TRYING))],
+        "the longest one that is short",
+    ),
+];
+
+#[test]
+fn no_branch_goes_on_past_its_longest_time(rt: HostRuntime) {
+    for (longest, history, what) in HISTORIES {
+        holds(&rt, goes(rt.alloc(), longest, history), what);
+    }
+}

@@ -1,9 +1,0 @@
--- The prover finds these answers by itself: they stand here so that it need not search twice where an edit strikes the function.
-use Rattle.context_values.proofs.Common.{rules}
-use Rattle.context_values.proofs.event.Event.copy.Goals as goal
-
-pub returns-in_err-copy-in-Answer : goal.returns-in_err-copy-in-Answer
-returns-in_err-copy-in-Answer g c = search rules
-
-pub returns : goal.returns
-returns g c = search rules

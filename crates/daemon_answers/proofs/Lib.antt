@@ -1,4 +1,0 @@
-mod Looks
-mod OptionsFront
-mod Packets
-mod Stamps

@@ -1,0 +1,11 @@
+pub mod Common
+pub mod Compared
+pub mod Stamps
+pub mod Elements
+pub mod Sheltered
+pub mod Listed
+pub mod Schemes
+pub mod NamedFields
+pub mod Readings
+pub mod Escapes
+pub mod Targets

@@ -1,0 +1,10 @@
+pub mod inner
+pub mod Algorithm
+pub mod AuthParam
+pub mod Challenge
+pub mod Credentials
+pub mod Response
+pub mod Right
+pub mod Secrets
+pub mod SeenCredentials
+pub mod Stamp

@@ -1,0 +1,4 @@
+pub mod Reading
+pub mod SeenFields
+pub mod Targets
+pub mod Verdict

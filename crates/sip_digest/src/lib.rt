@@ -1,0 +1,29 @@
+//! Digest authentication as a server has it (RFC 3261 section 22, RFC 7616 and RFC 8760): challenges, nonces that need no
+//! memory, credentials as they are read, the response that a password gives, and whether credentials are right.
+#![tactic(auto)]
+
+mod algorithm;
+mod auth_text;
+mod challenge;
+mod credentials;
+mod digests;
+mod element;
+mod fields;
+mod reading;
+mod request_uri;
+mod response;
+mod same;
+mod secrets;
+mod stamp;
+mod verdict;
+
+pub use algorithm::{Algorithm, Algorithms};
+pub use auth_text::AuthText;
+pub use challenge::append_challenge;
+pub use credentials::{Credentials, Quality};
+pub use reading::{Reading, read_credentials};
+pub use request_uri::is_uri_of;
+pub use response::{Protection, md5_response, sha256_response};
+pub use secrets::Secrets;
+pub use stamp::{append_dialog_token, append_nonce, is_good_dialog_token, is_good_nonce};
+pub use verdict::{Asked, Verdict, verdict_of};

@@ -1,0 +1,5 @@
+pub mod Heads
+pub mod Frames
+pub mod Streams
+pub mod Messages
+pub mod Texts

@@ -1,6 +1,0 @@
--- The prover finds these answers by itself: they stand here so that it need not search twice where an edit strikes the function.
-use Rattle.sip_message.proofs.Common.{arith, common_steps}
-use Rattle.sip_message.proofs.lines.add_line.Goals as goal
-
-pub returns-clause-ok : goal.returns-clause-ok
-returns-clause-ok c = grind (arith, common_steps)

@@ -1,0 +1,27 @@
+//! Addresses told from other texts, and the digits of a byte.
+use crate::holds::holds;
+use crate::rows::holds_in_row;
+use sip_via::{hex_pair, is_address};
+
+/// Texts, and whether each is the address 192.0.2.9.
+const ADDRESSES: [(&[u8], bool); 6] = [
+    (b"192.0.2.9", true),
+    (b"192.0.2.09", false),
+    (b"192.0.2.90", false),
+    (b"192.0.2", false),
+    (b"192.0.2.9:5060", false),
+    (b"", false),
+];
+
+#[test]
+fn an_address_is_told_from_other_texts(rt: HostRuntime) {
+    for (row, (text, well)) in ADDRESSES.iter().enumerate() {
+        holds_in_row(
+            &rt,
+            is_address(text, [192, 0, 2, 9]) == *well,
+            "addresses",
+            row,
+        );
+    }
+    holds(&rt, hex_pair(0xa7) == [b'a', b'7'], "two digits of a byte");
+}

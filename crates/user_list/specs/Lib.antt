@@ -1,0 +1,5 @@
+pub mod inner
+pub mod User
+pub mod Users
+pub mod UserIndex
+pub mod UserView
