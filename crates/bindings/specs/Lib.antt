@@ -1,0 +1,4 @@
+pub mod Bindings
+pub mod Registering
+pub mod History
+pub mod Seen

@@ -1,0 +1,109 @@
+//! The bindings of one user.
+ghost use Rattle.std.specs.Prelude.{◌≡◌, [], OnErr, OnOk};
+ghost use Rattle.bindings.specs.Bindings.{changed, first_end, is_there, there};
+ghost use Rattle.bindings.specs.Registering.{Registers, is_repeat};
+ghost use Rattle.bindings.specs.Seen.{register_of};
+
+use crate::binding::Binding;
+use crate::changes::{first_end_at, keep_there, let_go, made, take_all_in};
+use crate::lists::{is_repeat, refusal};
+use crate::refusal::RegisterRefusal;
+use crate::request::RegisterRequest;
+use crate::there::BindingsAt;
+use std::alloc::{AllocError, Allocator, Global};
+use std::marker::Model;
+
+/// The bindings of one user, in their order; of those that have ended some may still be kept.
+#[derive(Drop)]
+pub struct UserBindings<A: Allocator = Global> {
+    bindings: Vec<Binding<A>, A>,
+}
+
+impl<A: Allocator> Model for UserBindings<A> {
+    ghost use Rattle.std.specs.Prelude.{List};
+    ghost use Rattle.bindings.specs.Bindings as spec;
+
+    ghost Value = { List spec.Binding };
+
+    ghost view = { λ b. b.bindings.items };
+}
+
+impl<A: Allocator> UserBindings<A> {
+    /// None.
+    pub fn new(alloc: A) -> UserBindings<A>
+        ensures { result ≡ [] }
+    {
+        UserBindings {
+            bindings: Vec::new(alloc),
+        }
+    }
+
+    /// Those that are there at a moment, in their order: each until its end, and not at it.
+    pub fn at(&self, moment: u64) -> BindingsAt<'_, A>
+        ensures { result ≡ there moment self.now }
+    {
+        BindingsAt::new(moment, &self.bindings)
+    }
+
+    /// When the first of those ends that are there at a moment; nothing where none is there.
+    pub fn next_end(&self, moment: u64) -> Option<u64>
+        ensures { result ≡ first_end (is_there moment) self.now }
+    {
+        first_end_at(moment, &self.bindings)
+    }
+
+    /// Whether the request made a binding that is there as it comes: it was taken before, and comes again. What its contacts are does not
+    /// count.
+    pub fn is_repeat(&self, request: &RegisterRequest<'_>) -> bool
+        ensures { result ≡ is_repeat (register_of request.now) self.now }
+    {
+        is_repeat(request, &self.bindings)
+    }
+
+    /// What a REGISTER request makes of them (RFC 3261 section 10.3 steps 6 to 8): all that it asks for, or nothing. Nothing is changed
+    /// where it made a binding that is there, for then it comes again. Else what has ended goes; each contact in its order takes away the
+    /// first binding that it names, or puts its own in the place of that or behind all others; `*` takes all away; and of more than 16
+    /// those go that end first, the first in order of these first, but none that the request itself has made.
+    ///
+    /// # Errors
+    ///
+    /// The first of `RegisterRefusal` that holds, in the order in which they stand there; `NoMemory` only where nothing else refuses. All
+    /// is as it was then.
+    pub fn register(
+        &mut self,
+        alloc: A,
+        request: &RegisterRequest<'_>,
+    ) -> Result<(), RegisterRefusal>
+    where
+        A: Clone,
+        ensures { Registers (register_of request.now) self.old self.new result }
+    {
+        if self.is_repeat(request) {
+            return Ok(());
+        }
+        if let Some(why) = refusal(request, &self.bindings) {
+            return Err(why);
+        }
+        self.change(alloc, request)?;
+        Ok(())
+    }
+
+    /// All that a request asks for, or nothing.
+    fn change(&mut self, alloc: A, request: &RegisterRequest<'_>) -> Result<(), AllocError>
+    where
+        A: Clone,
+        ensures ok { OnOk result (self.new ≡ changed (register_of request.now) (there request.now.at self.old)) }
+        ensures err { OnErr result (self.new ≡ self.old) }
+    {
+        if request.star.is_some() {
+            self.bindings.clear();
+            return Ok(());
+        }
+        let made = made(alloc, request)?;
+        self.bindings.reserve(made.len())?;
+        keep_there(request.at, &mut self.bindings);
+        take_all_in(request.at, made, &mut self.bindings);
+        let_go(request, &mut self.bindings);
+        Ok(())
+    }
+}
