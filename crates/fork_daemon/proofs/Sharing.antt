@@ -21,6 +21,7 @@ use Rattle.fork_daemon.specs.contracts.packet.Packet.{the_row as packet_row}
 use Rattle.fork_daemon.specs.contracts.proxy.Proxy as proxy
 use Rattle.fork_daemon.specs.contracts.serving.Server as server
 use Rattle.proxy_service.proofs.laws.Crossing.{service_sync}
+use Rattle.sip_uri.proofs.hop.Hop.TheSendSync as hop
 use Rattle.source_limit.proofs.laws.Crossing as source
 use Rattle.source_limit.specs.contracts.limits.SourceLimits.{the_row as source_row}
 
@@ -40,7 +41,7 @@ proxy_sync = struct_sync (shape proxy.the_type) (
   (
     search service_sync,
     (
-      search (crosses, sendable),
+      hop.the_field_sync,
       (
         epoch_sync,
         (
