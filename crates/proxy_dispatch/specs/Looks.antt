@@ -18,10 +18,11 @@ pub data Look : Type 0 where
 abbrev pub Shows : Type 0 → Type 1
 Shows T = T → Look → T → Type 0
 
--- one look after another, and no other
-abbrev pub ShowsAll : {T : Type 0} → Shows T → T → List Look → T → Type 0
-ShowsAll shows table [] new = new ≡ table
-ShowsAll {T = T} shows table (look ∷ looks) new = (mid : T) × shows table look mid × ShowsAll shows mid looks new
+module _ {T : Type 0} where
+  -- one look after another, and no other
+  abbrev pub ShowsAll : Shows T → T → List Look → T → Type 0
+  ShowsAll shows table [] new = new ≡ table
+  ShowsAll shows table (look ∷ looks) new = (mid : T) × shows table look mid × ShowsAll shows mid looks new
 
 -- of a table that the threads of a proxy share no more is known than what the lock of a call says: the call has its number
 abbrev pub HasItsNumber : Look → Type 0

@@ -39,7 +39,12 @@ pub trait CallTable<A: Allocator + Clone> {
 
     /// Calls `f` at the call of a number, while no other thread looks at that call, and answers what it returns. None where there
     /// is no such call.
-    fn with<R: Wait, U, F: FnOnce(&mut Call<A>) -> U>(&mut self, rt: &R, number: u64, f: F) -> Option<U>
+    fn with<R: Wait, U, F: FnOnce(&mut Call<A>) -> U>(
+        &mut self,
+        rt: &R,
+        number: u64,
+        f: F,
+    ) -> Option<U>
         requires callable { (call : _) → call.now.opened.number ≡ number → F.pre f call }
         requires keeps { (old new : spec.Call) (r : U) → old.opened.number ≡ number → FnOnceReturnsAtMut F.FnOnce f old r new → new.opened.number ≡ number }
         ensures seen { IfSome result (λ r. (before : spec.Call) × (after : spec.Call) × (before.opened.number ≡ number)
@@ -76,7 +81,12 @@ impl<A: Allocator + Clone> CallTable<A> for SharedCalls<'_, A> {
         self.shelf.put_pending(rt, key, pending)
     }
 
-    fn with<R: Wait, U, F: FnOnce(&mut Call<A>) -> U>(&mut self, rt: &R, number: u64, f: F) -> Option<U> {
+    fn with<R: Wait, U, F: FnOnce(&mut Call<A>) -> U>(
+        &mut self,
+        rt: &R,
+        number: u64,
+        f: F,
+    ) -> Option<U> {
         self.shelf.with(rt, number, f)
     }
 }

@@ -120,7 +120,11 @@ pub(crate) fn deliver_response<A: Allocator + Clone, T: CallTable<A>, R: Wait>(
         × IsGiven read.name.context response source now looks outcome.handled (seen_sent outcome.datagram)) }
 {
     let number = read.name.context;
-    match table.with(rt, number, |call| take_response(call, response, read, source, now)) {
+    match table.with(
+        rt,
+        number,
+        |call| take_response(call, response, read, source, now),
+    ) {
         Some(answer) => answered_by(number, answer),
         None => Ok(Outcome::silent(Handled::Dropped)),
     }
