@@ -1,14 +1,17 @@
 pub mod Common
 pub mod laws
+pub mod Ends
 pub mod Gaps
 pub mod Groups
 pub mod Grown
+pub mod HeaderPlaces
 pub mod HeaderValues
 pub mod Heads
 pub mod Joins
 pub mod Public
 pub mod Refusals
 pub mod Size
+pub mod Places
 pub mod Spelled
 pub mod StartAgain
 pub mod StartFaults

@@ -7,28 +7,28 @@ ghost use Rattle.sip_text.specs.Fields.{cseq_fits, cseq_of, has_method, is_missi
 ghost use Rattle.sip_text.specs.Seen.{view_cseq, view_start, views};
 ghost use Rattle.sip_text.specs.inner.Seen.{seen_cseq};
 
+use crate::header_lines::HeaderLines;
 use crate::name::Values;
 use crate::needed::Needed;
-use crate::parts::{CSeqLine, Header, Start};
+use crate::parts::{CSeqLine, StartLine};
 use sip_lex::{cut_at_space, is_token, read_number, trim_start};
-use std::alloc::Allocator;
 
 /// The value of the first header of that name.
-pub fn value_of<'a, A: Allocator>(which: Needed, headers: &'a [Header<A>]) -> Option<&'a [u8]>
-    ensures { option_copied result ≡ value_of which (views headers.now) }
+pub fn value_of<'a>(which: Needed, headers: HeaderLines<'a>) -> Option<&'a [u8]>
+    ensures { option_copied result ≡ value_of which (views headers.entry) }
 {
     Values::new(which.name(), headers).next()
 }
 
-fn is_missing<A: Allocator>(which: Needed, headers: &[Header<A>]) -> bool
-    ensures { result ≡ is_missing which (views headers.now) }
+fn is_missing(which: Needed, headers: HeaderLines<'_>) -> bool
+    ensures { result ≡ is_missing which (views headers.entry) }
 {
     value_of(which, headers).is_none()
 }
 
 /// The first of the five that every message has and that is missing here.
-pub fn missing<A: Allocator>(headers: &[Header<A>]) -> Option<Needed>
-    ensures { result ≡ missing (views headers.now) }
+pub fn missing(headers: HeaderLines<'_>) -> Option<Needed>
+    ensures { result ≡ missing (views headers.entry) }
 {
     if is_missing(Needed::Via, headers) {
         return Some(Needed::Via);
@@ -62,25 +62,25 @@ fn cseq_of(value: &[u8]) -> Option<CSeqLine<'_>>
 }
 
 /// What the first CSeq says.
-pub fn message_cseq<A: Allocator>(headers: &[Header<A>]) -> Option<CSeqLine<'_>>
-    ensures { seen_cseq result ≡ message_cseq (views headers.now) }
+pub fn message_cseq(headers: HeaderLines<'_>) -> Option<CSeqLine<'_>>
+    ensures { seen_cseq result ≡ message_cseq (views headers.entry) }
 {
     cseq_of(value_of(Needed::CSeq, headers)?)
 }
 
 /// Whether a message that begins so may have that CSeq.
-fn has_method<A: Allocator>(start: &Start<A>, cseq: CSeqLine<'_>) -> bool
-    ensures { result ≡ has_method (view_start start.now) (view_cseq cseq.entry) }
+fn has_method(start: StartLine<'_>, cseq: CSeqLine<'_>) -> bool
+    ensures { result ≡ has_method (view_start start.entry) (view_cseq cseq.entry) }
 {
     match start {
-        Start::Request { method, .. } => cseq.method == method.as_slice(),
-        Start::Response { .. } => true,
+        StartLine::Request { method, .. } => cseq.method == method,
+        StartLine::Response { .. } => true,
     }
 }
 
 /// Whether the first CSeq is one, and that of the request's method.
-pub fn cseq_fits<A: Allocator>(start: &Start<A>, headers: &[Header<A>]) -> bool
-    ensures { result ≡ cseq_fits (view_start start.now) (views headers.now) }
+pub fn cseq_fits(start: StartLine<'_>, headers: HeaderLines<'_>) -> bool
+    ensures { result ≡ cseq_fits (view_start start.entry) (views headers.entry) }
 {
     match message_cseq(headers) {
         None => false,
@@ -122,7 +122,7 @@ fn says(n: u64, value: &[u8]) -> bool
 }
 
 /// Whether each of the values left says that length.
-fn all_say<A: Allocator>(n: u64, mut values: Values<'_, '_, A>) -> bool
+fn all_say(n: u64, mut values: Values<'_, '_>) -> bool
     ensures { result ≡ list_all (says n) values.entry }
 {
     while let Some(value) = values.next() {
@@ -134,8 +134,8 @@ fn all_say<A: Allocator>(n: u64, mut values: Values<'_, '_, A>) -> bool
 }
 
 /// What the Content-Length headers say (RFC 3261 section 20.14).
-pub fn said_length<A: Allocator>(headers: &[Header<A>]) -> BodyLength
-    ensures { result ≡ said_length (views headers.now) }
+pub fn said_length(headers: HeaderLines<'_>) -> BodyLength
+    ensures { result ≡ said_length (views headers.entry) }
 {
     let mut values = Values::new(LENGTH_NAME, headers);
     let Some(first) = values.next() else {
