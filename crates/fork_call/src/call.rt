@@ -12,6 +12,7 @@ ghost use Rattle.call_routing.specs.Opening.{IsOpenable, Opens, Refuses};
 ghost use Rattle.call_routing.specs.SeenMatchedTransaction.{seen_recipient};
 ghost use Rattle.fork_call.specs.inner.SeenAction.{seen_action};
 ghost use Rattle.fork_call.specs.Takes.{Takes};
+ghost use Rattle.fork_call.specs.Waits.{waits_until};
 ghost use Rattle.fork_call.specs.inner.Ending.{AreOver};
 ghost use Rattle.fork_call.specs.Timing.{IsTimed};
 ghost use Rattle.fork_call.specs.inner.Timing.{row_of_cause};
@@ -302,6 +303,28 @@ impl<A: Allocator + Clone> Call<A> {
         ensures { result ≡ self.now.opened.number }
     {
         self.state.opened().number()
+    }
+
+    /// Where the answers to the caller go (RFC 3261 section 18.2.2).
+    pub fn caller(&self) -> Hop
+        ensures { result ≡ self.now.opened.caller }
+    {
+        self.state.opened().caller()
+    }
+
+    /// Until which moment branch n is waited for, in milliseconds: until its timer C fires, or, where it was cancelled, until it is given up.
+    /// None where neither runs (RFC 3261 sections 9.1 and 16.8).
+    pub fn waits_until(&self, n: u16) -> Option<u64>
+        ensures { result ≡ waits_until self.now n }
+    {
+        let view = self.state.branch_view(n);
+        if view.timer_c_runs {
+            view.timer_c_due
+        } else if view.cancelled {
+            view.give_up_due
+        } else {
+            None
+        }
     }
 }
 
