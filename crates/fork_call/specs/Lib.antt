@@ -6,3 +6,4 @@ pub mod Carry
 pub mod Runs
 pub mod Answered
 pub mod Naming
+pub mod Waits
