@@ -1,12 +1,9 @@
 -- What a text ends with, and what stands in it.
-use Rattle.sip_text.proofs.Common.{◌≡◌, ℕ, ◌+◌, ◌-◌, ◌≤◌, Bool, true, false, List, [], ◌∷◌, ◌++◌, length, take, drop, Option, Some, None, refl, sym, ap, subst, ◌∙◌, append_assoc, arith, take-append-drop, cond_both, is_space, cut, common_steps, part_at}
+use Rattle.sip_text.proofs.Common.{◌≡◌, ℕ, ◌-◌, ◌≤◌, Bool, List, [], ◌∷◌, ◌++◌, length, take, drop, Option, Some, None, refl, sym, ap, subst, ◌∙◌, append_assoc, arith, take-append-drop, cond_both, is_space, cut, common_steps, part_at}
 use Rattle.std.proofs.lemmas.List.{drop-drop, take_rest}
 use Rattle.sip_text.specs.declared.place.Place.{Place}
 use Rattle.sip_text.specs.inner.Kept.{IsAt, IsEnd, IsWithin, moved}
 use Rattle.sip_text.proofs.Places.{part_grown}
-
-pub whole_end : (text : List ℕ) → IsEnd text text
-whole_end text = ([], refl)
 
 pub end_later : (text end front rest : List ℕ) → end ≡ front ++ rest → IsEnd text end → IsEnd text rest
 end_later text end front rest e (before, is) = (before ++ front, is ∙ ap (λ (xs : List ℕ). before ++ xs) e ∙ sym (append_assoc before front rest))

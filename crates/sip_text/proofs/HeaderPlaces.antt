@@ -1,9 +1,9 @@
 -- Header lines by their places, as they are read.
-use Rattle.sip_text.proofs.Common.{◌≡◌, ℕ, ◌+◌, ◌-◌, ◌≤◌, Bool, true, false, cond, List, [], ◌∷◌, ◌++◌, length, take, drop, Option, Some, None, Err, not, refl, reverse, sym, ap, subst, ◌∙◌, append_assoc, arith, cond-true, cond-false, cond_both, and_parts, append-nil, length-append, length-take, take-append-drop, common_steps, rules}
-use Rattle.sip_text.proofs.Common.{is_token, trim, trim_end, trim_start, cut, is, FailsAs, Fault, BadHeader, Headers, HeaderText, continued, or_bad, valued, begins_with_space, ended, header_in, headers_in, header_of, header_of_cut, headers_at, joined, part_at, tail_at}
+use Rattle.sip_text.proofs.Common.{◌≡◌, ℕ, ◌+◌, ◌-◌, ◌≤◌, true, false, List, [], ◌∷◌, ◌++◌, length, take, drop, Option, Some, None, not, refl, reverse, sym, ap, subst, ◌∙◌, append_assoc, arith, cond-true, cond_both, and_parts, append-nil, length-append, length-take, take-append-drop}
+use Rattle.sip_text.proofs.Common.{is_token, trim, trim_end, trim_start, cut, is, Headers, HeaderText, continued, valued, begins_with_space, ended, header_in, headers_in, header_of, header_of_cut, headers_at, joined, part_at, tail_at}
 use Rattle.sip_text.proofs.laws.Good.{trim_front, trim_trimmed}
 use Rattle.sip_text.proofs.Tails.{value_ends}
-use Rattle.sip_text.specs.inner.Heads.{Valued, front_header, put, put_if_any}
+use Rattle.sip_text.specs.inner.Heads.{front_header, put}
 use Rattle.sip_text.specs.Reading.{Tail}
 use Rattle.std.proofs.lemmas.Bool.{not-true}
 use Rattle.std.proofs.lemmas.List.{reverse-reverse, map_push, take-take}
@@ -47,23 +47,6 @@ front_lines line value h None (Some x) e c = absurd cc
 front_lines line value h (Some t) None e c = absurd cc
 front_lines line value h (Some t) (Some x) e c = grind (arith, of_parts)
 
-pub front_fails : (line : List ℕ) (h : HeaderText) (t : Option Tail) (f : Option Fault) → found h ≡ header_of line [] → FailsAs f (or_bad (continued h.value t)) → FailsAs f (or_bad (front_header line t))
-front_fails line h None None e c = tt
-front_fails line h None (Some x) e c = let same : BadHeader ≡ x = cc in ap (λ (y : Fault). Err y) same
-front_fails line h (Some t) None e c = tt
-front_fails line h (Some t) (Some x) e c = absurd cc
-
-cut_none : (c : List ℕ × Option (List ℕ)) (parts : List (List ℕ)) → header_of_cut c [] ≡ None → header_of_cut c parts ≡ None
-cut_none (front, None) parts e = refl
-cut_none (front, Some raw) parts e = grind arith
-
-none_of_parts : (line : List ℕ) (parts : List (List ℕ)) → None ≡ header_of line [] → header_of line parts ≡ None
-none_of_parts line parts e = cut_none (cut (is 58) line) parts (sym e)
-
-pub front_none : (line : List ℕ) (t : Option Tail) → None ≡ header_of line [] → or_bad (front_header line t) ≡ Err BadHeader
-front_none line None e = refl
-front_none line (Some t) e = ap or_bad (ap (λ (h : Option HeaderText). put_if_any h t) (none_of_parts line t.parts e))
-
 -- ---- a header line by itself
 
 pub name_place : (line front raw : List ℕ) → line ≡ front ++ 58 ∷ raw → take (length (trim_end front)) (drop 0 line) ≡ trim_end front
@@ -74,9 +57,6 @@ name_place line front raw e =
 
 pub trimmed_front : (rest : List ℕ) → take (length (trim_end rest)) rest ≡ trim_end rest
 trimmed_front rest = let t = trim_end-whole rest in ap (take (length (trim_end rest))) t.whole ∙ at_front (trim_end rest) t.gap
-
-pub trimmed_size : (rest : List ℕ) → length (trim_end rest) ≤ length rest
-trimmed_size rest = let t = trim_end-whole rest in omega (arith, ap length t.whole, length-append (trim_end rest) t.gap)
 
 pub trimmed_end : (line front raw rest : List ℕ) → line ≡ front ++ 58 ∷ raw → rest ≡ trim_start raw → IsEnd line rest
 trimmed_end line front raw rest e r =
@@ -139,7 +119,7 @@ header_continued kept new line at places moved_places value t o is room within e
     let whole = front_lines line (part_at new value) h t o e c in
     let inside : IsWithin (length kept) (moved at places.name) = omega (arith, within.0) in
     let name : part_at new moved_places.name ≡ part_at line places.name =
-      ap (λ (x : LinePlaces). part_at new x.name) m ∙ part_kept kept new (moved at places.name) begins inside ∙ moved_part kept line at places.name is within.0 in
+    ap (λ (x : LinePlaces). part_at new x.name) m ∙ part_kept kept new (moved at places.name) begins inside ∙ moved_part kept line at places.name is within.0 in
     let same : record { name = h.name; value = part_at new value } ≡ header_in new (record { name = moved_places.name; value = value }) = cc in
     whole ∙ ap (λ (x : HeaderText). put x o) same
 

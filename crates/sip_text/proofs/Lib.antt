@@ -1,6 +1,7 @@
 pub mod Common
 pub mod laws
 pub mod Ends
+pub mod NeededFields
 pub mod Gaps
 pub mod Groups
 pub mod Grown

@@ -1,5 +1,5 @@
 -- Parts of a text by their places.
-use Rattle.sip_text.proofs.Common.{◌≡◌, ℕ, zero, suc, ◌+◌, ◌-◌, ◌<◌, ◌≤◌, List, [], ◌∷◌, ◌++◌, length, take, drop, map, get_or, refl, sym, ap, subst, ◌∙◌, arith, AllByRecursion, common_steps}
+use Rattle.sip_text.proofs.Common.{◌≡◌, ℕ, zero, suc, ◌+◌, ◌-◌, ◌<◌, ◌≤◌, List, [], ◌∷◌, ◌++◌, length, take, drop, get_or, refl, sym, ap, subst, ◌∙◌, arith, common_steps}
 use Rattle.sip_text.proofs.Common.{header_in, headers_in, part_at, start_in, valued_at, with_value_at, with_part_at, without_line_at, IsMessage, HeaderText, MessageText}
 use Rattle.std.proofs.Common.{min, slice_set}
 use Rattle.std.specs.List.{remove}
@@ -41,7 +41,7 @@ start_grown text more (Response status reason) within = grind (arith, part_grown
 pub part_behind : (text more : List ℕ) → take (length more) (drop (length text) (text ++ more)) ≡ more
 part_behind text more = grind (arith, common_steps)
 
-start_room : (room more : ℕ) (start : StartPlaces) → room ≤ more → IsStartWithin room start → IsStartWithin more start
+pub start_room : (room more : ℕ) (start : StartPlaces) → room ≤ more → IsStartWithin room start → IsStartWithin more start
 start_room room more (Request method uri) h within = (omega arith, omega arith)
 start_room room more (Response status reason) h within = omega arith
 

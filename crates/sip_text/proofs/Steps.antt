@@ -1,5 +1,5 @@
 -- Headers of one name, one by one.
-use Rattle.sip_text.proofs.Common.{◌≡◌, ℕ, true, false, List, [], ◌∷◌, refl, sym, ap, ◌∙◌, arith, cond-true, cond-false, same_name, HeaderText, common_steps}
+use Rattle.sip_text.proofs.Common.{◌≡◌, ℕ, true, false, List, [], ◌∷◌, sym, ap, ◌∙◌, arith, cond-true, cond-false, same_name, HeaderText, common_steps}
 use Rattle.sip_text.specs.Name.{values_of}
 
 pub named_here : (name : List ℕ) (hs rest : List HeaderText) (h : HeaderText) (all : List (List ℕ)) → hs ≡ h ∷ rest → same_name name h.name ≡ true → values_of name hs ≡ all → all ≡ h.value ∷ values_of name rest

@@ -7,6 +7,7 @@
 
 mod fault;
 mod fields;
+mod found;
 mod growth;
 mod head;
 mod header_lines;

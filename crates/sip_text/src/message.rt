@@ -43,11 +43,30 @@ impl<A: Allocator> Message<A> {
     ghost use Rattle.sip_text.specs.Change.{with_part_at, with_value_at, without_line_at};
     ghost use Rattle.sip_text.specs.Fields.{message_cseq, value_of};
     ghost use Rattle.sip_text.specs.Message.{IsMessage};
+    ghost use Rattle.sip_text.specs.inner.Kept.{IsKept, message_in};
     ghost use Rattle.sip_text.specs.Method.{is_invite, known_method, stands_alone};
     ghost use Rattle.sip_text.specs.Name.{values_of};
     ghost use Rattle.sip_text.specs.Seen.{view_cseq, view_start, views};
     ghost use Rattle.sip_text.specs.Tag.{tag_in};
     ghost use Rattle.sip_text.specs.Text.{method_in, spelling, status_in};
+
+    /// The message whose parts stand at such places of a text.
+    pub(crate) fn of_places(
+        text: Vec<u8, A>,
+        start: StartPlaces,
+        lines: Vec<LinePlaces, A>,
+        body: Place,
+    ) -> Message<A>
+        requires { IsKept text.items start lines.items body }
+        ensures { result ≡ message_in text.items start lines.items body }
+    {
+        Message {
+            text,
+            start,
+            lines,
+            body,
+        }
+    }
 
     /// Shows that a message is one, as those who change a header line of it are asked for the changed one.
     pub fn is_message(&self)
@@ -170,8 +189,8 @@ impl<A: Allocator> Message<A> {
         part_at(&self.text, self.body)
     }
 
-    /// Puts another value in the place of the one of a header line, whose name stays. The text of the message has room for
-    /// 64 bytes more when it was read: as long as the new values fit into that, it takes no memory.
+    /// Puts another value in the place of the one of a header line, whose name stays. It takes no memory as long as the values
+    /// that were put in since the message was read are 256 bytes at most.
     ///
     /// # Errors
     ///
@@ -240,7 +259,9 @@ impl<A: Allocator + Clone> Message<A> {
     ghost use Rattle.sip_text.specs.Text.{MessageText};
 
     /// The message that a text spells (RFC 3261 sections 7 and 25.1). Empty lines before it are
-    /// skipped; what follows the body that Content-Length gives is dropped.
+    /// skipped; what follows the body that Content-Length gives is no part of it. It takes two allocations where it has
+    /// at most 16 header lines and none is continued: one of the text with 256 bytes more, and one of the places of the
+    /// header lines in it.
     ///
     /// # Errors
     ///

@@ -27,7 +27,7 @@ fn name_of_letter(letter: u8) -> Option<&'static [u8]>
 
 /// A name with its compact form written out.
 #[tactic(auto, unfolding(crate::specs::Name::full_name))]
-fn full_name(name: &[u8]) -> &[u8]
+pub fn full_name(name: &[u8]) -> &[u8]
     ensures { result.now ≡ full_name name.now }
 {
     match name {

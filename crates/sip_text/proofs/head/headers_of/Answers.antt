@@ -1,4 +1,4 @@
-use Rattle.sip_text.proofs.Common.{◌∙◌, sym, ap, arith, eqb-true, ended, fault_seen, header_in, headers_at, headers_in, common_steps}
+use Rattle.sip_text.proofs.Common.{◌∙◌, sym, arith, eqb-true, ended, header_in, headers_in}
 use Rattle.std.proofs.lemmas.Bool.{eqb-false}
 use Rattle.sip_text.proofs.Ends.{end_later}
 use Rattle.sip_text.proofs.HeaderPlaces.{begins_still, headers_pushed, kept_at, within_pushed}

@@ -1,4 +1,3 @@
-use Rattle.sip_text.proofs.Common.{rules}
 use Rattle.sip_text.proofs.Ends.{cut_end}
 use Rattle.sip_text.proofs.start.response_of.Goals as goal
 

@@ -1,4 +1,3 @@
-use Rattle.sip_text.proofs.Common.{rules}
 use Rattle.sip_text.proofs.write.start_len.Goals as goal
 
 pub returns-in-Response : goal.returns-in-Response

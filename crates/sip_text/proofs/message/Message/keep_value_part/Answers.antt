@@ -1,4 +1,4 @@
-use Rattle.sip_text.proofs.Common.{◌<◌, ◌∙◌, ap, length, sym, with_part_at}
+use Rattle.sip_text.proofs.Common.{◌∙◌, ap, with_part_at}
 use Rattle.sip_text.proofs.Places.{lines_length, part_is_kept, part_is_put}
 use Rattle.sip_text.proofs.message.Message.keep_value_part.Goals as goal
 

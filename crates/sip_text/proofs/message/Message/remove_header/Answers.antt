@@ -1,4 +1,4 @@
-use Rattle.sip_text.proofs.Common.{◌∙◌, ap, sym, without_line_at}
+use Rattle.sip_text.proofs.Common.{◌∙◌, ap, without_line_at}
 use Rattle.sip_text.proofs.Places.{gone_is_kept, line_is_gone}
 use Rattle.sip_text.proofs.message.Message.remove_header.Goals as goal
 

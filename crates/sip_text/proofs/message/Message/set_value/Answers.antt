@@ -1,4 +1,4 @@
-use Rattle.sip_text.proofs.Common.{◌≡◌, ◌++◌, ◌∙◌, ap, length, sym, with_value_at}
+use Rattle.sip_text.proofs.Common.{◌∙◌, ap, with_value_at}
 use Rattle.sip_text.proofs.Places.{lines_length, value_is_kept, value_is_put}
 use Rattle.sip_text.proofs.message.Message.set_value.Goals as goal
 
