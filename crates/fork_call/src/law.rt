@@ -1,6 +1,7 @@
 //! What holds of every call.
 ghost use Rattle.fork_call.specs.Answered.{EachDatagramIsRight, EachSuccessGoesUp, OneFinalAnswerGoesUp, OpenedCallsPayInOrder};
 ghost use Rattle.fork_call.specs.Naming.{DestinationsLeadToTargets, OwnAnswersAreToTheRequest, RequestsNameTheirTargets};
+ghost use Rattle.fork_call.specs.Refused.{OneFaultHolds};
 ghost use Rattle.fork_call.specs.Runs.{CallsHaveStages};
 
 use call_laws::calls_pay_in_order;
@@ -81,3 +82,12 @@ pub fn each_datagram_is_right()
     call_laws::each_datagram_is_right();
     datagrams_go_back_to_the_request();
 }
+
+/// A request that opens no call has one fault: where one holds that has a name, no call opens, and no other such fault holds. So
+/// [`Call::open`](crate::Call::open) answers that fault then, or that the allocator refused (RFC 3261 sections 16.3 to 16.6).
+///
+/// A law over the definitions, with nothing to run.
+#[tactic(auto, using(crate::proofs::Refused::one_fault_holds))]
+pub fn one_fault_holds()
+    ensures { OneFaultHolds }
+{}
