@@ -44,8 +44,8 @@ pub fn one_final_answer_goes_up()
 
 /// In each run of a call that opened for an INVITE, each 2xx that a branch answers, and that is posted, comes to be owed to the
 /// caller by that turn. Once nothing is owed any more it was paid, at its place in the order in which all came to be owed: sent
-/// with its own bytes behind the proxy's Via value, or dropped since the caller's transaction had ended, which it does by timer L
-/// (RFC 3261 sections 13.3.1.4 and 16.7 step 5, RFC 6026 section 7.1).
+/// with its own bytes behind the proxy's Via value, or dropped since the caller's transaction had ended (RFC 3261 sections
+/// 13.3.1.4 and 16.7 step 5, RFC 6026 section 7.1).
 ///
 /// A law over the definitions, with nothing to run.
 pub fn each_success_goes_up()
