@@ -17,3 +17,9 @@ abbrev pub IfKnown : {P : Type 0} → (ℕ → P → Type 0) → PendingFault P 
 IfKnown P (pending.Known number back) = P number back
 IfKnown P pending.Spent = Unit {0}
 IfKnown P pending.NoMemory = Unit {0}
+
+-- what holds where no number is left
+abbrev pub IfSpent : {P : Type 0} → Type 0 → PendingFault P → Type 0
+IfSpent Q (pending.Known number back) = Unit {0}
+IfSpent Q pending.Spent = Q
+IfSpent Q pending.NoMemory = Unit {0}
