@@ -81,8 +81,8 @@ behind call mid new a b first rest =
     record {
       stages = first.stages ++ rest.stages;
       are = turns_append first.stages rest.stages
-      ∙ ap (λ (ts : List Turn). ts ++ turns_of rest.stages) first.are
-      ∙ ap (λ (ts : List Turn). a ++ ts) rest.are;
+          ∙ ap (λ (ts : List Turn). ts ++ turns_of rest.stages) first.are
+          ∙ ap (λ (ts : List Turn). a ++ ts) rest.are;
       leads = leads_append call first.stages rest.stages first.leads (subst L (sym first.ends) rest.leads);
       ends = end_append call first.stages rest.stages ∙ ap (λ (x : Call). end_of x rest.stages) first.ends ∙ rest.ends;
       logs = logs_append call first.stages rest.stages first.logs (subst G (sym first.ends) rest.logs);
@@ -208,8 +208,8 @@ one_call now call new (runs.CutOff steps lost) (mid, carries, loses) = record {
   of = behind call mid new (turns_of_steps now steps) (turn_of_lost now lost) (steps_stages now call mid steps carries) (lost_stages now mid new lost loses);
   are = refl;
   sends = sent_append (turns_of_steps now steps) (turn_of_lost now lost)
-  ∙ ap (λ (ds : List Datagram). ds ++ sent_by (turn_of_lost now lost)) (sent_steps now steps)
-  ∙ ap (λ (ds : List Datagram). datagrams_of steps ++ ds) (sent_lost now lost);
+      ∙ ap (λ (ds : List Datagram). ds ++ sent_by (turn_of_lost now lost)) (sent_steps now steps)
+      ∙ ap (λ (ds : List Datagram). datagrams_of steps ++ ds) (sent_lost now lost);
   given = λ is. given_append (turns_of_steps now steps) (turn_of_lost now lost) (given_steps now steps) (given_lost now lost);
 }
 one_call now call new runs.Refused same = record { turns = []; of = no_stages call new same; are = refl; sends = refl; given = λ is. tt }
@@ -243,10 +243,10 @@ calls_have_stages call new (answer ∷ answers) (mid, first, rest) =
         ends = end_append call before after ∙ ap (λ (x : Call). end_of x after) ends ∙ later.1.ends;
         turns = (before, after, subst O (sym one.of.are) one.are, refl, subst T (sym ends) later.1.turns);
         sends = ap sent_by (turns_append before after)
-        ∙ sent_append (turns_of before) (turns_of after)
-        ∙ ap (λ (ts : List Turn). sent_by ts ++ sent_by (turns_of after)) one.of.are
-        ∙ ap (λ (ds : List Datagram). ds ++ sent_by (turns_of after)) one.sends
-        ∙ ap (λ (ds : List Datagram). handed_by answer.answer ++ ds) later.1.sends;
+            ∙ sent_append (turns_of before) (turns_of after)
+            ∙ ap (λ (ts : List Turn). sent_by ts ++ sent_by (turns_of after)) one.of.are
+            ∙ ap (λ (ds : List Datagram). ds ++ sent_by (turns_of after)) one.sends
+            ∙ ap (λ (ds : List Datagram). handed_by answer.answer ++ ds) later.1.sends;
         logs = logs_append call before after one.of.logs (subst G (sym ends) later.1.logs);
         given = λ said. areas_append before after (given_stages before (subst W (sym one.of.are) (one.given said.0))) (later.1.given said.1);
       },

@@ -1,6 +1,7 @@
 //! What holds of every call.
 ghost use Rattle.fork_call.specs.Answered.{EachDatagramIsRight, EachSuccessGoesUp, OneFinalAnswerGoesUp, OpenedCallsPayInOrder};
 ghost use Rattle.fork_call.specs.Naming.{DestinationsLeadToTargets, OwnAnswersAreToTheRequest, RequestsNameTheirTargets};
+ghost use Rattle.fork_call.specs.Refused.{OneFaultHolds};
 ghost use Rattle.fork_call.specs.Runs.{CallsHaveStages};
 
 use call_laws::calls_pay_in_order;
@@ -43,8 +44,8 @@ pub fn one_final_answer_goes_up()
 
 /// In each run of a call that opened for an INVITE, each 2xx that a branch answers, and that is posted, comes to be owed to the
 /// caller by that turn. Once nothing is owed any more it was paid, at its place in the order in which all came to be owed: sent
-/// with its own bytes behind the proxy's Via value, or dropped since the caller's transaction had ended, which it does by timer L
-/// (RFC 3261 sections 13.3.1.4 and 16.7 step 5, RFC 6026 section 7.1).
+/// with its own bytes behind the proxy's Via value, or dropped since the caller's transaction had ended (RFC 3261 sections
+/// 13.3.1.4 and 16.7 step 5, RFC 6026 section 7.1).
 ///
 /// A law over the definitions, with nothing to run.
 pub fn each_success_goes_up()
@@ -81,3 +82,12 @@ pub fn each_datagram_is_right()
     call_laws::each_datagram_is_right();
     datagrams_go_back_to_the_request();
 }
+
+/// A request that opens no call has one fault: where one holds that has a name, no call opens, and no other such fault holds. So
+/// [`Call::open`](crate::Call::open) answers that fault then, or that the allocator refused (RFC 3261 sections 16.3 to 16.6).
+///
+/// A law over the definitions, with nothing to run.
+#[tactic(auto, using(crate::proofs::Refused::one_fault_holds))]
+pub fn one_fault_holds()
+    ensures { OneFaultHolds }
+{}

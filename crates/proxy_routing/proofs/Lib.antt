@@ -1,4 +1,4 @@
 pub mod Common
 pub mod Admitting
 pub mod laws
-pub mod Unrouted
+pub mod Refused
