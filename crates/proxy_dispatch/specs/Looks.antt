@@ -1,6 +1,15 @@
 -- What a thread of a proxy sees of the table of its calls, look by look.
-use Rattle.std.specs.Prelude.{◌≡◌, ℕ, List, [], ◌∷◌, Option}
+use Rattle.std.specs.Prelude.{◌≡◌, ℕ, List, [], ◌∷◌, Option, Result, Ok, Err}
+use Rattle.sip_text.specs.Text.{MessageText}
+use Rattle.sip_uri.specs.declared.hop.Hop.{Hop}
 use Rattle.call_model.specs.Call.{Call}
+use Rattle.call_model.specs.SeenTaken.{seen_taken}
+use Rattle.call_model.specs.Take.{Full}
+use Rattle.call_model.specs.declared.taken.Taken as memory
+use Rattle.call_routing.specs.Matching.{BelongsToNone}
+use Rattle.fork_call.specs.declared.fault.TakeFault.{TakeFault}
+use Rattle.fork_call.specs.declared.fault.TakeFault.TheVariants as fault
+use Rattle.fork_call.specs.Takes.{Takes}
 
 pub data Look : Type 0 where
   -- the key has this number, or none
@@ -29,3 +38,10 @@ abbrev pub HasItsNumber : Look → Type 0
 HasItsNumber (Seen number before after) = (before.opened.number ≡ number) × (after.opened.number ≡ number)
 HasItsNumber (Put key number call) = call.opened.number ≡ number
 HasItsNumber _ = Unit {0}
+
+-- what a call answers to a message that it is given, and how it goes on
+abbrev pub AnswersTake : Call → MessageText → Hop → ℕ → Result memory.Taken TakeFault → Call → Type 0
+AnswersTake call m source now (Ok taken) new = Takes call now m source (seen_taken taken) new
+AnswersTake call m source now (Err fault.Stray) new = BelongsToNone call m × (new ≡ call)
+AnswersTake call m source now (Err fault.Full) new = Takes call now m source Full call × (new ≡ call)
+AnswersTake call m source now (Err fault.NoMemory) new = new ≡ call

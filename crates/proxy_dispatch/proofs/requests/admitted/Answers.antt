@@ -13,7 +13,7 @@ returns-then-asks_service g c =
       [],
       refl,
       told_so (asks_service c.args.setup.now m) c.args.setup.now m c.args.received.source c.args.received.now c.args.key.items [] outcome.handled (seen_sent outcome.datagram) true
-      (let e = c.in_ok-asks_service.ensures in let f = c.if-asks_service.true in cc) (record { unseen = refl; handled_is = handled; sent_is = sent }),
+          (let e = c.in_ok-asks_service.ensures in let f = c.if-asks_service.true in cc) (record { unseen = refl; handled_is = handled; sent_is = sent }),
     ))
     c.told.ensures.handled c.told.ensures.sent
 
@@ -25,6 +25,6 @@ returns g c =
       h.0,
       h.1,
       told_so (asks_service c.args.setup.now m) c.args.setup.now m c.args.received.source c.args.received.now c.args.key.items h.0 outcome.handled (seen_sent outcome.datagram) false
-      (let e = c.in_ok-asks_service.ensures in let f = c.if-asks_service.false in cc) h.2,
+          (let e = c.in_ok-asks_service.ensures in let f = c.if-asks_service.false in cc) h.2,
     ))
     c.opened.ensures

@@ -14,7 +14,7 @@ returns-then-not-admits g c =
       [],
       refl,
       asked_so admits c.args.setup.now m c.args.received.source c.args.received.now c.args.key.items c.opener_of.result c.admits.result false [] outcome.handled (seen_sent outcome.datagram)
-      c.admits.ensures c.opener_of.ensures said (record { unseen = refl; handled_is = handled; sent_is = sent }),
+          c.admits.ensures c.opener_of.ensures said (record { unseen = refl; handled_is = handled; sent_is = sent }),
     ))
     c.turned_away.ensures.handled c.turned_away.ensures.sent
 
@@ -28,7 +28,7 @@ returns-then-not-has_opened g c =
       h.0,
       h.1,
       asked_so admits c.args.setup.now m c.args.received.source c.args.received.now c.args.key.items c.opener_of.result c.admits.result true h.0 outcome.handled (seen_sent outcome.datagram)
-      c.admits.ensures c.opener_of.ensures said h.2,
+          c.admits.ensures c.opener_of.ensures said h.2,
     ))
     c.admitted-outcome.ensures
 
@@ -42,6 +42,6 @@ returns-else-not-has_opened g c =
       h.0,
       h.1,
       asked_so admits c.args.setup.now m c.args.received.source c.args.received.now c.args.key.items c.opener_of.result c.admits.result true h.0 outcome.handled (seen_sent outcome.datagram)
-      c.admits.ensures c.opener_of.ensures said h.2,
+          c.admits.ensures c.opener_of.ensures said h.2,
     ))
     c.admitted-outcome.ensures

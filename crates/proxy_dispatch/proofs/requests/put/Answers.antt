@@ -15,8 +15,8 @@ returns-in-Ok g c = λ setup m opens.
       Put key number (numbered number c.args.pending) ∷ [],
       (_, c.in-Ok.ensures.opened, refl),
       outcome_at (λ handled sent. OpeningBecomes setup m c.args.source c.args.now key (Put key number (numbered number c.args.pending) ∷ []) handled sent)
-      c.silent-in-Ok.result.handled (Opened number) (seen_sent c.silent-in-Ok.result.datagram) None c.silent-in-Ok.ensures.handled (ap seen_sent c.silent-in-Ok.ensures.silent)
-      (inl (record { number = number; call = numbered number c.args.pending; opens = opens number; seen = refl; handled_is = refl; sent_is = refl })),
+          c.silent-in-Ok.result.handled (Opened number) (seen_sent c.silent-in-Ok.result.datagram) None c.silent-in-Ok.ensures.handled (ap seen_sent c.silent-in-Ok.ensures.silent)
+          (inl (record { number = number; call = numbered number c.args.pending; opens = opens number; seen = refl; handled_is = refl; sent_is = refl })),
     )
 
 pub returns-in-Err-Known : goal.returns-in-Err-Known
@@ -37,6 +37,6 @@ returns-in-Err-Spent g c = λ setup m opens. (
   Spent ∷ [],
   (_, c.in-Err-Spent.ensures.spent, refl),
   outcome_at (λ handled sent. OpeningBecomes setup m c.args.source c.args.now c.args.key.items (Spent ∷ []) handled sent)
-  c.silent-in-Err-Spent.result.handled Dropped (seen_sent c.silent-in-Err-Spent.result.datagram) None c.silent-in-Err-Spent.ensures.handled (ap seen_sent c.silent-in-Err-Spent.ensures.silent)
-  (inr (inr (inr (record { seen = refl; handled_is = refl; sent_is = refl })))),
+      c.silent-in-Err-Spent.result.handled Dropped (seen_sent c.silent-in-Err-Spent.result.datagram) None c.silent-in-Err-Spent.ensures.handled (ap seen_sent c.silent-in-Err-Spent.ensures.silent)
+      (inr (inr (inr (record { seen = refl; handled_is = refl; sent_is = refl })))),
 )

@@ -36,7 +36,7 @@ returns-in-Opening-Some g c =
       h.0,
       h.1,
       purpose_at admits c.args.setup.now r.message r.source r.now c.args.purpose purposes.Opening h.0 outcome.handled (seen_sent outcome.datagram) c.in-Opening.is
-      (new_at admits c.args.setup.now r.message r.source r.now _ (request_key r.message) h.0 outcome.handled (seen_sent outcome.datagram) (let e = c.requires.key in let f = c.in-Opening-Some.is in cc) h.2),
+          (new_at admits c.args.setup.now r.message r.source r.now _ (request_key r.message) h.0 outcome.handled (seen_sent outcome.datagram) (let e = c.requires.key in let f = c.in-Opening-Some.is in cc) h.2),
     ))
     c.asked.ensures
 
@@ -49,6 +49,6 @@ returns-in-Opening-None g c =
       [],
       refl,
       purpose_at admits c.args.setup.now r.message r.source r.now c.args.purpose purposes.Opening [] outcome.handled (seen_sent outcome.datagram) c.in-Opening.is
-      (new_at admits c.args.setup.now r.message r.source r.now None (request_key r.message) [] outcome.handled (seen_sent outcome.datagram) (let e = c.requires.key in let f = c.in-Opening-None.is in cc) (refl, handled, sent)),
+          (new_at admits c.args.setup.now r.message r.source r.now None (request_key r.message) [] outcome.handled (seen_sent outcome.datagram) (let e = c.requires.key in let f = c.in-Opening-None.is in cc) (refl, handled, sent)),
     ))
     c.answered-in-Opening-None.ensures.handled c.answered-in-Opening-None.ensures.sent

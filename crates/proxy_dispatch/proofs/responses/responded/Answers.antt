@@ -12,6 +12,6 @@ returns-in-None g c = (
   [],
   refl,
   outcome_at (λ handled sent. ResponseBecomes c.args.setup.now c.args.response c.args.source c.args.now [] handled sent)
-  c.silent.result.handled Dropped (seen_sent c.silent.result.datagram) None c.silent.ensures.handled (ap seen_sent c.silent.ensures.silent)
-  (inr (c.in-None.ensures.none, refl, refl, refl)),
+      c.silent.result.handled Dropped (seen_sent c.silent.result.datagram) None c.silent.ensures.handled (ap seen_sent c.silent.ensures.silent)
+      (inr (c.in-None.ensures.none, refl, refl, refl)),
 )
