@@ -1,11 +1,12 @@
 -- What one look at a datagram makes of what is spent.
 use Rattle.std.proofs.Common.{◌≡◌, ◌∙◌, ◌≢◌, ℕ, ◌+◌, ◌-◌, ◌*◌, ◌≤◌, max, Bool, true, false, not, ◌&&◌, ◌||◌, cond, ap, refl, sym, subst, arith, leb-true, mul-le-mul_left}
-use Rattle.std.proofs.Common.{List}
+use Rattle.std.proofs.Common.{List, Option, Result, Ok, Err, unwrap_or}
+use Rattle.std.specs.Prelude.{IfOk, OnErr, OnOk}
 use Rattle.std.specs.BTreeMap.{insert_entry}
 use Rattle.std.specs.Ordering.{nat_cmp}
 use Rattle.source_limit.specs.declared.bucket.Bucket.{Bucket}
-use Rattle.source_limit.specs.Bucket.{has_left, spend, spent_at}
-use Rattle.source_limit.specs.Limits.{Limits, bucket_of, charged, charged_at, is_admitted, is_beyond, spent_by, still_spent, swept_at}
+use Rattle.source_limit.specs.Bucket.{has_left, spend, spent_at, unspent}
+use Rattle.source_limit.specs.Limits.{Limits, bucket_of, charged, charged_at, is_admitted, is_beyond, kept_at, spent_by, still_spent, swept_at}
 use Rattle.source_limit.specs.Runs.{Looks, is_counted, spent}
 
 -- a sweep changes no limit
@@ -90,3 +91,39 @@ module _ (now address : ℕ) (old new : Limits)
       by false true false is_beyond_so is_left_so said spends = absurd cc
       by false false true is_beyond_so is_left_so said same_buckets = absurd cc
       by false false false is_beyond_so is_left_so said same_buckets = uncounted same_buckets
+
+-- ---- as `admits` goes
+
+module _ (now address : ℕ) (old mid new : Limits) (is : mid ≡ swept_at now old)
+    (same : (a moment : ℕ) → now ≤ moment → spent mid a moment ≡ spent old a moment) (most : new.most ≡ mid.most)
+    (kept : (other : ℕ) → other ≢ address → kept_at new.buckets other ≡ kept_at mid.buckets other) where
+  pub others_same : (other moment : ℕ) → other ≢ address → now ≤ moment → spent new other moment ≡ spent old other moment
+  others_same other moment apart later =
+      ap (λ (k : ℕ). spent_by k new.buckets other moment) most
+      ∙ ap (λ (k : Option Bucket). spent_at mid.most moment (unwrap_or k unspent)) (kept other apart)
+      ∙ same other moment later
+
+  swept_same : (a moment : ℕ) → now ≤ moment → spent (swept_at now old) a moment ≡ spent old a moment
+  swept_same a moment later = ap (λ (l : Limits). spent l a moment) (sym is) ∙ same a moment later
+
+  new_most : new.most ≡ old.most
+  new_most = most ∙ ap (λ (l : Limits). l.most) is ∙ swept_most now old
+
+  pub looked_ok : {E : Type 0} → (r : Result Bool E)
+      → IfOk r (λ admitted. admitted ≡ is_admitted mid.most now mid.buckets address)
+      → OnOk r (new.buckets ≡ charged mid.most now mid.buckets address)
+      → OnOk r (is_beyond mid.buckets address ≡ false → has_left mid.most now (bucket_of mid.buckets address) ≡ true
+      → bucket_of new.buckets address ≡ spend mid.most now (bucket_of mid.buckets address))
+      → IfOk r (λ admitted. Looks old now address (is_counted old now address admitted) new)
+  looked_ok (Ok admitted) answer ok own =
+      let A : Limits → Type 0 = λ l. admitted ≡ is_admitted l.most now l.buckets address in
+      let B : Limits → Type 0 = λ l. new.buckets ≡ charged l.most now l.buckets address in
+      let C : Limits → Type 0 = λ l.
+      is_beyond l.buckets address ≡ false → has_left l.most now (bucket_of l.buckets address) ≡ true
+      → bucket_of new.buckets address ≡ spend l.most now (bucket_of l.buckets address) in
+      looked now address old new swept_same new_most others_same admitted (subst A is answer) (subst B is ok) (subst C is own)
+  looked_ok (Err e) answer ok own = tt
+
+  pub looked_err : {E : Type 0} → (r : Result Bool E) → OnErr r (new.buckets ≡ mid.buckets) → OnErr r (Looks old now address false new)
+  looked_err (Ok admitted) err = tt
+  looked_err (Err e) err = uncounted now address old new swept_same new_most others_same (err ∙ ap (λ (l : Limits). l.buckets) is)

@@ -6,7 +6,7 @@ use Rattle.source_limit.specs.Limits.{Limits}
 use Rattle.source_limit.specs.Runs.{AreLooks, Look, Looks, NoRunExceedsTheRate, let_in, spent}
 
 -- so many were let in since the first moment, at most as many as is spent now and has come back
-abbrev HasSpent : (l : Limits) (most first at address let : ℕ) → Type 0
+abbrev HasSpent : (l : Limits) (most first at address n : ℕ) → Type 0
 HasSpent l most first at address n = (moment : ℕ) → at ≤ moment → 1000 * n ≤ spent l address moment + most * (moment - first)
 
 abbrev Keeps : (l new : Limits) (now address : ℕ) → Type 0
