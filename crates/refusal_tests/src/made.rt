@@ -9,7 +9,7 @@ use crate::sources::{
 use refusing::{Answer, Heap, Play, Repeated, Stateless};
 use sip_build::OwnStatus;
 use sip_message::{ack_of, cancel_of, forward, generated, mark_received, strip_route, upward};
-use sip_text::{Message, Start};
+use sip_text::{Message, StartLine};
 use sip_uri::SipUri;
 use sip_via::{BuildFault, ReceivedFault, ViaFault, add_received};
 use std::mem;
@@ -58,7 +58,7 @@ fn sent_along<'a>(
     }
     let wanted = &case.wanted;
     match request.start() {
-        Start::Request { .. } => match case.making {
+        StartLine::Request { .. } => match case.making {
             Making::Forwarded => judged(
                 heap,
                 wanted,
@@ -78,7 +78,7 @@ fn sent_along<'a>(
                 BuildFault::NoMemory,
             ),
         },
-        Start::Response { .. } => Answer::Wrong,
+        StartLine::Response { .. } => Answer::Wrong,
     }
 }
 
