@@ -1,6 +1,6 @@
 use Rattle.sip_via.proofs.Common.{◌≡◌, ◌∙◌, ◌≤◌, ◌+◌, ◌-◌, Bor, List, None, Option, Some, ap, arith, behind, is_via, length, option_copied, parts_of, suc, sym, take, true, ℕ, common_steps}
 use Rattle.sip_via.proofs.laws.ViaFronts.{cuts-at-params}
-use Rattle.sip_via.proofs.received.front_len.Goals as goal
+use Rattle.sip_via.proofs.marks.front_len.Goals as goal
 
 -- the `;` and the parameters are within the value
 behind-params : (value text : List ℕ) → is_via value ≡ true → (parts_of value).params ≡ Some text → 1 + length text ≤ length value
