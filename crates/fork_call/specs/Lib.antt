@@ -6,3 +6,5 @@ pub mod Carry
 pub mod Runs
 pub mod Answered
 pub mod Naming
+pub mod Waits
+pub mod Refused
