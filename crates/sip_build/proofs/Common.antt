@@ -2,7 +2,7 @@
 pub use Rattle.std.proofs.Common.{Bool, List, None, OnOk, Option, Some, [], ap, append_assoc, arith, codes, cond, drop, eqb, false, if◌then◌else◌, inl, inr, length, map, not, option_map, refl, rules, subst, suc, sym, take}
 pub use Rattle.std.proofs.Common.{true, ℕ, ◌&&◌, ◌*◌, ◌++◌, ◌+◌, ◌-◌, ◌<◌, ◌^◌, ◌∙◌, ◌∷◌, ◌≡◌, ◌≤◌, OnErr, Result, get_or}
 pub use Rattle.std.proofs.lemmas.Bool.{and_parts, cases_Bool, cond-false, cond-true, cond_both, false≢true}
-pub use Rattle.std.proofs.lemmas.List.{append-nil}
+pub use Rattle.std.proofs.lemmas.List.{append-nil, drop-map, length-append}
 pub use Rattle.std.proofs.lemmas.List.Folds.{flat_map-map, list_all-append}
 pub use Rattle.std.specs.Borrow.{Bor}
 pub use Rattle.std.specs.Fmt.{decimal}
@@ -43,7 +43,7 @@ pub use Rattle.sip_via.specs.declared.branch.BranchName.{BranchName}
 pub use Rattle.sip_via.specs.declared.own.Own.{Own}
 pub use Rattle.sip_build.specs.Exchanged.{exchanged, is_other}
 pub use Rattle.sip_build.specs.Forwarding.{forwarded, hops_lowered, is_request, record_route_lines, to_target}
-pub use Rattle.sip_build.specs.Generated.{generated_of, timestamp_lines, to_lines, unsupported_lines}
+pub use Rattle.sip_build.specs.Generated.{code_of, generated_of, reason_of, timestamp_lines, to_lines, unsupported_lines}
 pub use Rattle.sip_build.specs.Requests.{along, along_to, to_value}
 pub use Rattle.sip_build.specs.SeenKept.{seen_kept, texts}
 pub use Rattle.sip_build.specs.Upward.{challenge_line, challenge_name, contact_lines, upward_of}

@@ -1,5 +1,5 @@
 -- Bytes that were written at a place, piece by piece.
-use Rattle.sip_build.proofs.Common.{◌≡◌, ℕ, ◌+◌, ◌<◌, ◌≤◌, List, ◌++◌, length, take, ap, arith, subst, flat_map, Placed, get_or, common_steps}
+use Rattle.sip_build.proofs.Common.{◌≡◌, ℕ, ◌+◌, ◌<◌, ◌≤◌, List, [], ◌++◌, length, take, ap, append-nil, append_assoc, arith, subst, flat_map, Placed, get_or, common_steps}
 use Rattle.std.proofs.lemmas.List.Folds.{length-flat_map-take}
 
 -- under another name of the text
@@ -23,6 +23,18 @@ pub record Placing (old new : List ℕ) (at : ℕ) (text : List ℕ) (end : ℕ)
   pub bytes : take end new ++ left ≡ take at old ++ text
   pub moved : end + length left ≡ at + length text
   pub len : length new ≡ length old
+
+-- what stands first of it fits
+pub fits-first : (old mid : List ℕ) (at next : ℕ) (text left part more : List ℕ) → Placing old mid at text next left → left ≡ part ++ more → at + length text ≤ length old → next + length part ≤ length mid
+fits-first old mid at next text left part more placing first fits = grind (arith, common_steps)
+
+-- and it is left no more where it was written
+pub placed-first : (old mid new : List ℕ) (at next end : ℕ) (text left part more : List ℕ) → Placing old mid at text next left → left ≡ part ++ more → Placed mid new next part end → Placing old new at text end more
+placed-first old mid new at next end text left part more placing first placed = grind (arith, common_steps, append_assoc)
+
+-- nothing is left
+pub placed-all : (old new : List ℕ) (at : ℕ) (text : List ℕ) (end : ℕ) (left : List ℕ) → Placing old new at text end left → left ≡ [] → Placed old new at text end
+placed-all old new at text end left placing none = grind (arith, common_steps, append-nil)
 
 -- another name of a text that fits
 pub fits-as : (at room : ℕ) (t s : List ℕ) → at + length s ≤ room → t ≡ s → at + length t ≤ room

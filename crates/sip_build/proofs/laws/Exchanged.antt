@@ -117,3 +117,8 @@ round-sooner via name o lines hs front after top n differ p lt = grind (arith, c
 
 pub round-later : (via name : List ℕ) (o : Option (List ℕ)) (lines : List HeaderText) (hs front after : List HeaderText) (top : HeaderText) (n : ℕ) → same_name via name ≡ false → Parted via hs front (top ∷ after) n → length front ≤ place_of name front → front ++ (line_if_any top.name o ++ exchanged name lines after) ≡ exchanged name lines (replaced via o hs)
 round-later via name o lines hs front after top n differ p le = grind (arith, common_steps, other-named via name hs front after top n differ p, changed via o hs front after top n p, exchanged-round, exchanged-later)
+
+-- ---- what was added in three steps
+
+pub none-left : {X : Type 0} (xs : List X) → length xs ≡ 0 → xs ≡ []
+none-left xs e = grind (arith, common_steps)
