@@ -55,7 +55,8 @@ pub(crate) fn deliver<A: Allocator + Clone, T: CallTable<A>, R: Wait>(
     ensures { IfOk result (λ outcome. (looks : List Look) × ShowsAll T.shows table.old looks table.new
         × IsGiven number request source now looks outcome.handled (seen_sent outcome.datagram)) }
 {
-    match table.take(rt, number, request, source, now) {
+    let mut handed = Some(request);
+    match table.take(rt, number, &mut handed, source, now) {
         Some(answer) => answered_by(number, answer),
         None => Ok(Outcome::silent(Handled::Dropped)),
     }
@@ -80,7 +81,8 @@ pub(crate) fn deliver_response<A: Allocator + Clone, T: CallTable<A>, R: Wait>(
         × IsGiven read.name.context response source now looks outcome.handled (seen_sent outcome.datagram)) }
 {
     let number = read.name.context;
-    match table.take_response(rt, response, read, source, now) {
+    let mut handed = Some(response);
+    match table.take_response(rt, &mut handed, read, source, now) {
         Some(answer) => answered_by(number, answer),
         None => Ok(Outcome::silent(Handled::Dropped)),
     }

@@ -1,15 +1,16 @@
 //! Requests: known by their keys, or new.
-ghost use Rattle.std.specs.Prelude.{◌≡◌, ℕ, List, IfOk, Some};
+ghost use Rattle.std.specs.Prelude.{◌≡◌, ℕ, List, IfOk, IsSome, Some};
 ghost use Rattle.std.specs.Option.{option_map};
 ghost use Rattle.sip_build.specs.Forwarding.{is_request};
 ghost use Rattle.sip_route.specs.RequestKey.{request_key};
+ghost use Rattle.call_model.specs.Call as spec_call;
 ghost use Rattle.call_model.specs.Call.{numbered};
 ghost use Rattle.call_routing.specs.Opening.{Opens};
 ghost use Rattle.proxy_config.specs.Setup as spec;
 ghost use Rattle.sip_text.specs.Text.{MessageText};
 ghost use Rattle.proxy_dispatch.specs.declared.purpose.Purpose.TheVariants as purposes;
 ghost use Rattle.proxy_dispatch.specs.Asking.{asks_service};
-ghost use Rattle.proxy_dispatch.specs.Becomes.{AdmittedBecomes, NewBecomes, OpeningBecomes, RequestBecomes, UnknownBecomes};
+ghost use Rattle.proxy_dispatch.specs.Becomes.{AdmittedBecomes, IsGiven, NewBecomes, OpeningBecomes, RequestBecomes, UnknownBecomes};
 ghost use Rattle.proxy_dispatch.specs.Looks.{Look, ShowsAll};
 ghost use Rattle.proxy_dispatch.specs.Purpose.{purpose_of};
 ghost use Rattle.proxy_dispatch.specs.inner.Sent.{seen_sent};
@@ -18,13 +19,12 @@ use crate::acks::acknowledged;
 use crate::admission::{Admission, opener_of};
 use crate::answers::{answered, rejected, told, turned_away};
 use crate::asking::asks_service;
-use crate::calls::CallTable;
+use crate::calls::{CallTable, OpenFault};
 use crate::datagrams::Handled;
 use crate::delivery::deliver;
 use crate::outcome::Outcome;
 use crate::purpose::Purpose;
 use crate::received::ReceivedMessage;
-use call_table::PendingFault;
 use fork_call::{OpeningRequest, PendingCall, Setup, Unrouted};
 use sip_build::OwnStatus;
 use sip_route::append_request_key;
@@ -45,6 +45,26 @@ fn key_of<A: Allocator>(alloc: A, request: &Message<A>) -> Result<Option<Vec<u8,
     }
 }
 
+/// Gives the request of a call that is not to be to the call of that number, as it was prepared.
+fn deliver_back<A: Allocator + Clone, T: CallTable<A>, R: Wait>(
+    rt: &R,
+    table: &mut T,
+    number: u64,
+    pending: Option<PendingCall<A>>,
+    source: Hop,
+    now: u64,
+) -> Result<Outcome<A>, AllocError>
+    requires { IsSome pending }
+    ensures { (call : spec_call.Call) → pending ≡ Some call
+        → IfOk result (λ outcome. (looks : List Look) × ShowsAll T.shows table.old looks table.new
+        × IsGiven number call.opened.request source now looks outcome.handled (seen_sent outcome.datagram)) }
+{
+    match pending {
+        Some(pending) => deliver(rt, table, number, pending.into_request(), source, now),
+        None => unreachable!(),
+    }
+}
+
 /// Puts a call under its key, which no call had when it was looked for. Where another worker has opened one under that key
 /// meanwhile, that call is given the request.
 fn put<A: Allocator + Clone, T: CallTable<A>, R: Wait>(
@@ -59,14 +79,14 @@ fn put<A: Allocator + Clone, T: CallTable<A>, R: Wait>(
         → IfOk result (λ outcome. (looks : List Look) × ShowsAll T.shows table.old looks table.new
         × OpeningBecomes setup m source now key.items looks outcome.handled (seen_sent outcome.datagram)) }
 {
-    match table.open(rt, key, pending) {
+    let mut key = Some(key);
+    let mut pending = Some(pending);
+    match table.open(rt, &mut key, &mut pending) {
         Ok(number) => Ok(Outcome::silent(Handled::Opened(number))),
         Err(fault) => match fault {
-            PendingFault::Known(number, pending) => {
-                deliver(rt, table, number, pending.into_request(), source, now)
-            }
-            PendingFault::Spent => Ok(Outcome::silent(Handled::Dropped)),
-            PendingFault::NoMemory => Err(AllocError),
+            OpenFault::Known(number) => deliver_back(rt, table, number, pending, source, now),
+            OpenFault::Spent => Ok(Outcome::silent(Handled::Dropped)),
+            OpenFault::NoMemory => Err(AllocError),
         },
     }
 }

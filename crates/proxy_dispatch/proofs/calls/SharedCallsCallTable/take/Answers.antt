@@ -1,12 +1,10 @@
-use Rattle.std.proofs.Common.{rules}
-use Rattle.proxy_dispatch.specs.Looks.{AnswersTake}
-use Rattle.proxy_dispatch.proofs.Looking.{none_so, seen_so}
+use Rattle.proxy_dispatch.proofs.Common.{◌∙◌, sym}
+use Rattle.proxy_dispatch.proofs.Looking.{handed_so, none_so}
 use Rattle.proxy_dispatch.proofs.calls.SharedCallsCallTable.take.Goals as goal
 
-pub returns-clause-seen : goal.returns-clause-seen
-returns-clause-seen g c =
-    seen_so c.with.result c.args.number _ (λ before answer after. AnswersTake before c.args.message c.args.source c.args.now answer after)
-    (λ old new answer leads. search rules) (λ old new answer leads. search rules) c.with.ensures
+pub returns-in-Some-clause-seen : goal.returns-in-Some-clause-seen
+returns-in-Some-clause-seen g c = λ m e.
+    handed_so c.in-Some.message m (sym c.in-Some.is ∙ c.take.ensures.value ∙ e) c.args.number c.args.source c.args.now c.give.result c.give.ensures
 
-pub returns-clause-missed : goal.returns-clause-missed
-returns-clause-missed g c = none_so c.with.result _ tt
+pub returns-in-Some-clause-missed : goal.returns-in-Some-clause-missed
+returns-in-Some-clause-missed g c = none_so c.give.result _ (λ some. tt)

@@ -1,12 +1,16 @@
-use Rattle.std.proofs.Common.{rules}
-use Rattle.proxy_dispatch.specs.Looks.{AnswersTake}
-use Rattle.proxy_dispatch.proofs.Looking.{none_so, seen_so}
+use Rattle.proxy_dispatch.proofs.Common.{◌∙◌, sym}
+use Rattle.proxy_dispatch.proofs.Looking.{handed_so, none_so}
 use Rattle.proxy_dispatch.proofs.calls.SharedCallsCallTable.take_response.Goals as goal
 
-pub returns-clause-seen : goal.returns-clause-seen
-returns-clause-seen g c =
-    seen_so c.with.result c.args.read.name.context _ (λ before answer after. AnswersTake before c.args.response c.args.source c.args.now answer after)
-    (λ old new answer leads. search rules) (λ old new answer leads. search rules) c.with.ensures
+pub give_response-requires-clause-response : goal.give_response-requires-clause-response
+give_response-requires-clause-response g c = (c.requires c.in-Some.response (sym c.take.ensures.value ∙ c.in-Some.is)).0
 
-pub returns-clause-missed : goal.returns-clause-missed
-returns-clause-missed g c = none_so c.with.result _ tt
+pub give_response-requires-clause-read : goal.give_response-requires-clause-read
+give_response-requires-clause-read g c = (c.requires c.in-Some.response (sym c.take.ensures.value ∙ c.in-Some.is)).1
+
+pub returns-in-Some-clause-seen : goal.returns-in-Some-clause-seen
+returns-in-Some-clause-seen g c = λ m e.
+    handed_so c.in-Some.response m (sym c.in-Some.is ∙ c.take.ensures.value ∙ e) c.args.read.name.context c.args.source c.args.now c.give_response.result c.give_response.ensures
+
+pub returns-in-Some-clause-missed : goal.returns-in-Some-clause-missed
+returns-in-Some-clause-missed g c = none_so c.give_response.result _ (λ some. tt)
