@@ -81,6 +81,12 @@ asked_so admits setup m source now key opener said b looks handled sent h e f be
 
 -- ---- a request
 
+pub purpose_at : (admits : Admits) (setup : Setup) (m : MessageText) (source : Hop) (now : ℕ) (purpose p : Purpose) (looks : List Look) (handled : Handled) (sent : Option Datagram)
+    → purpose ≡ p → UnknownBecomes admits setup m source now p looks handled sent → UnknownBecomes admits setup m source now purpose looks handled sent
+purpose_at admits setup m source now purpose p looks handled sent e h =
+    let P : Purpose → Type 0 = λ x. UnknownBecomes admits setup m source now x looks handled sent in
+    subst P (sym e) h
+
 -- of a request whose key is this one
 pub new_at : (admits : Admits) (setup : Setup) (m : MessageText) (source : Hop) (now : ℕ) (key other : Option (List ℕ)) (looks : List Look) (handled : Handled) (sent : Option Datagram)
     → key ≡ other → NewBecomes admits setup m source now key looks handled sent → NewBecomes admits setup m source now other looks handled sent

@@ -1,5 +1,5 @@
 -- Looks at a table that threads share.
-use Rattle.proxy_dispatch.proofs.Common.{◌≡◌, ℕ, Option, Some, None, Result, Ok, Err, Call}
+use Rattle.proxy_dispatch.proofs.Common.{◌≡◌, ◌∙◌, ℕ, Option, Some, None, Result, Ok, Err, Call}
 use Rattle.std.specs.Prelude.{IfErr, IfNone, IfSome}
 use Rattle.call_table.specs.declared.shelf.PendingFault.{PendingFault}
 use Rattle.call_table.specs.declared.shelf.PendingFault.TheVariants.{Known, Spent, NoMemory}
@@ -23,9 +23,9 @@ none_so None P h = h
 none_so (Some x) P h = tt
 
 -- a look at a call leaves it its number
-pub seen_so : {X : Type 0} (r : Option X) (number : ℕ) (Leads : Call → X → Call → Type 0)
-    → ((old new : Call) (x : X) → old.opened.number ≡ number → Leads old x new → new.opened.number ≡ number)
+pub seen_so : {X : Type 0} (r : Option X) (number : ℕ) (Leads Does : Call → X → Call → Type 0)
+    → ((old new : Call) (x : X) → Leads old x new → Does old x new) → ((old new : Call) (x : X) → Leads old x new → new.opened.number ≡ old.opened.number)
     → IfSome r (λ x. (old : Call) × (new : Call) × (old.opened.number ≡ number) × Leads old x new)
-    → IfSome r (λ x. (before : Call) × (after : Call) × (before.opened.number ≡ number) × ((before.opened.number ≡ number) × (after.opened.number ≡ number)) × Leads before x after)
-seen_so None number Leads keeps h = tt
-seen_so (Some x) number Leads keeps (old, new, e, leads) = (old, new, e, (e, keeps old new x e leads), leads)
+    → IfSome r (λ x. (before : Call) × (after : Call) × (before.opened.number ≡ number) × ((before.opened.number ≡ number) × (after.opened.number ≡ number)) × Does before x after)
+seen_so None number Leads Does does keeps h = tt
+seen_so (Some x) number Leads Does does keeps (old, new, e, leads) = (old, new, e, (e, keeps old new x leads ∙ e), does old new x leads)

@@ -10,8 +10,7 @@ use Rattle.fork_call.specs.declared.fault.TakeFault.TheVariants as fault
 use Rattle.fork_call.specs.Takes.{Takes}
 use Rattle.proxy_dispatch.specs.declared.datagrams.Handled.TheVariants.{Dropped, Delivered}
 use Rattle.proxy_dispatch.specs.Becomes.{IsGiven, IsLeft}
-use Rattle.proxy_dispatch.specs.Looks.{Seen}
-use Rattle.proxy_dispatch.specs.inner.Becomes.{AnswersTake}
+use Rattle.proxy_dispatch.specs.Looks.{AnswersTake, Seen}
 
 number_of : Call → ℕ
 number_of call = call.opened.number

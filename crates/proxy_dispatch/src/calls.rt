@@ -1,15 +1,27 @@
 //! The calls of a proxy, as one thread sees them.
-ghost use Rattle.std.specs.Prelude.{◌≡◌, ℕ, Some, IfErr, IfNone, IfOk, IfSome};
-ghost use Rattle.std.specs.Fn.{FnOnceReturnsAtMut};
+ghost use Rattle.std.specs.Prelude.{◌≡◌, Some, true, IfErr, IfNone, IfOk, IfSome};
+ghost use Rattle.sip_via.specs.TopVia.{top_value};
 ghost use Rattle.call_model.specs.Call as spec;
 ghost use Rattle.call_model.specs.Call.{numbered};
+ghost use Rattle.call_routing.specs.Kinds.{is_response};
+ghost use Rattle.call_routing.specs.Matching.{IsReadBranch};
 ghost use Rattle.call_table.specs.Faults.{IfKnown, IfSpent};
-ghost use Rattle.proxy_dispatch.specs.Looks.{Look, Found, HasItsNumber, Missed, Put, Seen, Spent};
+ghost use Rattle.proxy_dispatch.specs.Looks.{AnswersTake, Look, Found, HasItsNumber, Missed, Put, Seen, Spent};
 
 use call_table::{PendingFault, Shelf};
-use fork_call::{Call, PendingCall};
+use fork_call::{Call, PendingCall, TakeFault, Taken};
+use sip_text::Message;
+use sip_uri::Hop;
+use sip_via::{BranchName, Own};
 use std::alloc::Allocator;
 use std::sync::Wait;
+
+/// The branch that the top Via value of a response names, read as that of a proxy of this address.
+#[derive(Clone, Copy)]
+pub struct ReadBranch {
+    pub own: Own,
+    pub name: BranchName,
+}
 
 /// The calls of a proxy, under numbers and under the keys of their requests, as one thread sees them. Each call of a method is
 /// one look at them, and other threads may change them between two looks.
@@ -37,14 +49,69 @@ pub trait CallTable<A: Allocator + Clone> {
         ensures known { IfErr result (IfKnown (λ number back. Self.shows self.old (Found key.items (Some number)) self.new × (back ≡ pending))) }
         ensures spent { IfErr result (IfSpent (Self.shows self.old Spent self.new)) };
 
-    /// Calls `f` at the call of a number, while no other thread looks at that call, and answers what it returns. None where there
-    /// is no such call.
-    fn with<R: Wait, U, F: FnOnce(&mut Call<A>) -> U>(&mut self, rt: &R, number: u64, f: F) -> Option<U>
-        requires callable { (call : _) → call.now.opened.number ≡ number → F.pre f call }
-        requires keeps { (old new : spec.Call) (r : U) → old.opened.number ≡ number → FnOnceReturnsAtMut F.FnOnce f old r new → new.opened.number ≡ number }
-        ensures seen { IfSome result (λ r. (before : spec.Call) × (after : spec.Call) × (before.opened.number ≡ number)
-            × Self.shows self.old (Seen number before after) self.new × FnOnceReturnsAtMut F.FnOnce f before r after) }
+    /// Gives a message to the call of a number, while no other thread looks at that call, and answers what the call answers
+    /// (`Call::take`). None where there is no such call.
+    fn take<R: Wait>(
+        &mut self,
+        rt: &R,
+        number: u64,
+        message: Message<A>,
+        source: Hop,
+        now: u64,
+    ) -> Option<Result<Taken, TakeFault>>
+        ensures seen { IfSome result (λ answer. (before : spec.Call) × (after : spec.Call) × (before.opened.number ≡ number)
+            × Self.shows self.old (Seen number before after) self.new × AnswersTake before message source now answer after) }
         ensures missed { IfNone result (Self.shows self.old (Missed number) self.new) };
+
+    /// Gives a response to the call that the branch of its top Via value names, as `take` does.
+    fn take_response<R: Wait>(
+        &mut self,
+        rt: &R,
+        response: Message<A>,
+        read: ReadBranch,
+        source: Hop,
+        now: u64,
+    ) -> Option<Result<Taken, TakeFault>>
+        requires response { is_response response.start ≡ true }
+        requires read { IsReadBranch read.own (top_value response) read.name }
+        ensures seen { IfSome result (λ answer. (before : spec.Call) × (after : spec.Call) × (before.opened.number ≡ read.name.context)
+            × Self.shows self.old (Seen read.name.context before after) self.new × AnswersTake before response source now answer after) }
+        ensures missed { IfNone result (Self.shows self.old (Missed read.name.context) self.new) };
+}
+
+/// Gives a message to a call.
+#[tactic(auto, using(crate::proofs::Taking::answers_so, crate::proofs::Taking::number_kept))]
+fn take<A: Allocator + Clone>(
+    call: &mut Call<A>,
+    message: Message<A>,
+    source: Hop,
+    now: u64,
+) -> Result<Taken, TakeFault>
+    ensures answer { AnswersTake call.old message source now result call.new }
+    ensures number { call.new.opened.number ≡ call.old.opened.number }
+{
+    call.take(message, source, now)
+}
+
+/// Gives a response to a call. Its branch is read again where the call was opened at another address.
+#[tactic(auto, using(crate::proofs::Taking::answers_so, crate::proofs::Taking::number_kept))]
+fn take_response<A: Allocator + Clone>(
+    call: &mut Call<A>,
+    response: Message<A>,
+    read: ReadBranch,
+    source: Hop,
+    now: u64,
+) -> Result<Taken, TakeFault>
+    requires response { is_response response.start ≡ true }
+    requires read { IsReadBranch read.own (top_value response) read.name }
+    ensures answer { AnswersTake call.old response source now result call.new }
+    ensures number { call.new.opened.number ≡ call.old.opened.number }
+{
+    if call.own() == read.own {
+        call.take_response(response, read.name, source, now)
+    } else {
+        take(call, response, source, now)
+    }
 }
 
 /// The calls of a proxy whose threads share them: each look is under a lock.
@@ -72,11 +139,49 @@ impl<A: Allocator + Clone> CallTable<A> for SharedCalls<'_, A> {
         rt: &R,
         key: Vec<u8, A>,
         pending: PendingCall<A>,
-    ) -> Result<u64, PendingFault<PendingCall<A>>> {
+    ) -> Result<u64, PendingFault<PendingCall<A>>>
+        ensures opened { IfOk result (λ number. HasItsNumber (Put key.items number (numbered number pending))) }
+        ensures known { IfErr result (IfKnown (λ number back. HasItsNumber (Found key.items (Some number)) × (back ≡ pending))) }
+        ensures spent { IfErr result (IfSpent (HasItsNumber Spent)) }
+    {
         self.shelf.put_pending(rt, key, pending)
     }
 
-    fn with<R: Wait, U, F: FnOnce(&mut Call<A>) -> U>(&mut self, rt: &R, number: u64, f: F) -> Option<U> {
-        self.shelf.with(rt, number, f)
+    fn take<R: Wait>(
+        &mut self,
+        rt: &R,
+        number: u64,
+        message: Message<A>,
+        source: Hop,
+        now: u64,
+    ) -> Option<Result<Taken, TakeFault>>
+        ensures seen { IfSome result (λ answer. (before : spec.Call) × (after : spec.Call) × (before.opened.number ≡ number)
+            × HasItsNumber (Seen number before after) × AnswersTake before message source now answer after) }
+        ensures missed { IfNone result (HasItsNumber (Missed number)) }
+    {
+        self.shelf
+            .with(rt, number, |call| take(call, message, source, now))
+    }
+
+    fn take_response<R: Wait>(
+        &mut self,
+        rt: &R,
+        response: Message<A>,
+        read: ReadBranch,
+        source: Hop,
+        now: u64,
+    ) -> Option<Result<Taken, TakeFault>>
+        requires response { is_response response.start ≡ true }
+        requires read { IsReadBranch read.own (top_value response) read.name }
+        ensures seen { IfSome result (λ answer. (before : spec.Call) × (after : spec.Call) × (before.opened.number ≡ read.name.context)
+            × HasItsNumber (Seen read.name.context before after) × AnswersTake before response source now answer after) }
+        ensures missed { IfNone result (HasItsNumber (Missed read.name.context)) }
+    {
+        let number = read.name.context;
+        self.shelf.with(
+            rt,
+            number,
+            |call| take_response(call, response, read, source, now),
+        )
     }
 }

@@ -115,7 +115,7 @@ fn admitted<A: Allocator + Clone, T: CallTable<A>, R: Wait>(
     requires { purpose_of received.message.start ≡ Some purposes.Opening }
     ensures { IfOk result (λ outcome. (looks : List Look) × ShowsAll T.shows table.old looks table.new
         × AdmittedBecomes (asks_service setup.now received.message) setup.now received.message received.source received.now key.items
-            looks outcome.handled (seen_sent outcome.datagram)) }
+        looks outcome.handled (seen_sent outcome.datagram)) }
 {
     if asks_service(received.memory.alloc.clone()?, setup, &received.message)? {
         return told(received.memory.alloc, received.message, received.source);
@@ -144,7 +144,7 @@ fn asked<A: Allocator + Clone, T: CallTable<A>, N: Admission, R: Wait>(
     requires { purpose_of received.message.start ≡ Some purposes.Opening }
     ensures { IfOk result (λ outcome. (looks : List Look) × ShowsAll T.shows table.old looks table.new
         × NewBecomes (N.admitted admission.now) setup.now received.message received.source received.now (Some key.items)
-            looks outcome.handled (seen_sent outcome.datagram)) }
+        looks outcome.handled (seen_sent outcome.datagram)) }
 {
     if !admission.admits(rt, opener_of(&received.message)) {
         return turned_away(received.memory.alloc, received.message, received.source);
@@ -172,7 +172,7 @@ fn unknown<A: Allocator + Clone, T: CallTable<A>, N: Admission, R: Wait>(
     requires key { option_map (λ text. text.items) key ≡ request_key received.message }
     ensures { IfOk result (λ outcome. (looks : List Look) × ShowsAll T.shows table.old looks table.new
         × UnknownBecomes (N.admitted admission.now) setup.now received.message received.source received.now purpose
-            looks outcome.handled (seen_sent outcome.datagram)) }
+        looks outcome.handled (seen_sent outcome.datagram)) }
 {
     match purpose {
         Purpose::Ack => acknowledged(
@@ -216,7 +216,7 @@ pub(crate) fn requested<A: Allocator + Clone, T: CallTable<A>, N: Admission, R: 
     requires { purpose_of received.message.start ≡ Some purpose }
     ensures { IfOk result (λ outcome. (looks : List Look) × ShowsAll T.shows table.old looks table.new
         × RequestBecomes (N.admitted admission.now) setup.now received.message received.source received.now purpose
-            looks outcome.handled (seen_sent outcome.datagram)) }
+        looks outcome.handled (seen_sent outcome.datagram)) }
 {
     let key = key_of(received.memory.alloc.clone()?, &received.message)?;
     let Some(text) = &key else {

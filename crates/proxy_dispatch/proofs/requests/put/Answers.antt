@@ -1,0 +1,42 @@
+use Rattle.proxy_dispatch.proofs.Common.{◌≡◌, ◌∷◌, ◌∙◌, [], None, Some, ap, inl, inr, refl, subst, sym, IfOk-weaker, seen_sent, MessageText, Call}
+use Rattle.call_model.specs.Call.{numbered}
+use Rattle.proxy_routing.specs.Admission.{IsPrepared}
+use Rattle.proxy_dispatch.specs.Becomes.{OpeningBecomes}
+use Rattle.proxy_dispatch.specs.Looks.{Found, Put, Spent}
+use Rattle.proxy_dispatch.specs.declared.datagrams.Handled.TheVariants.{Dropped, Opened}
+use Rattle.proxy_dispatch.proofs.Becoming.{prepared_so}
+use Rattle.proxy_dispatch.proofs.Outcomes.{outcome_at}
+use Rattle.proxy_dispatch.proofs.requests.put.Goals as goal
+
+pub returns-in-Ok : goal.returns-in-Ok
+returns-in-Ok g c = λ setup m opens.
+    let number = c.in-Ok.number in
+    let key = c.args.key.items in (
+      Put key number (numbered number c.args.pending) ∷ [],
+      (_, c.in-Ok.ensures.opened, refl),
+      outcome_at (λ handled sent. OpeningBecomes setup m c.args.source c.args.now key (Put key number (numbered number c.args.pending) ∷ []) handled sent)
+          c.silent-in-Ok.result.handled (Opened number) (seen_sent c.silent-in-Ok.result.datagram) None c.silent-in-Ok.ensures.handled (ap seen_sent c.silent-in-Ok.ensures.silent)
+          (inl (record { number = number; call = numbered number c.args.pending; opens = opens number; seen = refl; handled_is = refl; sent_is = refl })),
+    )
+
+pub returns-in-Err-Known : goal.returns-in-Err-Known
+returns-in-Err-Known g c = λ setup m opens.
+    let known = c.in-Err-Known.ensures.known in
+    let P : MessageText → Type 0 = λ x. IsPrepared setup m c.args.source x in
+    let prepared = subst P (sym (c.into_request.ensures ∙ ap (λ (x : Call). x.opened.request) known.1)) (prepared_so setup m c.args.source c.args.pending opens) in
+    IfOk-weaker c.deliver.result _ _
+    (λ outcome h. (
+      Found c.args.key.items (Some c.in-Err-Known.number) ∷ h.0,
+      (_, known.0, h.1),
+      inr (inr (inl (record { number = c.in-Err-Known.number; request = c.into_request.result; rest = h.0; prepared = prepared; seen = refl; given = h.2 }))),
+    ))
+    c.deliver.ensures
+
+pub returns-in-Err-Spent : goal.returns-in-Err-Spent
+returns-in-Err-Spent g c = λ setup m opens. (
+  Spent ∷ [],
+  (_, c.in-Err-Spent.ensures.spent, refl),
+  outcome_at (λ handled sent. OpeningBecomes setup m c.args.source c.args.now c.args.key.items (Spent ∷ []) handled sent)
+      c.silent-in-Err-Spent.result.handled Dropped (seen_sent c.silent-in-Err-Spent.result.datagram) None c.silent-in-Err-Spent.ensures.handled (ap seen_sent c.silent-in-Err-Spent.ensures.silent)
+      (inr (inr (inr (record { seen = refl; handled_is = refl; sent_is = refl })))),
+)
