@@ -1,5 +1,5 @@
 -- Looks at a table that threads share.
-use Rattle.proxy_dispatch.proofs.Common.{◌≡◌, ◌∙◌, ℕ, Option, Some, None, Result, Ok, Err, Call}
+use Rattle.proxy_dispatch.proofs.Common.{◌≡◌, ◌∙◌, ℕ, Option, Some, None, Result, Ok, Err, Call, subst}
 use Rattle.std.specs.Prelude.{IfErr, IfNone, IfSome}
 use Rattle.call_table.specs.declared.shelf.PendingFault.{PendingFault}
 use Rattle.call_table.specs.declared.shelf.PendingFault.TheVariants.{Known, Spent, NoMemory}
@@ -29,3 +29,14 @@ pub seen_so : {X : Type 0} (r : Option X) (number : ℕ) (Leads Does : Call → 
     → IfSome r (λ x. (before : Call) × (after : Call) × (before.opened.number ≡ number) × ((before.opened.number ≡ number) × (after.opened.number ≡ number)) × Does before x after)
 seen_so None number Leads Does does keeps h = tt
 seen_so (Some x) number Leads Does does keeps (old, new, e, leads) = (old, new, e, (e, keeps old new x leads ∙ e), does old new x leads)
+
+-- by which fault it was
+pub known_at : {X : Type 0} (P : ℕ → X → Type 0) (fault : PendingFault X) (number : ℕ) (back : X) → fault ≡ Known number back → IfKnown P fault → P number back
+known_at {X = X} P fault number back e h =
+    let Q : PendingFault X → Type 0 = λ f. IfKnown P f in
+    subst Q e h
+
+pub spent_at : {X : Type 0} (P : Type 0) (fault : PendingFault X) → fault ≡ Spent → IfSpent P fault → P
+spent_at {X = X} P fault e h =
+    let Q : PendingFault X → Type 0 = λ f. IfSpent P f in
+    subst Q e h

@@ -31,9 +31,11 @@ fn answered_by<A: Allocator>(
 {
     match answer {
         Ok(_) => Ok(Outcome::silent(Handled::Delivered(number))),
-        Err(TakeFault::Stray) => Ok(Outcome::silent(Handled::Dropped)),
-        Err(TakeFault::Full) => Ok(Outcome::silent(Handled::Dropped)),
-        Err(TakeFault::NoMemory) => Err(AllocError),
+        Err(fault) => match fault {
+            TakeFault::Stray => Ok(Outcome::silent(Handled::Dropped)),
+            TakeFault::Full => Ok(Outcome::silent(Handled::Dropped)),
+            TakeFault::NoMemory => Err(AllocError),
+        },
     }
 }
 

@@ -61,11 +61,13 @@ fn put<A: Allocator + Clone, T: CallTable<A>, R: Wait>(
 {
     match table.open(rt, key, pending) {
         Ok(number) => Ok(Outcome::silent(Handled::Opened(number))),
-        Err(PendingFault::Known(number, pending)) => {
-            deliver(rt, table, number, pending.into_request(), source, now)
-        }
-        Err(PendingFault::Spent) => Ok(Outcome::silent(Handled::Dropped)),
-        Err(PendingFault::NoMemory) => Err(AllocError),
+        Err(fault) => match fault {
+            PendingFault::Known(number, pending) => {
+                deliver(rt, table, number, pending.into_request(), source, now)
+            }
+            PendingFault::Spent => Ok(Outcome::silent(Handled::Dropped)),
+            PendingFault::NoMemory => Err(AllocError),
+        },
     }
 }
 
@@ -98,8 +100,10 @@ fn opened<A: Allocator + Clone, T: CallTable<A>, R: Wait>(
     };
     match PendingCall::new(setup, opening) {
         Ok(pending) => put(rt, table, key, pending, source, now),
-        Err(Unrouted::Rejected(fault, request)) => rejected(alloc, request, source, fault),
-        Err(Unrouted::NoMemory) => Err(AllocError),
+        Err(why) => match why {
+            Unrouted::Rejected(fault, request) => rejected(alloc, request, source, fault),
+            Unrouted::NoMemory => Err(AllocError),
+        },
     }
 }
 

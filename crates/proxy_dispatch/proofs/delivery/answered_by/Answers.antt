@@ -10,16 +10,18 @@ pub returns-in-Ok : goal.returns-in-Ok
 returns-in-Ok g c = λ call new m source now is takes.
     outcome_at (λ handled sent. IsGiven c.args.number m source now (Seen c.args.number call new ∷ []) handled sent)
     c.silent.result.handled (Delivered c.args.number) (seen_sent c.silent.result.datagram) None
-    c.silent.ensures.handled (ap seen_sent c.silent.ensures.silent) (taken_given c.args.number c.in-Ok.field-0 call new m source now is takes)
+    c.silent.ensures.handled (ap seen_sent c.silent.ensures.silent) (taken_given c.args.number c.args.answer call new m source now is takes c.in-Ok.field-0 c.in-Ok.is)
 
-pub returns-in-Err-Stray : goal.returns-in-Err-Stray
-returns-in-Err-Stray g c = λ call new m source now is takes.
+pub returns-in-Stray : goal.returns-in-Stray
+returns-in-Stray g c = λ call new m source now is takes.
     outcome_at (λ handled sent. IsGiven c.args.number m source now (Seen c.args.number call new ∷ []) handled sent)
-    c.silent-in-Err-Stray.result.handled Dropped (seen_sent c.silent-in-Err-Stray.result.datagram) None
-    c.silent-in-Err-Stray.ensures.handled (ap seen_sent c.silent-in-Err-Stray.ensures.silent) (stray_given c.args.number call new m source now is takes)
+    c.silent-in-Stray.result.handled Dropped (seen_sent c.silent-in-Stray.result.datagram) None
+    c.silent-in-Stray.ensures.handled (ap seen_sent c.silent-in-Stray.ensures.silent)
+    (stray_given c.args.number c.args.answer call new m source now is takes c.in-Err.fault c.in-Err.is c.in-Stray.is)
 
-pub returns-in-Err-Full : goal.returns-in-Err-Full
-returns-in-Err-Full g c = λ call new m source now is takes.
+pub returns-in-Full : goal.returns-in-Full
+returns-in-Full g c = λ call new m source now is takes.
     outcome_at (λ handled sent. IsGiven c.args.number m source now (Seen c.args.number call new ∷ []) handled sent)
-    c.silent-in-Err-Full.result.handled Dropped (seen_sent c.silent-in-Err-Full.result.datagram) None
-    c.silent-in-Err-Full.ensures.handled (ap seen_sent c.silent-in-Err-Full.ensures.silent) (full_given c.args.number call new m source now is takes)
+    c.silent-in-Full.result.handled Dropped (seen_sent c.silent-in-Full.result.datagram) None
+    c.silent-in-Full.ensures.handled (ap seen_sent c.silent-in-Full.ensures.silent)
+    (full_given c.args.number c.args.answer call new m source now is takes c.in-Err.fault c.in-Err.is c.in-Full.is)

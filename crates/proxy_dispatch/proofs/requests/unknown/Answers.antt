@@ -19,16 +19,16 @@ returns-in-Ack g c =
 pub returns-in-Cancel : goal.returns-in-Cancel
 returns-in-Cancel g c =
     let r = c.args.received in
-    by_both c.answered-in-Cancel.result _ _ _
+    by_both c.answered.result _ _ _
     (λ outcome handled sent. (
       [],
       refl,
       purpose_at (g.N.Admission.admitted c.args.admission.now) c.args.setup.now r.message r.source r.now c.args.purpose purposes.Cancel [] outcome.handled (seen_sent outcome.datagram) c.in-Cancel.is (refl, handled, sent),
     ))
-    c.answered-in-Cancel.ensures.handled c.answered-in-Cancel.ensures.sent
+    c.answered.ensures.handled c.answered.ensures.sent
 
-pub returns-in-Opening-Some : goal.returns-in-Opening-Some
-returns-in-Opening-Some g c =
+pub returns-in-Some : goal.returns-in-Some
+returns-in-Some g c =
     let r = c.args.received in
     let admits = g.N.Admission.admitted c.args.admission.now in
     IfOk-weaker c.asked.result _ _
@@ -36,19 +36,19 @@ returns-in-Opening-Some g c =
       h.0,
       h.1,
       purpose_at admits c.args.setup.now r.message r.source r.now c.args.purpose purposes.Opening h.0 outcome.handled (seen_sent outcome.datagram) c.in-Opening.is
-          (new_at admits c.args.setup.now r.message r.source r.now _ (request_key r.message) h.0 outcome.handled (seen_sent outcome.datagram) (let e = c.requires.key in let f = c.in-Opening-Some.is in cc) h.2),
+          (new_at admits c.args.setup.now r.message r.source r.now _ (request_key r.message) h.0 outcome.handled (seen_sent outcome.datagram) (let e = c.requires.key in let f = c.in-Some.is in cc) h.2),
     ))
     c.asked.ensures
 
-pub returns-in-Opening-None : goal.returns-in-Opening-None
-returns-in-Opening-None g c =
+pub returns-in-None : goal.returns-in-None
+returns-in-None g c =
     let r = c.args.received in
     let admits = g.N.Admission.admitted c.args.admission.now in
-    by_both c.answered-in-Opening-None.result _ _ _
+    by_both c.answered-in-None.result _ _ _
     (λ outcome handled sent. (
       [],
       refl,
       purpose_at admits c.args.setup.now r.message r.source r.now c.args.purpose purposes.Opening [] outcome.handled (seen_sent outcome.datagram) c.in-Opening.is
-          (new_at admits c.args.setup.now r.message r.source r.now None (request_key r.message) [] outcome.handled (seen_sent outcome.datagram) (let e = c.requires.key in let f = c.in-Opening-None.is in cc) (refl, handled, sent)),
+          (new_at admits c.args.setup.now r.message r.source r.now None (request_key r.message) [] outcome.handled (seen_sent outcome.datagram) (let e = c.requires.key in let f = c.in-None.is in cc) (refl, handled, sent)),
     ))
-    c.answered-in-Opening-None.ensures.handled c.answered-in-Opening-None.ensures.sent
+    c.answered-in-None.ensures.handled c.answered-in-None.ensures.sent
