@@ -86,13 +86,14 @@ own_answers law times setup number m source call status opens =
 -- ---- the targets that a call began with
 
 -- the element that a map made of one
+mapped_of : {X Y : Type 0} → (f : X → Option Y) (xs : List X) (n : ℕ) (y : Y) (o : Option X) → slice_get xs n ≡ o → option_map f o ≡ Some (Some y)
+    → (x : X) × (slice_get xs n ≡ Some x) × (f x ≡ Some y)
+mapped_of f xs n y None at h = absurd cc
+mapped_of f xs n y (Some x) at h = (x, at, let k : Some (f x) ≡ Some (Some y) = h in cc)
+
 mapped_from : {X Y : Type 0} → (f : X → Option Y) (xs : List X) (n : ℕ) (y : Y) → slice_get (map f xs) n ≡ Some (Some y)
     → (x : X) × (slice_get xs n ≡ Some x) × (f x ≡ Some y)
-mapped_from f xs n y e = of (slice_get xs n) refl (sym (slice_get-map f xs n) ∙ e)
-  where
-    of : (o : Option X) → slice_get xs n ≡ o → option_map f o ≡ Some (Some y) → (x : X) × (slice_get xs n ≡ Some x) × (f x ≡ Some y)
-    of None at h = absurd cc
-    of (Some x) at h = (x, at, let k : Some (f x) ≡ Some (Some y) = h in cc)
+mapped_from f xs n y e = mapped_of f xs n y (slice_get xs n) refl (sym (slice_get-map f xs n) ∙ e)
 
 -- the place that a chain of two options came by
 chained_from : {X Y : Type 0} → (f : X → Option Y) (o : Option X) (y : Y) → option_and_then f o ≡ Some y → (x : X) × (o ≡ Some x) × (f x ≡ Some y)

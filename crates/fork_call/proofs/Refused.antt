@@ -19,7 +19,7 @@ against true is not = absurd cc
 against false is not = absurd cc
 
 same_ok : {X E : Type 0} → (r : Result X E) (x y : X) → r ≡ Ok x → r ≡ Ok y → x ≡ y
-same_ok r x y a b = let e : Ok {E = _} x ≡ Ok y = sym a ∙ b in cc
+same_ok r x y a b = let e = sym a ∙ b in cc
 
 -- a request is prepared in one way
 same_prepared : (setup : Setup) (m : MessageText) (source : Hop) (a b : MessageText) → IsPrepared setup m source a → IsPrepared setup m source b → a ≡ b

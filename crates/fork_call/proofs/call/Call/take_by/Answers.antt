@@ -50,3 +50,8 @@ returns-clause-full g c =
 
 pub returns-clause-err : goal.returns-clause-err
 returns-clause-err g c = same_on_err c.give-taken.result c.give-taken.new.state c.self.inside.state c.args.self.now c.self.view_is c.give-taken.ensures.err
+
+pub give-taken-requires-clause-belongs : goal.give-taken-requires-clause-belongs
+give-taken-requires-clause-belongs g c =
+    let B : Call → Type 0 = λ x. BelongsTo x c.args.message (seen_recipient c.args.to) in
+    subst B (sym c.self.view_is) c.requires.belongs

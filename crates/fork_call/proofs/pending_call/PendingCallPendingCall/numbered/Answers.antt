@@ -1,5 +1,5 @@
 use Rattle.fork_call.proofs.Common.{sym, subst, Call, IsTimed}
-use Rattle.fork_call.proofs.pending_call.PendingCall.numbered.Goals as goal
+use Rattle.fork_call.proofs.pending_call.PendingCallPendingCall.numbered.Goals as goal
 
 pub of-requires : goal.of-requires
 of-requires g c =
