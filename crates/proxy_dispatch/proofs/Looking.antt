@@ -1,10 +1,6 @@
 -- Looks at a table that threads share.
-use Rattle.proxy_dispatch.proofs.Common.{◌≡◌, ◌∙◌, ℕ, Option, Some, None, Result, Ok, Err, Call, MessageText, Hop, refl, subst, sym}
-use Rattle.std.specs.Prelude.{IfErr, IfNone, IfSome, IsSome}
-use Rattle.std.proofs.lemmas.Option.{same_Some}
-use Rattle.call_model.specs.declared.taken.Taken.{Taken}
-use Rattle.fork_call.specs.declared.fault.TakeFault.{TakeFault}
-use Rattle.proxy_dispatch.specs.Looks.{AnswersTake, HasItsNumber, Seen}
+use Rattle.proxy_dispatch.proofs.Common.{◌≡◌, ◌∙◌, ℕ, Option, Some, None, Result, Ok, Err, Call, subst}
+use Rattle.std.specs.Prelude.{IfErr, IfNone, IfSome}
 use Rattle.call_table.specs.declared.shelf.PendingFault.{PendingFault}
 use Rattle.call_table.specs.declared.shelf.PendingFault.TheVariants.{Known, Spent, NoMemory}
 use Rattle.call_table.specs.Faults.{IfKnown, IfSpent}
@@ -44,17 +40,3 @@ pub spent_at : {X : Type 0} (P : Type 0) (fault : PendingFault X) → fault ≡ 
 spent_at {X = X} P fault e h =
     let Q : PendingFault X → Type 0 = λ f. IfSpent P f in
     subst Q e h
-
--- what is handed is the message
-pub handed_so : (message m : MessageText) → Some message ≡ Some m → (number : ℕ) (source : Hop) (now : ℕ) (r : Option (Result Taken TakeFault))
-    → IfSome r (λ answer. (before : Call) × (after : Call) × (before.opened.number ≡ number) × HasItsNumber (Seen number before after) × AnswersTake before message source now answer after)
-    → IfSome r (λ answer. (before : Call) × (after : Call) × (before.opened.number ≡ number) × HasItsNumber (Seen number before after) × AnswersTake before m source now answer after)
-handed_so message m e number source now r h =
-    let P : MessageText → Type 0 = λ x.
-    IfSome r (λ answer. (before : Call) × (after : Call) × (before.opened.number ≡ number) × HasItsNumber (Seen number before after) × AnswersTake before x source now answer after) in
-    subst P (same_Some message m e) h
-
-pub some_is : {X : Type 0} (r : Option X) (x : X) → r ≡ Some x → IsSome r
-some_is {X = X} r x e =
-    let P : Option X → Type 0 = λ y. IsSome y in
-    subst P (sym e) refl

@@ -39,6 +39,9 @@ HasItsNumber (Seen number before after) = (before.opened.number ≡ number) × (
 HasItsNumber (Put key number call) = call.opened.number ≡ number
 HasItsNumber _ = Unit {0}
 
+abbrev pub shown : {T : Type 0} → Shows T
+shown before look after = HasItsNumber look
+
 -- what a call answers to a message that it is given, and how it goes on
 abbrev pub AnswersTake : Call → MessageText → Hop → ℕ → Result memory.Taken TakeFault → Call → Type 0
 AnswersTake call m source now (Ok taken) new = Takes call now m source (seen_taken taken) new

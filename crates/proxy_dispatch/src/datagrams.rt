@@ -4,14 +4,14 @@ ghost use Rattle.call_model.specs.Built as built;
 ghost use Rattle.sip_text.specs.Fault.{fault_seen};
 ghost use Rattle.sip_text.specs.Reading.{Short};
 ghost use Rattle.proxy_dispatch.specs.Becomes.{Becomes, FaultBecomes, MessageBecomes};
-ghost use Rattle.proxy_dispatch.specs.Looks.{Look, ShowsAll};
+ghost use Rattle.proxy_dispatch.specs.Looks.{Look, shown, ShowsAll};
 ghost use Rattle.proxy_dispatch.specs.inner.Becomes.{ToldBecomes};
 ghost use Rattle.proxy_dispatch.specs.Sent.{IsHanded};
 ghost use Rattle.proxy_dispatch.specs.inner.Sent.{seen_sent};
 
 use crate::admission::Admission;
 use crate::answers::answered;
-use crate::calls::CallTable;
+use crate::calls::SharedCalls;
 use crate::outcome::Outcome;
 use crate::purpose::{is_answered, purpose_of};
 use crate::received::{Received, ReceivedMessage};
@@ -44,14 +44,14 @@ pub enum Handled {
 }
 
 /// What becomes of a message.
-fn of_message<A: Allocator + Clone, T: CallTable<A>, N: Admission, R: Wait>(
+fn of_message<A: Allocator + Clone, N: Admission, R: Wait>(
     rt: &R,
-    table: &mut T,
+    table: &mut SharedCalls<'_, A>,
     setup: &Setup<A>,
     admission: &N,
     received: ReceivedMessage<A>,
 ) -> Result<Outcome<A>, AllocError>
-    ensures { IfOk result (λ outcome. (looks : List Look) × ShowsAll T.shows table.old looks table.new
+    ensures { IfOk result (λ outcome. (looks : List Look) × ShowsAll shown table.old looks table.new
         × MessageBecomes (N.admitted admission.now) setup.now received.message received.source received.now
         looks outcome.handled (seen_sent outcome.datagram)) }
 {
@@ -129,9 +129,9 @@ fn hand<A: Allocator, P: Port>(port: &mut P, sent: &Option<Datagram<A>>)
 /// # Errors
 ///
 /// Only where the allocator refuses; no call has changed then, none was opened, and nothing was sent.
-pub fn handle_message<A: Allocator + Clone, T: CallTable<A>, N: Admission, P: Port, R: Wait>(
+pub fn handle_message<A: Allocator + Clone, N: Admission, P: Port, R: Wait>(
     rt: &R,
-    table: &mut T,
+    table: &mut SharedCalls<'_, A>,
     setup: &Setup<A>,
     admission: &N,
     received: ReceivedMessage<A>,
@@ -140,7 +140,7 @@ pub fn handle_message<A: Allocator + Clone, T: CallTable<A>, N: Admission, P: Po
     ensures became { IfOk result (λ handled.
         (looks : List Look)
         × (sent : Option built.Datagram)
-        × ShowsAll T.shows table.old looks table.new
+        × ShowsAll shown table.old looks table.new
         × MessageBecomes (N.admitted admission.now) setup.now received.message received.source received.now looks handled sent
         × IsHanded P.sends port.old sent port.new) }
     ensures err { OnErr result (port.new ≡ port.old) }
@@ -156,10 +156,10 @@ pub fn handle_message<A: Allocator + Clone, T: CallTable<A>, N: Admission, P: Po
 /// # Errors
 ///
 /// Only where the allocator refuses; no call has changed then, none was opened, and nothing was sent.
-pub fn handle<A: Allocator + Clone, T: CallTable<A>, N: Admission, P: Port, R: Wait>(
+pub fn handle<A: Allocator + Clone, N: Admission, P: Port, R: Wait>(
     rt: &R,
     memory: Memory<A>,
-    table: &mut T,
+    table: &mut SharedCalls<'_, A>,
     setup: &Setup<A>,
     admission: &N,
     received: Received<'_>,
@@ -168,7 +168,7 @@ pub fn handle<A: Allocator + Clone, T: CallTable<A>, N: Admission, P: Port, R: W
     ensures became { IfOk result (λ handled.
         (looks : List Look)
         × (sent : Option built.Datagram)
-        × ShowsAll T.shows table.old looks table.new
+        × ShowsAll shown table.old looks table.new
         × Becomes (N.admitted admission.now) setup.now received.entry.bytes.now received.entry.source received.entry.now looks handled sent
         × IsHanded P.sends port.old sent port.new) }
     ensures err { OnErr result (port.new ≡ port.old) }

@@ -7,10 +7,10 @@ ghost use Rattle.call_model.specs.Call as spec;
 ghost use Rattle.call_routing.specs.Kinds.{is_response};
 ghost use Rattle.call_routing.specs.Matching.{IsReadBranch};
 ghost use Rattle.proxy_dispatch.specs.Becomes.{IsGiven};
-ghost use Rattle.proxy_dispatch.specs.Looks.{AnswersTake, Look, Seen, ShowsAll};
+ghost use Rattle.proxy_dispatch.specs.Looks.{AnswersTake, Look, Seen, shown, ShowsAll};
 ghost use Rattle.proxy_dispatch.specs.inner.Sent.{seen_sent};
 
-use crate::calls::{CallTable, ReadBranch};
+use crate::calls::{ReadBranch, SharedCalls};
 use crate::datagrams::Handled;
 use crate::outcome::Outcome;
 use fork_call::{TakeFault, Taken};
@@ -44,19 +44,18 @@ fn answered_by<A: Allocator>(
 /// # Errors
 ///
 /// Only where the allocator refuses; the call is then as it was.
-pub(crate) fn deliver<A: Allocator + Clone, T: CallTable<A>, R: Wait>(
+pub(crate) fn deliver<A: Allocator + Clone, R: Wait>(
     rt: &R,
-    table: &mut T,
+    table: &mut SharedCalls<'_, A>,
     number: u64,
     request: Message<A>,
     source: Hop,
     now: u64,
 ) -> Result<Outcome<A>, AllocError>
-    ensures { IfOk result (λ outcome. (looks : List Look) × ShowsAll T.shows table.old looks table.new
+    ensures { IfOk result (λ outcome. (looks : List Look) × ShowsAll shown table.old looks table.new
         × IsGiven number request source now looks outcome.handled (seen_sent outcome.datagram)) }
 {
-    let mut handed = Some(request);
-    match table.take(rt, number, &mut handed, source, now) {
+    match table.take(rt, number, request, source, now) {
         Some(answer) => answered_by(number, answer),
         None => Ok(Outcome::silent(Handled::Dropped)),
     }
@@ -67,9 +66,9 @@ pub(crate) fn deliver<A: Allocator + Clone, T: CallTable<A>, R: Wait>(
 /// # Errors
 ///
 /// Only where the allocator refuses; the call is then as it was.
-pub(crate) fn deliver_response<A: Allocator + Clone, T: CallTable<A>, R: Wait>(
+pub(crate) fn deliver_response<A: Allocator + Clone, R: Wait>(
     rt: &R,
-    table: &mut T,
+    table: &mut SharedCalls<'_, A>,
     response: Message<A>,
     read: ReadBranch,
     source: Hop,
@@ -77,12 +76,11 @@ pub(crate) fn deliver_response<A: Allocator + Clone, T: CallTable<A>, R: Wait>(
 ) -> Result<Outcome<A>, AllocError>
     requires response { is_response response.start ≡ true }
     requires read { IsReadBranch read.own (top_value response) read.name }
-    ensures { IfOk result (λ outcome. (looks : List Look) × ShowsAll T.shows table.old looks table.new
+    ensures { IfOk result (λ outcome. (looks : List Look) × ShowsAll shown table.old looks table.new
         × IsGiven read.name.context response source now looks outcome.handled (seen_sent outcome.datagram)) }
 {
     let number = read.name.context;
-    let mut handed = Some(response);
-    match table.take_response(rt, &mut handed, read, source, now) {
+    match table.take_response(rt, response, read, source, now) {
         Some(answer) => answered_by(number, answer),
         None => Ok(Outcome::silent(Handled::Dropped)),
     }

@@ -1,17 +1,16 @@
 //! Requests: known by their keys, or new.
-ghost use Rattle.std.specs.Prelude.{◌≡◌, ℕ, List, IfOk, IsSome, Some};
+ghost use Rattle.std.specs.Prelude.{◌≡◌, ℕ, List, IfOk, Some};
 ghost use Rattle.std.specs.Option.{option_map};
 ghost use Rattle.sip_build.specs.Forwarding.{is_request};
 ghost use Rattle.sip_route.specs.RequestKey.{request_key};
-ghost use Rattle.call_model.specs.Call as spec_call;
 ghost use Rattle.call_model.specs.Call.{numbered};
 ghost use Rattle.call_routing.specs.Opening.{Opens};
 ghost use Rattle.proxy_config.specs.Setup as spec;
 ghost use Rattle.sip_text.specs.Text.{MessageText};
 ghost use Rattle.proxy_dispatch.specs.declared.purpose.Purpose.TheVariants as purposes;
 ghost use Rattle.proxy_dispatch.specs.Asking.{asks_service};
-ghost use Rattle.proxy_dispatch.specs.Becomes.{AdmittedBecomes, IsGiven, NewBecomes, OpeningBecomes, RequestBecomes, UnknownBecomes};
-ghost use Rattle.proxy_dispatch.specs.Looks.{Look, ShowsAll};
+ghost use Rattle.proxy_dispatch.specs.Becomes.{AdmittedBecomes, NewBecomes, OpeningBecomes, RequestBecomes, UnknownBecomes};
+ghost use Rattle.proxy_dispatch.specs.Looks.{Look, shown, ShowsAll};
 ghost use Rattle.proxy_dispatch.specs.Purpose.{purpose_of};
 ghost use Rattle.proxy_dispatch.specs.inner.Sent.{seen_sent};
 
@@ -19,12 +18,13 @@ use crate::acks::acknowledged;
 use crate::admission::{Admission, opener_of};
 use crate::answers::{answered, rejected, told, turned_away};
 use crate::asking::asks_service;
-use crate::calls::{CallTable, OpenFault};
+use crate::calls::SharedCalls;
 use crate::datagrams::Handled;
 use crate::delivery::deliver;
 use crate::outcome::Outcome;
 use crate::purpose::Purpose;
 use crate::received::ReceivedMessage;
+use call_table::PendingFault;
 use fork_call::{OpeningRequest, PendingCall, Setup, Unrouted};
 use sip_build::OwnStatus;
 use sip_route::append_request_key;
@@ -45,48 +45,28 @@ fn key_of<A: Allocator>(alloc: A, request: &Message<A>) -> Result<Option<Vec<u8,
     }
 }
 
-/// Gives the request of a call that is not to be to the call of that number, as it was prepared.
-fn deliver_back<A: Allocator + Clone, T: CallTable<A>, R: Wait>(
-    rt: &R,
-    table: &mut T,
-    number: u64,
-    pending: Option<PendingCall<A>>,
-    source: Hop,
-    now: u64,
-) -> Result<Outcome<A>, AllocError>
-    requires { IsSome pending }
-    ensures { (call : spec_call.Call) → pending ≡ Some call
-        → IfOk result (λ outcome. (looks : List Look) × ShowsAll T.shows table.old looks table.new
-        × IsGiven number call.opened.request source now looks outcome.handled (seen_sent outcome.datagram)) }
-{
-    match pending {
-        Some(pending) => deliver(rt, table, number, pending.into_request(), source, now),
-        None => unreachable!(),
-    }
-}
-
 /// Puts a call under its key, which no call had when it was looked for. Where another worker has opened one under that key
 /// meanwhile, that call is given the request.
-fn put<A: Allocator + Clone, T: CallTable<A>, R: Wait>(
+fn put<A: Allocator + Clone, R: Wait>(
     rt: &R,
-    table: &mut T,
+    table: &mut SharedCalls<'_, A>,
     key: Vec<u8, A>,
     pending: PendingCall<A>,
     source: Hop,
     now: u64,
 ) -> Result<Outcome<A>, AllocError>
     ensures { (setup : spec.Setup) (m : MessageText) → ((number : ℕ) → Opens setup number m source (numbered number pending))
-        → IfOk result (λ outcome. (looks : List Look) × ShowsAll T.shows table.old looks table.new
+        → IfOk result (λ outcome. (looks : List Look) × ShowsAll shown table.old looks table.new
         × OpeningBecomes setup m source now key.items looks outcome.handled (seen_sent outcome.datagram)) }
 {
-    let mut key = Some(key);
-    let mut pending = Some(pending);
-    match table.open(rt, &mut key, &mut pending) {
+    match table.open(rt, key, pending) {
         Ok(number) => Ok(Outcome::silent(Handled::Opened(number))),
         Err(fault) => match fault {
-            OpenFault::Known(number) => deliver_back(rt, table, number, pending, source, now),
-            OpenFault::Spent => Ok(Outcome::silent(Handled::Dropped)),
-            OpenFault::NoMemory => Err(AllocError),
+            PendingFault::Known(number, pending) => {
+                deliver(rt, table, number, pending.into_request(), source, now)
+            }
+            PendingFault::Spent => Ok(Outcome::silent(Handled::Dropped)),
+            PendingFault::NoMemory => Err(AllocError),
         },
     }
 }
@@ -94,15 +74,15 @@ fn put<A: Allocator + Clone, T: CallTable<A>, R: Wait>(
 /// What becomes of a request that was admitted and is not the proxy's own to answer: it opens a call, or is answered with the
 /// status that tells why not. The call is prepared before the keys are locked, so no other thread waits for that.
 #[tactic(auto, using(crate::proofs::Purposes::opening_opens))]
-fn opened<A: Allocator + Clone, T: CallTable<A>, R: Wait>(
+fn opened<A: Allocator + Clone, R: Wait>(
     rt: &R,
-    table: &mut T,
+    table: &mut SharedCalls<'_, A>,
     setup: &Setup<A>,
     key: Vec<u8, A>,
     received: ReceivedMessage<A>,
 ) -> Result<Outcome<A>, AllocError>
     requires { purpose_of received.message.start ≡ Some purposes.Opening }
-    ensures { IfOk result (λ outcome. (looks : List Look) × ShowsAll T.shows table.old looks table.new
+    ensures { IfOk result (λ outcome. (looks : List Look) × ShowsAll shown table.old looks table.new
         × OpeningBecomes setup.now received.message received.source received.now key.items looks outcome.handled (seen_sent outcome.datagram)) }
 {
     let ReceivedMessage {
@@ -129,15 +109,15 @@ fn opened<A: Allocator + Clone, T: CallTable<A>, R: Wait>(
 
 /// What becomes of a request that was admitted: the proxy answers an OPTIONS to itself, and any other request opens a call or is
 /// answered (RFC 3261 section 11).
-fn admitted<A: Allocator + Clone, T: CallTable<A>, R: Wait>(
+fn admitted<A: Allocator + Clone, R: Wait>(
     rt: &R,
-    table: &mut T,
+    table: &mut SharedCalls<'_, A>,
     setup: &Setup<A>,
     key: Vec<u8, A>,
     received: ReceivedMessage<A>,
 ) -> Result<Outcome<A>, AllocError>
     requires { purpose_of received.message.start ≡ Some purposes.Opening }
-    ensures { IfOk result (λ outcome. (looks : List Look) × ShowsAll T.shows table.old looks table.new
+    ensures { IfOk result (λ outcome. (looks : List Look) × ShowsAll shown table.old looks table.new
         × AdmittedBecomes (asks_service setup.now received.message) setup.now received.message received.source received.now key.items
         looks outcome.handled (seen_sent outcome.datagram)) }
 {
@@ -157,16 +137,16 @@ fn has_opened<A: Allocator>(outcome: &Result<Outcome<A>, AllocError>) -> bool {
 
 /// What becomes of a request whose key no call has: it is turned away, or goes on as one that was admitted. Where it opens no call
 /// then, `admission` is told.
-fn asked<A: Allocator + Clone, T: CallTable<A>, N: Admission, R: Wait>(
+fn asked<A: Allocator + Clone, N: Admission, R: Wait>(
     rt: &R,
-    table: &mut T,
+    table: &mut SharedCalls<'_, A>,
     setup: &Setup<A>,
     admission: &N,
     key: Vec<u8, A>,
     received: ReceivedMessage<A>,
 ) -> Result<Outcome<A>, AllocError>
     requires { purpose_of received.message.start ≡ Some purposes.Opening }
-    ensures { IfOk result (λ outcome. (looks : List Look) × ShowsAll T.shows table.old looks table.new
+    ensures { IfOk result (λ outcome. (looks : List Look) × ShowsAll shown table.old looks table.new
         × NewBecomes (N.admitted admission.now) setup.now received.message received.source received.now (Some key.items)
         looks outcome.handled (seen_sent outcome.datagram)) }
 {
@@ -183,9 +163,9 @@ fn asked<A: Allocator + Clone, T: CallTable<A>, N: Admission, R: Wait>(
 /// What becomes of a request whose key no call has, or that has none: an ACK is absorbed or goes on, a CANCEL is answered 481, and
 /// any other request opens a call where it is admitted (RFC 3261 sections 9.2, 16.2 and 16.11). A request without a key is not well
 /// formed.
-fn unknown<A: Allocator + Clone, T: CallTable<A>, N: Admission, R: Wait>(
+fn unknown<A: Allocator + Clone, N: Admission, R: Wait>(
     rt: &R,
-    table: &mut T,
+    table: &mut SharedCalls<'_, A>,
     setup: &Setup<A>,
     admission: &N,
     key: Option<Vec<u8, A>>,
@@ -194,7 +174,7 @@ fn unknown<A: Allocator + Clone, T: CallTable<A>, N: Admission, R: Wait>(
 ) -> Result<Outcome<A>, AllocError>
     requires purpose { purpose_of received.message.start ≡ Some purpose }
     requires key { option_map (λ text. text.items) key ≡ request_key received.message }
-    ensures { IfOk result (λ outcome. (looks : List Look) × ShowsAll T.shows table.old looks table.new
+    ensures { IfOk result (λ outcome. (looks : List Look) × ShowsAll shown table.old looks table.new
         × UnknownBecomes (N.admitted admission.now) setup.now received.message received.source received.now purpose
         looks outcome.handled (seen_sent outcome.datagram)) }
 {
@@ -229,16 +209,16 @@ fn unknown<A: Allocator + Clone, T: CallTable<A>, N: Admission, R: Wait>(
 /// # Errors
 ///
 /// Only where the allocator refuses; no call has changed then, and none was opened.
-pub(crate) fn requested<A: Allocator + Clone, T: CallTable<A>, N: Admission, R: Wait>(
+pub(crate) fn requested<A: Allocator + Clone, N: Admission, R: Wait>(
     rt: &R,
-    table: &mut T,
+    table: &mut SharedCalls<'_, A>,
     setup: &Setup<A>,
     admission: &N,
     received: ReceivedMessage<A>,
     purpose: Purpose,
 ) -> Result<Outcome<A>, AllocError>
     requires { purpose_of received.message.start ≡ Some purpose }
-    ensures { IfOk result (λ outcome. (looks : List Look) × ShowsAll T.shows table.old looks table.new
+    ensures { IfOk result (λ outcome. (looks : List Look) × ShowsAll shown table.old looks table.new
         × RequestBecomes (N.admitted admission.now) setup.now received.message received.source received.now purpose
         looks outcome.handled (seen_sent outcome.datagram)) }
 {

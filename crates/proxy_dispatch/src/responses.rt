@@ -4,10 +4,10 @@ ghost use Rattle.sip_via.specs.TopVia.{top_value};
 ghost use Rattle.call_routing.specs.Kinds.{is_response};
 ghost use Rattle.call_routing.specs.Matching.{IsReadBranch};
 ghost use Rattle.proxy_dispatch.specs.Becomes.{IsHome, ResponseBecomes};
-ghost use Rattle.proxy_dispatch.specs.Looks.{Look, ShowsAll};
+ghost use Rattle.proxy_dispatch.specs.Looks.{Look, shown, ShowsAll};
 ghost use Rattle.proxy_dispatch.specs.inner.Sent.{seen_sent};
 
-use crate::calls::{CallTable, ReadBranch};
+use crate::calls::{ReadBranch, SharedCalls};
 use crate::datagrams::Handled;
 use crate::delivery::deliver_response;
 use crate::outcome::Outcome;
@@ -39,16 +39,16 @@ fn branch_of<A: Allocator>(setup: &Setup<A>, response: &Message<A>) -> Option<Re
 /// # Errors
 ///
 /// Only where the allocator refuses; the call is then as it was.
-pub(crate) fn responded<A: Allocator + Clone, T: CallTable<A>, R: Wait>(
+pub(crate) fn responded<A: Allocator + Clone, R: Wait>(
     rt: &R,
-    table: &mut T,
+    table: &mut SharedCalls<'_, A>,
     setup: &Setup<A>,
     response: Message<A>,
     source: Hop,
     now: u64,
 ) -> Result<Outcome<A>, AllocError>
     requires { is_response response.start ≡ true }
-    ensures { IfOk result (λ outcome. (looks : List Look) × ShowsAll T.shows table.old looks table.new
+    ensures { IfOk result (λ outcome. (looks : List Look) × ShowsAll shown table.old looks table.new
         × ResponseBecomes setup.now response source now looks outcome.handled (seen_sent outcome.datagram)) }
 {
     match branch_of(setup, &response) {

@@ -1,9 +1,12 @@
-use Rattle.proxy_dispatch.proofs.Common.{◌∙◌, [], None, Option, Some, List, ℕ, ap, refl, IfOk-weaker, seen_sent, request_key}
+use Rattle.proxy_dispatch.proofs.Common.{◌≡◌, ◌∙◌, [], None, Option, Some, List, ℕ, ap, refl, sym, IfOk-weaker, seen_sent, request_key}
 use Rattle.std.specs.Prelude.{option_map}
 use Rattle.proxy_dispatch.specs.declared.purpose.Purpose.TheVariants as purposes
-use Rattle.proxy_dispatch.proofs.Becoming.{new_at, purpose_at}
+use Rattle.proxy_dispatch.proofs.Becoming.{key_so, new_at, purpose_at}
 use Rattle.proxy_dispatch.proofs.Outcomes.{by_both}
 use Rattle.proxy_dispatch.proofs.requests.unknown.Goals as goal
+
+no_key : {V : Type 0} (items : V → List ℕ) (key : Option V) (own : Option (List ℕ)) → option_map items key ≡ own → key ≡ None → own ≡ None
+no_key items key own e f = sym e ∙ ap (option_map items) f
 
 pub returns-in-Ack : goal.returns-in-Ack
 returns-in-Ack g c =
@@ -36,7 +39,7 @@ returns-in-Some g c =
       h.0,
       h.1,
       purpose_at admits c.args.setup.now r.message r.source r.now c.args.purpose purposes.Opening h.0 outcome.handled (seen_sent outcome.datagram) c.in-Opening.is
-          (new_at admits c.args.setup.now r.message r.source r.now (Some c.in-Some.key.items) (request_key r.message) h.0 outcome.handled (seen_sent outcome.datagram) (let e = c.requires.key in let f = c.in-Some.is in cc) h.2),
+          (new_at admits c.args.setup.now r.message r.source r.now (Some c.in-Some.key.items) (request_key r.message) h.0 outcome.handled (seen_sent outcome.datagram) (sym (key_so _ _ _ _ _ c.requires.key c.in-Some.is refl)) h.2),
     ))
     c.asked.ensures
 
@@ -49,6 +52,6 @@ returns-in-None g c =
       [],
       refl,
       purpose_at admits c.args.setup.now r.message r.source r.now c.args.purpose purposes.Opening [] outcome.handled (seen_sent outcome.datagram) c.in-Opening.is
-          (new_at admits c.args.setup.now r.message r.source r.now None (request_key r.message) [] outcome.handled (seen_sent outcome.datagram) (let e = c.requires.key in let f = c.in-None.is in cc) (refl, (handled, sent))),
+          (new_at admits c.args.setup.now r.message r.source r.now None (request_key r.message) [] outcome.handled (seen_sent outcome.datagram) (sym (no_key _ _ _ c.requires.key c.in-None.is)) (refl, (handled, sent))),
     ))
     c.answered-in-None.ensures.handled c.answered-in-None.ensures.sent
