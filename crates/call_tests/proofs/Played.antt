@@ -16,7 +16,15 @@ use Rattle.fork_call.specs.Carry.{IsCarriedOut, IsCutOff, Sends, SendsOne}
 use Rattle.fork_call.specs.Runs.{AnswerAt, AnswersAll, AreSaid, Carried, CutOff, Took}
 use Rattle.fork_call.specs.Takes.{Takes}
 use Rattle.fork_call.specs.declared.fault.TakeFault.{TakeFault}
-use Rattle.call_tests.specs.Played.{IsPlayed}
+use Rattle.fork_model.specs.Table.{is_finished, is_succeeded}
+use Rattle.call_model.specs.Call.{rows_of}
+use Rattle.call_laws.specs.Answers.{AreGiven}
+use Rattle.call_laws.specs.Stages.{Leads, Stage, end_of}
+use Rattle.proxy_config.specs.Setup.{Setup}
+use Rattle.call_routing.specs.Opening.{Opens}
+use Rattle.fork_call.specs.Answered.{EachDatagramIsRight, OneFinalAnswerGoesUp}
+use Rattle.fork_call.specs.Runs.{CallsHaveStages}
+use Rattle.call_tests.specs.Played.{EndsRight, HasEnded, IsPlayed}
 
 answers_append : (call mid new : Call) (a b : List AnswerAt) → AnswersAll call a mid → AnswersAll mid b new → AnswersAll call (a ++ b) new
 answers_append call mid new [] b same rest =
@@ -57,3 +65,31 @@ nothing_owed call now idle = by call.server.owed refl
         let none : is_any call.server.owed ≡ false = idle SendAnswer in
         let some : is_any call.server.owed ≡ true = let P : List Owed → Type 0 = λ xs. is_any xs ≡ true in subst P (sym e) refl in
         absurd cc
+
+-- ---- what the laws conclude
+
+pub concluded : CallsHaveStages → OneFinalAnswerGoesUp → EachDatagramIsRight
+    → (setup : Setup) (number : ℕ) (m : MessageText) (source : Hop) (call new : Call) → Opens setup number m source call → IsPlayed call new → HasEnded new → EndsRight setup m source
+concluded have once each setup number m source call new opens (answers, all, said) ended =
+    let of_call = have call new answers all in
+    let stages = of_call.0 in
+    let are = of_call.1 in
+    let given = are.given said in
+    let ends : new ≡ end_of call stages = sym are.ends in
+    let F : Call → Type 0 = λ x. is_finished (rows_of x) ≡ true in
+    let S : Call → Type 0 = λ x. is_succeeded (rows_of x) ≡ false in
+    let O : Call → Type 0 = λ x. x.server.owed ≡ [] in
+    let L : List Stage → Type 0 = λ xs. Leads call xs in
+    let G : List Stage → Type 0 = λ xs. AreGiven xs in
+    record {
+      number = number;
+      call = call;
+      opens = opens;
+      answers = answers;
+      new = new;
+      stages = stages;
+      are = are;
+      once = once setup number m source call stages opens given are.leads (subst F ends ended.finished) (subst S ends ended.failed) (subst O ends ended.paid);
+      right = λ before stage later d split sends.
+          each setup number m source call before stage later d opens (subst G split given) (subst L split are.leads) sends;
+    }

@@ -62,6 +62,7 @@ impl Port for Awaiting {
 // ---- calls on a call
 
 /// Gives a call a message, and says whether the call took it.
+#[tactic(auto, using(crate::proofs::Played::taken_played))]
 fn takes(call: &mut Call, message: Message<Global>, from: Hop, now: u64) -> bool
     ensures { IsPlayed call.old call.new }
 {
@@ -70,6 +71,7 @@ fn takes(call: &mut Call, message: Message<Global>, from: Hop, now: u64) -> bool
 }
 
 /// Carries what a call has to send, and says whether nothing is due then.
+#[tactic(auto, using(crate::proofs::Played::carried_played, crate::proofs::Played::cut_played))]
 fn carries<P: Port>(call: &mut Call, port: &mut P, now: u64) -> bool
     ensures played { IsPlayed call.old call.new }
     ensures idle { result ≡ true → IsIdle call.new now }
@@ -81,6 +83,7 @@ fn carries<P: Port>(call: &mut Call, port: &mut P, now: u64) -> bool
 }
 
 /// Gives a call the message of a text, carries what it then has to send, and says whether that went well.
+#[tactic(auto, using(crate::proofs::Played::not_played, crate::proofs::Played::played_on))]
 fn goes<P: Port>(alloc: Global, call: &mut Call, port: &mut P, coming: Coming) -> bool
     ensures { IsPlayed call.old call.new }
 {
@@ -91,18 +94,6 @@ fn goes<P: Port>(alloc: Global, call: &mut Call, port: &mut P, coming: Coming) -
     let taken = takes(call, message, from, now);
     let carried = carries(call, port, now);
     taken && carried
-}
-
-/// The same of several, one after another.
-fn go<P: Port>(alloc: Global, call: &mut Call, port: &mut P, history: &[Coming]) -> bool
-    ensures { IsPlayed call.old call.new }
-{
-    let mut well = true;
-    for coming in history {
-        let went = goes(alloc, call, port, *coming);
-        well = well && went;
-    }
-    well
 }
 
 /// Carries what a call still has to send, and says whether it has ended then: every branch has, none with a 2xx, and nothing is
@@ -116,13 +107,14 @@ fn ends<P: Port>(call: &mut Call, port: &mut P, now: u64) -> bool
     carried && context.finished() && !context.succeeded()
 }
 
-/// Whether the call that a request opens ends so, by the messages that come; then the laws say of it what they say of a run.
+/// Whether the call that a request opens ends so, by the two messages that come; then the laws say of it what they say of a run.
 fn ends_right<P: Port>(
     alloc: Global,
     setup: &Setup<Global>,
     request: Message<Global>,
     port: &mut P,
-    history: &[Coming],
+    first: Coming,
+    second: Coming,
 ) -> bool
     requires { IsOpenable request.start }
     ensures { result ≡ true → EndsRight setup.now request CALLER }
@@ -134,18 +126,16 @@ fn ends_right<P: Port>(
         return false;
     };
     let carried = carries(&mut call, port, 0);
-    let went = go(alloc, &mut call, port, history);
+    let went = goes(alloc, &mut call, port, first);
+    let went_on = goes(alloc, &mut call, port, second);
     let ended = ends(&mut call, port, 60);
-    carried && went && ended
+    carried && went && went_on && ended
 }
 
 // ---- an INVITE that fails
 
 /// What the call sends, in this order.
 const SENT: &[&Sent] = &[&TRYING, &INVITE_SENT, &RINGING_UP, &NOT_FOUND_UP, &ACK_SENT];
-
-/// What comes to it.
-const HISTORY: &[Coming] = &[(20, TARGET, RINGING), (30, TARGET, NOT_FOUND)];
 
 /// Whether the call of the INVITE ends right, and sends this.
 fn fails_right(alloc: Global) -> bool {
@@ -157,7 +147,14 @@ fn fails_right(alloc: Global) -> bool {
     match (setup_of(alloc, SETUP), read_message(alloc, INVITE)) {
         (Some(setup), Some(request)) => {
             is_openable(&request)
-                && ends_right(alloc, &setup, request, &mut port, HISTORY)
+                && ends_right(
+                    alloc,
+                    &setup,
+                    request,
+                    &mut port,
+                    (20, TARGET, RINGING),
+                    (30, TARGET, NOT_FOUND),
+                )
                 && port.is_content()
         }
         _ => false,
