@@ -15,7 +15,12 @@ use Rattle.sip_via.specs.ViaFaults.{refusal}
 use Rattle.sip_build.specs.declared.responses.OwnStatus.{OwnStatus}
 use Rattle.sip_build.specs.Forwarding.{forwarded}
 use Rattle.call_model.specs.Call.{numbered}
+use Rattle.proxy_routing.specs.declared.fault.RequestRejection.{RequestRejection}
+use Rattle.proxy_routing.specs.declared.unrouted.Unrouted.{Unrouted}
+use Rattle.proxy_routing.specs.declared.unrouted.Unrouted.TheVariants as unrouted
 use Rattle.proxy_routing.specs.Admission.{IsPrepared}
+use Rattle.proxy_routing.specs.Refusing.{status_of_fault}
+use Rattle.proxy_routing.specs.Unrouted.{IfRejected, IsTurnedBack, fault_of}
 use Rattle.call_routing.specs.Opening.{Opens}
 use Rattle.proxy_dispatch.specs.Asking.{asks_service}
 use Rattle.proxy_dispatch.specs.Admitting.{opener_of}
@@ -33,6 +38,12 @@ pub passes_if : (setup : Setup) (m : MessageText) (source : Hop) (request : Mess
     → (sent : Option Datagram) → GoesOn setup request sent → Passes setup m source sent
 passes_if setup m source request a None h = inr (request, a, h)
 passes_if setup m source request a (Some datagram) h = (request, a, h)
+
+-- an ACK that one of the first four steps of section 16.3 stops
+pub stopped : {A : Type 0} (setup : Setup) (m : MessageText) (source : Hop) (why : Unrouted A) → IfRejected (IsTurnedBack setup m source) why
+    → (fault : RequestRejection) → fault ≡ fault_of why → (status : Option ℕ) → status ≡ status_of_fault fault → (n : ℕ) → status ≡ Some n → Passes setup m source None
+stopped setup m source (unrouted.Rejected f back) h fault e status s n is = inl (f, n, h.0, sym (ap status_of_fault e) ∙ sym s ∙ is)
+stopped setup m source unrouted.NoMemory h fault e status s n is = absurd (let none : None ≡ Some n = sym (ap status_of_fault e) ∙ sym s ∙ is in cc)
 
 pub passed_text_so : (setup : Setup) (request : MessageText) (uri : Uri) (hop : Hop) (own : Own) (branch : BranchName) (old text : List ℕ)
     → text ≡ old ++ spelling (forwarded request uri own branch None) → old ≡ [] → own ≡ over setup.own hop.transport → branch ≡ passing_branch setup request
@@ -81,12 +92,22 @@ asked_so admits setup m source now key opener said b looks handled sent h e f be
 
 -- ---- a request
 
+pub purpose_at : (admits : Admits) (setup : Setup) (m : MessageText) (source : Hop) (now : ℕ) (purpose p : Purpose) (looks : List Look) (handled : Handled) (sent : Option Datagram)
+    → purpose ≡ p → UnknownBecomes admits setup m source now p looks handled sent → UnknownBecomes admits setup m source now purpose looks handled sent
+purpose_at admits setup m source now purpose p looks handled sent e h =
+    let P : Purpose → Type 0 = λ x. UnknownBecomes admits setup m source now x looks handled sent in
+    subst P (sym e) h
+
 -- of a request whose key is this one
 pub new_at : (admits : Admits) (setup : Setup) (m : MessageText) (source : Hop) (now : ℕ) (key other : Option (List ℕ)) (looks : List Look) (handled : Handled) (sent : Option Datagram)
     → key ≡ other → NewBecomes admits setup m source now key looks handled sent → NewBecomes admits setup m source now other looks handled sent
 new_at admits setup m source now key other looks handled sent e h =
     let P : Option (List ℕ) → Type 0 = λ x. NewBecomes admits setup m source now x looks handled sent in
     subst P e h
+
+-- the text of a key that there is
+pub key_so : {V : Type 0} (items : V → List ℕ) (key : Option V) (text : V) (own : Option (List ℕ)) (now : List ℕ) → option_map items key ≡ own → key ≡ Some text → now ≡ items text → own ≡ Some now
+key_so items key text own now e f g = sym e ∙ ap (option_map items) f ∙ ap Some (sym g)
 
 unlooked : (key : Option (List ℕ)) → key ≡ None → (looks : List Look) → LooksFor key None looks looks
 unlooked key e looks =
@@ -112,11 +133,11 @@ module _ {T : Type 0} (shows : Shows T) (admits : Admits) (setup : Setup) (m : M
       let P : Option ℕ → Type 0 = λ x. shows old (Found key x) mid in
       (Found key number ∷ looks, (mid, subst P f show, seen), (number, looks, looked (request_key m) key e number looks, h))
 
-  pub message_so : (looks : List Look) (p : Option Purpose) → purpose_of m.start ≡ p → BecomesBy admits setup m source now p looks handled sent
-      → MessageBecomes admits setup m source now looks handled sent
-  message_so looks p e h =
-      let P : Option Purpose → Type 0 = λ x. BecomesBy admits setup m source now x looks handled sent in
-      subst P (sym e) h
+pub message_so : (admits : Admits) (setup : Setup) (m : MessageText) (source : Hop) (now : ℕ) (looks : List Look) (handled : Handled) (sent : Option Datagram) (p : Option Purpose)
+    → purpose_of m.start ≡ p → BecomesBy admits setup m source now p looks handled sent → MessageBecomes admits setup m source now looks handled sent
+message_so admits setup m source now looks handled sent p e h =
+    let P : Option Purpose → Type 0 = λ x. BecomesBy admits setup m source now x looks handled sent in
+    subst P (sym e) h
 
 -- ---- a text that is no message
 

@@ -1,10 +1,12 @@
 -- The call that a response names.
 use Rattle.proxy_dispatch.proofs.Common.{◌≡◌, ◌∙◌, ℕ, Option, Some, None, ap, refl, sym, subst, MessageText, Own, Setup}
+use Rattle.std.proofs.Common.{true}
 use Rattle.std.proofs.lemmas.Option.{same_Some}
 use Rattle.sip_via.specs.declared.branch.BranchName.{BranchName}
 use Rattle.sip_via.specs.BranchText.{IsBranch}
 use Rattle.sip_via.specs.OwnPass.{IsOwnBranch}
 use Rattle.sip_via.specs.TopVia.{top_value}
+use Rattle.call_routing.specs.Kinds.{is_response}
 use Rattle.call_routing.specs.Matching.{IsReadBranch}
 use Rattle.proxy_dispatch.specs.Becomes.{IsHome}
 
@@ -32,3 +34,12 @@ pub none_so : (setup : Setup) (own : Own) (m : MessageText) → own ≡ setup.ow
 none_so setup own m e none number (branch, is, names, run, context) =
     let P : Own → Type 0 = λ o. IsOwnBranch o (top_value m) branch in
     none branch is (subst P (sym e) names)
+
+-- of the response that is handed
+pub both_at : (response m : MessageText) (own : Own) (name : BranchName) → Some response ≡ Some m → is_response response.start ≡ true → IsReadBranch own (top_value response) name
+    → (is_response m.start ≡ true) × IsReadBranch own (top_value m) name
+both_at response m own name e is read =
+    let same : response ≡ m = same_Some response m e in
+    let P : MessageText → Type 0 = λ x. is_response x.start ≡ true in
+    let Q : MessageText → Type 0 = λ x. IsReadBranch own (top_value x) name in
+    (subst P same is, subst Q same read)

@@ -13,7 +13,10 @@ use Rattle.sip_build.specs.Generated.{code_of, generated_of}
 use Rattle.call_model.specs.declared.cause.Cause.TheVariants as cause
 use Rattle.proxy_routing.specs.declared.fault.RequestRejection.{RequestRejection}
 use Rattle.proxy_routing.specs.declared.fault.RequestRejection.TheVariants.{BadRequest, Scheme, Hops, Loop, Extension, NoTarget, NoHop, NoMemory}
+use Rattle.proxy_routing.specs.declared.unrouted.Unrouted.{Unrouted}
+use Rattle.proxy_routing.specs.declared.unrouted.Unrouted.TheVariants as unrouted
 use Rattle.proxy_routing.specs.Admission.{IsPrepared}
+use Rattle.proxy_routing.specs.Unrouted.{IfRejected}
 use Rattle.proxy_routing.specs.Refusing.{status_of_fault}
 use Rattle.proxy_routing.proofs.laws.OwnRoutes.{kept}
 use Rattle.call_routing.specs.Opening.{IsRefusedFor}
@@ -82,3 +85,10 @@ module _ (answers : KeepsAnswers) (others : KeepsOthers) (source : Hop) (status 
     unseen = refl;
     answered = (f ∙ ap Answered e, g ∙ ap Some (rejection setup m fault back d h plain with_source));
   }
+
+-- by why it is not routed
+pub rejected_at : {A : Type 0} (P : RequestRejection → MessageText → Type 0) (why : Unrouted A) (fault : RequestRejection) (back : MessageText) → why ≡ unrouted.Rejected fault back
+    → IfRejected P why → P fault back
+rejected_at {A = A} P why fault back e h =
+    let Q : Unrouted A → Type 0 = λ w. IfRejected P w in
+    subst Q e h

@@ -1,5 +1,5 @@
 -- What a call does with a message that it is given.
-use Rattle.proxy_dispatch.proofs.Common.{◌≡◌, [], ◌∷◌, ℕ, List, Option, None, Result, Ok, Err, ap, inl, inr, refl, sym, subst, MessageText, Hop, Call, Look, Datagram}
+use Rattle.proxy_dispatch.proofs.Common.{◌≡◌, ◌∙◌, [], ◌∷◌, ℕ, List, Option, None, Result, Ok, Err, ap, inl, inr, refl, sym, subst, MessageText, Hop, Call, Look, Datagram}
 use Rattle.std.specs.Prelude.{IfOk, IsErrOf, OnErr}
 use Rattle.call_model.specs.SeenTaken.{seen_taken}
 use Rattle.call_model.specs.Take.{MatchedTransaction, Server, ServerAck, ServerCancel, Client, CancelClient, Taken, Absorbed, Posted, Full, TakesAs, TakesCancel, Responds, RespondsOn, CancelledBy}
@@ -10,15 +10,14 @@ use Rattle.fork_call.specs.declared.fault.TakeFault.TheVariants as fault
 use Rattle.fork_call.specs.Takes.{Takes}
 use Rattle.proxy_dispatch.specs.declared.datagrams.Handled.TheVariants.{Dropped, Delivered}
 use Rattle.proxy_dispatch.specs.Becomes.{IsGiven, IsLeft}
-use Rattle.proxy_dispatch.specs.Looks.{Seen}
-use Rattle.proxy_dispatch.specs.inner.Becomes.{AnswersTake}
+use Rattle.proxy_dispatch.specs.Looks.{AnswersTake, Seen}
 
-number_of : Call → ℕ
+abbrev number_of : Call → ℕ
 number_of call = call.opened.number
 
 cancel_keeps : (call new : Call) (cancel : MessageText) (to : Hop) (taken : Taken) → CancelledBy call cancel to taken new → new.opened.number ≡ call.opened.number
-cancel_keeps call new cancel to Absorbed (no, is) = ap number_of is
-cancel_keeps call new cancel to (Posted at) (yes, reply, at_is, posts) = ap number_of posts.follows
+cancel_keeps call new cancel to Absorbed (open_no, is) = ap number_of is
+cancel_keeps call new cancel to (Posted at) (open_yes, reply, at_is, posts) = ap number_of posts.follows
 cancel_keeps call new cancel to Full h = absurd h
 
 response_keeps : (call new : Call) (n now : ℕ) (m : MessageText) (taken : Taken) → RespondsOn call n now m taken new → new.opened.number ≡ call.opened.number
@@ -55,24 +54,28 @@ answers_so (Err fault.Stray) call new m source now takes stray full same = (stra
 answers_so (Err fault.Full) call new m source now takes stray full same = (full refl, same)
 answers_so (Err fault.NoMemory) call new m source now takes stray full same = same
 
--- what becomes of the message
-pub taken_given : (number : ℕ) (taken : memory.Taken) (call new : Call) (m : MessageText) (source : Hop) (now : ℕ) → call.opened.number ≡ number
-    → AnswersTake call m source now (Ok taken) new → IsGiven number m source now (Seen number call new ∷ []) (Delivered number) None
-taken_given number taken call new m source now e takes =
-    (refl, record { before = call; after = new; taken = taken; seen = refl; number_is = e; takes = takes }, refl)
+-- what becomes of the message, by what the call answers
+module _ (number : ℕ) (answer : Result memory.Taken TakeFault) (call new : Call) (m : MessageText) (source : Hop) (now : ℕ) (is : call.opened.number ≡ number) (takes : AnswersTake call m source now answer new) where
+  answers_as : (a : Result memory.Taken TakeFault) → answer ≡ a → AnswersTake call m source now a new
+  answers_as a e =
+      let P : Result memory.Taken TakeFault → Type 0 = λ x. AnswersTake call m source now x new in
+      subst P e takes
 
-left_given : (number : ℕ) (call new : Call) (m : MessageText) (source : Hop) (now : ℕ) → call.opened.number ≡ number → new ≡ call → IsLeft number m source now (Seen number call call ∷ [])
-    → IsGiven number m source now (Seen number call new ∷ []) Dropped None
-left_given number call new m source now e same left =
-    let P : Call → Type 0 = λ x. IsGiven number m source now (Seen number call x ∷ []) Dropped None in
-    subst P (sym same) (inr left, refl)
+  left_given : new ≡ call → IsLeft number m source now (Seen number call call ∷ []) → IsGiven number m source now (Seen number call new ∷ []) Dropped None
+  left_given same left =
+      let P : Call → Type 0 = λ x. IsGiven number m source now (Seen number call x ∷ []) Dropped None in
+      subst P (sym same) (inr left, refl)
 
-pub stray_given : (number : ℕ) (call new : Call) (m : MessageText) (source : Hop) (now : ℕ) → call.opened.number ≡ number
-    → AnswersTake call m source now (Err fault.Stray) new → IsGiven number m source now (Seen number call new ∷ []) Dropped None
-stray_given number call new m source now e (stray, same) =
-    left_given number call new m source now e same (record { call = call; seen = refl; number_is = e; why = inl stray })
+  pub taken_given : (taken : memory.Taken) → answer ≡ Ok taken → IsGiven number m source now (Seen number call new ∷ []) (Delivered number) None
+  taken_given taken e =
+      (refl, record { before = call; after = new; taken = taken; seen = refl; number_is = is; takes = answers_as (Ok taken) e }, refl)
 
-pub full_given : (number : ℕ) (call new : Call) (m : MessageText) (source : Hop) (now : ℕ) → call.opened.number ≡ number
-    → AnswersTake call m source now (Err fault.Full) new → IsGiven number m source now (Seen number call new ∷ []) Dropped None
-full_given number call new m source now e (full, same) =
-    left_given number call new m source now e same (record { call = call; seen = refl; number_is = e; why = inr full })
+  pub stray_given : (why : TakeFault) → answer ≡ Err why → why ≡ fault.Stray → IsGiven number m source now (Seen number call new ∷ []) Dropped None
+  stray_given why e f =
+      let h = answers_as (Err fault.Stray) (e ∙ ap Err f) in
+      left_given h.1 (record { call = call; seen = refl; number_is = is; why = inl h.0 })
+
+  pub full_given : (why : TakeFault) → answer ≡ Err why → why ≡ fault.Full → IsGiven number m source now (Seen number call new ∷ []) Dropped None
+  full_given why e f =
+      let h = answers_as (Err fault.Full) (e ∙ ap Err f) in
+      left_given h.1 (record { call = call; seen = refl; number_is = is; why = inr h.0 })

@@ -15,7 +15,7 @@ use crate::datagrams::Handled;
 use crate::outcome::Outcome;
 use call_routing::admitted_target;
 use fork_call::{Cause, Datagram, Setup};
-use proxy_routing::{Unrouted, hop_by, is_domain, validate_request};
+use proxy_routing::{hop_by, is_domain, validate_request};
 use sip_build::{own_tag, write_forwarded};
 use sip_route::{first_route, loop_key};
 use sip_text::Message;
@@ -122,8 +122,10 @@ fn passing<A: Allocator + Clone>(
 {
     match validate_request(alloc.clone()?, setup, ack, source) {
         Ok(request) => going_on(alloc, setup, &request),
-        Err(Unrouted::Rejected(_, _)) => Ok(None),
-        Err(Unrouted::NoMemory) => Err(AllocError),
+        Err(why) => match why.fault().status() {
+            Some(_) => Ok(None),
+            None => Err(AllocError),
+        },
     }
 }
 

@@ -53,7 +53,7 @@ fn of_message<A: Allocator + Clone, T: CallTable<A>, N: Admission, R: Wait>(
 ) -> Result<Outcome<A>, AllocError>
     ensures { IfOk result (λ outcome. (looks : List Look) × ShowsAll T.shows table.old looks table.new
         × MessageBecomes (N.admitted admission.now) setup.now received.message received.source received.now
-            looks outcome.handled (seen_sent outcome.datagram)) }
+        looks outcome.handled (seen_sent outcome.datagram)) }
 {
     match purpose_of(&received.message) {
         None => responded(

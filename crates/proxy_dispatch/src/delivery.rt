@@ -7,59 +7,17 @@ ghost use Rattle.call_model.specs.Call as spec;
 ghost use Rattle.call_routing.specs.Kinds.{is_response};
 ghost use Rattle.call_routing.specs.Matching.{IsReadBranch};
 ghost use Rattle.proxy_dispatch.specs.Becomes.{IsGiven};
-ghost use Rattle.proxy_dispatch.specs.Looks.{Look, Seen, ShowsAll};
-ghost use Rattle.proxy_dispatch.specs.inner.Becomes.{AnswersTake};
+ghost use Rattle.proxy_dispatch.specs.Looks.{AnswersTake, Look, Seen, ShowsAll};
 ghost use Rattle.proxy_dispatch.specs.inner.Sent.{seen_sent};
 
-use crate::calls::CallTable;
+use crate::calls::{CallTable, ReadBranch};
 use crate::datagrams::Handled;
 use crate::outcome::Outcome;
-use fork_call::{Call, TakeFault, Taken};
+use fork_call::{TakeFault, Taken};
 use sip_text::Message;
 use sip_uri::Hop;
-use sip_via::{BranchName, Own};
 use std::alloc::{AllocError, Allocator};
 use std::sync::Wait;
-
-/// The branch that the top Via value of a response names, read as that of a proxy of this address.
-#[derive(Clone, Copy)]
-pub(crate) struct ReadBranch {
-    pub(crate) own: Own,
-    pub(crate) name: BranchName,
-}
-
-/// Gives a message to a call.
-fn take<A: Allocator + Clone>(
-    call: &mut Call<A>,
-    message: Message<A>,
-    source: Hop,
-    now: u64,
-) -> Result<Taken, TakeFault>
-    ensures answer { AnswersTake call.old message source now result call.new }
-    ensures number { call.new.opened.number ≡ call.old.opened.number }
-{
-    call.take(message, source, now)
-}
-
-/// Gives a response to a call. Its branch is read again where the call was opened at another address.
-fn take_response<A: Allocator + Clone>(
-    call: &mut Call<A>,
-    response: Message<A>,
-    read: ReadBranch,
-    source: Hop,
-    now: u64,
-) -> Result<Taken, TakeFault>
-    requires response { is_response response.start ≡ true }
-    requires read { IsReadBranch read.own (top_value response) read.name }
-    ensures answer { AnswersTake call.old response source now result call.new }
-    ensures number { call.new.opened.number ≡ call.old.opened.number }
-{
-    if call.own() == read.own {
-        call.take_response(response, read.name, source, now)
-    } else {
-        take(call, response, source, now)
-    }
-}
 
 /// What becomes of a message, by what the call of that number answered that was given it: it is dropped where the call does not take
 /// it.
@@ -73,9 +31,11 @@ fn answered_by<A: Allocator>(
 {
     match answer {
         Ok(_) => Ok(Outcome::silent(Handled::Delivered(number))),
-        Err(TakeFault::Stray) => Ok(Outcome::silent(Handled::Dropped)),
-        Err(TakeFault::Full) => Ok(Outcome::silent(Handled::Dropped)),
-        Err(TakeFault::NoMemory) => Err(AllocError),
+        Err(fault) => match fault {
+            TakeFault::Stray => Ok(Outcome::silent(Handled::Dropped)),
+            TakeFault::Full => Ok(Outcome::silent(Handled::Dropped)),
+            TakeFault::NoMemory => Err(AllocError),
+        },
     }
 }
 
@@ -95,7 +55,8 @@ pub(crate) fn deliver<A: Allocator + Clone, T: CallTable<A>, R: Wait>(
     ensures { IfOk result (λ outcome. (looks : List Look) × ShowsAll T.shows table.old looks table.new
         × IsGiven number request source now looks outcome.handled (seen_sent outcome.datagram)) }
 {
-    match table.with(rt, number, |call| take(call, request, source, now)) {
+    let mut handed = Some(request);
+    match table.take(rt, number, &mut handed, source, now) {
         Some(answer) => answered_by(number, answer),
         None => Ok(Outcome::silent(Handled::Dropped)),
     }
@@ -120,7 +81,8 @@ pub(crate) fn deliver_response<A: Allocator + Clone, T: CallTable<A>, R: Wait>(
         × IsGiven read.name.context response source now looks outcome.handled (seen_sent outcome.datagram)) }
 {
     let number = read.name.context;
-    match table.with(rt, number, |call| take_response(call, response, read, source, now)) {
+    let mut handed = Some(response);
+    match table.take_response(rt, &mut handed, read, source, now) {
         Some(answer) => answered_by(number, answer),
         None => Ok(Outcome::silent(Handled::Dropped)),
     }

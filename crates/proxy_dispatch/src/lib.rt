@@ -18,7 +18,7 @@ mod requests;
 mod responses;
 
 pub use admission::{Admission, Opener, Unlimited};
-pub use calls::{CallTable, SharedCalls};
+pub use calls::{CallTable, OpenFault, ReadBranch, SharedCalls};
 pub use datagrams::{Handled, handle, handle_message};
 pub use fork_call::Memory;
 pub use received::{Received, ReceivedMessage};

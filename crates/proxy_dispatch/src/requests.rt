@@ -1,15 +1,16 @@
 //! Requests: known by their keys, or new.
-ghost use Rattle.std.specs.Prelude.{◌≡◌, ℕ, List, IfOk, Some};
+ghost use Rattle.std.specs.Prelude.{◌≡◌, ℕ, List, IfOk, IsSome, Some};
 ghost use Rattle.std.specs.Option.{option_map};
 ghost use Rattle.sip_build.specs.Forwarding.{is_request};
 ghost use Rattle.sip_route.specs.RequestKey.{request_key};
+ghost use Rattle.call_model.specs.Call as spec_call;
 ghost use Rattle.call_model.specs.Call.{numbered};
 ghost use Rattle.call_routing.specs.Opening.{Opens};
 ghost use Rattle.proxy_config.specs.Setup as spec;
 ghost use Rattle.sip_text.specs.Text.{MessageText};
 ghost use Rattle.proxy_dispatch.specs.declared.purpose.Purpose.TheVariants as purposes;
 ghost use Rattle.proxy_dispatch.specs.Asking.{asks_service};
-ghost use Rattle.proxy_dispatch.specs.Becomes.{AdmittedBecomes, NewBecomes, OpeningBecomes, RequestBecomes, UnknownBecomes};
+ghost use Rattle.proxy_dispatch.specs.Becomes.{AdmittedBecomes, IsGiven, NewBecomes, OpeningBecomes, RequestBecomes, UnknownBecomes};
 ghost use Rattle.proxy_dispatch.specs.Looks.{Look, ShowsAll};
 ghost use Rattle.proxy_dispatch.specs.Purpose.{purpose_of};
 ghost use Rattle.proxy_dispatch.specs.inner.Sent.{seen_sent};
@@ -18,13 +19,12 @@ use crate::acks::acknowledged;
 use crate::admission::{Admission, opener_of};
 use crate::answers::{answered, rejected, told, turned_away};
 use crate::asking::asks_service;
-use crate::calls::CallTable;
+use crate::calls::{CallTable, OpenFault};
 use crate::datagrams::Handled;
 use crate::delivery::deliver;
 use crate::outcome::Outcome;
 use crate::purpose::Purpose;
 use crate::received::ReceivedMessage;
-use call_table::PendingFault;
 use fork_call::{OpeningRequest, PendingCall, Setup, Unrouted};
 use sip_build::OwnStatus;
 use sip_route::append_request_key;
@@ -45,6 +45,26 @@ fn key_of<A: Allocator>(alloc: A, request: &Message<A>) -> Result<Option<Vec<u8,
     }
 }
 
+/// Gives the request of a call that is not to be to the call of that number, as it was prepared.
+fn deliver_back<A: Allocator + Clone, T: CallTable<A>, R: Wait>(
+    rt: &R,
+    table: &mut T,
+    number: u64,
+    pending: Option<PendingCall<A>>,
+    source: Hop,
+    now: u64,
+) -> Result<Outcome<A>, AllocError>
+    requires { IsSome pending }
+    ensures { (call : spec_call.Call) → pending ≡ Some call
+        → IfOk result (λ outcome. (looks : List Look) × ShowsAll T.shows table.old looks table.new
+        × IsGiven number call.opened.request source now looks outcome.handled (seen_sent outcome.datagram)) }
+{
+    match pending {
+        Some(pending) => deliver(rt, table, number, pending.into_request(), source, now),
+        None => unreachable!(),
+    }
+}
+
 /// Puts a call under its key, which no call had when it was looked for. Where another worker has opened one under that key
 /// meanwhile, that call is given the request.
 fn put<A: Allocator + Clone, T: CallTable<A>, R: Wait>(
@@ -59,13 +79,15 @@ fn put<A: Allocator + Clone, T: CallTable<A>, R: Wait>(
         → IfOk result (λ outcome. (looks : List Look) × ShowsAll T.shows table.old looks table.new
         × OpeningBecomes setup m source now key.items looks outcome.handled (seen_sent outcome.datagram)) }
 {
-    match table.open(rt, key, pending) {
+    let mut key = Some(key);
+    let mut pending = Some(pending);
+    match table.open(rt, &mut key, &mut pending) {
         Ok(number) => Ok(Outcome::silent(Handled::Opened(number))),
-        Err(PendingFault::Known(number, pending)) => {
-            deliver(rt, table, number, pending.into_request(), source, now)
-        }
-        Err(PendingFault::Spent) => Ok(Outcome::silent(Handled::Dropped)),
-        Err(PendingFault::NoMemory) => Err(AllocError),
+        Err(fault) => match fault {
+            OpenFault::Known(number) => deliver_back(rt, table, number, pending, source, now),
+            OpenFault::Spent => Ok(Outcome::silent(Handled::Dropped)),
+            OpenFault::NoMemory => Err(AllocError),
+        },
     }
 }
 
@@ -98,8 +120,10 @@ fn opened<A: Allocator + Clone, T: CallTable<A>, R: Wait>(
     };
     match PendingCall::new(setup, opening) {
         Ok(pending) => put(rt, table, key, pending, source, now),
-        Err(Unrouted::Rejected(fault, request)) => rejected(alloc, request, source, fault),
-        Err(Unrouted::NoMemory) => Err(AllocError),
+        Err(why) => match why {
+            Unrouted::Rejected(fault, request) => rejected(alloc, request, source, fault),
+            Unrouted::NoMemory => Err(AllocError),
+        },
     }
 }
 
@@ -115,7 +139,7 @@ fn admitted<A: Allocator + Clone, T: CallTable<A>, R: Wait>(
     requires { purpose_of received.message.start ≡ Some purposes.Opening }
     ensures { IfOk result (λ outcome. (looks : List Look) × ShowsAll T.shows table.old looks table.new
         × AdmittedBecomes (asks_service setup.now received.message) setup.now received.message received.source received.now key.items
-            looks outcome.handled (seen_sent outcome.datagram)) }
+        looks outcome.handled (seen_sent outcome.datagram)) }
 {
     if asks_service(received.memory.alloc.clone()?, setup, &received.message)? {
         return told(received.memory.alloc, received.message, received.source);
@@ -144,7 +168,7 @@ fn asked<A: Allocator + Clone, T: CallTable<A>, N: Admission, R: Wait>(
     requires { purpose_of received.message.start ≡ Some purposes.Opening }
     ensures { IfOk result (λ outcome. (looks : List Look) × ShowsAll T.shows table.old looks table.new
         × NewBecomes (N.admitted admission.now) setup.now received.message received.source received.now (Some key.items)
-            looks outcome.handled (seen_sent outcome.datagram)) }
+        looks outcome.handled (seen_sent outcome.datagram)) }
 {
     if !admission.admits(rt, opener_of(&received.message)) {
         return turned_away(received.memory.alloc, received.message, received.source);
@@ -172,7 +196,7 @@ fn unknown<A: Allocator + Clone, T: CallTable<A>, N: Admission, R: Wait>(
     requires key { option_map (λ text. text.items) key ≡ request_key received.message }
     ensures { IfOk result (λ outcome. (looks : List Look) × ShowsAll T.shows table.old looks table.new
         × UnknownBecomes (N.admitted admission.now) setup.now received.message received.source received.now purpose
-            looks outcome.handled (seen_sent outcome.datagram)) }
+        looks outcome.handled (seen_sent outcome.datagram)) }
 {
     match purpose {
         Purpose::Ack => acknowledged(
@@ -216,7 +240,7 @@ pub(crate) fn requested<A: Allocator + Clone, T: CallTable<A>, N: Admission, R: 
     requires { purpose_of received.message.start ≡ Some purpose }
     ensures { IfOk result (λ outcome. (looks : List Look) × ShowsAll T.shows table.old looks table.new
         × RequestBecomes (N.admitted admission.now) setup.now received.message received.source received.now purpose
-            looks outcome.handled (seen_sent outcome.datagram)) }
+        looks outcome.handled (seen_sent outcome.datagram)) }
 {
     let key = key_of(received.memory.alloc.clone()?, &received.message)?;
     let Some(text) = &key else {

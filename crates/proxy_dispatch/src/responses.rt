@@ -7,9 +7,9 @@ ghost use Rattle.proxy_dispatch.specs.Becomes.{IsHome, ResponseBecomes};
 ghost use Rattle.proxy_dispatch.specs.Looks.{Look, ShowsAll};
 ghost use Rattle.proxy_dispatch.specs.inner.Sent.{seen_sent};
 
-use crate::calls::CallTable;
+use crate::calls::{CallTable, ReadBranch};
 use crate::datagrams::Handled;
-use crate::delivery::{ReadBranch, deliver_response};
+use crate::delivery::deliver_response;
 use crate::outcome::Outcome;
 use fork_call::Setup;
 use sip_text::Message;

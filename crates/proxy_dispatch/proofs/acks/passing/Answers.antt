@@ -1,5 +1,5 @@
-use Rattle.proxy_dispatch.proofs.Common.{inl, sym, ◌∙◌, IfOk-weaker, seen_sent}
-use Rattle.proxy_dispatch.proofs.Becoming.{passes_if}
+use Rattle.proxy_dispatch.proofs.Common.{IfOk-weaker, seen_sent}
+use Rattle.proxy_dispatch.proofs.Becoming.{passes_if, stopped}
 use Rattle.call_routing.proofs.laws.Readable.{admitted_reads}
 use Rattle.proxy_dispatch.proofs.acks.passing.Goals as goal
 
@@ -15,4 +15,4 @@ returns-in-Ok g c =
 
 pub returns-in-Some : goal.returns-in-Some
 returns-in-Some g c =
-    inl (c.in-Err.fault, _, c.in-Err.ensures.refused, sym c.status.ensures ∙ c.in-Some.is)
+    stopped c.args.setup.now c.args.ack c.args.source c.in-Err.why c.in-Err.ensures.refused c.fault.result c.fault.ensures c.status.result c.status.ensures _ c.in-Some.is
