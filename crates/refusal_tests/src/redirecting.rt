@@ -280,7 +280,12 @@ fn goes(
 
 #[test]
 fn a_redirection_adds_rows_and_challenges_go_up(rt: HostRuntime) {
-    goes(&rt, INVITE, ASKED, "an INVITE whose contacts ask for credentials");
+    goes(
+        &rt,
+        INVITE,
+        ASKED,
+        "an INVITE whose contacts ask for credentials",
+    );
 }
 
 #[test]
