@@ -1,6 +1,6 @@
 //! Each source address has its own limit.
 use crate::holds::holds;
-use source_limit::{SourceLimits, no_address_exceeds_its_rate};
+use source_limit::{SourceLimits, no_address_exceeds_its_rate, no_run_exceeds_its_rate};
 
 const ALICE: [u8; 4] = [192, 0, 2, 1];
 
@@ -26,6 +26,7 @@ fn plays(limits: &mut SourceLimits, history: &[([u8; 4], u64, bool)]) -> bool {
 #[test]
 fn an_address_has_its_rate(rt: HostRuntime) {
     no_address_exceeds_its_rate();
+    no_run_exceeds_its_rate();
     let mut limits = SourceLimits::new(rt.alloc(), 2);
     // half a second brings one of two a second
     let well = plays(
